@@ -1,0 +1,33 @@
+//! Numbers of users, groups and nodes, and places in the space of addresses.
+use crate::byte_strings::Bytes;
+use crate::sequences::Sequence;
+
+/// A user's number. User 0 passes every access check.
+pub type Uid = u32;
+
+/// A group's number.
+pub type Gid = u32;
+
+/// A node's number, at least 1. Node 1 is the root directory.
+pub type Ino = u32;
+
+/// The addresses from `start` to `end`, both counted in.
+#[derive(Clone, Copy, Debug, PartialEq, Eq, PartialOrd, Ord)]
+pub struct Extent {
+    pub start: u64,
+    pub end: u64,
+}
+
+/// The `len` addresses from `start` on.
+#[derive(Clone, Copy, Debug, PartialEq, Eq, PartialOrd, Ord)]
+pub struct Range {
+    pub start: u64,
+    pub len: u64,
+}
+
+/// A term and the addresses where it stands, ascending.
+#[derive(Clone, Debug, PartialEq, Eq, Drop)]
+pub struct TermList {
+    pub term: Bytes,
+    pub at: Sequence<u64>,
+}

@@ -1,0 +1,20 @@
+//! What every crate of Wumpus stands on: byte strings, lists, addresses and the limits.
+#![tactic(auto)]
+
+mod addresses;
+mod byte_strings;
+mod limits;
+mod memory;
+mod sequences;
+
+pub use addresses::{Extent, Gid, Ino, Range, TermList, Uid};
+pub use byte_strings::Bytes;
+pub use limits::{
+    BLOBS_SPENT_AT, DEPTH_MAX, FLUSH_DEFAULT, INPUT_MAX, K_MAX, LINE_MAX, NAME_MAX, OPERATORS_MAX,
+    PARENS_MAX, RANK_WORDS_MAX, READ_MAX, SNIPPET_MAX, SPENT_AT, TEXT_MAX, WORD_MAX, WORK_MAX,
+};
+pub use memory::NoMemory;
+pub use sequences::Sequence;
+
+#[cfg(test)]
+mod tests;
