@@ -23,7 +23,7 @@ bytes-filter (piece ∷ more) =
     elim (has_bytes piece.bytes) as (λ b. map bytes_of (cond b (piece ∷ filter (λ p. has_bytes p.bytes) more) (filter (λ p. has_bytes p.bytes) more)) ≡ cond b (piece.bytes ∷ filter has_bytes (map bytes_of more)) (filter has_bytes (map bytes_of more)))
     [ true ↦ ap (λ rest. piece.bytes ∷ rest) (bytes-filter more) | false ↦ bytes-filter more ]
 
-bytes-runs_at : (line : Piece) → map bytes_of (runs_at line) ≡ runs_of line.bytes
+pub bytes-runs_at : (line : Piece) → map (λ run. run.bytes) (runs_at line) ≡ runs_of line.bytes
 unfolding runs_at runs_of
 bytes-runs_at line =
     bytes-filter (placed line.start (slice_split is_separator line.bytes)) ∙ ap (filter has_bytes) (bytes-placed line.start (slice_split is_separator line.bytes))
@@ -49,3 +49,11 @@ unfolding placed_tokens_of tokens_of tag_at
 term-placed_tokens_of text =
     ap (λ rest. file_start ∷ rest)
     (map-append term_of (flat_map line_tokens_at (placed 0 (lines_of text))) _ ∙ ap (λ terms. terms ++ file_end ∷ []) (term-lines (placed 0 (lines_of text)) ∙ ap (flat_map line_tokens_of) (bytes-placed 0 (lines_of text))))
+
+words-placed : (runs : List Piece) → map (λ run. word_of run.bytes) runs ≡ map word_of (map bytes_of runs)
+words-placed [] = refl
+words-placed (run ∷ more) = ap (λ rest. word_of run.bytes ∷ rest) (words-placed more)
+
+pub words-runs_at : (line : Piece) → map (λ run. word_of run.bytes) (runs_at line) ≡ words_of line.bytes
+unfolding words_of
+words-runs_at line = words-placed (runs_at line) ∙ ap (map word_of) (bytes-runs_at line)

@@ -1,5 +1,5 @@
 -- The words of a byte string: its maximal runs of ASCII letters, ASCII digits and bytes of 0x80 and above, each in lower case and cut to WORD_MAX bytes.
-use Rattle.std.specs.Prelude.{ℕ, Bool, List, ◌||◌, ◌==◌, nat_le, not, filter, map, take, length}
+use Rattle.std.specs.Prelude.{ℕ, ◌≤◌, Bool, List, ◌||◌, ◌==◌, nat_le, not, filter, map, take, length}
 use Rattle.std.specs.List.{slice_split}
 use Rattle.std.specs.Char.{is_ascii_alphanumeric}
 use Rattle.std.specs.Str.{str_to_ascii_lowercase}
@@ -28,3 +28,7 @@ word_of run = take WORD_MAX (str_to_ascii_lowercase run)
 -- the words of a byte string, in order
 unfoldable pub words_of : List ℕ → List (List ℕ)
 words_of bytes = map word_of (runs_of bytes)
+
+-- how long a word or a tag may be
+abbrev pub IsTerm : List ℕ → Type 0
+IsTerm term = (1 ≤ length term) × (length term ≤ WORD_MAX)
