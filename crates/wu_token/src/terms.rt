@@ -6,7 +6,7 @@ ghost use Rattle.wu_token.specs.Places.{line_tokens_at, placed_tokens_of};
 ghost use Rattle.wu_token.specs.Left.{piece_of, end_of};
 
 use crate::pieces::Piece;
-use crate::spans::{word_of_run, Token, FILE_END, FILE_START, LINE_END, LINE_START};
+use crate::spans::{FILE_END, FILE_START, LINE_END, LINE_START, Token, word_of_run};
 use std::alloc::Global;
 use wu_base::{Bytes, NoMemory, TEXT_MAX};
 
