@@ -1,6 +1,10 @@
-//! The fields of a script's lines: how numbers and modes are spelled in them.
+//! The fields of a script's lines: how byte strings, numbers and modes are spelled in them.
 #![tactic(auto)]
 
+mod escaping;
 mod numbers;
+mod splitting;
 
+pub use escaping::put_field;
 pub use numbers::{put_decimal, read_decimal, read_octal_mode};
+pub use splitting::split_fields;
