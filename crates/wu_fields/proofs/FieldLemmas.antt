@@ -1,10 +1,13 @@
 -- Lemmas on written fields.
-use Rattle.std.proofs.Common.{◌≡◌, ◌≢◌, ℕ, zero, suc, ◌+◌, ◌<◌, Bool, true, false, List, [], ◌∷◌, ◌++◌, length, get_or, drop, Option, Some, None, refl, ap, sym, ◌∙◌, append_assoc, append-nil, cond, eqb, map, ◌||◌, arith}
-use Rattle.std.specs.List.{list_any}
+use Rattle.std.proofs.Common.{◌≡◌, ◌≢◌, ℕ, zero, suc, ◌+◌, ◌<◌, Bool, true, false, List, [], ◌∷◌, ◌++◌, length, get_or, drop, Option, Some, None, refl, ap, sym, ◌∙◌, append_assoc, append-nil, eqb, map, ◌||◌, ◌&&◌, is_none, ◌⊎◌, inl, inr, ⊎_elim, arith}
+use Rattle.std.proofs.lemmas.Bool.Decides.{eqb_tells}
+use Rattle.std.proofs.lemmas.List.Folds.{list_any-append}
+use Rattle.std.specs.List.{slice_split}
+use Rattle.std.specs.List.{list_all, list_any}
 use Rattle.std.proofs.lemmas.Bool.Decides.{nat_tests}
 use Rattle.std.proofs.lemmas.List.{at_drop_more}
 use Rattle.std.specs.Option.{option_map}
-use Rattle.wu_fields.specs.Fields.{unescaped_after, unescaped, byte_of, all_some}
+use Rattle.wu_fields.specs.Fields.{escaped, escaped_byte, with_letter, letter_of, byte_of, unescaped_after, unescaped, all_some, fields_of, line_of}
 
 -- what is read so far, and then the rest
 unfoldable pub onto : List ℕ → Option (List ℕ) → Option (List ℕ)
@@ -31,18 +34,18 @@ unfolding onto
 onto_none None = refl
 onto_none (Some more) = refl
 
-eqb-other : (a b : ℕ) → a ≢ b → eqb a b ≡ false
+pub eqb-other : (a b : ℕ) → a ≢ b → eqb a b ≡ false
 eqb-other a b other = grind (arith, nat_tests)
 
 -- one step on: what is read and what is left make the same whole
 pub onto-step : (whole : Option (List ℕ)) (read longer read' : List ℕ) (escaping before escaping' after : Bool) (left rest : List ℕ) → whole ≡ onto read (unescaped_after escaping left) → onto read (unescaped_after before left) ≡ onto longer (unescaped_after after rest) → escaping ≡ before → read' ≡ longer → escaping' ≡ after → whole ≡ onto read' (unescaped_after escaping' rest)
 onto-step whole read longer read' escaping before escaping' after left rest e step b r a = rw (b) at e ∙ rw (r, a) step
 
-or_left : (a b : Bool) → (a || b) ≡ false → a ≡ false
+pub or_left : (a b : Bool) → (a || b) ≡ false → a ≡ false
 or_left true b e = cc
 or_left false b e = refl
 
-or_right : (a b : Bool) → (a || b) ≡ false → b ≡ false
+pub or_right : (a b : Bool) → (a || b) ≡ false → b ≡ false
 or_right true b e = cc
 or_right false b e = e
 
@@ -91,3 +94,71 @@ pub all_some_fault : (pieces : List (List ℕ)) (i : ℕ) (d : List ℕ) → i <
 all_some_fault [] i d inside none = absurd (omega arith)
 all_some_fault (piece ∷ pieces) zero d inside none = rw none refl
 all_some_fault (piece ∷ pieces) (suc i) d inside none = all_some_tail (unescaped piece) (map unescaped pieces) (all_some_fault pieces i d (omega arith) none)
+
+step-by_kind : (byte : ℕ) (rest field : List ℕ) → unescaped_after false rest ≡ Some field → (byte ≡ 92) ⊎ (byte ≢ 92) → (byte ≡ 9) ⊎ (byte ≢ 9) → (byte ≡ 10) ⊎ (byte ≢ 10) → unescaped_after false (escaped_byte byte ++ rest) ≡ Some (byte ∷ field)
+unfolding letter_of byte_of
+step-by_kind byte rest field h (inl e) tab feed = rw e (rw h refl)
+step-by_kind byte rest field h (inr slash) (inl e) feed = rw e (rw h refl)
+step-by_kind byte rest field h (inr slash) (inr tab) (inl e) = rw e (rw h refl)
+step-by_kind byte rest field h (inr slash) (inr tab) (inr feed) = rw (eqb-other 92 byte (λ e. slash (sym e)), eqb-other 9 byte (λ e. tab (sym e)), eqb-other 10 byte (λ e. feed (sym e)), eqb-other byte 92 slash, h) refl
+
+pub is_or_not : (m n : ℕ) → (m ≡ n) ⊎ (m ≢ n)
+is_or_not m n = ⊎_elim (λ t. inl t.1) (λ t. inr t.1) (eqb_tells m n)
+
+-- what is written for a field is read as the field
+pub unescaped-escaped : (field : List ℕ) → unescaped_after false (escaped field) ≡ Some field
+unescaped-escaped [] = refl
+unescaped-escaped (byte ∷ field) = step-by_kind byte (escaped field) field (unescaped-escaped field) (is_or_not byte 92) (is_or_not byte 9) (is_or_not byte 10)
+
+tabless_by_kind : (byte : ℕ) → (byte ≡ 92) ⊎ (byte ≢ 92) → (byte ≡ 9) ⊎ (byte ≢ 9) → (byte ≡ 10) ⊎ (byte ≢ 10) → list_any (λ b. eqb b 9) (escaped_byte byte) ≡ false
+unfolding letter_of
+tabless_by_kind byte (inl e) tab feed = rw e refl
+tabless_by_kind byte (inr slash) (inl e) feed = rw e refl
+tabless_by_kind byte (inr slash) (inr tab) (inl e) = rw e refl
+tabless_by_kind byte (inr slash) (inr tab) (inr feed) = rw (eqb-other 92 byte (λ e. slash (sym e)), eqb-other 9 byte (λ e. tab (sym e)), eqb-other 10 byte (λ e. feed (sym e)), eqb-other byte 9 tab) refl
+
+-- no TAB is written for a field
+tabless : (field : List ℕ) → list_any (λ b. eqb b 9) (escaped field) ≡ false
+tabless [] = refl
+tabless (byte ∷ field) = list_any-append (λ b. eqb b 9) (escaped_byte byte) (escaped field) ∙ rw (tabless_by_kind byte (is_or_not byte 92) (is_or_not byte 9) (is_or_not byte 10), tabless field) refl
+
+-- a list without the separator, before the separator and before the end
+split_before : (piece rest : List ℕ) → list_any (λ b. eqb b 9) piece ≡ false → slice_split (λ b. eqb b 9) (piece ++ 9 ∷ rest) ≡ piece ∷ slice_split (λ b. eqb b 9) rest
+split_before [] rest none = refl
+split_before (byte ∷ piece) rest none = rw (or_left (eqb byte 9) _ none, split_before piece rest (or_right (eqb byte 9) _ none)) refl
+
+split_alone : (piece : List ℕ) → list_any (λ b. eqb b 9) piece ≡ false → slice_split (λ b. eqb b 9) piece ≡ piece ∷ []
+split_alone [] none = refl
+split_alone (byte ∷ piece) none = rw (or_left (eqb byte 9) _ none, split_alone piece (or_right (eqb byte 9) _ none)) refl
+
+split-line_of : (field : List ℕ) (fields : List (List ℕ)) → slice_split (λ b. eqb b 9) (line_of (field ∷ fields)) ≡ map escaped (field ∷ fields)
+split-line_of field [] = split_alone (escaped field) (tabless field)
+split-line_of field (next ∷ fields) = split_before (escaped field) (line_of (next ∷ fields)) (tabless field) ∙ ap (λ pieces. escaped field ∷ pieces) (split-line_of next fields)
+
+all_read_back : (fields : List (List ℕ)) → all_some (map unescaped (map escaped fields)) ≡ Some fields
+unfolding unescaped
+all_read_back [] = refl
+all_read_back (field ∷ fields) = rw (unescaped-escaped field, all_read_back fields) refl
+
+-- the line that is written for fields is read as these fields
+pub fields_of-line_of : (fields : List (List ℕ)) → 0 < length fields → fields_of (line_of fields) ≡ Some fields
+unfolding fields_of
+fields_of-line_of [] some = absurd (omega arith)
+fields_of-line_of (field ∷ fields) some = ap (λ pieces. all_some (map unescaped pieces)) (split-line_of field fields) ∙ all_read_back (field ∷ fields)
+
+plain_byte : (byte : ℕ) (rest : List ℕ) → (letter : Option ℕ) → is_none letter ≡ true → with_letter letter byte ++ rest ≡ byte ∷ rest
+plain_byte byte rest None plain = refl
+plain_byte byte rest (Some letter) plain = cc
+
+-- a field without a byte that is escaped is written as it is
+pub escaped_plain : (field : List ℕ) → list_all (λ byte. is_none (letter_of byte)) field ≡ true → escaped field ≡ field
+escaped_plain [] plain = refl
+escaped_plain (byte ∷ field) plain = plain_byte byte (escaped field) (letter_of byte) (and_left_true (is_none (letter_of byte)) _ plain) ∙ ap (λ rest. byte ∷ rest) (escaped_plain field (and_right_true (is_none (letter_of byte)) _ plain))
+  where
+    and_left_true : (a b : Bool) → (a && b) ≡ true → a ≡ true
+    and_left_true true b e = refl
+    and_left_true false b e = e
+
+    and_right_true : (a b : Bool) → (a && b) ≡ true → b ≡ true
+    and_right_true true b e = e
+    and_right_true false b e = cc

@@ -1,7 +1,7 @@
-use Rattle.std.proofs.Common.{◌≡◌, ℕ, ◌++◌, [], ◌∷◌, ◌==◌, Bor, List, Some, None, map, length, ap, sym, ◌∙◌, rules, tests, arith}
+use Rattle.std.proofs.Common.{◌≡◌, ℕ, ◌==◌, Bor, List, Some, map, length, ap, sym, ◌∙◌, rules, tests}
 use Rattle.std.proofs.lemmas.Iterator.Splits.{YieldsList-from_slice_split}
 use Rattle.std.proofs.lemmas.Iterator.Consumers.{YieldsList-turn, YieldsList-end}
-use Rattle.std.proofs.lemmas.List.{map-append, length-map}
+use Rattle.std.proofs.lemmas.List.{map-append}
 use Rattle.std.specs.List.{slice_split}
 use Rattle.wu_fields.specs.Fields.{all_some, unescaped, fields_of}
 use Rattle.wu_fields.proofs.FieldLemmas.{all_some_push, all_some_fault}

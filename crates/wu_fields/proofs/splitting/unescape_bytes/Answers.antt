@@ -1,4 +1,4 @@
-use Rattle.std.proofs.Common.{◌≡◌, ℕ, List, [], ◌+◌, drop, true, false, Some, None, refl, sym, ◌∙◌, arith, rules, ap}
+use Rattle.std.proofs.Common.{◌+◌, drop, true, false, sym, ◌∙◌, arith, ap}
 use Rattle.wu_fields.specs.Fields.{unescaped, unescaped_after}
 use Rattle.std.proofs.lemmas.List.{at_drop_all}
 use Rattle.wu_fields.proofs.FieldLemmas.{onto, onto-step, onto_nil, onto_absent, onto_none, unescaped-letter, unescaped-fault, unescaped-backslash, unescaped-plain}
@@ -21,15 +21,15 @@ loop-byte-preserved c =
     let read = c.loop-byte.field.items in
     let rest = drop (i + 1) written in
     elim c.if-after_backslash.branch [
-      then-after_backslash+in-Some+in_ok-push-in-Some w ↦
-        let step = unescaped-letter read written i w.in-Some.meant c.loop-byte-test.true (sym w.in-Some.ensures) in
-        onto-step _ read _ _ _ true _ false (drop i written) rest c.loop-byte.invariant step w.if-after_backslash.true (ap (λ v. v.items) w.field-is ∙ w.in_ok-push-in-Some.ensures.items) w.after_backslash-is
-    | else-after_backslash+then-byte-eq92 w ↦
-        let step = unescaped-backslash read written i c.loop-byte-test.true w.if-byte-eq92.true in
-        onto-step _ read _ _ _ false _ true (drop i written) rest c.loop-byte.invariant step w.if-after_backslash.false (ap (λ v. v.items) w.field-is) w.after_backslash-is
-    | else-after_backslash+else-byte-eq92+in_ok-push w ↦
-        let step = unescaped-plain read written i c.loop-byte-test.true w.if-byte-eq92.false in
-        onto-step _ read _ _ _ false _ false (drop i written) rest c.loop-byte.invariant step w.if-after_backslash.false (ap (λ v. v.items) w.field-is ∙ w.in_ok-push.ensures.items) (w.after_backslash-is ∙ w.if-after_backslash.false)
+      | then-after_backslash+in-Some+in_ok-push-in-Some w ↦
+          let step = unescaped-letter read written i w.in-Some.meant c.loop-byte-test.true (sym w.in-Some.ensures) in
+          onto-step _ read _ _ _ true _ false (drop i written) rest c.loop-byte.invariant step w.if-after_backslash.true (ap (λ v. v.items) w.field-is ∙ w.in_ok-push-in-Some.ensures.items) w.after_backslash-is
+      | else-after_backslash+then-byte-eq92 w ↦
+          let step = unescaped-backslash read written i c.loop-byte-test.true w.if-byte-eq92.true in
+          onto-step _ read _ _ _ false _ true (drop i written) rest c.loop-byte.invariant step w.if-after_backslash.false (ap (λ v. v.items) w.field-is) w.after_backslash-is
+      | else-after_backslash+else-byte-eq92+in_ok-push w ↦
+          let step = unescaped-plain read written i c.loop-byte-test.true w.if-byte-eq92.false in
+          onto-step _ read _ _ _ false _ false (drop i written) rest c.loop-byte.invariant step w.if-after_backslash.false (ap (λ v. v.items) w.field-is ∙ w.in_ok-push.ensures.items) (w.after_backslash-is ∙ w.if-after_backslash.false)
     ]
 
 pub returns-then-after_backslash-2 : goal.returns-then-after_backslash-2
