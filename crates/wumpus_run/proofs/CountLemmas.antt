@@ -1,6 +1,6 @@
 -- Counts over a list, and over what it was made from.
-use Rattle.std.proofs.Common.{◌≡◌, ℕ, ◌+◌, List, [], ◌∷◌, Bool, true, false, cond, refl, sym, ap, ◌∙◌, arith}
-use Rattle.std.specs.Prelude.{count_by, sum_by, map, filter}
+use Rattle.std.proofs.Common.{◌≡◌, ℕ, ◌+◌, List, [], ◌∷◌, Bool, cond, refl, sym, ap, ◌∙◌}
+use Rattle.std.specs.Prelude.{count_by, map}
 use Rattle.std.specs.List.{fold}
 use Rattle.wu_token.specs.declared.spans.Token.{Token}
 use Rattle.wu_token.specs.Tokens.{tokens_of}

@@ -1,5 +1,5 @@
 -- Numbers and words in the fields of a line.
-use Rattle.std.proofs.Common.{◌≡◌, ℕ, ◌<◌, ◌≤◌, List, [], ◌∷◌, Some, Bool, true, false, length, ◌||◌, not, cond, refl, sym, ap, ◌∙◌, arith}
+use Rattle.std.proofs.Common.{◌≡◌, ℕ, ◌<◌, ◌≤◌, List, [], ◌∷◌, Some, true, false, length, ◌||◌, not, cond, refl, ap, ◌∙◌, arith}
 use Rattle.std.specs.Prelude.{nat_le, filter, map}
 use Rattle.std.specs.List.{list_all, slice_split, onto_first}
 use Rattle.std.specs.Char.{is_ascii_alphanumeric}

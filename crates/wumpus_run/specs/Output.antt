@@ -14,7 +14,6 @@ use Rattle.wumpus_run.specs.declared.replies.Answered.TheVariants.{Count}
 use Rattle.wumpus_run.specs.FileSystem.{FileSystem, step}
 use Rattle.wumpus_run.specs.View.{view_of}
 use Rattle.wumpus_run.specs.Answer.{answer}
-use Rattle.wumpus_run.specs.Script.{items_of}
 
 -- the reply to an event
 abbrev pub verdict_of : Result FileSystem Refusal → Reply

@@ -1,5 +1,5 @@
 -- The items of a script: lines of fields between TABs, and the bodies of texts behind their lines.
-use Rattle.std.specs.Prelude.{ℕ, zero, suc, ◌+◌, ◌-◌, ◌^◌, Bool, true, List, [], ◌∷◌, ◌++◌, Option, Some, None, ◌&&◌, ◌||◌, ◌==◌, nat_lt, nat_le, length, take, drop, min, codes, if◌then◌else◌, option_and_then, slice_index}
+use Rattle.std.specs.Prelude.{ℕ, zero, suc, ◌+◌, ◌-◌, ◌^◌, Bool, true, List, [], ◌∷◌, Option, Some, None, ◌&&◌, ◌||◌, ◌==◌, nat_lt, nat_le, length, take, drop, min, codes, if◌then◌else◌, option_and_then, slice_index}
 use Rattle.std.specs.List.{slice_split, before_first, after_first, list_any, list_all}
 use Rattle.std.specs.Char.{is_ascii_alphanumeric}
 use Rattle.wu_base.specs.declared.limits.TheConstants.{LINE_MAX, NAME_MAX}

@@ -1,4 +1,4 @@
-use Rattle.std.proofs.Common.{arith, rules, ◌∙◌, ◌≡◌, ◌<◌, ap, length, sym, get_or}
+use Rattle.std.proofs.Common.{arith, ◌∙◌, ap, length, get_or}
 use Rattle.wumpus_run.proofs.FieldLemmas.{words_of-run}
 use Rattle.wumpus_run.proofs.fields.one_word.Goals as goal
 

@@ -1,7 +1,6 @@
 use Rattle.std.proofs.Common.{◌≡◌, ◌∙◌, ap, cond, take}
 use Rattle.std.proofs.lemmas.List.{take_all}
 use Rattle.std.specs.Prelude.{sum_by, nat_lt}
-use Rattle.wumpus_run.specs.declared.files.File.{File}
 use Rattle.wumpus_run.specs.Answer.{visible_hits}
 use Rattle.wumpus_run.proofs.ViewLemmas.{answer-files}
 use Rattle.wumpus_run.proofs.files.count.Goals as goal

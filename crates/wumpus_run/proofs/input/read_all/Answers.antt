@@ -1,4 +1,4 @@
-use Rattle.std.proofs.Common.{◌≡◌, ◌-◌, ap, length, arith, subst, vec_len}
+use Rattle.std.proofs.Common.{◌≡◌, ◌-◌, length, arith, subst, vec_len}
 use Rattle.wumpus_run.proofs.ReadLemmas.{StopsReading-more}
 use Rattle.wumpus_run.specs.Reading.{StopsReading}
 use Rattle.wumpus_run.proofs.input.read_all.Goals as goal

@@ -1,5 +1,5 @@
-use Rattle.std.proofs.Common.{◌≡◌, ◌+◌, ◌-◌, ◌<◌, ◌∙◌, [], length, drop, take, ap, arith, subst}
-use Rattle.std.proofs.lemmas.List.{take_rest, length-drop, length-take, drop_all}
+use Rattle.std.proofs.Common.{◌+◌, ◌-◌, ◌∙◌, length, drop, take, ap, arith, subst}
+use Rattle.std.proofs.lemmas.List.{take_rest, length-drop, drop_all}
 use Rattle.wumpus_run.specs.FileSystem.{first_state}
 use Rattle.wumpus_run.specs.Script.{items_of}
 use Rattle.wumpus_run.specs.Output.{output_of}
@@ -18,8 +18,8 @@ loop-at-preserved g c =
       within = omega (arith, part_len, length-drop place input, c.in-Ok.ensures.within);
       weight = omega (arith, part_len, length-drop place input, length-drop (place + c.in-Ok.len) input, c.in-Ok.ensures.within, c.in-Ok.ensures.weight, c.loop-at.invariant.weight);
       sent = HasSent-turn (gained c.args.sink.now) (gained c.loop-at.sink) (gained c.write_all.new.sink) (output_of first_state (items_of input)) c.loop-at.files c.answer_item.new.files input part
-      c.answer_item.new.reply.items c.as_slice.result.now place c.in-Ok.len (omega (arith, part_len, length-drop place input, c.loop-at-test.true)) is c.loop-at.invariant.sent
-      c.in-Ok.ensures.reply c.in-Ok.ensures.state c.in-Ok.ensures.behind c.as_slice.ensures.value c.in-Ok-write_all.ensures.ok;
+          c.answer_item.new.reply.items c.as_slice.result.now place c.in-Ok.len (omega (arith, part_len, length-drop place input, c.loop-at-test.true)) is c.loop-at.invariant.sent
+          c.in-Ok.ensures.reply c.in-Ok.ensures.state c.in-Ok.ensures.behind c.as_slice.ensures.value c.in-Ok-write_all.ensures.ok;
       kept = omega (arith, c.loop-at.invariant.kept, c.in-Ok-write_all.ensures.cause.kept);
     }
 

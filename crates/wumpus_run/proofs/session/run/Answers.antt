@@ -1,4 +1,3 @@
-use Rattle.std.proofs.Common.{◌≡◌}
 use Rattle.wumpus_run.specs.Words.{limit_of, texts_of}
 use Rattle.wumpus_run.specs.declared.statuses.Status.TheVariants.{ReadFault, NoMemory}
 use Rattle.wumpus_run.proofs.ReadLemmas.{IsTooLong-not}

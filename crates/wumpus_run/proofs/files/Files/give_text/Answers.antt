@@ -1,7 +1,6 @@
-use Rattle.std.proofs.Common.{◌≡◌, ◌∙◌, ap, sym, Ok, Err, Some, None, rules}
+use Rattle.std.proofs.Common.{◌≡◌, ◌∙◌, ap, sym, Some, None}
 use Rattle.std.specs.Prelude.{position}
 use Rattle.wumpus_run.specs.FileSystem.{has_number, give_text}
-use Rattle.wumpus_run.specs.declared.items.Refusal.TheVariants.{NoSuch}
 use Rattle.wumpus_run.proofs.FileLemmas.{with_text-place, give_text-found, give_text-none}
 use Rattle.wumpus_run.proofs.files.Files.give_text.Goals as goal
 
