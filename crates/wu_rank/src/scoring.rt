@@ -1,0 +1,83 @@
+//! The scores of units, and the first of them.
+ghost use Rattle.std.specs.Prelude.{◌≡◌, ℕ, ◌+◌, ◌<◌, ◌≤◌, ◌^◌, length, map, take, slice_index_or, IfOk};
+ghost use Rattle.std.specs.List.{All};
+ghost use Rattle.std.specs.List.Sorted.{IsStrictlyIncreasing};
+ghost use Rattle.wu_rank.specs.declared.results.Unit.{Unit as RankedUnit};
+ghost use Rattle.wu_rank.specs.Bm25.{IsWeigher};
+ghost use Rattle.wu_rank.specs.Scores.{CanRank, idf_of, score_if_listed, all_listed};
+ghost use Rattle.wu_rank.specs.Order.{in_order, listed};
+
+use crate::bm25::Ranker;
+use crate::counting::{count_in, extent_length, inverse_frequency};
+use crate::results::{Ranked, Unit};
+use std::alloc::Global;
+use wu_base::{NoMemory, TermList};
+
+/// The inverse document frequency of each list's word.
+fn inverse_frequencies(
+    alloc: Global,
+    units: &[Unit],
+    lists: &[TermList],
+) -> Result<Vec<u32>, NoMemory>
+    requires { All (λ word. IsStrictlyIncreasing word.at) lists.now }
+    ensures value { IfOk result
+        (λ idfs. idfs.items ≡ map (λ word. idf_of units.now word.at) lists.now) }
+    ensures small { IfOk result (λ idfs. All (λ idf. idf ≤ 2 ^ 22) idfs.items) }
+{
+    let mut idfs = Vec::with_capacity(alloc, lists.len())?;
+    for list in lists {
+        idfs.push(inverse_frequency(units, list.at.as_slice()))?;
+    }
+    Ok(idfs)
+}
+
+/// The score of the unit at `place`, where it holds a query word.
+fn score_at<F: Fn(u32, u64, u64) -> u64>(
+    units: &[Unit],
+    place: usize,
+    lists: &[TermList],
+    idfs: &[u32],
+    ranker: &Ranker<F>,
+) -> Option<u64>
+    requires weigher { IsWeigher (F.pre ranker.now.weigh) (F.post ranker.now.weigh) ranker.now.n ranker.now.t }
+    requires rankable { CanRank units.now lists.now ranker.now.n ranker.now.t }
+    requires inside { place < length units.now }
+    requires rarities { idfs.now ≡ map (λ word. idf_of units.now word.at) lists.now }
+    requires small { All (λ idf. idf ≤ 2 ^ 22) idfs.now }
+    ensures { (d : RankedUnit) → result ≡ score_if_listed units.now lists.now (slice_index_or units.now place d) }
+{
+    let unit = units[place];
+    let length = extent_length(unit.extent);
+    let mut held = false;
+    let mut total = 0;
+    for i in 0..lists.len() {
+        let frequency = count_in(unit.extent, lists[i].at.as_slice());
+        if frequency > 0 {
+            held = true;
+            total += ranker.weigh(idfs[i], frequency, length);
+        }
+    }
+    if held { Some(total) } else { None }
+}
+
+/// The units that hold a query word, with their scores, in the order of the units.
+fn score_all<F: Fn(u32, u64, u64) -> u64>(
+    alloc: Global,
+    units: &[Unit],
+    lists: &[TermList],
+    ranker: &Ranker<F>,
+) -> Result<Vec<Ranked>, NoMemory>
+    requires weigher { IsWeigher (F.pre ranker.now.weigh) (F.post ranker.now.weigh) ranker.now.n ranker.now.t }
+    requires rankable { CanRank units.now lists.now ranker.now.n ranker.now.t }
+    ensures { IfOk result (λ all. all.items ≡ all_listed units.now lists.now) }
+{
+    let idfs = inverse_frequencies(alloc, units, lists)?;
+    let mut all = Vec::new(alloc);
+    for place in 0..units.len() {
+        if let Some(score) = score_at(units, place, lists, idfs.as_slice(), ranker) {
+            let unit = units[place];
+            all.push(Ranked { score, unit })?;
+        }
+    }
+    Ok(all)
+}
