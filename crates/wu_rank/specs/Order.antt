@@ -8,12 +8,11 @@ use Rattle.wu_rank.specs.declared.results.Ranked.{Ranked}
 use Rattle.wu_rank.specs.Scores.{all_listed}
 
 -- by score, falling, then by place, then by start; and by end, where one place has two units with one start
-abbrev pub compare_ranked : Ranked → Ranked → Ordering
+unfoldable pub compare_ranked : Ranked → Ranked → Ordering
 compare_ranked a b =
-    ordering_then (nat_cmp b.score a.score)
-    (ordering_then (nat_cmp a.unit.place b.unit.place)
-     (ordering_then (nat_cmp a.unit.extent.start b.unit.extent.start)
-      (nat_cmp a.unit.extent.end b.unit.extent.end)))
+    ordering_then
+    (ordering_then (ordering_then (nat_cmp b.score a.score) (nat_cmp a.unit.place b.unit.place)) (nat_cmp a.unit.extent.start b.unit.extent.start))
+    (nat_cmp a.unit.extent.end b.unit.extent.end)
 
 unfoldable pub comes_before : Ranked → Ranked → Bool
 comes_before a b = is_lt (compare_ranked a b)

@@ -3,9 +3,11 @@
 
 mod bm25;
 mod counting;
+mod ordering;
 mod results;
 mod scoring;
 
 pub use bm25::{Ranker, bm25_weigh};
 pub use results::{Ranked, Ranking, Unit};
+pub use scoring::rank;
 

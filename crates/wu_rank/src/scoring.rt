@@ -5,13 +5,14 @@ ghost use Rattle.std.specs.List.Sorted.{IsStrictlyIncreasing};
 ghost use Rattle.wu_rank.specs.declared.results.Unit.{Unit as RankedUnit};
 ghost use Rattle.wu_rank.specs.Bm25.{IsWeigher};
 ghost use Rattle.wu_rank.specs.Scores.{CanRank, idf_of, score_if_listed, all_listed};
-ghost use Rattle.wu_rank.specs.Order.{in_order, listed};
+ghost use Rattle.wu_rank.specs.Order.{listed};
 
 use crate::bm25::Ranker;
 use crate::counting::{count_in, extent_length, inverse_frequency};
-use crate::results::{Ranked, Unit};
+use crate::ordering::first;
+use crate::results::{Ranked, Ranking, Unit};
 use std::alloc::Global;
-use wu_base::{NoMemory, TermList};
+use wu_base::{NoMemory, Sequence, TermList};
 
 /// The inverse document frequency of each list's word.
 fn inverse_frequencies(
@@ -80,4 +81,25 @@ fn score_all<F: Fn(u32, u64, u64) -> u64>(
         }
     }
     Ok(all)
+}
+
+/// The number of units that hold a query word, and the first `k` of them: by score, falling, then
+/// by place, then by start. Each list has the ascending addresses of one query word; a word of
+/// the query that stands in it again has another list.
+pub fn rank<F: Fn(u32, u64, u64) -> u64>(
+    alloc: Global,
+    units: &[Unit],
+    lists: &[TermList],
+    k: u32,
+    ranker: &Ranker<F>,
+) -> Result<Ranking, NoMemory>
+    requires weigher { IsWeigher (F.pre ranker.now.weigh) (F.post ranker.now.weigh) ranker.now.n ranker.now.t }
+    requires rankable { CanRank units.now lists.now ranker.now.n ranker.now.t }
+    ensures listed { IfOk result (λ ranking. ranking.listed ≡ length (listed units.now lists.now)) }
+    ensures top { IfOk result (λ ranking. ranking.top ≡ take k (listed units.now lists.now)) }
+{
+    let all = score_all(alloc, units, lists, ranker)?;
+    let listed = all.len() as u64;
+    let top = Sequence::from(first(alloc, all, k as usize)?);
+    Ok(Ranking { listed, top })
 }
