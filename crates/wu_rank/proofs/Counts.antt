@@ -1,5 +1,5 @@
 -- Counting in an ascending list by two binary searches.
-use Rattle.std.proofs.Common.{◌≡◌, ◌≢◌, ℕ, zero, suc, ◌+◌, ◌-◌, ◌<◌, ◌≤◌, Bool, true, false, cond, ◌&&◌, leb, ltb, List, [], ◌∷◌, length, get_or, refl, sym, ap, ◌∙◌, subst, inl, inr, ⊎_elim, arith, rules, tests}
+use Rattle.std.proofs.Common.{◌≡◌, ℕ, zero, suc, ◌+◌, ◌-◌, ◌<◌, ◌≤◌, Bool, true, false, cond, leb, ltb, List, [], ◌∷◌, length, get_or, refl, sym, ap, ◌∙◌, subst, ⊎_elim, arith}
 use Rattle.std.specs.List.{count_by}
 use Rattle.std.specs.List.Sorted.{IsStrictlyIncreasing, IsPartitionPoint, IsNonDecreasingBy}
 use Rattle.std.proofs.lemmas.Bool.{cases_lt, le-leb, lt-leb, leb-true, ltb-true, leb-false, ltb-false}
@@ -20,7 +20,7 @@ later : {X : Type 0} (p : X → Bool) (x : X) (xs : List X) (low high i j : ℕ)
 later p x xs low high i j h e f = record {
   before = λ k d l m. h.before (suc k) d (omega arith) (omega arith);
   between = λ k d l m n. h.between (suc k) d (omega arith) (omega arith) (omega arith);
-  after = λ k d l m. h.after (suc k) d (omega arith) (omega arith)
+  after = λ k d l m. h.after (suc k) d (omega arith) (omega arith);
 }
 
 count-cons : {X : Type 0} (p : X → Bool) (x : X) (xs : List X) (b : Bool) (n : ℕ) → p x ≡ b → count_by p xs ≡ n → count_by p (x ∷ xs) ≡ cond b 1 0 + n
@@ -52,10 +52,10 @@ pub never_falls : (xs : List ℕ) → IsStrictlyIncreasing xs → IsNonDecreasin
 never_falls xs up =
     IsNonDecreasingBy-from_default (λ x. x) xs 0
     (λ i j l m.
-     let e : i + (j - i) ≡ j = omega arith in
-     let r : get_or xs i 0 + (j - i) ≤ get_or xs (i + (j - i)) 0 = rises xs up i (j - i) (omega arith) in
-     let s : get_or xs i 0 + (j - i) ≤ get_or xs j 0 = subst (λ (k : ℕ). get_or xs i 0 + (j - i) ≤ get_or xs k 0) e r in
-     omega arith)
+    let e : i + (j - i) ≡ j = omega arith in
+    let r : get_or xs i 0 + (j - i) ≤ get_or xs (i + (j - i)) 0 = rises xs up i (j - i) (omega arith) in
+    let s : get_or xs i 0 + (j - i) ≤ get_or xs j 0 = subst (λ (k : ℕ). get_or xs i 0 + (j - i) ≤ get_or xs k 0) e r in
+    omega arith)
 
 pub record Counted (extent : Extent) (xs : List ℕ) (n : ℕ) : Type 0 where
   pub value : n ≡ frequency extent xs
@@ -80,7 +80,7 @@ between_points : (e : Extent) (xs : List ℕ) (i j : ℕ) → EndsBefore xs e.st
 between_points e xs i j low high = record {
   before = λ k d l m. lies-before e (get_or xs k d) (ltb-true _ _ (low.0 k d (omega arith) m));
   between = λ k d l m n. lies-within e (get_or xs k d) (ltb-false _ _ (low.1 k d m l)) (leb-true _ _ (high.0 k d (omega arith) n));
-  after = λ k d l m. lies-after e (get_or xs k d) (leb-false _ _ (high.1 k d m l))
+  after = λ k d l m. lies-after e (get_or xs k d) (leb-false _ _ (high.1 k d m l));
 }
 
 span-le : (e : Extent) (xs : List ℕ) (i j : ℕ) → IsStrictlyIncreasing xs → j ≤ length xs → EndsBefore xs e.start i → EndsUpto xs e.end j → i < j → j - i ≤ length_of e
@@ -97,8 +97,8 @@ unfolding frequency
 counted e xs i j up l low high = record {
   value = sym (count-between (lies_in e) xs i j l (between_points e xs i j low high));
   within =
-    ⊎_elim
-    (λ (h : i < j). span-le e xs i j up l low high h)
-    (λ (h : j ≤ i). let none : j - i ≡ 0 = omega arith in rw none (omega arith))
-    (cases_lt i j)
+      ⊎_elim
+      (λ (h : i < j). span-le e xs i j up l low high h)
+      (λ (h : j ≤ i). let none : j - i ≡ 0 = omega arith in rw none (omega arith))
+      (cases_lt i j);
 }

@@ -1,5 +1,5 @@
 -- A list in the order of a ranking is determined by its elements.
-use Rattle.std.proofs.Common.{◌≡◌, ℕ, zero, suc, ◌+◌, ◌-◌, ◌<◌, ◌≤◌, Bool, true, false, cond, List, [], ◌∷◌, ◌++◌, length, get_or, take, drop, refl, sym, ap, ap₂, ◌∙◌, subst, ◌⊎◌, inl, inr, ⊎_elim, arith}
+use Rattle.std.proofs.Common.{◌≡◌, ℕ, suc, ◌+◌, ◌<◌, ◌≤◌, Bool, true, false, cond, List, [], ◌∷◌, ◌++◌, length, get_or, take, refl, sym, ap, ap₂, ◌∙◌, subst, ◌⊎◌, inl, inr, ⊎_elim, arith}
 use Rattle.std.specs.List.{All, sum_by}
 use Rattle.std.specs.List.Sorted.{IsPermutation, IsSortedBy, IsSplitAroundBy}
 use Rattle.std.specs.Cmp.{IsTotalOrder, IsStrictWeakOrder}
@@ -21,8 +21,8 @@ unfolding compare_ranked
 compare_total =
     then_total
     (then_total
-     (then_total (back_total (on_total (λ (r : Ranked). r.score) nat_cmp_total)) (on_total (λ (r : Ranked). r.unit.place) nat_cmp_total))
-     (on_total (λ (r : Ranked). r.unit.extent.start) nat_cmp_total))
+    (then_total (back_total (on_total (λ (r : Ranked). r.score) nat_cmp_total)) (on_total (λ (r : Ranked). r.unit.place) nat_cmp_total))
+    (on_total (λ (r : Ranked). r.unit.extent.start) nat_cmp_total))
     (on_total (λ (r : Ranked). r.unit.extent.end) nat_cmp_total)
 
 pub before_order : IsStrictWeakOrder comes_before
@@ -118,8 +118,8 @@ InOrder-put_in y [] h = rw (put_in-nil y) (tt, tt)
 InOrder-put_in y (z ∷ zs) h =
     ⊎_elim
     (λ (e : comes_before y z ≡ true).
-     let back : comes_before z y ≡ false = before_order.one_way y z e in
-     rw (put_in-first y z zs e) ((back, NoneBefore-chain z y zs h.0 back), h))
+    let back : comes_before z y ≡ false = before_order.one_way y z e in
+    rw (put_in-first y z zs e) ((back, NoneBefore-chain z y zs h.0 back), h))
     (λ (e : comes_before y z ≡ false). rw (put_in-later y z zs e) (NoneBefore-put_in z y zs e h.0, InOrder-put_in y zs h.1))
     (true_or_false (comes_before y z))
 
@@ -143,10 +143,10 @@ sum-put_in f x (y ∷ ys) =
     ⊎_elim
     (λ (e : comes_before x y ≡ true). ap (sum_by f) (put_in-first x y ys e) ∙ sum_by-cons f x (y ∷ ys))
     (λ (e : comes_before x y ≡ false).
-     let a : sum_by f (put_in x (y ∷ ys)) ≡ f y + sum_by f (put_in x ys) = ap (sum_by f) (put_in-later x y ys e) ∙ sum_by-cons f y (put_in x ys) in
-     let b : sum_by f (put_in x ys) ≡ f x + sum_by f ys = sum-put_in f x ys in
-     let c : sum_by f (y ∷ ys) ≡ f y + sum_by f ys = sum_by-cons f y ys in
-     omega (arith, a, b, c))
+    let a : sum_by f (put_in x (y ∷ ys)) ≡ f y + sum_by f (put_in x ys) = ap (sum_by f) (put_in-later x y ys e) ∙ sum_by-cons f y (put_in x ys) in
+    let b : sum_by f (put_in x ys) ≡ f x + sum_by f ys = sum-put_in f x ys in
+    let c : sum_by f (y ∷ ys) ≡ f y + sum_by f ys = sum_by-cons f y ys in
+    omega (arith, a, b, c))
     (true_or_false (comes_before x y))
 
 pub sum-in_order : (f : Ranked → ℕ) (xs : List Ranked) → sum_by f (in_order xs) ≡ sum_by f xs
@@ -241,14 +241,14 @@ best-is all front back best middle n p l s q up =
     let above : NoneBefore middle back = NoneBefore-from_at middle back s.1 in
     let below : All (λ x. NoneBefore x (middle ∷ back)) front = λ k d h. (s.0 k d h, NoneBefore-chain middle (get_or front k d) back above (s.0 k d h)) in
     let apart : All (λ x. NoneBefore x (in_order (middle ∷ back))) best =
-        All-permutation (λ x. NoneBefore x (in_order (middle ∷ back))) front best q (λ k d h. NoneBefore-in_order (get_or front k d) (middle ∷ back) (below k d h)) in
+    All-permutation (λ x. NoneBefore x (in_order (middle ∷ back))) front best q (λ k d h. NoneBefore-in_order (get_or front k d) (middle ∷ back) (below k d h)) in
     let ordered : InOrder (best ++ in_order (middle ∷ back)) = InOrder-append best (in_order (middle ∷ back)) (InOrder-from_sorted best up) (InOrder-in_order (middle ∷ back)) apart in
     let same : (f : Ranked → ℕ) → sum_by f (best ++ in_order (middle ∷ back)) ≡ sum_by f (in_order all) = λ f.
-        sum_by-append f best (in_order (middle ∷ back))
-        ∙ ap₂ (λ (a b : ℕ). a + b) (sum_by-IsPermutation f front best q) (sum-in_order f (middle ∷ back))
-        ∙ sym (sum_by-append f front (middle ∷ back))
-        ∙ sum_by-IsPermutation f all (front ++ middle ∷ back) p
-        ∙ sym (sum-in_order f all) in
+    sum_by-append f best (in_order (middle ∷ back))
+    ∙ ap₂ (λ (a b : ℕ). a + b) (sum_by-IsPermutation f front best q) (sum-in_order f (middle ∷ back))
+    ∙ sym (sum_by-append f front (middle ∷ back))
+    ∙ sum_by-IsPermutation f all (front ++ middle ∷ back) p
+    ∙ sym (sum-in_order f all) in
     let whole : best ++ in_order (middle ∷ back) ≡ in_order all = in_order-unique (best ++ in_order (middle ∷ back)) (in_order all) ordered (InOrder-in_order all) same in
     sym (take_at best (in_order (middle ∷ back)) n (length_permutation front best q ∙ l)) ∙ ap (take n) whole
 

@@ -1,8 +1,8 @@
 -- How many units hold a word, and what a word adds to a score.
-use Rattle.std.proofs.Common.{◌≡◌, ◌==◌, ℕ, zero, suc, ◌+◌, ◌-◌, ◌*◌, ◌/◌, ◌^◌, ◌<◌, ◌≤◌, ◌⊎◌, Bool, true, false, cond, ltb, ◌||◌, Option, Some, None, List, [], ◌∷◌, length, get_or, take, map, ◌++◌, if◌then◌else◌, refl, sym, ap, ap₂, ◌∙◌, subst, inl, inr, ⊎_elim, arith}
-use Rattle.std.specs.List.{All, sum_by, count_by, list_any, filter}
+use Rattle.std.proofs.Common.{◌≡◌, ◌==◌, ℕ, zero, suc, ◌+◌, ◌-◌, ◌*◌, ◌^◌, ◌<◌, ◌≤◌, Bool, true, false, cond, ◌||◌, Some, None, List, [], ◌∷◌, length, get_or, take, map, ◌++◌, if◌then◌else◌, refl, sym, ap, ap₂, ◌∙◌, inr, ⊎_elim, arith}
+use Rattle.std.specs.List.{All, sum_by, list_any, filter}
 use Rattle.std.proofs.lemmas.Bool.{cases_lt, lt-ltb, le-ltb}
-use Rattle.std.proofs.lemmas.List.Sums.{count_by_more_yes, count_by_more_no, get_or-le-sum_by, sum_by_more, sum_by-le}
+use Rattle.std.proofs.lemmas.List.Sums.{count_by_more_yes, count_by_more_no, get_or-le-sum_by, sum_by_more}
 use Rattle.std.proofs.lemmas.List.{take_all, get_or-map, map-append, append-nil, length-map}
 use Rattle.std.proofs.lemmas.List.Folds.{list_any_more}
 use Rattle.std.proofs.lemmas.List.Elements.{filter_more}
@@ -15,7 +15,7 @@ use Rattle.wu_rank.specs.declared.results.Unit.{Unit as RankedUnit}
 use Rattle.wu_rank.specs.declared.results.Ranked.{Ranked}
 use Rattle.wu_rank.specs.Bm25.{weigh}
 use Rattle.wu_rank.specs.Scores.{has, frequency, holders, idf_of, length_of, total_length, part, score, holds, scored, score_if_listed, all_listed}
-use Rattle.wu_rank.proofs.Weights.{weigh-lt, weigh-zero}
+use Rattle.wu_rank.proofs.Weights.{weigh-zero}
 
 pub holders-more_yes : (addresses : List ℕ) (units : List RankedUnit) (i : ℕ) (d : RankedUnit) (c n m : ℕ) → i < length units → c ≡ frequency (get_or units i d).extent addresses → 0 < c → n ≡ holders (take i units) addresses → m ≡ n + 1 → m ≡ holders (take (i + 1) units) addresses
 unfolding holders
@@ -94,12 +94,12 @@ score_turn_yes units place d lists i f e addresses total w more held seen l s k 
     let held_here : 0 < frequency unit.extent (get_or lists i e).at = omega arith in
     let holds_some : 0 < holders units (get_or lists i e).at = holders-positive (get_or lists i e).at units place d l held_here in
     let adds : w ≡ part units unit (get_or lists i e).at =
-        part-some units unit (get_or lists i e).at w holds_some
-        (x ∙ ap (λ (n : ℕ). weigh (idf_of units (get_or lists i e).at) n (length_of unit.extent) (length units) (total_length units)) times) in
+    part-some units unit (get_or lists i e).at w holds_some
+    (x ∙ ap (λ (n : ℕ). weigh (idf_of units (get_or lists i e).at) n (length_of unit.extent) (length units) (total_length units)) times) in
     record {
       so_far = y ∙ ap₂ (λ (m n : ℕ). m + n) s.so_far adds ∙ sym (sum_by_more (λ word. part units unit word.at) lists i e k.inside);
       seen = z ∙ sym (list_any_more (λ word. has word.at unit) lists i e k.inside ∙ ap (λ (b : Bool). list_any (λ word. has word.at unit) (take i lists) || b) (lt-ltb _ _ held_here) ∙ or-true _);
-      small = omega (arith, s.small)
+      small = omega (arith, s.small);
     }
 
 pub score_turn_no : (units : List RankedUnit) (unit : RankedUnit) (lists : List TermList) (i f : ℕ) (e : TermList) (addresses : List ℕ) (total more : ℕ) (held seen : Bool) → ScoreSoFar units unit lists i total held → Found units unit lists i f e addresses → f ≤ 0 → more ≡ total → seen ≡ held → ScoreSoFar units unit lists (i + 1) more seen
@@ -111,7 +111,7 @@ score_turn_no units unit lists i f e addresses total more held seen s k h y z =
     record {
       so_far = y ∙ s.so_far ∙ sym (sum_by_more (λ word. part units unit word.at) lists i e k.inside ∙ ap (λ (n : ℕ). sum_by (λ word. part units unit word.at) (take i lists) + n) adds ∙ add-zero _);
       seen = z ∙ s.seen ∙ sym (list_any_more (λ word. has word.at unit) lists i e k.inside ∙ ap (λ (b : Bool). list_any (λ word. has word.at unit) (take i lists) || b) (le-ltb _ _ none_le) ∙ or-false _);
-      small = omega (arith, s.small)
+      small = omega (arith, s.small);
     }
 
 take-all : {X : Type 0} (xs : List X) (i : ℕ) → length xs ≤ i → take i xs ≡ xs
@@ -171,3 +171,9 @@ listed_all units lists i xs l h = h ∙ ap (λ (us : List RankedUnit). map (scor
 
 pub idf_small : (units : List RankedUnit) (lists : List TermList) (idfs : List ℕ) (i : ℕ) → idfs ≡ map (λ word. idf_of units word.at) lists → All (λ idf. idf ≤ 2 ^ 22) idfs → i < length lists → get_or idfs i 0 ≤ 2 ^ 22
 idf_small units lists idfs i h s l = s i 0 (omega (arith, ap length h, length-map lists (λ (word : TermList). idf_of units word.at)))
+
+-- ---- the summed length, of the first i units
+
+pub summed_more : (units : List RankedUnit) (i : ℕ) (d : RankedUnit) (sum length_at : ℕ) → i < length units → sum ≡ total_length (take i units) → length_at ≡ length_of (get_or units i d).extent → sum + length_at ≡ total_length (take (i + 1) units)
+unfolding total_length
+summed_more units i d sum length_at l e f = ap₂ (λ (a b : ℕ). a + b) e f ∙ sym (sum_by_more (λ unit. length_of unit.extent) units i d l)

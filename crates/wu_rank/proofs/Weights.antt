@@ -1,9 +1,8 @@
 -- How large a weight may be.
-use Rattle.std.proofs.Common.{◌≡◌, ℕ, zero, suc, ◌+◌, ◌*◌, ◌/◌, ◌^◌, ◌<◌, ◌≤◌, ◌⊎◌, refl, sym, ap, ◌∙◌, inl, inr, ⊎_elim, arith}
-use Rattle.std.proofs.lemmas.Bool.{cases_lt}
+use Rattle.std.proofs.Common.{◌≡◌, ℕ, zero, suc, ◌+◌, ◌*◌, ◌/◌, ◌^◌, ◌<◌, ◌≤◌, ◌⊎◌, ap, ◌∙◌, inl, inr, arith}
 use Rattle.std.proofs.lemmas.Nat.{le-div}
 use Rattle.std.proofs.Math.Nat.{zero-div, div-mul-le_self, le_of_mul-le-mul_right}
-use Rattle.wu_rank.specs.Bm25.{weigh, InRange}
+use Rattle.wu_rank.specs.Bm25.{weigh}
 
 nothing-over : (a d : ℕ) → a ≡ 0 → a / d ≡ 0
 nothing-over a d e = ap (λ (k : ℕ). k / d) e ∙ zero-div d

@@ -20,12 +20,16 @@ pub fn bm25_weigh(idf: u32, f: u64, l: u64, n: u64, t: u128) -> u64
 }
 
 /// A way to weigh the words of one query: a closure that answers the BM25 weight for the number
-/// of its units and their summed length, which are kept beside it.
+/// of the units and their summed length, which are kept beside it. What is known of the closure
+/// is a condition of each call that asks it.
 #[derive(Drop)]
 pub struct Ranker<F> {
-    weigh: F,
-    n: u64,
-    t: u128,
+    /// Answers the weight for an inverse document frequency, a word's count and a unit's length.
+    pub weigh: F,
+    /// The number of the units, from 1 to 2^47.
+    pub n: u64,
+    /// Their summed length, at least 1 and below 2^73.
+    pub t: u128,
 }
 
 impl<F: Fn(u32, u64, u64) -> u64> Ranker<F> {

@@ -1,7 +1,8 @@
 //! How often words stand in units, counted in ascending lists of addresses.
 ghost use Rattle.std.specs.Prelude.{◌≡◌, ℕ, ◌+◌, ◌<◌, ◌≤◌, ◌^◌, length};
+ghost use Rattle.std.specs.List.{All};
 ghost use Rattle.std.specs.List.Sorted.{IsStrictlyIncreasing};
-ghost use Rattle.wu_rank.specs.Scores.{length_of, frequency, holders, idf_of};
+ghost use Rattle.wu_rank.specs.Scores.{length_of, total_length, frequency, holders, idf_of};
 
 use crate::results::Unit;
 use wu_base::Extent;
@@ -16,6 +17,18 @@ pub(crate) fn extent_length(extent: Extent) -> u64
         Some(past_first) => past_first + 1,
         None => 0,
     }
+}
+
+/// The summed length of the units, each shorter than 2^26. Takes no memory.
+pub fn summed_length(units: &[Unit]) -> u128
+    requires { All (λ unit. length_of unit.extent < 2 ^ 26) units.now }
+    ensures { result ≡ total_length units.now }
+{
+    let mut sum = 0;
+    for unit in units {
+        sum += u128::from(extent_length(unit.extent));
+    }
+    sum
 }
 
 /// How many of the ascending `addresses` the extent has.

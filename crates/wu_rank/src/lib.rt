@@ -8,6 +8,9 @@ mod results;
 mod scoring;
 
 pub use bm25::{Ranker, bm25_weigh};
+pub use counting::summed_length;
 pub use results::{Ranked, Ranking, Unit};
 pub use scoring::rank;
 
+#[cfg(test)]
+mod tests;

@@ -32,9 +32,7 @@ pub(crate) fn first(
         all.sort_unstable_by(compare);
         return Ok(all);
     }
-    let (front, _, _) = all
-        .as_mut_slice()
-        .select_nth_unstable_by(count, compare);
+    let (front, _, _) = all.as_mut_slice().select_nth_unstable_by(count, compare);
     let mut best = Vec::from_slice(alloc, front)?;
     best.sort_unstable_by(compare);
     Ok(best)

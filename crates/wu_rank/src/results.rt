@@ -16,7 +16,7 @@ pub struct Ranked {
 }
 
 /// How many units are listed, and the best of them, the best first.
-#[derive(Debug, Drop)]
+#[derive(Clone, Debug, PartialEq, Eq, Drop)]
 pub struct Ranking {
     pub listed: u64,
     pub top: Sequence<Ranked>,

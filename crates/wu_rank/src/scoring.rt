@@ -84,8 +84,11 @@ fn score_all<F: Fn(u32, u64, u64) -> u64>(
 }
 
 /// The number of units that hold a query word, and the first `k` of them: by score, falling, then
-/// by place, then by start. Each list has the ascending addresses of one query word; a word of
-/// the query that stands in it again has another list.
+/// by place, then by start. A score is the sum of the weights of the query's words, and a word
+/// that no unit holds adds nothing. The lists have the ascending addresses of each of the words,
+/// of a repeated one as often as the query has it. Over no units nothing is listed.
+///
+/// It takes two binary searches for each unit and word, and sorts only the first `k`.
 pub fn rank<F: Fn(u32, u64, u64) -> u64>(
     alloc: Global,
     units: &[Unit],

@@ -1,4 +1,4 @@
-use Rattle.std.proofs.Common.{◌≡◌, refl, arith}
+use Rattle.std.proofs.Common.{refl, arith}
 use Rattle.wu_rank.specs.Bm25.{weigh}
 use Rattle.wu_rank.proofs.Weights.{weigh-lt}
 use Rattle.wu_rank.proofs.bm25.bm25_weigh.Goals as goal

@@ -11,12 +11,12 @@ loop-unit-init c = record { so_far = refl; few = omega arith }
 pub loop-unit-preserved : goal.loop-unit-preserved
 loop-unit-preserved c =
     elim c.if-count_in-gt0.branch [
-      then-count_in-gt0 w ↦ record {
+      | then-count_in-gt0 w ↦ record {
         so_far = holders-more_yes _ _ _ _ _ _ _ c.loop-unit-test.true c.count_in.ensures.value w.if-count_in-gt0.true c.loop-unit.invariant.so_far w.held-is;
-        few = omega arith
+        few = omega arith;
       }
-    | else-count_in-gt0 w ↦ record {
+      | else-count_in-gt0 w ↦ record {
         so_far = holders-more_no _ _ _ _ _ _ _ c.loop-unit-test.true c.count_in.ensures.value w.if-count_in-gt0.false c.loop-unit.invariant.so_far w.held-is;
-        few = omega arith
+        few = omega arith;
       }
     ]

@@ -1,6 +1,6 @@
 use Rattle.std.proofs.Common.{ltb, leb, rules}
 use Rattle.std.proofs.lemmas.List.Sorted.{IsPartitionPoint-from_clause, IsPartitionedBy-ltb, IsPartitionedBy-leb}
-use Rattle.wu_rank.proofs.Counts.{Counted, EndsBefore, EndsUpto, counted, never_falls}
+use Rattle.wu_rank.proofs.Counts.{EndsBefore, EndsUpto, counted, never_falls}
 use Rattle.wu_rank.proofs.counting.count_in.Goals as goal
 
 pub returns : goal.returns

@@ -1,5 +1,5 @@
-use Rattle.std.proofs.Common.{◌≡◌, ◌<◌, ◌∙◌, sym, ap, arith}
-use Rattle.wu_rank.proofs.Parts.{idf_of-none, idf_of-some, difference}
+use Rattle.std.proofs.Common.{◌∙◌, sym, arith}
+use Rattle.wu_rank.proofs.Parts.{idf_of-none, difference}
 use Rattle.wu_rank.proofs.counting.inverse_frequency.Goals as goal
 
 pub returns-then-held-eq0-clause-value : goal.returns-then-held-eq0-clause-value

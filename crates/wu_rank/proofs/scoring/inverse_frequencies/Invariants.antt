@@ -6,5 +6,5 @@ use Rattle.wu_rank.proofs.scoring.inverse_frequencies.Given as goal
 abbrev pub invariant-loop-list : goal.invariant-loop-list
 invariant-loop-list l = record {
   so_far : l.idfs.items ≡ map (λ word. idf_of l.units word.at) (take l.list-index l.lists);
-  small : All (λ idf. idf ≤ 2 ^ 22) l.idfs.items
+  small : All (λ idf. idf ≤ 2 ^ 22) l.idfs.items;
 }

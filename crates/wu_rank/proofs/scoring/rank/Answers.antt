@@ -1,4 +1,4 @@
-use Rattle.std.proofs.Common.{◌≡◌, ◌∙◌, ap, sym, length, take, vec_len, rules}
+use Rattle.std.proofs.Common.{◌≡◌, ◌∙◌, ap, sym, length, take, rules}
 use Rattle.wu_rank.specs.Scores.{all_listed}
 use Rattle.wu_rank.specs.Order.{in_order, listed}
 use Rattle.wu_rank.proofs.Orders.{length-in_order}

@@ -9,5 +9,5 @@ returns g c =
     record {
       value = e;
       bound = omega (arith, weigh-le c.args.idf c.args.f c.args.l c.args.self.now.n c.args.self.now.t);
-      zero = λ h. e ∙ weigh-zero _ _ _ _ _ h
+      zero = λ h. e ∙ weigh-zero _ _ _ _ _ h;
     }
