@@ -1,0 +1,15 @@
+use crate::lg;
+
+#[test]
+fn known_logarithms(rt: HostRuntime) {
+    for (n, want) in [
+        (1, 0),
+        (2, 65_536),
+        (3, 103_872),
+        (5, 152_169),
+        (6, 169_408),
+        (1 << 63, 4_128_768),
+    ] {
+        assert_eq!(rt; lg(n), want, "of {n}");
+    }
+}

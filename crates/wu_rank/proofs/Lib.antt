@@ -1,0 +1,4 @@
+pub mod Weights
+pub mod Counts
+pub mod Parts
+pub mod Orders

@@ -1,0 +1,3 @@
+pub mod Bm25
+pub mod Scores
+pub mod Order

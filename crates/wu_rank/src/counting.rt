@@ -1,0 +1,73 @@
+//! How often words stand in units, counted in ascending lists of addresses.
+ghost use Rattle.std.specs.Prelude.{◌≡◌, ℕ, ◌+◌, ◌<◌, ◌≤◌, ◌^◌, length};
+ghost use Rattle.std.specs.List.{All};
+ghost use Rattle.std.specs.List.Sorted.{IsStrictlyIncreasing};
+ghost use Rattle.wu_rank.specs.Scores.{length_of, total_length, frequency, holders, idf_of};
+
+use crate::results::Unit;
+use wu_base::Extent;
+use wu_log2::{lg, lg_never_falls};
+
+/// How many addresses the extent has.
+pub(crate) fn extent_length(extent: Extent) -> u64
+    requires { length_of extent < 2 ^ 26 }
+    ensures { result ≡ length_of extent }
+{
+    match extent.end.checked_sub(extent.start) {
+        Some(past_first) => past_first + 1,
+        None => 0,
+    }
+}
+
+/// The summed length of the units, each shorter than 2^26. Takes no memory.
+pub fn summed_length(units: &[Unit]) -> u128
+    requires { All (λ unit. length_of unit.extent < 2 ^ 26) units.now }
+    ensures { result ≡ total_length units.now }
+{
+    let mut sum = 0;
+    for unit in units {
+        sum += u128::from(extent_length(unit.extent));
+    }
+    sum
+}
+
+/// How many of the ascending `addresses` the extent has.
+pub(crate) fn count_in(extent: Extent, addresses: &[u64]) -> u64
+    requires { IsStrictlyIncreasing addresses.now }
+    ensures value { result ≡ frequency extent addresses.now }
+    ensures within { result ≤ length_of extent }
+{
+    let before = addresses.partition_point(|address| *address < extent.start);
+    let upto = addresses.partition_point(|address| *address <= extent.end);
+    upto.saturating_sub(before) as u64
+}
+
+/// How many of the units have one of the ascending `addresses`.
+fn count_holders(units: &[Unit], addresses: &[u64]) -> u64
+    requires { IsStrictlyIncreasing addresses.now }
+    ensures value { result ≡ holders units.now addresses.now }
+    ensures few { result ≤ length units.now }
+{
+    let mut held = 0;
+    for unit in units {
+        if count_in(unit.extent, addresses) > 0 {
+            held += 1;
+        }
+    }
+    held
+}
+
+/// The inverse document frequency of the word that stands at the ascending `addresses`.
+pub(crate) fn inverse_frequency(units: &[Unit], addresses: &[u64]) -> u32
+    requires { IsStrictlyIncreasing addresses.now }
+    ensures value { result ≡ idf_of units.now addresses.now }
+    ensures small { result ≤ 2 ^ 22 }
+{
+    let held = count_holders(units, addresses);
+    if held == 0 {
+        return 0;
+    }
+    let all = units.len() as u64;
+    lg_never_falls(held, all);
+    lg(all) - lg(held)
+}

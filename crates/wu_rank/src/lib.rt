@@ -1,0 +1,16 @@
+//! Ranking by BM25 in whole numbers: which of the units hold a query word, the best first.
+#![tactic(auto)]
+
+mod bm25;
+mod counting;
+mod ordering;
+mod results;
+mod scoring;
+
+pub use bm25::{Ranker, bm25_weigh};
+pub use counting::summed_length;
+pub use results::{Ranked, Ranking, Unit};
+pub use scoring::rank;
+
+#[cfg(test)]
+mod tests;
