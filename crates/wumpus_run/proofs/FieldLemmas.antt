@@ -1,5 +1,7 @@
 -- Numbers and words in the fields of a line.
-use Rattle.std.proofs.Common.{◌≡◌, ℕ, ◌<◌, ◌≤◌, List, [], ◌∷◌, Some, true, false, length, ◌||◌, not, cond, refl, ap, ◌∙◌, arith}
+use Rattle.std.proofs.Common.{List, None, Option, Some, [], ap, append_assoc, arith, cond, false, length, not, refl, sym, true, ℕ, ◌++◌, ◌<◌, ◌||◌, ◌∙◌, ◌∷◌, ◌≡◌, ◌≤◌}
+use Rattle.std.specs.Option.{option_map}
+use Rattle.wumpus_run.specs.Script.{id_of, ids_of, ◌>>=◌}
 use Rattle.std.specs.Prelude.{nat_le, filter, map}
 use Rattle.std.specs.List.{list_all, slice_split, onto_first}
 use Rattle.std.specs.Char.{is_ascii_alphanumeric}
@@ -41,3 +43,22 @@ words_of-run (byte ∷ bytes) some plain =
     let run = byte ∷ bytes in
     ap (λ pieces. map word_of (filter has_bytes pieces)) (no_separator run plain)
     ∙ ap (λ b. map word_of (cond b (run ∷ []) [])) (full byte bytes)
+
+-- nothing stands before what there is
+pub none_before : (o : Option (List ℕ)) → o ≡ option_map (λ more. [] ++ more) o
+none_before None = refl
+none_before (Some ids) = refl
+
+put_after : (numbers : List ℕ) (id : ℕ) (o : Option (List ℕ)) → option_map (λ more. numbers ++ more) (o >>= λ ids. Some (id ∷ ids)) ≡ option_map (λ more. (numbers ++ id ∷ []) ++ more) o
+put_after numbers id None = refl
+put_after numbers id (Some ids) = ap Some (sym (append_assoc numbers (id ∷ []) ids))
+
+-- a number more was read
+pub ids_of-more : (numbers : List ℕ) (field : List ℕ) (fields : List (List ℕ)) (id : ℕ) → id_of field ≡ Some id
+    → option_map (λ more. numbers ++ more) (ids_of (field ∷ fields)) ≡ option_map (λ more. (numbers ++ id ∷ []) ++ more) (ids_of fields)
+ids_of-more numbers field fields id is =
+    ap (λ o. option_map (λ more. numbers ++ more) (o >>= λ n. ids_of fields >>= λ ids. Some (n ∷ ids))) is ∙ put_after numbers id (ids_of fields)
+
+-- a field that is no number spoils the list
+pub ids_of-none : (numbers : List ℕ) (field : List ℕ) (fields : List (List ℕ)) → id_of field ≡ None → option_map (λ more. numbers ++ more) (ids_of (field ∷ fields)) ≡ None
+ids_of-none numbers field fields is = ap (λ o. option_map (λ more. numbers ++ more) (o >>= λ n. ids_of fields >>= λ ids. Some (n ∷ ids))) is

@@ -1,6 +1,5 @@
 pub mod FieldLemmas
-pub mod FileLemmas
-pub mod CountLemmas
-pub mod ViewLemmas
 pub mod ReadLemmas
+pub mod CountLemmas
 pub mod SessionLemmas
+pub mod StateLemmas

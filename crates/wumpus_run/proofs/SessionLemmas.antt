@@ -5,7 +5,7 @@ use Rattle.std.specs.List.{position_or_len}
 use Rattle.std.specs.Io.KnownBytes.{Appends}
 use Rattle.std.proofs.KnownBytes.{Appends-trans, Appends-nil}
 use Rattle.wu_outside.specs.Gains.{GainsPrefix}
-use Rattle.wumpus_run.specs.FileSystem.{FileSystem}
+use Rattle.wumpus_run.specs.States.{State}
 use Rattle.wumpus_run.specs.Script.{items_of, items_within, first_item, behind_item, is_line_feed, body_len, read_line, line_of}
 use Rattle.wumpus_run.specs.Output.{output_of, bytes_for, after}
 
@@ -79,12 +79,12 @@ items_of-some (byte ∷ bytes) some =
     ap (λ items. first_item input ∷ items) (items_within-enough (length bytes) (length (behind_item input)) (behind_item input) (omega arith) (omega arith))
 
 -- the output for an input of some bytes is what answers the first item, and the output for the rest in the state after it
-pub output_of-some : (fs : FileSystem) (input : List ℕ) → 0 < length input
+pub output_of-some : (fs : State) (input : List ℕ) → 0 < length input
     → output_of fs (items_of input) ≡ bytes_for fs (first_item input) ++ output_of (after fs (first_item input)) (items_of (behind_item input))
 output_of-some fs input some = ap (output_of fs) (items_of-some input some)
 
 -- the next item was answered, and what answers it was written
-pub HasSent-item : (before between now : Option (List ℕ)) (output : List ℕ) (fs new : FileSystem) (input rest reply : List ℕ) → 0 < length input
+pub HasSent-item : (before between now : Option (List ℕ)) (output : List ℕ) (fs new : State) (input rest reply : List ℕ) → 0 < length input
     → HasSent before between output (output_of fs (items_of input)) → reply ≡ bytes_for fs (first_item input) → new ≡ after fs (first_item input) → rest ≡ behind_item input
     → Appends between now reply → HasSent before now output (output_of new (items_of rest))
 HasSent-item before between now output fs new input rest reply some sent replies state behind gained =
@@ -94,7 +94,7 @@ HasSent-item before between now output fs new input rest reply some sent replies
     subst (HasSent before now output) (ap (λ s. output_of s (items_of (behind_item input))) (sym state) ∙ ap (λ bytes. output_of new (items_of bytes)) (sym behind)) more
 
 -- the next item was answered, and a front of what answers it was written
-pub GainsPrefix-item : (before between now : Option (List ℕ)) (output : List ℕ) (fs : FileSystem) (input reply : List ℕ) → 0 < length input
+pub GainsPrefix-item : (before between now : Option (List ℕ)) (output : List ℕ) (fs : State) (input reply : List ℕ) → 0 < length input
     → HasSent before between output (output_of fs (items_of input)) → reply ≡ bytes_for fs (first_item input) → GainsPrefix between now reply → GainsPrefix before now output
 GainsPrefix-item before between now output fs input reply some sent replies part =
     let item = first_item input in
@@ -102,7 +102,7 @@ GainsPrefix-item before between now output fs input reply some sent replies part
     HasSent-part before between now output (bytes_for fs item) (output_of (after fs item) (items_of (behind_item input))) next (subst (GainsPrefix between now) replies part)
 
 -- a turn of the loop: the item at a place was answered, and what answers it was written
-pub HasSent-turn : (before between now : Option (List ℕ)) (output : List ℕ) (fs new : FileSystem) (input part reply written : List ℕ) (place len : ℕ) → 0 < length part → part ≡ drop place input
+pub HasSent-turn : (before between now : Option (List ℕ)) (output : List ℕ) (fs new : State) (input part reply written : List ℕ) (place len : ℕ) → 0 < length part → part ≡ drop place input
     → HasSent before between output (output_of fs (items_of (drop place input))) → reply ≡ bytes_for fs (first_item part) → new ≡ after fs (first_item part)
     → drop len part ≡ behind_item part → written ≡ reply → Appends between now written → HasSent before now output (output_of new (items_of (drop (place + len) input)))
 HasSent-turn before between now output fs new input part reply written place len some is sent replies state behind same gained =
@@ -111,7 +111,7 @@ HasSent-turn before between now output fs new input part reply written place len
     HasSent-item before between now output fs new part (drop (place + len) input) reply some sent_part replies state rest (subst (Appends between now) same gained)
 
 -- a turn that a fault ended: a front of what answers the item was written
-pub GainsPrefix-turn : (before between now : Option (List ℕ)) (output : List ℕ) (fs : FileSystem) (input part reply written : List ℕ) (place : ℕ) → 0 < length part → part ≡ drop place input
+pub GainsPrefix-turn : (before between now : Option (List ℕ)) (output : List ℕ) (fs : State) (input part reply written : List ℕ) (place : ℕ) → 0 < length part → part ≡ drop place input
     → HasSent before between output (output_of fs (items_of (drop place input))) → reply ≡ bytes_for fs (first_item part) → written ≡ reply → GainsPrefix between now written → GainsPrefix before now output
 GainsPrefix-turn before between now output fs input part reply written place some is sent replies same gained =
     let sent_part = subst (λ xs. HasSent before between output (output_of fs (items_of xs))) (sym is) sent in

@@ -1,9 +1,10 @@
-pub mod FileSystem
+pub mod ByteStrings
+pub mod States
 pub mod View
 pub mod Answer
 pub mod Script
 pub mod Output
 pub mod Words
-pub mod Weight
 pub mod Reading
 pub mod Session
+pub mod Lines

@@ -2,7 +2,7 @@
 use Rattle.std.specs.Prelude.{ℕ, zero, suc, ◌+◌, ◌-◌, ◌^◌, Bool, true, List, [], ◌∷◌, Option, Some, None, ◌&&◌, ◌||◌, ◌==◌, nat_lt, nat_le, length, take, drop, min, codes, if◌then◌else◌, option_and_then, slice_index}
 use Rattle.std.specs.List.{slice_split, before_first, after_first, list_any, list_all}
 use Rattle.std.specs.Char.{is_ascii_alphanumeric}
-use Rattle.wu_base.specs.declared.limits.TheConstants.{LINE_MAX, NAME_MAX}
+use Rattle.wu_base.specs.declared.limits.TheConstants.{LINE_MAX}
 use Rattle.wu_access.specs.declared.Perm.{Perm}
 use Rattle.wu_fields.specs.Numbers.{number_of, mode_of}
 use Rattle.wu_token.specs.Words.{word_of}
@@ -10,10 +10,11 @@ use Rattle.wumpus_run.specs.declared.items.Line.{Line}
 use Rattle.wumpus_run.specs.declared.items.Line.TheVariants as line
 use Rattle.wumpus_run.specs.declared.items.Item.{Item}
 use Rattle.wumpus_run.specs.declared.items.Item.TheVariants as item
-use Rattle.wumpus_run.specs.declared.items.Event.TheVariants.{Create, Text}
-use Rattle.wumpus_run.specs.declared.items.Ask.TheVariants.{Count}
+use Rattle.wu_tree.specs.declared.events.Event.{Event}
+use Rattle.wu_tree.specs.declared.events.Event.TheVariants.{User, Mkdir, Create, Link, Unlink, Rmdir, Rename, Chmod, Chown}
+use Rattle.wumpus_run.specs.declared.items.Ask.TheVariants.{Count, Paths}
 use Rattle.wumpus_run.specs.declared.items.Why.TheVariants.{Unbuilt, Syntax}
-use Rattle.wumpus_run.specs.FileSystem.{is_same}
+use Rattle.wumpus_run.specs.ByteStrings.{is_same}
 
 infixl 10 ◌>>=◌
 abbrev pub ◌>>=◌ : {A B : Type 0} → Option A → (A → Option B) → Option B
@@ -44,16 +45,21 @@ id_of field = number_of field (2 ^ 32 - 1)
 abbrev pub node_of : List ℕ → Option ℕ
 node_of field = id_of field >>= λ ino. if ino == 0 then None else Some ino
 
--- one to NAME_MAX letters and digits
-abbrev pub is_plain_name : List ℕ → Bool
-is_plain_name name = nat_lt 0 (length name) && nat_le (length name) NAME_MAX && list_all is_ascii_alphanumeric name
+abbrev pub ids_of : List (List ℕ) → Option (List ℕ)
+ids_of [] = Some []
+ids_of (field ∷ fields) = do
+  id ← id_of field
+  ids ← ids_of fields
+  Some (id ∷ ids)
 
--- a file is created in the root directory alone yet
-abbrev pub create_line : List ℕ → ℕ × ℕ × Perm → Line
-create_line name (ino, parent, perm) =
-    if parent == 1 && is_plain_name name then line.Update (Create ino name perm) else line.Refused Unbuilt
+-- a user and her groups
+unfoldable pub user_of : List ℕ → List (List ℕ) → Option (ℕ × List ℕ)
+user_of uid groups = do
+  u ← id_of uid
+  gs ← ids_of groups
+  Some (u, gs)
 
--- the numbers of a file to create: its own, its directory's, and its owner, group and mode
+-- the numbers of a node to make: its own, its directory's, and its owner, group and mode
 unfoldable pub creation_of : List ℕ → List ℕ → List ℕ → List ℕ → List ℕ → Option (ℕ × ℕ × Perm)
 creation_of ino parent uid gid mode = do
   i ← node_of ino
@@ -63,12 +69,34 @@ creation_of ino parent uid gid mode = do
   m ← mode_of mode
   Some (i, p, record { uid = u; gid = g; mode = m })
 
+-- the numbers of two nodes
+unfoldable pub nodes_of : List ℕ → List ℕ → Option (ℕ × ℕ)
+nodes_of first second = do
+  i ← node_of first
+  p ← node_of second
+  Some (i, p)
+
 -- the numbers of a text: its file and its length
 unfoldable pub text_of : List ℕ → List ℕ → Option (ℕ × ℕ)
 text_of ino len = do
   i ← node_of ino
   n ← number_of len (2 ^ 40)
   Some (i, n)
+
+-- a node and its new mode
+unfoldable pub mode_change_of : List ℕ → List ℕ → Option (ℕ × ℕ)
+mode_change_of ino mode = do
+  i ← node_of ino
+  m ← mode_of mode
+  Some (i, m)
+
+-- a node, and its new owner and group
+unfoldable pub owner_change_of : List ℕ → List ℕ → List ℕ → Option (ℕ × ℕ × ℕ)
+owner_change_of ino uid gid = do
+  i ← node_of ino
+  u ← id_of uid
+  g ← id_of gid
+  Some (i, u, g)
 
 -- what stands between the first byte and the last
 abbrev pub inner_of : List ℕ → List ℕ
@@ -89,25 +117,80 @@ abbrev pub or_syntax : {A : Type 0} → (A → Line) → Option A → Line
 or_syntax line_for None = line.Refused Syntax
 or_syntax line_for (Some numbers) = line_for numbers
 
+abbrev pub read_user : List (List ℕ) → Line
+read_user [] = line.Refused Syntax
+read_user (uid ∷ groups) = or_syntax (λ (u, gs). line.Update (User u gs)) (user_of uid groups)
+
+abbrev pub read_mkdir : List (List ℕ) → Line
+read_mkdir (ino ∷ parent ∷ name ∷ uid ∷ gid ∷ mode ∷ []) = or_syntax (λ (i, p, perm). line.Update (Mkdir i p name perm)) (creation_of ino parent uid gid mode)
+read_mkdir _ = line.Refused Syntax
+
 abbrev pub read_create : List (List ℕ) → Line
-read_create (ino ∷ parent ∷ name ∷ uid ∷ gid ∷ mode ∷ []) = or_syntax (create_line name) (creation_of ino parent uid gid mode)
+read_create (ino ∷ parent ∷ name ∷ uid ∷ gid ∷ mode ∷ []) = or_syntax (λ (i, p, perm). line.Update (Create i p name perm)) (creation_of ino parent uid gid mode)
 read_create _ = line.Refused Syntax
 
 abbrev pub read_text : List (List ℕ) → Line
 read_text (ino ∷ len ∷ []) = or_syntax (λ (i, n). line.TextHead i n) (text_of ino len)
 read_text _ = line.Refused Syntax
 
+abbrev pub read_link : List (List ℕ) → Line
+read_link (ino ∷ parent ∷ name ∷ []) = or_syntax (λ (i, p). line.Update (Link i p name)) (nodes_of ino parent)
+read_link _ = line.Refused Syntax
+
+abbrev pub read_unlink : List (List ℕ) → Line
+read_unlink (parent ∷ name ∷ []) = or_syntax (λ p. line.Update (Unlink p name)) (node_of parent)
+read_unlink _ = line.Refused Syntax
+
+abbrev pub read_rmdir : List (List ℕ) → Line
+read_rmdir (parent ∷ name ∷ []) = or_syntax (λ p. line.Update (Rmdir p name)) (node_of parent)
+read_rmdir _ = line.Refused Syntax
+
+abbrev pub read_rename : List (List ℕ) → Line
+read_rename (parent ∷ name ∷ new_parent ∷ new_name ∷ []) = or_syntax (λ (p, q). line.Update (Rename p name q new_name)) (nodes_of parent new_parent)
+read_rename _ = line.Refused Syntax
+
+abbrev pub read_chmod : List (List ℕ) → Line
+read_chmod (ino ∷ mode ∷ []) = or_syntax (λ (i, m). line.Update (Chmod i m)) (mode_change_of ino mode)
+read_chmod _ = line.Refused Syntax
+
+abbrev pub read_chown : List (List ℕ) → Line
+read_chown (ino ∷ uid ∷ gid ∷ []) = or_syntax (λ (i, u, g). line.Update (Chown i u g)) (owner_change_of ino uid gid)
+read_chown _ = line.Refused Syntax
+
 abbrev pub read_count : List (List ℕ) → Line
 read_count (uid ∷ expr ∷ []) = or_syntax (count_line expr) (id_of uid)
 read_count _ = line.Refused Syntax
 
+abbrev pub read_paths : List (List ℕ) → Line
+read_paths (uid ∷ []) = or_syntax (λ u. line.Ask (record { uid = u; ask = Paths })) (id_of uid)
+read_paths _ = line.Refused Syntax
+
+-- a change of what is there
+unfoldable pub read_change : List ℕ → List (List ℕ) → Line
+read_change command fields =
+    if is_same command (codes "link") then read_link fields else (
+    if is_same command (codes "unlink") then read_unlink fields else (
+    if is_same command (codes "rmdir") then read_rmdir fields else (
+    if is_same command (codes "rename") then read_rename fields else (
+    if is_same command (codes "chmod") then read_chmod fields else (
+    if is_same command (codes "chown") then read_chown fields else (
+    line.Refused Unbuilt))))))
+
+-- what a command asks for with its fields
+unfoldable pub read_command : List ℕ → List (List ℕ) → Line
+read_command command fields =
+    if is_same command (codes "user") then read_user fields else (
+    if is_same command (codes "mkdir") then read_mkdir fields else (
+    if is_same command (codes "create") then read_create fields else (
+    if is_same command (codes "text") then read_text fields else (
+    if is_same command (codes "count") then read_count fields else (
+    if is_same command (codes "paths") then read_paths fields else (
+    read_change command fields))))))
+
 -- what the fields of a line say; the first is the command
-unfoldable pub read_fields : List (List ℕ) → Line
+abbrev pub read_fields : List (List ℕ) → Line
 read_fields [] = line.Refused Unbuilt
-read_fields (command ∷ fields) =
-    if is_same command (codes "create") then read_create fields
-    else (if is_same command (codes "text") then read_text fields
-    else (if is_same command (codes "count") then read_count fields else line.Refused Unbuilt))
+read_fields (command ∷ fields) = read_command command fields
 
 -- what a line says; a long line and escapes aren't built yet
 unfoldable pub read_line : List ℕ → Line
@@ -129,7 +212,7 @@ has_body len behind = nat_le len (length behind) && is_closed (drop len behind)
 -- the item that a line and what stands behind it make
 abbrev pub item_of : Line → List ℕ → Item
 item_of (line.Update event) behind = item.Update event
-item_of (line.TextHead ino len) behind = if has_body len behind then item.Update (Text ino (take len behind)) else item.Refused Unbuilt
+item_of (line.TextHead ino len) behind = if has_body len behind then item.Text ino (take len behind) else item.Refused Unbuilt
 item_of (line.Ask query) behind = item.Ask query
 item_of (line.Refused why) behind = item.Refused why
 item_of line.Blank behind = item.Blank

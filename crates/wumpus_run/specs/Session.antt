@@ -4,7 +4,7 @@ use Rattle.std.specs.Io.KnownBytes.{Appends}
 use Rattle.wu_outside.specs.Gains.{GainsPrefix}
 use Rattle.wumpus_run.specs.declared.statuses.Status.{Status}
 use Rattle.wumpus_run.specs.declared.statuses.Status.TheVariants.{Done, NoMemory, InputTooLong}
-use Rattle.wumpus_run.specs.FileSystem.{first_state}
+use Rattle.wumpus_run.specs.States.{first_state}
 use Rattle.wumpus_run.specs.Output.{output_of}
 use Rattle.wumpus_run.specs.Script.{items_of}
 use Rattle.wumpus_run.specs.Reading.{TakesExactly}

@@ -2,7 +2,7 @@
 use Rattle.std.specs.Prelude.{ℕ, List, [], ◌∷◌, Option, Some, None, map, codes, if◌then◌else◌}
 use Rattle.std.specs.Borrow.{Bor}
 use Rattle.wumpus_run.specs.declared.session.TheConstants.{INPUT_LIMIT}
-use Rattle.wumpus_run.specs.FileSystem.{is_same}
+use Rattle.wumpus_run.specs.ByteStrings.{is_same}
 use Rattle.wumpus_run.specs.declared.statuses.Status.{Status}
 use Rattle.wumpus_run.specs.declared.statuses.Status.TheVariants.{Done, Usage, ReadFault, WriteFault, NoMemory, InputTooLong}
 

@@ -1,26 +1,6 @@
 //! What a script consists of.
-use wu_access::Perm;
 use wu_base::{Bytes, Ino, Uid};
-
-/// A change of the file system, as the machine reports it.
-#[derive(Debug, Drop)]
-pub enum Event {
-    /// A file is made in the root directory.
-    Create { ino: Ino, name: Bytes, perm: Perm },
-    /// A file is given a text.
-    Text { ino: Ino, text: Bytes },
-}
-
-/// Why an event is refused. It then changes nothing.
-#[derive(Clone, Copy, Debug, PartialEq, Eq)]
-pub enum Refusal {
-    /// The number, or the name in its directory, is in use.
-    Exists,
-    /// There is no node of that number.
-    NoSuch,
-    /// The node is a directory.
-    Kind,
-}
+use wu_tree::{Event, Refusal};
 
 /// Why a line is refused.
 #[derive(Clone, Copy, Debug, PartialEq, Eq)]
@@ -38,6 +18,8 @@ pub enum Why {
 pub enum Ask {
     /// How many extents a word has, and in how many files.
     Count { word: Bytes },
+    /// Every open path.
+    Paths,
 }
 
 /// A query of a user.
@@ -62,6 +44,7 @@ pub enum Line {
 #[derive(Debug, Drop)]
 pub enum Item {
     Update(Event),
+    Text { ino: Ino, text: Bytes },
     Ask(Query),
     Refused(Why),
     Blank,

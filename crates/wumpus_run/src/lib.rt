@@ -2,15 +2,12 @@
 #![tactic(auto)]
 
 mod fields;
-mod files;
 mod input;
 mod items;
+mod machine;
 mod replies;
 mod session;
 mod statuses;
 
 pub use session::run;
 pub use statuses::Status;
-
-#[cfg(test)]
-mod tests;

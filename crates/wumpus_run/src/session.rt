@@ -3,23 +3,24 @@ ghost use Rattle.std.specs.Prelude.{◌≡◌, ◌+◌, ◌++◌, ◌≤◌, ◌
 ghost use Rattle.std.specs.Io.KnownBytes.{Appends};
 ghost use Rattle.wu_outside.specs.Faults.{Rose, HasFaultCause};
 ghost use Rattle.wu_outside.specs.Gains.{GainsPrefix};
-ghost use Rattle.wumpus_run.specs.FileSystem.{first_state};
+ghost use Rattle.wumpus_run.specs.States.{first_state};
 ghost use Rattle.wumpus_run.specs.Script.{items_of, first_item, behind_item, line_of, behind_line, is_line_feed, item_of, body_len, has_body, is_closed};
-ghost use Rattle.wumpus_run.specs.Output.{after, bytes_for, output_of};
+ghost use Rattle.wumpus_run.specs.Output.{after, bytes_for, output_of, verdict_line};
 ghost use Rattle.wumpus_run.specs.Reading.{TakesAtMost};
-ghost use Rattle.wumpus_run.specs.Weight.{weight_of, item_weight, line_weight};
+ghost use Rattle.wumpus_run.specs.Lines.{HasChange, IsItem};
 ghost use Rattle.wumpus_run.specs.Words.{limit_of, texts_of};
 ghost use Rattle.wumpus_run.specs.Session.{AnswersAll, AnswersFront, IsTooLong, Completes};
 
 use crate::fields::read_line;
-use crate::files::Files;
 use crate::input::{ReadEnd, read_input};
-use crate::items::{Event, Item, Line, Why};
+use crate::items::{Item, Line, Why};
+use crate::machine::{Machine, NODES_MAX};
 use crate::replies::{Reply, put_reply};
 use crate::statuses::Status;
 use std::alloc::Global;
 use wu_base::{Bytes, Ino, NoMemory};
 use wu_outside::{Fault, Sink, Source, Store, write_all};
+use wu_tree::Refusal;
 
 /// The most bytes of an input.
 pub const INPUT_LIMIT: usize = 1_048_576;
@@ -92,11 +93,30 @@ fn answer_all<O: Sink>(alloc: Global, input: &[u8], sink: &mut O) -> Result<(), 
     ensures err { OnErr result (GainsPrefix (O.gained sink.old) (O.gained sink.new) (output_of first_state (items_of input.now))) }
     ensures cause { HasFaultCause (O.faults sink.old) (O.faults sink.new) result }
 {
-    let mut files = Files::new(alloc);
+    let mut machine = match Machine::new(alloc) {
+        Ok(machine) => machine,
+        Err(NoMemory) => return Err(Fault::NoMemory),
+    };
+    answer_from(alloc, &mut machine, input, sink)
+}
+
+/// Answers the items of an input from a state on.
+fn answer_from<O: Sink>(
+    alloc: Global,
+    machine: &mut Machine,
+    input: &[u8],
+    sink: &mut O,
+) -> Result<(), Fault>
+    requires short { length input.now ≤ INPUT_LIMIT }
+    requires small { length machine.old.tree.nodes + length input.now ≤ NODES_MAX }
+    ensures ok { OnOk result (Appends (O.gained sink.old) (O.gained sink.new) (output_of machine.old (items_of input.now))) }
+    ensures err { OnErr result (GainsPrefix (O.gained sink.old) (O.gained sink.new) (output_of machine.old (items_of input.now))) }
+    ensures cause { HasFaultCause (O.faults sink.old) (O.faults sink.new) result }
+{
     let mut reply = Vec::new(alloc);
     let mut at = 0;
     while at < input.len() {
-        match answer_item(alloc, &mut files, &input[at..], &mut reply) {
+        match answer_item(alloc, machine, &input[at..], &mut reply) {
             Ok(len) => at += len,
             Err(NoMemory) => return Err(Fault::NoMemory),
         }
@@ -112,44 +132,58 @@ fn answer_all<O: Sink>(alloc: Global, input: &[u8], sink: &mut O) -> Result<(), 
 /// replace what `reply` held.
 fn answer_item(
     alloc: Global,
-    files: &mut Files,
+    machine: &mut Machine,
     input: &[u8],
     reply: &mut Vec<u8>,
 ) -> Result<usize, NoMemory>
     requires some { 0 < length input.now }
-    requires weight { weight_of files.old + length input.now ≤ INPUT_LIMIT }
-    ensures reply { OnOk result (reply.new.items ≡ bytes_for files.old (first_item input.now)) }
-    ensures state { OnOk result (files.new ≡ after files.old (first_item input.now)) }
+    requires short { length input.now ≤ INPUT_LIMIT }
+    requires small { length machine.old.tree.nodes ≤ NODES_MAX }
+    ensures reply { OnOk result (reply.new.items ≡ bytes_for machine.old (first_item input.now)) }
+    ensures state { OnOk result (machine.new ≡ after machine.old (first_item input.now)) }
+    ensures nodes { OnOk result (length machine.new.tree.nodes ≤ length machine.old.tree.nodes + 1) }
     ensures behind { IfOk result (λ len. drop len input.now ≡ behind_item input.now) }
     ensures some { IfOk result (λ len. 0 < len) }
     ensures within { IfOk result (λ len. len ≤ length input.now) }
-    ensures weight { IfOk result (λ len. weight_of files.new ≤ weight_of files.old + len) }
 {
     let first = read_item(alloc, input)?;
     reply.clear();
-    answer(alloc, files, first.item, reply)?;
+    answer(alloc, machine, first.item, reply)?;
     Ok(first.len)
 }
 
-/// Appends the bytes that answer the item, after which the files are those that it leaves.
+/// Appends the bytes that answer the item, after which the state is the one that it leaves.
 #[tactic(auto, unfolding(crate::specs::Output::bytes_for))]
-fn answer(alloc: Global, files: &mut Files, item: Item, out: &mut Vec<u8>) -> Result<(), NoMemory>
-    requires { weight_of files.old ≤ INPUT_LIMIT }
-    ensures reply { OnOk result (out.new.items ≡ out.old.items ++ bytes_for files.old item) }
-    ensures state { OnOk result (files.new ≡ after files.old item) }
-    ensures weight { weight_of files.new ≤ weight_of files.old + item_weight item }
+fn answer(
+    alloc: Global,
+    machine: &mut Machine,
+    item: Item,
+    out: &mut Vec<u8>,
+) -> Result<(), NoMemory>
+    requires proper { IsItem item }
+    requires small { length machine.old.tree.nodes ≤ NODES_MAX }
+    ensures reply { OnOk result (out.new.items ≡ out.old.items ++ bytes_for machine.old item) }
+    ensures state { OnOk result (machine.new ≡ after machine.old item) }
+    ensures nodes { OnOk result (length machine.new.tree.nodes ≤ length machine.old.tree.nodes + 1) }
 {
     match item {
-        Item::Update(event) => match files.apply(event)? {
-            Ok(()) => put_reply(out, &Reply::Ok),
-            Err(refusal) => put_reply(out, &Reply::Refused(Why::Tree(refusal))),
-        },
+        Item::Update(event) => put_verdict(out, machine.change(&event)?),
+        Item::Text { ino, text } => put_verdict(out, machine.give_text(ino, text)?),
         Item::Ask(query) => {
-            let answered = files.answer(alloc, &query)?;
+            let answered = machine.answer(alloc, &query)?;
             put_reply(out, &Reply::Answered(answered))
         }
         Item::Refused(why) => put_reply(out, &Reply::Refused(why)),
         Item::Blank => Ok(()),
+    }
+}
+
+fn put_verdict(out: &mut Vec<u8>, verdict: Result<(), Refusal>) -> Result<(), NoMemory>
+    ensures { OnOk result (out.new.items ≡ out.old.items ++ verdict_line verdict) }
+{
+    match verdict {
+        Ok(()) => put_reply(out, &Reply::Ok),
+        Err(refusal) => put_reply(out, &Reply::Refused(Why::Tree(refusal))),
     }
 }
 
@@ -163,12 +197,13 @@ struct First {
 /// The first item of the input: a line, with the body that belongs to it.
 #[tactic(auto, unfolding(crate::specs::Script::first_item, crate::specs::Script::behind_item))]
 fn read_item(alloc: Global, input: &[u8]) -> Result<First, NoMemory>
-    requires { 0 < length input.now }
+    requires some { 0 < length input.now }
+    requires short { length input.now ≤ INPUT_LIMIT }
     ensures item { IfOk result (λ first. first.item ≡ first_item input.now) }
     ensures behind { IfOk result (λ first. drop first.len input.now ≡ behind_item input.now) }
     ensures some { IfOk result (λ first. 0 < first.len) }
     ensures within { IfOk result (λ first. first.len ≤ length input.now) }
-    ensures weight { IfOk result (λ first. item_weight first.item ≤ first.len) }
+    ensures proper { IfOk result (λ first. IsItem first.item) }
 {
     let (line, line_len) = split_line(input);
     let line = read_line(alloc, line)?;
@@ -202,10 +237,11 @@ fn place_of_line_feed(input: &[u8]) -> Option<usize>
 /// The item that a line and what stands behind it make, and how many bytes behind the line belong
 /// to it.
 fn complete(alloc: Global, line: Line, behind: &[u8]) -> Result<First, NoMemory>
-    requires { line_weight line ≤ 1 }
+    requires change { HasChange line }
+    requires short { length behind.now ≤ INPUT_LIMIT }
     ensures item { IfOk result (λ first. first.item ≡ item_of line behind.now) }
     ensures len { IfOk result (λ first. first.len ≡ body_len line behind.now) }
-    ensures weight { IfOk result (λ first. item_weight first.item ≤ first.len + 1) }
+    ensures proper { IfOk result (λ first. IsItem first.item) }
 {
     match line {
         Line::Update(event) => Ok(First {
@@ -230,9 +266,10 @@ fn complete(alloc: Global, line: Line, behind: &[u8]) -> Result<First, NoMemory>
 
 /// The text of a file, where a body of its length stands behind the line.
 fn text_item(alloc: Global, ino: Ino, len: u64, behind: &[u8]) -> Result<First, NoMemory>
+    requires { length behind.now ≤ INPUT_LIMIT }
     ensures item { IfOk result (λ first. first.item ≡ item_of (Line.TextHead ino len) behind.now) }
     ensures len { IfOk result (λ first. first.len ≡ body_len (Line.TextHead ino len) behind.now) }
-    ensures weight { IfOk result (λ first. item_weight first.item ≤ first.len + 1) }
+    ensures proper { IfOk result (λ first. IsItem first.item) }
 {
     if !has_body(len, behind) {
         return Ok(First {
@@ -243,7 +280,7 @@ fn text_item(alloc: Global, ino: Ino, len: u64, behind: &[u8]) -> Result<First, 
     let len = len as usize;
     let text = Bytes::from_slice(alloc, &behind[..len])?;
     Ok(First {
-        item: Item::Update(Event::Text { ino, text }),
+        item: Item::Text { ino, text },
         len: (len + 1).min(behind.len()),
     })
 }

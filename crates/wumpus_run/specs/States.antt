@@ -1,0 +1,60 @@
+-- The state of a session: a file tree, and the texts of its files.
+use Rattle.std.specs.Prelude.{ℕ, ◌≤◌, List, [], length, Option, Some, None, Result, Ok, Err, unwrap_or}
+use Rattle.std.specs.Ordering.{nat_cmp}
+use Rattle.std.specs.Map.{lookup, remove_entry}
+use Rattle.std.specs.BTreeMap.{is_at, insert_entry}
+use Rattle.wu_base.specs.declared.limits.TheConstants.{TEXT_MAX}
+use Rattle.wu_tree.specs.FileSystems.{FileSystem, root_alone}
+use Rattle.wu_tree.specs.Steps.{IsEvent}
+use Rattle.wu_tree.specs.Steps.{step as tree_step}
+use Rattle.wu_tree.specs.declared.events.Event.{Event}
+use Rattle.wu_tree.specs.declared.events.Event.TheVariants.{Text}
+use Rattle.wu_tree.specs.declared.events.Effect.{Effect}
+use Rattle.wu_tree.specs.declared.events.Refusal.{Refusal}
+
+-- texts by the number of their file, in the order of the numbers
+abbrev pub Texts : Type 0
+Texts = List (ℕ × List ℕ)
+
+pub record State : Type 0 where
+  pub tree : FileSystem
+  pub texts : Texts
+
+-- the root directory alone
+abbrev pub first_state : State
+first_state = record { tree = root_alone; texts = [] }
+
+-- the text of a file; one that was given none has the empty text
+abbrev pub text_in : Texts → ℕ → List ℕ
+text_in texts ino = unwrap_or (lookup (is_at (nat_cmp ino)) texts) []
+
+-- a file without a text
+abbrev pub without_text : Option ℕ → Texts → Texts
+without_text None texts = texts
+without_text (Some ino) texts = remove_entry (is_at (nat_cmp ino)) texts
+
+-- a file with a text in place of the one before
+abbrev pub with_text : Option ℕ → List ℕ → Texts → Texts
+with_text None text texts = texts
+with_text (Some ino) text texts = insert_entry nat_cmp texts ino text
+
+-- a file that is made has the empty text, and the text of one that is gone goes with it
+abbrev pub texts_after : Effect → List ℕ → Texts → Texts
+texts_after effect text texts = with_text effect.texted text (without_text effect.made (without_text effect.dropped texts))
+
+abbrev pub stepped : List ℕ → Texts → Result (FileSystem × Effect) Refusal → Result State Refusal
+stepped text texts (Ok (tree, effect)) = Ok (record { tree = tree; texts = texts_after effect text texts })
+stepped text texts (Err refusal) = Err refusal
+
+-- what an event makes of a state, where `text` is the text that it gives, or why it is refused
+unfoldable pub step : State → Event → List ℕ → Result State Refusal
+step s event text = stepped text s.texts (tree_step s.tree event)
+
+-- an event that gives no text
+abbrev pub IsChange : Event → Type 0
+IsChange (Text ino) = ⊥
+IsChange event = IsEvent event
+
+-- no text is longer than a text may be
+abbrev pub AreShort : Texts → Type 0
+AreShort texts = (ino : ℕ) → length (text_in texts ino) ≤ TEXT_MAX
