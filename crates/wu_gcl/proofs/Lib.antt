@@ -1,0 +1,4 @@
+pub mod Completeness
+pub mod Soundness
+pub mod Fronts
+pub mod Texts

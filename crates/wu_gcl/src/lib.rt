@@ -1,0 +1,14 @@
+//! Region expressions, after the generalized concordance lists of Clarke, Cormack and Burkowski:
+//! what they are, how they are written, and the terms that they name.
+#![tactic(auto)]
+
+ghost use Rattle.wu_gcl.specs.Reading.{Reads};
+ghost use Rattle.wu_gcl.specs.Pending.{reduced};
+ghost use Rattle.wu_gcl.proofs.Completeness.{evaluated_in};
+ghost use Rattle.wu_gcl.proofs.Soundness.{reduces};
+ghost use Rattle.wu_gcl.proofs.Fronts.{stands_at_front};
+ghost use Rattle.wu_gcl.proofs.Texts.{starts};
+mod expressions;
+mod lexing;
+
+pub use expressions::{Expr, ExprFault, Op, Tag};
