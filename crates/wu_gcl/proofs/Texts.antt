@@ -3,7 +3,7 @@ use Rattle.std.proofs.Common.{◌≡◌, ◌≢◌, ℕ, suc, ◌+◌, ◌<◌, 
 use Rattle.std.specs.Prelude.{◌⊎◌}
 use Rattle.std.specs.List.{prefix_len, AllByRecursion}
 use Rattle.std.proofs.lemmas.Bool.Decides.{nat_tests}
-use Rattle.std.proofs.lemmas.List.{take_at, drop_at, take-append-drop}
+use Rattle.std.proofs.lemmas.List.{take_at, drop_at, take-append-drop, length-drop}
 use Rattle.wu_gcl.specs.declared.expressions.Op.{Op}
 use Rattle.wu_gcl.specs.declared.expressions.Op.TheVariants.{Containing, ContainedIn, NotContaining, NotContainedIn, OneOf, BothOf, FollowedBy}
 use Rattle.wu_gcl.specs.Lexical.{Atom, Quoted, Bracketed, FileWord, LineWord, Token, Operand, Operator, Open, Close, token_text, IsToken, EndsBefore, IsBlank, Stands, AreTokens, HasNoTokens}
@@ -150,3 +150,25 @@ lexed_none text done rest lexed clear some none tokens are =
     let first : Starts left.0 rest = starts left.0 rest clear some left.2 in
     let found : front_of rest ≡ Some (first.token, first.rest) = first.found in
     cc
+
+pub front_shorter : (text : List ℕ) (token : Token) (rest : List ℕ) → front_of text ≡ Some (token, rest) → length rest < length text
+front_shorter text token rest found =
+    let stands : Stands token rest text = front_stands text token rest found in
+    let some : 0 < length (token_text token) = token_length token in
+    rw (stands.spelled, length-append) (omega arith)
+
+pub after_blanks-shorter : (text : List ℕ) → length (after_blanks text) ≤ length text
+after_blanks-shorter text = rw length-drop (omega arith)
+
+-- the tokens of the text are those that are done, and those of the rest, at whose front no blank stands
+pub record Progress (text : List ℕ) (done : List Token) (rest : List ℕ) : Type 0 where
+  pub lexed : Lexed text done rest
+  pub clear : prefix_len is_blank rest ≡ 0
+
+pub progress_start : (text : List ℕ) → Progress text [] (after_blanks text)
+progress_start text = record { lexed = lexed_start text; clear = clear text }
+
+pub progress_more : (text : List ℕ) (done : List Token) (rest : List ℕ) (token : Token) (behind : List ℕ) → Progress text done rest → 0 < length rest →
+    front_of rest ≡ Some (token, behind) → Progress text (done ++ token ∷ []) (after_blanks behind)
+progress_more text done rest token behind progress some found =
+    record { lexed = lexed_more text done rest token behind progress.lexed progress.clear some found; clear = clear behind }

@@ -6,6 +6,9 @@ use Rattle.std.specs.Cmp.Lexicographic.{pointwise}
 use Rattle.wu_gcl.specs.declared.expressions.Op.{Op}
 use Rattle.wu_gcl.specs.declared.expressions.Op.TheVariants.{Containing, ContainedIn, NotContaining, NotContainedIn, OneOf, BothOf, FollowedBy}
 use Rattle.wu_gcl.specs.Lexical.{Atom, Quoted, Bracketed, FileWord, LineWord, Token, Operand, Operator, Open, Close}
+use Rattle.wu_gcl.specs.declared.lexing.Token.{Token as WrittenToken}
+use Rattle.wu_gcl.specs.Views.{token_of}
+use Rattle.std.specs.Borrow.{Bor}
 
 -- a token, and what stands behind it
 abbrev pub Front : Type 0
@@ -75,3 +78,8 @@ front_of (b ∷ rest) =
     else if b == 47 then negation_at rest
     else if b == 46 then dots_at rest
     else word_at (b ∷ rest)
+
+-- what was found, without where it lies in memory
+abbrev pub seen_front : Option (WrittenToken × Bor (List ℕ)) → Front
+seen_front None = None
+seen_front (Some found) = front (token_of found.0) found.1.now
