@@ -6,3 +6,4 @@ pub mod Reading
 pub mod Pending
 pub mod Scanning
 pub mod Views
+pub mod Stacks

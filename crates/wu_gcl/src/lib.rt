@@ -9,6 +9,8 @@ ghost use Rattle.wu_gcl.proofs.Soundness.{reduces};
 ghost use Rattle.wu_gcl.proofs.Fronts.{stands_at_front};
 ghost use Rattle.wu_gcl.proofs.Texts.{starts};
 mod expressions;
+mod grammar;
 mod lexing;
+mod operands;
 
 pub use expressions::{Expr, ExprFault, Op, Tag};
