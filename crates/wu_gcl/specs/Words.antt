@@ -1,3 +1,3 @@
 use Rattle.std.specs.Prelude.{ℕ, List, [], ◌∷◌}
-abbrev pub words_of : List ℕ → List (List ℕ)
+unfoldable pub words_of : List ℕ → List (List ℕ)
 words_of x = x ∷ []

@@ -12,5 +12,6 @@ mod expressions;
 mod grammar;
 mod lexing;
 mod operands;
+mod words;
 
 pub use expressions::{Expr, ExprFault, Op, Tag};

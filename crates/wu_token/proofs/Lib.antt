@@ -1,0 +1,4 @@
+pub mod PlacesLemmas
+pub mod CutLemmas
+pub mod WordLemmas
+pub mod LengthLemmas

@@ -1,0 +1,83 @@
+//! The words of a byte string, and the tokens of a text.
+ghost use Rattle.std.specs.Prelude.{◌≡◌, ◌+◌, ◌*◌, ◌^◌, ◌<◌, ◌≤◌, ◌++◌, IfOk, OnOk, All, map, length, vec_len};
+ghost use Rattle.wu_token.specs.Words.{IsTerm, words_of};
+ghost use Rattle.wu_token.specs.Tokens.{tokens_of};
+ghost use Rattle.wu_token.specs.Places.{line_tokens_at, placed_tokens_of};
+ghost use Rattle.wu_token.specs.Left.{piece_of, end_of};
+
+use crate::pieces::Piece;
+use crate::spans::{word_of_run, Token, FILE_END, FILE_START, LINE_END, LINE_START};
+use std::alloc::Global;
+use wu_base::{Bytes, NoMemory, TEXT_MAX};
+
+/// The words of these bytes, in order.
+pub fn words(alloc: Global, bytes: &[u8]) -> Result<Vec<Bytes>, NoMemory>
+    ensures words { IfOk result (λ v. v.items ≡ words_of bytes.now) }
+    ensures lengths { IfOk result (λ v. All IsTerm v.items) }
+{
+    let mut words = Vec::new(alloc);
+    for run in (Piece { start: 0, bytes }).runs() {
+        words.push(word_of_run(alloc, run.bytes)?)?;
+    }
+    Ok(words)
+}
+
+/// Puts the tokens of a line at the end.
+fn push_line(alloc: Global, tokens: &mut Vec<Token>, line: Piece) -> Result<(), NoMemory>
+    requires { end_of line < 2 ^ 32 }
+    ensures { OnOk result (tokens.new.items ≡ tokens.old.items ++ line_tokens_at (piece_of line.entry)) }
+{
+    let end = line.start + line.bytes.len();
+    tokens.push(Token::tag(alloc, LINE_START, line.start)?)?;
+    for run in line.runs() {
+        tokens.push(Token::word(alloc, run)?)?;
+    }
+    tokens.push(Token::tag(alloc, LINE_END, end)?)?;
+    Ok(())
+}
+
+/// The tokens of a text of at most [`TEXT_MAX`] bytes, in order, with their places.
+pub fn tokens(alloc: Global, text: &[u8]) -> Result<Vec<Token>, NoMemory>
+    requires { length text.now ≤ TEXT_MAX }
+    ensures tokens { IfOk result (λ v. v.items ≡ placed_tokens_of text.now) }
+    ensures terms { IfOk result (λ v. map (λ token. token.term) v.items ≡ tokens_of text.now) }
+    ensures lengths { IfOk result (λ v. All (λ token. IsTerm token.term) v.items) }
+    ensures bound { IfOk result (λ v. vec_len v ≤ 3 * length text.now + 2) }
+{
+    let mut tokens = Vec::new(alloc);
+    tokens.push(Token::tag(alloc, FILE_START, 0)?)?;
+    let whole = Piece {
+        start: 0,
+        bytes: text,
+    };
+    for line in whole.lines() {
+        push_line(alloc, &mut tokens, line)?;
+    }
+    tokens.push(Token::tag(alloc, FILE_END, text.len())?)?;
+    Ok(tokens)
+}
+
+/// How many tokens a line has.
+fn line_token_count(line: Piece) -> u64
+    requires { end_of line < 2 ^ 32 }
+    ensures { result ≡ length (line_tokens_at (piece_of line.entry)) }
+{
+    2 + line.runs().count() as u64
+}
+
+/// How many tokens a text of at most [`TEXT_MAX`] bytes has. Takes no memory.
+pub fn token_count(text: &[u8]) -> u64
+    requires { length text.now ≤ TEXT_MAX }
+    ensures count { result ≡ length (tokens_of text.now) }
+    ensures bound { result ≤ 3 * length text.now + 2 }
+{
+    let mut count = 2;
+    let whole = Piece {
+        start: 0,
+        bytes: text,
+    };
+    for line in whole.lines() {
+        count += line_token_count(line);
+    }
+    count
+}
