@@ -2,3 +2,5 @@ pub mod Completeness
 pub mod Soundness
 pub mod Fronts
 pub mod Texts
+pub mod Decimals
+pub mod Outcomes

@@ -175,3 +175,7 @@ expresses (Close ∷ tokens) used waiting None value leads ran = absurd (ran_non
 expresses (Close ∷ tokens) used waiting (Some operand) value leads ran =
     let inner : Reduces 0 (reduced 0 waiting operand).0 (reduced 0 waiting operand).1 used = reduces 0 waiting operand used (Held-less 0 4 waiting operand used (omega arith) leads) in
     closing tokens used (reduced 0 waiting operand).0 (reduced 0 waiting operand).1 value inner.held ran (λ waiting found held after. expresses tokens (used ++ Close ∷ []) waiting (Some found) value held after)
+
+-- what is found is the value of an expression
+pub expressed : (tokens : List Token) (value : Value) → evaluated tokens ≡ Some value → Expresses tokens value
+expressed tokens value found = expresses tokens [] [] None value refl found

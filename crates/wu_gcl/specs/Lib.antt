@@ -1,4 +1,3 @@
-pub mod Words
 pub mod Lexical
 pub mod Grammar
 pub mod Regions

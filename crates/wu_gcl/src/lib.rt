@@ -12,6 +12,7 @@ mod expressions;
 mod grammar;
 mod lexing;
 mod operands;
-mod words;
+mod reading;
 
 pub use expressions::{Expr, ExprFault, Op, Tag};
+pub use reading::parse;

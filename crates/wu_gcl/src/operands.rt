@@ -5,9 +5,10 @@ ghost use Rattle.wu_gcl.specs.Views.{atom_of};
 
 use crate::expressions::{Expr, ExprFault, Tag};
 use crate::lexing::Atom;
-use crate::words::words;
+
 use std::alloc::Global;
 use wu_base::{NoMemory, Sequence};
+use wu_token::words;
 
 /// The greatest length of a window.
 const WINDOW_MAX: u32 = 65_535;
