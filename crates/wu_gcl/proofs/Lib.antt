@@ -4,3 +4,4 @@ pub mod Fronts
 pub mod Texts
 pub mod Decimals
 pub mod Outcomes
+pub mod Uniqueness

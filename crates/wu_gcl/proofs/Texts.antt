@@ -60,7 +60,7 @@ pub clear : (text : List ℕ) → prefix_len is_blank (after_blanks text) ≡ 0
 clear [] = refl
 clear (b ∷ text) = cleared b text (is_blank b) refl (clear text)
 
-all_blank : (text : List ℕ) → AllByRecursion IsBlank text → after_blanks text ≡ []
+pub all_blank : (text : List ℕ) → AllByRecursion IsBlank text → after_blanks text ≡ []
 all_blank text blank =
     let n : prefix_len is_blank (text ++ []) ≡ length text = prefix_len-run is_blank IsBlank blank_passes text [] blank refl in
     rw (← append-nil text, n) (drop_at text [] (length text) refl)
@@ -78,7 +78,7 @@ blanks_on (token ∷ tokens) text (blanks, token_on, rest, same, blank, stands, 
       All-blank_append _ blanks (run_passes is_blank IsBlank passes_blank text) blank, stands, are)
 
 -- where a token stands behind blanks, it is what stands behind all blanks
-behind_blanks : (text blanks token_on rest : List ℕ) (token : Token) → text ≡ blanks ++ token_on → AllByRecursion IsBlank blanks → Stands token rest token_on → after_blanks text ≡ token_on
+pub behind_blanks : (text blanks token_on rest : List ℕ) (token : Token) → text ≡ blanks ++ token_on → AllByRecursion IsBlank blanks → Stands token rest token_on → after_blanks text ≡ token_on
 behind_blanks text blanks token_on rest token same blank stands =
     let start : prefix_len is_blank token_on ≡ 0 = rw stands.spelled (clear_at token rest) in
     let n : prefix_len is_blank (blanks ++ token_on) ≡ length blanks = prefix_len-run is_blank IsBlank blank_passes blanks token_on blank start in

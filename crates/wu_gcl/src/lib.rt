@@ -15,4 +15,4 @@ mod operands;
 mod reading;
 
 pub use expressions::{Expr, ExprFault, Op, Tag};
-pub use reading::parse;
+pub use reading::{one_reading, parse};

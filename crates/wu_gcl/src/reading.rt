@@ -1,7 +1,7 @@
 //! Reading a region expression.
-ghost use Rattle.std.specs.Prelude.{◌≡◌, ◌<◌, ◌↔◌, false, IfOk, IsTrue, map};
+ghost use Rattle.std.specs.Prelude.{List, ℕ, ◌≡◌, ◌<◌, ◌↔◌, false, IfOk, IsTrue, map};
 ghost use Rattle.wu_gcl.specs.Grammar.{operator_count, open_count};
-ghost use Rattle.wu_gcl.specs.Reading.{Reads, IsLarge, IsSmall, seen};
+ghost use Rattle.wu_gcl.specs.Reading.{Reads, Value, IsLarge, IsSmall, seen};
 ghost use Rattle.wu_gcl.specs.Views.{token_of};
 
 use crate::expressions::{Expr, ExprFault};
@@ -61,4 +61,10 @@ fn open_count(tokens: &[Token<'_>]) -> usize
         }
     }
     count
+}
+
+/// A text says one thing: it spells one expression at most, or has one fault.
+pub fn one_reading()
+    ensures { (text : List ℕ) (first second : Value) → Reads text first → Reads text second → first ≡ second }
+{
 }
