@@ -5,3 +5,4 @@ pub mod Texts
 pub mod Decimals
 pub mod Outcomes
 pub mod Uniqueness
+pub mod TermLists

@@ -6,3 +6,4 @@ pub mod Pending
 pub mod Scanning
 pub mod Views
 pub mod Stacks
+pub mod Terms

@@ -11,8 +11,10 @@ ghost use Rattle.wu_gcl.proofs.Texts.{starts};
 mod expressions;
 mod grammar;
 mod lexing;
+mod naming;
 mod operands;
 mod reading;
 
 pub use expressions::{Expr, ExprFault, Op, Tag};
+pub use naming::terms_of;
 pub use reading::{one_reading, parse};
