@@ -89,7 +89,7 @@ same_front t token r rest text same stands =
     let rests : r ≡ rest = ap (λ (pair : Token × List ℕ). pair.1) pairs in
     rw (← tokens, ← rests) stands
 
-passes_unquote : (b : ℕ) → is_unquote b ≡ true → b ≢ 34
+pub passes_unquote : (b : ℕ) → is_unquote b ≡ true → b ≢ 34
 passes_unquote b passes is = grind (arith, nat_tests)
 
 passes_digit : (b : ℕ) → is_ascii_digit b ≡ true → IsAsciiDigit b

@@ -6,3 +6,6 @@ pub mod Decimals
 pub mod Outcomes
 pub mod Uniqueness
 pub mod TermLists
+pub mod Joining
+pub mod WordLaws
+pub mod Reprint

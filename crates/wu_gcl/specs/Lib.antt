@@ -7,3 +7,4 @@ pub mod Scanning
 pub mod Views
 pub mod Stacks
 pub mod Terms
+pub mod Printing
