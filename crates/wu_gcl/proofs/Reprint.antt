@@ -130,5 +130,171 @@ open_count-append (Operator op ∷ a) b = open_count-append a b
 open_count-append (Open ∷ a) b = omega (arith, open_count-append a b)
 open_count-append (Close ∷ a) b = open_count-append a b
 
+-- a value's operators are those of the tokens that say it
+abbrev IsCounted : ℕ → Value → Type 0
+IsCounted n (Ok region) = both_count region ≡ n
+IsCounted n (Err fault) = Unit {0}
+
+join_counted : (op : Op) (left right : Value) (m n : ℕ) → IsCounted m left → IsCounted n right → IsCounted (m + (1 + n)) (join op left right)
+join_counted op (Ok left) (Ok right) m n l r = omega arith
+join_counted op (Ok left) (Err fault) m n l r = tt
+join_counted op (Err fault) (Ok right) m n l r = tt
+join_counted op (Err fault) (Err other) m n l r = tt
+
+phrase_counted : (words : List (List ℕ)) → IsCounted 0 (phrase_of words)
+phrase_counted [] = tt
+phrase_counted (word ∷ words) = refl
+
+quoted_counted : (tag : Option Tag) (bytes : List ℕ) → IsCounted 0 (quoted_value tag bytes)
+quoted_counted (Some tag) bytes = refl
+quoted_counted None bytes = phrase_counted (words_of bytes)
+
+window_counted_by : (test : Bool) (n : ℕ) → IsCounted 0 (cond test (Err BadWindow) (Ok (Window n)))
+window_counted_by true n = tt
+window_counted_by false n = refl
+
+window_counted : (digits : List ℕ) → IsCounted 0 (window_of digits)
+window_counted [] = tt
+window_counted (digit ∷ digits) = window_counted_by _ (digits_behind 0 (digit ∷ digits))
+
+value_counted : (atom : Atom) → IsCounted 0 (value_of atom)
+value_counted (Quoted bytes) = quoted_counted (tag_at bytes) bytes
+value_counted (Bracketed digits) = window_counted digits
+value_counted FileWord = refl
+value_counted LineWord = refl
+
+meaning_counted : (syntax : Syntax) → IsCounted (operator_count (tokens_in syntax)) (meaning syntax)
+meaning_counted (Single atom) = value_counted atom
+meaning_counted (Group inner) =
+    let same : operator_count (tokens_in inner ++ Close ∷ []) ≡ operator_count (tokens_in inner) = operator_count-append (tokens_in inner) (Close ∷ []) ∙ omega arith in
+    rw same (meaning_counted inner)
+meaning_counted (Join op left right) =
+    rw operator_count-append (join_counted op (meaning left) (meaning right) (operator_count (tokens_in left)) (operator_count (tokens_in right)) (meaning_counted left) (meaning_counted right))
+
+-- how many operators and parentheses the printed text has
+record IsCountedSyntax (operators opens : ℕ) (syntax : Syntax) : Type 0 where
+  operators_are : operator_count (tokens_in syntax) ≡ operators
+  opens_are : open_count (tokens_in syntax) ≤ opens
+
+grouped_counts : (region : Region) (syntax : Syntax) → IsCountedSyntax (both_count region) (both_count region - 1) syntax → IsCountedSyntax (both_count region) (both_count region) (grouped region syntax)
+grouped_counts (Phrase words) syntax is = record { operators_are = is.operators_are; opens_are = omega (arith, is.opens_are) }
+grouped_counts (Mark tag) syntax is = record { operators_are = is.operators_are; opens_are = omega (arith, is.opens_are) }
+grouped_counts WholeFile syntax is = record { operators_are = is.operators_are; opens_are = omega (arith, is.opens_are) }
+grouped_counts WholeLine syntax is = record { operators_are = is.operators_are; opens_are = omega (arith, is.opens_are) }
+grouped_counts (Window n) syntax is = record { operators_are = is.operators_are; opens_are = omega (arith, is.opens_are) }
+grouped_counts (Both op left right) syntax is = record {
+  operators_are = omega (arith, operator_count-append (tokens_in syntax) (Close ∷ []), is.operators_are);
+  opens_are = omega (arith, open_count-append (tokens_in syntax) (Close ∷ []), is.opens_are)
+}
+
+syntax_counts : (region : Region) → IsCountedSyntax (both_count region) (both_count region - 1) (syntax_of region)
+syntax_counts (Phrase words) = record { operators_are = refl; opens_are = omega arith }
+syntax_counts (Mark tag) = record { operators_are = refl; opens_are = omega arith }
+syntax_counts WholeFile = record { operators_are = refl; opens_are = omega arith }
+syntax_counts WholeLine = record { operators_are = refl; opens_are = omega arith }
+syntax_counts (Window n) = record { operators_are = refl; opens_are = omega arith }
+syntax_counts (Both op left right) =
+    let first : IsCountedSyntax (both_count left) (both_count left) (grouped left (syntax_of left)) = grouped_counts left (syntax_of left) (syntax_counts left) in
+    let second : IsCountedSyntax (both_count right) (both_count right) (grouped right (syntax_of right)) = grouped_counts right (syntax_of right) (syntax_counts right) in
+    record {
+      operators_are = omega (arith, operator_count-append (tokens_in (grouped left (syntax_of left))) (Operator op ∷ tokens_in (grouped right (syntax_of right))), first.operators_are, second.operators_are);
+      opens_are = omega (arith, open_count-append (tokens_in (grouped left (syntax_of left))) (Operator op ∷ tokens_in (grouped right (syntax_of right))), first.opens_are, second.opens_are)
+    }
+
+-- ---- parentheses stand round each operand that has an operator
+grouped_tight : (region : Region) → tightness (grouped region (syntax_of region)) ≡ 4
+grouped_tight (Phrase words) = refl
+grouped_tight (Mark tag) = refl
+grouped_tight WholeFile = refl
+grouped_tight WholeLine = refl
+grouped_tight (Window n) = refl
+grouped_tight (Both op left right) = refl
+
+grouped_is : (region : Region) (syntax : Syntax) → IsGrouped syntax → IsGrouped (grouped region syntax)
+grouped_is (Phrase words) syntax is = is
+grouped_is (Mark tag) syntax is = is
+grouped_is WholeFile syntax is = is
+grouped_is WholeLine syntax is = is
+grouped_is (Window n) syntax is = is
+grouped_is (Both op left right) syntax is = is
+
+precedence_below : (op : Op) → precedence op < 4
+precedence_below Containing = omega arith
+precedence_below ContainedIn = omega arith
+precedence_below NotContaining = omega arith
+precedence_below NotContainedIn = omega arith
+precedence_below OneOf = omega arith
+precedence_below BothOf = omega arith
+precedence_below FollowedBy = omega arith
+
+syntax_grouped : (region : Region) → IsGrouped (syntax_of region)
+syntax_grouped (Phrase words) = tt
+syntax_grouped (Mark tag) = tt
+syntax_grouped WholeFile = tt
+syntax_grouped WholeLine = tt
+syntax_grouped (Window n) = tt
+syntax_grouped (Both op left right) =
+    let low : precedence op < 4 = precedence_below op in
+    (rw (grouped_tight left) (omega arith), rw (grouped_tight right) low, grouped_is left (syntax_of left) (syntax_grouped left), grouped_is right (syntax_of right) (syntax_grouped right))
+
+-- ---- it means the same
+digits_behind-push : (n : ℕ) (digits : List ℕ) (digit : ℕ) → digits_behind n (digits ++ digit ∷ []) ≡ 10 * digits_behind n digits + (digit - 48)
+digits_behind-push n [] digit = refl
+digits_behind-push n (first ∷ digits) digit = digits_behind-push (10 * n + (first - 48)) digits digit
+
+record IsDecimal (n : ℕ) (digits : List ℕ) : Type 0 where
+  value : digits_behind 0 digits ≡ n
+  some : 0 < length digits
+  all : AllByRecursion IsAsciiDigit digits
+
+digit_push : (digits : List ℕ) (digit : ℕ) → AllByRecursion IsAsciiDigit digits → IsAsciiDigit digit → AllByRecursion IsAsciiDigit (digits ++ digit ∷ [])
+digit_push [] digit all is = (is, tt)
+digit_push (first ∷ digits) digit all is = (all.0, digit_push digits digit all.1 is)
+
+decimal_one : (n : ℕ) → n < 10 → IsDecimal n ((48 + n) ∷ [])
+decimal_one n less = record { value = omega arith; some = omega arith; all = ((omega arith, omega arith), tt) }
+
+decimal_more : (n : ℕ) (digits : List ℕ) → 10 ≤ n → IsDecimal (n / 10) digits → IsDecimal n (digits ++ ((48 + n % 10) ∷ []))
+decimal_more n digits more is = record {
+  value = digits_behind-push 0 digits (48 + n % 10) ∙ omega (arith, is.value);
+  some = rw length-append (omega arith);
+  all = digit_push digits (48 + n % 10) is.all (omega arith, omega arith)
+}
+
+decimal_is : (n : ℕ) → n < 2 ^ 64 → IsDecimal n (decimal n)
+decimal_is = decimal_by_steps IsDecimal decimal_one decimal_more
+
+window_again : (n : ℕ) (digits : List ℕ) → digits_behind 0 digits ≡ n → 48 < get_or digits 0 0 → n ≤ 65535 → window_of digits ≡ Ok (Window n)
+window_again n [] value first most = absurd (omega arith)
+window_again n (digit ∷ digits) value first most =
+    let test : (eqb digit 48 || nat_lt 65535 (digits_behind 0 (digit ∷ digits))) ≡ false = grind (arith, nat_tests) in
+    rw (test, value) refl
+
+grouped_means : (region : Region) (syntax : Syntax) → meaning (grouped region syntax) ≡ meaning syntax
+grouped_means (Phrase words) syntax = refl
+grouped_means (Mark tag) syntax = refl
+grouped_means WholeFile syntax = refl
+grouped_means WholeLine syntax = refl
+grouped_means (Window n) syntax = refl
+grouped_means (Both op left right) syntax = refl
+
+syntax_means : (region : Region) → IsReadable region → meaning (syntax_of region) ≡ Ok region
+syntax_means (Phrase []) is = absurd (omega (arith, is.0))
+syntax_means (Phrase (word ∷ words)) is = rw (no_tag_in word words is.1, words_of-join word words is.1) refl
+syntax_means (Mark FileStart) is = refl
+syntax_means (Mark FileEnd) is = refl
+syntax_means (Mark LineStart) is = refl
+syntax_means (Mark LineEnd) is = refl
+syntax_means WholeFile is = refl
+syntax_means WholeLine is = refl
+syntax_means (Window n) is =
+    let fits : n < 2 ^ 64 = omega (arith, is.1) in
+    let decimal_n : IsDecimal n (decimal n) = decimal_is n fits in
+    window_again n (decimal n) decimal_n.value (first_decimal n is.0 fits) is.1
+syntax_means (Both op left right) is =
+    let first : meaning (grouped left (syntax_of left)) ≡ Ok left = grouped_means left (syntax_of left) ∙ syntax_means left is.0 in
+    let second : meaning (grouped right (syntax_of right)) ≡ Ok right = grouped_means right (syntax_of right) ∙ syntax_means right is.1 in
+    rw (first, second) refl
+
 pub probe : ℕ
 probe = 0
