@@ -9,7 +9,7 @@ ghost use Rattle.wu_gcl.proofs.Soundness.{reduces};
 ghost use Rattle.wu_gcl.proofs.Fronts.{stands_at_front};
 ghost use Rattle.wu_gcl.proofs.Texts.{starts};
 ghost use Rattle.wu_gcl.proofs.WordLaws.{IsWord};
-ghost use Rattle.wu_gcl.proofs.Reprint.{probe};
+ghost use Rattle.wu_gcl.proofs.Reprint.{printed_again};
 mod expressions;
 mod grammar;
 mod lexing;

@@ -16,6 +16,8 @@ use wu_base::{Bytes, NoMemory};
 /// parentheses round each operand that has an operator.
 pub fn print(alloc: Global, expr: &Expr) -> Result<Vec<u8>, NoMemory>
     ensures text { IfOk result (λ v. v.items ≡ printed (region_of expr.now)) }
+    // What a text spells is read again from what is printed of it.
+    ensures again { IfOk result (λ v. (text : List ℕ) → Spells text (region_of expr.now) → Spells v.items (region_of expr.now)) }
 {
     let mut out = Vec::new(alloc);
     put_expr(alloc, &mut out, expr)?;
