@@ -1,6 +1,6 @@
 -- What is printed spells the expression that it was printed from.
 use Rattle.std.proofs.Common.{◌≡◌, ◌≢◌, ℕ, suc, ◌+◌, ◌-◌, ◌*◌, ◌/◌, ◌%◌, ◌^◌, ◌<◌, ◌≤◌, Bool, true, false, cond, List, [], ◌∷◌, ◌++◌, length, length-append, get_or, append_assoc, append-nil, Option, Some, None, Ok, Err, refl, sym, ◌∙◌, ap, subst, inl, inr, arith, eqb}
-use Rattle.std.specs.Prelude.{◌⊎◌, ◌||◌, codes, nat_lt}
+use Rattle.std.specs.Prelude.{◌⊎◌, ◌||◌, codes, nat_lt, Result, IfOk}
 use Rattle.std.specs.Char.{IsAsciiDigit, is_ascii_alphabetic}
 use Rattle.std.specs.List.{AllByRecursion, join_with_byte}
 use Rattle.std.specs.Fmt.{decimal}
@@ -11,12 +11,13 @@ use Rattle.wu_gcl.specs.declared.expressions.Tag.{Tag}
 use Rattle.wu_gcl.specs.declared.expressions.Tag.TheVariants.{FileStart, FileEnd, LineStart, LineEnd}
 use Rattle.wu_gcl.specs.declared.expressions.Op.{Op}
 use Rattle.wu_gcl.specs.declared.expressions.Op.TheVariants.{Containing, ContainedIn, NotContaining, NotContainedIn, OneOf, BothOf, FollowedBy}
+use Rattle.wu_gcl.specs.declared.expressions.Expr.{Expr}
 use Rattle.wu_gcl.specs.declared.expressions.ExprFault.{ExprFault}
 use Rattle.wu_gcl.specs.declared.expressions.ExprFault.TheVariants.{NoWord, BadWindow}
 use Rattle.wu_gcl.specs.Lexical.{Atom, Quoted, Bracketed, FileWord, LineWord, Token, Operand, Operator, Open, Close, op_text, token_text, IsToken, EndsBefore, IsBlank, Stands, AreTokens, starts_with_letter}
 use Rattle.wu_gcl.specs.Grammar.{Syntax, Single, Group, Join, tokens_in, precedence, tightness, IsGrouped, operator_count, open_count}
-use Rattle.wu_gcl.specs.Regions.{Region, Phrase, Mark, WholeFile, WholeLine, Window, Both}
-use Rattle.wu_gcl.specs.Reading.{Value, tag_text, tag_at, quoted_value, phrase_of, digits_behind, window_of, value_of, join, meaning, IsSmall, IsWritten, Says, Spells}
+use Rattle.wu_gcl.specs.Regions.{Region, Phrase, Mark, WholeFile, WholeLine, Window, Both, region_of, IsProper}
+use Rattle.wu_gcl.specs.Reading.{Value, tag_text, tag_at, quoted_value, phrase_of, digits_behind, window_of, value_of, join, meaning, IsSmall, IsWritten, Says, Spells, Reads, seen}
 use Rattle.wu_gcl.specs.Scanning.{is_unquote}
 use Rattle.wu_gcl.specs.Printing.{operand_text, printed}
 use Rattle.wu_gcl.proofs.Fronts.{run_passes, passes_unquote}
@@ -387,3 +388,22 @@ printed_again region text says =
       written = record { spelled = refl; grouped = syntax_grouped region };
       meant = syntax_means region readable
     }
+
+readable_proper : (region : Region) → IsReadable region → IsProper region
+readable_proper (Phrase words) is = is.0
+readable_proper (Mark tag) is = tt
+readable_proper WholeFile is = tt
+readable_proper WholeLine is = tt
+readable_proper (Window n) is = is.0
+readable_proper (Both op left right) is = (readable_proper left is.0, readable_proper right is.1)
+
+-- each phrase that a text spells has a word, and each window an address
+pub spelled_proper : (region : Region) (text : List ℕ) → Spells text region → IsProper region
+spelled_proper region text says =
+    let tokens : AllByRecursion IsToken (tokens_in says.syntax) = rw says.written.spelled at (tokens_are says.tokens text says.lexed) in
+    readable_proper region (rw says.meant at (meaning_readable says.syntax tokens))
+
+-- the same of what parse gave
+pub read_proper : (text : List ℕ) (result : Result Expr ExprFault) → Reads text (seen result) → IfOk result (λ expr. IsProper (region_of expr))
+read_proper text (Ok expr) reads = spelled_proper (region_of expr) text reads
+read_proper text (Err fault) reads = tt

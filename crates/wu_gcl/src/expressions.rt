@@ -30,7 +30,7 @@ pub enum Op {
 }
 
 /// A region expression.
-#[derive(Debug, Drop)]
+#[derive(Debug, PartialEq, Eq, Drop)]
 pub enum Expr {
     /// These words, one behind the other. There is at least one.
     Phrase(Sequence<Bytes>),

@@ -2,6 +2,7 @@
 ghost use Rattle.std.specs.Prelude.{List, ℕ, ◌≡◌, ◌<◌, ◌↔◌, false, IfOk, IsTrue, map};
 ghost use Rattle.wu_gcl.specs.Grammar.{operator_count, open_count};
 ghost use Rattle.wu_gcl.specs.Reading.{Reads, Value, IsLarge, IsSmall, seen};
+ghost use Rattle.wu_gcl.specs.Regions.{IsProper, region_of};
 ghost use Rattle.wu_gcl.specs.Views.{token_of};
 
 use crate::expressions::{Expr, ExprFault};
@@ -15,7 +16,9 @@ use wu_base::{NoMemory, OPERATORS_MAX, PARENS_MAX};
 /// tokens don't fit the grammar; a quoted text that is no tag has no word; a window's length isn't a
 /// decimal number from 1 to 65535 without a leading zero.
 pub fn parse(alloc: Global, text: &[u8]) -> Result<Result<Expr, ExprFault>, NoMemory>
-    ensures { IfOk result (λ r. Reads text.now (seen r)) }
+    ensures reads { IfOk result (λ r. Reads text.now (seen r)) }
+    // Each phrase has a word, and each window an address.
+    ensures proper { IfOk result (λ r. IfOk r (λ expr. IsProper (region_of expr))) }
 {
     let Some(tokens) = tokens(alloc, text)? else {
         return Ok(Err(ExprFault::NotAnExpression));
