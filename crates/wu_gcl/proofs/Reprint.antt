@@ -382,7 +382,7 @@ printed_again region text says =
     let lexed : AreTokens (tokens_in (syntax_of region) ++ []) (printed region ++ []) = (syntax_spelled region readable).on [] [] refl tt in
     record {
       tokens = tokens_in (syntax_of region);
-      lexed = rw (append-nil, append-nil) at lexed;
+      lexed = rw (append-nil (tokens_in (syntax_of region)), append-nil (printed region)) at lexed;
       small = record { operators = omega (arith, counts.operators_are); groups = omega (arith, counts.opens_are) };
       syntax = syntax_of region;
       written = record { spelled = refl; grouped = syntax_grouped region };

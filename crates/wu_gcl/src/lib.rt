@@ -14,3 +14,6 @@ pub use expressions::{Expr, ExprFault, Op, Tag};
 pub use naming::terms_of;
 pub use printer::print;
 pub use reading::{one_reading, parse};
+
+#[cfg(test)]
+mod tests;
