@@ -56,8 +56,8 @@ holds (Group inner) grouped waiting rest below =
       waiting_on = waiting;
       value = meaning inner;
       reached =
-        rw append_assoc (inside.reached ∙ closed rest inside.waiting_on inside.value waiting (meaning inner) (inside.worth 0 (omega arith)));
-      worth = λ level up. refl
+          rw append_assoc (inside.reached ∙ closed rest inside.waiting_on inside.value waiting (meaning inner) (inside.worth 0 (omega arith)));
+      worth = λ level up. refl;
     }
 holds (Join op left right) grouped waiting rest below =
     let first : Holds left waiting (Operator op ∷ (tokens_in right ++ rest)) = holds left grouped.2 waiting _ (IsBelow-more _ _ waiting grouped.0 below) in
@@ -66,8 +66,8 @@ holds (Join op left right) grouped waiting rest below =
       waiting_on = second.waiting_on;
       value = second.value;
       reached =
-        rw append_assoc (first.reached ∙ joined op (tokens_in right ++ rest) first.waiting_on first.value waiting (meaning left) (first.worth (precedence op) grouped.0 ∙ reduced-below (precedence op) waiting (meaning left) below) ∙ second.reached);
-      worth = λ level up. second.worth level (omega arith) ∙ reduced-join level (meaning left) op waiting (meaning right) up
+          rw append_assoc (first.reached ∙ joined op (tokens_in right ++ rest) first.waiting_on first.value waiting (meaning left) (first.worth (precedence op) grouped.0 ∙ reduced-below (precedence op) waiting (meaning left) below) ∙ second.reached);
+      worth = λ level up. second.worth level (omega arith) ∙ reduced-join level (meaning left) op waiting (meaning right) up;
     }
 
 -- the value of each expression is found

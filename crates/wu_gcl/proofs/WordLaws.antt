@@ -63,7 +63,7 @@ unfolding word_of
 word_is run is = record {
   some = rw (length-take, length-map) (omega (arith, is.some));
   within = rw (length-take, length-map) (omega arith);
-  bytes = All-take IsWordByte 64 (map to_ascii_lowercase run) (lower_bytes run is.bytes)
+  bytes = All-take IsWordByte 64 (map to_ascii_lowercase run) (lower_bytes run is.bytes);
 }
 
 words_are : (runs : List (List ℕ)) → AllByRecursion IsRun runs → AllByRecursion IsWord (map word_of runs)

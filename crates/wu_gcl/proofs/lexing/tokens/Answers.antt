@@ -25,7 +25,7 @@ texts-preserved c =
     let some : 0 < length c.texts.rest.now = grind (arith, nat_tests, c.is_empty.ensures, c.texts-test.true) in
     let found : front_of c.texts.rest.now ≡ Some (token_of c.in-Some.token, c.in-Some.behind.now) = sym c.in-Some.ensures in
     rw (c.after_blanks-rest-in-texts.ensures, c.in_ok-push.ensures.items, map_push token_of c.texts.tokens.items c.in-Some.token)
-      (progress_more c.args.text.now (map token_of c.texts.tokens.items) c.texts.rest.now (token_of c.in-Some.token) c.in-Some.behind.now c.texts.invariant some found)
+    (progress_more c.args.text.now (map token_of c.texts.tokens.items) c.texts.rest.now (token_of c.in-Some.token) c.in-Some.behind.now c.texts.invariant some found)
 
 pub returns : goal.returns
 returns c =
