@@ -1,12 +1,11 @@
 -- Reading from the left finds the value of each expression.
-use Rattle.std.proofs.Common.{◌≡◌, ℕ, ◌<◌, ◌≤◌, List, [], ◌∷◌, ◌++◌, append_assoc, append-nil, Option, Some, None, refl, sym, ◌∙◌, ap, arith, cond, true, false}
-use Rattle.std.specs.Prelude.{nat_le}
+use Rattle.std.proofs.Common.{◌≡◌, ℕ, ◌<◌, ◌≤◌, List, [], ◌∷◌, ◌++◌, append_assoc, append-nil, Some, refl, ◌∙◌, ap, arith}
 use Rattle.std.proofs.lemmas.Bool.Decides.{nat_tests}
 use Rattle.wu_gcl.specs.declared.expressions.Op.{Op}
-use Rattle.wu_gcl.specs.Lexical.{Token, Operand, Operator, Open, Close}
+use Rattle.wu_gcl.specs.Lexical.{Token, Operator, Close}
 use Rattle.wu_gcl.specs.Grammar.{Syntax, Single, Group, Join, tokens_in, precedence, tightness, IsGrouped}
 use Rattle.wu_gcl.specs.Reading.{Value, value_of, join, meaning}
-use Rattle.wu_gcl.specs.Pending.{Waiting, Paren, Left, State, reduced, operand_wanted, operand_held, closed_at, stepped, ended, ended_at, run, evaluated}
+use Rattle.wu_gcl.specs.Pending.{Waiting, Paren, Left, reduced, operand_wanted, operand_held, closed_at, ended_at, run, evaluated}
 
 -- what waits innermost binds less tightly
 abbrev pub IsBelow : ℕ → List Waiting → Type 0

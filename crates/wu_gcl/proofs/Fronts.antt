@@ -1,6 +1,6 @@
 -- The token found from the left is the one that stands there.
-use Rattle.std.proofs.Common.{◌≡◌, ◌≢◌, ℕ, suc, ◌+◌, ◌<◌, ◌≤◌, Bool, true, false, cond, List, [], ◌∷◌, ◌++◌, length, take, drop, append_assoc, append-nil, length-append, Option, Some, None, refl, sym, ◌∙◌, ap, subst, inl, inr, arith, eqb, add-one}
-use Rattle.std.specs.Prelude.{◌⊎◌, ◌&&◌, codes, not, nat_eq}
+use Rattle.std.proofs.Common.{◌≡◌, ◌≢◌, ℕ, suc, ◌+◌, ◌<◌, Bool, true, false, cond, List, [], ◌∷◌, ◌++◌, length, take, drop, append_assoc, length-append, Some, refl, sym, ◌∙◌, ap, inl, inr, arith, eqb}
+use Rattle.std.specs.Prelude.{◌⊎◌, ◌&&◌, codes, nat_eq}
 use Rattle.std.specs.Char.{is_ascii_digit, is_ascii_alphabetic, IsAsciiDigit}
 use Rattle.std.specs.List.{prefix_len, AllByRecursion}
 use Rattle.std.specs.Cmp.Lexicographic.{pointwise}
@@ -10,10 +10,9 @@ use Rattle.std.proofs.Common.{get_or, length-take}
 use Rattle.std.proofs.lemmas.List.{take-append-drop, take_at, drop_at, length_push}
 use Rattle.std.specs.Prelude.{nat_lt}
 use Rattle.std.proofs.Common.{lt-ltb, ltb-true, eqb-true}
-use Rattle.wu_gcl.specs.declared.expressions.Op.{Op}
 use Rattle.wu_gcl.specs.declared.expressions.Op.TheVariants.{Containing, ContainedIn, NotContaining, NotContainedIn, OneOf, BothOf, FollowedBy}
-use Rattle.wu_gcl.specs.Lexical.{Atom, Quoted, Bracketed, FileWord, LineWord, Token, Operand, Operator, Open, Close, token_text, IsToken, EndsBefore, IsBlank, Stands, AreTokens, starts_with_letter}
-use Rattle.wu_gcl.specs.Scanning.{Front, front, is_blank, after_blanks, is_unquote, quoted_at, closed_by, bracketed_at, word_of, word_at, negation_at, dots_at, mark_at, front_of}
+use Rattle.wu_gcl.specs.Lexical.{Quoted, Bracketed, FileWord, LineWord, Token, Operand, Operator, Open, Close, Stands, starts_with_letter}
+use Rattle.wu_gcl.specs.Scanning.{front, is_unquote, quoted_at, closed_by, bracketed_at, word_of, negation_at, dots_at, mark_at, front_of}
 
 -- a run of what passes ends where the next fails
 pub prefix_len-run : (p : ℕ → Bool) (P : ℕ → Type 0) → ((b : ℕ) → P b → p b ≡ true) → (run rest : List ℕ) → AllByRecursion P run → prefix_len p rest ≡ 0 →
@@ -190,31 +189,39 @@ dots_stands (b ∷ text) token rest h = elim (chosen (eqb b 46) _ _ _ h) [
 
 mark_stands : (b : ℕ) (text : List ℕ) (token : Token) (rest : List ℕ) → mark_at b text ≡ Some (token, rest) → Stands token rest (b ∷ text)
 mark_stands b text token rest h = elim (chosen (eqb b 40) _ _ _ h) [
-    inl (is, h) ↦ same_front Open token text rest (b ∷ text) h (record { spelled = ap (λ (c : ℕ). c ∷ text) (eqb-true _ _ is); proper = tt; ended = tt })
+  | inl (is, h) ↦ same_front Open token text rest (b ∷ text) h (record { spelled = ap (λ (c : ℕ). c ∷ text) (eqb-true _ _ is); proper = tt; ended = tt })
   | inr (other, h) ↦ elim (chosen (eqb b 41) _ _ _ h) [
-    inl (is, h) ↦ same_front Close token text rest (b ∷ text) h (record { spelled = ap (λ (c : ℕ). c ∷ text) (eqb-true _ _ is); proper = tt; ended = tt })
-  | inr (other, h) ↦ elim (chosen (eqb b 62) _ _ _ h) [
-    inl (is, h) ↦ same_front (Operator Containing) token text rest (b ∷ text) h (record { spelled = ap (λ (c : ℕ). c ∷ text) (eqb-true _ _ is); proper = tt; ended = tt })
-  | inr (other, h) ↦ elim (chosen (eqb b 60) _ _ _ h) [
-    inl (is, h) ↦ same_front (Operator ContainedIn) token text rest (b ∷ text) h (record { spelled = ap (λ (c : ℕ). c ∷ text) (eqb-true _ _ is); proper = tt; ended = tt })
-  | inr (other, h) ↦ elim (chosen (eqb b 43) _ _ _ h) [
-    inl (is, h) ↦ same_front (Operator OneOf) token text rest (b ∷ text) h (record { spelled = ap (λ (c : ℕ). c ∷ text) (eqb-true _ _ is); proper = tt; ended = tt })
-  | inr (other, h) ↦ elim (chosen (eqb b 94) _ _ _ h) [
-    inl (is, h) ↦ same_front (Operator BothOf) token text rest (b ∷ text) h (record { spelled = ap (λ (c : ℕ). c ∷ text) (eqb-true _ _ is); proper = tt; ended = tt })
-  | inr (other, h) ↦ rw (← take-append-drop (prefix_len is_ascii_alphabetic (b ∷ text)) (b ∷ text))
-      (word_stands (take (prefix_len is_ascii_alphabetic (b ∷ text)) (b ∷ text)) (drop (prefix_len is_ascii_alphabetic (b ∷ text)) (b ∷ text)) token rest (behind_letters (b ∷ text)) h)
-  ] ] ] ] ] ]
+    | inl (is, h) ↦ same_front Close token text rest (b ∷ text) h (record { spelled = ap (λ (c : ℕ). c ∷ text) (eqb-true _ _ is); proper = tt; ended = tt })
+    | inr (other, h) ↦ elim (chosen (eqb b 62) _ _ _ h) [
+      | inl (is, h) ↦ same_front (Operator Containing) token text rest (b ∷ text) h (record { spelled = ap (λ (c : ℕ). c ∷ text) (eqb-true _ _ is); proper = tt; ended = tt })
+      | inr (other, h) ↦ elim (chosen (eqb b 60) _ _ _ h) [
+        | inl (is, h) ↦ same_front (Operator ContainedIn) token text rest (b ∷ text) h (record { spelled = ap (λ (c : ℕ). c ∷ text) (eqb-true _ _ is); proper = tt; ended = tt })
+        | inr (other, h) ↦ elim (chosen (eqb b 43) _ _ _ h) [
+          | inl (is, h) ↦ same_front (Operator OneOf) token text rest (b ∷ text) h (record { spelled = ap (λ (c : ℕ). c ∷ text) (eqb-true _ _ is); proper = tt; ended = tt })
+          | inr (other, h) ↦ elim (chosen (eqb b 94) _ _ _ h) [
+            | inl (is, h) ↦ same_front (Operator BothOf) token text rest (b ∷ text) h (record { spelled = ap (λ (c : ℕ). c ∷ text) (eqb-true _ _ is); proper = tt; ended = tt })
+            | inr (other, h) ↦ rw (← take-append-drop (prefix_len is_ascii_alphabetic (b ∷ text)) (b ∷ text))
+                (word_stands (take (prefix_len is_ascii_alphabetic (b ∷ text)) (b ∷ text)) (drop (prefix_len is_ascii_alphabetic (b ∷ text)) (b ∷ text)) token rest (behind_letters (b ∷ text)) h)
+          ]
+        ]
+      ]
+    ]
+  ]
+]
 
 -- what is found at the front stands there
 pub front_stands : (text : List ℕ) (token : Token) (rest : List ℕ) → front_of text ≡ Some (token, rest) → Stands token rest text
 front_stands [] token rest h = cc
 front_stands (b ∷ text) token rest h = elim (chosen (eqb b 34) _ _ _ h) [
-    inl (is, h) ↦ rw (eqb-true b 34 is) (quoted_stands text token rest h)
+  | inl (is, h) ↦ rw (eqb-true b 34 is) (quoted_stands text token rest h)
   | inr (other, h) ↦ elim (chosen (eqb b 91) _ _ _ h) [
-    inl (is, h) ↦ rw (eqb-true b 91 is) (bracketed_stands text token rest h)
-  | inr (other, h) ↦ elim (chosen (eqb b 47) _ _ _ h) [
-    inl (is, h) ↦ rw (eqb-true b 47 is) (negation_stands text token rest h)
-  | inr (other, h) ↦ elim (chosen (eqb b 46) _ _ _ h) [
-    inl (is, h) ↦ rw (eqb-true b 46 is) (dots_stands text token rest h)
-  | inr (other, h) ↦ mark_stands b text token rest h
-  ] ] ] ]
+    | inl (is, h) ↦ rw (eqb-true b 91 is) (bracketed_stands text token rest h)
+    | inr (other, h) ↦ elim (chosen (eqb b 47) _ _ _ h) [
+      | inl (is, h) ↦ rw (eqb-true b 47 is) (negation_stands text token rest h)
+      | inr (other, h) ↦ elim (chosen (eqb b 46) _ _ _ h) [
+        | inl (is, h) ↦ rw (eqb-true b 46 is) (dots_stands text token rest h)
+        | inr (other, h) ↦ mark_stands b text token rest h
+      ]
+    ]
+  ]
+]

@@ -1,6 +1,6 @@
 -- From what the tokens are worth to what the text says.
-use Rattle.std.proofs.Common.{◌≡◌, ℕ, List, [], ◌∷◌, ◌++◌, Option, Some, None, Ok, Err, refl, sym, ◌∙◌, ap, subst, inl, inr, cond, true, false, eqb, Bool, arith}
-use Rattle.std.specs.Prelude.{◌||◌, nat_lt, Result, IfOk}
+use Rattle.std.proofs.Common.{◌≡◌, ℕ, List, [], ◌∷◌, Option, Some, None, Ok, Err, refl, inl, inr, cond, true, false, Bool, arith}
+use Rattle.std.specs.Prelude.{Result, IfOk}
 use Rattle.wu_token.specs.Words.{words_of}
 use Rattle.wu_gcl.specs.declared.expressions.Op.{Op}
 use Rattle.wu_gcl.specs.declared.expressions.Tag.{Tag}
@@ -8,9 +8,9 @@ use Rattle.wu_gcl.specs.declared.expressions.Expr.{Expr}
 use Rattle.wu_gcl.specs.declared.expressions.ExprFault.{ExprFault}
 use Rattle.wu_gcl.specs.declared.expressions.ExprFault.TheVariants.{NotAnExpression, TooLarge, NoWord, BadWindow}
 use Rattle.wu_gcl.specs.Lexical.{Atom, Quoted, Bracketed, FileWord, LineWord, Token, AreTokens}
-use Rattle.wu_gcl.specs.Grammar.{Syntax, Single, Group, Join, tokens_in, IsGrouped, operator_count}
+use Rattle.wu_gcl.specs.Grammar.{Syntax, Single, Group, Join, tokens_in, operator_count}
 use Rattle.wu_gcl.specs.Regions.{Region, Window}
-use Rattle.wu_gcl.specs.Reading.{Value, tag_at, quoted_value, phrase_of, digits_behind, window_of, value_of, join, meaning, IsSmall, IsLarge, IsWritten, Says, Reads, seen}
+use Rattle.wu_gcl.specs.Reading.{Value, tag_at, quoted_value, phrase_of, digits_behind, window_of, value_of, join, meaning, IsSmall, IsLarge, Says, Reads, seen}
 use Rattle.wu_gcl.specs.Pending.{evaluated, is_large, found, outcome}
 use Rattle.std.proofs.lemmas.Bool.{cases_lt}
 use Rattle.std.proofs.lemmas.Bool.Decides.{nat_tests}

@@ -1,7 +1,7 @@
 -- What is printed spells the expression that it was printed from.
-use Rattle.std.proofs.Common.{◌≡◌, ◌≢◌, ℕ, suc, ◌+◌, ◌-◌, ◌*◌, ◌/◌, ◌%◌, ◌^◌, ◌<◌, ◌≤◌, Bool, true, false, cond, List, [], ◌∷◌, ◌++◌, length, length-append, get_or, append_assoc, append-nil, Option, Some, None, Ok, Err, refl, sym, ◌∙◌, ap, subst, inl, inr, arith, eqb}
-use Rattle.std.specs.Prelude.{◌⊎◌, ◌||◌, codes, nat_lt, Result, IfOk}
-use Rattle.std.specs.Char.{IsAsciiDigit, is_ascii_alphabetic}
+use Rattle.std.proofs.Common.{◌≡◌, ◌≢◌, ℕ, ◌+◌, ◌-◌, ◌*◌, ◌/◌, ◌%◌, ◌^◌, ◌<◌, ◌≤◌, Bool, true, false, cond, List, [], ◌∷◌, ◌++◌, length, length-append, get_or, append_assoc, append-nil, Option, Some, None, Ok, Err, refl, ◌∙◌, ap, inl, arith, eqb}
+use Rattle.std.specs.Prelude.{◌||◌, codes, nat_lt, Result, IfOk}
+use Rattle.std.specs.Char.{IsAsciiDigit}
 use Rattle.std.specs.List.{AllByRecursion, join_with_byte}
 use Rattle.std.specs.Fmt.{decimal}
 use Rattle.std.proofs.lemmas.Fmt.{decimal_by_steps, first_decimal}
@@ -13,11 +13,11 @@ use Rattle.wu_gcl.specs.declared.expressions.Op.{Op}
 use Rattle.wu_gcl.specs.declared.expressions.Op.TheVariants.{Containing, ContainedIn, NotContaining, NotContainedIn, OneOf, BothOf, FollowedBy}
 use Rattle.wu_gcl.specs.declared.expressions.Expr.{Expr}
 use Rattle.wu_gcl.specs.declared.expressions.ExprFault.{ExprFault}
-use Rattle.wu_gcl.specs.declared.expressions.ExprFault.TheVariants.{NoWord, BadWindow}
-use Rattle.wu_gcl.specs.Lexical.{Atom, Quoted, Bracketed, FileWord, LineWord, Token, Operand, Operator, Open, Close, op_text, token_text, IsToken, EndsBefore, IsBlank, Stands, AreTokens, starts_with_letter}
+use Rattle.wu_gcl.specs.declared.expressions.ExprFault.TheVariants.{BadWindow}
+use Rattle.wu_gcl.specs.Lexical.{Atom, Quoted, Bracketed, FileWord, LineWord, Token, Operand, Operator, Open, Close, op_text, token_text, IsToken, EndsBefore, IsBlank, AreTokens, starts_with_letter}
 use Rattle.wu_gcl.specs.Grammar.{Syntax, Single, Group, Join, tokens_in, precedence, tightness, IsGrouped, operator_count, open_count}
 use Rattle.wu_gcl.specs.Regions.{Region, Phrase, Mark, WholeFile, WholeLine, Window, Both, region_of, IsProper}
-use Rattle.wu_gcl.specs.Reading.{Value, tag_text, tag_at, quoted_value, phrase_of, digits_behind, window_of, value_of, join, meaning, IsSmall, IsWritten, Says, Spells, Reads, seen}
+use Rattle.wu_gcl.specs.Reading.{Value, tag_text, tag_at, quoted_value, phrase_of, digits_behind, window_of, value_of, join, meaning, Spells, Reads, seen}
 use Rattle.wu_gcl.specs.Scanning.{is_unquote}
 use Rattle.wu_gcl.specs.Printing.{operand_text, printed}
 use Rattle.wu_gcl.proofs.Fronts.{run_passes, passes_unquote}

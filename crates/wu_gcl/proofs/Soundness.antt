@@ -1,15 +1,13 @@
 -- What reading from the left finds is the value of an expression.
-use Rattle.std.proofs.Common.{◌≡◌, ℕ, ◌<◌, ◌≤◌, List, [], ◌∷◌, ◌++◌, append_assoc, append-nil, Option, Some, None, refl, sym, ◌∙◌, ap, arith, cond, true, false}
-use Rattle.std.specs.Prelude.{nat_le, Bool, ◌⊎◌}
-use Rattle.std.proofs.Common.{inl, inr, subst}
-use Rattle.std.proofs.lemmas.Bool.Decides.{nat_tests}
+use Rattle.std.proofs.Common.{◌≡◌, ℕ, ◌≤◌, List, [], ◌∷◌, ◌++◌, append_assoc, append-nil, Option, Some, None, refl, ◌∙◌, ap, arith}
+use Rattle.std.proofs.Common.{inl, inr}
 use Rattle.std.proofs.lemmas.Bool.{cases_lt}
 use Rattle.wu_gcl.specs.declared.expressions.Op.{Op}
 use Rattle.wu_gcl.specs.declared.expressions.Op.TheVariants.{Containing, ContainedIn, NotContaining, NotContainedIn, OneOf, BothOf, FollowedBy}
 use Rattle.wu_gcl.specs.Lexical.{Atom, Token, Operand, Operator, Open, Close}
 use Rattle.wu_gcl.specs.Grammar.{Syntax, Single, Group, Join, tokens_in, precedence, tightness, IsGrouped}
 use Rattle.wu_gcl.specs.Reading.{Value, value_of, join, meaning}
-use Rattle.wu_gcl.specs.Pending.{Waiting, Paren, Left, State, reduced, operand_wanted, operand_held, closed_at, stepped, ended, ended_at, run, evaluated}
+use Rattle.wu_gcl.specs.Pending.{Waiting, Paren, Left, reduced, operand_held, closed_at, ended_at, run, evaluated}
 use Rattle.wu_gcl.proofs.Completeness.{IsBelow, reduced-below, reduced-join}
 
 -- an operand and the operator behind it, before which these tokens stand

@@ -1,14 +1,11 @@
 -- A text is one list of tokens at most, and says one thing.
-use Rattle.std.proofs.Common.{◌≡◌, ℕ, ◌+◌, ◌<◌, ◌≤◌, Bool, true, false, cond, List, [], ◌∷◌, ◌++◌, length, Option, Some, None, Ok, Err, refl, sym, ◌∙◌, ap, inl, inr, arith, lt-ltb, length-append}
-use Rattle.std.specs.Prelude.{◌⊎◌, ◌||◌, nat_lt, if◌then◌else◌}
+use Rattle.std.proofs.Common.{◌≡◌, ℕ, ◌+◌, ◌<◌, true, false, List, [], ◌∷◌, length, Option, Some, None, Ok, Err, refl, sym, ◌∙◌, ap, inl, inr, arith, lt-ltb, length-append}
 use Rattle.std.proofs.lemmas.Bool.Decides.{nat_tests}
-use Rattle.std.specs.List.{AllByRecursion}
-use Rattle.wu_gcl.specs.declared.expressions.ExprFault.{ExprFault}
 use Rattle.wu_gcl.specs.declared.expressions.ExprFault.TheVariants.{NotAnExpression, TooLarge, NoWord, BadWindow}
-use Rattle.wu_gcl.specs.Lexical.{Token, token_text, IsBlank, Stands, AreTokens, HasNoTokens}
-use Rattle.wu_gcl.specs.Grammar.{Syntax, tokens_in, IsGrouped, operator_count, open_count}
-use Rattle.wu_gcl.specs.Reading.{Value, meaning, IsSmall, IsLarge, IsWritten, Says, Reads}
-use Rattle.wu_gcl.specs.Scanning.{after_blanks, front_of}
+use Rattle.wu_gcl.specs.Lexical.{Token, token_text, Stands, AreTokens, HasNoTokens}
+use Rattle.wu_gcl.specs.Grammar.{Syntax, operator_count}
+use Rattle.wu_gcl.specs.Reading.{Value, IsSmall, IsLarge, IsWritten, Says, Reads}
+use Rattle.wu_gcl.specs.Scanning.{front_of}
 use Rattle.wu_gcl.specs.Pending.{evaluated, is_large, found, outcome}
 use Rattle.wu_gcl.proofs.Fronts.{stands_at_front}
 use Rattle.wu_gcl.proofs.Texts.{all_blank, behind_blanks, token_length}

@@ -1,10 +1,9 @@
-use Rattle.std.proofs.Common.{arith, sym, ap, subst, ◌≡◌, ◌++◌, ◌∙◌, [], ◌∷◌, ◌<◌, Some, None, map, length, refl, List, ℕ}
+use Rattle.std.proofs.Common.{arith, sym, ◌≡◌, [], ◌<◌, Some, map, length}
 use Rattle.std.proofs.lemmas.List.{map_push, nil_from_length}
 use Rattle.std.proofs.lemmas.Bool.Decides.{nat_tests}
-use Rattle.std.specs.Prelude.{◌⊎◌}
 use Rattle.wu_gcl.specs.Views.{token_of}
-use Rattle.wu_gcl.specs.Scanning.{Front, after_blanks, front_of}
-use Rattle.wu_gcl.proofs.Texts.{Progress, progress_start, progress_more, lexed_none, lexed_end, front_shorter, after_blanks-shorter}
+use Rattle.wu_gcl.specs.Scanning.{front_of}
+use Rattle.wu_gcl.proofs.Texts.{progress_start, progress_more, lexed_none, lexed_end, front_shorter, after_blanks-shorter}
 use Rattle.wu_gcl.proofs.lexing.tokens.Goals as goal
 
 pub texts-init : goal.texts-init
