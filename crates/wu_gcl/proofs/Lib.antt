@@ -1,0 +1,11 @@
+pub mod Completeness
+pub mod Soundness
+pub mod Fronts
+pub mod Texts
+pub mod Decimals
+pub mod Outcomes
+pub mod Uniqueness
+pub mod TermLists
+pub mod Joining
+pub mod WordLaws
+pub mod Reprint

@@ -1,0 +1,422 @@
+-- What is printed spells the expression that it was printed from.
+use Rattle.std.proofs.Common.{◌≡◌, ◌≢◌, ℕ, ◌+◌, ◌-◌, ◌*◌, ◌/◌, ◌%◌, ◌^◌, ◌<◌, ◌≤◌, Bool, true, false, cond, List, [], ◌∷◌, ◌++◌, length, length-append, get_or, append_assoc, append-nil, Option, Some, None, Ok, Err, refl, ◌∙◌, ap, inl, arith, eqb}
+use Rattle.std.specs.Prelude.{◌||◌, codes, nat_lt, Result, IfOk}
+use Rattle.std.specs.Char.{IsAsciiDigit}
+use Rattle.std.specs.List.{AllByRecursion, join_with_byte}
+use Rattle.std.specs.Fmt.{decimal}
+use Rattle.std.proofs.lemmas.Fmt.{decimal_by_steps, first_decimal}
+use Rattle.std.proofs.lemmas.Bool.Decides.{nat_tests}
+use Rattle.wu_token.specs.Words.{words_of}
+use Rattle.wu_gcl.specs.declared.expressions.Tag.{Tag}
+use Rattle.wu_gcl.specs.declared.expressions.Tag.TheVariants.{FileStart, FileEnd, LineStart, LineEnd}
+use Rattle.wu_gcl.specs.declared.expressions.Op.{Op}
+use Rattle.wu_gcl.specs.declared.expressions.Op.TheVariants.{Containing, ContainedIn, NotContaining, NotContainedIn, OneOf, BothOf, FollowedBy}
+use Rattle.wu_gcl.specs.declared.expressions.Expr.{Expr}
+use Rattle.wu_gcl.specs.declared.expressions.ExprFault.{ExprFault}
+use Rattle.wu_gcl.specs.declared.expressions.ExprFault.TheVariants.{BadWindow}
+use Rattle.wu_gcl.specs.Lexical.{Atom, Quoted, Bracketed, FileWord, LineWord, Token, Operand, Operator, Open, Close, op_text, token_text, IsToken, EndsBefore, IsBlank, AreTokens, starts_with_letter}
+use Rattle.wu_gcl.specs.Grammar.{Syntax, Single, Group, Join, tokens_in, precedence, tightness, IsGrouped, operator_count, open_count}
+use Rattle.wu_gcl.specs.Regions.{Region, Phrase, Mark, WholeFile, WholeLine, Window, Both, region_of, IsProper}
+use Rattle.wu_gcl.specs.Reading.{Value, tag_text, tag_at, quoted_value, phrase_of, digits_behind, window_of, value_of, join, meaning, Spells, Reads, seen}
+use Rattle.wu_gcl.specs.Scanning.{is_unquote}
+use Rattle.wu_gcl.specs.Printing.{operand_text, printed}
+use Rattle.wu_gcl.proofs.Fronts.{run_passes, passes_unquote}
+use Rattle.wu_gcl.proofs.WordLaws.{IsWord, words_of_are, words_of-join, no_quote_in, no_tag_in}
+
+-- ---- the syntax of what is printed
+abbrev grouped : Region → Syntax → Syntax
+grouped (Phrase words) syntax = syntax
+grouped (Mark tag) syntax = syntax
+grouped WholeFile syntax = syntax
+grouped WholeLine syntax = syntax
+grouped (Window n) syntax = syntax
+grouped (Both op left right) syntax = Group syntax
+
+abbrev syntax_of : Region → Syntax
+syntax_of (Phrase words) = Single (Quoted (join_with_byte 32 words))
+syntax_of (Mark tag) = Single (Quoted (tag_text tag))
+syntax_of WholeFile = Single FileWord
+syntax_of WholeLine = Single LineWord
+syntax_of (Window n) = Single (Bracketed (decimal n))
+syntax_of (Both op left right) = Join op (grouped left (syntax_of left)) (grouped right (syntax_of right))
+
+-- ---- what can be read
+abbrev IsReadable : Region → Type 0
+IsReadable (Phrase words) = (0 < length words) × AllByRecursion IsWord words
+IsReadable (Mark tag) = Unit {0}
+IsReadable WholeFile = Unit {0}
+IsReadable WholeLine = Unit {0}
+IsReadable (Window n) = (1 ≤ n) × (n ≤ 65535)
+IsReadable (Both op left right) = IsReadable left × IsReadable right
+
+abbrev IsReadableValue : Value → Type 0
+IsReadableValue (Ok region) = IsReadable region
+IsReadableValue (Err fault) = Unit {0}
+
+phrase_readable : (words : List (List ℕ)) → AllByRecursion IsWord words → IsReadableValue (phrase_of words)
+phrase_readable [] are = tt
+phrase_readable (word ∷ words) are = (omega arith, are)
+
+quoted_readable : (tag : Option Tag) (bytes : List ℕ) → IsReadableValue (quoted_value tag bytes)
+quoted_readable (Some tag) bytes = tt
+quoted_readable None bytes = phrase_readable (words_of bytes) (words_of_are bytes)
+
+digits_behind-le : (n : ℕ) (digits : List ℕ) → n ≤ digits_behind n digits
+digits_behind-le n [] = omega arith
+digits_behind-le n (digit ∷ digits) = omega (arith, digits_behind-le (10 * n + (digit - 48)) digits)
+
+window_by : (test : Bool) (digit : ℕ) (digits : List ℕ) → eqb digit 48 || nat_lt 65535 (digits_behind 0 (digit ∷ digits)) ≡ test → IsAsciiDigit digit →
+    IsReadableValue (cond test (Err BadWindow) (Ok (Window (digits_behind 0 (digit ∷ digits)))))
+window_by true digit digits is digit_is = tt
+window_by false digit digits is digit_is =
+    let most : digits_behind 0 (digit ∷ digits) ≤ 65535 = grind (arith, nat_tests) in
+    let other : digit ≢ 48 = grind (arith, nat_tests) in
+    (omega (arith, digits_behind-le (10 * 0 + (digit - 48)) digits, digit_is.0, other), most)
+
+window_readable : (digits : List ℕ) → AllByRecursion IsAsciiDigit digits → IsReadableValue (window_of digits)
+window_readable [] all = tt
+window_readable (digit ∷ digits) all = window_by _ digit digits refl all.0
+
+value_readable : (atom : Atom) → IsToken (Operand atom) → IsReadableValue (value_of atom)
+value_readable (Quoted bytes) is = quoted_readable (tag_at bytes) bytes
+value_readable (Bracketed digits) is = window_readable digits is.1
+value_readable FileWord is = tt
+value_readable LineWord is = tt
+
+join_readable : (op : Op) (left right : Value) → IsReadableValue left → IsReadableValue right → IsReadableValue (join op left right)
+join_readable op (Ok left) (Ok right) l r = (l, r)
+join_readable op (Ok left) (Err fault) l r = tt
+join_readable op (Err fault) (Ok right) l r = tt
+join_readable op (Err fault) (Err other) l r = tt
+
+All-front : (P : Token → Type 0) (a b : List Token) → AllByRecursion P (a ++ b) → AllByRecursion P a
+All-front P [] b all = tt
+All-front P (x ∷ a) b all = (all.0, All-front P a b all.1)
+
+All-behind : (P : Token → Type 0) (a b : List Token) → AllByRecursion P (a ++ b) → AllByRecursion P b
+All-behind P [] b all = all
+All-behind P (x ∷ a) b all = All-behind P a b all.1
+
+meaning_readable : (syntax : Syntax) → AllByRecursion IsToken (tokens_in syntax) → IsReadableValue (meaning syntax)
+meaning_readable (Single atom) all = value_readable atom all.0
+meaning_readable (Group inner) all = meaning_readable inner (All-front IsToken (tokens_in inner) (Close ∷ []) all.1)
+meaning_readable (Join op left right) all =
+    join_readable op (meaning left) (meaning right) (meaning_readable left (All-front IsToken (tokens_in left) (Operator op ∷ tokens_in right) all))
+    (meaning_readable right (All-behind IsToken (tokens_in left) (Operator op ∷ tokens_in right) all).1)
+
+tokens_are : (tokens : List Token) (text : List ℕ) → AreTokens tokens text → AllByRecursion IsToken tokens
+tokens_are [] text are = tt
+tokens_are (token ∷ tokens) text (blanks, token_on, rest, same, blank, stands, are) = (stands.proper, tokens_are tokens rest are)
+
+-- ---- operators are counted
+abbrev both_count : Region → ℕ
+both_count (Phrase words) = 0
+both_count (Mark tag) = 0
+both_count WholeFile = 0
+both_count WholeLine = 0
+both_count (Window n) = 0
+both_count (Both op left right) = 1 + both_count left + both_count right
+
+operator_count-append : (a b : List Token) → operator_count (a ++ b) ≡ operator_count a + operator_count b
+operator_count-append [] b = omega arith
+operator_count-append (Operand atom ∷ a) b = operator_count-append a b
+operator_count-append (Operator op ∷ a) b = omega (arith, operator_count-append a b)
+operator_count-append (Open ∷ a) b = operator_count-append a b
+operator_count-append (Close ∷ a) b = operator_count-append a b
+
+open_count-append : (a b : List Token) → open_count (a ++ b) ≡ open_count a + open_count b
+open_count-append [] b = omega arith
+open_count-append (Operand atom ∷ a) b = open_count-append a b
+open_count-append (Operator op ∷ a) b = open_count-append a b
+open_count-append (Open ∷ a) b = omega (arith, open_count-append a b)
+open_count-append (Close ∷ a) b = open_count-append a b
+
+-- a value's operators are those of the tokens that say it
+abbrev IsCounted : ℕ → Value → Type 0
+IsCounted n (Ok region) = both_count region ≡ n
+IsCounted n (Err fault) = Unit {0}
+
+join_counted : (op : Op) (left right : Value) (m n : ℕ) → IsCounted m left → IsCounted n right → IsCounted (m + (1 + n)) (join op left right)
+join_counted op (Ok left) (Ok right) m n l r = omega arith
+join_counted op (Ok left) (Err fault) m n l r = tt
+join_counted op (Err fault) (Ok right) m n l r = tt
+join_counted op (Err fault) (Err other) m n l r = tt
+
+phrase_counted : (words : List (List ℕ)) → IsCounted 0 (phrase_of words)
+phrase_counted [] = tt
+phrase_counted (word ∷ words) = refl
+
+quoted_counted : (tag : Option Tag) (bytes : List ℕ) → IsCounted 0 (quoted_value tag bytes)
+quoted_counted (Some tag) bytes = refl
+quoted_counted None bytes = phrase_counted (words_of bytes)
+
+window_counted_by : (test : Bool) (n : ℕ) → IsCounted 0 (cond test (Err BadWindow) (Ok (Window n)))
+window_counted_by true n = tt
+window_counted_by false n = refl
+
+window_counted : (digits : List ℕ) → IsCounted 0 (window_of digits)
+window_counted [] = tt
+window_counted (digit ∷ digits) = window_counted_by _ (digits_behind 0 (digit ∷ digits))
+
+value_counted : (atom : Atom) → IsCounted 0 (value_of atom)
+value_counted (Quoted bytes) = quoted_counted (tag_at bytes) bytes
+value_counted (Bracketed digits) = window_counted digits
+value_counted FileWord = refl
+value_counted LineWord = refl
+
+meaning_counted : (syntax : Syntax) → IsCounted (operator_count (tokens_in syntax)) (meaning syntax)
+meaning_counted (Single atom) = value_counted atom
+meaning_counted (Group inner) =
+    let same : operator_count (tokens_in inner ++ Close ∷ []) ≡ operator_count (tokens_in inner) = operator_count-append (tokens_in inner) (Close ∷ []) ∙ omega arith in
+    rw same (meaning_counted inner)
+meaning_counted (Join op left right) =
+    rw operator_count-append (join_counted op (meaning left) (meaning right) (operator_count (tokens_in left)) (operator_count (tokens_in right)) (meaning_counted left) (meaning_counted right))
+
+-- how many operators and parentheses the printed text has
+record IsCountedSyntax (operators opens : ℕ) (syntax : Syntax) : Type 0 where
+  operators_are : operator_count (tokens_in syntax) ≡ operators
+  opens_are : open_count (tokens_in syntax) ≤ opens
+
+grouped_counts : (region : Region) (syntax : Syntax) → IsCountedSyntax (both_count region) (both_count region - 1) syntax → IsCountedSyntax (both_count region) (both_count region) (grouped region syntax)
+grouped_counts (Phrase words) syntax is = record { operators_are = is.operators_are; opens_are = omega (arith, is.opens_are) }
+grouped_counts (Mark tag) syntax is = record { operators_are = is.operators_are; opens_are = omega (arith, is.opens_are) }
+grouped_counts WholeFile syntax is = record { operators_are = is.operators_are; opens_are = omega (arith, is.opens_are) }
+grouped_counts WholeLine syntax is = record { operators_are = is.operators_are; opens_are = omega (arith, is.opens_are) }
+grouped_counts (Window n) syntax is = record { operators_are = is.operators_are; opens_are = omega (arith, is.opens_are) }
+grouped_counts (Both op left right) syntax is = record {
+  operators_are = omega (arith, operator_count-append (tokens_in syntax) (Close ∷ []), is.operators_are);
+  opens_are = omega (arith, open_count-append (tokens_in syntax) (Close ∷ []), is.opens_are);
+}
+
+syntax_counts : (region : Region) → IsCountedSyntax (both_count region) (both_count region - 1) (syntax_of region)
+syntax_counts (Phrase words) = record { operators_are = refl; opens_are = omega arith }
+syntax_counts (Mark tag) = record { operators_are = refl; opens_are = omega arith }
+syntax_counts WholeFile = record { operators_are = refl; opens_are = omega arith }
+syntax_counts WholeLine = record { operators_are = refl; opens_are = omega arith }
+syntax_counts (Window n) = record { operators_are = refl; opens_are = omega arith }
+syntax_counts (Both op left right) =
+    let first : IsCountedSyntax (both_count left) (both_count left) (grouped left (syntax_of left)) = grouped_counts left (syntax_of left) (syntax_counts left) in
+    let second : IsCountedSyntax (both_count right) (both_count right) (grouped right (syntax_of right)) = grouped_counts right (syntax_of right) (syntax_counts right) in
+    record {
+      operators_are = omega (arith, operator_count-append (tokens_in (grouped left (syntax_of left))) (Operator op ∷ tokens_in (grouped right (syntax_of right))), first.operators_are, second.operators_are);
+      opens_are = omega (arith, open_count-append (tokens_in (grouped left (syntax_of left))) (Operator op ∷ tokens_in (grouped right (syntax_of right))), first.opens_are, second.opens_are);
+    }
+
+-- ---- parentheses stand round each operand that has an operator
+grouped_tight : (region : Region) → tightness (grouped region (syntax_of region)) ≡ 4
+grouped_tight (Phrase words) = refl
+grouped_tight (Mark tag) = refl
+grouped_tight WholeFile = refl
+grouped_tight WholeLine = refl
+grouped_tight (Window n) = refl
+grouped_tight (Both op left right) = refl
+
+grouped_is : (region : Region) (syntax : Syntax) → IsGrouped syntax → IsGrouped (grouped region syntax)
+grouped_is (Phrase words) syntax is = is
+grouped_is (Mark tag) syntax is = is
+grouped_is WholeFile syntax is = is
+grouped_is WholeLine syntax is = is
+grouped_is (Window n) syntax is = is
+grouped_is (Both op left right) syntax is = is
+
+precedence_below : (op : Op) → precedence op < 4
+precedence_below Containing = omega arith
+precedence_below ContainedIn = omega arith
+precedence_below NotContaining = omega arith
+precedence_below NotContainedIn = omega arith
+precedence_below OneOf = omega arith
+precedence_below BothOf = omega arith
+precedence_below FollowedBy = omega arith
+
+syntax_grouped : (region : Region) → IsGrouped (syntax_of region)
+syntax_grouped (Phrase words) = tt
+syntax_grouped (Mark tag) = tt
+syntax_grouped WholeFile = tt
+syntax_grouped WholeLine = tt
+syntax_grouped (Window n) = tt
+syntax_grouped (Both op left right) =
+    let low : precedence op < 4 = precedence_below op in
+    (rw (grouped_tight left) (omega arith), rw (grouped_tight right) low, grouped_is left (syntax_of left) (syntax_grouped left), grouped_is right (syntax_of right) (syntax_grouped right))
+
+-- ---- it means the same
+digits_behind-push : (n : ℕ) (digits : List ℕ) (digit : ℕ) → digits_behind n (digits ++ digit ∷ []) ≡ 10 * digits_behind n digits + (digit - 48)
+digits_behind-push n [] digit = refl
+digits_behind-push n (first ∷ digits) digit = digits_behind-push (10 * n + (first - 48)) digits digit
+
+record IsDecimal (n : ℕ) (digits : List ℕ) : Type 0 where
+  value : digits_behind 0 digits ≡ n
+  some : 0 < length digits
+  all : AllByRecursion IsAsciiDigit digits
+
+digit_push : (digits : List ℕ) (digit : ℕ) → AllByRecursion IsAsciiDigit digits → IsAsciiDigit digit → AllByRecursion IsAsciiDigit (digits ++ digit ∷ [])
+digit_push [] digit all is = (is, tt)
+digit_push (first ∷ digits) digit all is = (all.0, digit_push digits digit all.1 is)
+
+decimal_one : (n : ℕ) → n < 10 → IsDecimal n ((48 + n) ∷ [])
+decimal_one n less = record { value = omega arith; some = omega arith; all = ((omega arith, omega arith), tt) }
+
+decimal_more : (n : ℕ) (digits : List ℕ) → 10 ≤ n → IsDecimal (n / 10) digits → IsDecimal n (digits ++ ((48 + n % 10) ∷ []))
+decimal_more n digits more is = record {
+  value = digits_behind-push 0 digits (48 + n % 10) ∙ omega (arith, is.value);
+  some = rw length-append (omega arith);
+  all = digit_push digits (48 + n % 10) is.all (omega arith, omega arith);
+}
+
+decimal_is : (n : ℕ) → n < 2 ^ 64 → IsDecimal n (decimal n)
+decimal_is = decimal_by_steps IsDecimal decimal_one decimal_more
+
+window_again : (n : ℕ) (digits : List ℕ) → digits_behind 0 digits ≡ n → 48 < get_or digits 0 0 → n ≤ 65535 → window_of digits ≡ Ok (Window n)
+window_again n [] value first most = absurd (omega arith)
+window_again n (digit ∷ digits) value first most =
+    let test : (eqb digit 48 || nat_lt 65535 (digits_behind 0 (digit ∷ digits))) ≡ false = grind (arith, nat_tests) in
+    rw (test, value) refl
+
+grouped_means : (region : Region) (syntax : Syntax) → meaning (grouped region syntax) ≡ meaning syntax
+grouped_means (Phrase words) syntax = refl
+grouped_means (Mark tag) syntax = refl
+grouped_means WholeFile syntax = refl
+grouped_means WholeLine syntax = refl
+grouped_means (Window n) syntax = refl
+grouped_means (Both op left right) syntax = refl
+
+syntax_means : (region : Region) → IsReadable region → meaning (syntax_of region) ≡ Ok region
+syntax_means (Phrase []) is = absurd (omega (arith, is.0))
+syntax_means (Phrase (word ∷ words)) is = rw (no_tag_in word words is.1, words_of-join word words is.1) refl
+syntax_means (Mark FileStart) is = refl
+syntax_means (Mark FileEnd) is = refl
+syntax_means (Mark LineStart) is = refl
+syntax_means (Mark LineEnd) is = refl
+syntax_means WholeFile is = refl
+syntax_means WholeLine is = refl
+syntax_means (Window n) is =
+    let fits : n < 2 ^ 64 = omega (arith, is.1) in
+    let decimal_n : IsDecimal n (decimal n) = decimal_is n fits in
+    window_again n (decimal n) decimal_n.value (first_decimal n is.0 fits) is.1
+syntax_means (Both op left right) is =
+    let first : meaning (grouped left (syntax_of left)) ≡ Ok left = grouped_means left (syntax_of left) ∙ syntax_means left is.0 in
+    let second : meaning (grouped right (syntax_of right)) ≡ Ok right = grouped_means right (syntax_of right) ∙ syntax_means right is.1 in
+    rw (first, second) refl
+
+-- ---- it has the same tokens
+IsBlank_space : IsBlank 32
+IsBlank_space = inl refl
+
+behind_space : (tokens : List Token) (text : List ℕ) → AreTokens tokens text → AreTokens tokens (32 ∷ text)
+behind_space [] text are = (IsBlank_space, are)
+behind_space (token ∷ tokens) text (blanks, token_on, rest, same, blank, stands, are) =
+    (32 ∷ blanks, token_on, rest, ap (λ (bytes : List ℕ). 32 ∷ bytes) same, (IsBlank_space, blank), stands, are)
+
+ends_before : (token : Token) (rest : List ℕ) → (starts_with_letter rest ≡ false) → EndsBefore token rest
+ends_before (Operand (Quoted bytes)) rest ends = tt
+ends_before (Operand (Bracketed digits)) rest ends = tt
+ends_before (Operand FileWord) rest ends = ends
+ends_before (Operand LineWord) rest ends = ends
+ends_before (Operator op) rest ends = tt
+ends_before Open rest ends = tt
+ends_before Close rest ends = tt
+
+-- one token more at the front
+token_on : (token : Token) (tokens : List Token) (rest : List ℕ) → IsToken token → (starts_with_letter rest ≡ false) → AreTokens tokens rest → AreTokens (token ∷ tokens) (token_text token ++ rest)
+token_on token tokens rest is ends are =
+    ([], token_text token ++ rest, rest, refl, tt, record { spelled = refl; proper = is; ended = ends_before token rest ends }, are)
+
+op_is : (op : Op) (tokens : List Token) (rest : List ℕ) → AreTokens tokens rest → AreTokens (Operator op ∷ tokens) (op_text op ++ rest)
+op_is op tokens rest are = ([], op_text op ++ rest, rest, refl, tt, record { spelled = refl; proper = tt; ended = tt }, are)
+
+-- what the tokens of the printed text are, whatever follows it but a letter
+record IsSpelled (region : Region) (syntax : Syntax) (text : List ℕ) : Type 0 where
+  on : (tokens : List Token) (rest : List ℕ) → (starts_with_letter rest ≡ false) → AreTokens tokens rest → AreTokens (tokens_in syntax ++ tokens) (text ++ rest)
+
+grouped_spelled : (region : Region) (syntax : Syntax) (text : List ℕ) → IsSpelled region syntax text → IsSpelled region (grouped region syntax) (operand_text region text)
+grouped_spelled (Phrase words) syntax text is = is
+grouped_spelled (Mark tag) syntax text is = is
+grouped_spelled WholeFile syntax text is = is
+grouped_spelled WholeLine syntax text is = is
+grouped_spelled (Window n) syntax text is = is
+grouped_spelled (Both op left right) syntax text is = record {
+  on = λ tokens rest ends are.
+      rw (append_assoc (tokens_in syntax) (Close ∷ []) tokens, append_assoc text (41 ∷ []) rest) (
+        [],
+        40 ∷ (text ++ (41 ∷ rest)),
+        text ++ (41 ∷ rest),
+        refl,
+        tt,
+        record { spelled = refl; proper = tt; ended = tt },
+        is.on (Close ∷ tokens) (41 ∷ rest) refl ([], 41 ∷ rest, rest, refl, tt, record { spelled = refl; proper = tt; ended = tt }, are),
+      );
+}
+
+atom_spelled : (region : Region) (atom : Atom) → IsToken (Operand atom) → IsSpelled region (Single atom) (token_text (Operand atom))
+atom_spelled region atom is = record { on = λ tokens rest ends are. token_on (Operand atom) tokens rest is ends are }
+
+tag_is : (tag : Tag) → AllByRecursion (λ b. b ≢ 34) (tag_text tag)
+tag_is FileStart = run_passes is_unquote (λ b. b ≢ 34) passes_unquote (codes "<file>")
+tag_is FileEnd = run_passes is_unquote (λ b. b ≢ 34) passes_unquote (codes "</file>")
+tag_is LineStart = run_passes is_unquote (λ b. b ≢ 34) passes_unquote (codes "<line>")
+tag_is LineEnd = run_passes is_unquote (λ b. b ≢ 34) passes_unquote (codes "</line>")
+
+syntax_spelled : (region : Region) → IsReadable region → IsSpelled region (syntax_of region) (printed region)
+syntax_spelled (Phrase words) is = atom_spelled (Phrase words) (Quoted (join_with_byte 32 words)) (no_quote_in words is.1)
+syntax_spelled (Mark tag) is = atom_spelled (Mark tag) (Quoted (tag_text tag)) (tag_is tag)
+syntax_spelled WholeFile is = atom_spelled WholeFile FileWord tt
+syntax_spelled WholeLine is = atom_spelled WholeLine LineWord tt
+syntax_spelled (Window n) is =
+    let decimal_n : IsDecimal n (decimal n) = decimal_is n (omega (arith, is.1)) in
+    atom_spelled (Window n) (Bracketed (decimal n)) (decimal_n.some, decimal_n.all)
+syntax_spelled (Both op left right) is =
+    let first : IsSpelled left (grouped left (syntax_of left)) (operand_text left (printed left)) = grouped_spelled left (syntax_of left) (printed left) (syntax_spelled left is.0) in
+    let second : IsSpelled right (grouped right (syntax_of right)) (operand_text right (printed right)) = grouped_spelled right (syntax_of right) (printed right) (syntax_spelled right is.1) in
+    record {
+      on = λ tokens rest ends are.
+          rw (
+            append_assoc (tokens_in (grouped left (syntax_of left))) (Operator op ∷ tokens_in (grouped right (syntax_of right))) tokens,
+            append_assoc (operand_text left (printed left)) (32 ∷ (op_text op ++ (32 ∷ operand_text right (printed right)))) rest,
+            append_assoc (op_text op) (32 ∷ operand_text right (printed right)) rest,
+          )
+          (first.on (Operator op ∷ (tokens_in (grouped right (syntax_of right)) ++ tokens)) (32 ∷ (op_text op ++ (32 ∷ (operand_text right (printed right) ++ rest)))) refl
+          (behind_space (Operator op ∷ (tokens_in (grouped right (syntax_of right)) ++ tokens)) (op_text op ++ (32 ∷ (operand_text right (printed right) ++ rest)))
+          (op_is op (tokens_in (grouped right (syntax_of right)) ++ tokens) (32 ∷ (operand_text right (printed right) ++ rest))
+          (behind_space (tokens_in (grouped right (syntax_of right)) ++ tokens) (operand_text right (printed right) ++ rest) (second.on tokens rest ends are)))));
+    }
+
+-- ---- what is printed of what a text spells spells it
+pub printed_again : (region : Region) (text : List ℕ) → Spells text region → Spells (printed region) region
+printed_again region text says =
+    let tokens : AllByRecursion IsToken (tokens_in says.syntax) = rw says.written.spelled at (tokens_are says.tokens text says.lexed) in
+    let readable : IsReadable region = rw says.meant at (meaning_readable says.syntax tokens) in
+    let few : both_count region ≡ operator_count (tokens_in says.syntax) = rw says.meant at (meaning_counted says.syntax) in
+    let small : operator_count (tokens_in says.syntax) ≤ 63 = rw says.written.spelled at says.small.operators in
+    let counts : IsCountedSyntax (both_count region) (both_count region - 1) (syntax_of region) = syntax_counts region in
+    let lexed : AreTokens (tokens_in (syntax_of region) ++ []) (printed region ++ []) = (syntax_spelled region readable).on [] [] refl tt in
+    record {
+      tokens = tokens_in (syntax_of region);
+      lexed = rw (append-nil (tokens_in (syntax_of region)), append-nil (printed region)) at lexed;
+      small = record { operators = omega (arith, counts.operators_are); groups = omega (arith, counts.opens_are) };
+      syntax = syntax_of region;
+      written = record { spelled = refl; grouped = syntax_grouped region };
+      meant = syntax_means region readable;
+    }
+
+readable_proper : (region : Region) → IsReadable region → IsProper region
+readable_proper (Phrase words) is = is.0
+readable_proper (Mark tag) is = tt
+readable_proper WholeFile is = tt
+readable_proper WholeLine is = tt
+readable_proper (Window n) is = is.0
+readable_proper (Both op left right) is = (readable_proper left is.0, readable_proper right is.1)
+
+-- each phrase that a text spells has a word, and each window an address
+pub spelled_proper : (region : Region) (text : List ℕ) → Spells text region → IsProper region
+spelled_proper region text says =
+    let tokens : AllByRecursion IsToken (tokens_in says.syntax) = rw says.written.spelled at (tokens_are says.tokens text says.lexed) in
+    readable_proper region (rw says.meant at (meaning_readable says.syntax tokens))
+
+-- the same of what parse gave
+pub read_proper : (text : List ℕ) (result : Result Expr ExprFault) → Reads text (seen result) → IfOk result (λ expr. IsProper (region_of expr))
+read_proper text (Ok expr) reads = spelled_proper (region_of expr) text reads
+read_proper text (Err fault) reads = tt
+
+pub all_proper : {E : Type 0} (text : List ℕ) (result : Result (Result Expr ExprFault) E) → IfOk result (λ said. Reads text (seen said)) →
+    IfOk result (λ said. IfOk said (λ expr. IsProper (region_of expr)))
+all_proper text (Ok said) reads = read_proper text said reads
+all_proper text (Err error) reads = tt

@@ -1,0 +1,60 @@
+//! What a region expression is.
+use wu_base::{Bytes, Sequence};
+
+/// A mark that every text has, beside its words: its start and end, and those of each line.
+#[derive(Clone, Copy, Debug, PartialEq, Eq)]
+pub enum Tag {
+    FileStart,
+    FileEnd,
+    LineStart,
+    LineEnd,
+}
+
+/// An operator on two sets of regions.
+#[derive(Clone, Copy, Debug, PartialEq, Eq)]
+pub enum Op {
+    /// `>`: the regions on the left that hold a region of the right.
+    Containing,
+    /// `<`: the regions on the left that a region of the right holds.
+    ContainedIn,
+    /// `/>`: the regions on the left that `>` leaves out.
+    NotContaining,
+    /// `/<`: the regions on the left that `<` leaves out.
+    NotContainedIn,
+    /// `+`: the regions of either side.
+    OneOf,
+    /// `^`: the regions that hold one of each side.
+    BothOf,
+    /// `..`: the regions that hold one of the left and, after its end, one of the right.
+    FollowedBy,
+}
+
+/// A region expression.
+#[derive(Debug, PartialEq, Eq, Drop)]
+pub enum Expr {
+    /// These words, one behind the other. There is at least one.
+    Phrase(Sequence<Bytes>),
+    /// One mark.
+    Tag(Tag),
+    /// The whole file.
+    File,
+    /// One whole line.
+    Line,
+    /// So many addresses, at least 1, wherever they begin.
+    Window(u16),
+    /// What an operator makes of two expressions.
+    Both(Op, Box<Expr>, Box<Expr>),
+}
+
+/// Why bytes are no region expression.
+#[derive(Clone, Copy, Debug, PartialEq, Eq)]
+pub enum ExprFault {
+    /// They aren't a list of tokens, or the tokens don't fit the grammar.
+    NotAnExpression,
+    /// There are too many operators or opening parentheses.
+    TooLarge,
+    /// A quoted text is no tag and has no word.
+    NoWord,
+    /// A window's length isn't a decimal number from 1 to 65535 without a leading zero.
+    BadWindow,
+}

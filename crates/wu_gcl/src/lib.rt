@@ -1,0 +1,33 @@
+//! Region expressions, after the generalized concordance lists of Clarke, Cormack and Burkowski:
+//! what they are, how they are written, and the terms that they name.
+//!
+//! The grammar, in which each operator is left associative:
+//!
+//! ```text
+//! expression = sum { (">" | "<" | "/>" | "/<") sum }
+//! sum        = both { "+" both }
+//! both       = sequence { "^" sequence }
+//! sequence   = operand { ".." operand }
+//! operand    = quoted | "[" digits "]" | "file" | "line" | "(" expression ")"
+//! ```
+//!
+//! A quoted text is `"`, bytes other than `"`, and `"`. `file` and `line` are words only where all the
+//! letters that stand there are. Spaces and TABs may stand between tokens. A quoted text that is
+//! exactly `<file>`, `</file>`, `<line>` or `</line>` is that tag, and any other the phrase of its words.
+#![tactic(auto)]
+
+mod expressions;
+mod grammar;
+mod lexing;
+mod naming;
+mod operands;
+mod printer;
+mod reading;
+
+pub use expressions::{Expr, ExprFault, Op, Tag};
+pub use naming::terms_of;
+pub use printer::print;
+pub use reading::{one_reading, parse};
+
+#[cfg(test)]
+mod tests;

@@ -1,0 +1,90 @@
+//! What operands say.
+ghost use Rattle.std.specs.Prelude.{◌≡◌, ◌<◌, IfOk, MatchOption};
+ghost use Rattle.wu_gcl.specs.Reading.{value_of, quoted_value, tag_at, digits_behind, window_of, seen};
+ghost use Rattle.wu_gcl.specs.Views.{atom_of};
+
+use crate::expressions::{Expr, ExprFault, Tag};
+use crate::lexing::Atom;
+use std::alloc::Global;
+use wu_base::{NoMemory, Sequence};
+use wu_token::words;
+
+/// The greatest length of a window.
+const WINDOW_MAX: u32 = 65_535;
+
+/// What an operand says, or its fault.
+pub fn operand_of(alloc: Global, atom: &Atom<'_>) -> Result<Result<Expr, ExprFault>, NoMemory>
+    ensures { IfOk result (λ r. seen r ≡ value_of (atom_of atom.now)) }
+{
+    match atom {
+        Atom::Quoted(bytes) => quoted(alloc, bytes),
+        Atom::Bracketed(digits) => Ok(window_of(digits)),
+        Atom::File => Ok(Ok(Expr::File)),
+        Atom::Line => Ok(Ok(Expr::Line)),
+    }
+}
+
+/// A tag, or the phrase of the words.
+fn quoted(alloc: Global, bytes: &[u8]) -> Result<Result<Expr, ExprFault>, NoMemory>
+    ensures { IfOk result (λ r. seen r ≡ quoted_value (tag_at bytes.now) bytes.now) }
+{
+    match tag_at(bytes) {
+        Some(tag) => Ok(Ok(Expr::Tag(tag))),
+        None => {
+            let words = words(alloc, bytes)?;
+            if words.is_empty() {
+                Ok(Err(ExprFault::NoWord))
+            } else {
+                Ok(Ok(Expr::Phrase(Sequence::from(words))))
+            }
+        }
+    }
+}
+
+/// The tag that the bytes are exactly, if they are one.
+fn tag_at(bytes: &[u8]) -> Option<Tag>
+    ensures { result ≡ tag_at bytes.now }
+{
+    if bytes == b"<file>".as_slice() {
+        Some(Tag::FileStart)
+    } else if bytes == b"</file>".as_slice() {
+        Some(Tag::FileEnd)
+    } else if bytes == b"<line>".as_slice() {
+        Some(Tag::LineStart)
+    } else if bytes == b"</line>".as_slice() {
+        Some(Tag::LineEnd)
+    } else {
+        None
+    }
+}
+
+/// The window of that length, where the digits are a decimal number from 1 to 65535 without a
+/// leading zero.
+fn window_of(digits: &[u8]) -> Result<Expr, ExprFault>
+    ensures { seen result ≡ window_of digits.now }
+{
+    let Some((first, _)) = digits.split_first() else {
+        return Err(ExprFault::BadWindow);
+    };
+    if *first == b'0' {
+        return Err(ExprFault::BadWindow);
+    }
+    match number_of(digits) {
+        Some(length) => Ok(Expr::Window(length)),
+        None => Err(ExprFault::BadWindow),
+    }
+}
+
+/// The number that decimal digits are; None where it is above 65535.
+fn number_of(digits: &[u8]) -> Option<u16>
+    ensures { MatchOption result (65535 < digits_behind 0 digits.now) (λ n. (n ≡ digits_behind 0 digits.now) × (n < 65536)) }
+{
+    let mut number: u32 = 0;
+    for digit in digits {
+        number = 10 * number + u32::from(digit.saturating_sub(b'0'));
+        if number > WINDOW_MAX {
+            return None;
+        }
+    }
+    Some(number as u16)
+}

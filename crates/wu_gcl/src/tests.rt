@@ -1,0 +1,120 @@
+use crate::{ExprFault, parse, print, terms_of};
+use std::alloc::{AllocError, Global};
+use std::test::Fail;
+use wu_base::NoMemory;
+
+/// What is printed of the expression that the text spells; no bytes where it spells none.
+fn reprinted(alloc: Global, text: &[u8]) -> Result<Vec<u8>, NoMemory> {
+    match parse(alloc, text)? {
+        Ok(expr) => print(alloc, &expr),
+        Err(_) => Ok(Vec::new(alloc)),
+    }
+}
+
+/// The fault of the text, if it spells no expression.
+fn fault_of(alloc: Global, text: &[u8]) -> Result<Option<ExprFault>, NoMemory> {
+    match parse(alloc, text)? {
+        Ok(_) => Ok(None),
+        Err(fault) => Ok(Some(fault)),
+    }
+}
+
+/// The piece, so many times, and the end behind it.
+fn repeated(alloc: Global, piece: &[u8], count: u32, end: &[u8]) -> Result<Vec<u8>, AllocError> {
+    let mut text = Vec::new(alloc);
+    for _ in 0..count {
+        text.extend_from_slice(piece)?;
+    }
+    text.extend_from_slice(end)?;
+    Ok(text)
+}
+
+#[test]
+fn expressions_are_printed_with_parentheses_round_each_operand(
+    rt: HostRuntime,
+) -> Result<(), Fail> {
+    let rows: [(&[u8], &[u8]); 9] = [
+        (b"\"a\" + \"b\" ^ \"c\"", b"\"a\" + (\"b\" ^ \"c\")"),
+        (b"\"A-b\" > line < file", b"(\"a b\" > line) < file"),
+        (b"\"a\"..\"b\"^\t[7]", b"(\"a\" .. \"b\") ^ [7]"),
+        (b" ( ( file ) ) ", b"file"),
+        (b"\"<LINE>\"", b"\"line\""),
+        (
+            b"\"</line>\" /< (\"<file>\" /> \"x\")",
+            b"\"</line>\" /< (\"<file>\" /> \"x\")",
+        ),
+        (b"[65535] + [1] + line", b"([65535] + [1]) + line"),
+        (b"\"a\" .. \"b\" .. \"c\"", b"(\"a\" .. \"b\") .. \"c\""),
+        (b"\"one\nline\"", b"\"one line\""),
+    ];
+    for (text, printed) in &rows {
+        let again = reprinted(rt.alloc(), text)?;
+        assert_eq!(rt; again.as_slice(), *printed);
+    }
+    Ok(())
+}
+
+#[test]
+fn faults_come_in_their_order(rt: HostRuntime) -> Result<(), Fail> {
+    let rows: [(&[u8], ExprFault); 20] = [
+        (b"", ExprFault::NotAnExpression),
+        (b"apple", ExprFault::NotAnExpression),
+        (b"\"a", ExprFault::NotAnExpression),
+        (b"\"a\" +", ExprFault::NotAnExpression),
+        (b"\"a\" \"b\"", ExprFault::NotAnExpression),
+        (b"(\"a\"", ExprFault::NotAnExpression),
+        (b"\"a\")", ExprFault::NotAnExpression),
+        (b"()", ExprFault::NotAnExpression),
+        (b"file1", ExprFault::NotAnExpression),
+        (b"filefile", ExprFault::NotAnExpression),
+        (b"File", ExprFault::NotAnExpression),
+        (b"\"a\" . \"b\"", ExprFault::NotAnExpression),
+        (b"\"a\"\n", ExprFault::NotAnExpression),
+        (b"[]", ExprFault::NotAnExpression),
+        (b"\"!!\"", ExprFault::NoWord),
+        (b"\"\"", ExprFault::NoWord),
+        (b"[0] + \"!!\"", ExprFault::NoWord),
+        (b"[0]", ExprFault::BadWindow),
+        (b"[01]", ExprFault::BadWindow),
+        (b"[65536]", ExprFault::BadWindow),
+    ];
+    for (text, fault) in &rows {
+        let found = fault_of(rt.alloc(), text)?;
+        assert!(rt; found == Some(*fault));
+    }
+    Ok(())
+}
+
+#[test]
+fn operators_and_parentheses_are_limited(rt: HostRuntime) -> Result<(), Fail> {
+    let alloc = rt.alloc();
+    let most = repeated(alloc, b"\"a\" + ", 63, b"\"a\"")?;
+    assert!(rt; fault_of(alloc, &most)?.is_none());
+    let more = repeated(alloc, b"\"a\" + ", 64, b"\"a\"")?;
+    assert!(rt; fault_of(alloc, &more)? == Some(ExprFault::TooLarge));
+    let bare = repeated(alloc, b"+", 64, b"")?;
+    assert!(rt; fault_of(alloc, &bare)? == Some(ExprFault::TooLarge));
+    let unread = repeated(alloc, b"\"a\" + ", 64, b"!")?;
+    assert!(rt; fault_of(alloc, &unread)? == Some(ExprFault::NotAnExpression));
+    let open = repeated(alloc, b"(", 65, b"")?;
+    assert!(rt; fault_of(alloc, &open)? == Some(ExprFault::TooLarge));
+    let mut deep = repeated(alloc, b"(", 64, b"file")?;
+    deep.extend_from_slice(&repeated(alloc, b")", 64, b"")?)?;
+    assert!(rt; fault_of(alloc, &deep)?.is_none());
+    Ok(())
+}
+
+#[test]
+fn terms_are_distinct_and_ascending(rt: HostRuntime) -> Result<(), Fail> {
+    let alloc = rt.alloc();
+    let Ok(expr) = parse(alloc, b"line > \"b a b\"")? else {
+        return Err(Fail::from("not read"));
+    };
+    let terms = terms_of(alloc, &expr)?;
+    assert_eq!(rt; terms.len(), 4);
+    assert_eq!(rt; terms[0].as_slice(), b"</line>".as_slice());
+    assert_eq!(rt; terms[1].as_slice(), b"<line>".as_slice());
+    assert_eq!(rt; terms[2].as_slice(), b"a".as_slice());
+    assert_eq!(rt; terms[3].as_slice(), b"b".as_slice());
+    Ok(())
+}
