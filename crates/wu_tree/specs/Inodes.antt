@@ -1,0 +1,31 @@
+-- What a tree keeps of its nodes and users, and how it stands for a file system.
+use Rattle.std.specs.Prelude.{◌≡◌, ℕ, Option, Some, List, map, ◌⊎◌}
+use Rattle.std.specs.List.{AllByRecursion}
+use Rattle.std.specs.Ordering.{nat_cmp}
+use Rattle.std.specs.BTreeMap.{IsOrdered}
+use Rattle.wu_access.specs.declared.UserRec.{UserRec}
+use Rattle.wu_tree.specs.declared.events.Kind.{Kind}
+use Rattle.wu_tree.specs.declared.events.Kind.TheVariants.{Directory, File}
+use Rattle.wu_tree.specs.declared.events.Node.{Node}
+use Rattle.wu_tree.specs.declared.inodes.Inode.{Inode}
+use Rattle.wu_tree.specs.declared.inodes.Hold.{Hold}
+use Rattle.wu_tree.specs.declared.inodes.Hold.TheVariants.{Entries, Links}
+use Rattle.wu_tree.specs.FileSystems.{FileSystem, Link, parent_of, link_count}
+
+abbrev pub kind_of : Hold → Kind
+kind_of (Entries parent) = Directory
+kind_of (Links count) = File
+
+abbrev pub node_in : Inode → Node
+node_in inode = record { kind = kind_of inode.hold; perm = inode.perm }
+
+abbrev pub nodes_in : List (ℕ × Inode) → List (ℕ × Node)
+nodes_in inodes = map (λ e. (e.0, node_in e.1)) inodes
+
+abbrev pub users_in : List (ℕ × UserRec) → List (ℕ × List ℕ)
+users_in users = map (λ e. (e.0, e.1.groups)) users
+
+-- a directory but the root keeps its parent, and a file how many links it has
+abbrev pub IsHeld : List Link → ℕ → Hold → Type 0
+IsHeld links ino (Entries parent) = (ino ≡ 1) ⊎ (parent_of links ino ≡ Some parent)
+IsHeld links ino (Links count) = link_count links ino ≡ count

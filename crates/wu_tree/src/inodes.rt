@@ -1,0 +1,46 @@
+//! What a tree keeps of a node.
+ghost use Rattle.std.specs.Prelude.{◌≡◌};
+ghost use Rattle.wu_tree.specs.Inodes.{kind_of, node_in};
+
+use crate::events::{Kind, Node};
+use wu_access::Perm;
+use wu_base::Ino;
+
+/// A node, and what ties it to the links.
+#[derive(Clone, Copy, Debug)]
+pub(crate) struct Inode {
+    pub(crate) perm: Perm,
+    pub(crate) hold: Hold,
+}
+
+/// What ties a node to the links.
+#[derive(Clone, Copy, Debug)]
+pub(crate) enum Hold {
+    /// A directory stands in its parent; the root counts as its own.
+    Entries { parent: Ino },
+    /// A file has as many links.
+    Links { count: u64 },
+}
+
+impl Inode {
+    /// The node as callers see it.
+    pub(crate) fn node(&self) -> Node
+        ensures { result ≡ node_in self.now }
+    {
+        Node {
+            kind: self.hold.kind(),
+            perm: self.perm,
+        }
+    }
+}
+
+impl Hold {
+    fn kind(&self) -> Kind
+        ensures { result ≡ kind_of self.now }
+    {
+        match self {
+            Hold::Entries { .. } => Kind::Directory,
+            Hold::Links { .. } => Kind::File,
+        }
+    }
+}
