@@ -1,1 +1,6 @@
 pub mod Nest
+pub mod Entries
+pub mod Keeps
+pub mod NewNodes
+pub mod NewLinks
+pub mod Drops

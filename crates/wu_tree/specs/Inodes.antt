@@ -29,3 +29,8 @@ users_in users = map (λ e. (e.0, e.1.groups)) users
 abbrev pub IsHeld : List Link → ℕ → Hold → Type 0
 IsHeld links ino (Entries parent) = (ino ≡ 1) ⊎ (parent_of links ino ≡ Some parent)
 IsHeld links ino (Links count) = link_count links ino ≡ count
+
+-- how a new node is held
+abbrev pub first_hold : Kind → ℕ → Hold
+first_hold Directory parent = Entries parent
+first_hold File parent = Links 1

@@ -1,5 +1,5 @@
 //! A tree, and what it tells.
-ghost use Rattle.std.specs.Prelude.{◌≡◌, List, [], ◌∷◌, map, filter, ◌==◌, Option, Some, None, ok, IfOk, MatchOption, unwrap_or, slice_get};
+ghost use Rattle.std.specs.Prelude.{◌≡◌, List, [], ◌∷◌, map, filter, ◌==◌, Option, Some, None, IfOk, IfSome, ◌≤◌, MatchOption, unwrap_or, slice_get};
 ghost use Rattle.std.specs.Option.{option_map, option_copied};
 
 use crate::events::{Kind, Node};
@@ -39,9 +39,10 @@ impl Model for Tree {
 impl Tree {
     ghost use Rattle.wu_tree.specs.FileSystems.{node_of, child_of};
 
-    /// The node of that number. Takes no memory.
+    /// The node of that number. Its mode has at most four octal digits. Takes no memory.
     pub fn node(&self, ino: Ino) -> Option<Node>
-        ensures { result ≡ node_of self.now ino }
+        ensures node { result ≡ node_of self.now ino }
+        ensures mode { IfSome result (λ node. node.perm.mode ≤ 0xFFF) }
     {
         match self.inodes.get(&ino) {
             Some(inode) => Some(inode.node()),
