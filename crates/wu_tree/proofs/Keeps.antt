@@ -18,7 +18,7 @@ use Rattle.wu_tree.specs.declared.events.Node.{Node}
 use Rattle.wu_tree.specs.Inodes.{IsHeld}
 use Rattle.wu_tree.specs.declared.inodes.Hold.{Hold}
 use Rattle.wu_tree.specs.declared.inodes.Hold.TheVariants.{Entries, Links}
-use Rattle.wu_tree.specs.FileSystems.{FileSystem, Place, Link, place_cmp, is_name, is_directory, is_directory_node, is_file, is_there, node_of, is_within, link_count, parent_of, has_entries, ancestors, path_up, above, depth}
+use Rattle.wu_tree.specs.FileSystems.{FileSystem, Place, Link, place_cmp, is_name, is_directory, is_directory_node, is_kind_file, is_file, is_there, node_of, is_within, link_count, parent_of, has_entries, ancestors, path_up, above, depth}
 use Rattle.wu_tree.specs.Rules.{IsLink, Hangs, IsNumbered, IsTree}
 use Rattle.wu_tree.proofs.Entries.{counted, counted-insert_entry, counted-remove_entry, counted-cons, is_equal, number_itself, All-found, All-map}
 
@@ -183,3 +183,23 @@ pub path_of_child : (links : List Link) (q parent : ℕ) → q ≢ 1 → parent_
 path_of_child links q parent h p d =
     let e : length (ancestors links 255 parent) < 255 = subst (λ (l : List ℕ). length l < 255) (path_is links parent) d in
     path_below links q parent h p ∙ ap (λ (l : List ℕ). q ∷ l) (shorter links 254 parent (omega arith) ∙ sym (path_is links parent))
+
+-- ---- each directory is reached from the root
+pub path_of_root : (links : List Link) → path_up links 1 ≡ 1 ∷ []
+unfolding path_up ancestors
+path_of_root links = refl
+
+hung_directory : (links : List Link) (q : ℕ) (k : Kind) → not (is_kind_file k) ≡ true → Hangs links q k → is_within links 1 q ≡ true
+hung_directory links q Directory h g = ⊎_elim (λ e. subst (λ x. is_within links 1 x ≡ true) (sym e) (rw (path_of_root links) refl)) (λ p. p.1) g
+hung_directory links q File h g = absurd cc
+
+pub directory_found : (o : Option Node) → is_directory_node o ≡ true → (node : Node) × (o ≡ Some node) × (not (is_kind_file node.kind) ≡ true)
+directory_found None h = absurd cc
+directory_found (Some node) h = (node, refl, h)
+
+pub reached : (fs : FileSystem) → IsTree fs → (q : ℕ) → is_directory fs q ≡ true → is_within fs.links 1 q ≡ true
+reached fs t q h =
+    let d = directory_found (node_of fs q) h in
+    let f = All-found (λ e. Hangs fs.links e.0 e.1.kind) (is_at (nat_cmp q)) fs.nodes d.0 t.nodes d.1 in
+    let e : f.0 ≡ q = sym (same_number q f.0 f.1) in
+    hung_directory fs.links q d.0.kind d.2 (subst (λ x. Hangs fs.links x d.0.kind) e f.2)

@@ -4,3 +4,5 @@ pub mod Keeps
 pub mod NewNodes
 pub mod NewLinks
 pub mod Drops
+pub mod Perms
+pub mod Sound

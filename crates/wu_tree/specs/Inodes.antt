@@ -1,8 +1,6 @@
 -- What a tree keeps of its nodes and users, and how it stands for a file system.
 use Rattle.std.specs.Prelude.{◌≡◌, ℕ, Option, Some, List, map, ◌⊎◌}
 use Rattle.std.specs.List.{AllByRecursion}
-use Rattle.std.specs.Ordering.{nat_cmp}
-use Rattle.std.specs.BTreeMap.{IsOrdered}
 use Rattle.wu_access.specs.declared.UserRec.{UserRec}
 use Rattle.wu_tree.specs.declared.events.Kind.{Kind}
 use Rattle.wu_tree.specs.declared.events.Kind.TheVariants.{Directory, File}
@@ -10,6 +8,7 @@ use Rattle.wu_tree.specs.declared.events.Node.{Node}
 use Rattle.wu_tree.specs.declared.inodes.Inode.{Inode}
 use Rattle.wu_tree.specs.declared.inodes.Hold.{Hold}
 use Rattle.wu_tree.specs.declared.inodes.Hold.TheVariants.{Entries, Links}
+use Rattle.wu_tree.specs.Rules.{IsTree}
 use Rattle.wu_tree.specs.FileSystems.{FileSystem, Link, parent_of, link_count}
 
 abbrev pub kind_of : Hold → Kind
@@ -34,3 +33,13 @@ IsHeld links ino (Links count) = link_count links ino ≡ count
 abbrev pub first_hold : Kind → ℕ → Hold
 first_hold Directory parent = Entries parent
 first_hold File parent = Links 1
+
+-- the file system that the nodes, links and users of a tree stand for
+abbrev pub file_system : List (ℕ × Inode) → List Link → List (ℕ × UserRec) → FileSystem
+file_system inodes links users = record { nodes = nodes_in inodes; links = links; users = users_in users }
+
+-- what is true of every tree
+pub record IsSound (inodes : List (ℕ × Inode)) (links : List Link) (users : List (ℕ × UserRec)) : Type 0 where
+  pub tree : IsTree (file_system inodes links users)
+  pub held : AllByRecursion (λ e. IsHeld links e.0 e.1.hold) inodes
+  pub keyed : AllByRecursion (λ e. e.1.uid ≡ e.0) users

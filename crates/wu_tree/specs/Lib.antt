@@ -3,4 +3,3 @@ pub mod Steps
 pub mod Rules
 pub mod Nested
 pub mod Inodes
-pub mod Sound

@@ -1,6 +1,6 @@
 //! What a tree keeps of a node.
 ghost use Rattle.std.specs.Prelude.{◌≡◌};
-ghost use Rattle.wu_tree.specs.Inodes.{kind_of, node_in};
+ghost use Rattle.wu_tree.specs.Inodes.{first_hold, kind_of, node_in};
 
 use crate::events::{Kind, Node};
 use wu_access::Perm;
@@ -35,6 +35,16 @@ impl Inode {
 }
 
 impl Hold {
+    /// How a new node is held: a directory in its parent, a file by its first link.
+    pub(crate) fn first(kind: Kind, parent: Ino) -> Hold
+        ensures { result ≡ first_hold kind parent }
+    {
+        match kind {
+            Kind::Directory => Hold::Entries { parent },
+            Kind::File => Hold::Links { count: 1 },
+        }
+    }
+
     fn kind(&self) -> Kind
         ensures { result ≡ kind_of self.now }
     {

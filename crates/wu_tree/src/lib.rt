@@ -2,6 +2,7 @@
 //! changes by events, each of which is one atomic step: accepted whole, or refused and without effect.
 #![tactic(auto)]
 
+mod changes;
 mod events;
 mod inodes;
 mod links;

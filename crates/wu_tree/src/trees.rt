@@ -18,10 +18,10 @@ pub(crate) const ROOT: Ino = 1;
 /// stands for: its nodes, its links and its users.
 #[derive(Debug, Drop)]
 pub struct Tree {
-    alloc: Global,
-    inodes: BTreeMap<Ino, Inode>,
-    links: Links,
-    users: BTreeMap<Uid, UserRec>,
+    pub(crate) alloc: Global,
+    pub(crate) inodes: BTreeMap<Ino, Inode>,
+    pub(crate) links: Links,
+    pub(crate) users: BTreeMap<Uid, UserRec>,
 }
 
 impl Model for Tree {
@@ -29,11 +29,11 @@ impl Model for Tree {
 
     ghost Value = { FileSystem };
 
-    ghost use Rattle.wu_tree.specs.Sound.{file_system_of, IsSound};
+    ghost use Rattle.wu_tree.specs.Inodes.{file_system, IsSound};
 
-    ghost view = { file_system_of };
+    ghost view = { λ t. file_system t.inodes.entries t.links t.users.entries };
 
-    ghost invariant = { IsSound };
+    ghost invariant = { λ t. IsSound t.inodes.entries t.links t.users.entries };
 }
 
 impl Tree {
