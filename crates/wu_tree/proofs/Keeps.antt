@@ -18,7 +18,7 @@ use Rattle.wu_tree.specs.declared.events.Node.{Node}
 use Rattle.wu_tree.specs.Inodes.{IsHeld}
 use Rattle.wu_tree.specs.declared.inodes.Hold.{Hold}
 use Rattle.wu_tree.specs.declared.inodes.Hold.TheVariants.{Entries, Links}
-use Rattle.wu_tree.specs.FileSystems.{FileSystem, Place, Link, place_cmp, is_name, is_directory, is_directory_node, is_kind_file, is_file, is_there, node_of, is_within, link_count, parent_of, has_entries, ancestors, path_up, above, depth}
+use Rattle.wu_tree.specs.FileSystems.{FileSystem, IsLeaf, Place, Link, place_cmp, is_name, is_directory, is_directory_node, is_kind_file, is_file, is_there, node_of, is_within, link_count, parent_of, has_entries, ancestors, path_up, above, depth}
 use Rattle.wu_tree.specs.Rules.{IsLink, Hangs, IsNumbered, IsTree}
 use Rattle.wu_tree.proofs.Entries.{counted, counted-insert_entry, counted-remove_entry, counted-cons, is_equal, number_itself, All-found, All-map}
 
@@ -203,3 +203,16 @@ reached fs t q h =
     let f = All-found (λ e. Hangs fs.links e.0 e.1.kind) (is_at (nat_cmp q)) fs.nodes d.0 t.nodes d.1 in
     let e : f.0 ≡ q = sym (same_number q f.0 f.1) in
     hung_directory fs.links q d.0.kind d.2 (subst (λ x. Hangs fs.links x d.0.kind) e f.2)
+
+-- a node with a link is there, and isn't the root
+pub linked : (fs : FileSystem) (links : List Link) (x : ℕ) → AllByRecursion (IsLink fs) links → 1 ≤ link_count links x → (is_there fs x ≡ true) × (x ≢ 1)
+linked fs [] x a h = absurd (omega arith)
+linked fs (l ∷ links) x a h =
+    elim (l.1 == x) as (λ b. (l.1 == x) ≡ b → (is_there fs x ≡ true) × (x ≢ 1)) [
+      | true ↦ λ p. let e : l.1 ≡ x = eqb-true l.1 x p in (subst (λ v. is_there fs v ≡ true) e a.0.child, λ r. a.0.no_root (e ∙ r))
+      | false ↦ λ p. let c : cond {A = ℕ} (l.1 == x) 1 0 ≡ 0 = rw p refl in linked fs links x a.1 (omega (arith, counted-cons (λ v. v == x) l links))
+    ] refl
+
+-- a leaf has no link below it
+pub leaf_links : (fs : FileSystem) → IsTree fs → (x : ℕ) → IsLeaf fs x → AllByRecursion (λ l. l.0.0 ≢ x) fs.links
+leaf_links fs t x h = ⊎_elim (λ e. absent_directory fs fs.links t.links x e) (λ e. no_entries fs.links x e) h

@@ -1,12 +1,13 @@
 -- A file system after POSIX.1, without the texts of its files: nodes by number, links by directory and name, and users with
 -- their groups. Each of the three is a finite map, as the list of its entries in the order of the keys.
-use Rattle.std.specs.Prelude.{ℕ, zero, suc, ◌+◌, ◌-◌, Bool, true, false, ◌&&◌, ◌||◌, not, cond, ◌==◌, nat_eq, nat_lt, nat_le, Option, None, Some, is_some, List, [], ◌∷◌, length, count_by}
+use Rattle.std.specs.Prelude.{◌≡◌, ◌⊎◌, ℕ, zero, suc, ◌+◌, ◌-◌, Bool, true, false, ◌&&◌, ◌||◌, not, cond, ◌==◌, nat_eq, nat_lt, nat_le, Option, None, Some, is_some, unwrap_or, List, [], ◌∷◌, map, filter, length, count_by}
 use Rattle.std.specs.declared.cmp.Ordering.{Ordering}
 use Rattle.std.specs.Ordering.{nat_cmp, ordering_then}
 use Rattle.std.specs.Cmp.Lexicographic.{slice_cmp, pointwise}
 use Rattle.std.specs.List.{list_any, list_all}
 use Rattle.std.specs.Map.{lookup}
 use Rattle.std.specs.BTreeMap.{is_at}
+use Rattle.wu_access.specs.declared.Perm.{Perm}
 use Rattle.wu_tree.specs.declared.events.Kind.{Kind}
 use Rattle.wu_tree.specs.declared.events.Kind.TheVariants.{Directory, File}
 use Rattle.wu_tree.specs.declared.events.Node.{Node}
@@ -84,6 +85,10 @@ is_used fs directory name = is_some (child_of fs directory name)
 abbrev pub has_entries : List Link → ℕ → Bool
 has_entries links directory = list_any (λ link. link.0.0 == directory) links
 
+-- no link stands below the node: it is no directory, or one without entries
+abbrev pub IsLeaf : FileSystem → ℕ → Type 0
+IsLeaf fs ino = (is_directory fs ino ≡ false) ⊎ (has_entries fs.links ino ≡ false)
+
 -- how many links the node has
 abbrev pub link_count : List Link → ℕ → ℕ
 link_count links ino = count_by (λ link. link.1 == ino) links
@@ -114,3 +119,19 @@ depth links directory = length (path_up links directory)
 -- whether the directory is the other or lies below it
 abbrev pub is_within : List Link → ℕ → ℕ → Bool
 is_within links other directory = list_any (λ ino. ino == other) (path_up links directory)
+
+-- the root alone: owner 0, group 0, mode 755 octal
+abbrev pub root_alone : FileSystem
+root_alone = record { nodes = (1, record { kind = Directory; perm = record { uid = 0; gid = 0; mode = 0x1ED } }) ∷ []; links = []; users = [] }
+
+-- a directory's names with what they name, by the bytes of the names
+abbrev pub entries_of : List Link → ℕ → List (List ℕ × ℕ)
+entries_of links directory = map (λ link. (link.0.1, link.1)) (filter (λ link. link.0.0 == directory) links)
+
+-- the groups of a user; one who was never given has none
+abbrev pub groups_of : FileSystem → ℕ → List ℕ
+groups_of fs uid = unwrap_or (lookup (is_at (nat_cmp uid)) fs.users) []
+
+-- how many files there are
+abbrev pub file_count : FileSystem → ℕ
+file_count fs = count_by (λ node. is_kind_file node.1.kind) fs.nodes

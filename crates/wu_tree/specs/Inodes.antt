@@ -1,5 +1,5 @@
 -- What a tree keeps of its nodes and users, and how it stands for a file system.
-use Rattle.std.specs.Prelude.{◌≡◌, ℕ, Option, Some, List, map, ◌⊎◌}
+use Rattle.std.specs.Prelude.{◌≡◌, ℕ, ◌-◌, Bool, true, ◌==◌, Option, Some, List, map, ◌⊎◌}
 use Rattle.std.specs.List.{AllByRecursion}
 use Rattle.wu_access.specs.declared.UserRec.{UserRec}
 use Rattle.wu_tree.specs.declared.events.Kind.{Kind}
@@ -33,6 +33,15 @@ IsHeld links ino (Links count) = link_count links ino ≡ count
 abbrev pub first_hold : Kind → ℕ → Hold
 first_hold Directory parent = Entries parent
 first_hold File parent = Links 1
+
+-- with one link fewer, and whether there is but one
+abbrev pub fewer_links : Hold → Hold
+fewer_links (Entries parent) = Entries parent
+fewer_links (Links count) = Links (count - 1)
+
+abbrev pub has_one_link : Hold → Bool
+has_one_link (Entries parent) = true
+has_one_link (Links count) = count == 1
 
 -- the file system that the nodes, links and users of a tree stand for
 abbrev pub file_system : List (ℕ × Inode) → List Link → List (ℕ × UserRec) → FileSystem

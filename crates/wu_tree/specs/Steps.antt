@@ -2,7 +2,7 @@
 -- it is accepted, and gives the next file system. Links, removal and renaming are those of POSIX.1.
 use Rattle.std.specs.Prelude.{◌≡◌, ℕ, ◌+◌, ◌-◌, ◌≤◌, Bool, true, false, ◌&&◌, ◌||◌, not, cond, ◌==◌, nat_lt, nat_le, Option, None, Some, is_some, Result, Ok, Err, MatchResult, List, [], ◌∷◌, ◌++◌}
 use Rattle.std.specs.Ordering.{nat_cmp}
-use Rattle.std.specs.List.{list_any}
+use Rattle.std.specs.List.{list_any, fold}
 use Rattle.std.specs.Map.{lookup, remove_entry, set_value}
 use Rattle.std.specs.BTreeMap.{is_at, insert_entry}
 use Rattle.std.specs.BTreeSet.{insert_key}
@@ -82,13 +82,20 @@ refusal_of fs (Chown ino uid gid) = first_of ((not (is_there fs ino), NoSuch) �
 
 -- numbers, ascending and without repeats
 abbrev pub ascending : List ℕ → List ℕ
-ascending [] = []
-ascending (x ∷ xs) = insert_key nat_cmp (ascending xs) x
+ascending numbers = fold (insert_key nat_cmp) [] numbers
 
 -- with a new node and its link
 abbrev pub with_node : FileSystem → ℕ → ℕ → List ℕ → Node → FileSystem
 with_node fs ino parent name node =
     record fs { nodes = insert_entry nat_cmp fs.nodes ino node; links = insert_entry place_cmp fs.links (parent, name) ino }
+
+-- with one more link
+abbrev pub with_link : FileSystem → ℕ → ℕ → List ℕ → FileSystem
+with_link fs ino parent name = record fs { links = insert_entry place_cmp fs.links (parent, name) ino }
+
+-- with the groups of a user
+abbrev pub with_user : FileSystem → ℕ → List ℕ → FileSystem
+with_user fs uid groups = record fs { users = insert_entry nat_cmp fs.users uid (ascending groups) }
 
 -- with the permissions of a node changed
 abbrev pub with_perm : (Perm → Perm) → FileSystem → ℕ → Option Node → FileSystem
@@ -115,11 +122,11 @@ with_link_moved fs parent name new_parent new_name child =
 
 -- after an event that is accepted
 abbrev pub next : FileSystem → Event → FileSystem
-next fs (User uid groups) = record fs { users = insert_entry nat_cmp fs.users uid (ascending groups) }
+next fs (User uid groups) = with_user fs uid groups
 next fs (Mkdir ino parent name perm) = with_node fs ino parent name (record { kind = Directory; perm = perm })
 next fs (Create ino parent name perm) = with_node fs ino parent name (record { kind = File; perm = perm })
 next fs (Text ino) = fs
-next fs (Link ino parent name) = record fs { links = insert_entry place_cmp fs.links (parent, name) ino }
+next fs (Link ino parent name) = with_link fs ino parent name
 next fs (Unlink parent name) = without_link fs parent name
 next fs (Rmdir parent name) = without_link fs parent name
 next fs (Rename parent name new_parent new_name) =

@@ -1,6 +1,6 @@
 //! What a tree keeps of a node.
 ghost use Rattle.std.specs.Prelude.{◌≡◌};
-ghost use Rattle.wu_tree.specs.Inodes.{first_hold, kind_of, node_in};
+ghost use Rattle.wu_tree.specs.Inodes.{fewer_links, first_hold, has_one_link, kind_of, node_in};
 
 use crate::events::{Kind, Node};
 use wu_access::Perm;
@@ -42,6 +42,28 @@ impl Hold {
         match kind {
             Kind::Directory => Hold::Entries { parent },
             Kind::File => Hold::Links { count: 1 },
+        }
+    }
+
+    /// Whether the last link of the node is all that it has. A directory has but one.
+    pub(crate) fn has_one_link(&self) -> bool
+        ensures { result ≡ has_one_link self.now }
+    {
+        match self {
+            Hold::Entries { .. } => true,
+            Hold::Links { count } => *count == 1,
+        }
+    }
+
+    /// With one link fewer.
+    pub(crate) fn fewer_links(&self) -> Hold
+        ensures { result ≡ fewer_links self.now }
+    {
+        match self {
+            Hold::Entries { parent } => Hold::Entries { parent: *parent },
+            Hold::Links { count } => Hold::Links {
+                count: count.saturating_sub(1),
+            },
         }
     }
 
