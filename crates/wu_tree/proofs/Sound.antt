@@ -1,6 +1,7 @@
 -- What each change of a tree's fields leaves: a sound tree that stands for the changed file system.
-use Rattle.std.proofs.Common.{◌≡◌, ◌≢◌, ℕ, ◌+◌, ◌-◌, ◌<◌, ◌≤◌, List, [], ◌∷◌, refl, ap, sym, ◌∙◌, subst, Bool, true, false, cond, arith, ⊎_elim}
-use Rattle.std.specs.Prelude.{Option, None, Some, is_some, map, ◌==◌}
+use Rattle.std.proofs.Common.{◌≡◌, ◌≢◌, ℕ, ◌+◌, ◌-◌, ◌<◌, ◌≤◌, List, [], ◌∷◌, refl, ap, sym, ◌∙◌, subst, Bool, true, false, cond, not, arith, inl, ⊎_elim}
+use Rattle.std.specs.Prelude.{Option, None, Some, is_some, map, count_by, ◌==◌}
+use Rattle.std.proofs.lemmas.List.Sums.{sum_by-cons}
 use Rattle.std.specs.Option.{option_map}
 use Rattle.std.specs.Ordering.{is_eq, nat_cmp}
 use Rattle.std.specs.List.{AllByRecursion}
@@ -19,11 +20,11 @@ use Rattle.wu_tree.specs.declared.events.Node.{Node}
 use Rattle.wu_tree.specs.declared.inodes.Hold.{Hold}
 use Rattle.wu_tree.specs.declared.inodes.Hold.TheVariants.{Entries, Links}
 use Rattle.wu_tree.specs.declared.inodes.Inode.{Inode}
-use Rattle.wu_tree.specs.Inodes.{node_in, nodes_in, file_system, IsHeld, IsSound, first_hold, fewer_links, has_one_link, kind_of}
-use Rattle.wu_tree.specs.FileSystems.{FileSystem, IsLeaf, Place, Link, place_cmp, node_of, child_of, is_directory, is_there, is_file, is_file_node, is_kind_file, link_count, is_name, is_within, depth}
-use Rattle.wu_tree.specs.Rules.{IsTree, Hangs}
+use Rattle.wu_tree.specs.Inodes.{node_in, nodes_in, users_in, file_system, IsHeld, IsSound, first_hold, fewer_links, has_one_link, kind_of, parent_in}
+use Rattle.wu_tree.specs.FileSystems.{FileSystem, IsLeaf, Place, Link, place_cmp, node_of, child_of, is_directory, is_there, is_file, is_file_node, is_directory_node, parent_of, is_kind_file, link_count, is_name, is_within, depth}
+use Rattle.wu_tree.specs.Rules.{IsTree, IsLink, Hangs}
 use Rattle.wu_tree.specs.Steps.{with_perm, with_node, with_link, without_link}
-use Rattle.wu_tree.proofs.Entries.{set_value-read, insert_entry-read, remove_entry-read, remove_entry-insert_entry, All-insert_entry, All-map, All-map2, All-found, All-remove_entry, All-set_number, counted-remove_entry, none_left, number_itself}
+use Rattle.wu_tree.proofs.Entries.{ascend-insert_entry, set_value-read, insert_entry-read, remove_entry-read, remove_entry-insert_entry, All-insert_entry, All-map, All-map2, All-found, All-remove_entry, All-set_number, counted-remove_entry, none_left, number_itself}
 use Rattle.wu_tree.proofs.Keeps.{same_number, same_held, reached, linked, leaf_links, Around}
 use Rattle.wu_tree.proofs.NewLinks.{link_keeps, link_around, one_more}
 use Rattle.wu_tree.proofs.Drops.{drop_around, one_fewer, child_no_root, gone_keeps, kept_keeps, is_gone, is_kept}
@@ -250,3 +251,87 @@ module _ (inodes : List (ℕ × Inode)) (links : List Link) (users : List (ℕ �
           (one_more (file_system inodes links users) s.tree ino parent name file free ∙ sym counts);
       keyed = s.keyed;
     }
+
+  -- ---- a user's groups
+  module _ (uid : ℕ) (groups : List ℕ) where
+    abbrev pub user_of : UserRec
+    user_of = record { uid = uid; groups = groups }
+
+    users_put : users_in (insert_entry nat_cmp users uid user_of) ≡ insert_entry nat_cmp (users_in users) uid groups
+    users_put = sym (insert_entry-read (λ (u : UserRec). u.groups) nat_cmp users uid user_of)
+
+    pub user_view : file_system inodes links (insert_entry nat_cmp users uid user_of) ≡ record (file_system inodes links users) { users = insert_entry nat_cmp (users_in users) uid groups }
+    user_view = ap (λ (u : List (ℕ × List ℕ)). record (file_system inodes links users) { users = u }) users_put
+
+    pub user_keeps : IsStrictlySortedBy nat_cmp groups → IsTree (record (file_system inodes links users) { users = insert_entry nat_cmp (users_in users) uid groups })
+    user_keeps ascends = record {
+      users_ascend = ascend-insert_entry nat_cmp_total (users_in users) uid groups s.tree.users_ascend;
+      groups_ascend = All-insert_entry (λ user. IsStrictlySortedBy nat_cmp user.1) nat_cmp (users_in users) uid groups s.tree.groups_ascend (λ q e. ascends) ascends;
+      nodes_ascend = s.tree.nodes_ascend;
+      links_ascend = s.tree.links_ascend;
+      numbered = s.tree.numbered;
+      root = s.tree.root;
+      links =
+          All-map (IsLink (file_system inodes links users)) (IsLink (record (file_system inodes links users) { users = insert_entry nat_cmp (users_in users) uid groups })) links
+          (λ l p. record { parent = p.parent; child = p.child; no_root = p.no_root; name = p.name }) s.tree.links;
+      nodes = s.tree.nodes;
+    }
+
+    pub user_sound : IsStrictlySortedBy nat_cmp groups → IsSound inodes links (insert_entry nat_cmp users uid user_of)
+    user_sound ascends = record {
+      tree = subst (λ (u : List (ℕ × List ℕ)). IsTree (record (file_system inodes links users) { users = u })) (sym users_put) (user_keeps ascends);
+      held = s.held;
+      keyed = All-insert_entry (λ e. e.1.uid ≡ e.0) nat_cmp users uid user_of s.keyed (λ q e. exact_unsigned uid q e) refl;
+    }
+
+  -- ---- parents
+  parent_held : (d : ℕ) (h : Hold) → is_kind_file (kind_of h) ≡ false → d ≢ 1 → IsHeld links d h → parent_in h ≡ parent_of links d
+  parent_held d (Entries p) k r g = ⊎_elim (λ e. absurd (r e)) (λ e. sym e) g
+  parent_held d (Links n) k r g = absurd cc
+
+  not_file : (b : Bool) → not b ≡ true → b ≡ false
+  not_file true h = absurd cc
+  not_file false h = refl
+
+  pub parent_kept : (d : ℕ) (inode : Inode) → lookup (is_at (nat_cmp d)) inodes ≡ Some inode → is_directory (file_system inodes links users) d ≡ true → d ≢ 1 → parent_in inode.hold ≡ parent_of links d
+  parent_kept d inode h k r = parent_held d inode.hold (not_file _ (ap is_directory_node (sym (node_found d inode h)) ∙ k)) r (held_at d inode h)
+
+  pub directory_inode : (d : ℕ) → is_directory (file_system inodes links users) d ≡ true → lookup (is_at (nat_cmp d)) inodes ≡ None → ⊥
+  directory_inode d f h = let g : is_directory (file_system inodes links users) d ≡ false = ap is_directory_node (node_absent d h) in let x : true ≡ false = sym f ∙ g in cc
+
+-- ---- the root alone
+abbrev pub root_inode : Inode
+root_inode = record { perm = record { uid = 0; gid = 0; mode = 493 }; hold = Entries 1 }
+
+pub root_sound : IsSound ((1, root_inode) ∷ []) [] []
+unfolding IsStrictlySortedBy
+root_sound = record {
+  tree = record {
+    users_ascend = tt;
+    groups_ascend = tt;
+    nodes_ascend = (tt, tt);
+    links_ascend = tt;
+    numbered = ((omega arith, omega arith), tt);
+    root = refl;
+    links = tt;
+    nodes = (inl refl, tt);
+  };
+  held = (inl refl, tt);
+  keyed = tt;
+}
+
+-- ---- users and nodes as a walk over the values meets them
+pub map_through : {X Y Z : Type 0} (f : X → Y) (g : Y → Z) (o : Option X) → option_map (λ x. g (f x)) o ≡ option_map g (option_map f o)
+map_through f g None = refl
+map_through f g (Some x) = refl
+
+pub users_by_value : (users : List (ℕ × UserRec)) → AllByRecursion (λ e. e.1.uid ≡ e.0) users → map (λ (u : UserRec). (u.uid, u.groups)) (map (λ e. e.1) users) ≡ users_in users
+users_by_value [] k = refl
+users_by_value (e ∷ es) k = ap (λ (n : ℕ). (n, e.1.groups) ∷ map (λ (u : UserRec). (u.uid, u.groups)) (map (λ e. e.1) es)) k.0 ∙ ap (λ (l : List (ℕ × List ℕ)). (e.0, e.1.groups) ∷ l) (users_by_value es k.1)
+
+pub files_by_value : (inodes : List (ℕ × Inode)) → count_by (λ (i : Inode). is_kind_file (kind_of i.hold)) (map (λ e. e.1) inodes) ≡ count_by (λ (n : ℕ × Node). is_kind_file n.1.kind) (nodes_in inodes)
+files_by_value [] = refl
+files_by_value (e ∷ es) =
+    sum_by-cons (λ (i : Inode). cond {A = ℕ} (is_kind_file (kind_of i.hold)) 1 0) e.1 (map (λ e. e.1) es)
+    ∙ ap (λ n. cond {A = ℕ} (is_kind_file (kind_of e.1.hold)) 1 0 + n) (files_by_value es)
+    ∙ sym (sum_by-cons (λ (n : ℕ × Node). cond {A = ℕ} (is_kind_file n.1.kind) 1 0) (e.0, node_in e.1) (nodes_in es))

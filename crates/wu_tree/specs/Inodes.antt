@@ -1,5 +1,5 @@
 -- What a tree keeps of its nodes and users, and how it stands for a file system.
-use Rattle.std.specs.Prelude.{◌≡◌, ℕ, ◌-◌, Bool, true, ◌==◌, Option, Some, List, map, ◌⊎◌}
+use Rattle.std.specs.Prelude.{◌≡◌, ℕ, ◌-◌, Bool, true, ◌==◌, Option, None, Some, List, map, ◌⊎◌}
 use Rattle.std.specs.List.{AllByRecursion}
 use Rattle.wu_access.specs.declared.UserRec.{UserRec}
 use Rattle.wu_tree.specs.declared.events.Kind.{Kind}
@@ -33,6 +33,11 @@ IsHeld links ino (Links count) = link_count links ino ≡ count
 abbrev pub first_hold : Kind → ℕ → Hold
 first_hold Directory parent = Entries parent
 first_hold File parent = Links 1
+
+-- a directory's parent
+abbrev pub parent_in : Hold → Option ℕ
+parent_in (Entries parent) = Some parent
+parent_in (Links count) = None
 
 -- with one link fewer, and whether there is but one
 abbrev pub fewer_links : Hold → Hold

@@ -1,6 +1,7 @@
 //! What a tree keeps of a node.
 ghost use Rattle.std.specs.Prelude.{◌≡◌};
-ghost use Rattle.wu_tree.specs.Inodes.{fewer_links, first_hold, has_one_link, kind_of, node_in};
+ghost use Rattle.wu_tree.specs.Inodes.{fewer_links, first_hold, has_one_link, kind_of, node_in, parent_in};
+ghost use Rattle.wu_tree.specs.FileSystems.{is_kind_file};
 
 use crate::events::{Kind, Node};
 use wu_access::Perm;
@@ -64,6 +65,26 @@ impl Hold {
             Hold::Links { count } => Hold::Links {
                 count: count.saturating_sub(1),
             },
+        }
+    }
+
+    /// Whether it is a file's.
+    pub(crate) fn is_file(&self) -> bool
+        ensures { result ≡ is_kind_file (kind_of self.now) }
+    {
+        match self {
+            Hold::Entries { .. } => false,
+            Hold::Links { .. } => true,
+        }
+    }
+
+    /// A directory's parent.
+    pub(crate) fn parent(&self) -> Option<Ino>
+        ensures { result ≡ parent_in self.now }
+    {
+        match self {
+            Hold::Entries { parent } => Some(*parent),
+            Hold::Links { .. } => None,
         }
     }
 

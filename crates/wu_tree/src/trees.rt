@@ -1,8 +1,8 @@
 //! A tree, and what it tells.
-ghost use Rattle.std.specs.Prelude.{◌≡◌, List, [], ◌∷◌, map, filter, ◌==◌, Option, Some, None, IfOk, IfSome, ◌≤◌, MatchOption, unwrap_or, slice_get};
-ghost use Rattle.std.specs.Option.{option_map, option_copied};
+ghost use Rattle.std.specs.Prelude.{◌≡◌, ◌≢◌, true, IfOk, IfSome, ◌≤◌, slice_get};
+ghost use Rattle.std.specs.Option.{option_map};
 
-use crate::events::{Kind, Node};
+use crate::events::Node;
 use crate::inodes::{Hold, Inode};
 use crate::links::Links;
 use std::alloc::Global;
@@ -37,7 +37,31 @@ impl Model for Tree {
 }
 
 impl Tree {
-    ghost use Rattle.wu_tree.specs.FileSystems.{node_of, child_of};
+    ghost use Rattle.wu_tree.specs.FileSystems.{FileSystem, child_of, depth as depth_of, entries_of, file_count as count_of_files, groups_of, is_directory, is_kind_file, node_of, parent_of, root_alone};
+    ghost use Rattle.wu_tree.specs.Rules.{IsTree};
+
+    /// The root directory alone, with owner 0, group 0 and mode 755, and no users. The tree keeps the
+    /// allocator for its changes.
+    pub fn new(alloc: Global) -> Result<Tree, NoMemory>
+        ensures { IfOk result (λ tree. tree ≡ root_alone) }
+    {
+        let root = Inode {
+            perm: Perm {
+                uid: 0,
+                gid: 0,
+                mode: 0o755,
+            },
+            hold: Hold::Entries { parent: ROOT },
+        };
+        let mut inodes = BTreeMap::new(alloc);
+        inodes.insert(ROOT, root)?;
+        Ok(Tree {
+            alloc,
+            inodes,
+            links: Links::new(alloc),
+            users: BTreeMap::new(alloc),
+        })
+    }
 
     /// The node of that number. Its mode has at most four octal digits. Takes no memory.
     pub fn node(&self, ino: Ino) -> Option<Node>
@@ -55,5 +79,58 @@ impl Tree {
         ensures { result ≡ child_of self.now dir name.now }
     {
         self.links.child(dir, name)
+    }
+
+    /// The `i`-th node, counted from 0, in order of number. Takes no memory, and time that grows with `i`.
+    pub fn node_at(&self, i: usize) -> Option<(Ino, Node)>
+        ensures { result ≡ slice_get self.now.nodes i }
+    {
+        match self.inodes.iter().nth(i) {
+            Some((ino, inode)) => Some((*ino, inode.node())),
+            None => None,
+        }
+    }
+
+    /// The `i`-th user, counted from 0, in order of number. Takes no memory, and time that grows with `i`.
+    pub fn user_at(&self, i: usize) -> Option<&UserRec>
+        ensures { option_map (λ user. (user.now.uid, user.now.groups)) result ≡ slice_get self.now.users i }
+    {
+        self.users.values().nth(i)
+    }
+
+    /// The user's groups, ascending. One who was never given has none. Takes no memory.
+    pub fn groups_of(&self, uid: Uid) -> &[Gid]
+        ensures { result.now ≡ groups_of self.now uid }
+    {
+        match self.users.get(&uid) {
+            Some(user) => user.groups.as_slice(),
+            None => &[],
+        }
+    }
+
+    /// How many files there are. Takes no memory, and time that grows with the number of nodes.
+    pub fn file_count(&self) -> u64
+        ensures { result ≡ count_of_files self.now }
+    {
+        self.inodes.values().filter(|inode| inode.hold.is_file()).count() as u64
+    }
+
+    /// Nodes, links and users keep the rules of a tree at every moment.
+    pub fn keeps_the_rules(&self)
+        ensures { IsTree self.now }
+    {
+        let _ = &self.links;
+    }
+
+    /// The directory in which a directory other than the root stands.
+    fn parent(&self, directory: Ino) -> Option<Ino>
+        requires found { is_directory self.now directory ≡ true }
+        requires below { directory ≢ 1 }
+        ensures { result ≡ parent_of self.now.links directory }
+    {
+        match self.inodes.get(&directory) {
+            Some(inode) => inode.hold.parent(),
+            None => None,
+        }
     }
 }

@@ -1,4 +1,4 @@
-use Rattle.std.proofs.Common.{◌≡◌, ◌<◌, ◌∙◌, ap, sym, [], length, take, refl}
+use Rattle.std.proofs.Common.{◌≡◌, ◌<◌, ◌∙◌, ap, sym, [], length, get_or, take, refl}
 use Rattle.std.specs.List.{fold}
 use Rattle.std.specs.Ordering.{nat_cmp}
 use Rattle.std.specs.BTreeSet.{insert_key}
@@ -9,4 +9,4 @@ use Rattle.wu_tree.proofs.changes.ascending.Goals as goal
 pub loop-number-preserved : goal.loop-number-preserved
 loop-number-preserved c =
     rw (take_more c.args.numbers.now c.loop-number.number-index 0 c.loop-number-test.true, fold-append)
-    (c.in_ok-insert.ensures.keys ∙ ap (λ ks. insert_key nat_cmp ks _) c.loop-number.invariant)
+    (c.in_ok-insert.ensures.keys ∙ ap (λ ks. insert_key nat_cmp ks (get_or c.args.numbers.now c.loop-number.number-index 0)) c.loop-number.invariant)
