@@ -11,7 +11,7 @@ use Rattle.wu_tree.specs.declared.events.Kind.{Kind}
 use Rattle.wu_tree.specs.declared.events.Kind.TheVariants.{Directory, File}
 use Rattle.wu_tree.specs.declared.events.Node.{Node}
 use Rattle.wu_tree.specs.declared.events.Event.{Event}
-use Rattle.wu_tree.specs.declared.events.Event.TheVariants.{User, Mkdir, Create, Text, Link, Unlink, Rmdir, Rename, Chmod, Chown}
+use Rattle.wu_tree.specs.declared.events.Event.TheVariants.{User, Mkdir, Create, Text, Link, Unlink, Rmdir, Chmod, Chown}
 use Rattle.wu_tree.specs.declared.events.Refusal.{Refusal}
 use Rattle.wu_tree.specs.declared.events.Refusal.TheVariants.{BadName, NoSuch, Exists, NotEmpty, Loop, Deep}
 use Rattle.wu_tree.specs.declared.events.Refusal.TheVariants.{Kind as OfWrongKind}
@@ -59,24 +59,58 @@ move_rules fs child parent target =
     ∷ (is_directory fs child && is_too_deep fs child parent, Deep)
     ∷ []
 
+abbrev pub mkdir_rules : FileSystem → ℕ → ℕ → List ℕ → List Rule
+mkdir_rules fs ino parent name =
+    place_rules fs parent name ++ (is_there fs ino || is_used fs parent name, Exists) ∷ (nat_le 255 (depth fs.links parent), Deep) ∷ []
+
+abbrev pub create_rules : FileSystem → ℕ → ℕ → List ℕ → List Rule
+create_rules fs ino parent name = place_rules fs parent name ++ (is_there fs ino || is_used fs parent name, Exists) ∷ []
+
+abbrev pub text_rules : FileSystem → ℕ → List Rule
+text_rules fs ino = (not (is_there fs ino), NoSuch) ∷ (is_directory fs ino, OfWrongKind) ∷ []
+
+abbrev pub link_rules : FileSystem → ℕ → ℕ → List ℕ → List Rule
+link_rules fs ino parent name =
+    (not (is_name name), BadName)
+    ∷ (not (is_there fs ino) || not (is_there fs parent), NoSuch)
+    ∷ (is_directory fs ino || is_file fs parent, OfWrongKind)
+    ∷ (is_used fs parent name, Exists)
+    ∷ []
+
+abbrev pub unlink_rules : FileSystem → ℕ → List ℕ → List Rule
+unlink_rules fs parent name =
+    place_rules fs parent name ++ (not (is_used fs parent name), NoSuch) ∷ (is_directory fs (named_by fs parent name), OfWrongKind) ∷ []
+
+abbrev pub rmdir_rules : FileSystem → ℕ → List ℕ → List Rule
+rmdir_rules fs parent name =
+    place_rules fs parent name
+    ++ (not (is_used fs parent name), NoSuch)
+    ∷ (is_file fs (named_by fs parent name), OfWrongKind)
+    ∷ (has_entries fs.links (named_by fs parent name), NotEmpty)
+    ∷ []
+
+abbrev pub rename_rules : FileSystem → ℕ → List ℕ → ℕ → List ℕ → List Rule
+rename_rules fs parent name new_parent new_name =
+    (not (is_name name) || not (is_name new_name), BadName)
+    ∷ (not (is_there fs parent) || not (is_there fs new_parent), NoSuch)
+    ∷ (is_file fs parent || is_file fs new_parent, OfWrongKind)
+    ∷ (not (is_used fs parent name), NoSuch)
+    ∷ cond (named_by fs new_parent new_name == named_by fs parent name) [] (move_rules fs (named_by fs parent name) new_parent (named_by fs new_parent new_name))
+
+abbrev pub absent_rules : FileSystem → ℕ → List Rule
+absent_rules fs ino = (not (is_there fs ino), NoSuch) ∷ []
+
+-- why an event is refused, or None where it is accepted
 abbrev pub refusal_of : FileSystem → Event → Option Refusal
 refusal_of fs (User uid groups) = None
-refusal_of fs (Mkdir ino parent name perm) =
-    first_of (place_rules fs parent name ++ (is_there fs ino || is_used fs parent name, Exists) ∷ (nat_le 255 (depth fs.links parent), Deep) ∷ [])
-refusal_of fs (Create ino parent name perm) = first_of (place_rules fs parent name ++ (is_there fs ino || is_used fs parent name, Exists) ∷ [])
-refusal_of fs (Text ino) = first_of ((not (is_there fs ino), NoSuch) ∷ (is_directory fs ino, OfWrongKind) ∷ [])
-refusal_of fs (Link ino parent name) =
-    first_of ((not (is_name name), BadName) ∷ (not (is_there fs ino) || not (is_there fs parent), NoSuch) ∷ (is_directory fs ino || is_file fs parent, OfWrongKind) ∷ (is_used fs parent name, Exists) ∷ [])
-refusal_of fs (Unlink parent name) =
-    first_of (place_rules fs parent name ++ (not (is_used fs parent name), NoSuch) ∷ (is_directory fs (named_by fs parent name), OfWrongKind) ∷ [])
-refusal_of fs (Rmdir parent name) =
-    first_of (place_rules fs parent name ++ (not (is_used fs parent name), NoSuch) ∷ (is_file fs (named_by fs parent name), OfWrongKind) ∷ (has_entries fs.links (named_by fs parent name), NotEmpty) ∷ [])
-refusal_of fs (Rename parent name new_parent new_name) =
-    first_of ((not (is_name name) || not (is_name new_name), BadName) ∷ (not (is_there fs parent) || not (is_there fs new_parent), NoSuch)
-    ∷ (is_file fs parent || is_file fs new_parent, OfWrongKind) ∷ (not (is_used fs parent name), NoSuch)
-    ∷ cond (named_by fs new_parent new_name == named_by fs parent name) [] (move_rules fs (named_by fs parent name) new_parent (named_by fs new_parent new_name)))
-refusal_of fs (Chmod ino mode) = first_of ((not (is_there fs ino), NoSuch) ∷ [])
-refusal_of fs (Chown ino uid gid) = first_of ((not (is_there fs ino), NoSuch) ∷ [])
+refusal_of fs (Mkdir ino parent name perm) = first_of (mkdir_rules fs ino parent name)
+refusal_of fs (Create ino parent name perm) = first_of (create_rules fs ino parent name)
+refusal_of fs (Text ino) = first_of (text_rules fs ino)
+refusal_of fs (Link ino parent name) = first_of (link_rules fs ino parent name)
+refusal_of fs (Unlink parent name) = first_of (unlink_rules fs parent name)
+refusal_of fs (Rmdir parent name) = first_of (rmdir_rules fs parent name)
+refusal_of fs (Chmod ino mode) = first_of (absent_rules fs ino)
+refusal_of fs (Chown ino uid gid) = first_of (absent_rules fs ino)
 
 -- ---- changes
 
@@ -129,9 +163,6 @@ next fs (Text ino) = fs
 next fs (Link ino parent name) = with_link fs ino parent name
 next fs (Unlink parent name) = without_link fs parent name
 next fs (Rmdir parent name) = without_link fs parent name
-next fs (Rename parent name new_parent new_name) =
-    cond (named_by fs new_parent new_name == named_by fs parent name) fs
-    (with_link_moved (cond (is_used fs new_parent new_name) (without_link fs new_parent new_name) fs) parent name new_parent new_name (named_by fs parent name))
 next fs (Chmod ino mode) = with_perm (λ perm. record perm { mode = mode }) fs ino (node_of fs ino)
 next fs (Chown ino uid gid) = with_perm (λ perm. record perm { uid = uid; gid = gid }) fs ino (node_of fs ino)
 
@@ -152,8 +183,6 @@ effect_of fs (Text ino) = record no_effect { texted = Some ino }
 effect_of fs (Link ino parent name) = no_effect
 effect_of fs (Unlink parent name) = record no_effect { dropped = dropped_at fs parent name }
 effect_of fs (Rmdir parent name) = no_effect
-effect_of fs (Rename parent name new_parent new_name) =
-    cond (named_by fs new_parent new_name == named_by fs parent name) no_effect (record no_effect { dropped = dropped_at fs new_parent new_name })
 effect_of fs (Chmod ino mode) = no_effect
 effect_of fs (Chown ino uid gid) = no_effect
 
@@ -181,6 +210,5 @@ IsEvent (Text ino) = Unit {0}
 IsEvent (Link ino parent name) = Unit {0}
 IsEvent (Unlink parent name) = Unit {0}
 IsEvent (Rmdir parent name) = Unit {0}
-IsEvent (Rename parent name new_parent new_name) = Unit {0}
 IsEvent (Chmod ino mode) = mode ≤ 0xFFF
 IsEvent (Chown ino uid gid) = Unit {0}

@@ -7,6 +7,7 @@ mod events;
 mod inodes;
 mod links;
 mod names;
+mod refusals;
 mod trees;
 
 pub use events::{Effect, Event, Kind, LinkRec, Node, Refusal};

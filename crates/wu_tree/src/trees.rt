@@ -37,7 +37,7 @@ impl Model for Tree {
 }
 
 impl Tree {
-    ghost use Rattle.wu_tree.specs.FileSystems.{FileSystem, child_of, depth as depth_of, entries_of, file_count as count_of_files, groups_of, is_directory, is_kind_file, node_of, parent_of, root_alone};
+    ghost use Rattle.wu_tree.specs.FileSystems.{FileSystem, child_of, depth as depth_of, entries_of, file_count as count_of_files, groups_of, has_entries, is_directory, is_kind_file, node_of, parent_of, root_alone};
     ghost use Rattle.wu_tree.specs.Rules.{IsTree};
 
     /// The root directory alone, with owner 0, group 0 and mode 755, and no users. The tree keeps the
@@ -132,5 +132,29 @@ impl Tree {
             Some(inode) => inode.hold.parent(),
             None => None,
         }
+    }
+
+    /// Whether the directory has entries.
+    pub(crate) fn has_entries(&self, directory: Ino) -> bool
+        ensures { result ≡ has_entries self.now.links directory }
+    {
+        self.links.has_entries(directory)
+    }
+
+    /// How deep a directory lies, where the root has depth 1.
+    pub(crate) fn depth(&self, directory: Ino) -> usize
+        requires { is_directory self.now directory ≡ true }
+        ensures { result ≡ depth_of self.now.links directory }
+    {
+        let mut depth = 1;
+        let mut current = directory;
+        while current != ROOT {
+            match self.parent(current) {
+                Some(parent) => current = parent,
+                None => return depth,
+            }
+            depth += 1;
+        }
+        depth
     }
 }
