@@ -1,6 +1,6 @@
 -- What a change of the links leaves true of the nodes that it doesn't touch.
 use Rattle.std.proofs.Common.{◌≡◌, ◌≢◌, ℕ, zero, suc, ◌+◌, ◌-◌, ◌<◌, ◌≤◌, List, [], ◌∷◌, length, refl, ap, sym, ◌∙◌, subst, Bool, true, false, cond, not, ◌||◌, arith, inl, inr, ⊎_elim}
-use Rattle.std.specs.Prelude.{Option, None, Some, is_some, count_by, ◌⊎◌, ◌==◌}
+use Rattle.std.specs.Prelude.{Option, None, Some, is_some, IfSome, count_by, ◌⊎◌, ◌==◌}
 use Rattle.std.specs.Ordering.{is_eq, nat_cmp, match_ordering}
 use Rattle.std.specs.declared.cmp.Ordering.TheVariants.{Less, Equal, Greater}
 use Rattle.std.specs.Cmp.Lexicographic.{slice_cmp}
@@ -216,3 +216,37 @@ linked fs (l ∷ links) x a h =
 -- a leaf has no link below it
 pub leaf_links : (fs : FileSystem) → IsTree fs → (x : ℕ) → IsLeaf fs x → AllByRecursion (λ l. l.0.0 ≢ x) fs.links
 leaf_links fs t x h = ⊎_elim (λ e. absent_directory fs fs.links t.links x e) (λ e. no_entries fs.links x e) h
+
+-- ---- a climb to the root, where m directories are left at most
+abbrev pub has_root : List ℕ → Bool
+has_root path = list_any (λ ino. ino == 1) path
+
+pub climb : (links : List Link) (m d parent : ℕ) → has_root (ancestors links m d) ≡ true → d ≢ 1 → parent_of links d ≡ Some parent
+  → (length (ancestors links m d) ≡ length (ancestors links (m - 1) parent) + 1) × (has_root (ancestors links (m - 1) parent) ≡ true)
+unfolding ancestors
+climb links zero d parent h r p = absurd cc
+climb links (suc n) d parent h r p =
+    let e : n ≡ suc n - 1 = omega arith in
+    let a : ancestors links (suc n) d ≡ d ∷ ancestors links n parent = rw (ne_eqb d 1 r, p) refl in
+    let g : has_root (ancestors links n parent) ≡ true = rw (ne_eqb d 1 r, p) at h in
+    subst (λ (k : ℕ). (length (ancestors links (suc n) d) ≡ length (ancestors links k parent) + 1) × (has_root (ancestors links k parent) ≡ true)) e (ap length a ∙ omega arith, g)
+
+pub climb_ends : (links : List Link) (m d : ℕ) → has_root (ancestors links m d) ≡ true → parent_of links d ≡ None → length (ancestors links m d) ≡ 1
+unfolding ancestors
+climb_ends links zero d h p = absurd cc
+climb_ends links (suc n) d h p = rw p (elim (d == 1) as (λ b. length (d ∷ cond b [] (above (ancestors links n) None)) ≡ 1) [ true ↦ refl | false ↦ refl ])
+
+pub climb_at_root : (links : List Link) (m : ℕ) → has_root (ancestors links m 1) ≡ true → length (ancestors links m 1) ≡ 1
+unfolding ancestors
+climb_at_root links zero h = absurd cc
+climb_at_root links (suc n) h = refl
+
+pub climb_low : (links : List Link) (m d : ℕ) → has_root (ancestors links m d) ≡ true → 1 ≤ m
+unfolding ancestors
+climb_low links zero d h = absurd cc
+climb_low links (suc n) d h = omega arith
+
+-- a parent is a directory
+pub parent_directory : (fs : FileSystem) (links : List Link) → AllByRecursion (IsLink fs) links → (d : ℕ) → IfSome (parent_of links d) (λ p. is_directory fs p ≡ true)
+parent_directory fs [] a d = tt
+parent_directory fs (l ∷ links) a d = elim (l.1 == d) as (λ b. IfSome (cond b (Some l.0.0) (parent_of links d)) (λ p. is_directory fs p ≡ true)) [ true ↦ a.0.parent | false ↦ parent_directory fs links a.1 d ]

@@ -126,7 +126,8 @@ impl Tree {
     fn parent(&self, directory: Ino) -> Option<Ino>
         requires found { is_directory self.now directory ≡ true }
         requires below { directory ≢ 1 }
-        ensures { result ≡ parent_of self.now.links directory }
+        ensures parent { result ≡ parent_of self.now.links directory }
+        ensures directory { IfSome result (λ parent. is_directory self.now parent ≡ true) }
     {
         match self.inodes.get(&directory) {
             Some(inode) => inode.hold.parent(),
@@ -146,6 +147,7 @@ impl Tree {
         requires { is_directory self.now directory ≡ true }
         ensures { result ≡ depth_of self.now.links directory }
     {
+        self.keeps_the_rules();
         let mut depth = 1;
         let mut current = directory;
         while current != ROOT {
