@@ -8,6 +8,7 @@ mod inodes;
 mod links;
 mod names;
 mod refusals;
+mod steps;
 mod trees;
 
 pub use events::{Effect, Event, Kind, LinkRec, Node, Refusal};

@@ -54,7 +54,7 @@ impl Tree {
         self.node(ino).is_some()
     }
 
-    fn is_file(&self, ino: Ino) -> bool
+    pub(crate) fn is_file(&self, ino: Ino) -> bool
         ensures { result ≡ is_file self.now ino }
     {
         match self.node(ino) {

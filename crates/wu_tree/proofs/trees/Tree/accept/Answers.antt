@@ -1,0 +1,11 @@
+use Rattle.std.proofs.Common.{◌≡◌, ◌∙◌, sym}
+use Rattle.wu_tree.proofs.trees.Tree.accept.Goals as goal
+
+pub returns-in-Unlink-clause-effect : goal.returns-in-Unlink-clause-effect
+returns-in-Unlink-clause-effect c = rw (c.in-Unlink.is, ← c.as_slice-in-Unlink.ensures) c.unlink.ensures.effect
+
+pub returns-in-Unlink-clause-next : goal.returns-in-Unlink-clause-next
+returns-in-Unlink-clause-next c = rw (c.in-Unlink.is, ← c.as_slice-in-Unlink.ensures) c.unlink.ensures.next
+
+pub returns-in-Rmdir-clause-next : goal.returns-in-Rmdir-clause-next
+returns-in-Rmdir-clause-next c = rw (c.in-Rmdir.is, ← c.as_slice-in-Rmdir.ensures) c.rmdir.ensures
