@@ -1,6 +1,6 @@
 -- Looking up, putting and taking out a link, in the maps of names and in the list of the links.
 use Rattle.std.proofs.Common.{◌≡◌, ℕ, List, [], ◌∷◌, ◌++◌, refl, ap, sym, ◌∙◌, subst, Bool, true, false, cond, not, ◌||◌, arith, length, eqb}
-use Rattle.std.specs.Prelude.{◌↔◌, IsTrue, Option, None, Some, IsSome, is_some, ◌==◌}
+use Rattle.std.specs.Prelude.{◌↔◌, IsTrue, Option, None, Some, IsSome, is_some, map, ◌==◌}
 use Rattle.std.specs.declared.cmp.Ordering.{Ordering}
 use Rattle.std.specs.declared.cmp.Ordering.TheVariants.{Less, Equal, Greater}
 use Rattle.std.specs.Ordering.{nat_cmp, is_eq, eq_by_cmp, ordering_then, match_ordering}
@@ -15,7 +15,7 @@ use Rattle.std.proofs.lemmas.Map.Entries.{none_past_head, none_below_head}
 use Rattle.std.proofs.lemmas.Map.Keys.{sorted_head, sorted_tail, IsDistinct-from_sorted}
 use Rattle.std.proofs.lemmas.Map.Lookups.{exact_unsigned}
 use borrow.Author.Tests.{eqb-true, eq-eqb, ne_eqb}
-use Rattle.wu_tree.specs.FileSystems.{Place, Link, place_cmp, has_entries}
+use Rattle.wu_tree.specs.FileSystems.{Place, Link, place_cmp, has_entries, entries_of}
 use Rattle.wu_tree.specs.Nested.{links_at, links_in}
 
 -- the test of a place
@@ -114,6 +114,40 @@ module _ {K : Type 0} (bytes : K → List ℕ) where
             let same : e.1 ≡ m = cc in
             any_here d e.0 (is_equal _ p) e.1.entries _ (any_no d ds (past d e ds s p)) ∙ ap (λ (v : BTreeMap K ℕ). not (eqb (length v.entries) 0)) same
         | false ↦ λ p q. any_skip d e.0 p e.1.entries _ ∙ any_some d ds m (sorted_tail nat_cmp _ _ s) q
+      ] refl h
+
+  -- ---- the entries of a directory
+  abbrev pub named_in : List (K × ℕ) → List (List ℕ × ℕ)
+  named_in es = map (λ e. (bytes e.0, e.1)) es
+
+  entries_skip : (d e : ℕ) → is_eq (nat_cmp d e) ≡ false → (es : List (K × ℕ)) (rest : List Link)
+    → entries_of (links_at bytes e es ++ rest) d ≡ entries_of rest d
+  entries_skip d e h [] rest = refl
+  entries_skip d e h (x ∷ es) rest = rw (apart d e h) (entries_skip d e h es rest)
+
+  entries_no : (d : ℕ) (ds : Maps) → NonePasses (is_at (nat_cmp d)) ds → entries_of (links_in bytes ds) d ≡ []
+  entries_no d [] h = refl
+  entries_no d (e ∷ ds) h = entries_skip d e.0 h.0 e.1.entries (links_in bytes ds) ∙ entries_no d ds h.1
+
+  pub entries_none : (d : ℕ) (ds : Maps) → lookup (is_at (nat_cmp d)) ds ≡ None → entries_of (links_in bytes ds) d ≡ []
+  entries_none d ds h = entries_no d ds (none_passes_from_lookup _ ds h)
+
+  entries_here : (d e : ℕ) → nat_cmp d e ≡ Equal → (es : List (K × ℕ)) (rest : List Link)
+    → entries_of rest d ≡ [] → entries_of (links_at bytes e es ++ rest) d ≡ named_in es
+  entries_here d e h [] rest r = r
+  entries_here d e h (x ∷ es) rest r =
+      let same : e ≡ d = sym (exact_unsigned d e h) in rw (eq-eqb e d same) (ap (λ (v : List (List ℕ × ℕ)). (bytes x.0, x.1) ∷ v) (entries_here d e h es rest r))
+
+  pub entries_some : (d : ℕ) (ds : Maps) (m : BTreeMap K ℕ) → IsStrictlySortedBy nat_cmp (keys_of ds)
+    → lookup (is_at (nat_cmp d)) ds ≡ Some m → entries_of (links_in bytes ds) d ≡ named_in m.entries
+  entries_some d [] m s h = absurd cc
+  entries_some d (e ∷ ds) m s h =
+      elim (is_eq (nat_cmp d e.0)) as (λ b. is_eq (nat_cmp d e.0) ≡ b → cond b (Some e.1) (lookup (is_at (nat_cmp d)) ds) ≡ Some m
+        → entries_of (links_in bytes (e ∷ ds)) d ≡ named_in m.entries) [
+        | true ↦ λ p q.
+            let same : e.1 ≡ m = cc in
+            entries_here d e.0 (is_equal _ p) e.1.entries _ (entries_no d ds (past d e ds s p)) ∙ ap (λ (v : BTreeMap K ℕ). named_in v.entries) same
+        | false ↦ λ p q. entries_skip d e.0 p e.1.entries _ ∙ entries_some d ds m (sorted_tail nat_cmp _ _ s) q
       ] refl h
 
   -- ---- taking out

@@ -14,3 +14,6 @@ mod trees;
 pub use events::{Effect, Event, Kind, LinkRec, Node, Refusal};
 pub use names::is_name;
 pub use trees::Tree;
+
+#[cfg(test)]
+mod tests;

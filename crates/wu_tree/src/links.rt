@@ -1,8 +1,8 @@
 //! The links of a tree: in each directory the names and what they name.
-ghost use Rattle.std.specs.Prelude.{◌≡◌, [], true, false, OnOk, OnErr};
+ghost use Rattle.std.specs.Prelude.{◌≡◌, [], true, false, map, MatchOption, OnOk, OnErr};
 ghost use Rattle.std.specs.Map.{lookup, remove_entry};
 ghost use Rattle.std.specs.BTreeMap.{is_at, insert_entry};
-ghost use Rattle.wu_tree.specs.FileSystems.{place_cmp, has_entries};
+ghost use Rattle.wu_tree.specs.FileSystems.{entries_of, place_cmp, has_entries};
 
 use std::alloc::Global;
 use std::collections::BTreeMap;
@@ -45,6 +45,16 @@ impl Links {
     {
         match self.directories.get(&directory) {
             Some(names) => names.get(name).copied(),
+            None => None,
+        }
+    }
+
+    /// The names in a directory and what they name, or None where it has no entries. Takes no memory.
+    pub(crate) fn names(&self, directory: Ino) -> Option<&BTreeMap<Vec<u8>, Ino>>
+        ensures { MatchOption result (entries_of self.now directory ≡ []) (λ names. map (λ e. (e.0.items, e.1)) names.now.entries ≡ entries_of self.now directory) }
+    {
+        match self.directories.get(&directory) {
+            Some(names) => Some(names),
             None => None,
         }
     }

@@ -1,5 +1,5 @@
 //! A tree, and what it tells.
-ghost use Rattle.std.specs.Prelude.{◌≡◌, ◌≢◌, true, IfOk, IfSome, ◌≤◌, slice_get};
+ghost use Rattle.std.specs.Prelude.{◌≡◌, ◌≢◌, true, IfOk, IfSome, ◌≤◌, [], map, MatchOption, slice_get};
 ghost use Rattle.std.specs.Option.{option_map};
 
 use crate::events::Node;
@@ -79,6 +79,28 @@ impl Tree {
         ensures { result ≡ child_of self.now dir name.now }
     {
         self.links.child(dir, name)
+    }
+
+    /// A directory's names with what they name, as a map, or None where there are none. Who walks a whole
+    /// tree goes through each of these maps once, in time that grows with the links. Takes no memory.
+    pub fn entries(&self, dir: Ino) -> Option<&BTreeMap<Vec<u8>, Ino>>
+        ensures { MatchOption result (entries_of self.now.links dir ≡ []) (λ names. map (λ e. (e.0.items, e.1)) names.now.entries ≡ entries_of self.now.links dir) }
+    {
+        self.links.names(dir)
+    }
+
+    /// The `i`-th name in a directory, counted from 0, in byte order, with what it names. Takes no memory,
+    /// and time that grows with `i`.
+    pub fn entry(&self, dir: Ino, i: usize) -> Option<(&[u8], Ino)>
+        ensures { option_map (λ entry. (entry.0.now, entry.1)) result ≡ slice_get (entries_of self.now.links dir) i }
+    {
+        match self.entries(dir) {
+            Some(names) => match names.iter().nth(i) {
+                Some((name, child)) => Some((name.as_slice(), *child)),
+                None => None,
+            },
+            None => None,
+        }
     }
 
     /// The `i`-th node, counted from 0, in order of number. Takes no memory, and time that grows with `i`.
