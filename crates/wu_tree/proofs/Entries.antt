@@ -11,8 +11,8 @@ use Rattle.std.specs.Map.{keys_of, lookup, remove_entry, set_value}
 use Rattle.std.specs.BTreeMap.{is_at, insert_entry}
 use Rattle.std.proofs.lemmas.Cmp.{alike_right, tied_back}
 use Rattle.std.proofs.lemmas.Map.{NonePasses}
-use Rattle.std.proofs.lemmas.Map.Entries.{none_past_head}
-use Rattle.std.proofs.lemmas.Map.Keys.{sorted_tail, IsDistinct-from_sorted}
+use Rattle.std.proofs.lemmas.Map.Entries.{none_past_head, none_below_head}
+use Rattle.std.proofs.lemmas.Map.Keys.{sorted_head, sorted_tail, IsDistinct-from_sorted}
 use Rattle.std.proofs.lemmas.Map.Lookups.{exact_unsigned}
 use Rattle.std.proofs.lemmas.List.Sums.{sum_by-cons}
 
@@ -251,4 +251,44 @@ module _ {X : Type 0} where
             (subst (λ x. P (x, v)) (exact_unsigned k e.0 (is_equal _ q)) p,
             All-map2 (λ f. is_eq (nat_cmp k f.0) ≡ false → P f) (λ f. is_eq (nat_cmp k f.0) ≡ false) P es (λ f n g. g n) (none_past_head (eq_by_cmp_equiv nat_cmp_total) k e es (IsDistinct-from_sorted nat_cmp _ s) q) a.1)
         | false ↦ λ q. (a.0 q, All-set_number P k es v (sorted_tail nat_cmp _ _ s) a.1 p)
+      ] refl
+
+-- ---- one entry put in and another taken out
+module _ {K X : Type 0} {R : K → K → Ordering} (o : IsTotalOrder R) (exact : (x y : K) → R x y ≡ Equal → x ≡ y) where
+  remove_none : (t : K → Bool) (es : List (K × X)) → NonePasses t es → remove_entry t es ≡ es
+  remove_none t [] n = refl
+  remove_none t (e ∷ es) n = rw n.0 (ap (λ (l : List (K × X)). e ∷ l) (remove_none t es n.1))
+
+  insert_first : (es : List (K × X)) (k : K) (v : X) → AllByRecursion (λ y. R k y ≡ Less) (keys_of es) → insert_entry R es k v ≡ (k, v) ∷ es
+  insert_first [] k v a = refl
+  insert_first (e ∷ es) k v a = rw a.0 refl
+
+  above_head : (k : K) (e : K × X) (es : List (K × X)) → IsStrictlySortedBy R (keys_of (e ∷ es)) → R k e.0 ≡ Equal → AllByRecursion (λ y. R k y ≡ Less) (keys_of es)
+  above_head k e es s h = subst (λ x. AllByRecursion (λ y. R x y ≡ Less) (keys_of es)) (sym (exact k e.0 h)) (sorted_head R _ _ s)
+
+  pub insert-remove_same : (es : List (K × X)) (k : K) (v : X) → IsStrictlySortedBy R (keys_of es) → insert_entry R (remove_entry (is_at (R k)) es) k v ≡ insert_entry R es k v
+  insert-remove_same [] k v s = refl
+  insert-remove_same (e ∷ es) k v s =
+      elim (R k e.0) as (λ r. R k e.0 ≡ r → insert_entry R (cond (is_eq r) es (e ∷ remove_entry (is_at (R k)) es)) k v ≡ match_ordering r ((k, v) ∷ e ∷ es) ((e.0, v) ∷ es) (e ∷ insert_entry R es k v)) [
+        | Less ↦ λ p. rw p (ap (λ (l : List (K × X)). (k, v) ∷ e ∷ l) (remove_none (is_at (R k)) es (none_below_head o k e es s p).1))
+        | Equal ↦ λ p. insert_first es k v (above_head k e es s p) ∙ ap (λ (x : K). (x, v) ∷ es) (exact k e.0 p)
+        | Greater ↦ λ p. rw p (ap (λ (l : List (K × X)). e ∷ l) (insert-remove_same es k v (sorted_tail R _ _ s)))
+      ] refl
+
+  keys_left : (Q : K → Type 0) (t : K → Bool) (es : List (K × X)) → AllByRecursion Q (keys_of es) → AllByRecursion Q (keys_of (remove_entry t es))
+  keys_left Q t [] a = a
+  keys_left Q t (e ∷ es) a = elim (t e.0) as (λ b. AllByRecursion Q (keys_of (cond b es (e ∷ remove_entry t es)))) [ true ↦ a.1 | false ↦ (a.0, keys_left Q t es a.1) ]
+
+  pub remove-insert_apart : (t : K → Bool) (es : List (K × X)) (k : K) (v : X) → ((x : K) → R k x ≡ Equal → t x ≡ false) → t k ≡ false → IsStrictlySortedBy R (keys_of es)
+    → remove_entry t (insert_entry R es k v) ≡ insert_entry R (remove_entry t es) k v
+  remove-insert_apart t [] k v h g s = rw g refl
+  remove-insert_apart t (e ∷ es) k v h g s =
+      elim (R k e.0) as (λ r. R k e.0 ≡ r → remove_entry t (match_ordering r ((k, v) ∷ e ∷ es) ((e.0, v) ∷ es) (e ∷ insert_entry R es k v)) ≡ insert_entry R (remove_entry t (e ∷ es)) k v) [
+        | Less ↦ λ p. rw g (sym (insert_first (remove_entry t (e ∷ es)) k v (keys_left (λ y. R k y ≡ Less) t (e ∷ es) (p, all_above o k e.0 (keys_of es) p (sorted_head R _ _ s)))))
+        | Equal ↦ λ p. rw (h e.0 p, p) refl
+        | Greater ↦ λ p.
+            elim (t e.0) as (λ b. cond b (insert_entry R es k v) (e ∷ remove_entry t (insert_entry R es k v)) ≡ insert_entry R (cond b es (e ∷ remove_entry t es)) k v) [
+              | true ↦ refl
+              | false ↦ rw p (ap (λ (l : List (K × X)). e ∷ l) (remove-insert_apart t es k v h g (sorted_tail R _ _ s)))
+            ]
       ] refl

@@ -55,7 +55,7 @@ cond_none : {T : Type 0} (b : Bool) (x : T) (o : Option T) → cond b (Some x) o
 cond_none true x o h = absurd cc
 cond_none false x o h = (refl, h)
 
-parent-insert_other : (links : List Link) (k : Place) (v q : ℕ) → NonePasses (is_at (place_cmp k)) links → q ≢ v → parent_of (insert_entry place_cmp links k v) q ≡ parent_of links q
+pub parent-insert_other : (links : List Link) (k : Place) (v q : ℕ) → NonePasses (is_at (place_cmp k)) links → q ≢ v → parent_of (insert_entry place_cmp links k v) q ≡ parent_of links q
 parent-insert_other [] k v q n h = rw (ne_eqb v q (λ e. h (sym e))) refl
 parent-insert_other (l ∷ links) k v q n h =
     elim (place_cmp k l.0) as (λ o. place_cmp k l.0 ≡ o → parent_of (match_ordering o ((k, v) ∷ l ∷ links) ((l.0, v) ∷ links) (l ∷ insert_entry place_cmp links k v)) q
@@ -65,7 +65,7 @@ parent-insert_other (l ∷ links) k v q n h =
       | Greater ↦ λ p. ap (λ (o : Option ℕ). cond (l.1 == q) (Some l.0.0) o) (parent-insert_other links k v q n.1 h)
     ] refl
 
-parent-remove_other : (t : Place → Bool) (links : List Link) (v q : ℕ) → lookup t links ≡ Some v → q ≢ v → parent_of (remove_entry t links) q ≡ parent_of links q
+pub parent-remove_other : (t : Place → Bool) (links : List Link) (v q : ℕ) → lookup t links ≡ Some v → q ≢ v → parent_of (remove_entry t links) q ≡ parent_of links q
 parent-remove_other t [] v q f h = refl
 parent-remove_other t (l ∷ links) v q f h =
     elim (t l.0) as (λ b. cond b (Some l.1) (lookup t links) ≡ Some v → parent_of (cond b links (l ∷ remove_entry t links)) q ≡ parent_of (l ∷ links) q) [

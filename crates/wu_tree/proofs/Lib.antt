@@ -6,3 +6,4 @@ pub mod NewLinks
 pub mod Drops
 pub mod Perms
 pub mod Sound
+pub mod Moves

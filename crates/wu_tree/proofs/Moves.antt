@@ -1,0 +1,191 @@
+-- A link that moves to a free place leaves a tree, where no directory comes to lie below itself or too deep.
+use Rattle.std.proofs.Common.{◌≡◌, ◌≢◌, ℕ, zero, suc, ◌+◌, ◌-◌, ◌<◌, ◌≤◌, List, [], ◌∷◌, length, refl, ap, sym, ◌∙◌, subst, Bool, true, false, cond, not, ◌||◌, arith, inl, inr, ⊎_elim}
+use Rattle.std.specs.Prelude.{Option, None, Some, is_some, ◌⊎◌, ◌==◌}
+use Rattle.std.specs.Ordering.{is_eq, nat_cmp}
+use Rattle.std.specs.List.{AllByRecursion, list_any}
+use Rattle.std.specs.Map.{lookup, remove_entry}
+use Rattle.std.specs.BTreeMap.{is_at, insert_entry}
+use Rattle.std.proofs.lemmas.Map.{NonePasses, none_passes_from_lookup}
+use borrow.Author.Tests.{eqb-true, eqb-false, eq-eqb, ne_eqb}
+use Rattle.wu_tree.specs.declared.events.Kind.{Kind}
+use Rattle.wu_tree.specs.declared.events.Kind.TheVariants.{Directory, File}
+use Rattle.wu_tree.specs.declared.events.Node.{Node}
+use Rattle.wu_tree.specs.FileSystems.{FileSystem, Link, place_cmp, is_name, is_directory, is_kind_file, is_there, node_of, child_of, is_within, link_count, parent_of, ancestors, above, path_up, depth}
+use Rattle.wu_tree.specs.Rules.{IsLink, Hangs, IsTree}
+use Rattle.wu_tree.proofs.Entries.{All-found, All-map, All-map2, All-insert_entry, All-remove_entry, ascend-insert_entry, ascend-remove_entry, counted-insert_entry, counted-remove_entry}
+use Rattle.wu_tree.proofs.Keeps.{place_total, place_exact, has_root, path_is, reached, none_counted, no_parent, parent_found, parent-insert_other, parent-insert_new, parent-remove_other}
+
+-- whether a way up goes through c, and after how many steps
+abbrev pub through : ℕ → List ℕ → Bool
+through c path = list_any (λ ino. ino == c) path
+
+abbrev pub steps_to : ℕ → List ℕ → ℕ
+steps_to c [] = 0
+steps_to c (x ∷ path) = cond (x == c) 0 (suc (steps_to c path))
+
+-- two climbs to the root are the same
+same_climb : (links : List Link) (m k q : ℕ) → has_root (ancestors links m q) ≡ true → has_root (ancestors links k q) ≡ true → ancestors links m q ≡ ancestors links k q
+unfolding ancestors
+same_climb links zero k q a b = absurd cc
+same_climb links (suc m) zero q a b = absurd cc
+same_climb links (suc m) (suc k) q a b =
+    elim (q == 1) as (λ v. (v || has_root (cond v [] (above (ancestors links m) (parent_of links q)))) ≡ true → (v || has_root (cond v [] (above (ancestors links k) (parent_of links q)))) ≡ true
+      → q ∷ cond v [] (above (ancestors links m) (parent_of links q)) ≡ q ∷ cond v [] (above (ancestors links k) (parent_of links q))) [
+      | true ↦ λ x y. refl
+      | false ↦ λ x y. ap (λ (l : List ℕ). q ∷ l)
+        (elim (parent_of links q) as (λ o. has_root (above (ancestors links m) o) ≡ true → has_root (above (ancestors links k) o) ≡ true → above (ancestors links m) o ≡ above (ancestors links k) o) [
+          | None ↦ λ x y. refl
+          | Some parent ↦ λ x y. same_climb links m k parent x y
+        ] x y)
+    ] a b
+
+-- a climb that k steps are enough for
+stable : (links : List Link) (m k q : ℕ) → has_root (ancestors links m q) ≡ true → length (ancestors links m q) ≤ k → has_root (ancestors links k q) ≡ true
+unfolding ancestors
+stable links zero k q a b = absurd cc
+stable links (suc m) zero q a b = absurd (omega arith)
+stable links (suc m) (suc k) q a b =
+    elim (q == 1) as (λ v. (v || has_root (cond v [] (above (ancestors links m) (parent_of links q)))) ≡ true → length (cond v [] (above (ancestors links m) (parent_of links q))) ≤ k
+      → (v || has_root (cond v [] (above (ancestors links k) (parent_of links q)))) ≡ true) [
+      | true ↦ λ x y. refl
+      | false ↦ λ x y.
+        elim (parent_of links q) as (λ o. has_root (above (ancestors links m) o) ≡ true → length (above (ancestors links m) o) ≤ k → has_root (above (ancestors links k) o) ≡ true) [
+          | None ↦ λ x y. absurd cc
+          | Some parent ↦ λ x y. stable links m k parent x y
+        ] x y
+    ] a (omega arith)
+
+-- no way up goes through a node without links below it, but its own
+pub never_through : (links : List Link) (c : ℕ) → AllByRecursion (λ l. l.0.0 ≢ c) links → (m q : ℕ) → q ≢ c → through c (ancestors links m q) ≡ false
+unfolding ancestors
+never_through links c a zero q h = refl
+never_through links c a (suc m) q h =
+    rw (ne_eqb q c h)
+    (elim (q == 1) as (λ v. through c (cond v [] (above (ancestors links m) (parent_of links q))) ≡ false) [
+      | true ↦ refl
+      | false ↦
+        elim (parent_of links q) as (λ o. parent_of links q ≡ o → through c (above (ancestors links m) o) ≡ false) [
+          | None ↦ λ p. refl
+          | Some parent ↦ λ p. never_through links c a m parent (parent_found (λ l. l.0.0 ≢ c) links q parent a p).1
+        ] refl
+    ])
+
+apart_first : (a b : Bool) → (a || b) ≡ false → (a ≡ false) × (b ≡ false)
+apart_first true b h = absurd cc
+apart_first false b h = (refl, h)
+
+first_or : (a b : Bool) → (a || b) ≡ true → a ≡ false → b ≡ true
+first_or true b h e = absurd cc
+first_or false b h e = h
+
+-- the step from a node to its parent
+step_up : (links : List Link) (c m q : ℕ) → (q == c) ≡ false → has_root (ancestors links (suc m) q) ≡ true → through c (ancestors links (suc m) q) ≡ true
+  → (p : ℕ) × (parent_of links q ≡ Some p) × (q ≢ 1) × (has_root (ancestors links m p) ≡ true) × (through c (ancestors links m p) ≡ true) × (ancestors links (suc m) q ≡ q ∷ ancestors links m p)
+unfolding ancestors
+step_up links c m q d a b =
+    elim (q == 1) as (λ v. (q == 1) ≡ v → (v || has_root (cond v [] (above (ancestors links m) (parent_of links q)))) ≡ true → ((q == c) || through c (cond v [] (above (ancestors links m) (parent_of links q)))) ≡ true
+      → (p : ℕ) × (parent_of links q ≡ Some p) × (q ≢ 1) × (has_root (ancestors links m p) ≡ true) × (through c (ancestors links m p) ≡ true) × (q ∷ cond v [] (above (ancestors links m) (parent_of links q)) ≡ q ∷ ancestors links m p)) [
+      | true ↦ λ e x y. absurd (let f : false ≡ true = first_or (q == c) false y d in cc)
+      | false ↦ λ e x y.
+        elim (parent_of links q) as (λ o. has_root (above (ancestors links m) o) ≡ true → through c (above (ancestors links m) o) ≡ true
+          → (p : ℕ) × (o ≡ Some p) × (q ≢ 1) × (has_root (ancestors links m p) ≡ true) × (through c (ancestors links m p) ≡ true) × (q ∷ above (ancestors links m) o ≡ q ∷ ancestors links m p)) [
+          | None ↦ λ f g. absurd cc
+          | Some p ↦ λ f g. (p, refl, eqb-false q 1 e, f, g, refl)
+        ] x (first_or (q == c) _ y d)
+    ] refl a b
+
+no_climb : (links : List Link) (q : ℕ) → has_root (ancestors links zero q) ≡ true → ⊥
+unfolding ancestors
+no_climb links q h = cc
+
+no_steps : (links : List Link) (c m q : ℕ) → (q == c) ≡ true → steps_to c (ancestors links (suc m) q) ≡ 0
+unfolding ancestors
+no_steps links c m q h = rw h refl
+
+-- how many steps a way up takes to c, and how many from there
+steps_and_rest : (links : List Link) (c m k q : ℕ) → has_root (ancestors links m q) ≡ true → through c (ancestors links m q) ≡ true → has_root (ancestors links k c) ≡ true
+  → steps_to c (ancestors links m q) + length (ancestors links k c) ≡ length (ancestors links m q)
+steps_and_rest links c zero k q a b r = absurd (no_climb links q a)
+steps_and_rest links c (suc m) k q a b r =
+    elim (q == c) as (λ v. (q == c) ≡ v → steps_to c (ancestors links (suc m) q) + length (ancestors links k c) ≡ length (ancestors links (suc m) q)) [
+      | true ↦ λ p.
+          let e : q ≡ c = eqb-true q c p in
+          let s : ancestors links k c ≡ ancestors links (suc m) q = same_climb links k (suc m) c r (subst (λ x. has_root (ancestors links (suc m) x) ≡ true) e a) ∙ ap (λ x. ancestors links (suc m) x) (sym e) in
+          let z : steps_to c (ancestors links (suc m) q) ≡ 0 = no_steps links c m q p in
+          omega (arith, ap length s)
+      | false ↦ λ p.
+          let u = step_up links c m q p a b in
+          let z : steps_to c (ancestors links (suc m) q) ≡ suc (steps_to c (ancestors links m u.0)) = ap (steps_to c) u.5 ∙ rw p refl in
+          omega (arith, ap length u.5, steps_and_rest links c m k u.0 u.3 u.4 r)
+    ] refl
+
+one_up : (links : List Link) (k q p : ℕ) → q ≢ 1 → parent_of links q ≡ Some p → has_root (ancestors links k p) ≡ true → has_root (ancestors links (suc k) q) ≡ true
+unfolding ancestors
+one_up links k q p h e r = rw (ne_eqb q 1 h, e) r
+
+module _ (fs : FileSystem) (t : IsTree fs) (parent : ℕ) (name : List ℕ) (new_parent : ℕ) (new_name : List ℕ) (c : ℕ)
+  (found : child_of fs parent name ≡ Some c) (free : child_of fs new_parent new_name ≡ None) where
+  abbrev pub gap : List Link
+  gap = remove_entry (is_at (place_cmp (parent, name))) fs.links
+
+  abbrev pub moved : List Link
+  moved = insert_entry place_cmp gap (new_parent, new_name) c
+
+  no_place : NonePasses (is_at (place_cmp (new_parent, new_name))) gap
+  no_place = All-remove_entry (λ l. is_at (place_cmp (new_parent, new_name)) l.0 ≡ false) (is_at (place_cmp (parent, name))) fs.links (none_passes_from_lookup _ fs.links free)
+
+  pub same_count : (q : ℕ) → link_count moved q ≡ link_count fs.links q
+  same_count q = omega (arith, counted-insert_entry (λ v. v == q) place_cmp gap (new_parent, new_name) c no_place, counted-remove_entry (λ v. v == q) (is_at (place_cmp (parent, name))) fs.links c found)
+
+  pub same_parent : (q : ℕ) → q ≢ c → parent_of moved q ≡ parent_of fs.links q
+  same_parent q h = parent-insert_other gap (new_parent, new_name) c q no_place h ∙ parent-remove_other (is_at (place_cmp (parent, name))) fs.links c q found h
+
+  pub parent_moved : link_count fs.links c ≡ 1 → parent_of moved c ≡ Some new_parent
+  parent_moved one =
+      let h : cond {A = ℕ} (c == c) 1 0 ≡ 1 = rw (eq-eqb c c refl) refl in
+      let z : link_count gap c ≡ 0 = omega (arith, counted-remove_entry (λ v. v == c) (is_at (place_cmp (parent, name))) fs.links c found) in
+      parent-insert_new gap (new_parent, new_name) c no_place (no_parent gap c (none_counted gap c z))
+
+  pub moved_no_root : c ≢ 1
+  moved_no_root = (All-found (IsLink fs) (is_at (place_cmp (parent, name))) fs.links c t.links found).2.no_root
+
+  moved_there : is_there fs c ≡ true
+  moved_there = (All-found (IsLink fs) (is_at (place_cmp (parent, name))) fs.links c t.links found).2.child
+
+  -- a way up that doesn't go through c stays
+  outside : (m q : ℕ) → through c (ancestors fs.links m q) ≡ false → ancestors moved m q ≡ ancestors fs.links m q
+  unfolding ancestors
+  outside zero q h = refl
+  outside (suc m) q h =
+      let d = apart_first (q == c) _ h in
+      rw (same_parent q (eqb-false q c d.0))
+      (elim (q == 1) as (λ v. through c (cond v [] (above (ancestors fs.links m) (parent_of fs.links q))) ≡ false
+        → q ∷ cond v [] (above (ancestors moved m) (parent_of fs.links q)) ≡ q ∷ cond v [] (above (ancestors fs.links m) (parent_of fs.links q))) [
+        | true ↦ λ x. refl
+        | false ↦ λ x. ap (λ (l : List ℕ). q ∷ l)
+          (elim (parent_of fs.links q) as (λ o. through c (above (ancestors fs.links m) o) ≡ false → above (ancestors moved m) o ≡ above (ancestors fs.links m) o) [
+            | None ↦ λ y. refl
+            | Some p ↦ λ y. outside m p y
+          ] x)
+      ] d.1)
+
+  -- a way up through c goes on above the new parent
+  inside : (m k q : ℕ) → link_count fs.links c ≡ 1 → has_root (path_up fs.links new_parent) ≡ true → through c (path_up fs.links new_parent) ≡ false
+    → has_root (ancestors fs.links m q) ≡ true → through c (ancestors fs.links m q) ≡ true → steps_to c (ancestors fs.links m q) + 1 + depth fs.links new_parent ≤ k → has_root (ancestors moved k q) ≡ true
+  inside zero k q one r o a b l = absurd (no_climb fs.links q a)
+  inside (suc m) zero q one r o a b l = absurd (omega arith)
+  inside (suc m) (suc k) q one r o a b l =
+      elim (q == c) as (λ v. (q == c) ≡ v → has_root (ancestors moved (suc k) q) ≡ true) [
+        | true ↦ λ p.
+            let e : q ≡ c = eqb-true q c p in
+            let z : steps_to c (ancestors fs.links (suc m) q) ≡ 0 = no_steps fs.links c m q p in
+            let low : length (ancestors fs.links 255 new_parent) ≤ k = subst (λ (path : List ℕ). length path ≤ k) (path_is fs.links new_parent) (omega arith) in
+            let old : has_root (ancestors fs.links k new_parent) ≡ true = stable fs.links 255 k new_parent (subst (λ (path : List ℕ). has_root path ≡ true) (path_is fs.links new_parent) r) low in
+            let same : ancestors fs.links k new_parent ≡ path_up fs.links new_parent = same_climb fs.links k 255 new_parent old (subst (λ (path : List ℕ). has_root path ≡ true) (path_is fs.links new_parent) r) ∙ sym (path_is fs.links new_parent) in
+            let kept : ancestors moved k new_parent ≡ ancestors fs.links k new_parent = outside k new_parent (ap (through c) same ∙ o) in
+            subst (λ (x : ℕ). has_root (ancestors moved (suc k) x) ≡ true) (sym e) (one_up moved k c new_parent moved_no_root (parent_moved one) (ap has_root kept ∙ old))
+        | false ↦ λ p.
+            let u = step_up fs.links c m q p a b in
+            let z : steps_to c (ancestors fs.links (suc m) q) ≡ suc (steps_to c (ancestors fs.links m u.0)) = ap (steps_to c) u.5 ∙ rw p refl in
+            one_up moved k q u.0 u.2 (same_parent q (eqb-false q c p) ∙ u.1) (inside m k u.0 one r o u.3 u.4 (omega arith))
+      ] refl
