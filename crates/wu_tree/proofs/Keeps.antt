@@ -189,7 +189,7 @@ pub path_of_root : (links : List Link) → path_up links 1 ≡ 1 ∷ []
 unfolding path_up ancestors
 path_of_root links = refl
 
-hung_directory : (links : List Link) (q : ℕ) (k : Kind) → not (is_kind_file k) ≡ true → Hangs links q k → is_within links 1 q ≡ true
+pub hung_directory : (links : List Link) (q : ℕ) (k : Kind) → not (is_kind_file k) ≡ true → Hangs links q k → is_within links 1 q ≡ true
 hung_directory links q Directory h g = ⊎_elim (λ e. subst (λ x. is_within links 1 x ≡ true) (sym e) (rw (path_of_root links) refl)) (λ p. p.1) g
 hung_directory links q File h g = absurd cc
 

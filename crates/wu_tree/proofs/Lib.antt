@@ -7,3 +7,4 @@ pub mod Drops
 pub mod Perms
 pub mod Sound
 pub mod Moves
+pub mod Renames

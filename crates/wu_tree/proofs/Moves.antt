@@ -1,19 +1,20 @@
 -- A link that moves to a free place leaves a tree, where no directory comes to lie below itself or too deep.
-use Rattle.std.proofs.Common.{◌≡◌, ◌≢◌, ℕ, zero, suc, ◌+◌, ◌-◌, ◌<◌, ◌≤◌, List, [], ◌∷◌, length, refl, ap, sym, ◌∙◌, subst, Bool, true, false, cond, not, ◌||◌, arith, inl, inr, ⊎_elim}
-use Rattle.std.specs.Prelude.{Option, None, Some, is_some, ◌⊎◌, ◌==◌}
+use Rattle.std.proofs.Common.{◌≡◌, ◌≢◌, ℕ, zero, suc, ◌+◌, ◌-◌, ◌<◌, ◌≤◌, List, [], ◌∷◌, length, refl, ap, sym, ◌∙◌, subst, Bool, true, false, cond, not, ◌&&◌, ◌||◌, arith, inl, inr, ⊎_elim}
+use Rattle.std.specs.Prelude.{Option, None, Some, is_some, nat_lt, ◌⊎◌, ◌==◌}
 use Rattle.std.specs.Ordering.{is_eq, nat_cmp}
 use Rattle.std.specs.List.{AllByRecursion, list_any}
 use Rattle.std.specs.Map.{lookup, remove_entry}
 use Rattle.std.specs.BTreeMap.{is_at, insert_entry}
 use Rattle.std.proofs.lemmas.Map.{NonePasses, none_passes_from_lookup}
-use borrow.Author.Tests.{eqb-true, eqb-false, eq-eqb, ne_eqb}
+use borrow.Author.Tests.{eqb-true, eqb-false, eq-eqb, ne_eqb, ltb-false}
 use Rattle.wu_tree.specs.declared.events.Kind.{Kind}
 use Rattle.wu_tree.specs.declared.events.Kind.TheVariants.{Directory, File}
 use Rattle.wu_tree.specs.declared.events.Node.{Node}
-use Rattle.wu_tree.specs.FileSystems.{FileSystem, Link, place_cmp, is_name, is_directory, is_kind_file, is_there, node_of, child_of, is_within, link_count, parent_of, ancestors, above, path_up, depth}
+use Rattle.wu_tree.specs.FileSystems.{FileSystem, Link, place_cmp, is_name, is_directory, is_directory_node, is_kind_file, is_there, node_of, child_of, is_within, link_count, parent_of, ancestors, above, path_up, depth}
+use Rattle.wu_tree.specs.Steps.{is_too_deep}
 use Rattle.wu_tree.specs.Rules.{IsLink, Hangs, IsTree}
-use Rattle.wu_tree.proofs.Entries.{All-found, All-map, All-map2, All-insert_entry, All-remove_entry, ascend-insert_entry, ascend-remove_entry, counted-insert_entry, counted-remove_entry}
-use Rattle.wu_tree.proofs.Keeps.{place_total, place_exact, has_root, path_is, reached, none_counted, no_parent, parent_found, parent-insert_other, parent-insert_new, parent-remove_other}
+use Rattle.wu_tree.proofs.Entries.{All-found, All-map, All-map2, All-insert_entry, All-remove_entry, ascend-insert_entry, ascend-remove_entry, counted-insert_entry, counted-remove_entry, all_found}
+use Rattle.wu_tree.proofs.Keeps.{place_total, place_exact, has_root, path_is, reached, hung_directory, absent_directory, none_counted, no_parent, parent_found, parent-insert_other, parent-insert_new, parent-remove_other}
 
 -- whether a way up goes through c, and after how many steps
 abbrev pub through : ℕ → List ℕ → Bool
@@ -189,3 +190,87 @@ module _ (fs : FileSystem) (t : IsTree fs) (parent : ℕ) (name : List ℕ) (new
             let z : steps_to c (ancestors fs.links (suc m) q) ≡ suc (steps_to c (ancestors fs.links m u.0)) = ap (steps_to c) u.5 ∙ rw p refl in
             one_up moved k q u.0 u.2 (same_parent q (eqb-false q c p) ∙ u.1) (inside m k u.0 one r o u.3 u.4 (omega arith))
       ] refl
+
+  -- what is asked of each directory below c: that it doesn't come to lie too deep
+  abbrev pub StaysAbove : ℕ × Node → Type 0
+  StaysAbove e = is_kind_file e.1.kind ≡ false → through c (path_up fs.links e.0) ≡ true → (link_count fs.links c ≡ 1) × (steps_to c (path_up fs.links e.0) + 1 + depth fs.links new_parent ≤ 255)
+
+  root_after : (q : ℕ) → has_root (path_up fs.links new_parent) ≡ true → through c (path_up fs.links new_parent) ≡ false → has_root (path_up fs.links q) ≡ true
+    → (through c (path_up fs.links q) ≡ true → (link_count fs.links c ≡ 1) × (steps_to c (path_up fs.links q) + 1 + depth fs.links new_parent ≤ 255)) → has_root (path_up moved q) ≡ true
+  root_after q r o a above_all =
+      let e : path_up fs.links q ≡ ancestors fs.links 255 q = path_is fs.links q in
+      let old : has_root (ancestors fs.links 255 q) ≡ true = subst (λ (path : List ℕ). has_root path ≡ true) e a in
+      elim (through c (path_up fs.links q)) as (λ v. through c (path_up fs.links q) ≡ v → has_root (path_up moved q) ≡ true) [
+        | true ↦ λ p.
+            let b = above_all p in
+            let low : steps_to c (ancestors fs.links 255 q) + 1 + depth fs.links new_parent ≤ 255 = subst (λ (path : List ℕ). steps_to c path + 1 + depth fs.links new_parent ≤ 255) e b.1 in
+            ap has_root (path_is moved q) ∙ inside 255 255 q b.0 r o old (subst (λ (path : List ℕ). through c path ≡ true) e p) low
+        | false ↦ λ p. ap has_root (path_is moved q) ∙ ap has_root (outside 255 q (subst (λ (path : List ℕ). through c path ≡ false) e p)) ∙ old
+      ] refl
+
+  hangs_moved : (q : ℕ) (k : Kind) → has_root (path_up fs.links new_parent) ≡ true → through c (path_up fs.links new_parent) ≡ false → Hangs fs.links q k
+    → (is_kind_file k ≡ false → through c (path_up fs.links q) ≡ true → (link_count fs.links c ≡ 1) × (steps_to c (path_up fs.links q) + 1 + depth fs.links new_parent ≤ 255)) → Hangs moved q k
+  hangs_moved q Directory r o h a = ⊎_elim (λ e. inl e) (λ p. inr (same_count q ∙ p.0, root_after q r o p.1 (a refl))) h
+  hangs_moved q File r o h a = rw (same_count q) h
+
+  link_moved : is_directory fs new_parent ≡ true → is_name new_name ≡ true → IsLink (record fs { links = moved }) ((new_parent, new_name), c)
+  link_moved directory n = record { parent = directory; child = moved_there; no_root = moved_no_root; name = n }
+
+  pub move_keeps : is_directory fs new_parent ≡ true → is_name new_name ≡ true → through c (path_up fs.links new_parent) ≡ false → AllByRecursion StaysAbove fs.nodes → IsTree (record fs { links = moved })
+  move_keeps directory n o a = record {
+    users_ascend = t.users_ascend;
+    groups_ascend = t.groups_ascend;
+    nodes_ascend = t.nodes_ascend;
+    links_ascend = ascend-insert_entry place_total gap (new_parent, new_name) c (ascend-remove_entry place_cmp (is_at (place_cmp (parent, name))) fs.links t.links_ascend);
+    numbered = t.numbered;
+    root = t.root;
+    links =
+        All-insert_entry (IsLink (record fs { links = moved })) place_cmp gap (new_parent, new_name) c
+        (All-map (IsLink fs) (IsLink (record fs { links = moved })) gap (λ l p. record { parent = p.parent; child = p.child; no_root = p.no_root; name = p.name }) (All-remove_entry (IsLink fs) (is_at (place_cmp (parent, name))) fs.links t.links))
+        (λ q e. subst (λ x. IsLink (record fs { links = moved }) (x, c)) (place_exact (new_parent, new_name) q e) (link_moved directory n))
+        (link_moved directory n);
+    nodes =
+        All-map2 (λ e. Hangs fs.links e.0 e.1.kind) StaysAbove (λ e. Hangs moved e.0 e.1.kind) fs.nodes
+        (λ e b p. hangs_moved e.0 e.1.kind (reached fs t new_parent directory) o p b) a t.nodes;
+  }
+
+-- ---- that no directory comes to lie too deep, from the rule that says so
+none_of_any : {X : Type 0} (p : X → Bool) (xs : List X) → list_any p xs ≡ false → AllByRecursion (λ x. p x ≡ false) xs
+none_of_any p [] h = tt
+none_of_any p (x ∷ xs) h = let d = apart_first (p x) (list_any p xs) h in (d.0, none_of_any p xs d.1)
+
+last_of_three : (a b c : Bool) → (not a && b && c) ≡ false → a ≡ false → b ≡ true → c ≡ false
+last_of_three true b c h e f = absurd cc
+last_of_three false true c h e f = h
+last_of_three false false c h e f = absurd cc
+
+-- the way up of a directory doesn't go through a file
+pub file_path : (fs : FileSystem) → IsTree fs → (c : ℕ) → is_directory fs c ≡ false → (q : ℕ) → is_directory fs q ≡ true → through c (path_up fs.links q) ≡ false
+file_path fs t c d q h =
+    ap (through c) (path_is fs.links q) ∙ never_through fs.links c (absent_directory fs fs.links t.links c d) 255 q (λ e. let g : is_directory fs q ≡ false = subst (λ x. is_directory fs x ≡ false) (sym e) d in absurd (let f : true ≡ false = sym h ∙ g in cc))
+
+module _ (fs : FileSystem) (t : IsTree fs) (c new_parent : ℕ) where
+  -- below a directory
+  pub stays_above : link_count fs.links c ≡ 1 → is_directory fs c ≡ true → is_too_deep fs c new_parent ≡ false
+    → AllByRecursion (λ e. is_kind_file e.1.kind ≡ false → through c (path_up fs.links e.0) ≡ true → (link_count fs.links c ≡ 1) × (steps_to c (path_up fs.links e.0) + 1 + depth fs.links new_parent ≤ 255)) fs.nodes
+  stays_above one d h =
+      All-map2 (λ e. Hangs fs.links e.0 e.1.kind) (λ e. (not (is_kind_file e.1.kind) && is_within fs.links c e.0 && nat_lt 255 (depth fs.links new_parent + 1 + (depth fs.links e.0 - depth fs.links c))) ≡ false)
+      (λ e. is_kind_file e.1.kind ≡ false → through c (path_up fs.links e.0) ≡ true → (link_count fs.links c ≡ 1) × (steps_to c (path_up fs.links e.0) + 1 + depth fs.links new_parent ≤ 255)) fs.nodes
+      (λ e n g k w.
+        let deep : nat_lt 255 (depth fs.links new_parent + 1 + (depth fs.links e.0 - depth fs.links c)) ≡ false = last_of_three (is_kind_file e.1.kind) (is_within fs.links c e.0) _ n k w in
+        let root : has_root (path_up fs.links e.0) ≡ true = hung_directory fs.links e.0 e.1.kind (ap not k) g in
+        let sum = steps_and_rest fs.links c 255 255 e.0 (subst (λ (path : List ℕ). has_root path ≡ true) (path_is fs.links e.0) root) (subst (λ (path : List ℕ). through c path ≡ true) (path_is fs.links e.0) w) (subst (λ (path : List ℕ). has_root path ≡ true) (path_is fs.links c) (reached fs t c d)) in
+        let steps : steps_to c (path_up fs.links e.0) ≡ steps_to c (ancestors fs.links 255 e.0) = ap (steps_to c) (path_is fs.links e.0) in
+        (one, omega (arith, ltb-false 255 _ deep, sum, steps, ap length (path_is fs.links e.0), ap length (path_is fs.links c))))
+      (none_of_any _ fs.nodes h) t.nodes
+
+  -- below a file there is no directory
+  pub file_above : is_directory fs c ≡ false
+    → AllByRecursion (λ e. is_kind_file e.1.kind ≡ false → through c (path_up fs.links e.0) ≡ true → (link_count fs.links c ≡ 1) × (steps_to c (path_up fs.links e.0) + 1 + depth fs.links new_parent ≤ 255)) fs.nodes
+  file_above d =
+      All-map (λ e. node_of fs e.0 ≡ Some e.1) (λ e. is_kind_file e.1.kind ≡ false → through c (path_up fs.links e.0) ≡ true → (link_count fs.links c ≡ 1) × (steps_to c (path_up fs.links e.0) + 1 + depth fs.links new_parent ≤ 255)) fs.nodes
+      (λ e f k w.
+        let here : is_directory fs e.0 ≡ true = ap is_directory_node f ∙ ap not k in
+        let never : through c (path_up fs.links e.0) ≡ false = file_path fs t c d e.0 here in
+        absurd (let g : true ≡ false = sym w ∙ never in cc))
+      (all_found fs.nodes t.nodes_ascend)

@@ -33,7 +33,7 @@ use borrow.Author.Tests.{eq-eqb}
 use Rattle.wu_tree.proofs.NewNodes.{node_keeps, new_around, new_held}
 use Rattle.wu_tree.proofs.Perms.{perm_keeps, held_again}
 
-not_passed : (k q : ℕ) → is_eq (nat_cmp k q) ≡ false → q ≢ k
+pub not_passed : (k q : ℕ) → is_eq (nat_cmp k q) ≡ false → q ≢ k
 not_passed k q h e = let f : is_eq (nat_cmp k q) ≡ true = subst (λ x. is_eq (nat_cmp x q) ≡ true) e (number_itself q) in absurd (let g : true ≡ false = sym f ∙ h in cc)
 
 pub found_counted : (links : List Link) (t : Place → Bool) (c : ℕ) → lookup t links ≡ Some c → 1 ≤ link_count links c
@@ -111,15 +111,15 @@ module _ (inodes : List (ℕ × Inode)) (links : List Link) (users : List (ℕ �
       }
 
   -- ---- nodes with links
-  ascend : IsStrictlySortedBy nat_cmp (keys_of inodes)
+  pub ascend : IsStrictlySortedBy nat_cmp (keys_of inodes)
   ascend = subst (λ k. IsStrictlySortedBy nat_cmp k) (keys_of-map_values node_in inodes) s.tree.nodes_ascend
 
-  held_at : (c : ℕ) (inode : Inode) → lookup (is_at (nat_cmp c)) inodes ≡ Some inode → IsHeld links c inode.hold
+  pub held_at : (c : ℕ) (inode : Inode) → lookup (is_at (nat_cmp c)) inodes ≡ Some inode → IsHeld links c inode.hold
   held_at c inode h =
       let f = All-found (λ e. IsHeld links e.0 e.1.hold) (is_at (nat_cmp c)) inodes inode s.held h in
       subst (λ x. IsHeld links x inode.hold) (sym (same_number c f.0 f.1)) f.2
 
-  hangs_at : (c : ℕ) (inode : Inode) → lookup (is_at (nat_cmp c)) inodes ≡ Some inode → Hangs links c (kind_of inode.hold)
+  pub hangs_at : (c : ℕ) (inode : Inode) → lookup (is_at (nat_cmp c)) inodes ≡ Some inode → Hangs links c (kind_of inode.hold)
   hangs_at c inode h =
       let f = All-found (λ e. Hangs links e.0 e.1.kind) (is_at (nat_cmp c)) (nodes_in inodes) (node_in inode) s.tree.nodes (node_found c inode h) in
       subst (λ x. Hangs links x (kind_of inode.hold)) (sym (same_number c f.0 f.1)) f.2

@@ -11,7 +11,7 @@ use Rattle.wu_tree.proofs.NewNodes.{node_keeps}
 use Rattle.wu_tree.proofs.NewLinks.{link_keeps}
 use Rattle.wu_tree.proofs.Drops.{kept_keeps}
 use Rattle.wu_tree.proofs.Perms.{perm_keeps}
-use Rattle.wu_tree.proofs.Moves.{never_through}
+use Rattle.wu_tree.proofs.Renames.{free_sound}
 use Rattle.wu_tree.proofs.Entries.{remove-insert_apart}
 use Rattle.wu_tree.proofs.trees.Tree.node.Goals as goal
 
