@@ -22,11 +22,12 @@ use Rattle.wu_tree.specs.declared.inodes.Inode.{Inode}
 use Rattle.wu_tree.specs.Inodes.{node_in, nodes_in, file_system, IsHeld, IsSound, kind_of, moved_hold, with_link_lost, with_parent, has_one_link, fewer_links}
 use Rattle.wu_tree.specs.FileSystems.{FileSystem, IsLeaf, Link, Place, place_cmp, is_name, is_within, is_directory, is_directory_node, is_kind_file, is_there, node_of, child_of, link_count, parent_of, path_up, depth}
 use Rattle.wu_tree.specs.Steps.{without_link, with_link_moved, is_too_deep}
+use Rattle.wu_tree.specs.Paths.{through, steps_to}
 use Rattle.wu_tree.specs.Rules.{IsLink, Hangs, IsTree}
 use Rattle.wu_tree.proofs.Entries.{is_equal, All-found, All-map, All-map2, All-set_number, All-remove_entry, set_value-read, lookup-remove_other, none_left, insert-remove_same, remove-insert_apart, ascend-remove_entry, number_itself}
 use Rattle.wu_tree.proofs.Keeps.{directory_found, place_total, place_exact, same_number, other_number, same_path, leaf_links, Around}
 use Rattle.wu_tree.proofs.Drops.{drop_around, child_no_root, apart_from, fewer}
-use Rattle.wu_tree.proofs.Moves.{through, steps_to, moved, gap, same_count, same_parent, parent_moved, moved_no_root, move_keeps, StaysAbove, stays_above, file_above, file_path}
+use Rattle.wu_tree.proofs.Ways.{moved, gap, same_count, same_parent, parent_moved, moved_no_root, move_keeps, StaysAbove, stays_above, file_above, file_path}
 use Rattle.wu_tree.proofs.Sound.{node_found, not_passed, held_at, hangs_at, ascend, linked_there, found_linked, has_one, last_sound, last_view, several_sound, several_view, child_linked}
 
 -- nothing is left at a place that was taken out

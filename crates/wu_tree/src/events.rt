@@ -58,6 +58,13 @@ pub enum Event {
     Unlink { parent: Ino, name: Bytes },
     /// An empty directory went.
     Rmdir { parent: Ino, name: Bytes },
+    /// A link was moved to another place, where it replaced what stood there.
+    Rename {
+        parent: Ino,
+        name: Bytes,
+        new_parent: Ino,
+        new_name: Bytes,
+    },
     /// A node's mode was changed.
     Chmod { ino: Ino, mode: u16 },
     /// A node's owner and group were changed.

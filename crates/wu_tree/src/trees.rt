@@ -145,7 +145,7 @@ impl Tree {
     }
 
     /// The directory in which a directory other than the root stands.
-    fn parent(&self, directory: Ino) -> Option<Ino>
+    pub(crate) fn parent(&self, directory: Ino) -> Option<Ino>
         requires found { is_directory self.now directory ≡ true }
         requires below { directory ≢ 1 }
         ensures parent { result ≡ parent_of self.now.links directory }

@@ -11,18 +11,11 @@ use Rattle.wu_tree.specs.declared.events.Kind.{Kind}
 use Rattle.wu_tree.specs.declared.events.Kind.TheVariants.{Directory, File}
 use Rattle.wu_tree.specs.declared.events.Node.{Node}
 use Rattle.wu_tree.specs.FileSystems.{FileSystem, Link, place_cmp, is_name, is_directory, is_directory_node, is_kind_file, is_there, node_of, child_of, is_within, link_count, parent_of, ancestors, above, path_up, depth}
+use Rattle.wu_tree.specs.Paths.{through, steps_to}
 use Rattle.wu_tree.specs.Steps.{is_too_deep}
 use Rattle.wu_tree.specs.Rules.{IsLink, Hangs, IsTree}
 use Rattle.wu_tree.proofs.Entries.{All-found, All-map, All-map2, All-insert_entry, All-remove_entry, ascend-insert_entry, ascend-remove_entry, counted-insert_entry, counted-remove_entry, all_found}
 use Rattle.wu_tree.proofs.Keeps.{place_total, place_exact, has_root, path_is, reached, hung_directory, absent_directory, none_counted, no_parent, parent_found, parent-insert_other, parent-insert_new, parent-remove_other}
-
--- whether a way up goes through c, and after how many steps
-abbrev pub through : ℕ → List ℕ → Bool
-through c path = list_any (λ ino. ino == c) path
-
-abbrev pub steps_to : ℕ → List ℕ → ℕ
-steps_to c [] = 0
-steps_to c (x ∷ path) = cond (x == c) 0 (suc (steps_to c path))
 
 -- two climbs to the root are the same
 same_climb : (links : List Link) (m k q : ℕ) → has_root (ancestors links m q) ≡ true → has_root (ancestors links k q) ≡ true → ancestors links m q ≡ ancestors links k q
