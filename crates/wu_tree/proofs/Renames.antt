@@ -21,7 +21,7 @@ use Rattle.wu_tree.specs.declared.inodes.Hold.TheVariants.{Entries, Links}
 use Rattle.wu_tree.specs.declared.inodes.Inode.{Inode}
 use Rattle.wu_tree.specs.Inodes.{node_in, nodes_in, file_system, IsHeld, IsSound, kind_of, moved_hold, with_link_lost, with_parent, has_one_link, fewer_links}
 use Rattle.wu_tree.specs.FileSystems.{FileSystem, IsLeaf, Link, Place, place_cmp, is_name, is_within, is_directory, is_directory_node, is_kind_file, is_there, node_of, child_of, link_count, parent_of, path_up, depth}
-use Rattle.wu_tree.specs.Steps.{without_link, with_link_moved, is_too_deep}
+use Rattle.wu_tree.specs.Steps.{without_link, with_link_moved, renamed, is_too_deep}
 use Rattle.wu_tree.specs.Paths.{through, steps_to}
 use Rattle.wu_tree.specs.Rules.{IsLink, Hangs, IsTree}
 use Rattle.wu_tree.proofs.Entries.{is_equal, All-found, All-map, All-map2, All-set_number, All-remove_entry, set_value-read, lookup-remove_other, none_left, insert-remove_same, remove-insert_apart, ascend-remove_entry, number_itself}
@@ -299,3 +299,12 @@ module _ (inodes : List (ℕ × Inode)) (links : List Link) (users : List (ℕ �
         (free_sound inodes_left links_left users sound_left parent name new_parent new_name c found_left free_left (lookup (is_at (nat_cmp c)) inodes_left) refl directory_left named outside_left above_left,
         free_view inodes_left links_left users sound_left parent name new_parent new_name c found_left free_left (lookup (is_at (nat_cmp c)) inodes_left) refl
         ∙ ap (λ (v : FileSystem). with_link_moved v parent name new_parent new_name c) (lost inodes links users s new_parent new_name tg ft leaf (lookup (is_at (nat_cmp tg)) inodes) refl).1)
+
+-- ---- what the definition says of either
+pub renamed_onto : (fs : FileSystem) (parent : ℕ) (name : List ℕ) (new_parent : ℕ) (new_name : List ℕ) (c tg : ℕ) → child_of fs parent name ≡ Some c → child_of fs new_parent new_name ≡ Some tg → (tg == c) ≡ false
+  → with_link_moved (without_link fs new_parent new_name) parent name new_parent new_name c ≡ renamed fs parent name new_parent new_name
+renamed_onto fs parent name new_parent new_name c tg f g h = rw (f, g, h) refl
+
+pub renamed_free : (fs : FileSystem) (parent : ℕ) (name : List ℕ) (new_parent : ℕ) (new_name : List ℕ) (c : ℕ) → child_of fs parent name ≡ Some c → child_of fs new_parent new_name ≡ None
+  → with_link_moved fs parent name new_parent new_name c ≡ renamed fs parent name new_parent new_name
+renamed_free fs parent name new_parent new_name c f g = rw (f, g) refl

@@ -1,6 +1,6 @@
 -- A link that moves to a free place leaves a tree, where no directory comes to lie below itself or too deep.
 use Rattle.std.proofs.Common.{◌≡◌, ◌≢◌, ℕ, zero, suc, ◌+◌, ◌-◌, ◌<◌, ◌≤◌, List, [], ◌∷◌, length, refl, ap, sym, ◌∙◌, subst, Bool, true, false, cond, not, ◌&&◌, ◌||◌, arith, inl, inr, ⊎_elim}
-use Rattle.std.specs.Prelude.{Option, None, Some, is_some, nat_lt, ◌⊎◌, ◌==◌}
+use Rattle.std.specs.Prelude.{Option, None, Some, is_some, map, nat_lt, ◌⊎◌, ◌==◌}
 use Rattle.std.specs.Ordering.{is_eq, nat_cmp}
 use Rattle.std.specs.List.{AllByRecursion, list_any}
 use Rattle.std.specs.Map.{lookup, remove_entry}
@@ -11,7 +11,7 @@ use Rattle.wu_tree.specs.declared.events.Kind.{Kind}
 use Rattle.wu_tree.specs.declared.events.Kind.TheVariants.{Directory, File}
 use Rattle.wu_tree.specs.declared.events.Node.{Node}
 use Rattle.wu_tree.specs.FileSystems.{FileSystem, Link, place_cmp, is_name, is_directory, is_directory_node, is_kind_file, is_there, node_of, child_of, is_within, link_count, parent_of, ancestors, above, path_up, depth}
-use Rattle.wu_tree.specs.Paths.{through, steps_to}
+use Rattle.wu_tree.specs.Paths.{through, steps_to, lies_too_deep}
 use Rattle.wu_tree.specs.Steps.{is_too_deep}
 use Rattle.wu_tree.specs.Rules.{IsLink, Hangs, IsTree}
 use Rattle.wu_tree.proofs.Entries.{All-found, All-map, All-map2, All-insert_entry, All-remove_entry, ascend-insert_entry, ascend-remove_entry, counted-insert_entry, counted-remove_entry, all_found}
@@ -116,6 +116,10 @@ steps_and_rest links c (suc m) k q a b r =
 one_up : (links : List Link) (k q p : ℕ) → q ≢ 1 → parent_of links q ≡ Some p → has_root (ancestors links k p) ≡ true → has_root (ancestors links (suc k) q) ≡ true
 unfolding ancestors
 one_up links k q p h e r = rw (ne_eqb q 1 h, e) r
+
+one_more_up : (links : List Link) (m d p : ℕ) → d ≢ 1 → parent_of links d ≡ Some p → ancestors links (suc m) d ≡ d ∷ ancestors links m p
+unfolding ancestors
+one_more_up links m d p h e = rw (ne_eqb d 1 h, e) refl
 
 module _ (fs : FileSystem) (t : IsTree fs) (parent : ℕ) (name : List ℕ) (new_parent : ℕ) (new_name : List ℕ) (c : ℕ)
   (found : child_of fs parent name ≡ Some c) (free : child_of fs new_parent new_name ≡ None) where
@@ -267,3 +271,60 @@ module _ (fs : FileSystem) (t : IsTree fs) (c new_parent : ℕ) where
         let never : through c (path_up fs.links e.0) ≡ false = file_path fs t c d e.0 here in
         absurd (let g : true ≡ false = sym w ∙ never in cc))
       (all_found fs.nodes t.nodes_ascend)
+
+-- ---- a walk up to a directory
+pub walk_on : (links : List Link) (to m d parent : ℕ) → has_root (ancestors links m d) ≡ true → d ≢ 1 → parent_of links d ≡ Some parent → d ≢ to
+  → (through to (ancestors links m d) ≡ through to (ancestors links (m - 1) parent)) × (steps_to to (ancestors links m d) ≡ 1 + steps_to to (ancestors links (m - 1) parent))
+walk_on links to zero d parent h r p n = absurd (no_climb links d h)
+walk_on links to (suc m) d parent h r p n =
+    let e : m ≡ suc m - 1 = omega arith in
+    let a : ancestors links (suc m) d ≡ d ∷ ancestors links m parent = one_more_up links m d parent r p in
+    subst (λ (k : ℕ). (through to (ancestors links (suc m) d) ≡ through to (ancestors links k parent)) × (steps_to to (ancestors links (suc m) d) ≡ 1 + steps_to to (ancestors links k parent))) e
+    (ap (through to) a ∙ rw (ne_eqb d to n) refl, ap (steps_to to) a ∙ rw (ne_eqb d to n) (omega arith))
+
+pub walk_met : (links : List Link) (m d : ℕ) → has_root (ancestors links m d) ≡ true → (through d (ancestors links m d) ≡ true) × (steps_to d (ancestors links m d) ≡ 0)
+unfolding ancestors
+walk_met links zero d h = absurd cc
+walk_met links (suc m) d h = rw (eq-eqb d d refl) (refl, refl)
+
+pub walk_past_root : (links : List Link) (to m : ℕ) → 1 ≢ to → through to (ancestors links m 1) ≡ false
+unfolding ancestors
+walk_past_root links to zero n = refl
+walk_past_root links to (suc m) n = rw (ne_eqb 1 to n) refl
+
+pub walk_stops : (links : List Link) (to m d : ℕ) → d ≢ to → parent_of links d ≡ None → through to (ancestors links m d) ≡ false
+unfolding ancestors
+walk_stops links to zero d n p = refl
+walk_stops links to (suc m) d n p = rw (ne_eqb d to n, p) (elim (d == 1) as (λ b. through to (cond b [] (above (ancestors links m) None)) ≡ false) [ true ↦ refl | false ↦ refl ])
+
+-- ---- the rule on depth, node by node
+same_any : {X : Type 0} (p q : X → Bool) (xs : List X) → AllByRecursion (λ x. p x ≡ q x) xs → list_any p xs ≡ list_any q xs
+same_any p q [] a = refl
+same_any p q (x ∷ xs) a = rw (a.0, same_any p q xs a.1) refl
+
+any_key : {X : Type 0} (f : ℕ → Bool) (es : List (ℕ × X)) → list_any f (map (λ e. e.0) es) ≡ list_any (λ e. f e.0) es
+any_key f [] = refl
+any_key f (e ∷ es) = ap (λ b. f e.0 || b) (any_key f es)
+
+same_bound : (a b : Bool) (m n : ℕ) → (a ≡ true → b ≡ true → m ≡ n) → (a && b && nat_lt 255 m) ≡ (a && b && nat_lt 255 n)
+same_bound true true m n h = ap (λ x. nat_lt 255 x) (h refl refl)
+same_bound true false m n h = refl
+same_bound false b m n h = refl
+
+pub deep_by_number : (fs : FileSystem) → IsTree fs → (c new_parent : ℕ) → is_directory fs c ≡ true
+  → list_any (lies_too_deep fs c (depth fs.links new_parent + 1)) (map (λ e. e.0) fs.nodes) ≡ is_too_deep fs c new_parent
+deep_by_number fs t c new_parent d =
+    any_key (lies_too_deep fs c (depth fs.links new_parent + 1)) fs.nodes
+    ∙ same_any (λ e. lies_too_deep fs c (depth fs.links new_parent + 1) e.0)
+      (λ e. not (is_kind_file e.1.kind) && is_within fs.links c e.0 && nat_lt 255 (depth fs.links new_parent + 1 + (depth fs.links e.0 - depth fs.links c))) fs.nodes
+      (All-map (λ e. node_of fs e.0 ≡ Some e.1)
+          (λ e. lies_too_deep fs c (depth fs.links new_parent + 1) e.0 ≡ (not (is_kind_file e.1.kind) && is_within fs.links c e.0 && nat_lt 255 (depth fs.links new_parent + 1 + (depth fs.links e.0 - depth fs.links c)))) fs.nodes
+          (λ e f.
+            ap (λ (b : Bool). b && through c (path_up fs.links e.0) && nat_lt 255 (depth fs.links new_parent + 1 + steps_to c (path_up fs.links e.0))) (ap is_directory_node f)
+            ∙ same_bound (not (is_kind_file e.1.kind)) (through c (path_up fs.links e.0)) (depth fs.links new_parent + 1 + steps_to c (path_up fs.links e.0)) (depth fs.links new_parent + 1 + (depth fs.links e.0 - depth fs.links c))
+              (λ k w.
+                let root : has_root (path_up fs.links e.0) ≡ true = reached fs t e.0 (ap is_directory_node f ∙ k) in
+                let sum = steps_and_rest fs.links c 255 255 e.0 (subst (λ (path : List ℕ). has_root path ≡ true) (path_is fs.links e.0) root) (subst (λ (path : List ℕ). through c path ≡ true) (path_is fs.links e.0) w) (subst (λ (path : List ℕ). has_root path ≡ true) (path_is fs.links c) (reached fs t c d)) in
+                let steps : steps_to c (path_up fs.links e.0) ≡ steps_to c (ancestors fs.links 255 e.0) = ap (steps_to c) (path_is fs.links e.0) in
+                omega (arith, sum, steps, ap length (path_is fs.links e.0), ap length (path_is fs.links c))))
+          (all_found fs.nodes t.nodes_ascend))

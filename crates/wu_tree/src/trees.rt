@@ -167,7 +167,8 @@ impl Tree {
     /// How deep a directory lies, where the root has depth 1.
     pub(crate) fn depth(&self, directory: Ino) -> usize
         requires { is_directory self.now directory ≡ true }
-        ensures { result ≡ depth_of self.now.links directory }
+        ensures depth { result ≡ depth_of self.now.links directory }
+        ensures small { result ≤ 255 }
     {
         self.keeps_the_rules();
         let mut depth = 1;
