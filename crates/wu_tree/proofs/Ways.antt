@@ -6,7 +6,7 @@ use Rattle.std.specs.List.{AllByRecursion, list_any}
 use Rattle.std.specs.Map.{lookup, remove_entry}
 use Rattle.std.specs.BTreeMap.{is_at, insert_entry}
 use Rattle.std.proofs.lemmas.Map.{NonePasses, none_passes_from_lookup}
-use borrow.Author.Tests.{eqb-true, eqb-false, eq-eqb, ne_eqb, ltb-false}
+use borrow.Author.Tests.{eqb-true, eqb-false, eq-eqb, ne_eqb, ltb-false, ltb-true}
 use Rattle.wu_tree.specs.declared.events.Kind.{Kind}
 use Rattle.wu_tree.specs.declared.events.Kind.TheVariants.{Directory, File}
 use Rattle.wu_tree.specs.declared.events.Node.{Node}
@@ -328,3 +328,32 @@ deep_by_number fs t c new_parent d =
                 let steps : steps_to c (path_up fs.links e.0) ≡ steps_to c (ancestors fs.links 255 e.0) = ap (steps_to c) (path_is fs.links e.0) in
                 omega (arith, sum, steps, ap length (path_is fs.links e.0), ap length (path_is fs.links c))))
           (all_found fs.nodes t.nodes_ascend))
+
+-- a directory that comes to lie no deeper takes none below it too deep
+short : (links : List Link) (m q : ℕ) → length (ancestors links m q) ≤ m
+unfolding ancestors
+short links zero q = omega arith
+short links (suc m) q =
+    elim (q == 1) as (λ b. length (q ∷ cond b [] (above (ancestors links m) (parent_of links q))) ≤ suc m) [
+      | true ↦ omega arith
+      | false ↦ elim (parent_of links q) as (λ o. length (q ∷ above (ancestors links m) o) ≤ suc m) [ None ↦ omega arith | Some parent ↦ omega (arith, short links m parent) ]
+    ]
+
+none_passes : {X : Type 0} (p : X → Bool) (xs : List X) → ((x : X) → p x ≡ false) → list_any p xs ≡ false
+none_passes p [] h = refl
+none_passes p (x ∷ xs) h = rw (h x, none_passes p xs h) refl
+
+third_fails : (a b c : Bool) → c ≡ false → (a && b && c) ≡ false
+third_fails true true c h = h
+third_fails true false c h = refl
+third_fails false b c h = refl
+
+not_lt : (a b : ℕ) → b ≤ a → nat_lt a b ≡ false
+not_lt a b h = elim (nat_lt a b) as (λ v. nat_lt a b ≡ v → v ≡ false) [ true ↦ λ p. absurd (let l : a < b = ltb-true a b p in omega arith) | false ↦ λ p. refl ] refl
+
+pub no_deeper : (fs : FileSystem) (c new_parent : ℕ) → depth fs.links new_parent < depth fs.links c → is_too_deep fs c new_parent ≡ false
+no_deeper fs c new_parent h =
+    none_passes _ fs.nodes (λ e.
+      let q : depth fs.links e.0 ≤ 255 = subst (λ (path : List ℕ). length path ≤ 255) (sym (path_is fs.links e.0)) (short fs.links 255 e.0) in
+      let d : depth fs.links c ≤ 255 = subst (λ (path : List ℕ). length path ≤ 255) (sym (path_is fs.links c)) (short fs.links 255 c) in
+      third_fails (not (is_kind_file e.1.kind)) (is_within fs.links c e.0) _ (not_lt 255 (depth fs.links new_parent + 1 + (depth fs.links e.0 - depth fs.links c)) (omega arith)))

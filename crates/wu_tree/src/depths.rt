@@ -18,8 +18,21 @@ impl Tree {
     }
 
     /// Whether some directory at or below `child` would lie deeper than 255, were `child` an entry of
-    /// `parent`.
+    /// `parent`. Where `child` comes to lie no deeper than before this is known at once; else each directory
+    /// of the tree is looked at.
     pub(crate) fn is_too_deep(&self, child: Ino, parent: Ino) -> bool
+        requires child { is_directory self.now child ≡ true }
+        requires parent { is_directory self.now parent ≡ true }
+        ensures { result ≡ is_too_deep self.now child parent }
+    {
+        if self.depth(parent) < self.depth(child) {
+            return false;
+        }
+        self.is_any_too_deep(child, parent)
+    }
+
+    /// The same, by the way up of each directory.
+    fn is_any_too_deep(&self, child: Ino, parent: Ino) -> bool
         requires child { is_directory self.now child ≡ true }
         requires parent { is_directory self.now parent ≡ true }
         ensures { result ≡ is_too_deep self.now child parent }
