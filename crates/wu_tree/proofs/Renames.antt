@@ -1,6 +1,6 @@
 -- A renaming leaves a sound tree that stands for the file system with the link moved.
-use Rattle.std.proofs.Common.{◌≡◌, ◌≢◌, ℕ, ◌+◌, ◌≤◌, List, [], ◌∷◌, refl, ap, sym, ◌∙◌, subst, Bool, true, false, cond, not, arith, inl, inr, ⊎_elim}
-use Rattle.std.specs.Prelude.{Option, None, Some, is_some, ◌==◌}
+use Rattle.std.proofs.Common.{◌≡◌, ◌≢◌, ℕ, ◌+◌, ◌≤◌, List, [], ◌∷◌, refl, ap, sym, ◌∙◌, subst, Bool, true, false, cond, not, inl, inr, ⊎_elim}
+use Rattle.std.specs.Prelude.{Option, None, Some, ◌==◌}
 use Rattle.std.specs.Ordering.{is_eq, nat_cmp}
 use Rattle.std.specs.List.{AllByRecursion}
 use Rattle.std.specs.List.Sorted.{IsStrictlySortedBy}
@@ -11,7 +11,7 @@ use Rattle.std.proofs.lemmas.Map.{lookup-none, NonePasses}
 use Rattle.std.proofs.lemmas.Map.Entries.{none_past_head}
 use Rattle.std.proofs.lemmas.Map.Keys.{sorted_tail, IsDistinct-from_sorted}
 use Rattle.std.proofs.lemmas.Map.Steps.{set_value_same}
-use borrow.Author.Tests.{eqb-true, eqb-false, eq-eqb, ne_eqb}
+use borrow.Author.Tests.{eqb-true, eqb-false}
 use Rattle.wu_access.specs.declared.UserRec.{UserRec}
 use Rattle.wu_tree.specs.declared.events.Kind.{Kind}
 use Rattle.wu_tree.specs.declared.events.Kind.TheVariants.{Directory, File}
@@ -20,15 +20,15 @@ use Rattle.wu_tree.specs.declared.inodes.Hold.{Hold}
 use Rattle.wu_tree.specs.declared.inodes.Hold.TheVariants.{Entries, Links}
 use Rattle.wu_tree.specs.declared.inodes.Inode.{Inode}
 use Rattle.wu_tree.specs.Inodes.{node_in, nodes_in, file_system, IsHeld, IsSound, kind_of, moved_hold, with_link_lost, with_parent, has_one_link, fewer_links}
-use Rattle.wu_tree.specs.FileSystems.{FileSystem, IsLeaf, Link, Place, place_cmp, is_name, is_within, is_directory, is_directory_node, is_kind_file, is_there, node_of, child_of, link_count, parent_of, path_up, depth}
+use Rattle.wu_tree.specs.FileSystems.{FileSystem, IsLeaf, Link, Place, place_cmp, is_name, is_within, is_directory, is_directory_node, is_kind_file, node_of, child_of, link_count, path_up, depth}
 use Rattle.wu_tree.specs.Steps.{without_link, with_link_moved, renamed, is_too_deep}
 use Rattle.wu_tree.specs.Paths.{through, steps_to}
 use Rattle.wu_tree.specs.Rules.{IsLink, Hangs, IsTree}
-use Rattle.wu_tree.proofs.Entries.{is_equal, All-found, All-map, All-map2, All-set_number, All-remove_entry, set_value-read, lookup-remove_other, none_left, insert-remove_same, remove-insert_apart, ascend-remove_entry, number_itself}
-use Rattle.wu_tree.proofs.Keeps.{directory_found, place_total, place_exact, same_number, other_number, same_path, leaf_links, Around}
-use Rattle.wu_tree.proofs.Drops.{drop_around, child_no_root, apart_from, fewer}
-use Rattle.wu_tree.proofs.Ways.{moved, gap, same_count, same_parent, parent_moved, moved_no_root, move_keeps, StaysAbove, stays_above, file_above, file_path}
-use Rattle.wu_tree.proofs.Sound.{node_found, not_passed, held_at, hangs_at, ascend, linked_there, found_linked, has_one, last_sound, last_view, several_sound, several_view, child_linked}
+use Rattle.wu_tree.proofs.Entries.{is_equal, All-found, All-map, All-map2, All-set_number, All-remove_entry, set_value-read, lookup-remove_other, none_left, insert-remove_same, remove-insert_apart, ascend-remove_entry}
+use Rattle.wu_tree.proofs.Keeps.{directory_found, place_total, place_exact, same_number, same_path, leaf_links, Around}
+use Rattle.wu_tree.proofs.Drops.{drop_around, child_no_root, apart_from}
+use Rattle.wu_tree.proofs.Ways.{moved, same_count, same_parent, parent_moved, moved_no_root, move_keeps, StaysAbove, stays_above, file_above, file_path}
+use Rattle.wu_tree.proofs.Sound.{node_found, not_passed, held_at, hangs_at, ascend, linked_there, found_linked, has_one, last_sound, last_view, several_sound, several_view}
 
 -- nothing is left at a place that was taken out
 none_left_at : (k : Place) (links : List Link) → IsStrictlySortedBy place_cmp (keys_of links) → NonePasses (is_at (place_cmp k)) (remove_entry (is_at (place_cmp k)) links)
@@ -45,7 +45,7 @@ moved_kind parent (Links n) = refl
 
 -- ---- to a free place
 module _ (inodes : List (ℕ × Inode)) (links : List Link) (users : List (ℕ × UserRec)) (s : IsSound inodes links users) (parent : ℕ) (name : List ℕ) (new_parent : ℕ) (new_name : List ℕ) (c : ℕ)
-  (found : child_of (file_system inodes links users) parent name ≡ Some c) (free : child_of (file_system inodes links users) new_parent new_name ≡ None) where
+    (found : child_of (file_system inodes links users) parent name ≡ Some c) (free : child_of (file_system inodes links users) new_parent new_name ≡ None) where
   abbrev pub after : List Link
   after = moved (file_system inodes links users) s.tree parent name new_parent new_name c found free
 
@@ -88,19 +88,19 @@ module _ (inodes : List (ℕ × Inode)) (links : List Link) (users : List (ℕ �
   free_view (Some inode) h = settled_view inode h
 
   pub free_sound : (o : Option Inode) → lookup (is_at (nat_cmp c)) inodes ≡ o → is_directory (file_system inodes links users) new_parent ≡ true → is_name new_name ≡ true
-    → through c (path_up links new_parent) ≡ false → AllByRecursion (StaysAbove (file_system inodes links users) s.tree parent name new_parent new_name c found free) (nodes_in inodes)
-    → IsSound (with_parent new_parent o c inodes) after users
+      → through c (path_up links new_parent) ≡ false → AllByRecursion (StaysAbove (file_system inodes links users) s.tree parent name new_parent new_name c found free) (nodes_in inodes)
+      → IsSound (with_parent new_parent o c inodes) after users
   free_sound None h d n t a = absurd (linked_there inodes links users s c (found_linked inodes links users s parent name c found) h)
   free_sound (Some inode) h d n t a = settled_sound inode h (move_keeps (file_system inodes links users) s.tree parent name new_parent new_name c found free d n t a)
 
 -- the links as the code changes them
 pub same_after_insert : (links : List Link) (k l : Place) (c : ℕ) → IsStrictlySortedBy place_cmp (keys_of links) → is_eq (place_cmp k l) ≡ false
-  → remove_entry (is_at (place_cmp k)) (insert_entry place_cmp links l c) ≡ insert_entry place_cmp (remove_entry (is_at (place_cmp k)) links) l c
+    → remove_entry (is_at (place_cmp k)) (insert_entry place_cmp links l c) ≡ insert_entry place_cmp (remove_entry (is_at (place_cmp k)) links) l c
 same_after_insert links k l c s a =
     remove-insert_apart place_total place_exact (is_at (place_cmp k)) links l c (λ x e. subst (λ y. is_eq (place_cmp k y) ≡ false) (place_exact l x e) a) a s
 
 pub same_after_replace : (links : List Link) (k l : Place) (c : ℕ) → IsStrictlySortedBy place_cmp (keys_of links) → is_eq (place_cmp k l) ≡ false
-  → remove_entry (is_at (place_cmp k)) (insert_entry place_cmp links l c) ≡ insert_entry place_cmp (remove_entry (is_at (place_cmp k)) (remove_entry (is_at (place_cmp l)) links)) l c
+    → remove_entry (is_at (place_cmp k)) (insert_entry place_cmp links l c) ≡ insert_entry place_cmp (remove_entry (is_at (place_cmp k)) (remove_entry (is_at (place_cmp l)) links)) l c
 same_after_replace links k l c s a =
     ap (remove_entry (is_at (place_cmp k))) (sym (insert-remove_same place_total place_exact links l c s))
     ∙ same_after_insert (remove_entry (is_at (place_cmp l)) links) k l c (ascend-remove_entry place_cmp (is_at (place_cmp l)) links s) a
@@ -157,7 +157,7 @@ module _ (fs : FileSystem) (t : IsTree fs) (new_parent : ℕ) (new_name : List �
   kept_file b e f q File r n h = absurd cc
 
   above_all_of : (c : ℕ) → c ≢ tg → (b : Bool) → (link_count fs.links tg == 1) ≡ b → AllByRecursion (Above fs.links c new_parent) fs.nodes
-    → AllByRecursion (Above left_links c new_parent) (cond b (remove_entry (is_at (nat_cmp tg)) fs.nodes) fs.nodes)
+      → AllByRecursion (Above left_links c new_parent) (cond b (remove_entry (is_at (nat_cmp tg)) fs.nodes) fs.nodes)
   above_all_of c d true e a =
       All-map2 (Above fs.links c new_parent) (λ e. is_eq (nat_cmp tg e.0) ≡ false) (Above left_links c new_parent) (remove_entry (is_at (nat_cmp tg)) fs.nodes)
       (λ e m p. above_one c d e (not_passed tg e.0 m) p) (none_left tg fs.nodes t.nodes_ascend) (All-remove_entry (Above fs.links c new_parent) (is_at (nat_cmp tg)) fs.nodes a)
@@ -174,17 +174,17 @@ module _ (fs : FileSystem) (t : IsTree fs) (new_parent : ℕ) (new_name : List �
 
 -- the target's link, and its node where that was the last
 module _ (inodes : List (ℕ × Inode)) (links : List Link) (users : List (ℕ × UserRec)) (s : IsSound inodes links users) (new_parent : ℕ) (new_name : List ℕ) (tg : ℕ)
-  (ft : child_of (file_system inodes links users) new_parent new_name ≡ Some tg) (leaf : IsLeaf (file_system inodes links users) tg) where
+    (ft : child_of (file_system inodes links users) new_parent new_name ≡ Some tg) (leaf : IsLeaf (file_system inodes links users) tg) where
   pub lost : (o : Option Inode) → lookup (is_at (nat_cmp tg)) inodes ≡ o
-    → IsSound (with_link_lost o tg inodes) (remove_entry (is_at (place_cmp (new_parent, new_name))) links) users
-    × (file_system (with_link_lost o tg inodes) (remove_entry (is_at (place_cmp (new_parent, new_name))) links) users ≡ without_link (file_system inodes links users) new_parent new_name)
+      → IsSound (with_link_lost o tg inodes) (remove_entry (is_at (place_cmp (new_parent, new_name))) links) users
+      × (file_system (with_link_lost o tg inodes) (remove_entry (is_at (place_cmp (new_parent, new_name))) links) users ≡ without_link (file_system inodes links users) new_parent new_name)
   lost None h = absurd (linked_there inodes links users s tg (found_linked inodes links users s new_parent new_name tg ft) h)
   lost (Some inode) h =
       let one = has_one inodes links users s tg inode h (found_linked inodes links users s new_parent new_name tg ft) in
       elim (has_one_link inode.hold) as (λ b. b ≡ (link_count links tg == 1)
-        → IsSound (cond b (remove_entry (is_at (nat_cmp tg)) inodes) (set_value (is_at (nat_cmp tg)) inodes (record inode { hold = fewer_links inode.hold }))) (remove_entry (is_at (place_cmp (new_parent, new_name))) links) users
-        × (file_system (cond b (remove_entry (is_at (nat_cmp tg)) inodes) (set_value (is_at (nat_cmp tg)) inodes (record inode { hold = fewer_links inode.hold }))) (remove_entry (is_at (place_cmp (new_parent, new_name))) links) users
-          ≡ without_link (file_system inodes links users) new_parent new_name)) [
+      → IsSound (cond b (remove_entry (is_at (nat_cmp tg)) inodes) (set_value (is_at (nat_cmp tg)) inodes (record inode { hold = fewer_links inode.hold }))) (remove_entry (is_at (place_cmp (new_parent, new_name))) links) users
+      × (file_system (cond b (remove_entry (is_at (nat_cmp tg)) inodes) (set_value (is_at (nat_cmp tg)) inodes (record inode { hold = fewer_links inode.hold }))) (remove_entry (is_at (place_cmp (new_parent, new_name))) links) users
+      ≡ without_link (file_system inodes links users) new_parent new_name)) [
         | true ↦ λ e.
             let last : link_count links tg ≡ 1 = eqb-true (link_count links tg) 1 (sym e) in
             (last_sound inodes links users s new_parent new_name tg ft leaf last, last_view inodes links users s new_parent new_name tg ft leaf last)
@@ -208,8 +208,8 @@ directory_one fs t c r h =
     hung_one fs.links c d.0.kind r d.2 (subst (λ x. Hangs fs.links x d.0.kind) (sym (same_number c f.0 f.1)) f.2)
 
 pub conditions : (fs : FileSystem) → IsTree fs → (c new_parent : ℕ) → c ≢ 1 → is_directory fs new_parent ≡ true
-  → (is_directory fs c ≡ true → is_within fs.links c new_parent ≡ false) → (is_directory fs c ≡ true → is_too_deep fs c new_parent ≡ false)
-  → (through c (path_up fs.links new_parent) ≡ false) × AllByRecursion (Above fs.links c new_parent) fs.nodes
+    → (is_directory fs c ≡ true → is_within fs.links c new_parent ≡ false) → (is_directory fs c ≡ true → is_too_deep fs c new_parent ≡ false)
+    → (through c (path_up fs.links new_parent) ≡ false) × AllByRecursion (Above fs.links c new_parent) fs.nodes
 conditions fs t c new_parent r d o h =
     elim (is_directory fs c) as (λ v. is_directory fs c ≡ v → (through c (path_up fs.links new_parent) ≡ false) × AllByRecursion (Above fs.links c new_parent) fs.nodes) [
       | true ↦ λ p. (o p, stays_above fs t c new_parent (directory_one fs t c r p) p (h p))
@@ -225,9 +225,9 @@ places_apart links k l o c a b n =
     ] refl
 
 module _ (inodes : List (ℕ × Inode)) (links : List Link) (users : List (ℕ × UserRec)) (s : IsSound inodes links users) (parent : ℕ) (name : List ℕ) (new_parent : ℕ) (new_name : List ℕ) (c : ℕ)
-  (found : child_of (file_system inodes links users) parent name ≡ Some c) (directory : is_directory (file_system inodes links users) new_parent ≡ true) (named : is_name new_name ≡ true)
-  (outside : is_directory (file_system inodes links users) c ≡ true → is_within links c new_parent ≡ false)
-  (shallow : is_directory (file_system inodes links users) c ≡ true → is_too_deep (file_system inodes links users) c new_parent ≡ false) where
+    (found : child_of (file_system inodes links users) parent name ≡ Some c) (directory : is_directory (file_system inodes links users) new_parent ≡ true) (named : is_name new_name ≡ true)
+    (outside : is_directory (file_system inodes links users) c ≡ true → is_within links c new_parent ≡ false)
+    (shallow : is_directory (file_system inodes links users) c ≡ true → is_too_deep (file_system inodes links users) c new_parent ≡ false) where
   abbrev pub links_after : List Link
   links_after = remove_entry (is_at (place_cmp (parent, name))) (insert_entry place_cmp links (new_parent, new_name) c)
 
@@ -243,11 +243,12 @@ module _ (inodes : List (ℕ × Inode)) (links : List Link) (users : List (ℕ �
     free_links = same_after_insert links (parent, name) (new_parent, new_name) c s.tree.links_ascend (places_apart links (parent, name) (new_parent, new_name) None c found free (λ e. cc))
 
     pub to_free : IsSound (with_parent new_parent (lookup (is_at (nat_cmp c)) inodes) c inodes) links_after users
-      × (file_system (with_parent new_parent (lookup (is_at (nat_cmp c)) inodes) c inodes) links_after users ≡ with_link_moved (file_system inodes links users) parent name new_parent new_name c)
+        × (file_system (with_parent new_parent (lookup (is_at (nat_cmp c)) inodes) c inodes) links_after users ≡ with_link_moved (file_system inodes links users) parent name new_parent new_name c)
     to_free =
-        rw free_links
-        (free_sound inodes links users s parent name new_parent new_name c found free (lookup (is_at (nat_cmp c)) inodes) refl directory named rules.0 rules.1,
-        free_view inodes links users s parent name new_parent new_name c found free (lookup (is_at (nat_cmp c)) inodes) refl)
+        rw free_links (
+          free_sound inodes links users s parent name new_parent new_name c found free (lookup (is_at (nat_cmp c)) inodes) refl directory named rules.0 rules.1,
+          free_view inodes links users s parent name new_parent new_name c found free (lookup (is_at (nat_cmp c)) inodes) refl,
+        )
 
   -- in place of a target
   module _ (tg : ℕ) (ft : child_of (file_system inodes links users) new_parent new_name ≡ Some tg) (leaf : IsLeaf (file_system inodes links users) tg) (other : tg ≢ c) where
@@ -292,19 +293,20 @@ module _ (inodes : List (ℕ × Inode)) (links : List Link) (users : List (ℕ �
     target_links = same_after_replace links (parent, name) (new_parent, new_name) c s.tree.links_ascend apart
 
     pub onto_target : IsSound (with_parent new_parent (lookup (is_at (nat_cmp c)) inodes_left) c inodes_left) links_after users
-      × (file_system (with_parent new_parent (lookup (is_at (nat_cmp c)) inodes_left) c inodes_left) links_after users
+        × (file_system (with_parent new_parent (lookup (is_at (nat_cmp c)) inodes_left) c inodes_left) links_after users
         ≡ with_link_moved (without_link (file_system inodes links users) new_parent new_name) parent name new_parent new_name c)
     onto_target =
-        rw target_links
-        (free_sound inodes_left links_left users sound_left parent name new_parent new_name c found_left free_left (lookup (is_at (nat_cmp c)) inodes_left) refl directory_left named outside_left above_left,
-        free_view inodes_left links_left users sound_left parent name new_parent new_name c found_left free_left (lookup (is_at (nat_cmp c)) inodes_left) refl
-        ∙ ap (λ (v : FileSystem). with_link_moved v parent name new_parent new_name c) (lost inodes links users s new_parent new_name tg ft leaf (lookup (is_at (nat_cmp tg)) inodes) refl).1)
+        rw target_links (
+          free_sound inodes_left links_left users sound_left parent name new_parent new_name c found_left free_left (lookup (is_at (nat_cmp c)) inodes_left) refl directory_left named outside_left above_left,
+          free_view inodes_left links_left users sound_left parent name new_parent new_name c found_left free_left (lookup (is_at (nat_cmp c)) inodes_left) refl
+              ∙ ap (λ (v : FileSystem). with_link_moved v parent name new_parent new_name c) (lost inodes links users s new_parent new_name tg ft leaf (lookup (is_at (nat_cmp tg)) inodes) refl).1,
+        )
 
 -- ---- what the definition says of either
 pub renamed_onto : (fs : FileSystem) (parent : ℕ) (name : List ℕ) (new_parent : ℕ) (new_name : List ℕ) (c tg : ℕ) → child_of fs parent name ≡ Some c → child_of fs new_parent new_name ≡ Some tg → (tg == c) ≡ false
-  → with_link_moved (without_link fs new_parent new_name) parent name new_parent new_name c ≡ renamed fs parent name new_parent new_name
+    → with_link_moved (without_link fs new_parent new_name) parent name new_parent new_name c ≡ renamed fs parent name new_parent new_name
 renamed_onto fs parent name new_parent new_name c tg f g h = rw (f, g, h) refl
 
 pub renamed_free : (fs : FileSystem) (parent : ℕ) (name : List ℕ) (new_parent : ℕ) (new_name : List ℕ) (c : ℕ) → child_of fs parent name ≡ Some c → child_of fs new_parent new_name ≡ None
-  → with_link_moved fs parent name new_parent new_name c ≡ renamed fs parent name new_parent new_name
+    → with_link_moved fs parent name new_parent new_name c ≡ renamed fs parent name new_parent new_name
 renamed_free fs parent name new_parent new_name c f g = rw (f, g) refl

@@ -1,9 +1,8 @@
 -- A link that moves to a free place leaves a tree, where no directory comes to lie below itself or too deep.
 use Rattle.std.proofs.Common.{◌≡◌, ◌≢◌, ℕ, zero, suc, ◌+◌, ◌-◌, ◌<◌, ◌≤◌, List, [], ◌∷◌, length, refl, ap, sym, ◌∙◌, subst, Bool, true, false, cond, not, ◌&&◌, ◌||◌, arith, inl, inr, ⊎_elim}
-use Rattle.std.specs.Prelude.{Option, None, Some, is_some, map, nat_lt, ◌⊎◌, ◌==◌}
-use Rattle.std.specs.Ordering.{is_eq, nat_cmp}
+use Rattle.std.specs.Prelude.{None, Some, map, nat_lt, ◌==◌}
 use Rattle.std.specs.List.{AllByRecursion, list_any}
-use Rattle.std.specs.Map.{lookup, remove_entry}
+use Rattle.std.specs.Map.{remove_entry}
 use Rattle.std.specs.BTreeMap.{is_at, insert_entry}
 use Rattle.std.proofs.lemmas.Map.{NonePasses, none_passes_from_lookup}
 use borrow.Author.Tests.{eqb-true, eqb-false, eq-eqb, ne_eqb, ltb-false, ltb-true}
@@ -24,13 +23,13 @@ same_climb links zero k q a b = absurd cc
 same_climb links (suc m) zero q a b = absurd cc
 same_climb links (suc m) (suc k) q a b =
     elim (q == 1) as (λ v. (v || has_root (cond v [] (above (ancestors links m) (parent_of links q)))) ≡ true → (v || has_root (cond v [] (above (ancestors links k) (parent_of links q)))) ≡ true
-      → q ∷ cond v [] (above (ancestors links m) (parent_of links q)) ≡ q ∷ cond v [] (above (ancestors links k) (parent_of links q))) [
+    → q ∷ cond v [] (above (ancestors links m) (parent_of links q)) ≡ q ∷ cond v [] (above (ancestors links k) (parent_of links q))) [
       | true ↦ λ x y. refl
       | false ↦ λ x y. ap (λ (l : List ℕ). q ∷ l)
-        (elim (parent_of links q) as (λ o. has_root (above (ancestors links m) o) ≡ true → has_root (above (ancestors links k) o) ≡ true → above (ancestors links m) o ≡ above (ancestors links k) o) [
-          | None ↦ λ x y. refl
-          | Some parent ↦ λ x y. same_climb links m k parent x y
-        ] x y)
+          (elim (parent_of links q) as (λ o. has_root (above (ancestors links m) o) ≡ true → has_root (above (ancestors links k) o) ≡ true → above (ancestors links m) o ≡ above (ancestors links k) o) [
+            | None ↦ λ x y. refl
+            | Some parent ↦ λ x y. same_climb links m k parent x y
+          ] x y)
     ] a b
 
 -- a climb that k steps are enough for
@@ -40,13 +39,13 @@ stable links zero k q a b = absurd cc
 stable links (suc m) zero q a b = absurd (omega arith)
 stable links (suc m) (suc k) q a b =
     elim (q == 1) as (λ v. (v || has_root (cond v [] (above (ancestors links m) (parent_of links q)))) ≡ true → length (cond v [] (above (ancestors links m) (parent_of links q))) ≤ k
-      → (v || has_root (cond v [] (above (ancestors links k) (parent_of links q)))) ≡ true) [
+    → (v || has_root (cond v [] (above (ancestors links k) (parent_of links q)))) ≡ true) [
       | true ↦ λ x y. refl
       | false ↦ λ x y.
-        elim (parent_of links q) as (λ o. has_root (above (ancestors links m) o) ≡ true → length (above (ancestors links m) o) ≤ k → has_root (above (ancestors links k) o) ≡ true) [
-          | None ↦ λ x y. absurd cc
-          | Some parent ↦ λ x y. stable links m k parent x y
-        ] x y
+          elim (parent_of links q) as (λ o. has_root (above (ancestors links m) o) ≡ true → length (above (ancestors links m) o) ≤ k → has_root (above (ancestors links k) o) ≡ true) [
+            | None ↦ λ x y. absurd cc
+            | Some parent ↦ λ x y. stable links m k parent x y
+          ] x y
     ] a (omega arith)
 
 -- no way up goes through a node without links below it, but its own
@@ -58,10 +57,10 @@ never_through links c a (suc m) q h =
     (elim (q == 1) as (λ v. through c (cond v [] (above (ancestors links m) (parent_of links q))) ≡ false) [
       | true ↦ refl
       | false ↦
-        elim (parent_of links q) as (λ o. parent_of links q ≡ o → through c (above (ancestors links m) o) ≡ false) [
-          | None ↦ λ p. refl
-          | Some parent ↦ λ p. never_through links c a m parent (parent_found (λ l. l.0.0 ≢ c) links q parent a p).1
-        ] refl
+          elim (parent_of links q) as (λ o. parent_of links q ≡ o → through c (above (ancestors links m) o) ≡ false) [
+            | None ↦ λ p. refl
+            | Some parent ↦ λ p. never_through links c a m parent (parent_found (λ l. l.0.0 ≢ c) links q parent a p).1
+          ] refl
     ])
 
 apart_first : (a b : Bool) → (a || b) ≡ false → (a ≡ false) × (b ≡ false)
@@ -74,18 +73,18 @@ first_or false b h e = h
 
 -- the step from a node to its parent
 step_up : (links : List Link) (c m q : ℕ) → (q == c) ≡ false → has_root (ancestors links (suc m) q) ≡ true → through c (ancestors links (suc m) q) ≡ true
-  → (p : ℕ) × (parent_of links q ≡ Some p) × (q ≢ 1) × (has_root (ancestors links m p) ≡ true) × (through c (ancestors links m p) ≡ true) × (ancestors links (suc m) q ≡ q ∷ ancestors links m p)
+    → (p : ℕ) × (parent_of links q ≡ Some p) × (q ≢ 1) × (has_root (ancestors links m p) ≡ true) × (through c (ancestors links m p) ≡ true) × (ancestors links (suc m) q ≡ q ∷ ancestors links m p)
 unfolding ancestors
 step_up links c m q d a b =
     elim (q == 1) as (λ v. (q == 1) ≡ v → (v || has_root (cond v [] (above (ancestors links m) (parent_of links q)))) ≡ true → ((q == c) || through c (cond v [] (above (ancestors links m) (parent_of links q)))) ≡ true
-      → (p : ℕ) × (parent_of links q ≡ Some p) × (q ≢ 1) × (has_root (ancestors links m p) ≡ true) × (through c (ancestors links m p) ≡ true) × (q ∷ cond v [] (above (ancestors links m) (parent_of links q)) ≡ q ∷ ancestors links m p)) [
+    → (p : ℕ) × (parent_of links q ≡ Some p) × (q ≢ 1) × (has_root (ancestors links m p) ≡ true) × (through c (ancestors links m p) ≡ true) × (q ∷ cond v [] (above (ancestors links m) (parent_of links q)) ≡ q ∷ ancestors links m p)) [
       | true ↦ λ e x y. absurd (let f : false ≡ true = first_or (q == c) false y d in cc)
       | false ↦ λ e x y.
-        elim (parent_of links q) as (λ o. has_root (above (ancestors links m) o) ≡ true → through c (above (ancestors links m) o) ≡ true
+          elim (parent_of links q) as (λ o. has_root (above (ancestors links m) o) ≡ true → through c (above (ancestors links m) o) ≡ true
           → (p : ℕ) × (o ≡ Some p) × (q ≢ 1) × (has_root (ancestors links m p) ≡ true) × (through c (ancestors links m p) ≡ true) × (q ∷ above (ancestors links m) o ≡ q ∷ ancestors links m p)) [
-          | None ↦ λ f g. absurd cc
-          | Some p ↦ λ f g. (p, refl, eqb-false q 1 e, f, g, refl)
-        ] x (first_or (q == c) _ y d)
+            | None ↦ λ f g. absurd cc
+            | Some p ↦ λ f g. (p, refl, eqb-false q 1 e, f, g, refl)
+          ] x (first_or (q == c) _ y d)
     ] refl a b
 
 no_climb : (links : List Link) (q : ℕ) → has_root (ancestors links zero q) ≡ true → ⊥
@@ -98,7 +97,7 @@ no_steps links c m q h = rw h refl
 
 -- how many steps a way up takes to c, and how many from there
 steps_and_rest : (links : List Link) (c m k q : ℕ) → has_root (ancestors links m q) ≡ true → through c (ancestors links m q) ≡ true → has_root (ancestors links k c) ≡ true
-  → steps_to c (ancestors links m q) + length (ancestors links k c) ≡ length (ancestors links m q)
+    → steps_to c (ancestors links m q) + length (ancestors links k c) ≡ length (ancestors links m q)
 steps_and_rest links c zero k q a b r = absurd (no_climb links q a)
 steps_and_rest links c (suc m) k q a b r =
     elim (q == c) as (λ v. (q == c) ≡ v → steps_to c (ancestors links (suc m) q) + length (ancestors links k c) ≡ length (ancestors links (suc m) q)) [
@@ -122,7 +121,7 @@ unfolding ancestors
 one_more_up links m d p h e = rw (ne_eqb d 1 h, e) refl
 
 module _ (fs : FileSystem) (t : IsTree fs) (parent : ℕ) (name : List ℕ) (new_parent : ℕ) (new_name : List ℕ) (c : ℕ)
-  (found : child_of fs parent name ≡ Some c) (free : child_of fs new_parent new_name ≡ None) where
+    (found : child_of fs parent name ≡ Some c) (free : child_of fs new_parent new_name ≡ None) where
   abbrev pub gap : List Link
   gap = remove_entry (is_at (place_cmp (parent, name))) fs.links
 
@@ -158,18 +157,18 @@ module _ (fs : FileSystem) (t : IsTree fs) (parent : ℕ) (name : List ℕ) (new
       let d = apart_first (q == c) _ h in
       rw (same_parent q (eqb-false q c d.0))
       (elim (q == 1) as (λ v. through c (cond v [] (above (ancestors fs.links m) (parent_of fs.links q))) ≡ false
-        → q ∷ cond v [] (above (ancestors moved m) (parent_of fs.links q)) ≡ q ∷ cond v [] (above (ancestors fs.links m) (parent_of fs.links q))) [
+      → q ∷ cond v [] (above (ancestors moved m) (parent_of fs.links q)) ≡ q ∷ cond v [] (above (ancestors fs.links m) (parent_of fs.links q))) [
         | true ↦ λ x. refl
         | false ↦ λ x. ap (λ (l : List ℕ). q ∷ l)
-          (elim (parent_of fs.links q) as (λ o. through c (above (ancestors fs.links m) o) ≡ false → above (ancestors moved m) o ≡ above (ancestors fs.links m) o) [
-            | None ↦ λ y. refl
-            | Some p ↦ λ y. outside m p y
-          ] x)
+            (elim (parent_of fs.links q) as (λ o. through c (above (ancestors fs.links m) o) ≡ false → above (ancestors moved m) o ≡ above (ancestors fs.links m) o) [
+              | None ↦ λ y. refl
+              | Some p ↦ λ y. outside m p y
+            ] x)
       ] d.1)
 
   -- a way up through c goes on above the new parent
   inside : (m k q : ℕ) → link_count fs.links c ≡ 1 → has_root (path_up fs.links new_parent) ≡ true → through c (path_up fs.links new_parent) ≡ false
-    → has_root (ancestors fs.links m q) ≡ true → through c (ancestors fs.links m q) ≡ true → steps_to c (ancestors fs.links m q) + 1 + depth fs.links new_parent ≤ k → has_root (ancestors moved k q) ≡ true
+      → has_root (ancestors fs.links m q) ≡ true → through c (ancestors fs.links m q) ≡ true → steps_to c (ancestors fs.links m q) + 1 + depth fs.links new_parent ≤ k → has_root (ancestors moved k q) ≡ true
   inside zero k q one r o a b l = absurd (no_climb fs.links q a)
   inside (suc m) zero q one r o a b l = absurd (omega arith)
   inside (suc m) (suc k) q one r o a b l =
@@ -193,7 +192,7 @@ module _ (fs : FileSystem) (t : IsTree fs) (parent : ℕ) (name : List ℕ) (new
   StaysAbove e = is_kind_file e.1.kind ≡ false → through c (path_up fs.links e.0) ≡ true → (link_count fs.links c ≡ 1) × (steps_to c (path_up fs.links e.0) + 1 + depth fs.links new_parent ≤ 255)
 
   root_after : (q : ℕ) → has_root (path_up fs.links new_parent) ≡ true → through c (path_up fs.links new_parent) ≡ false → has_root (path_up fs.links q) ≡ true
-    → (through c (path_up fs.links q) ≡ true → (link_count fs.links c ≡ 1) × (steps_to c (path_up fs.links q) + 1 + depth fs.links new_parent ≤ 255)) → has_root (path_up moved q) ≡ true
+      → (through c (path_up fs.links q) ≡ true → (link_count fs.links c ≡ 1) × (steps_to c (path_up fs.links q) + 1 + depth fs.links new_parent ≤ 255)) → has_root (path_up moved q) ≡ true
   root_after q r o a above_all =
       let e : path_up fs.links q ≡ ancestors fs.links 255 q = path_is fs.links q in
       let old : has_root (ancestors fs.links 255 q) ≡ true = subst (λ (path : List ℕ). has_root path ≡ true) e a in
@@ -206,7 +205,7 @@ module _ (fs : FileSystem) (t : IsTree fs) (parent : ℕ) (name : List ℕ) (new
       ] refl
 
   hangs_moved : (q : ℕ) (k : Kind) → has_root (path_up fs.links new_parent) ≡ true → through c (path_up fs.links new_parent) ≡ false → Hangs fs.links q k
-    → (is_kind_file k ≡ false → through c (path_up fs.links q) ≡ true → (link_count fs.links c ≡ 1) × (steps_to c (path_up fs.links q) + 1 + depth fs.links new_parent ≤ 255)) → Hangs moved q k
+      → (is_kind_file k ≡ false → through c (path_up fs.links q) ≡ true → (link_count fs.links c ≡ 1) × (steps_to c (path_up fs.links q) + 1 + depth fs.links new_parent ≤ 255)) → Hangs moved q k
   hangs_moved q Directory r o h a = ⊎_elim (λ e. inl e) (λ p. inr (same_count q ∙ p.0, root_after q r o p.1 (a refl))) h
   hangs_moved q File r o h a = rw (same_count q) h
 
@@ -249,32 +248,32 @@ file_path fs t c d q h =
 module _ (fs : FileSystem) (t : IsTree fs) (c new_parent : ℕ) where
   -- below a directory
   pub stays_above : link_count fs.links c ≡ 1 → is_directory fs c ≡ true → is_too_deep fs c new_parent ≡ false
-    → AllByRecursion (λ e. is_kind_file e.1.kind ≡ false → through c (path_up fs.links e.0) ≡ true → (link_count fs.links c ≡ 1) × (steps_to c (path_up fs.links e.0) + 1 + depth fs.links new_parent ≤ 255)) fs.nodes
+      → AllByRecursion (λ e. is_kind_file e.1.kind ≡ false → through c (path_up fs.links e.0) ≡ true → (link_count fs.links c ≡ 1) × (steps_to c (path_up fs.links e.0) + 1 + depth fs.links new_parent ≤ 255)) fs.nodes
   stays_above one d h =
       All-map2 (λ e. Hangs fs.links e.0 e.1.kind) (λ e. (not (is_kind_file e.1.kind) && is_within fs.links c e.0 && nat_lt 255 (depth fs.links new_parent + 1 + (depth fs.links e.0 - depth fs.links c))) ≡ false)
       (λ e. is_kind_file e.1.kind ≡ false → through c (path_up fs.links e.0) ≡ true → (link_count fs.links c ≡ 1) × (steps_to c (path_up fs.links e.0) + 1 + depth fs.links new_parent ≤ 255)) fs.nodes
       (λ e n g k w.
-        let deep : nat_lt 255 (depth fs.links new_parent + 1 + (depth fs.links e.0 - depth fs.links c)) ≡ false = last_of_three (is_kind_file e.1.kind) (is_within fs.links c e.0) _ n k w in
-        let root : has_root (path_up fs.links e.0) ≡ true = hung_directory fs.links e.0 e.1.kind (ap not k) g in
-        let sum = steps_and_rest fs.links c 255 255 e.0 (subst (λ (path : List ℕ). has_root path ≡ true) (path_is fs.links e.0) root) (subst (λ (path : List ℕ). through c path ≡ true) (path_is fs.links e.0) w) (subst (λ (path : List ℕ). has_root path ≡ true) (path_is fs.links c) (reached fs t c d)) in
-        let steps : steps_to c (path_up fs.links e.0) ≡ steps_to c (ancestors fs.links 255 e.0) = ap (steps_to c) (path_is fs.links e.0) in
-        (one, omega (arith, ltb-false 255 _ deep, sum, steps, ap length (path_is fs.links e.0), ap length (path_is fs.links c))))
+      let deep : nat_lt 255 (depth fs.links new_parent + 1 + (depth fs.links e.0 - depth fs.links c)) ≡ false = last_of_three (is_kind_file e.1.kind) (is_within fs.links c e.0) _ n k w in
+      let root : has_root (path_up fs.links e.0) ≡ true = hung_directory fs.links e.0 e.1.kind (ap not k) g in
+      let sum = steps_and_rest fs.links c 255 255 e.0 (subst (λ (path : List ℕ). has_root path ≡ true) (path_is fs.links e.0) root) (subst (λ (path : List ℕ). through c path ≡ true) (path_is fs.links e.0) w) (subst (λ (path : List ℕ). has_root path ≡ true) (path_is fs.links c) (reached fs t c d)) in
+      let steps : steps_to c (path_up fs.links e.0) ≡ steps_to c (ancestors fs.links 255 e.0) = ap (steps_to c) (path_is fs.links e.0) in
+      (one, omega (arith, ltb-false 255 _ deep, sum, steps, ap length (path_is fs.links e.0), ap length (path_is fs.links c))))
       (none_of_any _ fs.nodes h) t.nodes
 
   -- below a file there is no directory
   pub file_above : is_directory fs c ≡ false
-    → AllByRecursion (λ e. is_kind_file e.1.kind ≡ false → through c (path_up fs.links e.0) ≡ true → (link_count fs.links c ≡ 1) × (steps_to c (path_up fs.links e.0) + 1 + depth fs.links new_parent ≤ 255)) fs.nodes
+      → AllByRecursion (λ e. is_kind_file e.1.kind ≡ false → through c (path_up fs.links e.0) ≡ true → (link_count fs.links c ≡ 1) × (steps_to c (path_up fs.links e.0) + 1 + depth fs.links new_parent ≤ 255)) fs.nodes
   file_above d =
       All-map (λ e. node_of fs e.0 ≡ Some e.1) (λ e. is_kind_file e.1.kind ≡ false → through c (path_up fs.links e.0) ≡ true → (link_count fs.links c ≡ 1) × (steps_to c (path_up fs.links e.0) + 1 + depth fs.links new_parent ≤ 255)) fs.nodes
       (λ e f k w.
-        let here : is_directory fs e.0 ≡ true = ap is_directory_node f ∙ ap not k in
-        let never : through c (path_up fs.links e.0) ≡ false = file_path fs t c d e.0 here in
-        absurd (let g : true ≡ false = sym w ∙ never in cc))
+      let here : is_directory fs e.0 ≡ true = ap is_directory_node f ∙ ap not k in
+      let never : through c (path_up fs.links e.0) ≡ false = file_path fs t c d e.0 here in
+      absurd (let g : true ≡ false = sym w ∙ never in cc))
       (all_found fs.nodes t.nodes_ascend)
 
 -- ---- a walk up to a directory
 pub walk_on : (links : List Link) (to m d parent : ℕ) → has_root (ancestors links m d) ≡ true → d ≢ 1 → parent_of links d ≡ Some parent → d ≢ to
-  → (through to (ancestors links m d) ≡ through to (ancestors links (m - 1) parent)) × (steps_to to (ancestors links m d) ≡ 1 + steps_to to (ancestors links (m - 1) parent))
+    → (through to (ancestors links m d) ≡ through to (ancestors links (m - 1) parent)) × (steps_to to (ancestors links m d) ≡ 1 + steps_to to (ancestors links (m - 1) parent))
 walk_on links to zero d parent h r p n = absurd (no_climb links d h)
 walk_on links to (suc m) d parent h r p n =
     let e : m ≡ suc m - 1 = omega arith in
@@ -312,22 +311,22 @@ same_bound true false m n h = refl
 same_bound false b m n h = refl
 
 pub deep_by_number : (fs : FileSystem) → IsTree fs → (c new_parent : ℕ) → is_directory fs c ≡ true
-  → list_any (lies_too_deep fs c (depth fs.links new_parent + 1)) (map (λ e. e.0) fs.nodes) ≡ is_too_deep fs c new_parent
+    → list_any (lies_too_deep fs c (depth fs.links new_parent + 1)) (map (λ e. e.0) fs.nodes) ≡ is_too_deep fs c new_parent
 deep_by_number fs t c new_parent d =
     any_key (lies_too_deep fs c (depth fs.links new_parent + 1)) fs.nodes
     ∙ same_any (λ e. lies_too_deep fs c (depth fs.links new_parent + 1) e.0)
-      (λ e. not (is_kind_file e.1.kind) && is_within fs.links c e.0 && nat_lt 255 (depth fs.links new_parent + 1 + (depth fs.links e.0 - depth fs.links c))) fs.nodes
-      (All-map (λ e. node_of fs e.0 ≡ Some e.1)
-          (λ e. lies_too_deep fs c (depth fs.links new_parent + 1) e.0 ≡ (not (is_kind_file e.1.kind) && is_within fs.links c e.0 && nat_lt 255 (depth fs.links new_parent + 1 + (depth fs.links e.0 - depth fs.links c)))) fs.nodes
-          (λ e f.
-            ap (λ (b : Bool). b && through c (path_up fs.links e.0) && nat_lt 255 (depth fs.links new_parent + 1 + steps_to c (path_up fs.links e.0))) (ap is_directory_node f)
-            ∙ same_bound (not (is_kind_file e.1.kind)) (through c (path_up fs.links e.0)) (depth fs.links new_parent + 1 + steps_to c (path_up fs.links e.0)) (depth fs.links new_parent + 1 + (depth fs.links e.0 - depth fs.links c))
-              (λ k w.
-                let root : has_root (path_up fs.links e.0) ≡ true = reached fs t e.0 (ap is_directory_node f ∙ k) in
-                let sum = steps_and_rest fs.links c 255 255 e.0 (subst (λ (path : List ℕ). has_root path ≡ true) (path_is fs.links e.0) root) (subst (λ (path : List ℕ). through c path ≡ true) (path_is fs.links e.0) w) (subst (λ (path : List ℕ). has_root path ≡ true) (path_is fs.links c) (reached fs t c d)) in
-                let steps : steps_to c (path_up fs.links e.0) ≡ steps_to c (ancestors fs.links 255 e.0) = ap (steps_to c) (path_is fs.links e.0) in
-                omega (arith, sum, steps, ap length (path_is fs.links e.0), ap length (path_is fs.links c))))
-          (all_found fs.nodes t.nodes_ascend))
+    (λ e. not (is_kind_file e.1.kind) && is_within fs.links c e.0 && nat_lt 255 (depth fs.links new_parent + 1 + (depth fs.links e.0 - depth fs.links c))) fs.nodes
+    (All-map (λ e. node_of fs e.0 ≡ Some e.1)
+    (λ e. lies_too_deep fs c (depth fs.links new_parent + 1) e.0 ≡ (not (is_kind_file e.1.kind) && is_within fs.links c e.0 && nat_lt 255 (depth fs.links new_parent + 1 + (depth fs.links e.0 - depth fs.links c)))) fs.nodes
+    (λ e f.
+    ap (λ (b : Bool). b && through c (path_up fs.links e.0) && nat_lt 255 (depth fs.links new_parent + 1 + steps_to c (path_up fs.links e.0))) (ap is_directory_node f)
+    ∙ same_bound (not (is_kind_file e.1.kind)) (through c (path_up fs.links e.0)) (depth fs.links new_parent + 1 + steps_to c (path_up fs.links e.0)) (depth fs.links new_parent + 1 + (depth fs.links e.0 - depth fs.links c))
+    (λ k w.
+    let root : has_root (path_up fs.links e.0) ≡ true = reached fs t e.0 (ap is_directory_node f ∙ k) in
+    let sum = steps_and_rest fs.links c 255 255 e.0 (subst (λ (path : List ℕ). has_root path ≡ true) (path_is fs.links e.0) root) (subst (λ (path : List ℕ). through c path ≡ true) (path_is fs.links e.0) w) (subst (λ (path : List ℕ). has_root path ≡ true) (path_is fs.links c) (reached fs t c d)) in
+    let steps : steps_to c (path_up fs.links e.0) ≡ steps_to c (ancestors fs.links 255 e.0) = ap (steps_to c) (path_is fs.links e.0) in
+    omega (arith, sum, steps, ap length (path_is fs.links e.0), ap length (path_is fs.links c))))
+    (all_found fs.nodes t.nodes_ascend))
 
 -- a directory that comes to lie no deeper takes none below it too deep
 short : (links : List Link) (m q : ℕ) → length (ancestors links m q) ≤ m
@@ -354,6 +353,6 @@ not_lt a b h = elim (nat_lt a b) as (λ v. nat_lt a b ≡ v → v ≡ false) [ t
 pub no_deeper : (fs : FileSystem) (c new_parent : ℕ) → depth fs.links new_parent < depth fs.links c → is_too_deep fs c new_parent ≡ false
 no_deeper fs c new_parent h =
     none_passes _ fs.nodes (λ e.
-      let q : depth fs.links e.0 ≤ 255 = subst (λ (path : List ℕ). length path ≤ 255) (sym (path_is fs.links e.0)) (short fs.links 255 e.0) in
-      let d : depth fs.links c ≤ 255 = subst (λ (path : List ℕ). length path ≤ 255) (sym (path_is fs.links c)) (short fs.links 255 c) in
-      third_fails (not (is_kind_file e.1.kind)) (is_within fs.links c e.0) _ (not_lt 255 (depth fs.links new_parent + 1 + (depth fs.links e.0 - depth fs.links c)) (omega arith)))
+    let q : depth fs.links e.0 ≤ 255 = subst (λ (path : List ℕ). length path ≤ 255) (sym (path_is fs.links e.0)) (short fs.links 255 e.0) in
+    let d : depth fs.links c ≤ 255 = subst (λ (path : List ℕ). length path ≤ 255) (sym (path_is fs.links c)) (short fs.links 255 c) in
+    third_fails (not (is_kind_file e.1.kind)) (is_within fs.links c e.0) _ (not_lt 255 (depth fs.links new_parent + 1 + (depth fs.links e.0 - depth fs.links c)) (omega arith)))

@@ -1,13 +1,12 @@
 -- What each event does to a file system: it is refused by the first rule of its list that applies, and changes nothing, or
 -- it is accepted, and gives the next file system. Links, removal and renaming are those of POSIX.1.
-use Rattle.std.specs.Prelude.{◌≡◌, ℕ, ◌+◌, ◌-◌, ◌≤◌, Bool, true, false, ◌&&◌, ◌||◌, not, cond, ◌==◌, nat_lt, nat_le, Option, None, Some, is_some, Result, Ok, Err, MatchResult, List, [], ◌∷◌, ◌++◌}
+use Rattle.std.specs.Prelude.{◌≡◌, ℕ, ◌+◌, ◌-◌, ◌≤◌, Bool, false, ◌&&◌, ◌||◌, not, cond, ◌==◌, nat_lt, nat_le, Option, None, Some, Result, Ok, Err, MatchResult, List, [], ◌∷◌, ◌++◌}
 use Rattle.std.specs.Ordering.{nat_cmp}
 use Rattle.std.specs.List.{list_any, fold}
-use Rattle.std.specs.Map.{lookup, remove_entry, set_value}
+use Rattle.std.specs.Map.{remove_entry, set_value}
 use Rattle.std.specs.BTreeMap.{is_at, insert_entry}
 use Rattle.std.specs.BTreeSet.{insert_key}
 use Rattle.wu_access.specs.declared.Perm.{Perm}
-use Rattle.wu_tree.specs.declared.events.Kind.{Kind}
 use Rattle.wu_tree.specs.declared.events.Kind.TheVariants.{Directory, File}
 use Rattle.wu_tree.specs.declared.events.Node.{Node}
 use Rattle.wu_tree.specs.declared.events.Event.{Event}
@@ -46,8 +45,8 @@ abbrev pub is_too_deep : FileSystem → ℕ → ℕ → Bool
 is_too_deep fs child parent =
     list_any
     (λ node.
-        not (is_kind_file node.1.kind) && is_within fs.links child node.0
-        && nat_lt 255 (depth fs.links parent + 1 + (depth fs.links node.0 - depth fs.links child)))
+    not (is_kind_file node.1.kind) && is_within fs.links child node.0
+    && nat_lt 255 (depth fs.links parent + 1 + (depth fs.links node.0 - depth fs.links child)))
     fs.nodes
 
 -- whether what stands at a place, if anything does, is a link to that node; a link to a node of the other kind; a link to a

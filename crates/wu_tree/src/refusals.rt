@@ -1,6 +1,5 @@
 //! Why an event is refused: the first rule of its list that applies.
 ghost use Rattle.std.specs.Prelude.{◌≡◌, true, IfNone, Some};
-
 ghost use Rattle.wu_tree.specs.Steps.{is_link_to as link_test};
 
 use crate::events::{Event, Kind, Refusal};
@@ -19,10 +18,16 @@ impl Tree {
         match event {
             Event::User { .. } => None,
             Event::Mkdir {
-                ino, parent, name, ..
+                ino,
+                parent,
+                name,
+                ..
             } => self.refuse_mkdir(*ino, *parent, name.as_slice()),
             Event::Create {
-                ino, parent, name, ..
+                ino,
+                parent,
+                name,
+                ..
             } => self.refuse_create(*ino, *parent, name.as_slice()),
             Event::Text { ino } => self.refuse_text(*ino),
             Event::Link { ino, parent, name } => self.refuse_link(*ino, *parent, name.as_slice()),

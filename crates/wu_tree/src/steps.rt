@@ -85,13 +85,7 @@ impl Tree {
         }
     }
 
-    fn mkdir(
-        &mut self,
-        ino: Ino,
-        parent: Ino,
-        name: &[u8],
-        perm: Perm,
-    ) -> Result<Effect, NoMemory>
+    fn mkdir(&mut self, ino: Ino, parent: Ino, name: &[u8], perm: Perm) -> Result<Effect, NoMemory>
         requires low { 1 ≤ ino }
         requires mode { perm.mode ≤ 0xFFF }
         requires accepted { first_of (mkdir_rules self.old ino parent name.now) ≡ None }
@@ -105,13 +99,7 @@ impl Tree {
         Ok(NO_EFFECT)
     }
 
-    fn create(
-        &mut self,
-        ino: Ino,
-        parent: Ino,
-        name: &[u8],
-        perm: Perm,
-    ) -> Result<Effect, NoMemory>
+    fn create(&mut self, ino: Ino, parent: Ino, name: &[u8], perm: Perm) -> Result<Effect, NoMemory>
         requires low { 1 ≤ ino }
         requires mode { perm.mode ≤ 0xFFF }
         requires accepted { first_of (create_rules self.old ino parent name.now) ≡ None }

@@ -120,8 +120,14 @@ fn nodes_and_links_that_may_not_be_made(rt: HostRuntime) -> Result<(), Fail> {
     assert_eq!(rt; mkdir(rt, &mut tree, 9, 1, b"..")?, Some(Refusal::BadName));
     assert_eq!(rt; mkdir(rt, &mut tree, 9, 1, b"")?, Some(Refusal::BadName));
     assert_eq!(rt; mkdir(rt, &mut tree, 9, 1, b"a/b")?, Some(Refusal::BadName));
-    assert_eq!(rt; tree.apply(&Event::Text { ino: 2 })?.err(), Some(Refusal::Kind));
-    assert_eq!(rt; tree.apply(&Event::Text { ino: 9 })?.err(), Some(Refusal::NoSuch));
+    assert_eq!(rt;
+        tree.apply(&Event::Text { ino: 2 })?.err(),
+        Some(Refusal::Kind)
+    );
+    assert_eq!(rt;
+        tree.apply(&Event::Text { ino: 9 })?.err(),
+        Some(Refusal::NoSuch)
+    );
     assert_eq!(rt; link(rt, &mut tree, 2, 1, b"h")?, Some(Refusal::Kind));
     assert_eq!(rt; link(rt, &mut tree, 3, 1, b"g")?, Some(Refusal::Exists));
     Ok(())
@@ -135,8 +141,23 @@ fn links_that_may_not_go(rt: HostRuntime) -> Result<(), Fail> {
     assert_eq!(rt; rmdir(rt, &mut tree, 1, b"g")?, Some(Refusal::Kind));
     assert_eq!(rt; rmdir(rt, &mut tree, 1, b"d")?, Some(Refusal::NotEmpty));
     assert_eq!(rt; rmdir(rt, &mut tree, 2, b"e")?, None);
-    assert_eq!(rt; tree.apply(&Event::Chmod { ino: 99, mode: 0o755 })?.err(), Some(Refusal::NoSuch));
-    assert_eq!(rt; tree.apply(&Event::Chown { ino: 1, uid: 0, gid: 0 })?.err(), None);
+    assert_eq!(rt;
+        tree.apply(&Event::Chmod {
+            ino: 99,
+            mode: 0o755
+        })?
+        .err(),
+        Some(Refusal::NoSuch)
+    );
+    assert_eq!(rt;
+        tree.apply(&Event::Chown {
+            ino: 1,
+            uid: 0,
+            gid: 0
+        })?
+        .err(),
+        None
+    );
     assert_eq!(rt; tree.file_count(), 2);
     Ok(())
 }
@@ -144,10 +165,22 @@ fn links_that_may_not_go(rt: HostRuntime) -> Result<(), Fail> {
 #[test]
 fn links_that_may_not_move(rt: HostRuntime) -> Result<(), Fail> {
     let mut tree = small_tree(rt)?;
-    assert_eq!(rt; rename(rt, &mut tree, 1, b"d", 4, b"q")?, Some(Refusal::Loop));
-    assert_eq!(rt; rename(rt, &mut tree, 1, b"d", 2, b"x")?, Some(Refusal::Loop));
-    assert_eq!(rt; rename(rt, &mut tree, 1, b"g", 1, b"d")?, Some(Refusal::Kind));
-    assert_eq!(rt; rename(rt, &mut tree, 2, b"e", 1, b"d")?, Some(Refusal::NotEmpty));
+    assert_eq!(rt;
+        rename(rt, &mut tree, 1, b"d", 4, b"q")?,
+        Some(Refusal::Loop)
+    );
+    assert_eq!(rt;
+        rename(rt, &mut tree, 1, b"d", 2, b"x")?,
+        Some(Refusal::Loop)
+    );
+    assert_eq!(rt;
+        rename(rt, &mut tree, 1, b"g", 1, b"d")?,
+        Some(Refusal::Kind)
+    );
+    assert_eq!(rt;
+        rename(rt, &mut tree, 2, b"e", 1, b"d")?,
+        Some(Refusal::NotEmpty)
+    );
     assert_eq!(rt; rename(rt, &mut tree, 1, b"d", 1, b"d")?, None);
     assert_eq!(rt; rename(rt, &mut tree, 2, b"e", 1, b"e")?, None);
     assert_eq!(rt; rmdir(rt, &mut tree, 1, b"e")?, None);
@@ -179,7 +212,10 @@ fn a_subtree_moves_one_level_too_deep(rt: HostRuntime) -> Result<(), Fail> {
     assert_eq!(rt; mkdir(rt, &mut tree, 300, 1, b"a")?, None);
     assert_eq!(rt; mkdir(rt, &mut tree, 301, 300, b"b")?, None);
     assert_eq!(rt; mkdir(rt, &mut tree, 302, 301, b"c")?, None);
-    assert_eq!(rt; rename(rt, &mut tree, 1, b"a", 253, b"a")?, Some(Refusal::Deep));
+    assert_eq!(rt;
+        rename(rt, &mut tree, 1, b"a", 253, b"a")?,
+        Some(Refusal::Deep)
+    );
     assert_eq!(rt; rename(rt, &mut tree, 1, b"a", 252, b"a")?, None);
     assert_eq!(rt; rename(rt, &mut tree, 252, b"a", 1, b"e")?, None);
     Ok(())

@@ -134,7 +134,10 @@ impl Tree {
     pub fn file_count(&self) -> u64
         ensures { result ≡ count_of_files self.now }
     {
-        self.inodes.values().filter(|inode| inode.hold.is_file()).count() as u64
+        self.inodes
+            .values()
+            .filter(|inode| inode.hold.is_file())
+            .count() as u64
     }
 
     /// Nodes, links and users keep the rules of a tree at every moment.

@@ -1,4 +1,3 @@
-use Rattle.std.proofs.Common.{◌≡◌, ◌∙◌, sym}
 use Rattle.wu_tree.proofs.trees.Tree.accept.Goals as goal
 
 pub returns-in-Unlink-clause-effect : goal.returns-in-Unlink-clause-effect

@@ -1,4 +1,4 @@
-use Rattle.std.proofs.Common.{◌≡◌, ◌+◌, ◌∙◌, ℕ, sym, ap, subst, length, rules}
+use Rattle.std.proofs.Common.{◌+◌, ◌∙◌, ℕ, sym, ap, subst, length, rules}
 use Rattle.std.specs.Prelude.{map}
 use Rattle.std.proofs.lemmas.Map.Made.{keys_of-map_values}
 use Rattle.wu_tree.specs.Inodes.{node_in}

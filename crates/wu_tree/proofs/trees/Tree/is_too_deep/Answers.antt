@@ -1,4 +1,4 @@
-use Rattle.std.proofs.Common.{◌≡◌, ◌<◌, sym, arith}
+use Rattle.std.proofs.Common.{sym, arith}
 use Rattle.wu_tree.proofs.Ways.{no_deeper}
 use Rattle.wu_tree.proofs.trees.Tree.is_too_deep.Goals as goal
 
