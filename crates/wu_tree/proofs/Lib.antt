@@ -1,0 +1,10 @@
+pub mod Nest
+pub mod Entries
+pub mod Keeps
+pub mod NewNodes
+pub mod NewLinks
+pub mod Drops
+pub mod Perms
+pub mod Sound
+pub mod Ways
+pub mod Renames

@@ -1,0 +1,109 @@
+//! What a tree keeps of a node.
+ghost use Rattle.std.specs.Prelude.{◌≡◌};
+ghost use Rattle.wu_tree.specs.Inodes.{fewer_links, first_hold, has_one_link, kind_of, moved_hold, node_in, parent_in};
+ghost use Rattle.wu_tree.specs.FileSystems.{is_kind_file};
+
+use crate::events::{Kind, Node};
+use wu_access::Perm;
+use wu_base::Ino;
+
+/// A node, and what ties it to the links.
+#[derive(Clone, Copy, Debug)]
+pub(crate) struct Inode {
+    pub(crate) perm: Perm,
+    pub(crate) hold: Hold,
+}
+
+/// What ties a node to the links.
+#[derive(Clone, Copy, Debug)]
+pub(crate) enum Hold {
+    /// A directory stands in its parent; the root counts as its own.
+    Entries { parent: Ino },
+    /// A file has as many links.
+    Links { count: u64 },
+}
+
+impl Inode {
+    /// The node as callers see it.
+    pub(crate) fn node(&self) -> Node
+        ensures { result ≡ node_in self.now }
+    {
+        Node {
+            kind: self.hold.kind(),
+            perm: self.perm,
+        }
+    }
+}
+
+impl Hold {
+    /// How a new node is held: a directory in its parent, a file by its first link.
+    pub(crate) fn first(kind: Kind, parent: Ino) -> Hold
+        ensures { result ≡ first_hold kind parent }
+    {
+        match kind {
+            Kind::Directory => Hold::Entries { parent },
+            Kind::File => Hold::Links { count: 1 },
+        }
+    }
+
+    /// Whether the last link of the node is all that it has. A directory has but one.
+    pub(crate) fn has_one_link(&self) -> bool
+        ensures { result ≡ has_one_link self.now }
+    {
+        match self {
+            Hold::Entries { .. } => true,
+            Hold::Links { count } => *count == 1,
+        }
+    }
+
+    /// With one link fewer.
+    pub(crate) fn fewer_links(&self) -> Hold
+        ensures { result ≡ fewer_links self.now }
+    {
+        match self {
+            Hold::Entries { parent } => Hold::Entries { parent: *parent },
+            Hold::Links { count } => Hold::Links {
+                count: count.saturating_sub(1),
+            },
+        }
+    }
+
+    /// A directory's hold in another parent.
+    pub(crate) fn moved_to(&self, parent: Ino) -> Hold
+        ensures { result ≡ moved_hold parent self.now }
+    {
+        match self {
+            Hold::Entries { .. } => Hold::Entries { parent },
+            Hold::Links { count } => Hold::Links { count: *count },
+        }
+    }
+
+    /// Whether it is a file's.
+    pub(crate) fn is_file(&self) -> bool
+        ensures { result ≡ is_kind_file (kind_of self.now) }
+    {
+        match self {
+            Hold::Entries { .. } => false,
+            Hold::Links { .. } => true,
+        }
+    }
+
+    /// A directory's parent.
+    pub(crate) fn parent(&self) -> Option<Ino>
+        ensures { result ≡ parent_in self.now }
+    {
+        match self {
+            Hold::Entries { parent } => Some(*parent),
+            Hold::Links { .. } => None,
+        }
+    }
+
+    fn kind(&self) -> Kind
+        ensures { result ≡ kind_of self.now }
+    {
+        match self {
+            Hold::Entries { .. } => Kind::Directory,
+            Hold::Links { .. } => Kind::File,
+        }
+    }
+}

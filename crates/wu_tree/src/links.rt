@@ -1,0 +1,146 @@
+//! The links of a tree: in each directory the names and what they name.
+ghost use Rattle.std.specs.Prelude.{◌≡◌, [], true, false, map, MatchOption, OnOk, OnErr};
+ghost use Rattle.std.specs.Map.{lookup, remove_entry};
+ghost use Rattle.std.specs.BTreeMap.{is_at, insert_entry};
+ghost use Rattle.wu_tree.specs.FileSystems.{entries_of, place_cmp, has_entries};
+
+use std::alloc::Global;
+use std::collections::BTreeMap;
+use std::marker::Model;
+use wu_base::{Ino, NoMemory};
+
+/// Links by directory and name. A directory without entries has no map here.
+#[derive(Debug, Drop)]
+pub(crate) struct Links {
+    directories: BTreeMap<Ino, BTreeMap<Vec<u8>, Ino>>,
+}
+
+impl Model for Links {
+    ghost use Rattle.std.specs.Prelude.{List};
+    ghost use Rattle.std.specs.Ordering.{nat_cmp};
+    ghost use Rattle.std.specs.BTreeMap.{IsOrdered};
+    ghost use Rattle.wu_tree.specs.FileSystems.{Link};
+    ghost use Rattle.wu_tree.specs.Nested.{links_in};
+
+    ghost Value = { List Link };
+
+    ghost view = { λ s. links_in (λ k. k.items) s.directories.entries };
+
+    ghost invariant = { λ s. IsOrdered nat_cmp s.directories };
+}
+
+impl Links {
+    /// No links. Takes no memory.
+    pub(crate) fn new(alloc: Global) -> Links
+        ensures { result ≡ [] }
+    {
+        Links {
+            directories: BTreeMap::new(alloc),
+        }
+    }
+
+    /// What the name in the directory names. Takes no memory.
+    pub(crate) fn child(&self, directory: Ino, name: &[u8]) -> Option<Ino>
+        ensures { result ≡ lookup (is_at (place_cmp (directory, name.now))) self.now }
+    {
+        match self.directories.get(&directory) {
+            Some(names) => names.get(name).copied(),
+            None => None,
+        }
+    }
+
+    /// The names in a directory and what they name, or None where it has no entries. Takes no memory.
+    pub(crate) fn names(&self, directory: Ino) -> Option<&BTreeMap<Vec<u8>, Ino>>
+        ensures { MatchOption result (entries_of self.now directory ≡ []) (λ names. map (λ e. (e.0.items, e.1)) names.now.entries ≡ entries_of self.now directory) }
+    {
+        match self.directories.get(&directory) {
+            Some(names) => Some(names),
+            None => None,
+        }
+    }
+
+    /// Whether the directory has entries. Takes no memory.
+    pub(crate) fn has_entries(&self, directory: Ino) -> bool
+        ensures { result ≡ has_entries self.now directory }
+    {
+        match self.directories.get(&directory) {
+            Some(names) => !names.is_empty(),
+            None => false,
+        }
+    }
+
+    /// Puts a link to its place, instead of the one that may stand there. After want of memory the links
+    /// are as they were.
+    pub(crate) fn insert(
+        &mut self,
+        alloc: Global,
+        parent: Ino,
+        name: Vec<u8>,
+        child: Ino,
+    ) -> Result<(), NoMemory>
+        ensures ok { OnOk result (self.new ≡ insert_entry place_cmp self.old (parent, name.items) child) }
+        ensures err { OnErr result (self.new ≡ self.old) }
+    {
+        if self.has_entries(parent) {
+            self.insert_into(parent, name, child)
+        } else {
+            self.insert_first(alloc, parent, name, child)
+        }
+    }
+
+    /// Puts a link into a directory that has entries.
+    fn insert_into(&mut self, parent: Ino, name: Vec<u8>, child: Ino) -> Result<(), NoMemory>
+        requires { has_entries self.old parent ≡ true }
+        ensures ok { OnOk result (self.new ≡ insert_entry place_cmp self.old (parent, name.items) child) }
+        ensures err { OnErr result (self.new ≡ self.old) }
+    {
+        if let Some(names) = self.directories.get_mut(&parent) {
+            names.insert(name, child)?;
+        }
+        Ok(())
+    }
+
+    /// Puts a link into a directory that has no entries.
+    fn insert_first(
+        &mut self,
+        alloc: Global,
+        parent: Ino,
+        name: Vec<u8>,
+        child: Ino,
+    ) -> Result<(), NoMemory>
+        requires { has_entries self.old parent ≡ false }
+        ensures ok { OnOk result (self.new ≡ insert_entry place_cmp self.old (parent, name.items) child) }
+        ensures err { OnErr result (self.new ≡ self.old) }
+    {
+        let mut names = BTreeMap::new(alloc);
+        names.insert(name, child)?;
+        self.directories.insert(parent, names)?;
+        Ok(())
+    }
+
+    /// Takes the link at a place out, where there is one. Takes no memory.
+    pub(crate) fn remove(&mut self, parent: Ino, name: &[u8])
+        ensures { self.new ≡ remove_entry (is_at (place_cmp (parent, name.now))) self.old }
+    {
+        self.remove_from(parent, name);
+        self.drop_if_empty(parent);
+    }
+
+    /// Takes a name out of its directory.
+    fn remove_from(&mut self, parent: Ino, name: &[u8])
+        ensures { self.new ≡ remove_entry (is_at (place_cmp (parent, name.now))) self.old }
+    {
+        if let Some(names) = self.directories.get_mut(&parent) {
+            names.remove(name);
+        }
+    }
+
+    /// Gives back the memory of a directory without entries.
+    fn drop_if_empty(&mut self, directory: Ino)
+        ensures { self.new ≡ self.old }
+    {
+        if !self.has_entries(directory) {
+            self.directories.remove(&directory);
+        }
+    }
+}

@@ -1,0 +1,226 @@
+//! The steps of a tree: each event is accepted whole or refused.
+ghost use Rattle.std.specs.Prelude.{◌≡◌, ◌≤◌, ◌+◌, ◌-◌, None, Some, IfOk, OnOk, OnErr};
+
+use crate::events::{Effect, Event, Kind, Node, Refusal};
+use crate::trees::Tree;
+use std::alloc::AllocError;
+use wu_access::Perm;
+use wu_base::{Gid, Ino, NoMemory, Uid};
+
+/// Of an event that makes no file, drops none and gives none a text.
+const NO_EFFECT: Effect = Effect {
+    made: None,
+    dropped: None,
+    texted: None,
+};
+
+impl Tree {
+    ghost use Rattle.wu_tree.specs.FileSystems.{node_of};
+    ghost use Rattle.wu_tree.specs.Steps.{IsEvent, IsStep, absent_rules, create_rules, dropped_at, effect_of, first_of, link_rules, mkdir_rules, next, refusal_of, rename_effect, rename_rules, renamed, rmdir_rules, text_rules, unlink_rules, with_link, with_node, with_perm, without_link};
+
+    /// One event: its effect where it is accepted, or why it is refused, by the first rule of its list that
+    /// applies. A refused event changes nothing, and neither does one for which there is no memory. Mkdir
+    /// and Create carry no number 0, and a mode has at most four octal digits. The time is logarithmic in
+    /// the tree, beside what the depth of a new directory and the event's own bytes take.
+    pub fn apply(&mut self, event: &Event) -> Result<Result<Effect, Refusal>, NoMemory>
+        requires { IsEvent event.now }
+        ensures step { IfOk result (λ answer. IsStep self.old event.now answer self.new) }
+        ensures no_memory { OnErr result (self.new ≡ self.old) }
+    {
+        match self.refusal(event) {
+            Some(refusal) => Ok(Err(refusal)),
+            None => Ok(Ok(self.accept(event)?)),
+        }
+    }
+
+    /// What an event does that no rule refuses.
+    fn accept(&mut self, event: &Event) -> Result<Effect, NoMemory>
+        requires event { IsEvent event.now }
+        requires accepted { refusal_of self.old event.now ≡ None }
+        ensures effect { IfOk result (λ effect. effect ≡ effect_of self.old event.now) }
+        ensures next { OnOk result (self.new ≡ next self.old event.now) }
+        ensures err { OnErr result (self.new ≡ self.old) }
+    {
+        match event {
+            Event::User { uid, groups } => {
+                self.set_user(*uid, groups.as_slice())?;
+                Ok(NO_EFFECT)
+            }
+            Event::Mkdir {
+                ino,
+                parent,
+                name,
+                perm,
+            } => self.mkdir(*ino, *parent, name.as_slice(), *perm),
+            Event::Create {
+                ino,
+                parent,
+                name,
+                perm,
+            } => self.create(*ino, *parent, name.as_slice(), *perm),
+            Event::Text { ino } => Ok(Effect {
+                texted: Some(*ino),
+                ..NO_EFFECT
+            }),
+            Event::Link { ino, parent, name } => self.link(*ino, *parent, name.as_slice()),
+            Event::Unlink { parent, name } => Ok(self.unlink(*parent, name.as_slice())),
+            Event::Rmdir { parent, name } => {
+                self.rmdir(*parent, name.as_slice());
+                Ok(NO_EFFECT)
+            }
+            Event::Rename {
+                parent,
+                name,
+                new_parent,
+                new_name,
+            } => self.rename(*parent, name.as_slice(), *new_parent, new_name.as_slice()),
+            Event::Chmod { ino, mode } => {
+                self.chmod(*ino, *mode);
+                Ok(NO_EFFECT)
+            }
+            Event::Chown { ino, uid, gid } => {
+                self.chown(*ino, *uid, *gid);
+                Ok(NO_EFFECT)
+            }
+        }
+    }
+
+    fn mkdir(&mut self, ino: Ino, parent: Ino, name: &[u8], perm: Perm) -> Result<Effect, NoMemory>
+        requires low { 1 ≤ ino }
+        requires mode { perm.mode ≤ 0xFFF }
+        requires accepted { first_of (mkdir_rules self.old ino parent name.now) ≡ None }
+        ensures effect { IfOk result (λ effect. effect ≡ NO_EFFECT) }
+        ensures next { OnOk result (self.new ≡ with_node self.old ino parent name.now (record { kind = Kind.Directory; perm = perm })) }
+        ensures err { OnErr result (self.new ≡ self.old) }
+    {
+        let name = self.copy(name)?;
+        let kind = Kind::Directory;
+        self.add_node(ino, parent, name, Node { kind, perm })?;
+        Ok(NO_EFFECT)
+    }
+
+    fn create(&mut self, ino: Ino, parent: Ino, name: &[u8], perm: Perm) -> Result<Effect, NoMemory>
+        requires low { 1 ≤ ino }
+        requires mode { perm.mode ≤ 0xFFF }
+        requires accepted { first_of (create_rules self.old ino parent name.now) ≡ None }
+        ensures effect { IfOk result (λ effect. effect ≡ record NO_EFFECT { made = Some ino }) }
+        ensures next { OnOk result (self.new ≡ with_node self.old ino parent name.now (record { kind = Kind.File; perm = perm })) }
+        ensures err { OnErr result (self.new ≡ self.old) }
+    {
+        let name = self.copy(name)?;
+        let kind = Kind::File;
+        self.add_node(ino, parent, name, Node { kind, perm })?;
+        Ok(Effect {
+            made: Some(ino),
+            ..NO_EFFECT
+        })
+    }
+
+    fn link(&mut self, ino: Ino, parent: Ino, name: &[u8]) -> Result<Effect, NoMemory>
+        requires { first_of (link_rules self.old ino parent name.now) ≡ None }
+        ensures effect { IfOk result (λ effect. effect ≡ NO_EFFECT) }
+        ensures next { OnOk result (self.new ≡ with_link self.old ino parent name.now) }
+        ensures err { OnErr result (self.new ≡ self.old) }
+    {
+        let name = self.copy(name)?;
+        self.add_link(ino, parent, name)?;
+        Ok(NO_EFFECT)
+    }
+
+    fn unlink(&mut self, parent: Ino, name: &[u8]) -> Effect
+        requires { first_of (unlink_rules self.old parent name.now) ≡ None }
+        ensures effect { result ≡ record NO_EFFECT { dropped = dropped_at self.old parent name.now } }
+        ensures next { self.new ≡ without_link self.old parent name.now }
+    {
+        let dropped = self.dropped_at(parent, name);
+        self.drop_link(parent, name);
+        Effect {
+            dropped,
+            ..NO_EFFECT
+        }
+    }
+
+    fn rmdir(&mut self, parent: Ino, name: &[u8])
+        requires { first_of (rmdir_rules self.old parent name.now) ≡ None }
+        ensures { self.new ≡ without_link self.old parent name.now }
+    {
+        self.drop_link(parent, name);
+    }
+
+    fn rename(
+        &mut self,
+        parent: Ino,
+        name: &[u8],
+        new_parent: Ino,
+        new_name: &[u8],
+    ) -> Result<Effect, NoMemory>
+        requires { first_of (rename_rules self.old parent name.now new_parent new_name.now) ≡ None }
+        ensures effect { IfOk result (λ effect. effect ≡ rename_effect self.old parent name.now new_parent new_name.now) }
+        ensures next { OnOk result (self.new ≡ renamed self.old parent name.now new_parent new_name.now) }
+        ensures err { OnErr result (self.new ≡ self.old) }
+    {
+        let Some(child) = self.child(parent, name) else {
+            return Ok(NO_EFFECT);
+        };
+        match self.child(new_parent, new_name) {
+            Some(target) => {
+                if target == child {
+                    return Ok(NO_EFFECT);
+                }
+                let dropped = self.dropped_at(new_parent, new_name);
+                let new_name = self.copy(new_name)?;
+                self.move_onto(parent, name, new_parent, new_name, child, target)?;
+                Ok(Effect {
+                    dropped,
+                    ..NO_EFFECT
+                })
+            }
+            None => {
+                let new_name = self.copy(new_name)?;
+                self.move_to_free(parent, name, new_parent, new_name, child)?;
+                Ok(NO_EFFECT)
+            }
+        }
+    }
+
+    fn chmod(&mut self, ino: Ino, mode: u16)
+        requires { mode ≤ 0xFFF }
+        ensures { self.new ≡ with_perm (λ perm. record perm { mode = mode }) self.old ino (node_of self.old ino) }
+    {
+        if let Some(node) = self.node(ino) {
+            self.set_perm(ino, Perm { mode, ..node.perm });
+        }
+    }
+
+    fn chown(&mut self, ino: Ino, uid: Uid, gid: Gid)
+        ensures { self.new ≡ with_perm (λ perm. record perm { uid = uid; gid = gid }) self.old ino (node_of self.old ino) }
+    {
+        if let Some(node) = self.node(ino) {
+            let mode = node.perm.mode;
+            self.set_perm(ino, Perm { uid, gid, mode });
+        }
+    }
+
+    /// The file whose last link stands at that place, if it is one.
+    fn dropped_at(&self, parent: Ino, name: &[u8]) -> Option<Ino>
+        ensures { result ≡ dropped_at self.now parent name.now }
+    {
+        match self.child(parent, name) {
+            Some(child) => {
+                if self.is_file(child) && self.has_one_link(child) {
+                    Some(child)
+                } else {
+                    None
+                }
+            }
+            None => None,
+        }
+    }
+
+    /// A name to keep.
+    fn copy(&self, name: &[u8]) -> Result<Vec<u8>, AllocError>
+        ensures { IfOk result (λ copy. copy.items ≡ name.now) }
+    {
+        Vec::from_slice(self.alloc, name)
+    }
+}
