@@ -33,13 +33,15 @@ found_at Readable file below = file ∷ []
 found_at Passable file below = below
 found_at Closed file below = []
 
+-- what is found at the entries of a directory of that path, where `below` is what is found in a directory of a number and a path
+abbrev pub found_in : FileSystem → UserRec → (ℕ → List ℕ → List Found) → List ℕ → List (List ℕ × ℕ) → List Found
+found_in fs user below path entries =
+    flat_map (λ entry. found_at (met_at fs user entry.1) (entry.1, path ++ 47 ∷ entry.0) (below entry.1 (path ++ 47 ∷ entry.0))) entries
+
 -- what is found in a directory of that path and below it, in at most n directories one below the other
 unfoldable pub walked : FileSystem → UserRec → ℕ → ℕ → List ℕ → List Found
 walked fs user zero directory path = []
-walked fs user (suc n) directory path =
-    flat_map
-    (λ entry. found_at (met_at fs user entry.1) (entry.1, path ++ 47 ∷ entry.0) (walked fs user n entry.1 (path ++ 47 ∷ entry.0)))
-    (entries_of fs.links directory)
+walked fs user (suc n) directory path = found_in fs user (walked fs user n) path (entries_of fs.links directory)
 
 abbrev pub if_passable : Met → List Found → List Found
 if_passable Readable found = []

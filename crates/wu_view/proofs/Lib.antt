@@ -1,0 +1,4 @@
+pub mod Members
+pub mod Sorted
+pub mod Gathered
+pub mod Walked
