@@ -1,6 +1,6 @@
 pub mod Members
 pub mod Sorted
-pub mod Gathered
 pub mod Walked
 pub mod Ways
 pub mod Opened
+pub mod Shown

@@ -66,7 +66,7 @@ link_is link directory name child d n c =
     let b : ((directory, link.0.1), link.1) ≡ ((directory, name), link.1) = ap (λ (x : List ℕ). ((directory, x), link.1)) n in
     a ∙ b ∙ ap (λ (x : ℕ). ((directory, name), x)) c
 
-found_is : (ino : ℕ) (path : List ℕ) (found : Found) → ino ≡ found.0 → path ≡ found.1 → (ino, path) ≡ found
+pub found_is : (ino : ℕ) (path : List ℕ) (found : Found) → ino ≡ found.0 → path ≡ found.1 → (ino, path) ≡ found
 found_is ino path found e p =
     let a : (ino, path) ≡ (found.0, path) = ap (λ (x : ℕ). (x, path)) e in
     a ∙ ap (λ (x : List ℕ). (found.0, x)) p

@@ -84,6 +84,9 @@ abbrev pub view_for : FileSystem → UserRec → List Seen
 view_for fs user =
     ascending seen_cmp (filter (λ seen. not (is_empty seen.paths)) (map (λ node. seen_as fs user node.0) (filter (λ node. is_readable fs user node.0) fs.nodes)))
 
+abbrev pub user_with : ℕ → List ℕ → UserRec
+user_with uid groups = record { uid = uid; groups = groups }
+
 -- the view of the user of that number, with her groups
 abbrev pub view_of : FileSystem → ℕ → List Seen
-view_of fs uid = view_for fs (record { uid = uid; groups = groups_of fs uid })
+view_of fs uid = view_for fs (user_with uid (groups_of fs uid))

@@ -1,7 +1,7 @@
 //! Paths, put together by file.
 ghost use Rattle.std.specs.Prelude.{◌≡◌, ℕ, ◌==◌, cond, unwrap_or, Some, [], ◌∷◌, ◌++◌, OnOk, IfOk};
 ghost use Rattle.std.specs.Ordering.{nat_cmp};
-ghost use Rattle.std.specs.BTreeMap.{get};
+ghost use Rattle.std.specs.BTreeMap.{IsOrdered, get};
 ghost use Rattle.wu_view.specs.Groups.{paths_of, seen_in, seen_with, unless_empty};
 
 use crate::Seen;
@@ -15,7 +15,8 @@ pub(crate) fn by_file(
     alloc: Global,
     found: Vec<(Ino, Bytes)>,
 ) -> Result<BTreeMap<Ino, Sequence<Bytes>>, NoMemory>
-    ensures { IfOk result (λ files. (ino : ℕ) → get nat_cmp files ino ≡ unless_empty (paths_of ino found.items)) }
+    ensures paths { IfOk result (λ files. (ino : ℕ) → get nat_cmp files ino ≡ unless_empty (paths_of ino found.items)) }
+    ensures ordered { IfOk result (λ files. IsOrdered nat_cmp files) }
 {
     let mut files = BTreeMap::new(alloc);
     for (ino, path) in found {
@@ -31,7 +32,8 @@ fn add_path(
     ino: Ino,
     path: Bytes,
 ) -> Result<(), NoMemory>
-    ensures { OnOk result ((q : ℕ) → get nat_cmp files.new q ≡ cond (q == ino) (Some (unwrap_or (get nat_cmp files.old ino) [] ++ path ∷ [])) (get nat_cmp files.old q)) }
+    ensures paths { OnOk result ((q : ℕ) → get nat_cmp files.new q ≡ cond (q == ino) (Some (unwrap_or (get nat_cmp files.old ino) [] ++ path ∷ [])) (get nat_cmp files.old q)) }
+    ensures ordered { OnOk result (IsOrdered nat_cmp files.new) }
 {
     match files.get_mut(&ino) {
         Some(paths) => paths.push(path),

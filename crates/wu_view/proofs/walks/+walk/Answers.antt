@@ -9,12 +9,15 @@ use Rattle.wu_view.proofs.Walked.{walked-zero, walked-suc, walked-none, by_value
 use Rattle.wu_view.proofs.walks.+walk.Goals as goal
 
 pub returns-then-depth-eq0-clause-files : goal.returns-then-depth-eq0-clause-files
-returns-then-depth-eq0-clause-files t c = rw (walked-zero c.args.tree.now c.args.user.now c.args.depth c.args.directory c.args.path.now.items c.if-depth-eq0.true, append-nil) refl
+returns-then-depth-eq0-clause-files t c =
+    let n : walked c.args.tree.now c.args.user.now c.args.depth c.args.directory c.args.path.now.items ≡ [] = walked-zero c.args.tree.now c.args.user.now c.args.depth c.args.directory c.args.path.now.items c.if-depth-eq0.true in
+    sym (append-nil c.args.files.now.items) ∙ ap (λ (l : List Found). c.args.files.now.items ++ l) (sym n)
 
 pub returns-in_default-clause-files : goal.returns-in_default-clause-files
 returns-in_default-clause-files t c =
     let h : entries_of c.args.tree.now.links c.args.directory ≡ [] = c.in_default.ensures in
-    rw (walked-none c.args.tree.now c.args.user.now c.args.depth c.args.directory c.args.path.now.items h, append-nil) refl
+    let n : walked c.args.tree.now c.args.user.now c.args.depth c.args.directory c.args.path.now.items ≡ [] = walked-none c.args.tree.now c.args.user.now c.args.depth c.args.directory c.args.path.now.items h in
+    sym (append-nil c.args.files.now.items) ∙ ap (λ (l : List Found). c.args.files.now.items ++ l) (sym n)
 
 pub returns-clause-files : goal.returns-clause-files
 returns-clause-files t c =
