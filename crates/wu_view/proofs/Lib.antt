@@ -4,3 +4,4 @@ pub mod Walked
 pub mod Ways
 pub mod Opened
 pub mod Shown
+pub mod Apart

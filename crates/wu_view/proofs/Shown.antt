@@ -88,7 +88,7 @@ file_there None h = absurd cc
 file_there (Some node) h = (node, refl)
 
 module _ (fs : FileSystem) (t : IsTree fs) (user : UserRec) where
-  abbrev opened_paths : ℕ → List (List ℕ)
+  abbrev pub opened_paths : ℕ → List (List ℕ)
   opened_paths q = map (λ link. path_of fs.links link.0) (filter (λ link. link.1 == q && is_open fs user link.0.0) fs.links)
 
   path_opened : (q : ℕ) (path : List ℕ) → Has (q, path) (walked_whole fs user) → Has path (opened_paths q) × (is_readable fs user q ≡ true)
@@ -121,7 +121,7 @@ module _ (fs : FileSystem) (t : IsTree fs) (user : UserRec) where
       let f = file_there (node_of fs q) (both (is_file fs q) (may fs user Read q) r).0 in
       (f.0, Has-from_Contains (q, f.0) fs.nodes (Contains-from_lookup (tells_apart exact_unsigned) q f.0 fs.nodes f.1))
 
-  abbrev unsorted : List Seen
+  abbrev pub unsorted : List Seen
   unsorted = filter (λ s. not (is_empty s.paths)) (map (λ node. seen_as fs user node.0) (filter (λ node. is_readable fs user node.0) fs.nodes))
 
   -- a file with an open path
@@ -132,7 +132,7 @@ module _ (fs : FileSystem) (t : IsTree fs) (user : UserRec) where
       (Has-map (λ (node : ℕ × Node). seen_as fs user node.0) (q, n.0) (filter (λ node. is_readable fs user node.0) fs.nodes) (Has-filter (λ node. is_readable fs user node.0) (q, n.0) fs.nodes n.1 r))
       (not_empty path (open_paths fs user q) (has-ascending nat_list_cmp_total exact_bytes path (opened_paths q) h))
 
-  has_seen : (s : Seen) → Has s unsorted → (q : ℕ) × (path : List ℕ) × (is_readable fs user q ≡ true) × Has path (opened_paths q) × (seen_as fs user q ≡ s)
+  pub has_seen : (s : Seen) → Has s unsorted → (q : ℕ) × (path : List ℕ) × (is_readable fs user q ≡ true) × Has path (opened_paths q) × (seen_as fs user q ≡ s)
   has_seen s h =
       let f = filter_has (λ s. not (is_empty s.paths)) s (map (λ node. seen_as fs user node.0) (filter (λ node. is_readable fs user node.0) fs.nodes)) h in
       let m = map_has (λ (node : ℕ × Node). seen_as fs user node.0) s (filter (λ node. is_readable fs user node.0) fs.nodes) f.0 in

@@ -90,3 +90,11 @@ user_with uid groups = record { uid = uid; groups = groups }
 -- the view of the user of that number, with her groups
 abbrev pub view_of : FileSystem → ℕ → List Seen
 view_of fs uid = view_for fs (user_with uid (groups_of fs uid))
+
+-- the first of the paths, which is the least
+abbrev pub first_of : List (List ℕ) → List ℕ
+first_of [] = []
+first_of (path ∷ paths) = path
+
+abbrev pub least_path : Seen → List ℕ
+least_path seen = first_of seen.paths

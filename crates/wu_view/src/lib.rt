@@ -1,8 +1,9 @@
 //! A user's view of a tree: the files that she may search, each with the paths that are open for her.
 #![tactic(auto)]
 
-ghost use Rattle.std.specs.Prelude.{◌≡◌, IfOk};
-ghost use Rattle.wu_view.specs.Views.{view_of};
+ghost use Rattle.std.specs.Prelude.{◌≡◌, IfOk, map};
+ghost use Rattle.std.specs.List.Sorted.{IsStrictlySortedBy};
+ghost use Rattle.wu_view.specs.Views.{least_path, path_cmp, view_of};
 
 mod groups;
 mod orders;
@@ -32,7 +33,8 @@ pub struct Seen {
 /// with the bytes of the answer, which has one path for each open link to a file: a file with `n` hard links
 /// counts `n` times, with a path of up to 65,280 bytes each.
 pub fn searchable(alloc: Global, tree: &Tree, uid: Uid) -> Result<Vec<Seen>, NoMemory>
-    ensures { IfOk result (λ view. view.items ≡ view_of tree.now uid) }
+    ensures view { IfOk result (λ view. view.items ≡ view_of tree.now uid) }
+    ensures by_least_path { IfOk result (λ view. IsStrictlySortedBy path_cmp (map least_path view.items)) }
 {
     tree.keeps_the_rules();
     let groups = Vec::from_slice(alloc, tree.groups_of(uid))?;
@@ -43,7 +45,8 @@ pub fn searchable(alloc: Global, tree: &Tree, uid: Uid) -> Result<Vec<Seen>, NoM
     let found = walks::open_links(alloc, tree, &user)?;
     let files = groups::by_file(alloc, found)?;
     let seen = groups::seen(alloc, files)?;
-    Ok(orders::ascending(seen))
+    let view = orders::ascending(seen);
+    Ok(view)
 }
 
 #[cfg(test)]
