@@ -1,0 +1,100 @@
+-- A user's view of a file system: the files that she may search, each with the paths that are open for her. A path leads from
+-- the root by names of links to a file; it is open where each directory on it, the root included, grants her execute.
+use Rattle.std.specs.Prelude.{ℕ, Bool, true, false, ◌&&◌, not, cond, ◌==◌, Option, None, Some, List, [], ◌∷◌, ◌++◌, map, filter}
+use Rattle.std.specs.declared.cmp.Ordering.{Ordering}
+use Rattle.std.specs.Ordering.{nat_cmp, ordering_then}
+use Rattle.std.specs.Cmp.Lexicographic.{slice_cmp}
+use Rattle.std.specs.List.{list_all, fold}
+use Rattle.std.specs.BTreeSet.{insert_key}
+use Rattle.wu_access.specs.declared.UserRec.{UserRec}
+use Rattle.wu_access.specs.declared.Want.{Want}
+use Rattle.wu_access.specs.declared.Want.TheVariants.{Read, Execute}
+use Rattle.wu_access.specs.Access.{is_allowed}
+use Rattle.wu_tree.specs.declared.events.Node.{Node}
+use Rattle.wu_tree.specs.FileSystems.{FileSystem, Link, Place, node_of, groups_of, is_file, path_up}
+use Rattle.wu_view.specs.declared.Seen.{Seen}
+
+-- ---- paths
+
+-- the name that the node's first link gives it: a directory's name in its parent
+abbrev pub name_of : List Link → ℕ → List ℕ
+name_of [] ino = []
+name_of (link ∷ links) ino = cond (link.1 == ino) link.0.1 (name_of links ino)
+
+-- the way from a directory up to the root, spelled from the root down: `/` and the name of each but the root
+abbrev pub spell : List Link → List ℕ → List ℕ
+spell links [] = []
+spell links (directory ∷ way) = spell links way ++ cond (directory == 1) [] (47 ∷ name_of links directory)
+
+-- a directory's path, which is empty for the root
+abbrev pub directory_path : List Link → ℕ → List ℕ
+directory_path links directory = spell links (path_up links directory)
+
+-- the path whose last link stands at that place
+abbrev pub path_of : List Link → Place → List ℕ
+path_of links place = directory_path links place.0 ++ 47 ∷ place.1
+
+-- ---- access
+
+abbrev pub is_granted_node : UserRec → Want → Option Node → Bool
+is_granted_node user want None = false
+is_granted_node user want (Some node) = is_allowed user node.perm want
+
+-- whether the user may do that with the node
+abbrev pub may : FileSystem → UserRec → Want → ℕ → Bool
+may fs user want ino = is_granted_node user want (node_of fs ino)
+
+-- whether the directory and each above it, the root included, grant her execute
+abbrev pub is_open : FileSystem → UserRec → ℕ → Bool
+is_open fs user directory = list_all (may fs user Execute) (path_up fs.links directory)
+
+-- whether the node is a file that grants her read
+abbrev pub is_readable : FileSystem → UserRec → ℕ → Bool
+is_readable fs user ino = is_file fs ino && may fs user Read ino
+
+-- ---- the view
+
+-- sorted, and each item once
+abbrev pub ascending : {X : Type 0} → (X → X → Ordering) → List X → List X
+ascending compare items = fold (insert_key compare) [] items
+
+-- the order of bytes, the shorter of two first where it begins the other
+abbrev pub path_cmp : List ℕ → List ℕ → Ordering
+path_cmp p q = slice_cmp nat_cmp p q
+
+-- by the paths, that is by the least; no two files have a path in common
+abbrev pub seen_cmp : Seen → Seen → Ordering
+seen_cmp a b = ordering_then (slice_cmp path_cmp a.paths b.paths) (nat_cmp a.ino b.ino)
+
+-- a file's open paths: of each of its links whose directory is open, in byte order
+abbrev pub open_paths : FileSystem → UserRec → ℕ → List (List ℕ)
+open_paths fs user ino =
+    ascending path_cmp (map (λ link. path_of fs.links link.0) (filter (λ link. link.1 == ino && is_open fs user link.0.0) fs.links))
+
+-- the file with its open paths
+abbrev pub seen_as : FileSystem → UserRec → ℕ → Seen
+seen_as fs user ino = record { paths = open_paths fs user ino; ino = ino }
+
+abbrev pub is_empty : {X : Type 0} → List X → Bool
+is_empty [] = true
+is_empty (x ∷ xs) = false
+
+-- the files that grant the user read and have an open path, each with its open paths, by the least of them
+abbrev pub view_for : FileSystem → UserRec → List Seen
+view_for fs user =
+    ascending seen_cmp (filter (λ seen. not (is_empty seen.paths)) (map (λ node. seen_as fs user node.0) (filter (λ node. is_readable fs user node.0) fs.nodes)))
+
+abbrev pub user_with : ℕ → List ℕ → UserRec
+user_with uid groups = record { uid = uid; groups = groups }
+
+-- the view of the user of that number, with her groups
+abbrev pub view_of : FileSystem → ℕ → List Seen
+view_of fs uid = view_for fs (user_with uid (groups_of fs uid))
+
+-- the first of the paths, which is the least
+abbrev pub first_of : List (List ℕ) → List ℕ
+first_of [] = []
+first_of (path ∷ paths) = path
+
+abbrev pub least_path : Seen → List ℕ
+least_path seen = first_of seen.paths
