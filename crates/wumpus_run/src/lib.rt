@@ -11,3 +11,6 @@ mod statuses;
 
 pub use session::run;
 pub use statuses::Status;
+
+#[cfg(test)]
+mod tests;

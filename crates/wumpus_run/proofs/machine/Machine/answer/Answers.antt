@@ -10,7 +10,7 @@ pub count-requires-clause-few : goal.count-requires-clause-few
 count-requires-clause-few c =
     let tree = c.self.inside.tree in
     let uid = c.args.query.now.uid in
-    omega (arith, ap length (c.deref.ensures.value ∙ c.in_ok-view.ensures), length-files_of tree uid, ap (λ s. length s.tree.nodes) c.self.view_is, c.requires)
+    omega (arith, ap length (c.deref.ensures.value ∙ c.in_ok-view.ensures.view), length-files_of tree uid, ap (λ s. length s.tree.nodes) c.self.view_is, c.requires)
 
 pub returns-in-Count : goal.returns-in-Count
 returns-in-Count c =
@@ -18,11 +18,11 @@ returns-in-Count c =
     let query = c.args.query.now in
     let answers : State → Type 0 = λ s. IfOk c.count.result (λ answered. answered ≡ answer (view_of s query.uid) query.ask) in
     subst answers c.self.view_is
-    (count-answer was c.deref.result.now query _ c.count.result (c.deref.ensures.value ∙ c.in_ok-view.ensures) (c.in-Count.is ∙ ap AskCount (sym c.as_slice.ensures)) c.count.ensures)
+    (count-answer was c.deref.result.now query _ c.count.result (c.deref.ensures.value ∙ c.in_ok-view.ensures.view) (c.in-Count.is ∙ ap AskCount (sym c.as_slice.ensures)) c.count.ensures)
 
 pub returns-in-Paths : goal.returns-in-Paths
 returns-in-Paths c =
     let was : State = record { tree = c.self.inside.tree; texts = c.self.inside.texts.entries } in
     let query = c.args.query.now in
     let answers : State → Type 0 = λ s. IfOk c.paths.result (λ answered. answered ≡ answer (view_of s query.uid) query.ask) in
-    subst answers c.self.view_is (paths-answer was c.in_ok-view.view.items query c.paths.result c.in_ok-view.ensures c.in-Paths.is c.paths.ensures)
+    subst answers c.self.view_is (paths-answer was c.in_ok-view.view.items query c.paths.result c.in_ok-view.ensures.view c.in-Paths.is c.paths.ensures)

@@ -1,0 +1,358 @@
+ghost use Rattle.std.specs.Prelude.{◌≤◌, None, Some};
+
+use crate::{Status, run};
+use std::alloc::Global;
+use std::test::Fail;
+use wu_fields::put_decimal;
+use wu_outside::{Failed, Fault, MemSink, MemSource, PlainSource, PlainStore, Sink, Source};
+
+/// The status of a session over the script, and what it wrote.
+fn session(alloc: Global, script: &[u8]) -> Result<(Status, MemSink), Fail> {
+    let mut source = MemSource::new(Vec::from_slice(alloc, script)?);
+    let mut sink = MemSink::new(alloc);
+    let mut store = PlainStore::new(alloc);
+    let status = run(alloc, &["run"], &mut source, &mut sink, &mut store);
+    Ok((status, sink))
+}
+
+/// The text with a TAB for each `~`, so that a row of a script can be read.
+fn tabbed(alloc: Global, text: &[u8]) -> Result<Vec<u8>, Fail> {
+    let mut tabbed = Vec::from_slice(alloc, text)?;
+    for byte in &mut tabbed {
+        if *byte == b'~' {
+            *byte = b'\t';
+        }
+    }
+    Ok(tabbed)
+}
+
+/// The script is read to its end and gets these replies.
+fn assert_replies(rt: HostRuntime, script: &[u8], replies: &[u8]) -> Result<(), Fail> {
+    let script = tabbed(rt.alloc(), script)?;
+    let replies = tabbed(rt.alloc(), replies)?;
+    let (status, sink) = session(rt.alloc(), script.as_slice())?;
+    assert_eq!(rt; status, Status::Done);
+    assert_eq!(rt; sink.gained(), replies.as_slice());
+    Ok(())
+}
+
+#[test]
+fn words_are_counted(rt: HostRuntime) -> Result<(), Fail> {
+    let cases: [(&[u8], &[u8]); 4] = [
+        (b"", b""),
+        (
+            b"create~2~1~a~5~5~600\ntext~2~5\napple\ncount~5~\"apple\"\n",
+            b"ok\nok\ncount~1~1\n",
+        ),
+        (
+            b"create~2~1~a~5~7~644\ntext~2~11\napple Apple\ncount~5~\"APPLE\"\ncount~6~\"apple\"\ncount~6~\"pear\"",
+            b"ok\nok\ncount~2~1\ncount~2~1\ncount~0~0\n",
+        ),
+        (
+            b"create~2~1~a~0~0~644\ntext~2~5\napple\ntext~2~4\npear\ncount~5~\"apple\"\ncount~5~\"pear\"\n",
+            b"ok\nok\nok\ncount~0~0\ncount~1~1\n",
+        ),
+    ];
+    for (script, replies) in cases {
+        assert_replies(rt, script, replies)?;
+    }
+    Ok(())
+}
+
+#[test]
+fn the_owners_bits_alone_decide_for_the_owner(rt: HostRuntime) -> Result<(), Fail> {
+    assert_replies(
+        rt,
+        b"user~5~7\nuser~6~7\ncreate~2~1~a~5~7~077\ntext~2~5\napple\ncount~5~\"apple\"\ncount~6~\"apple\"\ncount~8~\"apple\"\ncount~0~\"apple\"\n",
+        b"ok\nok\nok\nok\ncount~0~0\ncount~1~1\ncount~1~1\ncount~1~1\n",
+    )
+}
+
+#[test]
+fn groups_are_those_last_given(rt: HostRuntime) -> Result<(), Fail> {
+    assert_replies(
+        rt,
+        b"create~2~1~a~0~7~640\npaths~5\nuser~5~9~7~9\npaths~5\nuser~5~9\npaths~5\nuser~5\n",
+        b"ok\npaths~0\nok\npaths~1\n/a\nok\npaths~0\nok\n",
+    )
+}
+
+#[test]
+fn a_directory_opens_and_shuts_what_is_below(rt: HostRuntime) -> Result<(), Fail> {
+    assert_replies(
+        rt,
+        b"mkdir~2~1~d~0~0~700\ncreate~3~2~f~5~5~644\ntext~3~5\napple\ncount~5~\"apple\"\nchmod~2~711\ncount~5~\"apple\"\nchmod~2~700\ncount~5~\"apple\"\nchmod~2~711\nchmod~1~700\ncount~5~\"apple\"\n",
+        b"ok\nok\nok\ncount~0~0\nok\ncount~1~1\nok\ncount~0~0\nok\nok\ncount~0~0\n",
+    )
+}
+
+#[test]
+fn open_paths_alone_are_shown(rt: HostRuntime) -> Result<(), Fail> {
+    assert_replies(
+        rt,
+        b"mkdir~2~1~open~0~0~755\nmkdir~3~1~shut~0~0~700\ncreate~4~3~x~0~0~644\nlink~4~2~y\npaths~5\npaths~0\nunlink~2~y\npaths~5\n",
+        b"ok\nok\nok\nok\npaths~1\n/open/y\npaths~2\n/open/y\n/shut/x\nok\npaths~0\n",
+    )
+}
+
+#[test]
+fn renames_among_hard_links(rt: HostRuntime) -> Result<(), Fail> {
+    assert_replies(
+        rt,
+        b"create~2~1~a~0~0~644\ntext~2~5\napple\ncreate~3~1~b~0~0~644\ntext~3~4\npear\nlink~2~1~c\nrename~1~a~1~c\npaths~0\nrename~1~b~1~a\ncount~5~\"apple\"\nrename~1~a~1~c\ncount~5~\"apple\"\ncount~5~\"pear\"\npaths~0\n",
+        b"ok\nok\nok\nok\nok\nok\npaths~3\n/a\n/c\n/b\nok\ncount~1~1\nok\ncount~0~0\ncount~1~1\npaths~1\n/c\n",
+    )
+}
+
+#[test]
+fn a_number_is_free_again_and_its_text_gone(rt: HostRuntime) -> Result<(), Fail> {
+    assert_replies(
+        rt,
+        b"create~2~1~a~0~0~644\ntext~2~5\napple\nlink~2~1~b\nunlink~1~a\ncount~5~\"apple\"\nunlink~1~b\ncount~5~\"apple\"\ncreate~2~1~a~0~0~644\ncount~5~\"apple\"\nchown~2~5~5\nchmod~2~400\npaths~6\npaths~5\n",
+        b"ok\nok\nok\nok\ncount~1~1\nok\ncount~0~0\nok\ncount~0~0\nok\nok\npaths~0\npaths~1\n/a\n",
+    )
+}
+
+/// A directory of its own, a file in it, a directory in that, and a file beside.
+const REFUSALS_SCRIPT: &[u8] = b"mkdir~2~1~d~0~0~755
+create~3~2~f~0~0~644
+mkdir~4~2~e~0~0~755
+create~5~1~g~0~0~644
+create~3~1~x~0~0~644
+create~9~1~d~0~0~644
+create~9~7~x~0~0~644
+create~9~3~x~0~0~644
+mkdir~9~1~..~0~0~755
+mkdir~9~1~~0~0~755
+mkdir~9~1~a/b~0~0~755
+text~2~0
+
+text~9~0
+
+link~2~1~h
+link~3~1~g
+unlink~1~zz
+unlink~1~d
+rmdir~1~g
+rmdir~1~d
+rename~1~d~4~q
+rename~1~d~2~x
+rename~1~g~1~d
+rename~2~e~1~d
+rename~1~d~1~d
+rename~2~e~1~e
+rmdir~1~e
+chmod~99~755
+chmod~1~99
+chown~1~0~0
+paths~0
+";
+
+const REFUSALS_REPLIES: &[u8] = b"ok
+ok
+ok
+ok
+refused~exists
+refused~exists
+refused~nosuch
+refused~kind
+refused~badname
+refused~badname
+refused~badname
+refused~kind
+refused~nosuch
+refused~kind
+refused~exists
+refused~nosuch
+refused~kind
+refused~kind
+refused~notempty
+refused~loop
+refused~loop
+refused~kind
+refused~notempty
+ok
+ok
+ok
+refused~nosuch
+refused~syntax
+ok
+paths~2
+/d/f
+/g
+";
+
+#[test]
+fn a_refused_event_changes_nothing(rt: HostRuntime) -> Result<(), Fail> {
+    assert_replies(rt, REFUSALS_SCRIPT, REFUSALS_REPLIES)
+}
+
+#[test]
+fn the_deepest_directory_holds_files_alone(rt: HostRuntime) -> Result<(), Fail> {
+    let mut script = Vec::new(rt.alloc());
+    let mut replies = Vec::new(rt.alloc());
+    for parent in 1..256 {
+        script.extend_from_slice(b"mkdir~")?;
+        put_decimal(&mut script, parent + 1)?;
+        script.extend_from_slice(b"~")?;
+        put_decimal(&mut script, parent)?;
+        script.extend_from_slice(b"~d~0~0~755\n")?;
+        replies.extend_from_slice(b"ok\n")?;
+    }
+    script.extend_from_slice(b"mkdir~257~256~d~0~0~755\ncreate~257~256~d~0~0~644\n")?;
+    replies.extend_from_slice(b"refused~deep\nok\n")?;
+    assert_replies(rt, script.as_slice(), replies.as_slice())
+}
+
+#[test]
+fn lines_in_no_form_are_refused(rt: HostRuntime) -> Result<(), Fail> {
+    assert_replies(
+        rt,
+        b"create~0~1~a~5~5~600\ncreate~2~1~a~5~5~99\ncreate~2~1~a~5~5\nuser\nuser~5~x\nlink~1~2\nunlink~1\nrmdir~1\nrename~1~a~1\nchmod~1~8\nchown~1~0\npaths\npaths~5~6\ncount~5\ntext~2\n",
+        b"refused~syntax\nrefused~syntax\nrefused~syntax\nrefused~syntax\nrefused~syntax\nrefused~syntax\nrefused~syntax\nrefused~syntax\nrefused~syntax\nrefused~syntax\nrefused~syntax\nrefused~syntax\nrefused~syntax\nrefused~syntax\nrefused~syntax\n",
+    )?;
+    assert_replies(
+        rt,
+        b"fly\n# a\nmkdir~2~1~a\\t~5~5~755\ncount~5~apple\ncreate~2~1~a~0~0~644\ntext~2~9\nabc\n",
+        b"refused~unbuilt\nrefused~unbuilt\nrefused~unbuilt\nrefused~unbuilt\nok\nrefused~unbuilt\nrefused~unbuilt\n",
+    )
+}
+
+#[test]
+fn a_word_counts_by_its_first_64_bytes(rt: HostRuntime) -> Result<(), Fail> {
+    for (letters, replies) in [
+        (64, b"ok\nok\ncount\t1\t1\n"),
+        (65, b"ok\nok\ncount\t1\t1\n"),
+        (63, b"ok\nok\ncount\t0\t0\n"),
+    ] {
+        let mut script = Vec::from_slice(rt.alloc(), b"create\t2\t1\ta\t0\t0\t644\ntext\t2\t65\n")?;
+        script.extend_from_slice(&[b'x'; 65])?;
+        script.extend_from_slice(b"\ncount\t5\t\"")?;
+        script.extend_from_slice(&[b'x'; 65][..letters])?;
+        script.extend_from_slice(b"\"\n")?;
+        let (status, sink) = session(rt.alloc(), script.as_slice())?;
+        assert_eq!(rt; status, Status::Done);
+        assert_eq!(rt; sink.gained(), replies.as_slice());
+    }
+    Ok(())
+}
+
+#[test]
+fn the_one_word_run_is_the_only_form(rt: HostRuntime) -> Result<(), Fail> {
+    let forms: [&[&str]; 4] = [&[], &["run", "run"], &["Run"], &["--", "run"]];
+    for words in forms {
+        let mut source = MemSource::new(Vec::from_slice(rt.alloc(), b"fly\n")?);
+        let mut sink = MemSink::new(rt.alloc());
+        let mut store = PlainStore::new(rt.alloc());
+        let status = run(rt.alloc(), words, &mut source, &mut sink, &mut store);
+        assert_eq!(rt; status, Status::Usage);
+        assert_eq!(rt; (source.calls(), sink.calls()), (0, 0));
+    }
+    Ok(())
+}
+
+#[test]
+fn an_input_past_its_limit_is_too_long(rt: HostRuntime) -> Result<(), Fail> {
+    for (more, wanted) in [(0, Status::Done), (1, Status::InputTooLong)] {
+        let mut script = vec![in rt.alloc(); b'\n'; 1_048_576]?;
+        for _ in 0..more {
+            script.push(b'\n')?;
+        }
+        let (status, sink) = session(rt.alloc(), script.as_slice())?;
+        assert_eq!(rt; status, wanted);
+        assert_eq!(rt; sink.calls(), 0);
+    }
+    Ok(())
+}
+
+#[test]
+fn statuses_have_their_codes(rt: HostRuntime) {
+    let statuses = [
+        Status::Done,
+        Status::Usage,
+        Status::ReadFault,
+        Status::WriteFault,
+        Status::NoMemory,
+        Status::InputTooLong,
+    ];
+    for (code, status) in statuses.iter().enumerate() {
+        assert_eq!(rt; usize::from(status.code()), code);
+    }
+}
+
+/// A source that gives at most so many bytes at once, and one more at each read up to seven.
+#[derive(Drop)]
+struct Pieces {
+    plain: PlainSource,
+    most: usize,
+    ghost some: { 1 ≤ most },
+}
+
+impl Source for Pieces {
+    ghost left = { λ s. Some s.plain };
+
+    ghost faults = { λ _. 0 };
+
+    fn read(&mut self, buf: &mut [u8]) -> Result<usize, Failed> {
+        let room = buf.len().min(self.most);
+        self.most = if self.most < 7 { self.most + 1 } else { 1 };
+        self.plain.read(&mut buf[..room])
+    }
+}
+
+#[test]
+fn pieces_make_no_difference(rt: HostRuntime) -> Result<(), Fail> {
+    let script = b"create\t2\t1\ta\t5\t5\t600\ntext\t2\t5\napple\ncount\t5\t\"apple\"\n";
+    for most in 1..8 {
+        let plain = PlainSource::new(Vec::from_slice(rt.alloc(), script)?);
+        let mut source = Pieces { plain, most };
+        let mut sink = MemSink::new(rt.alloc());
+        let mut store = PlainStore::new(rt.alloc());
+        let status = run(rt.alloc(), &["run"], &mut source, &mut sink, &mut store);
+        assert_eq!(rt; status, Status::Done);
+        assert_eq!(rt; sink.gained(), b"ok\nok\ncount\t1\t1\n".as_slice());
+    }
+    Ok(())
+}
+
+/// A source and a sink that fail at each call.
+#[derive(Drop)]
+struct Broken {
+    faults: u64,
+}
+
+impl Source for Broken {
+    ghost left = { λ _. None };
+
+    ghost faults = { λ s. s.faults };
+
+    fn read(&mut self, _buf: &mut [u8]) -> Result<usize, Failed> {
+        self.faults = self.faults.saturating_add(1);
+        Err(Failed)
+    }
+}
+
+impl Sink for Broken {
+    ghost gained = { λ _. None };
+
+    ghost faults = { λ s. s.faults };
+
+    fn write(&mut self, _piece: &[u8]) -> Result<usize, Fault> {
+        self.faults = self.faults.saturating_add(1);
+        Err(Fault::Failed)
+    }
+}
+
+#[test]
+fn a_fault_ends_the_session(rt: HostRuntime) -> Result<(), Fail> {
+    let mut store = PlainStore::new(rt.alloc());
+    let mut sink = MemSink::new(rt.alloc());
+    let mut broken = Broken { faults: 0 };
+    let status = run(rt.alloc(), &["run"], &mut broken, &mut sink, &mut store);
+    assert_eq!(rt; status, Status::ReadFault);
+    assert_eq!(rt; sink.calls(), 0);
+    let mut source = MemSource::new(Vec::from_slice(rt.alloc(), b"fly\n")?);
+    let status = run(rt.alloc(), &["run"], &mut source, &mut broken, &mut store);
+    assert_eq!(rt; status, Status::WriteFault);
+    Ok(())
+}
