@@ -1,11 +1,11 @@
 -- No two files have a path in common, so the least paths of a view ascend without repeats.
-use Rattle.std.proofs.Common.{◌≡◌, ◌≢◌, ℕ, zero, suc, ◌+◌, ◌<◌, ◌≤◌, List, [], ◌∷◌, ◌++◌, refl, ap, sym, ◌∙◌, subst, Bool, true, false, cond, not, ◌&&◌, arith, inl, inr, ⊎_elim}
+use Rattle.std.proofs.Common.{◌≡◌, ◌≢◌, ℕ, zero, suc, ◌≤◌, List, [], ◌∷◌, ◌++◌, refl, ap, sym, ◌∙◌, subst, true, false, not, ◌&&◌, arith, inl, inr, ⊎_elim}
 use Rattle.std.specs.Prelude.{◌⊎◌, ◌==◌, map, filter}
 use Rattle.std.specs.declared.cmp.Ordering.{Ordering}
 use Rattle.std.specs.declared.cmp.Ordering.TheVariants.{Less, Equal, Greater}
-use Rattle.std.specs.Ordering.{nat_cmp, ordering_then, ordering_reverse}
+use Rattle.std.specs.Ordering.{nat_cmp, ordering_then}
 use Rattle.std.specs.Cmp.Lexicographic.{slice_cmp}
-use Rattle.std.specs.List.{AllByRecursion, list_all}
+use Rattle.std.specs.List.{AllByRecursion}
 use Rattle.std.specs.List.Sorted.{IsStrictlySortedBy}
 use Rattle.std.specs.Map.{keys_of}
 use Rattle.std.proofs.lemmas.Cmp.{tied_itself, nat_list_cmp_total}
@@ -19,7 +19,7 @@ use Rattle.wu_view.specs.declared.Seen.{Seen}
 use Rattle.wu_view.specs.Views.{directory_path, path_of, is_open, path_cmp, seen_cmp, seen_as, open_paths, first_of, least_path, view_for}
 use Rattle.wu_view.proofs.Members.{Has, map_has, filter_has}
 use Rattle.wu_view.proofs.Sorted.{sorted-ascending, has-ascending, ascending_has}
-use Rattle.wu_view.proofs.Ways.{all_has, some_link, linked_once, link_facts, depth_range, depth_below, path_below_is, root_path}
+use Rattle.wu_view.proofs.Ways.{some_link, linked_once, link_facts, depth_range, depth_below, path_below_is, root_path}
 use Rattle.wu_view.proofs.Opened.{both}
 use Rattle.wu_view.proofs.Shown.{seen_exact, seen_total, opened_paths, unsorted, has_seen}
 
@@ -71,13 +71,13 @@ same_place l k [] s h g e = absurd h
 same_place l k (x ∷ links) s h g e =
     ⊎_elim
     (λ a. ⊎_elim
-      (λ b. let c : l ≡ k = sym a ∙ b in ap (λ (y : Link). y.1) c)
-      (λ j. absurd (later_place x k links s.0 j (ap (λ (y : Link). y.0) a ∙ e)))
-      g)
+    (λ b. let c : l ≡ k = sym a ∙ b in ap (λ (y : Link). y.1) c)
+    (λ j. absurd (later_place x k links s.0 j (ap (λ (y : Link). y.0) a ∙ e)))
+    g)
     (λ i. ⊎_elim
-      (λ b. absurd (later_place x l links s.0 i (ap (λ (y : Link). y.0) b ∙ sym e)))
-      (λ j. same_place l k links s.1 i j e)
-      g)
+    (λ b. absurd (later_place x l links s.0 i (ap (λ (y : Link). y.0) b ∙ sym e)))
+    (λ j. same_place l k links s.1 i j e)
+    g)
     h
 
 module _ (fs : FileSystem) (t : IsTree fs) where
@@ -182,7 +182,7 @@ module _ (fs : FileSystem) (t : IsTree fs) (user : UserRec) where
 
   -- what stands before in the order has a lesser least path, or the same
   least_first : (ps qs : List (List ℕ)) (o : Ordering) → (path : List ℕ) × Has path ps → (path : List ℕ) × Has path qs → ordering_then (slice_cmp path_cmp ps qs) o ≡ Less
-    → (path_cmp (first_of ps) (first_of qs) ≡ Less) ⊎ (first_of ps ≡ first_of qs)
+      → (path_cmp (first_of ps) (first_of qs) ≡ Less) ⊎ (first_of ps ≡ first_of qs)
   least_first [] qs o i j h = absurd i.1
   least_first (p ∷ ps) [] o i j h = absurd j.1
   least_first (p ∷ ps) (q ∷ qs) o i j h =
@@ -200,7 +200,7 @@ module _ (fs : FileSystem) (t : IsTree fs) (user : UserRec) where
       (least_first a.paths b.paths (nat_cmp a.ino b.ino) i.some j.some h)
 
   all_rise : (a : Seen) (view : List Seen) → IsShown a → ((s : Seen) → Has s view → IsShown s) → AllByRecursion (λ b. seen_cmp a b ≡ Less) view
-    → AllByRecursion (λ p. path_cmp (least_path a) p ≡ Less) (map least_path view)
+      → AllByRecursion (λ p. path_cmp (least_path a) p ≡ Less) (map least_path view)
   all_rise a [] i f h = tt
   all_rise a (b ∷ view) i f h = (least_rise a b i (f b (inl refl)) h.0, all_rise a view i (λ s g. f s (inr g)) h.1)
 
@@ -210,5 +210,6 @@ module _ (fs : FileSystem) (t : IsTree fs) (user : UserRec) where
   rises (a ∷ view) f h = (all_rise a view (f a (inl refl)) (λ s g. f s (inr g)) h.0, rises view (λ s g. f s (inr g)) h.1)
 
   pub by_least_path : IsStrictlySortedBy path_cmp (map least_path (view_for fs user))
+  unfolding view_for
   by_least_path =
       rises (view_for fs user) (λ s h. shown_in s (ascending_has seen_total seen_exact s (unsorted fs t user) h)) (sorted-ascending seen_total seen_exact (unsorted fs t user))

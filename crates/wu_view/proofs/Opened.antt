@@ -1,21 +1,18 @@
 -- What a walk from the root finds: the files that grant the user read, by the paths that are open for her.
-use Rattle.std.proofs.Common.{◌≡◌, ◌≢◌, ℕ, zero, suc, ◌+◌, ◌-◌, ◌<◌, ◌≤◌, List, [], ◌∷◌, ◌++◌, refl, ap, sym, ◌∙◌, subst, Bool, true, false, cond, not, ◌&&◌, arith, inl, inr, ⊎_elim}
-use Rattle.std.specs.Prelude.{Option, None, Some, ◌⊎◌, ◌==◌, map, filter}
+use Rattle.std.proofs.Common.{◌≡◌, ◌≢◌, ℕ, zero, suc, ◌+◌, ◌-◌, ◌<◌, ◌≤◌, List, [], ◌∷◌, ◌++◌, refl, ap, sym, ◌∙◌, subst, Bool, true, false, cond, not, ◌&&◌, arith, inl, ⊎_elim}
+use Rattle.std.specs.Prelude.{Option, None, Some, ◌==◌, filter}
 use borrow.Author.Tests.{eqb-true, eq-eqb}
 use Rattle.wu_access.specs.declared.UserRec.{UserRec}
 use Rattle.wu_access.specs.declared.Want.TheVariants.{Read, Execute}
 use Rattle.wu_access.specs.Access.{is_allowed}
-use Rattle.wu_tree.specs.declared.events.Kind.{Kind}
 use Rattle.wu_tree.specs.declared.events.Kind.TheVariants.{Directory, File}
 use Rattle.wu_tree.specs.declared.events.Node.{Node}
 use Rattle.wu_tree.specs.FileSystems.{FileSystem, Link, is_directory, is_directory_node, is_file_node, is_kind_file, link_count, node_of, entries_of, depth}
 use Rattle.wu_tree.specs.Rules.{IsTree}
-use Rattle.wu_view.specs.declared.walks.Met.{Met}
 use Rattle.wu_view.specs.declared.walks.Met.TheVariants.{Readable, Passable, Closed}
 use Rattle.wu_view.specs.Views.{directory_path, path_of, may, is_granted_node, is_open, is_readable}
-use Rattle.wu_view.specs.Walks.{Found, met_as, met_node, met_at, found_at, found_in, if_passable, walked, walked_whole}
+use Rattle.wu_view.specs.Walks.{Found, met_as, met_node, met_at, found_at, if_passable, walked, walked_whole}
 use Rattle.wu_view.proofs.Members.{Has, Has-map, map_has, Has-filter, filter_has, Has-flat_map, flat_map_has}
-use Rattle.wu_view.proofs.Walked.{walked-suc}
 use Rattle.wu_view.proofs.Ways.{some_link, linked_once, link_facts, depth_range, depth_below, path_below_is, open_below, root_path, root_open, root_depth, open_root}
 
 pub both : (a b : Bool) → (a && b) ≡ true → (a ≡ true) × (b ≡ true)
@@ -108,13 +105,16 @@ module _ (fs : FileSystem) (t : IsTree fs) (user : UserRec) where
       elim (met_at fs user entry.1) as (λ m. met_at fs user entry.1 ≡ m → Has found (found_at m (entry.1, path ++ 47 ∷ entry.0) (walked fs user n entry.1 (path ++ 47 ∷ entry.0))) → Opened fs user found) [
         | Readable ↦ λ e g.
             ⊎_elim
-            (λ i. (link, record {
+            (λ i. (
+              link,
+              record {
                 within = within;
                 file = ap (λ (x : Found). x.0) i;
                 readable = subst (λ (x : Found). is_readable fs user x.0 ≡ true) i (readable_met user (node_of fs entry.1) e);
                 opened = o;
                 path = spelled ∙ ap (λ (x : Found). x.1) i;
-              }))
+              },
+            ))
             (λ i. absurd i)
             g
         | Passable ↦ λ e g.
@@ -140,7 +140,7 @@ module _ (fs : FileSystem) (t : IsTree fs) (user : UserRec) where
 
   -- what is found in a directory is found in its parent
   enter : (m : ℕ) (link : Link) → Has link fs.links → met_at fs user link.1 ≡ Passable → (found : Found) → Has found (walked fs user m link.1 (path_of fs.links link.0))
-    → Has found (walked fs user (suc m) link.0.0 (directory_path fs.links link.0.0))
+      → Has found (walked fs user (suc m) link.0.0 (directory_path fs.links link.0.0))
   unfolding walked
   enter m link h e found g =
       let path : List ℕ = directory_path fs.links link.0.0 in
@@ -150,7 +150,7 @@ module _ (fs : FileSystem) (t : IsTree fs) (user : UserRec) where
 
   -- a file that grants read is found in its directory
   read : (m : ℕ) (link : Link) → Has link fs.links → 0 < m → (found : Found) → link.1 ≡ found.0 → is_readable fs user found.0 ≡ true → path_of fs.links link.0 ≡ found.1
-    → Has found (walked fs user m link.0.0 (directory_path fs.links link.0.0))
+      → Has found (walked fs user m link.0.0 (directory_path fs.links link.0.0))
   unfolding walked
   read zero link h l found f r p = absurd (omega arith)
   read (suc m) link h l found f r p =
@@ -162,7 +162,7 @@ module _ (fs : FileSystem) (t : IsTree fs) (user : UserRec) where
 
   -- what is found in an open directory is found from the root on
   reach : (k m directory : ℕ) → m + k ≡ 255 → is_directory fs directory ≡ true → is_open fs user directory ≡ true → depth fs.links directory ≡ suc k
-    → (found : Found) → Has found (walked fs user m directory (directory_path fs.links directory)) → Has found (walked fs user 255 1 [])
+      → (found : Found) → Has found (walked fs user m directory (directory_path fs.links directory)) → Has found (walked fs user 255 1 [])
   reach zero m directory s d o z found h =
       let e : directory ≡ 1 = only_root directory d z in
       let l : m ≡ 255 = omega arith in
@@ -179,8 +179,8 @@ module _ (fs : FileSystem) (t : IsTree fs) (user : UserRec) where
       let dep : depth fs.links link.0.0 ≡ suc k = (let f : depth fs.links link.1 ≡ suc (suc k) = subst (λ x. depth fs.links x ≡ suc (suc k)) (sym r.1.1) z in let g = depth_below fs t link r.1.0 dir in omega arith) in
       reach k (suc m) link.0.0 (omega arith) (link_facts fs t link r.1.0).parent b.1 dep found
       (enter m link r.1.0 (met_passable user (node_of fs link.1) (and_true (is_directory fs link.1) (may fs user Execute link.1) dir b.0)) found
-        (subst (λ (p : List ℕ). Has found (walked fs user m link.1 p)) (path_below_is fs t link r.1.0 dir)
-          (subst (λ x. Has found (walked fs user m x (directory_path fs.links x))) (sym r.1.1) h)))
+      (subst (λ (p : List ℕ). Has found (walked fs user m link.1 p)) (path_below_is fs t link r.1.0 dir)
+      (subst (λ x. Has found (walked fs user m x (directory_path fs.links x))) (sym r.1.1) h)))
 
   complete : (found : Found) → Opened fs user found → Has found (walked fs user 255 1 [])
   complete found (link, i) =

@@ -1,13 +1,12 @@
 -- The files that a walk finds, each with its paths in order, are the view.
-use Rattle.std.proofs.Common.{◌≡◌, ◌≢◌, ℕ, List, [], ◌∷◌, ◌++◌, refl, ap, sym, ◌∙◌, subst, Bool, true, false, cond, not, ◌&&◌, inl, inr, ⊎_elim}
-use Rattle.std.specs.Prelude.{Option, None, Some, ◌⊎◌, ◌==◌, map, filter}
+use Rattle.std.proofs.Common.{◌≡◌, ℕ, List, [], ◌∷◌, refl, ap, sym, ◌∙◌, subst, true, not, ◌&&◌, inl}
+use Rattle.std.specs.Prelude.{Option, None, Some, ◌==◌, map, filter}
 use Rattle.std.specs.declared.cmp.Ordering.{Ordering}
 use Rattle.std.specs.declared.cmp.Ordering.TheVariants.{Less, Equal, Greater}
 use Rattle.std.specs.Ordering.{nat_cmp, ordering_then}
 use Rattle.std.specs.Cmp.{IsTotalOrder, nat_cmp_total, then_total, on_total}
 use Rattle.std.specs.Cmp.Lexicographic.{slice_cmp}
-use Rattle.std.specs.BTreeMap.{BTreeMap, IsOrdered, get, is_at}
-use Rattle.std.specs.Map.{lookup}
+use Rattle.std.specs.BTreeMap.{BTreeMap, IsOrdered, get}
 use Rattle.std.proofs.lemmas.Cmp.{nat_list_cmp_total, lists_total}
 use Rattle.std.proofs.lemmas.Map.Lookups.{exact_unsigned, exact_bytes, CmpEqualImpliesEq}
 use Rattle.std.proofs.lemmas.Map.Views.{btree_map_get_iff, Contains-from_lookup, tells_apart}
@@ -23,7 +22,7 @@ use Rattle.wu_view.specs.Walks.{Found, walked_whole}
 use Rattle.wu_view.specs.Groups.{paths_of, unless_empty, seen_with, seen_in}
 use Rattle.wu_view.proofs.Members.{Has, Has-from_Contains, Contains-from_Has, Has-map, map_has, Has-filter, filter_has}
 use Rattle.wu_view.proofs.Sorted.{same-ascending, has-ascending, ascending_has}
-use Rattle.wu_view.proofs.Opened.{both, and_true, found_is, IsOpened, Opened, opened_found, found_opened}
+use Rattle.wu_view.proofs.Opened.{both, and_true, found_is, opened_found, found_opened}
 
 -- ---- the order of files
 exact_lists : {X : Type 0} (R : X → X → Ordering) → CmpEqualImpliesEq R → (xs ys : List X) → slice_cmp R xs ys ≡ Equal → xs ≡ ys
@@ -96,8 +95,8 @@ module _ (fs : FileSystem) (t : IsTree fs) (user : UserRec) where
       let o = opened_found fs t user (q, path) h in
       let i = o.1 in
       let l : Has (path_of fs.links o.0.0) (opened_paths q) =
-        Has-map (λ (link : Link). path_of fs.links link.0) o.0 (filter (λ link. link.1 == q && is_open fs user link.0.0) fs.links)
-        (Has-filter (λ link. link.1 == q && is_open fs user link.0.0) o.0 fs.links i.within (and_true (o.0.1 == q) (is_open fs user o.0.0.0) (eq-eqb o.0.1 q i.file) i.opened)) in
+      Has-map (λ (link : Link). path_of fs.links link.0) o.0 (filter (λ link. link.1 == q && is_open fs user link.0.0) fs.links)
+      (Has-filter (λ link. link.1 == q && is_open fs user link.0.0) o.0 fs.links i.within (and_true (o.0.1 == q) (is_open fs user o.0.0.0) (eq-eqb o.0.1 q i.file) i.opened)) in
       (subst (λ (p : List ℕ). Has p (opened_paths q)) i.path l, i.readable)
 
   opened_path : (q : ℕ) (path : List ℕ) → is_readable fs user q ≡ true → Has path (opened_paths q) → Has (q, path) (walked_whole fs user)
@@ -161,4 +160,5 @@ module _ (fs : FileSystem) (t : IsTree fs) (user : UserRec) where
         subst (λ (x : Seen). Has x (seen_in files.entries)) (seen_as_is q r.2 ∙ r.4) (Has-map seen_with (q, paths_of q (walked_whole fs user)) files.entries there)
 
     pub view_is : ascending seen_cmp (seen_in files.entries) ≡ view_for fs user
+    unfolding view_for
     view_is = same-ascending seen_total seen_exact (seen_in files.entries) unsorted to_view from_view

@@ -1,10 +1,10 @@
 -- How a walk goes on.
-use Rattle.std.proofs.Common.{◌≡◌, ◌≢◌, ℕ, zero, suc, ◌-◌, ◌<◌, List, [], ◌∷◌, ◌++◌, refl, ap, sym, ◌∙◌, arith, Bor, Vec, Global}
+use Rattle.std.proofs.Common.{◌≡◌, ℕ, zero, suc, ◌-◌, ◌<◌, List, [], ◌∷◌, refl, ap, arith, Bor, Vec, Global}
 use Rattle.std.specs.Prelude.{map}
 use Rattle.std.specs.Map.Iter.{deref_pair}
 use Rattle.wu_access.specs.declared.UserRec.{UserRec}
 use Rattle.wu_tree.specs.FileSystems.{FileSystem, entries_of}
-use Rattle.wu_view.specs.Walks.{Found, found_in, walked}
+use Rattle.wu_view.specs.Walks.{found_in, walked}
 
 module _ (fs : FileSystem) (user : UserRec) where
   pub walked-zero : (n directory : ℕ) (path : List ℕ) → n ≡ 0 → walked fs user n directory path ≡ []

@@ -1,17 +1,16 @@
 -- The way from a directory up to the root.
-use Rattle.std.proofs.Common.{◌≡◌, ◌≢◌, ℕ, zero, suc, ◌+◌, ◌-◌, ◌<◌, ◌≤◌, List, [], ◌∷◌, ◌++◌, length, refl, ap, sym, ◌∙◌, subst, Bool, true, false, cond, not, ◌||◌, ◌&&◌, arith, inl, inr, ⊎_elim}
-use Rattle.std.specs.Prelude.{Option, None, Some, ◌⊎◌, ◌==◌}
+use Rattle.std.proofs.Common.{◌≡◌, ◌≢◌, ℕ, zero, suc, ◌+◌, ◌≤◌, List, [], ◌∷◌, length, refl, ap, sym, ◌∙◌, subst, Bool, true, false, cond, not, ◌||◌, ◌&&◌, arith, inl, inr, ⊎_elim}
+use Rattle.std.specs.Prelude.{None, Some, ◌==◌}
 use Rattle.std.specs.Ordering.{nat_cmp}
-use Rattle.std.specs.List.{AllByRecursion, list_any, list_all}
+use Rattle.std.specs.List.{AllByRecursion, list_all}
 use Rattle.std.specs.BTreeMap.{is_at}
-use Rattle.std.proofs.lemmas.List.{append-nil}
 use Rattle.std.proofs.lemmas.List.Sums.{sum_by-cons}
 use borrow.Author.Tests.{eqb-true, eq-eqb, ne_eqb}
 use Rattle.wu_access.specs.declared.UserRec.{UserRec}
 use Rattle.wu_access.specs.declared.Want.TheVariants.{Execute}
 use Rattle.wu_tree.specs.declared.events.Kind.{Kind}
 use Rattle.wu_tree.specs.declared.events.Kind.TheVariants.{Directory, File}
-use Rattle.wu_tree.specs.FileSystems.{FileSystem, Link, is_directory, is_kind_file, is_within, node_of, link_count, parent_of, ancestors, above, path_up, depth}
+use Rattle.wu_tree.specs.FileSystems.{FileSystem, Link, is_directory, is_kind_file, node_of, link_count, parent_of, ancestors, above, path_up, depth}
 use Rattle.wu_tree.specs.Rules.{IsLink, Hangs, IsTree}
 use Rattle.wu_tree.proofs.Entries.{All-found}
 use Rattle.wu_tree.proofs.Keeps.{same_number, directory_found, reached, has_root, path_is, path_below, path_of_root}
@@ -68,12 +67,12 @@ unfolding ancestors
 rooted links zero directory h = absurd cc
 rooted links (suc n) directory h =
     elim (directory == 1) as (λ b. (b || has_root (cond b [] (above (ancestors links n) (parent_of links directory)))) ≡ true
-      → directory ∷ cond b [] (above (ancestors links (suc n)) (parent_of links directory)) ≡ directory ∷ cond b [] (above (ancestors links n) (parent_of links directory))) [
+    → directory ∷ cond b [] (above (ancestors links (suc n)) (parent_of links directory)) ≡ directory ∷ cond b [] (above (ancestors links n) (parent_of links directory))) [
       | true ↦ λ g. refl
       | false ↦ λ g. ap (λ (l : List ℕ). directory ∷ l) (elim (parent_of links directory) as (λ o. has_root (above (ancestors links n) o) ≡ true → above (ancestors links (suc n)) o ≡ above (ancestors links n) o) [
-          | None ↦ λ e. refl
-          | Some parent ↦ λ e. rooted links n parent e
-        ] g)
+        | None ↦ λ e. refl
+        | Some parent ↦ λ e. rooted links n parent e
+      ] g)
     ] h
 
 at_most : (links : List Link) (n directory : ℕ) → length (ancestors links n directory) ≤ n
@@ -90,9 +89,10 @@ unfolding ancestors
 at_least links n directory = omega arith
 
 pub depth_range : (links : List Link) (directory : ℕ) → (1 ≤ depth links directory) × (depth links directory ≤ 255)
-depth_range links directory =
-    (subst (λ (l : List ℕ). 1 ≤ length l) (sym (path_is links directory)) (at_least links 254 directory),
-    subst (λ (l : List ℕ). length l ≤ 255) (sym (path_is links directory)) (at_most links 255 directory))
+depth_range links directory = (
+  subst (λ (l : List ℕ). 1 ≤ length l) (sym (path_is links directory)) (at_least links 254 directory),
+  subst (λ (l : List ℕ). length l ≤ 255) (sym (path_is links directory)) (at_most links 255 directory),
+)
 
 passes_root : (p : ℕ → Bool) (way : List ℕ) → list_all p way ≡ true → has_root way ≡ true → p 1 ≡ true
 passes_root p [] a h = absurd cc

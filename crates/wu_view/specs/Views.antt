@@ -80,7 +80,7 @@ is_empty [] = true
 is_empty (x ∷ xs) = false
 
 -- the files that grant the user read and have an open path, each with its open paths, by the least of them
-abbrev pub view_for : FileSystem → UserRec → List Seen
+unfoldable pub view_for : FileSystem → UserRec → List Seen
 view_for fs user =
     ascending seen_cmp (filter (λ seen. not (is_empty seen.paths)) (map (λ node. seen_as fs user node.0) (filter (λ node. is_readable fs user node.0) fs.nodes)))
 
@@ -88,7 +88,7 @@ abbrev pub user_with : ℕ → List ℕ → UserRec
 user_with uid groups = record { uid = uid; groups = groups }
 
 -- the view of the user of that number, with her groups
-abbrev pub view_of : FileSystem → ℕ → List Seen
+unfoldable pub view_of : FileSystem → ℕ → List Seen
 view_of fs uid = view_for fs (user_with uid (groups_of fs uid))
 
 -- the first of the paths, which is the least

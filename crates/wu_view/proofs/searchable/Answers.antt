@@ -3,10 +3,9 @@ use Rattle.std.specs.Prelude.{map}
 use Rattle.std.specs.List.Sorted.{IsStrictlySortedBy}
 use Rattle.std.specs.Ordering.{nat_cmp}
 use Rattle.std.specs.BTreeMap.{get}
-use Rattle.wu_access.specs.declared.UserRec.{UserRec}
 use Rattle.wu_tree.specs.FileSystems.{groups_of}
 use Rattle.wu_view.specs.declared.Seen.{Seen}
-use Rattle.wu_view.specs.Views.{ascending, least_path, path_cmp, seen_cmp, view_for, user_with}
+use Rattle.wu_view.specs.Views.{ascending, least_path, path_cmp, seen_cmp, view_for, view_of, user_with}
 use Rattle.wu_view.specs.Walks.{Found, walked_whole}
 use Rattle.wu_view.specs.Groups.{paths_of, seen_in, unless_empty}
 use Rattle.wu_view.proofs.Shown.{seen_exact, view_is}
@@ -17,17 +16,18 @@ pub ascending-view-requires : goal.ascending-view-requires
 ascending-view-requires c = seen_exact
 
 pub returns : goal.returns
+unfolding view_of
 returns c =
     let groups : c.from.result ≡ groups_of c.args.tree.now c.args.uid = c.from.ensures ∙ c.in_ok-groups.ensures.items ∙ c.groups_of.ensures in
     let found : c.in_ok-found.found.items ≡ walked_whole c.args.tree.now (user_with c.args.uid c.from.result) = c.in_ok-found.ensures in
     let paths : (ino : ℕ) → get nat_cmp c.in_ok-files.files ino ≡ unless_empty (paths_of ino (walked_whole c.args.tree.now (user_with c.args.uid c.from.result))) =
-      λ ino. c.in_ok-files.ensures.paths ino ∙ ap (λ (l : List Found). unless_empty (paths_of ino l)) found in
+    λ ino. c.in_ok-files.ensures.paths ino ∙ ap (λ (l : List Found). unless_empty (paths_of ino l)) found in
     let seen : c.in_ok-seen.seen.items ≡ seen_in c.in_ok-files.files.entries = c.in_ok-seen.ensures in
     let sorted : c.ascending-view.result.items ≡ ascending seen_cmp c.in_ok-seen.seen.items = c.ascending-view.ensures in
     let view : c.ascending-view.result.items ≡ view_for c.args.tree.now (user_with c.args.uid c.from.result) =
-      sorted
-      ∙ ap (λ (l : List Seen). ascending seen_cmp l) seen
-      ∙ view_is c.args.tree.now c.keeps_the_rules.ensures (user_with c.args.uid c.from.result) c.in_ok-files.files c.in_ok-files.ensures.ordered paths in
+    sorted
+    ∙ ap (λ (l : List Seen). ascending seen_cmp l) seen
+    ∙ view_is c.args.tree.now c.keeps_the_rules.ensures (user_with c.args.uid c.from.result) c.in_ok-files.files c.in_ok-files.ensures.ordered paths in
     record {
       view = view ∙ ap (λ (g : List ℕ). view_for c.args.tree.now (user_with c.args.uid g)) groups;
       by_least_path = subst (λ (l : List Seen). IsStrictlySortedBy path_cmp (map least_path l)) (sym view) (by_least_path c.args.tree.now c.keeps_the_rules.ensures (user_with c.args.uid c.from.result));

@@ -1,12 +1,9 @@
-use Rattle.std.proofs.Common.{◌≡◌, ◌∙◌, sym, subst, ap}
-use Rattle.std.specs.Cmp.{eq_by_cmp_equiv}
-use Rattle.std.specs.List.{Contains}
-use Rattle.std.specs.List.Sorted.{IsStrictlySortedBy}
+use Rattle.std.proofs.Common.{◌∙◌, sym}
 use Rattle.std.proofs.lemmas.List.Filters.{dedup_is}
 use Rattle.std.proofs.lemmas.List.Kept.{IsStrictlySortedBy-dedup, Contains-dedup, Contains-from_dedup}
 use Rattle.std.proofs.lemmas.List.Sorted.{Contains-permutation, IsPermutation-sym}
 use Rattle.std.proofs.lemmas.Map.Views.{tells_apart}
-use Rattle.wu_view.proofs.Members.{Has, Has-from_Contains, Contains-from_Has}
+use Rattle.wu_view.proofs.Members.{Has-from_Contains, Contains-from_Has}
 use Rattle.wu_view.proofs.Sorted.{ascending_is}
 use Rattle.wu_view.proofs.orders.ascending.Goals as goal
 

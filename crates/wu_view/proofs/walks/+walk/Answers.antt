@@ -1,4 +1,4 @@
-use Rattle.std.proofs.Common.{rules, ◌≡◌, ◌-◌, ◌<◌, ◌++◌, ℕ, List, [], ap, sym, ◌∙◌, refl, arith}
+use Rattle.std.proofs.Common.{rules, ◌≡◌, ◌-◌, ◌<◌, ◌++◌, List, [], ap, sym, ◌∙◌, arith}
 use Rattle.std.specs.Prelude.{map}
 use Rattle.std.specs.Map.Iter.{deref_pair}
 use Rattle.std.proofs.lemmas.List.{append-nil}
@@ -28,4 +28,4 @@ returns-clause-files t c =
     c.loop-name.invariant.files
     ∙ ap (λ (l : List Found). c.args.files.now.items ++ l)
     (ap (found_in c.args.tree.now c.args.user.now (walked c.args.tree.now c.args.user.now (c.args.depth - 1)) c.args.path.now.items) s
-      ∙ sym (walked-suc c.args.tree.now c.args.user.now c.args.depth c.args.directory c.args.path.now.items l))
+    ∙ sym (walked-suc c.args.tree.now c.args.user.now c.args.depth c.args.directory c.args.path.now.items l))
