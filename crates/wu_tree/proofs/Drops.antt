@@ -1,16 +1,16 @@
 -- A link that goes, with its node where it was the last, leaves a tree.
-use Rattle.std.proofs.Common.{◌≡◌, ◌≢◌, ℕ, ◌+◌, ◌≤◌, List, [], ◌∷◌, refl, ap, sym, ◌∙◌, subst, Bool, true, false, cond, not, arith, ⊎_elim}
-use Rattle.std.specs.Prelude.{Option, None, Some, is_some, ◌==◌}
+use Rattle.std.proofs.Common.{◌≡◌, ◌≢◌, ℕ, ◌+◌, ◌≤◌, List, refl, ap, sym, ◌∙◌, subst, true, false, cond, arith, ⊎_elim}
+use Rattle.std.specs.Prelude.{Some, is_some, ◌==◌}
 use Rattle.std.specs.Ordering.{is_eq, nat_cmp}
 use Rattle.std.specs.List.{AllByRecursion}
-use Rattle.std.specs.Map.{lookup, remove_entry}
+use Rattle.std.specs.Map.{remove_entry}
 use Rattle.std.specs.BTreeMap.{is_at}
 use borrow.Author.Tests.{eqb-true, eqb-false, eq-eqb, ne_eqb}
 use Rattle.wu_tree.specs.declared.events.Kind.{Kind}
 use Rattle.wu_tree.specs.declared.events.Kind.TheVariants.{Directory, File}
 use Rattle.wu_tree.specs.declared.events.Node.{Node}
-use Rattle.wu_tree.specs.FileSystems.{FileSystem, Link, Place, place_cmp, is_directory, is_directory_node, is_there, node_of, child_of, link_count}
-use Rattle.wu_tree.specs.Steps.{without_link, named, named_by, is_last_link}
+use Rattle.wu_tree.specs.FileSystems.{FileSystem, Link, place_cmp, is_directory_node, is_there, node_of, child_of, link_count}
+use Rattle.wu_tree.specs.Steps.{without_link}
 use Rattle.wu_tree.specs.Rules.{IsLink, Hangs, IsNumbered, IsTree}
 use Rattle.wu_tree.proofs.Entries.{All-found, All-map, All-map2, All-remove_entry, ascend-remove_entry, counted-remove_entry, lookup-remove_other, none_left, number_itself}
 use Rattle.wu_tree.proofs.Keeps.{same_number, other_number, Around, around_remove, same_hangs, none_counted}

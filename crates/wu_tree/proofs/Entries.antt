@@ -1,6 +1,6 @@
 -- What a change of a finite map, as the list of its entries, leaves true of each entry.
 use Rattle.std.proofs.Common.{◌≡◌, ℕ, ◌+◌, List, [], ◌∷◌, refl, ap, sym, ◌∙◌, subst, Bool, true, false, cond, arith}
-use Rattle.std.specs.Prelude.{Option, None, Some, count_by, map}
+use Rattle.std.specs.Prelude.{Option, Some, count_by, map}
 use Rattle.std.specs.declared.cmp.Ordering.{Ordering}
 use Rattle.std.specs.declared.cmp.Ordering.TheVariants.{Less, Equal, Greater}
 use Rattle.std.specs.Ordering.{is_eq, match_ordering, ordering_reverse, nat_cmp}
@@ -43,7 +43,7 @@ module _ {K X Y : Type 0} (f : X → Y) where
   insert_entry-read R [] k v = refl
   insert_entry-read R (e ∷ es) k v =
       elim (R k e.0) as (λ o. match_ordering o ((k, f v) ∷ read (e ∷ es)) ((e.0, f v) ∷ read es) ((e.0, f e.1) ∷ insert_entry R (read es) k (f v))
-        ≡ read (match_ordering o ((k, v) ∷ e ∷ es) ((e.0, v) ∷ es) (e ∷ insert_entry R es k v))) [
+      ≡ read (match_ordering o ((k, v) ∷ e ∷ es) ((e.0, v) ∷ es) (e ∷ insert_entry R es k v))) [
         | Less ↦ refl
         | Equal ↦ refl
         | Greater ↦ ap (λ (l : List (K × Y)). (e.0, f e.1) ∷ l) (insert_entry-read R es k v)
@@ -77,7 +77,7 @@ module _ {K X : Type 0} (P : K × X → Type 0) where
       ] refl h
 
   pub All-insert_entry : (R : K → K → Ordering) (es : List (K × X)) (k : K) (v : X) → AllByRecursion P es → ((q : K) → R k q ≡ Equal → P (q, v)) → P (k, v)
-    → AllByRecursion P (insert_entry R es k v)
+      → AllByRecursion P (insert_entry R es k v)
   All-insert_entry R [] k v a h p = (p, tt)
   All-insert_entry R (e ∷ es) k v a h p =
       elim (R k e.0) as (λ o. R k e.0 ≡ o → AllByRecursion P (match_ordering o ((k, v) ∷ e ∷ es) ((e.0, v) ∷ es) (e ∷ insert_entry R es k v))) [
@@ -119,7 +119,7 @@ module _ {K X : Type 0} {R : K → K → Ordering} (o : IsTotalOrder R) where
   lookup-insert_entry [] k v q = refl
   lookup-insert_entry (e ∷ es) k v q =
       elim (R k e.0) as (λ r. R k e.0 ≡ r → lookup (is_at (R q)) (match_ordering r ((k, v) ∷ e ∷ es) ((e.0, v) ∷ es) (e ∷ insert_entry R es k v))
-        ≡ cond (is_eq (R q k)) (Some v) (cond (is_eq (R q e.0)) (Some e.1) (lookup (is_at (R q)) es))) [
+      ≡ cond (is_eq (R q k)) (Some v) (cond (is_eq (R q e.0)) (Some e.1) (lookup (is_at (R q)) es))) [
         | Less ↦ λ p. refl
         | Equal ↦ λ p. rw (alike_right o k e.0 q p) (same_conds (is_eq (R q e.0)) (Some v) (Some e.1) (lookup (is_at (R q)) es))
         | Greater ↦ λ p.
@@ -181,7 +181,7 @@ module _ {K X : Type 0} (p : X → Bool) where
   counted-cons e es = sum_by-cons (λ (x : K × X). cond (p x.1) 1 0) e es
 
   pub counted-insert_entry : (R : K → K → Ordering) (es : List (K × X)) (k : K) (v : X) → NonePasses (is_at (R k)) es
-    → counted (insert_entry R es k v) ≡ cond (p v) 1 0 + counted es
+      → counted (insert_entry R es k v) ≡ cond (p v) 1 0 + counted es
   counted-insert_entry R [] k v n = counted-cons (k, v) []
   counted-insert_entry R (e ∷ es) k v n =
       elim (R k e.0) as (λ r. R k e.0 ≡ r → counted (match_ordering r ((k, v) ∷ e ∷ es) ((e.0, v) ∷ es) (e ∷ insert_entry R es k v)) ≡ cond (p v) 1 0 + counted (e ∷ es)) [
@@ -222,7 +222,7 @@ number_itself n = (eq_by_cmp_equiv nat_cmp_total).refl n
 
 module _ {X : Type 0} where
   later_found : (e : ℕ × X) (es fs : List (ℕ × X)) → AllByRecursion (λ y. nat_cmp e.0 y ≡ Less) (keys_of fs) → AllByRecursion (λ f. lookup (is_at (nat_cmp f.0)) es ≡ Some f.1) fs
-    → AllByRecursion (λ f. lookup (is_at (nat_cmp f.0)) (e ∷ es) ≡ Some f.1) fs
+      → AllByRecursion (λ f. lookup (is_at (nat_cmp f.0)) (e ∷ es) ≡ Some f.1) fs
   later_found e es [] s a = tt
   later_found e es (f ∷ fs) s a = (let p : is_eq (nat_cmp f.0 e.0) ≡ false = ap is_eq (nat_cmp_total.antisymm f.0 e.0 ∙ ap ordering_reverse s.0) in rw p a.0, later_found e es fs s.1 a.1)
 
@@ -243,13 +243,14 @@ module _ {X : Type 0} where
 
   -- a value written at a number
   pub All-set_number : (P : ℕ × X → Type 0) (k : ℕ) (es : List (ℕ × X)) (v : X) → IsStrictlySortedBy nat_cmp (keys_of es) → AllByRecursion (λ e. is_eq (nat_cmp k e.0) ≡ false → P e) es
-    → P (k, v) → AllByRecursion P (set_value (is_at (nat_cmp k)) es v)
+      → P (k, v) → AllByRecursion P (set_value (is_at (nat_cmp k)) es v)
   All-set_number P k [] v s a p = tt
   All-set_number P k (e ∷ es) v s a p =
       elim (is_eq (nat_cmp k e.0)) as (λ b. is_eq (nat_cmp k e.0) ≡ b → AllByRecursion P (cond b ((e.0, v) ∷ es) (e ∷ set_value (is_at (nat_cmp k)) es v))) [
-        | true ↦ λ q.
-            (subst (λ x. P (x, v)) (exact_unsigned k e.0 (is_equal _ q)) p,
-            All-map2 (λ f. is_eq (nat_cmp k f.0) ≡ false → P f) (λ f. is_eq (nat_cmp k f.0) ≡ false) P es (λ f n g. g n) (none_past_head (eq_by_cmp_equiv nat_cmp_total) k e es (IsDistinct-from_sorted nat_cmp _ s) q) a.1)
+        | true ↦ λ q. (
+          subst (λ x. P (x, v)) (exact_unsigned k e.0 (is_equal _ q)) p,
+          All-map2 (λ f. is_eq (nat_cmp k f.0) ≡ false → P f) (λ f. is_eq (nat_cmp k f.0) ≡ false) P es (λ f n g. g n) (none_past_head (eq_by_cmp_equiv nat_cmp_total) k e es (IsDistinct-from_sorted nat_cmp _ s) q) a.1,
+        )
         | false ↦ λ q. (a.0 q, All-set_number P k es v (sorted_tail nat_cmp _ _ s) a.1 p)
       ] refl
 
@@ -280,7 +281,7 @@ module _ {K X : Type 0} {R : K → K → Ordering} (o : IsTotalOrder R) (exact :
   keys_left Q t (e ∷ es) a = elim (t e.0) as (λ b. AllByRecursion Q (keys_of (cond b es (e ∷ remove_entry t es)))) [ true ↦ a.1 | false ↦ (a.0, keys_left Q t es a.1) ]
 
   pub remove-insert_apart : (t : K → Bool) (es : List (K × X)) (k : K) (v : X) → ((x : K) → R k x ≡ Equal → t x ≡ false) → t k ≡ false → IsStrictlySortedBy R (keys_of es)
-    → remove_entry t (insert_entry R es k v) ≡ insert_entry R (remove_entry t es) k v
+      → remove_entry t (insert_entry R es k v) ≡ insert_entry R (remove_entry t es) k v
   remove-insert_apart t [] k v h g s = rw g refl
   remove-insert_apart t (e ∷ es) k v h g s =
       elim (R k e.0) as (λ r. R k e.0 ≡ r → remove_entry t (match_ordering r ((k, v) ∷ e ∷ es) ((e.0, v) ∷ es) (e ∷ insert_entry R es k v)) ≡ insert_entry R (remove_entry t (e ∷ es)) k v) [

@@ -1,26 +1,26 @@
 -- What a change of the links leaves true of the nodes that it doesn't touch.
 use Rattle.std.proofs.Common.{◌≡◌, ◌≢◌, ℕ, zero, suc, ◌+◌, ◌-◌, ◌<◌, ◌≤◌, List, [], ◌∷◌, length, refl, ap, sym, ◌∙◌, subst, Bool, true, false, cond, not, ◌||◌, arith, inl, inr, ⊎_elim}
-use Rattle.std.specs.Prelude.{Option, None, Some, is_some, IfSome, count_by, ◌⊎◌, ◌==◌}
+use Rattle.std.specs.Prelude.{Option, None, Some, is_some, IfSome, ◌==◌}
 use Rattle.std.specs.Ordering.{is_eq, nat_cmp, match_ordering}
 use Rattle.std.specs.declared.cmp.Ordering.TheVariants.{Less, Equal, Greater}
 use Rattle.std.specs.Cmp.Lexicographic.{slice_cmp}
 use Rattle.std.specs.Cmp.{IsTotalOrder, nat_cmp_total, then_total, on_total, eq_by_cmp_equiv}
 use Rattle.std.specs.List.{AllByRecursion, list_any}
-use Rattle.std.specs.Map.{keys_of, lookup, remove_entry, set_value}
+use Rattle.std.specs.Map.{lookup, remove_entry}
 use Rattle.std.specs.BTreeMap.{is_at, insert_entry}
-use Rattle.std.proofs.lemmas.Map.{NonePasses, lookup-none, none_passes_from_lookup}
+use Rattle.std.proofs.lemmas.Map.{NonePasses}
 use Rattle.std.proofs.lemmas.Cmp.{nat_list_cmp_total}
 use Rattle.std.proofs.lemmas.Map.Lookups.{exact_unsigned, exact_bytes, exact_pairs, CmpEqualImpliesEq}
-use borrow.Author.Tests.{eqb-true, eq-eqb, ne_eqb, eqb-false}
+use borrow.Author.Tests.{eqb-true, eq-eqb, ne_eqb}
 use Rattle.wu_tree.specs.declared.events.Kind.{Kind}
 use Rattle.wu_tree.specs.declared.events.Kind.TheVariants.{Directory, File}
 use Rattle.wu_tree.specs.declared.events.Node.{Node}
 use Rattle.wu_tree.specs.Inodes.{IsHeld}
 use Rattle.wu_tree.specs.declared.inodes.Hold.{Hold}
 use Rattle.wu_tree.specs.declared.inodes.Hold.TheVariants.{Entries, Links}
-use Rattle.wu_tree.specs.FileSystems.{FileSystem, IsLeaf, Place, Link, place_cmp, is_name, is_directory, is_directory_node, is_kind_file, is_file, is_there, node_of, is_within, link_count, parent_of, has_entries, ancestors, path_up, above, depth}
-use Rattle.wu_tree.specs.Rules.{IsLink, Hangs, IsNumbered, IsTree}
-use Rattle.wu_tree.proofs.Entries.{counted, counted-insert_entry, counted-remove_entry, counted-cons, is_equal, number_itself, All-found, All-map}
+use Rattle.wu_tree.specs.FileSystems.{FileSystem, IsLeaf, Place, Link, place_cmp, is_directory, is_directory_node, is_kind_file, is_there, node_of, is_within, link_count, parent_of, has_entries, ancestors, path_up, above, depth}
+use Rattle.wu_tree.specs.Rules.{IsLink, Hangs, IsTree}
+use Rattle.wu_tree.proofs.Entries.{counted-insert_entry, counted-remove_entry, counted-cons, is_equal, All-found, All-map}
 
 -- ---- the order of places
 pub place_total : IsTotalOrder place_cmp
@@ -59,7 +59,7 @@ pub parent-insert_other : (links : List Link) (k : Place) (v q : ℕ) → NonePa
 parent-insert_other [] k v q n h = rw (ne_eqb v q (λ e. h (sym e))) refl
 parent-insert_other (l ∷ links) k v q n h =
     elim (place_cmp k l.0) as (λ o. place_cmp k l.0 ≡ o → parent_of (match_ordering o ((k, v) ∷ l ∷ links) ((l.0, v) ∷ links) (l ∷ insert_entry place_cmp links k v)) q
-      ≡ cond (l.1 == q) (Some l.0.0) (parent_of links q)) [
+    ≡ cond (l.1 == q) (Some l.0.0) (parent_of links q)) [
       | Less ↦ λ p. rw (ne_eqb v q (λ e. h (sym e))) refl
       | Equal ↦ λ p. absurd (let f : is_eq (place_cmp k l.0) ≡ true = ap is_eq p in let g : is_eq (place_cmp k l.0) ≡ false = n.0 in cc)
       | Greater ↦ λ p. ap (λ (o : Option ℕ). cond (l.1 == q) (Some l.0.0) o) (parent-insert_other links k v q n.1 h)
@@ -89,7 +89,7 @@ pub record Around (before after : List Link) (x : ℕ) : Type 0 where
   pub leaf : AllByRecursion (λ l. l.0.0 ≢ x) before
 
 pub around_insert : (links : List Link) (k : Place) (x : ℕ) → NonePasses (is_at (place_cmp k)) links → AllByRecursion (λ l. l.0.0 ≢ x) links
-  → Around links (insert_entry place_cmp links k x) x
+    → Around links (insert_entry place_cmp links k x) x
 around_insert links k x n h = record {
   parents = λ q d. parent-insert_other links k x q n d;
   counts = λ q d. let c : cond {A = ℕ} (x == q) 1 0 ≡ 0 = rw (ne_eqb x q (λ e. d (sym e))) refl in omega (arith, counted-insert_entry (λ v. v == q) place_cmp links k x n);
@@ -162,12 +162,12 @@ unfolding ancestors
 shorter links zero q h = absurd (omega arith)
 shorter links (suc n) q h =
     elim (q == 1) as (λ b. length (cond b [] (above (ancestors links (suc n)) (parent_of links q))) ≤ n
-      → q ∷ cond b [] (above (ancestors links n) (parent_of links q)) ≡ q ∷ cond b [] (above (ancestors links (suc n)) (parent_of links q))) [
+    → q ∷ cond b [] (above (ancestors links n) (parent_of links q)) ≡ q ∷ cond b [] (above (ancestors links (suc n)) (parent_of links q))) [
       | true ↦ λ p. refl
       | false ↦ λ p. ap (λ (l : List ℕ). q ∷ l) (elim (parent_of links q) as (λ o. length (above (ancestors links (suc n)) o) ≤ n → above (ancestors links n) o ≡ above (ancestors links (suc n)) o) [
-          | None ↦ λ g. refl
-          | Some parent ↦ λ g. shorter links n parent g
-        ] p)
+        | None ↦ λ g. refl
+        | Some parent ↦ λ g. shorter links n parent g
+      ] p)
     ] (omega arith)
 
 pub path_is : (links : List Link) (q : ℕ) → path_up links q ≡ ancestors links 255 q
@@ -189,7 +189,7 @@ pub path_of_root : (links : List Link) → path_up links 1 ≡ 1 ∷ []
 unfolding path_up ancestors
 path_of_root links = refl
 
-hung_directory : (links : List Link) (q : ℕ) (k : Kind) → not (is_kind_file k) ≡ true → Hangs links q k → is_within links 1 q ≡ true
+pub hung_directory : (links : List Link) (q : ℕ) (k : Kind) → not (is_kind_file k) ≡ true → Hangs links q k → is_within links 1 q ≡ true
 hung_directory links q Directory h g = ⊎_elim (λ e. subst (λ x. is_within links 1 x ≡ true) (sym e) (rw (path_of_root links) refl)) (λ p. p.1) g
 hung_directory links q File h g = absurd cc
 
@@ -222,7 +222,7 @@ abbrev pub has_root : List ℕ → Bool
 has_root path = list_any (λ ino. ino == 1) path
 
 pub climb : (links : List Link) (m d parent : ℕ) → has_root (ancestors links m d) ≡ true → d ≢ 1 → parent_of links d ≡ Some parent
-  → (length (ancestors links m d) ≡ length (ancestors links (m - 1) parent) + 1) × (has_root (ancestors links (m - 1) parent) ≡ true)
+    → (length (ancestors links m d) ≡ length (ancestors links (m - 1) parent) + 1) × (has_root (ancestors links (m - 1) parent) ≡ true)
 unfolding ancestors
 climb links zero d parent h r p = absurd cc
 climb links (suc n) d parent h r p =

@@ -6,4 +6,5 @@ pub mod NewLinks
 pub mod Drops
 pub mod Perms
 pub mod Sound
-pub mod Moves
+pub mod Ways
+pub mod Renames

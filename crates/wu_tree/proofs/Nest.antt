@@ -1,12 +1,12 @@
 -- Looking up, putting and taking out a link, in the maps of names and in the list of the links.
-use Rattle.std.proofs.Common.{◌≡◌, ℕ, List, [], ◌∷◌, ◌++◌, refl, ap, sym, ◌∙◌, subst, Bool, true, false, cond, not, ◌||◌, arith, length, eqb}
-use Rattle.std.specs.Prelude.{◌↔◌, IsTrue, Option, None, Some, IsSome, is_some, map, ◌==◌}
+use Rattle.std.proofs.Common.{◌≡◌, ℕ, List, [], ◌∷◌, ◌++◌, refl, ap, sym, ◌∙◌, subst, Bool, true, false, cond, not, arith, length, eqb}
+use Rattle.std.specs.Prelude.{◌↔◌, None, Some, map}
 use Rattle.std.specs.declared.cmp.Ordering.{Ordering}
 use Rattle.std.specs.declared.cmp.Ordering.TheVariants.{Less, Equal, Greater}
-use Rattle.std.specs.Ordering.{nat_cmp, is_eq, eq_by_cmp, ordering_then, match_ordering}
+use Rattle.std.specs.Ordering.{nat_cmp, is_eq, ordering_then, match_ordering}
 use Rattle.std.specs.Cmp.{nat_cmp_total, eq_by_cmp_equiv}
 use Rattle.std.specs.Cmp.Lexicographic.{slice_cmp}
-use Rattle.std.specs.List.{AllByRecursion, list_any}
+use Rattle.std.specs.List.{AllByRecursion}
 use Rattle.std.specs.List.Sorted.{IsStrictlySortedBy}
 use Rattle.std.specs.Map.{keys_of, lookup, remove_entry, set_value}
 use Rattle.std.specs.BTreeMap.{BTreeMap, is_at, insert_entry}
@@ -52,17 +52,17 @@ module _ {K : Type 0} (bytes : K → List ℕ) where
 
   -- no later map is that of a directory
   past : (d : ℕ) (e : ℕ × BTreeMap K ℕ) (ds : Maps) → IsStrictlySortedBy nat_cmp (keys_of (e ∷ ds)) → is_eq (nat_cmp d e.0) ≡ true
-    → NonePasses (is_at (nat_cmp d)) ds
+      → NonePasses (is_at (nat_cmp d)) ds
   past d e ds s h = none_past_head (eq_by_cmp_equiv nat_cmp_total) d e ds (IsDistinct-from_sorted nat_cmp _ s) h
 
   -- ---- looking up
   lookup_here : (d e : ℕ) (n : List ℕ) → nat_cmp d e ≡ Equal → (es : List (K × ℕ)) (rest : List Link)
-    → lookup (at_place d n) rest ≡ None → lookup (at_place d n) (links_at bytes e es ++ rest) ≡ lookup (at_name n) es
+      → lookup (at_place d n) rest ≡ None → lookup (at_place d n) (links_at bytes e es ++ rest) ≡ lookup (at_name n) es
   lookup_here d e n h [] rest r = r
   lookup_here d e n h (x ∷ es) rest r = rw h (ap (cond (at_name n x.0) (Some x.1)) (lookup_here d e n h es rest r))
 
   lookup_skip : (d e : ℕ) (n : List ℕ) → is_eq (nat_cmp d e) ≡ false → (es : List (K × ℕ)) (rest : List Link)
-    → lookup (at_place d n) (links_at bytes e es ++ rest) ≡ lookup (at_place d n) rest
+      → lookup (at_place d n) (links_at bytes e es ++ rest) ≡ lookup (at_place d n) rest
   lookup_skip d e n h [] rest = refl
   lookup_skip d e n h (x ∷ es) rest = rw (then_no (nat_cmp d e) (slice_cmp nat_cmp n (bytes x.0)) h) (lookup_skip d e n h es rest)
 
@@ -74,11 +74,11 @@ module _ {K : Type 0} (bytes : K → List ℕ) where
   lookup_none d n ds h = lookup_no d n ds (none_passes_from_lookup _ ds h)
 
   pub lookup_some : (d : ℕ) (n : List ℕ) (ds : Maps) (m : BTreeMap K ℕ) → IsStrictlySortedBy nat_cmp (keys_of ds)
-    → lookup (is_at (nat_cmp d)) ds ≡ Some m → lookup (at_place d n) (links_in bytes ds) ≡ lookup (at_name n) m.entries
+      → lookup (is_at (nat_cmp d)) ds ≡ Some m → lookup (at_place d n) (links_in bytes ds) ≡ lookup (at_name n) m.entries
   lookup_some d n [] m s h = absurd cc
   lookup_some d n (e ∷ ds) m s h =
       elim (is_eq (nat_cmp d e.0)) as (λ b. is_eq (nat_cmp d e.0) ≡ b → cond b (Some e.1) (lookup (is_at (nat_cmp d)) ds) ≡ Some m
-        → lookup (at_place d n) (links_in bytes (e ∷ ds)) ≡ lookup (at_name n) m.entries) [
+      → lookup (at_place d n) (links_in bytes (e ∷ ds)) ≡ lookup (at_name n) m.entries) [
         | true ↦ λ p q.
             let same : e.1 ≡ m = cc in
             lookup_here d e.0 n (is_equal _ p) e.1.entries _ (lookup_no d n ds (past d e ds s p)) ∙ ap (λ (v : BTreeMap K ℕ). lookup (at_name n) v.entries) same
@@ -87,7 +87,7 @@ module _ {K : Type 0} (bytes : K → List ℕ) where
 
   -- ---- whether a directory has entries
   any_skip : (d e : ℕ) → is_eq (nat_cmp d e) ≡ false → (es : List (K × ℕ)) (rest : List Link)
-    → has_entries (links_at bytes e es ++ rest) d ≡ has_entries rest d
+      → has_entries (links_at bytes e es ++ rest) d ≡ has_entries rest d
   any_skip d e h [] rest = refl
   any_skip d e h (x ∷ es) rest = rw (apart d e h) (any_skip d e h es rest)
 
@@ -99,17 +99,17 @@ module _ {K : Type 0} (bytes : K → List ℕ) where
   any_none d ds h = any_no d ds (none_passes_from_lookup _ ds h)
 
   any_here : (d e : ℕ) → nat_cmp d e ≡ Equal → (es : List (K × ℕ)) (rest : List Link)
-    → has_entries rest d ≡ false → has_entries (links_at bytes e es ++ rest) d ≡ not (eqb (length es) 0)
+      → has_entries rest d ≡ false → has_entries (links_at bytes e es ++ rest) d ≡ not (eqb (length es) 0)
   any_here d e h [] rest r = r
   any_here d e h (x ∷ es) rest r =
       let same : e ≡ d = sym (exact_unsigned d e h) in rw (eq-eqb e d same) (sym (ap not (ne_eqb (length (x ∷ es)) 0 (λ q. omega arith))))
 
   pub any_some : (d : ℕ) (ds : Maps) (m : BTreeMap K ℕ) → IsStrictlySortedBy nat_cmp (keys_of ds)
-    → lookup (is_at (nat_cmp d)) ds ≡ Some m → has_entries (links_in bytes ds) d ≡ not (eqb (length m.entries) 0)
+      → lookup (is_at (nat_cmp d)) ds ≡ Some m → has_entries (links_in bytes ds) d ≡ not (eqb (length m.entries) 0)
   any_some d [] m s h = absurd cc
   any_some d (e ∷ ds) m s h =
       elim (is_eq (nat_cmp d e.0)) as (λ b. is_eq (nat_cmp d e.0) ≡ b → cond b (Some e.1) (lookup (is_at (nat_cmp d)) ds) ≡ Some m
-        → has_entries (links_in bytes (e ∷ ds)) d ≡ not (eqb (length m.entries) 0)) [
+      → has_entries (links_in bytes (e ∷ ds)) d ≡ not (eqb (length m.entries) 0)) [
         | true ↦ λ p q.
             let same : e.1 ≡ m = cc in
             any_here d e.0 (is_equal _ p) e.1.entries _ (any_no d ds (past d e ds s p)) ∙ ap (λ (v : BTreeMap K ℕ). not (eqb (length v.entries) 0)) same
@@ -121,7 +121,7 @@ module _ {K : Type 0} (bytes : K → List ℕ) where
   named_in es = map (λ e. (bytes e.0, e.1)) es
 
   entries_skip : (d e : ℕ) → is_eq (nat_cmp d e) ≡ false → (es : List (K × ℕ)) (rest : List Link)
-    → entries_of (links_at bytes e es ++ rest) d ≡ entries_of rest d
+      → entries_of (links_at bytes e es ++ rest) d ≡ entries_of rest d
   entries_skip d e h [] rest = refl
   entries_skip d e h (x ∷ es) rest = rw (apart d e h) (entries_skip d e h es rest)
 
@@ -133,17 +133,17 @@ module _ {K : Type 0} (bytes : K → List ℕ) where
   entries_none d ds h = entries_no d ds (none_passes_from_lookup _ ds h)
 
   entries_here : (d e : ℕ) → nat_cmp d e ≡ Equal → (es : List (K × ℕ)) (rest : List Link)
-    → entries_of rest d ≡ [] → entries_of (links_at bytes e es ++ rest) d ≡ named_in es
+      → entries_of rest d ≡ [] → entries_of (links_at bytes e es ++ rest) d ≡ named_in es
   entries_here d e h [] rest r = r
   entries_here d e h (x ∷ es) rest r =
       let same : e ≡ d = sym (exact_unsigned d e h) in rw (eq-eqb e d same) (ap (λ (v : List (List ℕ × ℕ)). (bytes x.0, x.1) ∷ v) (entries_here d e h es rest r))
 
   pub entries_some : (d : ℕ) (ds : Maps) (m : BTreeMap K ℕ) → IsStrictlySortedBy nat_cmp (keys_of ds)
-    → lookup (is_at (nat_cmp d)) ds ≡ Some m → entries_of (links_in bytes ds) d ≡ named_in m.entries
+      → lookup (is_at (nat_cmp d)) ds ≡ Some m → entries_of (links_in bytes ds) d ≡ named_in m.entries
   entries_some d [] m s h = absurd cc
   entries_some d (e ∷ ds) m s h =
       elim (is_eq (nat_cmp d e.0)) as (λ b. is_eq (nat_cmp d e.0) ≡ b → cond b (Some e.1) (lookup (is_at (nat_cmp d)) ds) ≡ Some m
-        → entries_of (links_in bytes (e ∷ ds)) d ≡ named_in m.entries) [
+      → entries_of (links_in bytes (e ∷ ds)) d ≡ named_in m.entries) [
         | true ↦ λ p q.
             let same : e.1 ≡ m = cc in
             entries_here d e.0 (is_equal _ p) e.1.entries _ (entries_no d ds (past d e ds s p)) ∙ ap (λ (v : BTreeMap K ℕ). named_in v.entries) same
@@ -152,7 +152,7 @@ module _ {K : Type 0} (bytes : K → List ℕ) where
 
   -- ---- taking out
   remove_skip : (d e : ℕ) (n : List ℕ) → is_eq (nat_cmp d e) ≡ false → (es : List (K × ℕ)) (rest : List Link)
-    → remove_entry (at_place d n) (links_at bytes e es ++ rest) ≡ links_at bytes e es ++ remove_entry (at_place d n) rest
+      → remove_entry (at_place d n) (links_at bytes e es ++ rest) ≡ links_at bytes e es ++ remove_entry (at_place d n) rest
   remove_skip d e n h [] rest = refl
   remove_skip d e n h (x ∷ es) rest =
       rw (then_no (nat_cmp d e) (slice_cmp nat_cmp n (bytes x.0)) h) (ap (λ (v : List Link). ((e, bytes x.0), x.1) ∷ v) (remove_skip d e n h es rest))
@@ -165,7 +165,7 @@ module _ {K : Type 0} (bytes : K → List ℕ) where
   remove_none d n ds h = sym (remove_no d n ds (none_passes_from_lookup _ ds h))
 
   remove_here : (d e : ℕ) (n : List ℕ) → nat_cmp d e ≡ Equal → (es : List (K × ℕ)) (rest : List Link)
-    → remove_entry (at_place d n) rest ≡ rest → remove_entry (at_place d n) (links_at bytes e es ++ rest) ≡ links_at bytes e (remove_entry (at_name n) es) ++ rest
+      → remove_entry (at_place d n) rest ≡ rest → remove_entry (at_place d n) (links_at bytes e es ++ rest) ≡ links_at bytes e (remove_entry (at_name n) es) ++ rest
   remove_here d e n h [] rest r = r
   remove_here d e n h (x ∷ es) rest r =
       elim (at_name n x.0) as (λ b. at_name n x.0 ≡ b → remove_entry (at_place d n) (links_at bytes e (x ∷ es) ++ rest) ≡ links_at bytes e (cond b es (x ∷ remove_entry (at_name n) es)) ++ rest) [
@@ -174,12 +174,12 @@ module _ {K : Type 0} (bytes : K → List ℕ) where
       ] refl
 
   pub remove_some : (d : ℕ) (n : List ℕ) (ds : Maps) (m m' : BTreeMap K ℕ) → IsStrictlySortedBy nat_cmp (keys_of ds)
-    → lookup (is_at (nat_cmp d)) ds ≡ Some m → m'.entries ≡ remove_entry (at_name n) m.entries
-    → links_in bytes (set_value (is_at (nat_cmp d)) ds m') ≡ remove_entry (at_place d n) (links_in bytes ds)
+      → lookup (is_at (nat_cmp d)) ds ≡ Some m → m'.entries ≡ remove_entry (at_name n) m.entries
+      → links_in bytes (set_value (is_at (nat_cmp d)) ds m') ≡ remove_entry (at_place d n) (links_in bytes ds)
   remove_some d n [] m m' s h k = absurd cc
   remove_some d n (e ∷ ds) m m' s h k =
       elim (is_eq (nat_cmp d e.0)) as (λ b. is_eq (nat_cmp d e.0) ≡ b → cond b (Some e.1) (lookup (is_at (nat_cmp d)) ds) ≡ Some m
-        → links_in bytes (cond b ((e.0, m') ∷ ds) (e ∷ set_value (is_at (nat_cmp d)) ds m')) ≡ remove_entry (at_place d n) (links_in bytes (e ∷ ds))) [
+      → links_in bytes (cond b ((e.0, m') ∷ ds) (e ∷ set_value (is_at (nat_cmp d)) ds m')) ≡ remove_entry (at_place d n) (links_in bytes (e ∷ ds))) [
         | true ↦ λ p q.
             let same : m ≡ e.1 = cc in
             let t : m'.entries ≡ remove_entry (at_name n) e.1.entries = k ∙ ap (λ (v : BTreeMap K ℕ). remove_entry (at_name n) v.entries) same in
@@ -189,11 +189,11 @@ module _ {K : Type 0} (bytes : K → List ℕ) where
 
   -- ---- a directory whose links stay as they are
   pub same_links : (d : ℕ) (ds : Maps) (m m' : BTreeMap K ℕ) → lookup (is_at (nat_cmp d)) ds ≡ Some m → m'.entries ≡ m.entries
-    → links_in bytes (set_value (is_at (nat_cmp d)) ds m') ≡ links_in bytes ds
+      → links_in bytes (set_value (is_at (nat_cmp d)) ds m') ≡ links_in bytes ds
   same_links d [] m m' h k = refl
   same_links d (e ∷ ds) m m' h k =
       elim (is_eq (nat_cmp d e.0)) as (λ b. cond b (Some e.1) (lookup (is_at (nat_cmp d)) ds) ≡ Some m
-        → links_in bytes (cond b ((e.0, m') ∷ ds) (e ∷ set_value (is_at (nat_cmp d)) ds m')) ≡ links_in bytes (e ∷ ds)) [
+      → links_in bytes (cond b ((e.0, m') ∷ ds) (e ∷ set_value (is_at (nat_cmp d)) ds m')) ≡ links_in bytes (e ∷ ds)) [
         | true ↦ λ q.
             let same : m ≡ e.1 = cc in
             let t : m'.entries ≡ e.1.entries = k ∙ ap (λ (v : BTreeMap K ℕ). v.entries) same in
@@ -216,37 +216,37 @@ module _ {K : Type 0} (bytes : K → List ℕ) where
   -- ---- putting, where k is the name as it is kept, and the kept names are in the order of their bytes
   module _ (kept : K → K → Ordering) (in_order : (x y : K) → kept x y ≡ slice_cmp nat_cmp (bytes x) (bytes y)) where
     put_before : (d e : ℕ) (n : List ℕ) (c : ℕ) → nat_cmp d e ≡ Greater → (es : List (K × ℕ)) (rest : List Link)
-      → insert_entry place_cmp (links_at bytes e es ++ rest) (d, n) c ≡ links_at bytes e es ++ insert_entry place_cmp rest (d, n) c
+        → insert_entry place_cmp (links_at bytes e es ++ rest) (d, n) c ≡ links_at bytes e es ++ insert_entry place_cmp rest (d, n) c
     put_before d e n c h [] rest = refl
     put_before d e n c h (x ∷ es) rest = rw h (ap (λ (v : List Link). ((e, bytes x.0), x.1) ∷ v) (put_before d e n c h es rest))
 
     put_here : (d e : ℕ) (k : K) (c : ℕ) → nat_cmp d e ≡ Equal → (es : List (K × ℕ)) (rest : List Link)
-      → insert_entry place_cmp rest (d, bytes k) c ≡ ((d, bytes k), c) ∷ rest
-      → insert_entry place_cmp (links_at bytes e es ++ rest) (d, bytes k) c ≡ links_at bytes e (insert_entry kept es k c) ++ rest
+        → insert_entry place_cmp rest (d, bytes k) c ≡ ((d, bytes k), c) ∷ rest
+        → insert_entry place_cmp (links_at bytes e es ++ rest) (d, bytes k) c ≡ links_at bytes e (insert_entry kept es k c) ++ rest
     put_here d e k c h [] rest r = r ∙ ap (λ (v : ℕ). ((v, bytes k), c) ∷ rest) (exact_unsigned d e h)
     put_here d e k c h (x ∷ es) rest r =
         elim (slice_cmp nat_cmp (bytes k) (bytes x.0)) as (λ o. slice_cmp nat_cmp (bytes k) (bytes x.0) ≡ o
-          → insert_entry place_cmp (links_at bytes e (x ∷ es) ++ rest) (d, bytes k) c
-            ≡ links_at bytes e (match_ordering o ((k, c) ∷ x ∷ es) ((x.0, c) ∷ es) (x ∷ insert_entry kept es k c)) ++ rest) [
+        → insert_entry place_cmp (links_at bytes e (x ∷ es) ++ rest) (d, bytes k) c
+        ≡ links_at bytes e (match_ordering o ((k, c) ∷ x ∷ es) ((x.0, c) ∷ es) (x ∷ insert_entry kept es k c)) ++ rest) [
           | Less ↦ λ p. rw (h, p) (ap (λ (v : ℕ). ((v, bytes k), c) ∷ ((e, bytes x.0), x.1) ∷ links_at bytes e es ++ rest) (exact_unsigned d e h))
           | Equal ↦ λ p. rw (h, p) refl
           | Greater ↦ λ p. rw (h, p) (ap (λ (v : List Link). ((e, bytes x.0), x.1) ∷ v) (put_here d e k c h es rest r))
         ] refl ∙ ap (λ (o : Ordering). links_at bytes e (match_ordering o ((k, c) ∷ x ∷ es) ((x.0, c) ∷ es) (x ∷ insert_entry kept es k c)) ++ rest) (sym (in_order k x.0))
 
     put_first_at : (d : ℕ) (n : List ℕ) (c e : ℕ) → nat_cmp d e ≡ Less → (es : List (K × ℕ)) (rest : List Link)
-      → insert_entry place_cmp rest (d, n) c ≡ ((d, n), c) ∷ rest
-      → insert_entry place_cmp (links_at bytes e es ++ rest) (d, n) c ≡ ((d, n), c) ∷ links_at bytes e es ++ rest
+        → insert_entry place_cmp rest (d, n) c ≡ ((d, n), c) ∷ rest
+        → insert_entry place_cmp (links_at bytes e es ++ rest) (d, n) c ≡ ((d, n), c) ∷ links_at bytes e es ++ rest
     put_first_at d n c e h [] rest r = r
     put_first_at d n c e h (x ∷ es) rest r = rw h refl
 
     put_first : (d : ℕ) (n : List ℕ) (c : ℕ) (ds : Maps) → AllByRecursion (λ y. nat_cmp d y ≡ Less) (keys_of ds)
-      → insert_entry place_cmp (links_in bytes ds) (d, n) c ≡ ((d, n), c) ∷ links_in bytes ds
+        → insert_entry place_cmp (links_in bytes ds) (d, n) c ≡ ((d, n), c) ∷ links_in bytes ds
     put_first d n c [] h = refl
     put_first d n c (e ∷ ds) h = put_first_at d n c e.0 h.0 e.1.entries (links_in bytes ds) (put_first d n c ds h.1)
 
     -- the keys past one that is at d are above d
     above_equal : (d : ℕ) (e : ℕ × BTreeMap K ℕ) (ds : Maps) → IsStrictlySortedBy nat_cmp (keys_of (e ∷ ds)) → nat_cmp d e.0 ≡ Equal
-      → AllByRecursion (λ y. nat_cmp d y ≡ Less) (keys_of ds)
+        → AllByRecursion (λ y. nat_cmp d y ≡ Less) (keys_of ds)
     above_equal d e ds s h = subst (λ x. AllByRecursion (λ y. nat_cmp x y ≡ Less) (keys_of ds)) (sym (exact_unsigned d e.0 h)) (sorted_head nat_cmp _ _ s)
 
     above_all : (d e : ℕ) (ks : List ℕ) → nat_cmp d e ≡ Less → AllByRecursion (λ y. nat_cmp e y ≡ Less) ks → AllByRecursion (λ y. nat_cmp d y ≡ Less) ks
@@ -254,16 +254,16 @@ module _ {K : Type 0} (bytes : K → List ℕ) where
     above_all d e (k ∷ ks) h a = (nat_cmp_total.trans d e k h a.0, above_all d e ks h a.1)
 
     above_less : (d : ℕ) (e : ℕ × BTreeMap K ℕ) (ds : Maps) → IsStrictlySortedBy nat_cmp (keys_of (e ∷ ds)) → nat_cmp d e.0 ≡ Less
-      → AllByRecursion (λ y. nat_cmp d y ≡ Less) (keys_of ds)
+        → AllByRecursion (λ y. nat_cmp d y ≡ Less) (keys_of ds)
     above_less d e ds s h = above_all d e.0 (keys_of ds) h (sorted_head nat_cmp _ _ s)
 
     pub put_some : (d : ℕ) (k : K) (c : ℕ) (ds : Maps) (m m' : BTreeMap K ℕ) → IsStrictlySortedBy nat_cmp (keys_of ds)
-      → lookup (is_at (nat_cmp d)) ds ≡ Some m → m'.entries ≡ insert_entry kept m.entries k c
-      → links_in bytes (set_value (is_at (nat_cmp d)) ds m') ≡ insert_entry place_cmp (links_in bytes ds) (d, bytes k) c
+        → lookup (is_at (nat_cmp d)) ds ≡ Some m → m'.entries ≡ insert_entry kept m.entries k c
+        → links_in bytes (set_value (is_at (nat_cmp d)) ds m') ≡ insert_entry place_cmp (links_in bytes ds) (d, bytes k) c
     put_some d k c [] m m' s h t = absurd cc
     put_some d k c (e ∷ ds) m m' s h t =
         elim (nat_cmp d e.0) as (λ o. nat_cmp d e.0 ≡ o → cond (is_eq o) (Some e.1) (lookup (is_at (nat_cmp d)) ds) ≡ Some m
-          → links_in bytes (cond (is_eq o) ((e.0, m') ∷ ds) (e ∷ set_value (is_at (nat_cmp d)) ds m')) ≡ insert_entry place_cmp (links_in bytes (e ∷ ds)) (d, bytes k) c) [
+        → links_in bytes (cond (is_eq o) ((e.0, m') ∷ ds) (e ∷ set_value (is_at (nat_cmp d)) ds m')) ≡ insert_entry place_cmp (links_in bytes (e ∷ ds)) (d, bytes k) c) [
           | Less ↦ λ p q. let n : lookup (is_at (nat_cmp d)) ds ≡ None = lookup-none (is_at (nat_cmp d)) ds (none_below_head nat_cmp_total d e ds s p).1 in absurd (none_is_not_some m (sym n ∙ q))
           | Equal ↦ λ p q.
               let same : m ≡ e.1 = cc in
@@ -273,12 +273,12 @@ module _ {K : Type 0} (bytes : K → List ℕ) where
         ] refl h
 
     pub put_new : (d : ℕ) (k : K) (c : ℕ) (ds : Maps) (m : BTreeMap K ℕ) → IsStrictlySortedBy nat_cmp (keys_of ds)
-      → has_entries (links_in bytes ds) d ≡ false → m.entries ≡ (k, c) ∷ []
-      → links_in bytes (insert_entry nat_cmp ds d m) ≡ insert_entry place_cmp (links_in bytes ds) (d, bytes k) c
+        → has_entries (links_in bytes ds) d ≡ false → m.entries ≡ (k, c) ∷ []
+        → links_in bytes (insert_entry nat_cmp ds d m) ≡ insert_entry place_cmp (links_in bytes ds) (d, bytes k) c
     put_new d k c [] m s h t = ap (λ (v : List (K × ℕ)). links_at bytes d v ++ []) t
     put_new d k c (e ∷ ds) m s h t =
         elim (nat_cmp d e.0) as (λ o. nat_cmp d e.0 ≡ o
-          → links_in bytes (match_ordering o ((d, m) ∷ e ∷ ds) ((e.0, m) ∷ ds) (e ∷ insert_entry nat_cmp ds d m)) ≡ insert_entry place_cmp (links_in bytes (e ∷ ds)) (d, bytes k) c) [
+        → links_in bytes (match_ordering o ((d, m) ∷ e ∷ ds) ((e.0, m) ∷ ds) (e ∷ insert_entry nat_cmp ds d m)) ≡ insert_entry place_cmp (links_in bytes (e ∷ ds)) (d, bytes k) c) [
           | Less ↦ λ p. ap (λ (v : List (K × ℕ)). links_at bytes d v ++ links_in bytes (e ∷ ds)) t ∙ sym (put_first d (bytes k) c (e ∷ ds) (p, above_less d e ds s p))
           | Equal ↦ λ p.
               let gone : e.1.entries ≡ [] = none_at d e.0 p e.1.entries _ h in

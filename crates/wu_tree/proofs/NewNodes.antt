@@ -1,32 +1,29 @@
 -- A new node and its link keep the rules of a tree.
-use Rattle.std.proofs.Common.{◌≡◌, ◌≢◌, ℕ, zero, suc, ◌+◌, ◌<◌, ◌≤◌, List, [], ◌∷◌, length, refl, ap, sym, ◌∙◌, subst, Bool, true, false, cond, ◌||◌, not, arith, inl, inr}
-use Rattle.std.specs.Prelude.{Option, None, Some, is_some, ◌⊎◌, ◌==◌}
+use Rattle.std.proofs.Common.{◌≡◌, ◌≢◌, ℕ, ◌<◌, ◌≤◌, List, refl, ap, sym, ◌∙◌, subst, Bool, true, false, cond, arith, inr}
+use Rattle.std.specs.Prelude.{Option, None, Some, is_some, ◌==◌}
 use Rattle.std.specs.Ordering.{is_eq, nat_cmp}
 use Rattle.std.specs.Cmp.{nat_cmp_total}
-use Rattle.std.specs.List.{AllByRecursion, list_any}
-use Rattle.std.specs.Map.{lookup}
+use Rattle.std.specs.List.{AllByRecursion}
 use Rattle.std.specs.BTreeMap.{is_at, insert_entry}
 use Rattle.std.proofs.lemmas.Map.{NonePasses, none_passes_from_lookup}
 use Rattle.std.proofs.lemmas.Map.Lookups.{exact_unsigned}
-use borrow.Author.Tests.{eqb-true, eq-eqb, ne_eqb}
+use borrow.Author.Tests.{eq-eqb, ne_eqb}
 use Rattle.wu_tree.specs.declared.events.Kind.{Kind}
 use Rattle.wu_tree.specs.declared.events.Kind.TheVariants.{Directory, File}
 use Rattle.wu_tree.specs.declared.events.Node.{Node}
-use Rattle.wu_tree.specs.declared.inodes.Hold.{Hold}
-use Rattle.wu_tree.specs.declared.inodes.Hold.TheVariants.{Entries, Links}
 use Rattle.wu_tree.specs.Inodes.{IsHeld, first_hold}
-use Rattle.wu_tree.specs.FileSystems.{FileSystem, Place, Link, place_cmp, is_name, is_directory, is_directory_node, is_there, node_of, child_of, is_within, link_count, parent_of, ancestors, path_up, depth}
+use Rattle.wu_tree.specs.FileSystems.{FileSystem, Link, place_cmp, is_name, is_directory, is_directory_node, is_there, node_of, child_of, is_within, link_count, parent_of, path_up, depth}
 use Rattle.wu_tree.specs.Steps.{with_node}
 use Rattle.wu_tree.specs.Rules.{IsLink, Hangs, IsNumbered, IsTree}
 use Rattle.wu_tree.proofs.Entries.{lookup-insert_entry, All-insert_entry, All-map, All-map2, ascend-insert_entry, counted-insert_entry, number_itself}
-use Rattle.wu_tree.proofs.Keeps.{place_total, place_exact, same_number, other_number, Around, around_insert, same_hangs, same_held, same_path, path_of_child, count_none, no_parent, absent_child, absent_directory, parent-insert_new}
+use Rattle.wu_tree.proofs.Keeps.{place_total, place_exact, other_number, Around, around_insert, same_hangs, same_path, path_of_child, count_none, no_parent, absent_child, absent_directory, parent-insert_new}
 
 kept_some : {T : Type 0} (b : Bool) (x : T) (o : Option T) → is_some o ≡ true → is_some (cond b (Some x) o) ≡ true
 kept_some true x o h = refl
 kept_some false x o h = h
 
 module _ (fs : FileSystem) (t : IsTree fs) (ino parent : ℕ) (name : List ℕ) (node : Node) (new : node_of fs ino ≡ None)
-  (directory : is_directory fs parent ≡ true) (free : child_of fs parent name ≡ None) where
+    (directory : is_directory fs parent ≡ true) (free : child_of fs parent name ≡ None) where
   abbrev links' : List Link
   links' = insert_entry place_cmp fs.links (parent, name) ino
 
@@ -85,7 +82,7 @@ module _ (fs : FileSystem) (t : IsTree fs) (ino parent : ℕ) (name : List ℕ) 
   new_link n = record { parent = kept_directory parent directory; child = new_there; no_root = no_root; name = n }
 
   pub node_keeps : 1 ≤ ino → node.perm.mode ≤ 0xFFF → is_name name ≡ true → (node.kind ≡ Directory → depth fs.links parent < 255) → is_within fs.links 1 parent ≡ true
-    → IsTree (with_node fs ino parent name node)
+      → IsTree (with_node fs ino parent name node)
   node_keeps low mode n d w = record {
     users_ascend = t.users_ascend;
     groups_ascend = t.groups_ascend;
@@ -101,8 +98,8 @@ module _ (fs : FileSystem) (t : IsTree fs) (ino parent : ℕ) (name : List ℕ) 
     nodes =
         All-insert_entry (λ e. Hangs links' e.0 e.1.kind) nat_cmp fs.nodes ino node
         (All-map2 (λ e. Hangs fs.links e.0 e.1.kind) (λ e. is_eq (nat_cmp ino e.0) ≡ false) (λ e. Hangs links' e.0 e.1.kind) fs.nodes
-            (λ e m p. same_hangs new_around e.0 e.1.kind (λ s. let g : is_eq (nat_cmp ino e.0) ≡ true = subst (λ x. is_eq (nat_cmp x e.0) ≡ true) s (number_itself e.0) in absurd (let f : true ≡ false = sym g ∙ m in cc)) p)
-            no_number t.nodes)
+        (λ e m p. same_hangs new_around e.0 e.1.kind (λ s. let g : is_eq (nat_cmp ino e.0) ≡ true = subst (λ x. is_eq (nat_cmp x e.0) ≡ true) s (number_itself e.0) in absurd (let f : true ≡ false = sym g ∙ m in cc)) p)
+        no_number t.nodes)
         (λ q e. subst (λ x. Hangs links' x node.kind) (exact_unsigned ino q e) (new_hangs node.kind d w))
         (new_hangs node.kind d w);
   }

@@ -1,14 +1,12 @@
 -- A node with other permissions leaves a tree.
-use Rattle.std.proofs.Common.{◌≡◌, ◌≢◌, ℕ, ◌≤◌, List, [], ◌∷◌, refl, ap, sym, ◌∙◌, subst, Bool, true, false, cond, arith}
-use Rattle.std.specs.Prelude.{Option, None, Some, is_some}
+use Rattle.std.proofs.Common.{◌≡◌, ℕ, ◌≤◌, List, [], ◌∷◌, refl, ap, sym, ◌∙◌, subst, Bool, true, false, cond}
+use Rattle.std.specs.Prelude.{Option, Some, is_some}
 use Rattle.std.specs.Ordering.{is_eq, nat_cmp}
 use Rattle.std.specs.List.{AllByRecursion}
-use Rattle.std.specs.List.Sorted.{IsStrictlySortedBy}
-use Rattle.std.specs.Map.{lookup, set_value, keys_of}
+use Rattle.std.specs.Map.{lookup, set_value}
 use Rattle.std.specs.BTreeMap.{is_at}
 use Rattle.std.proofs.lemmas.Map.{keys-set_value}
 use Rattle.wu_tree.specs.declared.events.Node.{Node}
-use Rattle.wu_tree.specs.declared.inodes.Hold.{Hold}
 use Rattle.wu_tree.specs.declared.inodes.Inode.{Inode}
 use Rattle.wu_tree.specs.Inodes.{IsHeld}
 use Rattle.wu_tree.specs.FileSystems.{FileSystem, Link, is_directory, is_directory_node, is_there, node_of}
@@ -75,9 +73,9 @@ module _ (fs : FileSystem) (t : IsTree fs) (ino : ℕ) (old node : Node) (found 
 
 -- and what ties it to the links stays
 pub held_again : (links : List Link) (inodes : List (ℕ × Inode)) (ino : ℕ) (old inode : Inode) → AllByRecursion (λ e. IsHeld links e.0 e.1.hold) inodes → lookup (is_at (nat_cmp ino)) inodes ≡ Some old → inode.hold ≡ old.hold
-  → AllByRecursion (λ e. IsHeld links e.0 e.1.hold) (set_value (is_at (nat_cmp ino)) inodes inode)
+    → AllByRecursion (λ e. IsHeld links e.0 e.1.hold) (set_value (is_at (nat_cmp ino)) inodes inode)
 held_again links inodes ino old inode a h e =
     All-set_value (λ x. IsHeld links x.0 x.1.hold) (is_at (nat_cmp ino)) inodes inode a (λ q p.
-      let f = All-found (λ x. IsHeld links x.0 x.1.hold) (is_at (nat_cmp ino)) inodes old a h in
-      let s : f.0 ≡ q = sym (same_number ino f.0 f.1) ∙ same_number ino q p in
-      rw e (subst (λ x. IsHeld links x old.hold) s f.2))
+    let f = All-found (λ x. IsHeld links x.0 x.1.hold) (is_at (nat_cmp ino)) inodes old a h in
+    let s : f.0 ≡ q = sym (same_number ino f.0 f.1) ∙ same_number ino q p in
+    rw e (subst (λ x. IsHeld links x old.hold) s f.2))

@@ -1,5 +1,5 @@
 -- What each change of a tree's fields leaves: a sound tree that stands for the changed file system.
-use Rattle.std.proofs.Common.{◌≡◌, ◌≢◌, ℕ, ◌+◌, ◌-◌, ◌<◌, ◌≤◌, List, [], ◌∷◌, refl, ap, sym, ◌∙◌, subst, Bool, true, false, cond, not, arith, inl, ⊎_elim}
+use Rattle.std.proofs.Common.{◌≡◌, ◌≢◌, ℕ, ◌+◌, ◌<◌, ◌≤◌, List, [], ◌∷◌, refl, ap, sym, ◌∙◌, subst, Bool, true, false, cond, not, arith, inl, ⊎_elim}
 use Rattle.std.specs.Prelude.{Option, None, Some, is_some, map, count_by, ◌==◌}
 use Rattle.std.proofs.lemmas.List.Sums.{sum_by-cons}
 use Rattle.std.specs.Option.{option_map}
@@ -10,9 +10,8 @@ use Rattle.std.specs.Map.{keys_of, lookup, set_value, remove_entry}
 use Rattle.std.specs.BTreeMap.{is_at, insert_entry}
 use Rattle.std.specs.Cmp.{nat_cmp_total}
 use Rattle.std.proofs.lemmas.Map.Lookups.{exact_unsigned}
-use Rattle.std.proofs.lemmas.Map.{NonePasses, none_passes_from_lookup}
+use Rattle.std.proofs.lemmas.Map.{none_passes_from_lookup}
 use Rattle.std.proofs.lemmas.Map.Made.{lookup-map_values, keys_of-map_values}
-use Rattle.wu_access.specs.declared.Perm.{Perm}
 use Rattle.wu_access.specs.declared.UserRec.{UserRec}
 use Rattle.wu_tree.specs.declared.events.Kind.{Kind}
 use Rattle.wu_tree.specs.declared.events.Kind.TheVariants.{Directory, File}
@@ -21,7 +20,7 @@ use Rattle.wu_tree.specs.declared.inodes.Hold.{Hold}
 use Rattle.wu_tree.specs.declared.inodes.Hold.TheVariants.{Entries, Links}
 use Rattle.wu_tree.specs.declared.inodes.Inode.{Inode}
 use Rattle.wu_tree.specs.Inodes.{node_in, nodes_in, users_in, file_system, IsHeld, IsSound, first_hold, fewer_links, has_one_link, kind_of, parent_in}
-use Rattle.wu_tree.specs.FileSystems.{FileSystem, IsLeaf, Place, Link, place_cmp, node_of, child_of, is_directory, is_there, is_file, is_file_node, is_directory_node, parent_of, is_kind_file, link_count, is_name, is_within, depth}
+use Rattle.wu_tree.specs.FileSystems.{IsLeaf, Place, Link, place_cmp, node_of, child_of, is_directory, is_there, is_file, is_file_node, is_directory_node, parent_of, is_kind_file, link_count, is_name, depth}
 use Rattle.wu_tree.specs.Rules.{IsTree, IsLink, Hangs}
 use Rattle.wu_tree.specs.Steps.{with_perm, with_node, with_link, without_link}
 use Rattle.wu_tree.proofs.Entries.{ascend-insert_entry, set_value-read, insert_entry-read, remove_entry-read, remove_entry-insert_entry, All-insert_entry, All-map, All-map2, All-found, All-remove_entry, All-set_number, counted-remove_entry, none_left, number_itself}
@@ -33,7 +32,7 @@ use borrow.Author.Tests.{eq-eqb}
 use Rattle.wu_tree.proofs.NewNodes.{node_keeps, new_around, new_held}
 use Rattle.wu_tree.proofs.Perms.{perm_keeps, held_again}
 
-not_passed : (k q : ℕ) → is_eq (nat_cmp k q) ≡ false → q ≢ k
+pub not_passed : (k q : ℕ) → is_eq (nat_cmp k q) ≡ false → q ≢ k
 not_passed k q h e = let f : is_eq (nat_cmp k q) ≡ true = subst (λ x. is_eq (nat_cmp x q) ≡ true) e (number_itself q) in absurd (let g : true ≡ false = sym f ∙ h in cc)
 
 pub found_counted : (links : List Link) (t : Place → Bool) (c : ℕ) → lookup t links ≡ Some c → 1 ≤ link_count links c
@@ -66,7 +65,7 @@ module _ (inodes : List (ℕ × Inode)) (links : List Link) (users : List (ℕ �
     }
 
     pub perm_view : file_system (set_value (is_at (nat_cmp ino)) inodes inode) links users
-      ≡ with_perm (λ _. inode.perm) (file_system inodes links users) ino (node_of (file_system inodes links users) ino)
+        ≡ with_perm (λ _. inode.perm) (file_system inodes links users) ino (node_of (file_system inodes links users) ino)
     perm_view =
         rw (node_found ino old found)
         (let e : node_in inode ≡ record (node_in old) { perm = inode.perm } = ap (λ (k : Hold). record { kind = kind_of k; perm = inode.perm }) hold in
@@ -95,8 +94,8 @@ module _ (inodes : List (ℕ × Inode)) (links : List Link) (users : List (ℕ �
       taken_back = remove_entry-insert_entry nat_cmp_total inodes ino first_inode (none_passes_from_lookup (is_at (nat_cmp ino)) inodes (inode_absent ino new)) (number_itself ino)
 
       pub add_sound : is_directory (file_system inodes links users) parent ≡ true → child_of (file_system inodes links users) parent name ≡ None
-        → 1 ≤ ino → node.perm.mode ≤ 0xFFF → is_name name ≡ true → (node.kind ≡ Directory → depth links parent < 255)
-        → IsSound (insert_entry nat_cmp inodes ino first_inode) (insert_entry place_cmp links (parent, name) ino) users
+          → 1 ≤ ino → node.perm.mode ≤ 0xFFF → is_name name ≡ true → (node.kind ≡ Directory → depth links parent < 255)
+          → IsSound (insert_entry nat_cmp inodes ino first_inode) (insert_entry place_cmp links (parent, name) ino) users
       add_sound directory free low mode n d = record {
         tree = rw add_view (node_keeps (file_system inodes links users) s.tree ino parent name node new directory free low mode n d (reached (file_system inodes links users) s.tree parent directory));
         held =
@@ -104,22 +103,22 @@ module _ (inodes : List (ℕ × Inode)) (links : List Link) (users : List (ℕ �
             let first : IsHeld (insert_entry place_cmp links (parent, name) ino) ino first_inode.hold = new_held (file_system inodes links users) s.tree ino parent name node new directory free node.kind in
             All-insert_entry (λ e. IsHeld (insert_entry place_cmp links (parent, name) ino) e.0 e.1.hold) nat_cmp inodes ino first_inode
             (All-map2 (λ e. IsHeld links e.0 e.1.hold) (λ e. is_eq (nat_cmp ino e.0) ≡ false) (λ e. IsHeld (insert_entry place_cmp links (parent, name) ino) e.0 e.1.hold) inodes
-                (λ e m p. same_held around e.0 e.1.hold (not_passed ino e.0 m) p) (none_passes_from_lookup (is_at (nat_cmp ino)) inodes (inode_absent ino new)) s.held)
+            (λ e m p. same_held around e.0 e.1.hold (not_passed ino e.0 m) p) (none_passes_from_lookup (is_at (nat_cmp ino)) inodes (inode_absent ino new)) s.held)
             (λ q e. subst (λ x. IsHeld (insert_entry place_cmp links (parent, name) ino) x first_inode.hold) (exact_unsigned ino q e) first)
             first;
         keyed = s.keyed;
       }
 
   -- ---- nodes with links
-  ascend : IsStrictlySortedBy nat_cmp (keys_of inodes)
+  pub ascend : IsStrictlySortedBy nat_cmp (keys_of inodes)
   ascend = subst (λ k. IsStrictlySortedBy nat_cmp k) (keys_of-map_values node_in inodes) s.tree.nodes_ascend
 
-  held_at : (c : ℕ) (inode : Inode) → lookup (is_at (nat_cmp c)) inodes ≡ Some inode → IsHeld links c inode.hold
+  pub held_at : (c : ℕ) (inode : Inode) → lookup (is_at (nat_cmp c)) inodes ≡ Some inode → IsHeld links c inode.hold
   held_at c inode h =
       let f = All-found (λ e. IsHeld links e.0 e.1.hold) (is_at (nat_cmp c)) inodes inode s.held h in
       subst (λ x. IsHeld links x inode.hold) (sym (same_number c f.0 f.1)) f.2
 
-  hangs_at : (c : ℕ) (inode : Inode) → lookup (is_at (nat_cmp c)) inodes ≡ Some inode → Hangs links c (kind_of inode.hold)
+  pub hangs_at : (c : ℕ) (inode : Inode) → lookup (is_at (nat_cmp c)) inodes ≡ Some inode → Hangs links c (kind_of inode.hold)
   hangs_at c inode h =
       let f = All-found (λ e. Hangs links e.0 e.1.kind) (is_at (nat_cmp c)) (nodes_in inodes) (node_in inode) s.tree.nodes (node_found c inode h) in
       subst (λ x. Hangs links x (kind_of inode.hold)) (sym (same_number c f.0 f.1)) f.2
@@ -220,7 +219,7 @@ module _ (inodes : List (ℕ × Inode)) (links : List Link) (users : List (ℕ �
   file_count_kept ino count inode h e = counted_hold ino count inode.hold e (held_at ino inode h)
 
   module _ (ino parent : ℕ) (name : List ℕ) (file : is_file (file_system inodes links users) ino ≡ true) (free : child_of (file_system inodes links users) parent name ≡ None)
-    (inode : Inode) (there : lookup (is_at (nat_cmp ino)) inodes ≡ Some inode) (count : ℕ) (counts : count ≡ link_count links ino + 1) where
+      (inode : Inode) (there : lookup (is_at (nat_cmp ino)) inodes ≡ Some inode) (count : ℕ) (counts : count ≡ link_count links ino + 1) where
     abbrev pub more_links : List Link
     more_links = insert_entry place_cmp links (parent, name) ino
 
@@ -247,7 +246,7 @@ module _ (inodes : List (ℕ × Inode)) (links : List Link) (users : List (ℕ �
       held =
           All-set_number (λ e. IsHeld more_links e.0 e.1.hold) ino inodes heavier ascend
           (All-map (λ e. IsHeld links e.0 e.1.hold) (λ e. is_eq (nat_cmp ino e.0) ≡ false → IsHeld more_links e.0 e.1.hold) inodes
-              (λ e p m. same_held (link_around (file_system inodes links users) s.tree ino parent name file free) e.0 e.1.hold (not_passed ino e.0 m) p) s.held)
+          (λ e p m. same_held (link_around (file_system inodes links users) s.tree ino parent name file free) e.0 e.1.hold (not_passed ino e.0 m) p) s.held)
           (one_more (file_system inodes links users) s.tree ino parent name file free ∙ sym counts);
       keyed = s.keyed;
     }

@@ -1,6 +1,9 @@
 -- What a tree keeps of its nodes and users, and how it stands for a file system.
-use Rattle.std.specs.Prelude.{◌≡◌, ℕ, ◌-◌, Bool, true, ◌==◌, Option, None, Some, List, map, ◌⊎◌}
+use Rattle.std.specs.Prelude.{◌≡◌, ℕ, ◌-◌, Bool, true, cond, ◌==◌, Option, None, Some, List, map, ◌⊎◌}
 use Rattle.std.specs.List.{AllByRecursion}
+use Rattle.std.specs.Ordering.{nat_cmp}
+use Rattle.std.specs.Map.{remove_entry, set_value}
+use Rattle.std.specs.BTreeMap.{is_at}
 use Rattle.wu_access.specs.declared.UserRec.{UserRec}
 use Rattle.wu_tree.specs.declared.events.Kind.{Kind}
 use Rattle.wu_tree.specs.declared.events.Kind.TheVariants.{Directory, File}
@@ -57,3 +60,18 @@ pub record IsSound (inodes : List (ℕ × Inode)) (links : List Link) (users : L
   pub tree : IsTree (file_system inodes links users)
   pub held : AllByRecursion (λ e. IsHeld links e.0 e.1.hold) inodes
   pub keyed : AllByRecursion (λ e. e.1.uid ≡ e.0) users
+
+-- a directory's hold in another parent
+abbrev pub moved_hold : ℕ → Hold → Hold
+moved_hold parent (Entries old) = Entries parent
+moved_hold parent (Links count) = Links count
+
+-- the nodes after one of them, if it is there, lost a link, or moved to another parent
+abbrev pub with_link_lost : Option Inode → ℕ → List (ℕ × Inode) → List (ℕ × Inode)
+with_link_lost None ino inodes = inodes
+with_link_lost (Some inode) ino inodes =
+    cond (has_one_link inode.hold) (remove_entry (is_at (nat_cmp ino)) inodes) (set_value (is_at (nat_cmp ino)) inodes (record inode { hold = fewer_links inode.hold }))
+
+abbrev pub with_parent : ℕ → Option Inode → ℕ → List (ℕ × Inode) → List (ℕ × Inode)
+with_parent parent None ino inodes = inodes
+with_parent parent (Some inode) ino inodes = set_value (is_at (nat_cmp ino)) inodes (record inode { hold = moved_hold parent inode.hold })

@@ -3,3 +3,4 @@ pub mod Steps
 pub mod Rules
 pub mod Nested
 pub mod Inodes
+pub mod Paths

@@ -1,17 +1,16 @@
 -- What each event does to a file system: it is refused by the first rule of its list that applies, and changes nothing, or
 -- it is accepted, and gives the next file system. Links, removal and renaming are those of POSIX.1.
-use Rattle.std.specs.Prelude.{◌≡◌, ℕ, ◌+◌, ◌-◌, ◌≤◌, Bool, true, false, ◌&&◌, ◌||◌, not, cond, ◌==◌, nat_lt, nat_le, Option, None, Some, is_some, Result, Ok, Err, MatchResult, List, [], ◌∷◌, ◌++◌}
+use Rattle.std.specs.Prelude.{◌≡◌, ℕ, ◌+◌, ◌-◌, ◌≤◌, Bool, false, ◌&&◌, ◌||◌, not, cond, ◌==◌, nat_lt, nat_le, Option, None, Some, Result, Ok, Err, MatchResult, List, [], ◌∷◌, ◌++◌}
 use Rattle.std.specs.Ordering.{nat_cmp}
 use Rattle.std.specs.List.{list_any, fold}
-use Rattle.std.specs.Map.{lookup, remove_entry, set_value}
+use Rattle.std.specs.Map.{remove_entry, set_value}
 use Rattle.std.specs.BTreeMap.{is_at, insert_entry}
 use Rattle.std.specs.BTreeSet.{insert_key}
 use Rattle.wu_access.specs.declared.Perm.{Perm}
-use Rattle.wu_tree.specs.declared.events.Kind.{Kind}
 use Rattle.wu_tree.specs.declared.events.Kind.TheVariants.{Directory, File}
 use Rattle.wu_tree.specs.declared.events.Node.{Node}
 use Rattle.wu_tree.specs.declared.events.Event.{Event}
-use Rattle.wu_tree.specs.declared.events.Event.TheVariants.{User, Mkdir, Create, Text, Link, Unlink, Rmdir, Chmod, Chown}
+use Rattle.wu_tree.specs.declared.events.Event.TheVariants.{User, Mkdir, Create, Text, Link, Unlink, Rmdir, Rename, Chmod, Chown}
 use Rattle.wu_tree.specs.declared.events.Refusal.{Refusal}
 use Rattle.wu_tree.specs.declared.events.Refusal.TheVariants.{BadName, NoSuch, Exists, NotEmpty, Loop, Deep}
 use Rattle.wu_tree.specs.declared.events.Refusal.TheVariants.{Kind as OfWrongKind}
@@ -46,16 +45,30 @@ abbrev pub is_too_deep : FileSystem → ℕ → ℕ → Bool
 is_too_deep fs child parent =
     list_any
     (λ node.
-        not (is_kind_file node.1.kind) && is_within fs.links child node.0
-        && nat_lt 255 (depth fs.links parent + 1 + (depth fs.links node.0 - depth fs.links child)))
+    not (is_kind_file node.1.kind) && is_within fs.links child node.0
+    && nat_lt 255 (depth fs.links parent + 1 + (depth fs.links node.0 - depth fs.links child)))
     fs.nodes
 
--- of a renaming of `child` to a name in `parent` that is `target` so far; 0 is no node
-abbrev pub move_rules : FileSystem → ℕ → ℕ → ℕ → List Rule
+-- whether what stands at a place, if anything does, is a link to that node; a link to a node of the other kind; a link to a
+-- directory that has entries
+abbrev pub is_link_to : ℕ → Option ℕ → Bool
+is_link_to child None = false
+is_link_to child (Some target) = target == child
+
+abbrev pub is_of_other_kind : FileSystem → ℕ → Option ℕ → Bool
+is_of_other_kind fs child None = false
+is_of_other_kind fs child (Some target) = (is_directory fs child && is_file fs target) || (is_file fs child && is_directory fs target)
+
+abbrev pub is_full : FileSystem → Option ℕ → Bool
+is_full fs None = false
+is_full fs (Some target) = is_directory fs target && has_entries fs.links target
+
+-- of a move of `child` to a name in `parent`, where `target` is what the name named so far
+abbrev pub move_rules : FileSystem → ℕ → ℕ → Option ℕ → List Rule
 move_rules fs child parent target =
     (is_directory fs child && is_within fs.links child parent, Loop)
-    ∷ ((is_directory fs child && is_file fs target) || (is_file fs child && is_directory fs target), OfWrongKind)
-    ∷ (is_directory fs target && has_entries fs.links target, NotEmpty)
+    ∷ (is_of_other_kind fs child target, OfWrongKind)
+    ∷ (is_full fs target, NotEmpty)
     ∷ (is_directory fs child && is_too_deep fs child parent, Deep)
     ∷ []
 
@@ -95,7 +108,7 @@ rename_rules fs parent name new_parent new_name =
     ∷ (not (is_there fs parent) || not (is_there fs new_parent), NoSuch)
     ∷ (is_file fs parent || is_file fs new_parent, OfWrongKind)
     ∷ (not (is_used fs parent name), NoSuch)
-    ∷ cond (named_by fs new_parent new_name == named_by fs parent name) [] (move_rules fs (named_by fs parent name) new_parent (named_by fs new_parent new_name))
+    ∷ cond (is_link_to (named_by fs parent name) (child_of fs new_parent new_name)) [] (move_rules fs (named_by fs parent name) new_parent (child_of fs new_parent new_name))
 
 abbrev pub absent_rules : FileSystem → ℕ → List Rule
 absent_rules fs ino = (not (is_there fs ino), NoSuch) ∷ []
@@ -109,6 +122,7 @@ refusal_of fs (Text ino) = first_of (text_rules fs ino)
 refusal_of fs (Link ino parent name) = first_of (link_rules fs ino parent name)
 refusal_of fs (Unlink parent name) = first_of (unlink_rules fs parent name)
 refusal_of fs (Rmdir parent name) = first_of (rmdir_rules fs parent name)
+refusal_of fs (Rename parent name new_parent new_name) = first_of (rename_rules fs parent name new_parent new_name)
 refusal_of fs (Chmod ino mode) = first_of (absent_rules fs ino)
 refusal_of fs (Chown ino uid gid) = first_of (absent_rules fs ino)
 
@@ -154,6 +168,16 @@ abbrev pub with_link_moved : FileSystem → ℕ → List ℕ → ℕ → List �
 with_link_moved fs parent name new_parent new_name child =
     record fs { links = insert_entry place_cmp (remove_entry (is_at (place_cmp (parent, name))) fs.links) (new_parent, new_name) child }
 
+-- whether two places name the same node
+abbrev pub is_same_node : FileSystem → ℕ → List ℕ → ℕ → List ℕ → Bool
+is_same_node fs parent name new_parent new_name = is_link_to (named_by fs parent name) (child_of fs new_parent new_name)
+
+-- without what stood at the new place, and with the link there instead; unchanged where both places name the same node
+abbrev pub renamed : FileSystem → ℕ → List ℕ → ℕ → List ℕ → FileSystem
+renamed fs parent name new_parent new_name =
+    cond (is_same_node fs parent name new_parent new_name) fs
+    (with_link_moved (cond (is_used fs new_parent new_name) (without_link fs new_parent new_name) fs) parent name new_parent new_name (named_by fs parent name))
+
 -- after an event that is accepted
 abbrev pub next : FileSystem → Event → FileSystem
 next fs (User uid groups) = with_user fs uid groups
@@ -163,6 +187,7 @@ next fs (Text ino) = fs
 next fs (Link ino parent name) = with_link fs ino parent name
 next fs (Unlink parent name) = without_link fs parent name
 next fs (Rmdir parent name) = without_link fs parent name
+next fs (Rename parent name new_parent new_name) = renamed fs parent name new_parent new_name
 next fs (Chmod ino mode) = with_perm (λ perm. record perm { mode = mode }) fs ino (node_of fs ino)
 next fs (Chown ino uid gid) = with_perm (λ perm. record perm { uid = uid; gid = gid }) fs ino (node_of fs ino)
 
@@ -174,6 +199,10 @@ no_effect = record { made = None; dropped = None; texted = None }
 abbrev pub dropped_at : FileSystem → ℕ → List ℕ → Option ℕ
 dropped_at fs parent name = cond (is_file fs (named_by fs parent name) && is_last_link fs parent name) (child_of fs parent name) None
 
+abbrev pub rename_effect : FileSystem → ℕ → List ℕ → ℕ → List ℕ → Effect
+rename_effect fs parent name new_parent new_name =
+    cond (is_same_node fs parent name new_parent new_name) no_effect (record no_effect { dropped = dropped_at fs new_parent new_name })
+
 -- which file an accepted event makes, which one loses its last link, and which one is given a text
 abbrev pub effect_of : FileSystem → Event → Effect
 effect_of fs (User uid groups) = no_effect
@@ -183,6 +212,7 @@ effect_of fs (Text ino) = record no_effect { texted = Some ino }
 effect_of fs (Link ino parent name) = no_effect
 effect_of fs (Unlink parent name) = record no_effect { dropped = dropped_at fs parent name }
 effect_of fs (Rmdir parent name) = no_effect
+effect_of fs (Rename parent name new_parent new_name) = rename_effect fs parent name new_parent new_name
 effect_of fs (Chmod ino mode) = no_effect
 effect_of fs (Chown ino uid gid) = no_effect
 
@@ -210,5 +240,6 @@ IsEvent (Text ino) = Unit {0}
 IsEvent (Link ino parent name) = Unit {0}
 IsEvent (Unlink parent name) = Unit {0}
 IsEvent (Rmdir parent name) = Unit {0}
+IsEvent (Rename parent name new_parent new_name) = Unit {0}
 IsEvent (Chmod ino mode) = mode ≤ 0xFFF
 IsEvent (Chown ino uid gid) = Unit {0}

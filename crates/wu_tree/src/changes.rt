@@ -58,12 +58,7 @@ impl Tree {
     }
 
     /// Puts one more link to a file into a directory.
-    pub(crate) fn add_link(
-        &mut self,
-        ino: Ino,
-        parent: Ino,
-        name: Vec<u8>,
-    ) -> Result<(), NoMemory>
+    pub(crate) fn add_link(&mut self, ino: Ino, parent: Ino, name: Vec<u8>) -> Result<(), NoMemory>
         requires named { is_name name.items ≡ true }
         requires directory { is_directory self.old parent ≡ true }
         requires file { is_file self.old ino ≡ true }

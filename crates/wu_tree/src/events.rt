@@ -31,7 +31,10 @@ pub struct LinkRec {
 #[derive(Clone, Debug, PartialEq, Eq, Drop)]
 pub enum Event {
     /// The user is in these groups and no others. They may stand in any order, and more than once.
-    User { uid: Uid, groups: Sequence<Gid> },
+    User {
+        uid: Uid,
+        groups: Sequence<Gid>,
+    },
     /// A directory was made.
     Mkdir {
         ino: Ino,
@@ -47,7 +50,9 @@ pub enum Event {
         perm: Perm,
     },
     /// A file was given another text, which the tree doesn't hold.
-    Text { ino: Ino },
+    Text {
+        ino: Ino,
+    },
     /// A file got one more link.
     Link {
         ino: Ino,
@@ -55,13 +60,33 @@ pub enum Event {
         name: Bytes,
     },
     /// A link to a file went, and the file with it where that was its last.
-    Unlink { parent: Ino, name: Bytes },
+    Unlink {
+        parent: Ino,
+        name: Bytes,
+    },
     /// An empty directory went.
-    Rmdir { parent: Ino, name: Bytes },
+    Rmdir {
+        parent: Ino,
+        name: Bytes,
+    },
+    /// A link was moved to another place, where it replaced what stood there.
+    Rename {
+        parent: Ino,
+        name: Bytes,
+        new_parent: Ino,
+        new_name: Bytes,
+    },
     /// A node's mode was changed.
-    Chmod { ino: Ino, mode: u16 },
+    Chmod {
+        ino: Ino,
+        mode: u16,
+    },
     /// A node's owner and group were changed.
-    Chown { ino: Ino, uid: Uid, gid: Gid },
+    Chown {
+        ino: Ino,
+        uid: Uid,
+        gid: Gid,
+    },
 }
 
 /// Why an event is refused.

@@ -1,6 +1,6 @@
 //! What a tree keeps of a node.
 ghost use Rattle.std.specs.Prelude.{◌≡◌};
-ghost use Rattle.wu_tree.specs.Inodes.{fewer_links, first_hold, has_one_link, kind_of, node_in, parent_in};
+ghost use Rattle.wu_tree.specs.Inodes.{fewer_links, first_hold, has_one_link, kind_of, moved_hold, node_in, parent_in};
 ghost use Rattle.wu_tree.specs.FileSystems.{is_kind_file};
 
 use crate::events::{Kind, Node};
@@ -65,6 +65,16 @@ impl Hold {
             Hold::Links { count } => Hold::Links {
                 count: count.saturating_sub(1),
             },
+        }
+    }
+
+    /// A directory's hold in another parent.
+    pub(crate) fn moved_to(&self, parent: Ino) -> Hold
+        ensures { result ≡ moved_hold parent self.now }
+    {
+        match self {
+            Hold::Entries { .. } => Hold::Entries { parent },
+            Hold::Links { count } => Hold::Links { count: *count },
         }
     }
 

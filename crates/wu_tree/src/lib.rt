@@ -3,9 +3,11 @@
 #![tactic(auto)]
 
 mod changes;
+mod depths;
 mod events;
 mod inodes;
 mod links;
+mod moves;
 mod names;
 mod refusals;
 mod steps;

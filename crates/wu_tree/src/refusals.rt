@@ -1,5 +1,6 @@
 //! Why an event is refused: the first rule of its list that applies.
 ghost use Rattle.std.specs.Prelude.{◌≡◌, true, IfNone, Some};
+ghost use Rattle.wu_tree.specs.Steps.{is_link_to as link_test};
 
 use crate::events::{Event, Kind, Refusal};
 use crate::names::is_name;
@@ -8,7 +9,7 @@ use wu_base::{DEPTH_MAX, Ino};
 
 impl Tree {
     ghost use Rattle.wu_tree.specs.FileSystems.{is_directory, is_file, is_name as name_test, is_there, is_used};
-    ghost use Rattle.wu_tree.specs.Steps.{absent_rules, create_rules, first_of, link_rules, mkdir_rules, place_rules, refusal_of, rmdir_rules, text_rules, unlink_rules};
+    ghost use Rattle.wu_tree.specs.Steps.{absent_rules, create_rules, first_of, is_full, is_of_other_kind, link_rules, mkdir_rules, move_rules, place_rules, refusal_of, rename_rules, rmdir_rules, text_rules, unlink_rules};
 
     /// Why an event is refused, or None where it is accepted.
     pub(crate) fn refusal(&self, event: &Event) -> Option<Refusal>
@@ -17,15 +18,27 @@ impl Tree {
         match event {
             Event::User { .. } => None,
             Event::Mkdir {
-                ino, parent, name, ..
+                ino,
+                parent,
+                name,
+                ..
             } => self.refuse_mkdir(*ino, *parent, name.as_slice()),
             Event::Create {
-                ino, parent, name, ..
+                ino,
+                parent,
+                name,
+                ..
             } => self.refuse_create(*ino, *parent, name.as_slice()),
             Event::Text { ino } => self.refuse_text(*ino),
             Event::Link { ino, parent, name } => self.refuse_link(*ino, *parent, name.as_slice()),
             Event::Unlink { parent, name } => self.refuse_unlink(*parent, name.as_slice()),
             Event::Rmdir { parent, name } => self.refuse_rmdir(*parent, name.as_slice()),
+            Event::Rename {
+                parent,
+                name,
+                new_parent,
+                new_name,
+            } => self.refuse_rename(*parent, name.as_slice(), *new_parent, new_name.as_slice()),
             Event::Chmod { ino, .. } | Event::Chown { ino, .. } => self.refuse_absent(*ino),
         }
     }
@@ -66,7 +79,7 @@ impl Tree {
         }
     }
 
-    fn is_directory(&self, ino: Ino) -> bool
+    pub(crate) fn is_directory(&self, ino: Ino) -> bool
         ensures { result ≡ is_directory self.now ino }
     {
         match self.node(ino) {
@@ -186,5 +199,86 @@ impl Tree {
         } else {
             Some(Refusal::NoSuch)
         }
+    }
+
+    fn refuse_rename(
+        &self,
+        parent: Ino,
+        name: &[u8],
+        new_parent: Ino,
+        new_name: &[u8],
+    ) -> Option<Refusal>
+        ensures { result ≡ first_of (rename_rules self.now parent name.now new_parent new_name.now) }
+    {
+        if !is_name(name) || !is_name(new_name) {
+            return Some(Refusal::BadName);
+        }
+        if !self.is_there(parent) || !self.is_there(new_parent) {
+            return Some(Refusal::NoSuch);
+        }
+        if self.is_file(parent) || self.is_file(new_parent) {
+            return Some(Refusal::Kind);
+        }
+        match self.child(parent, name) {
+            Some(child) => {
+                let target = self.child(new_parent, new_name);
+                if is_link_to(child, target) {
+                    None
+                } else {
+                    self.refuse_move(child, new_parent, target)
+                }
+            }
+            None => Some(Refusal::NoSuch),
+        }
+    }
+
+    /// Of a node that is to get a name in a directory, where `target` is what the name named so far.
+    fn refuse_move(&self, child: Ino, parent: Ino, target: Option<Ino>) -> Option<Refusal>
+        requires { is_directory self.now parent ≡ true }
+        ensures { result ≡ first_of (move_rules self.now child parent target) }
+    {
+        let is_directory = self.is_directory(child);
+        if is_directory && self.is_within(child, parent) {
+            Some(Refusal::Loop)
+        } else if self.is_of_other_kind(child, target) {
+            Some(Refusal::Kind)
+        } else if self.is_full(target) {
+            Some(Refusal::NotEmpty)
+        } else if is_directory && self.is_too_deep(child, parent) {
+            Some(Refusal::Deep)
+        } else {
+            None
+        }
+    }
+
+    fn is_of_other_kind(&self, child: Ino, target: Option<Ino>) -> bool
+        ensures { result ≡ is_of_other_kind self.now child target }
+    {
+        match target {
+            Some(target) => {
+                self.is_directory(child) && self.is_file(target)
+                    || self.is_file(child) && self.is_directory(target)
+            }
+            None => false,
+        }
+    }
+
+    fn is_full(&self, target: Option<Ino>) -> bool
+        ensures { result ≡ is_full self.now target }
+    {
+        match target {
+            Some(target) => self.is_directory(target) && self.has_entries(target),
+            None => false,
+        }
+    }
+}
+
+/// Whether what stands at a place, if anything does, is a link to that node.
+pub(crate) fn is_link_to(child: Ino, target: Option<Ino>) -> bool
+    ensures { result ≡ link_test child target }
+{
+    match target {
+        Some(target) => target == child,
+        None => false,
     }
 }

@@ -16,7 +16,7 @@ const NO_EFFECT: Effect = Effect {
 
 impl Tree {
     ghost use Rattle.wu_tree.specs.FileSystems.{node_of};
-    ghost use Rattle.wu_tree.specs.Steps.{IsEvent, IsStep, absent_rules, create_rules, dropped_at, effect_of, first_of, link_rules, mkdir_rules, next, refusal_of, rmdir_rules, text_rules, unlink_rules, with_link, with_node, with_perm, without_link};
+    ghost use Rattle.wu_tree.specs.Steps.{IsEvent, IsStep, absent_rules, create_rules, dropped_at, effect_of, first_of, link_rules, mkdir_rules, next, refusal_of, rename_effect, rename_rules, renamed, rmdir_rules, text_rules, unlink_rules, with_link, with_node, with_perm, without_link};
 
     /// One event: its effect where it is accepted, or why it is refused, by the first rule of its list that
     /// applies. A refused event changes nothing, and neither does one for which there is no memory. Mkdir
@@ -68,6 +68,12 @@ impl Tree {
                 self.rmdir(*parent, name.as_slice());
                 Ok(NO_EFFECT)
             }
+            Event::Rename {
+                parent,
+                name,
+                new_parent,
+                new_name,
+            } => self.rename(*parent, name.as_slice(), *new_parent, new_name.as_slice()),
             Event::Chmod { ino, mode } => {
                 self.chmod(*ino, *mode);
                 Ok(NO_EFFECT)
@@ -79,13 +85,7 @@ impl Tree {
         }
     }
 
-    fn mkdir(
-        &mut self,
-        ino: Ino,
-        parent: Ino,
-        name: &[u8],
-        perm: Perm,
-    ) -> Result<Effect, NoMemory>
+    fn mkdir(&mut self, ino: Ino, parent: Ino, name: &[u8], perm: Perm) -> Result<Effect, NoMemory>
         requires low { 1 ≤ ino }
         requires mode { perm.mode ≤ 0xFFF }
         requires accepted { first_of (mkdir_rules self.old ino parent name.now) ≡ None }
@@ -99,13 +99,7 @@ impl Tree {
         Ok(NO_EFFECT)
     }
 
-    fn create(
-        &mut self,
-        ino: Ino,
-        parent: Ino,
-        name: &[u8],
-        perm: Perm,
-    ) -> Result<Effect, NoMemory>
+    fn create(&mut self, ino: Ino, parent: Ino, name: &[u8], perm: Perm) -> Result<Effect, NoMemory>
         requires low { 1 ≤ ino }
         requires mode { perm.mode ≤ 0xFFF }
         requires accepted { first_of (create_rules self.old ino parent name.now) ≡ None }
@@ -151,6 +145,42 @@ impl Tree {
         ensures { self.new ≡ without_link self.old parent name.now }
     {
         self.drop_link(parent, name);
+    }
+
+    fn rename(
+        &mut self,
+        parent: Ino,
+        name: &[u8],
+        new_parent: Ino,
+        new_name: &[u8],
+    ) -> Result<Effect, NoMemory>
+        requires { first_of (rename_rules self.old parent name.now new_parent new_name.now) ≡ None }
+        ensures effect { IfOk result (λ effect. effect ≡ rename_effect self.old parent name.now new_parent new_name.now) }
+        ensures next { OnOk result (self.new ≡ renamed self.old parent name.now new_parent new_name.now) }
+        ensures err { OnErr result (self.new ≡ self.old) }
+    {
+        let Some(child) = self.child(parent, name) else {
+            return Ok(NO_EFFECT);
+        };
+        match self.child(new_parent, new_name) {
+            Some(target) => {
+                if target == child {
+                    return Ok(NO_EFFECT);
+                }
+                let dropped = self.dropped_at(new_parent, new_name);
+                let new_name = self.copy(new_name)?;
+                self.move_onto(parent, name, new_parent, new_name, child, target)?;
+                Ok(Effect {
+                    dropped,
+                    ..NO_EFFECT
+                })
+            }
+            None => {
+                let new_name = self.copy(new_name)?;
+                self.move_to_free(parent, name, new_parent, new_name, child)?;
+                Ok(NO_EFFECT)
+            }
+        }
     }
 
     fn chmod(&mut self, ino: Ino, mode: u16)

@@ -81,6 +81,25 @@ fn rmdir(
     Ok(tree.apply(&Event::Rmdir { parent, name })?.err())
 }
 
+fn rename(
+    rt: HostRuntime,
+    tree: &mut Tree,
+    parent: Ino,
+    name: &[u8],
+    new_parent: Ino,
+    new_name: &[u8],
+) -> Result<Option<Refusal>, NoMemory> {
+    let name = Bytes::from_slice(rt.alloc(), name)?;
+    let new_name = Bytes::from_slice(rt.alloc(), new_name)?;
+    let event = Event::Rename {
+        parent,
+        name,
+        new_parent,
+        new_name,
+    };
+    Ok(tree.apply(&event)?.err())
+}
+
 /// Directory 2 `/d` with file 3 `/d/f` and directory 4 `/d/e`, and file 5 `/g`.
 fn small_tree(rt: HostRuntime) -> Result<Tree, NoMemory> {
     let mut tree = Tree::new(rt.alloc())?;
@@ -101,8 +120,14 @@ fn nodes_and_links_that_may_not_be_made(rt: HostRuntime) -> Result<(), Fail> {
     assert_eq!(rt; mkdir(rt, &mut tree, 9, 1, b"..")?, Some(Refusal::BadName));
     assert_eq!(rt; mkdir(rt, &mut tree, 9, 1, b"")?, Some(Refusal::BadName));
     assert_eq!(rt; mkdir(rt, &mut tree, 9, 1, b"a/b")?, Some(Refusal::BadName));
-    assert_eq!(rt; tree.apply(&Event::Text { ino: 2 })?.err(), Some(Refusal::Kind));
-    assert_eq!(rt; tree.apply(&Event::Text { ino: 9 })?.err(), Some(Refusal::NoSuch));
+    assert_eq!(rt;
+        tree.apply(&Event::Text { ino: 2 })?.err(),
+        Some(Refusal::Kind)
+    );
+    assert_eq!(rt;
+        tree.apply(&Event::Text { ino: 9 })?.err(),
+        Some(Refusal::NoSuch)
+    );
     assert_eq!(rt; link(rt, &mut tree, 2, 1, b"h")?, Some(Refusal::Kind));
     assert_eq!(rt; link(rt, &mut tree, 3, 1, b"g")?, Some(Refusal::Exists));
     Ok(())
@@ -116,9 +141,83 @@ fn links_that_may_not_go(rt: HostRuntime) -> Result<(), Fail> {
     assert_eq!(rt; rmdir(rt, &mut tree, 1, b"g")?, Some(Refusal::Kind));
     assert_eq!(rt; rmdir(rt, &mut tree, 1, b"d")?, Some(Refusal::NotEmpty));
     assert_eq!(rt; rmdir(rt, &mut tree, 2, b"e")?, None);
-    assert_eq!(rt; tree.apply(&Event::Chmod { ino: 99, mode: 0o755 })?.err(), Some(Refusal::NoSuch));
-    assert_eq!(rt; tree.apply(&Event::Chown { ino: 1, uid: 0, gid: 0 })?.err(), None);
+    assert_eq!(rt;
+        tree.apply(&Event::Chmod {
+            ino: 99,
+            mode: 0o755
+        })?
+        .err(),
+        Some(Refusal::NoSuch)
+    );
+    assert_eq!(rt;
+        tree.apply(&Event::Chown {
+            ino: 1,
+            uid: 0,
+            gid: 0
+        })?
+        .err(),
+        None
+    );
     assert_eq!(rt; tree.file_count(), 2);
+    Ok(())
+}
+
+#[test]
+fn links_that_may_not_move(rt: HostRuntime) -> Result<(), Fail> {
+    let mut tree = small_tree(rt)?;
+    assert_eq!(rt;
+        rename(rt, &mut tree, 1, b"d", 4, b"q")?,
+        Some(Refusal::Loop)
+    );
+    assert_eq!(rt;
+        rename(rt, &mut tree, 1, b"d", 2, b"x")?,
+        Some(Refusal::Loop)
+    );
+    assert_eq!(rt;
+        rename(rt, &mut tree, 1, b"g", 1, b"d")?,
+        Some(Refusal::Kind)
+    );
+    assert_eq!(rt;
+        rename(rt, &mut tree, 2, b"e", 1, b"d")?,
+        Some(Refusal::NotEmpty)
+    );
+    assert_eq!(rt; rename(rt, &mut tree, 1, b"d", 1, b"d")?, None);
+    assert_eq!(rt; rename(rt, &mut tree, 2, b"e", 1, b"e")?, None);
+    assert_eq!(rt; rmdir(rt, &mut tree, 1, b"e")?, None);
+    Ok(())
+}
+
+#[test]
+fn renaming_among_hard_links(rt: HostRuntime) -> Result<(), Fail> {
+    let mut tree = Tree::new(rt.alloc())?;
+    assert_eq!(rt; create(rt, &mut tree, 2, 1, b"a")?, None);
+    assert_eq!(rt; create(rt, &mut tree, 3, 1, b"b")?, None);
+    assert_eq!(rt; link(rt, &mut tree, 2, 1, b"c")?, None);
+    assert_eq!(rt; rename(rt, &mut tree, 1, b"a", 1, b"c")?, None);
+    assert_eq!(rt; tree.entries(1).map(|names| names.len()), Some(3));
+    assert_eq!(rt; rename(rt, &mut tree, 1, b"b", 1, b"a")?, None);
+    assert_eq!(rt; tree.file_count(), 2);
+    assert_eq!(rt; rename(rt, &mut tree, 1, b"a", 1, b"c")?, None);
+    assert_eq!(rt; tree.child(1, b"c"), Some(3));
+    assert_eq!(rt; tree.file_count(), 1);
+    Ok(())
+}
+
+#[test]
+fn a_subtree_moves_one_level_too_deep(rt: HostRuntime) -> Result<(), Fail> {
+    let mut tree = Tree::new(rt.alloc())?;
+    for parent in 1..253 {
+        assert_eq!(rt; mkdir(rt, &mut tree, parent + 1, parent, b"d")?, None);
+    }
+    assert_eq!(rt; mkdir(rt, &mut tree, 300, 1, b"a")?, None);
+    assert_eq!(rt; mkdir(rt, &mut tree, 301, 300, b"b")?, None);
+    assert_eq!(rt; mkdir(rt, &mut tree, 302, 301, b"c")?, None);
+    assert_eq!(rt;
+        rename(rt, &mut tree, 1, b"a", 253, b"a")?,
+        Some(Refusal::Deep)
+    );
+    assert_eq!(rt; rename(rt, &mut tree, 1, b"a", 252, b"a")?, None);
+    assert_eq!(rt; rename(rt, &mut tree, 252, b"a", 1, b"e")?, None);
     Ok(())
 }
 

@@ -134,7 +134,10 @@ impl Tree {
     pub fn file_count(&self) -> u64
         ensures { result ≡ count_of_files self.now }
     {
-        self.inodes.values().filter(|inode| inode.hold.is_file()).count() as u64
+        self.inodes
+            .values()
+            .filter(|inode| inode.hold.is_file())
+            .count() as u64
     }
 
     /// Nodes, links and users keep the rules of a tree at every moment.
@@ -145,7 +148,7 @@ impl Tree {
     }
 
     /// The directory in which a directory other than the root stands.
-    fn parent(&self, directory: Ino) -> Option<Ino>
+    pub(crate) fn parent(&self, directory: Ino) -> Option<Ino>
         requires found { is_directory self.now directory ≡ true }
         requires below { directory ≢ 1 }
         ensures parent { result ≡ parent_of self.now.links directory }
@@ -167,7 +170,8 @@ impl Tree {
     /// How deep a directory lies, where the root has depth 1.
     pub(crate) fn depth(&self, directory: Ino) -> usize
         requires { is_directory self.now directory ≡ true }
-        ensures { result ≡ depth_of self.now.links directory }
+        ensures depth { result ≡ depth_of self.now.links directory }
+        ensures small { result ≤ 255 }
     {
         self.keeps_the_rules();
         let mut depth = 1;

@@ -1,5 +1,4 @@
-use Rattle.std.proofs.Common.{◌≡◌, ◌<◌, ◌∙◌, ap, sym, [], length, get_or, take, refl}
-use Rattle.std.specs.List.{fold}
+use Rattle.std.proofs.Common.{◌∙◌, ap, get_or}
 use Rattle.std.specs.Ordering.{nat_cmp}
 use Rattle.std.specs.BTreeSet.{insert_key}
 use Rattle.std.proofs.lemmas.List.{take_more}

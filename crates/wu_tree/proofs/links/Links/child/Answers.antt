@@ -1,4 +1,4 @@
-use Rattle.std.proofs.Common.{◌≡◌, ◌∙◌, sym, ap}
+use Rattle.std.proofs.Common.{◌∙◌, sym}
 use Rattle.wu_tree.proofs.Nest.{lookup_some, lookup_none}
 use Rattle.wu_tree.proofs.links.Links.child.Goals as goal
 

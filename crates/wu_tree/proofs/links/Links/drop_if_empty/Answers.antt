@@ -9,5 +9,5 @@ pub returns-then-not-has_entries : goal.returns-then-not-has_entries
 returns-then-not-has_entries c =
     let none : has_entries (links_in (λ k. k.items) c.self.inside.directories.entries) c.args.directory ≡ false = rw c.self.view_is (sym c.if-not-has_entries.ensures) in
     let same : links_in (λ k. k.items) c.remove.new.self.entries ≡ c.args.self.now =
-        ap (links_in (λ k. k.items)) c.remove.ensures.entries ∙ drop_empty (λ k. k.items) c.args.directory c.self.inside.directories.entries none ∙ c.self.view_is in
+    ap (links_in (λ k. k.items)) c.remove.ensures.entries ∙ drop_empty (λ k. k.items) c.args.directory c.self.inside.directories.entries none ∙ c.self.view_is in
     elim c.match-remove.branch [ in-Some-1 w ↦ w.self-is ∙ same | in-None-1 w ↦ w.self-is ∙ same ]

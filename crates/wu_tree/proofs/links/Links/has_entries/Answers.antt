@@ -1,4 +1,4 @@
-use Rattle.std.proofs.Common.{◌≡◌, ◌∙◌, sym, ap, not}
+use Rattle.std.proofs.Common.{◌∙◌, sym}
 use Rattle.wu_tree.proofs.Nest.{any_some, any_none, not_empty}
 use Rattle.wu_tree.proofs.links.Links.has_entries.Goals as goal
 

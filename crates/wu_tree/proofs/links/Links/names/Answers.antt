@@ -1,4 +1,4 @@
-use Rattle.std.proofs.Common.{◌≡◌, sym}
+use Rattle.std.proofs.Common.{sym}
 use Rattle.wu_tree.proofs.Nest.{entries_some, entries_none}
 use Rattle.wu_tree.proofs.links.Links.names.Goals as goal
 

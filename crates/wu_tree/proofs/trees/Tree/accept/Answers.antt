@@ -1,4 +1,3 @@
-use Rattle.std.proofs.Common.{◌≡◌, ◌∙◌, sym}
 use Rattle.wu_tree.proofs.trees.Tree.accept.Goals as goal
 
 pub returns-in-Unlink-clause-effect : goal.returns-in-Unlink-clause-effect
@@ -9,3 +8,9 @@ returns-in-Unlink-clause-next c = rw (c.in-Unlink.is, ← c.as_slice-in-Unlink.e
 
 pub returns-in-Rmdir-clause-next : goal.returns-in-Rmdir-clause-next
 returns-in-Rmdir-clause-next c = rw (c.in-Rmdir.is, ← c.as_slice-in-Rmdir.ensures) c.rmdir.ensures
+
+pub returns-in-Rename-clause-effect : goal.returns-in-Rename-clause-effect
+returns-in-Rename-clause-effect c = rw (c.in-Rename.is, ← c.as_slice-in-Rename.ensures, ← c.as_slice-in-Rename-2.ensures) c.rename.ensures.effect
+
+pub returns-in-Rename-clause-next : goal.returns-in-Rename-clause-next
+returns-in-Rename-clause-next c = rw (c.in-Rename.is, ← c.as_slice-in-Rename.ensures, ← c.as_slice-in-Rename-2.ensures) c.rename.ensures.next

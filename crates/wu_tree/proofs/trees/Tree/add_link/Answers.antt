@@ -1,4 +1,4 @@
-use Rattle.std.proofs.Common.{◌≡◌, ◌∙◌, ◌+◌, sym, subst, true}
+use Rattle.std.proofs.Common.{◌≡◌, ◌+◌, sym, subst, true}
 use Rattle.std.specs.Prelude.{None}
 use Rattle.wu_tree.specs.Inodes.{file_system}
 use Rattle.wu_tree.specs.FileSystems.{FileSystem, child_of, is_file, is_directory, link_count}
@@ -15,8 +15,8 @@ invariant_of-self-2 c =
     let counts : c.in_ok-count.count ≡ link_count t.links c.args.ino + 1 = subst (λ (v : FileSystem). c.in_ok-count.count ≡ link_count v.links c.args.ino + 1) (sym c.self.view_is) c.in_ok-count.ensures in
     elim c.match-get_mut.branch [
       | in-Some w ↦
-        rw (w.self-inside-is, (c.get_mut.follows.holds _).0, c.in_ok-insert.ensures.ok)
-        (link_sound _ _ _ c.self.invariant c.args.ino c.args.parent c.args.name.items file free w.in-Some.inode.now (sym w.in-Some.ensures.value) c.in_ok-count.count counts directory c.requires.named)
+          rw (w.self-inside-is, (c.get_mut.follows.holds _).0, c.in_ok-insert.ensures.ok)
+          (link_sound _ _ _ c.self.invariant c.args.ino c.args.parent c.args.name.items file free w.in-Some.inode.now (sym w.in-Some.ensures.value) c.in_ok-count.count counts directory c.requires.named)
       | in_default w ↦ absurd (file_inode _ _ _ c.self.invariant c.args.ino file (sym w.in_default.ensures.value))
     ]
 
@@ -28,7 +28,7 @@ returns-clause-ok c =
     let counts : c.in_ok-count.count ≡ link_count t.links c.args.ino + 1 = subst (λ (v : FileSystem). c.in_ok-count.count ≡ link_count v.links c.args.ino + 1) (sym c.self.view_is) c.in_ok-count.ensures in
     elim c.match-get_mut.branch [
       | in-Some w ↦
-        rw (w.self-inside-is, (c.get_mut.follows.holds _).0, c.in_ok-insert.ensures.ok, ← c.self.view_is)
-        (link_view _ _ _ c.self.invariant c.args.ino c.args.parent c.args.name.items file free w.in-Some.inode.now (sym w.in-Some.ensures.value) c.in_ok-count.count counts)
+          rw (w.self-inside-is, (c.get_mut.follows.holds _).0, c.in_ok-insert.ensures.ok, ← c.self.view_is)
+          (link_view _ _ _ c.self.invariant c.args.ino c.args.parent c.args.name.items file free w.in-Some.inode.now (sym w.in-Some.ensures.value) c.in_ok-count.count counts)
       | in_default w ↦ absurd (file_inode _ _ _ c.self.invariant c.args.ino file (sym w.in_default.ensures.value))
     ]

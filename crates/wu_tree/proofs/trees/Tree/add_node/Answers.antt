@@ -1,4 +1,4 @@
-use Rattle.std.proofs.Common.{◌≡◌, ◌∙◌, ◌<◌, sym, subst, ap, true}
+use Rattle.std.proofs.Common.{◌≡◌, ◌<◌, sym, subst, true}
 use Rattle.std.specs.Prelude.{None}
 use Rattle.wu_tree.specs.declared.events.Kind.TheVariants.{Directory}
 use Rattle.wu_tree.specs.Inodes.{file_system}

@@ -1,4 +1,4 @@
-use Rattle.std.proofs.Common.{◌≡◌, ◌≤◌, ◌+◌, ◌-◌, ◌∙◌, ℕ, sym, ap, subst, true, arith, length}
+use Rattle.std.proofs.Common.{◌≡◌, ◌≤◌, ◌+◌, ◌-◌, ℕ, sym, ap, subst, true, arith, length}
 use Rattle.wu_tree.specs.FileSystems.{ancestors, path_up}
 use Rattle.wu_tree.proofs.Keeps.{has_root, path_is, reached, climb, climb_ends, climb_at_root, climb_low}
 use Rattle.wu_tree.proofs.trees.Tree.depth.Goals as goal
@@ -19,7 +19,7 @@ loop-current-preserved c =
     let e : 256 - c.loop-current.depth - 1 ≡ 256 - (c.loop-current.depth + 1) = omega arith in
     let r : has_root (ancestors l (256 - (c.loop-current.depth + 1)) c.in-Some.parent) ≡ true = subst (λ (k : ℕ). has_root (ancestors l k c.in-Some.parent) ≡ true) e up.1 in
     let n : length (ancestors l (256 - c.loop-current.depth) c.loop-current.current) ≡ length (ancestors l (256 - (c.loop-current.depth + 1)) c.in-Some.parent) + 1 =
-        subst (λ (k : ℕ). length (ancestors l (256 - c.loop-current.depth) c.loop-current.current) ≡ length (ancestors l k c.in-Some.parent) + 1) e up.0 in
+    subst (λ (k : ℕ). length (ancestors l (256 - c.loop-current.depth) c.loop-current.current) ≡ length (ancestors l k c.in-Some.parent) + 1) e up.0 in
     let low : 1 ≤ 256 - (c.loop-current.depth + 1) = climb_low l (256 - (c.loop-current.depth + 1)) c.in-Some.parent r in
     (omega arith, omega arith, c.in-Some.ensures.directory, omega (arith, c.loop-current.invariant.3), r)
 

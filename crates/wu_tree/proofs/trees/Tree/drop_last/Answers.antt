@@ -1,4 +1,4 @@
-use Rattle.std.proofs.Common.{◌≡◌, ◌∙◌, sym, subst}
+use Rattle.std.proofs.Common.{◌≡◌, sym, subst}
 use Rattle.std.specs.Prelude.{Some}
 use Rattle.wu_tree.specs.Inodes.{file_system}
 use Rattle.wu_tree.specs.FileSystems.{FileSystem, IsLeaf, child_of, link_count}

@@ -1,4 +1,4 @@
-use Rattle.std.proofs.Common.{◌≡◌, ◌≢◌, ◌∙◌, sym, subst}
+use Rattle.std.proofs.Common.{◌≡◌, ◌≢◌, sym, subst}
 use Rattle.std.specs.Prelude.{Some}
 use Rattle.wu_tree.specs.Inodes.{file_system}
 use Rattle.wu_tree.specs.FileSystems.{FileSystem, IsLeaf, child_of, link_count}
@@ -14,8 +14,8 @@ invariant_of-self c =
     let more : link_count t.links c.args.child ≢ 1 = subst (λ (v : FileSystem). link_count v.links c.args.child ≢ 1) (sym c.self.view_is) c.requires.more in
     elim c.match-get_mut.branch [
       | in-Some w ↦
-        rw (w.self-inside-is, (c.get_mut.follows.holds _).0, c.remove.ensures, w.fewer_links-inode.ensures)
-        (several_sound _ _ _ c.self.invariant c.args.parent c.args.name.now c.args.child found leaf more w.in-Some.inode.now (sym w.in-Some.ensures.value))
+          rw (w.self-inside-is, (c.get_mut.follows.holds _).0, c.remove.ensures, w.fewer_links-inode.ensures)
+          (several_sound _ _ _ c.self.invariant c.args.parent c.args.name.now c.args.child found leaf more w.in-Some.inode.now (sym w.in-Some.ensures.value))
       | in_default w ↦ absurd (linked_there _ _ _ c.self.invariant c.args.child (found_linked _ _ _ c.self.invariant _ _ _ found) (sym w.in_default.ensures.value))
     ]
 
@@ -27,7 +27,7 @@ returns c =
     let more : link_count t.links c.args.child ≢ 1 = subst (λ (v : FileSystem). link_count v.links c.args.child ≢ 1) (sym c.self.view_is) c.requires.more in
     elim c.match-get_mut.branch [
       | in-Some w ↦
-        rw (w.self-inside-is, (c.get_mut.follows.holds _).0, c.remove.ensures, w.fewer_links-inode.ensures, ← c.self.view_is)
-        (several_view _ _ _ c.self.invariant c.args.parent c.args.name.now c.args.child found leaf more w.in-Some.inode.now (sym w.in-Some.ensures.value))
+          rw (w.self-inside-is, (c.get_mut.follows.holds _).0, c.remove.ensures, w.fewer_links-inode.ensures, ← c.self.view_is)
+          (several_view _ _ _ c.self.invariant c.args.parent c.args.name.now c.args.child found leaf more w.in-Some.inode.now (sym w.in-Some.ensures.value))
       | in_default w ↦ absurd (linked_there _ _ _ c.self.invariant c.args.child (found_linked _ _ _ c.self.invariant _ _ _ found) (sym w.in_default.ensures.value))
     ]

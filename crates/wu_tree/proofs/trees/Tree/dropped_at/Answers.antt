@@ -1,4 +1,4 @@
-use Rattle.std.proofs.Common.{◌≡◌, sym}
+use Rattle.std.proofs.Common.{sym}
 use Rattle.std.specs.BTreeMap.{is_at}
 use Rattle.wu_tree.specs.FileSystems.{place_cmp}
 use Rattle.wu_tree.proofs.Sound.{found_counted}

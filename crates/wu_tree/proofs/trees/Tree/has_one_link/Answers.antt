@@ -1,4 +1,4 @@
-use Rattle.std.proofs.Common.{◌≡◌, ◌≤◌, ◌∙◌, sym, subst}
+use Rattle.std.proofs.Common.{◌≤◌, ◌∙◌, sym, subst}
 use Rattle.wu_tree.specs.FileSystems.{FileSystem, link_count}
 use Rattle.wu_tree.proofs.Sound.{has_one, linked_there}
 use Rattle.wu_tree.proofs.trees.Tree.has_one_link.Goals as goal

@@ -1,4 +1,3 @@
-use Rattle.std.proofs.Common.{◌≡◌, ◌∙◌, sym, ap}
 use Rattle.wu_tree.proofs.Sound.{root_sound}
 use Rattle.wu_tree.proofs.trees.Tree.new.Goals as goal
 

@@ -1,5 +1,5 @@
-use Rattle.std.proofs.Common.{◌≡◌, ◌∙◌, sym, rules}
-use Rattle.wu_tree.specs.FileSystems.{FileSystem, link_count}
+use Rattle.std.proofs.Common.{◌≡◌, sym, rules}
+use Rattle.wu_tree.specs.FileSystems.{link_count}
 use Rattle.wu_tree.proofs.Sound.{file_count_kept}
 use Rattle.wu_tree.proofs.trees.Tree.next_count.Goals as goal
 

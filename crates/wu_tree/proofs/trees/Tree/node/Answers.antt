@@ -1,5 +1,4 @@
-use Rattle.std.proofs.Common.{◌≡◌, ◌∙◌, sym, ap}
-use Rattle.std.specs.Prelude.{Some}
+use Rattle.std.proofs.Common.{◌∙◌, sym, ap}
 use Rattle.std.specs.Option.{option_map}
 use Rattle.std.proofs.lemmas.Map.Made.{lookup-map_values}
 use Rattle.std.specs.BTreeMap.{is_at}
@@ -7,12 +6,6 @@ use Rattle.std.specs.Ordering.{nat_cmp}
 use Rattle.wu_tree.specs.Inodes.{node_in}
 use Rattle.wu_tree.specs.Rules.{IsNumbered}
 use Rattle.wu_tree.proofs.Entries.{All-found}
-use Rattle.wu_tree.proofs.NewNodes.{node_keeps}
-use Rattle.wu_tree.proofs.NewLinks.{link_keeps}
-use Rattle.wu_tree.proofs.Drops.{kept_keeps}
-use Rattle.wu_tree.proofs.Perms.{perm_keeps}
-use Rattle.wu_tree.proofs.Moves.{never_through}
-use Rattle.wu_tree.proofs.Entries.{remove-insert_apart}
 use Rattle.wu_tree.proofs.trees.Tree.node.Goals as goal
 
 pub returns-in-Some-clause-node : goal.returns-in-Some-clause-node

@@ -1,4 +1,4 @@
-use Rattle.std.proofs.Common.{◌≡◌, ◌∙◌, sym, ap, refl}
+use Rattle.std.proofs.Common.{sym, refl}
 use Rattle.wu_tree.proofs.Sound.{perm_sound, perm_view, node_absent}
 use Rattle.wu_tree.proofs.trees.Tree.set_perm.Goals as goal
 use Rattle.wu_tree.proofs.trees.Tree.set_perm.Goals.{in-Some, in_default}
@@ -15,7 +15,7 @@ returns c =
     elim c.match-get_mut.branch [
       | in-Some w ↦ rw (w.self-inside-is, (c.get_mut.follows.holds _).0, ← c.self.view_is) (perm_view _ _ _ c.self.invariant c.args.ino w.in-Some.inode.now _ (sym w.in-Some.ensures.value) refl)
       | in_default w ↦
-        let h = c.get_mut.follows.holds-at-none in
-        let none = node_absent _ _ _ c.self.invariant c.args.ino (sym w.in_default.ensures.value) in
-        rw (w.self-inside-is, h, ← c.self.view_is, none) refl
+          let h = c.get_mut.follows.holds-at-none in
+          let none = node_absent _ _ _ c.self.invariant c.args.ino (sym w.in_default.ensures.value) in
+          rw (w.self-inside-is, h, ← c.self.view_is, none) refl
     ]

@@ -1,4 +1,3 @@
-use Rattle.std.proofs.Common.{◌≡◌, ◌∙◌, sym, ap}
 use Rattle.wu_tree.proofs.Sound.{user_sound, user_view}
 use Rattle.wu_tree.proofs.trees.Tree.set_user.Goals as goal
 
