@@ -1,10 +1,8 @@
 -- The open paths of a file, found from its links upwards, are those that lead to it from the root.
-use Rattle.std.proofs.Common.{◌≡◌, ◌≢◌, ℕ, zero, suc, ◌+◌, ◌<◌, ◌≤◌, List, [], ◌∷◌, ◌++◌, length, refl, ap, sym, ◌∙◌, subst, Bool, true, false, cond, not, ◌&&◌, arith, inl, inr, ⊎_elim}
-use Rattle.std.specs.Prelude.{◌⊎◌, ◌↔◌, ◌==◌, Option, None, Some, map, filter}
+use Rattle.std.proofs.Common.{◌≡◌, ℕ, zero, suc, ◌≤◌, List, [], ◌∷◌, ◌++◌, refl, ap, sym, ◌∙◌, subst, Bool, true, false, not, ◌&&◌, arith}
+use Rattle.std.specs.Prelude.{◌↔◌, ◌==◌, Option, None, Some, filter}
 use Rattle.std.specs.List.{Contains, list_all}
 use Rattle.std.specs.Cmp.{eq_by_cmp_equiv}
-use Rattle.std.specs.Map.{lookup}
-use Rattle.std.specs.BTreeMap.{is_at}
 use Rattle.std.proofs.lemmas.Cmp.{nat_list_cmp_total}
 use Rattle.std.proofs.lemmas.List.{append-nil, append_assoc}
 use Rattle.std.proofs.lemmas.Map.Keys.{IsDistinct-from_sorted}
@@ -14,10 +12,10 @@ use borrow.Author.Tests.{eqb-true, eq-eqb}
 use Rattle.wu_access.specs.declared.UserRec.{UserRec}
 use Rattle.wu_access.specs.declared.Want.TheVariants.{Execute}
 use Rattle.wu_tree.specs.declared.events.Node.{Node}
-use Rattle.wu_tree.specs.FileSystems.{FileSystem, Link, place_cmp, child_of, is_directory, is_directory_node, is_file, is_file_node, is_kind_file, node_of, path_up, depth, ancestors}
+use Rattle.wu_tree.specs.FileSystems.{FileSystem, Link, place_cmp, child_of, is_directory, is_directory_node, is_file, is_file_node, node_of, depth, ancestors}
 use Rattle.wu_tree.specs.Rules.{IsTree}
 use Rattle.wu_tree.proofs.Keeps.{place_total, place_exact, path_is}
-use Rattle.wu_view.specs.Views.{directory_path, path_of, may, is_open, open_paths, Leads, joined, IsOpenPath, path_cmp}
+use Rattle.wu_view.specs.Views.{directory_path, path_of, may, is_open, open_paths, Leads, joined, IsOpenPath}
 use Rattle.wu_view.proofs.Members.{Has, Has-from_Contains, Contains-from_Has, Has-map, map_has, Has-filter, filter_has}
 use Rattle.wu_view.proofs.Sorted.{has-ascending, ascending_has}
 use Rattle.wu_view.proofs.Ways.{link_facts, depth_range, depth_below, path_below_is, open_below, root_path, root_open}
@@ -83,14 +81,14 @@ module _ (fs : FileSystem) (t : IsTree fs) (user : UserRec) where
 
   -- a directory that is open if it grants execute
   from_names : (ino d : ℕ) (names : List (List ℕ)) → is_file fs ino ≡ true → is_directory fs d ≡ true → (may fs user Execute d ≡ true → is_open fs user d ≡ true) → Leads fs user d names ino
-    → Has (directory_path fs.links d ++ joined names) (opened_paths fs t user ino)
+      → Has (directory_path fs.links d ++ joined names) (opened_paths fs t user ino)
   from_names ino d [] f h o l = absurd (never_both (node_of fs ino) (subst (λ x. is_directory fs x ≡ true) l h) f)
   from_names ino d (name ∷ []) f h o l =
       let link : Link = ((d, name), l.1.0) in
       let within : Has link fs.links = found_child d l.1.0 name l.1.1 in
       subst (λ (p : List ℕ). Has p (opened_paths fs t user ino)) (ap (λ (p : List ℕ). directory_path fs.links d ++ 47 ∷ p) (sym (append-nil name)))
       (Has-map (λ (link : Link). path_of fs.links link.0) link (filter (λ link. link.1 == ino && is_open fs user link.0.0) fs.links)
-        (Has-filter (λ link. link.1 == ino && is_open fs user link.0.0) link fs.links within (and_true (link.1 == ino) (is_open fs user d) (eq-eqb link.1 ino l.1.2) (o l.0))))
+      (Has-filter (λ link. link.1 == ino && is_open fs user link.0.0) link fs.links within (and_true (link.1 == ino) (is_open fs user d) (eq-eqb link.1 ino l.1.2) (o l.0))))
   from_names ino d (name ∷ next ∷ names) f h o l =
       let link : Link = ((d, name), l.1.0) in
       let within : Has link fs.links = found_child d l.1.0 name l.1.1 in
@@ -102,7 +100,8 @@ module _ (fs : FileSystem) (t : IsTree fs) (user : UserRec) where
       i
 
   pub open_paths_lead : (ino : ℕ) (path : List ℕ) → is_file fs ino ≡ true → Contains (open_paths fs user ino) path ↔ IsOpenPath fs user path ino
-  open_paths_lead ino path f =
-      (λ h. to_names ino path (ascending_has nat_list_cmp_total exact_bytes path (opened_paths fs t user ino) (Has-from_Contains path (open_paths fs user ino) h)),
-      λ n. Contains-from_Has path (open_paths fs user ino) (has-ascending nat_list_cmp_total exact_bytes path (opened_paths fs t user ino)
-        (subst (λ (p : List ℕ). Has p (opened_paths fs t user ino)) (ap (λ (p : List ℕ). p ++ joined n.0) (root_path fs t) ∙ n.2) (from_names ino 1 n.0 f t.root (root_open fs t user) n.1))))
+  open_paths_lead ino path f = (
+    λ h. to_names ino path (ascending_has nat_list_cmp_total exact_bytes path (opened_paths fs t user ino) (Has-from_Contains path (open_paths fs user ino) h)),
+    λ n. Contains-from_Has path (open_paths fs user ino) (has-ascending nat_list_cmp_total exact_bytes path (opened_paths fs t user ino)
+        (subst (λ (p : List ℕ). Has p (opened_paths fs t user ino)) (ap (λ (p : List ℕ). p ++ joined n.0) (root_path fs t) ∙ n.2) (from_names ino 1 n.0 f t.root (root_open fs t user) n.1))),
+  )
