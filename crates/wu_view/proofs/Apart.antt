@@ -94,7 +94,7 @@ module _ (fs : FileSystem) (t : IsTree fs) where
       a ∙ ap (λ (x : List ℕ). (k.0.0, x)) n
 
   -- a link to the directory, where it isn't the root
-  link_to : (d : ℕ) → is_directory fs d ≡ true → d ≢ 1 → (link : Link) × (Has link fs.links × (link.1 ≡ d))
+  pub link_to : (d : ℕ) → is_directory fs d ≡ true → d ≢ 1 → (link : Link) × (Has link fs.links × (link.1 ≡ d))
   link_to d h n = let one : link_count fs.links d ≡ 1 = linked_once fs t d h n in some_link d fs.links (omega arith)
 
   path_through : (d : ℕ) (link : Link) → is_directory fs d ≡ true → Has link fs.links → link.1 ≡ d → directory_path fs.links d ≡ path_of fs.links link.0
@@ -107,7 +107,7 @@ module _ (fs : FileSystem) (t : IsTree fs) where
       let c : depth fs.links link.1 ≡ depth fs.links d = ap (depth fs.links) e in
       omega arith
 
-  not_one : (d : ℕ) → (d == 1) ≡ false → d ≢ 1
+  pub not_one : (d : ℕ) → (d == 1) ≡ false → d ≢ 1
   not_one d h e = let f : (d == 1) ≡ true = eq-eqb d 1 e in cc
 
   -- a directory that isn't the root has another path than the root

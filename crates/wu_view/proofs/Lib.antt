@@ -5,3 +5,4 @@ pub mod Ways
 pub mod Opened
 pub mod Shown
 pub mod Apart
+pub mod Led

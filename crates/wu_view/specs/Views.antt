@@ -1,6 +1,6 @@
 -- A user's view of a file system: the files that she may search, each with the paths that are open for her. A path leads from
 -- the root by names of links to a file; it is open where each directory on it, the root included, grants her execute.
-use Rattle.std.specs.Prelude.{ℕ, Bool, true, false, ◌&&◌, not, cond, ◌==◌, Option, None, Some, List, [], ◌∷◌, ◌++◌, map, filter}
+use Rattle.std.specs.Prelude.{◌≡◌, ℕ, Bool, true, false, ◌&&◌, not, cond, ◌==◌, Option, None, Some, List, [], ◌∷◌, ◌++◌, map, filter}
 use Rattle.std.specs.declared.cmp.Ordering.{Ordering}
 use Rattle.std.specs.Ordering.{nat_cmp, ordering_then}
 use Rattle.std.specs.Cmp.Lexicographic.{slice_cmp}
@@ -11,7 +11,7 @@ use Rattle.wu_access.specs.declared.Want.{Want}
 use Rattle.wu_access.specs.declared.Want.TheVariants.{Read, Execute}
 use Rattle.wu_access.specs.Access.{is_allowed}
 use Rattle.wu_tree.specs.declared.events.Node.{Node}
-use Rattle.wu_tree.specs.FileSystems.{FileSystem, Link, Place, node_of, groups_of, is_file, path_up}
+use Rattle.wu_tree.specs.FileSystems.{FileSystem, Link, Place, node_of, child_of, groups_of, is_file, path_up}
 use Rattle.wu_view.specs.declared.Seen.{Seen}
 
 -- ---- paths
@@ -78,6 +78,21 @@ seen_as fs user ino = record { paths = open_paths fs user ino; ino = ino }
 abbrev pub is_empty : {X : Type 0} → List X → Bool
 is_empty [] = true
 is_empty (x ∷ xs) = false
+
+-- the same from the root down: the names lead from a directory to the node, and each directory on the way grants her execute
+abbrev pub Leads : FileSystem → UserRec → ℕ → List (List ℕ) → ℕ → Type 0
+Leads fs user directory [] ino = directory ≡ ino
+Leads fs user directory (name ∷ names) ino =
+    (may fs user Execute directory ≡ true) × ((child : ℕ) × (child_of fs directory name ≡ Some child) × Leads fs user child names ino)
+
+-- `/` and the names, joined by `/`
+abbrev pub joined : List (List ℕ) → List ℕ
+joined [] = []
+joined (name ∷ names) = 47 ∷ (name ++ joined names)
+
+-- the path leads from the root to the node, through directories each of which grants her execute
+abbrev pub IsOpenPath : FileSystem → UserRec → List ℕ → ℕ → Type 0
+IsOpenPath fs user path ino = (names : List (List ℕ)) × Leads fs user 1 names ino × (joined names ≡ path)
 
 -- the files that grant the user read and have an open path, each with its open paths, by the least of them
 unfoldable pub view_for : FileSystem → UserRec → List Seen

@@ -1,9 +1,12 @@
 //! A user's view of a tree: the files that she may search, each with the paths that are open for her.
 #![tactic(auto)]
 
-ghost use Rattle.std.specs.Prelude.{◌≡◌, IfOk, map};
+ghost use Rattle.std.specs.Prelude.{◌≡◌, ◌↔◌, ℕ, true, IfOk, List, map};
+ghost use Rattle.std.specs.List.{Contains};
 ghost use Rattle.std.specs.List.Sorted.{IsStrictlySortedBy};
-ghost use Rattle.wu_view.specs.Views.{least_path, path_cmp, view_of};
+ghost use Rattle.wu_view.specs.Views.{IsOpenPath, least_path, open_paths, path_cmp, view_of};
+ghost use Rattle.wu_access.specs.declared.UserRec.{UserRec};
+ghost use Rattle.wu_tree.specs.FileSystems.{is_file};
 
 mod groups;
 mod orders;
@@ -47,6 +50,14 @@ pub fn searchable(alloc: Global, tree: &Tree, uid: Uid) -> Result<Vec<Seen>, NoM
     let seen = groups::seen(alloc, files)?;
     let view = orders::ascending(seen);
     Ok(view)
+}
+
+/// The open paths of a file are those that lead to it from the root by names of links, through directories
+/// each of which, the root included, grants the user execute.
+pub fn open_paths_lead_from_the_root(tree: &Tree)
+    ensures { (user : UserRec) (ino : ℕ) (path : List ℕ) → is_file tree.now ino ≡ true → (Contains (open_paths tree.now user ino) path ↔ IsOpenPath tree.now user path ino) }
+{
+    tree.keeps_the_rules();
 }
 
 #[cfg(test)]
