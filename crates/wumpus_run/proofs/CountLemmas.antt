@@ -9,7 +9,7 @@ use Rattle.std.specs.declared.cmp.Ordering.{Ordering}
 use Rattle.std.specs.declared.cmp.Ordering.TheVariants.{Less, Equal, Greater}
 use Rattle.wu_access.specs.declared.UserRec.{UserRec}
 use Rattle.wu_tree.specs.FileSystems.{FileSystem, groups_of}
-use Rattle.wu_view.specs.Views.{is_readable, seen_as, seen_cmp, is_empty}
+use Rattle.wu_view.specs.Views.{is_readable, seen_as, seen_cmp, is_empty, view_for, ascending}
 use Rattle.wu_view.specs.Views.{view_of as files_of}
 use Rattle.wu_view.specs.declared.Seen.{Seen}
 use Rattle.wu_base.specs.declared.memory.NoMemory.{NoMemory}
@@ -82,14 +82,18 @@ length-same : {X Y : Type 0} (f : X → Y) (xs : List X) → length (map f xs) �
 length-same f [] = refl
 length-same f (x ∷ xs) = omega (arith, length-same f xs)
 
--- a view has no more files than there are nodes
-pub length-files_of : (fs : FileSystem) (uid : ℕ) → length (files_of fs uid) ≤ length fs.nodes
-length-files_of fs uid =
-    let user : UserRec = record { uid = uid; groups = groups_of fs uid } in
+length-shown : (fs : FileSystem) (user : UserRec)
+    → length (ascending seen_cmp (filter (λ file. not (is_empty file.paths)) (map (λ node. seen_as fs user node.0) (filter (λ node. is_readable fs user node.0) fs.nodes)))) ≤ length fs.nodes
+length-shown fs user =
     let readable = filter (λ node. is_readable fs user node.0) fs.nodes in
     let seen = map (λ node. seen_as fs user node.0) readable in
-    let open_ = filter (λ file. not (is_empty file.paths)) seen in
-    omega (arith, length-inserted seen_cmp open_ [], length-kept (λ file. not (is_empty file.paths)) seen, length-same (λ node. seen_as fs user node.0) readable, length-kept (λ node. is_readable fs user node.0) fs.nodes)
+    let shown = filter (λ file. not (is_empty file.paths)) seen in
+    omega (arith, length-inserted seen_cmp shown [], length-kept (λ file. not (is_empty file.paths)) seen, length-same (λ node. seen_as fs user node.0) readable, length-kept (λ node. is_readable fs user node.0) fs.nodes)
+
+-- a view has no more files than there are nodes
+pub length-files_of : (fs : FileSystem) (uid : ℕ) → length (files_of fs uid) ≤ length fs.nodes
+unfolding files_of view_for
+length-files_of fs uid = length-shown fs (record { uid = uid; groups = groups_of fs uid })
 
 -- the answer to a count over the view of a state
 pub count-answer : (s : State) (view : List Seen) (query : Query) (word : List ℕ) (r : Result Answered NoMemory) → view ≡ files_of s.tree query.uid → query.ask ≡ AskCount word

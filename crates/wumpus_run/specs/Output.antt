@@ -2,7 +2,6 @@
 use Rattle.std.specs.Prelude.{ℕ, List, [], ◌∷◌, ◌++◌, length, Option, Some, None, Result, Ok, Err, codes, decimal}
 use Rattle.std.specs.Result.{result_unwrap_or}
 use Rattle.std.specs.List.{flat_map}
-use Rattle.wu_tree.specs.declared.events.Event.{Event}
 use Rattle.wu_tree.specs.declared.events.Event.TheVariants.{Text}
 use Rattle.wu_tree.specs.declared.events.Refusal.{Refusal}
 use Rattle.wu_tree.specs.declared.events.Refusal.TheVariants.{BadName, NoSuch, Kind, Exists, NotEmpty, Loop, Deep}

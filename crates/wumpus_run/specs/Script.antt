@@ -10,7 +10,6 @@ use Rattle.wumpus_run.specs.declared.items.Line.{Line}
 use Rattle.wumpus_run.specs.declared.items.Line.TheVariants as line
 use Rattle.wumpus_run.specs.declared.items.Item.{Item}
 use Rattle.wumpus_run.specs.declared.items.Item.TheVariants as item
-use Rattle.wu_tree.specs.declared.events.Event.{Event}
 use Rattle.wu_tree.specs.declared.events.Event.TheVariants.{User, Mkdir, Create, Link, Unlink, Rmdir, Rename, Chmod, Chown}
 use Rattle.wumpus_run.specs.declared.items.Ask.TheVariants.{Count, Paths}
 use Rattle.wumpus_run.specs.declared.items.Why.TheVariants.{Unbuilt, Syntax}

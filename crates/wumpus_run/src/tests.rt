@@ -2,6 +2,7 @@ ghost use Rattle.std.specs.Prelude.{◌≤◌, None, Some};
 
 use crate::{Status, run};
 use std::alloc::Global;
+use std::process::Abort;
 use std::test::Fail;
 use wu_fields::put_decimal;
 use wu_outside::{Failed, Fault, MemSink, MemSource, PlainSource, PlainStore, Sink, Source};
@@ -27,10 +28,15 @@ fn tabbed(alloc: Global, text: &[u8]) -> Result<Vec<u8>, Fail> {
 }
 
 /// The script is read to its end and gets these replies.
-fn assert_replies(rt: HostRuntime, script: &[u8], replies: &[u8]) -> Result<(), Fail> {
-    let script = tabbed(rt.alloc(), script)?;
-    let replies = tabbed(rt.alloc(), replies)?;
-    let (status, sink) = session(rt.alloc(), script.as_slice())?;
+fn assert_replies(
+    rt: &impl Abort,
+    alloc: Global,
+    script: &[u8],
+    replies: &[u8],
+) -> Result<(), Fail> {
+    let script = tabbed(alloc, script)?;
+    let replies = tabbed(alloc, replies)?;
+    let (status, sink) = session(alloc, script.as_slice())?;
     assert_eq!(rt; status, Status::Done);
     assert_eq!(rt; sink.gained(), replies.as_slice());
     Ok(())
@@ -54,7 +60,7 @@ fn words_are_counted(rt: HostRuntime) -> Result<(), Fail> {
         ),
     ];
     for (script, replies) in cases {
-        assert_replies(rt, script, replies)?;
+        assert_replies(&rt, rt.alloc(), script, replies)?;
     }
     Ok(())
 }
@@ -62,7 +68,8 @@ fn words_are_counted(rt: HostRuntime) -> Result<(), Fail> {
 #[test]
 fn the_owners_bits_alone_decide_for_the_owner(rt: HostRuntime) -> Result<(), Fail> {
     assert_replies(
-        rt,
+        &rt,
+        rt.alloc(),
         b"user~5~7\nuser~6~7\ncreate~2~1~a~5~7~077\ntext~2~5\napple\ncount~5~\"apple\"\ncount~6~\"apple\"\ncount~8~\"apple\"\ncount~0~\"apple\"\n",
         b"ok\nok\nok\nok\ncount~0~0\ncount~1~1\ncount~1~1\ncount~1~1\n",
     )
@@ -71,7 +78,8 @@ fn the_owners_bits_alone_decide_for_the_owner(rt: HostRuntime) -> Result<(), Fai
 #[test]
 fn groups_are_those_last_given(rt: HostRuntime) -> Result<(), Fail> {
     assert_replies(
-        rt,
+        &rt,
+        rt.alloc(),
         b"create~2~1~a~0~7~640\npaths~5\nuser~5~9~7~9\npaths~5\nuser~5~9\npaths~5\nuser~5\n",
         b"ok\npaths~0\nok\npaths~1\n/a\nok\npaths~0\nok\n",
     )
@@ -80,7 +88,8 @@ fn groups_are_those_last_given(rt: HostRuntime) -> Result<(), Fail> {
 #[test]
 fn a_directory_opens_and_shuts_what_is_below(rt: HostRuntime) -> Result<(), Fail> {
     assert_replies(
-        rt,
+        &rt,
+        rt.alloc(),
         b"mkdir~2~1~d~0~0~700\ncreate~3~2~f~5~5~644\ntext~3~5\napple\ncount~5~\"apple\"\nchmod~2~711\ncount~5~\"apple\"\nchmod~2~700\ncount~5~\"apple\"\nchmod~2~711\nchmod~1~700\ncount~5~\"apple\"\n",
         b"ok\nok\nok\ncount~0~0\nok\ncount~1~1\nok\ncount~0~0\nok\nok\ncount~0~0\n",
     )
@@ -89,7 +98,8 @@ fn a_directory_opens_and_shuts_what_is_below(rt: HostRuntime) -> Result<(), Fail
 #[test]
 fn open_paths_alone_are_shown(rt: HostRuntime) -> Result<(), Fail> {
     assert_replies(
-        rt,
+        &rt,
+        rt.alloc(),
         b"mkdir~2~1~open~0~0~755\nmkdir~3~1~shut~0~0~700\ncreate~4~3~x~0~0~644\nlink~4~2~y\npaths~5\npaths~0\nunlink~2~y\npaths~5\n",
         b"ok\nok\nok\nok\npaths~1\n/open/y\npaths~2\n/open/y\n/shut/x\nok\npaths~0\n",
     )
@@ -98,7 +108,8 @@ fn open_paths_alone_are_shown(rt: HostRuntime) -> Result<(), Fail> {
 #[test]
 fn renames_among_hard_links(rt: HostRuntime) -> Result<(), Fail> {
     assert_replies(
-        rt,
+        &rt,
+        rt.alloc(),
         b"create~2~1~a~0~0~644\ntext~2~5\napple\ncreate~3~1~b~0~0~644\ntext~3~4\npear\nlink~2~1~c\nrename~1~a~1~c\npaths~0\nrename~1~b~1~a\ncount~5~\"apple\"\nrename~1~a~1~c\ncount~5~\"apple\"\ncount~5~\"pear\"\npaths~0\n",
         b"ok\nok\nok\nok\nok\nok\npaths~3\n/a\n/c\n/b\nok\ncount~1~1\nok\ncount~0~0\ncount~1~1\npaths~1\n/c\n",
     )
@@ -107,7 +118,8 @@ fn renames_among_hard_links(rt: HostRuntime) -> Result<(), Fail> {
 #[test]
 fn a_number_is_free_again_and_its_text_gone(rt: HostRuntime) -> Result<(), Fail> {
     assert_replies(
-        rt,
+        &rt,
+        rt.alloc(),
         b"create~2~1~a~0~0~644\ntext~2~5\napple\nlink~2~1~b\nunlink~1~a\ncount~5~\"apple\"\nunlink~1~b\ncount~5~\"apple\"\ncreate~2~1~a~0~0~644\ncount~5~\"apple\"\nchown~2~5~5\nchmod~2~400\npaths~6\npaths~5\n",
         b"ok\nok\nok\nok\ncount~1~1\nok\ncount~0~0\nok\ncount~0~0\nok\nok\npaths~0\npaths~1\n/a\n",
     )
@@ -184,7 +196,7 @@ paths~2
 
 #[test]
 fn a_refused_event_changes_nothing(rt: HostRuntime) -> Result<(), Fail> {
-    assert_replies(rt, REFUSALS_SCRIPT, REFUSALS_REPLIES)
+    assert_replies(&rt, rt.alloc(), REFUSALS_SCRIPT, REFUSALS_REPLIES)
 }
 
 #[test]
@@ -201,18 +213,20 @@ fn the_deepest_directory_holds_files_alone(rt: HostRuntime) -> Result<(), Fail> 
     }
     script.extend_from_slice(b"mkdir~257~256~d~0~0~755\ncreate~257~256~d~0~0~644\n")?;
     replies.extend_from_slice(b"refused~deep\nok\n")?;
-    assert_replies(rt, script.as_slice(), replies.as_slice())
+    assert_replies(&rt, rt.alloc(), script.as_slice(), replies.as_slice())
 }
 
 #[test]
 fn lines_in_no_form_are_refused(rt: HostRuntime) -> Result<(), Fail> {
     assert_replies(
-        rt,
+        &rt,
+        rt.alloc(),
         b"create~0~1~a~5~5~600\ncreate~2~1~a~5~5~99\ncreate~2~1~a~5~5\nuser\nuser~5~x\nlink~1~2\nunlink~1\nrmdir~1\nrename~1~a~1\nchmod~1~8\nchown~1~0\npaths\npaths~5~6\ncount~5\ntext~2\n",
         b"refused~syntax\nrefused~syntax\nrefused~syntax\nrefused~syntax\nrefused~syntax\nrefused~syntax\nrefused~syntax\nrefused~syntax\nrefused~syntax\nrefused~syntax\nrefused~syntax\nrefused~syntax\nrefused~syntax\nrefused~syntax\nrefused~syntax\n",
     )?;
     assert_replies(
-        rt,
+        &rt,
+        rt.alloc(),
         b"fly\n# a\nmkdir~2~1~a\\t~5~5~755\ncount~5~apple\ncreate~2~1~a~0~0~644\ntext~2~9\nabc\n",
         b"refused~unbuilt\nrefused~unbuilt\nrefused~unbuilt\nrefused~unbuilt\nok\nrefused~unbuilt\nrefused~unbuilt\n",
     )

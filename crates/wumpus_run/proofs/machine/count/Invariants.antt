@@ -1,5 +1,5 @@
 use Rattle.std.proofs.Common.{◌≡◌, ◌+◌, ◌*◌, ◌≤◌, take, cond}
-use Rattle.std.specs.Prelude.{sum_by, count_by, nat_lt}
+use Rattle.std.specs.Prelude.{sum_by, nat_lt}
 use Rattle.wu_base.specs.declared.limits.TheConstants.{TEXT_MAX}
 use Rattle.wumpus_run.specs.Answer.{hits_in}
 use Rattle.wumpus_run.specs.States.{text_in}

@@ -1,4 +1,4 @@
-use Rattle.std.proofs.Common.{◌≡◌, ◌∙◌, ap, sym, arith, length, [], Ok, Err}
+use Rattle.std.proofs.Common.{◌∙◌, ap, sym, arith, length, []}
 use Rattle.wumpus_run.specs.States.{State, step, without_text}
 use Rattle.wumpus_run.proofs.StateLemmas.{step-change, step-refused, length-accepted}
 use Rattle.wumpus_run.proofs.machine.Machine.change.Goals as goal
@@ -18,7 +18,7 @@ returns-in-Err-clause-step c =
 
 pub returns-in-Ok-clause-nodes : goal.returns-in-Ok-clause-nodes
 returns-in-Ok-clause-nodes c = omega (
-    arith,
-    length-accepted c.self.inside.tree c.args.event.now c.apply.new.self c.in-Ok.effect (rw c.in-Ok.is at c.in_ok-effect.ensures.step),
-    ap (λ s. length s.tree.nodes) c.self.view_is,
+  arith,
+  length-accepted c.self.inside.tree c.args.event.now c.apply.new.self c.in-Ok.effect (rw c.in-Ok.is at c.in_ok-effect.ensures.step),
+  ap (λ s. length s.tree.nodes) c.self.view_is,
 )

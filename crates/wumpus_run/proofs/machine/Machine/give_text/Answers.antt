@@ -1,4 +1,4 @@
-use Rattle.std.proofs.Common.{◌≡◌, ◌∙◌, ap, sym, Ok, Err}
+use Rattle.std.proofs.Common.{◌∙◌, ap, sym}
 use Rattle.wu_tree.specs.declared.events.Event.TheVariants.{Text}
 use Rattle.wumpus_run.specs.States.{State, step}
 use Rattle.wumpus_run.proofs.StateLemmas.{step-text, step-refused}
