@@ -1,4 +1,4 @@
-# `make demo` proves what is needed, builds the program and runs the example. `make` builds,
+# `make demo` proves what is needed, builds the program and runs the examples. `make` builds,
 # `make install PREFIX=..` copies the built program, and `make check` runs the gate.
 PREFIX ?= /usr/local
 WUMPUS := crates/wumpus/out/wumpus
@@ -14,6 +14,7 @@ $(WUMPUS): $(SOURCES)
 
 demo: $(WUMPUS)
 	$(WUMPUS) run <examples/first.script
+	$(WUMPUS) run <examples/home.script
 
 install: $(WUMPUS)
 	install -d $(DESTDIR)$(PREFIX)/bin
