@@ -1,1 +1,3 @@
-mod Rows
+pub mod Sets
+pub mod Order
+pub mod Operators
