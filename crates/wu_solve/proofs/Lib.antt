@@ -1,3 +1,6 @@
 pub mod Sets
 pub mod Order
 pub mod Operators
+pub mod Innermost
+pub mod Skipping
+pub mod Walking

@@ -73,7 +73,7 @@ no_other (z ∷ zs) x y up (inr a) (inl b) h =
     absurd (omega (arith, before.starts, h.start))
 no_other (z ∷ zs) x y up (inr a) (inr b) h = no_other zs x y up.1 a b h
 
-holds_through : (x y z : Extent) → Holds x y → Holds y z → Holds x z
+pub holds_through : (x y z : Extent) → Holds x y → Holds y z → Holds x z
 holds_through x y z h k = record { start = omega (arith, h.start, k.start); last = omega (arith, h.last, k.last) }
 
 -- An ascending list of extents of the set, of which each extent of the set holds one.

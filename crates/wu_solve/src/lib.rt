@@ -1,5 +1,5 @@
 //! The extents that a region expression means, found by merging the lists of its terms' addresses.
 #![tactic(auto)]
 
-
-
+mod containment;
+mod fronts;
