@@ -52,7 +52,7 @@ holds_first x others up = alike _ _
     (λ is.
       let f = found (λ y. holds x y) others is in
       let h = holds_means x f.0 f.2 in
-      let late : nat_lt f.0.start x.start ≡ false = le-ltb x.start f.0.start h.start in
+      let late : nat_lt f.0.start x.start ≡ false = le-ltb f.0.start x.start h.start in
       first_held x f.0 (from_start x.start others) (skipped_ascending (λ y. nat_lt y.start x.start) others up) (has_skipped (λ y. nat_lt y.start x.start) others f.0 late f.1) h)
 
 -- a later extent holds none of those that are skipped
@@ -62,7 +62,7 @@ holds_left x z others later = alike _ _
     (λ is.
       let f = found (λ y. holds z y) others is in
       let h = holds_means z f.0 f.2 in
-      let late : nat_lt f.0.start x.start ≡ false = le-ltb x.start f.0.start (omega (arith, h.start)) in
+      let late : nat_lt f.0.start x.start ≡ false = le-ltb f.0.start x.start (omega (arith, h.start)) in
       finds (λ y. holds z y) (from_start x.start others) f.0 (has_skipped (λ y. nat_lt y.start x.start) others f.0 late f.1) f.2)
 
 pub walk_holding_is : (wanted : Bool) (xs others all : List Extent) → IsAscending xs → IsAscending others →
@@ -97,7 +97,7 @@ held_by_first x others up = alike _ _
     (λ is.
       let f = found (λ y. holds y x) others is in
       let h = holds_means f.0 x f.2 in
-      let late : nat_lt f.0.end x.end ≡ false = le-ltb x.end f.0.end h.last in
+      let late : nat_lt f.0.end x.end ≡ false = le-ltb f.0.end x.end h.last in
       first_holds x f.0 (from_end x.end others) (skipped_ascending (λ y. nat_lt y.end x.end) others up) (has_skipped (λ y. nat_lt y.end x.end) others f.0 late f.1) h)
 
 held_left : (x z : Extent) (others : List Extent) → x.end < z.end → list_any (λ y. holds y z) (from_end x.end others) ≡ list_any (λ y. holds y z) others
@@ -106,7 +106,7 @@ held_left x z others later = alike _ _
     (λ is.
       let f = found (λ y. holds y z) others is in
       let h = holds_means f.0 z f.2 in
-      let late : nat_lt f.0.end x.end ≡ false = le-ltb x.end f.0.end (omega (arith, h.last)) in
+      let late : nat_lt f.0.end x.end ≡ false = le-ltb f.0.end x.end (omega (arith, h.last)) in
       finds (λ y. holds y z) (from_end x.end others) f.0 (has_skipped (λ y. nat_lt y.end x.end) others f.0 late f.1) f.2)
 
 pub walk_held_is : (wanted : Bool) (xs others all : List Extent) → IsAscending xs → IsAscending others →
