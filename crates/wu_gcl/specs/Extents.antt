@@ -71,12 +71,12 @@ combined FollowedBy n left right = innermost n (holds_in_order n left right)
 
 -- Where terms stand is told by a test of a term and a place.
 -- The words stand there, one behind the other from the place on.
-unfoldable pub words_stand : (List ℕ → ℕ → Bool) → List (List ℕ) → ℕ → Bool
+abbrev pub words_stand : (List ℕ → ℕ → Bool) → List (List ℕ) → ℕ → Bool
 words_stand stands [] place = true
 words_stand stands (word ∷ words) place = stands word place && words_stand stands words (place + 1)
 
 -- the extent is one place, where the term stands
-unfoldable pub is_term_at : (List ℕ → ℕ → Bool) → List ℕ → Extent → Bool
+abbrev pub is_term_at : (List ℕ → ℕ → Bool) → List ℕ → Extent → Bool
 is_term_at stands term x = x.start == x.end && stands term x.start
 
 -- the extent is one that the expression means, in a text of n places

@@ -4,3 +4,5 @@ pub mod Operators
 pub mod Innermost
 pub mod Skipping
 pub mod Walking
+pub mod Numbers
+pub mod TermLists

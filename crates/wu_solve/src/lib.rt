@@ -3,3 +3,4 @@
 
 mod containment;
 mod fronts;
+mod lookup;
