@@ -6,3 +6,5 @@ pub mod Skipping
 pub mod Walking
 pub mod Numbers
 pub mod TermLists
+pub mod Frames
+pub mod Phrases

@@ -2,3 +2,4 @@ pub mod Listing
 pub mod Merging
 pub mod Fronts
 pub mod Addresses
+pub mod Operands

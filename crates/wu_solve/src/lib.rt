@@ -4,3 +4,4 @@
 mod containment;
 mod fronts;
 mod lookup;
+mod operands;

@@ -1,10 +1,10 @@
 //! Looking up terms and addresses.
-ghost use Rattle.std.specs.Prelude.{◌≡◌, ℕ, filter, nat_le, nat_lt};
+ghost use Rattle.std.specs.Prelude.{◌≡◌, ℕ, ◌+◌, ◌^◌, ◌<◌, ◌≤◌, ◌&&◌, filter, length, nat_le, nat_lt, slice_index};
 ghost use Rattle.std.specs.List.Sorted.{IsStrictlyIncreasing};
 ghost use Rattle.wu_solve.specs.Addresses.{is_among, has_address, AreLists};
 
 use std::cmp::Ordering;
-use wu_base::TermList;
+use wu_base::{Range, TermList};
 
 /// The addresses from the bound on.
 pub fn addresses_from(addresses: &[u64], bound: u64) -> &[u64]
@@ -53,4 +53,17 @@ pub fn has_address(lists: &[TermList], term: &[u8], address: u64) -> bool
     ensures { result ≡ has_address lists.now term.now address }
 {
     addresses_of(lists, term).binary_search(&address).is_ok()
+}
+
+/// The term's addresses in the frame.
+pub fn addresses_in<'a>(lists: &'a [TermList], term: &[u8], frame: Range) -> &'a [u64]
+    requires lists { AreLists lists.now }
+    requires frame { frame.start + frame.len ≤ 2 ^ 47 }
+    ensures ascending { IsStrictlyIncreasing result.now }
+    ensures within { (k : ℕ) → k < length result.now → (frame.start ≤ slice_index result.now k) × (slice_index result.now k < frame.start + frame.len) }
+    ensures same { (address : ℕ) → is_among result.now address
+        ≡ (has_address lists.now term.now address && (nat_le frame.start address && nat_lt address (frame.start + frame.len))) }
+{
+    let addresses = addresses_from(addresses_of(lists, term), frame.start);
+    addresses_below(addresses, frame.start + frame.len)
 }
