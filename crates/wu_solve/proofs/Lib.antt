@@ -8,3 +8,6 @@ pub mod Numbers
 pub mod TermLists
 pub mod Frames
 pub mod Phrases
+pub mod Unions
+pub mod Covers
+pub mod Spans

@@ -25,7 +25,7 @@ walk_held wanted (x ∷ xs) others =
     let left = from_end x.end others in
     if is_wanted wanted (first_starts_by x.start left) then x ∷ walk_held wanted xs left else walk_held wanted xs left
 
-first_is_before : (z y : Extent) (zs : List Extent) → IsAscending (z ∷ zs) → Has (z ∷ zs) y → (z.start ≤ y.start) × (z.end ≤ y.end)
+pub first_is_before : (z y : Extent) (zs : List Extent) → IsAscending (z ∷ zs) → Has (z ∷ zs) y → (z.start ≤ y.start) × (z.end ≤ y.end)
 first_is_before z y zs up (inl here) =
     let starts : z.start ≡ y.start = ap (λ (e : Extent). e.start) here in
     let ends : z.end ≡ y.end = ap (λ (e : Extent). e.end) here in

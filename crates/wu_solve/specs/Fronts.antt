@@ -28,3 +28,8 @@ first_ends_by place (y ∷ ys) = nat_le y.end place
 abbrev pub first_starts_by : ℕ → List Extent → Bool
 first_starts_by place [] = false
 first_starts_by place (y ∷ ys) = nat_le y.start place
+
+-- there is a first, and it ends before the place
+abbrev pub first_ends_before : ℕ → List Extent → Bool
+first_ends_before place [] = false
+first_ends_before place (y ∷ ys) = nat_lt y.end place

@@ -1,7 +1,5 @@
-use Rattle.std.proofs.Common.{◌≡◌, ◌∙◌, ◌+◌, ap, filter, nat_le, nat_lt, ◌&&◌, Bool}
-use Rattle.std.specs.List.Sorted.{IsStrictlyIncreasing}
+use Rattle.std.proofs.Common.{◌∙◌, ◌+◌, ap, filter, nat_le, nat_lt, ◌&&◌, Bool}
 use Rattle.std.proofs.lemmas.List.Kept.{IsStrictlyIncreasing-filter}
-use Rattle.wu_solve.specs.Addresses.{is_among, has_address}
 use Rattle.wu_solve.proofs.Frames.{in_frame, within_frame, frame_increasing}
 use Rattle.wu_solve.proofs.lookup.addresses_in.Goals as goal
 

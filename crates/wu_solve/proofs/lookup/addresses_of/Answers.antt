@@ -1,7 +1,6 @@
-use Rattle.std.proofs.Common.{◌≡◌, ℕ, suc, ◌+◌, ◌/◌, ◌<◌, ◌≤◌, ◌∙◌, length, drop, Less, Equal, Greater, rules, arith, add-one, sym, ap, refl, nat_cmp}
+use Rattle.std.proofs.Common.{◌≡◌, ℕ, suc, ◌/◌, ◌<◌, ◌∙◌, length, drop, Less, Equal, Greater, rules, arith, add-one, ap, nat_cmp}
 use Rattle.std.specs.Cmp.Lexicographic.{slice_cmp}
 use Rattle.std.proofs.lemmas.Grind.{common_steps}
-use Rattle.wu_solve.specs.Addresses.{is_among, has_address, AreLists}
 use Rattle.wu_solve.proofs.TermLists.{behind_lesser, before_greater, at_term, lists_dropped, lists_taken}
 use Rattle.wu_solve.proofs.lookup.addresses_of.Goals as goal
 

@@ -1,10 +1,5 @@
-use Rattle.std.proofs.Common.{◌≡◌, sym, subst, List, arith}
+use Rattle.std.proofs.Common.{◌≡◌, arith}
 use Rattle.std.proofs.lemmas.Grind.{common_steps}
-use Rattle.wu_base.specs.declared.addresses.Extent.{Extent}
-use Rattle.wu_gcl.specs.Regions.{Phrase}
-use Rattle.wu_gcl.specs.Extents.{is_in}
-use Rattle.wu_solve.specs.Addresses.{stands_by}
-use Rattle.wu_solve.specs.Listing.{Lists}
 use Rattle.wu_solve.specs.Operands.{phrase_extents}
 use Rattle.wu_solve.proofs.Phrases.{phrase_listed}
 use Rattle.wu_solve.proofs.operands.phrase.Goals as goal

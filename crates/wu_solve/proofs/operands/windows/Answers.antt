@@ -1,4 +1,4 @@
-use Rattle.std.proofs.Common.{◌≡◌, ◌<◌, ◌≤◌, sym, inl, inr, arith, rules}
+use Rattle.std.proofs.Common.{◌≡◌, ◌<◌, ◌≤◌, inl, inr, arith}
 use Rattle.wu_solve.specs.Addresses.{stands_by}
 use Rattle.wu_solve.proofs.Phrases.{windows_listed, no_windows}
 use Rattle.wu_solve.proofs.operands.windows.Goals as goal
