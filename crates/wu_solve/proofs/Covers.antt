@@ -1,5 +1,5 @@
 -- The innermost covers of two ascending lists, by walking them side by side.
-use Rattle.std.proofs.Common.{◌≡◌, ℕ, ◌+◌, ◌<◌, ◌≤◌, min, max, Bool, true, false, cond, ◌⊎◌, List, [], ◌∷◌, ◌++◌, refl, sym, ap, ◌∙◌, subst, inl, inr, arith, ltb, ltb-true, ltb-false, leb, leb-true, leb-false, le-leb}
+use Rattle.std.proofs.Common.{length, drop, drop_of_length-le, append-nil, ◌≡◌, ℕ, ◌+◌, ◌<◌, ◌≤◌, min, max, Bool, true, false, cond, ◌⊎◌, List, [], ◌∷◌, ◌++◌, refl, sym, ap, ◌∙◌, subst, inl, inr, arith, ltb, ltb-true, ltb-false, leb, leb-true, leb-false, le-leb}
 use Rattle.std.specs.Prelude.{nat_lt, if◌then◌else◌}
 use Rattle.std.specs.List.{AllByRecursion}
 use Rattle.std.proofs.lemmas.Bool.{false≢true}
@@ -232,3 +232,12 @@ from_left y ys more yup rest (z ∷ zs) zup =
 pub covers_inner : (ys zs : List Extent) → IsAscending ys → IsAscending zs → AreInnermost (IsCover ys zs) (covers ys zs)
 covers_inner [] zs yup zup = no_left zs
 covers_inner (y ∷ ys) zs yup zup = from_left y ys (covers ys) yup (λ zs up. covers_inner ys zs yup.1 up) zs zup
+
+covers_none : (ys : List Extent) → covers ys [] ≡ []
+covers_none [] = refl
+covers_none (y ∷ ys) = refl
+
+-- where a list is at its end
+pub covers_end : (left right : List Extent) (i j : ℕ) → (length left ≤ i) ⊎ (length right ≤ j) → covers (drop i left) (drop j right) ≡ []
+covers_end left right i j (inl end) = rw (drop_of_length-le left end) refl
+covers_end left right i j (inr end) = rw (drop_of_length-le right end) (covers_none (drop i left))

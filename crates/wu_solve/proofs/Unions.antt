@@ -1,5 +1,5 @@
 -- The innermost extents of two ascending lists, by walking them side by side.
-use Rattle.std.proofs.Common.{◌≡◌, ℕ, ◌+◌, ◌<◌, ◌≤◌, Bool, true, false, cond, ◌⊎◌, List, [], ◌∷◌, ◌++◌, refl, sym, ap, ◌∙◌, subst, inl, inr, arith, ltb, ltb-true, ltb-false, leb, leb-true, leb-false, le-leb}
+use Rattle.std.proofs.Common.{length, drop, drop_of_length-le, append-nil, ◌≡◌, ℕ, ◌+◌, ◌<◌, ◌≤◌, Bool, true, false, cond, ◌⊎◌, List, [], ◌∷◌, ◌++◌, refl, sym, ap, ◌∙◌, subst, inl, inr, arith, ltb, ltb-true, ltb-false, leb, leb-true, leb-false, le-leb}
 use Rattle.std.specs.Prelude.{nat_lt, if◌then◌else◌}
 use Rattle.std.specs.List.{AllByRecursion}
 use Rattle.std.proofs.lemmas.Bool.{false≢true}
@@ -128,3 +128,12 @@ from_left y ys more yup rest (z ∷ zs) zup =
 pub union_inner : (ys zs : List Extent) → IsAscending ys → IsAscending zs → AreInnermost (IsOneOf ys zs) (union ys zs)
 union_inner [] zs yup zup = none_left zs zup
 union_inner (y ∷ ys) zs yup zup = from_left y ys (union ys) yup (λ zs up. union_inner ys zs yup.1 up) zs zup
+
+union_none : (ys : List Extent) → union ys [] ≡ ys ++ []
+union_none [] = refl
+union_none (y ∷ ys) = sym (append-nil (y ∷ ys))
+
+-- where a list is at its end
+pub union_end : (left right : List Extent) (i j : ℕ) → (length left ≤ i) ⊎ (length right ≤ j) → union (drop i left) (drop j right) ≡ drop i left ++ drop j right
+union_end left right i j (inl end) = rw (drop_of_length-le left end) refl
+union_end left right i j (inr end) = rw (drop_of_length-le right end) (union_none (drop i left))

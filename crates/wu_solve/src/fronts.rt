@@ -1,6 +1,6 @@
 //! The front of an ascending list of extents, and what is left of the list from a place on.
 ghost use Rattle.std.specs.Prelude.{◌≡◌};
-ghost use Rattle.wu_solve.specs.Fronts.{from_start, from_end, behind, first_ends_by, first_starts_by};
+ghost use Rattle.wu_solve.specs.Fronts.{from_start, from_end, behind, first_ends_before, first_ends_by, first_starts_by};
 
 use wu_base::Extent;
 
@@ -53,6 +53,16 @@ pub fn starts_by(extents: &[Extent], place: u64) -> bool
 {
     match extents.first() {
         Some(first) => first.start <= place,
+        None => false,
+    }
+}
+
+/// Whether there is a first that ends before the place.
+pub fn ends_before(extents: &[Extent], place: u64) -> bool
+    ensures { result ≡ first_ends_before place extents.now }
+{
+    match extents.first() {
+        Some(first) => first.end < place,
         None => false,
     }
 }

@@ -4,4 +4,5 @@
 mod containment;
 mod fronts;
 mod lookup;
+mod merging;
 mod operands;
