@@ -1,12 +1,11 @@
 -- Reading from the left finds the value of each expression.
-use Rattle.std.proofs.Common.{◌≡◌, ℕ, ◌<◌, ◌≤◌, List, [], ◌∷◌, ◌++◌, append_assoc, append-nil, Option, Some, None, refl, sym, ◌∙◌, ap, arith, cond, true, false}
-use Rattle.std.specs.Prelude.{nat_le}
+use Rattle.std.proofs.Common.{◌≡◌, ℕ, ◌<◌, ◌≤◌, List, [], ◌∷◌, ◌++◌, append_assoc, append-nil, Some, refl, ◌∙◌, ap, arith}
 use Rattle.std.proofs.lemmas.Bool.Decides.{nat_tests}
 use Rattle.wu_gcl.specs.declared.expressions.Op.{Op}
-use Rattle.wu_gcl.specs.Lexical.{Token, Operand, Operator, Open, Close}
+use Rattle.wu_gcl.specs.Lexical.{Token, Operator, Close}
 use Rattle.wu_gcl.specs.Grammar.{Syntax, Single, Group, Join, tokens_in, precedence, tightness, IsGrouped}
 use Rattle.wu_gcl.specs.Reading.{Value, value_of, join, meaning}
-use Rattle.wu_gcl.specs.Pending.{Waiting, Paren, Left, State, reduced, operand_wanted, operand_held, closed_at, stepped, ended, ended_at, run, evaluated}
+use Rattle.wu_gcl.specs.Pending.{Waiting, Paren, Left, reduced, operand_wanted, operand_held, closed_at, ended_at, run, evaluated}
 
 -- what waits innermost binds less tightly
 abbrev pub IsBelow : ℕ → List Waiting → Type 0
@@ -56,8 +55,8 @@ holds (Group inner) grouped waiting rest below =
       waiting_on = waiting;
       value = meaning inner;
       reached =
-        rw append_assoc (inside.reached ∙ closed rest inside.waiting_on inside.value waiting (meaning inner) (inside.worth 0 (omega arith)));
-      worth = λ level up. refl
+          rw append_assoc (inside.reached ∙ closed rest inside.waiting_on inside.value waiting (meaning inner) (inside.worth 0 (omega arith)));
+      worth = λ level up. refl;
     }
 holds (Join op left right) grouped waiting rest below =
     let first : Holds left waiting (Operator op ∷ (tokens_in right ++ rest)) = holds left grouped.2 waiting _ (IsBelow-more _ _ waiting grouped.0 below) in
@@ -66,8 +65,8 @@ holds (Join op left right) grouped waiting rest below =
       waiting_on = second.waiting_on;
       value = second.value;
       reached =
-        rw append_assoc (first.reached ∙ joined op (tokens_in right ++ rest) first.waiting_on first.value waiting (meaning left) (first.worth (precedence op) grouped.0 ∙ reduced-below (precedence op) waiting (meaning left) below) ∙ second.reached);
-      worth = λ level up. second.worth level (omega arith) ∙ reduced-join level (meaning left) op waiting (meaning right) up
+          rw append_assoc (first.reached ∙ joined op (tokens_in right ++ rest) first.waiting_on first.value waiting (meaning left) (first.worth (precedence op) grouped.0 ∙ reduced-below (precedence op) waiting (meaning left) below) ∙ second.reached);
+      worth = λ level up. second.worth level (omega arith) ∙ reduced-join level (meaning left) op waiting (meaning right) up;
     }
 
 -- the value of each expression is found

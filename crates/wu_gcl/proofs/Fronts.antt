@@ -1,6 +1,6 @@
 -- The token found from the left is the one that stands there.
-use Rattle.std.proofs.Common.{◌≡◌, ◌≢◌, ℕ, suc, ◌+◌, ◌<◌, ◌≤◌, Bool, true, false, cond, List, [], ◌∷◌, ◌++◌, length, take, drop, append_assoc, append-nil, length-append, Option, Some, None, refl, sym, ◌∙◌, ap, subst, inl, inr, arith, eqb, add-one}
-use Rattle.std.specs.Prelude.{◌⊎◌, ◌&&◌, codes, not, nat_eq}
+use Rattle.std.proofs.Common.{◌≡◌, ◌≢◌, ℕ, suc, ◌+◌, ◌<◌, Bool, true, false, cond, List, [], ◌∷◌, ◌++◌, length, take, drop, append_assoc, length-append, Some, refl, sym, ◌∙◌, ap, inl, inr, arith, eqb}
+use Rattle.std.specs.Prelude.{◌⊎◌, ◌&&◌, codes, nat_eq}
 use Rattle.std.specs.Char.{is_ascii_digit, is_ascii_alphabetic, IsAsciiDigit}
 use Rattle.std.specs.List.{prefix_len, AllByRecursion}
 use Rattle.std.specs.Cmp.Lexicographic.{pointwise}
@@ -10,16 +10,15 @@ use Rattle.std.proofs.Common.{get_or, length-take}
 use Rattle.std.proofs.lemmas.List.{take-append-drop, take_at, drop_at, length_push}
 use Rattle.std.specs.Prelude.{nat_lt}
 use Rattle.std.proofs.Common.{lt-ltb, ltb-true, eqb-true}
-use Rattle.wu_gcl.specs.declared.expressions.Op.{Op}
 use Rattle.wu_gcl.specs.declared.expressions.Op.TheVariants.{Containing, ContainedIn, NotContaining, NotContainedIn, OneOf, BothOf, FollowedBy}
-use Rattle.wu_gcl.specs.Lexical.{Atom, Quoted, Bracketed, FileWord, LineWord, Token, Operand, Operator, Open, Close, token_text, IsToken, EndsBefore, IsBlank, Stands, AreTokens, starts_with_letter}
-use Rattle.wu_gcl.specs.Scanning.{Front, front, is_blank, after_blanks, is_unquote, quoted_at, closed_by, bracketed_at, word_of, word_at, negation_at, dots_at, front_of}
+use Rattle.wu_gcl.specs.Lexical.{Quoted, Bracketed, FileWord, LineWord, Token, Operand, Operator, Open, Close, Stands, starts_with_letter}
+use Rattle.wu_gcl.specs.Scanning.{front, is_unquote, quoted_at, closed_by, bracketed_at, word_of, negation_at, dots_at, mark_at, front_of}
 
 -- a run of what passes ends where the next fails
 pub prefix_len-run : (p : ℕ → Bool) (P : ℕ → Type 0) → ((b : ℕ) → P b → p b ≡ true) → (run rest : List ℕ) → AllByRecursion P run → prefix_len p rest ≡ 0 →
     prefix_len p (run ++ rest) ≡ length run
 prefix_len-run p P passes [] rest all stops = stops
-prefix_len-run p P passes (b ∷ run) rest all stops = 
+prefix_len-run p P passes (b ∷ run) rest all stops =
     let same : prefix_len p (run ++ rest) ≡ length run = prefix_len-run p P passes run rest all.1 stops in
     rw (passes b all.0) (grind arith)
 
@@ -121,31 +120,34 @@ pointwise_same (x ∷ a) (y ∷ b) same =
 
 quoted_stands : (text : List ℕ) (token : Token) (rest : List ℕ) → quoted_at text ≡ Some (token, rest) → Stands token rest (34 ∷ text)
 quoted_stands text token rest h = elim (chosen (nat_lt (prefix_len is_unquote text) (length text)) _ _ _ h) [
-    inl (less, h) ↦ same_front (Operand (Quoted (take (prefix_len is_unquote text) text))) token (drop (prefix_len is_unquote text + 1) text) rest (34 ∷ text) h
+  | inl (less, h) ↦ same_front (Operand (Quoted (take (prefix_len is_unquote text) text))) token (drop (prefix_len is_unquote text + 1) text) rest (34 ∷ text) h
       (record {
         spelled = ap (λ (bytes : List ℕ). 34 ∷ bytes) (split_at_quote text (ltb-true _ _ less));
         proper = run_passes is_unquote (λ b. b ≢ 34) passes_unquote text;
-        ended = tt
+        ended = tt;
       })
-  | inr (over, h) ↦ cc ]
+  | inr (over, h) ↦ cc
+]
 
 closed_stands : (digits text : List ℕ) (token : Token) (rest : List ℕ) → 0 < length digits → AllByRecursion IsAsciiDigit digits → closed_by digits text ≡ Some (token, rest) → Stands token rest (91 ∷ (digits ++ text))
 closed_stands digits [] token rest some all h = cc
 closed_stands digits (b ∷ text) token rest some all h = elim (chosen (eqb b 93) _ _ _ h) [
-    inl (is, h) ↦ same_front (Operand (Bracketed digits)) token text rest (91 ∷ (digits ++ (b ∷ text))) h
+  | inl (is, h) ↦ same_front (Operand (Bracketed digits)) token text rest (91 ∷ (digits ++ (b ∷ text))) h
       (record {
         spelled = ap (λ (bytes : List ℕ). 91 ∷ bytes) (ap (λ (c : ℕ). digits ++ (c ∷ text)) (eqb-true _ _ is) ∙ sym (append_assoc digits (93 ∷ []) text));
         proper = (some, all);
-        ended = tt
+        ended = tt;
       })
-  | inr (other, h) ↦ cc ]
+  | inr (other, h) ↦ cc
+]
 
 bracketed_stands : (text : List ℕ) (token : Token) (rest : List ℕ) → bracketed_at text ≡ Some (token, rest) → Stands token rest (91 ∷ text)
 bracketed_stands text token rest h = elim (chosen (eqb (prefix_len is_ascii_digit text) 0) _ _ _ h) [
-    inl (is, h) ↦ cc
+  | inl (is, h) ↦ cc
   | inr (some, h) ↦ rw (← take-append-drop (prefix_len is_ascii_digit text) text)
       (closed_stands (take (prefix_len is_ascii_digit text) text) (drop (prefix_len is_ascii_digit text) text) token rest (some_taken text some)
-        (run_passes is_ascii_digit IsAsciiDigit passes_digit text) h) ]
+      (run_passes is_ascii_digit IsAsciiDigit passes_digit text) h)
+]
 
 behind : (b : ℕ) (text : List ℕ) (test : Bool) → is_ascii_alphabetic b ≡ test → starts_with_letter (drop (prefix_len is_ascii_alphabetic text) text) ≡ false →
     starts_with_letter (drop (cond test (1 + prefix_len is_ascii_alphabetic text) 0) (b ∷ text)) ≡ false
@@ -161,47 +163,65 @@ behind_letters (b ∷ text) = behind b text (is_ascii_alphabetic b) refl (behind
 
 word_stands : (letters text : List ℕ) (token : Token) (rest : List ℕ) → starts_with_letter text ≡ false → word_of letters text ≡ Some (token, rest) → Stands token rest (letters ++ text)
 word_stands letters text token rest ends h = elim (chosen (pointwise nat_eq letters (codes "file")) _ _ _ h) [
-    inl (is, h) ↦ same_front (Operand FileWord) token text rest (letters ++ text) h (record { spelled = ap (λ (bytes : List ℕ). bytes ++ text) (pointwise_same letters (codes "file") is); proper = tt; ended = ends })
+  | inl (is, h) ↦ same_front (Operand FileWord) token text rest (letters ++ text) h (record { spelled = ap (λ (bytes : List ℕ). bytes ++ text) (pointwise_same letters (codes "file") is); proper = tt; ended = ends })
   | inr (other, h) ↦ elim (chosen (pointwise nat_eq letters (codes "line")) _ _ _ h) [
-    inl (is, h) ↦ same_front (Operand LineWord) token text rest (letters ++ text) h (record { spelled = ap (λ (bytes : List ℕ). bytes ++ text) (pointwise_same letters (codes "line") is); proper = tt; ended = ends })
-  | inr (other, h) ↦ cc ] ]
+    | inl (is, h) ↦ same_front (Operand LineWord) token text rest (letters ++ text) h (record { spelled = ap (λ (bytes : List ℕ). bytes ++ text) (pointwise_same letters (codes "line") is); proper = tt; ended = ends })
+    | inr (other, h) ↦ cc
+  ]
+]
 
 negation_stands : (text : List ℕ) (token : Token) (rest : List ℕ) → negation_at text ≡ Some (token, rest) → Stands token rest (47 ∷ text)
 negation_stands [] token rest h = cc
 negation_stands (b ∷ text) token rest h = elim (chosen (eqb b 62) _ _ _ h) [
-    inl (is, h) ↦ same_front (Operator NotContaining) token text rest (47 ∷ b ∷ text) h (record { spelled = ap (λ (c : ℕ). 47 ∷ c ∷ text) (eqb-true _ _ is); proper = tt; ended = tt })
+  | inl (is, h) ↦ same_front (Operator NotContaining) token text rest (47 ∷ b ∷ text) h (record { spelled = ap (λ (c : ℕ). 47 ∷ c ∷ text) (eqb-true _ _ is); proper = tt; ended = tt })
   | inr (other, h) ↦ elim (chosen (eqb b 60) _ _ _ h) [
-    inl (is, h) ↦ same_front (Operator NotContainedIn) token text rest (47 ∷ b ∷ text) h (record { spelled = ap (λ (c : ℕ). 47 ∷ c ∷ text) (eqb-true _ _ is); proper = tt; ended = tt })
-  | inr (other, h) ↦ cc ] ]
+    | inl (is, h) ↦ same_front (Operator NotContainedIn) token text rest (47 ∷ b ∷ text) h (record { spelled = ap (λ (c : ℕ). 47 ∷ c ∷ text) (eqb-true _ _ is); proper = tt; ended = tt })
+    | inr (other, h) ↦ cc
+  ]
+]
 
 dots_stands : (text : List ℕ) (token : Token) (rest : List ℕ) → dots_at text ≡ Some (token, rest) → Stands token rest (46 ∷ text)
 dots_stands [] token rest h = cc
 dots_stands (b ∷ text) token rest h = elim (chosen (eqb b 46) _ _ _ h) [
-    inl (is, h) ↦ same_front (Operator FollowedBy) token text rest (46 ∷ b ∷ text) h (record { spelled = ap (λ (c : ℕ). 46 ∷ c ∷ text) (eqb-true _ _ is); proper = tt; ended = tt })
-  | inr (other, h) ↦ cc ]
+  | inl (is, h) ↦ same_front (Operator FollowedBy) token text rest (46 ∷ b ∷ text) h (record { spelled = ap (λ (c : ℕ). 46 ∷ c ∷ text) (eqb-true _ _ is); proper = tt; ended = tt })
+  | inr (other, h) ↦ cc
+]
 
+mark_stands : (b : ℕ) (text : List ℕ) (token : Token) (rest : List ℕ) → mark_at b text ≡ Some (token, rest) → Stands token rest (b ∷ text)
+mark_stands b text token rest h = elim (chosen (eqb b 40) _ _ _ h) [
+  | inl (is, h) ↦ same_front Open token text rest (b ∷ text) h (record { spelled = ap (λ (c : ℕ). c ∷ text) (eqb-true _ _ is); proper = tt; ended = tt })
+  | inr (other, h) ↦ elim (chosen (eqb b 41) _ _ _ h) [
+    | inl (is, h) ↦ same_front Close token text rest (b ∷ text) h (record { spelled = ap (λ (c : ℕ). c ∷ text) (eqb-true _ _ is); proper = tt; ended = tt })
+    | inr (other, h) ↦ elim (chosen (eqb b 62) _ _ _ h) [
+      | inl (is, h) ↦ same_front (Operator Containing) token text rest (b ∷ text) h (record { spelled = ap (λ (c : ℕ). c ∷ text) (eqb-true _ _ is); proper = tt; ended = tt })
+      | inr (other, h) ↦ elim (chosen (eqb b 60) _ _ _ h) [
+        | inl (is, h) ↦ same_front (Operator ContainedIn) token text rest (b ∷ text) h (record { spelled = ap (λ (c : ℕ). c ∷ text) (eqb-true _ _ is); proper = tt; ended = tt })
+        | inr (other, h) ↦ elim (chosen (eqb b 43) _ _ _ h) [
+          | inl (is, h) ↦ same_front (Operator OneOf) token text rest (b ∷ text) h (record { spelled = ap (λ (c : ℕ). c ∷ text) (eqb-true _ _ is); proper = tt; ended = tt })
+          | inr (other, h) ↦ elim (chosen (eqb b 94) _ _ _ h) [
+            | inl (is, h) ↦ same_front (Operator BothOf) token text rest (b ∷ text) h (record { spelled = ap (λ (c : ℕ). c ∷ text) (eqb-true _ _ is); proper = tt; ended = tt })
+            | inr (other, h) ↦ rw (← take-append-drop (prefix_len is_ascii_alphabetic (b ∷ text)) (b ∷ text))
+                (word_stands (take (prefix_len is_ascii_alphabetic (b ∷ text)) (b ∷ text)) (drop (prefix_len is_ascii_alphabetic (b ∷ text)) (b ∷ text)) token rest (behind_letters (b ∷ text)) h)
+          ]
+        ]
+      ]
+    ]
+  ]
+]
+
+-- what is found at the front stands there
 pub front_stands : (text : List ℕ) (token : Token) (rest : List ℕ) → front_of text ≡ Some (token, rest) → Stands token rest text
 front_stands [] token rest h = cc
 front_stands (b ∷ text) token rest h = elim (chosen (eqb b 34) _ _ _ h) [
-    inl (is, h) ↦ rw (eqb-true b 34 is) (quoted_stands text token rest h)
+  | inl (is, h) ↦ rw (eqb-true b 34 is) (quoted_stands text token rest h)
   | inr (other, h) ↦ elim (chosen (eqb b 91) _ _ _ h) [
-    inl (is, h) ↦ rw (eqb-true b 91 is) (bracketed_stands text token rest h)
-  | inr (other, h) ↦ elim (chosen (eqb b 40) _ _ _ h) [
-    inl (is, h) ↦ same_front Open token text rest (b ∷ text) h (record { spelled = ap (λ (c : ℕ). c ∷ text) (eqb-true _ _ is); proper = tt; ended = tt })
-  | inr (other, h) ↦ elim (chosen (eqb b 41) _ _ _ h) [
-    inl (is, h) ↦ same_front Close token text rest (b ∷ text) h (record { spelled = ap (λ (c : ℕ). c ∷ text) (eqb-true _ _ is); proper = tt; ended = tt })
-  | inr (other, h) ↦ elim (chosen (eqb b 62) _ _ _ h) [
-    inl (is, h) ↦ same_front (Operator Containing) token text rest (b ∷ text) h (record { spelled = ap (λ (c : ℕ). c ∷ text) (eqb-true _ _ is); proper = tt; ended = tt })
-  | inr (other, h) ↦ elim (chosen (eqb b 60) _ _ _ h) [
-    inl (is, h) ↦ same_front (Operator ContainedIn) token text rest (b ∷ text) h (record { spelled = ap (λ (c : ℕ). c ∷ text) (eqb-true _ _ is); proper = tt; ended = tt })
-  | inr (other, h) ↦ elim (chosen (eqb b 43) _ _ _ h) [
-    inl (is, h) ↦ same_front (Operator OneOf) token text rest (b ∷ text) h (record { spelled = ap (λ (c : ℕ). c ∷ text) (eqb-true _ _ is); proper = tt; ended = tt })
-  | inr (other, h) ↦ elim (chosen (eqb b 94) _ _ _ h) [
-    inl (is, h) ↦ same_front (Operator BothOf) token text rest (b ∷ text) h (record { spelled = ap (λ (c : ℕ). c ∷ text) (eqb-true _ _ is); proper = tt; ended = tt })
-  | inr (other, h) ↦ elim (chosen (eqb b 47) _ _ _ h) [
-    inl (is, h) ↦ rw (eqb-true b 47 is) (negation_stands text token rest h)
-  | inr (other, h) ↦ elim (chosen (eqb b 46) _ _ _ h) [
-    inl (is, h) ↦ rw (eqb-true b 46 is) (dots_stands text token rest h)
-  | inr (other, h) ↦ rw (← take-append-drop (prefix_len is_ascii_alphabetic (b ∷ text)) (b ∷ text))
-      (word_stands (take (prefix_len is_ascii_alphabetic (b ∷ text)) (b ∷ text)) (drop (prefix_len is_ascii_alphabetic (b ∷ text)) (b ∷ text)) token rest (behind_letters (b ∷ text)) h)
-  ] ] ] ] ] ] ] ] ] ]
+    | inl (is, h) ↦ rw (eqb-true b 91 is) (bracketed_stands text token rest h)
+    | inr (other, h) ↦ elim (chosen (eqb b 47) _ _ _ h) [
+      | inl (is, h) ↦ rw (eqb-true b 47 is) (negation_stands text token rest h)
+      | inr (other, h) ↦ elim (chosen (eqb b 46) _ _ _ h) [
+        | inl (is, h) ↦ rw (eqb-true b 46 is) (dots_stands text token rest h)
+        | inr (other, h) ↦ mark_stands b text token rest h
+      ]
+    ]
+  ]
+]

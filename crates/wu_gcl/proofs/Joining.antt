@@ -1,5 +1,5 @@
 -- Words with a space between each and the next.
-use Rattle.std.proofs.Common.{◌≡◌, ℕ, List, [], ◌∷◌, ◌++◌, append-nil, append_assoc, refl, sym, ◌∙◌, ap}
+use Rattle.std.proofs.Common.{◌≡◌, ℕ, List, [], ◌∷◌, ◌++◌, append-nil, sym, ap}
 use Rattle.std.specs.List.{join_with_byte, flat_map}
 use Rattle.wu_gcl.specs.Printing.{spaced}
 

@@ -1,7 +1,7 @@
 -- What is printed spells the expression that it was printed from.
-use Rattle.std.proofs.Common.{◌≡◌, ◌≢◌, ℕ, suc, ◌+◌, ◌-◌, ◌*◌, ◌/◌, ◌%◌, ◌^◌, ◌<◌, ◌≤◌, Bool, true, false, cond, List, [], ◌∷◌, ◌++◌, length, length-append, get_or, append_assoc, append-nil, Option, Some, None, Ok, Err, refl, sym, ◌∙◌, ap, subst, inl, inr, arith, eqb}
-use Rattle.std.specs.Prelude.{◌⊎◌, ◌||◌, codes, nat_lt, Result, IfOk}
-use Rattle.std.specs.Char.{IsAsciiDigit, is_ascii_alphabetic}
+use Rattle.std.proofs.Common.{◌≡◌, ◌≢◌, ℕ, ◌+◌, ◌-◌, ◌*◌, ◌/◌, ◌%◌, ◌^◌, ◌<◌, ◌≤◌, Bool, true, false, cond, List, [], ◌∷◌, ◌++◌, length, length-append, get_or, append_assoc, append-nil, Option, Some, None, Ok, Err, refl, ◌∙◌, ap, inl, arith, eqb}
+use Rattle.std.specs.Prelude.{◌||◌, codes, nat_lt, Result, IfOk}
+use Rattle.std.specs.Char.{IsAsciiDigit}
 use Rattle.std.specs.List.{AllByRecursion, join_with_byte}
 use Rattle.std.specs.Fmt.{decimal}
 use Rattle.std.proofs.lemmas.Fmt.{decimal_by_steps, first_decimal}
@@ -13,11 +13,11 @@ use Rattle.wu_gcl.specs.declared.expressions.Op.{Op}
 use Rattle.wu_gcl.specs.declared.expressions.Op.TheVariants.{Containing, ContainedIn, NotContaining, NotContainedIn, OneOf, BothOf, FollowedBy}
 use Rattle.wu_gcl.specs.declared.expressions.Expr.{Expr}
 use Rattle.wu_gcl.specs.declared.expressions.ExprFault.{ExprFault}
-use Rattle.wu_gcl.specs.declared.expressions.ExprFault.TheVariants.{NoWord, BadWindow}
-use Rattle.wu_gcl.specs.Lexical.{Atom, Quoted, Bracketed, FileWord, LineWord, Token, Operand, Operator, Open, Close, op_text, token_text, IsToken, EndsBefore, IsBlank, Stands, AreTokens, starts_with_letter}
+use Rattle.wu_gcl.specs.declared.expressions.ExprFault.TheVariants.{BadWindow}
+use Rattle.wu_gcl.specs.Lexical.{Atom, Quoted, Bracketed, FileWord, LineWord, Token, Operand, Operator, Open, Close, op_text, token_text, IsToken, EndsBefore, IsBlank, AreTokens, starts_with_letter}
 use Rattle.wu_gcl.specs.Grammar.{Syntax, Single, Group, Join, tokens_in, precedence, tightness, IsGrouped, operator_count, open_count}
 use Rattle.wu_gcl.specs.Regions.{Region, Phrase, Mark, WholeFile, WholeLine, Window, Both, region_of, IsProper}
-use Rattle.wu_gcl.specs.Reading.{Value, tag_text, tag_at, quoted_value, phrase_of, digits_behind, window_of, value_of, join, meaning, IsSmall, IsWritten, Says, Spells, Reads, seen}
+use Rattle.wu_gcl.specs.Reading.{Value, tag_text, tag_at, quoted_value, phrase_of, digits_behind, window_of, value_of, join, meaning, Spells, Reads, seen}
 use Rattle.wu_gcl.specs.Scanning.{is_unquote}
 use Rattle.wu_gcl.specs.Printing.{operand_text, printed}
 use Rattle.wu_gcl.proofs.Fronts.{run_passes, passes_unquote}
@@ -102,7 +102,7 @@ meaning_readable (Single atom) all = value_readable atom all.0
 meaning_readable (Group inner) all = meaning_readable inner (All-front IsToken (tokens_in inner) (Close ∷ []) all.1)
 meaning_readable (Join op left right) all =
     join_readable op (meaning left) (meaning right) (meaning_readable left (All-front IsToken (tokens_in left) (Operator op ∷ tokens_in right) all))
-      (meaning_readable right (All-behind IsToken (tokens_in left) (Operator op ∷ tokens_in right) all).1)
+    (meaning_readable right (All-behind IsToken (tokens_in left) (Operator op ∷ tokens_in right) all).1)
 
 tokens_are : (tokens : List Token) (text : List ℕ) → AreTokens tokens text → AllByRecursion IsToken tokens
 tokens_are [] text are = tt
@@ -185,7 +185,7 @@ grouped_counts WholeLine syntax is = record { operators_are = is.operators_are; 
 grouped_counts (Window n) syntax is = record { operators_are = is.operators_are; opens_are = omega (arith, is.opens_are) }
 grouped_counts (Both op left right) syntax is = record {
   operators_are = omega (arith, operator_count-append (tokens_in syntax) (Close ∷ []), is.operators_are);
-  opens_are = omega (arith, open_count-append (tokens_in syntax) (Close ∷ []), is.opens_are)
+  opens_are = omega (arith, open_count-append (tokens_in syntax) (Close ∷ []), is.opens_are);
 }
 
 syntax_counts : (region : Region) → IsCountedSyntax (both_count region) (both_count region - 1) (syntax_of region)
@@ -199,7 +199,7 @@ syntax_counts (Both op left right) =
     let second : IsCountedSyntax (both_count right) (both_count right) (grouped right (syntax_of right)) = grouped_counts right (syntax_of right) (syntax_counts right) in
     record {
       operators_are = omega (arith, operator_count-append (tokens_in (grouped left (syntax_of left))) (Operator op ∷ tokens_in (grouped right (syntax_of right))), first.operators_are, second.operators_are);
-      opens_are = omega (arith, open_count-append (tokens_in (grouped left (syntax_of left))) (Operator op ∷ tokens_in (grouped right (syntax_of right))), first.opens_are, second.opens_are)
+      opens_are = omega (arith, open_count-append (tokens_in (grouped left (syntax_of left))) (Operator op ∷ tokens_in (grouped right (syntax_of right))), first.opens_are, second.opens_are);
     }
 
 -- ---- parentheses stand round each operand that has an operator
@@ -259,7 +259,7 @@ decimal_more : (n : ℕ) (digits : List ℕ) → 10 ≤ n → IsDecimal (n / 10)
 decimal_more n digits more is = record {
   value = digits_behind-push 0 digits (48 + n % 10) ∙ omega (arith, is.value);
   some = rw length-append (omega arith);
-  all = digit_push digits (48 + n % 10) is.all (omega arith, omega arith)
+  all = digit_push digits (48 + n % 10) is.all (omega arith, omega arith);
 }
 
 decimal_is : (n : ℕ) → n < 2 ^ 64 → IsDecimal n (decimal n)
@@ -335,9 +335,15 @@ grouped_spelled WholeLine syntax text is = is
 grouped_spelled (Window n) syntax text is = is
 grouped_spelled (Both op left right) syntax text is = record {
   on = λ tokens rest ends are.
-    rw (append_assoc (tokens_in syntax) (Close ∷ []) tokens, append_assoc text (41 ∷ []) rest)
-      ([], 40 ∷ (text ++ (41 ∷ rest)), text ++ (41 ∷ rest), refl, tt, record { spelled = refl; proper = tt; ended = tt },
-        is.on (Close ∷ tokens) (41 ∷ rest) refl ([], 41 ∷ rest, rest, refl, tt, record { spelled = refl; proper = tt; ended = tt }, are))
+      rw (append_assoc (tokens_in syntax) (Close ∷ []) tokens, append_assoc text (41 ∷ []) rest) (
+        [],
+        40 ∷ (text ++ (41 ∷ rest)),
+        text ++ (41 ∷ rest),
+        refl,
+        tt,
+        record { spelled = refl; proper = tt; ended = tt },
+        is.on (Close ∷ tokens) (41 ∷ rest) refl ([], 41 ∷ rest, rest, refl, tt, record { spelled = refl; proper = tt; ended = tt }, are),
+      );
 }
 
 atom_spelled : (region : Region) (atom : Atom) → IsToken (Operand atom) → IsSpelled region (Single atom) (token_text (Operand atom))
@@ -362,13 +368,15 @@ syntax_spelled (Both op left right) is =
     let second : IsSpelled right (grouped right (syntax_of right)) (operand_text right (printed right)) = grouped_spelled right (syntax_of right) (printed right) (syntax_spelled right is.1) in
     record {
       on = λ tokens rest ends are.
-        rw (append_assoc (tokens_in (grouped left (syntax_of left))) (Operator op ∷ tokens_in (grouped right (syntax_of right))) tokens,
+          rw (
+            append_assoc (tokens_in (grouped left (syntax_of left))) (Operator op ∷ tokens_in (grouped right (syntax_of right))) tokens,
             append_assoc (operand_text left (printed left)) (32 ∷ (op_text op ++ (32 ∷ operand_text right (printed right)))) rest,
-            append_assoc (op_text op) (32 ∷ operand_text right (printed right)) rest)
+            append_assoc (op_text op) (32 ∷ operand_text right (printed right)) rest,
+          )
           (first.on (Operator op ∷ (tokens_in (grouped right (syntax_of right)) ++ tokens)) (32 ∷ (op_text op ++ (32 ∷ (operand_text right (printed right) ++ rest)))) refl
-            (behind_space (Operator op ∷ (tokens_in (grouped right (syntax_of right)) ++ tokens)) (op_text op ++ (32 ∷ (operand_text right (printed right) ++ rest)))
-              (op_is op (tokens_in (grouped right (syntax_of right)) ++ tokens) (32 ∷ (operand_text right (printed right) ++ rest))
-                (behind_space (tokens_in (grouped right (syntax_of right)) ++ tokens) (operand_text right (printed right) ++ rest) (second.on tokens rest ends are)))))
+          (behind_space (Operator op ∷ (tokens_in (grouped right (syntax_of right)) ++ tokens)) (op_text op ++ (32 ∷ (operand_text right (printed right) ++ rest)))
+          (op_is op (tokens_in (grouped right (syntax_of right)) ++ tokens) (32 ∷ (operand_text right (printed right) ++ rest))
+          (behind_space (tokens_in (grouped right (syntax_of right)) ++ tokens) (operand_text right (printed right) ++ rest) (second.on tokens rest ends are)))));
     }
 
 -- ---- what is printed of what a text spells spells it
@@ -386,7 +394,7 @@ printed_again region text says =
       small = record { operators = omega (arith, counts.operators_are); groups = omega (arith, counts.opens_are) };
       syntax = syntax_of region;
       written = record { spelled = refl; grouped = syntax_grouped region };
-      meant = syntax_means region readable
+      meant = syntax_means region readable;
     }
 
 readable_proper : (region : Region) → IsReadable region → IsProper region
@@ -407,3 +415,8 @@ spelled_proper region text says =
 pub read_proper : (text : List ℕ) (result : Result Expr ExprFault) → Reads text (seen result) → IfOk result (λ expr. IsProper (region_of expr))
 read_proper text (Ok expr) reads = spelled_proper (region_of expr) text reads
 read_proper text (Err fault) reads = tt
+
+pub all_proper : {E : Type 0} (text : List ℕ) (result : Result (Result Expr ExprFault) E) → IfOk result (λ said. Reads text (seen said)) →
+    IfOk result (λ said. IfOk said (λ expr. IsProper (region_of expr)))
+all_proper text (Ok said) reads = read_proper text said reads
+all_proper text (Err error) reads = tt

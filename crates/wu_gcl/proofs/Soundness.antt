@@ -1,15 +1,13 @@
 -- What reading from the left finds is the value of an expression.
-use Rattle.std.proofs.Common.{◌≡◌, ℕ, ◌<◌, ◌≤◌, List, [], ◌∷◌, ◌++◌, append_assoc, append-nil, Option, Some, None, refl, sym, ◌∙◌, ap, arith, cond, true, false}
-use Rattle.std.specs.Prelude.{nat_le, Bool, ◌⊎◌}
-use Rattle.std.proofs.Common.{inl, inr, subst}
-use Rattle.std.proofs.lemmas.Bool.Decides.{nat_tests}
+use Rattle.std.proofs.Common.{◌≡◌, ℕ, ◌≤◌, List, [], ◌∷◌, ◌++◌, append_assoc, append-nil, Option, Some, None, refl, ◌∙◌, ap, arith}
+use Rattle.std.proofs.Common.{inl, inr}
 use Rattle.std.proofs.lemmas.Bool.{cases_lt}
 use Rattle.wu_gcl.specs.declared.expressions.Op.{Op}
 use Rattle.wu_gcl.specs.declared.expressions.Op.TheVariants.{Containing, ContainedIn, NotContaining, NotContainedIn, OneOf, BothOf, FollowedBy}
 use Rattle.wu_gcl.specs.Lexical.{Atom, Token, Operand, Operator, Open, Close}
 use Rattle.wu_gcl.specs.Grammar.{Syntax, Single, Group, Join, tokens_in, precedence, tightness, IsGrouped}
 use Rattle.wu_gcl.specs.Reading.{Value, value_of, join, meaning}
-use Rattle.wu_gcl.specs.Pending.{Waiting, Paren, Left, State, reduced, operand_wanted, operand_held, closed_at, stepped, ended, ended_at, run, evaluated}
+use Rattle.wu_gcl.specs.Pending.{Waiting, Paren, Left, reduced, operand_held, closed_at, ended_at, run, evaluated}
 use Rattle.wu_gcl.proofs.Completeness.{IsBelow, reduced-below, reduced-join}
 
 -- an operand and the operator behind it, before which these tokens stand
@@ -55,7 +53,7 @@ joined level left op waiting value used up held =
       tight = up;
       meant = cc (opens.meant, held.meant);
       below = held.leads.2;
-      leads = held.leads.3
+      leads = held.leads.3;
     }
 
 -- what is joined is held, and what still waits binds less tightly
@@ -68,8 +66,9 @@ pub reduces : (level : ℕ) (waiting : List Waiting) (value : Value) (used : Lis
 reduces level [] value used held = record { held = held; below = tt }
 reduces level (Paren ∷ waiting) value used held = record { held = held; below = tt }
 reduces level (Left left op ∷ waiting) value used held = elim (cases_lt (precedence op) level) [
-    inl less ↦ rw (reduced-below level (Left left op ∷ waiting) value less) (record { held = held; below = less })
-  | inr up ↦ rw (reduced-join level left op waiting value up) (reduces level waiting (join op left value) used (joined level left op waiting value used up held)) ]
+  | inl less ↦ rw (reduced-below level (Left left op ∷ waiting) value less) (record { held = held; below = less })
+  | inr up ↦ rw (reduced-join level left op waiting value up) (reduces level waiting (join op left value) used (joined level left op waiting value used up held))
+]
 
 -- the tokens are an expression of this value
 pub record Expresses (tokens : List Token) (value : Value) : Type 0 where
@@ -137,7 +136,7 @@ grouped_in waiting value used held =
       tight = omega arith;
       meant = held.meant;
       below = IsBelow_all waiting;
-      leads = held.leads.2
+      leads = held.leads.2;
     }
 
 ran_none : (tokens : List Token) (found : Value) → run tokens None ≡ Some found → ⊥
@@ -165,9 +164,9 @@ expresses (Operand atom ∷ tokens) used waiting (Some held) value leads ran = a
 expresses (Operator op ∷ tokens) used waiting None value leads ran = absurd (ran_none tokens value ran)
 expresses (Operator op ∷ tokens) used waiting (Some operand) value leads ran =
     let left : Reduces (precedence op) (reduced (precedence op) waiting operand).0 (reduced (precedence op) waiting operand).1 used =
-      reduces (precedence op) waiting operand used (Held-less (precedence op) 4 waiting operand used (precedence_below op) leads) in
+    reduces (precedence op) waiting operand used (Held-less (precedence op) 4 waiting operand used (precedence_below op) leads) in
     rw one_more (expresses tokens (used ++ Operator op ∷ []) (Left (reduced (precedence op) waiting operand).1 op ∷ (reduced (precedence op) waiting operand).0) None value
-      (left.held.before, left_of op _ _ used left.held, left.below, left.held.leads) ran)
+    (left.held.before, left_of op _ _ used left.held, left.below, left.held.leads) ran)
 expresses (Open ∷ tokens) used waiting None value leads ran =
     rw one_more (expresses tokens (used ++ Open ∷ []) (Paren ∷ waiting) None value (used, refl, leads) ran)
 expresses (Open ∷ tokens) used waiting (Some held) value leads ran = absurd (ran_none tokens value ran)

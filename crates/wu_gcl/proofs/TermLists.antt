@@ -1,6 +1,6 @@
 -- A list sorted and without repeats has the same terms.
 use Rattle.std.proofs.Common.{◌≡◌, ℕ, List, []}
-use Rattle.std.specs.Prelude.{Contains, nat_eq}
+use Rattle.std.specs.Prelude.{nat_eq}
 use Rattle.std.specs.List.{dedup}
 use Rattle.std.specs.List.Retain.{IsFiltered, DiffersFromLast}
 use Rattle.std.specs.List.Sorted.{IsPermutation, IsSorted}
@@ -20,5 +20,5 @@ are_terms region sorted kept same up filtered =
     rw is (record {
       ascending = IsStrictlySortedBy-dedup nat_list_cmp_total texts_ties sorted up;
       none_else = λ term has. Contains-permutation sorted (terms_in region) term (IsPermutation-sym (terms_in region) sorted same) (Contains-from_dedup (pointwise nat_eq) sorted term has);
-      all = λ term has. Contains-dedup nat_list_eq_equiv pointwise_same sorted term (Contains-permutation (terms_in region) sorted term same has)
+      all = λ term has. Contains-dedup nat_list_eq_equiv pointwise_same sorted term (Contains-permutation (terms_in region) sorted term same has);
     })

@@ -1,12 +1,10 @@
 -- Texts and their tokens, one token after another.
-use Rattle.std.proofs.Common.{◌≡◌, ◌≢◌, ℕ, suc, ◌+◌, ◌<◌, ◌≤◌, Bool, true, false, cond, List, [], ◌∷◌, ◌++◌, length, take, drop, append_assoc, append-nil, length-append, Option, Some, None, refl, sym, ◌∙◌, ap, subst, inl, inr, arith, eqb}
-use Rattle.std.specs.Prelude.{◌⊎◌}
+use Rattle.std.proofs.Common.{◌≡◌, ℕ, suc, ◌+◌, ◌<◌, ◌≤◌, Bool, true, false, cond, List, [], ◌∷◌, ◌++◌, length, take, drop, append_assoc, append-nil, length-append, Option, Some, None, refl, sym, ◌∙◌, ap, arith}
 use Rattle.std.specs.List.{prefix_len, AllByRecursion}
 use Rattle.std.proofs.lemmas.Bool.Decides.{nat_tests}
-use Rattle.std.proofs.lemmas.List.{take_at, drop_at, take-append-drop, length-drop}
-use Rattle.wu_gcl.specs.declared.expressions.Op.{Op}
+use Rattle.std.proofs.lemmas.List.{drop_at, take-append-drop, length-drop}
 use Rattle.wu_gcl.specs.declared.expressions.Op.TheVariants.{Containing, ContainedIn, NotContaining, NotContainedIn, OneOf, BothOf, FollowedBy}
-use Rattle.wu_gcl.specs.Lexical.{Atom, Quoted, Bracketed, FileWord, LineWord, Token, Operand, Operator, Open, Close, token_text, IsToken, EndsBefore, IsBlank, Stands, AreTokens, HasNoTokens}
+use Rattle.wu_gcl.specs.Lexical.{Quoted, Bracketed, FileWord, LineWord, Token, Operand, Operator, Open, Close, token_text, IsBlank, Stands, AreTokens, HasNoTokens}
 use Rattle.wu_gcl.specs.Scanning.{is_blank, after_blanks, front_of}
 use Rattle.wu_gcl.proofs.Fronts.{prefix_len-run, run_passes, stands_at_front, front_stands}
 
@@ -72,10 +70,15 @@ All-blank_append (x ∷ a) b first second = (first.0, All-blank_append a b first
 -- the blanks at the front of a text are no part of its tokens
 pub blanks_on : (tokens : List Token) (text : List ℕ) → AreTokens tokens (after_blanks text) → AreTokens tokens text
 blanks_on [] text are = rw (← take-append-drop (prefix_len is_blank text) text) (All-blank_append _ _ (run_passes is_blank IsBlank passes_blank text) are)
-blanks_on (token ∷ tokens) text (blanks, token_on, rest, same, blank, stands, are) =
-    (take (prefix_len is_blank text) text ++ blanks, token_on, rest,
-      sym (take-append-drop (prefix_len is_blank text) text) ∙ ap (λ (behind : List ℕ). take (prefix_len is_blank text) text ++ behind) same ∙ sym (append_assoc _ blanks token_on),
-      All-blank_append _ blanks (run_passes is_blank IsBlank passes_blank text) blank, stands, are)
+blanks_on (token ∷ tokens) text (blanks, token_on, rest, same, blank, stands, are) = (
+  take (prefix_len is_blank text) text ++ blanks,
+  token_on,
+  rest,
+  sym (take-append-drop (prefix_len is_blank text) text) ∙ ap (λ (behind : List ℕ). take (prefix_len is_blank text) text ++ behind) same ∙ sym (append_assoc _ blanks token_on),
+  All-blank_append _ blanks (run_passes is_blank IsBlank passes_blank text) blank,
+  stands,
+  are,
+)
 
 -- where a token stands behind blanks, it is what stands behind all blanks
 pub behind_blanks : (text blanks token_on rest : List ℕ) (token : Token) → text ≡ blanks ++ token_on → AllByRecursion IsBlank blanks → Stands token rest token_on → after_blanks text ≡ token_on
@@ -126,19 +129,20 @@ same_front text token behind done tokens left first rest more found again same s
     let options : ◌≡◌ {A = Option (Token × List ℕ)} (Some (first, rest)) (Some (token, behind)) = sym again ∙ found in
     let pairs : ◌≡◌ {A = Token × List ℕ} (first, rest) (token, behind) = cc in
     let firsts : first ≡ token = ap (λ (pair : Token × List ℕ). pair.0) pairs in
-    let rests : rest ≡ behind = ap (λ (pair : Token × List ℕ). pair.1) pairs in
-    (more,
+    let rests : rest ≡ behind = ap (λ (pair : Token × List ℕ). pair.1) pairs in (
+      more,
       same ∙ ap (λ (behind : List Token). done ++ behind) (split ∙ ap (λ (t : Token). t ∷ more) firsts) ∙ sym (append_assoc done (token ∷ []) more),
-      blanks_off more behind (rw rests at are))
+      blanks_off more behind (rw rests at are),
+    )
 
 pub lexed_more : (text : List ℕ) (done : List Token) (rest : List ℕ) (token : Token) (behind : List ℕ) → Lexed text done rest → prefix_len is_blank rest ≡ 0 → 0 < length rest →
     front_of rest ≡ Some (token, behind) → Lexed text (done ++ token ∷ []) (after_blanks behind)
 lexed_more text done rest token behind lexed clear some found = record {
   on = λ more are. rw append_assoc (lexed.on (token ∷ more) ([], rest, behind, refl, tt, front_stands rest token behind found, blanks_on more behind are));
   only = λ tokens are.
-    let left : (more : List Token) × (tokens ≡ done ++ more) × AreTokens more rest = lexed.only tokens are in
-    let first : Starts left.0 rest = starts left.0 rest clear some left.2 in
-    same_front rest token behind done tokens left.0 first.token first.rest first.more found first.found left.1 first.split first.are
+      let left : (more : List Token) × (tokens ≡ done ++ more) × AreTokens more rest = lexed.only tokens are in
+      let first : Starts left.0 rest = starts left.0 rest clear some left.2 in
+      same_front rest token behind done tokens left.0 first.token first.rest first.more found first.found left.1 first.split first.are;
 }
 
 pub lexed_end : (text : List ℕ) (done : List Token) → Lexed text done [] → AreTokens done text

@@ -1,15 +1,12 @@
 -- A text is one list of tokens at most, and says one thing.
-use Rattle.std.proofs.Common.{◌≡◌, ℕ, ◌+◌, ◌<◌, ◌≤◌, Bool, true, false, cond, List, [], ◌∷◌, ◌++◌, length, Option, Some, None, Ok, Err, refl, sym, ◌∙◌, ap, inl, inr, arith, lt-ltb, length-append}
-use Rattle.std.specs.Prelude.{◌⊎◌, ◌||◌, nat_lt, if◌then◌else◌}
+use Rattle.std.proofs.Common.{◌≡◌, ℕ, ◌+◌, ◌<◌, true, false, List, [], ◌∷◌, length, Option, Some, None, Ok, Err, refl, sym, ◌∙◌, ap, inl, inr, arith, lt-ltb, length-append}
 use Rattle.std.proofs.lemmas.Bool.Decides.{nat_tests}
-use Rattle.std.specs.List.{AllByRecursion}
-use Rattle.wu_gcl.specs.declared.expressions.ExprFault.{ExprFault}
 use Rattle.wu_gcl.specs.declared.expressions.ExprFault.TheVariants.{NotAnExpression, TooLarge, NoWord, BadWindow}
-use Rattle.wu_gcl.specs.Lexical.{Token, token_text, IsBlank, Stands, AreTokens, HasNoTokens}
-use Rattle.wu_gcl.specs.Grammar.{Syntax, tokens_in, IsGrouped, operator_count, open_count}
-use Rattle.wu_gcl.specs.Reading.{Value, meaning, IsSmall, IsLarge, IsWritten, Says, Reads}
-use Rattle.wu_gcl.specs.Scanning.{after_blanks, front_of}
-use Rattle.wu_gcl.specs.Pending.{evaluated}
+use Rattle.wu_gcl.specs.Lexical.{Token, token_text, Stands, AreTokens, HasNoTokens}
+use Rattle.wu_gcl.specs.Grammar.{Syntax, operator_count}
+use Rattle.wu_gcl.specs.Reading.{Value, IsSmall, IsLarge, IsWritten, Says, Reads}
+use Rattle.wu_gcl.specs.Scanning.{front_of}
+use Rattle.wu_gcl.specs.Pending.{evaluated, is_large, found, outcome}
 use Rattle.wu_gcl.proofs.Fronts.{stands_at_front}
 use Rattle.wu_gcl.proofs.Texts.{all_blank, behind_blanks, token_length}
 use Rattle.wu_gcl.proofs.Completeness.{evaluated_in}
@@ -32,7 +29,7 @@ one_list (token ∷ tokens) [] text (blanks, token_on, rest, same, blank, stands
 one_list (token ∷ tokens) (other ∷ others) text (blanks, token_on, rest, same, blank, stands, are) (blanks', token_on', rest', same', blank', stands', are') =
     let here : token_on ≡ token_on' = sym (behind_blanks text blanks token_on rest token same blank stands) ∙ behind_blanks text blanks' token_on' rest' other same' blank' stands' in
     let fronts : ◌≡◌ {A = Option (Token × List ℕ)} (Some (token, rest)) (Some (other, rest')) =
-      sym (stands_at_front token rest token_on stands) ∙ ap front_of here ∙ stands_at_front other rest' token_on' stands' in
+    sym (stands_at_front token rest token_on stands) ∙ ap front_of here ∙ stands_at_front other rest' token_on' stands' in
     let pairs : ◌≡◌ {A = Token × List ℕ} (token, rest) (other, rest') = cc in
     let heads : token ≡ other = ap (λ (pair : Token × List ℕ). pair.0) pairs in
     let rests : rest ≡ rest' = ap (λ (pair : Token × List ℕ). pair.1) pairs in
@@ -50,32 +47,28 @@ one_lexing text None (Some tokens) a b = absurd (a tokens b)
 one_lexing text (Some tokens) None a b = absurd (b tokens a)
 one_lexing text (Some tokens) (Some others) a b = ap (λ (list : List Token). Some list) (one_list tokens others text a b)
 
-abbrev found : Option Value → Value
-found None = Err NotAnExpression
-found (Some value) = value
+-- what a text says that has these tokens, or none
+abbrev outcome_of : Option (List Token) → Value
+outcome_of None = Err NotAnExpression
+outcome_of (Some tokens) = outcome tokens
 
--- what tokens say
-abbrev outcome : Option (List Token) → Value
-outcome None = Err NotAnExpression
-outcome (Some tokens) = cond (nat_lt 63 (operator_count tokens) || nat_lt 64 (open_count tokens)) (Err TooLarge) (found (evaluated tokens))
-
-small_test : (tokens : List Token) → IsSmall tokens → (nat_lt 63 (operator_count tokens) || nat_lt 64 (open_count tokens)) ≡ false
+small_test : (tokens : List Token) → IsSmall tokens → is_large tokens ≡ false
 small_test tokens small = grind (arith, nat_tests, small.operators, small.groups)
 
-large_test : (tokens : List Token) → IsLarge tokens → (nat_lt 63 (operator_count tokens) || nat_lt 64 (open_count tokens)) ≡ true
+large_test : (tokens : List Token) → IsLarge tokens → is_large tokens ≡ true
 large_test tokens (inl many) = rw (lt-ltb 63 (operator_count tokens) many) refl
 large_test tokens (inr many) = grind (arith, nat_tests)
 
 record Comes (text : List ℕ) (value : Value) : Type 0 where
   lexing : Option (List Token)
   lexed : IsLexed text lexing
-  comes : value ≡ outcome lexing
+  comes : value ≡ outcome_of lexing
 
 said : (text : List ℕ) (value : Value) → Says text value → Comes text value
 said text value says = record {
   lexing = Some says.tokens;
   lexed = says.lexed;
-  comes = rw (small_test says.tokens says.small) (sym says.meant ∙ sym (ap found (ap evaluated says.written.spelled ∙ evaluated_in says.syntax says.written.grouped)))
+  comes = rw (small_test says.tokens says.small) (sym says.meant ∙ sym (ap found (ap evaluated says.written.spelled ∙ evaluated_in says.syntax says.written.grouped)));
 }
 
 unwritten : (tokens : List Token) (value : Option Value) → evaluated tokens ≡ value → ((syntax : Syntax) → IsWritten syntax tokens → ⊥) → found value ≡ Err NotAnExpression
@@ -100,4 +93,4 @@ pub one_reading : (text : List ℕ) (first second : Value) → Reads text first 
 one_reading text first second a b =
     let from : Comes text first = comes_from text first a in
     let into : Comes text second = comes_from text second b in
-    from.comes ∙ ap outcome (one_lexing text from.lexing into.lexing from.lexed into.lexed) ∙ sym into.comes
+    from.comes ∙ ap outcome_of (one_lexing text from.lexing into.lexing from.lexed into.lexed) ∙ sym into.comes

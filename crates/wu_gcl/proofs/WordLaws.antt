@@ -1,9 +1,8 @@
 -- Words joined by spaces are those words again.
-use Rattle.std.proofs.Common.{◌≡◌, ◌≢◌, ℕ, zero, suc, ◌+◌, ◌-◌, ◌<◌, ◌≤◌, Bool, true, false, cond, List, [], ◌∷◌, ◌++◌, length, take, drop, refl, sym, ◌∙◌, ap, Option, Some, None, length-take, ltb-true, eqb-true, inl, inr, arith, eqb, map}
-use Rattle.std.specs.Prelude.{◌⊎◌, ◌&&◌, ◌||◌, not, nat_le, nat_lt, filter, All}
+use Rattle.std.proofs.Common.{◌≡◌, ◌≢◌, ℕ, zero, suc, ◌+◌, ◌<◌, ◌≤◌, Bool, true, false, cond, List, [], ◌∷◌, ◌++◌, length, take, refl, ◌∙◌, ap, None, length-take, ltb-true, eqb-true, arith, eqb, map}
+use Rattle.std.specs.Prelude.{not, nat_lt, filter}
 use Rattle.std.specs.List.{AllByRecursion, slice_split, onto_first, join_with_byte}
-use Rattle.std.specs.Char.{is_ascii_alphanumeric, to_ascii_lowercase}
-use Rattle.std.specs.Str.{str_to_ascii_lowercase}
+use Rattle.std.specs.Char.{to_ascii_lowercase}
 use Rattle.std.proofs.lemmas.Bool.Decides.{nat_tests}
 use Rattle.std.proofs.lemmas.List.{take_all, length-map}
 use Rattle.std.proofs.lemmas.List.Elements.{All-from_recursion}
@@ -63,7 +62,7 @@ unfolding word_of
 word_is run is = record {
   some = rw (length-take, length-map) (omega (arith, is.some));
   within = rw (length-take, length-map) (omega arith);
-  bytes = All-take IsWordByte 64 (map to_ascii_lowercase run) (lower_bytes run is.bytes)
+  bytes = All-take IsWordByte 64 (map to_ascii_lowercase run) (lower_bytes run is.bytes);
 }
 
 words_are : (runs : List (List ℕ)) → AllByRecursion IsRun runs → AllByRecursion IsWord (map word_of runs)

@@ -1,8 +1,9 @@
 -- Reading tokens from the left, with a stack of what is open.
-use Rattle.std.specs.Prelude.{ℕ, ◌≤◌, nat_le, List, [], ◌∷◌, Option, Some, None, if◌then◌else◌}
+use Rattle.std.specs.Prelude.{ℕ, Bool, ◌||◌, nat_le, nat_lt, List, [], ◌∷◌, Option, Some, None, Err, if◌then◌else◌}
 use Rattle.wu_gcl.specs.declared.expressions.Op.{Op}
 use Rattle.wu_gcl.specs.Lexical.{Token, Operand, Operator, Open, Close}
-use Rattle.wu_gcl.specs.Grammar.{precedence}
+use Rattle.wu_gcl.specs.declared.expressions.ExprFault.TheVariants.{NotAnExpression, TooLarge}
+use Rattle.wu_gcl.specs.Grammar.{precedence, operator_count, open_count}
 use Rattle.wu_gcl.specs.Reading.{Value, value_of, join}
 
 -- what waits for a closing parenthesis, or for its right operand
@@ -64,3 +65,15 @@ run (token ∷ tokens) (Some state) = run tokens (stepped token state.waiting st
 
 abbrev pub evaluated : List Token → Option Value
 evaluated tokens = run tokens (operand_wanted [])
+
+-- more than 63 operators or more than 64 opening parentheses
+abbrev pub is_large : List Token → Bool
+is_large tokens = nat_lt 63 (operator_count tokens) || nat_lt 64 (open_count tokens)
+
+abbrev pub found : Option Value → Value
+found None = Err NotAnExpression
+found (Some value) = value
+
+-- what tokens say: their limits come first, then the grammar, then the operands
+abbrev pub outcome : List Token → Value
+outcome tokens = if is_large tokens then Err TooLarge else found (evaluated tokens)

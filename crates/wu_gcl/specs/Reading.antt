@@ -1,5 +1,5 @@
 -- What bytes say as a region expression.
-use Rattle.std.specs.Prelude.{◌≡◌, ◌⊎◌, ℕ, ◌+◌, ◌-◌, ◌*◌, ◌<◌, ◌≤◌, ◌==◌, ◌||◌, Bool, false, nat_lt, List, [], ◌∷◌, Option, Some, None, Result, Ok, Err, codes, if◌then◌else◌}
+use Rattle.std.specs.Prelude.{◌≡◌, ◌⊎◌, ℕ, ◌+◌, ◌-◌, ◌*◌, ◌<◌, ◌≤◌, ◌==◌, ◌||◌, Bool, nat_lt, List, [], ◌∷◌, Option, Some, None, Result, Ok, Err, codes, if◌then◌else◌}
 use Rattle.std.specs.Cmp.Lexicographic.{pointwise}
 use Rattle.std.specs.Prelude.{nat_eq}
 use Rattle.wu_gcl.specs.declared.expressions.Tag.{Tag}
@@ -9,7 +9,7 @@ use Rattle.wu_gcl.specs.declared.expressions.Expr.{Expr}
 use Rattle.wu_gcl.specs.declared.expressions.ExprFault.{ExprFault}
 use Rattle.wu_gcl.specs.declared.expressions.ExprFault.TheVariants.{NotAnExpression, TooLarge, NoWord, BadWindow}
 use Rattle.wu_token.specs.Words.{words_of}
-use Rattle.wu_gcl.specs.Lexical.{Atom, Quoted, Bracketed, FileWord, LineWord, Token, AreTokens}
+use Rattle.wu_gcl.specs.Lexical.{Atom, Quoted, Bracketed, FileWord, LineWord, Token, AreTokens, HasNoTokens}
 use Rattle.wu_gcl.specs.Grammar.{Syntax, Single, Group, Join, tokens_in, IsGrouped, operator_count, open_count}
 use Rattle.wu_gcl.specs.Regions.{Region, Phrase, Mark, WholeFile, WholeLine, Window, Both, region_of}
 
@@ -104,7 +104,7 @@ pub record Says (text : List ℕ) (value : Value) : Type 0 where
 abbrev pub Reads : List ℕ → Value → Type 0
 Reads text (Ok region) = Says text (Ok region)
 Reads text (Err NotAnExpression) =
-    ((tokens : List Token) → AreTokens tokens text → ⊥)
+    HasNoTokens text
     ⊎ ((tokens : List Token) × AreTokens tokens text × IsSmall tokens × ((syntax : Syntax) → IsWritten syntax tokens → ⊥))
 Reads text (Err TooLarge) = (tokens : List Token) × AreTokens tokens text × IsLarge tokens
 Reads text (Err NoWord) = Says text (Err NoWord)

@@ -3,9 +3,8 @@ use Rattle.std.specs.Prelude.{ℕ, ◌+◌, ◌==◌, ◌||◌, not, Bool, nat_l
 use Rattle.std.specs.Char.{is_ascii_digit, is_ascii_alphabetic}
 use Rattle.std.specs.List.{prefix_len}
 use Rattle.std.specs.Cmp.Lexicographic.{pointwise}
-use Rattle.wu_gcl.specs.declared.expressions.Op.{Op}
 use Rattle.wu_gcl.specs.declared.expressions.Op.TheVariants.{Containing, ContainedIn, NotContaining, NotContainedIn, OneOf, BothOf, FollowedBy}
-use Rattle.wu_gcl.specs.Lexical.{Atom, Quoted, Bracketed, FileWord, LineWord, Token, Operand, Operator, Open, Close}
+use Rattle.wu_gcl.specs.Lexical.{Quoted, Bracketed, FileWord, LineWord, Token, Operand, Operator, Open, Close}
 use Rattle.wu_gcl.specs.declared.lexing.Token.{Token as WrittenToken}
 use Rattle.wu_gcl.specs.Views.{token_of}
 use Rattle.std.specs.Borrow.{Bor}
@@ -64,20 +63,25 @@ abbrev pub dots_at : List ℕ → Front
 dots_at [] = None
 dots_at (b ∷ rest) = if b == 46 then front (Operator FollowedBy) rest else None
 
-abbrev pub front_of : List ℕ → Front
-front_of [] = None
-front_of (b ∷ rest) =
-    if b == 34 then quoted_at rest
-    else if b == 91 then bracketed_at rest
-    else if b == 40 then front Open rest
+-- a token of one byte, or a word
+abbrev pub mark_at : ℕ → List ℕ → Front
+mark_at b rest =
+    if b == 40 then front Open rest
     else if b == 41 then front Close rest
     else if b == 62 then front (Operator Containing) rest
     else if b == 60 then front (Operator ContainedIn) rest
     else if b == 43 then front (Operator OneOf) rest
     else if b == 94 then front (Operator BothOf) rest
+    else word_at (b ∷ rest)
+
+abbrev pub front_of : List ℕ → Front
+front_of [] = None
+front_of (b ∷ rest) =
+    if b == 34 then quoted_at rest
+    else if b == 91 then bracketed_at rest
     else if b == 47 then negation_at rest
     else if b == 46 then dots_at rest
-    else word_at (b ∷ rest)
+    else mark_at b rest
 
 -- what was found, without where it lies in memory
 abbrev pub seen_front : Option (WrittenToken × Bor (List ℕ)) → Front

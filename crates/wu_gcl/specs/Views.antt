@@ -1,5 +1,4 @@
 -- Tokens without where they lie in memory.
-use Rattle.std.specs.Prelude.{◌≡◌, ℕ, List, Option, Some, None}
 use Rattle.wu_gcl.specs.declared.lexing.Atom.{Atom as WrittenAtom}
 use Rattle.wu_gcl.specs.declared.lexing.Atom.TheVariants as atoms
 use Rattle.wu_gcl.specs.declared.lexing.Token.{Token as WrittenToken}

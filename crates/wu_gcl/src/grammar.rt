@@ -62,11 +62,7 @@ fn advanced(
 }
 
 /// After a token where an operand has to follow.
-fn wanted(
-    alloc: Global,
-    waiting: &mut Vec<Waiting>,
-    token: &Token<'_>,
-) -> Result<State, NoMemory>
+fn wanted(alloc: Global, waiting: &mut Vec<Waiting>, token: &Token<'_>) -> Result<State, NoMemory>
     ensures { IfOk result (λ s. state_of (stack_of waiting.new.items) s ≡ stepped (token_of token.now) (stack_of waiting.old.items) None) }
 {
     match token {

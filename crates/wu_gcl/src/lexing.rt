@@ -59,7 +59,9 @@ fn blanks_len(text: &[u8]) -> usize
     ensures value { result ≡ prefix_len is_blank text.now }
     ensures within { result ≤ length text.now }
 {
-    text.iter().take_while(|b| **b == b' ' || **b == b'\t').count()
+    text.iter()
+        .take_while(|b| **b == b' ' || **b == b'\t')
+        .count()
 }
 
 fn unquoted_len(text: &[u8]) -> usize
@@ -109,10 +111,7 @@ fn quoted_at(text: &[u8]) -> Option<(Token<'_>, &[u8])>
 {
     let end = unquoted_len(text);
     if end < text.len() {
-        Some((
-            Token::Operand(Atom::Quoted(&text[..end])),
-            &text[end + 1..],
-        ))
+        Some((Token::Operand(Atom::Quoted(&text[..end])), &text[end + 1..]))
     } else {
         None
     }

@@ -1,5 +1,19 @@
 //! Region expressions, after the generalized concordance lists of Clarke, Cormack and Burkowski:
 //! what they are, how they are written, and the terms that they name.
+//!
+//! The grammar, in which each operator is left associative:
+//!
+//! ```text
+//! expression = sum { (">" | "<" | "/>" | "/<") sum }
+//! sum        = both { "+" both }
+//! both       = sequence { "^" sequence }
+//! sequence   = operand { ".." operand }
+//! operand    = quoted | "[" digits "]" | "file" | "line" | "(" expression ")"
+//! ```
+//!
+//! A quoted text is `"`, bytes other than `"`, and `"`. `file` and `line` are words only where all the
+//! letters that stand there are. Spaces and TABs may stand between tokens. A quoted text that is
+//! exactly `<file>`, `</file>`, `<line>` or `</line>` is that tag, and any other the phrase of its words.
 #![tactic(auto)]
 
 mod expressions;

@@ -5,7 +5,6 @@ ghost use Rattle.wu_gcl.specs.Views.{atom_of};
 
 use crate::expressions::{Expr, ExprFault, Tag};
 use crate::lexing::Atom;
-
 use std::alloc::Global;
 use wu_base::{NoMemory, Sequence};
 use wu_token::words;

@@ -1,7 +1,8 @@
 //! Reading a region expression.
-ghost use Rattle.std.specs.Prelude.{List, ℕ, ◌≡◌, ◌<◌, ◌↔◌, false, IfOk, IsTrue, map};
+ghost use Rattle.std.specs.Prelude.{List, ℕ, ◌≡◌, IfOk, map};
 ghost use Rattle.wu_gcl.specs.Grammar.{operator_count, open_count};
-ghost use Rattle.wu_gcl.specs.Reading.{Reads, Value, IsLarge, IsSmall, seen};
+ghost use Rattle.wu_gcl.specs.Reading.{Reads, Value, seen};
+ghost use Rattle.wu_gcl.specs.Pending.{is_large, outcome};
 ghost use Rattle.wu_gcl.specs.Regions.{IsProper, region_of};
 ghost use Rattle.wu_gcl.specs.Views.{token_of};
 
@@ -20,13 +21,20 @@ pub fn parse(alloc: Global, text: &[u8]) -> Result<Result<Expr, ExprFault>, NoMe
     // Each phrase has a word, and each window an address.
     ensures proper { IfOk result (λ r. IfOk r (λ expr. IsProper (region_of expr))) }
 {
-    let Some(tokens) = tokens(alloc, text)? else {
-        return Ok(Err(ExprFault::NotAnExpression));
-    };
-    if is_large(&tokens) {
+    match tokens(alloc, text)? {
+        Some(tokens) => said(alloc, &tokens),
+        None => Ok(Err(ExprFault::NotAnExpression)),
+    }
+}
+
+/// What the tokens say: their limits come first, then the grammar, then the operands.
+fn said(alloc: Global, tokens: &[Token<'_>]) -> Result<Result<Expr, ExprFault>, NoMemory>
+    ensures { IfOk result (λ r. seen r ≡ outcome (map token_of tokens.now)) }
+{
+    if is_large(tokens) {
         return Ok(Err(ExprFault::TooLarge));
     }
-    match evaluated(alloc, &tokens)? {
+    match evaluated(alloc, tokens)? {
         Some(operand) => Ok(operand),
         None => Ok(Err(ExprFault::NotAnExpression)),
     }
@@ -34,8 +42,7 @@ pub fn parse(alloc: Global, text: &[u8]) -> Result<Result<Expr, ExprFault>, NoMe
 
 /// Whether there are too many operators or opening parentheses.
 fn is_large(tokens: &[Token<'_>]) -> bool
-    ensures large { IsTrue result → IsLarge (map token_of tokens.now) }
-    ensures small { result ≡ false → IsSmall (map token_of tokens.now) }
+    ensures { result ≡ is_large (map token_of tokens.now) }
 {
     operator_count(tokens) > OPERATORS_MAX || open_count(tokens) > PARENS_MAX
 }
@@ -69,5 +76,4 @@ fn open_count(tokens: &[Token<'_>]) -> usize
 /// A text says one thing: it spells one expression at most, or has one fault.
 pub fn one_reading()
     ensures { (text : List ℕ) (first second : Value) → Reads text first → Reads text second → first ≡ second }
-{
-}
+{}

@@ -30,14 +30,19 @@ fn repeated(alloc: Global, piece: &[u8], count: u32, end: &[u8]) -> Result<Vec<u
 }
 
 #[test]
-fn expressions_are_printed_with_parentheses_round_each_operand(rt: HostRuntime) -> Result<(), Fail> {
+fn expressions_are_printed_with_parentheses_round_each_operand(
+    rt: HostRuntime,
+) -> Result<(), Fail> {
     let rows: [(&[u8], &[u8]); 9] = [
         (b"\"a\" + \"b\" ^ \"c\"", b"\"a\" + (\"b\" ^ \"c\")"),
         (b"\"A-b\" > line < file", b"(\"a b\" > line) < file"),
         (b"\"a\"..\"b\"^\t[7]", b"(\"a\" .. \"b\") ^ [7]"),
         (b" ( ( file ) ) ", b"file"),
         (b"\"<LINE>\"", b"\"line\""),
-        (b"\"</line>\" /< (\"<file>\" /> \"x\")", b"\"</line>\" /< (\"<file>\" /> \"x\")"),
+        (
+            b"\"</line>\" /< (\"<file>\" /> \"x\")",
+            b"\"</line>\" /< (\"<file>\" /> \"x\")",
+        ),
         (b"[65535] + [1] + line", b"([65535] + [1]) + line"),
         (b"\"a\" .. \"b\" .. \"c\"", b"(\"a\" .. \"b\") .. \"c\""),
         (b"\"one\nline\"", b"\"one line\""),

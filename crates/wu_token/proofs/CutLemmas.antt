@@ -1,10 +1,10 @@
 -- The first line of a text and the first run of a line, found by the position of the byte that ends it.
-use Rattle.std.proofs.Common.{◌≡◌, ℕ, ◌+◌, ◌-◌, ◌<◌, ◌≤◌, ◌⊎◌, inl, inr, min, Bool, true, false, not, cond, nat_lt, List, [], ◌∷◌, ◌++◌, length, take, drop, filter, get_or, Option, Some, None, unwrap_or, refl, sym, ◌∙◌, ap, add-zero, suc, arith, rules}
-use Rattle.std.specs.List.{slice_split, onto_first, position, position_or_len, prefix_len, All}
+use Rattle.std.proofs.Common.{◌≡◌, ℕ, ◌+◌, ◌<◌, ◌≤◌, inl, inr, min, Bool, true, false, not, cond, nat_lt, List, [], ◌∷◌, length, take, drop, filter, get_or, Some, None, unwrap_or, refl, sym, ◌∙◌, ap, add-zero, suc, arith}
+use Rattle.std.specs.List.{slice_split, onto_first, position, position_or_len}
 use Rattle.std.proofs.lemmas.Bool.{cases_lt, cond-true, cond-false, cases_Bool}
 use Rattle.std.proofs.lemmas.Bool.Decides.{nat_tests}
 use Rattle.std.proofs.lemmas.List.{drop_more, drop_all, take_all, nil_from_length, length-take-le, length-drop, drop-drop}
-use Rattle.std.proofs.lemmas.List.Splits.{slice_split-cons_yes, slice_split-cons_no, slice_split_none, slice_split_first}
+use Rattle.std.proofs.lemmas.List.Splits.{slice_split-cons_yes, slice_split_none, slice_split_first}
 use Rattle.std.proofs.lemmas.List.Sums.{prefix_len-le-length, fails_before_first, passes_at_first, prefix_len-drop_yes}
 use Rattle.std.proofs.lemmas.List.Elements.{All-from_get_or}
 use Rattle.wu_token.specs.Words.{has_bytes, is_word_byte, is_separator}
@@ -67,16 +67,16 @@ placed-lines-first start text n m some at_n at_m =
     let i = position_or_len is_line_feed text in
     let same : n ≡ i = at_n ∙ option_at-unwrap i (length text) (first-le is_line_feed text) in
     elim (cases_lt n (length text)) [
-    | inl before ↦
-        let one : m ≡ 1 = omega (arith, length-drop n text) in
-        let rest : drop m (drop n text) ≡ drop (n + 1) text = rw one (drop-drop 1 n text) in
-        let cut : lines_of text ≡ take n text ∷ lines_of (drop (n + 1) text) = rw same (lines_of-more text (omega arith)) in
-        rw (rest, one, cut, length-take-le n text (omega arith))
-    | inr behind ↦
-        let last : lines_of text ≡ text ∷ [] = lines_of-last text some (omega arith) in
-        let whole : take n text ≡ text = take_all n text behind in
-        let rest : length (drop m (drop n text)) ≡ 0 = omega (arith, length-drop m (drop n text), length-drop n text) in
-        rw (last, whole, lines_of-none (drop m (drop n text)) rest)
+      | inl before ↦
+          let one : m ≡ 1 = omega (arith, length-drop n text) in
+          let rest : drop m (drop n text) ≡ drop (n + 1) text = rw one (drop-drop 1 n text) in
+          let cut : lines_of text ≡ take n text ∷ lines_of (drop (n + 1) text) = rw same (lines_of-more text (omega arith)) in
+          rw (rest, one, cut, length-take-le n text (omega arith))
+      | inr behind ↦
+          let last : lines_of text ≡ text ∷ [] = lines_of-last text some (omega arith) in
+          let whole : take n text ≡ text = take_all n text behind in
+          let rest : length (drop m (drop n text)) ≡ 0 = omega (arith, length-drop m (drop n text), length-drop n text) in
+          rw (last, whole, lines_of-none (drop m (drop n text)) rest)
     ]
 
 -- ---- runs
@@ -98,13 +98,13 @@ runs-skip_all start (byte ∷ bytes) =
     let n = position_or_len is_word_byte bytes in
     let more = runs-skip_all (start + 1) bytes in
     elim (cases_Bool (is_separator byte)) [
-    | inl yes' ↦
-        let step : position_or_len is_word_byte (byte ∷ bytes) ≡ suc n = cond-true (is_separator byte) _ _ yes' ∙ omega arith in
-        let place : start + suc n ≡ start + 1 + n = omega arith in
-        rw (step, place) (runs-skip start byte bytes yes' ∙ more)
-    | inr no' ↦
-        let stop : position_or_len is_word_byte (byte ∷ bytes) ≡ 0 = cond-false (is_separator byte) _ _ no' in
-        rw (stop, add-zero start)
+      | inl yes' ↦
+          let step : position_or_len is_word_byte (byte ∷ bytes) ≡ suc n = cond-true (is_separator byte) _ _ yes' ∙ omega arith in
+          let place : start + suc n ≡ start + 1 + n = omega arith in
+          rw (step, place) (runs-skip start byte bytes yes' ∙ more)
+      | inr no' ↦
+          let stop : position_or_len is_word_byte (byte ∷ bytes) ≡ 0 = cond-false (is_separator byte) _ _ no' in
+          rw (stop, add-zero start)
     ]
 
 runs-last : (start : ℕ) (bytes : List ℕ) → 0 < length bytes → length bytes ≤ position_or_len is_separator bytes → runs start bytes ≡ record { start = start; bytes = bytes } ∷ []
@@ -124,13 +124,13 @@ runs-more start bytes n e some h =
 runs-first : (start : ℕ) (bytes : List ℕ) (n : ℕ) → n ≡ position_or_len is_separator bytes → 0 < n → runs start bytes ≡ record { start = start; bytes = take n bytes } ∷ runs (start + n) (drop n bytes)
 runs-first start bytes n e some =
     elim (cases_lt n (length bytes)) [
-    | inl before ↦
-        let stop : is_separator (get_or bytes n 0) ≡ true = rw e (passes_at_first is_separator bytes 0 (omega arith)) in
-        let rest : runs (start + n) (drop n bytes) ≡ runs (start + n + 1) (drop (n + 1) bytes) = ap (runs (start + n)) (drop_more bytes n 0 before) ∙ runs-skip (start + n) (get_or bytes n 0) (drop (n + 1) bytes) stop in
-        runs-more start bytes n e some before ∙ ap (λ more. record { start = start; bytes = take n bytes } ∷ more) (sym rest)
-    | inr behind ↦
-        let nonempty : 0 < length bytes = omega (arith, first-le is_separator bytes) in
-        rw (take_all n bytes behind, drop_all n bytes behind, runs-nil (start + n)) (runs-last start bytes nonempty (omega arith))
+      | inl before ↦
+          let stop : is_separator (get_or bytes n 0) ≡ true = rw e (passes_at_first is_separator bytes 0 (omega arith)) in
+          let rest : runs (start + n) (drop n bytes) ≡ runs (start + n + 1) (drop (n + 1) bytes) = ap (runs (start + n)) (drop_more bytes n 0 before) ∙ runs-skip (start + n) (get_or bytes n 0) (drop (n + 1) bytes) stop in
+          runs-more start bytes n e some before ∙ ap (λ more. record { start = start; bytes = take n bytes } ∷ more) (sym rest)
+      | inr behind ↦
+          let nonempty : 0 < length bytes = omega (arith, first-le is_separator bytes) in
+          rw (take_all n bytes behind, drop_all n bytes behind, runs-nil (start + n)) (runs-last start bytes nonempty (omega arith))
     ]
 
 word_first : (bytes : List ℕ) (k : ℕ) → k ≡ position_or_len is_word_byte bytes → k < length bytes → 0 < position_or_len is_separator (drop k bytes)

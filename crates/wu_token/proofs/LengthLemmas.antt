@@ -1,8 +1,8 @@
 -- How many tokens a text has at most, and how long they are.
-use Rattle.std.proofs.Common.{◌≡◌, ℕ, ◌+◌, ◌*◌, ◌<◌, ◌≤◌, Bool, true, false, not, cond, min, List, [], ◌∷◌, ◌++◌, length, filter, map, take, refl, sym, ◌∙◌, ap, subst, inl, inr, arith, rules}
+use Rattle.std.proofs.Common.{◌≡◌, ℕ, ◌+◌, ◌*◌, ◌<◌, ◌≤◌, Bool, true, false, cond, List, [], ◌∷◌, length, filter, map, refl, sym, ◌∙◌, ap, subst, inl, inr, arith}
 use Rattle.std.specs.List.{slice_split, onto_first, flat_map, sum_by, All}
 use Rattle.std.specs.Char.{to_ascii_lowercase}
-use Rattle.std.proofs.lemmas.Bool.{cases_lt, cases_Bool, cond-true, cond-false}
+use Rattle.std.proofs.lemmas.Bool.{cases_Bool, cond-true, cond-false}
 use Rattle.std.proofs.lemmas.Bool.Decides.{nat_tests}
 use Rattle.std.proofs.lemmas.List.{length-map, length-append, length-take}
 use Rattle.std.proofs.lemmas.List.Elements.{All-nil, All-cons, All-append, All-map, All-weaker}
@@ -65,13 +65,13 @@ length-lines_of_pieces : (pieces : List (List ℕ)) → 0 < length pieces → le
 length-lines_of_pieces [] h = absurd (omega arith)
 length-lines_of_pieces (last ∷ []) h =
     elim (cases_Bool (has_bytes last)) [
-    | inl some ↦
-        let bytes : 0 < length last = grind (arith, nat_tests) in
-        let lines : lines_of_pieces (last ∷ []) ≡ last ∷ [] = cond-true (has_bytes last) (last ∷ []) [] some in
-        rw lines (omega (arith, length-append (line_tokens_of last) [], length-line_tokens_of last, taken-cons last []))
-    | inr none ↦
-        let lines : lines_of_pieces (last ∷ []) ≡ [] = cond-false (has_bytes last) (last ∷ []) [] none in
-        rw lines (omega (arith, taken-cons last []))
+      | inl some ↦
+          let bytes : 0 < length last = grind (arith, nat_tests) in
+          let lines : lines_of_pieces (last ∷ []) ≡ last ∷ [] = cond-true (has_bytes last) (last ∷ []) [] some in
+          rw lines (omega (arith, length-append (line_tokens_of last) [], length-line_tokens_of last, taken-cons last []))
+      | inr none ↦
+          let lines : lines_of_pieces (last ∷ []) ≡ [] = cond-false (has_bytes last) (last ∷ []) [] none in
+          rw lines (omega (arith, taken-cons last []))
     ]
 length-lines_of_pieces (line ∷ next ∷ more) h =
     let rest = length-lines_of_pieces (next ∷ more) (omega arith) in
@@ -95,8 +95,8 @@ All-filter_passes p [] = All-nil (λ x. p x ≡ true)
 All-filter_passes {X} p (x ∷ xs) =
     let P : X → Type 0 = λ x. p x ≡ true in
     elim (cases_Bool (p x)) [
-    | inl yes' ↦ subst (All P) (sym (cond-true (p x) (x ∷ filter p xs) (filter p xs) yes')) (All-cons P x (filter p xs) yes' (All-filter_passes p xs))
-    | inr no' ↦ subst (All P) (sym (cond-false (p x) (x ∷ filter p xs) (filter p xs) no')) (All-filter_passes p xs)
+      | inl yes' ↦ subst (All P) (sym (cond-true (p x) (x ∷ filter p xs) (filter p xs) yes')) (All-cons P x (filter p xs) yes' (All-filter_passes p xs))
+      | inr no' ↦ subst (All P) (sym (cond-false (p x) (x ∷ filter p xs) (filter p xs) no')) (All-filter_passes p xs)
     ]
 
 IsTerm-word_of : (run : List ℕ) → has_bytes run ≡ true → IsTerm (word_of run)

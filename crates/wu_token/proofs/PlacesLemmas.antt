@@ -1,5 +1,5 @@
 -- The terms of the tokens with their places are the tokens of the text.
-use Rattle.std.proofs.Common.{◌≡◌, ℕ, ◌+◌, Bool, true, false, cond, List, [], ◌∷◌, ◌++◌, length, filter, map, refl, sym, ◌∙◌, ap, ap₂, arith}
+use Rattle.std.proofs.Common.{◌≡◌, ℕ, ◌+◌, true, false, cond, List, [], ◌∷◌, ◌++◌, length, filter, map, refl, ◌∙◌, ap, ap₂}
 use Rattle.std.specs.List.{slice_split, flat_map}
 use Rattle.std.proofs.lemmas.List.{map-append}
 use Rattle.wu_token.specs.declared.spans.Token.{Token}

@@ -11,8 +11,8 @@ pub word_of-counted : (run : List ℕ) (n : ℕ) → n ≡ min (length run) WORD
 unfolding word_of
 word_of-counted run n e =
     let cut : take n run ≡ take WORD_MAX run =
-        elim (cases_lt WORD_MAX (length run)) [
-        | inl long ↦ let whole : n ≡ WORD_MAX = omega arith in ap (λ k. take k run) whole
-        | inr short ↦ take_all n run (omega arith) ∙ sym (take_all WORD_MAX run short)
-        ] in
+    elim (cases_lt WORD_MAX (length run)) [
+      | inl long ↦ let whole : n ≡ WORD_MAX = omega arith in ap (λ k. take k run) whole
+      | inr short ↦ take_all n run (omega arith) ∙ sym (take_all WORD_MAX run short)
+    ] in
     ap (map to_ascii_lowercase) cut ∙ sym (take-map to_ascii_lowercase WORD_MAX run)

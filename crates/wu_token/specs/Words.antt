@@ -1,4 +1,5 @@
--- The words of a byte string: its maximal runs of ASCII letters, ASCII digits and bytes of 0x80 and above, each in lower case and cut to WORD_MAX bytes.
+-- The words of a byte string: its maximal runs of ASCII letters, ASCII digits and bytes of 0x80 and above, each cut to its first WORD_MAX bytes, with ASCII letters in lower case.
+-- The choice of these bytes is this project's own; a byte of a UTF-8 sequence beyond ASCII is a word byte, and no byte is read as a character.
 use Rattle.std.specs.Prelude.{ℕ, ◌≤◌, Bool, List, ◌||◌, ◌==◌, nat_le, not, filter, map, take, length}
 use Rattle.std.specs.List.{slice_split}
 use Rattle.std.specs.Char.{is_ascii_alphanumeric}
@@ -29,6 +30,6 @@ word_of run = take WORD_MAX (str_to_ascii_lowercase run)
 unfoldable pub words_of : List ℕ → List (List ℕ)
 words_of bytes = map word_of (runs_of bytes)
 
--- how long a word or a tag may be
+-- a word or a tag has 1 to WORD_MAX bytes
 abbrev pub IsTerm : List ℕ → Type 0
 IsTerm term = (1 ≤ length term) × (length term ≤ WORD_MAX)

@@ -71,7 +71,9 @@ impl<'a> Iterator for Lines<'a> {
             return None;
         }
         let bytes = self.rest.bytes;
-        let (line, rest) = self.rest.split_at(line_feed_at(bytes).unwrap_or(bytes.len()));
+        let (line, rest) = self
+            .rest
+            .split_at(line_feed_at(bytes).unwrap_or(bytes.len()));
         // The line feed, where there is one.
         let (_, rest) = rest.split_at(rest.bytes.len().min(1));
         self.rest = rest;

@@ -33,7 +33,7 @@ impl Token {
     ghost use Rattle.wu_token.specs.Left.{piece_of, end_of};
 
     /// The token of a tag at a place.
-    pub fn tag(alloc: Global, tag: &[u8], place: usize) -> Result<Token, NoMemory>
+    pub(crate) fn tag(alloc: Global, tag: &[u8], place: usize) -> Result<Token, NoMemory>
         requires { place < 2 ^ 32 }
         ensures { IfOk result (λ token. token ≡ tag_at tag.now place) }
     {
@@ -45,7 +45,7 @@ impl Token {
     }
 
     /// The token of a run.
-    pub fn word(alloc: Global, run: Piece) -> Result<Token, NoMemory>
+    pub(crate) fn word(alloc: Global, run: Piece) -> Result<Token, NoMemory>
         requires { end_of run < 2 ^ 32 }
         ensures { IfOk result (λ token. token ≡ word_at (piece_of run.entry)) }
     {

@@ -6,11 +6,13 @@ ghost use Rattle.wu_token.specs.Places.{line_tokens_at, placed_tokens_of};
 ghost use Rattle.wu_token.specs.Left.{piece_of, end_of};
 
 use crate::pieces::Piece;
-use crate::spans::{word_of_run, Token, FILE_END, FILE_START, LINE_END, LINE_START};
+use crate::spans::{FILE_END, FILE_START, LINE_END, LINE_START, Token, word_of_run};
 use std::alloc::Global;
 use wu_base::{Bytes, NoMemory, TEXT_MAX};
 
-/// The words of these bytes, in order.
+/// The words of these bytes, in order: the maximal runs of ASCII letters, ASCII digits and bytes of
+/// 0x80 and above, each cut to its first [`WORD_MAX`](wu_base::WORD_MAX) bytes, with ASCII letters
+/// in lower case.
 pub fn words(alloc: Global, bytes: &[u8]) -> Result<Vec<Bytes>, NoMemory>
     ensures words { IfOk result (λ v. v.items ≡ words_of bytes.now) }
     ensures lengths { IfOk result (λ v. All IsTerm v.items) }
@@ -36,7 +38,9 @@ fn push_line(alloc: Global, tokens: &mut Vec<Token>, line: Piece) -> Result<(), 
     Ok(())
 }
 
-/// The tokens of a text of at most [`TEXT_MAX`] bytes, in order, with their places.
+/// The tokens of a text of at most [`TEXT_MAX`] bytes, in order, with their places: `<file>`, then
+/// for each line `<line>`, its words and `</line>`, last `</file>`. Lines end at LF. What follows
+/// the last LF is a line only if it has bytes, so the empty text has no line.
 pub fn tokens(alloc: Global, text: &[u8]) -> Result<Vec<Token>, NoMemory>
     requires { length text.now ≤ TEXT_MAX }
     ensures tokens { IfOk result (λ v. v.items ≡ placed_tokens_of text.now) }
@@ -65,7 +69,8 @@ fn line_token_count(line: Piece) -> u64
     2 + line.runs().count() as u64
 }
 
-/// How many tokens a text of at most [`TEXT_MAX`] bytes has. Takes no memory.
+/// How many tokens a text of at most [`TEXT_MAX`] bytes has, which [`tokens`] would give. Takes no
+/// memory.
 pub fn token_count(text: &[u8]) -> u64
     requires { length text.now ≤ TEXT_MAX }
     ensures count { result ≡ length (tokens_of text.now) }

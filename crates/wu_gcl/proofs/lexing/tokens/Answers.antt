@@ -1,10 +1,9 @@
-use Rattle.std.proofs.Common.{arith, sym, ap, subst, ◌≡◌, ◌++◌, ◌∙◌, [], ◌∷◌, ◌<◌, Some, None, map, length, refl, List, ℕ}
+use Rattle.std.proofs.Common.{arith, sym, ◌≡◌, [], ◌<◌, Some, map, length}
 use Rattle.std.proofs.lemmas.List.{map_push, nil_from_length}
 use Rattle.std.proofs.lemmas.Bool.Decides.{nat_tests}
-use Rattle.std.specs.Prelude.{◌⊎◌}
 use Rattle.wu_gcl.specs.Views.{token_of}
-use Rattle.wu_gcl.specs.Scanning.{Front, after_blanks, front_of}
-use Rattle.wu_gcl.proofs.Texts.{Progress, progress_start, progress_more, lexed_none, lexed_end, front_shorter, after_blanks-shorter}
+use Rattle.wu_gcl.specs.Scanning.{front_of}
+use Rattle.wu_gcl.proofs.Texts.{progress_start, progress_more, lexed_none, lexed_end, front_shorter, after_blanks-shorter}
 use Rattle.wu_gcl.proofs.lexing.tokens.Goals as goal
 
 pub texts-init : goal.texts-init
@@ -25,7 +24,7 @@ texts-preserved c =
     let some : 0 < length c.texts.rest.now = grind (arith, nat_tests, c.is_empty.ensures, c.texts-test.true) in
     let found : front_of c.texts.rest.now ≡ Some (token_of c.in-Some.token, c.in-Some.behind.now) = sym c.in-Some.ensures in
     rw (c.after_blanks-rest-in-texts.ensures, c.in_ok-push.ensures.items, map_push token_of c.texts.tokens.items c.in-Some.token)
-      (progress_more c.args.text.now (map token_of c.texts.tokens.items) c.texts.rest.now (token_of c.in-Some.token) c.in-Some.behind.now c.texts.invariant some found)
+    (progress_more c.args.text.now (map token_of c.texts.tokens.items) c.texts.rest.now (token_of c.in-Some.token) c.in-Some.behind.now c.texts.invariant some found)
 
 pub returns : goal.returns
 returns c =

@@ -1,5 +1,4 @@
-use Rattle.std.proofs.Common.{◌≡◌, [], ◌++◌}
-use Rattle.std.specs.List.Sorted.{IsPermutation}
+use Rattle.std.proofs.Common.{◌≡◌}
 use Rattle.wu_gcl.specs.Regions.{region_of}
 use Rattle.wu_gcl.specs.Terms.{terms_in}
 use Rattle.wu_gcl.proofs.TermLists.{are_terms}

@@ -1,4 +1,4 @@
-use Rattle.std.proofs.Common.{◌≡◌, ◌∙◌}
+use Rattle.std.proofs.Common.{◌≡◌}
 use Rattle.wu_gcl.specs.Regions.{region_of}
 use Rattle.wu_gcl.specs.Printing.{printed}
 use Rattle.wu_gcl.proofs.Reprint.{printed_again}

@@ -1,5 +1,5 @@
-use Rattle.std.proofs.Common.{◌≡◌, ◌∷◌, ◌++◌, append_assoc, sym, ◌∙◌, ap, List, ℕ}
-use Rattle.std.specs.List.{join_with_byte, flat_map}
+use Rattle.std.proofs.Common.{◌≡◌, ◌∷◌, ◌++◌, append_assoc}
+use Rattle.std.specs.List.{flat_map}
 use Rattle.wu_gcl.specs.Printing.{spaced}
 use Rattle.wu_gcl.proofs.Joining.{join_spaced}
 use Rattle.wu_gcl.proofs.printer.put_words.Goals as goal

@@ -1,4 +1,4 @@
-use Rattle.std.proofs.Common.{◌≡◌, ◌+◌, ◌≤◌, length, ap, ◌∙◌, inl, arith}
+use Rattle.std.proofs.Common.{◌≡◌, length, ap, ◌∙◌, inl, arith}
 use Rattle.std.proofs.lemmas.Iterator.Consumers.{YieldsList-from_shown, count_from_yields_List}
 use Rattle.wu_token.specs.Places.{runs_at}
 use Rattle.wu_token.specs.Left.{piece_of, runs_left, YieldsRun}

@@ -15,6 +15,6 @@ returns c =
     let line = c.args.line in
     let first = tag_at line_start line.start ∷ map word_at (runs_at (piece_of line)) in
     let before : c.loop-run.tokens.items ≡ c.args.tokens.now.items ++ first =
-        sym (append-nil _) ∙ ap (λ runs. c.loop-run.tokens.items ++ map word_at runs) (sym c.in-None.ensures.steps.0.0) ∙ c.loop-run.invariant.0 in
+    sym (append-nil _) ∙ ap (λ runs. c.loop-run.tokens.items ++ map word_at runs) (sym c.in-None.ensures.steps.0.0) ∙ c.loop-run.invariant.0 in
     c.in_ok-push-3.ensures.items ∙ ap₂ (λ tokens token. tokens ++ token ∷ []) before c.in_ok-tag-2.ensures
     ∙ append_assoc c.args.tokens.now.items first (tag_at line_end (line.start + length line.bytes.now) ∷ [])

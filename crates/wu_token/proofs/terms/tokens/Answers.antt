@@ -18,7 +18,7 @@ unfolding placed_tokens_of file_end
 all_tokens c =
     let lines = flat_map line_tokens_at (placed 0 (lines_of c.args.text.now)) in
     let before : c.loop-line.tokens.items ≡ tag_at file_start 0 ∷ lines =
-        sym (append-nil _) ∙ ap (λ lines. c.loop-line.tokens.items ++ flat_map line_tokens_at lines) (sym c.in-None.ensures.steps.0.0) ∙ c.loop-line.invariant.0 in
+    sym (append-nil _) ∙ ap (λ lines. c.loop-line.tokens.items ++ flat_map line_tokens_at lines) (sym c.in-None.ensures.steps.0.0) ∙ c.loop-line.invariant.0 in
     c.in_ok-push-2.ensures.items ∙ ap₂ (λ tokens token. tokens ++ token ∷ []) before c.in_ok-tag-2.ensures
 
 pub returns-clause-tokens : goal.returns-clause-tokens

@@ -1,4 +1,4 @@
-use Rattle.std.proofs.Common.{◌≡◌, ◌∷◌, ◌∙◌, length, ap, arith, rules}
+use Rattle.std.proofs.Common.{◌≡◌, ◌∷◌, length, ap, arith, rules}
 use Rattle.wu_token.specs.Left.{lines_left, piece_of}
 use Rattle.wu_token.proofs.CutLemmas.{lines_of-none, placed-nil, placed-lines-first}
 use Rattle.wu_token.proofs.pieces.LinesIterator.next.Goals as goal

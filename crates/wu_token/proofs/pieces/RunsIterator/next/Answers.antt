@@ -1,4 +1,4 @@
-use Rattle.std.proofs.Common.{◌≡◌, ◌∷◌, ◌∙◌, length, ap, refl, arith, rules}
+use Rattle.std.proofs.Common.{◌≡◌, ◌∷◌, length, ap, refl, arith, rules}
 use Rattle.wu_token.specs.Left.{runs_left, piece_of}
 use Rattle.wu_token.proofs.CutLemmas.{runs_at-none, runs_at-first}
 use Rattle.wu_token.proofs.pieces.RunsIterator.next.Goals as goal

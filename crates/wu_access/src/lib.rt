@@ -1,0 +1,74 @@
+//! Who may read a node or pass through it: the access check of POSIX.1 by owner, group and other
+//! permission bits, where user 0 passes every check.
+#![tactic(auto)]
+
+ghost use Rattle.std.specs.Prelude.{◌≡◌, ◌↔◌, IsTrue};
+ghost use Rattle.wu_access.specs.Access.{Allows, deciding_digit_of, is_allowed, is_granted};
+
+use wu_base::{Gid, Sequence, Uid};
+
+/// A node's owner, group and permissions.
+#[derive(Clone, Copy, Debug, PartialEq, Eq)]
+pub struct Perm {
+    /// The owner.
+    pub uid: Uid,
+    /// The group.
+    pub gid: Gid,
+    /// The mode, up to four octal digits. From the lowest digit upwards these are the bits of others,
+    /// of the group and of the owner; the fourth digit has no effect.
+    pub mode: u16,
+}
+
+/// A user and her groups.
+#[derive(Clone, Debug, PartialEq, Eq, Drop)]
+pub struct UserRec {
+    /// The user.
+    pub uid: Uid,
+    /// Her groups, ascending.
+    pub groups: Sequence<Gid>,
+}
+
+/// What a user wants to do with a node.
+#[derive(Clone, Copy, Debug, PartialEq, Eq)]
+pub enum Want {
+    /// To read a file: the bit 4 of an octal digit.
+    Read,
+    /// To pass through a directory: the bit 1 of an octal digit.
+    Execute,
+}
+
+/// Whether the user may do that. User 0 may do anything. The owner's bits alone decide for the node's
+/// owner, else the group's bits alone where the node's group is among the user's groups, else the bits
+/// of others. Takes no memory.
+pub fn allows(user: &UserRec, node: &Perm, want: Want) -> bool
+    ensures check { result ≡ is_allowed user.now node.now want }
+    ensures cases { IsTrue result ↔ Allows user.now node.now want }
+{
+    user.uid == 0 || grants(deciding_digit(user, node), want)
+}
+
+/// The octal digit of the node's mode that decides for the user.
+fn deciding_digit(user: &UserRec, node: &Perm) -> u16
+    ensures { result ≡ deciding_digit_of user.now node.now }
+{
+    if user.uid == node.uid {
+        node.mode / 0o100 % 0o10
+    } else if user.groups.as_slice().contains(&node.gid) {
+        node.mode / 0o10 % 0o10
+    } else {
+        node.mode % 0o10
+    }
+}
+
+/// Whether an octal digit of a mode has the bit that is wanted.
+fn grants(digit: u16, want: Want) -> bool
+    ensures { result ≡ is_granted digit want }
+{
+    match want {
+        Want::Read => digit / 4 % 2 == 1,
+        Want::Execute => digit % 2 == 1,
+    }
+}
+
+#[cfg(test)]
+mod tests;

@@ -1,0 +1,164 @@
+-- Lemmas on written fields.
+use Rattle.std.proofs.Common.{◌≡◌, ◌≢◌, ℕ, zero, suc, ◌+◌, ◌<◌, Bool, true, false, List, [], ◌∷◌, ◌++◌, length, get_or, drop, Option, Some, None, refl, ap, sym, ◌∙◌, append_assoc, append-nil, eqb, map, ◌||◌, ◌&&◌, is_none, ◌⊎◌, inl, inr, ⊎_elim, arith}
+use Rattle.std.proofs.lemmas.Bool.Decides.{eqb_tells}
+use Rattle.std.proofs.lemmas.List.Folds.{list_any-append}
+use Rattle.std.specs.List.{slice_split}
+use Rattle.std.specs.List.{list_all, list_any}
+use Rattle.std.proofs.lemmas.Bool.Decides.{nat_tests}
+use Rattle.std.proofs.lemmas.List.{at_drop_more}
+use Rattle.std.specs.Option.{option_map}
+use Rattle.wu_fields.specs.Fields.{escaped, escaped_byte, with_letter, letter_of, byte_of, unescaped_after, unescaped, all_some, fields_of, line_of}
+
+-- what is read so far, and then the rest
+unfoldable pub onto : List ℕ → Option (List ℕ) → Option (List ℕ)
+onto read rest = option_map (λ more. read ++ more) rest
+
+onto_push : (read : List ℕ) (byte : ℕ) (rest : Option (List ℕ)) → onto read (option_map (λ more. byte ∷ more) rest) ≡ onto (read ++ byte ∷ []) rest
+unfolding onto
+onto_push read byte None = refl
+onto_push read byte (Some more) = ap Some (sym (append_assoc read (byte ∷ []) more))
+
+-- nothing more
+pub onto_nil : (read : List ℕ) → onto read (Some []) ≡ Some read
+unfolding onto
+onto_nil read = ap Some (append-nil read)
+
+-- no field
+pub onto_absent : (read : List ℕ) → onto read None ≡ None
+unfolding onto
+onto_absent read = refl
+
+-- nothing before
+pub onto_none : (rest : Option (List ℕ)) → onto [] rest ≡ rest
+unfolding onto
+onto_none None = refl
+onto_none (Some more) = refl
+
+pub eqb-other : (a b : ℕ) → a ≢ b → eqb a b ≡ false
+eqb-other a b other = grind (arith, nat_tests)
+
+-- one step on: what is read and what is left make the same whole
+pub onto-step : (whole : Option (List ℕ)) (read longer read' : List ℕ) (escaping before escaping' after : Bool) (left rest : List ℕ) → whole ≡ onto read (unescaped_after escaping left) → onto read (unescaped_after before left) ≡ onto longer (unescaped_after after rest) → escaping ≡ before → read' ≡ longer → escaping' ≡ after → whole ≡ onto read' (unescaped_after escaping' rest)
+onto-step whole read longer read' escaping before escaping' after left rest e step b r a = rw (b) at e ∙ rw (r, a) step
+
+pub or_left : (a b : Bool) → (a || b) ≡ false → a ≡ false
+or_left true b e = cc
+or_left false b e = refl
+
+pub or_right : (a b : Bool) → (a || b) ≡ false → b ≡ false
+or_right true b e = cc
+or_right false b e = e
+
+-- a letter after a backslash
+pub unescaped-letter : (read written : List ℕ) (i byte : ℕ) → i < length written → byte_of (get_or written i 0) ≡ Some byte → onto read (unescaped_after true (drop i written)) ≡ onto (read ++ byte ∷ []) (unescaped_after false (drop (i + 1) written))
+unescaped-letter read written i byte inside meant = at_drop_more (λ w. onto read (unescaped_after true w)) written i 0 inside ∙ rw meant (onto_push read byte _)
+
+-- a byte that is no letter, after a backslash
+pub unescaped-fault : (read written : List ℕ) (i : ℕ) → i < length written → byte_of (get_or written i 0) ≡ None → onto read (unescaped_after true (drop i written)) ≡ None
+unfolding onto
+unescaped-fault read written i inside none = at_drop_more (λ w. onto read (unescaped_after true w)) written i 0 inside ∙ rw none refl
+
+-- a backslash
+pub unescaped-backslash : (read written : List ℕ) (i : ℕ) → i < length written → get_or written i 0 ≡ 92 → onto read (unescaped_after false (drop i written)) ≡ onto read (unescaped_after true (drop (i + 1) written))
+unescaped-backslash read written i inside is = at_drop_more (λ w. onto read (unescaped_after false w)) written i 0 inside ∙ rw is refl
+
+-- another byte
+pub unescaped-plain : (read written : List ℕ) (i : ℕ) → i < length written → get_or written i 0 ≢ 92 → onto read (unescaped_after false (drop i written)) ≡ onto (read ++ get_or written i 0 ∷ []) (unescaped_after false (drop (i + 1) written))
+unescaped-plain read written i inside other = at_drop_more (λ w. onto read (unescaped_after false w)) written i 0 inside ∙ rw (eqb-other _ _ other) (onto_push read _ _)
+
+-- no backslash at all
+pub unescaped_alone : (written : List ℕ) → list_any (λ byte. eqb byte 92) written ≡ false → unescaped_after false written ≡ Some written
+unescaped_alone [] none = refl
+unescaped_alone (byte ∷ rest) none =
+    let here : eqb byte 92 ≡ false = or_left (eqb byte 92) _ none in
+    rw (here, unescaped_alone rest (or_right (eqb byte 92) _ none)) refl
+
+-- if one more value comes after these, it comes after these and one before them
+pushed_on : {A : Type 0} (first value : A) (before after : Option (List A)) (values : List A) → option_map (λ more. first ∷ more) before ≡ Some values → ((more : List A) → before ≡ Some more → after ≡ Some (more ++ value ∷ [])) → option_map (λ more. first ∷ more) after ≡ Some (values ++ value ∷ [])
+pushed_on first value None after values e h = cc
+pushed_on first value (Some more) after values e h = rw (h more refl) (let tail : first ∷ more ≡ values = cc in ap (λ l. Some (l ++ value ∷ [])) tail)
+
+-- one more value
+pub all_some_push : {A : Type 0} (options : List (Option A)) (values : List A) (value : A) → all_some options ≡ Some values → all_some (options ++ Some value ∷ []) ≡ Some (values ++ value ∷ [])
+all_some_push [] [] value e = refl
+all_some_push [] (v ∷ vs) value e = cc
+all_some_push (None ∷ options) values value e = cc
+all_some_push (Some first ∷ options) values value e = pushed_on first value (all_some options) (all_some (options ++ Some value ∷ [])) values e (λ more h. all_some_push options more value h)
+
+all_some_tail : {A : Type 0} (option : Option A) (options : List (Option A)) → all_some options ≡ None → all_some (option ∷ options) ≡ None
+all_some_tail None options none = refl
+all_some_tail (Some value) options none = rw none refl
+
+-- one piece that is no field
+pub all_some_fault : (pieces : List (List ℕ)) (i : ℕ) (d : List ℕ) → i < length pieces → unescaped (get_or pieces i d) ≡ None → all_some (map unescaped pieces) ≡ None
+all_some_fault [] i d inside none = absurd (omega arith)
+all_some_fault (piece ∷ pieces) zero d inside none = rw none refl
+all_some_fault (piece ∷ pieces) (suc i) d inside none = all_some_tail (unescaped piece) (map unescaped pieces) (all_some_fault pieces i d (omega arith) none)
+
+step-by_kind : (byte : ℕ) (rest field : List ℕ) → unescaped_after false rest ≡ Some field → (byte ≡ 92) ⊎ (byte ≢ 92) → (byte ≡ 9) ⊎ (byte ≢ 9) → (byte ≡ 10) ⊎ (byte ≢ 10) → unescaped_after false (escaped_byte byte ++ rest) ≡ Some (byte ∷ field)
+unfolding letter_of byte_of
+step-by_kind byte rest field h (inl e) tab feed = rw e (rw h refl)
+step-by_kind byte rest field h (inr slash) (inl e) feed = rw e (rw h refl)
+step-by_kind byte rest field h (inr slash) (inr tab) (inl e) = rw e (rw h refl)
+step-by_kind byte rest field h (inr slash) (inr tab) (inr feed) = rw (eqb-other 92 byte (λ e. slash (sym e)), eqb-other 9 byte (λ e. tab (sym e)), eqb-other 10 byte (λ e. feed (sym e)), eqb-other byte 92 slash, h) refl
+
+pub is_or_not : (m n : ℕ) → (m ≡ n) ⊎ (m ≢ n)
+is_or_not m n = ⊎_elim (λ t. inl t.1) (λ t. inr t.1) (eqb_tells m n)
+
+-- what is written for a field is read as the field
+pub unescaped-escaped : (field : List ℕ) → unescaped_after false (escaped field) ≡ Some field
+unescaped-escaped [] = refl
+unescaped-escaped (byte ∷ field) = step-by_kind byte (escaped field) field (unescaped-escaped field) (is_or_not byte 92) (is_or_not byte 9) (is_or_not byte 10)
+
+tabless_by_kind : (byte : ℕ) → (byte ≡ 92) ⊎ (byte ≢ 92) → (byte ≡ 9) ⊎ (byte ≢ 9) → (byte ≡ 10) ⊎ (byte ≢ 10) → list_any (λ b. eqb b 9) (escaped_byte byte) ≡ false
+unfolding letter_of
+tabless_by_kind byte (inl e) tab feed = rw e refl
+tabless_by_kind byte (inr slash) (inl e) feed = rw e refl
+tabless_by_kind byte (inr slash) (inr tab) (inl e) = rw e refl
+tabless_by_kind byte (inr slash) (inr tab) (inr feed) = rw (eqb-other 92 byte (λ e. slash (sym e)), eqb-other 9 byte (λ e. tab (sym e)), eqb-other 10 byte (λ e. feed (sym e)), eqb-other byte 9 tab) refl
+
+-- no TAB is written for a field
+tabless : (field : List ℕ) → list_any (λ b. eqb b 9) (escaped field) ≡ false
+tabless [] = refl
+tabless (byte ∷ field) = list_any-append (λ b. eqb b 9) (escaped_byte byte) (escaped field) ∙ rw (tabless_by_kind byte (is_or_not byte 92) (is_or_not byte 9) (is_or_not byte 10), tabless field) refl
+
+-- a list without the separator, before the separator and before the end
+split_before : (piece rest : List ℕ) → list_any (λ b. eqb b 9) piece ≡ false → slice_split (λ b. eqb b 9) (piece ++ 9 ∷ rest) ≡ piece ∷ slice_split (λ b. eqb b 9) rest
+split_before [] rest none = refl
+split_before (byte ∷ piece) rest none = rw (or_left (eqb byte 9) _ none, split_before piece rest (or_right (eqb byte 9) _ none)) refl
+
+split_alone : (piece : List ℕ) → list_any (λ b. eqb b 9) piece ≡ false → slice_split (λ b. eqb b 9) piece ≡ piece ∷ []
+split_alone [] none = refl
+split_alone (byte ∷ piece) none = rw (or_left (eqb byte 9) _ none, split_alone piece (or_right (eqb byte 9) _ none)) refl
+
+split-line_of : (field : List ℕ) (fields : List (List ℕ)) → slice_split (λ b. eqb b 9) (line_of (field ∷ fields)) ≡ map escaped (field ∷ fields)
+split-line_of field [] = split_alone (escaped field) (tabless field)
+split-line_of field (next ∷ fields) = split_before (escaped field) (line_of (next ∷ fields)) (tabless field) ∙ ap (λ pieces. escaped field ∷ pieces) (split-line_of next fields)
+
+all_read_back : (fields : List (List ℕ)) → all_some (map unescaped (map escaped fields)) ≡ Some fields
+unfolding unescaped
+all_read_back [] = refl
+all_read_back (field ∷ fields) = rw (unescaped-escaped field, all_read_back fields) refl
+
+-- the line that is written for fields is read as these fields
+pub fields_of-line_of : (fields : List (List ℕ)) → 0 < length fields → fields_of (line_of fields) ≡ Some fields
+unfolding fields_of
+fields_of-line_of [] some = absurd (omega arith)
+fields_of-line_of (field ∷ fields) some = ap (λ pieces. all_some (map unescaped pieces)) (split-line_of field fields) ∙ all_read_back (field ∷ fields)
+
+plain_byte : (byte : ℕ) (rest : List ℕ) → (letter : Option ℕ) → is_none letter ≡ true → with_letter letter byte ++ rest ≡ byte ∷ rest
+plain_byte byte rest None plain = refl
+plain_byte byte rest (Some letter) plain = cc
+
+-- a field without a byte that is escaped is written as it is
+pub escaped_plain : (field : List ℕ) → list_all (λ byte. is_none (letter_of byte)) field ≡ true → escaped field ≡ field
+escaped_plain [] plain = refl
+escaped_plain (byte ∷ field) plain = plain_byte byte (escaped field) (letter_of byte) (and_left_true (is_none (letter_of byte)) _ plain) ∙ ap (λ rest. byte ∷ rest) (escaped_plain field (and_right_true (is_none (letter_of byte)) _ plain))
+  where
+    and_left_true : (a b : Bool) → (a && b) ≡ true → a ≡ true
+    and_left_true true b e = refl
+    and_left_true false b e = e
+
+    and_right_true : (a b : Bool) → (a && b) ≡ true → b ≡ true
+    and_right_true true b e = e
+    and_right_true false b e = cc

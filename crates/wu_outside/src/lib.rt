@@ -1,0 +1,19 @@
+//! The outside of Wumpus: where a script comes from, where replies go and where the index is kept,
+//! as traits whose contracts say what an honest object does, and the objects that the program and
+//! its tests use.
+#![tactic(auto)]
+
+mod memory;
+mod plain;
+mod standard;
+mod traits;
+mod writing;
+
+pub use memory::{MemSink, MemSource};
+pub use plain::{PlainSink, PlainSource, PlainStore};
+pub use standard::{StdIn, StdOut};
+pub use traits::{Failed, Fault, Sink, Source, Store};
+pub use writing::write_all;
+
+#[cfg(test)]
+mod tests;

@@ -1,0 +1,108 @@
+//! Objects in memory that never fail: each tells its content, and its count of faults is always 0.
+ghost use Rattle.std.specs.Prelude.{◌≡◌, List, ℕ, ◌≤◌, [], drop, Some, vec_len, IsOk};
+
+use crate::traits::{Failed, Fault, Sink, Source, Store};
+use std::alloc::Global;
+use std::marker::Model;
+
+/// A source of known bytes. Contracts see the bytes that are left.
+#[derive(Debug, Drop)]
+pub struct PlainSource {
+    bytes: Vec<u8>,
+    at: usize,
+}
+
+impl Model for PlainSource {
+    ghost Value = { List ℕ };
+
+    ghost view = { λ s. drop s.at s.bytes.items };
+
+    ghost invariant = { λ s. s.at ≤ vec_len s.bytes };
+}
+
+impl PlainSource {
+    /// A source that gives these bytes and then its end.
+    pub fn new(bytes: Vec<u8>) -> PlainSource
+        ensures { result ≡ bytes.items }
+    {
+        PlainSource { bytes, at: 0 }
+    }
+}
+
+impl Source for PlainSource {
+    ghost left = { λ s. Some s };
+
+    ghost faults = { λ _. 0 };
+
+    fn read(&mut self, buf: &mut [u8]) -> Result<usize, Failed> {
+        let rest = &self.bytes[self.at..];
+        let count = rest.len().min(buf.len());
+        buf[..count].copy_from_slice(&rest[..count]);
+        self.at += count;
+        Ok(count)
+    }
+}
+
+/// A sink that keeps what it gains. Contracts see those bytes.
+#[derive(Debug, Drop)]
+pub struct PlainSink {
+    bytes: Vec<u8>,
+}
+
+impl Model for PlainSink {
+    ghost Value = { List ℕ };
+
+    ghost view = { λ s. s.bytes.items };
+}
+
+impl PlainSink {
+    /// A sink that has gained nothing.
+    pub fn new(alloc: Global) -> PlainSink
+        ensures { result ≡ [] }
+    {
+        PlainSink {
+            bytes: Vec::new(alloc),
+        }
+    }
+
+    /// What it gained so far.
+    pub fn gained(&self) -> &[u8]
+        ensures { result.now ≡ self.now }
+    {
+        self.bytes.as_slice()
+    }
+}
+
+impl Sink for PlainSink {
+    ghost gained = { λ s. Some s };
+
+    ghost faults = { λ _. 0 };
+
+    fn write(&mut self, piece: &[u8]) -> Result<usize, Fault> {
+        self.bytes.extend_from_slice(piece)?;
+        Ok(piece.len())
+    }
+}
+
+/// A store that keeps nothing yet.
+#[derive(Debug, Drop)]
+pub struct PlainStore {
+    allocator: Global,
+}
+
+impl PlainStore {
+    /// An empty store.
+    pub fn new(alloc: Global) -> PlainStore
+        ensures { ⟦<PlainStore as Store>⟧.faults result ≡ 0 }
+    {
+        PlainStore { allocator: alloc }
+    }
+}
+
+impl Store for PlainStore {
+    ghost faults = { λ _. 0 };
+
+    fn sync(&mut self) -> Result<(), Fault> {
+        Ok(())
+    }
+}

@@ -1,0 +1,73 @@
+//! The program `wumpus`: a session over standard input and output.
+#![tactic(auto)]
+
+use std::alloc::AllocError;
+use std::env;
+use std::io::ErrorKind;
+use std::process::ExitCode;
+use std::rt::Env;
+use wu_outside::{PlainStore, StdIn, StdOut};
+use wumpus_run::{Status, run};
+
+fn main(rt: HostRuntime) -> ExitCode {
+    let status = session(&rt);
+    if let Some(message) = message(status) {
+        // The exit status tells the same where this line can't be written.
+        let _ = eprintln!(rt; "wumpus: {message}");
+    }
+    ExitCode::from(status.code())
+}
+
+/// Runs the session that the words behind the program's name ask for.
+fn session(rt: &HostRuntime) -> Status {
+    let words = match words(rt) {
+        Ok(words) => words,
+        Err(status) => return status,
+    };
+    match session_of(rt, &words) {
+        Ok(status) => status,
+        Err(AllocError) => Status::NoMemory,
+    }
+}
+
+/// The words behind the program's name. Words that aren't UTF-8 are in no form.
+fn words(rt: &(impl Env + AllocGlobal)) -> Result<Vec<String>, Status> {
+    match env::args(rt) {
+        Ok(args) => match args.skip(1).collect(rt.alloc()) {
+            Ok(words) => Ok(words),
+            Err(AllocError) => Err(Status::NoMemory),
+        },
+        Err(error) if error.kind() == ErrorKind::OutOfMemory => Err(Status::NoMemory),
+        Err(_) => Err(Status::Usage),
+    }
+}
+
+fn session_of(rt: &HostRuntime, words: &[String]) -> Result<Status, AllocError> {
+    let mut texts = Vec::new(rt.alloc());
+    for word in words {
+        texts.push(word.as_str())?;
+    }
+    let (Ok(mut source), Ok(mut sink)) = (StdIn::new(rt.stdin()), StdOut::new(rt.stdout())) else {
+        return Ok(Status::NoMemory);
+    };
+    let mut store = PlainStore::new(rt.alloc());
+    Ok(run(
+        rt.alloc(),
+        texts.as_slice(),
+        &mut source,
+        &mut sink,
+        &mut store,
+    ))
+}
+
+/// What is printed to standard error at a status.
+fn message(status: Status) -> Option<&'static str> {
+    match status {
+        Status::Done => None,
+        Status::Usage => Some("usage: wumpus run [--max-input=N] [--flush=N] | wumpus demo N"),
+        Status::ReadFault => Some("cannot read the input"),
+        Status::WriteFault => Some("cannot write the output"),
+        Status::NoMemory => Some("no memory"),
+        Status::InputTooLong => Some("input too long"),
+    }
+}

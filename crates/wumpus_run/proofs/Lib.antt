@@ -1,0 +1,6 @@
+pub mod FieldLemmas
+pub mod FileLemmas
+pub mod CountLemmas
+pub mod ViewLemmas
+pub mod ReadLemmas
+pub mod SessionLemmas

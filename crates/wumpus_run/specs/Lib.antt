@@ -1,0 +1,9 @@
+pub mod FileSystem
+pub mod View
+pub mod Answer
+pub mod Script
+pub mod Output
+pub mod Words
+pub mod Weight
+pub mod Reading
+pub mod Session

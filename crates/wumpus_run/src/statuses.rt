@@ -1,0 +1,36 @@
+//! How a session ends.
+ghost use Rattle.std.specs.Prelude.{◌≡◌, ◌<◌};
+ghost use Rattle.wumpus_run.specs.Words.{code_of};
+
+/// How a session ended. The causes stand at [`run`](crate::run).
+#[derive(Clone, Copy, Debug, PartialEq, Eq)]
+pub enum Status {
+    /// The source was read to its end, and every reply was written.
+    Done,
+    /// The words behind the program's name are in no form.
+    Usage,
+    /// The source failed.
+    ReadFault,
+    /// The sink failed.
+    WriteFault,
+    /// There was no memory.
+    NoMemory,
+    /// The input has more bytes than its limit.
+    InputTooLong,
+}
+
+impl Status {
+    /// The exit status of the program, from 0.
+    pub fn code(&self) -> u8
+        ensures { result ≡ code_of self.now }
+    {
+        match self {
+            Status::Done => 0,
+            Status::Usage => 1,
+            Status::ReadFault => 2,
+            Status::WriteFault => 3,
+            Status::NoMemory => 4,
+            Status::InputTooLong => 5,
+        }
+    }
+}
