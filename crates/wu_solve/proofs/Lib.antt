@@ -11,3 +11,4 @@ pub mod Phrases
 pub mod Unions
 pub mod Covers
 pub mod Spans
+pub mod Combining

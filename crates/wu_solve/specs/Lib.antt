@@ -3,3 +3,4 @@ pub mod Merging
 pub mod Fronts
 pub mod Addresses
 pub mod Operands
+pub mod Solving

@@ -6,3 +6,6 @@ mod fronts;
 mod lookup;
 mod merging;
 mod operands;
+mod solving;
+
+pub use solving::solve;
