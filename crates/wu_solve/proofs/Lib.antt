@@ -12,3 +12,4 @@ pub mod Unions
 pub mod Covers
 pub mod Spans
 pub mod Combining
+pub mod Results
