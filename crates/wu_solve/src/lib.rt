@@ -14,3 +14,6 @@ mod solving;
 
 pub use laws::{extents_ascend, frames_of_texts};
 pub use solving::solve;
+
+#[cfg(test)]
+mod tests;
