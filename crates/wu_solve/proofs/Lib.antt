@@ -13,3 +13,4 @@ pub mod Covers
 pub mod Spans
 pub mod Combining
 pub mod Results
+pub mod Trying

@@ -155,7 +155,7 @@ frame_listed region lists frame xs is = ap (map (moved frame.start)) (listed fra
 abbrev AlikeIn : ℕ → (Extent → Bool) → (Extent → Bool) → Type 0
 AlikeIn n p q = (x : Extent) → IsExtentIn n x → p x ≡ q x
 
-some_alike : (n : ℕ) (p q : Extent → Bool) → AlikeIn n p q → some_extent n p ≡ some_extent n q
+pub some_alike : (n : ℕ) (p q : Extent → Bool) → AlikeIn n p q → some_extent n p ≡ some_extent n q
 some_alike n p q same = alike _ _
     (λ is. let f = some_found n p is in some_from n q f.0 f.1 (sym (same f.0 f.1) ∙ f.2))
     (λ is. let f = some_found n q is in some_from n p f.0 f.1 (same f.0 f.1 ∙ f.2))
@@ -236,7 +236,7 @@ is_in_alike (Both op left right) n one other same x is =
       (is_in_alike left n one other (λ term has. same term (Contains-append_left (terms_in left) (terms_in right) term has)))
       (is_in_alike right n one other (λ term has. same term (Contains-append_right (terms_in left) (terms_in right) term has))) x is
 
-filter_alike : (p q : Extent → Bool) (xs : List Extent) → ((x : Extent) → Has xs x → p x ≡ q x) → filter p xs ≡ filter q xs
+pub filter_alike : (p q : Extent → Bool) (xs : List Extent) → ((x : Extent) → Has xs x → p x ≡ q x) → filter p xs ≡ filter q xs
 filter_alike p q [] same = refl
 filter_alike p q (x ∷ xs) same =
     let rest : filter p xs ≡ filter q xs = filter_alike p q xs (λ y has. same y (inr has)) in

@@ -4,3 +4,4 @@ pub mod Fronts
 pub mod Addresses
 pub mod Operands
 pub mod Solving
+pub mod Plain
