@@ -9,7 +9,7 @@ use std::alloc::Global;
 use wu_base::{Extent, NoMemory};
 
 /// Whether the outer extent starts no later and ends no earlier than the inner one.
-fn holds(outer: &Extent, inner: &Extent) -> bool
+pub fn holds(outer: &Extent, inner: &Extent) -> bool
     ensures { result ≡ holds outer.now inner.now }
 {
     outer.start <= inner.start && inner.end <= outer.end

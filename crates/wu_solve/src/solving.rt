@@ -85,7 +85,7 @@ fn between(
 }
 
 /// The extents of the expression in one frame, at places counted from the frame's start.
-fn solve_frame(
+pub fn solve_frame(
     alloc: Global,
     expr: &Expr,
     frame: Range,

@@ -5,7 +5,10 @@ ghost use Rattle.std.specs.Ordering.{nat_cmp};
 ghost use Rattle.wu_solve.specs.Addresses.{AreLists};
 ghost use Rattle.wu_solve.specs.Solving.{IsFrame};
 
+mod plain;
+
 use crate::{extents_ascend, frames_of_texts, solve};
+use plain::solve_plainly;
 use std::alloc::Global;
 use std::test::Fail;
 use wu_base::{Bytes, Extent, NoMemory, Range, Sequence, TermList};
@@ -60,6 +63,26 @@ fn solved(
             solve(alloc, &expr, frames, &lists)
         }
         Err(_) => Ok(Vec::new(alloc)),
+    }
+}
+
+/// Whether the plain body gives the same over the tokens.
+fn is_solved_plainly(
+    alloc: Global,
+    text: &[u8],
+    tokens: &[&[u8]],
+    frame: Range,
+) -> Result<bool, NoMemory>
+    requires { IsFrame frame }
+{
+    let found = solved(alloc, text, tokens, &[frame])?;
+    match parse(alloc, text)? {
+        Ok(expr) => {
+            let terms = terms_of(alloc, &expr)?;
+            let lists = lists_of(alloc, &terms, tokens)?;
+            Ok(solve_plainly(alloc, &expr, frame, &lists)?.as_slice() == found.as_slice())
+        }
+        Err(_) => Ok(false),
     }
 }
 
@@ -118,5 +141,32 @@ fn no_operator_sees_two_frames(rt: HostRuntime) -> Result<(), Fail> {
     assert!(rt; are(&found, &[(2, 2)]));
     let found = solved(rt.alloc(), b"[5]", &tokens, &apart)?;
     assert!(rt; are(&found, &[(0, 4), (1, 5), (6, 10), (7, 11)]));
+    Ok(())
+}
+
+#[test]
+fn trying_every_extent_gives_the_same(rt: HostRuntime) -> Result<(), Fail> {
+    let tokens: [&[u8]; 12] = [
+        b"<file>", b"<line>", b"a", b"b", b"a", b"</line>", b"<line>", b"c", b"a", b"b", b"</line>",
+        b"</file>",
+    ];
+    let texts: [&[u8]; 12] = [
+        b"\"a\" ^ \"b\"",
+        b"\"a\" .. \"b\" .. \"a\"",
+        b"(\"a\" + \"c\") .. (\"b\" ^ \"c\")",
+        b"(\"a\" ^ \"c\") + \"a b\" + [3]",
+        b"line > (\"b\" .. \"a\")",
+        b"[4] < line /> \"c\"",
+        b"([3] > \"a\") ^ ([2] /< line)",
+        b"[2] < ([5] > \"c\") /< (\"c\" .. \"b\")",
+        b"(line .. line) ^ (\"a b\" + \"b a\")",
+        b"[5] .. [2]",
+        b"file > (line > \"d\")",
+        b"([3] ^ [2]) < (\"<line>\" .. \"</line>\")",
+    ];
+    let frame = Range { start: 0, len: 12 };
+    for text in &texts {
+        assert!(rt; is_solved_plainly(rt.alloc(), text, &tokens, frame)?);
+    }
     Ok(())
 }
