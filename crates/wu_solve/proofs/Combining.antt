@@ -1,19 +1,16 @@
 -- The lists that the operators make, and the sets that they stand for.
-use Rattle.std.proofs.Common.{◌≡◌, ℕ, suc, ◌+◌, ◌<◌, ◌≤◌, Bool, true, false, ◌&&◌, List, [], ◌∷◌, length, refl, sym, ap, ◌∙◌, inl, inr, arith, eqb, eqb-true, eq-eqb}
-use Rattle.std.proofs.lemmas.Bool.{false≢true}
+use Rattle.std.proofs.Common.{◌≡◌, ℕ, ◌+◌, ◌<◌, ◌≤◌, Bool, true, false, ◌&&◌, List, [], ◌∷◌, length, refl, arith, eqb, eqb-true, eq-eqb}
 use Rattle.wu_base.specs.declared.addresses.Extent.{Extent}
-use Rattle.wu_base.specs.declared.addresses.TermList.{TermList}
 use Rattle.wu_gcl.specs.declared.expressions.Op.{Op}
 use Rattle.wu_gcl.specs.declared.expressions.Op.TheVariants.{Containing, ContainedIn, NotContaining, NotContainedIn, OneOf, BothOf, FollowedBy}
 use Rattle.wu_gcl.specs.declared.expressions.Tag.{Tag}
 use Rattle.wu_gcl.specs.declared.expressions.Tag.TheVariants.{FileStart, FileEnd, LineStart, LineEnd}
-use Rattle.wu_gcl.specs.Regions.{Region, Phrase, Mark, WholeFile, WholeLine, Window, Both}
+use Rattle.wu_gcl.specs.Regions.{Region, Phrase, Mark, WholeFile, WholeLine, Both}
 use Rattle.wu_gcl.specs.Reading.{tag_text}
-use Rattle.wu_gcl.specs.Extents.{combined, is_in, is_term_at, words_stand}
-use Rattle.wu_solve.specs.Listing.{IsExtentIn, Lists}
-use Rattle.wu_solve.specs.Addresses.{stands_by}
+use Rattle.wu_gcl.specs.Extents.{combined, is_in, is_term_at}
+use Rattle.wu_solve.specs.Listing.{Lists}
 use Rattle.wu_solve.specs.Merging.{holding, held, IsOneOf, IsCover, IsSpan, AreInnermost}
-use Rattle.wu_solve.proofs.Sets.{alike, both_true, and_true}
+use Rattle.wu_solve.proofs.Sets.{alike, both_true}
 use Rattle.wu_solve.proofs.Operators.{same_lists, containing_listed, not_containing_listed, contained_in_listed, not_contained_in_listed}
 use Rattle.wu_solve.proofs.Innermost.{one_of_listed, both_of_listed, followed_by_listed}
 
@@ -67,14 +64,14 @@ word_listed n stands term xs lists =
 pub no_phrase : (n : ℕ) (stands : List ℕ → ℕ → Bool) → Lists n (is_in (Phrase []) stands n) []
 unfolding is_in
 no_phrase n stands = record {
-    ascending = tt;
-    sound = λ x has. absurd has;
-    complete = λ x is passes.
+  ascending = tt;
+  sound = λ x has. absurd has;
+  complete = λ x is passes.
       let b = both_true (eqb (x.start + 0) (x.end + 1)) true passes in
       let ends : x.start + 0 ≡ x.end + 1 = eqb-true (x.start + 0) (x.end + 1) b.0 in
       let ordered : x.start ≤ x.end = is.ordered in
-      absurd (omega arith)
-  }
+      absurd (omega arith);
+}
 
 module _ (n : ℕ) (stands : List ℕ → ℕ → Bool) (xs : List Extent) where
   pub mark_listed : (tag : Tag) → Lists n (is_term_at stands (tag_text tag)) xs → Lists n (is_in (Mark tag) stands n) xs

@@ -1,7 +1,6 @@
 -- The innermost covers of two ascending lists, by walking them side by side.
-use Rattle.std.proofs.Common.{length, drop, drop_of_length-le, append-nil, ◌≡◌, ℕ, ◌+◌, ◌<◌, ◌≤◌, min, max, Bool, true, false, cond, ◌⊎◌, List, [], ◌∷◌, ◌++◌, refl, sym, ap, ◌∙◌, subst, inl, inr, arith, ltb, ltb-true, ltb-false, leb, leb-true, leb-false, le-leb}
+use Rattle.std.proofs.Common.{length, drop, drop_of_length-le, ◌≡◌, ℕ, ◌<◌, ◌≤◌, Bool, true, false, cond, ◌⊎◌, List, [], ◌∷◌, refl, ap, ◌∙◌, subst, inl, inr, arith, ltb-true, ltb-false, leb-true, leb-false}
 use Rattle.std.specs.Prelude.{nat_lt, if◌then◌else◌}
-use Rattle.std.specs.List.{AllByRecursion}
 use Rattle.std.proofs.lemmas.Bool.{false≢true}
 use Rattle.wu_base.specs.declared.addresses.Extent.{Extent}
 use Rattle.wu_gcl.specs.Extents.{holds}
@@ -66,7 +65,8 @@ first_of place (y ∷ ys) some = (y, inl refl, leb-true y.end place some)
 
 left_put : (y z : Extent) (ys zs xs : List Extent) → IsAscending (y ∷ ys) → IsAscending (z ∷ zs) → y.start < z.start → first_ends_by z.end ys ≡ false → Inner ys (z ∷ zs) xs → Inner (y ∷ ys) (z ∷ zs) (cover y z ∷ xs)
 left_put y z ys zs xs yup zup first none inner = record {
-    ascending = (all_from (IsBefore (cover y z)) xs (λ x has.
+  ascending = (
+    all_from (IsBefore (cover y z)) xs (λ x has.
         let c = inner.sound x has in
         let v = c.0 in let w = c.1 in
         let behind = all_has (IsBefore y) ys v yup.0 c.2 in
@@ -75,51 +75,54 @@ left_put y z ys zs xs yup zup first none inner = record {
         let late : z.end < v.end = ends_behind z.end ys v yup.1 none c.2 in
         let b = first_is_before z w zs zup c.3 in
         let low : z.start ≤ w.start = b.0 in
-        subst (λ (e : Extent). IsBefore (cover y z) e) c.4 (record { starts = omega arith; ends = omega arith }))
-      , inner.ascending);
-    sound = λ x has. elim has [
-        inl here ↦ (y, z, inl refl, inl refl, here)
-      | inr more ↦ let c = inner.sound x more in (c.0, c.1, inr c.2, c.3, c.4) ];
-    dense = λ x c. dense_of x c.0 c.1 c.2 c.3 c.4
-  }
+        subst (λ (e : Extent). IsBefore (cover y z) e) c.4 (record { starts = omega arith; ends = omega arith })),
+    inner.ascending,
+  );
+  sound = λ x has. elim has [
+    | inl here ↦ (y, z, inl refl, inl refl, here)
+    | inr more ↦ let c = inner.sound x more in (c.0, c.1, inr c.2, c.3, c.4)
+  ];
+  dense = λ x c. dense_of x c.0 c.1 c.2 c.3 c.4;
+}
   where
-  dense_of : (x v w : Extent) → Has (y ∷ ys) v → Has (z ∷ zs) w → cover v w ≡ x → Dense (cover y z ∷ xs) x
-  dense_of x v w (inl here) hw is =
-    let b = first_is_before z w zs zup hw in
-    let low : z.start ≤ w.start = b.0 in
-    let high : z.end ≤ w.end = b.1 in
-    let h : Holds (cover y w) (cover y z) = record { start = omega arith; last = omega arith } in
-    let same : cover y w ≡ x = ap (λ (e : Extent). cover e w) here ∙ is in
-    (cover y z, inl refl, subst (λ (e : Extent). holds e (cover y z) ≡ true) same (holds_from (cover y w) (cover y z) h))
-  dense_of x v w (inr more) hw is = put x (cover y z) xs (inner.dense x (v, w, more, hw, is))
+    dense_of : (x v w : Extent) → Has (y ∷ ys) v → Has (z ∷ zs) w → cover v w ≡ x → Dense (cover y z ∷ xs) x
+    dense_of x v w (inl here) hw is =
+        let b = first_is_before z w zs zup hw in
+        let low : z.start ≤ w.start = b.0 in
+        let high : z.end ≤ w.end = b.1 in
+        let h : Holds (cover y w) (cover y z) = record { start = omega arith; last = omega arith } in
+        let same : cover y w ≡ x = ap (λ (e : Extent). cover e w) here ∙ is in
+        (cover y z, inl refl, subst (λ (e : Extent). holds e (cover y z) ≡ true) same (holds_from (cover y w) (cover y z) h))
+    dense_of x v w (inr more) hw is = put x (cover y z) xs (inner.dense x (v, w, more, hw, is))
 
 left_skipped : (y z : Extent) (ys zs xs : List Extent) → IsAscending (y ∷ ys) → IsAscending (z ∷ zs) → y.start < z.start → first_ends_by z.end ys ≡ true → Inner ys (z ∷ zs) xs → Inner (y ∷ ys) (z ∷ zs) xs
 left_skipped y z ys zs xs yup zup first some inner = record {
-    ascending = inner.ascending;
-    sound = λ x has. let c = inner.sound x has in (c.0, c.1, inr c.2, c.3, c.4);
-    dense = λ x c. dense_of x c.0 c.1 c.2 c.3 c.4
-  }
+  ascending = inner.ascending;
+  sound = λ x has. let c = inner.sound x has in (c.0, c.1, inr c.2, c.3, c.4);
+  dense = λ x c. dense_of x c.0 c.1 c.2 c.3 c.4;
+}
   where
-  dense_of : (x v w : Extent) → Has (y ∷ ys) v → Has (z ∷ zs) w → cover v w ≡ x → Dense xs x
-  dense_of x v w (inl here) hw is =
-    let f = first_of z.end ys some in
-    let u = f.0 in
-    let early : u.end ≤ z.end = f.2 in
-    let behind = all_has (IsBefore y) ys u yup.0 f.1 in
-    let starts : y.start < u.start = behind.starts in
-    let b = first_is_before z w zs zup hw in
-    let low : z.start ≤ w.start = b.0 in
-    let high : z.end ≤ w.end = b.1 in
-    let h : Holds (cover y w) (cover u z) = record { start = omega arith; last = omega arith } in
-    let same : cover y w ≡ x = ap (λ (e : Extent). cover e w) here ∙ is in
-    through x (cover u z) xs (subst (λ (e : Extent). Holds e (cover u z)) same h) (inner.dense (cover u z) (u, z, f.1, inl refl, refl))
-  dense_of x v w (inr more) hw is = inner.dense x (v, w, more, hw, is)
+    dense_of : (x v w : Extent) → Has (y ∷ ys) v → Has (z ∷ zs) w → cover v w ≡ x → Dense xs x
+    dense_of x v w (inl here) hw is =
+        let f = first_of z.end ys some in
+        let u = f.0 in
+        let early : u.end ≤ z.end = f.2 in
+        let behind = all_has (IsBefore y) ys u yup.0 f.1 in
+        let starts : y.start < u.start = behind.starts in
+        let b = first_is_before z w zs zup hw in
+        let low : z.start ≤ w.start = b.0 in
+        let high : z.end ≤ w.end = b.1 in
+        let h : Holds (cover y w) (cover u z) = record { start = omega arith; last = omega arith } in
+        let same : cover y w ≡ x = ap (λ (e : Extent). cover e w) here ∙ is in
+        through x (cover u z) xs (subst (λ (e : Extent). Holds e (cover u z)) same h) (inner.dense (cover u z) (u, z, f.1, inl refl, refl))
+    dense_of x v w (inr more) hw is = inner.dense x (v, w, more, hw, is)
 
 -- the same on the other side
 
 right_put : (y z : Extent) (ys zs xs : List Extent) → IsAscending (y ∷ ys) → IsAscending (z ∷ zs) → z.start < y.start → first_ends_by y.end zs ≡ false → Inner (y ∷ ys) zs xs → Inner (y ∷ ys) (z ∷ zs) (cover y z ∷ xs)
 right_put y z ys zs xs yup zup first none inner = record {
-    ascending = (all_from (IsBefore (cover y z)) xs (λ x has.
+  ascending = (
+    all_from (IsBefore (cover y z)) xs (λ x has.
         let c = inner.sound x has in
         let v = c.0 in let w = c.1 in
         let behind = all_has (IsBefore z) zs w zup.0 c.3 in
@@ -128,51 +131,54 @@ right_put y z ys zs xs yup zup first none inner = record {
         let late : y.end < w.end = ends_behind y.end zs w zup.1 none c.3 in
         let b = first_is_before y v ys yup c.2 in
         let low : y.start ≤ v.start = b.0 in
-        subst (λ (e : Extent). IsBefore (cover y z) e) c.4 (record { starts = omega arith; ends = omega arith }))
-      , inner.ascending);
-    sound = λ x has. elim has [
-        inl here ↦ (y, z, inl refl, inl refl, here)
-      | inr more ↦ let c = inner.sound x more in (c.0, c.1, c.2, inr c.3, c.4) ];
-    dense = λ x c. dense_of x c.0 c.1 c.2 c.3 c.4
-  }
+        subst (λ (e : Extent). IsBefore (cover y z) e) c.4 (record { starts = omega arith; ends = omega arith })),
+    inner.ascending,
+  );
+  sound = λ x has. elim has [
+    | inl here ↦ (y, z, inl refl, inl refl, here)
+    | inr more ↦ let c = inner.sound x more in (c.0, c.1, c.2, inr c.3, c.4)
+  ];
+  dense = λ x c. dense_of x c.0 c.1 c.2 c.3 c.4;
+}
   where
-  dense_of : (x v w : Extent) → Has (y ∷ ys) v → Has (z ∷ zs) w → cover v w ≡ x → Dense (cover y z ∷ xs) x
-  dense_of x v w hv (inl here) is =
-    let b = first_is_before y v ys yup hv in
-    let low : y.start ≤ v.start = b.0 in
-    let high : y.end ≤ v.end = b.1 in
-    let h : Holds (cover v z) (cover y z) = record { start = omega arith; last = omega arith } in
-    let same : cover v z ≡ x = ap (λ (e : Extent). cover v e) here ∙ is in
-    (cover y z, inl refl, subst (λ (e : Extent). holds e (cover y z) ≡ true) same (holds_from (cover v z) (cover y z) h))
-  dense_of x v w hv (inr more) is = put x (cover y z) xs (inner.dense x (v, w, hv, more, is))
+    dense_of : (x v w : Extent) → Has (y ∷ ys) v → Has (z ∷ zs) w → cover v w ≡ x → Dense (cover y z ∷ xs) x
+    dense_of x v w hv (inl here) is =
+        let b = first_is_before y v ys yup hv in
+        let low : y.start ≤ v.start = b.0 in
+        let high : y.end ≤ v.end = b.1 in
+        let h : Holds (cover v z) (cover y z) = record { start = omega arith; last = omega arith } in
+        let same : cover v z ≡ x = ap (λ (e : Extent). cover v e) here ∙ is in
+        (cover y z, inl refl, subst (λ (e : Extent). holds e (cover y z) ≡ true) same (holds_from (cover v z) (cover y z) h))
+    dense_of x v w hv (inr more) is = put x (cover y z) xs (inner.dense x (v, w, hv, more, is))
 
 right_skipped : (y z : Extent) (ys zs xs : List Extent) → IsAscending (y ∷ ys) → IsAscending (z ∷ zs) → z.start < y.start → first_ends_by y.end zs ≡ true → Inner (y ∷ ys) zs xs → Inner (y ∷ ys) (z ∷ zs) xs
 right_skipped y z ys zs xs yup zup first some inner = record {
-    ascending = inner.ascending;
-    sound = λ x has. let c = inner.sound x has in (c.0, c.1, c.2, inr c.3, c.4);
-    dense = λ x c. dense_of x c.0 c.1 c.2 c.3 c.4
-  }
+  ascending = inner.ascending;
+  sound = λ x has. let c = inner.sound x has in (c.0, c.1, c.2, inr c.3, c.4);
+  dense = λ x c. dense_of x c.0 c.1 c.2 c.3 c.4;
+}
   where
-  dense_of : (x v w : Extent) → Has (y ∷ ys) v → Has (z ∷ zs) w → cover v w ≡ x → Dense xs x
-  dense_of x v w hv (inl here) is =
-    let f = first_of y.end zs some in
-    let u = f.0 in
-    let early : u.end ≤ y.end = f.2 in
-    let behind = all_has (IsBefore z) zs u zup.0 f.1 in
-    let starts : z.start < u.start = behind.starts in
-    let b = first_is_before y v ys yup hv in
-    let low : y.start ≤ v.start = b.0 in
-    let high : y.end ≤ v.end = b.1 in
-    let h : Holds (cover v z) (cover y u) = record { start = omega arith; last = omega arith } in
-    let same : cover v z ≡ x = ap (λ (e : Extent). cover v e) here ∙ is in
-    through x (cover y u) xs (subst (λ (e : Extent). Holds e (cover y u)) same h) (inner.dense (cover y u) (y, u, inl refl, f.1, refl))
-  dense_of x v w hv (inr more) is = inner.dense x (v, w, hv, more, is)
+    dense_of : (x v w : Extent) → Has (y ∷ ys) v → Has (z ∷ zs) w → cover v w ≡ x → Dense xs x
+    dense_of x v w hv (inl here) is =
+        let f = first_of y.end zs some in
+        let u = f.0 in
+        let early : u.end ≤ y.end = f.2 in
+        let behind = all_has (IsBefore z) zs u zup.0 f.1 in
+        let starts : z.start < u.start = behind.starts in
+        let b = first_is_before y v ys yup hv in
+        let low : y.start ≤ v.start = b.0 in
+        let high : y.end ≤ v.end = b.1 in
+        let h : Holds (cover v z) (cover y u) = record { start = omega arith; last = omega arith } in
+        let same : cover v z ≡ x = ap (λ (e : Extent). cover v e) here ∙ is in
+        through x (cover y u) xs (subst (λ (e : Extent). Holds e (cover y u)) same h) (inner.dense (cover y u) (y, u, inl refl, f.1, refl))
+    dense_of x v w hv (inr more) is = inner.dense x (v, w, hv, more, is)
 
 -- both start at one place
 
 both_put : (y z : Extent) (ys zs xs : List Extent) → IsAscending (y ∷ ys) → IsAscending (z ∷ zs) → y.start ≡ z.start → Inner ys zs xs → Inner (y ∷ ys) (z ∷ zs) (cover y z ∷ xs)
 both_put y z ys zs xs yup zup level inner = record {
-    ascending = (all_from (IsBefore (cover y z)) xs (λ x has.
+  ascending = (
+    all_from (IsBefore (cover y z)) xs (λ x has.
         let c = inner.sound x has in
         let v = c.0 in let w = c.1 in
         let left = all_has (IsBefore y) ys v yup.0 c.2 in
@@ -181,30 +187,32 @@ both_put y z ys zs xs yup zup level inner = record {
         let left_ends : y.end < v.end = left.ends in
         let right_starts : z.start < w.start = right.starts in
         let right_ends : z.end < w.end = right.ends in
-        subst (λ (e : Extent). IsBefore (cover y z) e) c.4 (record { starts = omega arith; ends = omega arith }))
-      , inner.ascending);
-    sound = λ x has. elim has [
-        inl here ↦ (y, z, inl refl, inl refl, here)
-      | inr more ↦ let c = inner.sound x more in (c.0, c.1, inr c.2, inr c.3, c.4) ];
-    dense = λ x c. dense_of x c.0 c.1 c.2 c.3 c.4
-  }
+        subst (λ (e : Extent). IsBefore (cover y z) e) c.4 (record { starts = omega arith; ends = omega arith })),
+    inner.ascending,
+  );
+  sound = λ x has. elim has [
+    | inl here ↦ (y, z, inl refl, inl refl, here)
+    | inr more ↦ let c = inner.sound x more in (c.0, c.1, inr c.2, inr c.3, c.4)
+  ];
+  dense = λ x c. dense_of x c.0 c.1 c.2 c.3 c.4;
+}
   where
-  dense_of : (x v w : Extent) → Has (y ∷ ys) v → Has (z ∷ zs) w → cover v w ≡ x → Dense (cover y z ∷ xs) x
-  dense_of x v w (inl here) hw is =
-    let b = first_is_before z w zs zup hw in
-    let low : z.start ≤ w.start = b.0 in
-    let high : z.end ≤ w.end = b.1 in
-    let h : Holds (cover y w) (cover y z) = record { start = omega arith; last = omega arith } in
-    let same : cover y w ≡ x = ap (λ (e : Extent). cover e w) here ∙ is in
-    (cover y z, inl refl, subst (λ (e : Extent). holds e (cover y z) ≡ true) same (holds_from (cover y w) (cover y z) h))
-  dense_of x v w (inr more) (inl here) is =
-    let behind = all_has (IsBefore y) ys v yup.0 more in
-    let starts : y.start < v.start = behind.starts in
-    let ends : y.end < v.end = behind.ends in
-    let h : Holds (cover v z) (cover y z) = record { start = omega arith; last = omega arith } in
-    let same : cover v z ≡ x = ap (λ (e : Extent). cover v e) here ∙ is in
-    (cover y z, inl refl, subst (λ (e : Extent). holds e (cover y z) ≡ true) same (holds_from (cover v z) (cover y z) h))
-  dense_of x v w (inr more) (inr rest) is = put x (cover y z) xs (inner.dense x (v, w, more, rest, is))
+    dense_of : (x v w : Extent) → Has (y ∷ ys) v → Has (z ∷ zs) w → cover v w ≡ x → Dense (cover y z ∷ xs) x
+    dense_of x v w (inl here) hw is =
+        let b = first_is_before z w zs zup hw in
+        let low : z.start ≤ w.start = b.0 in
+        let high : z.end ≤ w.end = b.1 in
+        let h : Holds (cover y w) (cover y z) = record { start = omega arith; last = omega arith } in
+        let same : cover y w ≡ x = ap (λ (e : Extent). cover e w) here ∙ is in
+        (cover y z, inl refl, subst (λ (e : Extent). holds e (cover y z) ≡ true) same (holds_from (cover y w) (cover y z) h))
+    dense_of x v w (inr more) (inl here) is =
+        let behind = all_has (IsBefore y) ys v yup.0 more in
+        let starts : y.start < v.start = behind.starts in
+        let ends : y.end < v.end = behind.ends in
+        let h : Holds (cover v z) (cover y z) = record { start = omega arith; last = omega arith } in
+        let same : cover v z ≡ x = ap (λ (e : Extent). cover v e) here ∙ is in
+        (cover y z, inl refl, subst (λ (e : Extent). holds e (cover y z) ≡ true) same (holds_from (cover v z) (cover y z) h))
+    dense_of x v w (inr more) (inr rest) is = put x (cover y z) xs (inner.dense x (v, w, more, rest, is))
 
 put_left : (b : Bool) (y z : Extent) (ys zs xs : List Extent) → IsAscending (y ∷ ys) → IsAscending (z ∷ zs) → y.start < z.start → first_ends_by z.end ys ≡ b → Inner ys (z ∷ zs) xs → Inner (y ∷ ys) (z ∷ zs) (put_unless b (cover y z) xs)
 put_left true y z ys zs xs yup zup first is inner = left_skipped y z ys zs xs yup zup first is inner

@@ -1,10 +1,8 @@
 -- The addresses of a term that lie in a frame.
-use Rattle.std.proofs.Common.{◌≡◌, ℕ, zero, suc, ◌+◌, ◌-◌, ◌<◌, ◌≤◌, Bool, true, false, cond, ◌&&◌, ◌||◌, ◌⊎◌, List, [], ◌∷◌, length, get_or, filter, nat_lt, nat_le, refl, sym, ap, ◌∙◌, subst, inl, inr, arith, eqb, eqb-true, leb-true, ltb-true}
+use Rattle.std.proofs.Common.{◌≡◌, ℕ, ◌+◌, ◌<◌, ◌≤◌, Bool, true, false, cond, ◌&&◌, ◌||◌, List, [], ◌∷◌, length, get_or, filter, nat_lt, nat_le, refl, sym, ap, ◌∙◌, subst, eqb, eqb-true, leb-true, ltb-true}
 use Rattle.std.specs.List.Sorted.{IsStrictlyIncreasing}
 use Rattle.std.proofs.lemmas.List.Kept.{IsStrictlyIncreasing-filter}
-use Rattle.std.proofs.lemmas.Bool.{false≢true}
-use Rattle.wu_base.specs.declared.addresses.TermList.{TermList}
-use Rattle.wu_solve.specs.Addresses.{is_among, has_address}
+use Rattle.wu_solve.specs.Addresses.{is_among}
 use Rattle.wu_solve.proofs.Sets.{both_true}
 use Rattle.wu_solve.proofs.Numbers.{place_among}
 
@@ -15,16 +13,16 @@ both_false false = refl
 kept_among : (p : ℕ → Bool) (x a : ℕ) (xs : List ℕ) (test : Bool) → p x ≡ test → is_among (filter p xs) a ≡ (is_among xs a && p a) → is_among (cond test (x ∷ filter p xs) (filter p xs)) a ≡ ((eqb x a || is_among xs a) && p a)
 kept_among p x a xs true is more = here (eqb x a) refl
   where
-  here : (same : Bool) → eqb x a ≡ same → (same || is_among (filter p xs) a) ≡ ((same || is_among xs a) && p a)
-  here true eq = sym (subst (λ (n : ℕ). p n ≡ true) (eqb-true x a eq) is)
-  here false eq = more
+    here : (same : Bool) → eqb x a ≡ same → (same || is_among (filter p xs) a) ≡ ((same || is_among xs a) && p a)
+    here true eq = sym (subst (λ (n : ℕ). p n ≡ true) (eqb-true x a eq) is)
+    here false eq = more
 kept_among p x a xs false is more = here (eqb x a) refl
   where
-  here : (same : Bool) → eqb x a ≡ same → is_among (filter p xs) a ≡ ((same || is_among xs a) && p a)
-  here true eq =
-    let fails : p a ≡ false = subst (λ (n : ℕ). p n ≡ false) (eqb-true x a eq) is in
-    more ∙ rw fails (both_false (is_among xs a))
-  here false eq = more
+    here : (same : Bool) → eqb x a ≡ same → is_among (filter p xs) a ≡ ((same || is_among xs a) && p a)
+    here true eq =
+        let fails : p a ≡ false = subst (λ (n : ℕ). p n ≡ false) (eqb-true x a eq) is in
+        more ∙ rw fails (both_false (is_among xs a))
+    here false eq = more
 
 pub among_filter : (p : ℕ → Bool) (xs : List ℕ) (a : ℕ) → is_among (filter p xs) a ≡ (is_among xs a && p a)
 among_filter p [] a = refl

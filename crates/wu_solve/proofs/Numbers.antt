@@ -1,7 +1,6 @@
 -- Ascending numbers, and where a binary search ends in them.
-use Rattle.std.proofs.Common.{◌≡◌, ℕ, zero, suc, ◌+◌, ◌-◌, ◌<◌, ◌≤◌, Bool, true, false, cond, ◌⊎◌, List, [], ◌∷◌, length, take, drop, get_or, filter, nat_lt, nat_le, Result, Ok, Err, refl, sym, ap, ◌∙◌, subst, inl, inr, arith, lt-ltb, le-ltb, le-leb, eq-eqb, eqb-true, add-one, eqb}
+use Rattle.std.proofs.Common.{◌≡◌, ℕ, zero, suc, ◌+◌, ◌<◌, ◌≤◌, Bool, true, false, ◌⊎◌, List, [], ◌∷◌, length, take, drop, get_or, filter, nat_lt, nat_le, Result, Ok, Err, refl, sym, ap, inl, inr, arith, lt-ltb, le-ltb, le-leb, eq-eqb, eqb-true, add-one, eqb}
 use Rattle.std.specs.Prelude.{is_ok}
-use Rattle.std.specs.List.{list_any}
 use Rattle.std.specs.List.Sorted.{IsStrictlyIncreasing, IsBinarySearchResult}
 use Rattle.std.specs.Ordering.{nat_cmp}
 use Rattle.std.proofs.lemmas.List.Sorted.{searched}
@@ -16,20 +15,20 @@ increasing_far xs up i (suc j) less within =
     let step : get_or xs j 0 < get_or xs (suc j) 0 = rw (← add-one j) (up j (omega arith)) in
     let cases : (i ≡ j) ⊎ (i < j) = grind arith in
     elim cases [
-      inl same ↦ rw same step
-    | inr before ↦ let far = increasing_far xs up i j before (omega arith) in omega arith
+      | inl same ↦ rw same step
+      | inr before ↦ let far = increasing_far xs up i j before (omega arith) in omega arith
     ]
 
 pub increasing_not_below : (xs : List ℕ) → IsStrictlyIncreasing xs → (i j : ℕ) → i ≤ j → j < length xs → get_or xs i 0 ≤ get_or xs j 0
 increasing_not_below xs up i j less within =
     let cases : (i ≡ j) ⊎ (i < j) = grind arith in
     elim cases [
-      inl same ↦ rw same (omega arith)
-    | inr before ↦ let far = increasing_far xs up i j before within in omega arith
+      | inl same ↦ rw same (omega arith)
+      | inr before ↦ let far = increasing_far xs up i j before within in omega arith
     ]
 
 pub increasing_rest : (x : ℕ) (xs : List ℕ) → IsStrictlyIncreasing (x ∷ xs) → IsStrictlyIncreasing xs
-increasing_rest x xs up k within = 
+increasing_rest x xs up k within =
     let next : get_or (x ∷ xs) (suc k) 0 < get_or (x ∷ xs) (suc k + 1) 0 = up (suc k) (omega arith) in
     let one : suc k + 1 ≡ suc (k + 1) = omega arith in
     rw one at next
@@ -70,7 +69,7 @@ found_there xs bound i up is =
     record {
       within = omega (arith, s.0);
       front = λ k less. let far = increasing_far xs up k i less s.0 in omega (arith, s.1);
-      rest = λ k low high. let far = increasing_not_below xs up i k low high in omega (arith, s.1)
+      rest = λ k low high. let far = increasing_not_below xs up i k low high in omega (arith, s.1);
     }
 
 pub not_found : (xs : List ℕ) (bound i : ℕ) → IsStrictlyIncreasing xs → IsBinarySearchResult (λ y. nat_cmp y bound) xs (Err i) → EndsBelow xs bound i
@@ -79,7 +78,7 @@ not_found xs bound i up is =
     record {
       within = s.0;
       front = s.1;
-      rest = λ k low high. let far = s.2 k low high in omega arith
+      rest = λ k low high. let far = s.2 k low high in omega arith;
     }
 
 pub below_bound : (xs : List ℕ) (bound i : ℕ) → EndsBelow xs bound i → take i xs ≡ filter (λ a. nat_lt a bound) xs
@@ -92,8 +91,8 @@ from_bound xs bound i ends = drop_filter (λ a. nat_le bound a) xs i ends.within
     (λ k less. above (get_or xs k 0) (ends.front k less))
     (λ k low high. le-leb bound (get_or xs k 0) (ends.rest k low high))
   where
-  above : (a : ℕ) → a < bound → nat_le bound a ≡ false
-  above a less = grind (arith, nat_tests)
+    above : (a : ℕ) → a < bound → nat_le bound a ≡ false
+    above a less = grind (arith, nat_tests)
 
 -- members
 
@@ -101,8 +100,8 @@ pub among_place : (xs : List ℕ) (a : ℕ) → is_among xs a ≡ true → (k : 
 among_place [] a is = absurd (false≢true is)
 among_place (x ∷ xs) a is =
     elim (either_true (eqb x a) (is_among xs a) is) [
-      inl here ↦ (0, omega arith, eqb-true x a here)
-    | inr more ↦ let p = among_place xs a more in (suc p.0, omega (arith, p.1), p.2)
+      | inl here ↦ (0, omega arith, eqb-true x a here)
+      | inr more ↦ let p = among_place xs a more in (suc p.0, omega (arith, p.1), p.2)
     ]
 
 pub place_among : (xs : List ℕ) (a k : ℕ) → k < length xs → get_or xs k 0 ≡ a → is_among xs a ≡ true
@@ -115,9 +114,9 @@ searched_for xs a (Ok i) up is = let s = searched xs a (Ok i) is (increasing_not
 searched_for xs a (Err i) up is =
     let ends = searched xs a (Err i) is (increasing_not_below xs up) in
     alike false (is_among xs a) (λ impossible. absurd (false≢true impossible)) (λ among.
-      let p = among_place xs a among in
-      let cases : (p.0 < i) ⊎ (i ≤ p.0) = grind arith in
-      elim cases [
-        inl low ↦ let b = ends.1 p.0 low in absurd (omega (arith, p.2))
+    let p = among_place xs a among in
+    let cases : (p.0 < i) ⊎ (i ≤ p.0) = grind arith in
+    elim cases [
+      | inl low ↦ let b = ends.1 p.0 low in absurd (omega (arith, p.2))
       | inr high ↦ let b = ends.2 p.0 high p.1 in absurd (omega (arith, p.2))
-      ])
+    ])

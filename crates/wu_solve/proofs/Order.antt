@@ -1,7 +1,7 @@
 -- The extents of a text in their order, and the one list of a set.
 use Rattle.std.proofs.Common.{◌≡◌, ℕ, zero, suc, ◌+◌, ◌-◌, ◌<◌, ◌≤◌, Bool, true, false, cond, ◌⊎◌, List, [], ◌∷◌, ◌++◌, map, refl, sym, ap, ◌∙◌, subst, inl, inr, arith}
 use Rattle.std.specs.Prelude.{filter}
-use Rattle.std.specs.List.{list_any, flat_map, range_with_len, AllByRecursion}
+use Rattle.std.specs.List.{flat_map, range_with_len, AllByRecursion}
 use Rattle.wu_base.specs.declared.addresses.Extent.{Extent}
 use Rattle.wu_gcl.specs.Extents.{extents_of, some_extent}
 use Rattle.wu_solve.specs.Listing.{IsBefore, IsAscending, Has, IsExtentIn, Lists}
@@ -42,15 +42,16 @@ one_list (x ∷ xs) [] xup yup to back = absurd (to x (inl refl))
 one_list (x ∷ xs) (y ∷ ys) xup yup to back =
     let same : x ≡ y = first_same x y xs ys xup.0 yup.0 (to x (inl refl)) (back y (inl refl)) in
     let rest : xs ≡ ys = one_list xs ys xup.1 yup.1
-        (λ z has. rest_has x y z xs ys xup.0 same has (to z (inr has)))
-        (λ z has. rest_has y x z ys xs yup.0 (sym same) has (back z (inr has))) in
+    (λ z has. rest_has x y z xs ys xup.0 same has (to z (inr has)))
+    (λ z has. rest_has y x z ys xs yup.0 (sym same) has (back z (inr has))) in
     cc
 
 ordered_append : (xs ys : List Extent) → IsOrdered xs → IsOrdered ys → ((x y : Extent) → Has xs x → Has ys y → Earlier x y) → IsOrdered (xs ++ ys)
 ordered_append [] ys xup yup apart = yup
-ordered_append (x ∷ xs) ys xup yup apart =
-    (all_from (Earlier x) (xs ++ ys) (λ z has. elim (has_either xs ys z has) [ inl left ↦ all_has (Earlier x) xs z xup.0 left | inr right ↦ apart x z (inl refl) right ])
-    , ordered_append xs ys xup.1 yup (λ v w hv hw. apart v w (inr hv) hw))
+ordered_append (x ∷ xs) ys xup yup apart = (
+  all_from (Earlier x) (xs ++ ys) (λ z has. elim (has_either xs ys z has) [ inl left ↦ all_has (Earlier x) xs z xup.0 left | inr right ↦ apart x z (inl refl) right ]),
+  ordered_append xs ys xup.1 yup (λ v w hv hw. apart v w (inr hv) hw),
+)
 
 -- the extents that start at one place
 abbrev row : ℕ → ℕ → ℕ → List Extent
@@ -74,8 +75,8 @@ row_has first b zero x s low high = absurd (omega arith)
 row_has first b (suc k) x s low high =
     let cases : (b ≡ x.end) ⊎ (b + 1 ≤ x.end) = grind arith in
     elim cases [
-      inl here ↦ inl (same_ends _ x (sym s) here)
-    | inr more ↦ inr (row_has first (b + 1) k x s more (omega arith))
+      | inl here ↦ inl (same_ends _ x (sym s) here)
+      | inr more ↦ inr (row_has first (b + 1) k x s more (omega arith))
     ]
 
 row_ordered : (first b k : ℕ) → IsOrdered (row first b k)
@@ -87,8 +88,8 @@ in_rows : (n a k : ℕ) (x : Extent) → Has (rows n a k) x → (a ≤ x.start) 
 in_rows n a zero x has = absurd has
 in_rows n a (suc k) x has =
     elim (has_either (row a a (n - a)) (rows n (a + 1) k) x has) [
-      inl here ↦ let r = in_row a a (n - a) x here in (omega (arith, r.0), omega (arith, r.0), record { ordered = omega (arith, r.0, r.1); within = omega (arith, r.1, r.2) })
-    | inr more ↦ let r = in_rows n (a + 1) k x more in (omega (arith, r.0), omega (arith, r.1), r.2)
+      | inl here ↦ let r = in_row a a (n - a) x here in (omega (arith, r.0), omega (arith, r.0), record { ordered = omega (arith, r.0, r.1); within = omega (arith, r.1, r.2) })
+      | inr more ↦ let r = in_rows n (a + 1) k x more in (omega (arith, r.0), omega (arith, r.1), r.2)
     ]
 
 rows_have : (n a k : ℕ) (x : Extent) → a ≤ x.start → x.start < a + k → IsExtentIn n x → Has (rows n a k) x
@@ -96,15 +97,15 @@ rows_have n a zero x low high is = absurd (omega arith)
 rows_have n a (suc k) x low high is =
     let cases : (x.start ≡ a) ⊎ (a + 1 ≤ x.start) = grind arith in
     elim cases [
-      inl here ↦ has_left (row a a (n - a)) (rows n (a + 1) k) x (row_has a a (n - a) x here (omega (arith, is.ordered)) (omega (arith, is.ordered, is.within)))
-    | inr more ↦ has_right (row a a (n - a)) (rows n (a + 1) k) x (rows_have n (a + 1) k x more (omega arith) is)
+      | inl here ↦ has_left (row a a (n - a)) (rows n (a + 1) k) x (row_has a a (n - a) x here (omega (arith, is.ordered)) (omega (arith, is.ordered, is.within)))
+      | inr more ↦ has_right (row a a (n - a)) (rows n (a + 1) k) x (rows_have n (a + 1) k x more (omega arith) is)
     ]
 
 rows_ordered : (n a k : ℕ) → IsOrdered (rows n a k)
 rows_ordered n a zero = tt
 rows_ordered n a (suc k) =
     ordered_append (row a a (n - a)) (rows n (a + 1) k) (row_ordered a a (n - a)) (rows_ordered n (a + 1) k)
-      (λ x y hx hy. let r = in_row a a (n - a) x hx in let s = in_rows n (a + 1) k y hy in inl (omega (arith, r.0, s.0)))
+    (λ x y hx hy. let r = in_row a a (n - a) x hx in let s = in_rows n (a + 1) k y hy in inl (omega (arith, r.0, s.0)))
 
 pub extents_in : (n : ℕ) (x : Extent) → Has (extents_of n) x → IsExtentIn n x
 unfolding extents_of

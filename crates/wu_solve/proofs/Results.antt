@@ -1,7 +1,7 @@
 -- What every answer is like: its order, and what it depends on.
-use Rattle.std.proofs.Common.{◌≡◌, ℕ, zero, suc, ◌+◌, ◌-◌, ◌^◌, ◌<◌, ◌≤◌, Bool, true, false, cond, not, ◌&&◌, ◌||◌, ◌⊎◌, List, [], ◌∷◌, ◌++◌, length, map, refl, sym, ap, ◌∙◌, subst, inl, inr, arith, eqb, eqb-true, get_or, drop, drop-cons, add-one, append_assoc}
+use Rattle.std.proofs.Common.{◌≡◌, ℕ, zero, suc, ◌+◌, ◌-◌, ◌^◌, ◌<◌, ◌≤◌, Bool, true, false, not, ◌&&◌, ◌⊎◌, List, [], ◌∷◌, ◌++◌, length, map, refl, sym, ap, ◌∙◌, subst, inl, inr, arith, eqb, eqb-true, get_or, drop, drop-cons, add-one, append_assoc}
 use Rattle.std.specs.Prelude.{filter, Contains, All, nat_lt}
-use Rattle.std.specs.List.{list_any, flat_map, range_with_len, AllByRecursion}
+use Rattle.std.specs.List.{range_with_len, AllByRecursion}
 use Rattle.std.proofs.lemmas.List.Elements.{All-from_recursion, Contains-append_left, Contains-append_right}
 use Rattle.wu_base.specs.declared.addresses.Extent.{Extent}
 use Rattle.wu_base.specs.declared.addresses.Range.{Range}
@@ -17,8 +17,8 @@ use Rattle.wu_solve.specs.Listing.{IsBefore, IsAscending, Has, IsExtentIn, Lists
 use Rattle.wu_solve.specs.Addresses.{has_address, stands_by}
 use Rattle.wu_solve.specs.Operands.{run_from}
 use Rattle.wu_solve.specs.Merging.{holding, held}
-use Rattle.wu_solve.specs.Solving.{moved, frame_hits, frames_hits, IsFrame, AreApart}
-use Rattle.wu_solve.proofs.Sets.{alike, both_true, and_true, all_has, all_from, has_either}
+use Rattle.wu_solve.specs.Solving.{moved, frame_hits, frames_hits, AreApart}
+use Rattle.wu_solve.proofs.Sets.{alike, all_has, all_from, has_either}
 use Rattle.wu_solve.proofs.Order.{listed, some_found, some_from, extents_in}
 use Rattle.wu_solve.proofs.Operators.{filter_lists}
 use Rattle.wu_solve.proofs.Phrases.{windows_listed, no_windows}
@@ -45,15 +45,15 @@ window_listing : (size n : ℕ) (stands : List ℕ → ℕ → Bool) → Listing
 window_listing size n stands =
     let cases : ((size ≡ 0) ⊎ (n < size)) ⊎ ((0 < size) × (size ≤ n)) = by_size size in
     elim cases [
-      inl none ↦ ([], no_windows size n stands none)
-    | inr some ↦ (map (run_from (size - 1)) (range_with_len 0 (n - size + 1)), windows_listed size n stands some.0 some.1)
+      | inl none ↦ ([], no_windows size n stands none)
+      | inr some ↦ (map (run_from (size - 1)) (range_with_len 0 (n - size + 1)), windows_listed size n stands some.0 some.1)
     ]
   where
-  by_size : (size : ℕ) → ((size ≡ 0) ⊎ (n < size)) ⊎ ((0 < size) × (size ≤ n))
-  by_size zero = inl (inl refl)
-  by_size (suc k) =
-    let within : (n < suc k) ⊎ (suc k ≤ n) = grind arith in
-    elim within [ inl large ↦ inl (inr large) | inr fits ↦ inr (omega arith, fits) ]
+    by_size : (size : ℕ) → ((size ≡ 0) ⊎ (n < size)) ⊎ ((0 < size) × (size ≤ n))
+    by_size zero = inl (inl refl)
+    by_size (suc k) =
+        let within : (n < suc k) ⊎ (suc k ≤ n) = grind arith in
+        elim within [ inl large ↦ inl (inr large) | inr fits ↦ inr (omega arith, fits) ]
 
 phrase_listing : (words : List (List ℕ)) (stands : List ℕ → ℕ → Bool) (n : ℕ) → Listing n (is_in (Phrase words) stands n)
 unfolding is_in
@@ -86,9 +86,10 @@ hits_in region stands n x has = ((hits_listed region stands n).sound x has).0
 
 ascending_append : (xs ys : List Extent) → IsAscending xs → IsAscending ys → ((x y : Extent) → Has xs x → Has ys y → IsBefore x y) → IsAscending (xs ++ ys)
 ascending_append [] ys xup yup apart = yup
-ascending_append (x ∷ xs) ys xup yup apart =
-    (all_from (IsBefore x) (xs ++ ys) (λ z has. elim (has_either xs ys z has) [ inl left ↦ all_has (IsBefore x) xs z xup.0 left | inr right ↦ apart x z (inl refl) right ])
-    , ascending_append xs ys xup.1 yup (λ v w hv hw. apart v w (inr hv) hw))
+ascending_append (x ∷ xs) ys xup yup apart = (
+  all_from (IsBefore x) (xs ++ ys) (λ z has. elim (has_either xs ys z has) [ inl left ↦ all_has (IsBefore x) xs z xup.0 left | inr right ↦ apart x z (inl refl) right ]),
+  ascending_append xs ys xup.1 yup (λ v w hv hw. apart v w (inr hv) hw),
+)
 
 from_moved : (start : ℕ) (xs : List Extent) (x : Extent) → Has (map (moved start) xs) x → (y : Extent) × Has xs y × (moved start y ≡ x)
 from_moved start [] x has = absurd has
@@ -97,14 +98,15 @@ from_moved start (y ∷ ys) x (inr more) = let m = from_moved start ys x more in
 
 moved_ascend : (start : ℕ) (xs : List Extent) → IsAscending xs → IsAscending (map (moved start) xs)
 moved_ascend start [] up = tt
-moved_ascend start (x ∷ xs) up =
-    (all_from (IsBefore (moved start x)) (map (moved start) xs) (λ z has.
+moved_ascend start (x ∷ xs) up = (
+  all_from (IsBefore (moved start x)) (map (moved start) xs) (λ z has.
       let m = from_moved start xs z has in
       let before = all_has (IsBefore x) xs m.0 up.0 m.1 in
       let starts : x.start < m.0.start = before.starts in
       let ends : x.end < m.0.end = before.ends in
-      subst (λ (e : Extent). IsBefore (moved start x) e) m.2 (record { starts = omega arith; ends = omega arith }))
-    , moved_ascend start xs up.1)
+      subst (λ (e : Extent). IsBefore (moved start x) e) m.2 (record { starts = omega arith; ends = omega arith })),
+  moved_ascend start xs up.1,
+)
 
 record LiesIn (frame : Range) (x : Extent) : Type 0 where
   low : frame.start ≤ x.start
@@ -123,20 +125,20 @@ lies_behind : (region : Region) (lists : List TermList) (frames : List Range) (p
 lies_behind region lists [] place x behind has = absurd has
 lies_behind region lists (frame ∷ frames) place x behind has =
     elim (has_either (frame_hits region lists frame) (frames_hits region lists frames) x has) [
-      inl here ↦ let l = lies_in region lists frame x here in let first : place ≤ frame.start = behind.0 in (omega (arith, l.low), l.ordered)
-    | inr more ↦ lies_behind region lists frames place x behind.1 more
+      | inl here ↦ let l = lies_in region lists frame x here in let first : place ≤ frame.start = behind.0 in (omega (arith, l.low), l.ordered)
+      | inr more ↦ lies_behind region lists frames place x behind.1 more
     ]
 
 pub frames_ascend : (region : Region) (lists : List TermList) (frames : List Range) → AreApart frames → IsAscending (frames_hits region lists frames)
 frames_ascend region lists [] apart = tt
 frames_ascend region lists (frame ∷ frames) apart =
     ascending_append (frame_hits region lists frame) (frames_hits region lists frames)
-      (moved_ascend frame.start _ (hits_ascend region (stands_by lists frame.start) frame.len))
-      (frames_ascend region lists frames apart.1)
-      (λ x y hx hy.
-        let l = lies_in region lists frame x hx in
-        let b = lies_behind region lists frames (frame.start + frame.len) y apart.0 hy in
-        record { starts = omega (arith, l.ordered, l.high, b.0); ends = omega (arith, l.high, b.0, b.1) })
+    (moved_ascend frame.start _ (hits_ascend region (stands_by lists frame.start) frame.len))
+    (frames_ascend region lists frames apart.1)
+    (λ x y hx hy.
+    let l = lies_in region lists frame x hx in
+    let b = lies_behind region lists frames (frame.start + frame.len) y apart.0 hy in
+    record { starts = omega (arith, l.ordered, l.high, b.0); ends = omega (arith, l.high, b.0, b.1) })
 
 -- what is put for a frame fits
 pub moved_fits : (n start : ℕ) (set : Extent → Bool) (xs : List Extent) → start + n ≤ 2 ^ 47 → Lists n set xs → All (λ x. (start + x.start < 2 ^ 64) × (start + x.end < 2 ^ 64)) xs
@@ -179,12 +181,14 @@ combined_alike OneOf n p q r s left right x is =
     innermost_alike n (in_either p r) (in_either q s) (λ y in_y. rw (left y in_y, right y in_y) refl) x is
 combined_alike BothOf n p q r s left right x is =
     innermost_alike n (holds_both n p r) (holds_both n q s) (λ z in_z.
-      rw (some_alike n (λ y. holds z y && p y) (λ y. holds z y && q y) (λ y in_y. ap (λ (b : Bool). holds z y && b) (left y in_y))
-        , some_alike n (λ y. holds z y && r y) (λ y. holds z y && s y) (λ y in_y. ap (λ (b : Bool). holds z y && b) (right y in_y))) refl) x is
+    rw (
+      some_alike n (λ y. holds z y && p y) (λ y. holds z y && q y) (λ y in_y. ap (λ (b : Bool). holds z y && b) (left y in_y)),
+      some_alike n (λ y. holds z y && r y) (λ y. holds z y && s y) (λ y in_y. ap (λ (b : Bool). holds z y && b) (right y in_y)),
+    ) refl) x is
 combined_alike FollowedBy n p q r s left right x is =
     innermost_alike n (holds_in_order n p r) (holds_in_order n q s) (λ v in_v.
-      some_alike n _ _ (λ y in_y.
-        rw (left y in_y, some_alike n (λ z. holds v z && r z && nat_lt y.end z.start) (λ z. holds v z && s z && nat_lt y.end z.start) (λ z in_z. ap (λ (b : Bool). holds v z && b && nat_lt y.end z.start) (right z in_z))) refl)) x is
+    some_alike n _ _ (λ y in_y.
+    rw (left y in_y, some_alike n (λ z. holds v z && r z && nat_lt y.end z.start) (λ z. holds v z && s z && nat_lt y.end z.start) (λ z in_z. ap (λ (b : Bool). holds v z && b && nat_lt y.end z.start) (right z in_z))) refl)) x is
 
 abbrev Agree : List (List ℕ) → ℕ → (List ℕ → ℕ → Bool) → (List ℕ → ℕ → Bool) → Type 0
 Agree terms n one other = (term : List ℕ) → Contains terms term → (place : ℕ) → place < n → one term place ≡ other term place
@@ -200,7 +204,7 @@ words_alike [] n one other place same fits = refl
 words_alike (word ∷ words) n one other place same fits =
     let here : one word place ≡ other word place = same word (first_agrees word words) place (omega arith) in
     let rest : words_stand one words (place + 1) ≡ words_stand other words (place + 1) =
-      words_alike words n one other (place + 1) (λ term has p low. same term (rest_agrees word words term has) p low) (omega arith) in
+    words_alike words n one other (place + 1) (λ term has p low. same term (rest_agrees word words term has) p low) (omega arith) in
     rw (here, rest) refl
 
 and_alike : (b c d : Bool) → (b ≡ true → c ≡ d) → (b && c) ≡ (b && d)
@@ -217,24 +221,24 @@ is_in_alike : (region : Region) (n : ℕ) (one other : List ℕ → ℕ → Bool
 unfolding is_in
 is_in_alike (Phrase words) n one other same x is =
     and_alike (eqb (x.start + length words) (x.end + 1)) _ _ (λ ends.
-      let end : x.start + length words ≡ x.end + 1 = eqb-true _ _ ends in
-      let within : x.end < n = is.within in
-      words_alike words n one other x.start same (omega arith))
+    let end : x.start + length words ≡ x.end + 1 = eqb-true _ _ ends in
+    let within : x.end < n = is.within in
+    words_alike words n one other x.start same (omega arith))
 is_in_alike (Mark tag) n one other same x is =
     term_alike (tag_text tag) n one other (λ place low. same (tag_text tag) (first_agrees (tag_text tag) []) place low) x is
 is_in_alike WholeFile n one other same x is =
     combined_alike FollowedBy n _ _ _ _
-      (term_alike (tag_text FileStart) n one other (λ place low. same (tag_text FileStart) (first_agrees (tag_text FileStart) (tag_text FileEnd ∷ [])) place low))
-      (term_alike (tag_text FileEnd) n one other (λ place low. same (tag_text FileEnd) (rest_agrees (tag_text FileStart) (tag_text FileEnd ∷ []) (tag_text FileEnd) (first_agrees (tag_text FileEnd) [])) place low)) x is
+    (term_alike (tag_text FileStart) n one other (λ place low. same (tag_text FileStart) (first_agrees (tag_text FileStart) (tag_text FileEnd ∷ [])) place low))
+    (term_alike (tag_text FileEnd) n one other (λ place low. same (tag_text FileEnd) (rest_agrees (tag_text FileStart) (tag_text FileEnd ∷ []) (tag_text FileEnd) (first_agrees (tag_text FileEnd) [])) place low)) x is
 is_in_alike WholeLine n one other same x is =
     combined_alike FollowedBy n _ _ _ _
-      (term_alike (tag_text LineStart) n one other (λ place low. same (tag_text LineStart) (first_agrees (tag_text LineStart) (tag_text LineEnd ∷ [])) place low))
-      (term_alike (tag_text LineEnd) n one other (λ place low. same (tag_text LineEnd) (rest_agrees (tag_text LineStart) (tag_text LineEnd ∷ []) (tag_text LineEnd) (first_agrees (tag_text LineEnd) [])) place low)) x is
+    (term_alike (tag_text LineStart) n one other (λ place low. same (tag_text LineStart) (first_agrees (tag_text LineStart) (tag_text LineEnd ∷ [])) place low))
+    (term_alike (tag_text LineEnd) n one other (λ place low. same (tag_text LineEnd) (rest_agrees (tag_text LineStart) (tag_text LineEnd ∷ []) (tag_text LineEnd) (first_agrees (tag_text LineEnd) [])) place low)) x is
 is_in_alike (Window size) n one other same x is = refl
 is_in_alike (Both op left right) n one other same x is =
     combined_alike op n _ _ _ _
-      (is_in_alike left n one other (λ term has. same term (Contains-append_left (terms_in left) (terms_in right) term has)))
-      (is_in_alike right n one other (λ term has. same term (Contains-append_right (terms_in left) (terms_in right) term has))) x is
+    (is_in_alike left n one other (λ term has. same term (Contains-append_left (terms_in left) (terms_in right) term has)))
+    (is_in_alike right n one other (λ term has. same term (Contains-append_right (terms_in left) (terms_in right) term has))) x is
 
 pub filter_alike : (p q : Extent → Bool) (xs : List Extent) → ((x : Extent) → Has xs x → p x ≡ q x) → filter p xs ≡ filter q xs
 filter_alike p q [] same = refl

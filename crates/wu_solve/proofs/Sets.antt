@@ -1,12 +1,11 @@
 -- What lists of extents and the tests of sets have to do with each other.
-use Rattle.std.proofs.Common.{◌≡◌, ℕ, zero, suc, ◌+◌, ◌-◌, ◌<◌, ◌≤◌, Bool, true, false, cond, not, ◌&&◌, ◌||◌, ◌⊎◌, List, [], ◌∷◌, ◌++◌, map, refl, sym, ap, ◌∙◌, subst, inl, inr, arith, leb-true, le-leb, eqb-true, eq-eqb, eqb, leb}
+use Rattle.std.proofs.Common.{◌≡◌, ℕ, ◌≤◌, Bool, true, false, cond, not, ◌&&◌, ◌||◌, ◌⊎◌, List, [], ◌∷◌, ◌++◌, refl, sym, ap, ◌∙◌, subst, inl, inr, leb-true, le-leb, eqb-true, eq-eqb, eqb, leb}
 use Rattle.std.specs.Prelude.{filter}
-use Rattle.std.specs.List.{list_any, flat_map, range_with_len, AllByRecursion}
+use Rattle.std.specs.List.{list_any, AllByRecursion}
 use Rattle.std.proofs.lemmas.Bool.{false≢true}
-use Rattle.std.proofs.lemmas.Bool.Decides.{nat_tests}
 use Rattle.wu_base.specs.declared.addresses.Extent.{Extent}
-use Rattle.wu_gcl.specs.Extents.{holds, same_extent, extents_of, some_extent}
-use Rattle.wu_solve.specs.Listing.{IsBefore, IsAscending, Has, IsExtentIn, Lists}
+use Rattle.wu_gcl.specs.Extents.{holds, same_extent}
+use Rattle.wu_solve.specs.Listing.{Has}
 
 pub both_true : (a b : Bool) → a && b ≡ true → (a ≡ true) × (b ≡ true)
 both_true true b is = (refl, is)
@@ -74,8 +73,8 @@ pub found : (p : Extent → Bool) (xs : List Extent) → list_any p xs ≡ true 
 found p [] is = absurd (false≢true is)
 found p (x ∷ xs) is =
     elim (either_true (p x) (list_any p xs) is) [
-      inl here ↦ (x, inl refl, here)
-    | inr more ↦ let rest = found p xs more in (rest.0, inr rest.1, rest.2)
+      | inl here ↦ (x, inl refl, here)
+      | inr more ↦ let rest = found p xs more in (rest.0, inr rest.1, rest.2)
     ]
 
 pub finds : (p : Extent → Bool) (xs : List Extent) (x : Extent) → Has xs x → p x ≡ true → list_any p xs ≡ true

@@ -1,9 +1,8 @@
 -- What is left of a list without those in front that pass a test.
-use Rattle.std.proofs.Common.{◌≡◌, ℕ, ◌<◌, ◌≤◌, Bool, true, false, cond, ◌⊎◌, List, [], ◌∷◌, refl, sym, ap, ◌∙◌, subst, inl, inr}
-use Rattle.std.specs.List.{AllByRecursion}
+use Rattle.std.proofs.Common.{◌≡◌, Bool, true, false, cond, List, [], ◌∷◌, refl, sym, ◌∙◌, subst, inl, inr}
 use Rattle.std.proofs.lemmas.Bool.{false≢true}
 use Rattle.wu_base.specs.declared.addresses.Extent.{Extent}
-use Rattle.wu_solve.specs.Listing.{IsBefore, IsAscending, Has}
+use Rattle.wu_solve.specs.Listing.{IsAscending, Has}
 use Rattle.wu_solve.specs.Fronts.{skipped}
 
 in_cond : (test : Bool) (y : Extent) (ys rest : List Extent) (x : Extent) → (Has rest x → Has ys x) → Has (cond test rest (y ∷ ys)) x → Has (y ∷ ys) x
@@ -23,8 +22,8 @@ pub has_skipped : (test : Extent → Bool) (ys : List Extent) (x : Extent) → t
 has_skipped test [] x fails has = has
 has_skipped test (y ∷ ys) x fails has =
     has_cond (test y) y ys (skipped test ys) x
-      (λ passes here. false≢true (sym (subst (λ (e : Extent). test e ≡ false) (sym here) fails) ∙ passes))
-      (has_skipped test ys x fails) has
+    (λ passes here. false≢true (sym (subst (λ (e : Extent). test e ≡ false) (sym here) fails) ∙ passes))
+    (has_skipped test ys x fails) has
 
 cond_ascending : (test : Bool) (y : Extent) (ys rest : List Extent) → IsAscending (y ∷ ys) → IsAscending rest → IsAscending (cond test rest (y ∷ ys))
 cond_ascending true y ys rest up more = more

@@ -1,5 +1,5 @@
 -- Trying every extent gives what the sets have.
-use Rattle.std.proofs.Common.{◌≡◌, ℕ, zero, suc, ◌+◌, ◌-◌, ◌<◌, ◌≤◌, Bool, true, false, cond, not, ◌&&◌, ◌||◌, ◌⊎◌, List, [], ◌∷◌, ◌++◌, length, map, refl, sym, ap, ◌∙◌, subst, inl, inr, arith, add-one, append-nil}
+use Rattle.std.proofs.Common.{◌≡◌, ℕ, zero, suc, ◌+◌, ◌-◌, Bool, true, false, cond, not, ◌&&◌, List, [], ◌∷◌, ◌++◌, map, refl, sym, ap, ◌∙◌, subst, arith, add-one, append-nil}
 use Rattle.std.specs.Prelude.{filter, nat_lt}
 use Rattle.std.specs.List.{list_any, flat_map, range_with_len}
 use Rattle.std.proofs.lemmas.Grind.{flat_map-append}
@@ -8,8 +8,8 @@ use Rattle.wu_gcl.specs.declared.expressions.Op.{Op}
 use Rattle.wu_gcl.specs.declared.expressions.Op.TheVariants.{Containing, ContainedIn, NotContaining, NotContainedIn, OneOf, BothOf, FollowedBy}
 use Rattle.wu_gcl.specs.Regions.{Region, Both}
 use Rattle.wu_gcl.specs.Extents.{holds, same_extent, some_extent, extents_of, containing, contained_in, not_containing, not_contained_in, innermost, in_either, holds_both, holds_in_order, combined, is_in, hits}
-use Rattle.wu_solve.specs.Listing.{Has, IsExtentIn, Lists}
-use Rattle.wu_solve.specs.Plain.{extent, is_listed, holds_one, held_by_one, holds_pair, passes, holds_other, innermost_of, plainly}
+use Rattle.wu_solve.specs.Listing.{IsExtentIn, Lists}
+use Rattle.wu_solve.specs.Plain.{extent, is_listed, holds_pair, passes, holds_other, innermost_of, plainly}
 use Rattle.wu_solve.proofs.Sets.{alike, both_true, and_true, same_means, same_from, found, finds, from_filter, to_filter}
 use Rattle.wu_solve.proofs.Order.{extents_in, extents_have, listed, some_found, some_from}
 use Rattle.wu_solve.proofs.Operators.{some_listed}
@@ -67,25 +67,25 @@ unfolding holds_in_order
 pair_is n left right ys zs x ly lz =
     some_listed n left (λ y. holds x y && list_any (λ z. holds x z && nat_lt y.end z.start) zs) ys ly
     ∙ some_alike n
-        (λ y. holds x y && list_any (λ z. holds x z && nat_lt y.end z.start) zs && left y)
-        (λ y. holds x y && left y && some_extent n (λ z. holds x z && right z && nat_lt y.end z.start))
-        (λ y in_y.
-          and_swap (holds x y) (list_any (λ z. holds x z && nat_lt y.end z.start) zs) (left y)
-          ∙ ap (λ (b : Bool). holds x y && left y && b)
-              (some_listed n right (λ z. holds x z && nat_lt y.end z.start) zs lz
-              ∙ some_alike n (λ z. holds x z && nat_lt y.end z.start && right z) (λ z. holds x z && right z && nat_lt y.end z.start)
-                  (λ z in_z. and_swap (holds x z) (nat_lt y.end z.start) (right z))))
+    (λ y. holds x y && list_any (λ z. holds x z && nat_lt y.end z.start) zs && left y)
+    (λ y. holds x y && left y && some_extent n (λ z. holds x z && right z && nat_lt y.end z.start))
+    (λ y in_y.
+    and_swap (holds x y) (list_any (λ z. holds x z && nat_lt y.end z.start) zs) (left y)
+    ∙ ap (λ (b : Bool). holds x y && left y && b)
+    (some_listed n right (λ z. holds x z && nat_lt y.end z.start) zs lz
+    ∙ some_alike n (λ z. holds x z && nat_lt y.end z.start && right z) (λ z. holds x z && right z && nat_lt y.end z.start)
+    (λ z in_z. and_swap (holds x z) (nat_lt y.end z.start) (right z))))
 
 other_is : (n : ℕ) (set : Extent → Bool) (x : Extent) → holds_other (filter set (extents_of n)) x ≡ some_extent n (λ y. holds x y && not (same_extent x y) && set y)
 other_is n set x = alike _ _
     (λ is.
-      let f = found (λ y. holds x y && not (same_extent x y)) (filter set (extents_of n)) is in
-      let k = from_filter set (extents_of n) f.0 f.1 in
-      some_from n (λ y. holds x y && not (same_extent x y) && set y) f.0 (extents_in n f.0 k.0) (and_true _ _ f.2 k.1))
+    let f = found (λ y. holds x y && not (same_extent x y)) (filter set (extents_of n)) is in
+    let k = from_filter set (extents_of n) f.0 f.1 in
+    some_from n (λ y. holds x y && not (same_extent x y) && set y) f.0 (extents_in n f.0 k.0) (and_true _ _ f.2 k.1))
     (λ is.
-      let f = some_found n (λ y. holds x y && not (same_extent x y) && set y) is in
-      let b = both_true (holds x f.0 && not (same_extent x f.0)) (set f.0) f.2 in
-      finds (λ y. holds x y && not (same_extent x y)) (filter set (extents_of n)) f.0 (to_filter set (extents_of n) f.0 (extents_have n f.0 f.1) b.1) b.0)
+    let f = some_found n (λ y. holds x y && not (same_extent x y) && set y) is in
+    let b = both_true (holds x f.0 && not (same_extent x f.0)) (set f.0) f.2 in
+    finds (λ y. holds x y && not (same_extent x y)) (filter set (extents_of n)) f.0 (to_filter set (extents_of n) f.0 (extents_have n f.0 f.1) b.1) b.0)
 
 abbrev SameIn : ℕ → (Extent → Bool) → (Extent → Bool) → Type 0
 SameIn n p q = (x : Extent) → IsExtentIn n x → p x ≡ q x

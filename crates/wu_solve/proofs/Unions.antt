@@ -1,13 +1,12 @@
 -- The innermost extents of two ascending lists, by walking them side by side.
-use Rattle.std.proofs.Common.{length, drop, drop_of_length-le, append-nil, ◌≡◌, ℕ, ◌+◌, ◌<◌, ◌≤◌, Bool, true, false, cond, ◌⊎◌, List, [], ◌∷◌, ◌++◌, refl, sym, ap, ◌∙◌, subst, inl, inr, arith, ltb, ltb-true, ltb-false, leb, leb-true, leb-false, le-leb}
+use Rattle.std.proofs.Common.{length, drop, drop_of_length-le, append-nil, ◌≡◌, ℕ, ◌<◌, ◌≤◌, Bool, true, false, cond, ◌⊎◌, List, [], ◌∷◌, ◌++◌, refl, sym, ◌∙◌, subst, inl, inr, arith, ltb-true, ltb-false, leb, leb-true, leb-false}
 use Rattle.std.specs.Prelude.{nat_lt, if◌then◌else◌}
-use Rattle.std.specs.List.{AllByRecursion}
 use Rattle.std.proofs.lemmas.Bool.{false≢true}
 use Rattle.wu_base.specs.declared.addresses.Extent.{Extent}
 use Rattle.wu_gcl.specs.Extents.{holds}
 use Rattle.wu_solve.specs.Listing.{IsBefore, IsAscending, Has}
 use Rattle.wu_solve.specs.Merging.{IsOneOf, AreInnermost}
-use Rattle.wu_solve.proofs.Sets.{Holds, holds_means, holds_from, all_has, all_from}
+use Rattle.wu_solve.proofs.Sets.{holds_means, holds_from, all_has, all_from}
 use Rattle.wu_solve.proofs.Operators.{holds_through}
 use Rattle.wu_solve.proofs.Walking.{first_is_before}
 
@@ -45,63 +44,77 @@ none_right ys up = record { ascending = up; sound = λ x has. inl has; dense = �
 -- an extent that holds one of the others is left out
 left_out : (y z : Extent) (ys zs xs : List Extent) → holds y z ≡ true → Inner ys (z ∷ zs) xs → Inner (y ∷ ys) (z ∷ zs) xs
 left_out y z ys zs xs is inner = record {
-    ascending = inner.ascending;
-    sound = λ x has. elim (inner.sound x has) [ inl l ↦ inl (inr l) | inr r ↦ inr r ];
-    dense = λ x candidate. elim candidate [
-        inl left ↦ elim left [
-            inl here ↦ subst (λ (e : Extent). Dense xs e) here (through y z xs is (inner.dense z (inr (inl refl))))
-          | inr more ↦ inner.dense x (inl more) ]
-      | inr right ↦ inner.dense x (inr right) ]
-  }
+  ascending = inner.ascending;
+  sound = λ x has. elim (inner.sound x has) [ inl l ↦ inl (inr l) | inr r ↦ inr r ];
+  dense = λ x candidate. elim candidate [
+    | inl left ↦ elim left [
+      | inl here ↦ subst (λ (e : Extent). Dense xs e) here (through y z xs is (inner.dense z (inr (inl refl))))
+      | inr more ↦ inner.dense x (inl more)
+    ]
+    | inr right ↦ inner.dense x (inr right)
+  ];
+}
 
 right_out : (y z : Extent) (ys zs xs : List Extent) → holds z y ≡ true → Inner (y ∷ ys) zs xs → Inner (y ∷ ys) (z ∷ zs) xs
 right_out y z ys zs xs is inner = record {
-    ascending = inner.ascending;
-    sound = λ x has. elim (inner.sound x has) [ inl l ↦ inl l | inr r ↦ inr (inr r) ];
-    dense = λ x candidate. elim candidate [
-        inl left ↦ inner.dense x (inl left)
-      | inr right ↦ elim right [
-            inl here ↦ subst (λ (e : Extent). Dense xs e) here (through z y xs is (inner.dense y (inl (inl refl))))
-          | inr more ↦ inner.dense x (inr more) ] ]
-  }
+  ascending = inner.ascending;
+  sound = λ x has. elim (inner.sound x has) [ inl l ↦ inl l | inr r ↦ inr (inr r) ];
+  dense = λ x candidate. elim candidate [
+    | inl left ↦ inner.dense x (inl left)
+    | inr right ↦ elim right [
+      | inl here ↦ subst (λ (e : Extent). Dense xs e) here (through z y xs is (inner.dense y (inl (inl refl))))
+      | inr more ↦ inner.dense x (inr more)
+    ]
+  ];
+}
 
 put : (x y : Extent) (xs : List Extent) → Dense xs x → Dense (y ∷ xs) x
 put x y xs d = (d.0, inr d.1, d.2)
 
 left_put : (y z : Extent) (ys zs xs : List Extent) → IsAscending (y ∷ ys) → IsAscending (z ∷ zs) → IsBefore y z → Inner ys (z ∷ zs) xs → Inner (y ∷ ys) (z ∷ zs) (y ∷ xs)
 left_put y z ys zs xs yup zup before inner = record {
-    ascending = (all_from (IsBefore y) xs (λ x has. elim (inner.sound x has) [
-        inl l ↦ all_has (IsBefore y) ys x yup.0 l
-      | inr r ↦ let b = first_is_before z x zs zup r in record { starts = omega (arith, before.starts, b.0); ends = omega (arith, before.ends, b.1) } ])
-      , inner.ascending);
-    sound = λ x has. elim has [ inl here ↦ inl (inl here) | inr more ↦ elim (inner.sound x more) [ inl l ↦ inl (inr l) | inr r ↦ inr r ] ];
-    dense = λ x candidate. elim candidate [
-        inl left ↦ elim left [
-            inl here ↦ (y, inl refl, subst (λ (e : Extent). holds e y ≡ true) here (itself y))
-          | inr more ↦ put x y xs (inner.dense x (inl more)) ]
-      | inr right ↦ put x y xs (inner.dense x (inr right)) ]
-  }
+  ascending = (
+    all_from (IsBefore y) xs (λ x has. elim (inner.sound x has) [
+      | inl l ↦ all_has (IsBefore y) ys x yup.0 l
+      | inr r ↦ let b = first_is_before z x zs zup r in record { starts = omega (arith, before.starts, b.0); ends = omega (arith, before.ends, b.1) }
+    ]),
+    inner.ascending,
+  );
+  sound = λ x has. elim has [ inl here ↦ inl (inl here) | inr more ↦ elim (inner.sound x more) [ inl l ↦ inl (inr l) | inr r ↦ inr r ] ];
+  dense = λ x candidate. elim candidate [
+    | inl left ↦ elim left [
+      | inl here ↦ (y, inl refl, subst (λ (e : Extent). holds e y ≡ true) here (itself y))
+      | inr more ↦ put x y xs (inner.dense x (inl more))
+    ]
+    | inr right ↦ put x y xs (inner.dense x (inr right))
+  ];
+}
 
 right_put : (y z : Extent) (ys zs xs : List Extent) → IsAscending (y ∷ ys) → IsAscending (z ∷ zs) → IsBefore z y → Inner (y ∷ ys) zs xs → Inner (y ∷ ys) (z ∷ zs) (z ∷ xs)
 right_put y z ys zs xs yup zup before inner = record {
-    ascending = (all_from (IsBefore z) xs (λ x has. elim (inner.sound x has) [
-        inl l ↦ let b = first_is_before y x ys yup l in record { starts = omega (arith, before.starts, b.0); ends = omega (arith, before.ends, b.1) }
-      | inr r ↦ all_has (IsBefore z) zs x zup.0 r ])
-      , inner.ascending);
-    sound = λ x has. elim has [ inl here ↦ inr (inl here) | inr more ↦ elim (inner.sound x more) [ inl l ↦ inl l | inr r ↦ inr (inr r) ] ];
-    dense = λ x candidate. elim candidate [
-        inl left ↦ put x z xs (inner.dense x (inl left))
-      | inr right ↦ elim right [
-            inl here ↦ (z, inl refl, subst (λ (e : Extent). holds e z ≡ true) here (itself z))
-          | inr more ↦ put x z xs (inner.dense x (inr more)) ] ]
-  }
+  ascending = (
+    all_from (IsBefore z) xs (λ x has. elim (inner.sound x has) [
+      | inl l ↦ let b = first_is_before y x ys yup l in record { starts = omega (arith, before.starts, b.0); ends = omega (arith, before.ends, b.1) }
+      | inr r ↦ all_has (IsBefore z) zs x zup.0 r
+    ]),
+    inner.ascending,
+  );
+  sound = λ x has. elim has [ inl here ↦ inr (inl here) | inr more ↦ elim (inner.sound x more) [ inl l ↦ inl l | inr r ↦ inr (inr r) ] ];
+  dense = λ x candidate. elim candidate [
+    | inl left ↦ put x z xs (inner.dense x (inl left))
+    | inr right ↦ elim right [
+      | inl here ↦ (z, inl refl, subst (λ (e : Extent). holds e z ≡ true) here (itself z))
+      | inr more ↦ put x z xs (inner.dense x (inr more))
+    ]
+  ];
+}
 
 not_held : (y z : Extent) → holds y z ≡ false → y.start ≤ z.start → y.end < z.end
 not_held y z is starts = by_test (leb z.end y.end) refl
   where
-  by_test : (test : Bool) → leb z.end y.end ≡ test → y.end < z.end
-  by_test true ends = absurd (false≢true (sym is ∙ holds_from y z (record { start = starts; last = leb-true z.end y.end ends })))
-  by_test false ends = leb-false z.end y.end ends
+    by_test : (test : Bool) → leb z.end y.end ≡ test → y.end < z.end
+    by_test true ends = absurd (false≢true (sym is ∙ holds_from y z (record { start = starts; last = leb-true z.end y.end ends })))
+    by_test false ends = leb-false z.end y.end ends
 
 step : (y z : Extent) (ys zs : List Extent) (more : List Extent → List Extent) (b c d : Bool) → holds y z ≡ b → holds z y ≡ c → nat_lt y.start z.start ≡ d →
     IsAscending (y ∷ ys) → IsAscending (z ∷ zs) → Inner ys (z ∷ zs) (more (z ∷ zs)) → Inner (y ∷ ys) zs (union_from y ys more zs) →
@@ -116,8 +129,8 @@ step y z ys zs more false false false hb hc hd yup zup left right =
     let ends : z.end < y.end = not_held z y hc late in
     let cases : (z.start < y.start) ⊎ (z.start ≡ y.start) = grind arith in
     elim cases [
-      inl starts ↦ right_put y z ys zs _ yup zup (record { starts = starts; ends = ends }) right
-    | inr same ↦ absurd (false≢true (sym hb ∙ holds_from y z (record { start = omega arith; last = omega arith })))
+      | inl starts ↦ right_put y z ys zs _ yup zup (record { starts = starts; ends = ends }) right
+      | inr same ↦ absurd (false≢true (sym hb ∙ holds_from y z (record { start = omega arith; last = omega arith })))
     ]
 
 from_left : (y : Extent) (ys : List Extent) (more : List Extent → List Extent) → IsAscending (y ∷ ys) → ((zs : List Extent) → IsAscending zs → Inner ys zs (more zs)) → (zs : List Extent) → IsAscending zs → Inner (y ∷ ys) zs (union_from y ys more zs)

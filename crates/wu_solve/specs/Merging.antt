@@ -1,5 +1,5 @@
 -- What an operator makes of two lists of extents.
-use Rattle.std.specs.Prelude.{◌≡◌, ◌⊎◌, ℕ, ◌<◌, ◌≤◌, ◌&&◌, Bool, true, not, min, max, nat_le, nat_lt, List, [], ◌∷◌, filter, if◌then◌else◌}
+use Rattle.std.specs.Prelude.{◌≡◌, ◌⊎◌, ◌<◌, Bool, true, not, min, max, List, filter, if◌then◌else◌}
 use Rattle.std.specs.List.{list_any}
 use Rattle.wu_base.specs.declared.addresses.Extent.{Extent}
 use Rattle.wu_gcl.specs.Extents.{holds}

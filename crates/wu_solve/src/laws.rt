@@ -12,14 +12,12 @@ ghost use Rattle.wu_solve.specs.Solving.{moved, frame_hits};
 /// In the extents of every expression starts and ends both ascend strictly, wherever its terms stand.
 pub fn extents_ascend()
     ensures { (region : Region) (stands : List ℕ → ℕ → Bool) (len : ℕ) → IsAscending (hits region stands len) }
-{
-}
+{}
 
 /// Over the lists of a text's tokens a frame has the extents of these tokens.
 pub fn frames_of_texts()
     ensures { (region : Region) (lists : List TermList) (frame : Range) (tokens : List (List ℕ)) → frame.len ≡ length tokens
         → ((term : List ℕ) → Contains (terms_in region) term → (place : ℕ) → place < length tokens
-            → has_address lists term (frame.start + place) ≡ is_token_at tokens term place)
+        → has_address lists term (frame.start + place) ≡ is_token_at tokens term place)
         → frame_hits region lists frame ≡ map (moved frame.start) (token_hits region tokens) }
-{
-}
+{}

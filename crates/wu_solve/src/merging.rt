@@ -26,11 +26,7 @@ fn cover(left: &Extent, right: &Extent) -> Extent
 }
 
 /// The extents of either list, but those that hold another.
-pub fn one_of(
-    alloc: Global,
-    left: &[Extent],
-    right: &[Extent],
-) -> Result<Vec<Extent>, NoMemory>
+pub fn one_of(alloc: Global, left: &[Extent], right: &[Extent]) -> Result<Vec<Extent>, NoMemory>
     requires left_ascends { IsAscending left.now }
     requires right_ascends { IsAscending right.now }
     ensures { IfOk result (λ v. AreInnermost (IsOneOf left.now right.now) v.items) }
@@ -58,11 +54,7 @@ pub fn one_of(
 }
 
 /// The covers of an extent of each list, but those that hold another.
-pub fn both_of(
-    alloc: Global,
-    left: &[Extent],
-    right: &[Extent],
-) -> Result<Vec<Extent>, NoMemory>
+pub fn both_of(alloc: Global, left: &[Extent], right: &[Extent]) -> Result<Vec<Extent>, NoMemory>
     requires left_ascends { IsAscending left.now }
     requires right_ascends { IsAscending right.now }
     ensures { IfOk result (λ v. AreInnermost (IsCover left.now right.now) v.items) }

@@ -52,12 +52,7 @@ fn combine(
 }
 
 /// The places of the tag.
-fn tags(
-    alloc: Global,
-    tag: Tag,
-    frame: Range,
-    lists: &[TermList],
-) -> Result<Vec<Extent>, NoMemory>
+fn tags(alloc: Global, tag: Tag, frame: Range, lists: &[TermList]) -> Result<Vec<Extent>, NoMemory>
     requires lists { AreLists lists.now }
     requires frame { IsFrame frame }
     ensures { IfOk result (λ v. Lists frame.len (is_term_at (stands_by lists.now frame.start) (tag_text tag)) v.items) }

@@ -28,11 +28,7 @@ fn places_of(alloc: Global, term: &[u8], tokens: &[&[u8]]) -> Result<Vec<u64>, N
 }
 
 /// The lists of the terms over the tokens.
-fn lists_of(
-    alloc: Global,
-    terms: &[Bytes],
-    tokens: &[&[u8]],
-) -> Result<Vec<TermList>, NoMemory>
+fn lists_of(alloc: Global, terms: &[Bytes], tokens: &[&[u8]]) -> Result<Vec<TermList>, NoMemory>
     requires { IsStrictlySortedBy (slice_cmp nat_cmp) terms.now }
     ensures { IfOk result (λ v. AreLists v.items) }
 {
@@ -101,7 +97,9 @@ fn are(extents: &[Extent], expected: &[(u64, u64)]) -> bool {
 
 #[test]
 fn extents_of_one_text(rt: HostRuntime) -> Result<(), Fail> {
-    let tokens: [&[u8]; 7] = [b"<file>", b"<line>", b"a", b"a", b"a", b"</line>", b"</file>"];
+    let tokens: [&[u8]; 7] = [
+        b"<file>", b"<line>", b"a", b"a", b"a", b"</line>", b"</file>",
+    ];
     let frames = [Range { start: 0, len: 7 }];
     let rows: [(&[u8], &[(u64, u64)]); 12] = [
         (b"\"a\" .. \"a\"", &[(2, 3), (3, 4)]),
@@ -147,8 +145,8 @@ fn no_operator_sees_two_frames(rt: HostRuntime) -> Result<(), Fail> {
 #[test]
 fn trying_every_extent_gives_the_same(rt: HostRuntime) -> Result<(), Fail> {
     let tokens: [&[u8]; 12] = [
-        b"<file>", b"<line>", b"a", b"b", b"a", b"</line>", b"<line>", b"c", b"a", b"b", b"</line>",
-        b"</file>",
+        b"<file>", b"<line>", b"a", b"b", b"a", b"</line>", b"<line>", b"c", b"a", b"b",
+        b"</line>", b"</file>",
     ];
     let texts: [&[u8]; 12] = [
         b"\"a\" ^ \"b\"",

@@ -14,12 +14,12 @@ returns-clause-ascending c =
 pub returns-clause-same : goal.returns-clause-same
 returns-clause-same c = λ address.
     rw (c.addresses_below.ensures, c.addresses_from-addresses.ensures)
-      (in_frame c.addresses_of.result.now c.args.frame.start c.args.frame.len address
-      ∙ ap (λ (b : Bool). b && (nat_le c.args.frame.start address && nat_lt address (c.args.frame.start + c.args.frame.len))) (c.addresses_of.ensures.same address))
+    (in_frame c.addresses_of.result.now c.args.frame.start c.args.frame.len address
+    ∙ ap (λ (b : Bool). b && (nat_le c.args.frame.start address && nat_lt address (c.args.frame.start + c.args.frame.len))) (c.addresses_of.ensures.same address))
 
 pub returns-clause-within : goal.returns-clause-within
 returns-clause-within c = λ k within.
     rw (c.addresses_below.ensures, c.addresses_from-addresses.ensures)
-      (within_frame (filter (λ a. nat_lt a (c.args.frame.start + c.args.frame.len)) (filter (λ a. nat_le c.args.frame.start a) c.addresses_of.result.now)) c.args.frame.start c.args.frame.len k c.addresses_of.result.now
-        (in_frame c.addresses_of.result.now c.args.frame.start c.args.frame.len)
-        (rw (c.addresses_below.ensures, c.addresses_from-addresses.ensures) at within))
+    (within_frame (filter (λ a. nat_lt a (c.args.frame.start + c.args.frame.len)) (filter (λ a. nat_le c.args.frame.start a) c.addresses_of.result.now)) c.args.frame.start c.args.frame.len k c.addresses_of.result.now
+    (in_frame c.addresses_of.result.now c.args.frame.start c.args.frame.len)
+    (rw (c.addresses_below.ensures, c.addresses_from-addresses.ensures) at within))

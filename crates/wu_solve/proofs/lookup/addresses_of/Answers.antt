@@ -14,7 +14,7 @@ loop-term-preserved-in-Less c =
     rw back (record {
       bound = grind (arith, common_steps);
       lists = lists_dropped (suc middle) rest c.loop-term.invariant.lists;
-      same = λ address. behind_lesser rest middle c.index-rest-middle.result c.args.term.now c.loop-term.invariant.lists.terms within c.index-rest-middle.is less address ∙ c.loop-term.invariant.same address
+      same = λ address. behind_lesser rest middle c.index-rest-middle.result c.args.term.now c.loop-term.invariant.lists.terms within c.index-rest-middle.is less address ∙ c.loop-term.invariant.same address;
     })
 
 pub returns-in-Equal-clause-same : goal.returns-in-Equal-clause-same
@@ -24,7 +24,7 @@ returns-in-Equal-clause-same c =
     let within : middle < length rest = grind arith in
     let equal : slice_cmp nat_cmp c.index-rest-middle.result.term c.args.term.now ≡ Equal = search rules in
     λ address.
-      rw c.as_slice-in-Equal.ensures (at_term rest middle c.index-rest-middle.result c.args.term.now c.loop-term.invariant.lists.terms within c.index-rest-middle.is equal address ∙ c.loop-term.invariant.same address)
+    rw c.as_slice-in-Equal.ensures (at_term rest middle c.index-rest-middle.result c.args.term.now c.loop-term.invariant.lists.terms within c.index-rest-middle.is equal address ∙ c.loop-term.invariant.same address)
 
 pub loop-term-preserved : goal.loop-term-preserved
 loop-term-preserved c =
@@ -35,5 +35,5 @@ loop-term-preserved c =
     rw c.split_at-in-Greater.ensures.front (record {
       bound = grind (arith, common_steps);
       lists = lists_taken middle rest c.loop-term.invariant.lists;
-      same = λ address. before_greater rest middle c.index-rest-middle.result c.args.term.now c.loop-term.invariant.lists.terms within c.index-rest-middle.is greater address ∙ c.loop-term.invariant.same address
+      same = λ address. before_greater rest middle c.index-rest-middle.result c.args.term.now c.loop-term.invariant.lists.terms within c.index-rest-middle.is greater address ∙ c.loop-term.invariant.same address;
     })

@@ -10,4 +10,4 @@ returns c =
     let len = c.args.frame.len in
     let whole : c.loop-address.found.items ≡ phrase_extents c.args.lists.now start len c.args.more.now c.addresses_in-addresses.result.now = grind (arith, common_steps) in
     rw whole (phrase_listed c.args.lists.now start len c.args.first.now c.args.more.now c.addresses_in-addresses.result.now
-      (record { ascending = c.addresses_in-addresses.ensures.ascending; same = c.addresses_in-addresses.ensures.same }))
+    (record { ascending = c.addresses_in-addresses.ensures.ascending; same = c.addresses_in-addresses.ensures.same }))

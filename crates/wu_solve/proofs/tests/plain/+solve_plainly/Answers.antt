@@ -17,9 +17,9 @@ returns-in_ok-all-in-Both t c =
     let left_is : c.in_ok-left-in-Both.left.items ≡ hits left stands n = search rules in
     let right_is : c.in_ok-right-in-Both.right.items ≡ hits right stands n = search rules in
     rw c.in-Both.is (IfOk-weaker c.combine_plainly.result
-      (λ v. v.items ≡ plainly op c.deref-in-Both-2.result.now c.deref-in-Both-3.result.now c.deref-in-Both-4.result.now) (λ v. v.items ≡ hits (Both op left right) stands n)
-      (λ v is. is ∙ rw (c.deref-in-Both-2.ensures.value, c.in_ok-all-in-Both.ensures, c.deref-in-Both-3.ensures.value, left_is, c.deref-in-Both-4.ensures.value, right_is) (both_plainly op left right stands n))
-      c.combine_plainly.ensures)
+    (λ v. v.items ≡ plainly op c.deref-in-Both-2.result.now c.deref-in-Both-3.result.now c.deref-in-Both-4.result.now) (λ v. v.items ≡ hits (Both op left right) stands n)
+    (λ v is. is ∙ rw (c.deref-in-Both-2.ensures.value, c.in_ok-all-in-Both.ensures, c.deref-in-Both-3.ensures.value, left_is, c.deref-in-Both-4.ensures.value, right_is) (both_plainly op left right stands n))
+    c.combine_plainly.ensures)
 
 pub returns-in_ok-solve_frame-in_default : goal.returns-in_ok-solve_frame-in_default
 returns-in_ok-solve_frame-in_default t c =
