@@ -8,3 +8,4 @@ pub mod Views
 pub mod Stacks
 pub mod Terms
 pub mod Printing
+pub mod Extents

@@ -1,0 +1,16 @@
+pub mod Sets
+pub mod Order
+pub mod Operators
+pub mod Innermost
+pub mod Skipping
+pub mod Walking
+pub mod Numbers
+pub mod TermLists
+pub mod Frames
+pub mod Phrases
+pub mod Unions
+pub mod Covers
+pub mod Spans
+pub mod Combining
+pub mod Results
+pub mod Trying

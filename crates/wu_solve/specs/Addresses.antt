@@ -1,0 +1,24 @@
+-- Where terms stand, by the lists of their addresses.
+use Rattle.std.specs.Prelude.{ℕ, ◌+◌, ◌==◌, ◌&&◌, Bool, List, map, nat_eq}
+use Rattle.std.specs.List.{list_any, AllByRecursion}
+use Rattle.std.specs.List.Sorted.{IsStrictlySortedBy, IsStrictlyIncreasing}
+use Rattle.std.specs.Cmp.Lexicographic.{pointwise, slice_cmp}
+use Rattle.std.specs.Ordering.{nat_cmp}
+use Rattle.wu_base.specs.declared.addresses.TermList.{TermList}
+
+-- the address is one of these
+abbrev pub is_among : List ℕ → ℕ → Bool
+is_among addresses address = list_any (λ a. a == address) addresses
+
+-- the term has a list, and the address is in it
+abbrev pub has_address : List TermList → List ℕ → ℕ → Bool
+has_address lists term address = list_any (λ list. pointwise nat_eq list.term term && is_among list.at address) lists
+
+-- The term stands at the place of the frame that starts there.
+abbrev pub stands_by : List TermList → ℕ → List ℕ → ℕ → Bool
+stands_by lists start term place = has_address lists term (start + place)
+
+-- One list for each of these terms, by the terms' bytes, and in each the addresses ascend.
+pub record AreLists (lists : List TermList) : Type 0 where
+  pub terms : IsStrictlySortedBy (slice_cmp nat_cmp) (map (λ list. list.term) lists)
+  pub addresses : AllByRecursion (λ list. IsStrictlyIncreasing list.at) lists

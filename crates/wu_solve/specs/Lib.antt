@@ -1,0 +1,7 @@
+pub mod Listing
+pub mod Merging
+pub mod Fronts
+pub mod Addresses
+pub mod Operands
+pub mod Solving
+pub mod Plain

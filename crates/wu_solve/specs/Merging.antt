@@ -1,0 +1,41 @@
+-- What an operator makes of two lists of extents.
+use Rattle.std.specs.Prelude.{◌≡◌, ◌⊎◌, ◌<◌, Bool, true, not, min, max, List, filter, if◌then◌else◌}
+use Rattle.std.specs.List.{list_any}
+use Rattle.wu_base.specs.declared.addresses.Extent.{Extent}
+use Rattle.wu_gcl.specs.Extents.{holds}
+use Rattle.wu_solve.specs.Listing.{IsAscending, Has}
+
+abbrev pub is_wanted : Bool → Bool → Bool
+is_wanted wanted test = if wanted then test else not test
+
+-- the extents that hold one of the others, or those that hold none
+abbrev pub holding : Bool → List Extent → List Extent → List Extent
+holding wanted extents others = filter (λ x. is_wanted wanted (list_any (λ y. holds x y) others)) extents
+
+-- the extents that one of the others holds, or those that none does
+abbrev pub held : Bool → List Extent → List Extent → List Extent
+held wanted extents others = filter (λ x. is_wanted wanted (list_any (λ y. holds y x) others)) extents
+
+-- the least extent that holds both
+abbrev pub cover : Extent → Extent → Extent
+cover y z = record { start = min y.start z.start; end = max y.end z.end }
+
+-- from the start of the one to the end of the other
+abbrev pub span : Extent → Extent → Extent
+span y z = record { start = y.start; end = z.end }
+
+abbrev pub IsOneOf : List Extent → List Extent → Extent → Type 0
+IsOneOf left right x = Has left x ⊎ Has right x
+
+abbrev pub IsCover : List Extent → List Extent → Extent → Type 0
+IsCover left right x = (y : Extent) × (z : Extent) × Has left y × Has right z × (cover y z ≡ x)
+
+-- a span whose second extent starts behind the end of the first
+abbrev pub IsSpan : List Extent → List Extent → Extent → Type 0
+IsSpan left right x = (y : Extent) × (z : Extent) × Has left y × Has right z × (y.end < z.start) × (span y z ≡ x)
+
+-- Candidates in ascending order, of which each candidate holds one.
+pub record AreInnermost (IsCandidate : Extent → Type 0) (xs : List Extent) : Type 0 where
+  pub ascending : IsAscending xs
+  pub sound : (x : Extent) → Has xs x → IsCandidate x
+  pub dense : (x : Extent) → IsCandidate x → (y : Extent) × Has xs y × (holds x y ≡ true)

@@ -1,0 +1,19 @@
+//! The extents that a region expression means, found by merging the lists of its terms' addresses.
+//!
+//! In the list of every expression starts and ends both ascend strictly, so that each operator walks
+//! the lists of its operands once, side by side.
+#![tactic(auto)]
+
+mod containment;
+mod fronts;
+mod laws;
+mod lookup;
+mod merging;
+mod operands;
+mod solving;
+
+pub use laws::{extents_ascend, frames_of_texts};
+pub use solving::solve;
+
+#[cfg(test)]
+mod tests;

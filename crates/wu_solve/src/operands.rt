@@ -1,0 +1,87 @@
+//! The extents of an expression that has no operator, at places counted from the frame's start.
+ghost use Rattle.std.specs.Prelude.{◌≡◌, ℕ, ◌+◌, ◌^◌, ◌<◌, ◌≤◌, List, ◌∷◌, length, slice_index, filter, map, nat_le, nat_lt, IfOk, true};
+ghost use Rattle.std.specs.List.{range_with_len};
+ghost use Rattle.std.specs.List.Sorted.{IsStrictlyIncreasing};
+ghost use Rattle.wu_gcl.specs.Extents.{words_stand, is_in};
+ghost use Rattle.wu_gcl.specs.Regions.{Phrase, Window};
+ghost use Rattle.wu_solve.specs.Addresses.{is_among, has_address, stands_by, AreLists};
+ghost use Rattle.wu_base.specs.declared.addresses.TermList.{TermList};
+ghost use Rattle.wu_solve.specs.Listing.{Lists};
+ghost use Rattle.wu_solve.specs.Operands.{run_from};
+
+use crate::lookup::{addresses_in, has_address};
+use std::alloc::Global;
+use wu_base::{Bytes, Extent, NoMemory, Range, TermList};
+
+/// Whether the words stand one behind the other from the address on.
+fn words_stand(lists: &[TermList], words: &[Bytes], address: u64) -> bool
+    requires lists { AreLists lists.now }
+    requires fits { address + length words.now < 2 ^ 64 }
+    ensures { result ≡ words_stand (has_address lists.now) words.now address }
+{
+    let mut at = address;
+    for word in words {
+        if !has_address(lists, word.as_slice(), at) {
+            return false;
+        }
+        at += 1;
+    }
+    true
+}
+
+/// The extents at which the words stand one behind the other.
+pub fn phrase(
+    alloc: Global,
+    first: &[u8],
+    more: &[Bytes],
+    frame: Range,
+    lists: &[TermList],
+) -> Result<Vec<Extent>, NoMemory>
+    requires lists { AreLists lists.now }
+    requires frame { frame.start + frame.len ≤ 2 ^ 47 }
+    ensures { IfOk result (λ v. Lists frame.len (is_in (Phrase (first.now ∷ more.now)) (stands_by lists.now frame.start) frame.len) v.items) }
+{
+    let behind = more.len() as u64;
+    let addresses = addresses_in(lists, first, frame);
+    let mut found = Vec::new(alloc);
+    for address in addresses {
+        let start = *address - frame.start;
+        if behind < frame.len - start && words_stand(lists, more, *address + 1) {
+            found.push(Extent {
+                start,
+                end: start + behind,
+            })?;
+        }
+    }
+    Ok(found)
+}
+
+/// Each extent of so many addresses.
+pub fn windows(alloc: Global, size: u16, frame: Range) -> Result<Vec<Extent>, NoMemory>
+    requires { frame.len ≤ 2 ^ 47 }
+    ensures { (lists : List TermList) → IfOk result (λ v. Lists frame.len (is_in (Window size) (stands_by lists frame.start) frame.len) v.items) }
+{
+    let places = u64::from(size);
+    if places == 0 {
+        return Ok(Vec::new(alloc));
+    }
+    if places > frame.len {
+        return Ok(Vec::new(alloc));
+    }
+    Ok(runs(alloc, places - 1, frame.len - places + 1)?)
+}
+
+/// The first so many extents that have so many addresses behind the first.
+fn runs(alloc: Global, behind: u64, count: u64) -> Result<Vec<Extent>, NoMemory>
+    requires { count + behind < 2 ^ 63 }
+    ensures { IfOk result (λ v. v.items ≡ map (run_from behind) (range_with_len 0 count)) }
+{
+    let mut found = Vec::new(alloc);
+    for start in 0..count {
+        found.push(Extent {
+            start,
+            end: start + behind,
+        })?;
+    }
+    Ok(found)
+}
