@@ -203,7 +203,7 @@ fn a_refused_event_changes_nothing(rt: HostRuntime) -> Result<(), Fail> {
 fn the_deepest_directory_holds_files_alone(rt: HostRuntime) -> Result<(), Fail> {
     let mut script = Vec::new(rt.alloc());
     let mut replies = Vec::new(rt.alloc());
-    for parent in 1..256 {
+    for parent in 1..255 {
         script.extend_from_slice(b"mkdir~")?;
         put_decimal(&mut script, parent + 1)?;
         script.extend_from_slice(b"~")?;
@@ -211,7 +211,7 @@ fn the_deepest_directory_holds_files_alone(rt: HostRuntime) -> Result<(), Fail> 
         script.extend_from_slice(b"~d~0~0~755\n")?;
         replies.extend_from_slice(b"ok\n")?;
     }
-    script.extend_from_slice(b"mkdir~257~256~d~0~0~755\ncreate~257~256~d~0~0~644\n")?;
+    script.extend_from_slice(b"mkdir~256~255~d~0~0~755\ncreate~256~255~d~0~0~644\n")?;
     replies.extend_from_slice(b"refused~deep\nok\n")?;
     assert_replies(&rt, rt.alloc(), script.as_slice(), replies.as_slice())
 }
