@@ -1,0 +1,189 @@
+-- The items of a script in turn.
+use Rattle.std.proofs.Common.{◌≡◌, ℕ, zero, suc, ◌<◌, ◌≤◌, Bool, true, false, eqb, List, [], ◌∷◌, ◌++◌, length, drop, Option, Some, None, refl, ap, sym, ◌∙◌, subst, append_assoc, append-nil, length-append, ◌⊎◌, inl, inr, arith}
+use Rattle.std.specs.Prelude.{nat_lt}
+use Rattle.std.specs.Io.KnownBytes.{IsAtEnd, prepend_known}
+use Rattle.std.proofs.lemmas.Bool.{lt-ltb, le-ltb, ltb-false}
+use Rattle.std.proofs.lemmas.List.{take-append-le, length-drop}
+use Rattle.wu_script.specs.declared.types.Item.{Item}
+use Rattle.wu_script.specs.declared.types.Item.TheVariants as items
+use Rattle.wu_script.specs.Holding.{Held}
+use Rattle.wu_script.specs.Commands.{Meaning, Happens, Counts, ListsPaths, GivesText, IsRefused, IsBlank, meaning_of}
+use Rattle.wu_script.specs.Items.{First, line_at, after_line, has_feed, text_at, entry_at, first_of, items_within, items_of, IsEntry, IsOneItem, IsItem, TakesItem, IsFirstItem, IsNext}
+
+cases : (b : Bool) → (b ≡ true) ⊎ (b ≡ false)
+cases true = inl refl
+cases false = inr refl
+
+-- a line that is closed stays, whatever follows
+line_more : (bytes more : List ℕ) → has_feed bytes ≡ true → (line_at (bytes ++ more) ≡ line_at bytes) × (after_line (bytes ++ more) ≡ after_line bytes ++ more) × (has_feed (bytes ++ more) ≡ true)
+line_more [] more feed = cc (feed)
+line_more (byte ∷ bytes) more feed = by_case (eqb byte 10) refl (λ below. line_more bytes more below)
+  where
+    by_case : (here : Bool) → eqb byte 10 ≡ here → (has_feed bytes ≡ true → (line_at (bytes ++ more) ≡ line_at bytes) × (after_line (bytes ++ more) ≡ after_line bytes ++ more) × (has_feed (bytes ++ more) ≡ true)) → (line_at (byte ∷ (bytes ++ more)) ≡ line_at (byte ∷ bytes)) × (after_line (byte ∷ (bytes ++ more)) ≡ after_line (byte ∷ bytes) ++ more) × (has_feed (byte ∷ (bytes ++ more)) ≡ true)
+    by_case true is below = (rw is refl, rw is refl, rw is refl)
+    by_case false is below =
+        let tail = below (rw is at feed) in
+        (rw (is, tail.0) refl, rw (is, tail.1) refl, rw (is, tail.2) refl)
+
+drop-append-le : (n : ℕ) (xs ys : List ℕ) → n ≤ length xs → drop n (xs ++ ys) ≡ drop n xs ++ ys
+drop-append-le zero xs ys within = refl
+drop-append-le (suc n) [] ys within = absurd (omega arith)
+drop-append-le (suc n) (x ∷ xs) ys within = drop-append-le n xs ys (omega arith)
+
+-- what a first item is when more bytes follow it
+abbrev more_after : First → List ℕ → First
+more_after first more = record { entry = first.entry; rest = first.rest ++ more; closed = true }
+
+text_more : (ino len : ℕ) (rest more : List ℕ) → (text_at ino len rest).closed ≡ true → text_at ino len (rest ++ more) ≡ more_after (text_at ino len rest) more
+text_more ino len rest more closed = by_case (nat_lt (length rest) len) refl
+  where
+    by_case : (short : Bool) → nat_lt (length rest) len ≡ short → text_at ino len (rest ++ more) ≡ more_after (text_at ino len rest) more
+    by_case true is = cc (rw is at closed)
+    by_case false is =
+        let within : len ≤ length rest = ltb-false (length rest) len is in
+        let enough : nat_lt (length (rest ++ more)) len ≡ false = le-ltb _ _ (omega (arith, length-append rest more)) in
+        let line = line_more (drop len rest) more (rw is at closed) in
+        rw (enough, is, take-append-le len rest more within, drop-append-le len rest more within, line.0, line.1, line.2) refl
+
+text_at-nothing : (ino len : ℕ) → (text_at ino len []).closed ≡ false
+text_at-nothing ino zero = refl
+text_at-nothing ino (suc len) = rw (lt-ltb 0 (suc len) (omega arith)) refl
+
+entry_more : (meaning : Meaning) (rest more : List ℕ) → (entry_at meaning rest true).closed ≡ true → entry_at meaning (rest ++ more) true ≡ more_after (entry_at meaning rest true) more
+entry_more (GivesText ino len) rest more closed = text_more ino len rest more closed
+entry_more (Happens event) rest more closed = refl
+entry_more (Counts uid text) rest more closed = refl
+entry_more (ListsPaths uid) rest more closed = refl
+entry_more (IsRefused why) rest more closed = refl
+entry_more IsBlank rest more closed = refl
+
+after_last : (bytes : List ℕ) → has_feed bytes ≡ false → after_line bytes ≡ []
+after_last [] none = refl
+after_last (byte ∷ bytes) none = by_case (eqb byte 10) refl (λ below. after_last bytes below)
+  where
+    by_case : (here : Bool) → eqb byte 10 ≡ here → (has_feed bytes ≡ false → after_line bytes ≡ []) → after_line (byte ∷ bytes) ≡ []
+    by_case true is below = cc (rw is at none)
+    by_case false is below = rw is (below (rw is at none))
+
+entry_unclosed : (meaning : Meaning) → (entry_at meaning [] false).closed ≡ false
+entry_unclosed (GivesText ino len) = text_at-nothing ino len
+entry_unclosed (Happens event) = refl
+entry_unclosed (Counts uid text) = refl
+entry_unclosed (ListsPaths uid) = refl
+entry_unclosed (IsRefused why) = refl
+entry_unclosed IsBlank = refl
+
+-- an item whose closing LF was given stays, whatever follows
+pub first_more : (bytes more : List ℕ) → (first_of bytes).closed ≡ true → first_of (bytes ++ more) ≡ more_after (first_of bytes) more
+unfolding first_of
+first_more bytes more closed = by_case (has_feed bytes) refl
+  where
+    by_case : (feed : Bool) → has_feed bytes ≡ feed → entry_at (meaning_of (line_at (bytes ++ more))) (after_line (bytes ++ more)) (has_feed (bytes ++ more)) ≡ more_after (entry_at (meaning_of (line_at bytes)) (after_line bytes) (has_feed bytes)) more
+    by_case true is =
+        let line = line_more bytes more is in
+        rw (line.0, line.1, line.2, is) (entry_more (meaning_of (line_at bytes)) (after_line bytes) more (rw is at closed))
+    by_case false is =
+        let none = rw (is, after_last bytes is) at closed in
+        let unclosed = entry_unclosed (meaning_of (line_at bytes)) in
+        cc (none, unclosed)
+
+-- the known bytes after a use
+known_used : (old new given used xs ys : List ℕ) → xs ≡ given ++ ys → old ++ given ≡ used ++ new → old ++ xs ≡ used ++ (new ++ ys)
+known_used old new given used xs ys consumed joined = ap (λ bs. old ++ bs) consumed ∙ sym (append_assoc old given ys) ∙ ap (λ bs. bs ++ ys) joined ∙ append_assoc used new ys
+
+length_used : (used more : List ℕ) → 0 < length used → 0 < length (used ++ more)
+length_used used more some = omega (arith, length-append used more)
+
+turn_one : (new : Held) (item : Item) (bytes used ys : List ℕ) → bytes ≡ used ++ (new.bytes ++ ys) → (new.ended ≡ true → ys ≡ []) → IsOneItem new item used → (0 < length bytes) × IsEntry item (first_of bytes).entry × ((new.bytes ++ ys) ≡ (first_of bytes).rest)
+turn_one new item bytes used ys known at_end is = by_case (first_of used).closed refl
+  where
+    by_case : (closed : Bool) → (first_of used).closed ≡ closed → (0 < length bytes) × IsEntry item (first_of bytes).entry × ((new.bytes ++ ys) ≡ (first_of bytes).rest)
+    by_case true closed =
+        let first = ap first_of known ∙ first_more used (new.bytes ++ ys) closed in (
+          subst (λ (bs : List ℕ). 0 < length bs) (sym known) (length_used used (new.bytes ++ ys) is.some),
+          subst (λ (f : First). IsEntry item f.entry) (sym first) is.entry,
+          sym (ap (λ (f : First). f.rest) first ∙ ap (λ rest. rest ++ (new.bytes ++ ys)) is.all),
+        )
+    by_case false unclosed =
+        let last = is.last unclosed in
+        let none : new.bytes ++ ys ≡ [] = ap (λ bs. bs ++ ys) last.0 ∙ at_end last.1 in
+        let whole : bytes ≡ used = known ∙ ap (λ bs. used ++ bs) none ∙ append-nil used in (
+          subst (λ (bs : List ℕ). 0 < length bs) (sym whole) is.some,
+          subst (λ (bs : List ℕ). IsEntry item (first_of bs).entry) (sym whole) is.entry,
+          none ∙ sym (ap (λ bs. (first_of bs).rest) whole ∙ is.all),
+        )
+
+turn_known : (new : Held) (item : Item) (bytes used ys : List ℕ) → bytes ≡ used ++ (new.bytes ++ ys) → (new.ended ≡ true → ys ≡ []) → IsItem new item used → IsFirstItem bytes (new.bytes ++ ys) item
+turn_known new items.End bytes used ys known at_end is =
+    let none : new.bytes ++ ys ≡ [] = ap (λ bs. bs ++ ys) is.1 ∙ at_end is.2 in
+    (known ∙ ap (λ bs. bs ++ (new.bytes ++ ys)) is.0 ∙ none, none)
+turn_known new (items.Command command) bytes used ys known at_end is = turn_one new (items.Command command) bytes used ys known at_end is
+turn_known new (items.Text ino body) bytes used ys known at_end is = turn_one new (items.Text ino body) bytes used ys known at_end is
+turn_known new (items.Refused why) bytes used ys known at_end is = turn_one new (items.Refused why) bytes used ys known at_end is
+turn_known new items.Blank bytes used ys known at_end is = turn_one new items.Blank bytes used ys known at_end is
+
+-- over a source that tells what it has left the item taken is the first
+pub turn_taken : (left left' : Option (List ℕ)) (old new : Held) (item : Item) → TakesItem left left' old new item → (old.ended ≡ true → IsAtEnd left) → IsNext (prepend_known old.bytes left) (prepend_known new.bytes left') item
+turn_taken None left' old new item taken before = tt
+turn_taken (Some xs) None old new item taken before = taken.1.consumed
+turn_taken (Some xs) (Some ys) old new item taken before =
+    let uses = taken.1 in
+    turn_known new item (old.bytes ++ xs) taken.0 ys (known_used old.bytes new.bytes uses.given taken.0 xs ys uses.consumed uses.joined) (uses.at_end before) taken.2
+
+-- ---- the list of the items
+
+after_shorter : (byte : ℕ) (bytes : List ℕ) → length (after_line (byte ∷ bytes)) ≤ length bytes
+after_shorter byte [] = by_case (eqb byte 10) refl
+  where
+    by_case : (here : Bool) → eqb byte 10 ≡ here → length (after_line (byte ∷ [])) ≤ 0
+    by_case true is = rw is (omega arith)
+    by_case false is = rw is (omega arith)
+after_shorter byte (next ∷ bytes) = by_case (eqb byte 10) refl (after_shorter next bytes)
+  where
+    by_case : (here : Bool) → eqb byte 10 ≡ here → length (after_line (next ∷ bytes)) ≤ length bytes → length (after_line (byte ∷ next ∷ bytes)) ≤ length (next ∷ bytes)
+    by_case true is below = rw is (omega arith)
+    by_case false is below = rw is (omega arith)
+
+after_short : (bytes : List ℕ) → length (after_line bytes) ≤ length bytes
+after_short [] = omega arith
+after_short (byte ∷ bytes) = omega (arith, after_shorter byte bytes)
+
+text_short : (ino len : ℕ) (bytes : List ℕ) → length (text_at ino len bytes).rest ≤ length bytes
+text_short ino len bytes = by_case (nat_lt (length bytes) len) refl
+  where
+    by_case : (short : Bool) → nat_lt (length bytes) len ≡ short → length (text_at ino len bytes).rest ≤ length bytes
+    by_case true is = rw is (omega arith)
+    by_case false is = rw is (omega (arith, after_short (drop len bytes), length-drop len bytes))
+
+entry_short : (meaning : Meaning) (rest : List ℕ) (closed : Bool) → length (entry_at meaning rest closed).rest ≤ length rest
+entry_short (GivesText ino len) rest closed = text_short ino len rest
+entry_short (Happens event) rest closed = omega arith
+entry_short (Counts uid text) rest closed = omega arith
+entry_short (ListsPaths uid) rest closed = omega arith
+entry_short (IsRefused why) rest closed = omega arith
+entry_short IsBlank rest closed = omega arith
+
+-- an item takes a byte or more
+first_short : (byte : ℕ) (bytes : List ℕ) → length (first_of (byte ∷ bytes)).rest ≤ length bytes
+unfolding first_of
+first_short byte bytes = omega (arith, entry_short (meaning_of (line_at (byte ∷ bytes))) (after_line (byte ∷ bytes)) (has_feed (byte ∷ bytes)), after_shorter byte bytes)
+
+items_enough : (n m : ℕ) (bytes : List ℕ) → length bytes ≤ n → length bytes ≤ m → items_within n bytes ≡ items_within m bytes
+items_enough zero zero bytes less few = refl
+items_enough zero (suc m) [] less few = refl
+items_enough zero (suc m) (byte ∷ bytes) less few = absurd (omega arith)
+items_enough (suc n) zero [] less few = refl
+items_enough (suc n) zero (byte ∷ bytes) less few = absurd (omega arith)
+items_enough (suc n) (suc m) [] less few = refl
+items_enough (suc n) (suc m) (byte ∷ bytes) less few = ap (λ entries. (first_of (byte ∷ bytes)).entry ∷ entries) (items_enough n m (first_of (byte ∷ bytes)).rest (omega (arith, first_short byte bytes)) (omega (arith, first_short byte bytes)))
+
+-- of no bytes there is no item
+pub items_of-none : items_of [] ≡ []
+unfolding items_of
+items_of-none = refl
+
+-- the items are the first and those of the rest
+pub items_of-some : (bytes : List ℕ) → 0 < length bytes → items_of bytes ≡ (first_of bytes).entry ∷ items_of (first_of bytes).rest
+unfolding items_of
+items_of-some [] some = absurd (omega arith)
+items_of-some (byte ∷ bytes) some = ap (λ entries. (first_of (byte ∷ bytes)).entry ∷ entries) (items_enough (length bytes) (length (first_of (byte ∷ bytes)).rest) (first_of (byte ∷ bytes)).rest (first_short byte bytes) (omega arith))

@@ -1,0 +1,5 @@
+use Rattle.wu_script.proofs.LineLemmas.{feed_found}
+use Rattle.wu_script.proofs.lines.feed_position.Goals as goal
+
+pub returns : goal.returns
+returns c = feed_found c.args.bytes.now c.memchr.result c.memchr.ensures

@@ -1,0 +1,7 @@
+use Rattle.std.proofs.Common.{◌≡◌, ◌++◌, take}
+use Rattle.std.specs.List.{flat_map}
+use Rattle.wu_script.specs.Replies.{path_line}
+use Rattle.wu_script.proofs.replies.append_lines.Given as goal
+
+abbrev pub invariant-loop-path : goal.invariant-loop-path
+invariant-loop-path l = l.out.items ≡ l.fn.out.items ++ flat_map path_line (take l.path-index l.paths)

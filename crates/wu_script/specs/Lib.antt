@@ -1,0 +1,6 @@
+pub mod Commands
+pub mod Holding
+pub mod Items
+pub mod Replies
+pub mod Taking
+pub mod Words

@@ -1,0 +1,55 @@
+-- The bytes of a reply.
+use Rattle.std.specs.Prelude.{ℕ, List, [], ◌∷◌, ◌++◌, codes, decimal, length}
+use Rattle.std.specs.List.{flat_map}
+use Rattle.wu_tree.specs.declared.events.Refusal.{Refusal}
+use Rattle.wu_tree.specs.declared.events.Refusal.TheVariants as refusals
+use Rattle.wu_gcl.specs.declared.expressions.ExprFault.{ExprFault}
+use Rattle.wu_gcl.specs.declared.expressions.ExprFault.TheVariants as faults
+use Rattle.wu_ask.specs.declared.Answered.{Answered}
+use Rattle.wu_ask.specs.declared.Answered.TheVariants as answers
+use Rattle.wu_fields.specs.Fields.{escaped}
+use Rattle.wu_script.specs.declared.types.Why.{Why}
+use Rattle.wu_script.specs.declared.types.Why.TheVariants as why
+use Rattle.wu_script.specs.declared.types.Reply.{Reply}
+use Rattle.wu_script.specs.declared.types.Reply.TheVariants as replies
+
+unfoldable pub refusal_word : Refusal → List ℕ
+refusal_word refusals.BadName = codes "badname"
+refusal_word refusals.NoSuch = codes "nosuch"
+refusal_word refusals.Kind = codes "kind"
+refusal_word refusals.Exists = codes "exists"
+refusal_word refusals.NotEmpty = codes "notempty"
+refusal_word refusals.Loop = codes "loop"
+refusal_word refusals.Deep = codes "deep"
+
+unfoldable pub fault_word : ExprFault → List ℕ
+fault_word faults.NotAnExpression = codes "notexpr"
+fault_word faults.TooLarge = codes "toolarge"
+fault_word faults.NoWord = codes "noword"
+fault_word faults.BadWindow = codes "badwindow"
+
+unfoldable pub why_word : Why → List ℕ
+why_word why.LongLine = codes "longline"
+why_word why.Syntax = codes "syntax"
+why_word why.Truncated = codes "truncated"
+why_word why.TooLong = codes "toolong"
+why_word why.BadBody = codes "badbody"
+why_word (why.Tree refusal) = refusal_word refusal
+why_word (why.Expr fault) = fault_word fault
+why_word why.NoWord = codes "noword"
+why_word why.ManyWords = codes "manywords"
+why_word why.Unbuilt = codes "unbuilt"
+
+-- a path on a line of its own
+abbrev pub path_line : List ℕ → List ℕ
+path_line path = escaped path ++ 10 ∷ []
+
+-- its fields have a TAB between each two
+unfoldable pub answer_bytes : Answered → List ℕ
+answer_bytes (answers.Count hits files) = codes "count\t" ++ decimal hits ++ 9 ∷ [] ++ decimal files ++ 10 ∷ []
+answer_bytes (answers.Paths paths) = codes "paths\t" ++ decimal (length paths) ++ 10 ∷ [] ++ flat_map path_line paths
+
+unfoldable pub reply_bytes : Reply → List ℕ
+reply_bytes replies.Ok = codes "ok\n"
+reply_bytes (replies.Refused w) = codes "refused\t" ++ why_word w ++ 10 ∷ []
+reply_bytes (replies.Answered answered) = answer_bytes answered

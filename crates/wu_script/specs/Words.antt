@@ -1,0 +1,29 @@
+-- The first field of a command's line.
+use Rattle.std.specs.Prelude.{ℕ, Bool, ◌||◌, List, codes, nat_eq, if◌then◌else◌}
+use Rattle.std.specs.Cmp.Lexicographic.{pointwise}
+use Rattle.wu_script.specs.declared.words.Word.{Word}
+use Rattle.wu_script.specs.declared.words.Word.TheVariants.{User, Mkdir, Create, Text, Link, Unlink, Rmdir, Rename, Chmod, Chown, Count, Paths, Unbuilt, Unknown}
+
+abbrev pub is : List ℕ → List ℕ → Bool
+is field word = pointwise nat_eq field word
+
+-- a command that will be built later
+abbrev pub is_unbuilt : List ℕ → Bool
+is_unbuilt field = is field (codes "rank") || is field (codes "find") || is field (codes "flush") || is field (codes "work") || is field (codes "stat") || is field (codes "save")
+
+unfoldable pub word_of : List ℕ → Word
+word_of field =
+    if is_unbuilt field then Unbuilt
+    else if is field (codes "user") then User
+    else if is field (codes "mkdir") then Mkdir
+    else if is field (codes "create") then Create
+    else if is field (codes "text") then Text
+    else if is field (codes "link") then Link
+    else if is field (codes "unlink") then Unlink
+    else if is field (codes "rmdir") then Rmdir
+    else if is field (codes "rename") then Rename
+    else if is field (codes "chmod") then Chmod
+    else if is field (codes "chown") then Chown
+    else if is field (codes "count") then Count
+    else if is field (codes "paths") then Paths
+    else Unknown

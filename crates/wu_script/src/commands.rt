@@ -1,0 +1,156 @@
+//! What the lines of a script say.
+ghost use Rattle.std.specs.Prelude.{◌≡◌, IfOk, IfSome};
+ghost use Rattle.wu_tree.specs.Steps.{IsEvent};
+ghost use Rattle.wu_script.specs.Commands.{Shows, IsSoundLine, command_of, event_meaning, fields_meaning, is_blank, meaning_of, or_syntax, count_of, paths_of, text_head_of};
+
+use crate::events::{
+    chmod, chown, create, id_of, link, mkdir, node_of, rename, rmdir, unlink, user,
+};
+use crate::types::{Command, Line, Why};
+use crate::words::{Word, word_of};
+use std::alloc::Global;
+use wu_ask::{Ask, Query};
+use wu_base::{Bytes, LINE_MAX, NoMemory};
+use wu_fields::{read_decimal, split_fields};
+use wu_gcl::parse;
+use wu_tree::Event;
+
+/// What the line says, without its LF. The first rule that applies decides: `LongLine`, more than
+/// LINE_MAX bytes; blank, no byte or `#` at its front; `Syntax` for an escape fault; `Unbuilt` for a
+/// command that isn't built yet; `Syntax` for an unknown command, a wrong number of fields or a field
+/// out of form or range; the faults of a `count`'s expression.
+#[tactic(auto, unfolding(crate::specs::Commands::meaning_of, crate::specs::Commands::fields_meaning))]
+pub fn read_command(alloc: Global, line: &[u8]) -> Result<Line, NoMemory>
+    ensures says { IfOk result (λ read. Shows read (meaning_of line.now)) }
+    ensures sound { IfOk result IsSoundLine }
+{
+    if line.len() > LINE_MAX {
+        return Ok(Line::Refused(Why::LongLine));
+    }
+    if is_blank(line) {
+        return Ok(Line::Blank);
+    }
+    match split_fields(alloc, line)? {
+        Some(fields) => read_fields(alloc, fields.as_slice()),
+        None => Ok(Line::Refused(Why::Syntax)),
+    }
+}
+
+/// Whether the line has no byte or is a comment.
+fn is_blank(line: &[u8]) -> bool
+    ensures { result ≡ is_blank line.now }
+{
+    match line {
+        [] => true,
+        [first, ..] => *first == b'#',
+    }
+}
+
+/// What the fields of a line say.
+#[tactic(auto, unfolding(crate::specs::Commands::fields_meaning))]
+fn read_fields(alloc: Global, fields: &[Bytes]) -> Result<Line, NoMemory>
+    ensures says { IfOk result (λ read. Shows read (fields_meaning (Some fields.now))) }
+    ensures sound { IfOk result IsSoundLine }
+{
+    match fields {
+        [] => Ok(Line::Refused(Why::Syntax)),
+        [word, rest @ ..] => read_by_word(alloc, word_of(word.as_slice()), rest),
+    }
+}
+
+/// What a command with these fields says.
+#[tactic(auto, unfolding(crate::specs::Commands::command_of))]
+fn read_by_word(alloc: Global, word: Word, fields: &[Bytes]) -> Result<Line, NoMemory>
+    ensures says { IfOk result (λ read. Shows read (command_of word fields.now)) }
+    ensures sound { IfOk result IsSoundLine }
+{
+    match word {
+        Word::User => Ok(update(user(alloc, fields)?)),
+        Word::Mkdir => Ok(update(mkdir(alloc, fields)?)),
+        Word::Create => Ok(update(create(alloc, fields)?)),
+        Word::Text => Ok(text_head(fields)),
+        Word::Link => Ok(update(link(alloc, fields)?)),
+        Word::Unlink => Ok(update(unlink(alloc, fields)?)),
+        Word::Rmdir => Ok(update(rmdir(alloc, fields)?)),
+        Word::Rename => Ok(update(rename(alloc, fields)?)),
+        Word::Chmod => Ok(update(chmod(fields))),
+        Word::Chown => Ok(update(chown(fields))),
+        Word::Count => count(alloc, fields),
+        Word::Paths => Ok(paths(fields)),
+        Word::Unbuilt => Ok(Line::Refused(Why::Unbuilt)),
+        Word::Unknown => Ok(Line::Refused(Why::Syntax)),
+    }
+}
+
+/// An event, where the fields are those of one.
+fn update(event: Option<Event>) -> Line
+    requires { IfSome event IsEvent }
+    ensures says { Shows result (event_meaning event) }
+    ensures sound { IsSoundLine result }
+{
+    match event {
+        Some(event) => Line::Command(Command::Update(event)),
+        None => Line::Refused(Why::Syntax),
+    }
+}
+
+/// `text`, a node and the length of the text, at most 2^40.
+#[tactic(auto, unfolding(crate::specs::Commands::text_head_of))]
+fn text_head(fields: &[Bytes]) -> Line
+    ensures says { Shows result (or_syntax (text_head_of fields.now)) }
+    ensures sound { IsSoundLine result }
+{
+    match fields {
+        [ino, len] => {
+            let Some(ino) = node_of(ino) else {
+                return Line::Refused(Why::Syntax);
+            };
+            match read_decimal(len.as_slice(), 1_099_511_627_776) {
+                Some(len) => Line::TextHead { ino, len },
+                None => Line::Refused(Why::Syntax),
+            }
+        }
+        _ => Line::Refused(Why::Syntax),
+    }
+}
+
+/// `count`, a user and an expression.
+#[tactic(auto, unfolding(crate::specs::Commands::count_of))]
+fn count(alloc: Global, fields: &[Bytes]) -> Result<Line, NoMemory>
+    ensures says { IfOk result (λ read. Shows read (or_syntax (count_of fields.now))) }
+    ensures sound { IfOk result IsSoundLine }
+{
+    match fields {
+        [uid, text] => {
+            let Some(uid) = id_of(uid) else {
+                return Ok(Line::Refused(Why::Syntax));
+            };
+            match parse(alloc, text.as_slice())? {
+                Ok(expr) => Ok(Line::Command(Command::Ask(Query {
+                    uid,
+                    ask: Ask::Count { expr },
+                }))),
+                Err(fault) => Ok(Line::Refused(Why::Expr(fault))),
+            }
+        }
+        _ => Ok(Line::Refused(Why::Syntax)),
+    }
+}
+
+/// `paths`, and a user.
+#[tactic(auto, unfolding(crate::specs::Commands::paths_of))]
+fn paths(fields: &[Bytes]) -> Line
+    ensures says { Shows result (or_syntax (paths_of fields.now)) }
+    ensures sound { IsSoundLine result }
+{
+    match fields {
+        [uid] => match id_of(uid) {
+            Some(uid) => Line::Command(Command::Ask(Query {
+                uid,
+                ask: Ask::Paths,
+            })),
+            None => Line::Refused(Why::Syntax),
+        },
+        _ => Line::Refused(Why::Syntax),
+    }
+}

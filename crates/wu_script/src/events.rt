@@ -1,0 +1,257 @@
+//! The events that lines report.
+ghost use Rattle.std.specs.Prelude.{◌≡◌, ◌≤◌, IfOk, IfSome};
+ghost use Rattle.wu_tree.specs.Steps.{IsEvent};
+ghost use Rattle.wu_script.specs.Commands.{id_of, node_of, ids_of, perm_of, user_of, mkdir_of, create_of, link_of, unlink_of, rmdir_of, rename_of, chmod_of, chown_of};
+
+use std::alloc::Global;
+use wu_access::Perm;
+use wu_base::{Bytes, NoMemory, Sequence};
+use wu_fields::{read_decimal, read_octal_mode};
+use wu_tree::Event;
+
+/// The number of a user or a group.
+#[tactic(auto, unfolding(crate::specs::Commands::id_of))]
+pub fn id_of(field: &Bytes) -> Option<u32>
+    ensures { result ≡ id_of field.now }
+{
+    match read_decimal(field.as_slice(), 4_294_967_295) {
+        Some(number) => Some(number as u32),
+        None => None,
+    }
+}
+
+/// The number of a node, which is at least 1.
+#[tactic(auto, unfolding(crate::specs::Commands::node_of))]
+pub fn node_of(field: &Bytes) -> Option<u32>
+    ensures value { result ≡ node_of field.now }
+    ensures some { IfSome result (λ node. 1 ≤ node) }
+{
+    match id_of(field) {
+        Some(0) => None,
+        other => other,
+    }
+}
+
+/// The numbers, if each field is one.
+fn ids_of(alloc: Global, fields: &[Bytes]) -> Result<Option<Sequence<u32>>, NoMemory>
+    ensures { IfOk result (λ ids. ids ≡ ids_of fields.now) }
+{
+    let mut ids = Vec::new(alloc);
+    for field in fields {
+        match id_of(field) {
+            Some(id) => ids.push(id)?,
+            None => return Ok(None),
+        }
+    }
+    Ok(Some(Sequence::from(ids)))
+}
+
+/// Owner, group and mode.
+#[tactic(auto, unfolding(crate::specs::Commands::perm_of))]
+fn perm_of(uid: &Bytes, gid: &Bytes, mode: &Bytes) -> Option<Perm>
+    ensures value { result ≡ perm_of uid.now gid.now mode.now }
+    ensures small { IfSome result (λ perm. perm.mode ≤ 0xFFF) }
+{
+    let uid = id_of(uid)?;
+    let gid = id_of(gid)?;
+    let mode = read_octal_mode(mode.as_slice())?;
+    Some(Perm { uid, gid, mode })
+}
+
+/// `user`, and the user's groups.
+#[tactic(auto, unfolding(crate::specs::Commands::user_of))]
+pub fn user(alloc: Global, fields: &[Bytes]) -> Result<Option<Event>, NoMemory>
+    ensures value { IfOk result (λ event. event ≡ user_of fields.now) }
+    ensures sound { IfOk result (λ event. IfSome event IsEvent) }
+{
+    match fields {
+        [] => Ok(None),
+        [uid, groups @ ..] => {
+            let Some(uid) = id_of(uid) else {
+                return Ok(None);
+            };
+            match ids_of(alloc, groups)? {
+                Some(groups) => Ok(Some(Event::User { uid, groups })),
+                None => Ok(None),
+            }
+        }
+    }
+}
+
+/// `chmod`, a node and a mode.
+#[tactic(auto, unfolding(crate::specs::Commands::chmod_of))]
+pub fn chmod(fields: &[Bytes]) -> Option<Event>
+    ensures value { result ≡ chmod_of fields.now }
+    ensures sound { IfSome result IsEvent }
+{
+    match fields {
+        [ino, mode] => {
+            let ino = node_of(ino)?;
+            let mode = read_octal_mode(mode.as_slice())?;
+            Some(Event::Chmod { ino, mode })
+        }
+        _ => None,
+    }
+}
+
+/// `unlink`, a directory and a name.
+#[tactic(auto, unfolding(crate::specs::Commands::unlink_of))]
+pub fn unlink(alloc: Global, fields: &[Bytes]) -> Result<Option<Event>, NoMemory>
+    ensures value { IfOk result (λ event. event ≡ unlink_of fields.now) }
+    ensures sound { IfOk result (λ event. IfSome event IsEvent) }
+{
+    match fields {
+        [parent, name] => match node_of(parent) {
+            Some(parent) => Ok(Some(Event::Unlink {
+                parent,
+                name: Bytes::from_slice(alloc, name.as_slice())?,
+            })),
+            None => Ok(None),
+        },
+        _ => Ok(None),
+    }
+}
+
+/// `rmdir`, a directory and a name.
+#[tactic(auto, unfolding(crate::specs::Commands::rmdir_of))]
+pub fn rmdir(alloc: Global, fields: &[Bytes]) -> Result<Option<Event>, NoMemory>
+    ensures value { IfOk result (λ event. event ≡ rmdir_of fields.now) }
+    ensures sound { IfOk result (λ event. IfSome event IsEvent) }
+{
+    match fields {
+        [parent, name] => match node_of(parent) {
+            Some(parent) => Ok(Some(Event::Rmdir {
+                parent,
+                name: Bytes::from_slice(alloc, name.as_slice())?,
+            })),
+            None => Ok(None),
+        },
+        _ => Ok(None),
+    }
+}
+
+/// `link`, a node, a directory and a name.
+#[tactic(auto, unfolding(crate::specs::Commands::link_of))]
+pub fn link(alloc: Global, fields: &[Bytes]) -> Result<Option<Event>, NoMemory>
+    ensures value { IfOk result (λ event. event ≡ link_of fields.now) }
+    ensures sound { IfOk result (λ event. IfSome event IsEvent) }
+{
+    match fields {
+        [ino, parent, name] => {
+            let Some(ino) = node_of(ino) else {
+                return Ok(None);
+            };
+            match node_of(parent) {
+                Some(parent) => Ok(Some(Event::Link {
+                    ino,
+                    parent,
+                    name: Bytes::from_slice(alloc, name.as_slice())?,
+                })),
+                None => Ok(None),
+            }
+        }
+        _ => Ok(None),
+    }
+}
+
+/// `chown`, a node, an owner and a group.
+#[tactic(auto, unfolding(crate::specs::Commands::chown_of))]
+pub fn chown(fields: &[Bytes]) -> Option<Event>
+    ensures value { result ≡ chown_of fields.now }
+    ensures sound { IfSome result IsEvent }
+{
+    match fields {
+        [ino, uid, gid] => {
+            let ino = node_of(ino)?;
+            let uid = id_of(uid)?;
+            let gid = id_of(gid)?;
+            Some(Event::Chown { ino, uid, gid })
+        }
+        _ => None,
+    }
+}
+
+/// `mkdir`, a node, a directory, a name, owner, group and mode.
+#[tactic(auto, unfolding(crate::specs::Commands::mkdir_of))]
+pub fn mkdir(alloc: Global, fields: &[Bytes]) -> Result<Option<Event>, NoMemory>
+    ensures value { IfOk result (λ event. event ≡ mkdir_of fields.now) }
+    ensures sound { IfOk result (λ event. IfSome event IsEvent) }
+{
+    match fields {
+        [ino, parent, name, uid, gid, mode] => {
+            let Some(ino) = node_of(ino) else {
+                return Ok(None);
+            };
+            let Some(parent) = node_of(parent) else {
+                return Ok(None);
+            };
+            match perm_of(uid, gid, mode) {
+                Some(perm) => Ok(Some(Event::Mkdir {
+                    ino,
+                    parent,
+                    name: Bytes::from_slice(alloc, name.as_slice())?,
+                    perm,
+                })),
+                None => Ok(None),
+            }
+        }
+        _ => Ok(None),
+    }
+}
+
+/// `create`, likewise.
+#[tactic(auto, unfolding(crate::specs::Commands::create_of))]
+pub fn create(alloc: Global, fields: &[Bytes]) -> Result<Option<Event>, NoMemory>
+    ensures value { IfOk result (λ event. event ≡ create_of fields.now) }
+    ensures sound { IfOk result (λ event. IfSome event IsEvent) }
+{
+    match fields {
+        [ino, parent, name, uid, gid, mode] => {
+            let Some(ino) = node_of(ino) else {
+                return Ok(None);
+            };
+            let Some(parent) = node_of(parent) else {
+                return Ok(None);
+            };
+            match perm_of(uid, gid, mode) {
+                Some(perm) => Ok(Some(Event::Create {
+                    ino,
+                    parent,
+                    name: Bytes::from_slice(alloc, name.as_slice())?,
+                    perm,
+                })),
+                None => Ok(None),
+            }
+        }
+        _ => Ok(None),
+    }
+}
+
+/// `rename`, a directory and a name, and the same of the new place.
+#[tactic(auto, unfolding(crate::specs::Commands::rename_of))]
+pub fn rename(alloc: Global, fields: &[Bytes]) -> Result<Option<Event>, NoMemory>
+    ensures value { IfOk result (λ event. event ≡ rename_of fields.now) }
+    ensures sound { IfOk result (λ event. IfSome event IsEvent) }
+{
+    match fields {
+        [parent, name, new_parent, new_name] => {
+            let Some(parent) = node_of(parent) else {
+                return Ok(None);
+            };
+            match node_of(new_parent) {
+                Some(new_parent) => {
+                    let name = Bytes::from_slice(alloc, name.as_slice())?;
+                    let new_name = Bytes::from_slice(alloc, new_name.as_slice())?;
+                    Ok(Some(Event::Rename {
+                        parent,
+                        name,
+                        new_parent,
+                        new_name,
+                    }))
+                }
+                None => Ok(None),
+            }
+        }
+        _ => Ok(None),
+    }
+}

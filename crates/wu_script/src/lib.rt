@@ -1,0 +1,24 @@
+//! The script: its lines, the items that they and their bodies make, and the replies.
+#![tactic(auto)]
+
+mod bodies;
+mod commands;
+mod ends;
+mod events;
+mod input;
+mod laws;
+mod lines;
+mod reader;
+mod replies;
+mod types;
+mod words;
+
+pub use commands::read_command;
+pub use ends::ReadEnd;
+pub use laws::{a_closed_item_stays, items_are_the_first_and_the_rest};
+pub use reader::Reader;
+pub use replies::put_reply;
+pub use types::{Command, Item, Line, Reply, Why};
+
+#[cfg(test)]
+mod tests;

@@ -1,0 +1,157 @@
+//! Writing a reply.
+ghost use Rattle.std.specs.Prelude.{◌≡◌, ◌++◌, ◌∷◌, [], List, ℕ, codes, decimal, length, OnOk, OnErr};
+ghost use Rattle.std.specs.List.{flat_map};
+ghost use Rattle.wu_script.specs.Replies.{reply_bytes, answer_bytes, refusal_word, fault_word, why_word, path_line};
+
+use crate::types::{Reply, Why};
+use wu_ask::Answered;
+use wu_base::{Bytes, NoMemory};
+use wu_fields::{put_decimal, put_field};
+use wu_gcl::ExprFault;
+use wu_tree::Refusal;
+
+/// Appends the lines of the reply. After want of memory `out` is as it was.
+pub fn put_reply(out: &mut Vec<u8>, reply: &Reply) -> Result<(), NoMemory>
+    ensures ok { OnOk result (out.new.items ≡ out.old.items ++ reply_bytes reply.now) }
+    ensures err { OnErr result (out.new.items ≡ out.old.items) }
+{
+    let before = out.len();
+    if append_reply(out, reply).is_ok() {
+        Ok(())
+    } else {
+        out.truncate(before);
+        Err(NoMemory)
+    }
+}
+
+/// Appends the reply. After want of memory `out` may have gained bytes.
+#[tactic(auto, unfolding(crate::specs::Replies::reply_bytes))]
+fn append_reply(out: &mut Vec<u8>, reply: &Reply) -> Result<(), NoMemory>
+    ensures ok { OnOk result (out.new.items ≡ out.old.items ++ reply_bytes reply.now) }
+    ensures err { OnErr result ((more : List ℕ) × (out.new.items ≡ out.old.items ++ more)) }
+{
+    match reply {
+        Reply::Ok => {
+            out.extend_from_slice(b"ok\n")?;
+            Ok(())
+        }
+        Reply::Refused(why) => append_refusal(out, why_word(*why)),
+        Reply::Answered(answered) => append_answer(out, answered),
+    }
+}
+
+/// Appends the line of a refusal.
+fn append_refusal(out: &mut Vec<u8>, word: &[u8]) -> Result<(), NoMemory>
+    ensures ok { OnOk result (out.new.items ≡ out.old.items ++ (codes "refused\t" ++ word.now ++ 10 ∷ [])) }
+    ensures err { OnErr result ((more : List ℕ) × (out.new.items ≡ out.old.items ++ more)) }
+{
+    out.extend_from_slice(b"refused\t")?;
+    out.extend_from_slice(word)?;
+    out.push(b'\n')?;
+    Ok(())
+}
+
+/// Appends the lines of an answer.
+#[tactic(auto, unfolding(crate::specs::Replies::answer_bytes))]
+fn append_answer(out: &mut Vec<u8>, answered: &Answered) -> Result<(), NoMemory>
+    ensures ok { OnOk result (out.new.items ≡ out.old.items ++ answer_bytes answered.now) }
+    ensures err { OnErr result ((more : List ℕ) × (out.new.items ≡ out.old.items ++ more)) }
+{
+    match answered {
+        Answered::Count { hits, files } => append_counts(out, *hits, *files),
+        Answered::Paths { paths } => append_paths(out, paths.as_slice()),
+    }
+}
+
+/// Appends the line of a count.
+fn append_counts(out: &mut Vec<u8>, hits: u64, files: u64) -> Result<(), NoMemory>
+    ensures ok { OnOk result (out.new.items ≡ out.old.items ++ (codes "count\t" ++ decimal hits ++ 9 ∷ [] ++ decimal files ++ 10 ∷ [])) }
+    ensures err { OnErr result ((more : List ℕ) × (out.new.items ≡ out.old.items ++ more)) }
+{
+    out.extend_from_slice(b"count\t")?;
+    put_decimal(out, hits)?;
+    out.push(b'\t')?;
+    put_decimal(out, files)?;
+    out.push(b'\n')?;
+    Ok(())
+}
+
+/// Appends the lines of paths: how many there are, and each.
+fn append_paths(out: &mut Vec<u8>, paths: &[Bytes]) -> Result<(), NoMemory>
+    ensures ok { OnOk result (out.new.items ≡ out.old.items ++ (codes "paths\t" ++ decimal (length paths.now) ++ 10 ∷ [] ++ flat_map path_line paths.now)) }
+    ensures err { OnErr result ((more : List ℕ) × (out.new.items ≡ out.old.items ++ more)) }
+{
+    out.extend_from_slice(b"paths\t")?;
+    put_decimal(out, paths.len() as u64)?;
+    out.push(b'\n')?;
+    append_lines(out, paths)
+}
+
+/// Appends each path on a line of its own.
+fn append_lines(out: &mut Vec<u8>, paths: &[Bytes]) -> Result<(), NoMemory>
+    ensures ok { OnOk result (out.new.items ≡ out.old.items ++ flat_map path_line paths.now) }
+    ensures err { OnErr result ((more : List ℕ) × (out.new.items ≡ out.old.items ++ more)) }
+{
+    for path in paths {
+        append_line(out, path.as_slice())?;
+    }
+    Ok(())
+}
+
+/// Appends a path on a line of its own.
+fn append_line(out: &mut Vec<u8>, path: &[u8]) -> Result<(), NoMemory>
+    ensures ok { OnOk result (out.new.items ≡ out.old.items ++ path_line path.now) }
+    ensures err { OnErr result ((more : List ℕ) × (out.new.items ≡ out.old.items ++ more)) }
+{
+    put_field(out, path)?;
+    out.push(b'\n')?;
+    Ok(())
+}
+
+/// The word for why a command is refused.
+#[tactic(auto, unfolding(crate::specs::Replies::why_word))]
+fn why_word(why: Why) -> &'static [u8]
+    ensures { result.now ≡ why_word why }
+{
+    match why {
+        Why::LongLine => b"longline",
+        Why::Syntax => b"syntax",
+        Why::Truncated => b"truncated",
+        Why::TooLong => b"toolong",
+        Why::BadBody => b"badbody",
+        Why::Tree(refusal) => refusal_word(refusal),
+        Why::Expr(fault) => fault_word(fault),
+        Why::NoWord => b"noword",
+        Why::ManyWords => b"manywords",
+        Why::Unbuilt => b"unbuilt",
+    }
+}
+
+/// The word for why an event is refused.
+#[tactic(auto, unfolding(crate::specs::Replies::refusal_word))]
+fn refusal_word(refusal: Refusal) -> &'static [u8]
+    ensures { result.now ≡ refusal_word refusal }
+{
+    match refusal {
+        Refusal::BadName => b"badname",
+        Refusal::NoSuch => b"nosuch",
+        Refusal::Kind => b"kind",
+        Refusal::Exists => b"exists",
+        Refusal::NotEmpty => b"notempty",
+        Refusal::Loop => b"loop",
+        Refusal::Deep => b"deep",
+    }
+}
+
+/// The word for why bytes are no expression.
+#[tactic(auto, unfolding(crate::specs::Replies::fault_word))]
+fn fault_word(fault: ExprFault) -> &'static [u8]
+    ensures { result.now ≡ fault_word fault }
+{
+    match fault {
+        ExprFault::NotAnExpression => b"notexpr",
+        ExprFault::TooLarge => b"toolarge",
+        ExprFault::NoWord => b"noword",
+        ExprFault::BadWindow => b"badwindow",
+    }
+}

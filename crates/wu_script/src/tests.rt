@@ -1,0 +1,204 @@
+ghost use Rattle.std.specs.Prelude.{Some};
+
+use crate::{Command, Item, Line, ReadEnd, Reader, Reply, Why, put_reply, read_command};
+use std::alloc::Global;
+use std::process::Abort;
+use std::test::Fail;
+use wu_ask::Answered;
+use wu_base::{Bytes, INPUT_MAX, Sequence};
+use wu_gcl::ExprFault;
+use wu_outside::{Failed, MemSource, PlainSource, Source};
+use wu_tree::{Event, Refusal};
+
+/// A source that gives at most so many bytes at once.
+#[derive(Drop)]
+struct Trickle {
+    plain: PlainSource,
+    most: usize,
+}
+
+impl Source for Trickle {
+    ghost left = { λ s. Some s.plain };
+
+    ghost faults = { λ _. 0 };
+
+    fn read(&mut self, buf: &mut [u8]) -> Result<usize, Failed> {
+        let room = self.most.max(1).min(buf.len());
+        self.plain.read(&mut buf[..room])
+    }
+}
+
+/// A source that fails after so many reads.
+#[derive(Drop)]
+struct Failing {
+    plain: PlainSource,
+    good: u32,
+    faults: u64,
+}
+
+impl Source for Failing {
+    ghost left = { λ s. Some s.plain };
+
+    ghost faults = { λ s. s.faults };
+
+    fn read(&mut self, buf: &mut [u8]) -> Result<usize, Failed> {
+        if self.good == 0 {
+            self.faults = self.faults.saturating_add(1);
+            return Err(Failed);
+        }
+        self.good -= 1;
+        self.plain.read(buf)
+    }
+}
+
+/// A letter for an item.
+fn letter_of(item: &Item) -> u8 {
+    match item {
+        Item::Command(Command::Update(_)) => b'u',
+        Item::Command(Command::Ask(_)) => b'a',
+        Item::Text { .. } => b't',
+        Item::Blank => b'-',
+        Item::End => b'.',
+        Item::Refused(why) => match why {
+            Why::LongLine => b'L',
+            Why::Syntax => b'S',
+            Why::Truncated => b'C',
+            Why::TooLong => b'T',
+            Why::BadBody => b'B',
+            Why::Unbuilt => b'U',
+            _ => b'E',
+        },
+    }
+}
+
+/// The letters of the items, up to the end or an error, which is `!`, `>` or `?`.
+fn letters<I: Source>(alloc: Global, source: &mut I, max_input: u64) -> Result<Vec<u8>, Fail> {
+    let mut reader = Reader::new(alloc, max_input)?;
+    let mut found = Vec::new(alloc);
+    for _ in 0..20 {
+        let letter = match reader.next(source) {
+            Ok(item) => letter_of(&item),
+            Err(ReadEnd::ReadFault) => b'!',
+            Err(ReadEnd::InputTooLong) => b'>',
+            Err(ReadEnd::NoMemory) => b'?',
+        };
+        found.push(letter)?;
+        if matches!(letter, b'.' | b'!' | b'>' | b'?') {
+            break;
+        }
+    }
+    Ok(found)
+}
+
+/// The letters of the items of a script, the same in whatever pieces it comes.
+fn expect_letters(
+    alloc: Global,
+    rt: &impl Abort,
+    script: &[u8],
+    wanted: &[u8],
+) -> Result<(), Fail> {
+    let mut whole = PlainSource::new(Vec::from_slice(alloc, script)?);
+    let found = letters(alloc, &mut whole, INPUT_MAX)?;
+    assert!(rt; found.as_slice() == wanted);
+    for most in [1, 2, 7] {
+        let plain = PlainSource::new(Vec::from_slice(alloc, script)?);
+        let mut trickle = Trickle { plain, most };
+        let found = letters(alloc, &mut trickle, INPUT_MAX)?;
+        assert!(rt; found.as_slice() == wanted);
+    }
+    Ok(())
+}
+
+#[test]
+fn items_are_the_same_in_any_pieces(rt: HostRuntime) -> Result<(), Fail> {
+    let alloc = rt.alloc();
+    expect_letters(alloc, &rt, b"", b".")?;
+    expect_letters(alloc, &rt, b"\n# no reply\n\nfly\nrank\n", b"---SU.")?;
+    expect_letters(
+        alloc,
+        &rt,
+        b"text\t2\t5\napple\ncount\t5\t\"apple\"",
+        b"ta.",
+    )?;
+    expect_letters(alloc, &rt, b"text\t2\t0", b"t.")?;
+    expect_letters(alloc, &rt, b"text\t2\t9\nabc", b"C.")?;
+    expect_letters(alloc, &rt, b"text\t2\t3\nabcd\npaths\t0\n", b"Ba.")?;
+    expect_letters(alloc, &rt, b"text\t2\t3\nabc\n\npaths\t0\n", b"t-a.")?;
+    expect_letters(alloc, &rt, b"text\t0\t3\nabc\nunlink\t1\ta\\x", b"SSS.")?;
+    expect_letters(
+        alloc,
+        &rt,
+        b"count\t5\tapple\nchmod\t2\t0640\nrename\t1\ta\t1\tb",
+        b"Euu.",
+    )
+}
+
+#[test]
+fn long_lines_and_bodies_are_skipped(rt: HostRuntime) -> Result<(), Fail> {
+    let alloc = rt.alloc();
+    let mut script = Vec::from_slice(alloc, b"#")?;
+    for _ in 0..65_536 {
+        script.push(b'x')?;
+    }
+    script.extend_from_slice(b"\npaths\t0\ntext\t2\t16777217\n")?;
+    for _ in 0..16_777_217 {
+        script.push(b'x')?;
+    }
+    script.extend_from_slice(b"y\npaths\t0\n")?;
+    let found = letters(alloc, &mut PlainSource::new(script), INPUT_MAX)?;
+    assert_eq!(rt; found.as_slice(), b"LaTa.".as_slice());
+    Ok(())
+}
+
+#[test]
+fn reading_ends_at_a_fault_and_at_the_greatest_length(rt: HostRuntime) -> Result<(), Fail> {
+    let alloc = rt.alloc();
+    let bytes = Vec::from_slice(alloc, b"# comments\n")?;
+    let mut long = MemSource::new(bytes);
+    let found = letters(alloc, &mut long, 10)?;
+    assert_eq!(rt; found.as_slice(), b">".as_slice());
+    let mut short = MemSource::new(Vec::from_slice(alloc, b"# comment\n")?);
+    let found = letters(alloc, &mut short, 10)?;
+    assert_eq!(rt; found.as_slice(), b"-.".as_slice());
+    assert_eq!(rt; short.calls(), 2);
+    let plain = PlainSource::new(Vec::from_slice(alloc, b"paths\t0\ntext\t2\t5\nap")?);
+    let mut failing = Failing {
+        plain,
+        good: 1,
+        faults: 0,
+    };
+    let found = letters(alloc, &mut failing, INPUT_MAX)?;
+    assert_eq!(rt; found.as_slice(), b"a!".as_slice());
+    Ok(())
+}
+
+#[test]
+fn a_name_is_unescaped(rt: HostRuntime) -> Result<(), Fail> {
+    let line = read_command(rt.alloc(), b"create\t2\t1\ta\\tb\t0\t0\t644")?;
+    let Line::Command(Command::Update(Event::Create { name, .. })) = line else {
+        return Err(Fail::from("no file is made"));
+    };
+    assert_eq!(rt; name.as_slice(), b"a\tb".as_slice());
+    Ok(())
+}
+
+#[test]
+fn replies_are_written(rt: HostRuntime) -> Result<(), Fail> {
+    let alloc = rt.alloc();
+    let mut out = Vec::new(alloc);
+    let mut paths = Sequence::new(alloc);
+    paths.push(Bytes::from_slice(alloc, b"/a\tb")?)?;
+    put_reply(&mut out, &Reply::Ok)?;
+    put_reply(&mut out, &Reply::Refused(Why::LongLine))?;
+    put_reply(&mut out, &Reply::Refused(Why::Tree(Refusal::NotEmpty)))?;
+    put_reply(&mut out, &Reply::Refused(Why::Expr(ExprFault::TooLarge)))?;
+    put_reply(
+        &mut out,
+        &Reply::Answered(Answered::Count { hits: 4, files: 2 }),
+    )?;
+    put_reply(&mut out, &Reply::Answered(Answered::Paths { paths }))?;
+    let wanted =
+        b"ok\nrefused\tlongline\nrefused\tnotempty\nrefused\ttoolarge\ncount\t4\t2\npaths\t1\n/a\\tb\n";
+    assert_eq!(rt; out.as_slice(), wanted.as_slice());
+    Ok(())
+}

@@ -1,0 +1,71 @@
+//! The first field of a command's line.
+ghost use Rattle.std.specs.Prelude.{◌≡◌};
+ghost use Rattle.wu_script.specs.Words.{word_of, is_unbuilt};
+
+/// What the first field of a line says.
+#[derive(Clone, Copy, Debug, PartialEq, Eq)]
+pub enum Word {
+    User,
+    Mkdir,
+    Create,
+    Text,
+    Link,
+    Unlink,
+    Rmdir,
+    Rename,
+    Chmod,
+    Chown,
+    Count,
+    Paths,
+    /// A command that will be built later.
+    Unbuilt,
+    Unknown,
+}
+
+/// The word that the field is.
+#[tactic(auto, unfolding(crate::specs::Words::word_of))]
+pub fn word_of(field: &[u8]) -> Word
+    ensures { result ≡ word_of field.now }
+{
+    if is_unbuilt(field) {
+        Word::Unbuilt
+    } else if field == b"user".as_slice() {
+        Word::User
+    } else if field == b"mkdir".as_slice() {
+        Word::Mkdir
+    } else if field == b"create".as_slice() {
+        Word::Create
+    } else if field == b"text".as_slice() {
+        Word::Text
+    } else if field == b"link".as_slice() {
+        Word::Link
+    } else if field == b"unlink".as_slice() {
+        Word::Unlink
+    } else if field == b"rmdir".as_slice() {
+        Word::Rmdir
+    } else if field == b"rename".as_slice() {
+        Word::Rename
+    } else if field == b"chmod".as_slice() {
+        Word::Chmod
+    } else if field == b"chown".as_slice() {
+        Word::Chown
+    } else if field == b"count".as_slice() {
+        Word::Count
+    } else if field == b"paths".as_slice() {
+        Word::Paths
+    } else {
+        Word::Unknown
+    }
+}
+
+/// Whether the field is a command that will be built later.
+fn is_unbuilt(field: &[u8]) -> bool
+    ensures { result ≡ is_unbuilt field.now }
+{
+    field == b"rank".as_slice()
+        || field == b"find".as_slice()
+        || field == b"flush".as_slice()
+        || field == b"work".as_slice()
+        || field == b"stat".as_slice()
+        || field == b"save".as_slice()
+}
