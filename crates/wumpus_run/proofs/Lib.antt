@@ -1,5 +1,4 @@
-pub mod FieldLemmas
-pub mod ReadLemmas
-pub mod CountLemmas
+pub mod AnswerLemmas
+pub mod ReplyLemmas
 pub mod SessionLemmas
 pub mod StateLemmas

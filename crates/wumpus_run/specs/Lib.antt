@@ -1,10 +1,7 @@
-pub mod ByteStrings
 pub mod States
 pub mod View
 pub mod Answer
-pub mod Script
 pub mod Output
-pub mod Words
+pub mod Options
 pub mod Reading
 pub mod Session
-pub mod Lines

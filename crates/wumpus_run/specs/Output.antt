@@ -1,87 +1,98 @@
 -- The replies to a script, and the state that it leaves.
-use Rattle.std.specs.Prelude.{ℕ, List, [], ◌∷◌, ◌++◌, length, Option, Some, None, Result, Ok, Err, codes, decimal}
+use Rattle.std.specs.Prelude.{ℕ, List, [], ◌∷◌, ◌++◌, Option, Some, None, Result, Ok, Err}
 use Rattle.std.specs.Result.{result_unwrap_or}
-use Rattle.std.specs.List.{flat_map}
+use Rattle.wu_gcl.specs.Reading.{Value, Reads}
+use Rattle.wu_tree.specs.declared.events.Event.{Event}
 use Rattle.wu_tree.specs.declared.events.Event.TheVariants.{Text}
 use Rattle.wu_tree.specs.declared.events.Refusal.{Refusal}
-use Rattle.wu_tree.specs.declared.events.Refusal.TheVariants.{BadName, NoSuch, Kind, Exists, NotEmpty, Loop, Deep}
-use Rattle.wumpus_run.specs.declared.items.Item.{Item}
-use Rattle.wumpus_run.specs.declared.items.Item.TheVariants as item
-use Rattle.wumpus_run.specs.declared.items.Why.{Why}
-use Rattle.wumpus_run.specs.declared.items.Why.TheVariants.{Unbuilt, Syntax, Tree}
-use Rattle.wumpus_run.specs.declared.replies.Reply.{Reply}
-use Rattle.wumpus_run.specs.declared.replies.Reply.TheVariants as reply
-use Rattle.wumpus_run.specs.declared.replies.Answered.{Answered}
-use Rattle.wumpus_run.specs.declared.replies.Answered.TheVariants.{Count, Paths}
+use Rattle.wu_script.specs.declared.types.Why.TheVariants.{Tree, Expr}
+use Rattle.wu_script.specs.declared.types.Command.TheVariants as commands
+use Rattle.wu_script.specs.declared.types.Item.{Item}
+use Rattle.wu_script.specs.declared.types.Item.TheVariants as items
+use Rattle.wu_script.specs.declared.types.Reply.{Reply}
+use Rattle.wu_script.specs.declared.types.Reply.TheVariants as replies
+use Rattle.wu_script.specs.Commands.{Meaning, Happens, Counts, ListsPaths, GivesText, IsRefused, IsBlank}
+use Rattle.wu_script.specs.Items.{Entry, Spoken, Texted}
+use Rattle.wu_script.specs.Replies.{reply_bytes}
 use Rattle.wumpus_run.specs.States.{State, step}
-use Rattle.wumpus_run.specs.View.{view_of}
-use Rattle.wumpus_run.specs.Answer.{answer}
+use Rattle.wumpus_run.specs.View.{Shown, view_of}
+use Rattle.wumpus_run.specs.Answer.{Counting, ListingPaths, question_of, answer}
+
+-- what each text says as a region expression; there is one such function, since each text has one reading
+abbrev pub Reading : Type 0
+Reading = List ℕ → Value
+
+abbrev pub IsReading : Reading → Type 0
+IsReading read = (text : List ℕ) → Reads text (read text)
 
 -- the reply to an event
 abbrev pub verdict_of : Result State Refusal → Reply
-verdict_of (Ok s) = reply.Ok
-verdict_of (Err refusal) = reply.Refused (Tree refusal)
+verdict_of (Ok s) = replies.Ok
+verdict_of (Err refusal) = replies.Refused (Tree refusal)
 
--- the reply to an item in a state; an empty line has none
-abbrev pub reply_to : State → Item → Option Reply
-reply_to s (item.Update event) = Some (verdict_of (step s event []))
-reply_to s (item.Text ino text) = Some (verdict_of (step s (Text ino) text))
-reply_to s (item.Ask query) = Some (reply.Answered (answer (view_of s query.uid) query.ask))
-reply_to s (item.Refused why) = Some (reply.Refused why)
-reply_to s item.Blank = None
+-- the reply to a count; a text that is no expression is refused, whatever the view
+abbrev pub count_reply : List Shown → Value → Reply
+count_reply view (Ok region) = replies.Answered (answer view (Counting region))
+count_reply view (Err fault) = replies.Refused (Expr fault)
+
+-- the reply to a line; an empty line and a comment have none
+abbrev pub reply_to_line : Reading → State → Meaning → Option Reply
+reply_to_line read s (Happens event) = Some (verdict_of (step s event []))
+reply_to_line read s (Counts uid text) = Some (count_reply (view_of s uid) (read text))
+reply_to_line read s (ListsPaths uid) = Some (replies.Answered (answer (view_of s uid) ListingPaths))
+reply_to_line read s (GivesText ino len) = None
+reply_to_line read s (IsRefused why) = Some (replies.Refused why)
+reply_to_line read s IsBlank = None
+
+-- the reply to an item in a state
+abbrev pub reply_to : Reading → State → Entry → Option Reply
+reply_to read s (Spoken meaning) = reply_to_line read s meaning
+reply_to read s (Texted ino body) = Some (verdict_of (step s (Text ino) body))
+
+-- the state after an event, which is the one before where it is refused
+abbrev pub after_event : State → Event → List ℕ → State
+after_event s event text = result_unwrap_or (step s event text) s
 
 -- the state after an item; only an accepted event changes it
-abbrev pub after : State → Item → State
-after s (item.Update event) = result_unwrap_or (step s event []) s
-after s (item.Text ino text) = result_unwrap_or (step s (Text ino) text) s
-after s (item.Ask query) = s
-after s (item.Refused why) = s
-after s item.Blank = s
+abbrev pub after : State → Entry → State
+after s (Spoken (Happens event)) = after_event s event []
+after s (Spoken (Counts uid text)) = s
+after s (Spoken (ListsPaths uid)) = s
+after s (Spoken (GivesText ino len)) = s
+after s (Spoken (IsRefused why)) = s
+after s (Spoken IsBlank) = s
+after s (Texted ino body) = after_event s (Text ino) body
 
--- the word of a refusal
-abbrev pub word_of_refusal : Refusal → List ℕ
-word_of_refusal BadName = codes "badname"
-word_of_refusal NoSuch = codes "nosuch"
-word_of_refusal Kind = codes "kind"
-word_of_refusal Exists = codes "exists"
-word_of_refusal NotEmpty = codes "notempty"
-word_of_refusal Loop = codes "loop"
-word_of_refusal Deep = codes "deep"
-
-abbrev pub word_of_why : Why → List ℕ
-word_of_why Unbuilt = codes "unbuilt"
-word_of_why Syntax = codes "syntax"
-word_of_why (Tree refusal) = word_of_refusal refusal
-
--- a path, and a line feed
-abbrev pub path_line : List ℕ → List ℕ
-path_line path = path ++ 10 ∷ []
-
--- the lines of an answer
-abbrev pub line_of_answer : Answered → List ℕ
-line_of_answer (Count hits files) = codes "count\t" ++ decimal hits ++ codes "\t" ++ decimal files ++ codes "\n"
-line_of_answer (Paths paths) = codes "paths\t" ++ decimal (length paths) ++ codes "\n" ++ flat_map path_line paths
-
--- the line of a reply
-abbrev pub line_of_reply : Reply → List ℕ
-line_of_reply reply.Ok = codes "ok\n"
-line_of_reply (reply.Refused why) = codes "refused\t" ++ word_of_why why ++ codes "\n"
-line_of_reply (reply.Answered answered) = line_of_answer answered
-
-abbrev pub line_of_some : Option Reply → List ℕ
-line_of_some None = []
-line_of_some (Some reply) = line_of_reply reply
-
--- the bytes that answer an item
-unfoldable pub bytes_for : State → Item → List ℕ
-bytes_for s item = line_of_some (reply_to s item)
+abbrev pub bytes_of : Option Reply → List ℕ
+bytes_of None = []
+bytes_of (Some reply) = reply_bytes reply
 
 -- the replies to items, each met by the state that the ones before it leave
-abbrev pub output_of : State → List Item → List ℕ
-output_of s [] = []
-output_of s (item ∷ items) = bytes_for s item ++ output_of (after s item) items
+abbrev pub output_of : Reading → State → List Entry → List ℕ
+output_of read s [] = []
+output_of read s (entry ∷ entries) = bytes_of (reply_to read s entry) ++ output_of read (after s entry) entries
 
--- the line of a verdict
-abbrev pub verdict_line : Result (Unit {0}) Refusal → List ℕ
-verdict_line (Ok accepted) = line_of_reply reply.Ok
-verdict_line (Err refusal) = line_of_reply (reply.Refused (Tree refusal))
+-- ---- what is replied to an item as it was read
+
+abbrev pub verdict_bytes : Result (Unit {0}) Refusal → List ℕ
+verdict_bytes (Ok accepted) = reply_bytes replies.Ok
+verdict_bytes (Err refusal) = reply_bytes (replies.Refused (Tree refusal))
+
+abbrev pub reply_to_item : State → Item → Option Reply
+reply_to_item s (items.Command (commands.Update event)) = Some (verdict_of (step s event []))
+reply_to_item s (items.Command (commands.Ask query)) = Some (replies.Answered (answer (view_of s query.uid) (question_of query.ask)))
+reply_to_item s (items.Text ino body) = Some (verdict_of (step s (Text ino) body))
+reply_to_item s (items.Refused why) = Some (replies.Refused why)
+reply_to_item s items.Blank = None
+reply_to_item s items.End = None
+
+abbrev pub item_bytes : State → Item → List ℕ
+item_bytes s item = bytes_of (reply_to_item s item)
+
+abbrev pub after_item : State → Item → State
+after_item s (items.Command (commands.Update event)) = after_event s event []
+after_item s (items.Command (commands.Ask query)) = s
+after_item s (items.Text ino body) = after_event s (Text ino) body
+after_item s (items.Refused why) = s
+after_item s items.Blank = s
+after_item s items.End = s

@@ -1,29 +1,66 @@
 -- What a session did, told by what the source had left and what the sink gained.
-use Rattle.std.specs.Prelude.{◌≡◌, ℕ, ◌+◌, ◌≤◌, ◌<◌, ◌⊎◌, ◌↔◌, List, [], length, Option, Some, IfSome}
+use Rattle.std.specs.Prelude.{◌≡◌, ℕ, ◌+◌, ◌≤◌, ◌<◌, ◌⊎◌, ◌↔◌, List, [], length, Option, Some, None, IfSome}
 use Rattle.std.specs.Io.KnownBytes.{Appends}
 use Rattle.wu_outside.specs.Gains.{GainsPrefix}
+use Rattle.wu_script.specs.Items.{items_of}
+use Rattle.wu_script.specs.declared.ends.ReadEnd.{ReadEnd}
+use Rattle.wu_script.specs.declared.ends.ReadEnd.TheVariants as ends
+use Rattle.wu_script.specs.declared.types.Item.{Item}
+use Rattle.wu_script.specs.declared.types.Item.TheVariants as items
+use Rattle.wumpus_run.specs.declared.options.Settings.{Settings}
 use Rattle.wumpus_run.specs.declared.statuses.Status.{Status}
-use Rattle.wumpus_run.specs.declared.statuses.Status.TheVariants.{Done, NoMemory, InputTooLong}
+use Rattle.wumpus_run.specs.declared.statuses.Status.TheVariants.{Done, Usage, ReadFault, WriteFault, NoMemory, InputTooLong}
 use Rattle.wumpus_run.specs.States.{first_state}
-use Rattle.wumpus_run.specs.Output.{output_of}
-use Rattle.wumpus_run.specs.Script.{items_of}
-use Rattle.wumpus_run.specs.Reading.{TakesExactly}
+use Rattle.wumpus_run.specs.Output.{Reading, IsReading, output_of}
+use Rattle.wumpus_run.specs.Reading.{TakesExactly, TakesAtMost}
 
--- The input has at most limit bytes and none is left; the sink gained exactly the output for its items.
-abbrev pub AnswersAll : Option ℕ → Option (List ℕ) → Option (List ℕ) → Option (List ℕ) → Option (List ℕ) → Type 0
-AnswersAll limit before left gained now =
-    IfSome limit (λ most. IfSome before (λ input. (length input ≤ most) × (left ≡ Some []) × Appends gained now (output_of first_state (items_of input))))
+-- an item that isn't the end of the script
+abbrev pub IsAnswered : Item → Type 0
+IsAnswered items.End = ⊥
+IsAnswered item = Unit {0}
+
+-- how a session ends where no item could be read
+abbrev pub status_of : ReadEnd → Status
+status_of ends.ReadFault = ReadFault
+status_of ends.InputTooLong = InputTooLong
+status_of ends.NoMemory = NoMemory
+
+-- `Usage` comes only where the words are in no form, and then it does come, unless there was no memory to read them.
+pub record IsUsage (status : Status) (settings : Option Settings) : Type 0 where
+  pub only : status ≡ Usage → settings ≡ None
+  pub comes : settings ≡ None → (status ≡ Usage) ⊎ (status ≡ NoMemory)
+
+-- The input has at most as many bytes as it may and none is left; the sink gained exactly the output for its items.
+abbrev pub AnswersAll : Option Settings → Option (List ℕ) → Option (List ℕ) → Option (List ℕ) → Option (List ℕ) → Type 0
+AnswersAll settings before left gained now =
+    IfSome settings (λ told. IfSome before (λ input. (length input ≤ told.max_input) × (left ≡ Some [])
+        × ((read : Reading) → IsReading read → Appends gained now (output_of read first_state (items_of input)))))
 
 -- The sink gained a front of the output for the items of the input.
 abbrev pub AnswersFront : Option (List ℕ) → Option (List ℕ) → Option (List ℕ) → Type 0
-AnswersFront before gained now = IfSome before (λ input. GainsPrefix gained now (output_of first_state (items_of input)))
+AnswersFront before gained now =
+    IfSome before (λ input. (read : Reading) → IsReading read → GainsPrefix gained now (output_of read first_state (items_of input)))
 
--- The input is called too long exactly where as many bytes as the limit were taken, and one more.
-abbrev pub IsTooLong : Status → Option ℕ → Option (List ℕ) → Option (List ℕ) → Type 0
-IsTooLong status limit before left =
-    IfSome limit (λ most. IfSome before (λ input. (status ≡ InputTooLong) ↔ TakesExactly (most + 1) (Some input) left))
+-- The source gave no byte behind the one past the limit.
+abbrev pub StaysWithin : Option Settings → Option (List ℕ) → Option (List ℕ) → Type 0
+StaysWithin settings before left = IfSome settings (λ told. TakesAtMost (told.max_input + 1) before left)
+
+-- The input is called too long exactly where as many bytes as it may have were taken, and one more.
+abbrev pub IsTooLong : Status → Option Settings → Option (List ℕ) → Option (List ℕ) → Type 0
+IsTooLong status settings before left =
+    IfSome settings (λ told. IfSome before (λ input. (status ≡ InputTooLong) ↔ TakesExactly (told.max_input + 1) (Some input) left))
 
 -- An input within the limit is answered, and a longer one called too long, unless there was no memory.
-abbrev pub Completes : Status → Option ℕ → Option (List ℕ) → Type 0
-Completes status limit before = IfSome limit (λ most. IfSome before (λ input.
-    (length input ≤ most → (status ≡ Done) ⊎ (status ≡ NoMemory)) × (most < length input → (status ≡ InputTooLong) ⊎ (status ≡ NoMemory))))
+abbrev pub Completes : Status → Option Settings → Option (List ℕ) → Type 0
+Completes status settings before = IfSome settings (λ told. IfSome before (λ input.
+    (length input ≤ told.max_input → (status ≡ Done) ⊎ (status ≡ NoMemory))
+    × (told.max_input < length input → (status ≡ InputTooLong) ⊎ (status ≡ NoMemory))))
+
+-- the exit status of the program
+abbrev pub code_of : Status → ℕ
+code_of Done = 0
+code_of Usage = 1
+code_of ReadFault = 2
+code_of WriteFault = 3
+code_of NoMemory = 4
+code_of InputTooLong = 5

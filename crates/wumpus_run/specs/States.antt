@@ -5,10 +5,8 @@ use Rattle.std.specs.Map.{lookup, remove_entry}
 use Rattle.std.specs.BTreeMap.{is_at, insert_entry}
 use Rattle.wu_base.specs.declared.limits.TheConstants.{TEXT_MAX}
 use Rattle.wu_tree.specs.FileSystems.{FileSystem, root_alone}
-use Rattle.wu_tree.specs.Steps.{IsEvent}
 use Rattle.wu_tree.specs.Steps.{step as tree_step}
 use Rattle.wu_tree.specs.declared.events.Event.{Event}
-use Rattle.wu_tree.specs.declared.events.Event.TheVariants.{Text}
 use Rattle.wu_tree.specs.declared.events.Effect.{Effect}
 use Rattle.wu_tree.specs.declared.events.Refusal.{Refusal}
 
@@ -49,11 +47,6 @@ stepped text texts (Err refusal) = Err refusal
 -- what an event makes of a state, where `text` is the text that it gives, or why it is refused
 unfoldable pub step : State → Event → List ℕ → Result State Refusal
 step s event text = stepped text s.texts (tree_step s.tree event)
-
--- an event that gives no text
-abbrev pub IsChange : Event → Type 0
-IsChange (Text ino) = ⊥
-IsChange event = IsEvent event
 
 -- no text is longer than a text may be
 abbrev pub AreShort : Texts → Type 0

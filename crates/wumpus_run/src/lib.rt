@@ -1,11 +1,9 @@
 //! The top call of Wumpus: a script comes in from a source, and the replies go to a sink.
 #![tactic(auto)]
 
-mod fields;
-mod input;
-mod items;
+mod answering;
 mod machine;
-mod replies;
+mod options;
 mod session;
 mod statuses;
 

@@ -1,33 +1,25 @@
-//! A session: the script is read, and each item is answered in turn.
-ghost use Rattle.std.specs.Prelude.{◌≡◌, ◌+◌, ◌++◌, ◌≤◌, ◌<◌, ◌↔◌, ◌⊎◌, length, drop, position, IsTrue, IfOk, IfSome, OnOk, OnErr, None};
+//! A session: the script is read as it comes, and each item is answered in turn.
+ghost use Rattle.std.specs.Prelude.{◌≡◌, ◌++◌, ◌≤◌, ◌⊎◌, List, ℕ, [], None, Some, false, length, OnOk, MatchBool};
 ghost use Rattle.std.specs.Io.KnownBytes.{Appends};
-ghost use Rattle.wu_outside.specs.Faults.{Rose, HasFaultCause};
+ghost use Rattle.wu_outside.specs.Faults.{Rose};
 ghost use Rattle.wu_outside.specs.Gains.{GainsPrefix};
-ghost use Rattle.wumpus_run.specs.States.{first_state};
-ghost use Rattle.wumpus_run.specs.Script.{items_of, first_item, behind_item, line_of, behind_line, is_line_feed, item_of, body_len, has_body, is_closed};
-ghost use Rattle.wumpus_run.specs.Output.{after, bytes_for, output_of, verdict_line};
-ghost use Rattle.wumpus_run.specs.Reading.{TakesAtMost};
-ghost use Rattle.wumpus_run.specs.Lines.{HasChange, IsItem};
-ghost use Rattle.wumpus_run.specs.Words.{limit_of, texts_of};
-ghost use Rattle.wumpus_run.specs.Session.{AnswersAll, AnswersFront, IsTooLong, Completes};
+ghost use Rattle.wu_script.specs.Items.{IsSoundItem};
+ghost use Rattle.wumpus_run.specs.Options.{settings_of, texts_of};
+ghost use Rattle.wumpus_run.specs.Output.{verdict_bytes, item_bytes, after_item};
+ghost use Rattle.wumpus_run.specs.Session.{status_of, IsAnswered, IsUsage, AnswersAll, AnswersFront, StaysWithin, IsTooLong, Completes};
 
-use crate::fields::read_line;
-use crate::input::{ReadEnd, read_input};
-use crate::items::{Item, Line, Why};
-use crate::machine::{Machine, NODES_MAX};
-use crate::replies::{Reply, put_reply};
+use crate::machine::Machine;
+use crate::options::{Settings, read_options};
 use crate::statuses::Status;
 use std::alloc::Global;
-use wu_base::{Bytes, Ino, NoMemory};
+use wu_base::{Bytes, NoMemory};
 use wu_outside::{Fault, Sink, Source, Store, write_all};
-use wu_tree::Refusal;
+use wu_script::{Command, Item, ReadEnd, Reader, Reply, Why, put_reply};
+use wu_tree::{Event, Refusal};
 
-/// The most bytes of an input.
-pub const INPUT_LIMIT: usize = 1_048_576;
-
-/// Runs a session: reads the script from the source and writes a reply for each of its items to the
-/// sink. The words are those behind the program's name; the one word `run` is the only form yet.
-/// The whole input, at most `INPUT_LIMIT` bytes, is read before the first reply.
+/// Runs a session: reads the script from the source as it comes, and writes the reply to each of its
+/// items to the sink before it reads the next. The words are those behind the program's name; they
+/// say how many bytes the input may have.
 pub fn run<I: Source, O: Sink, D: Store>(
     alloc: Global,
     words: &[&str],
@@ -36,268 +28,133 @@ pub fn run<I: Source, O: Sink, D: Store>(
     store: &mut D,
 ) -> Status
     // Usage comes exactly where the words are in no form, and then nothing is touched.
-    ensures usage { (result ≡ Status.Usage) ↔ (limit_of (texts_of words.now) ≡ None) }
-    ensures untouched { result ≡ Status.Usage → (source.new ≡ source.old) × (sink.new ≡ sink.old) }
+    ensures usage { IsUsage result (settings_of (texts_of words.now)) }
+    ensures untouched { settings_of (texts_of words.now) ≡ None → (source.new ≡ source.old) × (sink.new ≡ sink.old) }
     ensures store { store.new ≡ store.old }
 
     // The input was read to its end, and the sink gained the replies to its items, and nothing else.
-    ensures done { result ≡ Status.Done → AnswersAll (limit_of (texts_of words.now))
+    ensures done { result ≡ Status.Done → AnswersAll (settings_of (texts_of words.now))
         (I.left source.old) (I.left source.new) (O.gained sink.old) (O.gained sink.new) }
 
     // A fault has its cause.
     ensures read_fault { result ≡ Status.ReadFault → Rose (I.faults source.old) (I.faults source.new) }
     ensures write_fault { result ≡ Status.WriteFault → Rose (O.faults sink.old) (O.faults sink.new) }
-    ensures too_long { IsTooLong result (limit_of (texts_of words.now)) (I.left source.old) (I.left source.new) }
+    ensures too_long { IsTooLong result (settings_of (texts_of words.now)) (I.left source.old) (I.left source.new) }
 
     // Whatever the status, no byte behind the one past the limit was taken, and the sink gained a
-    // front of the output; nothing, where the input was not read to its end.
-    ensures taken { TakesAtMost (INPUT_LIMIT + 1) (I.left source.old) (I.left source.new) }
+    // front of the output.
+    ensures taken { StaysWithin (settings_of (texts_of words.now)) (I.left source.old) (I.left source.new) }
     ensures front { AnswersFront (I.left source.old) (O.gained sink.old) (O.gained sink.new) }
-    ensures silent { (result ≡ Status.ReadFault) ⊎ (result ≡ Status.InputTooLong) → sink.new ≡ sink.old }
 
     // Without a fault the session is done, unless there was no memory or the input is too long.
     ensures complete { ¬ Rose (I.faults source.old) (I.faults source.new) → ¬ Rose (O.faults sink.old) (O.faults sink.new)
-        → Completes result (limit_of (texts_of words.now)) (I.left source.old) }
+        → Completes result (settings_of (texts_of words.now)) (I.left source.old) }
 {
-    let Some(limit) = input_limit(words) else {
-        return Status::Usage;
-    };
-    let input = match read_input(alloc, source, limit) {
-        Ok(input) => input,
-        Err(ReadEnd::ReadFault) => return Status::ReadFault,
-        Err(ReadEnd::InputTooLong) => return Status::InputTooLong,
-        Err(ReadEnd::NoMemory) => return Status::NoMemory,
-    };
-    match answer_all(alloc, input.as_slice(), sink) {
-        Ok(()) => Status::Done,
-        Err(Fault::Failed) => Status::WriteFault,
-        Err(Fault::NoMemory) => Status::NoMemory,
+    match read_options(alloc, words) {
+        Ok(Some(settings)) => answer_script(alloc, settings, source, sink),
+        Ok(None) => Status::Usage,
+        Err(NoMemory) => Status::NoMemory,
     }
 }
 
-/// The limit of the input in bytes, where the words are in a form.
-fn input_limit(words: &[&str]) -> Option<usize>
-    ensures form { result ≡ limit_of (texts_of words.now) }
-    ensures limit { IfSome result (λ limit. limit ≡ INPUT_LIMIT) }
-{
-    match words {
-        [word] if *word == "run" => Some(INPUT_LIMIT),
-        _ => None,
-    }
-}
-
-/// Answers the items of an input in turn: each reply is written before the next item is met.
-fn answer_all<O: Sink>(alloc: Global, input: &[u8], sink: &mut O) -> Result<(), Fault>
-    requires { length input.now ≤ INPUT_LIMIT }
-    ensures ok { OnOk result (Appends (O.gained sink.old) (O.gained sink.new) (output_of first_state (items_of input.now))) }
-    ensures err { OnErr result (GainsPrefix (O.gained sink.old) (O.gained sink.new) (output_of first_state (items_of input.now))) }
-    ensures cause { HasFaultCause (O.faults sink.old) (O.faults sink.new) result }
-{
-    let mut machine = match Machine::new(alloc) {
-        Ok(machine) => machine,
-        Err(NoMemory) => return Err(Fault::NoMemory),
-    };
-    answer_from(alloc, &mut machine, input, sink)
-}
-
-/// Answers the items of an input from a state on.
-fn answer_from<O: Sink>(
+/// Answers the items of the script in turn, from the root directory alone.
+fn answer_script<I: Source, O: Sink>(
     alloc: Global,
-    machine: &mut Machine,
-    input: &[u8],
+    settings: Settings,
+    source: &mut I,
     sink: &mut O,
-) -> Result<(), Fault>
-    requires short { length input.now ≤ INPUT_LIMIT }
-    requires small { length machine.old.tree.nodes + length input.now ≤ NODES_MAX }
-    ensures ok { OnOk result (Appends (O.gained sink.old) (O.gained sink.new) (output_of machine.old (items_of input.now))) }
-    ensures err { OnErr result (GainsPrefix (O.gained sink.old) (O.gained sink.new) (output_of machine.old (items_of input.now))) }
-    ensures cause { HasFaultCause (O.faults sink.old) (O.faults sink.new) result }
+) -> Status
+    ensures usage { result ≡ Status.Usage → ⊥ }
+    ensures done { result ≡ Status.Done → AnswersAll (Some settings)
+        (I.left source.old) (I.left source.new) (O.gained sink.old) (O.gained sink.new) }
+    ensures read_fault { result ≡ Status.ReadFault → Rose (I.faults source.old) (I.faults source.new) }
+    ensures write_fault { result ≡ Status.WriteFault → Rose (O.faults sink.old) (O.faults sink.new) }
+    ensures too_long { IsTooLong result (Some settings) (I.left source.old) (I.left source.new) }
+    ensures taken { StaysWithin (Some settings) (I.left source.old) (I.left source.new) }
+    ensures front { AnswersFront (I.left source.old) (O.gained sink.old) (O.gained sink.new) }
 {
+    let (Ok(mut reader), Ok(mut machine)) = (
+        Reader::new(alloc, settings.max_input),
+        Machine::new(alloc),
+    ) else {
+        return Status::NoMemory;
+    };
     let mut reply = Vec::new(alloc);
-    let mut at = 0;
-    while at < input.len() {
-        match answer_item(alloc, machine, &input[at..], &mut reply) {
-            Ok(len) => at += len,
-            Err(NoMemory) => return Err(Fault::NoMemory),
+    'items: loop {
+        let item = match reader.next(source) {
+            Ok(item) => item,
+            Err(end) => return status_of(end),
+        };
+        if is_end(&item) {
+            return Status::Done;
+        }
+        reply.clear();
+        match answer(alloc, &mut machine, item, &mut reply) {
+            Ok(()) => {}
+            Err(NoMemory) => return Status::NoMemory,
         }
         match write_all(sink, reply.as_slice()) {
             Ok(()) => {}
-            Err(fault) => return Err(fault),
+            Err(Fault::Failed) => return Status::WriteFault,
+            Err(Fault::NoMemory) => return Status::NoMemory,
         }
     }
-    Ok(())
 }
 
-/// Answers the first item of the input, and tells how many bytes it has. The bytes that answer it
-/// replace what `reply` held.
-fn answer_item(
-    alloc: Global,
-    machine: &mut Machine,
-    input: &[u8],
-    reply: &mut Vec<u8>,
-) -> Result<usize, NoMemory>
-    requires some { 0 < length input.now }
-    requires short { length input.now ≤ INPUT_LIMIT }
-    requires small { length machine.old.tree.nodes ≤ NODES_MAX }
-    ensures reply { OnOk result (reply.new.items ≡ bytes_for machine.old (first_item input.now)) }
-    ensures state { OnOk result (machine.new ≡ after machine.old (first_item input.now)) }
-    ensures nodes { OnOk result (length machine.new.tree.nodes ≤ length machine.old.tree.nodes + 1) }
-    ensures behind { IfOk result (λ len. drop len input.now ≡ behind_item input.now) }
-    ensures some { IfOk result (λ len. 0 < len) }
-    ensures within { IfOk result (λ len. len ≤ length input.now) }
+/// How a session ends where no item could be read.
+fn status_of(end: ReadEnd) -> Status
+    ensures { result ≡ status_of end }
 {
-    let first = read_item(alloc, input)?;
-    reply.clear();
-    answer(alloc, machine, first.item, reply)?;
-    Ok(first.len)
+    match end {
+        ReadEnd::ReadFault => Status::ReadFault,
+        ReadEnd::InputTooLong => Status::InputTooLong,
+        ReadEnd::NoMemory => Status::NoMemory,
+    }
+}
+
+/// Whether the script has ended.
+fn is_end(item: &Item) -> bool
+    ensures { MatchBool result (item.now ≡ Item.End) (IsAnswered item.now) }
+{
+    match item {
+        Item::End => true,
+        _ => false,
+    }
 }
 
 /// Appends the bytes that answer the item, after which the state is the one that it leaves.
-#[tactic(auto, unfolding(crate::specs::Output::bytes_for))]
 fn answer(
     alloc: Global,
     machine: &mut Machine,
     item: Item,
     out: &mut Vec<u8>,
 ) -> Result<(), NoMemory>
-    requires proper { IsItem item }
-    requires small { length machine.old.tree.nodes ≤ NODES_MAX }
-    ensures reply { OnOk result (out.new.items ≡ out.old.items ++ bytes_for machine.old item) }
-    ensures state { OnOk result (machine.new ≡ after machine.old item) }
-    ensures nodes { OnOk result (length machine.new.tree.nodes ≤ length machine.old.tree.nodes + 1) }
+    requires { IsSoundItem item }
+    ensures reply { OnOk result (out.new.items ≡ out.old.items ++ item_bytes machine.old item) }
+    ensures state { OnOk result (machine.new ≡ after_item machine.old item) }
 {
     match item {
-        Item::Update(event) => put_verdict(out, machine.change(&event)?),
-        Item::Text { ino, text } => put_verdict(out, machine.give_text(ino, text)?),
-        Item::Ask(query) => {
+        Item::Command(Command::Update(event)) => {
+            let none = Bytes::from_slice(alloc, b"")?;
+            put_verdict(out, machine.update(&event, none)?)
+        }
+        Item::Command(Command::Ask(query)) => {
             let answered = machine.answer(alloc, &query)?;
             put_reply(out, &Reply::Answered(answered))
         }
+        Item::Text { ino, body } => {
+            put_verdict(out, machine.update(&Event::Text { ino }, body)?)
+        }
         Item::Refused(why) => put_reply(out, &Reply::Refused(why)),
-        Item::Blank => Ok(()),
+        Item::Blank | Item::End => Ok(()),
     }
 }
 
 fn put_verdict(out: &mut Vec<u8>, verdict: Result<(), Refusal>) -> Result<(), NoMemory>
-    ensures { OnOk result (out.new.items ≡ out.old.items ++ verdict_line verdict) }
+    ensures { OnOk result (out.new.items ≡ out.old.items ++ verdict_bytes verdict) }
 {
     match verdict {
         Ok(()) => put_reply(out, &Reply::Ok),
         Err(refusal) => put_reply(out, &Reply::Refused(Why::Tree(refusal))),
-    }
-}
-
-/// An item at the front of an input, and how many bytes it has there.
-#[derive(Drop)]
-struct First {
-    item: Item,
-    len: usize,
-}
-
-/// The first item of the input: a line, with the body that belongs to it.
-#[tactic(auto, unfolding(crate::specs::Script::first_item, crate::specs::Script::behind_item))]
-fn read_item(alloc: Global, input: &[u8]) -> Result<First, NoMemory>
-    requires some { 0 < length input.now }
-    requires short { length input.now ≤ INPUT_LIMIT }
-    ensures item { IfOk result (λ first. first.item ≡ first_item input.now) }
-    ensures behind { IfOk result (λ first. drop first.len input.now ≡ behind_item input.now) }
-    ensures some { IfOk result (λ first. 0 < first.len) }
-    ensures within { IfOk result (λ first. first.len ≤ length input.now) }
-    ensures proper { IfOk result (λ first. IsItem first.item) }
-{
-    let (line, line_len) = split_line(input);
-    let line = read_line(alloc, line)?;
-    let First { item, len } = complete(alloc, line, &input[line_len..])?;
-    Ok(First {
-        item,
-        len: line_len + len,
-    })
-}
-
-/// The first line of the input, and how many bytes it has with its LF.
-fn split_line(input: &[u8]) -> (&[u8], usize)
-    requires { 0 < length input.now }
-    ensures line { result.0.now ≡ line_of input.now }
-    ensures behind { drop result.1 input.now ≡ behind_line input.now }
-    ensures some { 0 < result.1 }
-    ensures within { result.1 ≤ length input.now }
-{
-    match place_of_line_feed(input) {
-        Some(place) => (&input[..place], place + 1),
-        None => (input, input.len()),
-    }
-}
-
-fn place_of_line_feed(input: &[u8]) -> Option<usize>
-    ensures { result ≡ position is_line_feed input.now }
-{
-    input.iter().position(|byte| *byte == b'\n')
-}
-
-/// The item that a line and what stands behind it make, and how many bytes behind the line belong
-/// to it.
-fn complete(alloc: Global, line: Line, behind: &[u8]) -> Result<First, NoMemory>
-    requires change { HasChange line }
-    requires short { length behind.now ≤ INPUT_LIMIT }
-    ensures item { IfOk result (λ first. first.item ≡ item_of line behind.now) }
-    ensures len { IfOk result (λ first. first.len ≡ body_len line behind.now) }
-    ensures proper { IfOk result (λ first. IsItem first.item) }
-{
-    match line {
-        Line::Update(event) => Ok(First {
-            item: Item::Update(event),
-            len: 0,
-        }),
-        Line::TextHead { ino, len } => text_item(alloc, ino, len, behind),
-        Line::Ask(query) => Ok(First {
-            item: Item::Ask(query),
-            len: 0,
-        }),
-        Line::Refused(why) => Ok(First {
-            item: Item::Refused(why),
-            len: 0,
-        }),
-        Line::Blank => Ok(First {
-            item: Item::Blank,
-            len: 0,
-        }),
-    }
-}
-
-/// The text of a file, where a body of its length stands behind the line.
-fn text_item(alloc: Global, ino: Ino, len: u64, behind: &[u8]) -> Result<First, NoMemory>
-    requires { length behind.now ≤ INPUT_LIMIT }
-    ensures item { IfOk result (λ first. first.item ≡ item_of (Line.TextHead ino len) behind.now) }
-    ensures len { IfOk result (λ first. first.len ≡ body_len (Line.TextHead ino len) behind.now) }
-    ensures proper { IfOk result (λ first. IsItem first.item) }
-{
-    if !has_body(len, behind) {
-        return Ok(First {
-            item: Item::Refused(Why::Unbuilt),
-            len: 0,
-        });
-    }
-    let len = len as usize;
-    let text = Bytes::from_slice(alloc, &behind[..len])?;
-    Ok(First {
-        item: Item::Text { ino, text },
-        len: (len + 1).min(behind.len()),
-    })
-}
-
-/// Whether a body of this length stands there, and a line feed or the end behind it.
-fn has_body(len: u64, behind: &[u8]) -> bool
-    ensures body { result ≡ has_body len behind.now }
-    ensures within { IsTrue result → len ≤ length behind.now }
-{
-    len <= behind.len() as u64 && is_closed(&behind[len as usize..])
-}
-
-fn is_closed(behind: &[u8]) -> bool
-    ensures { result ≡ is_closed behind.now }
-{
-    match behind {
-        [] => true,
-        [byte, ..] => *byte == b'\n',
     }
 }

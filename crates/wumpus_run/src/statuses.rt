@@ -1,6 +1,6 @@
 //! How a session ends.
 ghost use Rattle.std.specs.Prelude.{◌≡◌, ◌<◌};
-ghost use Rattle.wumpus_run.specs.Words.{code_of};
+ghost use Rattle.wumpus_run.specs.Session.{code_of};
 
 /// How a session ended. The causes stand at [`run`](crate::run).
 #[derive(Clone, Copy, Debug, PartialEq, Eq)]

@@ -1,5 +1,5 @@
 use Rattle.std.proofs.Common.{◌≡◌, ◌++◌, take}
-use Rattle.wumpus_run.proofs.machine.put_paths.Given as goal
+use Rattle.wumpus_run.proofs.answering.put_paths.Given as goal
 
 -- the paths so far were put
 abbrev pub invariant-loop-path : goal.invariant-loop-path

@@ -1,6 +1,6 @@
 use Rattle.std.proofs.Common.{◌≡◌, take}
 use Rattle.std.specs.List.{flat_map}
-use Rattle.wumpus_run.proofs.machine.paths.Given as goal
+use Rattle.wumpus_run.proofs.answering.paths.Given as goal
 
 -- the paths of the files so far were put
 abbrev pub invariant-loop-seen : goal.invariant-loop-seen
