@@ -1,12 +1,32 @@
 -- Answers over the files of a view.
-use Rattle.std.proofs.Common.{◌≡◌, ℕ, List, [], ◌∷◌, ◌++◌, refl, ap}
+use Rattle.std.proofs.Common.{◌≡◌, ℕ, List, [], ◌∷◌, ◌++◌, Ok, Err, Result, IfOk, refl, ap, sym, ◌∙◌}
 use Rattle.std.specs.Prelude.{map}
 use Rattle.std.specs.List.{flat_map}
+use Rattle.wu_base.specs.declared.memory.NoMemory.{NoMemory}
+use Rattle.wu_ask.specs.declared.Ask.{Ask}
+use Rattle.wu_ask.specs.declared.Ask.TheVariants as asks
+use Rattle.wu_ask.specs.declared.Answered.{Answered}
+use Rattle.wu_ask.specs.declared.Answered.TheVariants.{Paths}
 use Rattle.wu_view.specs.declared.Seen.{Seen}
-use Rattle.wumpus_run.specs.States.{Texts}
-use Rattle.wumpus_run.specs.View.{shown_of}
+use Rattle.wu_view.specs.Views.{view_of as files_of}
+use Rattle.wumpus_run.specs.States.{State, Texts}
+use Rattle.wumpus_run.specs.View.{shown_of, view_of}
+use Rattle.wumpus_run.specs.Answer.{Question, question_of, answer}
 
 -- the answer to a question for paths, from the files of the view
 pub flat_map-shown : (texts : Texts) (view : List Seen) → flat_map (λ seen. seen.paths) view ≡ flat_map (λ file. file.paths) (map (shown_of texts) view)
 flat_map-shown texts [] = refl
 flat_map-shown texts (seen ∷ view) = ap (λ more. seen.paths ++ more) (flat_map-shown texts view)
+
+pub paths-answer : (texts : Texts) (view : List Seen) (ask : Ask) (r : Result Answered NoMemory) → ask ≡ asks.Paths
+    → IfOk r (λ answered. answered ≡ Paths (flat_map (λ seen. seen.paths) view)) → IfOk r (λ answered. answered ≡ answer (map (shown_of texts) view) (question_of ask))
+unfolding answer
+paths-answer texts view ask (Ok answered) asked is = is ∙ ap Paths (flat_map-shown texts view) ∙ ap (λ a. answer (map (shown_of texts) view) (question_of a)) (sym asked)
+paths-answer texts view ask (Err error) asked is = is
+
+-- an answer over the files of a state is one over the view of it
+pub view-answer : (s : State) (view : List Seen) (uid : ℕ) (question : Question) (r : Result Answered NoMemory) → view ≡ files_of s.tree uid
+    → IfOk r (λ answered. answered ≡ answer (map (shown_of s.texts) view) question) → IfOk r (λ answered. answered ≡ answer (view_of s uid) question)
+unfolding view_of
+view-answer s view uid question (Ok answered) seen is = is ∙ ap (λ v. answer (map (shown_of s.texts) v) question) seen
+view-answer s view uid question (Err error) seen is = is

@@ -1,4 +1,6 @@
 pub mod AnswerLemmas
+pub mod ScanLemmas
+pub mod CountLemmas
 pub mod ReplyLemmas
 pub mod SessionLemmas
 pub mod StateLemmas

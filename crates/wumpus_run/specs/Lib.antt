@@ -1,6 +1,7 @@
 pub mod States
 pub mod View
 pub mod Answer
+pub mod Scans
 pub mod Output
 pub mod Options
 pub mod Reading

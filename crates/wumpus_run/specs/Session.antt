@@ -50,6 +50,12 @@ abbrev pub IsTooLong : Status → Option Settings → Option (List ℕ) → Opti
 IsTooLong status settings before left =
     IfSome settings (λ told. IfSome before (λ input. (status ≡ InputTooLong) ↔ TakesExactly (told.max_input + 1) (Some input) left))
 
+-- What holds however a session ends.
+pub record Ends (status : Status) (told : Settings) (before left gained now : Option (List ℕ)) : Type 0 where
+  pub too_long : IsTooLong status (Some told) before left
+  pub taken : StaysWithin (Some told) before left
+  pub front : AnswersFront before gained now
+
 -- An input within the limit is answered, and a longer one called too long, unless there was no memory.
 abbrev pub Completes : Status → Option Settings → Option (List ℕ) → Type 0
 Completes status settings before = IfSome settings (λ told. IfSome before (λ input.

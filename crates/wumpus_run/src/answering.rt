@@ -1,16 +1,20 @@
 //! The answer to a query, over the files that the user may search.
-ghost use Rattle.std.specs.Prelude.{◌≡◌, ◌++◌, map, IfOk, OnOk};
+ghost use Rattle.std.specs.Prelude.{◌≡◌, ◌≤◌, ◌^◌, ◌++◌, All, length, map, count_by, nat_lt, IfOk, OnOk};
 ghost use Rattle.std.specs.List.{flat_map};
-ghost use Rattle.wumpus_run.specs.Answer.{answer, question_of, Counting, ListingPaths};
-ghost use Rattle.wumpus_run.specs.States.{AreShort, text_in};
+ghost use Rattle.wu_solve.specs.Addresses.{AreLists};
+ghost use Rattle.wu_solve.specs.Solving.{frame_hits, frames_hits, IsFrame};
+ghost use Rattle.wumpus_run.specs.Answer.{answer, question_of, Counting};
+ghost use Rattle.wumpus_run.specs.States.{AreShort};
 ghost use Rattle.wumpus_run.specs.View.{shown_of};
 ghost use Rattle.wu_gcl.specs.Regions.{region_of};
 
+use crate::scanning::{Scan, scan};
 use std::alloc::Global;
 use std::collections::BTreeMap;
 use wu_ask::{Answered, Ask};
-use wu_base::{Bytes, Ino, NoMemory, Sequence};
-use wu_gcl::Expr;
+use wu_base::{Bytes, Extent, Ino, NoMemory, Range, Sequence, TermList};
+use wu_gcl::{Expr, terms_of};
+use wu_solve::solve;
 use wu_view::Seen;
 
 /// The answer to the question, over the view and the texts of its files.
@@ -39,7 +43,47 @@ fn count(
     requires { AreShort texts.now.entries }
     ensures { IfOk result (λ answered. answered ≡ answer (map (shown_of texts.now.entries) view.now) (Counting (region_of expr.now))) }
 {
-    Err(NoMemory)
+    let terms = terms_of(alloc, expr)?;
+    let Scan { frames, lists } = scan(alloc, texts, view, terms)?;
+    let (hits, files) = count_in(alloc, expr, &frames, &lists)?;
+    Ok(Answered::Count { hits, files })
+}
+
+/// How many extents the expression has in the frames, and in how many of them.
+fn count_in(
+    alloc: Global,
+    expr: &Expr,
+    frames: &[Range],
+    lists: &[TermList],
+) -> Result<(u64, u64), NoMemory>
+    requires lists { AreLists lists.now }
+    requires frames { All IsFrame frames.now }
+    requires few { length (frames_hits (region_of expr.now) lists.now frames.now) ≤ 2 ^ 47 }
+    ensures hits { IfOk result (λ counts. counts.0 ≡ length (frames_hits (region_of expr.now) lists.now frames.now)) }
+    ensures files { IfOk result (λ counts. counts.1 ≡ count_by (λ frame. nat_lt 0 (length (frame_hits (region_of expr.now) lists.now frame))) frames.now) }
+{
+    let mut hits = 0;
+    let mut files = 0;
+    for frame in frames {
+        let extents = solve_in(alloc, expr, *frame, lists)?;
+        hits += extents.len() as u64;
+        files += u64::from(!extents.is_empty());
+    }
+    Ok((hits, files))
+}
+
+/// The extents of the expression in one frame.
+fn solve_in(
+    alloc: Global,
+    expr: &Expr,
+    frame: Range,
+    lists: &[TermList],
+) -> Result<Vec<Extent>, NoMemory>
+    requires lists { AreLists lists.now }
+    requires frame { IsFrame frame }
+    ensures { IfOk result (λ v. v.items ≡ frame_hits (region_of expr.now) lists.now frame) }
+{
+    solve(alloc, expr, &[frame], lists)
 }
 
 /// Every open path, file by file.
@@ -62,14 +106,4 @@ fn put_paths(paths: &mut Vec<Bytes>, seen: &Seen) -> Result<(), NoMemory>
         paths.push(path.clone()?)?;
     }
     Ok(())
-}
-
-/// The text of a file: the empty one where it was given none.
-fn text_of(texts: &BTreeMap<Ino, Bytes>, ino: Ino) -> &[u8]
-    ensures { result.now ≡ text_in texts.now.entries ino }
-{
-    match texts.get(&ino) {
-        Some(text) => text.as_slice(),
-        None => &[],
-    }
 }

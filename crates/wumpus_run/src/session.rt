@@ -6,7 +6,7 @@ ghost use Rattle.wu_outside.specs.Gains.{GainsPrefix};
 ghost use Rattle.wu_script.specs.Items.{IsSoundItem};
 ghost use Rattle.wumpus_run.specs.Options.{settings_of, texts_of};
 ghost use Rattle.wumpus_run.specs.Output.{verdict_bytes, item_bytes, after_item};
-ghost use Rattle.wumpus_run.specs.Session.{status_of, IsAnswered, IsUsage, AnswersAll, AnswersFront, StaysWithin, IsTooLong, Completes};
+ghost use Rattle.wumpus_run.specs.Session.{status_of, IsAnswered, IsUsage, AnswersAll, AnswersFront, StaysWithin, IsTooLong, Ends, Completes};
 
 use crate::machine::Machine;
 use crate::options::{Settings, read_options};
@@ -69,9 +69,7 @@ fn answer_script<I: Source, O: Sink>(
         (I.left source.old) (I.left source.new) (O.gained sink.old) (O.gained sink.new) }
     ensures read_fault { result ≡ Status.ReadFault → Rose (I.faults source.old) (I.faults source.new) }
     ensures write_fault { result ≡ Status.WriteFault → Rose (O.faults sink.old) (O.faults sink.new) }
-    ensures too_long { IsTooLong result (Some settings) (I.left source.old) (I.left source.new) }
-    ensures taken { StaysWithin (Some settings) (I.left source.old) (I.left source.new) }
-    ensures front { AnswersFront (I.left source.old) (O.gained sink.old) (O.gained sink.new) }
+    ensures ends { Ends result settings (I.left source.old) (I.left source.new) (O.gained sink.old) (O.gained sink.new) }
 {
     let (Ok(mut reader), Ok(mut machine)) = (
         Reader::new(alloc, settings.max_input),

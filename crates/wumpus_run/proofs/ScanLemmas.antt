@@ -1,0 +1,175 @@
+-- Where terms stand in the texts of a view.
+use Rattle.std.proofs.Common.{◌≡◌, ℕ, zero, suc, ◌+◌, ◌≤◌, ◌<◌, ◌⊎◌, Bool, true, false, cond, ◌&&◌, ◌||◌, List, [], ◌∷◌, ◌++◌, length, take, drop, get_or, map, refl, sym, ap, ◌∙◌, subst, inl, inr, arith, append_assoc, append-nil, length-append, add-one, Ordering, Less, Equal, Greater, is_eq}
+use Rattle.std.specs.Prelude.{nat_eq, Contains}
+use Rattle.std.specs.List.{flat_map, list_any, AllByRecursion}
+use Rattle.std.specs.List.Sorted.{IsStrictlySortedBy, IsStrictlyIncreasing}
+use Rattle.std.specs.Cmp.Lexicographic.{pointwise, slice_cmp, nat_list_cmp_total, texts_ties}
+use Rattle.std.specs.Ordering.{nat_cmp, ordering_reverse}
+use Rattle.wu_base.specs.declared.addresses.Range.{Range}
+use Rattle.wu_base.specs.declared.addresses.TermList.{TermList}
+use Rattle.wu_gcl.specs.Extents.{is_token_at}
+use Rattle.wu_gcl.proofs.Fronts.{pointwise_same}
+use Rattle.wu_token.specs.Tokens.{tokens_of}
+use Rattle.wu_solve.specs.Addresses.{is_among, has_address}
+use Rattle.wumpus_run.specs.View.{Shown}
+use Rattle.wumpus_run.specs.Scans.{tokens_in, frames_from, places_from, with_places, noted, list_without_places, list_among}
+
+-- ---- noting tokens
+
+pick : (b : Bool) (n : ℕ) (xs more : List ℕ) → cond b (n ∷ xs ++ more) (xs ++ more) ≡ cond b (n ∷ xs) xs ++ more
+pick true n xs more = refl
+pick false n xs more = refl
+
+-- the addresses among tokens and further ones
+pub places_from-append : (n : ℕ) (term : List ℕ) (tokens more : List (List ℕ)) → places_from n term (tokens ++ more) ≡ places_from n term tokens ++ places_from (n + length tokens) term more
+places_from-append n term [] more = ap (λ k. places_from k term more) (omega arith)
+places_from-append n term (token ∷ tokens) more =
+    let same : suc n + length tokens ≡ n + length (token ∷ tokens) = omega arith in
+    let rest = places_from-append (suc n) term tokens more ∙ ap (λ k. places_from (suc n) term tokens ++ places_from k term more) same in
+    ap (λ xs. cond (pointwise nat_eq token term) (n ∷ xs) xs) rest
+    ∙ pick (pointwise nat_eq token term) n (places_from (suc n) term tokens) (places_from (n + length (token ∷ tokens)) term more)
+
+-- tokens, and then further ones
+pub with_places-append : (n : ℕ) (tokens more : List (List ℕ)) (list : TermList) → with_places (n + length tokens) more (with_places n tokens list) ≡ with_places n (tokens ++ more) list
+with_places-append n tokens more list =
+    ap (λ at'. let l : TermList = record list { at = at' } in l)
+    (append_assoc list.at (places_from n list.term tokens) (places_from (n + length tokens) list.term more) ∙ ap (λ xs. list.at ++ xs) (sym (places_from-append n list.term tokens more)))
+
+noted_is : (token : List ℕ) (n : ℕ) (list : TermList) → noted token n list ≡ with_places n (token ∷ []) list
+noted_is token n list = by (pointwise nat_eq token list.term) where
+  by : (b : Bool) → cond b (record list { at = list.at ++ n ∷ [] }) list ≡ record list { at = list.at ++ cond b (n ∷ []) [] }
+  by true = refl
+  by false = ap (λ at'. let l : TermList = record list { at = at' } in l) (sym (append-nil list.at))
+
+pub with_places-more : (n : ℕ) (tokens : List (List ℕ)) (token : List ℕ) (list : TermList) → noted token (n + length tokens) (with_places n tokens list) ≡ with_places n (tokens ++ token ∷ []) list
+with_places-more n tokens token list = noted_is token (n + length tokens) (with_places n tokens list) ∙ with_places-append n tokens (token ∷ []) list
+
+pub map-with_places-more : (n : ℕ) (tokens : List (List ℕ)) (token : List ℕ) (lists : List TermList) → map (noted token (n + length tokens)) (map (with_places n tokens) lists) ≡ map (with_places n (tokens ++ token ∷ [])) lists
+map-with_places-more n tokens token [] = refl
+map-with_places-more n tokens token (list ∷ lists) = ap (λ l. l ∷ map (noted token (n + length tokens)) (map (with_places n tokens) lists)) (with_places-more n tokens token list)
+    ∙ ap (λ ls. with_places n (tokens ++ token ∷ []) list ∷ ls) (map-with_places-more n tokens token lists)
+
+pub map-with_places-append : (n : ℕ) (tokens more : List (List ℕ)) (lists : List TermList) → map (with_places (n + length tokens) more) (map (with_places n tokens) lists) ≡ map (with_places n (tokens ++ more)) lists
+map-with_places-append n tokens more [] = refl
+map-with_places-append n tokens more (list ∷ lists) = ap (λ l. l ∷ map (with_places (n + length tokens) more) (map (with_places n tokens) lists)) (with_places-append n tokens more list)
+    ∙ ap (λ ls. with_places n (tokens ++ more) list ∷ ls) (map-with_places-append n tokens more lists)
+
+pub map-with_places-nil : (n : ℕ) (lists : List TermList) → map (with_places n []) lists ≡ lists
+map-with_places-nil n [] = refl
+map-with_places-nil n (list ∷ lists) = ap (λ at'. let l : TermList = record list { at = at' } in l ∷ map (with_places n []) lists) (append-nil list.at) ∙ ap (λ ls. list ∷ ls) (map-with_places-nil n lists)
+
+-- noting changes no term
+pub terms-with_places : (n : ℕ) (tokens : List (List ℕ)) (lists : List TermList) → map (λ list. list.term) (map (with_places n tokens) lists) ≡ map (λ list. list.term) lists
+terms-with_places n tokens [] = refl
+terms-with_places n tokens (list ∷ lists) = ap (λ ts. list.term ∷ ts) (terms-with_places n tokens lists)
+
+pub terms-without_places : (terms : List (List ℕ)) → map (λ list. list.term) (map list_without_places terms) ≡ terms
+terms-without_places [] = refl
+terms-without_places (term ∷ terms) = ap (λ ts. term ∷ ts) (terms-without_places terms)
+
+pub with_places-all : (tokens : List (List ℕ)) (terms : List (List ℕ)) → map (with_places 0 tokens) (map list_without_places terms) ≡ map (list_among tokens) terms
+with_places-all tokens [] = refl
+with_places-all tokens (term ∷ terms) = ap (λ ls. list_among tokens term ∷ ls) (with_places-all tokens terms)
+
+-- ---- the list of a term
+
+abbrev text_cmp : List ℕ → List ℕ → Ordering
+text_cmp a b = slice_cmp nat_cmp a b
+
+abbrev IsOther : List ℕ → TermList → Type 0
+IsOther term list = pointwise nat_eq term list.term ≡ false
+
+abbrev IsSortedByTerm : List TermList → Type 0
+IsSortedByTerm lists = IsStrictlySortedBy (slice_cmp nat_cmp) (map (λ (list : TermList). list.term) lists)
+
+other_by : (a b : List ℕ) (o : Ordering) → text_cmp a b ≡ o → is_eq o ≡ false → pointwise nat_eq a b ≡ false
+other_by a b o is differs = texts_ties a b ∙ ap is_eq is ∙ differs
+
+reversed : (a b : List ℕ) (o : Ordering) → text_cmp a b ≡ o → text_cmp b a ≡ ordering_reverse o
+reversed a b o is = nat_list_cmp_total.antisymm b a ∙ ap ordering_reverse is
+
+-- other lists stay as they are
+pub map-noted-others : (term : List ℕ) (n : ℕ) (lists : List TermList) → AllByRecursion (IsOther term) lists → map (noted term n) lists ≡ lists
+map-noted-others term n [] others = refl
+map-noted-others term n (list ∷ lists) others = rw others.0 (ap (λ ls. list ∷ ls) (map-noted-others term n lists others.1))
+
+greater_are_other : (term : List ℕ) (lists : List TermList) → AllByRecursion (λ other. text_cmp term other ≡ Less) (map (λ (list : TermList). list.term) lists) → AllByRecursion (IsOther term) lists
+greater_are_other term [] less = tt
+greater_are_other term (list ∷ lists) less = (other_by term list.term Less less.0 refl, greater_are_other term lists less.1)
+
+through : (first term : List ℕ) (others : List (List ℕ)) → ((other : List ℕ) → text_cmp first other ≡ Less → text_cmp term other ≡ Less) → AllByRecursion (λ other. text_cmp first other ≡ Less) others → AllByRecursion (λ other. text_cmp term other ≡ Less) others
+through first term [] step less = tt
+through first term (other ∷ others) step less = (step other less.0, through first term others step less.1)
+
+term_at : (P : List ℕ → Type 0) (lists : List TermList) (i : ℕ) (d : TermList) → i < length lists → AllByRecursion P (map (λ (list : TermList). list.term) lists) → P (get_or lists i d).term
+term_at P [] i d within all = absurd (omega arith)
+term_at P (list ∷ lists) zero d within all = all.0
+term_at P (list ∷ lists) (suc i) d within all = term_at P lists i d (omega arith) all.1
+
+-- the lists up to one with a lesser term are of other terms
+pub up_to_lesser : (lists : List TermList) (i : ℕ) (x : TermList) (term : List ℕ) → IsSortedByTerm lists → i < length lists → x ≡ get_or lists i x → text_cmp x.term term ≡ Less → AllByRecursion (IsOther term) (take (suc i) lists)
+unfolding IsStrictlySortedBy
+up_to_lesser [] i x term up within is less = absurd (omega arith)
+up_to_lesser (list ∷ lists) zero x term up within is less =
+    let here : text_cmp list.term term ≡ Less = subst (λ (l : TermList). text_cmp l.term term ≡ Less) is less in
+    (other_by term list.term Greater (reversed list.term term Less here) refl, tt)
+up_to_lesser (list ∷ lists) (suc i) x term up within is less =
+    let before : text_cmp list.term x.term ≡ Less = subst (λ (l : TermList). text_cmp list.term l.term ≡ Less) (sym is) (term_at (λ other. text_cmp list.term other ≡ Less) lists i x (omega arith) up.0) in
+    (other_by term list.term Greater (reversed list.term term Less (nat_list_cmp_total.trans list.term x.term term before less)) refl, up_to_lesser lists i x term up.1 (omega arith) is less)
+
+-- the lists from one with a greater term on are of other terms
+pub from_greater : (lists : List TermList) (i : ℕ) (x : TermList) (term : List ℕ) → IsSortedByTerm lists → i < length lists → x ≡ get_or lists i x → text_cmp x.term term ≡ Greater → AllByRecursion (IsOther term) (drop i lists)
+unfolding IsStrictlySortedBy
+from_greater [] i x term up within is greater = absurd (omega arith)
+from_greater (list ∷ lists) zero x term up within is greater =
+    let here : text_cmp list.term term ≡ Greater = subst (λ (l : TermList). text_cmp l.term term ≡ Greater) is greater in
+    let less : text_cmp term list.term ≡ Less = reversed list.term term Greater here in
+    (other_by term list.term Less less refl, greater_are_other term lists (through list.term term (map (λ (l : TermList). l.term) lists) (λ other after. nat_list_cmp_total.trans term list.term other less after) up.0))
+from_greater (list ∷ lists) (suc i) x term up within is greater = from_greater lists i x term up.1 (omega arith) is greater
+
+-- where the term is found, the lists before and behind are of other terms
+pub before_equal : (lists : List TermList) (i : ℕ) (x : TermList) (term : List ℕ) → IsSortedByTerm lists → i < length lists → x ≡ get_or lists i x → text_cmp x.term term ≡ Equal → AllByRecursion (IsOther term) (take i lists)
+unfolding IsStrictlySortedBy
+before_equal [] i x term up within is equal = absurd (omega arith)
+before_equal (list ∷ lists) zero x term up within is equal = tt
+before_equal (list ∷ lists) (suc i) x term up within is equal =
+    let before : text_cmp list.term x.term ≡ Less = subst (λ (l : TermList). text_cmp list.term l.term ≡ Less) (sym is) (term_at (λ other. text_cmp list.term other ≡ Less) lists i x (omega arith) up.0) in
+    let after : text_cmp term list.term ≡ Greater = sym (nat_list_cmp_total.congr x.term term list.term equal) ∙ reversed list.term x.term Less before in
+    (other_by term list.term Greater after refl, before_equal lists i x term up.1 (omega arith) is equal)
+
+pub behind_equal : (lists : List TermList) (i : ℕ) (x : TermList) (term : List ℕ) → IsSortedByTerm lists → i < length lists → x ≡ get_or lists i x → text_cmp x.term term ≡ Equal → AllByRecursion (IsOther term) (drop (suc i) lists)
+unfolding IsStrictlySortedBy
+behind_equal [] i x term up within is equal = absurd (omega arith)
+behind_equal (list ∷ lists) zero x term up within is equal =
+    let here : text_cmp list.term term ≡ Equal = subst (λ (l : TermList). text_cmp l.term term ≡ Equal) is equal in
+    greater_are_other term lists (through list.term term (map (λ (l : TermList). l.term) lists) (λ other after. sym (nat_list_cmp_total.congr list.term term other here) ∙ after) up.0)
+behind_equal (list ∷ lists) (suc i) x term up within is equal = behind_equal lists i x term up.1 (omega arith) is equal
+
+-- parts of sorted lists are sorted
+all_taken : (P : List ℕ → Type 0) (i : ℕ) (lists : List TermList) → AllByRecursion P (map (λ (list : TermList). list.term) lists) → AllByRecursion P (map (λ (list : TermList). list.term) (take i lists))
+all_taken P zero lists all = tt
+all_taken P (suc i) [] all = tt
+all_taken P (suc i) (list ∷ lists) all = (all.0, all_taken P i lists all.1)
+
+pub sorted_taken : (i : ℕ) (lists : List TermList) → IsSortedByTerm lists → IsSortedByTerm (take i lists)
+unfolding IsStrictlySortedBy
+sorted_taken zero lists up = tt
+sorted_taken (suc i) [] up = tt
+sorted_taken (suc i) (list ∷ lists) up = (all_taken (λ other. text_cmp list.term other ≡ Less) i lists up.0, sorted_taken i lists up.1)
+
+pub sorted_dropped : (i : ℕ) (lists : List TermList) → IsSortedByTerm lists → IsSortedByTerm (drop i lists)
+unfolding IsStrictlySortedBy
+sorted_dropped zero lists up = up
+sorted_dropped (suc i) [] up = tt
+sorted_dropped (suc i) (list ∷ lists) up = sorted_dropped i lists up.1
+
+-- ---- frames
+
+-- a frame more
+pub frames_from-more : (start : ℕ) (files : List Shown) (file : Shown) → frames_from start (files ++ file ∷ []) ≡ frames_from start files ++ record { start = start + length (tokens_in files); len = length (tokens_of file.text) } ∷ []
+frames_from-more start [] file = ap (λ s. let r : Range = record { start = s; len = length (tokens_of file.text) } in r ∷ []) (omega arith)
+frames_from-more start (first ∷ files) file =
+    let head : Range = record { start = start; len = length (tokens_of first.text) } in
+    let more = frames_from-more (start + length (tokens_of first.text)) files file in
+    let same : start + length (tokens_of first.text) + length (tokens_in files) ≡ start + length (tokens_in (first ∷ files)) = omega (arith, length-append (tokens_of first.text) (tokens_in files)) in
+    ap (λ fs. head ∷ fs) (more ∙ ap (λ s. let r : Range = record { start = s; len = length (tokens_of file.text) } in frames_from (start + length (tokens_of first.text)) files ++ r ∷ []) same)

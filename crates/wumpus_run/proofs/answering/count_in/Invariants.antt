@@ -1,0 +1,13 @@
+use Rattle.std.proofs.Common.{◌≡◌, ◌≤◌, take, length}
+use Rattle.std.specs.Prelude.{count_by, nat_lt}
+use Rattle.wu_gcl.specs.Regions.{region_of}
+use Rattle.wu_solve.specs.Solving.{frame_hits, frames_hits}
+use Rattle.wumpus_run.proofs.answering.count_in.Given as goal
+
+-- the extents of the frames so far were counted
+abbrev pub invariant-loop-frame : goal.invariant-loop-frame
+invariant-loop-frame l = record {
+  hits : l.hits ≡ length (frames_hits (region_of l.fn.expr.now) l.fn.lists.now (take l.frame-index l.frame-items));
+  files : l.files ≡ count_by (λ frame. nat_lt 0 (length (frame_hits (region_of l.fn.expr.now) l.fn.lists.now frame))) (take l.frame-index l.frame-items);
+  few : l.files ≤ l.frame-index;
+}
