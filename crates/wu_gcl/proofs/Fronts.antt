@@ -1,9 +1,9 @@
 -- The token found from the left is the one that stands there.
 use Rattle.std.proofs.Common.{◌≡◌, ◌≢◌, ℕ, suc, ◌+◌, ◌<◌, Bool, true, false, cond, List, [], ◌∷◌, ◌++◌, length, take, drop, append_assoc, length-append, Some, refl, sym, ◌∙◌, ap, inl, inr, arith, eqb}
-use Rattle.std.specs.Prelude.{◌⊎◌, ◌&&◌, codes, nat_eq}
+use Rattle.std.specs.Prelude.{◌⊎◌, codes, nat_eq}
 use Rattle.std.specs.Char.{is_ascii_digit, is_ascii_alphabetic, IsAsciiDigit}
 use Rattle.std.specs.List.{prefix_len, AllByRecursion}
-use Rattle.std.specs.Cmp.Lexicographic.{pointwise}
+use Rattle.std.specs.Cmp.Lexicographic.{pointwise, same_text}
 use Rattle.std.proofs.lemmas.Bool.Decides.{nat_tests}
 use Rattle.std.proofs.lemmas.List.Sums.{split_at_first, passes_at_first, prefix_len-le-length}
 use Rattle.std.proofs.Common.{get_or, length-take}
@@ -104,20 +104,6 @@ split_at_quote text less =
 some_taken : (text : List ℕ) → eqb (prefix_len is_ascii_digit text) 0 ≡ false → 0 < length (take (prefix_len is_ascii_digit text) text)
 some_taken text some = rw length-take (grind (arith, nat_tests, prefix_len-le-length is_ascii_digit text))
 
-both_true : (a b : Bool) → a && b ≡ true → (a ≡ true) × (b ≡ true)
-both_true true b is = (refl, is)
-both_true false b is = cc
-
-pub pointwise_same : (a b : List ℕ) → pointwise nat_eq a b ≡ true → a ≡ b
-pointwise_same [] [] same = refl
-pointwise_same [] (y ∷ b) same = cc
-pointwise_same (x ∷ a) [] same = cc
-pointwise_same (x ∷ a) (y ∷ b) same =
-    let tests : (eqb x y ≡ true) × (pointwise nat_eq a b ≡ true) = both_true _ _ same in
-    let first : x ≡ y = eqb-true x y tests.0 in
-    let rest : a ≡ b = pointwise_same a b tests.1 in
-    cc
-
 quoted_stands : (text : List ℕ) (token : Token) (rest : List ℕ) → quoted_at text ≡ Some (token, rest) → Stands token rest (34 ∷ text)
 quoted_stands text token rest h = elim (chosen (nat_lt (prefix_len is_unquote text) (length text)) _ _ _ h) [
   | inl (less, h) ↦ same_front (Operand (Quoted (take (prefix_len is_unquote text) text))) token (drop (prefix_len is_unquote text + 1) text) rest (34 ∷ text) h
@@ -163,9 +149,9 @@ behind_letters (b ∷ text) = behind b text (is_ascii_alphabetic b) refl (behind
 
 word_stands : (letters text : List ℕ) (token : Token) (rest : List ℕ) → starts_with_letter text ≡ false → word_of letters text ≡ Some (token, rest) → Stands token rest (letters ++ text)
 word_stands letters text token rest ends h = elim (chosen (pointwise nat_eq letters (codes "file")) _ _ _ h) [
-  | inl (is, h) ↦ same_front (Operand FileWord) token text rest (letters ++ text) h (record { spelled = ap (λ (bytes : List ℕ). bytes ++ text) (pointwise_same letters (codes "file") is); proper = tt; ended = ends })
+  | inl (is, h) ↦ same_front (Operand FileWord) token text rest (letters ++ text) h (record { spelled = ap (λ (bytes : List ℕ). bytes ++ text) (same_text letters (codes "file") (sym is)); proper = tt; ended = ends })
   | inr (other, h) ↦ elim (chosen (pointwise nat_eq letters (codes "line")) _ _ _ h) [
-    | inl (is, h) ↦ same_front (Operand LineWord) token text rest (letters ++ text) h (record { spelled = ap (λ (bytes : List ℕ). bytes ++ text) (pointwise_same letters (codes "line") is); proper = tt; ended = ends })
+    | inl (is, h) ↦ same_front (Operand LineWord) token text rest (letters ++ text) h (record { spelled = ap (λ (bytes : List ℕ). bytes ++ text) (same_text letters (codes "line") (sym is)); proper = tt; ended = ends })
     | inr (other, h) ↦ cc
   ]
 ]

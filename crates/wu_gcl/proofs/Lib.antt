@@ -5,6 +5,7 @@ pub mod Texts
 pub mod Decimals
 pub mod Outcomes
 pub mod Uniqueness
+pub mod Existence
 pub mod TermLists
 pub mod Joining
 pub mod WordLaws

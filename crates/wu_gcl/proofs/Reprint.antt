@@ -10,7 +10,6 @@ use Rattle.wu_token.specs.Words.{words_of}
 use Rattle.wu_gcl.specs.declared.expressions.Tag.{Tag}
 use Rattle.wu_gcl.specs.declared.expressions.Tag.TheVariants.{FileStart, FileEnd, LineStart, LineEnd}
 use Rattle.wu_gcl.specs.declared.expressions.Op.{Op}
-use Rattle.wu_gcl.specs.declared.expressions.Op.TheVariants.{Containing, ContainedIn, NotContaining, NotContainedIn, OneOf, BothOf, FollowedBy}
 use Rattle.wu_gcl.specs.declared.expressions.Expr.{Expr}
 use Rattle.wu_gcl.specs.declared.expressions.ExprFault.{ExprFault}
 use Rattle.wu_gcl.specs.declared.expressions.ExprFault.TheVariants.{BadWindow}
@@ -20,7 +19,9 @@ use Rattle.wu_gcl.specs.Regions.{Region, Phrase, Mark, WholeFile, WholeLine, Win
 use Rattle.wu_gcl.specs.Reading.{Value, tag_text, tag_at, quoted_value, phrase_of, digits_behind, window_of, value_of, join, meaning, Spells, Reads, seen}
 use Rattle.wu_gcl.specs.Scanning.{is_unquote}
 use Rattle.wu_gcl.specs.Printing.{operand_text, printed}
+use Rattle.wu_gcl.proofs.Decimals.{digits_behind-le}
 use Rattle.wu_gcl.proofs.Fronts.{run_passes, passes_unquote}
+use Rattle.wu_gcl.proofs.Soundness.{precedence_below}
 use Rattle.wu_gcl.proofs.WordLaws.{IsWord, words_of_are, words_of-join, no_quote_in, no_tag_in}
 
 -- ---- the syntax of what is printed
@@ -60,10 +61,6 @@ phrase_readable (word ∷ words) are = (omega arith, are)
 quoted_readable : (tag : Option Tag) (bytes : List ℕ) → IsReadableValue (quoted_value tag bytes)
 quoted_readable (Some tag) bytes = tt
 quoted_readable None bytes = phrase_readable (words_of bytes) (words_of_are bytes)
-
-digits_behind-le : (n : ℕ) (digits : List ℕ) → n ≤ digits_behind n digits
-digits_behind-le n [] = omega arith
-digits_behind-le n (digit ∷ digits) = omega (arith, digits_behind-le (10 * n + (digit - 48)) digits)
 
 window_by : (test : Bool) (digit : ℕ) (digits : List ℕ) → eqb digit 48 || nat_lt 65535 (digits_behind 0 (digit ∷ digits)) ≡ test → IsAsciiDigit digit →
     IsReadableValue (cond test (Err BadWindow) (Ok (Window (digits_behind 0 (digit ∷ digits)))))
@@ -218,15 +215,6 @@ grouped_is WholeFile syntax is = is
 grouped_is WholeLine syntax is = is
 grouped_is (Window n) syntax is = is
 grouped_is (Both op left right) syntax is = is
-
-precedence_below : (op : Op) → precedence op < 4
-precedence_below Containing = omega arith
-precedence_below ContainedIn = omega arith
-precedence_below NotContaining = omega arith
-precedence_below NotContainedIn = omega arith
-precedence_below OneOf = omega arith
-precedence_below BothOf = omega arith
-precedence_below FollowedBy = omega arith
 
 syntax_grouped : (region : Region) → IsGrouped (syntax_of region)
 syntax_grouped (Phrase words) = tt

@@ -1,5 +1,5 @@
 -- What reading from the left finds is the value of an expression.
-use Rattle.std.proofs.Common.{◌≡◌, ℕ, ◌≤◌, List, [], ◌∷◌, ◌++◌, append_assoc, append-nil, Option, Some, None, refl, ◌∙◌, ap, arith}
+use Rattle.std.proofs.Common.{◌≡◌, ◌<◌, ℕ, ◌≤◌, List, [], ◌∷◌, ◌++◌, append_assoc, append-nil, Option, Some, None, refl, ◌∙◌, ap, arith}
 use Rattle.std.proofs.Common.{inl, inr}
 use Rattle.std.proofs.lemmas.Bool.{cases_lt}
 use Rattle.wu_gcl.specs.declared.expressions.Op.{Op}
@@ -92,7 +92,8 @@ ended_in [] value found used held same =
     record { syntax = held.syntax; spelled = held.spelled ∙ ap (λ (b : List Token). b ++ tokens_in held.syntax) held.leads; grouped = held.grouped; meant = held.meant ∙ cc }
 ended_in (w ∷ waiting) value found used held same = cc
 
-precedence_below : (op : Op) → precedence op ≤ 4
+-- an operand binds more tightly than each operator
+pub precedence_below : (op : Op) → precedence op < 4
 precedence_below Containing = omega arith
 precedence_below ContainedIn = omega arith
 precedence_below NotContaining = omega arith
@@ -164,7 +165,7 @@ expresses (Operand atom ∷ tokens) used waiting (Some held) value leads ran = a
 expresses (Operator op ∷ tokens) used waiting None value leads ran = absurd (ran_none tokens value ran)
 expresses (Operator op ∷ tokens) used waiting (Some operand) value leads ran =
     let left : Reduces (precedence op) (reduced (precedence op) waiting operand).0 (reduced (precedence op) waiting operand).1 used =
-    reduces (precedence op) waiting operand used (Held-less (precedence op) 4 waiting operand used (precedence_below op) leads) in
+    reduces (precedence op) waiting operand used (Held-less (precedence op) 4 waiting operand used (omega (arith, precedence_below op)) leads) in
     rw one_more (expresses tokens (used ++ Operator op ∷ []) (Left (reduced (precedence op) waiting operand).1 op ∷ (reduced (precedence op) waiting operand).0) None value
     (left.held.before, left_of op _ _ used left.held, left.below, left.held.leads) ran)
 expresses (Open ∷ tokens) used waiting None value leads ran =

@@ -37,7 +37,7 @@ one_list (token ∷ tokens) (other ∷ others) text (blanks, token_on, rest, sam
     cc
 
 -- the tokens of a text, if it has any
-abbrev IsLexed : List ℕ → Option (List Token) → Type 0
+abbrev pub IsLexed : List ℕ → Option (List Token) → Type 0
 IsLexed text None = HasNoTokens text
 IsLexed text (Some tokens) = AreTokens tokens text
 
@@ -48,7 +48,7 @@ one_lexing text (Some tokens) None a b = absurd (b tokens a)
 one_lexing text (Some tokens) (Some others) a b = ap (λ (list : List Token). Some list) (one_list tokens others text a b)
 
 -- what a text says that has these tokens, or none
-abbrev outcome_of : Option (List Token) → Value
+abbrev pub outcome_of : Option (List Token) → Value
 outcome_of None = Err NotAnExpression
 outcome_of (Some tokens) = outcome tokens
 

@@ -25,9 +25,9 @@ mod printer;
 mod reading;
 
 pub use expressions::{Expr, ExprFault, Op, Tag};
-pub use naming::terms_of;
+pub use naming::{tag_bytes, terms_of};
 pub use printer::print;
-pub use reading::{one_reading, parse};
+pub use reading::{each_text_is_read, one_reading, parse};
 
 #[cfg(test)]
 mod tests;

@@ -77,3 +77,8 @@ fn open_count(tokens: &[Token<'_>]) -> usize
 pub fn one_reading()
     ensures { (text : List ℕ) (first second : Value) → Reads text first → Reads text second → first ≡ second }
 {}
+
+/// Every text says something: it spells an expression or has a fault.
+pub fn each_text_is_read()
+    ensures { (text : List ℕ) → (value : Value) × Reads text value }
+{}

@@ -1,5 +1,8 @@
 -- The lists that the operators make, and the sets that they stand for.
-use Rattle.std.proofs.Common.{◌≡◌, ℕ, ◌+◌, ◌<◌, ◌≤◌, Bool, true, false, ◌&&◌, List, [], ◌∷◌, length, refl, arith, eqb, eqb-true, eq-eqb}
+use Rattle.std.proofs.Common.{◌≡◌, ℕ, ◌+◌, ◌<◌, ◌≤◌, Bool, true, false, List, [], ◌∷◌, length, refl, arith, eqb, eqb-true, eq-eqb}
+use Rattle.std.proofs.Math.Bool.{and-true}
+use Rattle.std.specs.Cmp.{both_ways}
+use Rattle.std.proofs.lemmas.Bool.{and_parts}
 use Rattle.wu_base.specs.declared.addresses.Extent.{Extent}
 use Rattle.wu_gcl.specs.declared.expressions.Op.{Op}
 use Rattle.wu_gcl.specs.declared.expressions.Op.TheVariants.{Containing, ContainedIn, NotContaining, NotContainedIn, OneOf, BothOf, FollowedBy}
@@ -10,7 +13,6 @@ use Rattle.wu_gcl.specs.Reading.{tag_text}
 use Rattle.wu_gcl.specs.Extents.{combined, is_in, is_term_at}
 use Rattle.wu_solve.specs.Listing.{Lists}
 use Rattle.wu_solve.specs.Merging.{holding, held, IsOneOf, IsCover, IsSpan, AreInnermost}
-use Rattle.wu_solve.proofs.Sets.{alike, both_true}
 use Rattle.wu_solve.proofs.Operators.{same_lists, containing_listed, not_containing_listed, contained_in_listed, not_contained_in_listed}
 use Rattle.wu_solve.proofs.Innermost.{one_of_listed, both_of_listed, followed_by_listed}
 
@@ -45,12 +47,8 @@ module _ (n : ℕ) (left right : Extent → Bool) (ys zs : List Extent) (ly : Li
 
 -- operands
 
-and_itself : (b : Bool) → (b && true) ≡ b
-and_itself true = refl
-and_itself false = refl
-
 one_place : (a b : ℕ) → eqb (a + 1) (b + 1) ≡ eqb a b
-one_place a b = alike (eqb (a + 1) (b + 1)) (eqb a b)
+one_place a b = both_ways (eqb (a + 1) (b + 1)) (eqb a b)
     (λ is. let same : a + 1 ≡ b + 1 = eqb-true (a + 1) (b + 1) is in eq-eqb a b (omega arith))
     (λ is. let same : a ≡ b = eqb-true a b is in eq-eqb (a + 1) (b + 1) (omega arith))
 
@@ -58,7 +56,7 @@ one_place a b = alike (eqb (a + 1) (b + 1)) (eqb a b)
 pub word_listed : (n : ℕ) (stands : List ℕ → ℕ → Bool) (term : List ℕ) (xs : List Extent) → Lists n (is_in (Phrase (term ∷ [])) stands n) xs → Lists n (is_term_at stands term) xs
 unfolding is_in
 word_listed n stands term xs lists =
-    same_lists n (is_in (Phrase (term ∷ [])) stands n) (is_term_at stands term) xs (λ x. rw (one_place x.start x.end, and_itself (stands term x.start)) refl) lists
+    same_lists n (is_in (Phrase (term ∷ [])) stands n) (is_term_at stands term) xs (λ x. rw (one_place x.start x.end, and-true (stands term x.start)) refl) lists
 
 -- no word stands nowhere
 pub no_phrase : (n : ℕ) (stands : List ℕ → ℕ → Bool) → Lists n (is_in (Phrase []) stands n) []
@@ -67,7 +65,7 @@ no_phrase n stands = record {
   ascending = tt;
   sound = λ x has. absurd has;
   complete = λ x is passes.
-      let b = both_true (eqb (x.start + 0) (x.end + 1)) true passes in
+      let b = and_parts (eqb (x.start + 0) (x.end + 1)) true passes in
       let ends : x.start + 0 ≡ x.end + 1 = eqb-true (x.start + 0) (x.end + 1) b.0 in
       let ordered : x.start ≤ x.end = is.ordered in
       absurd (omega arith);

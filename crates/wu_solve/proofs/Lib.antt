@@ -9,6 +9,7 @@ pub mod TermLists
 pub mod Frames
 pub mod Phrases
 pub mod Unions
+pub mod Candidates
 pub mod Covers
 pub mod Spans
 pub mod Combining

@@ -1,13 +1,13 @@
 -- Ascending numbers, and where a binary search ends in them.
 use Rattle.std.proofs.Common.{◌≡◌, ℕ, zero, suc, ◌+◌, ◌<◌, ◌≤◌, Bool, true, false, ◌⊎◌, List, [], ◌∷◌, length, take, drop, get_or, filter, nat_lt, nat_le, Result, Ok, Err, refl, sym, ap, inl, inr, arith, lt-ltb, le-ltb, le-leb, eq-eqb, eqb-true, add-one, eqb}
+use Rattle.std.specs.Cmp.{both_ways}
 use Rattle.std.specs.Prelude.{is_ok}
 use Rattle.std.specs.List.Sorted.{IsStrictlyIncreasing, IsBinarySearchResult}
 use Rattle.std.specs.Ordering.{nat_cmp}
 use Rattle.std.proofs.lemmas.List.Sorted.{searched}
-use Rattle.std.proofs.lemmas.Bool.{false≢true}
+use Rattle.std.proofs.lemmas.Bool.{false≢true, or_cases, or_left, or_right}
 use Rattle.std.proofs.lemmas.Bool.Decides.{nat_tests}
 use Rattle.wu_solve.specs.Addresses.{is_among}
-use Rattle.wu_solve.proofs.Sets.{alike, either_true, left_true, right_true}
 
 pub increasing_far : (xs : List ℕ) → IsStrictlyIncreasing xs → (i j : ℕ) → i < j → j < length xs → get_or xs i 0 < get_or xs j 0
 increasing_far xs up i zero less within = absurd (omega arith)
@@ -99,21 +99,21 @@ from_bound xs bound i ends = drop_filter (λ a. nat_le bound a) xs i ends.within
 pub among_place : (xs : List ℕ) (a : ℕ) → is_among xs a ≡ true → (k : ℕ) × (k < length xs) × (get_or xs k 0 ≡ a)
 among_place [] a is = absurd (false≢true is)
 among_place (x ∷ xs) a is =
-    elim (either_true (eqb x a) (is_among xs a) is) [
+    elim (or_cases (eqb x a) (is_among xs a) is) [
       | inl here ↦ (0, omega arith, eqb-true x a here)
       | inr more ↦ let p = among_place xs a more in (suc p.0, omega (arith, p.1), p.2)
     ]
 
 pub place_among : (xs : List ℕ) (a k : ℕ) → k < length xs → get_or xs k 0 ≡ a → is_among xs a ≡ true
 place_among [] a k within is = absurd (omega arith)
-place_among (x ∷ xs) a zero within is = left_true _ _ (eq-eqb x a is)
-place_among (x ∷ xs) a (suc k) within is = right_true _ _ (place_among xs a k (omega arith) is)
+place_among (x ∷ xs) a zero within is = or_left _ _ (eq-eqb x a is)
+place_among (x ∷ xs) a (suc k) within is = or_right _ _ (place_among xs a k (omega arith) is)
 
 pub searched_for : (xs : List ℕ) (a : ℕ) (r : Result ℕ ℕ) → IsStrictlyIncreasing xs → IsBinarySearchResult (λ y. nat_cmp y a) xs r → is_ok r ≡ is_among xs a
 searched_for xs a (Ok i) up is = let s = searched xs a (Ok i) is (increasing_not_below xs up) in sym (place_among xs a i s.0 s.1)
 searched_for xs a (Err i) up is =
     let ends = searched xs a (Err i) is (increasing_not_below xs up) in
-    alike false (is_among xs a) (λ impossible. absurd (false≢true impossible)) (λ among.
+    both_ways false (is_among xs a) (λ impossible. absurd (false≢true impossible)) (λ among.
     let p = among_place xs a among in
     let cases : (p.0 < i) ⊎ (i ≤ p.0) = grind arith in
     elim cases [

@@ -2,7 +2,7 @@
 use Rattle.std.proofs.Common.{◌≡◌, ℕ, zero, suc, ◌+◌, ◌-◌, ◌<◌, ◌≤◌, Bool, true, false, cond, ◌&&◌, ◌⊎◌, List, [], ◌∷◌, length, get_or, filter, map, nat_lt, nat_le, refl, sym, ap, ◌∙◌, subst, inl, inr, arith, eqb, eqb-true, eq-eqb, leb-true, ltb-true, lt-ltb, le-leb}
 use Rattle.std.specs.List.{range_with_len}
 use Rattle.std.specs.List.Sorted.{IsStrictlyIncreasing}
-use Rattle.std.proofs.lemmas.Bool.{false≢true}
+use Rattle.std.proofs.lemmas.Bool.{false≢true, and_parts, and_from, or_cases, or_left, or_right}
 use Rattle.wu_base.specs.declared.addresses.Extent.{Extent}
 use Rattle.wu_base.specs.declared.addresses.TermList.{TermList}
 use Rattle.wu_gcl.specs.Regions.{Phrase, Window}
@@ -10,7 +10,7 @@ use Rattle.wu_gcl.specs.Extents.{words_stand, is_in}
 use Rattle.wu_solve.specs.Listing.{IsBefore, IsAscending, Has, IsExtentIn, Lists}
 use Rattle.wu_solve.specs.Addresses.{is_among, has_address, stands_by}
 use Rattle.wu_solve.specs.Operands.{extent_at, run_from, goes_on, phrase_extents}
-use Rattle.wu_solve.proofs.Sets.{both_true, and_true, either_true, left_true, right_true, all_from, same_ends}
+use Rattle.wu_solve.proofs.Sets.{all_from, same_ends}
 use Rattle.wu_solve.proofs.Numbers.{increasing_far, increasing_rest}
 
 -- numbers in a list, by recursion
@@ -22,12 +22,12 @@ Among (x ∷ xs) a = (x ≡ a) ⊎ Among xs a
 from_among : (xs : List ℕ) (a : ℕ) → is_among xs a ≡ true → Among xs a
 from_among [] a is = absurd (false≢true is)
 from_among (x ∷ xs) a is =
-    elim (either_true (eqb x a) (is_among xs a) is) [ inl here ↦ inl (eqb-true x a here) | inr more ↦ inr (from_among xs a more) ]
+    elim (or_cases (eqb x a) (is_among xs a) is) [ inl here ↦ inl (eqb-true x a here) | inr more ↦ inr (from_among xs a more) ]
 
 to_among : (xs : List ℕ) (a : ℕ) → Among xs a → is_among xs a ≡ true
 to_among [] a has = absurd has
-to_among (x ∷ xs) a (inl here) = left_true _ _ (eq-eqb x a here)
-to_among (x ∷ xs) a (inr more) = right_true _ _ (to_among xs a more)
+to_among (x ∷ xs) a (inl here) = or_left _ _ (eq-eqb x a here)
+to_among (x ∷ xs) a (inr more) = or_right _ _ (to_among xs a more)
 
 abbrev Rises : List ℕ → Type 0
 Rises [] = Unit {0}
@@ -122,13 +122,13 @@ record InFrame (lists : List TermList) (start len : ℕ) (term : List ℕ) (a : 
 frame_address : (lists : List TermList) (start len : ℕ) (term addresses : List ℕ) → FrameAddresses lists start len term addresses → (a : ℕ) → Among addresses a → InFrame lists start len term a
 frame_address lists start len term addresses are a has =
     let is = sym (are.same a) ∙ to_among addresses a has in
-    let b = both_true (has_address lists term a) (nat_le start a && nat_lt a (start + len)) is in
-    let c = both_true (nat_le start a) (nat_lt a (start + len)) b.1 in
+    let b = and_parts (has_address lists term a) (nat_le start a && nat_lt a (start + len)) is in
+    let c = and_parts (nat_le start a) (nat_lt a (start + len)) b.1 in
     record { stands = b.0; low = leb-true start a c.0; high = ltb-true a (start + len) c.1 }
 
 address_frame : (lists : List TermList) (start len : ℕ) (term addresses : List ℕ) → FrameAddresses lists start len term addresses → (a : ℕ) → InFrame lists start len term a → Among addresses a
 address_frame lists start len term addresses are a is =
-    from_among addresses a (are.same a ∙ and_true (has_address lists term a) _ is.stands (and_true (nat_le start a) (nat_lt a (start + len)) (le-leb start a is.low) (lt-ltb a (start + len) is.high)))
+    from_among addresses a (are.same a ∙ and_from (has_address lists term a) _ is.stands (and_from (nat_le start a) (nat_lt a (start + len)) (le-leb start a is.low) (lt-ltb a (start + len) is.high)))
 
 phrase_sound : (lists : List TermList) (start len : ℕ) (first : List ℕ) (more : List (List ℕ)) (addresses : List ℕ) → FrameAddresses lists start len first addresses →
     (x : Extent) → Has (phrase_extents lists start len more addresses) x → IsExtentIn len x × (is_in (Phrase (first ∷ more)) (stands_by lists start) len x ≡ true)
@@ -139,7 +139,7 @@ phrase_sound lists start len first more addresses are x has =
     let a = m.0 in
     let f = frame_address lists start len first addresses are a k.0 in
     let low : start ≤ a = f.low in
-    let g = both_true (nat_lt (a - start + length more) len) (words_stand (has_address lists) more (a + 1)) k.1 in
+    let g = and_parts (nat_lt (a - start + length more) len) (words_stand (has_address lists) more (a + 1)) k.1 in
     let fits : a - start + length more < len = ltb-true _ _ g.0 in
     let back : start + (a - start) ≡ a = omega arith in
     let next : start + (a - start + 1) ≡ a + 1 = omega arith in
@@ -147,15 +147,15 @@ phrase_sound lists start len first more addresses are x has =
     let rest : words_stand (stands_by lists start) more (a - start + 1) ≡ true = words_moved lists start more (a - start + 1) ∙ ap (words_stand (has_address lists) more) next ∙ g.1 in
     subst (λ (e : Extent). IsExtentIn len e × (is_in (Phrase (first ∷ more)) (stands_by lists start) len e ≡ true)) m.2 (
       record { ordered = omega arith; within = fits },
-      and_true _ _ (eq-eqb _ _ (omega arith)) (and_true _ _ here rest),
+      and_from _ _ (eq-eqb _ _ (omega arith)) (and_from _ _ here rest),
     )
 
 phrase_complete : (lists : List TermList) (start len : ℕ) (first : List ℕ) (more : List (List ℕ)) (addresses : List ℕ) → FrameAddresses lists start len first addresses →
     (x : Extent) → IsExtentIn len x → is_in (Phrase (first ∷ more)) (stands_by lists start) len x ≡ true → Has (phrase_extents lists start len more addresses) x
 unfolding is_in
 phrase_complete lists start len first more addresses are x is passes =
-    let b = both_true (eqb (x.start + suc (length more)) (x.end + 1)) (words_stand (stands_by lists start) (first ∷ more) x.start) passes in
-    let w = both_true (has_address lists first (start + x.start)) (words_stand (stands_by lists start) more (x.start + 1)) b.1 in
+    let b = and_parts (eqb (x.start + suc (length more)) (x.end + 1)) (words_stand (stands_by lists start) (first ∷ more) x.start) passes in
+    let w = and_parts (has_address lists first (start + x.start)) (words_stand (stands_by lists start) more (x.start + 1)) b.1 in
     let ends : x.start + suc (length more) ≡ x.end + 1 = eqb-true _ _ b.0 in
     let ordered : x.start ≤ x.end = is.ordered in
     let inside : x.end < len = is.within in
@@ -164,7 +164,7 @@ phrase_complete lists start len first more addresses are x is passes =
     let place : start + x.start - start ≡ x.start = omega arith in
     let next : start + (x.start + 1) ≡ start + x.start + 1 = omega arith in
     let goes : goes_on lists start len more (start + x.start) ≡ true =
-    and_true _ _ (lt-ltb _ _ (omega arith)) (ap (words_stand (has_address lists) more) (sym next) ∙ sym (words_moved lists start more (x.start + 1)) ∙ w.1) in
+    and_from _ _ (lt-ltb _ _ (omega arith)) (ap (words_stand (has_address lists) more) (sym next) ∙ sym (words_moved lists start more (x.start + 1)) ∙ w.1) in
     let has = map_has (extent_at start (length more)) (filter (goes_on lists start len more) addresses) (start + x.start) (to_kept (goes_on lists start len more) addresses (start + x.start) among goes) in
     let same : extent_at start (length more) (start + x.start) ≡ x = same_ends (extent_at start (length more) (start + x.start)) x place (omega arith) in
     subst (λ (e : Extent). Has (phrase_extents lists start len more addresses) e) same has

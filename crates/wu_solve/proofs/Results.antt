@@ -1,5 +1,6 @@
 -- What every answer is like: its order, and what it depends on.
 use Rattle.std.proofs.Common.{◌≡◌, ℕ, zero, suc, ◌+◌, ◌-◌, ◌^◌, ◌<◌, ◌≤◌, Bool, true, false, not, ◌&&◌, ◌⊎◌, List, [], ◌∷◌, ◌++◌, length, map, refl, sym, ap, ◌∙◌, subst, inl, inr, arith, eqb, eqb-true, get_or, drop, drop-cons, add-one, append_assoc}
+use Rattle.std.specs.Cmp.{both_ways}
 use Rattle.std.specs.Prelude.{filter, Contains, All, nat_lt}
 use Rattle.std.specs.List.{range_with_len, AllByRecursion}
 use Rattle.std.proofs.lemmas.List.Elements.{All-from_recursion, Contains-append_left, Contains-append_right}
@@ -18,7 +19,7 @@ use Rattle.wu_solve.specs.Addresses.{has_address, stands_by}
 use Rattle.wu_solve.specs.Operands.{run_from}
 use Rattle.wu_solve.specs.Merging.{holding, held}
 use Rattle.wu_solve.specs.Solving.{moved, frame_hits, frames_hits, AreApart}
-use Rattle.wu_solve.proofs.Sets.{alike, all_has, all_from, has_either}
+use Rattle.wu_solve.proofs.Sets.{all_has, all_from, has_either}
 use Rattle.wu_solve.proofs.Order.{listed, some_found, some_from, extents_in}
 use Rattle.wu_solve.proofs.Operators.{filter_lists}
 use Rattle.wu_solve.proofs.Phrases.{windows_listed, no_windows}
@@ -158,7 +159,7 @@ abbrev AlikeIn : ℕ → (Extent → Bool) → (Extent → Bool) → Type 0
 AlikeIn n p q = (x : Extent) → IsExtentIn n x → p x ≡ q x
 
 pub some_alike : (n : ℕ) (p q : Extent → Bool) → AlikeIn n p q → some_extent n p ≡ some_extent n q
-some_alike n p q same = alike _ _
+some_alike n p q same = both_ways _ _
     (λ is. let f = some_found n p is in some_from n q f.0 f.1 (sym (same f.0 f.1) ∙ f.2))
     (λ is. let f = some_found n q is in some_from n p f.0 f.1 (same f.0 f.1 ∙ f.2))
 

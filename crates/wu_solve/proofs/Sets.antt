@@ -1,44 +1,11 @@
 -- What lists of extents and the tests of sets have to do with each other.
-use Rattle.std.proofs.Common.{◌≡◌, ℕ, ◌≤◌, Bool, true, false, cond, not, ◌&&◌, ◌||◌, ◌⊎◌, List, [], ◌∷◌, ◌++◌, refl, sym, ap, ◌∙◌, subst, inl, inr, leb-true, le-leb, eqb-true, eq-eqb, eqb, leb}
+use Rattle.std.proofs.Common.{◌≡◌, ℕ, ◌≤◌, Bool, true, false, cond, ◌⊎◌, List, [], ◌∷◌, ◌++◌, refl, sym, ap, ◌∙◌, subst, inl, inr, leb-true, le-leb, eqb-true, eq-eqb, eqb, leb}
 use Rattle.std.specs.Prelude.{filter}
 use Rattle.std.specs.List.{list_any, AllByRecursion}
-use Rattle.std.proofs.lemmas.Bool.{false≢true}
+use Rattle.std.proofs.lemmas.Bool.{false≢true, and_parts, and_from, or_cases, or_left, or_right}
 use Rattle.wu_base.specs.declared.addresses.Extent.{Extent}
 use Rattle.wu_gcl.specs.Extents.{holds, same_extent}
 use Rattle.wu_solve.specs.Listing.{Has}
-
-pub both_true : (a b : Bool) → a && b ≡ true → (a ≡ true) × (b ≡ true)
-both_true true b is = (refl, is)
-both_true false b is = cc
-
-pub and_true : (a b : Bool) → a ≡ true → b ≡ true → a && b ≡ true
-and_true true b p q = q
-and_true false b p q = cc
-
-pub either_true : (a b : Bool) → a || b ≡ true → (a ≡ true) ⊎ (b ≡ true)
-either_true true b is = inl refl
-either_true false b is = inr is
-
-pub left_true : (a b : Bool) → a ≡ true → a || b ≡ true
-left_true true b is = refl
-left_true false b is = cc
-
-pub right_true : (a b : Bool) → b ≡ true → a || b ≡ true
-right_true true b is = refl
-right_true false b is = is
-
-pub alike : (a b : Bool) → (a ≡ true → b ≡ true) → (b ≡ true → a ≡ true) → a ≡ b
-alike true b p q = sym (p refl)
-alike false true p q = q refl
-alike false false p q = refl
-
-pub not_false : (a : Bool) → not a ≡ true → a ≡ true → ⊥
-not_false true is other = false≢true is
-not_false false is other = false≢true other
-
-pub not_true : (a : Bool) → (a ≡ true → ⊥) → not a ≡ true
-not_true true h = absurd (h refl)
-not_true false h = refl
 
 -- extents
 
@@ -48,39 +15,39 @@ pub record Holds (x y : Extent) : Type 0 where
 
 pub holds_means : (x y : Extent) → holds x y ≡ true → Holds x y
 holds_means x y is =
-    let tests = both_true (leb x.start y.start) (leb y.end x.end) is in
+    let tests = and_parts (leb x.start y.start) (leb y.end x.end) is in
     record { start = leb-true _ _ tests.0; last = leb-true _ _ tests.1 }
 
 pub holds_from : (x y : Extent) → Holds x y → holds x y ≡ true
-holds_from x y h = and_true _ _ (le-leb _ _ h.start) (le-leb _ _ h.last)
+holds_from x y h = and_from _ _ (le-leb _ _ h.start) (le-leb _ _ h.last)
 
 pub same_means : (x y : Extent) → same_extent x y ≡ true → x ≡ y
 same_means x y is =
-    let tests = both_true (eqb x.start y.start) (eqb x.end y.end) is in
+    let tests = and_parts (eqb x.start y.start) (eqb x.end y.end) is in
     let starts : x.start ≡ y.start = eqb-true _ _ tests.0 in
     let ends : x.end ≡ y.end = eqb-true _ _ tests.1 in
     ap (λ (n : ℕ). let e : Extent = record { start = n; end = x.end } in e) starts ∙ ap (λ (n : ℕ). let e : Extent = record { start = y.start; end = n } in e) ends
 
 pub same_from : (x y : Extent) → x ≡ y → same_extent x y ≡ true
-same_from x y is = subst (λ (z : Extent). same_extent x z ≡ true) is (and_true _ _ (eq-eqb x.start x.start refl) (eq-eqb x.end x.end refl))
+same_from x y is = subst (λ (z : Extent). same_extent x z ≡ true) is (and_from _ _ (eq-eqb x.start x.start refl) (eq-eqb x.end x.end refl))
 
 pub same_ends : (x y : Extent) → x.start ≡ y.start → x.end ≡ y.end → x ≡ y
-same_ends x y s e = same_means x y (and_true _ _ (eq-eqb _ _ s) (eq-eqb _ _ e))
+same_ends x y s e = same_means x y (and_from _ _ (eq-eqb _ _ s) (eq-eqb _ _ e))
 
 -- members
 
 pub found : (p : Extent → Bool) (xs : List Extent) → list_any p xs ≡ true → (x : Extent) × Has xs x × (p x ≡ true)
 found p [] is = absurd (false≢true is)
 found p (x ∷ xs) is =
-    elim (either_true (p x) (list_any p xs) is) [
+    elim (or_cases (p x) (list_any p xs) is) [
       | inl here ↦ (x, inl refl, here)
       | inr more ↦ let rest = found p xs more in (rest.0, inr rest.1, rest.2)
     ]
 
 pub finds : (p : Extent → Bool) (xs : List Extent) (x : Extent) → Has xs x → p x ≡ true → list_any p xs ≡ true
 finds p [] x has is = absurd has
-finds p (y ∷ ys) x (inl here) is = left_true _ _ (subst (λ (z : Extent). p z ≡ true) (sym here) is)
-finds p (y ∷ ys) x (inr more) is = right_true _ _ (finds p ys x more is)
+finds p (y ∷ ys) x (inl here) is = or_left _ _ (subst (λ (z : Extent). p z ≡ true) (sym here) is)
+finds p (y ∷ ys) x (inr more) is = or_right _ _ (finds p ys x more is)
 
 pub all_has : (P : Extent → Type 0) (xs : List Extent) (x : Extent) → AllByRecursion P xs → Has xs x → P x
 all_has P [] x all has = absurd has

@@ -1,15 +1,14 @@
 -- The innermost spans of two ascending lists, by walking them side by side.
-use Rattle.std.proofs.Common.{◌≡◌, ℕ, ◌<◌, ◌≤◌, Bool, true, false, cond, List, [], ◌∷◌, refl, ap, ◌∙◌, subst, inl, inr, arith, ltb-true, ltb-false, leb-false}
+use Rattle.std.proofs.Common.{◌≡◌, ℕ, ◌<◌, ◌≤◌, Bool, true, false, cond, ◌⊎◌, List, [], ◌∷◌, refl, ap, ◌∙◌, subst, inl, inr, arith, ltb-true, ltb-false, leb-false}
 use Rattle.std.specs.Prelude.{nat_le, if◌then◌else◌}
 use Rattle.std.proofs.lemmas.Bool.{false≢true}
 use Rattle.std.proofs.lemmas.Bool.Decides.{nat_tests}
 use Rattle.wu_base.specs.declared.addresses.Extent.{Extent}
-use Rattle.wu_gcl.specs.Extents.{holds}
 use Rattle.wu_solve.specs.Listing.{IsBefore, IsAscending, Has}
 use Rattle.wu_solve.specs.Merging.{span, IsSpan, AreInnermost}
 use Rattle.wu_solve.specs.Fronts.{behind, first_ends_before}
-use Rattle.wu_solve.proofs.Sets.{Holds, holds_means, holds_from, all_has, all_from}
-use Rattle.wu_solve.proofs.Operators.{holds_through}
+use Rattle.wu_solve.proofs.Sets.{Holds, all_has}
+use Rattle.wu_solve.proofs.Candidates.{itself, taken, passed}
 use Rattle.wu_solve.proofs.Walking.{first_is_before}
 use Rattle.wu_solve.proofs.Skipping.{in_skipped, has_skipped, skipped_ascending, first_skipped}
 
@@ -25,15 +24,6 @@ spans (y ∷ ys) zs = span_before y ys (behind y.end zs) (spans ys (behind y.end
 abbrev Inner : List Extent → List Extent → List Extent → Type 0
 Inner ys zs xs = AreInnermost (IsSpan ys zs) xs
 
-abbrev Dense : List Extent → Extent → Type 0
-Dense xs x = (v : Extent) × Has xs v × (holds x v ≡ true)
-
-put : (x y : Extent) (xs : List Extent) → Dense xs x → Dense (y ∷ xs) x
-put x y xs d = (d.0, inr d.1, d.2)
-
-through : (x y : Extent) (xs : List Extent) → Holds x y → Dense xs y → Dense xs x
-through x y xs h d = (d.0, d.1, holds_from x d.0 (holds_through x y d.0 h (holds_means y d.0 d.2)))
-
 ends_from : (place : ℕ) (ys : List Extent) (x : Extent) → IsAscending ys → first_ends_before place ys ≡ false → Has ys x → place ≤ x.end
 ends_from place [] x up none has = absurd has
 ends_from place (y ∷ ys) x up none has =
@@ -46,58 +36,41 @@ first_of place [] some = absurd (false≢true some)
 first_of place (y ∷ ys) some = (y, inl refl, ltb-true y.end place some)
 
 skipped_span : (y z : Extent) (ys zs xs : List Extent) → IsAscending (y ∷ ys) → IsAscending (z ∷ zs) → first_ends_before z.start ys ≡ true → Inner ys (z ∷ zs) xs → Inner (y ∷ ys) (z ∷ zs) xs
-skipped_span y z ys zs xs yup zup some inner = record {
-  ascending = inner.ascending;
-  sound = λ x has. let c = inner.sound x has in (c.0, c.1, inr c.2, c.3, c.4, c.5);
-  dense = λ x c. dense_of x c.0 c.1 c.2 c.3 c.4 c.5;
-}
+skipped_span y z ys zs xs yup zup some inner =
+    passed (IsSpan (y ∷ ys) (z ∷ zs)) (IsSpan ys (z ∷ zs)) xs inner (λ x c. (c.0, c.1, inr c.2, c.3, c.4, c.5)) (λ x c. later x c.0 c.1 c.2 c.3 c.4 c.5)
   where
-    dense_of : (x v w : Extent) → Has (y ∷ ys) v → Has (z ∷ zs) w → v.end < w.start → span v w ≡ x → Dense xs x
-    dense_of x v w (inl here) hw apart is =
+    later : (x v w : Extent) → Has (y ∷ ys) v → Has (z ∷ zs) w → v.end < w.start → span v w ≡ x → (e : Extent) × IsSpan ys (z ∷ zs) e × Holds x e
+    later x v w (inl here) hw apart is =
         let f = first_of z.start ys some in
         let u = f.0 in
         let before = all_has (IsBefore y) ys u yup.0 f.1 in
-        let starts : y.start < u.start = before.starts in
         let b = first_is_before z w zs zup hw in
-        let high : z.end ≤ w.end = b.1 in
-        let h : Holds (span y w) (span u z) = record { start = omega arith; last = omega arith } in
-        let same : span y w ≡ x = ap (λ (e : Extent). span e w) here ∙ is in
-        through x (span u z) xs (subst (λ (e : Extent). Holds e (span u z)) same h) (inner.dense (span u z) (u, z, f.1, inl refl, f.2, refl))
-    dense_of x v w (inr more) hw apart is = inner.dense x (v, w, more, hw, apart, is)
+        let h : Holds (span y w) (span u z) = record { start = omega (arith, before.starts); last = b.1 } in
+        (span u z, (u, z, f.1, inl refl, f.2, refl), subst (λ (e : Extent). Holds e (span u z)) (ap (λ (e : Extent). span e w) here ∙ is) h)
+    later x v w (inr more) hw apart is = (x, (v, w, more, hw, apart, is), itself x)
 
 put_span : (y z : Extent) (ys zs xs : List Extent) → IsAscending (y ∷ ys) → IsAscending (z ∷ zs) → y.end < z.start → first_ends_before z.start ys ≡ false → Inner ys (z ∷ zs) xs → Inner (y ∷ ys) (z ∷ zs) (span y z ∷ xs)
-put_span y z ys zs xs yup zup low none inner = record {
-  ascending = (
-    all_from (IsBefore (span y z)) xs (λ x has.
-        let c = inner.sound x has in
-        let v = c.0 in let w = c.1 in
-        let before = all_has (IsBefore y) ys v yup.0 c.2 in
-        let starts : y.start < v.start = before.starts in
-        let late : z.start ≤ v.end = ends_from z.start ys v yup.1 none c.2 in
-        let apart : v.end < w.start = c.4 in
-        let ends : z.end < w.end = behind_first w (omega arith) c.3 in
-        subst (λ (e : Extent). IsBefore (span y z) e) c.5 (record { starts = omega arith; ends = omega arith })),
-    inner.ascending,
-  );
-  sound = λ x has. elim has [
-    | inl here ↦ (y, z, inl refl, inl refl, low, here)
-    | inr more ↦ let c = inner.sound x more in (c.0, c.1, inr c.2, c.3, c.4, c.5)
-  ];
-  dense = λ x c. dense_of x c.0 c.1 c.2 c.3 c.4 c.5;
-}
+put_span y z ys zs xs yup zup low none inner =
+    taken (IsSpan (y ∷ ys) (z ∷ zs)) (IsSpan ys (z ∷ zs)) xs inner (λ x c. (c.0, c.1, inr c.2, c.3, c.4, c.5)) (span y z) (y, z, inl refl, inl refl, low, refl) before (λ x c. cases x c.0 c.1 c.2 c.3 c.4 c.5)
   where
     behind_first : (w : Extent) → z.start < w.start → Has (z ∷ zs) w → z.end < w.end
     behind_first w later (inl here) = let same : z.start ≡ w.start = ap (λ (e : Extent). e.start) here in absurd (omega arith)
     behind_first w later (inr more) = (all_has (IsBefore z) zs w zup.0 more).ends
 
-    dense_of : (x v w : Extent) → Has (y ∷ ys) v → Has (z ∷ zs) w → v.end < w.start → span v w ≡ x → Dense (span y z ∷ xs) x
-    dense_of x v w (inl here) hw apart is =
+    before : (x : Extent) → IsSpan ys (z ∷ zs) x → IsBefore (span y z) x
+    before x c =
+        let v = c.0 in let w = c.1 in
+        let first = all_has (IsBefore y) ys v yup.0 c.2 in
+        let late : z.start ≤ v.end = ends_from z.start ys v yup.1 none c.2 in
+        let apart : v.end < w.start = c.4 in
+        subst (λ (e : Extent). IsBefore (span y z) e) c.5 (record { starts = first.starts; ends = behind_first w (omega arith) c.3 })
+
+    cases : (x v w : Extent) → Has (y ∷ ys) v → Has (z ∷ zs) w → v.end < w.start → span v w ≡ x → Holds x (span y z) ⊎ IsSpan ys (z ∷ zs) x
+    cases x v w (inl here) hw apart is =
         let b = first_is_before z w zs zup hw in
-        let high : z.end ≤ w.end = b.1 in
-        let h : Holds (span y w) (span y z) = record { start = omega arith; last = omega arith } in
-        let same : span y w ≡ x = ap (λ (e : Extent). span e w) here ∙ is in
-        (span y z, inl refl, subst (λ (e : Extent). holds e (span y z) ≡ true) same (holds_from (span y w) (span y z) h))
-    dense_of x v w (inr more) hw apart is = put x (span y z) xs (inner.dense x (v, w, more, hw, apart, is))
+        let h : Holds (span y w) (span y z) = record { start = omega arith; last = b.1 } in
+        inl (subst (λ (e : Extent). Holds e (span y z)) (ap (λ (e : Extent). span e w) here ∙ is) h)
+    cases x v w (inr more) hw apart is = inr (v, w, more, hw, apart, is)
 
 choose : (b : Bool) (y z : Extent) (ys zs xs : List Extent) → IsAscending (y ∷ ys) → IsAscending (z ∷ zs) → y.end < z.start → first_ends_before z.start ys ≡ b → Inner ys (z ∷ zs) xs → Inner (y ∷ ys) (z ∷ zs) (cond b xs (span y z ∷ xs))
 choose true y z ys zs xs yup zup low is inner = skipped_span y z ys zs xs yup zup is inner

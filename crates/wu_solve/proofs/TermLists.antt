@@ -1,5 +1,6 @@
 -- Looking for a term in lists that ascend by their terms.
 use Rattle.std.proofs.Common.{◌≡◌, ℕ, zero, suc, ◌<◌, Bool, true, false, ◌&&◌, ◌||◌, List, [], ◌∷◌, length, take, drop, get_or, map, refl, sym, ap, ◌∙◌, subst, arith, Ordering, Less, Equal, Greater, is_eq}
+use Rattle.std.proofs.Math.Bool.{or-false}
 use Rattle.std.specs.Prelude.{nat_eq}
 use Rattle.std.specs.List.{AllByRecursion}
 use Rattle.std.specs.List.Sorted.{IsStrictlySortedBy, IsStrictlyIncreasing}
@@ -65,10 +66,6 @@ before_greater (list ∷ lists) zero x term up within is greater a =
 before_greater (list ∷ lists) (suc i) x term up within is greater a =
     ap (λ (b : Bool). (pointwise nat_eq list.term term && is_among list.at a) || b) (before_greater lists i x term up.1 (omega arith) is greater a)
 
-or_false : (b : Bool) → (true && b || false) ≡ b
-or_false true = refl
-or_false false = refl
-
 pub at_term : (lists : List TermList) (i : ℕ) (x : TermList) (term : List ℕ) → IsSortedByTerm lists → i < length lists → x ≡ get_or lists i x → text_cmp x.term term ≡ Equal →
     (a : ℕ) → is_among x.at a ≡ has_address lists term a
 unfolding IsStrictlySortedBy
@@ -77,7 +74,7 @@ at_term (list ∷ lists) zero x term up within is equal a =
     let here : text_cmp list.term term ≡ Equal = subst (λ (l : TermList). text_cmp l.term term ≡ Equal) is equal in
     let same : pointwise nat_eq list.term term ≡ true = texts_ties list.term term ∙ ap is_eq here in
     let none : has_address lists term a ≡ false = none_after lists term a (after_through list.term term (terms lists) (λ other after. sym (nat_list_cmp_total.congr list.term term other here) ∙ after) up.0) in
-    ap (λ (l : TermList). is_among l.at a) is ∙ sym (rw (same, none) (or_false (is_among list.at a)))
+    ap (λ (l : TermList). is_among l.at a) is ∙ sym (rw (same, none) (or-false (is_among list.at a)))
 at_term (list ∷ lists) (suc i) x term up within is equal a =
     let before : text_cmp list.term x.term ≡ Less = subst (λ (l : TermList). text_cmp list.term l.term ≡ Less) (sym is) (all_at (λ other. text_cmp list.term other ≡ Less) lists i x (omega arith) up.0) in
     let after : text_cmp term list.term ≡ Greater = sym (nat_list_cmp_total.congr x.term term list.term equal) ∙ reversed list.term x.term Less before in

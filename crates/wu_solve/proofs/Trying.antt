@@ -1,5 +1,7 @@
 -- Trying every extent gives what the sets have.
 use Rattle.std.proofs.Common.{◌≡◌, ℕ, zero, suc, ◌+◌, ◌-◌, Bool, true, false, cond, not, ◌&&◌, List, [], ◌∷◌, ◌++◌, map, refl, sym, ap, ◌∙◌, subst, arith, add-one, append-nil}
+use Rattle.std.specs.Cmp.{both_ways}
+use Rattle.std.proofs.lemmas.Bool.{and_parts, and_from}
 use Rattle.std.specs.Prelude.{filter, nat_lt}
 use Rattle.std.specs.List.{list_any, flat_map, range_with_len}
 use Rattle.std.proofs.lemmas.Grind.{flat_map-append}
@@ -10,7 +12,7 @@ use Rattle.wu_gcl.specs.Regions.{Region, Both}
 use Rattle.wu_gcl.specs.Extents.{holds, same_extent, some_extent, extents_of, containing, contained_in, not_containing, not_contained_in, innermost, in_either, holds_both, holds_in_order, combined, is_in, hits}
 use Rattle.wu_solve.specs.Listing.{IsExtentIn, Lists}
 use Rattle.wu_solve.specs.Plain.{extent, is_listed, holds_pair, passes, holds_other, innermost_of, plainly}
-use Rattle.wu_solve.proofs.Sets.{alike, both_true, and_true, same_means, same_from, found, finds, from_filter, to_filter}
+use Rattle.wu_solve.proofs.Sets.{same_means, same_from, found, finds, from_filter, to_filter}
 use Rattle.wu_solve.proofs.Order.{extents_in, extents_have, listed, some_found, some_from}
 use Rattle.wu_solve.proofs.Operators.{some_listed}
 use Rattle.wu_solve.proofs.Results.{hits_listed, some_alike, filter_alike}
@@ -51,7 +53,7 @@ filter_filter p q [] = refl
 filter_filter p q (x ∷ xs) = filtered_by p q x xs (q x) (filter_filter p q xs)
 
 listed_is : (n : ℕ) (set : Extent → Bool) (xs : List Extent) (x : Extent) → Lists n set xs → IsExtentIn n x → is_listed xs x ≡ set x
-listed_is n set xs x lists is = alike _ _
+listed_is n set xs x lists is = both_ways _ _
     (λ in_list. let f = found (λ y. same_extent x y) xs in_list in subst (λ (e : Extent). set e ≡ true) (sym (same_means x f.0 f.2)) (lists.sound f.0 f.1).1)
     (λ in_set. finds (λ y. same_extent x y) xs x (lists.complete x is in_set) (same_from x x refl))
 
@@ -77,14 +79,14 @@ pair_is n left right ys zs x ly lz =
     (λ z in_z. and_swap (holds x z) (nat_lt y.end z.start) (right z))))
 
 other_is : (n : ℕ) (set : Extent → Bool) (x : Extent) → holds_other (filter set (extents_of n)) x ≡ some_extent n (λ y. holds x y && not (same_extent x y) && set y)
-other_is n set x = alike _ _
+other_is n set x = both_ways _ _
     (λ is.
     let f = found (λ y. holds x y && not (same_extent x y)) (filter set (extents_of n)) is in
     let k = from_filter set (extents_of n) f.0 f.1 in
-    some_from n (λ y. holds x y && not (same_extent x y) && set y) f.0 (extents_in n f.0 k.0) (and_true _ _ f.2 k.1))
+    some_from n (λ y. holds x y && not (same_extent x y) && set y) f.0 (extents_in n f.0 k.0) (and_from _ _ f.2 k.1))
     (λ is.
     let f = some_found n (λ y. holds x y && not (same_extent x y) && set y) is in
-    let b = both_true (holds x f.0 && not (same_extent x f.0)) (set f.0) f.2 in
+    let b = and_parts (holds x f.0 && not (same_extent x f.0)) (set f.0) f.2 in
     finds (λ y. holds x y && not (same_extent x y)) (filter set (extents_of n)) f.0 (to_filter set (extents_of n) f.0 (extents_have n f.0 f.1) b.1) b.0)
 
 abbrev SameIn : ℕ → (Extent → Bool) → (Extent → Bool) → Type 0

@@ -4,10 +4,10 @@ use Rattle.std.specs.Prelude.{nat_lt, if◌then◌else◌}
 use Rattle.std.proofs.lemmas.Bool.{false≢true}
 use Rattle.wu_base.specs.declared.addresses.Extent.{Extent}
 use Rattle.wu_gcl.specs.Extents.{holds}
-use Rattle.wu_solve.specs.Listing.{IsBefore, IsAscending, Has}
+use Rattle.wu_solve.specs.Listing.{IsBefore, IsAscending}
 use Rattle.wu_solve.specs.Merging.{IsOneOf, AreInnermost}
-use Rattle.wu_solve.proofs.Sets.{holds_means, holds_from, all_has, all_from}
-use Rattle.wu_solve.proofs.Operators.{holds_through}
+use Rattle.wu_solve.proofs.Sets.{Holds, holds_means, holds_from, all_has}
+use Rattle.wu_solve.proofs.Candidates.{itself, taken, passed}
 use Rattle.wu_solve.proofs.Walking.{first_is_before}
 
 -- the walk from an extent of the left list on; more walks those behind it
@@ -23,91 +23,54 @@ abbrev pub union : List Extent → List Extent → List Extent
 union [] zs = zs
 union (y ∷ ys) zs = union_from y ys (union ys) zs
 
-itself : (x : Extent) → holds x x ≡ true
-itself x = holds_from x x (record { start = omega arith; last = omega arith })
-
 abbrev Inner : List Extent → List Extent → List Extent → Type 0
 Inner ys zs xs = AreInnermost (IsOneOf ys zs) xs
 
-abbrev Dense : List Extent → Extent → Type 0
-Dense xs x = (v : Extent) × Has xs v × (holds x v ≡ true)
+turn : (ys zs : List Extent) (x : Extent) → IsOneOf ys zs x → IsOneOf zs ys x
+turn ys zs x (inl left) = inr left
+turn ys zs x (inr right) = inl right
 
-through : (x y : Extent) (xs : List Extent) → holds x y ≡ true → Dense xs y → Dense xs x
-through x y xs is d = (d.0, d.1, holds_from x d.0 (holds_through x y d.0 (holds_means x y is) (holds_means y d.0 d.2)))
+-- the extents of either list are the same with the lists in each other's place
+turned : (ys zs xs : List Extent) → Inner ys zs xs → Inner zs ys xs
+turned ys zs xs inner = passed (IsOneOf zs ys) (IsOneOf ys zs) xs inner (turn ys zs) (λ x c. (x, turn zs ys x c, itself x))
+
+-- what lies in the lists, without the first of the left one
+behind : (y : Extent) (ys zs : List Extent) (x : Extent) → IsOneOf ys zs x → IsOneOf (y ∷ ys) zs x
+behind y ys zs x (inl left) = inl (inr left)
+behind y ys zs x (inr right) = inr right
 
 none_left : (zs : List Extent) → IsAscending zs → Inner [] zs zs
-none_left zs up = record { ascending = up; sound = λ x has. inr has; dense = λ x is. elim is [ inl never ↦ absurd never | inr has ↦ (x, has, itself x) ] }
+none_left zs up = record { ascending = up; sound = λ x has. inr has; dense = λ x is. elim is [ inl never ↦ absurd never | inr has ↦ (x, has, holds_from x x (itself x)) ] }
 
 none_right : (ys : List Extent) → IsAscending ys → Inner ys [] ys
-none_right ys up = record { ascending = up; sound = λ x has. inl has; dense = λ x is. elim is [ inl has ↦ (x, has, itself x) | inr never ↦ absurd never ] }
+none_right ys up = turned [] ys ys (none_left ys up)
 
 -- an extent that holds one of the others is left out
 left_out : (y z : Extent) (ys zs xs : List Extent) → holds y z ≡ true → Inner ys (z ∷ zs) xs → Inner (y ∷ ys) (z ∷ zs) xs
-left_out y z ys zs xs is inner = record {
-  ascending = inner.ascending;
-  sound = λ x has. elim (inner.sound x has) [ inl l ↦ inl (inr l) | inr r ↦ inr r ];
-  dense = λ x candidate. elim candidate [
-    | inl left ↦ elim left [
-      | inl here ↦ subst (λ (e : Extent). Dense xs e) here (through y z xs is (inner.dense z (inr (inl refl))))
-      | inr more ↦ inner.dense x (inl more)
-    ]
-    | inr right ↦ inner.dense x (inr right)
-  ];
-}
+left_out y z ys zs xs is inner = passed (IsOneOf (y ∷ ys) (z ∷ zs)) (IsOneOf ys (z ∷ zs)) xs inner (behind y ys (z ∷ zs)) held
+  where
+    held : (x : Extent) → IsOneOf (y ∷ ys) (z ∷ zs) x → (e : Extent) × IsOneOf ys (z ∷ zs) e × Holds x e
+    held x (inl (inl here)) = (z, inr (inl refl), subst (λ (e : Extent). Holds e z) here (holds_means y z is))
+    held x (inl (inr more)) = (x, inl more, itself x)
+    held x (inr right) = (x, inr right, itself x)
 
 right_out : (y z : Extent) (ys zs xs : List Extent) → holds z y ≡ true → Inner (y ∷ ys) zs xs → Inner (y ∷ ys) (z ∷ zs) xs
-right_out y z ys zs xs is inner = record {
-  ascending = inner.ascending;
-  sound = λ x has. elim (inner.sound x has) [ inl l ↦ inl l | inr r ↦ inr (inr r) ];
-  dense = λ x candidate. elim candidate [
-    | inl left ↦ inner.dense x (inl left)
-    | inr right ↦ elim right [
-      | inl here ↦ subst (λ (e : Extent). Dense xs e) here (through z y xs is (inner.dense y (inl (inl refl))))
-      | inr more ↦ inner.dense x (inr more)
-    ]
-  ];
-}
-
-put : (x y : Extent) (xs : List Extent) → Dense xs x → Dense (y ∷ xs) x
-put x y xs d = (d.0, inr d.1, d.2)
+right_out y z ys zs xs is inner = turned (z ∷ zs) (y ∷ ys) xs (left_out z y zs ys xs is (turned (y ∷ ys) zs xs inner))
 
 left_put : (y z : Extent) (ys zs xs : List Extent) → IsAscending (y ∷ ys) → IsAscending (z ∷ zs) → IsBefore y z → Inner ys (z ∷ zs) xs → Inner (y ∷ ys) (z ∷ zs) (y ∷ xs)
-left_put y z ys zs xs yup zup before inner = record {
-  ascending = (
-    all_from (IsBefore y) xs (λ x has. elim (inner.sound x has) [
-      | inl l ↦ all_has (IsBefore y) ys x yup.0 l
-      | inr r ↦ let b = first_is_before z x zs zup r in record { starts = omega (arith, before.starts, b.0); ends = omega (arith, before.ends, b.1) }
-    ]),
-    inner.ascending,
-  );
-  sound = λ x has. elim has [ inl here ↦ inl (inl here) | inr more ↦ elim (inner.sound x more) [ inl l ↦ inl (inr l) | inr r ↦ inr r ] ];
-  dense = λ x candidate. elim candidate [
-    | inl left ↦ elim left [
-      | inl here ↦ (y, inl refl, subst (λ (e : Extent). holds e y ≡ true) here (itself y))
-      | inr more ↦ put x y xs (inner.dense x (inl more))
-    ]
-    | inr right ↦ put x y xs (inner.dense x (inr right))
-  ];
-}
+left_put y z ys zs xs yup zup before inner = taken (IsOneOf (y ∷ ys) (z ∷ zs)) (IsOneOf ys (z ∷ zs)) xs inner (behind y ys (z ∷ zs)) y (inl (inl refl)) later cases
+  where
+    later : (x : Extent) → IsOneOf ys (z ∷ zs) x → IsBefore y x
+    later x (inl left) = all_has (IsBefore y) ys x yup.0 left
+    later x (inr right) = let b = first_is_before z x zs zup right in record { starts = omega (arith, before.starts, b.0); ends = omega (arith, before.ends, b.1) }
+
+    cases : (x : Extent) → IsOneOf (y ∷ ys) (z ∷ zs) x → Holds x y ⊎ IsOneOf ys (z ∷ zs) x
+    cases x (inl (inl here)) = inl (subst (λ (e : Extent). Holds e y) here (itself y))
+    cases x (inl (inr more)) = inr (inl more)
+    cases x (inr right) = inr (inr right)
 
 right_put : (y z : Extent) (ys zs xs : List Extent) → IsAscending (y ∷ ys) → IsAscending (z ∷ zs) → IsBefore z y → Inner (y ∷ ys) zs xs → Inner (y ∷ ys) (z ∷ zs) (z ∷ xs)
-right_put y z ys zs xs yup zup before inner = record {
-  ascending = (
-    all_from (IsBefore z) xs (λ x has. elim (inner.sound x has) [
-      | inl l ↦ let b = first_is_before y x ys yup l in record { starts = omega (arith, before.starts, b.0); ends = omega (arith, before.ends, b.1) }
-      | inr r ↦ all_has (IsBefore z) zs x zup.0 r
-    ]),
-    inner.ascending,
-  );
-  sound = λ x has. elim has [ inl here ↦ inr (inl here) | inr more ↦ elim (inner.sound x more) [ inl l ↦ inl l | inr r ↦ inr (inr r) ] ];
-  dense = λ x candidate. elim candidate [
-    | inl left ↦ put x z xs (inner.dense x (inl left))
-    | inr right ↦ elim right [
-      | inl here ↦ (z, inl refl, subst (λ (e : Extent). holds e z ≡ true) here (itself z))
-      | inr more ↦ put x z xs (inner.dense x (inr more))
-    ]
-  ];
-}
+right_put y z ys zs xs yup zup before inner = turned (z ∷ zs) (y ∷ ys) (z ∷ xs) (left_put z y zs ys xs zup yup before (turned (y ∷ ys) zs xs inner))
 
 not_held : (y z : Extent) → holds y z ≡ false → y.start ≤ z.start → y.end < z.end
 not_held y z is starts = by_test (leb z.end y.end) refl

@@ -1,5 +1,6 @@
 -- Walking two ascending lists side by side keeps what a filter over all pairs keeps.
 use Rattle.std.proofs.Common.{◌≡◌, ◌<◌, ◌≤◌, Bool, true, false, List, [], ◌∷◌, refl, sym, ap, ◌∙◌, subst, inl, inr, arith, ltb, ltb-false, le-ltb, leb-true, le-leb}
+use Rattle.std.specs.Cmp.{both_ways}
 use Rattle.std.specs.Prelude.{nat_lt, if◌then◌else◌}
 use Rattle.std.specs.List.{list_any}
 use Rattle.std.proofs.lemmas.Bool.{false≢true}
@@ -8,7 +9,7 @@ use Rattle.wu_gcl.specs.Extents.{holds}
 use Rattle.wu_solve.specs.Listing.{IsBefore, IsAscending, Has}
 use Rattle.wu_solve.specs.Merging.{is_wanted, holding, held}
 use Rattle.wu_solve.specs.Fronts.{from_start, from_end, first_ends_by, first_starts_by}
-use Rattle.wu_solve.proofs.Sets.{alike, Holds, holds_means, holds_from, found, finds, all_has}
+use Rattle.wu_solve.proofs.Sets.{Holds, holds_means, holds_from, found, finds, all_has}
 use Rattle.wu_solve.proofs.Skipping.{in_skipped, has_skipped, skipped_ascending, first_skipped}
 
 -- what is kept of extents, where no other but those that are left counts for them
@@ -47,7 +48,7 @@ held_first x others (z ∷ zs) same is =
     (holds_from x z (record { start = ltb-false z.start x.start late; last = leb-true z.end x.end is }))
 
 holds_first : (x : Extent) (others : List Extent) → IsAscending others → first_ends_by x.end (from_start x.start others) ≡ list_any (λ y. holds x y) others
-holds_first x others up = alike _ _
+holds_first x others up = both_ways _ _
     (held_first x others (from_start x.start others) refl)
     (λ is.
     let f = found (λ y. holds x y) others is in
@@ -57,7 +58,7 @@ holds_first x others up = alike _ _
 
 -- a later extent holds none of those that are skipped
 holds_left : (x z : Extent) (others : List Extent) → x.start < z.start → list_any (λ y. holds z y) (from_start x.start others) ≡ list_any (λ y. holds z y) others
-holds_left x z others later = alike _ _
+holds_left x z others later = both_ways _ _
     (λ is. let f = found (λ y. holds z y) (from_start x.start others) is in finds (λ y. holds z y) others f.0 (in_skipped (λ y. nat_lt y.start x.start) others f.0 f.1) f.2)
     (λ is.
     let f = found (λ y. holds z y) others is in
@@ -92,7 +93,7 @@ by_first x others (z ∷ zs) same is =
     (holds_from z x (record { start = leb-true z.start x.start is; last = ltb-false z.end x.end late }))
 
 held_by_first : (x : Extent) (others : List Extent) → IsAscending others → first_starts_by x.start (from_end x.end others) ≡ list_any (λ y. holds y x) others
-held_by_first x others up = alike _ _
+held_by_first x others up = both_ways _ _
     (by_first x others (from_end x.end others) refl)
     (λ is.
     let f = found (λ y. holds y x) others is in
@@ -101,7 +102,7 @@ held_by_first x others up = alike _ _
     first_holds x f.0 (from_end x.end others) (skipped_ascending (λ y. nat_lt y.end x.end) others up) (has_skipped (λ y. nat_lt y.end x.end) others f.0 late f.1) h)
 
 held_left : (x z : Extent) (others : List Extent) → x.end < z.end → list_any (λ y. holds y z) (from_end x.end others) ≡ list_any (λ y. holds y z) others
-held_left x z others later = alike _ _
+held_left x z others later = both_ways _ _
     (λ is. let f = found (λ y. holds y z) (from_end x.end others) is in finds (λ y. holds y z) others f.0 (in_skipped (λ y. nat_lt y.end x.end) others f.0 f.1) f.2)
     (λ is.
     let f = found (λ y. holds y z) others is in

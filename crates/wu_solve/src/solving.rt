@@ -14,19 +14,7 @@ use crate::merging::{both_of, followed_by, one_of};
 use crate::operands::{phrase, windows};
 use std::alloc::Global;
 use wu_base::{Extent, NoMemory, Range, TermList};
-use wu_gcl::{Expr, Op, Tag};
-
-/// A tag as a term.
-fn tag_bytes(tag: Tag) -> &'static [u8]
-    ensures { result.now ≡ tag_text tag }
-{
-    match tag {
-        Tag::FileStart => b"<file>",
-        Tag::FileEnd => b"</file>",
-        Tag::LineStart => b"<line>",
-        Tag::LineEnd => b"</line>",
-    }
-}
+use wu_gcl::{Expr, Op, Tag, tag_bytes};
 
 /// What the operator makes of the extents of its operands.
 fn combine(

@@ -1,7 +1,7 @@
-use Rattle.std.proofs.Common.{◌≡◌, ◌∙◌, List, sym, rules}
+use Rattle.std.proofs.Common.{◌≡◌, ◌∙◌, rules}
 use Rattle.std.proofs.lemmas.Result.{IfOk-weaker}
 use Rattle.wu_gcl.specs.Regions.{region_of, Both}
-use Rattle.wu_gcl.specs.Extents.{extents_of, hits}
+use Rattle.wu_gcl.specs.Extents.{hits}
 use Rattle.wu_solve.specs.Addresses.{stands_by}
 use Rattle.wu_solve.specs.Plain.{plainly}
 use Rattle.wu_solve.proofs.Trying.{both_plainly, hits_are}

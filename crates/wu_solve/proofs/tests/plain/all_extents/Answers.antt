@@ -1,4 +1,4 @@
-use Rattle.std.proofs.Common.{◌≡◌, ◌-◌, ◌++◌, ◌∙◌, List, ℕ, map, sym, ap, arith}
+use Rattle.std.proofs.Common.{◌≡◌, ◌-◌, ◌++◌, ◌∙◌, List, map, sym, ap, arith}
 use Rattle.std.specs.List.{range_with_len}
 use Rattle.wu_base.specs.declared.addresses.Extent.{Extent}
 use Rattle.wu_solve.specs.Plain.{extent}
