@@ -7,4 +7,5 @@ pub mod Drops
 pub mod Perms
 pub mod Sound
 pub mod Ways
+pub mod Downs
 pub mod Renames

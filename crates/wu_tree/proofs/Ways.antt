@@ -10,14 +10,14 @@ use Rattle.wu_tree.specs.declared.events.Kind.{Kind}
 use Rattle.wu_tree.specs.declared.events.Kind.TheVariants.{Directory, File}
 use Rattle.wu_tree.specs.declared.events.Node.{Node}
 use Rattle.wu_tree.specs.FileSystems.{FileSystem, Link, place_cmp, is_name, is_directory, is_directory_node, is_kind_file, is_there, node_of, child_of, is_within, link_count, parent_of, ancestors, above, path_up, depth}
-use Rattle.wu_tree.specs.Paths.{through, steps_to, lies_too_deep}
+use Rattle.wu_tree.specs.Paths.{through, steps_to}
 use Rattle.wu_tree.specs.Steps.{is_too_deep}
 use Rattle.wu_tree.specs.Rules.{IsLink, Hangs, IsTree}
 use Rattle.wu_tree.proofs.Entries.{All-found, All-map, All-map2, All-insert_entry, All-remove_entry, ascend-insert_entry, ascend-remove_entry, counted-insert_entry, counted-remove_entry, all_found}
 use Rattle.wu_tree.proofs.Keeps.{place_total, place_exact, has_root, path_is, reached, hung_directory, absent_directory, none_counted, no_parent, parent_found, parent-insert_other, parent-insert_new, parent-remove_other}
 
 -- two climbs to the root are the same
-same_climb : (links : List Link) (m k q : ℕ) → has_root (ancestors links m q) ≡ true → has_root (ancestors links k q) ≡ true → ancestors links m q ≡ ancestors links k q
+pub same_climb : (links : List Link) (m k q : ℕ) → has_root (ancestors links m q) ≡ true → has_root (ancestors links k q) ≡ true → ancestors links m q ≡ ancestors links k q
 unfolding ancestors
 same_climb links zero k q a b = absurd cc
 same_climb links (suc m) zero q a b = absurd cc
@@ -33,7 +33,7 @@ same_climb links (suc m) (suc k) q a b =
     ] a b
 
 -- a climb that k steps are enough for
-stable : (links : List Link) (m k q : ℕ) → has_root (ancestors links m q) ≡ true → length (ancestors links m q) ≤ k → has_root (ancestors links k q) ≡ true
+pub stable : (links : List Link) (m k q : ℕ) → has_root (ancestors links m q) ≡ true → length (ancestors links m q) ≤ k → has_root (ancestors links k q) ≡ true
 unfolding ancestors
 stable links zero k q a b = absurd cc
 stable links (suc m) zero q a b = absurd (omega arith)
@@ -72,7 +72,7 @@ first_or true b h e = absurd cc
 first_or false b h e = h
 
 -- the step from a node to its parent
-step_up : (links : List Link) (c m q : ℕ) → (q == c) ≡ false → has_root (ancestors links (suc m) q) ≡ true → through c (ancestors links (suc m) q) ≡ true
+pub step_up : (links : List Link) (c m q : ℕ) → (q == c) ≡ false → has_root (ancestors links (suc m) q) ≡ true → through c (ancestors links (suc m) q) ≡ true
     → (p : ℕ) × (parent_of links q ≡ Some p) × (q ≢ 1) × (has_root (ancestors links m p) ≡ true) × (through c (ancestors links m p) ≡ true) × (ancestors links (suc m) q ≡ q ∷ ancestors links m p)
 unfolding ancestors
 step_up links c m q d a b =
@@ -87,7 +87,7 @@ step_up links c m q d a b =
           ] x (first_or (q == c) _ y d)
     ] refl a b
 
-no_climb : (links : List Link) (q : ℕ) → has_root (ancestors links zero q) ≡ true → ⊥
+pub no_climb : (links : List Link) (q : ℕ) → has_root (ancestors links zero q) ≡ true → ⊥
 unfolding ancestors
 no_climb links q h = cc
 
@@ -96,7 +96,7 @@ unfolding ancestors
 no_steps links c m q h = rw h refl
 
 -- how many steps a way up takes to c, and how many from there
-steps_and_rest : (links : List Link) (c m k q : ℕ) → has_root (ancestors links m q) ≡ true → through c (ancestors links m q) ≡ true → has_root (ancestors links k c) ≡ true
+pub steps_and_rest : (links : List Link) (c m k q : ℕ) → has_root (ancestors links m q) ≡ true → through c (ancestors links m q) ≡ true → has_root (ancestors links k c) ≡ true
     → steps_to c (ancestors links m q) + length (ancestors links k c) ≡ length (ancestors links m q)
 steps_and_rest links c zero k q a b r = absurd (no_climb links q a)
 steps_and_rest links c (suc m) k q a b r =
@@ -112,7 +112,7 @@ steps_and_rest links c (suc m) k q a b r =
           omega (arith, ap length u.5, steps_and_rest links c m k u.0 u.3 u.4 r)
     ] refl
 
-one_up : (links : List Link) (k q p : ℕ) → q ≢ 1 → parent_of links q ≡ Some p → has_root (ancestors links k p) ≡ true → has_root (ancestors links (suc k) q) ≡ true
+pub one_up : (links : List Link) (k q p : ℕ) → q ≢ 1 → parent_of links q ≡ Some p → has_root (ancestors links k p) ≡ true → has_root (ancestors links (suc k) q) ≡ true
 unfolding ancestors
 one_up links k q p h e r = rw (ne_eqb q 1 h, e) r
 
@@ -296,40 +296,8 @@ unfolding ancestors
 walk_stops links to zero d n p = refl
 walk_stops links to (suc m) d n p = rw (ne_eqb d to n, p) (elim (d == 1) as (λ b. through to (cond b [] (above (ancestors links m) None)) ≡ false) [ true ↦ refl | false ↦ refl ])
 
--- ---- the rule on depth, node by node
-same_any : {X : Type 0} (p q : X → Bool) (xs : List X) → AllByRecursion (λ x. p x ≡ q x) xs → list_any p xs ≡ list_any q xs
-same_any p q [] a = refl
-same_any p q (x ∷ xs) a = rw (a.0, same_any p q xs a.1) refl
-
-any_key : {X : Type 0} (f : ℕ → Bool) (es : List (ℕ × X)) → list_any f (map (λ e. e.0) es) ≡ list_any (λ e. f e.0) es
-any_key f [] = refl
-any_key f (e ∷ es) = ap (λ b. f e.0 || b) (any_key f es)
-
-same_bound : (a b : Bool) (m n : ℕ) → (a ≡ true → b ≡ true → m ≡ n) → (a && b && nat_lt 255 m) ≡ (a && b && nat_lt 255 n)
-same_bound true true m n h = ap (λ x. nat_lt 255 x) (h refl refl)
-same_bound true false m n h = refl
-same_bound false b m n h = refl
-
-pub deep_by_number : (fs : FileSystem) → IsTree fs → (c new_parent : ℕ) → is_directory fs c ≡ true
-    → list_any (lies_too_deep fs c (depth fs.links new_parent + 1)) (map (λ e. e.0) fs.nodes) ≡ is_too_deep fs c new_parent
-deep_by_number fs t c new_parent d =
-    any_key (lies_too_deep fs c (depth fs.links new_parent + 1)) fs.nodes
-    ∙ same_any (λ e. lies_too_deep fs c (depth fs.links new_parent + 1) e.0)
-    (λ e. not (is_kind_file e.1.kind) && is_within fs.links c e.0 && nat_lt 255 (depth fs.links new_parent + 1 + (depth fs.links e.0 - depth fs.links c))) fs.nodes
-    (All-map (λ e. node_of fs e.0 ≡ Some e.1)
-    (λ e. lies_too_deep fs c (depth fs.links new_parent + 1) e.0 ≡ (not (is_kind_file e.1.kind) && is_within fs.links c e.0 && nat_lt 255 (depth fs.links new_parent + 1 + (depth fs.links e.0 - depth fs.links c)))) fs.nodes
-    (λ e f.
-    ap (λ (b : Bool). b && through c (path_up fs.links e.0) && nat_lt 255 (depth fs.links new_parent + 1 + steps_to c (path_up fs.links e.0))) (ap is_directory_node f)
-    ∙ same_bound (not (is_kind_file e.1.kind)) (through c (path_up fs.links e.0)) (depth fs.links new_parent + 1 + steps_to c (path_up fs.links e.0)) (depth fs.links new_parent + 1 + (depth fs.links e.0 - depth fs.links c))
-    (λ k w.
-    let root : has_root (path_up fs.links e.0) ≡ true = reached fs t e.0 (ap is_directory_node f ∙ k) in
-    let sum = steps_and_rest fs.links c 255 255 e.0 (subst (λ (path : List ℕ). has_root path ≡ true) (path_is fs.links e.0) root) (subst (λ (path : List ℕ). through c path ≡ true) (path_is fs.links e.0) w) (subst (λ (path : List ℕ). has_root path ≡ true) (path_is fs.links c) (reached fs t c d)) in
-    let steps : steps_to c (path_up fs.links e.0) ≡ steps_to c (ancestors fs.links 255 e.0) = ap (steps_to c) (path_is fs.links e.0) in
-    omega (arith, sum, steps, ap length (path_is fs.links e.0), ap length (path_is fs.links c))))
-    (all_found fs.nodes t.nodes_ascend))
-
 -- a directory that comes to lie no deeper takes none below it too deep
-short : (links : List Link) (m q : ℕ) → length (ancestors links m q) ≤ m
+pub short : (links : List Link) (m q : ℕ) → length (ancestors links m q) ≤ m
 unfolding ancestors
 short links zero q = omega arith
 short links (suc m) q =

@@ -1,7 +1,7 @@
--- The way from a directory up to another.
-use Rattle.std.specs.Prelude.{ℕ, suc, ◌+◌, Bool, ◌&&◌, cond, ◌==◌, nat_lt, List, [], ◌∷◌}
+-- Ways between directories, upwards and downwards.
+use Rattle.std.specs.Prelude.{ℕ, zero, suc, Bool, true, ◌&&◌, cond, ◌==◌, List, [], ◌∷◌, map}
 use Rattle.std.specs.List.{list_any}
-use Rattle.wu_tree.specs.FileSystems.{FileSystem, is_directory, path_up}
+use Rattle.wu_tree.specs.FileSystems.{FileSystem, Link, is_directory, entries_of}
 
 -- whether a way up goes through a directory, and after how many steps
 abbrev pub through : ℕ → List ℕ → Bool
@@ -11,7 +11,11 @@ abbrev pub steps_to : ℕ → List ℕ → ℕ
 steps_to other [] = 0
 steps_to other (ino ∷ path) = cond (ino == other) 0 (suc (steps_to other path))
 
--- whether a node is a directory at or below the other that lies deeper than 255, where the other has that depth
-abbrev pub lies_too_deep : FileSystem → ℕ → ℕ → ℕ → Bool
-lies_too_deep fs other depth ino =
-    is_directory fs ino && through other (path_up fs.links ino) && nat_lt 255 (depth + steps_to other (path_up fs.links ino))
+-- what the names in a directory name
+abbrev pub children_of : List Link → ℕ → List ℕ
+children_of links directory = map (λ entry. entry.1) (entries_of links directory)
+
+-- whether some directory lies n levels below that one
+unfoldable pub reaches : FileSystem → ℕ → ℕ → Bool
+reaches fs zero directory = true
+reaches fs (suc n) directory = list_any (λ child. is_directory fs child && reaches fs n child) (children_of fs.links directory)

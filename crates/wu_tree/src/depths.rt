@@ -6,7 +6,7 @@ use wu_base::{DEPTH_MAX, Ino};
 
 impl Tree {
     ghost use Rattle.wu_tree.specs.FileSystems.{is_directory, is_within, path_up};
-    ghost use Rattle.wu_tree.specs.Paths.{through, steps_to, lies_too_deep};
+    ghost use Rattle.wu_tree.specs.Paths.{through, steps_to, reaches};
     ghost use Rattle.wu_tree.specs.Steps.{is_too_deep};
 
     /// Whether a directory is the other or lies below it.
@@ -18,43 +18,37 @@ impl Tree {
     }
 
     /// Whether some directory at or below `child` would lie deeper than 255, were `child` an entry of
-    /// `parent`. Where `child` comes to lie no deeper than before this is known at once; else each directory
-    /// of the tree is looked at.
+    /// `parent`. Where `child` comes to lie no deeper than before this is known at once; else the nodes below
+    /// `child` are looked at, each once.
     pub(crate) fn is_too_deep(&self, child: Ino, parent: Ino) -> bool
         requires child { is_directory self.now child ≡ true }
         requires parent { is_directory self.now parent ≡ true }
         ensures { result ≡ is_too_deep self.now child parent }
     {
-        if self.depth(parent) < self.depth(child) {
+        self.keeps_the_rules();
+        let depth = self.depth(parent);
+        if depth < self.depth(child) {
             return false;
         }
-        self.is_any_too_deep(child, parent)
+        self.reaches(child, DEPTH_MAX - depth)
     }
 
-    /// The same, by the way up of each directory.
-    fn is_any_too_deep(&self, child: Ino, parent: Ino) -> bool
-        requires child { is_directory self.now child ≡ true }
-        requires parent { is_directory self.now parent ≡ true }
-        ensures { result ≡ is_too_deep self.now child parent }
+    /// Whether some directory lies so many levels below that one. Looks at no node twice.
+    fn reaches(&self, directory: Ino, levels: usize) -> bool
+        ensures { result ≡ reaches self.now levels directory }
     {
-        let depth = self.depth(parent) + 1;
-        self.inodes
-            .keys()
-            .any(|ino| self.lies_too_deep(*ino, child, depth))
-    }
-
-    /// Whether a node is a directory at or below `child` that would lie deeper than 255, where `child` had
-    /// that depth.
-    fn lies_too_deep(&self, ino: Ino, child: Ino, depth: usize) -> bool
-        ensures { result ≡ lies_too_deep self.now child depth ino }
-    {
-        if !self.is_directory(ino) {
+        if levels == 0 {
+            return true;
+        }
+        let Some(names) = self.entries(directory) else {
             return false;
+        };
+        for child in names.values() {
+            if self.is_directory(*child) && self.reaches(*child, levels - 1) {
+                return true;
+            }
         }
-        match self.steps_up(ino, child) {
-            Some(steps) => steps > DEPTH_MAX || depth > DEPTH_MAX - steps,
-            None => false,
-        }
+        false
     }
 
     /// How many steps from parent to parent lead from a directory up to another, or None where the other

@@ -20,8 +20,12 @@ impl Tree {
 
     /// One event: its effect where it is accepted, or why it is refused, by the first rule of its list that
     /// applies. A refused event changes nothing, and neither does one for which there is no memory. Mkdir
-    /// and Create carry no number 0, and a mode has at most four octal digits. The time is logarithmic in
-    /// the tree, beside what the depth of a new directory and the event's own bytes take.
+    /// and Create carry no number 0, and a mode has at most four octal digits.
+    ///
+    /// The time grows with the event's own bytes and with the number of look-ups by number or name, each of
+    /// which is logarithmic in the tree. There are a few, and more at two events: Mkdir, and Rename of a
+    /// directory, go from a directory up to the root, in at most 255 steps; and where Rename takes a
+    /// directory deeper down, it looks at the nodes below that directory, each once.
     pub fn apply(&mut self, event: &Event) -> Result<Result<Effect, Refusal>, NoMemory>
         requires { IsEvent event.now }
         ensures step { IfOk result (λ answer. IsStep self.old event.now answer self.new) }
