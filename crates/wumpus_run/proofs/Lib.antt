@@ -3,4 +3,5 @@ pub mod ScanLemmas
 pub mod CountLemmas
 pub mod ReplyLemmas
 pub mod SessionLemmas
+pub mod EndLemmas
 pub mod StateLemmas

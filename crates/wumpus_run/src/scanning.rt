@@ -27,7 +27,7 @@ pub struct Scan {
 
 /// Cuts the texts of the view into tokens, and notes where the terms stand. The answer is want of
 /// memory also where the texts have more than 2^47 tokens.
-pub fn scan(
+pub fn scan_texts(
     alloc: Global,
     texts: &BTreeMap<Ino, Bytes>,
     view: &[Seen],

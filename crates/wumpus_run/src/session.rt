@@ -71,11 +71,13 @@ fn answer_script<I: Source, O: Sink>(
     ensures write_fault { result ≡ Status.WriteFault → Rose (O.faults sink.old) (O.faults sink.new) }
     ensures ends { Ends result settings (I.left source.old) (I.left source.new) (O.gained sink.old) (O.gained sink.new) }
 {
-    let (Ok(mut reader), Ok(mut machine)) = (
-        Reader::new(alloc, settings.max_input),
-        Machine::new(alloc),
-    ) else {
-        return Status::NoMemory;
+    let mut reader = match Reader::new(alloc, settings.max_input) {
+        Ok(reader) => reader,
+        Err(NoMemory) => return Status::NoMemory,
+    };
+    let mut machine = match Machine::new(alloc) {
+        Ok(machine) => machine,
+        Err(NoMemory) => return Status::NoMemory,
     };
     let mut reply = Vec::new(alloc);
     'items: loop {
