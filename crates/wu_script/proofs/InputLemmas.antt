@@ -2,7 +2,7 @@
 use Rattle.std.proofs.Common.{◌≡◌, ℕ, zero, suc, ◌+◌, ◌-◌, ◌≤◌, List, [], ◌∷◌, ◌++◌, length, take, drop, slice_range, Option, refl, sym, ap, ◌∙◌, append_assoc, append-nil, length-append, subst, arith}
 use Rattle.std.proofs.lemmas.List.{drop-take, drop-drop, length-take, take-append-drop}
 use Rattle.std.proofs.KnownBytes.{Consumes-trans, Consumes-nil}
-use Rattle.wu_script.specs.Holding.{Held, Uses, GivesTooMuch}
+use Rattle.wu_script.specs.Holding.{Held, Uses}
 
 front : (g r : List ℕ) (len count : ℕ) → count ≤ length g → length g ≤ len → take count (take len (g ++ r)) ≡ take count g
 front g r len zero within fits = refl
@@ -41,14 +41,6 @@ Uses-trans left mid left' old between new used more first second = record {
 -- bytes are used that are held
 pub Uses-front : (left : Option (List ℕ)) (old new : Held) (used : List ℕ) → old.bytes ≡ used ++ new.bytes → new.spare ≡ old.spare → new.ended ≡ old.ended → Uses left left old new used
 Uses-front left old new used front spare ended = record { given = []; consumed = Consumes-nil left; joined = append-nil old.bytes ∙ front; counted = omega (arith, spare); over = λ before. (refl, ended ∙ before); at_end = λ before now. before (sym ended ∙ now) }
-
--- too much was given, after some uses
-pub GivesTooMuch-after : (left mid left' : Option (List ℕ)) (old between : Held) (used : List ℕ) → Uses left mid old between used → GivesTooMuch mid left' between → GivesTooMuch left left' old
-GivesTooMuch-after left mid left' old between used first too = record {
-  given = first.given ++ too.given;
-  consumed = Consumes-trans left mid left' first.given too.given first.consumed too.consumed;
-  counted = omega (arith, length-append first.given too.given, first.counted, too.counted);
-}
 
 -- some uses, and then a filling
 pub Uses-filled : (left mid left' : Option (List ℕ)) (old between filled : Held) (used : List ℕ) → Uses left mid old between used → Uses mid left' between filled [] → Uses left left' old filled used

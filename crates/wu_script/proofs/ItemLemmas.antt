@@ -92,7 +92,7 @@ line_some : (text : List ℕ) (closed : Bool) → (closed ≡ false → 0 < leng
 line_some text true some = omega (arith, length-append text (10 ∷ []))
 line_some text false some = omega (arith, length-append text [], some refl)
 
-first_of-line : (text : List ℕ) (closed : Bool) → IsOneLine text → first_of (text ++ closing closed) ≡ entry_at (meaning_of text) [] closed
+pub first_of-line : (text : List ℕ) (closed : Bool) → IsOneLine text → first_of (text ++ closing closed) ≡ entry_at (meaning_of text) [] closed
 unfolding first_of
 first_of-line text closed one =
     let parts = line_used text closed one in
@@ -122,7 +122,7 @@ one_item new items.End used is = absurd (no_end (first_of used).entry is.entry)
     no_end (Texted ino body) is = is
 
 -- a line with another item after it
-first_of-closed : (text rest : List ℕ) → IsOneLine text → first_of (text ++ 10 ∷ [] ++ rest) ≡ entry_at (meaning_of text) rest true
+pub first_of-closed : (text rest : List ℕ) → IsOneLine text → first_of (text ++ 10 ∷ [] ++ rest) ≡ entry_at (meaning_of text) rest true
 unfolding first_of
 first_of-closed text rest one =
     let parts = line_at-closed text rest one in
@@ -136,7 +136,7 @@ text_at-whole ino len body tail closed size one =
     rw (enough, ← size, take-append_seam body (tail ++ closing closed), drop-append_seam body (tail ++ closing closed), parts.0, parts.1, parts.2) refl
 
 -- and of one that was not
-text_at-short : (ino len : ℕ) (body : List ℕ) → length body < len → text_at ino len body ≡ record { entry = Spoken (IsRefused Truncated); rest = []; closed = false }
+pub text_at-short : (ino len : ℕ) (body : List ℕ) → length body < len → text_at ino len body ≡ record { entry = Spoken (IsRefused Truncated); rest = []; closed = false }
 text_at-short ino len body short = rw (lt-ltb (length body) len short) refl
 
 -- what a text that was given whole is read as
@@ -178,7 +178,7 @@ long_item new text closed one last long =
 pub shown : (read line : Line) (slice text : List ℕ) → Shows read (meaning_of slice) → read ≡ line → slice ≡ text → Shows line (meaning_of text)
 shown read line slice text shows is same = subst (λ l. Shows l (meaning_of text)) is (subst (λ t. Shows read (meaning_of t)) same shows)
 
-head_meaning : (ino len : ℕ) (meaning : Meaning) → IsTextHead ino len meaning → meaning ≡ GivesText ino len
+pub head_meaning : (ino len : ℕ) (meaning : Meaning) → IsTextHead ino len meaning → meaning ≡ GivesText ino len
 head_meaning ino len (GivesText i n) is = ap (λ x. GivesText x n) (sym is.0) ∙ ap (λ x. GivesText ino x) (sym is.1)
 head_meaning ino len (Happens event) is = absurd is
 head_meaning ino len (Counts uid text) is = absurd is
@@ -186,7 +186,7 @@ head_meaning ino len (ListsPaths uid) is = absurd is
 head_meaning ino len (IsRefused why) is = absurd is
 head_meaning ino len IsBlank is = absurd is
 
-headed : (text used : List ℕ) (closed : Bool) (ino len : ℕ) → IsOneLine text → meaning_of text ≡ GivesText ino len → (closed ≡ false → used ≡ []) → first_of (text ++ closing closed ++ used) ≡ text_at ino len used
+pub headed : (text used : List ℕ) (closed : Bool) (ino len : ℕ) → IsOneLine text → meaning_of text ≡ GivesText ino len → (closed ≡ false → used ≡ []) → first_of (text ++ closing closed ++ used) ≡ text_at ino len used
 headed text used true ino len one is none = first_of-closed text used one ∙ ap (λ m. entry_at m used true) is
 headed text used false ino len one is none =
     let empty = none refl in

@@ -3,4 +3,6 @@ pub mod ItemLemmas
 pub mod LineLemmas
 pub mod ListLemmas
 pub mod NumberLemmas
+pub mod OpenLemmas
+pub mod StopLemmas
 pub mod TurnLemmas

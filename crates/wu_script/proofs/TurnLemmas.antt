@@ -1,6 +1,6 @@
 -- The items of a script in turn.
-use Rattle.std.proofs.Common.{◌≡◌, ℕ, zero, suc, ◌<◌, ◌≤◌, Bool, true, false, eqb, List, [], ◌∷◌, ◌++◌, length, drop, Option, Some, None, refl, ap, sym, ◌∙◌, subst, append_assoc, append-nil, length-append, ◌⊎◌, inl, inr, arith}
-use Rattle.std.specs.Prelude.{nat_lt}
+use Rattle.std.proofs.Common.{◌≡◌, ℕ, zero, suc, ◌<◌, ◌≤◌, Bool, true, false, eqb, List, [], ◌∷◌, ◌++◌, length, drop, Option, Some, None, refl, ap, sym, ◌∙◌, subst, append_assoc, append-nil, length-append, arith}
+use Rattle.std.specs.Prelude.{nat_lt, if◌then◌else◌}
 use Rattle.std.specs.Io.KnownBytes.{IsAtEnd, prepend_known}
 use Rattle.std.proofs.lemmas.Bool.{lt-ltb, le-ltb, ltb-false}
 use Rattle.std.proofs.lemmas.List.{take-append-le, length-drop}
@@ -8,14 +8,10 @@ use Rattle.wu_script.specs.declared.types.Item.{Item}
 use Rattle.wu_script.specs.declared.types.Item.TheVariants as items
 use Rattle.wu_script.specs.Holding.{Held}
 use Rattle.wu_script.specs.Commands.{Meaning, Happens, Counts, ListsPaths, GivesText, IsRefused, IsBlank, meaning_of}
-use Rattle.wu_script.specs.Items.{First, line_at, after_line, has_feed, text_at, entry_at, first_of, items_within, items_of, IsEntry, IsOneItem, IsItem, TakesItem, IsFirstItem, IsNext}
-
-cases : (b : Bool) → (b ≡ true) ⊎ (b ≡ false)
-cases true = inl refl
-cases false = inr refl
+use Rattle.wu_script.specs.Items.{First, line_at, after_line, has_feed, text_at, entry_at, Entry, first_of, items_within, items_of, whole_within, whole_items_of, IsEntry, IsOneItem, IsItem, TakesItem, IsFirstItem, IsNext}
 
 -- a line that is closed stays, whatever follows
-line_more : (bytes more : List ℕ) → has_feed bytes ≡ true → (line_at (bytes ++ more) ≡ line_at bytes) × (after_line (bytes ++ more) ≡ after_line bytes ++ more) × (has_feed (bytes ++ more) ≡ true)
+pub line_more : (bytes more : List ℕ) → has_feed bytes ≡ true → (line_at (bytes ++ more) ≡ line_at bytes) × (after_line (bytes ++ more) ≡ after_line bytes ++ more) × (has_feed (bytes ++ more) ≡ true)
 line_more [] more feed = cc (feed)
 line_more (byte ∷ bytes) more feed = by_case (eqb byte 10) refl (λ below. line_more bytes more below)
   where
@@ -34,7 +30,7 @@ drop-append-le (suc n) (x ∷ xs) ys within = drop-append-le n xs ys (omega arit
 abbrev more_after : First → List ℕ → First
 more_after first more = record { entry = first.entry; rest = first.rest ++ more; closed = true }
 
-text_more : (ino len : ℕ) (rest more : List ℕ) → (text_at ino len rest).closed ≡ true → text_at ino len (rest ++ more) ≡ more_after (text_at ino len rest) more
+pub text_more : (ino len : ℕ) (rest more : List ℕ) → (text_at ino len rest).closed ≡ true → text_at ino len (rest ++ more) ≡ more_after (text_at ino len rest) more
 text_more ino len rest more closed = by_case (nat_lt (length rest) len) refl
   where
     by_case : (short : Bool) → nat_lt (length rest) len ≡ short → text_at ino len (rest ++ more) ≡ more_after (text_at ino len rest) more
@@ -45,7 +41,7 @@ text_more ino len rest more closed = by_case (nat_lt (length rest) len) refl
         let line = line_more (drop len rest) more (rw is at closed) in
         rw (enough, is, take-append-le len rest more within, drop-append-le len rest more within, line.0, line.1, line.2) refl
 
-text_at-nothing : (ino len : ℕ) → (text_at ino len []).closed ≡ false
+pub text_at-nothing : (ino len : ℕ) → (text_at ino len []).closed ≡ false
 text_at-nothing ino zero = refl
 text_at-nothing ino (suc len) = rw (lt-ltb 0 (suc len) (omega arith)) refl
 
@@ -57,7 +53,7 @@ entry_more (ListsPaths uid) rest more closed = refl
 entry_more (IsRefused why) rest more closed = refl
 entry_more IsBlank rest more closed = refl
 
-after_last : (bytes : List ℕ) → has_feed bytes ≡ false → after_line bytes ≡ []
+pub after_last : (bytes : List ℕ) → has_feed bytes ≡ false → after_line bytes ≡ []
 after_last [] none = refl
 after_last (byte ∷ bytes) none = by_case (eqb byte 10) refl (λ below. after_last bytes below)
   where
@@ -65,7 +61,7 @@ after_last (byte ∷ bytes) none = by_case (eqb byte 10) refl (λ below. after_l
     by_case true is below = cc (rw is at none)
     by_case false is below = rw is (below (rw is at none))
 
-entry_unclosed : (meaning : Meaning) → (entry_at meaning [] false).closed ≡ false
+pub entry_unclosed : (meaning : Meaning) → (entry_at meaning [] false).closed ≡ false
 entry_unclosed (GivesText ino len) = text_at-nothing ino len
 entry_unclosed (Happens event) = refl
 entry_unclosed (Counts uid text) = refl
@@ -187,3 +183,48 @@ pub items_of-some : (bytes : List ℕ) → 0 < length bytes → items_of bytes �
 unfolding items_of
 items_of-some [] some = absurd (omega arith)
 items_of-some (byte ∷ bytes) some = ap (λ entries. (first_of (byte ∷ bytes)).entry ∷ entries) (items_enough (length bytes) (length (first_of (byte ∷ bytes)).rest) (first_of (byte ∷ bytes)).rest (first_short byte bytes) (omega arith))
+
+-- ---- the whole items
+
+whole_enough : (n m : ℕ) (bytes : List ℕ) → length bytes ≤ n → length bytes ≤ m → whole_within n bytes ≡ whole_within m bytes
+whole_enough zero zero bytes less few = refl
+whole_enough zero (suc m) [] less few = refl
+whole_enough zero (suc m) (byte ∷ bytes) less few = absurd (omega arith)
+whole_enough (suc n) zero [] less few = refl
+whole_enough (suc n) zero (byte ∷ bytes) less few = absurd (omega arith)
+whole_enough (suc n) (suc m) [] less few = refl
+whole_enough (suc n) (suc m) (byte ∷ bytes) less few = ap (λ entries. if (first_of (byte ∷ bytes)).closed then (first_of (byte ∷ bytes)).entry ∷ entries else []) (whole_enough n m (first_of (byte ∷ bytes)).rest (omega (arith, first_short byte bytes)) (omega (arith, first_short byte bytes)))
+
+nothing_closed : (first_of []).closed ≡ false
+unfolding first_of
+nothing_closed = entry_unclosed (meaning_of [])
+
+-- of no bytes there is no whole item
+pub whole_items_of-none : whole_items_of [] ≡ []
+unfolding whole_items_of
+whole_items_of-none = refl
+
+-- the whole items are the first and those of the rest
+pub whole_items_of-closed : (bytes : List ℕ) → (first_of bytes).closed ≡ true → whole_items_of bytes ≡ (first_of bytes).entry ∷ whole_items_of (first_of bytes).rest
+unfolding whole_items_of
+whole_items_of-closed [] closed = cc (nothing_closed, closed)
+whole_items_of-closed (byte ∷ bytes) closed = rw closed (ap (λ entries. (first_of (byte ∷ bytes)).entry ∷ entries) (whole_enough (length bytes) (length (first_of (byte ∷ bytes)).rest) (first_of (byte ∷ bytes)).rest (first_short byte bytes) (omega arith)))
+
+front_within : (n : ℕ) (bytes more : List ℕ) → length bytes ≤ n → (rest : List Entry) × (items_of (bytes ++ more) ≡ whole_within n bytes ++ rest)
+front_within zero [] more within = (items_of more, refl)
+front_within zero (byte ∷ bytes) more within = absurd (omega arith)
+front_within (suc n) [] more within = (items_of more, refl)
+front_within (suc n) (byte ∷ bytes) more within = by_case (first_of (byte ∷ bytes)).closed refl (front_within n (first_of (byte ∷ bytes)).rest more (omega (arith, first_short byte bytes)))
+  where
+    by_case : (closed : Bool) → (first_of (byte ∷ bytes)).closed ≡ closed → (rest : List Entry) × (items_of ((first_of (byte ∷ bytes)).rest ++ more) ≡ whole_within n (first_of (byte ∷ bytes)).rest ++ rest) → (rest : List Entry) × (items_of (byte ∷ bytes ++ more) ≡ (if (first_of (byte ∷ bytes)).closed then (first_of (byte ∷ bytes)).entry ∷ whole_within n (first_of (byte ∷ bytes)).rest else []) ++ rest)
+    by_case true is below =
+        let first = first_more (byte ∷ bytes) more is in (
+          below.0,
+          items_of-some (byte ∷ bytes ++ more) (omega arith) ∙ ap (λ (f : First). f.entry ∷ items_of f.rest) first ∙ ap (λ entries. (first_of (byte ∷ bytes)).entry ∷ entries) below.1 ∙ rw is refl,
+        )
+    by_case false is below = (items_of (byte ∷ bytes ++ more), rw is refl)
+
+-- the whole items are a front of the items, whatever follows
+pub whole_items_front : (bytes more : List ℕ) → (rest : List Entry) × (items_of (bytes ++ more) ≡ whole_items_of bytes ++ rest)
+unfolding whole_items_of
+whole_items_front bytes more = front_within (length bytes) bytes more (omega arith)

@@ -5,7 +5,8 @@ use Rattle.wu_script.specs.declared.types.Why.TheVariants.{Truncated, TooLong, B
 use Rattle.wu_script.specs.declared.types.Item.{Item}
 use Rattle.wu_script.specs.declared.types.Item.TheVariants as items
 use Rattle.wu_script.specs.Commands.{Meaning, Happens, Counts, ListsPaths, GivesText, IsRefused, IsBlank, meaning_of, IsCommand, IsRefusal, IsBlankLine, IsSoundCommand}
-use Rattle.wu_script.specs.Holding.{Held, Uses}
+use Rattle.wu_script.specs.declared.ends.ReadEnd.{ReadEnd}
+use Rattle.wu_script.specs.Holding.{Held, Uses, Stops}
 
 -- an item: what a line says, or a text, with its body, for a file
 pub data Entry : Type 0 where
@@ -133,3 +134,13 @@ IsSoundItem (items.Text ino body) = (1 ≤ ino) × (length body ≤ 16777216)
 IsSoundItem (items.Refused why) = Unit {0}
 IsSoundItem items.Blank = Unit {0}
 IsSoundItem items.End = Unit {0}
+
+-- ---- where no item was made
+
+-- no item is whole in the bytes
+abbrev pub HasNoWholeItem : List ℕ → Type 0
+HasNoWholeItem bytes = whole_items_of bytes ≡ []
+
+-- reading stopped before an item was whole; the first two arguments are what the source had left and has left
+abbrev pub StopsBeforeItem : Option (List ℕ) → Option (List ℕ) → Held → ReadEnd → Type 0
+StopsBeforeItem left left' old end = Stops HasNoWholeItem left left' old end

@@ -1,9 +1,9 @@
 //! Bodies, as they are taken from a source in whatever pieces it gives them.
-ghost use Rattle.std.specs.Prelude.{◌≡◌, ◌++◌, ◌≤◌, ◌<◌, List, ℕ, true, length, min, take, drop, Err, OnOk, IfOk};
+ghost use Rattle.std.specs.Prelude.{◌≡◌, ◌++◌, ◌≤◌, ◌<◌, List, ℕ, true, length, min, take, drop, Err, IfErr, IfOk};
 ghost use Rattle.wu_outside.specs.Faults.{Rose};
-ghost use Rattle.wu_script.specs.Holding.{Held, Uses, GivesTooMuch};
+ghost use Rattle.wu_script.specs.Holding.{Held, Uses, Stops};
 ghost use Rattle.wu_script.specs.Taking.{TakesBytes};
-ghost use Rattle.wu_script.specs.declared.ends.ReadEnd.TheVariants.{ReadFault, InputTooLong};
+ghost use Rattle.wu_script.specs.declared.ends.ReadEnd.TheVariants.{ReadFault};
 
 use crate::ends::ReadEnd;
 use crate::input::Input;
@@ -23,7 +23,7 @@ pub fn take_bytes<I: Source>(
         × TakesBytes (I.left source.old) (I.left source.new) input.old input.new count all bytes
         × (kept ≡ true → body.new.items ≡ body.old.items ++ bytes)) }
     ensures still { count ≤ length input.old.bytes → source.new ≡ source.old }
-    ensures long { result ≡ Err InputTooLong → GivesTooMuch (I.left source.old) (I.left source.new) input.old }
+    ensures stops { IfErr result (Stops (λ bytes. length bytes < count) (I.left source.old) (I.left source.new) input.old) }
     ensures fault { result ≡ Err ReadFault → Rose (I.faults source.old) (I.faults source.new) }
     ensures steady { I.faults source.old ≤ I.faults source.new }
 {

@@ -1,9 +1,9 @@
 //! What a source gave and no item has used yet.
-ghost use Rattle.std.specs.Prelude.{◌≡◌, ◌≤◌, ◌<◌, [], false, true, length, Ok, Err, OnOk, IfOk, MatchResult, take, drop, slice_range, vec_len};
+ghost use Rattle.std.specs.Prelude.{◌≡◌, ◌≤◌, ◌<◌, [], false, true, length, Ok, Err, OnOk, IfErr, IfOk, MatchResult, take, drop, slice_range, vec_len};
 ghost use Rattle.std.specs.Io.KnownBytes.{Consumes, Keeps, IsAtEnd};
 ghost use Rattle.wu_outside.specs.Faults.{Rose, HasCause};
-ghost use Rattle.wu_script.specs.Holding.{Held, Uses, GivesTooMuch};
-ghost use Rattle.wu_script.specs.declared.ends.ReadEnd.TheVariants.{ReadFault, InputTooLong};
+ghost use Rattle.wu_script.specs.Holding.{Held, Uses, Stops};
+ghost use Rattle.wu_script.specs.declared.ends.ReadEnd.TheVariants.{ReadFault};
 
 use crate::ends::ReadEnd;
 use std::alloc::Global;
@@ -64,9 +64,10 @@ impl Input {
     pub fn fill<I: Source>(&mut self, source: &mut I) -> Result<bool, ReadEnd>
         ensures given { OnOk result (Uses (I.left source.old) (I.left source.new) self.old self.new []) }
         ensures some { result ≡ Ok true → 0 < length self.new.bytes }
+        ensures few { OnOk result (length self.new.bytes ≤ 65536) }
         ensures none { result ≡ Ok false → (self.new.bytes ≡ []) × (self.new.ended ≡ true) }
         ensures still { 0 < length self.old.bytes → (result ≡ Ok true) × (self.new ≡ self.old) × (source.new ≡ source.old) }
-        ensures long { result ≡ Err InputTooLong → GivesTooMuch (I.left source.old) (I.left source.new) self.old }
+        ensures stops { IfErr result (Stops (λ bytes. bytes ≡ []) (I.left source.old) (I.left source.new) self.old) }
         ensures fault { result ≡ Err ReadFault → Rose (I.faults source.old) (I.faults source.new) }
         ensures kept { I.faults source.old ≤ I.faults source.new }
     {
@@ -90,7 +91,7 @@ impl Input {
         ensures given { OnOk result (Uses (I.left source.old) (I.left source.new) self.old self.new []) }
         ensures progress { OnOk result (self.new.ended ≡ false → 0 < length self.new.bytes) }
         ensures over { OnOk result (self.new.ended ≡ true → self.new.bytes ≡ []) }
-        ensures long { result ≡ Err InputTooLong → GivesTooMuch (I.left source.old) (I.left source.new) self.old }
+        ensures stops { IfErr result (Stops (λ bytes. bytes ≡ []) (I.left source.old) (I.left source.new) self.old) }
         ensures fault { result ≡ Err ReadFault → Rose (I.faults source.old) (I.faults source.new) }
         ensures kept { I.faults source.old ≤ I.faults source.new }
     {

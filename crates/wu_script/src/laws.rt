@@ -1,6 +1,6 @@
 //! Laws of the items of a script.
-ghost use Rattle.std.specs.Prelude.{◌≡◌, ◌<◌, ◌++◌, ◌∷◌, List, ℕ, [], true, length};
-ghost use Rattle.wu_script.specs.Items.{first_of, items_of};
+ghost use Rattle.std.specs.Prelude.{◌≡◌, ◌<◌, ◌++◌, ◌∷◌, List, ℕ, [], false, true, length};
+ghost use Rattle.wu_script.specs.Items.{Entry, first_of, items_of, whole_items_of};
 
 /// No bytes have no item; the items of others are the first, and those of what is after it.
 pub fn items_are_the_first_and_the_rest()
@@ -12,4 +12,18 @@ pub fn items_are_the_first_and_the_rest()
 pub fn a_closed_item_stays()
     ensures { (bytes more : List ℕ) → (first_of bytes).closed ≡ true
         → first_of (bytes ++ more) ≡ record { entry = (first_of bytes).entry; rest = (first_of bytes).rest ++ more; closed = true } }
+{}
+
+/// Of an input that may go on: no bytes have no whole item, nor have bytes whose first item isn't
+/// closed; the whole items of others are the first, and those of what is after it.
+pub fn whole_items_are_the_first_and_the_rest()
+    ensures none { whole_items_of [] ≡ [] }
+    ensures unclosed { (bytes : List ℕ) → (first_of bytes).closed ≡ false → whole_items_of bytes ≡ [] }
+    ensures closed { (bytes : List ℕ) → (first_of bytes).closed ≡ true → whole_items_of bytes ≡ (first_of bytes).entry ∷ whole_items_of (first_of bytes).rest }
+{}
+
+/// The whole items of some bytes are a front of the items of the whole input, whatever follows: they
+/// may be answered before the rest is known.
+pub fn whole_items_are_a_front()
+    ensures { (bytes more : List ℕ) → (rest : List Entry) × (items_of (bytes ++ more) ≡ whole_items_of bytes ++ rest) }
 {}

@@ -15,7 +15,10 @@ mod words;
 
 pub use commands::read_command;
 pub use ends::ReadEnd;
-pub use laws::{a_closed_item_stays, items_are_the_first_and_the_rest};
+pub use laws::{
+    a_closed_item_stays, items_are_the_first_and_the_rest, whole_items_are_a_front,
+    whole_items_are_the_first_and_the_rest,
+};
 pub use reader::Reader;
 pub use replies::put_reply;
 pub use types::{Command, Item, Line, Reply, Why};

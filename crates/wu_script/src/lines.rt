@@ -1,10 +1,10 @@
 //! Lines, as they are taken from a source in whatever pieces it gives them.
-ghost use Rattle.std.specs.Prelude.{◌≡◌, ◌++◌, ◌∷◌, ◌≤◌, ◌<◌, ◌==◌, List, ℕ, [], false, true, length, Ok, Err, OnOk, IfOk, MatchOption};
+ghost use Rattle.std.specs.Prelude.{◌≡◌, ◌++◌, ◌∷◌, ◌≤◌, ◌<◌, ◌==◌, List, ℕ, [], false, true, length, Ok, Err, OnOk, IfErr, IfOk, MatchOption};
 ghost use Rattle.std.specs.List.{list_any};
 ghost use Rattle.wu_outside.specs.Faults.{Rose};
-ghost use Rattle.wu_script.specs.Holding.{Held, Uses, GivesTooMuch};
+ghost use Rattle.wu_script.specs.Holding.{Held, Uses, Stops};
 ghost use Rattle.wu_script.specs.Taking.{TakesLine, TakesPiece, Kept, IsOneLine, IsFirstFeed};
-ghost use Rattle.wu_script.specs.declared.ends.ReadEnd.TheVariants.{ReadFault, InputTooLong};
+ghost use Rattle.wu_script.specs.declared.ends.ReadEnd.TheVariants.{ReadFault};
 
 use crate::ends::ReadEnd;
 use crate::input::Input;
@@ -34,7 +34,7 @@ pub fn take_line<I: Source>(
         × Kept limit text cut.whole line.new.items) }
     ensures few { OnOk result (length input.new.bytes < 65536) }
     ensures still { list_any (λ byte. byte == 10) input.old.bytes ≡ true → source.new ≡ source.old }
-    ensures long { result ≡ Err InputTooLong → GivesTooMuch (I.left source.old) (I.left source.new) input.old }
+    ensures stops { IfErr result (Stops IsOneLine (I.left source.old) (I.left source.new) input.old) }
     ensures fault { result ≡ Err ReadFault → Rose (I.faults source.old) (I.faults source.new) }
     ensures steady { I.faults source.old ≤ I.faults source.new }
 {

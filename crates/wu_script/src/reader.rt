@@ -1,8 +1,8 @@
 //! The reader that gives a script's items as they come.
-ghost use Rattle.std.specs.Prelude.{◌≡◌, ◌≤◌, ◌<◌, [], false, true, length, Err, OnOk, IfOk, MatchBool};
+ghost use Rattle.std.specs.Prelude.{◌≡◌, ◌≤◌, ◌<◌, [], false, true, length, Err, OnOk, IfErr, IfOk, MatchBool};
 ghost use Rattle.std.specs.Io.KnownBytes.{IsAtEnd, prepend_known};
 ghost use Rattle.wu_outside.specs.Faults.{Rose};
-ghost use Rattle.wu_script.specs.Holding.{Held, GivesTooMuch};
+ghost use Rattle.wu_script.specs.Holding.{Held, GivesTooMuch, Stops};
 ghost use Rattle.wu_script.specs.declared.ends.ReadEnd.TheVariants.{ReadFault, InputTooLong};
 ghost use Rattle.wu_script.specs.Items.{IsSoundItem as IsSound};
 ghost use Rattle.wu_script.specs.declared.types.Item.TheVariants.{Refused, Text};
@@ -34,7 +34,7 @@ impl Model for Reader {
 }
 
 impl Reader {
-    ghost use Rattle.wu_script.specs.Items.{TakesItem, TakesBody, IsNext, IsSoundItem};
+    ghost use Rattle.wu_script.specs.Items.{TakesItem, TakesBody, IsNext, IsSoundItem, StopsBeforeItem, first_of, text_at};
 
     /// A reader of a script of at most so many bytes.
     pub fn new(alloc: Global, max_input: u64) -> Result<Reader, NoMemory>
@@ -47,9 +47,9 @@ impl Reader {
     }
 
     /// The next item of the script. It asks the source for at most READ_MAX bytes at once, and at most
-    /// as many as it may give, or for one byte where it may give none. `InputTooLong` comes where that
-    /// byte is given, `ReadFault` where the source failed. After `End` or an error a reader is only
-    /// dropped.
+    /// as many as it may give, or for one byte where it may give none, and for nothing while a whole
+    /// item is held. `InputTooLong` comes where that byte is given, `ReadFault` where the source
+    /// failed. After `End` or an error a reader is only dropped.
     pub fn next<I: Source>(&mut self, source: &mut I) -> Result<Item, ReadEnd>
         // Over every source: bytes that were held or given are the item, and were used.
         ensures taken { IfOk result (TakesItem (I.left source.old) (I.left source.new) self.old self.new) }
@@ -59,6 +59,9 @@ impl Reader {
         ensures at_end { OnOk result ((self.old.ended ≡ true → IsAtEnd (I.left source.old)) → self.new.ended ≡ true → IsAtEnd (I.left source.new)) }
         ensures sound { IfOk result IsSoundItem }
         ensures few { OnOk result (length self.new.bytes < 65536) }
+        ensures idle { (first_of self.old.bytes).closed ≡ true → source.new ≡ source.old }
+        // No item was whole where reading stopped, and the source gave no more than it may, or one byte more.
+        ensures stops { IfErr result (StopsBeforeItem (I.left source.old) (I.left source.new) self.old) }
         ensures long { result ≡ Err InputTooLong → GivesTooMuch (I.left source.old) (I.left source.new) self.old }
         ensures fault { result ≡ Err ReadFault → Rose (I.faults source.old) (I.faults source.new) }
         ensures steady { I.faults source.old ≤ I.faults source.new }
@@ -74,7 +77,8 @@ impl Reader {
         ensures taken { IfOk result (TakesItem (I.left source.old) (I.left source.new) self.old self.new) }
         ensures sound { IfOk result IsSoundItem }
         ensures few { OnOk result (length self.new.bytes < 65536) }
-        ensures long { result ≡ Err InputTooLong → GivesTooMuch (I.left source.old) (I.left source.new) self.old }
+        ensures idle { (first_of self.old.bytes).closed ≡ true → source.new ≡ source.old }
+        ensures stops { IfErr result (Stops (λ bytes. (first_of bytes).closed ≡ false) (I.left source.old) (I.left source.new) self.old) }
         ensures fault { result ≡ Err ReadFault → Rose (I.faults source.old) (I.faults source.new) }
         ensures steady { I.faults source.old ≤ I.faults source.new }
     {
@@ -99,11 +103,13 @@ impl Reader {
 
     /// The text whose line was read.
     fn next_text<I: Source>(&mut self, source: &mut I, ino: Ino, len: u64) -> Result<Item, ReadEnd>
-        requires { 1 ≤ ino }
+        requires node { 1 ≤ ino }
+        requires few { length self.old.bytes < 65536 }
         ensures taken { IfOk result (TakesBody (I.left source.old) (I.left source.new) self.old self.new ino len) }
         ensures sound { IfOk result IsSoundItem }
         ensures few { OnOk result (length self.new.bytes < 65536) }
-        ensures long { result ≡ Err InputTooLong → GivesTooMuch (I.left source.old) (I.left source.new) self.old }
+        ensures idle { (text_at ino len self.old.bytes).closed ≡ true → source.new ≡ source.old }
+        ensures stops { IfErr result (Stops (λ bytes. (text_at ino len bytes).closed ≡ false) (I.left source.old) (I.left source.new) self.old) }
         ensures fault { result ≡ Err ReadFault → Rose (I.faults source.old) (I.faults source.new) }
         ensures steady { I.faults source.old ≤ I.faults source.new }
     {

@@ -51,6 +51,28 @@ impl Source for Failing {
     }
 }
 
+/// A source that notes how many bytes each of its first reads asked for.
+#[derive(Drop)]
+struct Noting {
+    plain: PlainSource,
+    asked: [usize; 4],
+    reads: usize,
+}
+
+impl Source for Noting {
+    ghost left = { λ s. Some s.plain };
+
+    ghost faults = { λ _. 0 };
+
+    fn read(&mut self, buf: &mut [u8]) -> Result<usize, Failed> {
+        if self.reads < 4 {
+            self.asked[self.reads] = buf.len();
+            self.reads += 1;
+        }
+        self.plain.read(buf)
+    }
+}
+
 /// A letter for an item.
 fn letter_of(item: &Item) -> u8 {
     match item {
@@ -170,6 +192,39 @@ fn reading_ends_at_a_fault_and_at_the_greatest_length(rt: HostRuntime) -> Result
     let found = letters(alloc, &mut failing, INPUT_MAX)?;
     assert_eq!(rt; found.as_slice(), b"a!".as_slice());
     Ok(())
+}
+
+/// How many bytes each read of a script asked for, where at most so many may be given.
+fn expect_asked(
+    alloc: Global,
+    rt: &impl Abort,
+    script: Vec<u8>,
+    max_input: u64,
+    wanted: &[usize],
+) -> Result<(), Fail> {
+    let mut noting = Noting {
+        plain: PlainSource::new(script),
+        asked: [0; 4],
+        reads: 0,
+    };
+    letters(alloc, &mut noting, max_input)?;
+    assert!(rt; &noting.asked[..noting.reads.min(4)] == wanted);
+    Ok(())
+}
+
+#[test]
+fn no_more_is_asked_for_than_may_be_given(rt: HostRuntime) -> Result<(), Fail> {
+    let alloc = rt.alloc();
+    let mut long = Vec::new(alloc);
+    for _ in 0..70_000 {
+        long.push(b'x')?;
+    }
+    expect_asked(alloc, &rt, long, 70_000, &[65_536, 4_464, 1])?;
+    let lines = Vec::from_slice(alloc, b"paths\t0\npaths\t1\n")?;
+    expect_asked(alloc, &rt, lines, 16, &[16, 1])?;
+    let lines = Vec::from_slice(alloc, b"paths\t0\npaths\t1\n")?;
+    expect_asked(alloc, &rt, lines, 15, &[15, 1])?;
+    expect_asked(alloc, &rt, Vec::new(alloc), 0, &[1])
 }
 
 #[test]

@@ -1,8 +1,9 @@
-use Rattle.std.proofs.Common.{◌≡◌, ◌++◌, Ok, Err, length, take, ap, ◌∙◌, append_assoc, length-append, arith}
+use Rattle.std.proofs.Common.{◌≡◌, ◌++◌, ◌<◌, [], Ok, length, take, ap, ◌∙◌, append_assoc, length-append, arith}
 use Rattle.std.proofs.lemmas.List.{length-take}
-use Rattle.wu_script.specs.Holding.{Held}
-use Rattle.wu_script.specs.declared.ends.ReadEnd.TheVariants.{InputTooLong}
-use Rattle.wu_script.proofs.InputLemmas.{GivesTooMuch-after, Uses-filled, part_taken}
+use Rattle.wu_script.specs.Holding.{Held, Stops}
+use Rattle.wu_script.specs.declared.ends.ReadEnd.TheVariants.{NoMemory}
+use Rattle.wu_script.proofs.InputLemmas.{Uses-filled, part_taken}
+use Rattle.wu_script.proofs.StopLemmas.{Stops-memory, Stops-after, if_end}
 use Rattle.wu_script.proofs.bodies.take_bytes.Goals as goal
 
 pub returns-in-Ok-false-clause-taken : goal.returns-in-Ok-false-clause-taken
@@ -14,11 +15,6 @@ returns-in-Ok-false-clause-taken g c =
       record { uses = uses; whole = λ e. cc (e); short = λ e. (omega (arith, c.parts.invariant.so_far.2), none.0, none.1) },
       c.parts.invariant.so_far.3,
     )
-
-pub returns-in-Err-clause-long : goal.returns-in-Err-clause-long
-returns-in-Err-clause-long g c = λ e.
-    let same : c.in-Err.end ≡ InputTooLong = cc (e) in
-    GivesTooMuch-after (g.I.Source.left c.args.source.now) (g.I.Source.left c.parts.source) (g.I.Source.left c.fill.new.source) c.args.input.now c.parts.input c.parts.invariant.so_far.0 c.parts.invariant.so_far.1 (c.in-Err.ensures.long (ap Err same))
 
 pub parts-preserved : goal.parts-preserved
 parts-preserved g c =
@@ -40,3 +36,23 @@ parts-preserved g c =
           let same = ap (λ (h : Held). length h.bytes) filled.1 in
           (filled.2 ∙ still.0, omega (arith, c.in_ok-part.ensures.count, still.1, same));
     }
+
+pub returns-in-Err-clause-stops : goal.returns-in-Err-clause-stops
+returns-in-Err-clause-stops g c =
+    let left = g.I.Source.left in
+    let bytes = c.parts.invariant.so_far.0 in
+    Stops-after (λ bs. length bs < c.args.count) (λ bs. bs ≡ []) (left c.args.source.now) (left c.parts.source) (left c.fill.new.source) c.args.input.now c.parts.input c.in-Err.end bytes c.parts.invariant.so_far.1
+    (λ n. omega (arith, length-take n bytes, c.parts.invariant.so_far.2))
+    (λ more _ none. omega (arith, length-append bytes more, ap length none, c.parts.invariant.so_far.2))
+    c.in-Err.ensures.stops
+
+pub returns-in_err-part-clause-stops : goal.returns-in_err-part-clause-stops
+returns-in_err-part-clause-stops g c =
+    let left = g.I.Source.left in
+    let bytes = c.parts.invariant.so_far.0 in
+    let filled = Uses-filled (left c.args.source.now) (left c.parts.source) (left c.fill.new.source) c.args.input.now c.parts.input c.fill.new.self bytes c.parts.invariant.so_far.1 c.in-Ok-true.ensures.given in
+    if_end (Stops (λ bs. length bs < c.args.count) (left c.args.source.now) (left c.fill.new.source) c.args.input.now) NoMemory c.from_residual.result c.from_residual.ensures.1
+    (Stops-after (λ bs. length bs < c.args.count) (λ bs. bs ≡ []) (left c.args.source.now) (left c.fill.new.source) (left c.fill.new.source) c.args.input.now c.fill.new.self NoMemory bytes filled
+    (λ n. omega (arith, length-take n bytes, c.parts.invariant.so_far.2))
+    (λ more _ none. omega (arith, length-append bytes more, ap length none, c.parts.invariant.so_far.2))
+    (Stops-memory (left c.fill.new.source) c.fill.new.self c.in-Ok-true.ensures.few))
