@@ -2,6 +2,7 @@ pub mod States
 pub mod View
 pub mod Answer
 pub mod Scans
+pub mod Rankings
 pub mod Output
 pub mod Options
 pub mod Reading
