@@ -1,5 +1,5 @@
 -- Counting the extents of an expression over the frames of a view is counting them over its files.
-use Rattle.std.proofs.Common.{◌≡◌, ℕ, zero, suc, ◌+◌, ◌≤◌, ◌<◌, ◌^◌, ◌⊎◌, Bool, true, false, cond, ◌&&◌, ◌||◌, List, [], ◌∷◌, ◌++◌, length, map, get_or, refl, sym, ap, ◌∙◌, subst, inl, inr, arith, append_assoc, length-append}
+use Rattle.std.proofs.Common.{◌≡◌, ℕ, zero, suc, ◌+◌, ◌≤◌, ◌<◌, ◌^◌, ◌⊎◌, Bool, true, false, cond, ◌&&◌, ◌||◌, List, [], ◌∷◌, ◌++◌, length, map, take, get_or, refl, sym, ap, ◌∙◌, subst, inl, inr, arith, append_assoc, length-append}
 use Rattle.std.proofs.lemmas.Bool.Decides.{nat_tests}
 use Rattle.std.proofs.lemmas.List.Elements.{All-from_recursion}
 use Rattle.std.proofs.lemmas.List.Sums.{count_by-cons}
@@ -231,3 +231,24 @@ scan_counted region files terms frames lists hits found scan are hits_is found_i
     let tells : Tells region lists (tokens_in files) = λ term has address. ap (λ ls. has_address ls term address) scan.lists ∙ scan_has (tokens_in files) term terms address (are.all term has) in
     let is = subst (λ fs. IsCounted region lists fs files) (sym scan.frames) (counted region lists (tokens_in files) [] files tells refl) in
     ap (λ n. Count n found) (hits_is ∙ is.hits) ∙ ap (Count (length (flat_map (hits_in region) files))) (found_is ∙ is.files)
+
+-- the next frame's extents
+pub hits-more : (region : Region) (lists : List TermList) (frames : List Range) (i : ℕ) (d : Range) → i < length frames
+    → length (frames_hits region lists (take (i + 1) frames)) ≡ length (frames_hits region lists (take i frames)) + length (frame_hits region lists (get_or frames i d))
+hits-more region lists [] i d within = absurd (omega arith)
+hits-more region lists (frame ∷ frames) zero d within = omega (arith, length-append (frame_hits region lists frame) [])
+hits-more region lists (frame ∷ frames) (suc i) d within =
+    omega (arith, hits-more region lists frames i d (omega arith), length-append (frame_hits region lists frame) (frames_hits region lists (take (i + 1) frames)), length-append (frame_hits region lists frame) (frames_hits region lists (take i frames)))
+
+pub hits-taken : (region : Region) (lists : List TermList) (frames : List Range) (n : ℕ) → length (frames_hits region lists (take n frames)) ≤ length (frames_hits region lists frames)
+hits-taken region lists [] zero = omega arith
+hits-taken region lists [] (suc n) = omega arith
+hits-taken region lists (frame ∷ frames) zero = omega arith
+hits-taken region lists (frame ∷ frames) (suc n) =
+    omega (arith, hits-taken region lists frames n, length-append (frame_hits region lists frame) (frames_hits region lists (take n frames)), length-append (frame_hits region lists frame) (frames_hits region lists frames))
+
+-- and whether it has one
+pub count-more : {X : Type 0} (p : X → Bool) (xs : List X) (i : ℕ) (d : X) → i < length xs → count_by p (take (i + 1) xs) ≡ count_by p (take i xs) + cond (p (get_or xs i d)) 1 0
+count-more p [] i d within = absurd (omega arith)
+count-more p (x ∷ xs) zero d within = omega (arith, count_by-cons p x [])
+count-more p (x ∷ xs) (suc i) d within = omega (arith, count-more p xs i d (omega arith), count_by-cons p x (take (i + 1) xs), count_by-cons p x (take i xs))
