@@ -1,6 +1,6 @@
 -- Where terms stand in the texts of a view.
 use Rattle.std.proofs.Common.{◌≡◌, ℕ, zero, suc, ◌+◌, ◌≤◌, ◌<◌, ◌⊎◌, Bool, true, false, cond, ◌&&◌, ◌||◌, List, [], ◌∷◌, ◌++◌, length, take, drop, get_or, map, refl, sym, ap, ◌∙◌, subst, inl, inr, arith, append_assoc, append-nil, length-append, add-one, Ordering, Less, Equal, Greater, is_eq}
-use Rattle.std.proofs.lemmas.List.{take_more}
+use Rattle.std.proofs.lemmas.List.{take_more, length-take}
 use Rattle.std.specs.Prelude.{nat_eq, slice_set}
 use Rattle.std.specs.List.{flat_map, list_any, AllByRecursion}
 use Rattle.std.specs.List.Sorted.{IsStrictlySortedBy, IsStrictlyIncreasing}
@@ -9,8 +9,8 @@ use Rattle.std.specs.Ordering.{nat_cmp, ordering_reverse}
 use Rattle.wu_base.specs.declared.addresses.Range.{Range}
 use Rattle.wu_base.specs.declared.addresses.TermList.{TermList}
 use Rattle.wu_gcl.specs.Extents.{is_token_at}
-use Rattle.wu_gcl.proofs.Fronts.{pointwise_same}
 use Rattle.wu_token.specs.Tokens.{tokens_of}
+use Rattle.wu_token.specs.declared.spans.Token.{Token}
 use Rattle.wu_solve.specs.Addresses.{is_among, has_address}
 use Rattle.wumpus_run.specs.View.{Shown}
 use Rattle.wumpus_run.specs.Scans.{tokens_in, frames_from, places_from, with_places, noted, IsOther, IsListOf, list_without_places, list_among}
@@ -200,6 +200,9 @@ map-more f (y ∷ xs) x = ap (λ ys. f y ∷ ys) (map-more f xs x)
 pub files-more : {X : Type 0} (shown : X → Shown) (view : List X) (i : ℕ) (d : X) → i < length view → map shown (take (i + 1) view) ≡ map shown (take i view) ++ shown (get_or view i d) ∷ []
 files-more shown view i d within = ap (map shown) (take_more view i d within) ∙ map-more shown (take i view) (get_or view i d)
 
+zero_first : (n : ℕ) → n ≡ 0 + n
+zero_first n = omega arith
+
 -- the next file's frame
 pub frames-next : (files more : List Shown) (file : Shown) (frames : List Range) (next len : ℕ) (tokens : List (List ℕ)) → more ≡ files ++ file ∷ [] → tokens ≡ tokens_of file.text
     → frames ≡ frames_from 0 files → next ≡ length (tokens_in files) → len ≡ length tokens → frames ++ record { start = next; len = len } ∷ [] ≡ frames_from 0 more
@@ -207,13 +210,15 @@ frames-next files more file frames next len tokens is same before at' long =
     ap (λ fs. let r : Range = record { start = next; len = len } in fs ++ r ∷ []) before
     ∙ ap (λ n. let r : Range = record { start = n; len = len } in frames_from 0 files ++ r ∷ []) at'
     ∙ ap (λ n. let r : Range = record { start = length (tokens_in files); len = n } in frames_from 0 files ++ r ∷ []) (long ∙ ap length same)
+    ∙ ap (λ n. let r : Range = record { start = n; len = length (tokens_of file.text) } in frames_from 0 files ++ r ∷ []) (zero_first (length (tokens_in files)))
     ∙ sym (frames_from-more 0 files file) ∙ ap (frames_from 0) (sym is)
 
 -- the next file's tokens, noted
-pub lists-next : (files more : List Shown) (file : Shown) (base lists noted' : List TermList) (next : ℕ) (tokens : List (List ℕ)) → more ≡ files ++ file ∷ [] → tokens ≡ tokens_of file.text
+pub pub lists-next : (files more : List Shown) (file : Shown) (base lists noted' : List TermList) (next : ℕ) (tokens : List (List ℕ)) → more ≡ files ++ file ∷ [] → tokens ≡ tokens_of file.text
     → lists ≡ map (with_places 0 (tokens_in files)) base → next ≡ length (tokens_in files) → noted' ≡ map (with_places next tokens) lists → noted' ≡ map (with_places 0 (tokens_in more)) base
 lists-next files more file base lists noted' next tokens is same before at' noting =
     noting ∙ ap (map (with_places next tokens)) before ∙ ap (λ n. map (with_places n tokens) (map (with_places 0 (tokens_in files)) base)) at'
+    ∙ ap (λ n. map (with_places n tokens) (map (with_places 0 (tokens_in files)) base)) (zero_first (length (tokens_in files)))
     ∙ map-with_places-append 0 (tokens_in files) tokens base ∙ ap (λ ts. map (with_places 0 (tokens_in files ++ ts)) base) same
     ∙ ap (λ ts. map (with_places 0 ts) base) (sym (tokens_in-more files file)) ∙ ap (λ fs. map (with_places 0 (tokens_in fs)) base) (sym is)
 
@@ -221,3 +226,29 @@ pub length-next : (files more : List Shown) (file : Shown) (next len : ℕ) (tok
     → next + len ≡ length (tokens_in more)
 length-next files more file next len tokens is same at' long =
     omega (arith, at', long, ap length same, length-append (tokens_in files) (tokens_of file.text), ap length (tokens_in-more files file), ap (λ fs. length (tokens_in fs)) is)
+
+-- noting keeps the order of the lists
+pub sorted_noted : (n : ℕ) (tokens : List (List ℕ)) (base lists : List TermList) → lists ≡ map (with_places n tokens) base → IsSortedByTerm base → IsSortedByTerm lists
+sorted_noted n tokens base lists is sorted = subst (IsStrictlySortedBy (slice_cmp nat_cmp)) (sym (ap (map (λ (list : TermList). list.term)) is ∙ terms-with_places n tokens base)) sorted
+
+pub sorted_at_first : (terms : List (List ℕ)) (base : List TermList) → base ≡ map list_without_places terms → IsStrictlySortedBy (slice_cmp nat_cmp) terms → IsSortedByTerm base
+sorted_at_first terms base is sorted = subst (IsStrictlySortedBy (slice_cmp nat_cmp)) (sym (ap (map (λ (list : TermList). list.term)) is ∙ terms-without_places terms)) sorted
+
+length-map : {X Y : Type 0} (f : X → Y) (xs : List X) → length (map f xs) ≡ length xs
+length-map f [] = refl
+length-map f (x ∷ xs) = omega (arith, length-map f xs)
+
+-- one token more was noted
+pub note-more : (n i : ℕ) (base lists now : List TermList) (tokens : List Token) (token : Token) (term : List ℕ) → i < length tokens → token ≡ get_or tokens i token → term ≡ token.term
+    → lists ≡ map (with_places n (map (λ t. t.term) (take i tokens))) base → now ≡ map (noted term (n + i)) lists → now ≡ map (with_places n (map (λ t. t.term) (take (i + 1) tokens))) base
+note-more n i base lists now tokens token term within is same before noting =
+    let front = map (λ (t : Token). t.term) (take i tokens) in
+    let long : i ≡ length front = omega (arith, length-map (λ (t : Token). t.term) (take i tokens), length-take i tokens) in
+    noting ∙ ap (map (noted term (n + i))) before ∙ ap (λ k. map (noted term (n + k)) (map (with_places n front) base)) long
+    ∙ map-with_places-more n front term base
+    ∙ ap (λ ts. map (with_places n ts) base) (ap (λ w. front ++ w ∷ []) (same ∙ ap (λ (t : Token). t.term) is)
+        ∙ sym (map-more (λ (t : Token). t.term) (take i tokens) (get_or tokens i token)) ∙ ap (map (λ (t : Token). t.term)) (sym (take_more tokens i token within)))
+
+-- nothing was noted yet
+pub unnoted : (n : ℕ) (lists : List TermList) → lists ≡ map (with_places n []) lists
+unnoted n lists = sym (map-with_places-nil n lists)

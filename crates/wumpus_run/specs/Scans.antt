@@ -50,6 +50,6 @@ list_among tokens term = record { term = term; at = places_from 0 term tokens }
 
 -- the frames of the files from address 0 on, and a list for each of the terms
 pub record IsScan (files : List Shown) (terms : List (List ℕ)) (frames : List Range) (lists : List TermList) : Type 0 where
-  pub frames : frames ≡ frames_from 0 files
-  pub lists : lists ≡ map (list_among (tokens_in files)) terms
+  pub by_file : frames ≡ frames_from 0 files
+  pub by_term : lists ≡ map (list_among (tokens_in files)) terms
   pub within : length (tokens_in files) ≤ 2 ^ 47
