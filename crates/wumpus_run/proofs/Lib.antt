@@ -3,3 +3,4 @@ pub mod ReadLemmas
 pub mod CountLemmas
 pub mod SessionLemmas
 pub mod StateLemmas
+pub mod OptionLemmas

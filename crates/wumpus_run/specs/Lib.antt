@@ -8,3 +8,4 @@ pub mod Words
 pub mod Reading
 pub mod Session
 pub mod Lines
+pub mod Options

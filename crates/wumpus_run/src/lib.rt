@@ -5,6 +5,7 @@ mod fields;
 mod input;
 mod items;
 mod machine;
+mod options;
 mod replies;
 mod session;
 mod statuses;
@@ -12,5 +13,7 @@ mod statuses;
 pub use session::run;
 pub use statuses::Status;
 
+#[cfg(test)]
+mod option_tests;
 #[cfg(test)]
 mod tests;
