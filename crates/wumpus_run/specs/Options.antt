@@ -105,6 +105,7 @@ abbrev pub settings_with : Option ℕ → Option ℕ → Option Settings
 settings_with max flush_at =
     option_and_then (λ m. option_map (λ f. record { max_input = m; flush_at = f }) flush_at) max
 
+-- `--max-input` gives a number up to 2^40, and that where it doesn't stand; `--flush` one from 1 to 2^32 - 1
 abbrev pub settings_by : Said → Option Settings
 settings_by said = if is_run said.words then settings_with (number_in 0 INPUT_MAX INPUT_MAX said.max_inputs)
     (number_in 1 4294967295 FLUSH_DEFAULT said.flushes) else None

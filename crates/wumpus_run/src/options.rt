@@ -35,7 +35,8 @@ pub fn read_options(alloc: Global, words: &[&str]) -> Result<Option<Settings>, N
     }
 }
 
-/// The command, without a subcommand.
+/// The command, without a subcommand. Values stay text, and `settings_in` decides on them: that an
+/// option here takes no value which begins with `-` and is longer costs nothing, since no number does.
 fn command<'a>(alloc: Global) -> Result<Command<'a>, AllocError>
     ensures { IfOk result (λ command. app_of command ≡ command_app) }
 {
@@ -64,7 +65,12 @@ fn settings_in(matches: &ArgMatches<'_>) -> Option<Settings>
         return None;
     }
     let max_input = number_in(matches.get_str("max-input"), 0, INPUT_MAX, INPUT_MAX)?;
-    let flush_at = number_in(matches.get_str("flush"), 1, u32::MAX as u64, FLUSH_DEFAULT as u64)?;
+    let flush_at = number_in(
+        matches.get_str("flush"),
+        1,
+        u32::MAX as u64,
+        FLUSH_DEFAULT as u64,
+    )?;
     Some(Settings {
         max_input,
         flush_at: flush_at as u32,

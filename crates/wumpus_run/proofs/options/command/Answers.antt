@@ -1,8 +1,8 @@
 use Rattle.std.proofs.Common.{rules, ap, ap₂, ◌≡◌, ◌∙◌, codes, true}
 use Rattle.std.proofs.lemmas.Result.{IfOk-weaker}
-use Rattle.clap.specs.Words.{App, app_of, new_app, rule_of, with_rule}
+use Rattle.clap.specs.Words.{App, app_of, rule_of, with_rule}
 use Rattle.clap.specs.Simple.{app_of_fields}
-use Rattle.wumpus_run.specs.Options.{bare_app, command_app, option_rule, words_rule}
+use Rattle.wumpus_run.specs.Options.{bare_app, option_rule, words_rule}
 use Rattle.wumpus_run.proofs.options.command.Goals as goal
 
 abbrev without_name : App → App

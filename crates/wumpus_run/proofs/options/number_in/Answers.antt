@@ -1,4 +1,4 @@
-use Rattle.std.proofs.Common.{rules, ◌≡◌, ◌≤◌, ◌∙◌, ◌&&◌, ℕ, Bool, cond, true, false, refl, ap, sym, List, Option, Some, None, leb-true}
+use Rattle.std.proofs.Common.{rules, ◌≡◌, ◌≤◌, ◌&&◌, ℕ, Bool, cond, true, false, refl, ap, List, Some, None, leb-true}
 use Rattle.std.specs.Prelude.{nat_le, unwrap_or}
 use Rattle.std.specs.Str.Parse.{digits_value}
 use Rattle.wu_fields.specs.Numbers.{is_plain_numeral, number_of}

@@ -1,4 +1,4 @@
-use Rattle.std.proofs.Common.{rules, ap, sym, ◌≡◌, ◌∙◌, ◌⊎◌, inl, inr, map, ℕ, List, Bor, true}
+use Rattle.std.proofs.Common.{ap, ◌∙◌, inl, inr, map}
 use Rattle.clap.specs.Words.{app_of, found_of, is_simple, kind_of}
 use Rattle.clap.specs.Faults.{is_simple_and_free}
 use Rattle.wumpus_run.proofs.OptionLemmas.{found_settings, no_settings, is_simple_command, is_free_command}
