@@ -5,3 +5,4 @@ pub mod ReplyLemmas
 pub mod SessionLemmas
 pub mod EndLemmas
 pub mod StateLemmas
+pub mod OptionLemmas
