@@ -255,7 +255,7 @@ fn regions_are_counted(rt: HostRuntime) -> Result<(), Fail> {
             b"ok\nok\ncount~3~1\ncount~2~1\n",
         ),
         (
-            b"create~2~1~a~0~0~644\ntext~2~5\na a b\ncount~5~\"a\" ^ \"b\"\ncount~5~[8]\ncount~5~[9]\n",
+            b"create~2~1~a~0~0~644\ntext~2~5\na a b\ncount~5~\"a\" ^ \"b\"\ncount~5~[7]\ncount~5~[8]\n",
             b"ok\nok\ncount~1~1\ncount~1~1\ncount~0~0\n",
         ),
         (
