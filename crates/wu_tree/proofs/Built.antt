@@ -177,8 +177,8 @@ module _ (g : ℕ → Option Hung) where
         each_hangs : AllByRecursion (λ e. Hangs fs.links e.0 e.1.kind) nodes
         each_hangs = hang_from_test bare (bare_links placed.1) order.0.0.0.0 (sym hang_tests ∙ hang)
 
-        tree : IsTree fs
-        tree = record {
+        pub built_tree : IsTree fs
+        built_tree = record {
           users_ascend = order.0.0.1;
           groups_ascend = order.0.1;
           nodes_ascend = order.0.0.0.0;
@@ -195,7 +195,31 @@ module _ (g : ℕ → Option Hung) where
 
         pub built_sound : IsSound (map entry nodes) (map link_of links) (map (λ (u : UserRec). (u.uid, u)) users)
         built_sound = record {
-          tree = subst (λ (v : FileSystem). IsTree v) (sym built_view) tree;
+          tree = subst (λ (v : FileSystem). IsTree v) (sym built_view) built_tree;
           held = held nodes (each_held bare (bare_links placed.1) order.0.0.0.0 each_hangs);
           keyed = keyed_users users;
         }
+
+      -- the same of the maps that the code makes
+      abbrev hang_with : List ℕ → Bool
+      hang_with keys = list_all (λ (node : ℕ × Node). hangs_test node.0 node.1.kind (g node.0) (list_any (is_at (nat_cmp node.0)) keys)) nodes
+
+      module _ (inodes : List (ℕ × Inode)) (kept : List Link) (start keys : List ℕ) (i : inodes ≡ map entry nodes) (k : kept ≡ map link_of links) (n : start ≡ [])
+          (w : keys ≡ fold (insert_key nat_cmp) start (below (file_system inodes kept []) 255 1)) where
+        keys_are : keys ≡ walked
+        keys_are =
+            w ∙ ap (λ (ks : List ℕ). fold (insert_key nat_cmp) ks (below (file_system inodes kept []) 255 1)) n
+            ∙ ap (λ (es : List (ℕ × Inode)). fold (insert_key nat_cmp) [] (below (file_system es kept []) 255 1)) i ∙ ap (λ (l : List Link). walked_by nodes l) k
+
+        pub no_hang : hang_with keys ≡ false → IsTree fs → ⊥
+        no_hang h t = true_false (sym (ap hang_with keys_are ∙ tree_hangs t) ∙ h)
+
+        module _ (order : order_test nodes links users ≡ true) (placed : place_test (file_system inodes [] []) links ≡ true) (hang : hang_with keys ≡ true) where
+          placed_so : Placed
+          placed_so = placed_from_test (ap (λ (es : List (ℕ × Inode)). place_test (file_system es [] []) links) (sym i) ∙ placed)
+
+          pub made_tree : IsTree fs
+          made_tree = built_tree (in_order nodes links users order) placed_so (ap hang_with (sym keys_are) ∙ hang)
+
+          pub made_sound : IsSound (map entry nodes) (map link_of links) (map (λ (u : UserRec). (u.uid, u)) users)
+          made_sound = built_sound (in_order nodes links users order) placed_so (ap hang_with (sym keys_are) ∙ hang)

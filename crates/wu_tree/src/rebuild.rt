@@ -36,7 +36,7 @@ impl Tree {
         links: &[LinkRec],
         users: &[UserRec],
     ) -> Result<Option<Tree>, NoMemory>
-        ensures { IfOk result (λ made. MatchOption made (IsTree (listed nodes.now links.now users.now) → ⊥) (λ tree. tree ≡ listed nodes.now links.now users.now)) }
+        ensures { IfOk result (λ made. MatchOption made (IsTree (listed nodes.now links.now users.now) → ⊥) (λ tree. IsTree (listed nodes.now links.now users.now) × (tree ≡ listed nodes.now links.now users.now))) }
     {
         if !are_in_order(nodes, links, users) {
             return Ok(None);
