@@ -7,20 +7,20 @@ use Rattle.std.proofs.lemmas.Grind.{flat_map-append}
 use Rattle.std.proofs.lemmas.List.{take_more}
 use Rattle.std.proofs.lemmas.List.Sums.{sum_by-cons}
 use Rattle.std.specs.Prelude.{All, nat_eq, nat_lt, Contains, count_by}
-use Rattle.std.specs.List.{flat_map, list_any, AllByRecursion}
+use Rattle.std.specs.List.{flat_map, AllByRecursion}
 use Rattle.std.specs.List.Sorted.{IsStrictlySortedBy, IsStrictlyIncreasing}
 use Rattle.std.specs.Cmp.Lexicographic.{pointwise, slice_cmp, nat_list_eq_equiv}
 use Rattle.std.specs.Ordering.{nat_cmp}
 use Rattle.wu_base.specs.declared.addresses.Extent.{Extent}
 use Rattle.wu_base.specs.declared.addresses.Range.{Range}
 use Rattle.wu_base.specs.declared.addresses.TermList.{TermList}
-use Rattle.wu_gcl.specs.Extents.{hits, is_token_at, token_hits}
+use Rattle.wu_gcl.specs.Extents.{hits, is_token_at}
 use Rattle.wu_gcl.specs.Regions.{Region}
 use Rattle.wu_gcl.specs.Terms.{terms_in, AreTerms}
 use Rattle.wu_token.specs.Tokens.{tokens_of}
 use Rattle.wu_ask.specs.declared.Answered.TheVariants.{Count}
 use Rattle.wu_solve.specs.Addresses.{is_among, has_address, stands_by, AreLists}
-use Rattle.wu_solve.specs.Listing.{IsBefore, IsAscending, IsExtentIn}
+use Rattle.wu_solve.specs.Listing.{IsBefore, IsAscending}
 use Rattle.wu_solve.specs.Solving.{moved, frame_hits, frames_hits, IsFrame}
 use Rattle.wu_solve.proofs.Results.{frame_of_text, hits_listed}
 use Rattle.wu_solve.proofs.Sets.{all_from}

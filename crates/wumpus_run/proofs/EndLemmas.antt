@@ -1,24 +1,22 @@
 -- How a session ends.
-use Rattle.std.proofs.Common.{◌≡◌, ℕ, ◌+◌, ◌≤◌, ◌<◌, ◌⊎◌, List, [], ◌++◌, length, Option, None, Some, IfSome, refl, sym, ap, ◌∙◌, subst, inl, inr, arith, append-nil, length-append}
-use Rattle.std.specs.Io.KnownBytes.{Appends, Consumes, IsAtEnd, prepend_known}
+use Rattle.std.proofs.Common.{◌≡◌, ℕ, ◌+◌, ◌≤◌, List, [], ◌++◌, length, Option, None, Some, refl, ap, ◌∙◌, subst, inl, inr, arith, length-append}
+use Rattle.std.specs.Io.KnownBytes.{Appends, IsAtEnd}
 use Rattle.std.proofs.KnownBytes.{Appends-nil, Consumes-nil, Consumes-trans}
 use Rattle.wu_outside.specs.Faults.{Rose}
-use Rattle.wu_outside.specs.Gains.{GainsPrefix}
 use Rattle.wu_script.specs.declared.ends.ReadEnd.{ReadEnd}
 use Rattle.wu_script.specs.declared.ends.ReadEnd.TheVariants as ends
-use Rattle.wu_script.specs.declared.types.Item.{Item}
 use Rattle.wu_script.specs.declared.types.Item.TheVariants as items
-use Rattle.wu_script.specs.Holding.{Held, Stops, IsGiven}
-use Rattle.wu_script.specs.Items.{items_of, IsNext, IsItem, TakesItem, StopsBeforeItem}
+use Rattle.wu_script.specs.Holding.{Held}
+use Rattle.wu_script.specs.Items.{items_of, IsNext, StopsBeforeItem}
 use Rattle.wu_script.proofs.TurnLemmas.{items_of-none}
 use Rattle.wumpus_run.specs.declared.options.Settings.{Settings}
 use Rattle.wumpus_run.specs.declared.statuses.Status.{Status}
 use Rattle.wumpus_run.specs.declared.statuses.Status.TheVariants.{Done, Usage, ReadFault, WriteFault, NoMemory, InputTooLong}
 use Rattle.wumpus_run.specs.States.{State, first_state}
-use Rattle.wumpus_run.specs.Output.{Reading, IsReading, output_of}
+use Rattle.wumpus_run.specs.Output.{Reading, output_of}
 use Rattle.wumpus_run.specs.Reading.{TakesAtMost, TakesExactly}
 use Rattle.wumpus_run.specs.Session.{AnswersAll, AnswersFront, IsTooLong, Ends, Completes, status_of}
-use Rattle.wumpus_run.proofs.SessionLemmas.{HasSent, HasSent-all, HasSent-front, IsOnTheWay, HasAnswered, HasTaken, IsFront}
+use Rattle.wumpus_run.proofs.SessionLemmas.{HasSent, HasSent-all, IsOnTheWay, HasAnswered, HasTaken}
 
 taken_twice : (input : List ℕ) (left : Option (List ℕ)) (most : ℕ) → TakesAtMost most (Some input) left → TakesExactly (most + 1) (Some input) left → ⊥
 taken_twice input None most few many = absurd few.1

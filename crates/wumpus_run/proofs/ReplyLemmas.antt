@@ -1,25 +1,23 @@
 -- What is replied to an item as it was read is the reply to what its bytes say.
-use Rattle.std.proofs.Common.{◌≡◌, ℕ, List, [], Some, Ok, Err, Result, ap, sym, ◌∙◌, refl}
-use Rattle.wu_gcl.specs.Reading.{Value, Reads}
+use Rattle.std.proofs.Common.{◌≡◌, ℕ, List, [], Some, Ok, Err, ap, sym, ◌∙◌, refl}
+use Rattle.wu_gcl.specs.Reading.{Reads}
 use Rattle.wu_gcl.specs.Regions.{region_of}
 use Rattle.wu_gcl.specs.declared.expressions.ExprFault.{ExprFault}
 use Rattle.wu_gcl.proofs.Uniqueness.{one_reading}
 use Rattle.wu_ask.specs.declared.Ask.{Ask}
 use Rattle.wu_ask.specs.declared.Ask.TheVariants as asks
 use Rattle.wu_ask.specs.declared.Query.{Query}
-use Rattle.wu_tree.specs.declared.events.Event.{Event}
 use Rattle.wu_tree.specs.declared.events.Event.TheVariants.{Text}
-use Rattle.wu_script.specs.declared.types.Why.{Why}
 use Rattle.wu_script.specs.declared.types.Why.TheVariants.{Expr}
 use Rattle.wu_script.specs.declared.types.Command.TheVariants as commands
 use Rattle.wu_script.specs.declared.types.Item.{Item}
 use Rattle.wu_script.specs.declared.types.Item.TheVariants as items
 use Rattle.wu_script.specs.declared.types.Reply.TheVariants as replies
-use Rattle.wu_script.specs.Commands.{Meaning, Happens, Counts, ListsPaths, GivesText, IsRefused, IsBlank, IsCountOf, IsCommand, IsRefusal}
+use Rattle.wu_script.specs.Commands.{Happens, Counts, ListsPaths, GivesText, IsRefused, IsBlank, IsCountOf}
 use Rattle.wu_script.specs.Items.{Entry, Spoken, Texted, IsEntry}
 use Rattle.wumpus_run.specs.States.{State, step}
 use Rattle.wumpus_run.specs.View.{Shown, view_of}
-use Rattle.wumpus_run.specs.Answer.{Counting, ListingPaths, question_of, answer}
+use Rattle.wumpus_run.specs.Answer.{ListingPaths, question_of, answer}
 use Rattle.wumpus_run.specs.Output.{Reading, IsReading, reply_to, reply_to_item, count_reply, verdict_of, after, after_item, after_event}
 
 -- a count of an expression that the text spells

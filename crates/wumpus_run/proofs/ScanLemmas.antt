@@ -1,17 +1,15 @@
 -- Where terms stand in the texts of a view.
-use Rattle.std.proofs.Common.{◌≡◌, ℕ, zero, suc, ◌+◌, ◌≤◌, ◌<◌, ◌⊎◌, Bool, true, false, cond, ◌&&◌, ◌||◌, List, [], ◌∷◌, ◌++◌, length, take, drop, get_or, map, refl, sym, ap, ◌∙◌, subst, inl, inr, arith, append_assoc, append-nil, length-append, add-one, Ordering, Less, Equal, Greater, is_eq}
+use Rattle.std.proofs.Common.{◌≡◌, ℕ, zero, suc, ◌+◌, ◌≤◌, ◌<◌, Bool, true, false, cond, List, [], ◌∷◌, ◌++◌, length, take, drop, get_or, map, refl, sym, ap, ◌∙◌, subst, arith, append_assoc, append-nil, length-append, Ordering, Less, Equal, Greater, is_eq}
 use Rattle.std.proofs.lemmas.List.{take_more, length-take}
 use Rattle.std.specs.Prelude.{nat_eq, slice_set, Result, Ok, Err, OnOk}
-use Rattle.std.specs.List.{flat_map, list_any, AllByRecursion}
-use Rattle.std.specs.List.Sorted.{IsStrictlySortedBy, IsStrictlyIncreasing}
+use Rattle.std.specs.List.{AllByRecursion}
+use Rattle.std.specs.List.Sorted.{IsStrictlySortedBy}
 use Rattle.std.specs.Cmp.Lexicographic.{pointwise, slice_cmp, nat_list_cmp_total, texts_ties}
 use Rattle.std.specs.Ordering.{nat_cmp, ordering_reverse}
 use Rattle.wu_base.specs.declared.addresses.Range.{Range}
 use Rattle.wu_base.specs.declared.addresses.TermList.{TermList}
-use Rattle.wu_gcl.specs.Extents.{is_token_at}
 use Rattle.wu_token.specs.Tokens.{tokens_of}
 use Rattle.wu_token.specs.declared.spans.Token.{Token}
-use Rattle.wu_solve.specs.Addresses.{is_among, has_address}
 use Rattle.wumpus_run.specs.View.{Shown}
 use Rattle.wumpus_run.specs.Scans.{tokens_in, frames_from, places_from, with_places, noted, IsOther, IsListOf, list_without_places, list_among}
 

@@ -1,16 +1,15 @@
 -- A session, item by item.
-use Rattle.std.proofs.Common.{◌≡◌, ℕ, zero, suc, ◌+◌, ◌≤◌, ◌<◌, List, [], ◌∷◌, ◌++◌, length, Option, None, Some, refl, sym, ap, ◌∙◌, subst, arith, append_assoc, append-nil, length-append, inl, inr, ◌⊎◌, IfSome}
-use Rattle.std.specs.Io.KnownBytes.{Appends, Consumes, IsAtEnd, prepend_known}
+use Rattle.std.proofs.Common.{◌≡◌, ℕ, ◌+◌, ◌<◌, List, [], ◌++◌, length, Option, None, Some, refl, sym, ap, ◌∙◌, subst, arith, append_assoc, append-nil, length-append, IfSome}
+use Rattle.std.specs.Io.KnownBytes.{Appends, Consumes, prepend_known}
 use Rattle.std.proofs.KnownBytes.{Appends-trans, Appends-nil, Consumes-trans}
 use Rattle.wu_outside.specs.Gains.{GainsPrefix}
 use Rattle.wu_script.specs.declared.types.Item.{Item}
 use Rattle.wu_script.specs.declared.types.Item.TheVariants as items
-use Rattle.wu_script.specs.Holding.{Held, Uses, GivesTooMuch}
-use Rattle.wu_script.specs.Items.{Entry, First, first_of, items_of, IsEntry, IsItem, IsOneItem, TakesItem, IsFirstItem, IsNext}
-use Rattle.wu_script.proofs.TurnLemmas.{items_of-none, items_of-some}
+use Rattle.wu_script.specs.Holding.{Held}
+use Rattle.wu_script.specs.Items.{first_of, items_of, IsEntry, IsItem, TakesItem, IsFirstItem, IsNext}
+use Rattle.wu_script.proofs.TurnLemmas.{items_of-some}
 use Rattle.wumpus_run.specs.States.{State, first_state}
-use Rattle.wumpus_run.specs.Output.{Reading, IsReading, reply_to, bytes_of, after, output_of, item_bytes, after_item}
-use Rattle.wumpus_run.specs.Reading.{TakesAtMost, TakesExactly}
+use Rattle.wumpus_run.specs.Output.{Reading, IsReading, bytes_of, after, output_of, item_bytes, after_item}
 use Rattle.wumpus_run.specs.Session.{IsAnswered}
 use Rattle.wumpus_run.proofs.ReplyLemmas.{reply_to-item, after-item}
 

@@ -1,5 +1,5 @@
 -- The written answer to a query, over a user's view alone.
-use Rattle.std.specs.Prelude.{ℕ, Bool, List, length, count_by, nat_lt}
+use Rattle.std.specs.Prelude.{Bool, List, length, count_by, nat_lt}
 use Rattle.std.specs.List.{flat_map}
 use Rattle.wu_base.specs.declared.addresses.Extent.{Extent}
 use Rattle.wu_token.specs.Tokens.{tokens_of}

@@ -1,6 +1,6 @@
 -- The ranking of a query's units over a user's view: BM25 over her files alone.
 -- After Büttcher, Clarke and Cormack, Information Retrieval, chapter 8, in whole numbers.
-use Rattle.std.specs.Prelude.{ℕ, suc, ◌+◌, ◌-◌, ◌==◌, Bool, nat_eq, nat_lt, List, [], ◌∷◌, ◌++◌, length, map, filter, take, drop, count_by, sum_by, if◌then◌else◌}
+use Rattle.std.specs.Prelude.{ℕ, suc, ◌-◌, ◌==◌, Bool, nat_eq, nat_lt, List, [], ◌∷◌, ◌++◌, length, map, filter, take, drop, count_by, sum_by, if◌then◌else◌}
 use Rattle.std.specs.List.{list_any}
 use Rattle.std.specs.Cmp.Lexicographic.{pointwise}
 use Rattle.wu_base.specs.declared.addresses.Extent.{Extent}

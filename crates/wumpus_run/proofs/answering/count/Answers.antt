@@ -1,4 +1,4 @@
-use Rattle.std.proofs.Common.{◌≡◌, length, map, sym, subst}
+use Rattle.std.proofs.Common.{map, sym, subst}
 use Rattle.std.specs.Prelude.{All}
 use Rattle.wu_gcl.specs.Regions.{region_of}
 use Rattle.wu_solve.specs.Addresses.{AreLists}

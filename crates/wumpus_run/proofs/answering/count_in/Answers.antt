@@ -1,4 +1,4 @@
-use Rattle.std.proofs.Common.{◌+◌, take, length, get_or, arith, ap}
+use Rattle.std.proofs.Common.{◌+◌, length, arith, ap}
 use Rattle.wu_base.specs.declared.addresses.Range.{Range}
 use Rattle.wu_gcl.specs.Regions.{region_of}
 use Rattle.wumpus_run.proofs.CountLemmas.{hits-more, hits-taken}

@@ -1,4 +1,4 @@
-use Rattle.std.proofs.Common.{◌≡◌, ◌∙◌, sym, ap, get_or}
+use Rattle.std.proofs.Common.{sym, ap, get_or}
 use Rattle.wu_base.specs.declared.addresses.TermList.{TermList}
 use Rattle.wumpus_run.proofs.ScanLemmas.{set-noted, map-noted-others, if_ok}
 use Rattle.wumpus_run.proofs.scanning.note.Goals as goal

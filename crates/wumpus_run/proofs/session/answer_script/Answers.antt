@@ -1,12 +1,9 @@
-use Rattle.std.proofs.Common.{◌≡◌, ◌++◌, ◌≤◌, [], Ok, Err, length, sym, ap, ◌∙◌, subst, arith}
+use Rattle.std.proofs.Common.{◌++◌, Err, sym, ap, ◌∙◌, subst, arith}
 use Rattle.std.specs.Io.KnownBytes.{prepend_known}
-use Rattle.wu_script.specs.declared.ends.ReadEnd.TheVariants as ends
-use Rattle.wu_script.specs.declared.types.Item.TheVariants as items
 use Rattle.wu_script.specs.Items.{IsNext, IsItem}
-use Rattle.wumpus_run.specs.declared.statuses.Status.TheVariants.{Done, ReadFault, WriteFault, NoMemory}
+use Rattle.wumpus_run.specs.declared.statuses.Status.TheVariants.{Done, WriteFault, NoMemory}
 use Rattle.wumpus_run.specs.Output.{item_bytes}
-use Rattle.wumpus_run.specs.Session.{Ends, status_of}
-use Rattle.wumpus_run.proofs.SessionLemmas.{HasAnswered, HasAnswered-none, HasAnswered-turn, HasTaken, HasTaken-more, IsFront, IsFront-sent, IsFront-part, takes_one}
+use Rattle.wumpus_run.proofs.SessionLemmas.{HasAnswered-none, HasAnswered-turn, HasTaken-more, IsFront-sent, IsFront-part, takes_one}
 use Rattle.wumpus_run.proofs.EndLemmas.{Ends-short, Ends-stopped, TakesAtMost-none, TakesAtMost-taken, HasTaken-none, AnswersFront-none, AnswersAll-end, read_fault_end, Rose-earlier}
 use Rattle.wumpus_run.proofs.session.answer_script.Goals as goal
 
