@@ -114,22 +114,28 @@ fn small_tree(rt: HostRuntime) -> Result<Tree, NoMemory> {
 #[test]
 fn nodes_and_links_that_may_not_be_made(rt: HostRuntime) -> Result<(), Fail> {
     let mut tree = small_tree(rt)?;
+    for (parent, name, refusal) in [
+        (1, b"d".as_slice(), Refusal::Exists),
+        (7, b"x".as_slice(), Refusal::NoSuch),
+        (3, b"x".as_slice(), Refusal::Kind),
+        (1, b"..".as_slice(), Refusal::BadName),
+        (1, b"".as_slice(), Refusal::BadName),
+        (1, b"a/b".as_slice(), Refusal::BadName),
+    ] {
+        assert_eq!(rt; create(rt, &mut tree, 9, parent, name)?, Some(refusal));
+        assert_eq!(rt; mkdir(rt, &mut tree, 9, parent, name)?, Some(refusal));
+    }
     assert_eq!(rt; create(rt, &mut tree, 3, 1, b"x")?, Some(Refusal::Exists));
-    assert_eq!(rt; create(rt, &mut tree, 9, 1, b"d")?, Some(Refusal::Exists));
-    assert_eq!(rt; create(rt, &mut tree, 9, 7, b"x")?, Some(Refusal::NoSuch));
-    assert_eq!(rt; create(rt, &mut tree, 9, 3, b"x")?, Some(Refusal::Kind));
-    assert_eq!(rt; mkdir(rt, &mut tree, 9, 1, b"..")?, Some(Refusal::BadName));
-    assert_eq!(rt; mkdir(rt, &mut tree, 9, 1, b"")?, Some(Refusal::BadName));
-    assert_eq!(rt; mkdir(rt, &mut tree, 9, 1, b"a/b")?, Some(Refusal::BadName));
-    assert_eq!(rt;
-        tree.apply(&Event::Text { ino: 2 })?.err(),
-        Some(Refusal::Kind)
-    );
-    assert_eq!(rt;
-        tree.apply(&Event::Text { ino: 9 })?.err(),
-        Some(Refusal::NoSuch)
-    );
-    assert_eq!(rt; link(rt, &mut tree, 2, 1, b"h")?, Some(Refusal::Kind));
+    Ok(())
+}
+
+#[test]
+fn texts_and_links_that_may_not_be_given(rt: HostRuntime) -> Result<(), Fail> {
+    let mut tree = small_tree(rt)?;
+    for (ino, refusal) in [(2, Refusal::Kind), (9, Refusal::NoSuch)] {
+        assert_eq!(rt; tree.apply(&Event::Text { ino })?.err(), Some(refusal));
+        assert_eq!(rt; link(rt, &mut tree, ino, 1, b"h")?, Some(refusal));
+    }
     assert_eq!(rt; link(rt, &mut tree, 3, 1, b"g")?, Some(Refusal::Exists));
     Ok(())
 }
@@ -137,53 +143,49 @@ fn nodes_and_links_that_may_not_be_made(rt: HostRuntime) -> Result<(), Fail> {
 #[test]
 fn links_that_may_not_go(rt: HostRuntime) -> Result<(), Fail> {
     let mut tree = small_tree(rt)?;
-    assert_eq!(rt; unlink(rt, &mut tree, 1, b"zz")?, Some(Refusal::NoSuch));
-    assert_eq!(rt; unlink(rt, &mut tree, 1, b"d")?, Some(Refusal::Kind));
+    for (name, unlinked, removed) in [
+        (b"z".as_slice(), Refusal::NoSuch, Refusal::NoSuch),
+        (b"d".as_slice(), Refusal::Kind, Refusal::NotEmpty),
+    ] {
+        assert_eq!(rt; unlink(rt, &mut tree, 1, name)?, Some(unlinked));
+        assert_eq!(rt; rmdir(rt, &mut tree, 1, name)?, Some(removed));
+    }
     assert_eq!(rt; rmdir(rt, &mut tree, 1, b"g")?, Some(Refusal::Kind));
-    assert_eq!(rt; rmdir(rt, &mut tree, 1, b"d")?, Some(Refusal::NotEmpty));
     assert_eq!(rt; rmdir(rt, &mut tree, 2, b"e")?, None);
-    assert_eq!(rt;
-        tree.apply(&Event::Chmod {
-            ino: 99,
-            mode: 0o755
-        })?
-        .err(),
-        Some(Refusal::NoSuch)
-    );
-    assert_eq!(rt;
-        tree.apply(&Event::Chown {
-            ino: 1,
-            uid: 0,
-            gid: 0
-        })?
-        .err(),
-        None
-    );
     assert_eq!(rt; tree.file_count(), 2);
+    Ok(())
+}
+
+#[test]
+fn permissions_of_no_node_may_not_change(rt: HostRuntime) -> Result<(), Fail> {
+    let mut tree = Tree::new(rt.alloc())?;
+    for (ino, refusal) in [(99, Some(Refusal::NoSuch)), (1, None)] {
+        let chmod = Event::Chmod { ino, mode: 0o755 };
+        let chown = Event::Chown {
+            ino,
+            uid: 0,
+            gid: 0,
+        };
+        assert_eq!(rt; tree.apply(&chmod)?.err(), refusal);
+        assert_eq!(rt; tree.apply(&chown)?.err(), refusal);
+    }
     Ok(())
 }
 
 #[test]
 fn links_that_may_not_move(rt: HostRuntime) -> Result<(), Fail> {
     let mut tree = small_tree(rt)?;
-    assert_eq!(rt;
-        rename(rt, &mut tree, 1, b"d", 4, b"q")?,
-        Some(Refusal::Loop)
-    );
-    assert_eq!(rt;
-        rename(rt, &mut tree, 1, b"d", 2, b"x")?,
-        Some(Refusal::Loop)
-    );
-    assert_eq!(rt;
-        rename(rt, &mut tree, 1, b"g", 1, b"d")?,
-        Some(Refusal::Kind)
-    );
-    assert_eq!(rt;
-        rename(rt, &mut tree, 2, b"e", 1, b"d")?,
-        Some(Refusal::NotEmpty)
-    );
-    assert_eq!(rt; rename(rt, &mut tree, 1, b"d", 1, b"d")?, None);
-    assert_eq!(rt; rename(rt, &mut tree, 2, b"e", 1, b"e")?, None);
+    for (parent, name, new_parent, new_name, refusal) in [
+        (1, b"d", 4, b"q", Some(Refusal::Loop)),
+        (1, b"d", 2, b"x", Some(Refusal::Loop)),
+        (1, b"g", 1, b"d", Some(Refusal::Kind)),
+        (2, b"e", 1, b"d", Some(Refusal::NotEmpty)),
+        (1, b"d", 1, b"d", None),
+        (2, b"e", 1, b"e", None),
+    ] {
+        let answer = rename(rt, &mut tree, parent, name, new_parent, new_name)?;
+        assert_eq!(rt; answer, refusal);
+    }
     assert_eq!(rt; rmdir(rt, &mut tree, 1, b"e")?, None);
     Ok(())
 }
@@ -191,43 +193,38 @@ fn links_that_may_not_move(rt: HostRuntime) -> Result<(), Fail> {
 #[test]
 fn renaming_among_hard_links(rt: HostRuntime) -> Result<(), Fail> {
     let mut tree = Tree::new(rt.alloc())?;
-    assert_eq!(rt; create(rt, &mut tree, 2, 1, b"a")?, None);
-    assert_eq!(rt; create(rt, &mut tree, 3, 1, b"b")?, None);
-    assert_eq!(rt; link(rt, &mut tree, 2, 1, b"c")?, None);
-    assert_eq!(rt; rename(rt, &mut tree, 1, b"a", 1, b"c")?, None);
-    assert_eq!(rt; tree.entries(1).map(|names| names.len()), Some(3));
-    assert_eq!(rt; rename(rt, &mut tree, 1, b"b", 1, b"a")?, None);
-    assert_eq!(rt; tree.file_count(), 2);
-    assert_eq!(rt; rename(rt, &mut tree, 1, b"a", 1, b"c")?, None);
+    create(rt, &mut tree, 2, 1, b"a")?;
+    create(rt, &mut tree, 3, 1, b"b")?;
+    link(rt, &mut tree, 2, 1, b"c")?;
+    // The first changes nothing, since both names are the same file's.
+    for (name, new_name, files) in [(b"a", b"c", 2), (b"b", b"a", 2), (b"a", b"c", 1)] {
+        assert_eq!(rt; rename(rt, &mut tree, 1, name, 1, new_name)?, None);
+        assert_eq!(rt; tree.file_count(), files);
+    }
     assert_eq!(rt; tree.child(1, b"c"), Some(3));
-    assert_eq!(rt; tree.file_count(), 1);
     Ok(())
 }
 
 #[test]
 fn a_subtree_moves_one_level_too_deep(rt: HostRuntime) -> Result<(), Fail> {
-    let mut tree = Tree::new(rt.alloc())?;
-    for parent in 1..253 {
-        assert_eq!(rt; mkdir(rt, &mut tree, parent + 1, parent, b"d")?, None);
+    let mut tree = chain(rt, 253)?;
+    mkdir(rt, &mut tree, 300, 1, b"a")?;
+    mkdir(rt, &mut tree, 301, 300, b"b")?;
+    mkdir(rt, &mut tree, 302, 301, b"c")?;
+    for (parent, new_parent, refusal) in [
+        (1, 253, Some(Refusal::Deep)),
+        (1, 252, None),
+        (252, 1, None),
+    ] {
+        let answer = rename(rt, &mut tree, parent, b"a", new_parent, b"a")?;
+        assert_eq!(rt; answer, refusal);
     }
-    assert_eq!(rt; mkdir(rt, &mut tree, 300, 1, b"a")?, None);
-    assert_eq!(rt; mkdir(rt, &mut tree, 301, 300, b"b")?, None);
-    assert_eq!(rt; mkdir(rt, &mut tree, 302, 301, b"c")?, None);
-    assert_eq!(rt;
-        rename(rt, &mut tree, 1, b"a", 253, b"a")?,
-        Some(Refusal::Deep)
-    );
-    assert_eq!(rt; rename(rt, &mut tree, 1, b"a", 252, b"a")?, None);
-    assert_eq!(rt; rename(rt, &mut tree, 252, b"a", 1, b"e")?, None);
     Ok(())
 }
 
 #[test]
 fn a_directory_lies_at_depth_255_at_most(rt: HostRuntime) -> Result<(), Fail> {
-    let mut tree = Tree::new(rt.alloc())?;
-    for parent in 1..DEPTH_MAX as Ino {
-        assert_eq!(rt; mkdir(rt, &mut tree, parent + 1, parent, b"d")?, None);
-    }
+    let mut tree = chain(rt, DEPTH_MAX as Ino)?;
     assert_eq!(rt; mkdir(rt, &mut tree, 256, 255, b"d")?, Some(Refusal::Deep));
     assert_eq!(rt; create(rt, &mut tree, 256, 255, b"f")?, None);
     Ok(())
@@ -247,15 +244,8 @@ fn a_file_goes_with_its_last_link(rt: HostRuntime) -> Result<(), Fail> {
 }
 
 #[test]
-fn a_tree_tells_its_nodes_names_and_users(rt: HostRuntime) -> Result<(), Fail> {
-    let mut tree = small_tree(rt)?;
-    let mut groups = Sequence::new(rt.alloc());
-    groups.push(9)?;
-    groups.push(7)?;
-    groups.push(9)?;
-    assert!(rt; tree.apply(&Event::User { uid: 5, groups })?.is_ok());
-    assert_eq!(rt; tree.groups_of(5), [7, 9].as_slice());
-    assert_eq!(rt; tree.user_at(0).map(|user| user.uid), Some(5));
+fn a_tree_tells_its_nodes_and_names(rt: HostRuntime) -> Result<(), Fail> {
+    let tree = small_tree(rt)?;
     assert_eq!(rt; tree.node_at(2).map(|node| node.0), Some(3));
     assert_eq!(rt; tree.node(2).map(|node| node.kind), Some(Kind::Directory));
     assert_eq!(rt; tree.entry(2, 0), Some((b"e".as_slice(), 4)));
@@ -263,6 +253,28 @@ fn a_tree_tells_its_nodes_names_and_users(rt: HostRuntime) -> Result<(), Fail> {
     assert!(rt; is_name(b"...") && !is_name(b"."));
     tree.keeps_the_rules();
     Ok(())
+}
+
+#[test]
+fn a_tree_tells_its_users(rt: HostRuntime) -> Result<(), Fail> {
+    let mut tree = Tree::new(rt.alloc())?;
+    let mut groups = Sequence::new(rt.alloc());
+    for group in [9, 7, 9] {
+        groups.push(group)?;
+    }
+    assert!(rt; tree.apply(&Event::User { uid: 5, groups })?.is_ok());
+    assert_eq!(rt; tree.groups_of(5), [7, 9].as_slice());
+    assert_eq!(rt; tree.user_at(0).map(|user| user.uid), Some(5));
+    Ok(())
+}
+
+/// Directories 1 to `depth`, each in the one before.
+fn chain(rt: HostRuntime, depth: Ino) -> Result<Tree, NoMemory> {
+    let mut tree = Tree::new(rt.alloc())?;
+    for parent in 1..depth {
+        mkdir(rt, &mut tree, parent + 1, parent, b"d")?;
+    }
+    Ok(tree)
 }
 
 /// What a tree tells of itself.

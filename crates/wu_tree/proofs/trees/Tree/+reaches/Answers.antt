@@ -2,7 +2,7 @@ use Rattle.std.proofs.Common.{◌≡◌, ◌-◌, ◌∙◌, ℕ, true, false, s
 use Rattle.std.specs.Prelude.{◌&&◌, map}
 use Rattle.std.specs.List.{list_any}
 use Rattle.wu_tree.specs.FileSystems.{is_directory, entries_of}
-use Rattle.wu_tree.specs.Paths.{children_of, reaches}
+use Rattle.wu_tree.specs.Paths.{reaches}
 use Rattle.wu_tree.proofs.Downs.{reaches-zero, reaches-suc, children_named, and_true, no_first, no_second, any_first, any_skip}
 use Rattle.wu_tree.proofs.trees.Tree.+reaches.Goals.{else-is_directory-via-then-is_directory+else-reaches, else-is_directory-via-else-is_directory}
 use Rattle.wu_tree.proofs.trees.Tree.+reaches.Goals as goal
