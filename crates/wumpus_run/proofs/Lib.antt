@@ -5,3 +5,5 @@ pub mod ReplyLemmas
 pub mod SessionLemmas
 pub mod EndLemmas
 pub mod StateLemmas
+pub mod UnitLemmas
+pub mod RankLemmas

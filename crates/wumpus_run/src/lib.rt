@@ -4,6 +4,7 @@
 mod answering;
 mod machine;
 mod options;
+mod ranking;
 mod scanning;
 mod session;
 mod statuses;
