@@ -2,6 +2,7 @@
 use Rattle.std.proofs.Common.{◌≡◌, ℕ, ◌+◌, ◌≤◌, ◌<◌, ◌⊎◌, List, [], ◌++◌, length, Option, None, Some, IfSome, refl, sym, ap, ◌∙◌, subst, inl, inr, arith, append-nil, length-append}
 use Rattle.std.specs.Io.KnownBytes.{Appends, Consumes, IsAtEnd, prepend_known}
 use Rattle.std.proofs.KnownBytes.{Appends-nil, Consumes-nil, Consumes-trans}
+use Rattle.wu_outside.specs.Faults.{Rose}
 use Rattle.wu_outside.specs.Gains.{GainsPrefix}
 use Rattle.wu_script.specs.declared.ends.ReadEnd.{ReadEnd}
 use Rattle.wu_script.specs.declared.ends.ReadEnd.TheVariants as ends
@@ -72,27 +73,42 @@ Ends-stopped ends.NoMemory told before between left gained now old taken stops f
 
 -- ---- the end of the script
 
-at_end : (bytes : List ℕ) (left : Option (List ℕ)) → bytes ≡ [] → IsAtEnd left → (xs : List ℕ) → left ≡ Some xs → xs ≡ []
-at_end bytes left none ended xs is = subst (λ l. IsAtEnd l) is ended
-
 finished : (read : Reading) → (gained now : Option (List ℕ)) (input rest : List ℕ) (s : State) → rest ≡ [] → HasSent gained now (output_of read first_state (items_of input)) (output_of read s (items_of rest))
     → Appends gained now (output_of read first_state (items_of input))
 finished read gained now input rest s none sent =
     HasSent-all gained now (output_of read first_state (items_of input))
     (subst (HasSent gained now (output_of read first_state (items_of input))) (ap (λ bs. output_of read s (items_of bs)) none ∙ ap (output_of read s) items_of-none) sent)
 
--- the input was read to its end, and everything was answered; `held` is what the reader held before it found the end, and `rest` what it and the source have then
-pub AnswersAll-end : (told : Settings) (before between left gained now : Option (List ℕ)) (s : State) (known rest : Option (List ℕ)) (bytes : List ℕ) → rest ≡ prepend_known bytes left → bytes ≡ []
-    → IsAtEnd left → HasAnswered gained now before known s → IsNext known rest items.End → TakesAtMost told.max_input before left → AnswersAll (Some told) before left gained now
-AnswersAll-end told None between left gained now s known rest bytes is none ended answered next few = tt
-AnswersAll-end told (Some input) between None gained now s known rest bytes is none ended answered next few = absurd few.1
-AnswersAll-end told (Some input) between (Some xs) gained now s None rest bytes is none ended answered next few = absurd few.1
-AnswersAll-end told (Some input) between (Some xs) gained now s (Some ks) None bytes is none ended answered next few = absurd next
-AnswersAll-end told (Some input) between (Some xs) gained now s (Some ks) (Some rs) bytes is none ended answered next few = (
+finished_if : (read : Reading) → (gained now : Option (List ℕ)) (input : List ℕ) (known rest : Option (List ℕ)) (s : State) → IsNext known rest items.End → IsOnTheWay read gained now (Some input) known s
+    → Appends gained now (output_of read first_state (items_of input))
+finished_if read gained now input None rest s next sent = absurd sent
+finished_if read gained now input (Some bytes) None s next sent = absurd next
+finished_if read gained now input (Some bytes) (Some rest) s next sent = finished read gained now input bytes s next.0 sent
+
+-- the input was read to its end, and everything was answered
+pub AnswersAll-end : (told : Settings) (before left gained now : Option (List ℕ)) (s : State) (known rest : Option (List ℕ)) → IsAtEnd left → HasAnswered gained now before known s → IsNext known rest items.End
+    → TakesAtMost told.max_input before left → AnswersAll (Some told) before left gained now
+AnswersAll-end told None left gained now s known rest ended answered next few = tt
+AnswersAll-end told (Some input) None gained now s known rest ended answered next few = absurd few.1
+AnswersAll-end told (Some input) (Some xs) gained now s known rest ended answered next few = (
     omega (arith, ap length few.1, length-append few.0 xs, ap length ended, few.2),
     ap Some ended,
-    λ read reading. finished read gained now input ks s next.0 (answered read reading),
+    λ read reading. finished_if read gained now input known rest s next (answered read reading),
   )
+
+-- nothing was taken where the words weren't read
+pub IsTooLong-none : (status : Status) (settings : Option Settings) (before : Option (List ℕ)) → (status ≡ InputTooLong → ⊥) → IsTooLong status settings before before
+IsTooLong-none status None before other = tt
+IsTooLong-none status (Some told) before other = not_long status told before before other (TakesAtMost-none before told.max_input)
+
+pub read_fault_end : (end : ReadEnd) → status_of end ≡ ReadFault → end ≡ ends.ReadFault
+read_fault_end ends.ReadFault is = refl
+read_fault_end ends.InputTooLong is = cc
+read_fault_end ends.NoMemory is = cc
+
+-- a count that rose later rose
+pub Rose-earlier : (before between now : ℕ) → before ≤ between → Rose between now → Rose before now
+Rose-earlier before between now kept rose = grind (arith, kept, rose)
 
 too_much : (input : List ℕ) (left : Option (List ℕ)) (most : ℕ) → TakesExactly (most + 1) (Some input) left → length input ≤ most → ⊥
 too_much input None most many within = absurd many.1

@@ -1,5 +1,5 @@
 -- What is replied to an item as it was read is the reply to what its bytes say.
-use Rattle.std.proofs.Common.{◌≡◌, ℕ, List, Some, Ok, Err, Result, ap, sym, ◌∙◌, refl}
+use Rattle.std.proofs.Common.{◌≡◌, ℕ, List, [], Some, Ok, Err, Result, ap, sym, ◌∙◌, refl}
 use Rattle.wu_gcl.specs.Reading.{Value, Reads}
 use Rattle.wu_gcl.specs.Regions.{region_of}
 use Rattle.wu_gcl.specs.declared.expressions.ExprFault.{ExprFault}

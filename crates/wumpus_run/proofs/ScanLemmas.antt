@@ -1,6 +1,7 @@
 -- Where terms stand in the texts of a view.
 use Rattle.std.proofs.Common.{◌≡◌, ℕ, zero, suc, ◌+◌, ◌≤◌, ◌<◌, ◌⊎◌, Bool, true, false, cond, ◌&&◌, ◌||◌, List, [], ◌∷◌, ◌++◌, length, take, drop, get_or, map, refl, sym, ap, ◌∙◌, subst, inl, inr, arith, append_assoc, append-nil, length-append, add-one, Ordering, Less, Equal, Greater, is_eq}
-use Rattle.std.specs.Prelude.{nat_eq, Contains}
+use Rattle.std.proofs.lemmas.List.{take_more, length-take}
+use Rattle.std.specs.Prelude.{nat_eq, slice_set}
 use Rattle.std.specs.List.{flat_map, list_any, AllByRecursion}
 use Rattle.std.specs.List.Sorted.{IsStrictlySortedBy, IsStrictlyIncreasing}
 use Rattle.std.specs.Cmp.Lexicographic.{pointwise, slice_cmp, nat_list_cmp_total, texts_ties}
@@ -8,11 +9,11 @@ use Rattle.std.specs.Ordering.{nat_cmp, ordering_reverse}
 use Rattle.wu_base.specs.declared.addresses.Range.{Range}
 use Rattle.wu_base.specs.declared.addresses.TermList.{TermList}
 use Rattle.wu_gcl.specs.Extents.{is_token_at}
-use Rattle.wu_gcl.proofs.Fronts.{pointwise_same}
 use Rattle.wu_token.specs.Tokens.{tokens_of}
+use Rattle.wu_token.specs.declared.spans.Token.{Token}
 use Rattle.wu_solve.specs.Addresses.{is_among, has_address}
 use Rattle.wumpus_run.specs.View.{Shown}
-use Rattle.wumpus_run.specs.Scans.{tokens_in, frames_from, places_from, with_places, noted, list_without_places, list_among}
+use Rattle.wumpus_run.specs.Scans.{tokens_in, frames_from, places_from, with_places, noted, IsOther, IsListOf, list_without_places, list_among}
 
 -- ---- noting tokens
 
@@ -75,9 +76,6 @@ with_places-all tokens (term ∷ terms) = ap (λ ls. list_among tokens term ∷ 
 
 abbrev text_cmp : List ℕ → List ℕ → Ordering
 text_cmp a b = slice_cmp nat_cmp a b
-
-abbrev IsOther : List ℕ → TermList → Type 0
-IsOther term list = pointwise nat_eq term list.term ≡ false
 
 abbrev IsSortedByTerm : List TermList → Type 0
 IsSortedByTerm lists = IsStrictlySortedBy (slice_cmp nat_cmp) (map (λ (list : TermList). list.term) lists)
@@ -145,23 +143,39 @@ behind_equal (list ∷ lists) zero x term up within is equal =
     greater_are_other term lists (through list.term term (map (λ (l : TermList). l.term) lists) (λ other after. sym (nat_list_cmp_total.congr list.term term other here) ∙ after) up.0)
 behind_equal (list ∷ lists) (suc i) x term up within is equal = behind_equal lists i x term up.1 (omega arith) is equal
 
--- parts of sorted lists are sorted
-all_taken : (P : List ℕ → Type 0) (i : ℕ) (lists : List TermList) → AllByRecursion P (map (λ (list : TermList). list.term) lists) → AllByRecursion P (map (λ (list : TermList). list.term) (take i lists))
-all_taken P zero lists all = tt
-all_taken P (suc i) [] all = tt
-all_taken P (suc i) (list ∷ lists) all = (all.0, all_taken P i lists all.1)
+-- the list that a search finds
+pub found_list : (lists : List TermList) (i : ℕ) (x : TermList) (term : List ℕ) → IsSortedByTerm lists → i < length lists → x ≡ get_or lists i x → text_cmp x.term term ≡ Equal → IsListOf term lists i
+found_list lists i x term up within is equal = record {
+  within = within;
+  same = λ d. subst (λ (l : TermList). pointwise nat_eq term l.term ≡ true) (is ∙ get_or-default lists i x d within) (texts_ties term x.term ∙ ap is_eq (reversed x.term term Equal equal));
+  before = before_equal lists i x term up within is equal;
+  behind = behind_equal lists i x term up within is equal;
+}
+  where
+  get_or-default : (xs : List TermList) (k : ℕ) (d e : TermList) → k < length xs → get_or xs k d ≡ get_or xs k e
+  get_or-default [] k d e inside = absurd (omega arith)
+  get_or-default (y ∷ ys) zero d e inside = refl
+  get_or-default (y ∷ ys) (suc k) d e inside = get_or-default ys k d e (omega arith)
 
-pub sorted_taken : (i : ℕ) (lists : List TermList) → IsSortedByTerm lists → IsSortedByTerm (take i lists)
-unfolding IsStrictlySortedBy
-sorted_taken zero lists up = tt
-sorted_taken (suc i) [] up = tt
-sorted_taken (suc i) (list ∷ lists) up = (all_taken (λ other. text_cmp list.term other ≡ Less) i lists up.0, sorted_taken i lists up.1)
+all_from_parts : (P : TermList → Type 0) (lists : List TermList) (n : ℕ) → AllByRecursion P (take n lists) → AllByRecursion P (drop n lists) → AllByRecursion P lists
+all_from_parts P lists zero front back = back
+all_from_parts P [] (suc n) front back = tt
+all_from_parts P (list ∷ lists) (suc n) front back = (front.0, all_from_parts P lists n front.1 back)
 
-pub sorted_dropped : (i : ℕ) (lists : List TermList) → IsSortedByTerm lists → IsSortedByTerm (drop i lists)
-unfolding IsStrictlySortedBy
-sorted_dropped zero lists up = up
-sorted_dropped (suc i) [] up = tt
-sorted_dropped (suc i) (list ∷ lists) up = sorted_dropped i lists up.1
+-- the lists below and above are of other terms
+pub others_all : (term : List ℕ) (lists : List TermList) (low high : ℕ) → high ≤ low → low ≤ high → AllByRecursion (IsOther term) (take low lists) → AllByRecursion (IsOther term) (drop high lists) → AllByRecursion (IsOther term) lists
+others_all term lists low high le ge front back =
+    let same : high ≡ low = omega arith in
+    all_from_parts (IsOther term) lists low front (subst (λ n. AllByRecursion (IsOther term) (drop n lists)) same back)
+
+-- the term's list gets the address
+pub set-noted : (term : List ℕ) (n : ℕ) (lists : List TermList) (i : ℕ) (d x : TermList) → IsListOf term lists i → x ≡ record (get_or lists i d) { at = (get_or lists i d).at ++ n ∷ [] } → slice_set lists i x ≡ map (noted term n) lists
+set-noted term n lists i d x found is = go lists i found.within (found.same d) found.before found.behind is where
+  go : (ls : List TermList) (k : ℕ) → k < length ls → pointwise nat_eq term (get_or ls k d).term ≡ true → AllByRecursion (IsOther term) (take k ls) → AllByRecursion (IsOther term) (drop (suc k) ls)
+      → x ≡ record (get_or ls k d) { at = (get_or ls k d).at ++ n ∷ [] } → slice_set ls k x ≡ map (noted term n) ls
+  go [] k within same before behind eq = absurd (omega arith)
+  go (l ∷ ls) zero within same before behind eq = rw same (ap (λ (y : TermList). y ∷ ls) eq ∙ ap (λ (ys : List TermList). let y : TermList = record l { at = l.at ++ n ∷ [] } in y ∷ ys) (sym (map-noted-others term n ls behind)))
+  go (l ∷ ls) (suc k) within same before behind eq = rw before.0 (ap (λ (ys : List TermList). l ∷ ys) (go ls k (omega arith) same before.1 behind eq))
 
 -- ---- frames
 
@@ -173,3 +187,68 @@ frames_from-more start (first ∷ files) file =
     let more = frames_from-more (start + length (tokens_of first.text)) files file in
     let same : start + length (tokens_of first.text) + length (tokens_in files) ≡ start + length (tokens_in (first ∷ files)) = omega (arith, length-append (tokens_of first.text) (tokens_in files)) in
     ap (λ fs. head ∷ fs) (more ∙ ap (λ s. let r : Range = record { start = s; len = length (tokens_of file.text) } in frames_from (start + length (tokens_of first.text)) files ++ r ∷ []) same)
+
+tokens_in-more : (files : List Shown) (file : Shown) → tokens_in (files ++ file ∷ []) ≡ tokens_in files ++ tokens_of file.text
+tokens_in-more [] file = append-nil (tokens_of file.text)
+tokens_in-more (first ∷ files) file = ap (λ ts. tokens_of first.text ++ ts) (tokens_in-more files file) ∙ sym (append_assoc (tokens_of first.text) (tokens_in files) (tokens_of file.text))
+
+map-more : {X Y : Type 0} (f : X → Y) (xs : List X) (x : X) → map f (xs ++ x ∷ []) ≡ map f xs ++ f x ∷ []
+map-more f [] x = refl
+map-more f (y ∷ xs) x = ap (λ ys. f y ∷ ys) (map-more f xs x)
+
+-- the files of a view up to the next one
+pub files-more : {X : Type 0} (shown : X → Shown) (view : List X) (i : ℕ) (d : X) → i < length view → map shown (take (i + 1) view) ≡ map shown (take i view) ++ shown (get_or view i d) ∷ []
+files-more shown view i d within = ap (map shown) (take_more view i d within) ∙ map-more shown (take i view) (get_or view i d)
+
+zero_first : (n : ℕ) → n ≡ 0 + n
+zero_first n = omega arith
+
+-- the next file's frame
+pub frames-next : (files more : List Shown) (file : Shown) (frames : List Range) (next len : ℕ) (tokens : List (List ℕ)) → more ≡ files ++ file ∷ [] → tokens ≡ tokens_of file.text
+    → frames ≡ frames_from 0 files → next ≡ length (tokens_in files) → len ≡ length tokens → frames ++ record { start = next; len = len } ∷ [] ≡ frames_from 0 more
+frames-next files more file frames next len tokens is same before at' long =
+    ap (λ fs. let r : Range = record { start = next; len = len } in fs ++ r ∷ []) before
+    ∙ ap (λ n. let r : Range = record { start = n; len = len } in frames_from 0 files ++ r ∷ []) at'
+    ∙ ap (λ n. let r : Range = record { start = length (tokens_in files); len = n } in frames_from 0 files ++ r ∷ []) (long ∙ ap length same)
+    ∙ ap (λ n. let r : Range = record { start = n; len = length (tokens_of file.text) } in frames_from 0 files ++ r ∷ []) (zero_first (length (tokens_in files)))
+    ∙ sym (frames_from-more 0 files file) ∙ ap (frames_from 0) (sym is)
+
+-- the next file's tokens, noted
+pub pub lists-next : (files more : List Shown) (file : Shown) (base lists noted' : List TermList) (next : ℕ) (tokens : List (List ℕ)) → more ≡ files ++ file ∷ [] → tokens ≡ tokens_of file.text
+    → lists ≡ map (with_places 0 (tokens_in files)) base → next ≡ length (tokens_in files) → noted' ≡ map (with_places next tokens) lists → noted' ≡ map (with_places 0 (tokens_in more)) base
+lists-next files more file base lists noted' next tokens is same before at' noting =
+    noting ∙ ap (map (with_places next tokens)) before ∙ ap (λ n. map (with_places n tokens) (map (with_places 0 (tokens_in files)) base)) at'
+    ∙ ap (λ n. map (with_places n tokens) (map (with_places 0 (tokens_in files)) base)) (zero_first (length (tokens_in files)))
+    ∙ map-with_places-append 0 (tokens_in files) tokens base ∙ ap (λ ts. map (with_places 0 (tokens_in files ++ ts)) base) same
+    ∙ ap (λ ts. map (with_places 0 ts) base) (sym (tokens_in-more files file)) ∙ ap (λ fs. map (with_places 0 (tokens_in fs)) base) (sym is)
+
+pub length-next : (files more : List Shown) (file : Shown) (next len : ℕ) (tokens : List (List ℕ)) → more ≡ files ++ file ∷ [] → tokens ≡ tokens_of file.text → next ≡ length (tokens_in files) → len ≡ length tokens
+    → next + len ≡ length (tokens_in more)
+length-next files more file next len tokens is same at' long =
+    omega (arith, at', long, ap length same, length-append (tokens_in files) (tokens_of file.text), ap length (tokens_in-more files file), ap (λ fs. length (tokens_in fs)) is)
+
+-- noting keeps the order of the lists
+pub sorted_noted : (n : ℕ) (tokens : List (List ℕ)) (base lists : List TermList) → lists ≡ map (with_places n tokens) base → IsSortedByTerm base → IsSortedByTerm lists
+sorted_noted n tokens base lists is sorted = subst (IsStrictlySortedBy (slice_cmp nat_cmp)) (sym (ap (map (λ (list : TermList). list.term)) is ∙ terms-with_places n tokens base)) sorted
+
+pub sorted_at_first : (terms : List (List ℕ)) (base : List TermList) → base ≡ map list_without_places terms → IsStrictlySortedBy (slice_cmp nat_cmp) terms → IsSortedByTerm base
+sorted_at_first terms base is sorted = subst (IsStrictlySortedBy (slice_cmp nat_cmp)) (sym (ap (map (λ (list : TermList). list.term)) is ∙ terms-without_places terms)) sorted
+
+length-map : {X Y : Type 0} (f : X → Y) (xs : List X) → length (map f xs) ≡ length xs
+length-map f [] = refl
+length-map f (x ∷ xs) = omega (arith, length-map f xs)
+
+-- one token more was noted
+pub note-more : (n i : ℕ) (base lists now : List TermList) (tokens : List Token) (token : Token) (term : List ℕ) → i < length tokens → token ≡ get_or tokens i token → term ≡ token.term
+    → lists ≡ map (with_places n (map (λ t. t.term) (take i tokens))) base → now ≡ map (noted term (n + i)) lists → now ≡ map (with_places n (map (λ t. t.term) (take (i + 1) tokens))) base
+note-more n i base lists now tokens token term within is same before noting =
+    let front = map (λ (t : Token). t.term) (take i tokens) in
+    let long : i ≡ length front = omega (arith, length-map (λ (t : Token). t.term) (take i tokens), length-take i tokens) in
+    noting ∙ ap (map (noted term (n + i))) before ∙ ap (λ k. map (noted term (n + k)) (map (with_places n front) base)) long
+    ∙ map-with_places-more n front term base
+    ∙ ap (λ ts. map (with_places n ts) base) (ap (λ w. front ++ w ∷ []) (same ∙ ap (λ (t : Token). t.term) is)
+        ∙ sym (map-more (λ (t : Token). t.term) (take i tokens) (get_or tokens i token)) ∙ ap (map (λ (t : Token). t.term)) (sym (take_more tokens i token within)))
+
+-- nothing was noted yet
+pub unnoted : (n : ℕ) (lists : List TermList) → lists ≡ map (with_places n []) lists
+unnoted n lists = sym (map-with_places-nil n lists)

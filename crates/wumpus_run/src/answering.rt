@@ -66,8 +66,9 @@ fn count_in(
     let mut files = 0;
     for frame in frames {
         let extents = solve_in(alloc, expr, *frame, lists)?;
-        hits += extents.len() as u64;
-        files += u64::from(!extents.is_empty());
+        let count = extents.len() as u64;
+        hits += count;
+        files += u64::from(count > 0);
     }
     Ok((hits, files))
 }

@@ -1,9 +1,10 @@
 //! The texts of a view as the solver sees them: one frame behind the other, and where terms stand.
-ghost use Rattle.std.specs.Prelude.{◌≡◌, ◌+◌, ◌≤◌, ◌^◌, [], length, map, IfOk, OnOk};
+ghost use Rattle.std.specs.Prelude.{◌≡◌, ◌+◌, ◌≤◌, ◌^◌, [], length, map, IfOk, OnOk, MatchOption};
+ghost use Rattle.std.specs.List.{AllByRecursion};
 ghost use Rattle.std.specs.List.Sorted.{IsStrictlySortedBy};
 ghost use Rattle.std.specs.Cmp.Lexicographic.{slice_cmp};
 ghost use Rattle.std.specs.Ordering.{nat_cmp};
-ghost use Rattle.wumpus_run.specs.Scans.{IsScan, noted, with_places, list_without_places};
+ghost use Rattle.wumpus_run.specs.Scans.{IsScan, IsOther, IsListOf, noted, with_places, list_without_places};
 ghost use Rattle.wumpus_run.specs.States.{AreShort, text_in};
 ghost use Rattle.wumpus_run.specs.View.{shown_of};
 
@@ -84,15 +85,29 @@ fn note(lists: &mut [TermList], term: &[u8], address: u64) -> Result<(), NoMemor
     requires { IsStrictlySortedBy (slice_cmp nat_cmp) (map (λ list. list.term) lists.old) }
     ensures { OnOk result (lists.new ≡ map (noted term.now address) lists.old) }
 {
-    if lists.is_empty() {
-        return Ok(());
+    match list_of(lists, term) {
+        Some(place) => lists[place].at.push(address),
+        None => Ok(()),
     }
-    let middle = lists.len() / 2;
-    match lists[middle].term.as_slice().cmp(&term) {
-        Ordering::Less => note(&mut lists[middle + 1..], term, address),
-        Ordering::Equal => lists[middle].at.push(address),
-        Ordering::Greater => note(&mut lists[..middle], term, address),
+}
+
+/// The place of the term's list.
+fn list_of(lists: &[TermList], term: &[u8]) -> Option<usize>
+    requires { IsStrictlySortedBy (slice_cmp nat_cmp) (map (λ list. list.term) lists.now) }
+    ensures { MatchOption result (AllByRecursion (IsOther term.now) lists.now) (IsListOf term.now lists.now) }
+{
+    let mut low = 0;
+    let mut high = lists.len();
+    while low < high {
+        let middle = low + (high - low) / 2;
+        let list = &lists[middle];
+        match list.term.as_slice().cmp(&term) {
+            Ordering::Less => low = middle + 1,
+            Ordering::Equal => return Some(middle),
+            Ordering::Greater => high = middle,
+        }
     }
+    None
 }
 
 /// The text of a file: the empty one where it was given none.

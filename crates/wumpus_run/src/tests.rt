@@ -9,10 +9,15 @@ use wu_outside::{Failed, Fault, MemSink, MemSource, PlainSource, PlainStore, Sin
 
 /// The status of a session over the script, and what it wrote.
 fn session(alloc: Global, script: &[u8]) -> Result<(Status, MemSink), Fail> {
+    session_of(alloc, &["run"], script)
+}
+
+/// The same with these words behind the program's name.
+fn session_of(alloc: Global, words: &[&str], script: &[u8]) -> Result<(Status, MemSink), Fail> {
     let mut source = MemSource::new(Vec::from_slice(alloc, script)?);
     let mut sink = MemSink::new(alloc);
     let mut store = PlainStore::new(alloc);
-    let status = run(alloc, &["run"], &mut source, &mut sink, &mut store);
+    let status = run(alloc, words, &mut source, &mut sink, &mut store);
     Ok((status, sink))
 }
 
@@ -227,9 +232,89 @@ fn lines_in_no_form_are_refused(rt: HostRuntime) -> Result<(), Fail> {
     assert_replies(
         &rt,
         rt.alloc(),
-        b"fly\n# a\nmkdir~2~1~a\\t~5~5~755\ncount~5~apple\ncreate~2~1~a~0~0~644\ntext~2~9\nabc\n",
-        b"refused~unbuilt\nrefused~unbuilt\nrefused~unbuilt\nrefused~unbuilt\nok\nrefused~unbuilt\nrefused~unbuilt\n",
+        b"fly\n# a\n\nfind~5~1~file\nsave\nmkdir~2~1~a\\x~5~5~755\nsave~\\\n",
+        b"refused~syntax\nrefused~unbuilt\nrefused~unbuilt\nrefused~syntax\nrefused~syntax\n",
     )
+}
+
+#[test]
+fn names_are_shown_with_their_escapes(rt: HostRuntime) -> Result<(), Fail> {
+    assert_replies(
+        &rt,
+        rt.alloc(),
+        b"create~2~1~a\\tb\\n\\\\~0~0~644\npaths~0\n",
+        b"ok\npaths~1\n/a\\tb\\n\\\\\n",
+    )
+}
+
+#[test]
+fn regions_are_counted(rt: HostRuntime) -> Result<(), Fail> {
+    let cases: [(&[u8], &[u8]); 4] = [
+        (
+            b"create~2~1~a~0~0~644\ntext~2~5\na a a\ncount~5~\"a\" ^ \"a\"\ncount~5~\"a\" .. \"a\"\n",
+            b"ok\nok\ncount~3~1\ncount~2~1\n",
+        ),
+        (
+            b"create~2~1~a~0~0~644\ntext~2~5\na a b\ncount~5~\"a\" ^ \"b\"\ncount~5~[8]\ncount~5~[9]\n",
+            b"ok\nok\ncount~1~1\ncount~1~1\ncount~0~0\n",
+        ),
+        (
+            b"create~2~1~a~0~0~644\ncount~5~\"<line>\"\ncount~5~file\ntext~2~1\n\n\ncount~5~line\ncount~5~\"<line>\" .. \"</file>\"\ntext~2~3\na\nb\ncount~5~\"a b\"\ncount~5~line > (\"a\" + \"b\")\n",
+            b"ok\ncount~0~0\ncount~1~1\nok\ncount~1~1\ncount~1~1\nok\ncount~0~0\ncount~2~1\n",
+        ),
+        (
+            b"create~2~1~a~0~0~644\ntext~2~3\na b\ncreate~4~1~c~0~0~644\ntext~4~3\na c\ncount~5~\"a\" /< (\"b\" ^ \"c\")\ncreate~3~1~b~9~9~600\ntext~3~1\nc\ncount~5~\"a\" /< (\"b\" ^ \"c\")\n",
+            b"ok\nok\nok\nok\ncount~2~2\nok\nok\ncount~2~2\n",
+        ),
+    ];
+    for (script, replies) in cases {
+        assert_replies(&rt, rt.alloc(), script, replies)?;
+    }
+    Ok(())
+}
+
+#[test]
+fn what_is_no_expression_is_refused(rt: HostRuntime) -> Result<(), Fail> {
+    assert_replies(
+        &rt,
+        rt.alloc(),
+        b"count~5~\ncount~5~apple\ncount~5~\"a\ncount~5~\"a\" +\ncount~5~\"!!\"\ncount~5~[0]\ncount~5~[01]\ncount~5~[65536]\ncount~5~[0] + \"!!\"\n",
+        b"refused~notexpr\nrefused~notexpr\nrefused~notexpr\nrefused~notexpr\nrefused~noword\nrefused~badwindow\nrefused~badwindow\nrefused~badwindow\nrefused~noword\n",
+    )?;
+    let mut script = Vec::from_slice(rt.alloc(), b"count\t5\t")?;
+    for _ in 0..64 {
+        script.extend_from_slice(b"file + ")?;
+    }
+    script.extend_from_slice(b"file\n")?;
+    assert_replies(&rt, rt.alloc(), script.as_slice(), b"refused~toolarge\n")
+}
+
+#[test]
+fn bodies_are_taken_or_refused(rt: HostRuntime) -> Result<(), Fail> {
+    let cases: [(&[u8], &[u8]); 4] = [
+        (b"create~2~1~a~0~0~644\ntext~2~9\nabc", b"ok\nrefused~truncated\n"),
+        (b"create~2~1~a~0~0~644\ntext~2~3\nabcd\nfly\n", b"ok\nrefused~badbody\nrefused~syntax\n"),
+        (b"create~2~1~a~0~0~644\ntext~2~3\nabc\r\nfly\n", b"ok\nrefused~badbody\nrefused~syntax\n"),
+        (b"create~2~1~a~0~0~644\ntext~2~0", b"ok\nok\n"),
+    ];
+    for (script, replies) in cases {
+        assert_replies(&rt, rt.alloc(), script, replies)?;
+    }
+    let mut script = Vec::from_slice(rt.alloc(), b"create~2~1~a~0~0~644\ntext~2~16777217\n")?;
+    let body = vec![in rt.alloc(); b'x'; 16_777_217]?;
+    script.extend_from_slice(body.as_slice())?;
+    script.extend_from_slice(b"\ncount~5~\"x\"\n")?;
+    assert_replies(&rt, rt.alloc(), script.as_slice(), b"ok\nrefused~toolong\ncount~0~0\n")
+}
+
+#[test]
+fn a_long_line_is_refused_whatever_it_begins_with(rt: HostRuntime) -> Result<(), Fail> {
+    for first in [b'x', b'#'] {
+        let mut script = vec![in rt.alloc(); first; 65_537]?;
+        script.extend_from_slice(b"\nfly\n")?;
+        assert_replies(&rt, rt.alloc(), script.as_slice(), b"refused~longline\nrefused~syntax\n")?;
+    }
+    Ok(())
 }
 
 #[test]
@@ -252,8 +337,15 @@ fn a_word_counts_by_its_first_64_bytes(rt: HostRuntime) -> Result<(), Fail> {
 }
 
 #[test]
-fn the_one_word_run_is_the_only_form(rt: HostRuntime) -> Result<(), Fail> {
-    let forms: [&[&str]; 4] = [&[], &["run", "run"], &["Run"], &["--", "run"]];
+fn words_in_no_form_touch_nothing(rt: HostRuntime) -> Result<(), Fail> {
+    let forms: [&[&str]; 6] = [
+        &[],
+        &["run", "run"],
+        &["demo", "7"],
+        &["run", "--flush=0"],
+        &["run", "--", "--flush=5"],
+        &["--help"],
+    ];
     for words in forms {
         let mut source = MemSource::new(Vec::from_slice(rt.alloc(), b"fly\n")?);
         let mut sink = MemSink::new(rt.alloc());
@@ -267,12 +359,14 @@ fn the_one_word_run_is_the_only_form(rt: HostRuntime) -> Result<(), Fail> {
 
 #[test]
 fn an_input_past_its_limit_is_too_long(rt: HostRuntime) -> Result<(), Fail> {
-    for (more, wanted) in [(0, Status::Done), (1, Status::InputTooLong)] {
-        let mut script = vec![in rt.alloc(); b'\n'; 1_048_576]?;
-        for _ in 0..more {
-            script.push(b'\n')?;
-        }
-        let (status, sink) = session(rt.alloc(), script.as_slice())?;
+    let cases: [(&[&str], &[u8], Status); 4] = [
+        (&["run", "--max-input=10"], b"# comment\n", Status::Done),
+        (&["run", "--max-input=10"], b"# comments\n", Status::InputTooLong),
+        (&["--max-input", "0", "run"], b"", Status::Done),
+        (&["--max-input", "0", "run"], b"\n", Status::InputTooLong),
+    ];
+    for (words, script, wanted) in cases {
+        let (status, sink) = session_of(rt.alloc(), words, script)?;
         assert_eq!(rt; status, wanted);
         assert_eq!(rt; sink.calls(), 0);
     }
@@ -368,5 +462,40 @@ fn a_fault_ends_the_session(rt: HostRuntime) -> Result<(), Fail> {
     let mut source = MemSource::new(Vec::from_slice(rt.alloc(), b"fly\n")?);
     let status = run(rt.alloc(), &["run"], &mut source, &mut broken, &mut store);
     assert_eq!(rt; status, Status::WriteFault);
+    Ok(())
+}
+
+/// A source that fails behind its bytes.
+#[derive(Drop)]
+struct Cut {
+    plain: PlainSource,
+    given: bool,
+    faults: u64,
+}
+
+impl Source for Cut {
+    ghost left = { λ _. None };
+
+    ghost faults = { λ s. s.faults };
+
+    fn read(&mut self, buf: &mut [u8]) -> Result<usize, Failed> {
+        if self.given {
+            self.faults = self.faults.saturating_add(1);
+            return Err(Failed);
+        }
+        self.given = true;
+        self.plain.read(buf)
+    }
+}
+
+#[test]
+fn a_reply_is_written_before_more_is_read(rt: HostRuntime) -> Result<(), Fail> {
+    let plain = PlainSource::new(Vec::from_slice(rt.alloc(), b"fly\npaths\t0\ncou")?);
+    let mut source = Cut { plain, given: false, faults: 0 };
+    let mut sink = MemSink::new(rt.alloc());
+    let mut store = PlainStore::new(rt.alloc());
+    let status = run(rt.alloc(), &["run"], &mut source, &mut sink, &mut store);
+    assert_eq!(rt; status, Status::ReadFault);
+    assert_eq!(rt; sink.gained(), b"refused\tsyntax\npaths\t0\n".as_slice());
     Ok(())
 }

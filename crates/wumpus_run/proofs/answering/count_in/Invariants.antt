@@ -7,7 +7,7 @@ use Rattle.wumpus_run.proofs.answering.count_in.Given as goal
 -- the extents of the frames so far were counted
 abbrev pub invariant-loop-frame : goal.invariant-loop-frame
 invariant-loop-frame l = record {
-  hits : l.hits ≡ length (frames_hits (region_of l.expr) l.lists (take l.frame-index l.frame-items));
-  files : l.files ≡ count_by (λ frame. nat_lt 0 (length (frame_hits (region_of l.expr) l.lists frame))) (take l.frame-index l.frame-items);
+  hits : l.hits ≡ length (frames_hits (region_of l.expr) l.lists (take l.frame-index l.frames));
+  files : l.files ≡ count_by (λ frame. nat_lt 0 (length (frame_hits (region_of l.expr) l.lists frame))) (take l.frame-index l.frames);
   few : l.files ≤ l.frame-index;
 }

@@ -7,7 +7,7 @@ use Rattle.wumpus_run.proofs.session.answer_script.Given as goal
 abbrev pub invariant-items : goal.invariant-items
 invariant-items g l = record {
   answered : HasAnswered (g.O.Sink.gained l.fn.sink) (g.O.Sink.gained l.sink) (g.I.Source.left l.fn.source) (prepend_known l.reader.bytes (g.I.Source.left l.source)) l.machine;
-  taken : HasTaken (g.I.Source.left l.fn.source) (g.I.Source.left l.source) l.reader.spare l.settings.max_input;
+  taken : HasTaken (g.I.Source.left l.fn.source) (g.I.Source.left l.source) l.reader.spare l.fn.settings.max_input;
   at_end : l.reader.ended ≡ true → IsAtEnd (g.I.Source.left l.source);
   steady : g.I.Source.faults l.fn.source ≤ g.I.Source.faults l.source;
   kept : g.O.Sink.faults l.fn.sink ≤ g.O.Sink.faults l.sink;
