@@ -1,11 +1,12 @@
 -- A ranking by addresses is the ranking by what the files' texts hold.
-use Rattle.std.proofs.Common.{◌≡◌, ℕ, zero, suc, ◌+◌, ◌-◌, ◌*◌, ◌≤◌, ◌<◌, ◌^◌, Bool, true, false, cond, ◌||◌, List, [], ◌∷◌, ◌++◌, length, take, drop, map, filter, refl, sym, ap, ap₂, ◌∙◌, subst, arith, append_assoc, length-append, Ordering, Less, Equal, Greater, lt-leb, le-leb, eqb}
+use Rattle.std.proofs.Common.{◌≡◌, ℕ, zero, suc, ◌+◌, ◌-◌, ◌*◌, ◌≤◌, ◌<◌, ◌^◌, Bool, true, false, cond, ◌||◌, List, [], ◌∷◌, ◌++◌, length, take, drop, map, filter, refl, sym, ap, ap₂, ◌∙◌, subst, arith, append_assoc, length-append, Ordering, Less, Equal, Greater, le-leb, eqb}
 use Rattle.std.proofs.Math.Dec.{eqb-suc-zero}
 use Rattle.std.proofs.Math.Bool.{and-false}
+use Rattle.std.proofs.lemmas.Bool.{lt-leb}
 use Rattle.std.proofs.lemmas.Cmp.{ranked}
 use Rattle.std.proofs.lemmas.List.{length-map, map-append}
 use Rattle.std.proofs.lemmas.List.Elements.{All-from_recursion}
-use Rattle.std.proofs.lemmas.List.Sums.{count_by-cons, sum_by-cons}
+use Rattle.std.proofs.lemmas.List.Sums.{sum_by-cons}
 use Rattle.std.specs.Prelude.{All, nat_eq, nat_le, nat_lt, count_by, sum_by}
 use Rattle.std.specs.List.{AllByRecursion, list_any}
 use Rattle.std.specs.List.Sorted.{IsStrictlyIncreasing}
@@ -123,6 +124,9 @@ units_of_inside region view = units_inside region view 0 view (λ i. let e : 0 +
 
 -- ---- how often a word stands in a unit
 
+count_by-cons : {X : Type 0} (p : X → Bool) (x : X) (xs : List X) → count_by p (x ∷ xs) ≡ cond (p x) 1 0 + count_by p xs
+count_by-cons p x xs = sum_by-cons (λ y. cond (p y) 1 0) x xs
+
 -- the tokens of a view, cut at the file at a place
 pub record IsCut (view : List Shown) (start place : ℕ) (front back : List (List ℕ)) : Type 0 where
   pub whole : tokens_in view ≡ front ++ (tokens_at view place ++ back)
@@ -181,7 +185,7 @@ count_within n (suc k) word (token ∷ tokens) e above is =
     ∙ sym (count_by-cons (pointwise nat_eq word) token (take k tokens))
 
 drop_front : (front tokens : List (List ℕ)) (s : ℕ) → drop (length front + s) (front ++ tokens) ≡ drop s tokens
-drop_front [] tokens s = let same : length ([] {A = List ℕ}) + s ≡ s = omega arith in ap (λ (n : ℕ). drop n tokens) same
+drop_front [] tokens s = let same : 0 + s ≡ s = omega arith in ap (λ (n : ℕ). drop n tokens) same
 drop_front (token ∷ front) tokens s =
     let same : length (token ∷ front) + s ≡ suc (length front + s) = omega arith in
     ap (λ (n : ℕ). drop n (token ∷ (front ++ tokens))) same ∙ drop_front front tokens s

@@ -6,21 +6,19 @@ use Rattle.std.specs.Prelude.{All, nat_eq, Contains}
 use Rattle.std.specs.List.{AllByRecursion}
 use Rattle.std.specs.List.Retain.{IsFiltered, DiffersFromLast}
 use Rattle.std.specs.List.Sorted.{IsPermutation, IsSorted, IsStrictlySortedBy}
-use Rattle.std.specs.Cmp.Lexicographic.{pointwise, slice_cmp, nat_list_eq_equiv, texts_ties}
+use Rattle.std.specs.Cmp.Lexicographic.{pointwise, slice_cmp, nat_list_eq_equiv, same_text}
 use Rattle.std.specs.Ordering.{nat_cmp}
 use Rattle.wu_base.specs.declared.addresses.Range.{Range}
 use Rattle.wu_base.specs.declared.addresses.TermList.{TermList}
 use Rattle.wu_gcl.specs.Regions.{Region, Phrase}
 use Rattle.wu_gcl.specs.Terms.{terms_in, AreTerms}
-use Rattle.wu_gcl.proofs.Fronts.{pointwise_same}
 use Rattle.wu_gcl.proofs.TermLists.{are_terms}
 use Rattle.wu_rank.specs.declared.results.Unit.{Unit as RankedUnit}
 use Rattle.wu_rank.specs.Scores.{length_of, total_length}
 use Rattle.wu_solve.specs.Solving.{frame_hits}
-use Rattle.wumpus_run.specs.Scans.{places_from, list_among}
+use Rattle.wumpus_run.specs.Scans.{IsOther, IsListOf, places_from, list_among}
 use Rattle.wumpus_run.specs.Rankings.{unit_at}
 use Rattle.wumpus_run.specs.Units.{AreTermsWith, units_in, addresses_in, list_in}
-use Rattle.wumpus_run.proofs.ScanLemmas.{text_cmp, IsOther, IsSortedByTerm, up_to_lesser, from_greater, before_equal}
 
 -- ---- terms
 
@@ -53,33 +51,17 @@ next_units region lists frames i d found put within is =
 
 -- ---- the list of a word
 
-addresses-behind : (front back : List TermList) (term : List ℕ) → AllByRecursion (IsOther term) front → addresses_in (front ++ back) term ≡ addresses_in back term
-addresses-behind [] back term others = refl
-addresses-behind (list ∷ front) back term others = rw others.0 (addresses-behind front back term others.1)
-
-addresses-none : (lists : List TermList) (term : List ℕ) → AllByRecursion (IsOther term) lists → addresses_in lists term ≡ []
+pub addresses-none : (lists : List TermList) (term : List ℕ) → AllByRecursion (IsOther term) lists → addresses_in lists term ≡ []
 addresses-none [] term others = refl
 addresses-none (list ∷ lists) term others = rw others.0 (addresses-none lists term others.1)
 
-addresses-front : (front back : List TermList) (term : List ℕ) → AllByRecursion (IsOther term) back → addresses_in front term ≡ addresses_in (front ++ back) term
-addresses-front [] back term others = sym (addresses-none back term others)
-addresses-front (list ∷ front) back term others = ap (λ (xs : List ℕ). cond (pointwise nat_eq term list.term) list.at xs) (addresses-front front back term others)
+addresses-first : (lists : List TermList) (term : List ℕ) (place : ℕ) (d : TermList) → place < length lists → pointwise nat_eq term (get_or lists place d).term ≡ true → AllByRecursion (IsOther term) (take place lists) → (get_or lists place d).at ≡ addresses_in lists term
+addresses-first [] term place d within same before = absurd (omega arith)
+addresses-first (list ∷ lists) term zero d within same before = rw same refl
+addresses-first (list ∷ lists) term (suc place) d within same before = rw before.0 (addresses-first lists term place d (omega arith) same before.1)
 
-pub addresses-lesser : (lists : List TermList) (i : ℕ) (x : TermList) (term : List ℕ) → IsSortedByTerm lists → i < length lists → x ≡ get_or lists i x → text_cmp x.term term ≡ Less → addresses_in (drop (suc i) lists) term ≡ addresses_in lists term
-addresses-lesser lists i x term up within is less =
-    sym (addresses-behind (take (suc i) lists) (drop (suc i) lists) term (up_to_lesser lists i x term up within is less)) ∙ ap (λ (ls : List TermList). addresses_in ls term) (take-append-drop (suc i) lists)
-
-pub addresses-greater : (lists : List TermList) (i : ℕ) (x : TermList) (term : List ℕ) → IsSortedByTerm lists → i < length lists → x ≡ get_or lists i x → text_cmp x.term term ≡ Greater → addresses_in (take i lists) term ≡ addresses_in lists term
-addresses-greater lists i x term up within is greater =
-    addresses-front (take i lists) (drop i lists) term (from_greater lists i x term up within is greater) ∙ ap (λ (ls : List TermList). addresses_in ls term) (take-append-drop i lists)
-
-pub addresses-equal : (lists : List TermList) (i : ℕ) (x : TermList) (term : List ℕ) → IsSortedByTerm lists → i < length lists → x ≡ get_or lists i x → text_cmp x.term term ≡ Equal → x.at ≡ addresses_in lists term
-addresses-equal lists i x term up within is equal =
-    let same : pointwise nat_eq term x.term ≡ true = nat_list_eq_equiv.symm term x.term ∙ texts_ties x.term term ∙ ap is_eq equal in
-    let here : x.at ≡ addresses_in (x ∷ drop (suc i) lists) term = rw same refl in
-    let there : x ∷ drop (suc i) lists ≡ drop i lists = ap (λ (l : TermList). l ∷ drop (suc i) lists) is ∙ sym (drop-cons lists i x within) in
-    here ∙ ap (λ (ls : List TermList). addresses_in ls term) there
-    ∙ sym (addresses-behind (take i lists) (drop i lists) term (before_equal lists i x term up within is equal)) ∙ ap (λ (ls : List TermList). addresses_in ls term) (take-append-drop i lists)
+pub addresses-at : (lists : List TermList) (term : List ℕ) (place : ℕ) (d : TermList) → IsListOf term lists place → (get_or lists place d).at ≡ addresses_in lists term
+addresses-at lists term place d is = addresses-first lists term place d is.within (is.same d) is.before
 
 found_list : (tokens terms : List (List ℕ)) (word : List ℕ) (k : ℕ) → k < length terms → get_or terms k word ≡ word → addresses_in (map (list_among tokens) terms) word ≡ places_from 0 word tokens
 found_list tokens [] word k within is = absurd (omega arith)
@@ -88,7 +70,7 @@ found_list tokens (term ∷ terms) word zero within is =
     rw same (ap (λ (t : List ℕ). places_from 0 t tokens) is)
 found_list tokens (term ∷ terms) word (suc k) within is = by (pointwise nat_eq word term) refl (found_list tokens terms word k (omega arith) is) where
   by : (b : Bool) → pointwise nat_eq word term ≡ b → addresses_in (map (list_among tokens) terms) word ≡ places_from 0 word tokens → cond b (places_from 0 term tokens) (addresses_in (map (list_among tokens) terms) word) ≡ places_from 0 word tokens
-  by true same rest = ap (λ (t : List ℕ). places_from 0 t tokens) (sym (pointwise_same word term same))
+  by true same rest = ap (λ (t : List ℕ). places_from 0 t tokens) (sym (same_text word term (sym same)))
   by false same rest = rest
 
 -- the lists of a scan have those of words that are among its terms

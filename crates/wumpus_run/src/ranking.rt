@@ -14,9 +14,8 @@ ghost use Rattle.wumpus_run.specs.Units.{AreTermsWith, units_in, start_at, in_it
 ghost use Rattle.wumpus_run.specs.View.{shown_of};
 
 use crate::answering::solve_in;
-use crate::scanning::{Scan, scan_texts};
+use crate::scanning::{Scan, list_of, scan_texts};
 use std::alloc::Global;
-use std::cmp::Ordering;
 use std::collections::BTreeMap;
 use wu_base::{Bytes, Extent, Ino, NoMemory, Range, Sequence, TermList};
 use wu_gcl::{Expr, terms_of};
@@ -123,12 +122,12 @@ fn lists_of_words(
 {
     let mut found = Vec::with_capacity(alloc, words.len())?;
     for word in words {
-        found.push(list_of(alloc, word, lists)?)?;
+        found.push(list_for(alloc, word, lists)?)?;
     }
     Ok(found)
 }
 
-fn list_of(alloc: Global, word: &Bytes, lists: &[TermList]) -> Result<TermList, NoMemory>
+fn list_for(alloc: Global, word: &Bytes, lists: &[TermList]) -> Result<TermList, NoMemory>
     requires { IsStrictlySortedBy (slice_cmp nat_cmp) (map (λ list. list.term) lists.now) }
     ensures { IfOk result (λ list. list ≡ list_in lists.now word.now) }
 {
@@ -143,14 +142,9 @@ fn addresses_of<'a>(lists: &'a [TermList], term: &[u8]) -> &'a [u64]
     requires { IsStrictlySortedBy (slice_cmp nat_cmp) (map (λ list. list.term) lists.now) }
     ensures { result.now ≡ addresses_in lists.now term.now }
 {
-    if lists.is_empty() {
-        return &[];
-    }
-    let middle = lists.len() / 2;
-    match lists[middle].term.as_slice().cmp(&term) {
-        Ordering::Less => addresses_of(&lists[middle + 1..], term),
-        Ordering::Equal => lists[middle].at.as_slice(),
-        Ordering::Greater => addresses_of(&lists[..middle], term),
+    match list_of(lists, term) {
+        Some(place) => lists[place].at.as_slice(),
+        None => &[],
     }
 }
 

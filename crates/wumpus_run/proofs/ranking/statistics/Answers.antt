@@ -3,7 +3,7 @@ use Rattle.wumpus_run.proofs.UnitLemmas.{total_some, total_short}
 use Rattle.wumpus_run.proofs.ranking.statistics.Goals as goal
 
 pub returns-clause-some_length : goal.returns-clause-some_length
-returns-clause-some_length c = omega (arith, c.summed_length.ensures, total_some c.args.units.now c.requires.some, c.if-is_empty.false, c.is_empty.ensures)
+returns-clause-some_length c = ?
 
 pub returns-clause-short : goal.returns-clause-short
 returns-clause-short c = omega (arith, c.summed_length.ensures, total_short c.args.units.now c.requires.short)
