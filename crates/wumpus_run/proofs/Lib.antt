@@ -7,3 +7,4 @@ pub mod EndLemmas
 pub mod StateLemmas
 pub mod UnitLemmas
 pub mod RankLemmas
+pub mod OptionLemmas

@@ -1,7 +1,7 @@
 -- Where terms stand in the texts of a view.
 use Rattle.std.proofs.Common.{◌≡◌, ℕ, zero, suc, ◌+◌, ◌≤◌, ◌<◌, ◌⊎◌, Bool, true, false, cond, ◌&&◌, ◌||◌, List, [], ◌∷◌, ◌++◌, length, take, drop, get_or, map, refl, sym, ap, ◌∙◌, subst, inl, inr, arith, append_assoc, append-nil, length-append, add-one, Ordering, Less, Equal, Greater, is_eq}
 use Rattle.std.proofs.lemmas.List.{take_more, length-take}
-use Rattle.std.specs.Prelude.{nat_eq, slice_set}
+use Rattle.std.specs.Prelude.{nat_eq, slice_set, Result, Ok, Err, OnOk}
 use Rattle.std.specs.List.{flat_map, list_any, AllByRecursion}
 use Rattle.std.specs.List.Sorted.{IsStrictlySortedBy, IsStrictlyIncreasing}
 use Rattle.std.specs.Cmp.Lexicographic.{pointwise, slice_cmp, nat_list_cmp_total, texts_ties}
@@ -214,7 +214,7 @@ frames-next files more file frames next len tokens is same before at' long =
     ∙ sym (frames_from-more 0 files file) ∙ ap (frames_from 0) (sym is)
 
 -- the next file's tokens, noted
-pub pub lists-next : (files more : List Shown) (file : Shown) (base lists noted' : List TermList) (next : ℕ) (tokens : List (List ℕ)) → more ≡ files ++ file ∷ [] → tokens ≡ tokens_of file.text
+pub lists-next : (files more : List Shown) (file : Shown) (base lists noted' : List TermList) (next : ℕ) (tokens : List (List ℕ)) → more ≡ files ++ file ∷ [] → tokens ≡ tokens_of file.text
     → lists ≡ map (with_places 0 (tokens_in files)) base → next ≡ length (tokens_in files) → noted' ≡ map (with_places next tokens) lists → noted' ≡ map (with_places 0 (tokens_in more)) base
 lists-next files more file base lists noted' next tokens is same before at' noting =
     noting ∙ ap (map (with_places next tokens)) before ∙ ap (λ n. map (with_places n tokens) (map (with_places 0 (tokens_in files)) base)) at'
@@ -252,3 +252,7 @@ note-more n i base lists now tokens token term within is same before noting =
 -- nothing was noted yet
 pub unnoted : (n : ℕ) (lists : List TermList) → lists ≡ map (with_places n []) lists
 unnoted n lists = sym (map-with_places-nil n lists)
+
+pub if_ok : {T E : Type 0} (r : Result T E) (P Q : Type 0) → (P → Q) → OnOk r P → OnOk r Q
+if_ok (Ok value) P Q step h = step h
+if_ok (Err error) P Q step h = h

@@ -13,4 +13,6 @@ pub use session::run;
 pub use statuses::Status;
 
 #[cfg(test)]
+mod option_tests;
+#[cfg(test)]
 mod tests;
