@@ -23,6 +23,7 @@ use Rattle.wu_rank.specs.declared.results.Ranked.{Ranked}
 use Rattle.wu_rank.specs.Bm25.{weigh}
 use Rattle.wu_rank.specs.Scores.{length_of, lies_in, frequency, has, holders, total_length, idf_of, part, score, holds, scored, all_listed}
 use Rattle.wu_rank.specs.Order.{compare_ranked, comes_before, put_in, in_order, listed}
+use Rattle.wu_solve.specs.Addresses.{has_address}
 use Rattle.wu_solve.specs.Listing.{IsExtentIn}
 use Rattle.wu_solve.specs.Solving.{moved, frame_hits, frames_hits}
 use Rattle.wu_solve.proofs.Results.{hits_in as inside_text}
@@ -33,10 +34,11 @@ use Rattle.wu_view.specs.declared.Seen.{Seen}
 use Rattle.wumpus_run.specs.View.{Shown, shown_of}
 use Rattle.wumpus_run.specs.States.{Texts, AreShort, text_in}
 use Rattle.wumpus_run.specs.Answer.{hits_in}
-use Rattle.wumpus_run.specs.Scans.{tokens_in, frames_from, places_from, list_among}
+use Rattle.wumpus_run.specs.Scans.{tokens_in, frames_from, places_from, list_among, IsScan}
 use Rattle.wumpus_run.specs.Rankings.{unit_at, units_from, units_of, tokens_at, tokens_between, frequency_in, has_word, holders_in, part_in, score_in, scored_in, is_listed, ranking_of}
-use Rattle.wumpus_run.specs.Units.{units_in, no_frame, start_at, counted_from, in_its_file}
-use Rattle.wumpus_run.proofs.CountLemmas.{Tells, frame_of_file, places_increase}
+use Rattle.wumpus_run.specs.Units.{AreTermsWith, units_in, start_at, counted_from, in_its_file, list_in}
+use Rattle.wumpus_run.proofs.CountLemmas.{Tells, frame_of_file, places_increase, scan_has, scan_few}
+use Rattle.wumpus_run.proofs.UnitLemmas.{words_found}
 
 -- the unit of a file, with its extent at addresses
 abbrev pub at_addresses : List Range → RankedUnit → RankedUnit
@@ -74,12 +76,12 @@ units_moved region lists all front frames place (file ∷ files) tells split sam
     ap₂ (λ (us vs : List RankedUnit). us ++ vs) here rest ∙ sym (map-append (at_addresses frames) (map (unit_at place) (hits_in region file)) (units_from (suc place) region files))
 
 -- the units of a scan's frames are those of the files, at addresses
-pub units_scanned : (region : Region) (lists : List TermList) (files : List Shown) → Tells region lists (tokens_in files) → units_in 0 region lists (frames_from 0 files) ≡ map (at_addresses (frames_from 0 files)) (units_of region files)
+units_scanned : (region : Region) (lists : List TermList) (files : List Shown) → Tells region lists (tokens_in files) → units_in 0 region lists (frames_from 0 files) ≡ map (at_addresses (frames_from 0 files)) (units_of region files)
 unfolding units_of
 units_scanned region lists files tells =
     units_moved region lists (tokens_in files) [] (frames_from 0 files) 0 files tells refl (λ i. let e : 0 + i ≡ i = omega arith in ap (start_at (frames_from 0 files)) e)
 
-pub length-units_in : (place : ℕ) (region : Region) (lists : List TermList) (frames : List Range) → length (units_in place region lists frames) ≡ length (frames_hits region lists frames)
+length-units_in : (place : ℕ) (region : Region) (lists : List TermList) (frames : List Range) → length (units_in place region lists frames) ≡ length (frames_hits region lists frames)
 length-units_in place region lists [] = refl
 length-units_in place region lists (frame ∷ frames) =
     let here = frame_hits region lists frame in
@@ -118,7 +120,7 @@ units_inside region view place (file ∷ files) same long =
     both_all (IsUnitOf view) (map (unit_at place) (hits_in region file)) (units_from (suc place) region files) (placed_all view place (hits_in region file) (omega arith) inside)
     (units_inside region view (suc place) files (λ i. let e : suc place + i ≡ place + suc i = omega arith in ap (tokens_at view) e ∙ same (suc i) ∙ tokens_behind file files i) (omega arith))
 
-pub units_of_inside : (region : Region) (view : List Shown) → AllByRecursion (IsUnitOf view) (units_of region view)
+units_of_inside : (region : Region) (view : List Shown) → AllByRecursion (IsUnitOf view) (units_of region view)
 unfolding units_of
 units_of_inside region view = units_inside region view 0 view (λ i. let e : 0 + i ≡ i = omega arith in ap (tokens_at view) e) (omega arith)
 
@@ -155,7 +157,9 @@ lies_behind e n h = rw (lt-leb n e.end h) (and-false (nat_le e.start n))
 
 -- one that doesn't lie there adds nothing, whether it is listed or not
 not_counted : (e : Extent) (n : ℕ) (more : List ℕ) (b : Bool) → lies_in e n ≡ false → count_by (lies_in e) (cond b (n ∷ more) more) ≡ count_by (lies_in e) more
-not_counted e n more true out = count_by-cons (lies_in e) n more ∙ ap (λ (c : Bool). cond c 1 0 + count_by (lies_in e) more) out
+not_counted e n more true out =
+    let none : 0 + count_by (lies_in e) more ≡ count_by (lies_in e) more = omega arith in
+    count_by-cons (lies_in e) n more ∙ ap (λ (c : Bool). cond c 1 0 + count_by (lies_in e) more) out ∙ none
 not_counted e n more false out = refl
 
 counted_once : (e : Extent) (n : ℕ) (more : List ℕ) (b : Bool) (k : ℕ) → lies_in e n ≡ true → count_by (lies_in e) more ≡ k → count_by (lies_in e) (cond b (n ∷ more) more) ≡ cond b 1 0 + k
@@ -360,7 +364,7 @@ in_order_same frames [] = refl
 in_order_same frames (x ∷ xs) = ap (put_in (ranked_at_addresses frames x)) (in_order_same frames xs) ∙ put_in_same frames x (in_order xs)
 
 -- the ranking of the units at addresses is that of the view, at addresses
-pub ranking_same : (view : List Shown) (region : Region) (words : List (List ℕ))
+ranking_same : (view : List Shown) (region : Region) (words : List (List ℕ))
     → listed (map (at_addresses (frames_from 0 view)) (units_of region view)) (map (list_among (tokens_in view)) words) ≡ map (ranked_at_addresses (frames_from 0 view)) (ranking_of view region words)
 unfolding listed all_listed ranking_of
 ranking_same view region words =
@@ -380,7 +384,7 @@ file_again frames r =
     let last : (s + r.unit.extent.end) - s ≡ r.unit.extent.end = omega arith in
     ap₂ (λ (m n : ℕ). ranked_of r.score r.unit.place m n) first last
 
-pub files_again : (frames : List Range) (rs : List Ranked) → map (in_its_file frames) (map (ranked_at_addresses frames) rs) ≡ rs
+files_again : (frames : List Range) (rs : List Ranked) → map (in_its_file frames) (map (ranked_at_addresses frames) rs) ≡ rs
 files_again frames [] = refl
 files_again frames (r ∷ rs) = ap₂ (λ (x : Ranked) (xs : List Ranked). x ∷ xs) (file_again frames r) (files_again frames rs)
 
@@ -403,19 +407,82 @@ fits_all texts view frames (unit ∷ units) short are =
     let few = text_short texts view unit.place short in
     ((omega arith, more.0), (omega arith, more.1))
 
-pub units_some : (texts : Texts) (view : List Seen) (frames : List Range) (region : Region) → AreShort texts → All (λ unit. 1 ≤ length_of unit.extent) (map (at_addresses frames) (units_of region (map (shown_of texts) view)))
-units_some texts view frames region short =
-    let units = units_of region (map (shown_of texts) view) in
-    All-from_recursion (λ (unit : RankedUnit). 1 ≤ length_of unit.extent) (map (at_addresses frames) units) (fits_all texts view frames units short (units_of_inside region (map (shown_of texts) view))).0
-
-pub units_short : (texts : Texts) (view : List Seen) (frames : List Range) (region : Region) → AreShort texts → All (λ unit. length_of unit.extent < 2 ^ 26) (map (at_addresses frames) (units_of region (map (shown_of texts) view)))
-units_short texts view frames region short =
-    let units = units_of region (map (shown_of texts) view) in
-    All-from_recursion (λ (unit : RankedUnit). length_of unit.extent < 2 ^ 26) (map (at_addresses frames) units) (fits_all texts view frames units short (units_of_inside region (map (shown_of texts) view))).1
-
 lists_increase : (tokens words : List (List ℕ)) → AllByRecursion (λ list. IsStrictlyIncreasing list.at) (map (list_among tokens) words)
 lists_increase tokens [] = tt
 lists_increase tokens (word ∷ words) = (places_increase 0 word tokens, lists_increase tokens words)
 
-pub words_ascend : (tokens words : List (List ℕ)) → All (λ list. IsStrictlyIncreasing list.at) (map (list_among tokens) words)
+words_ascend : (tokens words : List (List ℕ)) → All (λ list. IsStrictlyIncreasing list.at) (map (list_among tokens) words)
 words_ascend tokens words = All-from_recursion (λ (list : TermList). IsStrictlyIncreasing list.at) (map (list_among tokens) words) (lists_increase tokens words)
+
+-- ---- over a scan
+
+-- what was scanned, and what was made of it
+pub record IsGathered (files : List Shown) (region : Region) (words terms : List (List ℕ)) (frames : List Range) (lists : List TermList) (units : List RankedUnit) (found : List TermList) : Type 0 where
+  pub terms : AreTermsWith region words terms
+  pub scan : IsScan files terms frames lists
+  pub units : units ≡ units_in 0 region lists frames
+  pub found : found ≡ map (list_in lists) words
+
+scan_units : (files : List Shown) (region : Region) (words terms : List (List ℕ)) (frames : List Range) (lists : List TermList) (units : List RankedUnit) (found : List TermList) → IsGathered files region words terms frames lists units found
+    → units ≡ map (at_addresses (frames_from 0 files)) (units_of region files)
+scan_units files region words terms frames lists units found is =
+    let tells : Tells region lists (tokens_in files) = λ term has address. ap (λ (ls : List TermList). has_address ls term address) is.scan.by_term ∙ scan_has (tokens_in files) term terms address (is.terms.of_region term has) in
+    is.units ∙ ap (units_in 0 region lists) is.scan.by_file ∙ units_scanned region lists files tells
+
+scan_words : (files : List Shown) (region : Region) (words terms : List (List ℕ)) (frames : List Range) (lists : List TermList) (units : List RankedUnit) (found : List TermList) → IsGathered files region words terms frames lists units found
+    → found ≡ map (list_among (tokens_in files)) words
+scan_words files region words terms frames lists units found is =
+    is.found ∙ ap (λ (ls : List TermList). map (list_in ls) words) is.scan.by_term ∙ words_found (tokens_in files) terms words is.terms.of_words
+
+scan_ranking : (files : List Shown) (region : Region) (words terms : List (List ℕ)) (frames : List Range) (lists : List TermList) (units : List RankedUnit) (found : List TermList) → IsGathered files region words terms frames lists units found
+    → listed units found ≡ map (ranked_at_addresses (frames_from 0 files)) (ranking_of files region words)
+scan_ranking files region words terms frames lists units found is =
+    ap₂ listed (scan_units files region words terms frames lists units found is) (scan_words files region words terms frames lists units found is) ∙ ranking_same files region words
+
+-- as many units are listed
+pub scan_listed : (files : List Shown) (region : Region) (words terms : List (List ℕ)) (frames : List Range) (lists : List TermList) (units : List RankedUnit) (found : List TermList) (n : ℕ) → IsGathered files region words terms frames lists units found
+    → n ≡ length (listed units found) → n ≡ length (ranking_of files region words)
+scan_listed files region words terms frames lists units found n is n_is =
+    n_is ∙ ap length (scan_ranking files region words terms frames lists units found is) ∙ length-map (ranking_of files region words) (ranked_at_addresses (frames_from 0 files))
+
+map-taken : (f : Ranked → Ranked) (k : ℕ) (rs : List Ranked) → take k (map f rs) ≡ map f (take k rs)
+map-taken f zero rs = refl
+map-taken f (suc k) [] = refl
+map-taken f (suc k) (r ∷ rs) = ap (λ (xs : List Ranked). f r ∷ xs) (map-taken f k rs)
+
+-- and the first of them are the first of the ranking
+pub scan_top : (files : List Shown) (region : Region) (words terms : List (List ℕ)) (frames : List Range) (lists : List TermList) (units : List RankedUnit) (found : List TermList) (k : ℕ) (top back : List Ranked) → IsGathered files region words terms frames lists units found
+    → top ≡ take k (listed units found) → back ≡ map (in_its_file frames) top → back ≡ take k (ranking_of files region words)
+scan_top files region words terms frames lists units found k top back is top_is back_is =
+    let ranking = ranking_of files region words in
+    let first : top ≡ map (ranked_at_addresses (frames_from 0 files)) (take k ranking) =
+    top_is ∙ ap (take k) (scan_ranking files region words terms frames lists units found is) ∙ map-taken (ranked_at_addresses (frames_from 0 files)) k ranking in
+    back_is ∙ ap₂ (λ (fs : List Range) (rs : List Ranked). map (in_its_file fs) rs) is.scan.by_file first ∙ files_again (frames_from 0 files) (take k ranking)
+
+-- no unit is empty
+pub scan_some : (texts : Texts) (view : List Seen) (region : Region) (words terms : List (List ℕ)) (frames : List Range) (lists : List TermList) (units : List RankedUnit) (found : List TermList) → AreShort texts
+    → IsGathered (map (shown_of texts) view) region words terms frames lists units found → All (λ unit. 1 ≤ length_of unit.extent) units
+scan_some texts view region words terms frames lists units found short is =
+    let files = map (shown_of texts) view in
+    let fit = fits_all texts view (frames_from 0 files) (units_of region files) short (units_of_inside region files) in
+    subst (All (λ (unit : RankedUnit). 1 ≤ length_of unit.extent)) (sym (scan_units files region words terms frames lists units found is))
+    (All-from_recursion (λ (unit : RankedUnit). 1 ≤ length_of unit.extent) (map (at_addresses (frames_from 0 files)) (units_of region files)) fit.0)
+
+-- and none too long
+pub scan_short : (texts : Texts) (view : List Seen) (region : Region) (words terms : List (List ℕ)) (frames : List Range) (lists : List TermList) (units : List RankedUnit) (found : List TermList) → AreShort texts
+    → IsGathered (map (shown_of texts) view) region words terms frames lists units found → All (λ unit. length_of unit.extent < 2 ^ 26) units
+scan_short texts view region words terms frames lists units found short is =
+    let files = map (shown_of texts) view in
+    let fit = fits_all texts view (frames_from 0 files) (units_of region files) short (units_of_inside region files) in
+    subst (All (λ (unit : RankedUnit). length_of unit.extent < 2 ^ 26)) (sym (scan_units files region words terms frames lists units found is))
+    (All-from_recursion (λ (unit : RankedUnit). length_of unit.extent < 2 ^ 26) (map (at_addresses (frames_from 0 files)) (units_of region files)) fit.1)
+
+pub scan_few_units : (files : List Shown) (region : Region) (words terms : List (List ℕ)) (frames : List Range) (lists : List TermList) (units : List RankedUnit) (found : List TermList) → IsGathered files region words terms frames lists units found → length units ≤ 2 ^ 47
+scan_few_units files region words terms frames lists units found is =
+    omega (arith, ap length is.units, length-units_in 0 region lists frames, scan_few region files terms frames lists is.scan)
+
+-- the words' lists ascend
+pub scan_ascends : (files : List Shown) (region : Region) (words terms : List (List ℕ)) (frames : List Range) (lists : List TermList) (units : List RankedUnit) (found : List TermList) → IsGathered files region words terms frames lists units found
+    → All (λ list. IsStrictlyIncreasing list.at) found
+scan_ascends files region words terms frames lists units found is =
+    subst (All (λ (list : TermList). IsStrictlyIncreasing list.at)) (sym (scan_words files region words terms frames lists units found is)) (words_ascend (tokens_in files) words)

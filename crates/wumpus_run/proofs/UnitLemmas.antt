@@ -1,5 +1,5 @@
 -- The terms of a ranking's scan, its units frame by frame, its words' lists, and its statistics.
-use Rattle.std.proofs.Common.{◌≡◌, ℕ, zero, suc, ◌+◌, ◌-◌, ◌*◌, ◌≤◌, ◌<◌, ◌^◌, Bool, true, false, cond, List, [], ◌∷◌, ◌++◌, length, take, drop, get_or, map, refl, sym, ap, ap₂, ◌∙◌, subst, arith, append_assoc, add-one, drop-cons, take-append-drop, Ordering, Less, Equal, Greater, is_eq}
+use Rattle.std.proofs.Common.{◌≡◌, ◌==◌, ℕ, zero, suc, ◌+◌, ◌-◌, ◌*◌, ◌≤◌, ◌<◌, ◌^◌, Bool, true, false, cond, List, [], ◌∷◌, ◌++◌, length, take, drop, get_or, map, refl, sym, ap, ap₂, ◌∙◌, subst, arith, append_assoc, add-one, drop-cons, take-append-drop, Ordering, Less, Equal, Greater, is_eq}
 use Rattle.std.proofs.lemmas.List.Elements.{Contains-append_left, Contains-append_right, All-head, All-tail}
 use Rattle.std.proofs.lemmas.List.Sums.{sum_by-cons}
 use Rattle.std.specs.Prelude.{All, nat_eq, Contains}
@@ -81,11 +81,16 @@ words_found tokens terms (word ∷ words) has =
 
 -- ---- the summed length
 
-pub total_some : (units : List RankedUnit) → All (λ unit. 1 ≤ length_of unit.extent) units → length units ≤ total_length units
+total_some : (units : List RankedUnit) → All (λ unit. 1 ≤ length_of unit.extent) units → length units ≤ total_length units
 unfolding total_length
 total_some [] some = omega arith
 total_some (unit ∷ units) some =
     omega (arith, All-head (λ (u : RankedUnit). 1 ≤ length_of u.extent) unit units some, sum_by-cons (λ (u : RankedUnit). length_of u.extent) unit units, total_some units (All-tail (λ (u : RankedUnit). 1 ≤ length_of u.extent) unit units some))
+
+-- units that are not empty have some length in all
+pub total_least : (units : List RankedUnit) (none : Bool) → All (λ unit. 1 ≤ length_of unit.extent) units → none ≡ (length units == 0) → none ≡ false → 1 ≤ total_length units
+total_least [] none some is has = absurd (cc)
+total_least (unit ∷ units) none some is has = omega (arith, total_some (unit ∷ units) some)
 
 pub total_short : (units : List RankedUnit) → All (λ unit. length_of unit.extent < 2 ^ 26) units → total_length units ≤ length units * (2 ^ 26 - 1)
 unfolding total_length
