@@ -418,21 +418,32 @@ words_ascend tokens words = All-from_recursion (λ (list : TermList). IsStrictly
 
 -- what was scanned, and what was made of it
 pub record IsGathered (files : List Shown) (region : Region) (words terms : List (List ℕ)) (frames : List Range) (lists : List TermList) (units : List RankedUnit) (found : List TermList) : Type 0 where
-  pub terms : AreTermsWith region words terms
+  pub wanted : AreTermsWith region words terms
   pub scan : IsScan files terms frames lists
-  pub units : units ≡ units_in 0 region lists frames
-  pub found : found ≡ map (list_in lists) words
+  pub by_frame : units ≡ units_in 0 region lists frames
+  pub by_word : found ≡ map (list_in lists) words
+
+-- of lists and frames as they were lent
+pub gathered : (files : List Shown) (region : Region) (words terms : List (List ℕ)) (frames : List Range) (lists : List TermList) (units : List RankedUnit) (found : List TermList) (lent_frames : List Range) (lent lent_again : List TermList)
+    → AreTermsWith region words terms → IsScan files terms frames lists → lent_frames ≡ frames → lent ≡ lists → lent_again ≡ lists → units ≡ units_in 0 region lent lent_frames → found ≡ map (list_in lent_again) words
+    → IsGathered files region words terms frames lists units found
+gathered files region words terms frames lists units found lent_frames lent lent_again wanted scan same_frames same_lists same_again by_frame by_word = record {
+  wanted = wanted;
+  scan = scan;
+  by_frame = by_frame ∙ ap₂ (λ (ls : List TermList) (fs : List Range). units_in 0 region ls fs) same_lists same_frames;
+  by_word = by_word ∙ ap (λ (ls : List TermList). map (list_in ls) words) same_again;
+}
 
 scan_units : (files : List Shown) (region : Region) (words terms : List (List ℕ)) (frames : List Range) (lists : List TermList) (units : List RankedUnit) (found : List TermList) → IsGathered files region words terms frames lists units found
     → units ≡ map (at_addresses (frames_from 0 files)) (units_of region files)
 scan_units files region words terms frames lists units found is =
-    let tells : Tells region lists (tokens_in files) = λ term has address. ap (λ (ls : List TermList). has_address ls term address) is.scan.by_term ∙ scan_has (tokens_in files) term terms address (is.terms.of_region term has) in
-    is.units ∙ ap (units_in 0 region lists) is.scan.by_file ∙ units_scanned region lists files tells
+    let tells : Tells region lists (tokens_in files) = λ term has address. ap (λ (ls : List TermList). has_address ls term address) is.scan.by_term ∙ scan_has (tokens_in files) term terms address (is.wanted.of_region term has) in
+    is.by_frame ∙ ap (units_in 0 region lists) is.scan.by_file ∙ units_scanned region lists files tells
 
 scan_words : (files : List Shown) (region : Region) (words terms : List (List ℕ)) (frames : List Range) (lists : List TermList) (units : List RankedUnit) (found : List TermList) → IsGathered files region words terms frames lists units found
     → found ≡ map (list_among (tokens_in files)) words
 scan_words files region words terms frames lists units found is =
-    is.found ∙ ap (λ (ls : List TermList). map (list_in ls) words) is.scan.by_term ∙ words_found (tokens_in files) terms words is.terms.of_words
+    is.by_word ∙ ap (λ (ls : List TermList). map (list_in ls) words) is.scan.by_term ∙ words_found (tokens_in files) terms words is.wanted.of_words
 
 scan_ranking : (files : List Shown) (region : Region) (words terms : List (List ℕ)) (frames : List Range) (lists : List TermList) (units : List RankedUnit) (found : List TermList) → IsGathered files region words terms frames lists units found
     → listed units found ≡ map (ranked_at_addresses (frames_from 0 files)) (ranking_of files region words)
@@ -479,7 +490,7 @@ scan_short texts view region words terms frames lists units found short is =
 
 pub scan_few_units : (files : List Shown) (region : Region) (words terms : List (List ℕ)) (frames : List Range) (lists : List TermList) (units : List RankedUnit) (found : List TermList) → IsGathered files region words terms frames lists units found → length units ≤ 2 ^ 47
 scan_few_units files region words terms frames lists units found is =
-    omega (arith, ap length is.units, length-units_in 0 region lists frames, scan_few region files terms frames lists is.scan)
+    omega (arith, ap length is.by_frame, length-units_in 0 region lists frames, scan_few region files terms frames lists is.scan)
 
 -- the words' lists ascend
 pub scan_ascends : (files : List Shown) (region : Region) (words terms : List (List ℕ)) (frames : List Range) (lists : List TermList) (units : List RankedUnit) (found : List TermList) → IsGathered files region words terms frames lists units found
