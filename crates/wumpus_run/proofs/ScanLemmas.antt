@@ -234,20 +234,20 @@ sorted_noted n tokens base lists is sorted = subst (IsStrictlySortedBy (slice_cm
 pub sorted_at_first : (terms : List (List ℕ)) (base : List TermList) → base ≡ map list_without_places terms → IsStrictlySortedBy (slice_cmp nat_cmp) terms → IsSortedByTerm base
 sorted_at_first terms base is sorted = subst (IsStrictlySortedBy (slice_cmp nat_cmp)) (sym (ap (map (λ (list : TermList). list.term)) is ∙ terms-without_places terms)) sorted
 
-length-map : {X Y : Type 0} (f : X → Y) (xs : List X) → length (map f xs) ≡ length xs
+pub length-map : {X Y : Type 0} (f : X → Y) (xs : List X) → length (map f xs) ≡ length xs
 length-map f [] = refl
 length-map f (x ∷ xs) = omega (arith, length-map f xs)
 
 -- one token more was noted
-pub note-more : (n i : ℕ) (base lists now : List TermList) (tokens : List Token) (token : Token) (term : List ℕ) → i < length tokens → token ≡ get_or tokens i token → term ≡ token.term
+pub note-more : (n i : ℕ) (base lists now : List TermList) (tokens : List Token) (d : Token) (term : List ℕ) → i < length tokens → term ≡ (get_or tokens i d).term
     → lists ≡ map (with_places n (map (λ t. t.term) (take i tokens))) base → now ≡ map (noted term (n + i)) lists → now ≡ map (with_places n (map (λ t. t.term) (take (i + 1) tokens))) base
-note-more n i base lists now tokens token term within is same before noting =
+note-more n i base lists now tokens d term within same before noting =
     let front = map (λ (t : Token). t.term) (take i tokens) in
     let long : i ≡ length front = omega (arith, length-map (λ (t : Token). t.term) (take i tokens), length-take i tokens) in
     noting ∙ ap (map (noted term (n + i))) before ∙ ap (λ k. map (noted term (n + k)) (map (with_places n front) base)) long
     ∙ map-with_places-more n front term base
-    ∙ ap (λ ts. map (with_places n ts) base) (ap (λ w. front ++ w ∷ []) (same ∙ ap (λ (t : Token). t.term) is)
-        ∙ sym (map-more (λ (t : Token). t.term) (take i tokens) (get_or tokens i token)) ∙ ap (map (λ (t : Token). t.term)) (sym (take_more tokens i token within)))
+    ∙ ap (λ ts. map (with_places n ts) base) (ap (λ w. front ++ w ∷ []) same
+        ∙ sym (map-more (λ (t : Token). t.term) (take i tokens) (get_or tokens i d)) ∙ ap (map (λ (t : Token). t.term)) (sym (take_more tokens i d within)))
 
 -- nothing was noted yet
 pub unnoted : (n : ℕ) (lists : List TermList) → lists ≡ map (with_places n []) lists
@@ -256,3 +256,20 @@ unnoted n lists = sym (map-with_places-nil n lists)
 pub if_ok : {T E : Type 0} (r : Result T E) (P Q : Type 0) → (P → Q) → OnOk r P → OnOk r Q
 if_ok (Ok value) P Q step h = step h
 if_ok (Err error) P Q step h = h
+
+pub take_whole : {X : Type 0} (n : ℕ) (xs : List X) → length xs ≤ n → take n xs ≡ xs
+take_whole zero [] all = refl
+take_whole zero (x ∷ xs) all = absurd (omega arith)
+take_whole (suc n) [] all = refl
+take_whole (suc n) (x ∷ xs) all = ap (λ ys. x ∷ ys) (take_whole n xs (omega arith))
+
+drop_whole : {X : Type 0} (n : ℕ) (xs : List X) → length xs ≤ n → drop n xs ≡ []
+drop_whole zero [] all = refl
+drop_whole zero (x ∷ xs) all = absurd (omega arith)
+drop_whole (suc n) [] all = refl
+drop_whole (suc n) (x ∷ xs) all = drop_whole n xs (omega arith)
+
+-- a list as long as before is what stands after it was written back
+pub written_back : {X : Type 0} (n : ℕ) (now before : List X) → length now ≡ n → length before ≡ n → take n (now ++ drop (length now) before) ≡ now
+written_back n now before long was =
+    ap (λ xs. take n (now ++ xs)) (drop_whole (length now) before (omega arith)) ∙ ap (take n) (append-nil now) ∙ take_whole n now (omega arith)

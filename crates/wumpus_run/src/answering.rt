@@ -8,7 +8,7 @@ ghost use Rattle.wumpus_run.specs.States.{AreShort};
 ghost use Rattle.wumpus_run.specs.View.{shown_of};
 ghost use Rattle.wu_gcl.specs.Regions.{region_of};
 
-use crate::scanning::{Scan, scan_texts};
+use crate::scanning::scan_texts;
 use std::alloc::Global;
 use std::collections::BTreeMap;
 use wu_ask::{Answered, Ask};
@@ -44,8 +44,8 @@ fn count(
     ensures { IfOk result (λ answered. answered ≡ answer (map (shown_of texts.now.entries) view.now) (Counting (region_of expr.now))) }
 {
     let terms = terms_of(alloc, expr)?;
-    let Scan { frames, lists } = scan_texts(alloc, texts, view, terms)?;
-    let (hits, files) = count_in(alloc, expr, &frames, &lists)?;
+    let scan = scan_texts(alloc, texts, view, terms)?;
+    let (hits, files) = count_in(alloc, expr, &scan.frames, &scan.lists)?;
     Ok(Answered::Count { hits, files })
 }
 

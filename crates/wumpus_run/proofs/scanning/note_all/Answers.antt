@@ -10,5 +10,5 @@ note-requires c = sorted_noted c.args.start (map (λ token. token.term) (take c.
 
 pub loop-i-preserved : goal.loop-i-preserved
 loop-i-preserved c =
-    note-more c.args.start c.loop-i.i c.args.lists.now c.loop-i.lists c.note.new.lists c.args.tokens.now c.index-tokens-i.result c.as_slice.result.now c.loop-i-test.true c.index-tokens-i.is c.as_slice.ensures
+    note-more c.args.start c.loop-i.i c.args.lists.now c.loop-i.lists c.note.new.lists c.args.tokens.now c.index-tokens-i.result c.as_slice.result.now c.loop-i-test.true c.as_slice.ensures
     c.loop-i.invariant c.in_ok-note.ensures
