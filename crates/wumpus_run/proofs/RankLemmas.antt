@@ -139,12 +139,15 @@ cut_at [] start place within = absurd (omega arith)
 cut_at (file ∷ files) start zero within = ([], tokens_in files, record { whole = refl; starts = omega arith })
 cut_at (file ∷ files) start (suc place) within =
     let tokens = tokens_of file.text in
-    let rest = cut_at files (start + length tokens) place (omega arith) in
-    (tokens ++ rest.0, rest.1, record {
-      whole = ap (λ (ts : List (List ℕ)). tokens ++ ts) rest.2.whole ∙ sym (append_assoc tokens rest.0 (tokens_at files place ++ rest.1))
-          ∙ ap (λ (ts : List (List ℕ)). (tokens ++ rest.0) ++ (ts ++ rest.1)) (sym (tokens_behind file files place));
-      starts = omega (arith, rest.2.starts, length-append tokens rest.0);
-    })
+    let rest = cut_at files (start + length tokens) place (omega arith) in (
+      tokens ++ rest.0,
+      rest.1,
+      record {
+        whole = ap (λ (ts : List (List ℕ)). tokens ++ ts) rest.2.whole ∙ sym (append_assoc tokens rest.0 (tokens_at files place ++ rest.1))
+            ∙ ap (λ (ts : List (List ℕ)). (tokens ++ rest.0) ++ (ts ++ rest.1)) (sym (tokens_behind file files place));
+        starts = omega (arith, rest.2.starts, length-append tokens rest.0);
+      },
+    )
 
 lies_before : (e : Extent) (n : ℕ) → n < e.start → lies_in e n ≡ false
 lies_before e n h = rw (lt-leb e.start n h) refl
@@ -330,7 +333,7 @@ unfolding compare_ranked
 compare_same frames a b = by (nat_cmp b.score a.score) (nat_cmp a.unit.place b.unit.place) refl where
   by : (o p : Ordering) → nat_cmp a.unit.place b.unit.place ≡ p
       → ordering_then (ordering_then (ordering_then o p) (nat_cmp (start_at frames a.unit.place + a.unit.extent.start) (start_at frames b.unit.place + b.unit.extent.start)))
-        (nat_cmp (start_at frames a.unit.place + a.unit.extent.end) (start_at frames b.unit.place + b.unit.extent.end))
+      (nat_cmp (start_at frames a.unit.place + a.unit.extent.end) (start_at frames b.unit.place + b.unit.extent.end))
       ≡ ordering_then (ordering_then (ordering_then o p) (nat_cmp a.unit.extent.start b.unit.extent.start)) (nat_cmp a.unit.extent.end b.unit.extent.end)
   by Less p is = refl
   by Greater p is = refl

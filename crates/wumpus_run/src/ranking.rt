@@ -149,12 +149,7 @@ fn addresses_of<'a>(lists: &'a [TermList], term: &[u8]) -> &'a [u64]
 }
 
 /// Ranks the units by the weights for their own number and their own summed length.
-fn rank_all(
-    alloc: Global,
-    units: &[Unit],
-    lists: &[TermList],
-    k: u32,
-) -> Result<Ranking, NoMemory>
+fn rank_all(alloc: Global, units: &[Unit], lists: &[TermList], k: u32) -> Result<Ranking, NoMemory>
     requires some { All (λ unit. 1 ≤ length_of unit.extent) units.now }
     requires short { All (λ unit. length_of unit.extent < 2 ^ 26) units.now }
     requires few_units { length units.now ≤ 2 ^ 47 }
@@ -187,11 +182,7 @@ fn statistics(units: &[Unit]) -> (u64, u128)
 }
 
 /// The units, with their extents counted from the first tokens of their files.
-fn in_their_files(
-    alloc: Global,
-    frames: &[Range],
-    top: &[Ranked],
-) -> Result<Vec<Ranked>, NoMemory>
+fn in_their_files(alloc: Global, frames: &[Range], top: &[Ranked]) -> Result<Vec<Ranked>, NoMemory>
     ensures { IfOk result (λ counted. counted.items ≡ map (in_its_file frames.now) top.now) }
 {
     let mut counted = Vec::with_capacity(alloc, top.len())?;
