@@ -15,4 +15,6 @@ pub use statuses::Status;
 #[cfg(test)]
 mod option_tests;
 #[cfg(test)]
+mod ranking_tests;
+#[cfg(test)]
 mod tests;
