@@ -63,19 +63,19 @@ all_blank text blank =
     let n : prefix_len is_blank (text ++ []) ≡ length text = prefix_len-run is_blank IsBlank blank_passes text [] blank refl in
     rw (← append-nil text, n) (drop_at text [] (length text) refl)
 
-All-blank_append : (a b : List ℕ) → AllByRecursion IsBlank a → AllByRecursion IsBlank b → AllByRecursion IsBlank (a ++ b)
-All-blank_append [] b first second = second
-All-blank_append (x ∷ a) b first second = (first.0, All-blank_append a b first.1 second)
+pub All-append : (P : ℕ → Type 0) (a b : List ℕ) → AllByRecursion P a → AllByRecursion P b → AllByRecursion P (a ++ b)
+All-append P [] b first second = second
+All-append P (x ∷ a) b first second = (first.0, All-append P a b first.1 second)
 
 -- the blanks at the front of a text are no part of its tokens
 pub blanks_on : (tokens : List Token) (text : List ℕ) → AreTokens tokens (after_blanks text) → AreTokens tokens text
-blanks_on [] text are = rw (← take-append-drop (prefix_len is_blank text) text) (All-blank_append _ _ (run_passes is_blank IsBlank passes_blank text) are)
+blanks_on [] text are = rw (← take-append-drop (prefix_len is_blank text) text) (All-append IsBlank _ _ (run_passes is_blank IsBlank passes_blank text) are)
 blanks_on (token ∷ tokens) text (blanks, token_on, rest, same, blank, stands, are) = (
   take (prefix_len is_blank text) text ++ blanks,
   token_on,
   rest,
   sym (take-append-drop (prefix_len is_blank text) text) ∙ ap (λ (behind : List ℕ). take (prefix_len is_blank text) text ++ behind) same ∙ sym (append_assoc _ blanks token_on),
-  All-blank_append _ blanks (run_passes is_blank IsBlank passes_blank text) blank,
+  All-append IsBlank _ blanks (run_passes is_blank IsBlank passes_blank text) blank,
   stands,
   are,
 )

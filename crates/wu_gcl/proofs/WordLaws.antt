@@ -8,6 +8,7 @@ use Rattle.std.proofs.lemmas.List.{take_all, length-map}
 use Rattle.std.proofs.lemmas.List.Elements.{All-from_recursion}
 use Rattle.std.proofs.lemmas.List.Splits.{slice_split_none, slice_split_at}
 use Rattle.wu_gcl.specs.Reading.{tag_at}
+use Rattle.wu_gcl.proofs.Texts.{All-append}
 use Rattle.wu_token.specs.Words.{is_word_byte, is_separator, has_bytes, runs_of, word_of, words_of}
 
 -- bytes of a word, in lower case
@@ -141,15 +142,11 @@ no_quote : (word : List ℕ) → AllByRecursion IsWordByte word → AllByRecursi
 no_quote [] all = tt
 no_quote (byte ∷ word) all = (λ is. quote_is_none byte is all.0.0, no_quote word all.1)
 
-All-append : (a b : List ℕ) → AllByRecursion (λ b. b ≢ 34) a → AllByRecursion (λ b. b ≢ 34) b → AllByRecursion (λ b. b ≢ 34) (a ++ b)
-All-append [] b first second = second
-All-append (x ∷ a) b first second = (first.0, All-append a b first.1 second)
-
 pub no_quote_in : (words : List (List ℕ)) → AllByRecursion IsWord words → AllByRecursion (λ b. b ≢ 34) (join_with_byte 32 words)
 no_quote_in [] all = tt
 no_quote_in (word ∷ []) all = no_quote word all.0.bytes
 no_quote_in (word ∷ next ∷ words) all =
-    All-append word (32 ∷ join_with_byte 32 (next ∷ words)) (no_quote word all.0.bytes) (space_is_none, no_quote_in (next ∷ words) all.1)
+    All-append (λ b. b ≢ 34) word (32 ∷ join_with_byte 32 (next ∷ words)) (no_quote word all.0.bytes) (space_is_none, no_quote_in (next ∷ words) all.1)
 
 other_than : (byte : ℕ) (test : Bool) → eqb byte 60 ≡ test → is_word_byte byte ≡ true → test ≡ false
 other_than byte false same is = refl

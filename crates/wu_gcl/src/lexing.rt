@@ -55,6 +55,7 @@ fn after_blanks(text: &[u8]) -> &[u8]
     &text[blanks_len(text)..]
 }
 
+/// How many spaces and TABs stand at the front.
 fn blanks_len(text: &[u8]) -> usize
     ensures value { result ≡ prefix_len is_blank text.now }
     ensures within { result ≤ length text.now }
@@ -64,6 +65,7 @@ fn blanks_len(text: &[u8]) -> usize
         .count()
 }
 
+/// How many bytes stand before the first quote.
 fn unquoted_len(text: &[u8]) -> usize
     ensures value { result ≡ prefix_len is_unquote text.now }
     ensures within { result ≤ length text.now }
@@ -71,6 +73,7 @@ fn unquoted_len(text: &[u8]) -> usize
     text.iter().take_while(|b| **b != b'"').count()
 }
 
+/// How many ASCII digits stand at the front.
 fn digits_len(text: &[u8]) -> usize
     ensures value { result ≡ prefix_len is_ascii_digit text.now }
     ensures within { result ≤ length text.now }
@@ -78,6 +81,7 @@ fn digits_len(text: &[u8]) -> usize
     text.iter().take_while(|b| b.is_ascii_digit()).count()
 }
 
+/// How many ASCII letters stand at the front.
 fn letters_len(text: &[u8]) -> usize
     ensures value { result ≡ prefix_len is_ascii_alphabetic text.now }
     ensures within { result ≤ length text.now }

@@ -42,6 +42,7 @@ fn put_terms(alloc: Global, terms: &mut Vec<Bytes>, expr: &Expr) -> Result<(), N
     }
 }
 
+/// Appends the words.
 fn put_words(terms: &mut Vec<Bytes>, words: &[Bytes]) -> Result<(), NoMemory>
     ensures { OnOk result (terms.new.items ≡ terms.old.items ++ words.now) }
 {
@@ -51,6 +52,7 @@ fn put_words(terms: &mut Vec<Bytes>, words: &[Bytes]) -> Result<(), NoMemory>
     Ok(())
 }
 
+/// Appends the tag as a term.
 fn put_tag(alloc: Global, terms: &mut Vec<Bytes>, tag: Tag) -> Result<(), NoMemory>
     ensures { OnOk result (terms.new.items ≡ terms.old.items ++ tag_text tag ∷ []) }
 {

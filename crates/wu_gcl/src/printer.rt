@@ -24,6 +24,7 @@ pub fn print(alloc: Global, expr: &Expr) -> Result<Vec<u8>, NoMemory>
     Ok(out)
 }
 
+/// Appends the expression.
 #[cycle(printer)]
 fn put_expr(alloc: Global, out: &mut Vec<u8>, expr: &Expr) -> Result<(), NoMemory>
     ensures { OnOk result (out.new.items ≡ out.old.items ++ printed (region_of expr.now)) }
@@ -59,6 +60,7 @@ fn put_operand(alloc: Global, out: &mut Vec<u8>, expr: &Expr) -> Result<(), NoMe
     }
 }
 
+/// Appends the words between quotes.
 fn put_phrase(out: &mut Vec<u8>, words: &[Bytes]) -> Result<(), NoMemory>
     ensures { OnOk result (out.new.items ≡ out.old.items ++ quoted (join_with_byte 32 words.now)) }
 {
@@ -90,6 +92,7 @@ fn put_spaced(out: &mut Vec<u8>, words: &[Bytes]) -> Result<(), NoMemory>
     Ok(())
 }
 
+/// Appends the bytes between quotes.
 fn put_quoted(out: &mut Vec<u8>, bytes: &[u8]) -> Result<(), NoMemory>
     ensures { OnOk result (out.new.items ≡ out.old.items ++ quoted bytes.now) }
 {
@@ -98,6 +101,7 @@ fn put_quoted(out: &mut Vec<u8>, bytes: &[u8]) -> Result<(), NoMemory>
     put(out, b"\"")
 }
 
+/// Appends the length between brackets.
 fn put_window(alloc: Global, out: &mut Vec<u8>, length: u16) -> Result<(), NoMemory>
     ensures { OnOk result (out.new.items ≡ out.old.items ++ (91 ∷ (decimal length ++ 93 ∷ []))) }
 {
@@ -122,6 +126,7 @@ fn op_bytes(op: Op) -> &'static [u8]
     }
 }
 
+/// Appends the bytes.
 fn put(out: &mut Vec<u8>, bytes: &[u8]) -> Result<(), NoMemory>
     ensures { OnOk result (out.new.items ≡ out.old.items ++ bytes.now) }
 {

@@ -1,4 +1,4 @@
-use crate::{ExprFault, parse, print, terms_of};
+use crate::{ExprFault, Tag, each_text_is_read, one_reading, parse, print, tag_bytes, terms_of};
 use std::alloc::{AllocError, Global};
 use std::test::Fail;
 use wu_base::NoMemory;
@@ -82,6 +82,8 @@ fn faults_come_in_their_order(rt: HostRuntime) -> Result<(), Fail> {
         let found = fault_of(rt.alloc(), text)?;
         assert!(rt; found == Some(*fault));
     }
+    each_text_is_read();
+    one_reading();
     Ok(())
 }
 
@@ -114,6 +116,7 @@ fn terms_are_distinct_and_ascending(rt: HostRuntime) -> Result<(), Fail> {
     assert_eq!(rt; terms.len(), 4);
     assert_eq!(rt; terms[0].as_slice(), b"</line>".as_slice());
     assert_eq!(rt; terms[1].as_slice(), b"<line>".as_slice());
+    assert_eq!(rt; tag_bytes(Tag::LineStart), b"<line>".as_slice());
     assert_eq!(rt; terms[2].as_slice(), b"a".as_slice());
     assert_eq!(rt; terms[3].as_slice(), b"b".as_slice());
     Ok(())

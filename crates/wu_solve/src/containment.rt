@@ -7,6 +7,7 @@ use crate::fronts::{ending_from, ends_by, starting_from, starts_by};
 use std::alloc::Global;
 use wu_base::{Extent, NoMemory};
 
+/// Whether an extent is kept, where it was found that it holds another or is held, or that it isn't.
 fn is_kept(wanted: bool, found: bool) -> bool
     ensures { result ≡ is_wanted wanted found }
 {

@@ -1,6 +1,6 @@
 -- The ways down from a directory, and how they answer to the ways up.
 use Rattle.std.proofs.Common.{◌≡◌, ◌≢◌, ℕ, zero, suc, ◌+◌, ◌-◌, ◌<◌, ◌≤◌, List, [], ◌∷◌, length, refl, ap, sym, ◌∙◌, subst, Bool, true, false, cond, not, ◌&&◌, ◌||◌, arith, inl, inr, ⊎_elim, Vec, Global}
-use Rattle.std.specs.Prelude.{None, Some, map, filter, nat_lt, nat_le, ◌==◌, ◌⊎◌}
+use Rattle.std.specs.Prelude.{Some, map, filter, nat_lt, ◌==◌, ◌⊎◌}
 use Rattle.std.specs.List.{AllByRecursion, list_any}
 use Rattle.std.specs.Ordering.{nat_cmp}
 use Rattle.std.specs.Map.{lookup}
@@ -10,12 +10,12 @@ use borrow.Author.Tests.{eqb-true, eqb-false, eq-eqb, ne_eqb, ltb-true, lt-ltb}
 use Rattle.wu_tree.specs.declared.events.Kind.{Kind}
 use Rattle.wu_tree.specs.declared.events.Kind.TheVariants.{Directory, File}
 use Rattle.wu_tree.specs.declared.events.Node.{Node}
-use Rattle.wu_tree.specs.FileSystems.{FileSystem, Link, is_directory, is_directory_node, is_kind_file, node_of, is_within, link_count, parent_of, ancestors, path_up, depth, entries_of}
+use Rattle.wu_tree.specs.FileSystems.{FileSystem, Link, is_directory, is_directory_node, is_kind_file, node_of, is_within, link_count, parent_of, ancestors, depth, entries_of}
 use Rattle.wu_tree.specs.Paths.{through, children_of, reaches}
 use Rattle.wu_tree.specs.Steps.{is_too_deep}
 use Rattle.wu_tree.specs.Rules.{IsLink, Hangs, IsTree}
-use Rattle.wu_tree.proofs.Entries.{All-found, All-map, all_found}
-use Rattle.wu_tree.proofs.Keeps.{same_number, has_root, path_is, reached, directory_found, parent_found, climb}
+use Rattle.wu_tree.proofs.Entries.{All-found, all_found}
+use Rattle.wu_tree.proofs.Keeps.{same_number, has_root, path_is, reached, directory_found, climb}
 use Rattle.wu_tree.proofs.Ways.{step_up, same_climb, no_climb, walk_met, steps_and_rest}
 
 abbrev pub Has : {X : Type 0} → X → List X → Type 0
@@ -172,32 +172,39 @@ through_child links d (suc m) q a b n =
           (r.0, (r.1.0, (r.1.1.0, ap (through r.0) u.5 ∙ or_right (q == r.0) (through r.0 (ancestors links m u.0)) r.1.1.1)))
     ] refl
 
--- ---- in a tree
-module _ (fs : FileSystem) (t : IsTree fs) where
-  hung_once : (q : ℕ) (k : Kind) → not (is_kind_file k) ≡ true → Hangs fs.links q k → q ≢ 1 → link_count fs.links q ≡ 1
-  hung_once q Directory h g n = ⊎_elim (λ e. absurd (n e)) (λ p. p.0) g
-  hung_once q File h g n = absurd cc
+-- ---- the directory in which a directory stands
+pub parent_child : (links : List Link) (d c : ℕ) → parent_of links c ≡ Some d → Has c (children_of links d)
+parent_child links d c p =
+    let l = parent_has links c d p in
+    subst (λ x. Has x (children_of links d)) l.1.1.1 (subst (λ x. Has l.0.1 (children_of links x)) l.1.1.0 (has_child l.0 links l.1.0))
 
-  linked_once : (q : ℕ) → is_directory fs q ≡ true → q ≢ 1 → link_count fs.links q ≡ 1
-  linked_once q h n =
-      let d = directory_found (node_of fs q) h in
-      let f = All-found (λ e. Hangs fs.links e.0 e.1.kind) (is_at (nat_cmp q)) fs.nodes d.0 t.nodes d.1 in
-      let e : f.0 ≡ q = sym (same_number q f.0 f.1) in
-      hung_once q d.0.kind d.2 (subst (λ x. Hangs fs.links x d.0.kind) e f.2) n
+module _ (fs : FileSystem) (a : AllByRecursion (IsLink fs) fs.links) where
+  pub parent_there : (q p : ℕ) → parent_of fs.links q ≡ Some p → is_directory fs p ≡ true
+  parent_there q p h =
+      let l = parent_has fs.links q p h in
+      subst (λ x. is_directory fs x ≡ true) l.1.1.0 (all_has (IsLink fs) l.0 fs.links a l.1.0).parent
 
-  -- the directory in which a directory stands
-  child_parent : (d c : ℕ) → Has c (children_of fs.links d) → is_directory fs c ≡ true → (c ≢ 1) × (parent_of fs.links c ≡ Some d)
-  child_parent d c h k =
+  pub child_parent : ((q : ℕ) → is_directory fs q ≡ true → q ≢ 1 → link_count fs.links q ≡ 1) → (d c : ℕ) → Has c (children_of fs.links d) → is_directory fs c ≡ true → (c ≢ 1) × (parent_of fs.links c ≡ Some d)
+  child_parent once d c h k =
       let l = child_has d c fs.links h in
-      let n : c ≢ 1 = λ e. (all_has (IsLink fs) l.0 fs.links t.links l.1.0).no_root (l.1.1.1 ∙ e) in
-      let one : link_count fs.links l.0.1 ≡ 1 = ap (link_count fs.links) l.1.1.1 ∙ linked_once c k n in
+      let n : c ≢ 1 = λ e. (all_has (IsLink fs) l.0 fs.links a l.1.0).no_root (l.1.1.1 ∙ e) in
+      let one : link_count fs.links l.0.1 ≡ 1 = ap (link_count fs.links) l.1.1.1 ∙ once c k n in
       (n, sym (ap (parent_of fs.links) l.1.1.1) ∙ only_link l.0 fs.links l.1.0 one ∙ ap Some l.1.1.0)
 
-  parent_child : (d c : ℕ) → parent_of fs.links c ≡ Some d → Has c (children_of fs.links d)
-  parent_child d c p =
-      let l = parent_has fs.links c d p in
-      subst (λ x. Has x (children_of fs.links d)) l.1.1.1 (subst (λ x. Has l.0.1 (children_of fs.links x)) l.1.1.0 (has_child l.0 fs.links l.1.0))
+-- in a directory that has to hang, and isn't the root
+pub hung_once : (links : List Link) (q : ℕ) (k : Kind) → not (is_kind_file k) ≡ true → Hangs links q k → q ≢ 1 → link_count links q ≡ 1
+hung_once links q Directory h g n = ⊎_elim (λ e. absurd (n e)) (λ p. p.0) g
+hung_once links q File h g n = absurd cc
 
+pub linked_once : (fs : FileSystem) → AllByRecursion (λ e. Hangs fs.links e.0 e.1.kind) fs.nodes → (q : ℕ) → is_directory fs q ≡ true → q ≢ 1 → link_count fs.links q ≡ 1
+linked_once fs a q h n =
+    let d = directory_found (node_of fs q) h in
+    let f = All-found (λ e. Hangs fs.links e.0 e.1.kind) (is_at (nat_cmp q)) fs.nodes d.0 a d.1 in
+    let e : f.0 ≡ q = sym (same_number q f.0 f.1) in
+    hung_once fs.links q d.0.kind d.2 (subst (λ x. Hangs fs.links x d.0.kind) e f.2) n
+
+-- ---- in a tree
+module _ (fs : FileSystem) (t : IsTree fs) where
   root_up : (q : ℕ) → is_directory fs q ≡ true → has_root (ancestors fs.links 255 q) ≡ true
   root_up q h = subst (λ (path : List ℕ). has_root path ≡ true) (path_is fs.links q) (reached fs t q h)
 
@@ -220,7 +227,7 @@ module _ (fs : FileSystem) (t : IsTree fs) where
   reaches_deeper (suc n) d h r =
       let f = any_has (λ c. is_directory fs c && reaches fs n c) (children_of fs.links d) r in
       let b = both (is_directory fs f.0) (reaches fs n f.0) f.1.1 in
-      let p = child_parent d f.0 f.1.0 b.0 in
+      let p = child_parent fs t.links (linked_once fs t.nodes) d f.0 f.1.0 b.0 in
       let i = reaches_deeper n f.0 b.0 b.1 in
       let w : through d (ancestors fs.links 255 i.0) ≡ true = through_parent fs.links f.0 d 255 i.0 (root_up i.0 i.1.0) (sym (up_path f.0 i.0) ∙ i.1.1.0) p.0 p.1 in
       (i.0, (i.1.0, (up_path d i.0 ∙ w, omega (arith, i.1.1.1, one_deeper d f.0 b.0 h p.0 p.1))))
@@ -234,7 +241,7 @@ module _ (fs : FileSystem) (t : IsTree fs) where
       let c = f.0 in
       let k : is_directory fs c ≡ true = on_way 255 q c r.0 f.1.1.1 (root_up q r.0) in
       let low : depth fs.links c + n ≤ depth fs.links q = omega (arith, r.1.1, one_deeper d c k h f.1.0 f.1.1.0) in
-      has_any (λ x. is_directory fs x && reaches fs n x) c (children_of fs.links d) (parent_child d c f.1.1.0)
+      has_any (λ x. is_directory fs x && reaches fs n x) c (children_of fs.links d) (parent_child fs.links d c f.1.1.0)
       (and_true (is_directory fs c) (reaches fs n c) k (deeper_reaches n c q k (r.0, (up_path c q ∙ f.1.1.1, low))))
     where
       -- what stands on the way up of a directory is a directory
@@ -245,8 +252,7 @@ module _ (fs : FileSystem) (t : IsTree fs) where
             | true ↦ λ e. subst (λ x. is_directory fs x ≡ true) (eqb-true q c e) h
             | false ↦ λ e.
                 let u = step_up fs.links c m q e a w in
-                let l = parent_has fs.links q u.0 u.1 in
-                let g : is_directory fs u.0 ≡ true = subst (λ x. is_directory fs x ≡ true) l.1.1.0 (all_has (IsLink fs) l.0 fs.links t.links l.1.0).parent in
+                let g : is_directory fs u.0 ≡ true = parent_there fs t.links q u.0 u.1 in
                 on_way m u.0 c g u.4 u.3
           ] refl
 

@@ -109,7 +109,7 @@ module _ {K X : Type 0} (P : K × X → Type 0) where
   All-map2 N Q (e ∷ es) h n a = (h e n.0 a.0, All-map2 N Q es h n.1 a.1)
 
 module _ {K : Type 0} {R : K → K → Ordering} (o : IsTotalOrder R) where
-  all_above : (k e : K) (ks : List K) → R k e ≡ Less → AllByRecursion (λ y. R e y ≡ Less) ks → AllByRecursion (λ y. R k y ≡ Less) ks
+  pub all_above : (k e : K) (ks : List K) → R k e ≡ Less → AllByRecursion (λ y. R e y ≡ Less) ks → AllByRecursion (λ y. R k y ≡ Less) ks
   all_above k e [] h a = tt
   all_above k e (y ∷ ks) h a = (o.trans k e y h a.0, all_above k e ks h a.1)
 

@@ -8,4 +8,7 @@ pub mod Perms
 pub mod Sound
 pub mod Ways
 pub mod Downs
+pub mod Listed
+pub mod Reached
+pub mod Built
 pub mod Renames

@@ -1,6 +1,6 @@
 -- A link that moves to a free place leaves a tree, where no directory comes to lie below itself or too deep.
 use Rattle.std.proofs.Common.{◌≡◌, ◌≢◌, ℕ, zero, suc, ◌+◌, ◌-◌, ◌<◌, ◌≤◌, List, [], ◌∷◌, length, refl, ap, sym, ◌∙◌, subst, Bool, true, false, cond, not, ◌&&◌, ◌||◌, arith, inl, inr, ⊎_elim}
-use Rattle.std.specs.Prelude.{None, Some, map, nat_lt, ◌==◌}
+use Rattle.std.specs.Prelude.{None, Some, nat_lt, ◌==◌}
 use Rattle.std.specs.List.{AllByRecursion, list_any}
 use Rattle.std.specs.Map.{remove_entry}
 use Rattle.std.specs.BTreeMap.{is_at, insert_entry}

@@ -4,3 +4,4 @@ pub mod Rules
 pub mod Nested
 pub mod Inodes
 pub mod Paths
+pub mod Lists

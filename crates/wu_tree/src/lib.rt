@@ -9,8 +9,10 @@ mod inodes;
 mod links;
 mod moves;
 mod names;
+mod rebuild;
 mod refusals;
 mod steps;
+mod tallies;
 mod trees;
 
 pub use events::{Effect, Event, Kind, LinkRec, Node, Refusal};

@@ -1,8 +1,9 @@
 ghost use Rattle.std.specs.Prelude.{◌≤◌};
 
-use crate::{Event, Kind, Refusal, Tree, is_name};
+use crate::{Event, Kind, LinkRec, Node, Refusal, Tree, is_name};
+use std::alloc::Global;
 use std::test::Fail;
-use wu_access::Perm;
+use wu_access::{Perm, UserRec};
 use wu_base::{Bytes, DEPTH_MAX, Ino, NoMemory, Sequence};
 
 const OPEN: Perm = Perm {
@@ -261,5 +262,174 @@ fn a_tree_tells_its_nodes_names_and_users(rt: HostRuntime) -> Result<(), Fail> {
     assert_eq!(rt; tree.entries(2).map(|names| names.len()), Some(2));
     assert!(rt; is_name(b"...") && !is_name(b"."));
     tree.keeps_the_rules();
+    Ok(())
+}
+
+/// What a tree tells of itself.
+#[derive(Drop)]
+struct Told {
+    nodes: Vec<(Ino, Node)>,
+    links: Vec<LinkRec>,
+    users: Vec<UserRec>,
+}
+
+/// What a tree of at most 99 nodes and users tells of itself.
+fn tell_all(alloc: Global, tree: &Tree) -> Result<Told, NoMemory> {
+    let mut nodes = Vec::new(alloc);
+    let mut links = Vec::new(alloc);
+    let mut users = Vec::new(alloc);
+    for i in 0..99 {
+        if let Some((parent, node)) = tree.node_at(i) {
+            nodes.push((parent, node))?;
+            add_links(alloc, tree, parent, &mut links)?;
+        }
+        if let Some(user) = tree.user_at(i) {
+            users.push(user.clone()?)?;
+        }
+    }
+    Ok(Told {
+        nodes,
+        links,
+        users,
+    })
+}
+
+fn add_links(
+    alloc: Global,
+    tree: &Tree,
+    parent: Ino,
+    links: &mut Vec<LinkRec>,
+) -> Result<(), NoMemory> {
+    if let Some(names) = tree.entries(parent) {
+        for (name, child) in names {
+            let name = Bytes::from_slice(alloc, name.as_slice())?;
+            let child = *child;
+            links.push(LinkRec {
+                parent,
+                name,
+                child,
+            })?;
+        }
+    }
+    Ok(())
+}
+
+fn directory(ino: Ino) -> (Ino, Node) {
+    let kind = Kind::Directory;
+    (ino, Node { kind, perm: OPEN })
+}
+
+fn file(ino: Ino) -> (Ino, Node) {
+    let kind = Kind::File;
+    (ino, Node { kind, perm: OPEN })
+}
+
+/// Whether these nodes and links make a tree, where each name is one letter.
+fn make_tree(
+    alloc: Global,
+    nodes: &[(Ino, Node)],
+    links: &[(Ino, u8, Ino)],
+) -> Result<bool, NoMemory> {
+    let mut list = Vec::new(alloc);
+    for (parent, letter, child) in links {
+        list.push(LinkRec {
+            parent: *parent,
+            name: Bytes::from_slice(alloc, &[*letter])?,
+            child: *child,
+        })?;
+    }
+    Ok(Tree::rebuild(alloc, nodes, list.as_slice(), &[])?.is_some())
+}
+
+/// Whether a chain of as many directories makes a tree.
+fn chain_makes_tree(alloc: Global, depth: Ino) -> Result<bool, NoMemory> {
+    let mut nodes = Vec::new(alloc);
+    let mut links = Vec::new(alloc);
+    for parent in 1..depth {
+        nodes.push(directory(parent))?;
+        links.push((parent, b'd', parent + 1))?;
+    }
+    nodes.push(directory(depth))?;
+    make_tree(alloc, nodes.as_slice(), links.as_slice())
+}
+
+#[test]
+fn a_tree_is_rebuilt_from_what_it_tells(rt: HostRuntime) -> Result<(), Fail> {
+    let mut tree = small_tree(rt)?;
+    link(rt, &mut tree, 3, 1, b"h")?;
+    let mut groups = Sequence::new(rt.alloc());
+    groups.push(9)?;
+    groups.push(7)?;
+    tree.apply(&Event::User { uid: 5, groups })?.is_ok();
+    let grown = tell_all(rt.alloc(), &tree)?;
+    let nodes = grown.nodes.as_slice();
+    let links = grown.links.as_slice();
+    let users = grown.users.as_slice();
+    match Tree::rebuild(rt.alloc(), nodes, links, users)? {
+        Some(rebuilt) => {
+            let again = tell_all(rt.alloc(), &rebuilt)?;
+            assert!(rt; again.nodes.as_slice() == nodes);
+            assert!(rt; again.links.as_slice() == links);
+            assert!(rt; again.users.as_slice() == users);
+        }
+        None => assert!(rt; false),
+    }
+    assert_eq!(rt; (nodes.len(), links.len(), users.len()), (5, 5, 1));
+    Ok(())
+}
+
+#[test]
+fn directories_that_make_no_tree(rt: HostRuntime) -> Result<(), Fail> {
+    let alloc = rt.alloc();
+    let nodes = [directory(1), directory(2), directory(3)];
+    assert!(rt; make_tree(alloc, &nodes, &[(1, b'a', 2), (2, b'a', 3)])?);
+    let unlinked = make_tree(alloc, &nodes, &[(1, b'a', 2)])?;
+    let cycle = make_tree(alloc, &nodes, &[(2, b'a', 3), (3, b'a', 2)])?;
+    let linked_twice = make_tree(alloc, &nodes, &[(1, b'a', 2), (1, b'b', 3), (2, b'a', 3)])?;
+    let linked_root = make_tree(alloc, &nodes, &[(1, b'a', 2), (2, b'a', 3), (3, b'a', 1)])?;
+    let no_root = make_tree(alloc, &[], &[])?;
+    assert!(rt; !unlinked && !cycle && !linked_twice && !linked_root && !no_root);
+    Ok(())
+}
+
+#[test]
+fn files_and_links_that_make_no_tree(rt: HostRuntime) -> Result<(), Fail> {
+    let alloc = rt.alloc();
+    let nodes = [directory(1), file(2)];
+    assert!(rt; make_tree(alloc, &nodes, &[(1, b'a', 2), (1, b'b', 2)])?);
+    let unlinked = make_tree(alloc, &nodes, &[])?;
+    let below_a_file = make_tree(alloc, &nodes, &[(1, b'a', 2), (2, b'a', 2)])?;
+    let to_no_node = make_tree(alloc, &nodes, &[(1, b'a', 2), (1, b'b', 9)])?;
+    let bad_name = make_tree(alloc, &nodes, &[(1, b'/', 2)])?;
+    assert!(rt; !unlinked && !below_a_file && !to_no_node && !bad_name);
+    Ok(())
+}
+
+#[test]
+fn lists_out_of_order_make_no_tree(rt: HostRuntime) -> Result<(), Fail> {
+    let alloc = rt.alloc();
+    let nodes = [directory(1), file(2)];
+    let swapped = make_tree(alloc, &[file(2), directory(1)], &[(1, b'a', 2)])?;
+    let node_twice = make_tree(alloc, &[directory(1), file(2), file(2)], &[(1, b'a', 2)])?;
+    let links_swapped = make_tree(alloc, &nodes, &[(1, b'b', 2), (1, b'a', 2)])?;
+    let link_twice = make_tree(alloc, &nodes, &[(1, b'a', 2), (1, b'a', 2)])?;
+    assert!(rt; !swapped && !node_twice && !links_swapped && !link_twice);
+    Ok(())
+}
+
+#[test]
+fn a_rebuilt_tree_is_255_deep_at_most(rt: HostRuntime) -> Result<(), Fail> {
+    assert!(rt; chain_makes_tree(rt.alloc(), 255)?);
+    assert!(rt; !chain_makes_tree(rt.alloc(), 256)?);
+    Ok(())
+}
+
+#[test]
+fn a_mode_over_7777_makes_no_tree(rt: HostRuntime) -> Result<(), Fail> {
+    let (ino, mut node) = directory(1);
+    node.perm.mode = 0o7777;
+    assert!(rt; make_tree(rt.alloc(), &[(ino, node)], &[])?);
+    node.perm.mode = 0o10000;
+    assert!(rt; !make_tree(rt.alloc(), &[(ino, node)], &[])?);
     Ok(())
 }

@@ -55,9 +55,9 @@ among_places n term (token ∷ tokens) zero = by (pointwise nat_eq token term) (
 among_places n term (token ∷ tokens) (suc i) =
     let same : n + suc i ≡ suc n + i = omega arith in
     by (pointwise nat_eq token term) (ap (is_among (places_from (suc n) term tokens)) same ∙ among_places (suc n) term tokens i) where
-  by : (b : Bool) → is_among (places_from (suc n) term tokens) (n + suc i) ≡ is_token_at tokens term i → is_among (cond b (n ∷ places_from (suc n) term tokens) (places_from (suc n) term tokens)) (n + suc i) ≡ is_token_at tokens term i
-  by true rest = grind (arith, nat_tests, rest)
-  by false rest = rest
+      by : (b : Bool) → is_among (places_from (suc n) term tokens) (n + suc i) ≡ is_token_at tokens term i → is_among (cond b (n ∷ places_from (suc n) term tokens) (places_from (suc n) term tokens)) (n + suc i) ≡ is_token_at tokens term i
+      by true rest = grind (arith, nat_tests, rest)
+      by false rest = rest
 
 chosen : (p a b : Bool) → ((p && a) || b) ≡ true → ((p ≡ true) × (a ≡ true)) ⊎ (b ≡ true)
 chosen true true b h = inl (refl, refl)
@@ -157,9 +157,9 @@ few_ascend low high [] up above below within = omega arith
 few_ascend low high (x ∷ xs) up above below within =
     let more = few_ascend (x.start + 1) high xs up.1 (behind xs up.0) below.1 (omega (arith, below.0)) in
     omega (arith, more, above.0) where
-  behind : (ys : List Extent) → AllByRecursion (IsBefore x) ys → AllByRecursion (λ y. x.start + 1 ≤ y.start) ys
-  behind [] before = tt
-  behind (y ∷ ys) before = (omega (arith, before.0.starts), behind ys before.1)
+      behind : (ys : List Extent) → AllByRecursion (IsBefore x) ys → AllByRecursion (λ y. x.start + 1 ≤ y.start) ys
+      behind [] before = tt
+      behind (y ∷ ys) before = (omega (arith, before.0.starts), behind ys before.1)
 
 -- no more than there are places
 hits_few : (region : Region) (stands : List ℕ → ℕ → Bool) (n : ℕ) → length (hits region stands n) ≤ n
@@ -180,8 +180,14 @@ frames_few region lists start (file ∷ files) =
     let frame : Range = record { start = start; len = length (tokens_of file.text) } in
     let here = frame_hits region lists frame in
     let behind = frames_from (start + length (tokens_of file.text)) files in
-    omega (arith, length-append here (frames_hits region lists behind), length-map (moved start) (hits region (stands_by lists start) (length (tokens_of file.text))),
-    hits_few region (stands_by lists start) (length (tokens_of file.text)), frames_few region lists (start + length (tokens_of file.text)) files, length-append (tokens_of file.text) (tokens_in files))
+    omega (
+      arith,
+      length-append here (frames_hits region lists behind),
+      length-map (moved start) (hits region (stands_by lists start) (length (tokens_of file.text))),
+      hits_few region (stands_by lists start) (length (tokens_of file.text)),
+      frames_few region lists (start + length (tokens_of file.text)) files,
+      length-append (tokens_of file.text) (tokens_in files),
+    )
 
 -- a scan's frames have no more extents than addresses
 pub scan_few : (region : Region) (files : List Shown) (terms : List (List ℕ)) (frames : List Range) (lists : List TermList) → IsScan files terms frames lists → length (frames_hits region lists frames) ≤ 2 ^ 47

@@ -91,10 +91,10 @@ pub AnswersAll-end : (told : Settings) (before left gained now : Option (List �
 AnswersAll-end told None left gained now s known rest ended answered next few = tt
 AnswersAll-end told (Some input) None gained now s known rest ended answered next few = absurd few.1
 AnswersAll-end told (Some input) (Some xs) gained now s known rest ended answered next few = (
-    omega (arith, ap length few.1, length-append few.0 xs, ap length ended, few.2),
-    ap Some ended,
-    λ read reading. finished_if read gained now input known rest s next (answered read reading),
-  )
+  omega (arith, ap length few.1, length-append few.0 xs, ap length ended, few.2),
+  ap Some ended,
+  λ read reading. finished_if read gained now input known rest s next (answered read reading),
+)
 
 -- nothing was taken where the words weren't read
 pub IsTooLong-none : (status : Status) (settings : Option Settings) (before : Option (List ℕ)) → (status ≡ InputTooLong → ⊥) → IsTooLong status settings before before

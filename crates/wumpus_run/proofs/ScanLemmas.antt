@@ -152,10 +152,10 @@ found_list lists i x term up within is equal = record {
   behind = behind_equal lists i x term up within is equal;
 }
   where
-  get_or-default : (xs : List TermList) (k : ℕ) (d e : TermList) → k < length xs → get_or xs k d ≡ get_or xs k e
-  get_or-default [] k d e inside = absurd (omega arith)
-  get_or-default (y ∷ ys) zero d e inside = refl
-  get_or-default (y ∷ ys) (suc k) d e inside = get_or-default ys k d e (omega arith)
+    get_or-default : (xs : List TermList) (k : ℕ) (d e : TermList) → k < length xs → get_or xs k d ≡ get_or xs k e
+    get_or-default [] k d e inside = absurd (omega arith)
+    get_or-default (y ∷ ys) zero d e inside = refl
+    get_or-default (y ∷ ys) (suc k) d e inside = get_or-default ys k d e (omega arith)
 
 all_from_parts : (P : TermList → Type 0) (lists : List TermList) (n : ℕ) → AllByRecursion P (take n lists) → AllByRecursion P (drop n lists) → AllByRecursion P lists
 all_from_parts P lists zero front back = back
@@ -247,7 +247,7 @@ note-more n i base lists now tokens d term within same before noting =
     noting ∙ ap (map (noted term (n + i))) before ∙ ap (λ k. map (noted term (n + k)) (map (with_places n front) base)) long
     ∙ map-with_places-more n front term base
     ∙ ap (λ ts. map (with_places n ts) base) (ap (λ w. front ++ w ∷ []) same
-        ∙ sym (map-more (λ (t : Token). t.term) (take i tokens) (get_or tokens i d)) ∙ ap (map (λ (t : Token). t.term)) (sym (take_more tokens i d within)))
+    ∙ sym (map-more (λ (t : Token). t.term) (take i tokens) (get_or tokens i d)) ∙ ap (map (λ (t : Token). t.term)) (sym (take_more tokens i d within)))
 
 -- nothing was noted yet
 pub unnoted : (n : ℕ) (lists : List TermList) → lists ≡ map (with_places n []) lists

@@ -34,7 +34,7 @@ pub record IsUsage (status : Status) (settings : Option Settings) : Type 0 where
 abbrev pub AnswersAll : Option Settings → Option (List ℕ) → Option (List ℕ) → Option (List ℕ) → Option (List ℕ) → Type 0
 AnswersAll settings before left gained now =
     IfSome settings (λ told. IfSome before (λ input. (length input ≤ told.max_input) × (left ≡ Some [])
-        × ((read : Reading) → IsReading read → Appends gained now (output_of read first_state (items_of input)))))
+    × ((read : Reading) → IsReading read → Appends gained now (output_of read first_state (items_of input)))))
 
 -- The sink gained a front of the output for the items of the input.
 abbrev pub AnswersFront : Option (List ℕ) → Option (List ℕ) → Option (List ℕ) → Type 0

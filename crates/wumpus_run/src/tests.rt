@@ -255,7 +255,7 @@ fn regions_are_counted(rt: HostRuntime) -> Result<(), Fail> {
             b"ok\nok\ncount~3~1\ncount~2~1\n",
         ),
         (
-            b"create~2~1~a~0~0~644\ntext~2~5\na a b\ncount~5~\"a\" ^ \"b\"\ncount~5~[8]\ncount~5~[9]\n",
+            b"create~2~1~a~0~0~644\ntext~2~5\na a b\ncount~5~\"a\" ^ \"b\"\ncount~5~[7]\ncount~5~[8]\n",
             b"ok\nok\ncount~1~1\ncount~1~1\ncount~0~0\n",
         ),
         (
@@ -292,9 +292,18 @@ fn what_is_no_expression_is_refused(rt: HostRuntime) -> Result<(), Fail> {
 #[test]
 fn bodies_are_taken_or_refused(rt: HostRuntime) -> Result<(), Fail> {
     let cases: [(&[u8], &[u8]); 4] = [
-        (b"create~2~1~a~0~0~644\ntext~2~9\nabc", b"ok\nrefused~truncated\n"),
-        (b"create~2~1~a~0~0~644\ntext~2~3\nabcd\nfly\n", b"ok\nrefused~badbody\nrefused~syntax\n"),
-        (b"create~2~1~a~0~0~644\ntext~2~3\nabc\r\nfly\n", b"ok\nrefused~badbody\nrefused~syntax\n"),
+        (
+            b"create~2~1~a~0~0~644\ntext~2~9\nabc",
+            b"ok\nrefused~truncated\n",
+        ),
+        (
+            b"create~2~1~a~0~0~644\ntext~2~3\nabcd\nfly\n",
+            b"ok\nrefused~badbody\nrefused~syntax\n",
+        ),
+        (
+            b"create~2~1~a~0~0~644\ntext~2~3\nabc\r\nfly\n",
+            b"ok\nrefused~badbody\nrefused~syntax\n",
+        ),
         (b"create~2~1~a~0~0~644\ntext~2~0", b"ok\nok\n"),
     ];
     for (script, replies) in cases {
@@ -304,7 +313,12 @@ fn bodies_are_taken_or_refused(rt: HostRuntime) -> Result<(), Fail> {
     let body = vec![in rt.alloc(); b'x'; 16_777_217]?;
     script.extend_from_slice(body.as_slice())?;
     script.extend_from_slice(b"\ncount~5~\"x\"\n")?;
-    assert_replies(&rt, rt.alloc(), script.as_slice(), b"ok\nrefused~toolong\ncount~0~0\n")
+    assert_replies(
+        &rt,
+        rt.alloc(),
+        script.as_slice(),
+        b"ok\nrefused~toolong\ncount~0~0\n",
+    )
 }
 
 #[test]
@@ -312,7 +326,12 @@ fn a_long_line_is_refused_whatever_it_begins_with(rt: HostRuntime) -> Result<(),
     for first in [b'x', b'#'] {
         let mut script = vec![in rt.alloc(); first; 65_537]?;
         script.extend_from_slice(b"\nfly\n")?;
-        assert_replies(&rt, rt.alloc(), script.as_slice(), b"refused~longline\nrefused~syntax\n")?;
+        assert_replies(
+            &rt,
+            rt.alloc(),
+            script.as_slice(),
+            b"refused~longline\nrefused~syntax\n",
+        )?;
     }
     Ok(())
 }
@@ -361,7 +380,11 @@ fn words_in_no_form_touch_nothing(rt: HostRuntime) -> Result<(), Fail> {
 fn an_input_past_its_limit_is_too_long(rt: HostRuntime) -> Result<(), Fail> {
     let cases: [(&[&str], &[u8], Status); 4] = [
         (&["run", "--max-input=10"], b"# comment\n", Status::Done),
-        (&["run", "--max-input=10"], b"# comments\n", Status::InputTooLong),
+        (
+            &["run", "--max-input=10"],
+            b"# comments\n",
+            Status::InputTooLong,
+        ),
         (&["--max-input", "0", "run"], b"", Status::Done),
         (&["--max-input", "0", "run"], b"\n", Status::InputTooLong),
     ];
@@ -491,7 +514,11 @@ impl Source for Cut {
 #[test]
 fn a_reply_is_written_before_more_is_read(rt: HostRuntime) -> Result<(), Fail> {
     let plain = PlainSource::new(Vec::from_slice(rt.alloc(), b"fly\npaths\t0\ncou")?);
-    let mut source = Cut { plain, given: false, faults: 0 };
+    let mut source = Cut {
+        plain,
+        given: false,
+        faults: 0,
+    };
     let mut sink = MemSink::new(rt.alloc());
     let mut store = PlainStore::new(rt.alloc());
     let status = run(rt.alloc(), &["run"], &mut source, &mut sink, &mut store);

@@ -9,7 +9,7 @@ returns-in-Some c =
     let list = c.index-lists-place.result in
     if_ok c.push.result _ _
     (λ pushed. set-noted c.args.term.now c.args.address lists c.in-Some.place list _ c.in-Some.ensures
-        (ap (λ addresses. let l : TermList = record (get_or lists c.in-Some.place list) { at = addresses } in l) pushed))
+    (ap (λ addresses. let l : TermList = record (get_or lists c.in-Some.place list) { at = addresses } in l) pushed))
     c.push.ensures.ok
 
 pub returns-in-None : goal.returns-in-None

@@ -1,0 +1,100 @@
+-- A file system told as lists, and what is counted and walked to see whether it is a tree.
+use Rattle.std.specs.Prelude.{ℕ, zero, suc, ◌+◌, Bool, true, false, ◌&&◌, ◌||◌, not, cond, ◌==◌, nat_le, Option, None, Some, List, [], ◌∷◌, map}
+use Rattle.std.specs.declared.cmp.Ordering.{Ordering}
+use Rattle.std.specs.declared.cmp.Ordering.TheVariants.{Less, Equal, Greater}
+use Rattle.std.specs.Ordering.{nat_cmp}
+use Rattle.std.specs.List.{flat_map, list_all}
+use Rattle.std.specs.Map.{keys_of}
+use Rattle.wu_access.specs.declared.UserRec.{UserRec}
+use Rattle.wu_tree.specs.declared.events.Kind.{Kind}
+use Rattle.wu_tree.specs.declared.events.Kind.TheVariants.{Directory, File}
+use Rattle.wu_tree.specs.declared.events.Node.{Node}
+use Rattle.wu_tree.specs.declared.events.LinkRec.{LinkRec}
+use Rattle.wu_tree.specs.declared.inodes.Inode.{Inode}
+use Rattle.wu_tree.specs.declared.inodes.Hold.{Hold}
+use Rattle.wu_tree.specs.declared.inodes.Hold.TheVariants.{Entries, Links}
+use Rattle.wu_tree.specs.declared.tallies.Hung.{Hung}
+use Rattle.wu_tree.specs.FileSystems.{FileSystem, Link, place_cmp, is_directory, is_there, is_name, link_count, parent_of}
+use Rattle.wu_tree.specs.Paths.{children_of}
+
+abbrev pub link_of : LinkRec → Link
+link_of link = ((link.parent, link.name), link.child)
+
+abbrev pub user_of : UserRec → ℕ × List ℕ
+user_of user = (user.uid, user.groups)
+
+-- the file system of these nodes, links and users
+abbrev pub listed : List (ℕ × Node) → List LinkRec → List UserRec → FileSystem
+listed nodes links users = record { nodes = nodes; links = map link_of links; users = map user_of users }
+
+abbrev pub is_less : Ordering → Bool
+is_less Less = true
+is_less Equal = false
+is_less Greater = false
+
+-- whether keys ascend, without repeats
+abbrev pub ascends : {K : Type 0} → (K → K → Ordering) → List K → Bool
+ascends cmp [] = true
+ascends cmp (key ∷ keys) = list_all (λ next. is_less (cmp key next)) keys && ascends cmp keys
+
+-- a node's number and mode are in range
+abbrev pub number_test : ℕ × Node → Bool
+number_test node = not (node.0 == 0) && nat_le node.1.perm.mode 0xFFF
+
+-- nodes, users, their groups and links ascend, and numbers and modes are in range
+abbrev pub order_test : List (ℕ × Node) → List LinkRec → List UserRec → Bool
+order_test nodes links users =
+    ascends nat_cmp (keys_of nodes) && list_all number_test nodes && ascends nat_cmp (keys_of (map user_of users))
+    && list_all (λ user. ascends nat_cmp user.groups) users && ascends place_cmp (keys_of (map link_of links))
+
+-- how a node hangs: the directory of its first link, and how many links it has
+abbrev pub hung_by : ℕ → Option ℕ → Option Hung
+hung_by count None = None
+hung_by count (Some parent) = Some (record { parent = parent; count = count })
+
+abbrev pub hung_of : List Link → ℕ → Option Hung
+hung_of links ino = hung_by (link_count links ino) (parent_of links ino)
+
+-- with one more link, in that directory
+abbrev pub one_more : Option Hung → ℕ → Hung
+one_more None parent = record { parent = parent; count = 1 }
+one_more (Some hung) parent = record { parent = hung.parent; count = hung.count + 1 }
+
+-- how a node that hangs so is held. The root counts as its own parent.
+abbrev pub hold_of : Kind → Option Hung → Hold
+hold_of Directory None = Entries 1
+hold_of Directory (Some hung) = Entries hung.parent
+hold_of File None = Links 0
+hold_of File (Some hung) = Links hung.count
+
+abbrev pub inode_of : Option Hung → Node → Inode
+inode_of hung node = record { perm = node.perm; hold = hold_of node.kind hung }
+
+-- the rules of a link, as a test
+abbrev pub child_test : FileSystem → ℕ → Bool
+child_test fs ino = is_there fs ino && not (ino == 1)
+
+abbrev pub link_test : FileSystem → Link → Bool
+link_test fs link = is_directory fs link.0.0 && child_test fs link.1 && is_name link.0.1
+
+-- there is a root, and each link keeps the rules of a link
+abbrev pub place_test : FileSystem → List LinkRec → Bool
+place_test fs links = is_directory fs 1 && list_all (λ link. link_test fs (link_of link)) links
+
+-- the directories at or below that one, to n levels
+unfoldable pub below : FileSystem → ℕ → ℕ → List ℕ
+below fs zero directory = []
+below fs (suc n) directory = directory ∷ flat_map (λ child. cond (is_directory fs child) (below fs n child) []) (children_of fs.links directory)
+
+-- whether a node hangs as its kind has to, as a test
+abbrev pub hung_once : Option Hung → Bool
+hung_once None = false
+hung_once (Some hung) = hung.count == 1
+
+abbrev pub is_hung : Option Hung → Bool
+is_hung None = false
+is_hung (Some hung) = true
+
+abbrev pub hangs_test : ℕ → Kind → Option Hung → Bool → Bool
+hangs_test ino Directory hung is_reached = (ino == 1) || (hung_once hung && is_reached)
+hangs_test ino File hung is_reached = is_hung hung
