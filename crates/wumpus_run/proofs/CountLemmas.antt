@@ -93,7 +93,7 @@ both_ways false true there back = back refl
 both_ways false false there back = refl
 
 -- the lists have an address for a term exactly where the token is the term
-scan_has : (tokens : List (List ℕ)) (term : List ℕ) (terms : List (List ℕ)) (address : ℕ) → Contains terms term → has_address (map (list_among tokens) terms) term address ≡ is_token_at tokens term address
+pub scan_has : (tokens : List (List ℕ)) (term : List ℕ) (terms : List (List ℕ)) (address : ℕ) → Contains terms term → has_address (map (list_among tokens) terms) term address ≡ is_token_at tokens term address
 scan_has tokens term terms address has =
     both_ways (has_address (map (list_among tokens) terms) term address) (is_token_at tokens term address)
     (found_in_scan tokens term terms address) (scan_finds tokens term terms address has.0 has.1 has.2)
@@ -119,7 +119,7 @@ increasing_if : (n : ℕ) (xs : List ℕ) (b : Bool) → IsStrictlyIncreasing xs
 increasing_if n xs true up above = increasing-cons n xs up above
 increasing_if n xs false up above = up
 
-places_increase : (n : ℕ) (term : List ℕ) (tokens : List (List ℕ)) → IsStrictlyIncreasing (places_from n term tokens)
+pub places_increase : (n : ℕ) (term : List ℕ) (tokens : List (List ℕ)) → IsStrictlyIncreasing (places_from n term tokens)
 places_increase n term [] = λ k within. absurd (omega arith)
 places_increase n term (token ∷ tokens) =
     increasing_if n (places_from (suc n) term tokens) (pointwise nat_eq token term) (places_increase (suc n) term tokens) (λ k within. omega (arith, places_above (suc n) term tokens k within))
@@ -209,7 +209,7 @@ before_back (token ∷ tokens) back term zero within = refl
 before_back (token ∷ tokens) back term (suc i) within = before_back tokens back term i (omega arith)
 
 -- whether the lists have the address of a term of the expression tells whether the token there is the term
-abbrev Tells : Region → List TermList → List (List ℕ) → Type 0
+abbrev pub Tells : Region → List TermList → List (List ℕ) → Type 0
 Tells region lists tokens = (term : List ℕ) → Contains (terms_in region) term → (address : ℕ) → has_address lists term address ≡ is_token_at tokens term address
 
 -- the frame of a file has its extents

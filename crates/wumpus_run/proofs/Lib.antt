@@ -5,4 +5,6 @@ pub mod ReplyLemmas
 pub mod SessionLemmas
 pub mod EndLemmas
 pub mod StateLemmas
+pub mod UnitLemmas
+pub mod RankLemmas
 pub mod OptionLemmas

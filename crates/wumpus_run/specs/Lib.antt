@@ -7,3 +7,4 @@ pub mod Output
 pub mod Options
 pub mod Reading
 pub mod Session
+pub mod Units

@@ -74,7 +74,7 @@ fn count_in(
 }
 
 /// The extents of the expression in one frame.
-fn solve_in(
+pub(crate) fn solve_in(
     alloc: Global,
     expr: &Expr,
     frame: Range,

@@ -4,6 +4,7 @@
 mod answering;
 mod machine;
 mod options;
+mod ranking;
 mod scanning;
 mod session;
 mod statuses;
@@ -13,5 +14,7 @@ pub use statuses::Status;
 
 #[cfg(test)]
 mod option_tests;
+#[cfg(test)]
+mod ranking_tests;
 #[cfg(test)]
 mod tests;

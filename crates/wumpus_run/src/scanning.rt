@@ -92,7 +92,7 @@ fn note(lists: &mut [TermList], term: &[u8], address: u64) -> Result<(), NoMemor
 }
 
 /// The place of the term's list.
-fn list_of(lists: &[TermList], term: &[u8]) -> Option<usize>
+pub(crate) fn list_of(lists: &[TermList], term: &[u8]) -> Option<usize>
     requires { IsStrictlySortedBy (slice_cmp nat_cmp) (map (λ list. list.term) lists.now) }
     ensures { MatchOption result (AllByRecursion (IsOther term.now) lists.now) (IsListOf term.now lists.now) }
 {
