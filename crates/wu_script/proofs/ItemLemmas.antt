@@ -11,7 +11,7 @@ use Rattle.wu_script.specs.declared.types.Command.{Command}
 use Rattle.wu_script.specs.declared.types.Command.TheVariants as commands
 use Rattle.wu_script.specs.Holding.{Held}
 use Rattle.wu_script.specs.Taking.{IsOneLine, Kept, closing}
-use Rattle.wu_script.specs.Commands.{Meaning, Happens, Counts, ListsPaths, GivesText, IsRefused, IsBlank, meaning_of, IsCommand, IsRefusal, IsBlankLine, IsTextHead, Shows}
+use Rattle.wu_script.specs.Commands.{Meaning, Happens, Counts, Ranks, ListsPaths, GivesText, IsRefused, IsBlank, meaning_of, IsCommand, IsRefusal, IsBlankLine, IsTextHead, Shows}
 use Rattle.wu_script.specs.declared.types.Line.{Line}
 use Rattle.wu_script.specs.Items.{Entry, Spoken, Texted, First, line_at, after_line, has_feed, body_entry, text_at, entry_at, first_of, IsEntry, IsOneItem, IsOneBody, IsItem}
 
@@ -53,6 +53,7 @@ IsSpoken _ = Unit {0}
 entry_at-spoken : (meaning : Meaning) (rest : List ℕ) (closed : Bool) → IsSpoken meaning → entry_at meaning rest closed ≡ record { entry = Spoken meaning; rest = rest; closed = closed }
 entry_at-spoken (Happens event) rest closed spoken = refl
 entry_at-spoken (Counts uid text) rest closed spoken = refl
+entry_at-spoken (Ranks uid k unit words) rest closed spoken = refl
 entry_at-spoken (ListsPaths uid) rest closed spoken = refl
 entry_at-spoken (GivesText ino len) rest closed spoken = absurd spoken
 entry_at-spoken (IsRefused why) rest closed spoken = refl
@@ -61,6 +62,7 @@ entry_at-spoken IsBlank rest closed spoken = refl
 pub spoken_command : (command : Command) (meaning : Meaning) → IsCommand command meaning → IsSpoken meaning
 spoken_command command (Happens event) is = tt
 spoken_command command (Counts uid text) is = tt
+spoken_command command (Ranks uid k unit words) is = tt
 spoken_command command (ListsPaths uid) is = tt
 spoken_command (commands.Update event) (GivesText ino len) is = is
 spoken_command (commands.Ask query) (GivesText ino len) is = is
@@ -70,6 +72,7 @@ spoken_command command IsBlank is = tt
 pub spoken_refusal : (why : Why) (meaning : Meaning) → IsRefusal why meaning → IsSpoken meaning
 spoken_refusal why (Happens event) is = tt
 spoken_refusal why (Counts uid text) is = tt
+spoken_refusal why (Ranks uid k unit words) is = tt
 spoken_refusal why (ListsPaths uid) is = tt
 spoken_refusal why (GivesText ino len) is = is
 spoken_refusal why (IsRefused other) is = tt
@@ -78,6 +81,7 @@ spoken_refusal why IsBlank is = tt
 pub spoken_blank : (meaning : Meaning) → IsBlankLine meaning → IsSpoken meaning
 spoken_blank (Happens event) is = tt
 spoken_blank (Counts uid text) is = tt
+spoken_blank (Ranks uid k unit words) is = tt
 spoken_blank (ListsPaths uid) is = tt
 spoken_blank (GivesText ino len) is = is
 spoken_blank (IsRefused other) is = tt
@@ -182,6 +186,7 @@ pub head_meaning : (ino len : ℕ) (meaning : Meaning) → IsTextHead ino len me
 head_meaning ino len (GivesText i n) is = ap (λ x. GivesText x n) (sym is.0) ∙ ap (λ x. GivesText ino x) (sym is.1)
 head_meaning ino len (Happens event) is = absurd is
 head_meaning ino len (Counts uid text) is = absurd is
+head_meaning ino len (Ranks uid k unit words) is = absurd is
 head_meaning ino len (ListsPaths uid) is = absurd is
 head_meaning ino len (IsRefused why) is = absurd is
 head_meaning ino len IsBlank is = absurd is

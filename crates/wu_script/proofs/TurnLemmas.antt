@@ -7,7 +7,7 @@ use Rattle.std.proofs.lemmas.List.{take-append-le, length-drop}
 use Rattle.wu_script.specs.declared.types.Item.{Item}
 use Rattle.wu_script.specs.declared.types.Item.TheVariants as items
 use Rattle.wu_script.specs.Holding.{Held}
-use Rattle.wu_script.specs.Commands.{Meaning, Happens, Counts, ListsPaths, GivesText, IsRefused, IsBlank, meaning_of}
+use Rattle.wu_script.specs.Commands.{Meaning, Happens, Counts, Ranks, ListsPaths, GivesText, IsRefused, IsBlank, meaning_of}
 use Rattle.wu_script.specs.Items.{First, line_at, after_line, has_feed, text_at, entry_at, Entry, first_of, items_within, items_of, whole_within, whole_items_of, IsEntry, IsOneItem, IsItem, TakesItem, IsFirstItem, IsNext}
 
 -- a line that is closed stays, whatever follows
@@ -49,6 +49,7 @@ entry_more : (meaning : Meaning) (rest more : List ℕ) → (entry_at meaning re
 entry_more (GivesText ino len) rest more closed = text_more ino len rest more closed
 entry_more (Happens event) rest more closed = refl
 entry_more (Counts uid text) rest more closed = refl
+entry_more (Ranks uid k unit words) rest more closed = refl
 entry_more (ListsPaths uid) rest more closed = refl
 entry_more (IsRefused why) rest more closed = refl
 entry_more IsBlank rest more closed = refl
@@ -65,6 +66,7 @@ pub entry_unclosed : (meaning : Meaning) → (entry_at meaning [] false).closed 
 entry_unclosed (GivesText ino len) = text_at-nothing ino len
 entry_unclosed (Happens event) = refl
 entry_unclosed (Counts uid text) = refl
+entry_unclosed (Ranks uid k unit words) = refl
 entry_unclosed (ListsPaths uid) = refl
 entry_unclosed (IsRefused why) = refl
 entry_unclosed IsBlank = refl
@@ -155,6 +157,7 @@ entry_short : (meaning : Meaning) (rest : List ℕ) (closed : Bool) → length (
 entry_short (GivesText ino len) rest closed = text_short ino len rest
 entry_short (Happens event) rest closed = omega arith
 entry_short (Counts uid text) rest closed = omega arith
+entry_short (Ranks uid k unit words) rest closed = omega arith
 entry_short (ListsPaths uid) rest closed = omega arith
 entry_short (IsRefused why) rest closed = omega arith
 entry_short IsBlank rest closed = omega arith

@@ -1,18 +1,19 @@
 -- What a command's line says.
-use Rattle.std.specs.Prelude.{◌≡◌, ℕ, ◌≤◌, Bool, true, ◌==◌, nat_lt, List, [], ◌∷◌, length, Option, Some, None, Ok, Err, map, option_and_then, if◌then◌else◌}
+use Rattle.std.specs.Prelude.{◌≡◌, ℕ, ◌≤◌, ◌<◌, Bool, true, ◌==◌, nat_lt, List, [], ◌∷◌, length, Option, Some, None, Ok, Err, map, option_and_then, if◌then◌else◌}
 use Rattle.wu_access.specs.declared.Perm.{Perm}
 use Rattle.wu_tree.specs.declared.events.Event.{Event}
 use Rattle.wu_tree.specs.declared.events.Event.TheVariants as events
 use Rattle.wu_gcl.specs.declared.expressions.ExprFault.{ExprFault}
 use Rattle.wu_gcl.specs.Reading.{Reads}
-use Rattle.wu_gcl.specs.Regions.{region_of, IsProper}
+use Rattle.wu_gcl.specs.Regions.{Region, region_of, IsProper}
+use Rattle.wu_token.specs.Words.{words_of}
 use Rattle.wu_tree.specs.Steps.{IsEvent}
 use Rattle.wu_ask.specs.declared.Ask.{Ask}
 use Rattle.wu_ask.specs.declared.Ask.TheVariants as asks
 use Rattle.wu_fields.specs.Numbers.{number_of, mode_of}
 use Rattle.wu_fields.specs.Fields.{fields_of, all_some}
 use Rattle.wu_script.specs.declared.types.Why.{Why}
-use Rattle.wu_script.specs.declared.types.Why.TheVariants.{LongLine, Syntax, Expr, Unbuilt}
+use Rattle.wu_script.specs.declared.types.Why.TheVariants.{LongLine, Syntax, Expr, NoWord, ManyWords, Unbuilt}
 use Rattle.wu_script.specs.declared.types.Command.{Command}
 use Rattle.wu_script.specs.declared.types.Command.TheVariants as commands
 use Rattle.wu_script.specs.declared.types.Line.{Line}
@@ -120,10 +121,11 @@ chown_of _ = None
 
 -- ---- lines
 
--- what a line says; an expression stands as its text
+-- what a line says; an expression stands as its text, and so do words
 pub data Meaning : Type 0 where
   Happens : (event : Event) → Meaning
   Counts : (uid : ℕ) (text : List ℕ) → Meaning
+  Ranks : (uid k : ℕ) (unit words : List ℕ) → Meaning
   ListsPaths : (uid : ℕ) → Meaning
   GivesText : (ino len : ℕ) → Meaning
   IsRefused : (why : Why) → Meaning
@@ -152,6 +154,14 @@ count_of (uid ∷ text ∷ []) = do
   Some (Counts u text)
 count_of _ = None
 
+-- a ranking shows at most 10,000 regions
+unfoldable pub rank_of : List (List ℕ) → Option Meaning
+rank_of (uid ∷ k ∷ unit ∷ words ∷ []) = do
+  u ← id_of uid
+  n ← number_of k 10000
+  Some (Ranks u n unit words)
+rank_of _ = None
+
 unfoldable pub paths_of : List (List ℕ) → Option Meaning
 paths_of (uid ∷ []) = do
   u ← id_of uid
@@ -170,6 +180,7 @@ command_of words.Rename fields = event_meaning (rename_of fields)
 command_of words.Chmod fields = event_meaning (chmod_of fields)
 command_of words.Chown fields = event_meaning (chown_of fields)
 command_of words.Count fields = or_syntax (count_of fields)
+command_of words.Rank fields = or_syntax (rank_of fields)
 command_of words.Paths fields = or_syntax (paths_of fields)
 command_of words.Unbuilt fields = IsRefused Unbuilt
 command_of words.Unknown fields = IsRefused Syntax
@@ -197,17 +208,39 @@ meaning_of line =
 -- the question counts the regions of the expression
 abbrev pub IsCountOf : Ask → List ℕ → Type 0
 IsCountOf (asks.Count expr) text = Reads text (Ok (region_of expr))
-IsCountOf asks.Paths text = ⊥
+IsCountOf _ text = ⊥
+
+-- from 1 to 64 words, repeats counted
+abbrev pub IsWordCount : ℕ → Type 0
+IsWordCount count = (1 ≤ count) × (count ≤ 64)
+
+-- the question ranks the regions of the expression by the words, and shows so many
+abbrev pub IsRankOf : Ask → ℕ → List ℕ → List ℕ → Type 0
+IsRankOf (asks.Rank k unit words) n text spoken = (k ≡ n) × Reads text (Ok (region_of unit)) × (words ≡ words_of spoken) × IsWordCount (length words)
+IsRankOf _ n text spoken = ⊥
 
 abbrev pub IsCommand : Command → Meaning → Type 0
 IsCommand (commands.Update event) (Happens meant) = event ≡ meant
 IsCommand (commands.Ask query) (Counts uid text) = (query.uid ≡ uid) × IsCountOf query.ask text
+IsCommand (commands.Ask query) (Ranks uid k unit words) = (query.uid ≡ uid) × IsRankOf query.ask k unit words
 IsCommand (commands.Ask query) (ListsPaths uid) = (query.uid ≡ uid) × (query.ask ≡ asks.Paths)
 IsCommand _ _ = ⊥
+
+-- the text is an expression
+abbrev pub IsExpression : List ℕ → Type 0
+IsExpression text = (region : Region) × Reads text (Ok region)
+
+-- a ranking is refused for its unit before its words
+abbrev pub IsRankFault : Why → List ℕ → List ℕ → Type 0
+IsRankFault (Expr fault) unit words = Reads unit (Err fault)
+IsRankFault NoWord unit words = IsExpression unit × (words_of words ≡ [])
+IsRankFault ManyWords unit words = IsExpression unit × (64 < length (words_of words))
+IsRankFault _ unit words = ⊥
 
 abbrev pub IsRefusal : Why → Meaning → Type 0
 IsRefusal why (IsRefused meant) = why ≡ meant
 IsRefusal why (Counts uid text) = (fault : ExprFault) × (why ≡ Expr fault) × Reads text (Err fault)
+IsRefusal why (Ranks uid k unit words) = IsRankFault why unit words
 IsRefusal _ _ = ⊥
 
 abbrev pub IsTextHead : ℕ → ℕ → Meaning → Type 0
@@ -227,9 +260,10 @@ Shows lines.Blank meaning = IsBlankLine meaning
 
 -- ---- the conditions of the crates below
 
--- each phrase of an expression has a word, and each window an address
+-- each phrase of an expression has a word, and each window an address; a ranking shows at most 10,000 regions, by 1 to 64 words
 abbrev pub IsSoundAsk : Ask → Type 0
 IsSoundAsk (asks.Count expr) = IsProper (region_of expr)
+IsSoundAsk (asks.Rank k unit words) = (k ≤ 10000) × IsProper (region_of unit) × IsWordCount (length words)
 IsSoundAsk asks.Paths = Unit {0}
 
 abbrev pub IsSoundCommand : Command → Type 0

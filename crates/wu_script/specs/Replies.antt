@@ -5,6 +5,7 @@ use Rattle.wu_tree.specs.declared.events.Refusal.{Refusal}
 use Rattle.wu_tree.specs.declared.events.Refusal.TheVariants as refusals
 use Rattle.wu_gcl.specs.declared.expressions.ExprFault.{ExprFault}
 use Rattle.wu_gcl.specs.declared.expressions.ExprFault.TheVariants as faults
+use Rattle.wu_ask.specs.declared.RankLine.{RankLine}
 use Rattle.wu_ask.specs.declared.Answered.{Answered}
 use Rattle.wu_ask.specs.declared.Answered.TheVariants as answers
 use Rattle.wu_fields.specs.Fields.{escaped}
@@ -44,9 +45,14 @@ why_word why.Unbuilt = codes "unbuilt"
 abbrev pub path_line : List ℕ → List ℕ
 path_line path = escaped path ++ 10 ∷ []
 
+-- a region's score, the path of its file, and its first and its last place, on a line of their own
+abbrev pub rank_line : RankLine → List ℕ
+rank_line line = decimal line.score ++ 9 ∷ [] ++ escaped line.path ++ 9 ∷ [] ++ decimal line.start ++ 9 ∷ [] ++ decimal line.end ++ 10 ∷ []
+
 -- its fields have a TAB between each two
 unfoldable pub answer_bytes : Answered → List ℕ
 answer_bytes (answers.Count hits files) = codes "count\t" ++ decimal hits ++ 9 ∷ [] ++ decimal files ++ 10 ∷ []
+answer_bytes (answers.Rank listed shown) = codes "rank\t" ++ decimal listed ++ 9 ∷ [] ++ decimal (length shown) ++ 10 ∷ [] ++ flat_map rank_line shown
 answer_bytes (answers.Paths paths) = codes "paths\t" ++ decimal (length paths) ++ 10 ∷ [] ++ flat_map path_line paths
 
 unfoldable pub reply_bytes : Reply → List ℕ

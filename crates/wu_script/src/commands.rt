@@ -1,7 +1,7 @@
 //! What the lines of a script say.
-ghost use Rattle.std.specs.Prelude.{◌≡◌, IfOk, IfSome};
+ghost use Rattle.std.specs.Prelude.{◌≡◌, ◌≤◌, IfOk, IfSome};
 ghost use Rattle.wu_tree.specs.Steps.{IsEvent};
-ghost use Rattle.wu_script.specs.Commands.{Shows, IsSoundLine, command_of, event_meaning, fields_meaning, is_blank, meaning_of, or_syntax, count_of, paths_of, text_head_of};
+ghost use Rattle.wu_script.specs.Commands.{Shows, IsSoundLine, command_of, event_meaning, fields_meaning, is_blank, meaning_of, or_syntax, count_of, rank_of, paths_of, Ranks, text_head_of};
 
 use crate::events::{
     chmod, chown, create, id_of, link, mkdir, node_of, rename, rmdir, unlink, user,
@@ -10,15 +10,17 @@ use crate::types::{Command, Line, Why};
 use crate::words::{Word, word_of};
 use std::alloc::Global;
 use wu_ask::{Ask, Query};
-use wu_base::{Bytes, LINE_MAX, NoMemory};
+use wu_base::{Bytes, K_MAX, LINE_MAX, NoMemory, RANK_WORDS_MAX, Sequence};
 use wu_fields::{read_decimal, split_fields};
 use wu_gcl::parse;
+use wu_token::words;
 use wu_tree::Event;
 
 /// What the line says, without its LF. The first rule that applies decides: `LongLine`, more than
 /// LINE_MAX bytes; blank, no byte or `#` at its front; `Syntax` for an escape fault; `Unbuilt` for a
 /// command that isn't built yet; `Syntax` for an unknown command, a wrong number of fields or a field
-/// out of form or range; the faults of a `count`'s expression.
+/// out of form or range; the faults of a `count`'s expression, or of a `rank`'s unit; `NoWord` and
+/// `ManyWords` for a `rank` by no word, or by more than RANK_WORDS_MAX.
 #[tactic(auto, unfolding(crate::specs::Commands::meaning_of, crate::specs::Commands::fields_meaning))]
 pub fn read_command(alloc: Global, line: &[u8]) -> Result<Line, NoMemory>
     ensures says { IfOk result (λ read. Shows read (meaning_of line.now)) }
@@ -76,6 +78,7 @@ fn read_by_word(alloc: Global, word: Word, fields: &[Bytes]) -> Result<Line, NoM
         Word::Chmod => Ok(update(chmod(fields))),
         Word::Chown => Ok(update(chown(fields))),
         Word::Count => count(alloc, fields),
+        Word::Rank => rank(alloc, fields),
         Word::Paths => Ok(paths(fields)),
         Word::Unbuilt => Ok(Line::Refused(Why::Unbuilt)),
         Word::Unknown => Ok(Line::Refused(Why::Syntax)),
@@ -135,6 +138,54 @@ fn count(alloc: Global, fields: &[Bytes]) -> Result<Line, NoMemory>
         }
         _ => Ok(Line::Refused(Why::Syntax)),
     }
+}
+
+/// `rank`, a user, how many regions to show, a unit and the words to rank by.
+#[tactic(auto, unfolding(crate::specs::Commands::rank_of))]
+fn rank(alloc: Global, fields: &[Bytes]) -> Result<Line, NoMemory>
+    ensures says { IfOk result (λ read. Shows read (or_syntax (rank_of fields.now))) }
+    ensures sound { IfOk result IsSoundLine }
+{
+    match fields {
+        [uid, k, unit, text] => {
+            let Some(uid) = id_of(uid) else {
+                return Ok(Line::Refused(Why::Syntax));
+            };
+            match read_decimal(k.as_slice(), K_MAX as u64) {
+                Some(k) => ranking(alloc, uid, k as u32, unit.as_slice(), text.as_slice()),
+                None => Ok(Line::Refused(Why::Syntax)),
+            }
+        }
+        _ => Ok(Line::Refused(Why::Syntax)),
+    }
+}
+
+/// A ranking of the regions of the unit by the words of the text. The unit's faults come before those
+/// of the words.
+fn ranking(alloc: Global, uid: u32, k: u32, unit: &[u8], text: &[u8]) -> Result<Line, NoMemory>
+    requires { k ≤ 10000 }
+    ensures says { IfOk result (λ read. Shows read (Ranks uid k unit.now text.now)) }
+    ensures sound { IfOk result IsSoundLine }
+{
+    let unit = match parse(alloc, unit)? {
+        Ok(unit) => unit,
+        Err(fault) => return Ok(Line::Refused(Why::Expr(fault))),
+    };
+    let words = words(alloc, text)?;
+    if words.is_empty() {
+        return Ok(Line::Refused(Why::NoWord));
+    }
+    if words.len() > RANK_WORDS_MAX {
+        return Ok(Line::Refused(Why::ManyWords));
+    }
+    Ok(Line::Command(Command::Ask(Query {
+        uid,
+        ask: Ask::Rank {
+            k,
+            unit,
+            words: Sequence::from(words),
+        },
+    })))
 }
 
 /// `paths`, and a user.

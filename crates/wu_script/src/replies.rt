@@ -1,10 +1,10 @@
 //! Writing a reply.
 ghost use Rattle.std.specs.Prelude.{◌≡◌, ◌++◌, ◌∷◌, [], List, ℕ, codes, decimal, length, OnOk, OnErr};
 ghost use Rattle.std.specs.List.{flat_map};
-ghost use Rattle.wu_script.specs.Replies.{reply_bytes, answer_bytes, refusal_word, fault_word, why_word, path_line};
+ghost use Rattle.wu_script.specs.Replies.{reply_bytes, answer_bytes, refusal_word, fault_word, why_word, path_line, rank_line};
 
 use crate::types::{Reply, Why};
-use wu_ask::Answered;
+use wu_ask::{Answered, RankLine};
 use wu_base::{Bytes, NoMemory};
 use wu_fields::{put_decimal, put_field};
 use wu_gcl::ExprFault;
@@ -58,20 +58,21 @@ fn append_answer(out: &mut Vec<u8>, answered: &Answered) -> Result<(), NoMemory>
     ensures err { OnErr result ((more : List ℕ) × (out.new.items ≡ out.old.items ++ more)) }
 {
     match answered {
-        Answered::Count { hits, files } => append_counts(out, *hits, *files),
+        Answered::Count { hits, files } => append_counts(out, b"count\t", *hits, *files),
+        Answered::Rank { listed, shown } => append_ranking(out, *listed, shown.as_slice()),
         Answered::Paths { paths } => append_paths(out, paths.as_slice()),
     }
 }
 
-/// Appends the line of a count.
-fn append_counts(out: &mut Vec<u8>, hits: u64, files: u64) -> Result<(), NoMemory>
-    ensures ok { OnOk result (out.new.items ≡ out.old.items ++ (codes "count\t" ++ decimal hits ++ 9 ∷ [] ++ decimal files ++ 10 ∷ [])) }
+/// Appends the line of a word and two counts.
+fn append_counts(out: &mut Vec<u8>, word: &[u8], first: u64, second: u64) -> Result<(), NoMemory>
+    ensures ok { OnOk result (out.new.items ≡ out.old.items ++ (word.now ++ decimal first ++ 9 ∷ [] ++ decimal second ++ 10 ∷ [])) }
     ensures err { OnErr result ((more : List ℕ) × (out.new.items ≡ out.old.items ++ more)) }
 {
-    out.extend_from_slice(b"count\t")?;
-    put_decimal(out, hits)?;
+    out.extend_from_slice(word)?;
+    put_decimal(out, first)?;
     out.push(b'\t')?;
-    put_decimal(out, files)?;
+    put_decimal(out, second)?;
     out.push(b'\n')?;
     Ok(())
 }
@@ -104,6 +105,42 @@ fn append_line(out: &mut Vec<u8>, path: &[u8]) -> Result<(), NoMemory>
     ensures err { OnErr result ((more : List ℕ) × (out.new.items ≡ out.old.items ++ more)) }
 {
     put_field(out, path)?;
+    out.push(b'\n')?;
+    Ok(())
+}
+
+/// Appends the lines of a ranking: how many regions it lists and shows, and each that it shows.
+fn append_ranking(out: &mut Vec<u8>, listed: u64, shown: &[RankLine]) -> Result<(), NoMemory>
+    ensures ok { OnOk result (out.new.items ≡ out.old.items ++ (codes "rank\t" ++ decimal listed ++ 9 ∷ [] ++ decimal (length shown.now) ++ 10 ∷ [] ++ flat_map rank_line shown.now)) }
+    ensures err { OnErr result ((more : List ℕ) × (out.new.items ≡ out.old.items ++ more)) }
+{
+    append_counts(out, b"rank\t", listed, shown.len() as u64)?;
+    append_rank_lines(out, shown)
+}
+
+/// Appends each region on a line of its own.
+fn append_rank_lines(out: &mut Vec<u8>, shown: &[RankLine]) -> Result<(), NoMemory>
+    ensures ok { OnOk result (out.new.items ≡ out.old.items ++ flat_map rank_line shown.now) }
+    ensures err { OnErr result ((more : List ℕ) × (out.new.items ≡ out.old.items ++ more)) }
+{
+    for line in shown {
+        append_rank_line(out, line)?;
+    }
+    Ok(())
+}
+
+/// Appends a region on a line of its own.
+fn append_rank_line(out: &mut Vec<u8>, line: &RankLine) -> Result<(), NoMemory>
+    ensures ok { OnOk result (out.new.items ≡ out.old.items ++ rank_line line.now) }
+    ensures err { OnErr result ((more : List ℕ) × (out.new.items ≡ out.old.items ++ more)) }
+{
+    put_decimal(out, line.score)?;
+    out.push(b'\t')?;
+    put_field(out, line.path.as_slice())?;
+    out.push(b'\t')?;
+    put_decimal(out, line.start)?;
+    out.push(b'\t')?;
+    put_decimal(out, line.end)?;
     out.push(b'\n')?;
     Ok(())
 }

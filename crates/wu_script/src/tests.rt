@@ -4,9 +4,9 @@ use crate::{Command, Item, Line, ReadEnd, Reader, Reply, Why, put_reply, read_co
 use std::alloc::Global;
 use std::process::Abort;
 use std::test::Fail;
-use wu_ask::Answered;
+use wu_ask::{Answered, Ask, Query, RankLine};
 use wu_base::{Bytes, INPUT_MAX, Sequence};
-use wu_gcl::ExprFault;
+use wu_gcl::{Expr, ExprFault};
 use wu_outside::{Failed, MemSource, PlainSource, Source};
 use wu_tree::{Event, Refusal};
 
@@ -135,7 +135,7 @@ fn expect_letters(
 fn items_are_the_same_in_any_pieces(rt: HostRuntime) -> Result<(), Fail> {
     let alloc = rt.alloc();
     expect_letters(alloc, &rt, b"", b".")?;
-    expect_letters(alloc, &rt, b"\n# no reply\n\nfly\nrank\n", b"---SU.")?;
+    expect_letters(alloc, &rt, b"\n# no reply\n\nfly\nfind\n", b"---SU.")?;
     expect_letters(
         alloc,
         &rt,
@@ -237,6 +237,63 @@ fn a_name_is_unescaped(rt: HostRuntime) -> Result<(), Fail> {
     Ok(())
 }
 
+/// Why the line is refused.
+fn expect_refused(alloc: Global, rt: &impl Abort, line: &[u8], wanted: Why) -> Result<(), Fail> {
+    let Line::Refused(why) = read_command(alloc, line)? else {
+        return Err(Fail::from("not refused"));
+    };
+    assert!(rt; why == wanted);
+    Ok(())
+}
+
+#[test]
+fn a_ranking_has_a_unit_and_words(rt: HostRuntime) -> Result<(), Fail> {
+    let alloc = rt.alloc();
+    let line = read_command(alloc, b"rank\t5\t10000\tline\t<file> Pear, pear")?;
+    let Line::Command(
+        Command::Ask(
+            Query {
+                uid: 5,
+                ask: Ask::Rank {
+                    k: 10_000,
+                    unit: Expr::Line,
+                    words,
+                },
+            },
+        ),
+    ) = line
+    else {
+        return Err(Fail::from("no ranking"));
+    };
+    let mut wanted = Sequence::new(alloc);
+    for word in [b"file".as_slice(), b"pear".as_slice(), b"pear".as_slice()] {
+        wanted.push(Bytes::from_slice(alloc, word)?)?;
+    }
+    assert!(rt; words == wanted);
+    expect_refused(alloc, &rt, b"rank\t5\t10001\tline\tpear", Why::Syntax)?;
+    expect_refused(alloc, &rt, b"rank\t5\t9\tline", Why::Syntax)?;
+    expect_refused(
+        alloc,
+        &rt,
+        b"rank\t5\t9\t\"!\"\t",
+        Why::Expr(ExprFault::NoWord),
+    )?;
+    expect_refused(
+        alloc,
+        &rt,
+        b"rank\t5\t9\tpear\t",
+        Why::Expr(ExprFault::NotAnExpression),
+    )?;
+    expect_refused(alloc, &rt, b"rank\t5\t9\tline\t!?", Why::NoWord)?;
+    let mut long = Vec::from_slice(alloc, b"rank\t5\t9\tline\t")?;
+    for _ in 0..64 {
+        long.extend_from_slice(b"x ")?;
+    }
+    assert!(rt; matches!(read_command(alloc, long.as_slice())?, Line::Command(_)));
+    long.push(b'y')?;
+    expect_refused(alloc, &rt, long.as_slice(), Why::ManyWords)
+}
+
 #[test]
 fn replies_are_written(rt: HostRuntime) -> Result<(), Fail> {
     let alloc = rt.alloc();
@@ -252,8 +309,17 @@ fn replies_are_written(rt: HostRuntime) -> Result<(), Fail> {
         &Reply::Answered(Answered::Count { hits: 4, files: 2 }),
     )?;
     put_reply(&mut out, &Reply::Answered(Answered::Paths { paths }))?;
+    let mut shown = Sequence::new(alloc);
+    shown.push(RankLine {
+        score: 27,
+        path: Bytes::from_slice(alloc, b"/a\tb")?,
+        start: 1,
+        end: 4,
+    })?;
+    let ranked = Answered::Rank { listed: 2, shown };
+    put_reply(&mut out, &Reply::Answered(ranked))?;
     let wanted =
-        b"ok\nrefused\tlongline\nrefused\tnotempty\nrefused\ttoolarge\ncount\t4\t2\npaths\t1\n/a\\tb\n";
+        b"ok\nrefused\tlongline\nrefused\tnotempty\nrefused\ttoolarge\ncount\t4\t2\npaths\t1\n/a\\tb\nrank\t2\t1\n27\t/a\\tb\t1\t4\n";
     assert_eq!(rt; out.as_slice(), wanted.as_slice());
     Ok(())
 }
