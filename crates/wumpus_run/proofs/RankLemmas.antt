@@ -33,7 +33,7 @@ use Rattle.wu_token.proofs.LengthLemmas.{length-tokens_of}
 use Rattle.wu_view.specs.declared.Seen.{Seen}
 use Rattle.wumpus_run.specs.View.{Shown, shown_of}
 use Rattle.wumpus_run.specs.States.{Texts, AreShort, text_in}
-use Rattle.wumpus_run.specs.Answer.{hits_in}
+use Rattle.wumpus_run.specs.Hits.{hits_in}
 use Rattle.wumpus_run.specs.Scans.{tokens_in, frames_from, places_from, list_among, IsScan}
 use Rattle.wumpus_run.specs.Rankings.{unit_at, units_from, units_of, tokens_at, tokens_between, frequency_in, has_word, holders_in, part_in, score_in, scored_in, is_listed, ranking_of}
 use Rattle.wumpus_run.specs.Units.{AreTermsWith, units_in, start_at, counted_from, in_its_file, list_in}

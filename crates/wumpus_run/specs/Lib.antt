@@ -1,5 +1,6 @@
 pub mod States
 pub mod View
+pub mod Hits
 pub mod Answer
 pub mod Scans
 pub mod Rankings

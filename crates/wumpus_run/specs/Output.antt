@@ -1,22 +1,23 @@
 -- The replies to a script, and the state that it leaves.
-use Rattle.std.specs.Prelude.{ℕ, List, [], ◌∷◌, ◌++◌, Option, Some, None, Result, Ok, Err}
+use Rattle.std.specs.Prelude.{◌≡◌, ℕ, List, [], ◌∷◌, ◌++◌, ◌==◌, nat_lt, length, Option, Some, None, Result, Ok, Err, if◌then◌else◌}
 use Rattle.std.specs.Result.{result_unwrap_or}
+use Rattle.wu_token.specs.Words.{words_of}
 use Rattle.wu_gcl.specs.Reading.{Value, Reads}
 use Rattle.wu_tree.specs.declared.events.Event.{Event}
 use Rattle.wu_tree.specs.declared.events.Event.TheVariants.{Text}
 use Rattle.wu_tree.specs.declared.events.Refusal.{Refusal}
-use Rattle.wu_script.specs.declared.types.Why.TheVariants.{Tree, Expr}
+use Rattle.wu_script.specs.declared.types.Why.TheVariants.{Tree, Expr, NoWord, ManyWords}
 use Rattle.wu_script.specs.declared.types.Command.TheVariants as commands
 use Rattle.wu_script.specs.declared.types.Item.{Item}
 use Rattle.wu_script.specs.declared.types.Item.TheVariants as items
 use Rattle.wu_script.specs.declared.types.Reply.{Reply}
 use Rattle.wu_script.specs.declared.types.Reply.TheVariants as replies
-use Rattle.wu_script.specs.Commands.{Meaning, Happens, Counts, ListsPaths, GivesText, IsRefused, IsBlank}
+use Rattle.wu_script.specs.Commands.{Meaning, Happens, Counts, Ranks, ListsPaths, GivesText, IsRefused, IsBlank}
 use Rattle.wu_script.specs.Items.{Entry, Spoken, Texted}
 use Rattle.wu_script.specs.Replies.{reply_bytes}
 use Rattle.wumpus_run.specs.States.{State, step}
 use Rattle.wumpus_run.specs.View.{Shown, view_of}
-use Rattle.wumpus_run.specs.Answer.{Counting, ListingPaths, question_of, answer}
+use Rattle.wumpus_run.specs.Answer.{Counting, Ranking, ListingPaths, question_of, answer}
 
 -- what each text says as a region expression; there is one such function, since each text has one reading
 abbrev pub Reading : Type 0
@@ -35,10 +36,19 @@ abbrev pub count_reply : List Shown → Value → Reply
 count_reply view (Ok region) = replies.Answered (answer view (Counting region))
 count_reply view (Err fault) = replies.Refused (Expr fault)
 
+-- the reply to a ranking, which takes from 1 to 64 words; its unit is looked at before its words
+abbrev pub rank_reply : List Shown → ℕ → Value → List (List ℕ) → Reply
+rank_reply view k (Ok unit) words =
+    if length words == 0 then replies.Refused NoWord
+    else if nat_lt 64 (length words) then replies.Refused ManyWords
+    else replies.Answered (answer view (Ranking k unit words))
+rank_reply view k (Err fault) words = replies.Refused (Expr fault)
+
 -- the reply to a line; an empty line and a comment have none
 abbrev pub reply_to_line : Reading → State → Meaning → Option Reply
 reply_to_line read s (Happens event) = Some (verdict_of (step s event []))
 reply_to_line read s (Counts uid text) = Some (count_reply (view_of s uid) (read text))
+reply_to_line read s (Ranks uid k unit words) = Some (rank_reply (view_of s uid) k (read unit) (words_of words))
 reply_to_line read s (ListsPaths uid) = Some (replies.Answered (answer (view_of s uid) ListingPaths))
 reply_to_line read s (GivesText ino len) = None
 reply_to_line read s (IsRefused why) = Some (replies.Refused why)
@@ -57,6 +67,7 @@ after_event s event text = result_unwrap_or (step s event text) s
 abbrev pub after : State → Entry → State
 after s (Spoken (Happens event)) = after_event s event []
 after s (Spoken (Counts uid text)) = s
+after s (Spoken (Ranks uid k unit words)) = s
 after s (Spoken (ListsPaths uid)) = s
 after s (Spoken (GivesText ino len)) = s
 after s (Spoken (IsRefused why)) = s
@@ -71,6 +82,13 @@ bytes_of (Some reply) = reply_bytes reply
 abbrev pub output_of : Reading → State → List Entry → List ℕ
 output_of read s [] = []
 output_of read s (entry ∷ entries) = bytes_of (reply_to read s entry) ++ output_of read (after s entry) entries
+
+-- the line is a query of the user
+abbrev pub IsQueryOf : ℕ → Meaning → Type 0
+IsQueryOf uid (Counts asker text) = asker ≡ uid
+IsQueryOf uid (Ranks asker k unit words) = asker ≡ uid
+IsQueryOf uid (ListsPaths asker) = asker ≡ uid
+IsQueryOf uid meaning = ⊥
 
 -- ---- what is replied to an item as it was read
 

@@ -13,7 +13,7 @@ use Rattle.wu_rank.specs.Bm25.{weigh}
 use Rattle.wu_rank.specs.Scores.{length_of, total_length}
 use Rattle.wu_rank.specs.Order.{in_order}
 use Rattle.wumpus_run.specs.View.{Shown}
-use Rattle.wumpus_run.specs.Answer.{hits_in}
+use Rattle.wumpus_run.specs.Hits.{hits_in}
 
 -- ---- units
 

@@ -1,19 +1,22 @@
 //! The answer to a query, over the files that the user may search.
-ghost use Rattle.std.specs.Prelude.{◌≡◌, ◌≤◌, ◌^◌, ◌++◌, All, length, map, count_by, nat_lt, IfOk, OnOk};
+ghost use Rattle.std.specs.Prelude.{◌≡◌, ◌≤◌, ◌^◌, ◌++◌, [], All, length, map, count_by, nat_lt, unwrap_or, slice_get, IfOk, OnOk};
 ghost use Rattle.std.specs.List.{flat_map};
 ghost use Rattle.wu_solve.specs.Addresses.{AreLists};
 ghost use Rattle.wu_solve.specs.Solving.{frame_hits, frames_hits, IsFrame};
-ghost use Rattle.wumpus_run.specs.Answer.{answer, question_of, Counting};
-ghost use Rattle.wumpus_run.specs.States.{AreShort};
+ghost use Rattle.wumpus_run.specs.Answer.{answer, question_of, line_of, path_at, Counting, Ranking};
+ghost use Rattle.wumpus_run.specs.States.{AreShort, Texts};
+ghost use Rattle.wu_script.specs.Commands.{IsSoundAsk};
 ghost use Rattle.wumpus_run.specs.View.{shown_of};
 ghost use Rattle.wu_gcl.specs.Regions.{region_of};
 
+use crate::ranking::rank_units;
 use crate::scanning::scan_texts;
 use std::alloc::Global;
 use std::collections::BTreeMap;
-use wu_ask::{Answered, Ask};
+use wu_ask::{Answered, Ask, RankLine};
 use wu_base::{Bytes, Extent, Ino, NoMemory, Range, Sequence, TermList};
 use wu_gcl::{Expr, terms_of};
+use wu_rank::Ranked;
 use wu_solve::solve;
 use wu_view::Seen;
 
@@ -24,11 +27,13 @@ pub fn answer(
     view: Vec<Seen>,
     ask: &Ask,
 ) -> Result<Answered, NoMemory>
-    requires { AreShort texts.now.entries }
+    requires short { AreShort texts.now.entries }
+    requires sound { IsSoundAsk ask.now }
     ensures { IfOk result (λ answered. answered ≡ answer (map (shown_of texts.now.entries) view.items) (question_of ask.now)) }
 {
     match ask {
         Ask::Count { expr } => count(alloc, texts, &view, expr),
+        Ask::Rank { k, unit, words } => ranked(alloc, texts, &view, *k, unit, words.as_slice()),
         Ask::Paths => paths(alloc, view),
     }
 }
@@ -85,6 +90,62 @@ pub(crate) fn solve_in(
     ensures { IfOk result (λ v. v.items ≡ frame_hits (region_of expr.now) lists.now frame) }
 {
     solve(alloc, expr, &[frame], lists)
+}
+
+/// How many units hold a word, and the first `k` of them.
+fn ranked(
+    alloc: Global,
+    texts: &BTreeMap<Ino, Bytes>,
+    view: &[Seen],
+    k: u32,
+    unit: &Expr,
+    words: &[Bytes],
+) -> Result<Answered, NoMemory>
+    requires short { AreShort texts.now.entries }
+    requires few { length words.now ≤ 64 }
+    ensures { IfOk result (λ answered. answered ≡ answer (map (shown_of texts.now.entries) view.now) (Ranking k (region_of unit.now) words.now)) }
+{
+    let listing = rank_units(alloc, texts, view, unit, words, k)?;
+    let shown = lines_of(alloc, view, &listing.top)?;
+    Ok(Answered::Rank {
+        listed: listing.listed,
+        shown: Sequence::from(shown),
+    })
+}
+
+/// The units as they are shown.
+fn lines_of(alloc: Global, view: &[Seen], top: &[Ranked]) -> Result<Vec<RankLine>, NoMemory>
+    ensures { IfOk result (λ lines. (texts : Texts) → lines.items ≡ map (line_of (map (shown_of texts) view.now)) top.now) }
+{
+    let mut lines = Vec::with_capacity(alloc, top.len())?;
+    for ranked in top {
+        lines.push(RankLine {
+            score: ranked.score,
+            path: path_at(alloc, view, ranked.unit.place)?,
+            start: ranked.unit.extent.start,
+            end: ranked.unit.extent.end,
+        })?;
+    }
+    Ok(lines)
+}
+
+/// The least open path of the file at the place.
+fn path_at(alloc: Global, view: &[Seen], place: u32) -> Result<Bytes, NoMemory>
+    ensures { IfOk result (λ path. (texts : Texts) → path ≡ path_at (map (shown_of texts) view.now) place) }
+{
+    match view.get(place as usize) {
+        Some(seen) => first_path(alloc, seen.paths.as_slice()),
+        None => Bytes::from_slice(alloc, b""),
+    }
+}
+
+fn first_path(alloc: Global, paths: &[Bytes]) -> Result<Bytes, NoMemory>
+    ensures { IfOk result (λ path. path ≡ unwrap_or (slice_get paths.now 0) []) }
+{
+    match paths.first() {
+        Some(path) => Ok(path.clone()?),
+        None => Bytes::from_slice(alloc, b""),
+    }
 }
 
 /// Every open path, file by file.

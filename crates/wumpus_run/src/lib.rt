@@ -2,6 +2,7 @@
 #![tactic(auto)]
 
 mod answering;
+mod laws;
 mod machine;
 mod options;
 mod ranking;
@@ -9,12 +10,11 @@ mod scanning;
 mod session;
 mod statuses;
 
+pub use laws::equal_views_are_answered_alike;
 pub use session::run;
 pub use statuses::Status;
 
 #[cfg(test)]
 mod option_tests;
-#[cfg(test)]
-mod ranking_tests;
 #[cfg(test)]
 mod tests;

@@ -30,6 +30,7 @@ impl Model for Machine {
 }
 
 impl Machine {
+    ghost use Rattle.wu_script.specs.Commands.{IsSoundAsk};
     ghost use Rattle.wu_tree.specs.Steps.{IsEvent};
     ghost use Rattle.wumpus_run.specs.States.{State, first_state, step};
     ghost use Rattle.wumpus_run.specs.View.{view_of};
@@ -66,6 +67,7 @@ impl Machine {
 
     /// The answer to a query, over what the user may search.
     pub fn answer(&self, alloc: Global, query: &Query) -> Result<Answered, NoMemory>
+        requires { IsSoundAsk query.now.ask }
         ensures { IfOk result (λ answered. answered ≡ answer (view_of self.now query.now.uid) (question_of query.now.ask)) }
     {
         let view = searchable(alloc, &self.tree, query.uid)?;

@@ -273,6 +273,148 @@ fn regions_are_counted(rt: HostRuntime) -> Result<(), Fail> {
     Ok(())
 }
 
+/// A home with mail, notes and plans of three users.
+const HOME_SCRIPT: &[u8] = b"user~10~100
+user~11~100
+mkdir~2~1~home~0~0~755
+mkdir~3~2~ann~10~10~711
+mkdir~4~2~bob~11~11~700
+mkdir~5~1~proj~10~100~750
+create~10~3~mail~10~10~600
+text~10~23
+From bob
+lunch at noon
+
+create~11~3~notes~10~10~644
+text~11~35
+budget draft
+call bob about budget
+
+create~12~4~todo~11~11~644
+text~12~19
+send budget to ann
+
+create~13~5~plan~10~100~640
+text~13~30
+Budget plan 2005
+lunch budget
+
+create~14~5~readme~11~100~664
+text~14~9
+see plan
+
+link~13~3~plan
+count~10~\"budget\"
+count~11~\"budget\"
+count~12~\"budget\"
+rank~10~3~file~budget
+rank~11~3~file~budget
+rank~12~3~file~budget
+rank~12~10~line~budget bob
+rank~11~1~line~lunch budget
+chmod~3~700
+count~12~\"budget\"
+count~11~\"budget\"
+paths~11
+";
+
+const HOME_REPLIES: &[u8] = b"ok
+ok
+ok
+ok
+ok
+ok
+ok
+ok
+ok
+ok
+ok
+ok
+ok
+ok
+ok
+ok
+ok
+count~4~2
+count~5~3
+count~2~1
+rank~2~2
+87646~/home/ann/plan~0~10
+85313~/home/ann/notes~0~11
+rank~3~3
+35510~/home/ann/plan~0~10
+34514~/home/ann/notes~0~11
+28791~/home/bob/todo~0~7
+rank~1~1
+0~/home/ann/notes~0~11
+rank~2~2
+60579~/home/ann/notes~5~10
+0~/home/ann/notes~1~4
+rank~5~1
+200810~/home/ann/plan~6~9
+ok
+count~0~0
+count~3~2
+paths~3
+/home/bob/todo
+/proj/plan
+/proj/readme
+";
+
+#[test]
+fn a_home_is_searched_by_three_users(rt: HostRuntime) -> Result<(), Fail> {
+    assert_replies(&rt, rt.alloc(), HOME_SCRIPT, HOME_REPLIES)
+}
+
+#[test]
+fn strangers_make_no_difference_to_a_ranking(rt: HostRuntime) -> Result<(), Fail> {
+    for strangers in [0, 100] {
+        let mut script = Vec::from_slice(
+            rt.alloc(),
+            b"create~2~1~a~0~0~644\ntext~2~5\napple\ncreate~3~1~b~0~0~644\ntext~3~9\npear plum\n",
+        )?;
+        let mut replies = Vec::from_slice(rt.alloc(), b"ok\nok\nok\nok\n")?;
+        for ino in 10..10 + strangers {
+            script.extend_from_slice(b"create~")?;
+            put_decimal(&mut script, ino)?;
+            script.extend_from_slice(b"~1~x")?;
+            put_decimal(&mut script, ino)?;
+            script.extend_from_slice(b"~9~9~600\ntext~")?;
+            put_decimal(&mut script, ino)?;
+            script.extend_from_slice(b"~5\napple\n")?;
+            replies.extend_from_slice(b"ok\nok\n")?;
+        }
+        script.extend_from_slice(b"rank~5~10~file~apple\n")?;
+        replies.extend_from_slice(b"rank~1~1\n68067~/a~0~4\n")?;
+        assert_replies(&rt, rt.alloc(), script.as_slice(), replies.as_slice())?;
+    }
+    Ok(())
+}
+
+#[test]
+fn equal_scores_stand_by_path(rt: HostRuntime) -> Result<(), Fail> {
+    assert_replies(
+        &rt,
+        rt.alloc(),
+        b"create~2~1~b~0~0~644\ntext~2~5\napple\ncreate~3~1~a~0~0~644\ntext~3~5\napple\ncreate~4~1~c~0~0~644\ntext~4~4\npear\nrank~5~9~file~apple\nrank~5~9~file~apple apple\nrank~5~0~file~apple\nrank~5~1~file~--\nrank~5~1~[0]~--\nrank~5~10001~file~apple\n",
+        b"ok\nok\nok\nok\nok\nok\nrank~2~2\n38336~/a~0~4\n38336~/b~0~4\nrank~2~2\n76672~/a~0~4\n76672~/b~0~4\nrank~2~0\nrefused~noword\nrefused~badwindow\nrefused~syntax\n",
+    )
+}
+
+#[test]
+fn sixty_four_words_are_ranked_by(rt: HostRuntime) -> Result<(), Fail> {
+    let cases: [(usize, &[u8]); 2] = [(64, b"rank~0~0\n"), (65, b"refused~manywords\n")];
+    for (count, replies) in cases {
+        let mut script = Vec::from_slice(rt.alloc(), b"rank~5~1~file~")?;
+        for _ in 0..count {
+            script.extend_from_slice(b"a ")?;
+        }
+        script.push(b'\n')?;
+        assert_replies(&rt, rt.alloc(), script.as_slice(), replies)?;
+    }
+    Ok(())
+}
+
 #[test]
 fn what_is_no_expression_is_refused(rt: HostRuntime) -> Result<(), Fail> {
     assert_replies(
