@@ -15,6 +15,8 @@ $(WUMPUS): $(SOURCES)
 demo: $(WUMPUS)
 	$(WUMPUS) run <examples/first.script
 	$(WUMPUS) run <examples/home.script
+	$(WUMPUS) run <examples/regions.script
+	$(WUMPUS) run <examples/ranking.script
 
 install: $(WUMPUS)
 	install -d $(DESTDIR)$(PREFIX)/bin

@@ -1,17 +1,21 @@
 -- Answers over the files of a view.
-use Rattle.std.proofs.Common.{◌≡◌, ℕ, List, [], ◌∷◌, ◌++◌, Ok, Err, Result, IfOk, refl, ap, sym, ◌∙◌}
+use Rattle.std.proofs.Common.{◌≡◌, ℕ, List, length, take, [], ◌∷◌, ◌++◌, Ok, Err, Result, IfOk, refl, ap, sym, ◌∙◌}
 use Rattle.std.specs.Prelude.{map}
 use Rattle.std.specs.List.{flat_map}
 use Rattle.wu_base.specs.declared.memory.NoMemory.{NoMemory}
 use Rattle.wu_ask.specs.declared.Ask.{Ask}
 use Rattle.wu_ask.specs.declared.Ask.TheVariants as asks
 use Rattle.wu_ask.specs.declared.Answered.{Answered}
-use Rattle.wu_ask.specs.declared.Answered.TheVariants.{Paths}
+use Rattle.wu_ask.specs.declared.Answered.TheVariants.{Rank, Paths}
+use Rattle.wu_ask.specs.declared.RankLine.{RankLine}
+use Rattle.wu_gcl.specs.Regions.{Region}
+use Rattle.wu_rank.specs.declared.results.Ranked.{Ranked}
 use Rattle.wu_view.specs.declared.Seen.{Seen}
 use Rattle.wu_view.specs.Views.{view_of as files_of}
 use Rattle.wumpus_run.specs.States.{State, Texts}
-use Rattle.wumpus_run.specs.View.{shown_of, view_of}
-use Rattle.wumpus_run.specs.Answer.{Question, question_of, answer}
+use Rattle.wumpus_run.specs.View.{Shown, shown_of, view_of}
+use Rattle.wumpus_run.specs.Answer.{Question, Ranking, question_of, line_of, answer}
+use Rattle.wumpus_run.specs.Rankings.{ranking_of}
 
 -- the answer to a question for paths, from the files of the view
 pub flat_map-shown : (texts : Texts) (view : List Seen) → flat_map (λ seen. seen.paths) view ≡ flat_map (λ file. file.paths) (map (shown_of texts) view)
@@ -30,3 +34,10 @@ pub view-answer : (s : State) (view : List Seen) (uid : ℕ) (question : Questio
 unfolding view_of
 view-answer s view uid question (Ok answered) seen is = is ∙ ap (λ v. answer (map (shown_of s.texts) v) question) seen
 view-answer s view uid question (Err error) seen is = is
+
+-- the answer to a ranking, from the lines of the first units
+pub ranked-answer : (view : List Shown) (k : ℕ) (unit : Region) (words : List (List ℕ)) (listed : ℕ) (top : List Ranked) (shown : List RankLine) → listed ≡ length (ranking_of view unit words)
+    → top ≡ take k (ranking_of view unit words) → shown ≡ map (line_of view) top → Rank listed shown ≡ answer view (Ranking k unit words)
+unfolding answer
+ranked-answer view k unit words listed top shown listed_is top_is shown_is =
+    ap (λ n. Rank n shown) listed_is ∙ ap (Rank (length (ranking_of view unit words))) (shown_is ∙ ap (map (line_of view)) top_is)
