@@ -1,6 +1,8 @@
 -- Answers over the files of a view.
-use Rattle.std.proofs.Common.{◌≡◌, ℕ, List, length, take, [], ◌∷◌, ◌++◌, Ok, Err, Result, IfOk, refl, ap, sym, ◌∙◌}
+use Rattle.std.proofs.Common.{◌≡◌, ℕ, ◌+◌, ◌<◌, ◌≤◌, List, length, take, get_or, [], ◌∷◌, ◌++◌, Ok, Err, Result, IfOk, refl, ap, sym, ◌∙◌}
+use Rattle.std.proofs.lemmas.List.{take_more}
 use Rattle.std.specs.Prelude.{map}
+use Rattle.wumpus_run.proofs.ScanLemmas.{map-more, take_whole}
 use Rattle.std.specs.List.{flat_map}
 use Rattle.wu_base.specs.declared.memory.NoMemory.{NoMemory}
 use Rattle.wu_ask.specs.declared.Ask.{Ask}
@@ -41,3 +43,13 @@ pub ranked-answer : (view : List Shown) (k : ℕ) (unit : Region) (words : List 
 unfolding answer
 ranked-answer view k unit words listed top shown listed_is top_is shown_is =
     ap (λ n. Rank n shown) listed_is ∙ ap (Rank (length (ranking_of view unit words))) (shown_is ∙ ap (map (line_of view)) top_is)
+
+-- one more unit has its line
+pub lines-more : (view : List Shown) (lines now : List RankLine) (top : List Ranked) (i : ℕ) (d : Ranked) (line : RankLine) → i < length top → lines ≡ map (line_of view) (take i top)
+    → now ≡ lines ++ line ∷ [] → line ≡ line_of view (get_or top i d) → now ≡ map (line_of view) (take (i + 1) top)
+lines-more view lines now top i d line within before pushed is =
+    pushed ∙ ap (λ ls. ls ++ line ∷ []) before ∙ ap (λ l. map (line_of view) (take i top) ++ l ∷ []) is
+    ∙ sym (map-more (line_of view) (take i top) (get_or top i d)) ∙ ap (map (line_of view)) (sym (take_more top i d within))
+
+pub lines-all : (view : List Shown) (lines : List RankLine) (top : List Ranked) (i : ℕ) → length top ≤ i → lines ≡ map (line_of view) (take i top) → lines ≡ map (line_of view) top
+lines-all view lines top i all is = is ∙ ap (map (line_of view)) (take_whole i top all)

@@ -190,7 +190,7 @@ tokens_in-more : (files : List Shown) (file : Shown) → tokens_in (files ++ fil
 tokens_in-more [] file = append-nil (tokens_of file.text)
 tokens_in-more (first ∷ files) file = ap (λ ts. tokens_of first.text ++ ts) (tokens_in-more files file) ∙ sym (append_assoc (tokens_of first.text) (tokens_in files) (tokens_of file.text))
 
-map-more : {X Y : Type 0} (f : X → Y) (xs : List X) (x : X) → map f (xs ++ x ∷ []) ≡ map f xs ++ f x ∷ []
+pub map-more : {X Y : Type 0} (f : X → Y) (xs : List X) (x : X) → map f (xs ++ x ∷ []) ≡ map f xs ++ f x ∷ []
 map-more f [] x = refl
 map-more f (y ∷ xs) x = ap (λ ys. f y ∷ ys) (map-more f xs x)
 

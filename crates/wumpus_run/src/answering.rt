@@ -118,15 +118,22 @@ fn lines_of(alloc: Global, view: &[Seen], top: &[Ranked]) -> Result<Vec<RankLine
     ensures { IfOk result (λ lines. (texts : Texts) → lines.items ≡ map (line_of (map (shown_of texts) view.now)) top.now) }
 {
     let mut lines = Vec::with_capacity(alloc, top.len())?;
-    for ranked in top {
-        lines.push(RankLine {
-            score: ranked.score,
-            path: path_at(alloc, view, ranked.unit.place)?,
-            start: ranked.unit.extent.start,
-            end: ranked.unit.extent.end,
-        })?;
+    for i in 0..top.len() {
+        lines.push(line_of(alloc, view, top[i])?)?;
     }
     Ok(lines)
+}
+
+fn line_of(alloc: Global, view: &[Seen], ranked: Ranked) -> Result<RankLine, NoMemory>
+    ensures { IfOk result (λ line. (texts : Texts) → line ≡ line_of (map (shown_of texts) view.now) ranked) }
+{
+    let path = path_at(alloc, view, ranked.unit.place)?;
+    Ok(RankLine {
+        score: ranked.score,
+        path,
+        start: ranked.unit.extent.start,
+        end: ranked.unit.extent.end,
+    })
 }
 
 /// The least open path of the file at the place.
