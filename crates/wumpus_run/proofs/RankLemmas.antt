@@ -1,5 +1,5 @@
 -- A ranking by addresses is the ranking by what the files' texts hold.
-use Rattle.std.proofs.Common.{◌≡◌, ℕ, zero, suc, ◌+◌, ◌-◌, ◌*◌, ◌≤◌, ◌<◌, ◌^◌, Bool, true, false, cond, ◌||◌, List, [], ◌∷◌, ◌++◌, length, take, drop, map, filter, refl, sym, ap, ap₂, ◌∙◌, subst, arith, append_assoc, length-append, Ordering, Less, Equal, Greater, le-leb, eqb}
+use Rattle.std.proofs.Common.{◌≡◌, ℕ, zero, suc, ◌+◌, ◌-◌, ◌≤◌, ◌<◌, ◌^◌, Bool, true, false, cond, ◌||◌, List, [], ◌∷◌, ◌++◌, length, take, drop, map, filter, refl, sym, ap, ap₂, ◌∙◌, subst, arith, append_assoc, length-append, Ordering, Less, Equal, Greater, le-leb, eqb}
 use Rattle.std.proofs.Math.Dec.{eqb-suc-zero}
 use Rattle.std.proofs.Math.Bool.{and-false}
 use Rattle.std.proofs.lemmas.Bool.{lt-leb}
@@ -7,8 +7,8 @@ use Rattle.std.proofs.lemmas.Cmp.{ranked}
 use Rattle.std.proofs.lemmas.List.{length-map, map-append}
 use Rattle.std.proofs.lemmas.List.Elements.{All-from_recursion}
 use Rattle.std.proofs.lemmas.List.Sums.{sum_by-cons}
-use Rattle.std.specs.Prelude.{All, nat_eq, nat_le, nat_lt, count_by, sum_by}
-use Rattle.std.specs.List.{AllByRecursion, list_any}
+use Rattle.std.specs.Prelude.{All, nat_eq, nat_le, nat_lt, count_by}
+use Rattle.std.specs.List.{AllByRecursion}
 use Rattle.std.specs.List.Sorted.{IsStrictlyIncreasing}
 use Rattle.std.specs.Cmp.Lexicographic.{pointwise, nat_list_eq_equiv}
 use Rattle.std.specs.Ordering.{nat_cmp, ordering_then, is_lt, MatchOrdering}
@@ -35,8 +35,8 @@ use Rattle.wumpus_run.specs.View.{Shown, shown_of}
 use Rattle.wumpus_run.specs.States.{Texts, AreShort, text_in}
 use Rattle.wumpus_run.specs.Hits.{hits_in}
 use Rattle.wumpus_run.specs.Scans.{tokens_in, frames_from, places_from, list_among, IsScan}
-use Rattle.wumpus_run.specs.Rankings.{unit_at, units_from, units_of, tokens_at, tokens_between, frequency_in, has_word, holders_in, part_in, score_in, scored_in, is_listed, ranking_of}
-use Rattle.wumpus_run.specs.Units.{AreTermsWith, units_in, start_at, counted_from, in_its_file, list_in}
+use Rattle.wumpus_run.specs.Rankings.{unit_at, units_from, units_of, tokens_at, frequency_in, has_word, holders_in, part_in, score_in, scored_in, is_listed, ranking_of}
+use Rattle.wumpus_run.specs.Units.{AreTermsWith, units_in, start_at, in_its_file, list_in}
 use Rattle.wumpus_run.proofs.CountLemmas.{Tells, frame_of_file, places_increase, scan_has, scan_few}
 use Rattle.wumpus_run.proofs.UnitLemmas.{words_found}
 

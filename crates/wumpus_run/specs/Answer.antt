@@ -1,5 +1,5 @@
 -- The written answer to a query, over a user's view alone.
-use Rattle.std.specs.Prelude.{ℕ, List, [], Option, length, map, take, count_by, slice_get, option_and_then, unwrap_or}
+use Rattle.std.specs.Prelude.{ℕ, List, [], length, map, take, count_by, slice_get, option_and_then, unwrap_or}
 use Rattle.std.specs.List.{flat_map}
 use Rattle.wu_gcl.specs.Regions.{Region, region_of}
 use Rattle.wu_rank.specs.declared.results.Ranked.{Ranked}

@@ -1,4 +1,4 @@
-use Rattle.std.proofs.Common.{◌∙◌, ap, sym}
+use Rattle.std.proofs.Common.{◌∙◌}
 use Rattle.wumpus_run.proofs.CountLemmas.{scan_lists, scan_frames}
 use Rattle.wumpus_run.proofs.RankLemmas.{gathered, scan_some, scan_short, scan_few_units, scan_ascends, scan_listed, scan_top}
 use Rattle.wumpus_run.proofs.ranking.rank_units.Goals as goal
