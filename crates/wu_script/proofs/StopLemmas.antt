@@ -11,12 +11,12 @@ use Rattle.wu_script.specs.declared.ends.ReadEnd.TheVariants.{ReadFault, InputTo
 use Rattle.wu_script.specs.Holding.{Held, Uses, GivesTooMuch, Stops, IsGiven, settled, but_last}
 
 -- the source failed while no byte was held
-pub Stops-fault : (left left' : Option (List ℕ)) (held : Held) → held.bytes ≡ [] → Keeps left left' → Stops (λ bytes. bytes ≡ []) left left' held ReadFault
-Stops-fault left left' held none keeps = record {
+pub Stops-fault : (left left' : Option (List ℕ)) (held : Held) → held.bytes ≡ [] → (held.ended ≡ true → ⊥) → Keeps left left' → Stops (λ bytes. bytes ≡ []) left left' held ReadFault
+Stops-fault left left' held none going keeps = record {
   given = [];
   consumed = Consumes-kept left left left' [] (Consumes-nil left) keeps;
   counted = omega arith;
-  over = λ ended. refl;
+  over = λ ended. absurd (going ended);
   short = append-nil held.bytes ∙ none;
 }
 
@@ -36,7 +36,7 @@ Stops-memory left held few = record {
   given = [];
   consumed = Consumes-nil left;
   counted = omega arith;
-  over = λ ended. refl;
+  over = λ ended. (refl, refl);
   short = none (omega (arith, length-append held.bytes []));
 }
   where
@@ -95,12 +95,13 @@ Stops-after IsShort IsLater left mid left' old between end used first front more
   counted = subst (IsGiven end old.spare) (sym (length-append first.given stops.given)) (given_after end old.spare between.spare (length first.given) (length stops.given) first.counted stops.counted);
   over = λ ended.
       let before = first.over ended in
-      rw (before.0, stops.over before.1) refl;
+      let later = stops.over before.1 in
+      (rw (before.0, later.0) refl, later.1);
   short = by_case (settled_after end old between first.given used stops.given first.joined first.counted);
 }
   where
     by_case : (settled end old (first.given ++ stops.given) ≡ used ++ settled end between stops.given) ⊎ ((n : ℕ) × (settled end old (first.given ++ stops.given) ≡ take n used)) → IsShort (settled end old (first.given ++ stops.given))
-    by_case (inl whole) = subst IsShort (sym whole) (more (settled end between stops.given) (λ none ended. nothing_settled end between stops.given none (stops.over ended)) stops.short)
+    by_case (inl whole) = subst IsShort (sym whole) (more (settled end between stops.given) (λ none ended. nothing_settled end between stops.given none (stops.over ended).0) stops.short)
     by_case (inr part) = subst IsShort (sym part.1) (front part.0)
 
 -- the source gave one byte too many

@@ -44,11 +44,11 @@ settled ReadFault old given = old.bytes ++ given
 settled InputTooLong old given = old.bytes ++ take old.spare given
 settled NoMemory old given = but_last 65536 (old.bytes ++ given)
 
--- reading stopped: the source gave some bytes, none after its end, and those settled are short of what was to be read,
--- as the first argument says of bytes
+-- reading stopped: the source gave some bytes, and those settled are short of what was to be read, as the first argument says of
+-- bytes. After the source's end it isn't asked again: none are given, and only memory can be wanting
 pub record Stops (IsShort : List ℕ → Type 0) (left left' : Option (List ℕ)) (old : Held) (end : ReadEnd) : Type 0 where
   pub given : List ℕ
   pub consumed : Consumes left left' given
   pub counted : IsGiven end old.spare (length given)
-  pub over : old.ended ≡ true → given ≡ []
+  pub over : old.ended ≡ true → (given ≡ []) × (end ≡ NoMemory)
   pub short : IsShort (settled end old given)
