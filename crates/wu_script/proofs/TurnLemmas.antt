@@ -213,21 +213,39 @@ unfolding whole_items_of
 whole_items_of-closed [] closed = cc (nothing_closed, closed)
 whole_items_of-closed (byte ∷ bytes) closed = rw closed (ap (λ entries. (first_of (byte ∷ bytes)).entry ∷ entries) (whole_enough (length bytes) (length (first_of (byte ∷ bytes)).rest) (first_of (byte ∷ bytes)).rest (first_short byte bytes) (omega arith)))
 
-front_within : (n : ℕ) (bytes more : List ℕ) → length bytes ≤ n → (rest : List Entry) × (items_of (bytes ++ more) ≡ whole_within n bytes ++ rest)
-front_within zero [] more within = (items_of more, refl)
-front_within zero (byte ∷ bytes) more within = absurd (omega arith)
-front_within (suc n) [] more within = (items_of more, refl)
-front_within (suc n) (byte ∷ bytes) more within = by_case (first_of (byte ∷ bytes)).closed refl (front_within n (first_of (byte ∷ bytes)).rest more (omega (arith, first_short byte bytes)))
+-- both lists of items begin with the first where it is closed
+abbrev StartsWithFirst : (List ℕ → List Entry) → Type 0
+StartsWithFirst all = (bytes : List ℕ) → (first_of bytes).closed ≡ true → all bytes ≡ (first_of bytes).entry ∷ all (first_of bytes).rest
+
+items_of-closed : StartsWithFirst items_of
+items_of-closed [] closed = cc (nothing_closed, closed)
+items_of-closed (byte ∷ bytes) closed = items_of-some (byte ∷ bytes) (omega arith)
+
+front_within : (all : List ℕ → List Entry) → StartsWithFirst all → (n : ℕ) (bytes more : List ℕ) → length bytes ≤ n → (rest : List Entry) × (all (bytes ++ more) ≡ whole_within n bytes ++ rest)
+front_within all starts zero [] more within = (all more, refl)
+front_within all starts zero (byte ∷ bytes) more within = absurd (omega arith)
+front_within all starts (suc n) [] more within = (all more, refl)
+front_within all starts (suc n) (byte ∷ bytes) more within = by_case (first_of (byte ∷ bytes)).closed refl (front_within all starts n (first_of (byte ∷ bytes)).rest more (omega (arith, first_short byte bytes)))
   where
-    by_case : (closed : Bool) → (first_of (byte ∷ bytes)).closed ≡ closed → (rest : List Entry) × (items_of ((first_of (byte ∷ bytes)).rest ++ more) ≡ whole_within n (first_of (byte ∷ bytes)).rest ++ rest) → (rest : List Entry) × (items_of (byte ∷ bytes ++ more) ≡ (if (first_of (byte ∷ bytes)).closed then (first_of (byte ∷ bytes)).entry ∷ whole_within n (first_of (byte ∷ bytes)).rest else []) ++ rest)
+    by_case : (closed : Bool) → (first_of (byte ∷ bytes)).closed ≡ closed → (rest : List Entry) × (all ((first_of (byte ∷ bytes)).rest ++ more) ≡ whole_within n (first_of (byte ∷ bytes)).rest ++ rest) → (rest : List Entry) × (all (byte ∷ bytes ++ more) ≡ (if (first_of (byte ∷ bytes)).closed then (first_of (byte ∷ bytes)).entry ∷ whole_within n (first_of (byte ∷ bytes)).rest else []) ++ rest)
     by_case true is below =
         let first = first_more (byte ∷ bytes) more is in (
           below.0,
-          items_of-some (byte ∷ bytes ++ more) (omega arith) ∙ ap (λ (f : First). f.entry ∷ items_of f.rest) first ∙ ap (λ entries. (first_of (byte ∷ bytes)).entry ∷ entries) below.1 ∙ rw is refl,
+          starts (byte ∷ bytes ++ more) (ap (λ (f : First). f.closed) first) ∙ ap (λ (f : First). f.entry ∷ all f.rest) first ∙ ap (λ entries. (first_of (byte ∷ bytes)).entry ∷ entries) below.1 ∙ rw is refl,
         )
-    by_case false is below = (items_of (byte ∷ bytes ++ more), rw is refl)
+    by_case false is below = (all (byte ∷ bytes ++ more), rw is refl)
 
 -- the whole items are a front of the items, whatever follows
 pub whole_items_front : (bytes more : List ℕ) → (rest : List Entry) × (items_of (bytes ++ more) ≡ whole_items_of bytes ++ rest)
 unfolding whole_items_of
-whole_items_front bytes more = front_within (length bytes) bytes more (omega arith)
+whole_items_front bytes more = front_within items_of items_of-closed (length bytes) bytes more (omega arith)
+
+whole_within-is : (bytes : List ℕ) → whole_within (length bytes) bytes ≡ whole_items_of bytes
+unfolding whole_items_of
+whole_within-is bytes = refl
+
+-- and of the whole items
+pub whole_items_more : (bytes more : List ℕ) → (rest : List Entry) × (whole_items_of (bytes ++ more) ≡ whole_items_of bytes ++ rest)
+whole_items_more bytes more =
+    let front = front_within whole_items_of whole_items_of-closed (length bytes) bytes more (omega arith) in
+    (front.0, front.1 ∙ ap (λ entries. entries ++ front.0) (whole_within-is bytes))

@@ -22,8 +22,9 @@ pub fn whole_items_are_the_first_and_the_rest()
     ensures closed { (bytes : List ℕ) → (first_of bytes).closed ≡ true → whole_items_of bytes ≡ (first_of bytes).entry ∷ whole_items_of (first_of bytes).rest }
 {}
 
-/// The whole items of some bytes are a front of the items of the whole input, whatever follows: they
-/// may be answered before the rest is known.
+/// The whole items of some bytes are a front of the items of the whole input, and of its whole items,
+/// whatever follows: they may be answered before the rest is known.
 pub fn whole_items_are_a_front()
-    ensures { (bytes more : List ℕ) → (rest : List Entry) × (items_of (bytes ++ more) ≡ whole_items_of bytes ++ rest) }
+    ensures items { (bytes more : List ℕ) → (rest : List Entry) × (items_of (bytes ++ more) ≡ whole_items_of bytes ++ rest) }
+    ensures whole { (bytes more : List ℕ) → (rest : List Entry) × (whole_items_of (bytes ++ more) ≡ whole_items_of bytes ++ rest) }
 {}
