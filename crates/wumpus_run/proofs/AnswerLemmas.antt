@@ -1,8 +1,8 @@
 -- Answers over the files of a view.
-use Rattle.std.proofs.Common.{◌≡◌, ℕ, ◌+◌, ◌<◌, ◌≤◌, List, length, take, get_or, [], ◌∷◌, ◌++◌, Ok, Err, Result, IfOk, refl, ap, sym, ◌∙◌}
+use Rattle.std.proofs.Common.{◌≡◌, ℕ, ◌+◌, ◌<◌, ◌≤◌, List, length, take, take_all, get_or, [], ◌∷◌, ◌++◌, Ok, Err, Result, IfOk, refl, ap, sym, ◌∙◌}
 use Rattle.std.proofs.lemmas.List.{take_more}
 use Rattle.std.specs.Prelude.{map}
-use Rattle.wumpus_run.proofs.ScanLemmas.{map-more, take_whole}
+use Rattle.wumpus_run.proofs.ScanLemmas.{map-more}
 use Rattle.std.specs.List.{flat_map}
 use Rattle.wu_base.specs.declared.memory.NoMemory.{NoMemory}
 use Rattle.wu_ask.specs.declared.Ask.{Ask}
@@ -52,4 +52,4 @@ lines-more view lines now top i d line within before pushed is =
     ∙ sym (map-more (line_of view) (take i top) (get_or top i d)) ∙ ap (map (line_of view)) (sym (take_more top i d within))
 
 pub lines-all : (view : List Shown) (lines : List RankLine) (top : List Ranked) (i : ℕ) → length top ≤ i → lines ≡ map (line_of view) (take i top) → lines ≡ map (line_of view) top
-lines-all view lines top i all is = is ∙ ap (map (line_of view)) (take_whole i top all)
+lines-all view lines top i all is = is ∙ ap (map (line_of view)) (take_all i top all)

@@ -1,15 +1,15 @@
 -- Counting the extents of an expression over the frames of a view is counting them over its files.
-use Rattle.std.proofs.Common.{◌≡◌, ℕ, zero, suc, ◌+◌, ◌≤◌, ◌<◌, ◌^◌, ◌⊎◌, Bool, true, false, cond, ◌&&◌, ◌||◌, List, [], ◌∷◌, ◌++◌, length, map, take, get_or, refl, sym, ap, ◌∙◌, subst, inl, inr, arith, append_assoc, append-nil, length-append, add-one, eqb-true}
-use Rattle.std.proofs.lemmas.Bool.{and_parts}
+use Rattle.std.proofs.Common.{◌≡◌, ℕ, zero, suc, ◌+◌, ◌≤◌, ◌<◌, ◌^◌, ◌⊎◌, Bool, true, false, cond, ◌&&◌, ◌||◌, List, [], ◌∷◌, ◌++◌, length, map, take, get_or, refl, sym, ap, ◌∙◌, subst, inl, inr, arith, append_assoc, append-nil, length-append, add-one}
+use Rattle.std.proofs.Math.Bool.{or-true}
 use Rattle.std.proofs.lemmas.Bool.Decides.{nat_tests}
 use Rattle.std.proofs.lemmas.List.Elements.{All-from_recursion}
 use Rattle.std.proofs.lemmas.Grind.{flat_map-append}
-use Rattle.std.proofs.lemmas.List.{take_more}
+use Rattle.std.proofs.lemmas.List.{take_more, length-map}
 use Rattle.std.proofs.lemmas.List.Sums.{sum_by-cons}
 use Rattle.std.specs.Prelude.{All, nat_eq, nat_lt, Contains, count_by}
 use Rattle.std.specs.List.{flat_map, AllByRecursion}
 use Rattle.std.specs.List.Sorted.{IsStrictlySortedBy, IsStrictlyIncreasing}
-use Rattle.std.specs.Cmp.Lexicographic.{pointwise, slice_cmp, nat_list_eq_equiv}
+use Rattle.std.specs.Cmp.Lexicographic.{pointwise, slice_cmp, nat_list_eq_equiv, same_text}
 use Rattle.std.specs.Ordering.{nat_cmp}
 use Rattle.wu_base.specs.declared.addresses.Extent.{Extent}
 use Rattle.wu_base.specs.declared.addresses.Range.{Range}
@@ -30,14 +30,6 @@ use Rattle.wumpus_run.specs.Answer.{Counting, answer}
 use Rattle.wumpus_run.specs.Scans.{tokens_in, frames_from, places_from, list_among, IsScan}
 
 -- ---- the addresses of a term
-
-same_bytes : (a b : List ℕ) → pointwise nat_eq a b ≡ true → a ≡ b
-same_bytes [] [] h = refl
-same_bytes [] (y ∷ b) h = cc
-same_bytes (x ∷ a) [] h = cc
-same_bytes (x ∷ a) (y ∷ b) h =
-    let parts = and_parts (nat_eq x y) (pointwise nat_eq a b) h in
-    ap (λ n. n ∷ a) (eqb-true x y parts.0) ∙ ap (λ bytes. y ∷ bytes) (same_bytes a b parts.1)
 
 none_below : (m n : ℕ) (term : List ℕ) (tokens : List (List ℕ)) → m < n → is_among (places_from n term tokens) m ≡ false
 none_below m n term [] below = refl
@@ -70,13 +62,9 @@ found_in_scan tokens term [] address h = absurd (cc)
 found_in_scan tokens term (t ∷ terms) address h =
     let zero_first : 0 + address ≡ address = omega arith in
     elim (chosen (pointwise nat_eq t term) (is_among (places_from 0 t tokens) address) (has_address (map (list_among tokens) terms) term address) h) [
-      | inl here ↦ subst (λ w. is_token_at tokens w address ≡ true) (same_bytes t term here.0) (sym (among_places 0 t tokens address) ∙ ap (is_among (places_from 0 t tokens)) zero_first ∙ here.1)
+      | inl here ↦ subst (λ w. is_token_at tokens w address ≡ true) (same_text t term (sym here.0)) (sym (among_places 0 t tokens address) ∙ ap (is_among (places_from 0 t tokens)) zero_first ∙ here.1)
       | inr more ↦ found_in_scan tokens term terms address more
     ]
-
-or_true : (b : Bool) → (b || true) ≡ true
-or_true true = refl
-or_true false = refl
 
 scan_finds : (tokens : List (List ℕ)) (term : List ℕ) (terms : List (List ℕ)) (address k : ℕ) → k < length terms → get_or terms k term ≡ term → is_token_at tokens term address ≡ true → has_address (map (list_among tokens) terms) term address ≡ true
 scan_finds tokens term [] address k within is h = absurd (omega arith)
@@ -86,7 +74,7 @@ scan_finds tokens term (t ∷ terms) address zero within is h =
     let among : is_among (places_from 0 t tokens) address ≡ true = ap (is_among (places_from 0 t tokens)) zero_first ∙ among_places 0 t tokens address ∙ subst (λ w. is_token_at tokens w address ≡ true) (sym is) h in
     rw (same, among) refl
 scan_finds tokens term (t ∷ terms) address (suc k) within is h =
-    rw (scan_finds tokens term terms address k (omega arith) is h) (or_true (pointwise nat_eq t term && is_among (places_from 0 t tokens) address))
+    rw (scan_finds tokens term terms address k (omega arith) is h) (or-true (pointwise nat_eq t term && is_among (places_from 0 t tokens) address))
 
 both_ways : (a b : Bool) → (a ≡ true → b ≡ true) → (b ≡ true → a ≡ true) → a ≡ b
 both_ways true b there back = sym (there refl)
@@ -171,10 +159,6 @@ hits_few region stands n =
     (all_from (λ x. x.start < n) xs (λ x has. let sound = (listed.sound x has).0 in omega (arith, sound.ordered, sound.within))) (omega arith) in
     omega (arith, few)
 
-length-map : {X Y : Type 0} (f : X → Y) (xs : List X) → length (map f xs) ≡ length xs
-length-map f [] = refl
-length-map f (x ∷ xs) = omega (arith, length-map f xs)
-
 frames_few : (region : Region) (lists : List TermList) (start : ℕ) (files : List Shown) → length (frames_hits region lists (frames_from start files)) ≤ length (tokens_in files)
 frames_few region lists start [] = omega arith
 frames_few region lists start (file ∷ files) =
@@ -184,7 +168,7 @@ frames_few region lists start (file ∷ files) =
     omega (
       arith,
       length-append here (frames_hits region lists behind),
-      length-map (moved start) (hits region (stands_by lists start) (length (tokens_of file.text))),
+      length-map (hits region (stands_by lists start) (length (tokens_of file.text))) (moved start),
       hits_few region (stands_by lists start) (length (tokens_of file.text)),
       frames_few region lists (start + length (tokens_of file.text)) files,
       length-append (tokens_of file.text) (tokens_in files),
@@ -226,7 +210,7 @@ pub record IsCounted (region : Region) (lists : List TermList) (frames : List Ra
   pub extents : length (frames_hits region lists frames) ≡ length (flat_map (hits_in region) files)
   pub holders : count_by (λ frame. nat_lt 0 (length (frame_hits region lists frame))) frames ≡ count_by (has_hit region) files
 
-count_by-cons : {X : Type 0} (p : X → Bool) (x : X) (xs : List X) → count_by p (x ∷ xs) ≡ cond (p x) 1 0 + count_by p xs
+pub count_by-cons : {X : Type 0} (p : X → Bool) (x : X) (xs : List X) → count_by p (x ∷ xs) ≡ cond (p x) 1 0 + count_by p xs
 count_by-cons p x xs = sum_by-cons (λ y. cond (p y) 1 0) x xs
 
 count_same : (b c : Bool) (n m : ℕ) → b ≡ c → n ≡ m → cond b 1 0 + n ≡ cond c 1 0 + m
@@ -237,7 +221,7 @@ counted region lists all front [] tells split = record { extents = refl; holders
 counted region lists all front (file ∷ files) tells split =
     let frame : Range = record { start = length front; len = length (tokens_of file.text) } in
     let behind = frames_from (length front + length (tokens_of file.text)) files in
-    let same = ap length (frame_of_file region lists all front (tokens_in files) file tells split) ∙ length-map (moved (length front)) (hits_in region file) in
+    let same = ap length (frame_of_file region lists all front (tokens_in files) file tells split) ∙ length-map (hits_in region file) (moved (length front)) in
     let more = subst (λ n. IsCounted region lists (frames_from n files) files) (length-append front (tokens_of file.text))
     (counted region lists all (front ++ tokens_of file.text) files tells (split ∙ sym (append_assoc front (tokens_of file.text) (tokens_in files)))) in
     record {

@@ -14,8 +14,8 @@ use Rattle.wumpus_run.specs.declared.statuses.Status.{Status}
 use Rattle.wumpus_run.specs.declared.statuses.Status.TheVariants.{Done, Usage, ReadFault, WriteFault, NoMemory, InputTooLong}
 use Rattle.wumpus_run.specs.States.{State, first_state}
 use Rattle.wumpus_run.specs.Output.{Reading, output_of}
-use Rattle.wumpus_run.specs.Reading.{TakesAtMost, TakesExactly}
-use Rattle.wumpus_run.specs.Session.{AnswersAll, AnswersFront, IsTooLong, Ends, Completes, status_of}
+use Rattle.wumpus_run.specs.Taking.{TakesAtMost, TakesExactly}
+use Rattle.wumpus_run.specs.Session.{AnswersAll, AnswersFront, IsTooLong, HoldsNothingBack, Ends, Completes, status_of}
 use Rattle.wumpus_run.proofs.SessionLemmas.{HasSent, HasSent-all, IsOnTheWay, HasAnswered, HasTaken}
 
 taken_twice : (input : List ℕ) (left : Option (List ℕ)) (most : ℕ) → TakesAtMost most (Some input) left → TakesExactly (most + 1) (Some input) left → ⊥
@@ -33,13 +33,14 @@ long told (Some input) left many = (λ same. many, λ taken. refl)
 
 -- no more was taken than the input may have
 pub Ends-short : (status : Status) (told : Settings) (before left gained now : Option (List ℕ)) → (status ≡ InputTooLong → ⊥) → TakesAtMost told.max_input before left → AnswersFront before gained now
-    → Ends status told before left gained now
-Ends-short status told before left gained now other few front =
-    record { too_long = not_long status told before left other few; taken = (few.0, few.1, omega (arith, few.2)); front = front }
+    → HoldsNothingBack status (Some told) before left gained now → Ends status told before left gained now
+Ends-short status told before left gained now other few front prompt =
+    record { too_long = not_long status told before left other few; taken = (few.0, few.1, omega (arith, few.2)); front = front; prompt = prompt }
 
 -- one byte more was taken
-Ends-long : (told : Settings) (before left gained now : Option (List ℕ)) → TakesExactly (told.max_input + 1) before left → AnswersFront before gained now → Ends InputTooLong told before left gained now
-Ends-long told before left gained now many front = record { too_long = long told before left many; taken = (many.0, many.1, omega (arith, many.2)); front = front }
+Ends-long : (told : Settings) (before left gained now : Option (List ℕ)) → TakesExactly (told.max_input + 1) before left → AnswersFront before gained now
+    → HoldsNothingBack InputTooLong (Some told) before left gained now → Ends InputTooLong told before left gained now
+Ends-long told before left gained now many front prompt = record { too_long = long told before left many; taken = (many.0, many.1, omega (arith, many.2)); front = front; prompt = prompt }
 
 -- so far no more was taken
 pub TakesAtMost-taken : (before left : Option (List ℕ)) (spare most : ℕ) → HasTaken before left spare most → TakesAtMost most before left
@@ -58,16 +59,16 @@ AnswersFront-none (Some input) gained = λ read reading. ([], output_of read fir
 
 -- reading stopped
 pub Ends-stopped : (end : ReadEnd) (told : Settings) (before between left gained now : Option (List ℕ)) (old : Held) → HasTaken before between old.spare told.max_input → StopsBeforeItem between left old end
-    → AnswersFront before gained now → Ends (status_of end) told before left gained now
-Ends-stopped ends.ReadFault told before between left gained now old taken stops front =
+    → AnswersFront before gained now → HoldsNothingBack (status_of end) (Some told) before left gained now → Ends (status_of end) told before left gained now
+Ends-stopped ends.ReadFault told before between left gained now old taken stops front prompt =
     Ends-short ReadFault told before left gained now (λ e. (cc))
-    (taken.0 ++ stops.given, Consumes-trans before between left taken.0 stops.given taken.1 stops.consumed, omega (arith, length-append taken.0 stops.given, taken.2, stops.counted)) front
-Ends-stopped ends.InputTooLong told before between left gained now old taken stops front =
+    (taken.0 ++ stops.given, Consumes-trans before between left taken.0 stops.given taken.1 stops.consumed, omega (arith, length-append taken.0 stops.given, taken.2, stops.counted)) front prompt
+Ends-stopped ends.InputTooLong told before between left gained now old taken stops front prompt =
     Ends-long told before left gained now
-    (taken.0 ++ stops.given, Consumes-trans before between left taken.0 stops.given taken.1 stops.consumed, omega (arith, length-append taken.0 stops.given, taken.2, stops.counted)) front
-Ends-stopped ends.NoMemory told before between left gained now old taken stops front =
+    (taken.0 ++ stops.given, Consumes-trans before between left taken.0 stops.given taken.1 stops.consumed, omega (arith, length-append taken.0 stops.given, taken.2, stops.counted)) front prompt
+Ends-stopped ends.NoMemory told before between left gained now old taken stops front prompt =
     Ends-short NoMemory told before left gained now (λ e. (cc))
-    (taken.0 ++ stops.given, Consumes-trans before between left taken.0 stops.given taken.1 stops.consumed, omega (arith, length-append taken.0 stops.given, taken.2, stops.counted)) front
+    (taken.0 ++ stops.given, Consumes-trans before between left taken.0 stops.given taken.1 stops.consumed, omega (arith, length-append taken.0 stops.given, taken.2, stops.counted)) front prompt
 
 -- ---- the end of the script
 

@@ -2,6 +2,7 @@ pub mod AnswerLemmas
 pub mod ScanLemmas
 pub mod CountLemmas
 pub mod ReplyLemmas
+pub mod PromptLemmas
 pub mod SessionLemmas
 pub mod EndLemmas
 pub mod StateLemmas

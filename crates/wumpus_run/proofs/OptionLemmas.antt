@@ -7,6 +7,7 @@ pub mod SeenRows
 pub mod FrontSettings
 pub mod Verdicts
 use Rattle.std.proofs.Common.{◌≡◌, ◌∙◌, ◌||◌, Bool, cond, codes, true, false, refl, sym, ap, subst, List, [], ◌∷◌, Option, Some, None}
+use Rattle.std.proofs.Math.Bool.{or-true}
 use Rattle.std.specs.Prelude.{unwrap_or}
 use Rattle.std.specs.List.{list_all}
 use Rattle.std.specs.Option.{option_to_list}
@@ -29,10 +30,6 @@ pub no_entry : (stop : Option (Text × List Text)) → entered_fault app_built s
 no_entry None = refl
 no_entry (Some p) = refl
 
-pub or_true : (b : Bool) → (b || true) ≡ true
-or_true true = refl
-or_true false = refl
-
 pub same_either : {X : Type 0} (b : Bool) (x : X) → cond b x x ≡ x
 same_either true x = refl
 same_either false x = refl
@@ -42,7 +39,7 @@ unfolding defaults_fault
 no_defaults [] e rows = refl
 no_defaults (a ∷ rules) e rows =
     let parts = split_and (is_empty a.defaults) _ e in
-    let first : default_fault rows a ≡ [] = rw (parts.0, or_true (has_row a.id rows)) refl in
+    let first : default_fault rows a ≡ [] = rw (parts.0, or-true (has_row a.id rows)) refl in
     ap (λ (kinds : Kinds). or_else kinds (defaults_fault (with_default rows a) rules)) first ∙ no_defaults rules parts.1 (with_default rows a)
 
 pub no_check : (rows : List Row) (b : Bool) → check_fault shape_built rows b ≡ []

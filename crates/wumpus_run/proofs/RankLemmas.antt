@@ -37,7 +37,7 @@ use Rattle.wumpus_run.specs.Hits.{hits_in}
 use Rattle.wumpus_run.specs.Scans.{tokens_in, frames_from, places_from, list_among, IsScan}
 use Rattle.wumpus_run.specs.Rankings.{unit_at, units_from, units_of, tokens_at, frequency_in, has_word, holders_in, part_in, score_in, scored_in, is_listed, ranking_of}
 use Rattle.wumpus_run.specs.Units.{AreTermsWith, units_in, start_at, in_its_file, list_in}
-use Rattle.wumpus_run.proofs.CountLemmas.{Tells, frame_of_file, places_increase, scan_has, scan_few}
+use Rattle.wumpus_run.proofs.CountLemmas.{Tells, count_by-cons, frame_of_file, places_increase, scan_has, scan_few}
 use Rattle.wumpus_run.proofs.UnitLemmas.{words_found}
 
 -- the unit of a file, with its extent at addresses
@@ -125,9 +125,6 @@ unfolding units_of
 units_of_inside region view = units_inside region view 0 view (λ i. let e : 0 + i ≡ i = omega arith in ap (tokens_at view) e) (omega arith)
 
 -- ---- how often a word stands in a unit
-
-count_by-cons : {X : Type 0} (p : X → Bool) (x : X) (xs : List X) → count_by p (x ∷ xs) ≡ cond (p x) 1 0 + count_by p xs
-count_by-cons p x xs = sum_by-cons (λ y. cond (p y) 1 0) x xs
 
 -- the tokens of a view, cut at the file at a place
 pub record IsCut (view : List Shown) (start place : ℕ) (front back : List (List ℕ)) : Type 0 where

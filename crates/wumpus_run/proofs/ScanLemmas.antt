@@ -1,6 +1,6 @@
 -- Where terms stand in the texts of a view.
 use Rattle.std.proofs.Common.{◌≡◌, ℕ, zero, suc, ◌+◌, ◌≤◌, ◌<◌, Bool, true, false, cond, List, [], ◌∷◌, ◌++◌, length, take, drop, get_or, map, refl, sym, ap, ◌∙◌, subst, arith, append_assoc, append-nil, length-append, Ordering, Less, Equal, Greater, is_eq}
-use Rattle.std.proofs.lemmas.List.{take_more, length-take}
+use Rattle.std.proofs.lemmas.List.{take_more, length-take, length-map, take_all, drop_all}
 use Rattle.std.specs.Prelude.{nat_eq, slice_set, Result, Ok, Err, OnOk}
 use Rattle.std.specs.List.{AllByRecursion}
 use Rattle.std.specs.List.Sorted.{IsStrictlySortedBy}
@@ -232,16 +232,12 @@ sorted_noted n tokens base lists is sorted = subst (IsStrictlySortedBy (slice_cm
 pub sorted_at_first : (terms : List (List ℕ)) (base : List TermList) → base ≡ map list_without_places terms → IsStrictlySortedBy (slice_cmp nat_cmp) terms → IsSortedByTerm base
 sorted_at_first terms base is sorted = subst (IsStrictlySortedBy (slice_cmp nat_cmp)) (sym (ap (map (λ (list : TermList). list.term)) is ∙ terms-without_places terms)) sorted
 
-pub length-map : {X Y : Type 0} (f : X → Y) (xs : List X) → length (map f xs) ≡ length xs
-length-map f [] = refl
-length-map f (x ∷ xs) = omega (arith, length-map f xs)
-
 -- one token more was noted
 pub note-more : (n i : ℕ) (base lists now : List TermList) (tokens : List Token) (d : Token) (term : List ℕ) → i < length tokens → term ≡ (get_or tokens i d).term
     → lists ≡ map (with_places n (map (λ t. t.term) (take i tokens))) base → now ≡ map (noted term (n + i)) lists → now ≡ map (with_places n (map (λ t. t.term) (take (i + 1) tokens))) base
 note-more n i base lists now tokens d term within same before noting =
     let front = map (λ (t : Token). t.term) (take i tokens) in
-    let long : i ≡ length front = omega (arith, length-map (λ (t : Token). t.term) (take i tokens), length-take i tokens) in
+    let long : i ≡ length front = omega (arith, length-map (take i tokens) (λ (t : Token). t.term), length-take i tokens) in
     noting ∙ ap (map (noted term (n + i))) before ∙ ap (λ k. map (noted term (n + k)) (map (with_places n front) base)) long
     ∙ map-with_places-more n front term base
     ∙ ap (λ ts. map (with_places n ts) base) (ap (λ w. front ++ w ∷ []) same
@@ -255,19 +251,7 @@ pub if_ok : {T E : Type 0} (r : Result T E) (P Q : Type 0) → (P → Q) → OnO
 if_ok (Ok value) P Q step h = step h
 if_ok (Err error) P Q step h = h
 
-pub take_whole : {X : Type 0} (n : ℕ) (xs : List X) → length xs ≤ n → take n xs ≡ xs
-take_whole zero [] all = refl
-take_whole zero (x ∷ xs) all = absurd (omega arith)
-take_whole (suc n) [] all = refl
-take_whole (suc n) (x ∷ xs) all = ap (λ ys. x ∷ ys) (take_whole n xs (omega arith))
-
-drop_whole : {X : Type 0} (n : ℕ) (xs : List X) → length xs ≤ n → drop n xs ≡ []
-drop_whole zero [] all = refl
-drop_whole zero (x ∷ xs) all = absurd (omega arith)
-drop_whole (suc n) [] all = refl
-drop_whole (suc n) (x ∷ xs) all = drop_whole n xs (omega arith)
-
 -- a list as long as before is what stands after it was written back
 pub written_back : {X : Type 0} (n : ℕ) (now before : List X) → length now ≡ n → length before ≡ n → take n (now ++ drop (length now) before) ≡ now
 written_back n now before long was =
-    ap (λ xs. take n (now ++ xs)) (drop_whole (length now) before (omega arith)) ∙ ap (take n) (append-nil now) ∙ take_whole n now (omega arith)
+    ap (λ xs. take n (now ++ xs)) (drop_all (length now) before (omega arith)) ∙ ap (take n) (append-nil now) ∙ take_all n now (omega arith)

@@ -6,6 +6,6 @@ pub mod Scans
 pub mod Rankings
 pub mod Output
 pub mod Options
-pub mod Reading
+pub mod Taking
 pub mod Session
 pub mod Units

@@ -88,7 +88,10 @@ abbrev pub IsQueryOf : ℕ → Meaning → Type 0
 IsQueryOf uid (Counts asker text) = asker ≡ uid
 IsQueryOf uid (Ranks asker k unit words) = asker ≡ uid
 IsQueryOf uid (ListsPaths asker) = asker ≡ uid
-IsQueryOf uid meaning = ⊥
+IsQueryOf uid (Happens event) = ⊥
+IsQueryOf uid (GivesText ino len) = ⊥
+IsQueryOf uid (IsRefused why) = ⊥
+IsQueryOf uid IsBlank = ⊥
 
 -- ---- what is replied to an item as it was read
 

@@ -1,8 +1,9 @@
 -- What a session did, told by what the source had left and what the sink gained.
-use Rattle.std.specs.Prelude.{◌≡◌, ℕ, ◌+◌, ◌≤◌, ◌<◌, ◌⊎◌, ◌↔◌, List, [], length, Option, Some, None, IfSome}
-use Rattle.std.specs.Io.KnownBytes.{Appends}
+use Rattle.std.specs.Prelude.{◌≡◌, ℕ, ◌+◌, ◌≤◌, ◌<◌, ◌⊎◌, ◌↔◌, List, [], length, take, Option, Some, None, IfSome}
+use Rattle.std.specs.Io.KnownBytes.{Appends, Consumes}
 use Rattle.wu_outside.specs.Gains.{GainsPrefix}
-use Rattle.wu_script.specs.Items.{items_of}
+use Rattle.wu_script.specs.Holding.{but_last}
+use Rattle.wu_script.specs.Items.{items_of, whole_items_of}
 use Rattle.wu_script.specs.declared.ends.ReadEnd.{ReadEnd}
 use Rattle.wu_script.specs.declared.ends.ReadEnd.TheVariants as ends
 use Rattle.wu_script.specs.declared.types.Item.{Item}
@@ -12,7 +13,7 @@ use Rattle.wumpus_run.specs.declared.statuses.Status.{Status}
 use Rattle.wumpus_run.specs.declared.statuses.Status.TheVariants.{Done, Usage, ReadFault, WriteFault, NoMemory, InputTooLong}
 use Rattle.wumpus_run.specs.States.{first_state}
 use Rattle.wumpus_run.specs.Output.{Reading, IsReading, output_of}
-use Rattle.wumpus_run.specs.Reading.{TakesExactly, TakesAtMost}
+use Rattle.wumpus_run.specs.Taking.{TakesExactly, TakesAtMost, GainsAtLeast}
 
 -- an item that isn't the end of the script
 abbrev pub IsAnswered : Item → Type 0
@@ -50,11 +51,31 @@ abbrev pub IsTooLong : Status → Option Settings → Option (List ℕ) → Opti
 IsTooLong status settings before left =
     IfSome settings (λ told. IfSome before (λ input. (status ≡ InputTooLong) ↔ TakesExactly (told.max_input + 1) (Some input) left))
 
+-- The sink gained exactly the output for the whole items of the bytes that the source gave, the one byte too many left out.
+abbrev pub AnswersWholeItems : Option Settings → Option (List ℕ) → Option (List ℕ) → Option (List ℕ) → Option (List ℕ) → Type 0
+AnswersWholeItems settings before left gained now = IfSome settings (λ told. (given : List ℕ) × Consumes before left given
+    × ((read : Reading) → IsReading read → Appends gained now (output_of read first_state (whole_items_of (take told.max_input given)))))
+
+-- The sink gained at least the output for the whole items of the bytes that the source gave, without those of one read at the end.
+abbrev pub AnswersAllButOneRead : Option (List ℕ) → Option (List ℕ) → Option (List ℕ) → Option (List ℕ) → Type 0
+AnswersAllButOneRead before left gained now = (given : List ℕ) × Consumes before left given
+    × ((read : Reading) → IsReading read → GainsAtLeast gained now (output_of read first_state (whole_items_of (but_last 65536 given))))
+
+-- No reply was held back where a session ended early.
+abbrev pub HoldsNothingBack : Status → Option Settings → Option (List ℕ) → Option (List ℕ) → Option (List ℕ) → Option (List ℕ) → Type 0
+HoldsNothingBack Done settings before left gained now = Unit {0}
+HoldsNothingBack Usage settings before left gained now = Unit {0}
+HoldsNothingBack ReadFault settings before left gained now = AnswersWholeItems settings before left gained now
+HoldsNothingBack InputTooLong settings before left gained now = AnswersWholeItems settings before left gained now
+HoldsNothingBack WriteFault settings before left gained now = AnswersAllButOneRead before left gained now
+HoldsNothingBack NoMemory settings before left gained now = AnswersAllButOneRead before left gained now
+
 -- What holds however a session ends.
 pub record Ends (status : Status) (told : Settings) (before left gained now : Option (List ℕ)) : Type 0 where
   pub too_long : IsTooLong status (Some told) before left
   pub taken : StaysWithin (Some told) before left
   pub front : AnswersFront before gained now
+  pub prompt : HoldsNothingBack status (Some told) before left gained now
 
 -- An input within the limit is answered, and a longer one called too long, unless there was no memory.
 abbrev pub Completes : Status → Option Settings → Option (List ℕ) → Type 0

@@ -6,7 +6,7 @@ ghost use Rattle.wu_outside.specs.Gains.{GainsPrefix};
 ghost use Rattle.wu_script.specs.Items.{IsSoundItem};
 ghost use Rattle.wumpus_run.specs.Options.{settings_of, texts_of};
 ghost use Rattle.wumpus_run.specs.Output.{verdict_bytes, item_bytes, after_item};
-ghost use Rattle.wumpus_run.specs.Session.{status_of, IsAnswered, IsUsage, AnswersAll, AnswersFront, StaysWithin, IsTooLong, Ends, Completes};
+ghost use Rattle.wumpus_run.specs.Session.{status_of, IsAnswered, IsUsage, AnswersAll, AnswersFront, StaysWithin, IsTooLong, HoldsNothingBack, Ends, Completes};
 
 use crate::machine::Machine;
 use crate::options::{Settings, read_options};
@@ -45,6 +45,12 @@ pub fn run<I: Source, O: Sink, D: Store>(
     // front of the output.
     ensures taken { StaysWithin (settings_of (texts_of words.now)) (I.left source.old) (I.left source.new) }
     ensures front { AnswersFront (I.left source.old) (O.gained sink.old) (O.gained sink.new) }
+
+    // No reply was held back: where the source failed or gave too much, the sink gained exactly the
+    // replies to the whole items that the source gave; where the sink failed or there was no memory,
+    // at least those to the whole items before the last 65,536 bytes.
+    ensures prompt { HoldsNothingBack result (settings_of (texts_of words.now))
+        (I.left source.old) (I.left source.new) (O.gained sink.old) (O.gained sink.new) }
 
     // Without a fault the session is done, unless there was no memory or the input is too long.
     ensures complete { ¬ Rose (I.faults source.old) (I.faults source.new) → ¬ Rose (O.faults sink.old) (O.faults sink.new)
