@@ -179,13 +179,14 @@ sent_at_least read before now given held s all behind sent joined none =
     let count = length (used ++ behind) - 65536 in
     let fewer : count - length used ≡ length behind - 65536 = omega (arith, length-append used behind) in
     let cut = front_of_both count used behind in
-    let front = whole-front read first_state (take count (used ++ behind)) cut.0 in
-    (front.0,
+    let front = whole-front read first_state (take count (used ++ behind)) cut.0 in (
+      front.0,
       sym (sent_exactly read before now given held (but_last 65536 behind) s sent none)
-      ∙ ap (λ k. whole_output read first_state (used ++ take k behind)) (sym fewer)
-      ∙ ap (whole_output read first_state) cut.1
-      ∙ front.1
-      ∙ ap (λ bs. whole_output read first_state (but_last 65536 bs) ++ front.0) (sym joined))
+          ∙ ap (λ k. whole_output read first_state (used ++ take k behind)) (sym fewer)
+          ∙ ap (whole_output read first_state) cut.1
+          ∙ front.1
+          ∙ ap (λ bs. whole_output read first_state (but_last 65536 bs) ++ front.0) (sym joined),
+    )
 
 -- ---- an early end
 

@@ -1,11 +1,10 @@
 //! A session: the script is read as it comes, and each item is answered in turn.
-ghost use Rattle.std.specs.Prelude.{◌≡◌, ◌++◌, ◌≤◌, ◌⊎◌, List, ℕ, [], None, Some, false, length, OnOk, MatchBool};
-ghost use Rattle.std.specs.Io.KnownBytes.{Appends};
+ghost use Rattle.std.specs.Prelude.{◌≡◌, ◌++◌, [], None, Some, false, IfOk, OnOk, MatchBool};
 ghost use Rattle.wu_outside.specs.Faults.{Rose};
-ghost use Rattle.wu_outside.specs.Gains.{GainsPrefix};
 ghost use Rattle.wu_script.specs.Items.{IsSoundItem};
 ghost use Rattle.wumpus_run.specs.Options.{settings_of, texts_of};
 ghost use Rattle.wumpus_run.specs.Output.{verdict_bytes, item_bytes, after_item};
+ghost use Rattle.wumpus_run.specs.States.{first_state};
 ghost use Rattle.wumpus_run.specs.Session.{status_of, IsAnswered, IsUsage, AnswersAll, AnswersFront, StaysWithin, IsTooLong, HoldsNothingBack, Ends, Completes};
 
 use crate::machine::Machine;
@@ -77,12 +76,8 @@ fn answer_script<I: Source, O: Sink>(
     ensures write_fault { result ≡ Status.WriteFault → Rose (O.faults sink.old) (O.faults sink.new) }
     ensures ends { Ends result settings (I.left source.old) (I.left source.new) (O.gained sink.old) (O.gained sink.new) }
 {
-    let mut reader = match Reader::new(alloc, settings.max_input) {
-        Ok(reader) => reader,
-        Err(NoMemory) => return Status::NoMemory,
-    };
-    let mut machine = match Machine::new(alloc) {
-        Ok(machine) => machine,
+    let (mut reader, mut machine) = match start(alloc, settings) {
+        Ok(start) => start,
         Err(NoMemory) => return Status::NoMemory,
     };
     let mut reply = Vec::new(alloc);
@@ -105,6 +100,17 @@ fn answer_script<I: Source, O: Sink>(
             Err(Fault::NoMemory) => return Status::NoMemory,
         }
     }
+}
+
+/// A reader of the script, and the root directory alone.
+fn start(alloc: Global, settings: Settings) -> Result<(Reader, Machine), NoMemory>
+    ensures reader { IfOk result (λ start. start.0 ≡ record { bytes = []; spare = settings.max_input; ended = false }) }
+    ensures machine { IfOk result (λ start. start.1 ≡ first_state) }
+{
+    Ok((
+        Reader::new(alloc, settings.max_input)?,
+        Machine::new(alloc)?,
+    ))
 }
 
 /// How a session ends where no item could be read.

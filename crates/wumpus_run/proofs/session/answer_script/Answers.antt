@@ -15,17 +15,11 @@ returns-in-Err-clause-ends g c =
     let gained = g.O.Sink.gained c.args.sink.now in
     Ends-short NoMemory c.args.settings before before gained gained (λ e. (cc)) (TakesAtMost-none before c.args.settings.max_input) (AnswersFront-none before gained) (AnswersAllButOneRead-none before gained)
 
-pub returns-in-Err-new-clause-ends : goal.returns-in-Err-new-clause-ends
-returns-in-Err-new-clause-ends g c =
-    let before = g.I.Source.left c.args.source.now in
-    let gained = g.O.Sink.gained c.args.sink.now in
-    Ends-short NoMemory c.args.settings before before gained gained (λ e. (cc)) (TakesAtMost-none before c.args.settings.max_input) (AnswersFront-none before gained) (AnswersAllButOneRead-none before gained)
-
 pub items-init : goal.items-init
 items-init g c =
     let before = g.I.Source.left c.args.source.now in
     let gained = g.O.Sink.gained c.args.sink.now in
-    rw (c.in-Ok.ensures, c.in-Ok-new.ensures) (record {
+    rw (c.in-Ok.ensures.reader, c.in-Ok.ensures.machine) (record {
       answered = HasAnswered-none gained before;
       replied = HasReplied-none before gained c.args.settings.max_input;
       taken = HasTaken-none before c.args.settings.max_input;
