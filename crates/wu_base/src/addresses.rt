@@ -11,7 +11,7 @@ pub type Gid = u32;
 /// A node's number, at least 1. Node 1 is the root directory.
 pub type Ino = u32;
 
-/// The addresses from `start` to `end`, both counted in.
+/// The addresses from `start` to `end`, both counted in: none where `end` is below `start`.
 #[derive(Clone, Copy, Debug, PartialEq, Eq, PartialOrd, Ord)]
 pub struct Extent {
     pub start: u64,

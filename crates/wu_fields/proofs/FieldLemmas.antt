@@ -7,7 +7,7 @@ use Rattle.std.specs.List.{list_all, list_any}
 use Rattle.std.proofs.lemmas.Bool.Decides.{nat_tests}
 use Rattle.std.proofs.lemmas.List.{at_drop_more}
 use Rattle.std.specs.Option.{option_map}
-use Rattle.wu_fields.specs.Fields.{escaped, escaped_byte, with_letter, letter_of, byte_of, unescaped_after, unescaped, all_some, fields_of, line_of}
+use Rattle.wu_fields.specs.Fields.{escaped, escaped_byte, with_letter, letter_of, byte_of, unescaped, all_some, fields_of, line_of}
 
 -- what is read so far, and then the rest
 unfoldable pub onto : List ℕ → Option (List ℕ) → Option (List ℕ)
@@ -37,9 +37,23 @@ onto_none (Some more) = refl
 pub eqb-other : (a b : ℕ) → a ≢ b → eqb a b ≡ false
 eqb-other a b other = grind (arith, nat_tests)
 
+-- the bytes, after the backslash that was read before them, if there was one
+abbrev pub held : Bool → List ℕ → List ℕ
+held false rest = rest
+held true rest = 92 ∷ rest
+
+-- a byte that is no backslash is itself
+pub unescaped-itself : (byte : ℕ) (rest : List ℕ) → eqb byte 92 ≡ false → unescaped (byte ∷ rest) ≡ option_map (λ field. byte ∷ field) (unescaped rest)
+unescaped-itself byte [] other = rw other refl
+unescaped-itself byte (next ∷ rest) other = rw other refl
+
 -- one step on: what is read and what is left make the same whole
-pub onto-step : (whole : Option (List ℕ)) (read longer read' : List ℕ) (escaping before escaping' after : Bool) (left rest : List ℕ) → whole ≡ onto read (unescaped_after escaping left) → onto read (unescaped_after before left) ≡ onto longer (unescaped_after after rest) → escaping ≡ before → read' ≡ longer → escaping' ≡ after → whole ≡ onto read' (unescaped_after escaping' rest)
+pub onto-step : (whole : Option (List ℕ)) (read longer read' : List ℕ) (escaping before escaping' after : Bool) (left rest : List ℕ) → whole ≡ onto read (unescaped (held escaping left)) → onto read (unescaped (held before left)) ≡ onto longer (unescaped (held after rest)) → escaping ≡ before → read' ≡ longer → escaping' ≡ after → whole ≡ onto read' (unescaped (held escaping' rest))
 onto-step whole read longer read' escaping before escaping' after left rest e step b r a = rw (b) at e ∙ rw (r, a) step
+
+-- nothing is left to be read, or the rest is no field
+pub onto-end : (whole end : Option (List ℕ)) (read : List ℕ) (escaping before : Bool) (left : List ℕ) → whole ≡ onto read (unescaped (held escaping left)) → escaping ≡ before → onto read (unescaped (held before left)) ≡ end → whole ≡ end
+onto-end whole end read escaping before left e b is = rw (b) at e ∙ is
 
 pub or_left : (a b : Bool) → (a || b) ≡ false → a ≡ false
 or_left true b e = cc
@@ -50,28 +64,29 @@ or_right true b e = cc
 or_right false b e = e
 
 -- a letter after a backslash
-pub unescaped-letter : (read written : List ℕ) (i byte : ℕ) → i < length written → byte_of (get_or written i 0) ≡ Some byte → onto read (unescaped_after true (drop i written)) ≡ onto (read ++ byte ∷ []) (unescaped_after false (drop (i + 1) written))
-unescaped-letter read written i byte inside meant = at_drop_more (λ w. onto read (unescaped_after true w)) written i 0 inside ∙ rw meant (onto_push read byte _)
+pub unescaped-letter : (read written : List ℕ) (i byte : ℕ) → i < length written → byte_of (get_or written i 0) ≡ Some byte → onto read (unescaped (92 ∷ drop i written)) ≡ onto (read ++ byte ∷ []) (unescaped (drop (i + 1) written))
+unescaped-letter read written i byte inside meant = at_drop_more (λ w. onto read (unescaped (92 ∷ w))) written i 0 inside ∙ rw meant (onto_push read byte _)
 
 -- a byte that is no letter, after a backslash
-pub unescaped-fault : (read written : List ℕ) (i : ℕ) → i < length written → byte_of (get_or written i 0) ≡ None → onto read (unescaped_after true (drop i written)) ≡ None
+pub unescaped-fault : (read written : List ℕ) (i : ℕ) → i < length written → byte_of (get_or written i 0) ≡ None → onto read (unescaped (92 ∷ drop i written)) ≡ None
 unfolding onto
-unescaped-fault read written i inside none = at_drop_more (λ w. onto read (unescaped_after true w)) written i 0 inside ∙ rw none refl
+unescaped-fault read written i inside none = at_drop_more (λ w. onto read (unescaped (92 ∷ w))) written i 0 inside ∙ rw none refl
 
 -- a backslash
-pub unescaped-backslash : (read written : List ℕ) (i : ℕ) → i < length written → get_or written i 0 ≡ 92 → onto read (unescaped_after false (drop i written)) ≡ onto read (unescaped_after true (drop (i + 1) written))
-unescaped-backslash read written i inside is = at_drop_more (λ w. onto read (unescaped_after false w)) written i 0 inside ∙ rw is refl
+pub unescaped-backslash : (read written : List ℕ) (i : ℕ) → i < length written → get_or written i 0 ≡ 92 → onto read (unescaped (drop i written)) ≡ onto read (unescaped (92 ∷ drop (i + 1) written))
+unescaped-backslash read written i inside is = at_drop_more (λ w. onto read (unescaped w)) written i 0 inside ∙ ap (λ byte. onto read (unescaped (byte ∷ drop (i + 1) written))) is
 
 -- another byte
-pub unescaped-plain : (read written : List ℕ) (i : ℕ) → i < length written → get_or written i 0 ≢ 92 → onto read (unescaped_after false (drop i written)) ≡ onto (read ++ get_or written i 0 ∷ []) (unescaped_after false (drop (i + 1) written))
-unescaped-plain read written i inside other = at_drop_more (λ w. onto read (unescaped_after false w)) written i 0 inside ∙ rw (eqb-other _ _ other) (onto_push read _ _)
+pub unescaped-plain : (read written : List ℕ) (i : ℕ) → i < length written → get_or written i 0 ≢ 92 → onto read (unescaped (drop i written)) ≡ onto (read ++ get_or written i 0 ∷ []) (unescaped (drop (i + 1) written))
+unescaped-plain read written i inside other =
+    at_drop_more (λ w. onto read (unescaped w)) written i 0 inside
+    ∙ ap (onto read) (unescaped-itself (get_or written i 0) (drop (i + 1) written) (eqb-other _ _ other))
+    ∙ onto_push read (get_or written i 0) (unescaped (drop (i + 1) written))
 
 -- no backslash at all
-pub unescaped_alone : (written : List ℕ) → list_any (λ byte. eqb byte 92) written ≡ false → unescaped_after false written ≡ Some written
+pub unescaped_alone : (written : List ℕ) → list_any (λ byte. eqb byte 92) written ≡ false → unescaped written ≡ Some written
 unescaped_alone [] none = refl
-unescaped_alone (byte ∷ rest) none =
-    let here : eqb byte 92 ≡ false = or_left (eqb byte 92) _ none in
-    rw (here, unescaped_alone rest (or_right (eqb byte 92) _ none)) refl
+unescaped_alone (byte ∷ rest) none = unescaped-itself byte rest (or_left (eqb byte 92) _ none) ∙ ap (option_map (λ field. byte ∷ field)) (unescaped_alone rest (or_right (eqb byte 92) _ none))
 
 -- if one more value comes after these, it comes after these and one before them
 pushed_on : {A : Type 0} (first value : A) (before after : Option (List A)) (values : List A) → option_map (λ more. first ∷ more) before ≡ Some values → ((more : List A) → before ≡ Some more → after ≡ Some (more ++ value ∷ [])) → option_map (λ more. first ∷ more) after ≡ Some (values ++ value ∷ [])
@@ -95,18 +110,18 @@ all_some_fault [] i d inside none = absurd (omega arith)
 all_some_fault (piece ∷ pieces) zero d inside none = rw none refl
 all_some_fault (piece ∷ pieces) (suc i) d inside none = all_some_tail (unescaped piece) (map unescaped pieces) (all_some_fault pieces i d (omega arith) none)
 
-step-by_kind : (byte : ℕ) (rest field : List ℕ) → unescaped_after false rest ≡ Some field → (byte ≡ 92) ⊎ (byte ≢ 92) → (byte ≡ 9) ⊎ (byte ≢ 9) → (byte ≡ 10) ⊎ (byte ≢ 10) → unescaped_after false (escaped_byte byte ++ rest) ≡ Some (byte ∷ field)
+step-by_kind : (byte : ℕ) (rest field : List ℕ) → unescaped rest ≡ Some field → (byte ≡ 92) ⊎ (byte ≢ 92) → (byte ≡ 9) ⊎ (byte ≢ 9) → (byte ≡ 10) ⊎ (byte ≢ 10) → unescaped (escaped_byte byte ++ rest) ≡ Some (byte ∷ field)
 unfolding letter_of byte_of
 step-by_kind byte rest field h (inl e) tab feed = rw e (rw h refl)
 step-by_kind byte rest field h (inr slash) (inl e) feed = rw e (rw h refl)
 step-by_kind byte rest field h (inr slash) (inr tab) (inl e) = rw e (rw h refl)
-step-by_kind byte rest field h (inr slash) (inr tab) (inr feed) = rw (eqb-other 92 byte (λ e. slash (sym e)), eqb-other 9 byte (λ e. tab (sym e)), eqb-other 10 byte (λ e. feed (sym e)), eqb-other byte 92 slash, h) refl
+step-by_kind byte rest field h (inr slash) (inr tab) (inr feed) = rw (eqb-other 92 byte (λ e. slash (sym e)), eqb-other 9 byte (λ e. tab (sym e)), eqb-other 10 byte (λ e. feed (sym e))) (unescaped-itself byte rest (eqb-other byte 92 slash) ∙ rw h refl)
 
 pub is_or_not : (m n : ℕ) → (m ≡ n) ⊎ (m ≢ n)
 is_or_not m n = ⊎_elim (λ t. inl t.1) (λ t. inr t.1) (eqb_tells m n)
 
 -- what is written for a field is read as the field
-pub unescaped-escaped : (field : List ℕ) → unescaped_after false (escaped field) ≡ Some field
+pub unescaped-escaped : (field : List ℕ) → unescaped (escaped field) ≡ Some field
 unescaped-escaped [] = refl
 unescaped-escaped (byte ∷ field) = step-by_kind byte (escaped field) field (unescaped-escaped field) (is_or_not byte 92) (is_or_not byte 9) (is_or_not byte 10)
 
@@ -136,7 +151,6 @@ split-line_of field [] = split_alone (escaped field) (tabless field)
 split-line_of field (next ∷ fields) = split_before (escaped field) (line_of (next ∷ fields)) (tabless field) ∙ ap (λ pieces. escaped field ∷ pieces) (split-line_of next fields)
 
 all_read_back : (fields : List (List ℕ)) → all_some (map unescaped (map escaped fields)) ≡ Some fields
-unfolding unescaped
 all_read_back [] = refl
 all_read_back (field ∷ fields) = rw (unescaped-escaped field, all_read_back fields) refl
 

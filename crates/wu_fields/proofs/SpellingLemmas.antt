@@ -4,13 +4,8 @@ use Rattle.std.specs.List.{list_any, slice_split, onto_first, join_with_byte}
 use Rattle.std.specs.Option.{option_map}
 use Rattle.std.proofs.lemmas.List.Splits.{join_with_byte-slice_split}
 use Rattle.std.proofs.lemmas.Bool.{eqb-false}
-use Rattle.wu_fields.specs.Fields.{escaped, letter_of, byte_of, unescaped_after, unescaped, all_some, fields_of, line_of}
-use Rattle.wu_fields.proofs.FieldLemmas.{eqb-other, is_or_not, or_left, or_right}
-
--- the bytes, after the backslash that stands before them, if there is one
-abbrev whole : Bool → List ℕ → List ℕ
-whole false written = written
-whole true written = 92 ∷ written
+use Rattle.wu_fields.specs.Fields.{escaped, letter_of, byte_of, unescaped, all_some, fields_of, line_of}
+use Rattle.wu_fields.proofs.FieldLemmas.{eqb-other, unescaped-itself, is_or_not, or_left, or_right}
 
 abbrev tabless : List ℕ → Bool
 tabless bytes = list_any (λ b. eqb b 9) bytes
@@ -22,12 +17,12 @@ front : {A : Type 0} (first : A) (rest : Option (List A)) (values : List A) → 
 front first None values e = cc
 front first (Some more) values e = (more, refl, cc)
 
-letter_read : (letter byte : ℕ) (rest field : List ℕ) → byte_of letter ≡ Some byte → letter_of byte ≡ Some letter → unescaped_after true (letter ∷ rest) ≡ Some field → ((more : List ℕ) → unescaped_after false rest ≡ Some more → rest ≡ escaped more) → 92 ∷ letter ∷ rest ≡ escaped field
+letter_read : (letter byte : ℕ) (rest field : List ℕ) → byte_of letter ≡ Some byte → letter_of byte ≡ Some letter → unescaped (92 ∷ letter ∷ rest) ≡ Some field → ((more : List ℕ) → unescaped rest ≡ Some more → rest ≡ escaped more) → 92 ∷ letter ∷ rest ≡ escaped field
 letter_read letter byte rest field meant written e on =
-    let parts = front byte (unescaped_after false rest) field (rw meant at e) in
+    let parts = front byte (unescaped rest) field (rw meant at e) in
     rw (parts.2, written) (ap (λ more. 92 ∷ letter ∷ more) (on parts.0 parts.1))
 
-letter_by_kind : (letter : ℕ) (rest field : List ℕ) → (letter ≡ 92) ⊎ (letter ≢ 92) → (letter ≡ 116) ⊎ (letter ≢ 116) → (letter ≡ 110) ⊎ (letter ≢ 110) → unescaped_after true (letter ∷ rest) ≡ Some field → ((more : List ℕ) → unescaped_after false rest ≡ Some more → rest ≡ escaped more) → 92 ∷ letter ∷ rest ≡ escaped field
+letter_by_kind : (letter : ℕ) (rest field : List ℕ) → (letter ≡ 92) ⊎ (letter ≢ 92) → (letter ≡ 116) ⊎ (letter ≢ 116) → (letter ≡ 110) ⊎ (letter ≢ 110) → unescaped (92 ∷ letter ∷ rest) ≡ Some field → ((more : List ℕ) → unescaped rest ≡ Some more → rest ≡ escaped more) → 92 ∷ letter ∷ rest ≡ escaped field
 unfolding letter_of byte_of
 letter_by_kind letter rest field (inl k) t n e on = letter_read letter 92 rest field (rw k refl) (rw k refl) e on
 letter_by_kind letter rest field (inr slash) (inl k) n e on = letter_read letter 9 rest field (rw k refl) (rw k refl) e on
@@ -36,25 +31,37 @@ letter_by_kind letter rest field (inr slash) (inr t) (inr n) e on =
     let none : byte_of letter ≡ None = rw (eqb-other 92 letter (λ k. slash (sym k)), eqb-other 116 letter (λ k. t (sym k)), eqb-other 110 letter (λ k. n (sym k))) refl in
     cc (rw none at e)
 
-byte_read : (byte : ℕ) (rest field : List ℕ) → byte ≢ 92 → eqb byte 9 ≡ false → eqb byte 10 ≡ false → unescaped_after false (byte ∷ rest) ≡ Some field → ((more : List ℕ) → unescaped_after false rest ≡ Some more → rest ≡ escaped more) → byte ∷ rest ≡ escaped field
+byte_read : (byte : ℕ) (rest field : List ℕ) → byte ≢ 92 → eqb byte 9 ≡ false → eqb byte 10 ≡ false → unescaped (byte ∷ rest) ≡ Some field → ((more : List ℕ) → unescaped rest ≡ Some more → rest ≡ escaped more) → byte ∷ rest ≡ escaped field
 unfolding letter_of
 byte_read byte rest field slash tab feed e on =
-    let parts = front byte (unescaped_after false rest) field (rw (eqb-other byte 92 slash) at e) in
+    let parts = front byte (unescaped rest) field (sym (unescaped-itself byte rest (eqb-other byte 92 slash)) ∙ e) in
     rw (parts.2, eqb-other 92 byte (λ k. slash (sym k)), flipped byte 9 tab, flipped byte 10 feed) (ap (λ more. byte ∷ more) (on parts.0 parts.1))
   where
     flipped : (m n : ℕ) → eqb m n ≡ false → eqb n m ≡ false
     flipped m n other = eqb-other n m (λ e. eqb-false m n other (sym e))
 
-byte_by_kind : (byte : ℕ) (rest field : List ℕ) → (byte ≡ 92) ⊎ (byte ≢ 92) → eqb byte 9 ≡ false → eqb byte 10 ≡ false → unescaped_after false (byte ∷ rest) ≡ Some field → ((more : List ℕ) → unescaped_after true rest ≡ Some more → 92 ∷ rest ≡ escaped more) → ((more : List ℕ) → unescaped_after false rest ≡ Some more → rest ≡ escaped more) → byte ∷ rest ≡ escaped field
-byte_by_kind byte rest field (inl k) tab feed e after on = rw k (after field (rw k at e))
-byte_by_kind byte rest field (inr slash) tab feed e after on = byte_read byte rest field slash tab feed e on
+last_by_kind : (byte : ℕ) (field : List ℕ) → (byte ≡ 92) ⊎ (byte ≢ 92) → eqb byte 9 ≡ false → eqb byte 10 ≡ false → unescaped (byte ∷ []) ≡ Some field → byte ∷ [] ≡ escaped field
+last_by_kind byte field (inl k) tab feed e = cc (rw k at e)
+last_by_kind byte field (inr slash) tab feed e = byte_read byte [] field slash tab feed e nothing
+  where
+    nothing : (more : List ℕ) → unescaped [] ≡ Some more → [] ≡ escaped more
+    nothing [] e = refl
+    nothing (byte ∷ more) e = cc
 
-spelled : (escaping : Bool) (written field : List ℕ) → tabless written ≡ false → feedless written ≡ false → unescaped_after escaping written ≡ Some field → whole escaping written ≡ escaped field
-spelled false [] [] tab feed e = refl
-spelled false [] (byte ∷ field) tab feed e = cc
-spelled true [] field tab feed e = cc
-spelled true (letter ∷ rest) field tab feed e = letter_by_kind letter rest field (is_or_not letter 92) (is_or_not letter 116) (is_or_not letter 110) e (λ more. spelled false rest more (or_right (eqb letter 9) _ tab) (or_right (eqb letter 10) _ feed))
-spelled false (byte ∷ rest) field tab feed e = byte_by_kind byte rest field (is_or_not byte 92) (or_left (eqb byte 9) _ tab) (or_left (eqb byte 10) _ feed) e (λ more. spelled true rest more (or_right (eqb byte 9) _ tab) (or_right (eqb byte 10) _ feed)) (λ more. spelled false rest more (or_right (eqb byte 9) _ tab) (or_right (eqb byte 10) _ feed))
+first_by_kind : (byte next : ℕ) (rest field : List ℕ) → (byte ≡ 92) ⊎ (byte ≢ 92) → eqb byte 9 ≡ false → eqb byte 10 ≡ false → unescaped (byte ∷ next ∷ rest) ≡ Some field → ((more : List ℕ) → unescaped rest ≡ Some more → rest ≡ escaped more) → ((more : List ℕ) → unescaped (next ∷ rest) ≡ Some more → next ∷ rest ≡ escaped more) → byte ∷ next ∷ rest ≡ escaped field
+first_by_kind byte next rest field (inl k) tab feed e after on = ap (λ b. b ∷ next ∷ rest) k ∙ letter_by_kind next rest field (is_or_not next 92) (is_or_not next 116) (is_or_not next 110) (ap (λ b. unescaped (b ∷ next ∷ rest)) (sym k) ∙ e) after
+first_by_kind byte next rest field (inr slash) tab feed e after on = byte_read byte (next ∷ rest) field slash tab feed e on
+
+-- bytes without a TAB and an LF are what is written for the field that they are read as
+spelled : (written field : List ℕ) → tabless written ≡ false → feedless written ≡ false → unescaped written ≡ Some field → written ≡ escaped field
+spelled [] [] tab feed e = refl
+spelled [] (byte ∷ field) tab feed e = cc
+spelled (byte ∷ []) field tab feed e = last_by_kind byte field (is_or_not byte 92) (or_left (eqb byte 9) _ tab) (or_left (eqb byte 10) _ feed) e
+spelled (byte ∷ next ∷ rest) field tab feed e =
+    let tabs = or_right (eqb byte 9) (tabless (next ∷ rest)) tab in
+    let feeds = or_right (eqb byte 10) (feedless (next ∷ rest)) feed in
+    first_by_kind byte next rest field (is_or_not byte 92) (or_left (eqb byte 9) _ tab) (or_left (eqb byte 10) _ feed) e
+    (λ more. spelled rest more (or_right (eqb next 9) _ tabs) (or_right (eqb next 10) _ feeds)) (λ more. spelled (next ∷ rest) more tabs feeds)
 
 -- no piece has a TAB or an LF
 abbrev AllClean : List (List ℕ) → Type 0
@@ -71,11 +78,10 @@ clean_split [] feed = (refl, refl, tt)
 clean_split (byte ∷ line) feed = clean_more (eqb byte 9) byte (slice_split (λ b. eqb b 9) line) refl (or_left (eqb byte 10) _ feed) (clean_split line (or_right (eqb byte 10) _ feed))
 
 all_spelled_on : (piece : List ℕ) (pieces fields : List (List ℕ)) (first : Option (List ℕ)) → unescaped piece ≡ first → AllClean (piece ∷ pieces) → all_some (first ∷ map unescaped pieces) ≡ Some fields → ((more : List (List ℕ)) → all_some (map unescaped pieces) ≡ Some more → pieces ≡ map escaped more) → piece ∷ pieces ≡ map escaped fields
-unfolding unescaped
 all_spelled_on piece pieces fields None is clean e on = cc
 all_spelled_on piece pieces fields (Some field) is clean e on =
     let parts = front field (all_some (map unescaped pieces)) fields e in
-    ap (λ p. p ∷ pieces) (spelled false piece field clean.0 clean.1 is) ∙ ap (λ ps. escaped field ∷ ps) (on parts.0 parts.1) ∙ ap (map escaped) (sym parts.2)
+    ap (λ p. p ∷ pieces) (spelled piece field clean.0 clean.1 is) ∙ ap (λ ps. escaped field ∷ ps) (on parts.0 parts.1) ∙ ap (map escaped) (sym parts.2)
 
 all_spelled : (pieces fields : List (List ℕ)) → AllClean pieces → all_some (map unescaped pieces) ≡ Some fields → pieces ≡ map escaped fields
 all_spelled [] [] clean e = refl

@@ -1,6 +1,6 @@
 -- The fields of a line. TABs stand between them; in a field a backslash, a TAB and an LF are written as a backslash
 -- and a letter, and every other byte as itself.
-use Rattle.std.specs.Prelude.{ℕ, Bool, true, false, List, [], ◌∷◌, Option, Some, None, ◌==◌, if◌then◌else◌, map, option_and_then}
+use Rattle.std.specs.Prelude.{ℕ, List, [], ◌∷◌, Option, Some, None, ◌==◌, if◌then◌else◌, map, option_and_then}
 use Rattle.std.specs.List.{find, flat_map, slice_split, join_with_byte}
 use Rattle.std.specs.Option.{option_map}
 
@@ -29,16 +29,16 @@ escaped_byte byte = with_letter (letter_of byte) byte
 abbrev pub escaped : List ℕ → List ℕ
 escaped field = flat_map escaped_byte field
 
--- the field whose written bytes these are; the flag says that a backslash stands before them
-abbrev pub unescaped_after : Bool → List ℕ → Option (List ℕ)
-unescaped_after false [] = Some []
-unescaped_after true [] = None
-unescaped_after true (letter ∷ rest) = option_and_then (λ byte. option_map (λ field. byte ∷ field) (unescaped_after false rest)) (byte_of letter)
-unescaped_after false (byte ∷ rest) = if byte == 92 then unescaped_after true rest else option_map (λ field. byte ∷ field) (unescaped_after false rest)
-
--- the field that these bytes are written for, if they are for one: each backslash has its letter
-unfoldable pub unescaped : List ℕ → Option (List ℕ)
-unescaped written = unescaped_after false written
+-- the field that these bytes are written for, if they are for one: a backslash and the letter after it are the letter's
+-- byte, and every other byte is itself
+abbrev pub unescaped : List ℕ → Option (List ℕ)
+unescaped [] = Some []
+unescaped (byte ∷ []) = if byte == 92 then None else Some (byte ∷ [])
+unescaped (byte ∷ next ∷ rest) =
+    if byte == 92 then
+    option_and_then (λ meant. option_map (λ field. meant ∷ field) (unescaped rest)) (byte_of next)
+    else
+    option_map (λ field. byte ∷ field) (unescaped (next ∷ rest))
 
 -- the values, if each is there
 abbrev pub all_some : {A : Type 0} → List (Option A) → Option (List A)

@@ -14,6 +14,7 @@ use wu_base::NoMemory;
 pub fn read_decimal(field: &[u8], max: u64) -> Option<u64>
     ensures value { result ≡ number_of field.now max }
     ensures spelled { IfSome result (λ n. field.now ≡ decimal n) }
+    ensures within { IfSome result (λ n. n ≤ max) }
 {
     if is_padded(field) {
         return None;
@@ -33,7 +34,8 @@ fn is_padded(field: &[u8]) -> bool
 /// The number that the digits spell. `None` exactly where some byte is no digit or the number is
 /// over `max`.
 fn number_up_to(digits: &[u8], max: u64) -> Option<u64>
-    ensures { result ≡ (if list_all is_ascii_digit digits.now && nat_le (digits_value 10 digits.now) max then Some (digits_value 10 digits.now) else None) }
+    ensures value { result ≡ (if list_all is_ascii_digit digits.now && nat_le (digits_value 10 digits.now) max then Some (digits_value 10 digits.now) else None) }
+    ensures within { IfSome result (λ n. n ≤ max) }
 {
     let mut number = 0u64;
     for &byte in digits {
@@ -59,7 +61,8 @@ fn with_digit(number: u64, digit: u8) -> Option<u64>
     }
 }
 
-/// The mode that three or four octal digits spell. `None` exactly where the field is none.
+/// The mode that three or four octal digits spell, at most 0o7777. `None` exactly where the field is
+/// none.
 #[tactic(auto, unfolding(crate::specs::Numbers::mode_of))]
 pub fn read_octal_mode(field: &[u8]) -> Option<u16>
     ensures value { result ≡ mode_of field.now }
@@ -107,3 +110,9 @@ pub fn put_decimal(out: &mut Vec<u8>, number: u64) -> Result<(), NoMemory>
     out.extend_from_slice(buffer.format(number).as_bytes())?;
     Ok(())
 }
+
+/// A law: a number that is written in decimal is read back where it is at most `max`, and is
+/// refused where it is over it.
+pub fn written_numbers_are_read_back(number: u64, max: u64)
+    ensures { number_of (decimal number) max ≡ (if nat_le number max then Some number else None) }
+{}

@@ -39,14 +39,14 @@ pub fn lg(n: u64) -> u32
     digits
 }
 
-/// A law: the logarithm never falls as its number rises.
+/// A law: the logarithm never falls as its number rises, from 1 to 2^64 - 1.
 pub fn lg_never_falls(low: u64, high: u64)
     requires positive { 1 ≤ low }
     requires ordered { low ≤ high }
     ensures { lg low ≤ lg high }
 {}
 
-/// A law: the logarithm of 2^`power` is exactly `power`.
+/// A law: the logarithm of 2^`power` is exactly 65536 times `power`, for a `power` from 0 to 63.
 pub fn lg_of_power(power: u32)
     requires { power < 64 }
     ensures { lg (2 ^ power) ≡ 65536 * power }

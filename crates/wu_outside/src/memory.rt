@@ -1,8 +1,8 @@
 //! Objects in memory that count their calls, for tests. They tell their content.
-ghost use Rattle.std.specs.Prelude.{◌≡◌, ℕ, ◌≤◌, ◌<◌, length, [], Some, Ok, IfOk};
+ghost use Rattle.std.specs.Prelude.{◌≡◌, min, length, [], Some, IfOk, IsOkAnd};
 ghost use Rattle.std.specs.Io.KnownBytes.{ReadConsumes, WriteAppends};
 ghost use Rattle.wu_outside.specs.Counted.{Counted, CountsCall};
-ghost use Rattle.wu_outside.specs.Faults.{Rose, HasCause, HasFaultCause};
+ghost use Rattle.wu_outside.specs.Faults.{HasFaultCause};
 
 use crate::plain::{PlainSink, PlainSource};
 use crate::traits::{Failed, Fault, Sink, Source};
@@ -47,10 +47,10 @@ impl Source for MemSource {
 
     ghost faults = { λ _. 0 };
 
+    /// Gives as many of the bytes as are left and have room.
     fn read(&mut self, buf: &mut [u8]) -> Result<usize, Failed>
-        ensures within { IfOk result (λ n. n ≤ length buf.new) }
         ensures bytes { ReadConsumes (Some self.old.bytes) (Some self.new.bytes) result buf.new }
-        ensures cause { HasCause 0 0 result }
+        ensures all_that_fits { IsOkAnd result (λ n. n ≡ min (length self.old.bytes) (length buf.new)) }
         ensures counted { CountsCall self.old self.new }
     {
         self.calls = self.calls.saturating_add(1);
@@ -103,11 +103,11 @@ impl Sink for MemSink {
 
     ghost faults = { λ _. 0 };
 
+    /// Takes the whole piece, or wants memory.
     fn write(&mut self, piece: &[u8]) -> Result<usize, Fault>
-        ensures within { IfOk result (λ n. n ≤ length piece.now) }
         ensures bytes { WriteAppends (Some self.old.bytes) (Some self.new.bytes) result piece.now }
         ensures cause { HasFaultCause 0 0 result }
-        ensures stuck { result ≡ Ok 0 → 0 < length piece.now → Rose 0 0 }
+        ensures whole { IfOk result (λ n. n ≡ length piece.now) }
         ensures counted { CountsCall self.old self.new }
     {
         self.calls = self.calls.saturating_add(1);

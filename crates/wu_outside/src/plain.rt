@@ -1,5 +1,7 @@
-//! Objects in memory that never fail: each tells its content, and its count of faults is always 0.
-ghost use Rattle.std.specs.Prelude.{◌≡◌, List, ℕ, ◌≤◌, [], drop, Some, vec_len, IsOk};
+//! Objects in memory without faults: each tells its content, and its count of faults is always 0.
+ghost use Rattle.std.specs.Prelude.{◌≡◌, List, ℕ, ◌≤◌, min, [], drop, length, Some, vec_len, IfOk, IsOk, IsOkAnd};
+ghost use Rattle.std.specs.Io.KnownBytes.{ReadConsumes, WriteAppends};
+ghost use Rattle.wu_outside.specs.Faults.{HasFaultCause};
 
 use crate::traits::{Failed, Fault, Sink, Source, Store};
 use std::alloc::Global;
@@ -34,7 +36,11 @@ impl Source for PlainSource {
 
     ghost faults = { λ _. 0 };
 
-    fn read(&mut self, buf: &mut [u8]) -> Result<usize, Failed> {
+    /// Gives as many of the bytes as are left and have room.
+    fn read(&mut self, buf: &mut [u8]) -> Result<usize, Failed>
+        ensures bytes { ReadConsumes (Some self.old) (Some self.new) result buf.new }
+        ensures all_that_fits { IsOkAnd result (λ n. n ≡ min (length self.old) (length buf.new)) }
+    {
         let rest = &self.bytes[self.at..];
         let count = rest.len().min(buf.len());
         buf[..count].copy_from_slice(&rest[..count]);
@@ -78,7 +84,12 @@ impl Sink for PlainSink {
 
     ghost faults = { λ _. 0 };
 
-    fn write(&mut self, piece: &[u8]) -> Result<usize, Fault> {
+    /// Takes the whole piece, or wants memory.
+    fn write(&mut self, piece: &[u8]) -> Result<usize, Fault>
+        ensures bytes { WriteAppends (Some self.old) (Some self.new) result piece.now }
+        ensures cause { HasFaultCause 0 0 result }
+        ensures whole { IfOk result (λ n. n ≡ length piece.now) }
+    {
         self.bytes.extend_from_slice(piece)?;
         Ok(piece.len())
     }
@@ -91,10 +102,8 @@ pub struct PlainStore {
 }
 
 impl PlainStore {
-    /// An empty store.
-    pub fn new(alloc: Global) -> PlainStore
-        ensures { ⟦<PlainStore as Store>⟧.faults result ≡ 0 }
-    {
+    /// An empty store. Takes no memory.
+    pub fn new(alloc: Global) -> PlainStore {
         PlainStore { allocator: alloc }
     }
 }
@@ -102,7 +111,10 @@ impl PlainStore {
 impl Store for PlainStore {
     ghost faults = { λ _. 0 };
 
-    fn sync(&mut self) -> Result<(), Fault> {
+    /// There is nothing to be kept, so nothing fails.
+    fn sync(&mut self) -> Result<(), Fault>
+        ensures { IsOk result }
+    {
         Ok(())
     }
 }

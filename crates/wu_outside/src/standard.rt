@@ -1,6 +1,7 @@
 //! The standard streams: the trusted edge. Each counts its errors, and tells nothing of its content,
 //! since no contract can say what a file or a terminal gives or takes.
-ghost use Rattle.std.specs.Prelude.{◌≡◌, None, IsOkAnd};
+ghost use Rattle.std.specs.Prelude.{◌≡◌, ◌≤◌, ◌<◌, length, None, IfOk, IfErr, IsOkAnd, MatchResult};
+ghost use Rattle.wu_outside.specs.Faults.{HasCause, HasFaultCause, CountsFault};
 
 use crate::traits::{Failed, Fault, Sink, Source};
 use std::io::{Read, Stdin, Stdout, Write};
@@ -28,7 +29,13 @@ impl Source for StdIn {
 
     ghost faults = { λ s. s.faults };
 
-    fn read(&mut self, buf: &mut [u8]) -> Result<usize, Failed> {
+    fn read(&mut self, buf: &mut [u8]) -> Result<usize, Failed>
+        ensures within { IfOk result (λ n. n ≤ length buf.new) }
+        ensures cause { HasCause self.old.faults self.new.faults result }
+        ensures counted { MatchResult result
+            (λ _. self.new.faults ≡ self.old.faults)
+            (λ _. CountsFault self.old.faults self.new.faults) }
+    {
         match self.stdin.read(buf) {
             Ok(count) => Ok(count),
             Err(_) => {
@@ -61,7 +68,15 @@ impl Sink for StdOut {
 
     ghost faults = { λ s. s.faults };
 
-    fn write(&mut self, piece: &[u8]) -> Result<usize, Fault> {
+    fn write(&mut self, piece: &[u8]) -> Result<usize, Fault>
+        ensures within { IfOk result (λ n. n ≤ length piece.now) }
+        ensures cause { HasFaultCause self.old.faults self.new.faults result }
+        ensures taken { IfOk result
+            (λ n. 0 < n → self.new.faults ≡ self.old.faults) }
+        ensures nothing_taken { result ≡ Ok 0 → CountsFault self.old.faults self.new.faults }
+        ensures failed { IfErr result
+            (λ fault. (fault ≡ Fault.Failed) × CountsFault self.old.faults self.new.faults) }
+    {
         match self.stdout.write(piece) {
             Ok(0) => {
                 self.faults = self.faults.saturating_add(1);

@@ -64,8 +64,8 @@ pub record Counted (extent : Extent) (xs : List ℕ) (n : ℕ) : Type 0 where
 abbrev pub EndsBefore : List ℕ → ℕ → ℕ → Type 0
 EndsBefore xs start i = IsPartitionPoint (λ x. ltb x start ≡ true) (λ x. ltb x start ≡ false) xs i
 
-abbrev pub EndsUpto : List ℕ → ℕ → ℕ → Type 0
-EndsUpto xs end j = IsPartitionPoint (λ x. leb x end ≡ true) (λ x. leb x end ≡ false) xs j
+abbrev pub EndsUpTo : List ℕ → ℕ → ℕ → Type 0
+EndsUpTo xs end j = IsPartitionPoint (λ x. leb x end ≡ true) (λ x. leb x end ≡ false) xs j
 
 lies-before : (e : Extent) (x : ℕ) → x < e.start → lies_in e x ≡ false
 lies-before e x h = rw (lt-leb e.start x h) refl
@@ -76,14 +76,14 @@ lies-within e x h l = rw (le-leb e.start x h, le-leb x e.end l) refl
 lies-after : (e : Extent) (x : ℕ) → e.end < x → lies_in e x ≡ false
 lies-after e x h = rw (lt-leb x e.end h) (and-false (leb e.start x))
 
-between_points : (e : Extent) (xs : List ℕ) (i j : ℕ) → EndsBefore xs e.start i → EndsUpto xs e.end j → HoldsBetween (lies_in e) xs i j
+between_points : (e : Extent) (xs : List ℕ) (i j : ℕ) → EndsBefore xs e.start i → EndsUpTo xs e.end j → HoldsBetween (lies_in e) xs i j
 between_points e xs i j low high = record {
   before = λ k d l m. lies-before e (get_or xs k d) (ltb-true _ _ (low.0 k d (omega arith) m));
   between = λ k d l m n. lies-within e (get_or xs k d) (ltb-false _ _ (low.1 k d m l)) (leb-true _ _ (high.0 k d (omega arith) n));
   after = λ k d l m. lies-after e (get_or xs k d) (leb-false _ _ (high.1 k d m l));
 }
 
-span-le : (e : Extent) (xs : List ℕ) (i j : ℕ) → IsStrictlyIncreasing xs → j ≤ length xs → EndsBefore xs e.start i → EndsUpto xs e.end j → i < j → j - i ≤ length_of e
+span-le : (e : Extent) (xs : List ℕ) (i j : ℕ) → IsStrictlyIncreasing xs → j ≤ length xs → EndsBefore xs e.start i → EndsUpTo xs e.end j → i < j → j - i ≤ length_of e
 span-le e xs i j up l low high h =
     let first : e.start ≤ get_or xs i 0 = ltb-false _ _ (low.1 i 0 (omega arith) (omega arith)) in
     let last : get_or xs (j - 1) 0 ≤ e.end = leb-true _ _ (high.0 (j - 1) 0 (omega arith) (omega arith)) in
@@ -92,7 +92,7 @@ span-le e xs i j up l low high h =
     let s : get_or xs i 0 + (j - 1 - i) ≤ get_or xs (j - 1) 0 = subst (λ (k : ℕ). get_or xs i 0 + (j - 1 - i) ≤ get_or xs k 0) eq r in
     omega arith
 
-pub counted : (e : Extent) (xs : List ℕ) (i j : ℕ) → IsStrictlyIncreasing xs → j ≤ length xs → EndsBefore xs e.start i → EndsUpto xs e.end j → Counted e xs (j - i)
+pub counted : (e : Extent) (xs : List ℕ) (i j : ℕ) → IsStrictlyIncreasing xs → j ≤ length xs → EndsBefore xs e.start i → EndsUpTo xs e.end j → Counted e xs (j - i)
 unfolding frequency
 counted e xs i j up l low high = record {
   value = sym (count-between (lies_in e) xs i j l (between_points e xs i j low high));

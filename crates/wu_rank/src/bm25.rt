@@ -3,8 +3,9 @@ ghost use Rattle.std.specs.Prelude.{◌≡◌, ℕ, ◌+◌, ◌*◌, ◌/◌, �
 ghost use Rattle.wu_rank.specs.Bm25.{weigh, InRange, IsWeigher};
 
 /// The BM25 weight of a word in a unit, with k1 = 1.2 and b = 0.75, in units of 1/65536 and
-/// rounded down. `idf` is the word's inverse document frequency in those units, `f` how often
-/// the unit holds it, `l` the unit's length, `n` the number of units and `t` their summed length.
+/// rounded down. `idf` is the word's inverse document frequency in those units, at most 2^22, `f`
+/// how often the unit holds it, at most `l`, `l` the unit's length, below 2^26, `n` the number of
+/// units, from 1 to 2^47, and `t` their summed length, at least 1 and below 2^73.
 pub fn bm25_weigh(idf: u32, f: u64, l: u64, n: u64, t: u128) -> u64
     requires range { InRange idf f l }
     requires some_units { 1 ≤ n }

@@ -19,7 +19,8 @@ pub(crate) fn extent_length(extent: Extent) -> u64
     }
 }
 
-/// The summed length of the units, each shorter than 2^26. Takes no memory.
+/// The summed length of the units, in addresses; each unit is shorter than 2^26. Over no units it is
+/// 0. Takes no memory.
 pub fn summed_length(units: &[Unit]) -> u128
     requires { All (λ unit. length_of unit.extent < 2 ^ 26) units.now }
     ensures { result ≡ total_length units.now }
@@ -31,15 +32,15 @@ pub fn summed_length(units: &[Unit]) -> u128
     sum
 }
 
-/// How many of the ascending `addresses` the extent has.
+/// How many of the ascending `addresses` the extent has, by two binary searches.
 pub(crate) fn count_in(extent: Extent, addresses: &[u64]) -> u64
     requires { IsStrictlyIncreasing addresses.now }
     ensures value { result ≡ frequency extent addresses.now }
     ensures within { result ≤ length_of extent }
 {
-    let before = addresses.partition_point(|address| *address < extent.start);
-    let upto = addresses.partition_point(|address| *address <= extent.end);
-    upto.saturating_sub(before) as u64
+    let before_start = addresses.partition_point(|address| *address < extent.start);
+    let up_to_end = addresses.partition_point(|address| *address <= extent.end);
+    up_to_end.saturating_sub(before_start) as u64
 }
 
 /// How many of the units have one of the ascending `addresses`.
@@ -57,7 +58,8 @@ fn count_holders(units: &[Unit], addresses: &[u64]) -> u64
     held
 }
 
-/// The inverse document frequency of the word that stands at the ascending `addresses`.
+/// The inverse document frequency of the word that stands at the ascending `addresses`, in units of
+/// 1/65536, and 0 for a word that no unit holds.
 pub(crate) fn inverse_frequency(units: &[Unit], addresses: &[u64]) -> u32
     requires { IsStrictlyIncreasing addresses.now }
     ensures value { result ≡ idf_of units.now addresses.now }

@@ -1,16 +1,18 @@
 //! What is ranked, and what a ranking answers.
 use wu_base::{Extent, Sequence};
 
-/// A unit that may be listed: an extent, and the place of its file among the files seen.
+/// A unit that may be listed.
 #[derive(Clone, Copy, Debug, PartialEq, Eq)]
 pub struct Unit {
     pub extent: Extent,
+    /// The place of its file among the files that the user sees, from 0.
     pub place: u32,
 }
 
-/// A listed unit and its score, in units of 1/65536.
+/// A listed unit and its score.
 #[derive(Clone, Copy, Debug, PartialEq, Eq)]
 pub struct Ranked {
+    /// In units of 1/65536.
     pub score: u64,
     pub unit: Unit,
 }
@@ -18,6 +20,8 @@ pub struct Ranked {
 /// How many units are listed, and the best of them, the best first.
 #[derive(Clone, Debug, PartialEq, Eq, Drop)]
 pub struct Ranking {
+    /// How many units hold a query word.
     pub listed: u64,
+    /// The first of them, at most as many as were asked for.
     pub top: Sequence<Ranked>,
 }

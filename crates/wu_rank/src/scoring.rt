@@ -84,11 +84,13 @@ fn score_all<F: Fn(u32, u64, u64) -> u64>(
 }
 
 /// The number of units that hold a query word, and the first `k` of them: by score, falling, then
-/// by place, then by start. A score is the sum of the weights of the query's words, and a word
-/// that no unit holds adds nothing. The lists have the ascending addresses of each of the words,
-/// of a repeated one as often as the query has it. Over no units nothing is listed.
+/// by place, then by start. A score is the sum of the BM25 weights of the query's words, each in
+/// units of 1/65536 and rounded down, and a word that no unit holds adds nothing. The lists, at most
+/// 64, have the ascending addresses of each of the words, of a repeated one as often as the query
+/// has it. Each unit is shorter than 2^26. Over no units nothing is listed.
 ///
-/// It takes two binary searches for each unit and word, and sorts only the first `k`.
+/// It takes four binary searches for each unit and word, two to tell which units hold the word and
+/// two to weigh it there, and sorts only the first `k`.
 pub fn rank<F: Fn(u32, u64, u64) -> u64>(
     alloc: Global,
     units: &[Unit],

@@ -18,11 +18,12 @@ pub const LINE_START: &[u8] = b"<line>";
 /// The term of a place where a line ends.
 pub const LINE_END: &[u8] = b"</line>";
 
-/// A term of a text, and the place of its bytes there: from `start` on, up to but without `end`.
-/// A tag takes no byte, so its `end` is its `start`. A word takes the bytes of its whole run, also
-/// those that don't count.
+/// A term of a text, and the place of its bytes there: from `start` on, up to but without `end`,
+/// both counted in bytes from the text's first, which is 0. A tag takes no byte, so its `end` is
+/// its `start`. A word takes the bytes of its whole run, also those that don't count.
 #[derive(Clone, Debug, PartialEq, Eq, Drop)]
 pub struct Token {
+    /// From 1 to [`WORD_MAX`] bytes.
     pub term: Bytes,
     pub start: u32,
     pub end: u32,
@@ -58,7 +59,7 @@ impl Token {
     }
 }
 
-/// The word of a run.
+/// The word of a run: its first [`WORD_MAX`] bytes, with ASCII letters in lower case.
 pub fn word_of_run(alloc: Global, run: &[u8]) -> Result<Bytes, NoMemory>
     ensures { IfOk result (λ word. word ≡ word_of run.now) }
 {

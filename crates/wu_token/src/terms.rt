@@ -40,7 +40,8 @@ fn push_line(alloc: Global, tokens: &mut Vec<Token>, line: Piece) -> Result<(), 
 
 /// The tokens of a text of at most [`TEXT_MAX`] bytes, in order, with their places: `<file>`, then
 /// for each line `<line>`, its words and `</line>`, last `</file>`. Lines end at LF. What follows
-/// the last LF is a line only if it has bytes, so the empty text has no line.
+/// the last LF is a line only if it has bytes, so the empty text has no line. A text of n bytes has
+/// at most 3n + 2 tokens.
 pub fn tokens(alloc: Global, text: &[u8]) -> Result<Vec<Token>, NoMemory>
     requires { length text.now ≤ TEXT_MAX }
     ensures tokens { IfOk result (λ v. v.items ≡ placed_tokens_of text.now) }

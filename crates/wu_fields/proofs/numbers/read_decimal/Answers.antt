@@ -30,4 +30,4 @@ printed field max (Some n) small some plain e =
 pub returns-clause-spelled : goal.returns-clause-spelled
 returns-clause-spelled c =
     let unpadded = c.if-is_padded.ensures in
-    printed c.args.field.now c.args.max _ (omega arith) unpadded.0 unpadded.1 c.number_up_to.ensures
+    printed c.args.field.now c.args.max _ (omega arith) unpadded.0 unpadded.1 c.number_up_to.ensures.value

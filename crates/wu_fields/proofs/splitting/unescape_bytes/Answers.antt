@@ -1,7 +1,7 @@
-use Rattle.std.proofs.Common.{◌+◌, drop, true, false, sym, ◌∙◌, arith, ap}
-use Rattle.wu_fields.specs.Fields.{unescaped, unescaped_after}
+use Rattle.std.proofs.Common.{◌+◌, ◌∷◌, drop, true, false, Some, sym, ◌∙◌, arith, ap}
+use Rattle.wu_fields.specs.Fields.{unescaped}
 use Rattle.std.proofs.lemmas.List.{at_drop_all}
-use Rattle.wu_fields.proofs.FieldLemmas.{onto, onto-step, onto_nil, onto_absent, onto_none, unescaped-letter, unescaped-fault, unescaped-backslash, unescaped-plain}
+use Rattle.wu_fields.proofs.FieldLemmas.{onto, onto-step, onto-end, onto_nil, onto_absent, onto_none, unescaped-letter, unescaped-fault, unescaped-backslash, unescaped-plain}
 use Rattle.wu_fields.proofs.splitting.unescape_bytes.Goals as goal
 use Rattle.wu_fields.proofs.splitting.unescape_bytes.Goals.{then-after_backslash+in-Some+in_ok-push-in-Some, else-after_backslash+then-byte-eq92, else-after_backslash+else-byte-eq92+in_ok-push}
 
@@ -9,10 +9,10 @@ pub loop-byte-init : goal.loop-byte-init
 loop-byte-init c = rw c.in_ok-field.ensures.items (sym (onto_none _))
 
 pub returns-in-None : goal.returns-in-None
-unfolding unescaped
 returns-in-None c =
-    let fault = unescaped-fault c.loop-byte.field.items c.args.written.now c.loop-byte.byte-index c.loop-byte-test.true (sym c.in-None.ensures) in
-    cc (c.loop-byte.invariant, c.if-after_backslash.true)
+    let read = c.loop-byte.field.items in
+    let fault = unescaped-fault read c.args.written.now c.loop-byte.byte-index c.loop-byte-test.true (sym c.in-None.ensures) in
+    sym (onto-end _ _ read _ true _ c.loop-byte.invariant c.if-after_backslash.true fault)
 
 pub loop-byte-preserved : goal.loop-byte-preserved
 loop-byte-preserved c =
@@ -33,13 +33,13 @@ loop-byte-preserved c =
     ]
 
 pub returns-then-after_backslash-2 : goal.returns-then-after_backslash-2
-unfolding unescaped
 returns-then-after_backslash-2 c =
-    let over = at_drop_all (λ w. onto c.loop-byte.field.items (unescaped_after true w)) c.args.written.now c.loop-byte.byte-index (omega arith) in
-    cc (c.loop-byte.invariant, c.if-after_backslash-2.true, onto_absent c.loop-byte.field.items)
+    let read = c.loop-byte.field.items in
+    let over = at_drop_all (λ w. onto read (unescaped (92 ∷ w))) c.args.written.now c.loop-byte.byte-index (omega arith) in
+    sym (onto-end _ _ read _ true _ c.loop-byte.invariant c.if-after_backslash-2.true (over ∙ onto_absent read))
 
 pub returns : goal.returns
-unfolding unescaped
 returns c =
-    let over = at_drop_all (λ w. onto c.loop-byte.field.items (unescaped_after false w)) c.args.written.now c.loop-byte.byte-index (omega arith) in
-    cc (c.loop-byte.invariant, c.if-after_backslash-2.false, onto_nil c.loop-byte.field.items, c.from.ensures)
+    let read = c.loop-byte.field.items in
+    let over = at_drop_all (λ w. onto read (unescaped w)) c.args.written.now c.loop-byte.byte-index (omega arith) in
+    ap Some c.from.ensures ∙ sym (onto-end _ _ read _ false _ c.loop-byte.invariant c.if-after_backslash-2.false (over ∙ onto_nil read))

@@ -1,4 +1,4 @@
-use Rattle.std.proofs.Common.{◌+◌, arith, rules}
+use Rattle.std.proofs.Common.{◌+◌, rules}
 use Rattle.std.proofs.KnownBytes.{Appends-kept}
 use Rattle.wu_outside.proofs.Sending.{sent_more, GainsPrefix-place}
 use Rattle.wu_outside.proofs.writing.write_all.Goals as goal

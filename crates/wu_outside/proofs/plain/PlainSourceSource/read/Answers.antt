@@ -1,5 +1,5 @@
-use Rattle.std.proofs.Common.{arith, ◌∙◌, ◌≡◌, ◌≤◌, sym, length, drop, ap, ◌+◌}
-use Rattle.std.proofs.lemmas.List.{nil_from_length, length-drop, length-take, length-append}
+use Rattle.std.proofs.Common.{arith, ◌∙◌, sym, drop, ◌+◌}
+use Rattle.std.proofs.lemmas.List.{nil_from_length}
 use Rattle.std.proofs.lemmas.Grind.{common_steps}
 use Rattle.wu_outside.proofs.Reading.{taken_from_rest}
 use Rattle.wu_outside.proofs.plain.PlainSourceSource.read.Goals as goal
