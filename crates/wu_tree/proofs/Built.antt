@@ -17,12 +17,12 @@ use Rattle.wu_tree.specs.declared.inodes.Inode.{Inode}
 use Rattle.wu_tree.specs.declared.tallies.Hung.{Hung}
 use Rattle.wu_tree.specs.FileSystems.{FileSystem, Link, place_cmp, is_directory, is_there, is_name}
 use Rattle.wu_tree.specs.Inodes.{nodes_in, users_in, kind_of, file_system, IsHeld, IsSound}
-use Rattle.wu_tree.specs.Lists.{ascends, below, child_test, hangs_test, hold_of, hung_of, inode_of, link_of, link_test, listed, number_test, order_test, place_test, user_of}
+use Rattle.wu_tree.specs.Lists.{ascends, below, child_test, hold_of, hung_of, inode_of, link_of, link_test, linked_test, listed, number_test, order_test, place_test, reached_test, user_of}
 use Rattle.wu_tree.specs.Rules.{IsLink, IsNumbered, Hangs, IsTree}
 use Rattle.wu_tree.proofs.Entries.{All-map}
 use Rattle.wu_tree.proofs.Downs.{both, and_true}
 use Rattle.wu_tree.proofs.Listed.{Decides, decided_yes, decided_no, decides_both, decides_all, decides_ascends, all_mapped}
-use Rattle.wu_tree.proofs.Reached.{hang_from_test, test_from_hang, each_held}
+use Rattle.wu_tree.proofs.Reached.{hang_from_tests, links_from_hang, walk_from_hang, each_held}
 
 pub true_false : true ≡ false → ⊥
 true_false h = cc
@@ -160,22 +160,32 @@ module _ (g : ℕ → Option Hung) where
         ∙ ap (λ (u : List (ℕ × List ℕ)). record { nodes = nodes; links = map link_of links; users = u }) (users_back users)
 
     module _ (told : (ino : ℕ) → g ino ≡ hung_of (map link_of links) ino) where
+      -- how many links each node has, as g tells it
+      abbrev pub links_told : Bool
+      links_told = list_all (λ (node : ℕ × Node). linked_test node.0 node.1.kind (g node.0)) nodes
+
+      -- whether each directory stands in a set
+      abbrev pub reached_in : List ℕ → Bool
+      reached_in keys = list_all (λ (node : ℕ × Node). reached_test node.1.kind (list_any (is_at (nat_cmp node.0)) keys)) nodes
+
+      links_are_told : links_told ≡ list_all (λ (node : ℕ × Node). linked_test node.0 node.1.kind (hung_of bare.links node.0)) nodes
+      links_are_told = same_tests _ _ nodes (λ node. ap (λ (o : Option Hung). linked_test node.0 node.1.kind o) (told node.0))
+
       abbrev walked : List ℕ
       walked = walked_by nodes (map link_of links)
 
-      pub hang_tests : list_all (λ (node : ℕ × Node). hangs_test node.0 node.1.kind (g node.0) (list_any (is_at (nat_cmp node.0)) walked)) nodes
-          ≡ list_all (λ (node : ℕ × Node). hangs_test node.0 node.1.kind (hung_of bare.links node.0) (list_any (is_at (nat_cmp node.0)) (fold (insert_key nat_cmp) [] (below bare 255 1)))) nodes
-      hang_tests =
-          ap (λ (n : List (ℕ × Node)). list_all (λ (node : ℕ × Node). hangs_test node.0 node.1.kind (g node.0) (list_any (is_at (nat_cmp node.0)) (fold (insert_key nat_cmp) [] (below (record { nodes = n; links = map link_of links; users = [] }) 255 1)))) nodes) (nodes_back nodes)
-          ∙ same_tests _ _ nodes (λ node. ap (λ (o : Option Hung). hangs_test node.0 node.1.kind o (list_any (is_at (nat_cmp node.0)) (fold (insert_key nat_cmp) [] (below bare 255 1)))) (told node.0))
+      walk_is : reached_in walked ≡ reached_in (fold (insert_key nat_cmp) [] (below bare 255 1))
+      walk_is = ap (λ (n : List (ℕ × Node)). reached_in (fold (insert_key nat_cmp) [] (below (record { nodes = n; links = map link_of links; users = [] }) 255 1))) (nodes_back nodes)
 
-      pub tree_hangs : IsTree fs → list_all (λ (node : ℕ × Node). hangs_test node.0 node.1.kind (g node.0) (list_any (is_at (nat_cmp node.0)) walked)) nodes ≡ true
-      tree_hangs t = hang_tests ∙ test_from_hang bare (bare_links t.links) t.nodes_ascend t.nodes
+      pub no_linked : links_told ≡ false → IsTree fs → ⊥
+      no_linked h t = true_false (sym (links_are_told ∙ links_from_hang bare (bare_links t.links) t.nodes_ascend t.nodes) ∙ h)
 
-      module _ (order : Order nodes links users) (placed : Placed)
-          (hang : list_all (λ (node : ℕ × Node). hangs_test node.0 node.1.kind (g node.0) (list_any (is_at (nat_cmp node.0)) walked)) nodes ≡ true) where
+      tree_reached : IsTree fs → reached_in walked ≡ true
+      tree_reached t = walk_is ∙ walk_from_hang bare (bare_links t.links) t.nodes_ascend t.nodes
+
+      module _ (order : Order nodes links users) (placed : Placed) (linked : links_told ≡ true) (reach : reached_in walked ≡ true) where
         each_hangs : AllByRecursion (λ e. Hangs fs.links e.0 e.1.kind) nodes
-        each_hangs = hang_from_test bare (bare_links placed.1) order.0.0.0.0 (sym hang_tests ∙ hang)
+        each_hangs = hang_from_tests bare (bare_links placed.1) order.0.0.0.0 (sym links_are_told ∙ linked) (sym walk_is ∙ reach)
 
         pub built_tree : IsTree fs
         built_tree = record {
@@ -201,9 +211,6 @@ module _ (g : ℕ → Option Hung) where
         }
 
       -- the same of the maps that the code makes
-      abbrev hang_with : List ℕ → Bool
-      hang_with keys = list_all (λ (node : ℕ × Node). hangs_test node.0 node.1.kind (g node.0) (list_any (is_at (nat_cmp node.0)) keys)) nodes
-
       module _ (inodes : List (ℕ × Inode)) (kept : List Link) (start keys : List ℕ) (i : inodes ≡ map entry nodes) (k : kept ≡ map link_of links) (n : start ≡ [])
           (w : keys ≡ fold (insert_key nat_cmp) start (below (file_system inodes kept []) 255 1)) where
         keys_are : keys ≡ walked
@@ -211,15 +218,15 @@ module _ (g : ℕ → Option Hung) where
             w ∙ ap (λ (ks : List ℕ). fold (insert_key nat_cmp) ks (below (file_system inodes kept []) 255 1)) n
             ∙ ap (λ (es : List (ℕ × Inode)). fold (insert_key nat_cmp) [] (below (file_system es kept []) 255 1)) i ∙ ap (λ (l : List Link). walked_by nodes l) k
 
-        pub no_hang : hang_with keys ≡ false → IsTree fs → ⊥
-        no_hang h t = true_false (sym (ap hang_with keys_are ∙ tree_hangs t) ∙ h)
+        pub no_reach : reached_in keys ≡ false → IsTree fs → ⊥
+        no_reach h t = true_false (sym (ap reached_in keys_are ∙ tree_reached t) ∙ h)
 
-        module _ (order : order_test nodes links users ≡ true) (placed : place_test (file_system inodes [] []) links ≡ true) (hang : hang_with keys ≡ true) where
+        module _ (order : order_test nodes links users ≡ true) (placed : place_test (file_system inodes [] []) links ≡ true) (linked : links_told ≡ true) (reach : reached_in keys ≡ true) where
           placed_so : Placed
           placed_so = placed_from_test (ap (λ (es : List (ℕ × Inode)). place_test (file_system es [] []) links) (sym i) ∙ placed)
 
           pub made_tree : IsTree fs
-          made_tree = built_tree (in_order nodes links users order) placed_so (ap hang_with (sym keys_are) ∙ hang)
+          made_tree = built_tree (in_order nodes links users order) placed_so linked (ap reached_in (sym keys_are) ∙ reach)
 
           pub made_sound : IsSound (map entry nodes) (map link_of links) (map (λ (u : UserRec). (u.uid, u)) users)
-          made_sound = built_sound (in_order nodes links users order) placed_so (ap hang_with (sym keys_are) ∙ hang)
+          made_sound = built_sound (in_order nodes links users order) placed_so linked (ap reached_in (sym keys_are) ∙ reach)

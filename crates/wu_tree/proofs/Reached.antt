@@ -15,7 +15,7 @@ use Rattle.wu_tree.specs.declared.events.Kind.TheVariants.{Directory, File}
 use Rattle.wu_tree.specs.declared.events.Node.{Node}
 use Rattle.wu_tree.specs.FileSystems.{FileSystem, Link, is_directory, is_directory_node, is_kind_file, node_of, is_within, link_count, parent_of, ancestors, entries_of}
 use Rattle.wu_tree.specs.Paths.{children_of}
-use Rattle.wu_tree.specs.Lists.{hung_by, hung_of, one_more, below, hold_of, hangs_test, hung_once, is_hung}
+use Rattle.wu_tree.specs.Lists.{hung_by, hung_of, one_more, below, hold_of, hung_once, is_hung, linked_test, reached_test}
 use Rattle.wu_tree.specs.Inodes.{IsHeld}
 use Rattle.wu_tree.specs.Rules.{IsLink, Hangs}
 use Rattle.wu_tree.proofs.Entries.{number_itself, all_found, All-map, All-map2}
@@ -261,51 +261,64 @@ is_held links ino File h =
     ] refl
 
 module _ (fs : FileSystem) (a : AllByRecursion (IsLink fs) fs.links) (s : IsStrictlySortedBy nat_cmp (keys_of fs.nodes)) where
-  abbrev pub hang_test : ℕ × Node → Bool
-  hang_test e = hangs_test e.0 e.1.kind (hung_of fs.links e.0) (list_any (is_at (nat_cmp e.0)) (fold (insert_key nat_cmp) [] (below fs 255 1)))
+  -- what each node is tested by
+  abbrev pub links_tested : ℕ × Node → Bool
+  links_tested e = linked_test e.0 e.1.kind (hung_of fs.links e.0)
+
+  abbrev pub walk_meets : ℕ → Bool
+  walk_meets ino = list_any (is_at (nat_cmp ino)) (fold (insert_key nat_cmp) [] (below fs 255 1))
+
+  abbrev pub walk_tested : ℕ × Node → Bool
+  walk_tested e = reached_test e.1.kind (walk_meets e.0)
 
   here : (e : ℕ × Node) → node_of fs e.0 ≡ Some e.1 → not (is_kind_file e.1.kind) ≡ true → is_directory fs e.0 ≡ true
   here e f k = ap is_directory_node f ∙ k
 
-  tested : list_all hang_test fs.nodes ≡ true → AllByRecursion (λ e. hang_test e ≡ true) fs.nodes
-  tested h = all_tested hang_test fs.nodes h
-
-  once_tested : AllByRecursion (λ e. hang_test e ≡ true) fs.nodes → (q : ℕ) → is_directory fs q ≡ true → q ≢ 1 → link_count fs.links q ≡ 1
+  once_tested : AllByRecursion (λ e. links_tested e ≡ true) fs.nodes → (q : ℕ) → is_directory fs q ≡ true → q ≢ 1 → link_count fs.links q ≡ 1
   once_tested h q k n =
       let d = directory_found (node_of fs q) k in
-      let t : hang_test (q, d.0) ≡ true = all_has (λ e. hang_test e ≡ true) (q, d.0) fs.nodes h (found_has q d.0 fs.nodes d.1) in
+      let t : links_tested (q, d.0) ≡ true = all_has (λ e. links_tested e ≡ true) (q, d.0) fs.nodes h (found_has q d.0 fs.nodes d.1) in
       by_kind d.0.kind d.2 t
     where
-      by_kind : (k : Kind) → not (is_kind_file k) ≡ true → hangs_test q k (hung_of fs.links q) (list_any (is_at (nat_cmp q)) (fold (insert_key nat_cmp) [] (below fs 255 1))) ≡ true → link_count fs.links q ≡ 1
-      by_kind Directory f t = once_is fs.links q (both (hung_once (hung_of fs.links q)) _ (⊎_elim (λ e. absurd (n (eqb-true q 1 e))) (λ g. g) (either (q == 1) _ t))).0
+      by_kind : (k : Kind) → not (is_kind_file k) ≡ true → linked_test q k (hung_of fs.links q) ≡ true → link_count fs.links q ≡ 1
+      by_kind Directory f t = once_is fs.links q (⊎_elim (λ e. absurd (n (eqb-true q 1 e))) (λ g. g) (either (q == 1) _ t))
       by_kind File f t = absurd cc
 
-  -- each hangs where the test of each succeeds, and the other way
-  pub hang_from_test : list_all hang_test fs.nodes ≡ true → AllByRecursion (λ e. Hangs fs.links e.0 e.1.kind) fs.nodes
-  hang_from_test h =
-      let t = tested h in
-      All-map2 (λ e. hang_test e ≡ true) (λ e. node_of fs e.0 ≡ Some e.1) (λ e. Hangs fs.links e.0 e.1.kind) fs.nodes (λ e f g. by_kind (once_tested t) e.0 e.1.kind (here e f) g) (all_found fs.nodes s) t
+  -- each node hangs where both tests of each succeed, and the other way
+  pub hang_from_tests : list_all links_tested fs.nodes ≡ true → list_all walk_tested fs.nodes ≡ true → AllByRecursion (λ e. Hangs fs.links e.0 e.1.kind) fs.nodes
+  hang_from_tests h w =
+      let t = all_tested links_tested fs.nodes h in
+      let found : AllByRecursion (λ (e : ℕ × Node). (node_of fs e.0 ≡ Some e.1) × (walk_tested e ≡ true)) fs.nodes =
+      All-map2 (λ e. walk_tested e ≡ true) (λ e. node_of fs e.0 ≡ Some e.1) (λ e. (node_of fs e.0 ≡ Some e.1) × (walk_tested e ≡ true)) fs.nodes (λ e f g. (f, g)) (all_found fs.nodes s) (all_tested walk_tested fs.nodes w) in
+      All-map2 (λ e. links_tested e ≡ true) (λ e. (node_of fs e.0 ≡ Some e.1) × (walk_tested e ≡ true)) (λ e. Hangs fs.links e.0 e.1.kind) fs.nodes (λ e f g. by_kind (once_tested t) e.0 e.1.kind (here e f.0) g f.1) found t
     where
       by_kind : ((q : ℕ) → is_directory fs q ≡ true → q ≢ 1 → link_count fs.links q ≡ 1) → (q : ℕ) (k : Kind) → (not (is_kind_file k) ≡ true → is_directory fs q ≡ true)
-          → hangs_test q k (hung_of fs.links q) (list_any (is_at (nat_cmp q)) (fold (insert_key nat_cmp) [] (below fs 255 1))) ≡ true → Hangs fs.links q k
-      by_kind once q Directory f t =
-          ⊎_elim (λ e. inl (eqb-true q 1 e))
-          (λ g. let b = both (hung_once (hung_of fs.links q)) _ g in inr (once_is fs.links q b.0, sym (reached_any (below fs 255 1) [] q ∙ reached_is_within fs a once q (f refl)) ∙ b.1))
-          (either (q == 1) _ t)
-      by_kind once q File f t = hung_is fs.links q t
+          → linked_test q k (hung_of fs.links q) ≡ true → reached_test k (walk_meets q) ≡ true → Hangs fs.links q k
+      by_kind once q Directory f t r =
+          ⊎_elim (λ e. inl (eqb-true q 1 e)) (λ g. inr (once_is fs.links q g, sym (reached_any (below fs 255 1) [] q ∙ reached_is_within fs a once q (f refl)) ∙ r)) (either (q == 1) _ t)
+      by_kind once q File f t r = hung_is fs.links q t
 
-  pub test_from_hang : AllByRecursion (λ e. Hangs fs.links e.0 e.1.kind) fs.nodes → list_all hang_test fs.nodes ≡ true
-  test_from_hang h =
-      tested_all hang_test fs.nodes
-      (All-map2 (λ e. Hangs fs.links e.0 e.1.kind) (λ e. node_of fs e.0 ≡ Some e.1) (λ e. hang_test e ≡ true) fs.nodes (λ e f g. by_kind (linked_once fs h) e.0 e.1.kind (here e f) g) (all_found fs.nodes s) h)
+  pub links_from_hang : AllByRecursion (λ e. Hangs fs.links e.0 e.1.kind) fs.nodes → list_all links_tested fs.nodes ≡ true
+  links_from_hang h = tested_all links_tested fs.nodes (All-map (λ e. Hangs fs.links e.0 e.1.kind) (λ e. links_tested e ≡ true) fs.nodes (λ e g. by_kind e.0 e.1.kind g) h)
+    where
+      by_kind : (q : ℕ) (k : Kind) → Hangs fs.links q k → linked_test q k (hung_of fs.links q) ≡ true
+      by_kind q Directory t = ⊎_elim (λ e. rw (eq-eqb q 1 e) refl) (λ g. or_right (q == 1) _ (is_once fs.links q g.0)) t
+      by_kind q File t = let p = some_parent fs.links q t in ap (λ o. is_hung (hung_by (link_count fs.links q) o)) p.1
+
+  -- the walk begins at the root
+  root_met : walk_meets 1 ≡ true
+  root_met = reached_any (below fs 255 1) [] 1 ∙ has_any (λ x. x == 1) 1 (below fs 255 1) (to_more_levels fs 1 255 1 1 (omega arith) (one_level fs 1)) refl
+
+  pub walk_from_hang : AllByRecursion (λ e. Hangs fs.links e.0 e.1.kind) fs.nodes → list_all walk_tested fs.nodes ≡ true
+  walk_from_hang h =
+      tested_all walk_tested fs.nodes
+      (All-map2 (λ e. Hangs fs.links e.0 e.1.kind) (λ e. node_of fs e.0 ≡ Some e.1) (λ e. walk_tested e ≡ true) fs.nodes (λ e f g. by_kind (linked_once fs h) e.0 e.1.kind (here e f) g) (all_found fs.nodes s) h)
     where
       by_kind : ((q : ℕ) → is_directory fs q ≡ true → q ≢ 1 → link_count fs.links q ≡ 1) → (q : ℕ) (k : Kind) → (not (is_kind_file k) ≡ true → is_directory fs q ≡ true) → Hangs fs.links q k
-          → hangs_test q k (hung_of fs.links q) (list_any (is_at (nat_cmp q)) (fold (insert_key nat_cmp) [] (below fs 255 1))) ≡ true
+          → reached_test k (walk_meets q) ≡ true
       by_kind once q Directory f t =
-          ⊎_elim (λ e. rw (eq-eqb q 1 e) refl)
-          (λ g. or_right (q == 1) _ (and_true (hung_once (hung_of fs.links q)) _ (is_once fs.links q g.0) (reached_any (below fs 255 1) [] q ∙ reached_is_within fs a once q (f refl) ∙ g.1)))
-          t
-      by_kind once q File f t = let p = some_parent fs.links q t in ap (λ o. is_hung (hung_by (link_count fs.links q) o)) p.1
+          ⊎_elim (λ e. subst (λ x. walk_meets x ≡ true) (sym e) root_met) (λ g. reached_any (below fs 255 1) [] q ∙ reached_is_within fs a once q (f refl) ∙ g.1) t
+      by_kind once q File f t = refl
 
   pub each_held : AllByRecursion (λ e. Hangs fs.links e.0 e.1.kind) fs.nodes → AllByRecursion (λ e. IsHeld fs.links e.0 (hold_of e.1.kind (hung_of fs.links e.0))) fs.nodes
   each_held h = All-map (λ e. Hangs fs.links e.0 e.1.kind) (λ e. IsHeld fs.links e.0 (hold_of e.1.kind (hung_of fs.links e.0))) fs.nodes (λ e g. is_held fs.links e.0 e.1.kind g) h

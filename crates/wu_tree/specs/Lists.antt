@@ -86,7 +86,6 @@ unfoldable pub below : FileSystem → ℕ → ℕ → List ℕ
 below fs zero directory = []
 below fs (suc n) directory = directory ∷ flat_map (λ child. cond (is_directory fs child) (below fs n child) []) (children_of fs.links directory)
 
--- whether a node hangs as its kind has to, as a test
 abbrev pub hung_once : Option Hung → Bool
 hung_once None = false
 hung_once (Some hung) = hung.count == 1
@@ -95,6 +94,12 @@ abbrev pub is_hung : Option Hung → Bool
 is_hung None = false
 is_hung (Some hung) = true
 
-abbrev pub hangs_test : ℕ → Kind → Option Hung → Bool → Bool
-hangs_test ino Directory hung is_reached = (ino == 1) || (hung_once hung && is_reached)
-hangs_test ino File hung is_reached = is_hung hung
+-- whether a node has as many links as its kind has to: a directory but the root one, a file any
+abbrev pub linked_test : ℕ → Kind → Option Hung → Bool
+linked_test ino Directory hung = (ino == 1) || hung_once hung
+linked_test ino File hung = is_hung hung
+
+-- a directory has to be reached
+abbrev pub reached_test : Kind → Bool → Bool
+reached_test Directory is_reached = is_reached
+reached_test File is_reached = true

@@ -1,4 +1,5 @@
-//! How directories lie to each other.
+//! How directories lie to each other. A step up goes from a directory to the one in which it stands, and
+//! costs a look-up by number; at most 254 lead to the root.
 ghost use Rattle.std.specs.Prelude.{◌≡◌, ◌+◌, true, cond, Some, None};
 
 use crate::trees::{ROOT, Tree};
@@ -9,7 +10,7 @@ impl Tree {
     ghost use Rattle.wu_tree.specs.Paths.{through, steps_to, reaches};
     ghost use Rattle.wu_tree.specs.Steps.{is_too_deep};
 
-    /// Whether a directory is the other or lies below it.
+    /// Whether `directory` is `other` or lies below it. Goes up from `directory`.
     pub(crate) fn is_within(&self, other: Ino, directory: Ino) -> bool
         requires { is_directory self.now directory ≡ true }
         ensures { result ≡ is_within self.now.links other directory }
@@ -18,8 +19,8 @@ impl Tree {
     }
 
     /// Whether some directory at or below `child` would lie deeper than 255, were `child` an entry of
-    /// `parent`. Where `child` comes to lie no deeper than before this is known at once; else the nodes below
-    /// `child` are looked at, each once.
+    /// `parent`. Goes up from both; where `child` comes to lie no deeper than before, that tells it. Else the
+    /// nodes below `child` are looked at, each at most once.
     pub(crate) fn is_too_deep(&self, child: Ino, parent: Ino) -> bool
         requires child { is_directory self.now child ≡ true }
         requires parent { is_directory self.now parent ≡ true }
@@ -33,7 +34,8 @@ impl Tree {
         self.reaches(child, DEPTH_MAX - depth)
     }
 
-    /// Whether some directory lies so many levels below that one. Looks at no node twice.
+    /// Whether some directory lies exactly `levels` steps below `directory`, which lies 0 steps below itself.
+    /// Looks at each node below `directory` at most once.
     fn reaches(&self, directory: Ino, levels: usize) -> bool
         ensures { result ≡ reaches self.now levels directory }
     {
@@ -51,8 +53,7 @@ impl Tree {
         false
     }
 
-    /// How many steps from parent to parent lead from a directory up to another, or None where the other
-    /// isn't met.
+    /// How many steps up lead from one directory to another, or None where the other isn't met up to the root.
     fn steps_up(&self, from: Ino, to: Ino) -> Option<usize>
         requires { is_directory self.now from ≡ true }
         ensures { result ≡ cond (through to (path_up self.now.links from)) (Some (steps_to to (path_up self.now.links from))) None }

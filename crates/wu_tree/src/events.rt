@@ -5,86 +5,118 @@ use wu_base::{Bytes, Gid, Ino, Sequence, Uid};
 /// What a node is.
 #[derive(Clone, Copy, Debug, PartialEq, Eq)]
 pub enum Kind {
+    /// It has entries: names, each of a node.
     Directory,
+    /// It has a text, which stands elsewhere.
     File,
 }
 
 /// A node, without its number.
 #[derive(Clone, Copy, Debug, PartialEq, Eq)]
 pub struct Node {
+    /// Whether it is a directory or a file.
     pub kind: Kind,
+    /// Its owner, its group and its mode.
     pub perm: Perm,
 }
 
 /// A link: the name that a node has in a directory.
 #[derive(Clone, Debug, PartialEq, Eq, Drop)]
 pub struct LinkRec {
-    /// The directory.
+    /// The number of the directory.
     pub parent: Ino,
     /// From 1 to 255 bytes, none of them `/` or NUL, and neither `.` nor `..`.
     pub name: Bytes,
-    /// The node.
+    /// The number of the node.
     pub child: Ino,
 }
 
-/// What happened to the machine's files and users.
+/// What happened to the machine's files and users. Nodes, users and groups stand as their numbers. A name
+/// is any bytes: `is_name` tells whether it may be one.
 #[derive(Clone, Debug, PartialEq, Eq, Drop)]
 pub enum Event {
-    /// The user is in these groups and no others. They may stand in any order, and more than once.
+    /// A user is in these groups and no others.
     User {
+        /// The user.
         uid: Uid,
+        /// The groups, in any order, and maybe some more than once.
         groups: Sequence<Gid>,
     },
     /// A directory was made.
     Mkdir {
+        /// The new directory, not 0.
         ino: Ino,
+        /// The directory in which it stands.
         parent: Ino,
+        /// The name that it has there.
         name: Bytes,
+        /// Its owner, its group and its mode.
         perm: Perm,
     },
     /// A file without bytes was made.
     Create {
+        /// The new file, not 0.
         ino: Ino,
+        /// The directory in which its link stands.
         parent: Ino,
+        /// The name that it has there.
         name: Bytes,
+        /// Its owner, its group and its mode.
         perm: Perm,
     },
     /// A file was given another text, which the tree doesn't hold.
     Text {
+        /// The file.
         ino: Ino,
     },
     /// A file got one more link.
     Link {
+        /// The file.
         ino: Ino,
+        /// The directory in which the new link stands.
         parent: Ino,
+        /// The name that the file has there.
         name: Bytes,
     },
     /// A link to a file went, and the file with it where that was its last.
     Unlink {
+        /// The directory in which the link stood.
         parent: Ino,
+        /// The name that the file had there.
         name: Bytes,
     },
     /// An empty directory went.
     Rmdir {
+        /// The directory in which it stood.
         parent: Ino,
+        /// The name that it had there.
         name: Bytes,
     },
     /// A link was moved to another place, where it replaced what stood there.
     Rename {
+        /// The directory in which the link stood.
         parent: Ino,
+        /// The name that it had there.
         name: Bytes,
+        /// The directory in which it stands now.
         new_parent: Ino,
+        /// The name that it has there.
         new_name: Bytes,
     },
     /// A node's mode was changed.
     Chmod {
+        /// The node.
         ino: Ino,
+        /// The permission bits of the new mode, from 0 to 7777 octal.
         mode: u16,
     },
     /// A node's owner and group were changed.
     Chown {
+        /// The node.
         ino: Ino,
+        /// The new owner.
         uid: Uid,
+        /// The new group.
         gid: Gid,
     },
 }
@@ -102,7 +134,7 @@ pub enum Refusal {
     Exists,
     /// The directory has entries.
     NotEmpty,
-    /// A directory can't be moved into itself or below itself.
+    /// A directory would come to stand in itself, or below itself.
     Loop,
     /// A directory would have a depth of more than 255, where the root has depth 1.
     Deep,

@@ -7,19 +7,21 @@ use crate::events::{Kind, Node};
 use wu_access::Perm;
 use wu_base::Ino;
 
-/// A node, and what ties it to the links.
+/// What a tree keeps of a node: its permissions, and of its links as much as saves a search among them.
 #[derive(Clone, Copy, Debug)]
 pub(crate) struct Inode {
     pub(crate) perm: Perm,
     pub(crate) hold: Hold,
 }
 
-/// What ties a node to the links.
+/// What a tree keeps of the links that name a node, by which they hold it in the tree. It also tells the
+/// node's kind.
 #[derive(Clone, Copy, Debug)]
 pub(crate) enum Hold {
-    /// A directory stands in its parent; the root counts as its own.
+    /// Of a directory, which may have entries: the number of its parent, the directory in which its one link
+    /// stands. The root, which has no link, counts as its own parent.
     Entries { parent: Ino },
-    /// A file has as many links.
+    /// Of a file: how many links name it, at least one.
     Links { count: u64 },
 }
 
@@ -46,7 +48,7 @@ impl Hold {
         }
     }
 
-    /// Whether the last link of the node is all that it has. A directory has but one.
+    /// Whether the node has one link and no more. So has each directory.
     pub(crate) fn has_one_link(&self) -> bool
         ensures { result ≡ has_one_link self.now }
     {
@@ -56,7 +58,7 @@ impl Hold {
         }
     }
 
-    /// With one link fewer.
+    /// The hold of a file with one link fewer. A directory's stays.
     pub(crate) fn fewer_links(&self) -> Hold
         ensures { result ≡ fewer_links self.now }
     {
@@ -68,7 +70,7 @@ impl Hold {
         }
     }
 
-    /// A directory's hold in another parent.
+    /// The hold of a directory in another parent. A file's stays.
     pub(crate) fn moved_to(&self, parent: Ino) -> Hold
         ensures { result ≡ moved_hold parent self.now }
     {

@@ -8,7 +8,7 @@ ghost use Rattle.std.specs.BTreeMap.{get};
 ghost use Rattle.std.specs.BTreeSet.{insert_key, contains};
 ghost use Rattle.wu_tree.specs.FileSystems.{is_directory, place_cmp};
 ghost use Rattle.wu_tree.specs.Inodes.{file_system};
-ghost use Rattle.wu_tree.specs.Lists.{ascends, below, child_test, hangs_test, hold_of, inode_of, is_less, link_of, link_test, listed, number_test, order_test, place_test, user_of};
+ghost use Rattle.wu_tree.specs.Lists.{ascends, below, child_test, hold_of, inode_of, is_less, link_of, link_test, linked_test, listed, number_test, order_test, place_test, reached_test, user_of};
 ghost use Rattle.wu_tree.specs.Rules.{IsTree};
 
 use crate::events::{Kind, LinkRec, Node};
@@ -46,10 +46,14 @@ impl Tree {
         if !are_placed(&inodes, links) {
             return Ok(None);
         }
+        // Asked before the walk down: with one link to each directory it comes to none twice.
+        if !are_linked(nodes, &tally) {
+            return Ok(None);
+        }
         let kept = links_of(alloc, links)?;
         let mut reached = BTreeSet::new(alloc);
         reach(&inodes, &kept, ROOT, DEPTH_MAX, &mut reached)?;
-        if !all_hang(nodes, &tally, &reached) {
+        if !are_reached(nodes, &reached) {
             return Ok(None);
         }
         let users = users_of(alloc, users)?;
@@ -263,27 +267,20 @@ fn reach(
     Ok(())
 }
 
-/// Whether each node hangs as its kind has to.
-fn all_hang(nodes: &[(Ino, Node)], tally: &BTreeMap<Ino, Hung>, reached: &BTreeSet<Ino>) -> bool
-    ensures { result ≡ list_all (λ node. hangs_test node.0 node.1.kind (get nat_cmp tally.now node.0) (contains nat_cmp reached.now node.0)) nodes.now }
+/// Whether each node has as many links as its kind has to.
+fn are_linked(nodes: &[(Ino, Node)], tally: &BTreeMap<Ino, Hung>) -> bool
+    ensures { result ≡ list_all (λ node. linked_test node.0 node.1.kind (get nat_cmp tally.now node.0)) nodes.now }
 {
-    nodes.iter().all(|(ino, node)| {
-        hangs(
-            *ino,
-            node.kind,
-            tally.get(ino).copied(),
-            reached.contains(ino),
-        )
-    })
+    nodes.iter().all(|(ino, node)| is_linked(*ino, node.kind, tally.get(ino).copied()))
 }
 
-/// Whether a node hangs as its kind has to: a directory by one link, and reached from the root; a file by any.
-fn hangs(ino: Ino, kind: Kind, hung: Option<Hung>, is_reached: bool) -> bool
-    ensures { result ≡ hangs_test ino kind hung is_reached }
+/// Whether a node has as many links as its kind has to: a directory but the root one, a file any.
+fn is_linked(ino: Ino, kind: Kind, hung: Option<Hung>) -> bool
+    ensures { result ≡ linked_test ino kind hung }
 {
     match hung {
         Some(hung) => match kind {
-            Kind::Directory => ino == ROOT || hung.count == 1 && is_reached,
+            Kind::Directory => ino == ROOT || hung.count == 1,
             Kind::File => true,
         },
         None => match kind {
@@ -291,4 +288,14 @@ fn hangs(ino: Ino, kind: Kind, hung: Option<Hung>, is_reached: bool) -> bool
             Kind::File => false,
         },
     }
+}
+
+/// Whether the walk down from the root came to each directory.
+fn are_reached(nodes: &[(Ino, Node)], reached: &BTreeSet<Ino>) -> bool
+    ensures { result ≡ list_all (λ node. reached_test node.1.kind (contains nat_cmp reached.now node.0)) nodes.now }
+{
+    nodes.iter().all(|(ino, node)| match node.kind {
+        Kind::Directory => reached.contains(ino),
+        Kind::File => true,
+    })
 }

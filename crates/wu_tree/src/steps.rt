@@ -16,7 +16,7 @@ const NO_EFFECT: Effect = Effect {
 
 impl Tree {
     ghost use Rattle.wu_tree.specs.FileSystems.{node_of};
-    ghost use Rattle.wu_tree.specs.Steps.{IsEvent, IsStep, absent_rules, create_rules, dropped_at, effect_of, first_of, link_rules, mkdir_rules, next, refusal_of, rename_effect, rename_rules, renamed, rmdir_rules, text_rules, unlink_rules, with_link, with_node, with_perm, without_link};
+    ghost use Rattle.wu_tree.specs.Steps.{IsEvent, IsStep, absent_rules, create_rules, dropped_at, effect_of, first_of, link_rules, mkdir_rules, next, refusal_of, rename_effect, rename_rules, renamed, rmdir_rules, text_rules, unlink_rules, with_link, with_node, with_perm, with_user, without_link};
 
     /// One event: its effect where it is accepted, or why it is refused, by the first rule of its list that
     /// applies. A refused event changes nothing, and neither does one for which there is no memory. Mkdir
@@ -46,10 +46,7 @@ impl Tree {
         ensures err { OnErr result (self.new ≡ self.old) }
     {
         match event {
-            Event::User { uid, groups } => {
-                self.set_user(*uid, groups.as_slice())?;
-                Ok(NO_EFFECT)
-            }
+            Event::User { uid, groups } => self.user(*uid, groups.as_slice()),
             Event::Mkdir {
                 ino,
                 parent,
@@ -62,31 +59,28 @@ impl Tree {
                 name,
                 perm,
             } => self.create(*ino, *parent, name.as_slice(), *perm),
-            Event::Text { ino } => Ok(Effect {
-                texted: Some(*ino),
-                ..NO_EFFECT
-            }),
+            Event::Text { ino } => Ok(texted(*ino)),
             Event::Link { ino, parent, name } => self.link(*ino, *parent, name.as_slice()),
             Event::Unlink { parent, name } => Ok(self.unlink(*parent, name.as_slice())),
-            Event::Rmdir { parent, name } => {
-                self.rmdir(*parent, name.as_slice());
-                Ok(NO_EFFECT)
-            }
+            Event::Rmdir { parent, name } => Ok(self.rmdir(*parent, name.as_slice())),
             Event::Rename {
                 parent,
                 name,
                 new_parent,
                 new_name,
             } => self.rename(*parent, name.as_slice(), *new_parent, new_name.as_slice()),
-            Event::Chmod { ino, mode } => {
-                self.chmod(*ino, *mode);
-                Ok(NO_EFFECT)
-            }
-            Event::Chown { ino, uid, gid } => {
-                self.chown(*ino, *uid, *gid);
-                Ok(NO_EFFECT)
-            }
+            Event::Chmod { ino, mode } => Ok(self.chmod(*ino, *mode)),
+            Event::Chown { ino, uid, gid } => Ok(self.chown(*ino, *uid, *gid)),
         }
+    }
+
+    fn user(&mut self, uid: Uid, groups: &[Gid]) -> Result<Effect, NoMemory>
+        ensures effect { IfOk result (λ effect. effect ≡ NO_EFFECT) }
+        ensures next { OnOk result (self.new ≡ with_user self.old uid groups.now) }
+        ensures err { OnErr result (self.new ≡ self.old) }
+    {
+        self.set_user(uid, groups)?;
+        Ok(NO_EFFECT)
     }
 
     fn mkdir(&mut self, ino: Ino, parent: Ino, name: &[u8], perm: Perm) -> Result<Effect, NoMemory>
@@ -144,11 +138,13 @@ impl Tree {
         }
     }
 
-    fn rmdir(&mut self, parent: Ino, name: &[u8])
+    fn rmdir(&mut self, parent: Ino, name: &[u8]) -> Effect
         requires { first_of (rmdir_rules self.old parent name.now) ≡ None }
-        ensures { self.new ≡ without_link self.old parent name.now }
+        ensures effect { result ≡ NO_EFFECT }
+        ensures next { self.new ≡ without_link self.old parent name.now }
     {
         self.drop_link(parent, name);
+        NO_EFFECT
     }
 
     fn rename(
@@ -187,22 +183,26 @@ impl Tree {
         }
     }
 
-    fn chmod(&mut self, ino: Ino, mode: u16)
+    fn chmod(&mut self, ino: Ino, mode: u16) -> Effect
         requires { mode ≤ 0xFFF }
-        ensures { self.new ≡ with_perm (λ perm. record perm { mode = mode }) self.old ino (node_of self.old ino) }
+        ensures effect { result ≡ NO_EFFECT }
+        ensures next { self.new ≡ with_perm (λ perm. record perm { mode = mode }) self.old ino (node_of self.old ino) }
     {
         if let Some(node) = self.node(ino) {
             self.set_perm(ino, Perm { mode, ..node.perm });
         }
+        NO_EFFECT
     }
 
-    fn chown(&mut self, ino: Ino, uid: Uid, gid: Gid)
-        ensures { self.new ≡ with_perm (λ perm. record perm { uid = uid; gid = gid }) self.old ino (node_of self.old ino) }
+    fn chown(&mut self, ino: Ino, uid: Uid, gid: Gid) -> Effect
+        ensures effect { result ≡ NO_EFFECT }
+        ensures next { self.new ≡ with_perm (λ perm. record perm { uid = uid; gid = gid }) self.old ino (node_of self.old ino) }
     {
         if let Some(node) = self.node(ino) {
             let mode = node.perm.mode;
             self.set_perm(ino, Perm { uid, gid, mode });
         }
+        NO_EFFECT
     }
 
     /// The file whose last link stands at that place, if it is one.
@@ -226,5 +226,15 @@ impl Tree {
         ensures { IfOk result (λ copy. copy.items ≡ name.now) }
     {
         Vec::from_slice(self.alloc, name)
+    }
+}
+
+/// The effect of a text: the tree stays as it is.
+fn texted(ino: Ino) -> Effect
+    ensures { result ≡ record NO_EFFECT { texted = Some ino } }
+{
+    Effect {
+        texted: Some(ino),
+        ..NO_EFFECT
     }
 }

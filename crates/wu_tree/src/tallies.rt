@@ -9,16 +9,16 @@ use std::alloc::Global;
 use std::collections::BTreeMap;
 use wu_base::{Ino, NoMemory};
 
-/// How a node hangs.
+/// What a list of links says of a node that some of them name: how it hangs in its tree, if they make one.
 #[derive(Clone, Copy, Debug)]
 pub(crate) struct Hung {
-    /// The directory of its first link.
+    /// The number of the directory in which its first link stands.
     pub(crate) parent: Ino,
-    /// How many links it has.
+    /// How many links name it, at least one.
     pub(crate) count: u64,
 }
 
-/// How each node hangs that a link names.
+/// How each node hangs that a link names, by its number. Takes a look-up and an insertion for each link.
 pub(crate) fn tally(alloc: Global, links: &[LinkRec]) -> Result<BTreeMap<Ino, Hung>, NoMemory>
     ensures { IfOk result (λ tally. (ino : ℕ) → get nat_cmp tally ino ≡ hung_of (map link_of links.now) ino) }
 {

@@ -15,7 +15,7 @@ use wu_base::{Gid, Ino, NoMemory, Uid};
 pub(crate) const ROOT: Ino = 1;
 
 /// A tree of directories and files, and the users with their groups. Contracts see the file system that it
-/// stands for: its nodes, its links and its users.
+/// stands for: its nodes, its links and its users. The numbers of nodes, users and groups have 32 bits.
 #[derive(Debug, Drop)]
 pub struct Tree {
     pub(crate) alloc: Global,
@@ -63,7 +63,8 @@ impl Tree {
         })
     }
 
-    /// The node of that number. Its mode has at most four octal digits. Takes no memory.
+    /// The node of that number, or None where there is none. Its mode has at most four octal digits. Takes no
+    /// memory, and time logarithmic in the number of nodes.
     pub fn node(&self, ino: Ino) -> Option<Node>
         ensures node { result ≡ node_of self.now ino }
         ensures mode { IfSome result (λ node. node.perm.mode ≤ 0xFFF) }
@@ -74,23 +75,27 @@ impl Tree {
         }
     }
 
-    /// The number of the node that the name has in the directory. Takes no memory.
+    /// The number of the node that has that name in that directory, or None where the directory has no such
+    /// name, is a file, or isn't there. Takes no memory, and time logarithmic in the number of directories
+    /// and in that of the directory's names.
     pub fn child(&self, dir: Ino, name: &[u8]) -> Option<Ino>
         ensures { result ≡ child_of self.now dir name.now }
     {
         self.links.child(dir, name)
     }
 
-    /// A directory's names with what they name, as a map, or None where there are none. Who walks a whole
-    /// tree goes through each of these maps once, in time that grows with the links. Takes no memory.
+    /// The names in a directory, in byte order, each with the number of the node that has it; or None where
+    /// the directory has no entries, is a file, or isn't there. The map is borrowed from the tree: going
+    /// through it takes time that grows with the number of its names. Takes no memory, and time logarithmic
+    /// in the number of directories.
     pub fn entries(&self, dir: Ino) -> Option<&BTreeMap<Vec<u8>, Ino>>
         ensures { MatchOption result (entries_of self.now.links dir ≡ []) (λ names. map (λ e. (e.0.items, e.1)) names.now.entries ≡ entries_of self.now.links dir) }
     {
         self.links.names(dir)
     }
 
-    /// The `i`-th name in a directory, counted from 0, in byte order, with what it names. Takes no memory,
-    /// and time that grows with `i`.
+    /// The `i`-th name in a directory, counted from 0, in byte order, with the number of the node that has it;
+    /// or None where the directory has no more than `i` names. Takes no memory, and time that grows with `i`.
     pub fn entry(&self, dir: Ino, i: usize) -> Option<(&[u8], Ino)>
         ensures { option_map (λ entry. (entry.0.now, entry.1)) result ≡ slice_get (entries_of self.now.links dir) i }
     {
@@ -103,7 +108,8 @@ impl Tree {
         }
     }
 
-    /// The `i`-th node, counted from 0, in order of number. Takes no memory, and time that grows with `i`.
+    /// The `i`-th node, counted from 0, in order of number, or None where there are no more than `i` nodes.
+    /// Takes no memory, and time that grows with `i`.
     pub fn node_at(&self, i: usize) -> Option<(Ino, Node)>
         ensures { result ≡ slice_get self.now.nodes i }
     {
@@ -113,14 +119,16 @@ impl Tree {
         }
     }
 
-    /// The `i`-th user, counted from 0, in order of number. Takes no memory, and time that grows with `i`.
+    /// The `i`-th user, counted from 0, in order of number, or None where no more than `i` users were given.
+    /// Takes no memory, and time that grows with `i`.
     pub fn user_at(&self, i: usize) -> Option<&UserRec>
         ensures { option_map (λ user. (user.now.uid, user.now.groups)) result ≡ slice_get self.now.users i }
     {
         self.users.values().nth(i)
     }
 
-    /// The user's groups, ascending. One who was never given has none. Takes no memory.
+    /// The numbers of the user's groups, ascending and without repeats. One who was never given has none.
+    /// Takes no memory, and time logarithmic in the number of users.
     pub fn groups_of(&self, uid: Uid) -> &[Gid]
         ensures { result.now ≡ groups_of self.now uid }
     {
@@ -140,14 +148,15 @@ impl Tree {
             .count() as u64
     }
 
-    /// Nodes, links and users keep the rules of a tree at every moment.
+    /// Returns nothing and does nothing, in constant time: its clause says that the tree's nodes, links and
+    /// users keep the rules of a tree, as they do at every moment. Proofs of callers cite it.
     pub fn keeps_the_rules(&self)
         ensures { IsTree self.now }
     {
         let _ = &self.links;
     }
 
-    /// The directory in which a directory other than the root stands.
+    /// The number of the directory in which a directory other than the root stands.
     pub(crate) fn parent(&self, directory: Ino) -> Option<Ino>
         requires found { is_directory self.now directory ≡ true }
         requires below { directory ≢ 1 }
@@ -167,7 +176,7 @@ impl Tree {
         self.links.has_entries(directory)
     }
 
-    /// How deep a directory lies, where the root has depth 1.
+    /// How deep a directory lies, from 1, the root's depth, to 255. Takes that many look-ups less one.
     pub(crate) fn depth(&self, directory: Ino) -> usize
         requires { is_directory self.now directory ≡ true }
         ensures depth { result ≡ depth_of self.now.links directory }
