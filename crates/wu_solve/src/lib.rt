@@ -13,6 +13,7 @@ mod operands;
 mod solving;
 
 pub use laws::{extents_ascend, frames_of_texts};
+pub use lookup::find_term;
 pub use solving::solve;
 
 #[cfg(test)]
