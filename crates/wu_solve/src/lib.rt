@@ -10,6 +10,7 @@ mod laws;
 mod lookup;
 mod merging;
 mod operands;
+mod overlaps;
 mod solving;
 
 pub use laws::{extents_ascend, frames_of_texts};
