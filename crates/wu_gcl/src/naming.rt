@@ -24,7 +24,7 @@ fn put_terms(alloc: Global, terms: &mut Vec<Bytes>, expr: &Expr) -> Result<(), N
     ensures { OnOk result (terms.new.items ≡ terms.old.items ++ terms_in (region_of expr.now)) }
 {
     match expr {
-        Expr::Phrase(words) => put_words(terms, words.as_slice()),
+        Expr::Phrase(words) => Ok(terms.extend_from_slice(words.as_slice())?),
         Expr::Tag(tag) => put_tag(alloc, terms, *tag),
         Expr::File => {
             put_tag(alloc, terms, Tag::FileStart)?;
@@ -40,16 +40,6 @@ fn put_terms(alloc: Global, terms: &mut Vec<Bytes>, expr: &Expr) -> Result<(), N
             put_terms(alloc, terms, right)
         }
     }
-}
-
-/// Appends the words.
-fn put_words(terms: &mut Vec<Bytes>, words: &[Bytes]) -> Result<(), NoMemory>
-    ensures { OnOk result (terms.new.items ≡ terms.old.items ++ words.now) }
-{
-    for word in words {
-        terms.push(word.clone()?)?;
-    }
-    Ok(())
 }
 
 /// Appends the tag as a term.

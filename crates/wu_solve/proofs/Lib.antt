@@ -8,6 +8,7 @@ pub mod Numbers
 pub mod TermLists
 pub mod Frames
 pub mod Phrases
+pub mod Carrying
 pub mod Unions
 pub mod Candidates
 pub mod Covers

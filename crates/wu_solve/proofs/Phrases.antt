@@ -178,6 +178,19 @@ phrase_listed lists start len first more addresses are = record {
   complete = phrase_complete lists start len first more addresses are;
 }
 
+-- more words than the frame has addresses
+pub no_room : (len : ℕ) (stands : List ℕ → ℕ → Bool) (first : List ℕ) (more : List (List ℕ)) → len ≤ length more → Lists len (is_in (Phrase (first ∷ more)) stands len) []
+unfolding is_in
+no_room len stands first more long = record {
+  ascending = tt;
+  sound = λ x has. absurd has;
+  complete = λ x is passes.
+      let b = and_parts (eqb (x.start + suc (length more)) (x.end + 1)) (words_stand stands (first ∷ more) x.start) passes in
+      let ends : x.start + suc (length more) ≡ x.end + 1 = eqb-true _ _ b.0 in
+      let inside : x.end < len = is.within in
+      absurd (omega arith);
+}
+
 -- windows
 
 in_range : (a n b : ℕ) → Among (range_with_len a n) b → (a ≤ b) × (b < a + n)

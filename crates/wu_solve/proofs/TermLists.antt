@@ -1,13 +1,13 @@
 -- Looking for a term in lists that ascend by their terms.
-use Rattle.std.proofs.Common.{◌≡◌, ℕ, zero, suc, ◌<◌, Bool, true, false, ◌&&◌, ◌||◌, List, [], ◌∷◌, length, take, drop, get_or, map, refl, sym, ap, ◌∙◌, subst, arith, Ordering, Less, Equal, Greater, is_eq}
+use Rattle.std.proofs.Common.{◌≡◌, ℕ, zero, suc, ◌<◌, ◌≤◌, Bool, true, false, ◌⊎◌, List, [], ◌∷◌, length, take, drop, get_or, map, refl, sym, ap, ◌∙◌, inl, inr, arith, Ordering, Less, Equal, Greater, is_eq}
 use Rattle.std.proofs.Math.Bool.{or-false}
-use Rattle.std.specs.Prelude.{nat_eq}
+use Rattle.std.specs.Prelude.{nat_eq, Ok, Err, ◌&&◌, ◌||◌}
 use Rattle.std.specs.List.{AllByRecursion}
-use Rattle.std.specs.List.Sorted.{IsStrictlySortedBy, IsStrictlyIncreasing}
-use Rattle.std.specs.Cmp.Lexicographic.{pointwise, slice_cmp, nat_list_cmp_total, texts_ties}
-use Rattle.std.specs.Ordering.{nat_cmp, ordering_reverse}
+use Rattle.std.specs.List.Sorted.{IsStrictlySortedBy, IsBinarySearchResult}
+use Rattle.std.specs.Cmp.Lexicographic.{pointwise, slice_cmp, nat_list_cmp_total, nat_list_eq_equiv, texts_ties}
+use Rattle.std.specs.Ordering.{nat_cmp, ordering_reverse, ordering_index}
 use Rattle.wu_base.specs.declared.addresses.TermList.{TermList}
-use Rattle.wu_solve.specs.Addresses.{is_among, has_address, AreLists}
+use Rattle.wu_solve.specs.Addresses.{is_among, has_address, IsOther, IsListOf}
 
 abbrev text_cmp : List ℕ → List ℕ → Ordering
 text_cmp a b = slice_cmp nat_cmp a b
@@ -21,105 +21,98 @@ IsSortedByTerm lists = IsStrictlySortedBy (slice_cmp nat_cmp) (terms lists)
 reversed : (a b : List ℕ) (o : Ordering) → text_cmp a b ≡ o → text_cmp b a ≡ ordering_reverse o
 reversed a b o is = nat_list_cmp_total.antisymm b a ∙ ap ordering_reverse is
 
-differs : (a b : List ℕ) (o : Ordering) → text_cmp a b ≡ o → is_eq o ≡ false → pointwise nat_eq a b ≡ false
-differs a b o is other = texts_ties a b ∙ ap is_eq is ∙ other
+-- terms that differ by their bytes
+differs : (term : List ℕ) (list : TermList) (o : Ordering) → text_cmp list.term term ≡ o → is_eq (ordering_reverse o) ≡ false → IsOther term list
+differs term list o is other = texts_ties term list.term ∙ ap is_eq (reversed list.term term o is) ∙ other
 
-passed_over : (list : TermList) (term : List ℕ) (a : ℕ) (rest : Bool) → pointwise nat_eq list.term term ≡ false → (pointwise nat_eq list.term term && is_among list.at a || rest) ≡ rest
-passed_over list term a rest other = rw other refl
+-- facts of each place, as facts of the list
 
-none_after : (lists : List TermList) (term : List ℕ) (a : ℕ) → AllByRecursion (λ other. text_cmp term other ≡ Less) (terms lists) → has_address lists term a ≡ false
-none_after [] term a after = refl
-none_after (list ∷ lists) term a after =
-    passed_over list term a (has_address lists term a) (differs list.term term Greater (reversed term list.term Less after.0) refl)
-    ∙ none_after lists term a after.1
+all_taken : (P : TermList → Type 0) (n : ℕ) (lists : List TermList) → ((k : ℕ) (d : TermList) → k < n → k < length lists → P (get_or lists k d)) → AllByRecursion P (take n lists)
+all_taken P zero lists each = tt
+all_taken P (suc n) [] each = tt
+all_taken P (suc n) (list ∷ lists) each = (each 0 list (omega arith) (omega arith), all_taken P n lists (λ k d low within. each (suc k) d (omega arith) (omega arith)))
 
-after_through : (first term : List ℕ) (others : List (List ℕ)) → ((other : List ℕ) → text_cmp first other ≡ Less → text_cmp term other ≡ Less) → AllByRecursion (λ other. text_cmp first other ≡ Less) others → AllByRecursion (λ other. text_cmp term other ≡ Less) others
-after_through first term [] through after = tt
-after_through first term (other ∷ others) through after = (through other after.0, after_through first term others through after.1)
+all_dropped : (P : TermList → Type 0) (n : ℕ) (lists : List TermList) → ((k : ℕ) (d : TermList) → n ≤ k → k < length lists → P (get_or lists k d)) → AllByRecursion P (drop n lists)
+all_dropped P zero [] each = tt
+all_dropped P zero (list ∷ lists) each = (each 0 list (omega arith) (omega arith), all_dropped P zero lists (λ k d low within. each (suc k) d (omega arith) (omega arith)))
+all_dropped P (suc n) [] each = tt
+all_dropped P (suc n) (list ∷ lists) each = all_dropped P n lists (λ k d high within. each (suc k) d (omega arith) (omega arith))
 
-all_at : (P : List ℕ → Type 0) (lists : List TermList) (i : ℕ) (d : TermList) → i < length lists → AllByRecursion P (terms lists) → P (get_or lists i d).term
-all_at P [] i d within all = absurd (omega arith)
-all_at P (list ∷ lists) zero d within all = all.0
-all_at P (list ∷ lists) (suc i) d within all = all_at P lists i d (omega arith) all.1
+-- the lists ascend
 
-pub behind_lesser : (lists : List TermList) (i : ℕ) (x : TermList) (term : List ℕ) → IsSortedByTerm lists → i < length lists → x ≡ get_or lists i x → text_cmp x.term term ≡ Less →
-    (a : ℕ) → has_address (drop (suc i) lists) term a ≡ has_address lists term a
+term_at : (P : List ℕ → Type 0) (lists : List TermList) (i : ℕ) (d : TermList) → i < length lists → AllByRecursion P (terms lists) → P (get_or lists i d).term
+term_at P [] i d within all = absurd (omega arith)
+term_at P (list ∷ lists) zero d within all = all.0
+term_at P (list ∷ lists) (suc i) d within all = term_at P lists i d (omega arith) all.1
+
+ascends : (lists : List TermList) (i j : ℕ) (d : TermList) → IsSortedByTerm lists → i < j → j < length lists → text_cmp (get_or lists i d).term (get_or lists j d).term ≡ Less
 unfolding IsStrictlySortedBy
-behind_lesser [] i x term up within is less a = absurd (omega arith)
-behind_lesser (list ∷ lists) zero x term up within is less a =
-    let other : pointwise nat_eq list.term term ≡ false = subst (λ (l : TermList). pointwise nat_eq l.term term ≡ false) is (differs x.term term Less less refl) in
-    sym (passed_over list term a (has_address lists term a) other)
-behind_lesser (list ∷ lists) (suc i) x term up within is less a =
-    let before : text_cmp list.term x.term ≡ Less = subst (λ (l : TermList). text_cmp list.term l.term ≡ Less) (sym is) (all_at (λ other. text_cmp list.term other ≡ Less) lists i x (omega arith) up.0) in
-    let other : pointwise nat_eq list.term term ≡ false = differs list.term term Less (nat_list_cmp_total.trans list.term x.term term before less) refl in
-    behind_lesser lists i x term up.1 (omega arith) is less a ∙ sym (passed_over list term a (has_address lists term a) other)
+ascends [] i j d up less within = absurd (omega arith)
+ascends (list ∷ lists) i zero d up less within = absurd (omega arith)
+ascends (list ∷ lists) zero (suc j) d up less within = term_at (λ other. text_cmp list.term other ≡ Less) lists j d (omega arith) up.0
+ascends (list ∷ lists) (suc i) (suc j) d up less within = ascends lists i j d up.1 (omega arith) (omega arith)
 
-pub before_greater : (lists : List TermList) (i : ℕ) (x : TermList) (term : List ℕ) → IsSortedByTerm lists → i < length lists → x ≡ get_or lists i x → text_cmp x.term term ≡ Greater →
-    (a : ℕ) → has_address (take i lists) term a ≡ has_address lists term a
-unfolding IsStrictlySortedBy
-before_greater [] i x term up within is greater a = absurd (omega arith)
-before_greater (list ∷ lists) zero x term up within is greater a =
-    let here : text_cmp list.term term ≡ Greater = subst (λ (l : TermList). text_cmp l.term term ≡ Greater) is greater in
-    let less : text_cmp term list.term ≡ Less = reversed list.term term Greater here in
-    let none : has_address lists term a ≡ false = none_after lists term a (after_through list.term term (terms lists) (λ other after. nat_list_cmp_total.trans term list.term other less after) up.0) in
-    sym (passed_over list term a (has_address lists term a) (differs list.term term Greater here refl) ∙ none)
-before_greater (list ∷ lists) (suc i) x term up within is greater a =
-    ap (λ (b : Bool). (pointwise nat_eq list.term term && is_among list.at a) || b) (before_greater lists i x term up.1 (omega arith) is greater a)
+-- of ascending terms, the answers of a comparison rise
+answers_rise : (a b term : List ℕ) (o : Ordering) → text_cmp a b ≡ Less → text_cmp b term ≡ o → ordering_index (text_cmp a term) ≤ ordering_index o
+answers_rise a b term Less up is = rw (nat_list_cmp_total.trans a b term up is) (omega arith)
+answers_rise a b term Equal up is =
+    let less : text_cmp a term ≡ Less = reversed term a Greater (sym (nat_list_cmp_total.congr b term a is) ∙ reversed a b Less up) in
+    rw less (omega arith)
+answers_rise a b term Greater up is = at_most (text_cmp a term)
+  where
+    at_most : (o : Ordering) → ordering_index o ≤ 2
+    at_most Less = omega arith
+    at_most Equal = omega arith
+    at_most Greater = omega arith
 
-pub at_term : (lists : List TermList) (i : ℕ) (x : TermList) (term : List ℕ) → IsSortedByTerm lists → i < length lists → x ≡ get_or lists i x → text_cmp x.term term ≡ Equal →
-    (a : ℕ) → is_among x.at a ≡ has_address lists term a
-unfolding IsStrictlySortedBy
-at_term [] i x term up within is equal a = absurd (omega arith)
-at_term (list ∷ lists) zero x term up within is equal a =
-    let here : text_cmp list.term term ≡ Equal = subst (λ (l : TermList). text_cmp l.term term ≡ Equal) is equal in
-    let same : pointwise nat_eq list.term term ≡ true = texts_ties list.term term ∙ ap is_eq here in
-    let none : has_address lists term a ≡ false = none_after lists term a (after_through list.term term (terms lists) (λ other after. sym (nat_list_cmp_total.congr list.term term other here) ∙ after) up.0) in
-    ap (λ (l : TermList). is_among l.at a) is ∙ sym (rw (same, none) (or-false (is_among list.at a)))
-at_term (list ∷ lists) (suc i) x term up within is equal a =
-    let before : text_cmp list.term x.term ≡ Less = subst (λ (l : TermList). text_cmp list.term l.term ≡ Less) (sym is) (all_at (λ other. text_cmp list.term other ≡ Less) lists i x (omega arith) up.0) in
-    let after : text_cmp term list.term ≡ Greater = sym (nat_list_cmp_total.congr x.term term list.term equal) ∙ reversed list.term x.term Less before in
-    let other : pointwise nat_eq list.term term ≡ false = differs list.term term Less (reversed term list.term Greater after) refl in
-    at_term lists i x term up.1 (omega arith) is equal a ∙ sym (passed_over list term a (has_address lists term a) other)
+never_falls : (lists : List TermList) (term : List ℕ) → IsSortedByTerm lists → (i j : ℕ) (d : TermList) → i ≤ j → j < length lists →
+    ordering_index (text_cmp (get_or lists i d).term term) ≤ ordering_index (text_cmp (get_or lists j d).term term)
+never_falls lists term up i j d low within =
+    let cases : (i ≡ j) ⊎ (i < j) = grind arith in
+    elim cases [
+      | inl same ↦ rw same (omega arith)
+      | inr less ↦ answers_rise (get_or lists i d).term (get_or lists j d).term term _ (ascends lists i j d up less within) refl
+    ]
 
--- parts of the lists
+-- what a binary search for the term says
 
-all_dropped : {X : Type 0} (P : X → Type 0) (i : ℕ) (xs : List X) → AllByRecursion P xs → AllByRecursion P (drop i xs)
-all_dropped P zero xs all = all
-all_dropped P (suc i) [] all = tt
-all_dropped P (suc i) (x ∷ xs) all = all_dropped P i xs all.1
+pub not_found : (lists : List TermList) (term : List ℕ) (place : ℕ) → IsSortedByTerm lists → IsBinarySearchResult (λ (list : TermList). text_cmp list.term term) lists (Err place) → AllByRecursion (IsOther term) lists
+not_found lists term place up is =
+    let split = is (never_falls lists term up) in
+    all_dropped (IsOther term) zero lists (λ k d low within.
+    let cases : (k < place) ⊎ (place ≤ k) = grind arith in
+    elim cases [
+      | inl front ↦ differs term (get_or lists k d) Less (split.0 k d (omega arith) front) refl
+      | inr back ↦ differs term (get_or lists k d) Greater (split.1 k d back within) refl
+    ])
 
-all_taken : {X : Type 0} (P : X → Type 0) (i : ℕ) (xs : List X) → AllByRecursion P xs → AllByRecursion P (take i xs)
-all_taken P zero xs all = tt
-all_taken P (suc i) [] all = tt
-all_taken P (suc i) (x ∷ xs) all = (all.0, all_taken P i xs all.1)
+pub found : (lists : List TermList) (term : List ℕ) (place : ℕ) → IsSortedByTerm lists → place < length lists → IsBinarySearchResult (λ (list : TermList). text_cmp list.term term) lists (Ok place) → IsListOf term lists place
+found lists term place up within is = record {
+  within = within;
+  same = λ d. texts_ties term (get_or lists place d).term ∙ ap is_eq (reversed (get_or lists place d).term term Equal (is d));
+  before = all_taken (IsOther term) place lists (λ k d less inside.
+      let here = get_or lists place d in
+      let greater : text_cmp term (get_or lists k d).term ≡ Greater = sym (nat_list_cmp_total.congr here.term term (get_or lists k d).term (is d)) ∙ reversed (get_or lists k d).term here.term Less (ascends lists k place d up less within) in
+      differs term (get_or lists k d) Less (reversed term (get_or lists k d).term Greater greater) refl);
+  behind = all_dropped (IsOther term) (suc place) lists (λ k d more inside.
+      let here = get_or lists place d in
+      let less : text_cmp term (get_or lists k d).term ≡ Less = sym (nat_list_cmp_total.congr here.term term (get_or lists k d).term (is d)) ∙ ascends lists place k d up (omega arith) inside in
+      differs term (get_or lists k d) Greater (reversed term (get_or lists k d).term Less less) refl);
+}
 
-all_terms_taken : (P : List ℕ → Type 0) (i : ℕ) (lists : List TermList) → AllByRecursion P (terms lists) → AllByRecursion P (terms (take i lists))
-all_terms_taken P zero lists all = tt
-all_terms_taken P (suc i) [] all = tt
-all_terms_taken P (suc i) (list ∷ lists) all = (all.0, all_terms_taken P i lists all.1)
+-- the addresses of the term
 
-terms_dropped : (i : ℕ) (lists : List TermList) → IsSortedByTerm lists → IsSortedByTerm (drop i lists)
-unfolding IsStrictlySortedBy
-terms_dropped zero lists up = up
-terms_dropped (suc i) [] up = tt
-terms_dropped (suc i) (list ∷ lists) up = terms_dropped i lists up.1
+passed_over : (list : TermList) (term : List ℕ) (a : ℕ) (rest : Bool) → IsOther term list → (pointwise nat_eq list.term term && is_among list.at a || rest) ≡ rest
+passed_over list term a rest other = rw (nat_list_eq_equiv.symm list.term term ∙ other) refl
 
-terms_taken : (i : ℕ) (lists : List TermList) → IsSortedByTerm lists → IsSortedByTerm (take i lists)
-unfolding IsStrictlySortedBy
-terms_taken zero lists up = tt
-terms_taken (suc i) [] up = tt
-terms_taken (suc i) (list ∷ lists) up = (all_terms_taken (λ other. text_cmp list.term other ≡ Less) i lists up.0, terms_taken i lists up.1)
+pub no_addresses : (lists : List TermList) (term : List ℕ) (a : ℕ) → AllByRecursion (IsOther term) lists → has_address lists term a ≡ false
+no_addresses [] term a others = refl
+no_addresses (list ∷ lists) term a others = passed_over list term a (has_address lists term a) others.0 ∙ no_addresses lists term a others.1
 
-pub lists_dropped : (i : ℕ) (lists : List TermList) → AreLists lists → AreLists (drop i lists)
-lists_dropped i lists are = record { terms = terms_dropped i lists are.terms; addresses = all_dropped _ i lists are.addresses }
-
-pub lists_taken : (i : ℕ) (lists : List TermList) → AreLists lists → AreLists (take i lists)
-lists_taken i lists are = record { terms = terms_taken i lists are.terms; addresses = all_taken _ i lists are.addresses }
-
-addresses_at : (lists : List TermList) (i : ℕ) (d : TermList) → i < length lists → AllByRecursion (λ (list : TermList). IsStrictlyIncreasing list.at) lists → IsStrictlyIncreasing (get_or lists i d).at
-addresses_at [] i d within all = absurd (omega arith)
-addresses_at (list ∷ lists) zero d within all = all.0
-addresses_at (list ∷ lists) (suc i) d within all = addresses_at lists i d (omega arith) all.1
-
-pub list_ascends : (lists : List TermList) (i : ℕ) (x : TermList) → AreLists lists → i < length lists → x ≡ get_or lists i x → IsStrictlyIncreasing x.at
-list_ascends lists i x are within is = subst (λ (l : TermList). IsStrictlyIncreasing l.at) (sym is) (addresses_at lists i x within are.addresses)
+pub addresses_at : (lists : List TermList) (term : List ℕ) (place : ℕ) (d : TermList) → IsListOf term lists place → (a : ℕ) → is_among (get_or lists place d).at a ≡ has_address lists term a
+addresses_at lists term place d is a = go lists place is.within (is.same d) is.before is.behind
+  where
+    go : (ls : List TermList) (k : ℕ) → k < length ls → pointwise nat_eq term (get_or ls k d).term ≡ true → AllByRecursion (IsOther term) (take k ls) → AllByRecursion (IsOther term) (drop (suc k) ls) → is_among (get_or ls k d).at a ≡ has_address ls term a
+    go [] k within same before behind = absurd (omega arith)
+    go (list ∷ ls) zero within same before behind = sym (rw (nat_list_eq_equiv.symm list.term term ∙ same, no_addresses ls term a behind) (or-false (is_among list.at a)))
+    go (list ∷ ls) (suc k) within same before behind = go ls k (omega arith) same before.1 behind ∙ sym (passed_over list term a (has_address ls term a) before.0)

@@ -1,5 +1,5 @@
 -- Where terms stand, by the lists of their addresses.
-use Rattle.std.specs.Prelude.{ℕ, ◌+◌, ◌==◌, ◌&&◌, Bool, List, map, nat_eq}
+use Rattle.std.specs.Prelude.{◌≡◌, ℕ, suc, ◌+◌, ◌<◌, ◌==◌, ◌&&◌, Bool, true, false, List, map, length, take, drop, nat_eq, slice_index_or}
 use Rattle.std.specs.List.{list_any, AllByRecursion}
 use Rattle.std.specs.List.Sorted.{IsStrictlySortedBy, IsStrictlyIncreasing}
 use Rattle.std.specs.Cmp.Lexicographic.{pointwise, slice_cmp}
@@ -22,3 +22,14 @@ stands_by lists start term place = has_address lists term (start + place)
 pub record AreLists (lists : List TermList) : Type 0 where
   pub terms : IsStrictlySortedBy (slice_cmp nat_cmp) (map (λ list. list.term) lists)
   pub addresses : AllByRecursion (λ list. IsStrictlyIncreasing list.at) lists
+
+-- the list is another term's
+abbrev pub IsOther : List ℕ → TermList → Type 0
+IsOther term list = pointwise nat_eq term list.term ≡ false
+
+-- the list at the place is the term's, and it alone
+pub record IsListOf (term : List ℕ) (lists : List TermList) (place : ℕ) : Type 0 where
+  pub within : place < length lists
+  pub same : (d : TermList) → pointwise nat_eq term (slice_index_or lists place d).term ≡ true
+  pub before : AllByRecursion (IsOther term) (take place lists)
+  pub behind : AllByRecursion (IsOther term) (drop (suc place) lists)

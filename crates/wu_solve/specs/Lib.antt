@@ -3,5 +3,6 @@ pub mod Merging
 pub mod Fronts
 pub mod Addresses
 pub mod Operands
+pub mod Stretches
 pub mod Solving
 pub mod Plain

@@ -10,9 +10,11 @@ mod laws;
 mod lookup;
 mod merging;
 mod operands;
+mod overlaps;
 mod solving;
 
 pub use laws::{extents_ascend, frames_of_texts};
+pub use lookup::find_term;
 pub use solving::solve;
 
 #[cfg(test)]

@@ -1,9 +1,11 @@
 //! Looking up terms and addresses.
-ghost use Rattle.std.specs.Prelude.{◌≡◌, ℕ, ◌+◌, ◌^◌, ◌<◌, ◌≤◌, ◌&&◌, filter, length, nat_le, nat_lt, slice_index};
-ghost use Rattle.std.specs.List.Sorted.{IsStrictlyIncreasing};
-ghost use Rattle.wu_solve.specs.Addresses.{is_among, has_address, AreLists};
+ghost use Rattle.std.specs.Prelude.{◌≡◌, ℕ, ◌+◌, ◌^◌, ◌<◌, ◌≤◌, ◌&&◌, filter, length, map, nat_le, nat_lt, slice_index, MatchOption};
+ghost use Rattle.std.specs.List.{AllByRecursion};
+ghost use Rattle.std.specs.List.Sorted.{IsStrictlySortedBy, IsStrictlyIncreasing};
+ghost use Rattle.std.specs.Cmp.Lexicographic.{slice_cmp};
+ghost use Rattle.std.specs.Ordering.{nat_cmp};
+ghost use Rattle.wu_solve.specs.Addresses.{is_among, has_address, AreLists, IsOther, IsListOf};
 
-use std::cmp::Ordering;
 use wu_base::{Range, TermList};
 
 /// The addresses from the bound on.
@@ -28,23 +30,28 @@ pub fn addresses_below(addresses: &[u64], bound: u64) -> &[u64]
     }
 }
 
+/// The place of the term's list, in lists that ascend by their terms' bytes; None exactly where the
+/// term has no list. Takes no memory.
+pub fn find_term(lists: &[TermList], term: &[u8]) -> Option<usize>
+    requires { IsStrictlySortedBy (slice_cmp nat_cmp) (map (λ list. list.term) lists.now) }
+    ensures { MatchOption result (AllByRecursion (IsOther term.now) lists.now) (IsListOf term.now lists.now) }
+{
+    match lists.binary_search_by(|list| list.term.as_slice().cmp(&term)) {
+        Ok(place) => Some(place),
+        Err(_) => None,
+    }
+}
+
 /// The term's addresses; none, if it has no list.
 pub fn addresses_of<'a>(lists: &'a [TermList], term: &[u8]) -> &'a [u64]
     requires { AreLists lists.now }
     ensures ascending { IsStrictlyIncreasing result.now }
     ensures same { (address : ℕ) → is_among result.now address ≡ has_address lists.now term.now address }
 {
-    let mut rest = lists;
-    while !rest.is_empty() {
-        let middle = rest.len() / 2;
-        let list = &rest[middle];
-        match list.term.as_slice().cmp(&term) {
-            Ordering::Less => rest = rest.split_at(middle + 1).1,
-            Ordering::Equal => return list.at.as_slice(),
-            Ordering::Greater => rest = rest.split_at(middle).0,
-        }
+    match find_term(lists, term) {
+        Some(place) => lists[place].at.as_slice(),
+        None => &[],
     }
-    &[]
 }
 
 /// Whether the term has the address.

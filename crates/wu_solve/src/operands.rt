@@ -1,5 +1,5 @@
 //! The extents of an expression that has no operator, at places counted from the frame's start.
-ghost use Rattle.std.specs.Prelude.{◌≡◌, ℕ, ◌+◌, ◌^◌, ◌<◌, ◌≤◌, List, ◌∷◌, length, slice_index, filter, map, nat_le, nat_lt, IfOk, true};
+ghost use Rattle.std.specs.Prelude.{◌≡◌, ℕ, ◌+◌, ◌^◌, ◌<◌, ◌≤◌, List, ◌∷◌, length, slice_index, filter, map, nat_le, nat_lt, nat_eq, IfOk, true};
 ghost use Rattle.std.specs.List.{range_with_len};
 ghost use Rattle.std.specs.List.Sorted.{IsStrictlyIncreasing};
 ghost use Rattle.wu_gcl.specs.Extents.{words_stand, is_in};
@@ -8,28 +8,35 @@ ghost use Rattle.wu_solve.specs.Addresses.{is_among, has_address, stands_by, Are
 ghost use Rattle.wu_base.specs.declared.addresses.TermList.{TermList};
 ghost use Rattle.wu_solve.specs.Listing.{Lists};
 ghost use Rattle.wu_solve.specs.Operands.{run_from};
+ghost use Rattle.wu_solve.specs.Stretches.{FrontStands};
 
 use crate::lookup::{addresses_in, has_address};
+use crate::overlaps::{Stretch, farther, known_words, overlaps};
 use std::alloc::Global;
 use wu_base::{Bytes, Extent, NoMemory, Range, TermList};
 
-/// Whether the words stand one behind the other from the address on.
-fn words_stand(lists: &[TermList], words: &[Bytes], address: u64) -> bool
+/// How many of the words, the first ones, stand one behind the other from the address on, where so
+/// many are known to.
+fn words_from(lists: &[TermList], words: &[Bytes], address: u64, known: usize) -> usize
     requires lists { AreLists lists.now }
     requires fits { address + length words.now < 2 ^ 64 }
-    ensures { result ≡ words_stand (has_address lists.now) words.now address }
+    requires within { known ≤ length words.now }
+    requires known { FrontStands (has_address lists.now) words.now address known }
+    ensures within { result ≤ length words.now }
+    ensures stand { FrontStands (has_address lists.now) words.now address result }
+    ensures whole { words_stand (has_address lists.now) words.now address ≡ nat_eq result (length words.now) }
 {
-    let mut at = address;
-    for word in words {
-        if !has_address(lists, word.as_slice(), at) {
-            return false;
+    for count in known..words.len() {
+        if !has_address(lists, words[count].as_slice(), address + count as u64) {
+            return count;
         }
-        at += 1;
     }
-    true
+    words.len()
 }
 
-/// The extents at which the words stand one behind the other.
+/// The extents at which the words stand one behind the other. Where no address has two terms, words
+/// are looked up at most three times as often as the frame has addresses, however often the phrase
+/// repeats itself: what an earlier match tells of a later one isn't looked up again.
 pub fn phrase(
     alloc: Global,
     first: &[u8],
@@ -42,11 +49,23 @@ pub fn phrase(
     ensures { IfOk result (λ v. Lists frame.len (is_in (Phrase (first.now ∷ more.now)) (stands_by lists.now frame.start) frame.len) v.items) }
 {
     let behind = more.len() as u64;
+    if behind >= frame.len {
+        return Ok(Vec::new(alloc));
+    }
+    let overlaps = overlaps(alloc, more)?;
     let addresses = addresses_in(lists, first, frame);
+    let mut stretch = Stretch { start: 0, count: 0 };
     let mut found = Vec::new(alloc);
     for address in addresses {
         let start = *address - frame.start;
-        if behind < frame.len - start && words_stand(lists, more, *address + 1) {
+        let known = known_words(stretch, &overlaps, *address + 1);
+        let count = words_from(lists, more, *address + 1, known);
+        let here = Stretch {
+            start: *address + 1,
+            count,
+        };
+        stretch = farther(stretch, here);
+        if behind < frame.len - start && count == more.len() {
             found.push(Extent {
                 start,
                 end: start + behind,

@@ -1,8 +1,17 @@
 use Rattle.std.proofs.Common.{◌≡◌, arith}
 use Rattle.std.proofs.lemmas.Grind.{common_steps}
+use Rattle.wu_solve.specs.Addresses.{has_address, stands_by}
 use Rattle.wu_solve.specs.Operands.{phrase_extents}
-use Rattle.wu_solve.proofs.Phrases.{phrase_listed}
+use Rattle.wu_solve.proofs.Phrases.{phrase_listed, no_room}
 use Rattle.wu_solve.proofs.operands.phrase.Goals as goal
+
+pub returns-then-behind-frame : goal.returns-then-behind-frame
+returns-then-behind-frame c =
+    rw c.new.ensures.items (no_room c.args.frame.len (stands_by c.args.lists.now c.args.frame.start) c.args.first.now c.args.more.now (omega arith))
+
+pub words_from-count-requires-clause-known : goal.words_from-count-requires-clause-known
+words_from-count-requires-clause-known c =
+    c.known_words-known.ensures.stand (has_address c.args.lists.now) c.args.more.now (rw c.deref.ensures.value c.in_ok-overlaps.ensures) c.loop-address.invariant.stretch
 
 pub returns : goal.returns
 returns c =
