@@ -1,17 +1,18 @@
 -- Where terms stand in the texts of a view.
-use Rattle.std.proofs.Common.{◌≡◌, ℕ, zero, suc, ◌+◌, ◌≤◌, ◌<◌, Bool, true, false, cond, List, [], ◌∷◌, ◌++◌, length, take, drop, get_or, map, refl, sym, ap, ◌∙◌, subst, arith, append_assoc, append-nil, length-append, Ordering, Less, Equal, Greater, is_eq}
+use Rattle.std.proofs.Common.{◌≡◌, ℕ, zero, suc, ◌+◌, ◌<◌, Bool, true, false, cond, List, [], ◌∷◌, ◌++◌, length, take, drop, get_or, map, refl, sym, ap, ◌∙◌, subst, arith, append_assoc, append-nil, length-append}
 use Rattle.std.proofs.lemmas.List.{take_more, length-take, length-map, take_all, drop_all}
 use Rattle.std.specs.Prelude.{nat_eq, slice_set, Result, Ok, Err, OnOk}
 use Rattle.std.specs.List.{AllByRecursion}
 use Rattle.std.specs.List.Sorted.{IsStrictlySortedBy}
-use Rattle.std.specs.Cmp.Lexicographic.{pointwise, slice_cmp, nat_list_cmp_total, texts_ties}
-use Rattle.std.specs.Ordering.{nat_cmp, ordering_reverse}
+use Rattle.std.specs.Cmp.Lexicographic.{pointwise, slice_cmp}
+use Rattle.std.specs.Ordering.{nat_cmp}
 use Rattle.wu_base.specs.declared.addresses.Range.{Range}
 use Rattle.wu_base.specs.declared.addresses.TermList.{TermList}
 use Rattle.wu_token.specs.Tokens.{tokens_of}
 use Rattle.wu_token.specs.declared.spans.Token.{Token}
+use Rattle.wu_solve.specs.Addresses.{IsOther, IsListOf}
 use Rattle.wumpus_run.specs.View.{Shown}
-use Rattle.wumpus_run.specs.Scans.{tokens_in, frames_from, places_from, with_places, noted, IsOther, IsListOf, list_without_places, list_among}
+use Rattle.wumpus_run.specs.Scans.{tokens_in, frames_from, places_from, with_places, noted, list_without_places, list_among}
 
 -- ---- noting tokens
 
@@ -72,99 +73,13 @@ with_places-all tokens (term ∷ terms) = ap (λ ls. list_among tokens term ∷ 
 
 -- ---- the list of a term
 
-abbrev text_cmp : List ℕ → List ℕ → Ordering
-text_cmp a b = slice_cmp nat_cmp a b
-
 abbrev IsSortedByTerm : List TermList → Type 0
 IsSortedByTerm lists = IsStrictlySortedBy (slice_cmp nat_cmp) (map (λ (list : TermList). list.term) lists)
-
-other_by : (a b : List ℕ) (o : Ordering) → text_cmp a b ≡ o → is_eq o ≡ false → pointwise nat_eq a b ≡ false
-other_by a b o is differs = texts_ties a b ∙ ap is_eq is ∙ differs
-
-reversed : (a b : List ℕ) (o : Ordering) → text_cmp a b ≡ o → text_cmp b a ≡ ordering_reverse o
-reversed a b o is = nat_list_cmp_total.antisymm b a ∙ ap ordering_reverse is
 
 -- other lists stay as they are
 pub map-noted-others : (term : List ℕ) (n : ℕ) (lists : List TermList) → AllByRecursion (IsOther term) lists → map (noted term n) lists ≡ lists
 map-noted-others term n [] others = refl
 map-noted-others term n (list ∷ lists) others = rw others.0 (ap (λ ls. list ∷ ls) (map-noted-others term n lists others.1))
-
-greater_are_other : (term : List ℕ) (lists : List TermList) → AllByRecursion (λ other. text_cmp term other ≡ Less) (map (λ (list : TermList). list.term) lists) → AllByRecursion (IsOther term) lists
-greater_are_other term [] less = tt
-greater_are_other term (list ∷ lists) less = (other_by term list.term Less less.0 refl, greater_are_other term lists less.1)
-
-through : (first term : List ℕ) (others : List (List ℕ)) → ((other : List ℕ) → text_cmp first other ≡ Less → text_cmp term other ≡ Less) → AllByRecursion (λ other. text_cmp first other ≡ Less) others → AllByRecursion (λ other. text_cmp term other ≡ Less) others
-through first term [] step less = tt
-through first term (other ∷ others) step less = (step other less.0, through first term others step less.1)
-
-term_at : (P : List ℕ → Type 0) (lists : List TermList) (i : ℕ) (d : TermList) → i < length lists → AllByRecursion P (map (λ (list : TermList). list.term) lists) → P (get_or lists i d).term
-term_at P [] i d within all = absurd (omega arith)
-term_at P (list ∷ lists) zero d within all = all.0
-term_at P (list ∷ lists) (suc i) d within all = term_at P lists i d (omega arith) all.1
-
--- the lists up to one with a lesser term are of other terms
-pub up_to_lesser : (lists : List TermList) (i : ℕ) (x : TermList) (term : List ℕ) → IsSortedByTerm lists → i < length lists → x ≡ get_or lists i x → text_cmp x.term term ≡ Less → AllByRecursion (IsOther term) (take (suc i) lists)
-unfolding IsStrictlySortedBy
-up_to_lesser [] i x term up within is less = absurd (omega arith)
-up_to_lesser (list ∷ lists) zero x term up within is less =
-    let here : text_cmp list.term term ≡ Less = subst (λ (l : TermList). text_cmp l.term term ≡ Less) is less in
-    (other_by term list.term Greater (reversed list.term term Less here) refl, tt)
-up_to_lesser (list ∷ lists) (suc i) x term up within is less =
-    let before : text_cmp list.term x.term ≡ Less = subst (λ (l : TermList). text_cmp list.term l.term ≡ Less) (sym is) (term_at (λ other. text_cmp list.term other ≡ Less) lists i x (omega arith) up.0) in
-    (other_by term list.term Greater (reversed list.term term Less (nat_list_cmp_total.trans list.term x.term term before less)) refl, up_to_lesser lists i x term up.1 (omega arith) is less)
-
--- the lists from one with a greater term on are of other terms
-pub from_greater : (lists : List TermList) (i : ℕ) (x : TermList) (term : List ℕ) → IsSortedByTerm lists → i < length lists → x ≡ get_or lists i x → text_cmp x.term term ≡ Greater → AllByRecursion (IsOther term) (drop i lists)
-unfolding IsStrictlySortedBy
-from_greater [] i x term up within is greater = absurd (omega arith)
-from_greater (list ∷ lists) zero x term up within is greater =
-    let here : text_cmp list.term term ≡ Greater = subst (λ (l : TermList). text_cmp l.term term ≡ Greater) is greater in
-    let less : text_cmp term list.term ≡ Less = reversed list.term term Greater here in
-    (other_by term list.term Less less refl, greater_are_other term lists (through list.term term (map (λ (l : TermList). l.term) lists) (λ other after. nat_list_cmp_total.trans term list.term other less after) up.0))
-from_greater (list ∷ lists) (suc i) x term up within is greater = from_greater lists i x term up.1 (omega arith) is greater
-
--- where the term is found, the lists before and behind are of other terms
-pub before_equal : (lists : List TermList) (i : ℕ) (x : TermList) (term : List ℕ) → IsSortedByTerm lists → i < length lists → x ≡ get_or lists i x → text_cmp x.term term ≡ Equal → AllByRecursion (IsOther term) (take i lists)
-unfolding IsStrictlySortedBy
-before_equal [] i x term up within is equal = absurd (omega arith)
-before_equal (list ∷ lists) zero x term up within is equal = tt
-before_equal (list ∷ lists) (suc i) x term up within is equal =
-    let before : text_cmp list.term x.term ≡ Less = subst (λ (l : TermList). text_cmp list.term l.term ≡ Less) (sym is) (term_at (λ other. text_cmp list.term other ≡ Less) lists i x (omega arith) up.0) in
-    let after : text_cmp term list.term ≡ Greater = sym (nat_list_cmp_total.congr x.term term list.term equal) ∙ reversed list.term x.term Less before in
-    (other_by term list.term Greater after refl, before_equal lists i x term up.1 (omega arith) is equal)
-
-pub behind_equal : (lists : List TermList) (i : ℕ) (x : TermList) (term : List ℕ) → IsSortedByTerm lists → i < length lists → x ≡ get_or lists i x → text_cmp x.term term ≡ Equal → AllByRecursion (IsOther term) (drop (suc i) lists)
-unfolding IsStrictlySortedBy
-behind_equal [] i x term up within is equal = absurd (omega arith)
-behind_equal (list ∷ lists) zero x term up within is equal =
-    let here : text_cmp list.term term ≡ Equal = subst (λ (l : TermList). text_cmp l.term term ≡ Equal) is equal in
-    greater_are_other term lists (through list.term term (map (λ (l : TermList). l.term) lists) (λ other after. sym (nat_list_cmp_total.congr list.term term other here) ∙ after) up.0)
-behind_equal (list ∷ lists) (suc i) x term up within is equal = behind_equal lists i x term up.1 (omega arith) is equal
-
--- the list that a search finds
-pub found_list : (lists : List TermList) (i : ℕ) (x : TermList) (term : List ℕ) → IsSortedByTerm lists → i < length lists → x ≡ get_or lists i x → text_cmp x.term term ≡ Equal → IsListOf term lists i
-found_list lists i x term up within is equal = record {
-  within = within;
-  same = λ d. subst (λ (l : TermList). pointwise nat_eq term l.term ≡ true) (is ∙ get_or-default lists i x d within) (texts_ties term x.term ∙ ap is_eq (reversed x.term term Equal equal));
-  before = before_equal lists i x term up within is equal;
-  behind = behind_equal lists i x term up within is equal;
-}
-  where
-    get_or-default : (xs : List TermList) (k : ℕ) (d e : TermList) → k < length xs → get_or xs k d ≡ get_or xs k e
-    get_or-default [] k d e inside = absurd (omega arith)
-    get_or-default (y ∷ ys) zero d e inside = refl
-    get_or-default (y ∷ ys) (suc k) d e inside = get_or-default ys k d e (omega arith)
-
-all_from_parts : (P : TermList → Type 0) (lists : List TermList) (n : ℕ) → AllByRecursion P (take n lists) → AllByRecursion P (drop n lists) → AllByRecursion P lists
-all_from_parts P lists zero front back = back
-all_from_parts P [] (suc n) front back = tt
-all_from_parts P (list ∷ lists) (suc n) front back = (front.0, all_from_parts P lists n front.1 back)
-
--- the lists below and above are of other terms
-pub others_all : (term : List ℕ) (lists : List TermList) (low high : ℕ) → high ≤ low → low ≤ high → AllByRecursion (IsOther term) (take low lists) → AllByRecursion (IsOther term) (drop high lists) → AllByRecursion (IsOther term) lists
-others_all term lists low high le ge front back =
-    let same : high ≡ low = omega arith in
-    all_from_parts (IsOther term) lists low front (subst (λ n. AllByRecursion (IsOther term) (drop n lists)) same back)
 
 -- the term's list gets the address
 pub set-noted : (term : List ℕ) (n : ℕ) (lists : List TermList) (i : ℕ) (d x : TermList) → IsListOf term lists i → x ≡ record (get_or lists i d) { at = (get_or lists i d).at ++ n ∷ [] } → slice_set lists i x ≡ map (noted term n) lists

@@ -16,7 +16,8 @@ use Rattle.wu_gcl.proofs.TermLists.{are_terms}
 use Rattle.wu_rank.specs.declared.results.Unit.{Unit as RankedUnit}
 use Rattle.wu_rank.specs.Scores.{length_of, total_length}
 use Rattle.wu_solve.specs.Solving.{frame_hits}
-use Rattle.wumpus_run.specs.Scans.{IsOther, IsListOf, places_from, list_among}
+use Rattle.wu_solve.specs.Addresses.{IsOther, IsListOf}
+use Rattle.wumpus_run.specs.Scans.{places_from, list_among}
 use Rattle.wumpus_run.specs.Rankings.{unit_at}
 use Rattle.wumpus_run.specs.Units.{AreTermsWith, units_in, addresses_in, list_in}
 

@@ -1,6 +1,6 @@
 -- The texts of a view, one frame behind the other, and where terms stand in them.
-use Rattle.std.specs.Prelude.{◌≡◌, ℕ, suc, ◌+◌, ◌<◌, ◌≤◌, ◌^◌, true, false, List, [], ◌∷◌, ◌++◌, length, map, take, drop, slice_index_or, nat_eq, if◌then◌else◌}
-use Rattle.std.specs.List.{flat_map, AllByRecursion}
+use Rattle.std.specs.Prelude.{◌≡◌, ℕ, suc, ◌+◌, ◌≤◌, ◌^◌, List, [], ◌∷◌, ◌++◌, length, map, nat_eq, if◌then◌else◌}
+use Rattle.std.specs.List.{flat_map}
 use Rattle.std.specs.Cmp.Lexicographic.{pointwise}
 use Rattle.wu_base.specs.declared.addresses.Range.{Range}
 use Rattle.wu_base.specs.declared.addresses.TermList.{TermList}
@@ -29,17 +29,6 @@ with_places address tokens list = record list { at = list.at ++ places_from addr
 -- the term's list with the address, if it is the token's
 abbrev pub noted : List ℕ → ℕ → TermList → TermList
 noted token address list = if pointwise nat_eq token list.term then record list { at = list.at ++ address ∷ [] } else list
-
--- the list is another term's
-abbrev pub IsOther : List ℕ → TermList → Type 0
-IsOther term list = pointwise nat_eq term list.term ≡ false
-
--- the list at the place is the term's, and it alone
-pub record IsListOf (term : List ℕ) (lists : List TermList) (place : ℕ) : Type 0 where
-  pub within : place < length lists
-  pub same : (d : TermList) → pointwise nat_eq term (slice_index_or lists place d).term ≡ true
-  pub before : AllByRecursion (IsOther term) (take place lists)
-  pub behind : AllByRecursion (IsOther term) (drop (suc place) lists)
 
 abbrev pub list_without_places : List ℕ → TermList
 list_without_places term = record { term = term; at = [] }

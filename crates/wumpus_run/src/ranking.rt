@@ -14,12 +14,13 @@ ghost use Rattle.wumpus_run.specs.Units.{AreTermsWith, units_in, start_at, in_it
 ghost use Rattle.wumpus_run.specs.View.{shown_of};
 
 use crate::answering::solve_in;
-use crate::scanning::{Scan, list_of, scan_texts};
+use crate::scanning::{Scan, scan_texts};
 use std::alloc::Global;
 use std::collections::BTreeMap;
 use wu_base::{Bytes, Extent, Ino, NoMemory, Range, Sequence, TermList};
 use wu_gcl::{Expr, terms_of};
 use wu_rank::{Ranked, Ranker, Ranking, Unit, bm25_weigh, rank, summed_length};
+use wu_solve::find_term;
 use wu_view::Seen;
 
 /// How many units hold a query word, and the best of them, the best first. A unit's extent is counted
@@ -61,19 +62,10 @@ fn terms_with(alloc: Global, unit: &Expr, words: &[Bytes]) -> Result<Vec<Bytes>,
     ensures { IfOk result (λ terms. AreTermsWith (region_of unit.now) words.now terms.items) }
 {
     let mut terms = terms_of(alloc, unit)?;
-    put_words(&mut terms, words)?;
+    terms.extend_from_slice(words)?;
     terms.sort()?;
     terms.dedup();
     Ok(terms)
-}
-
-fn put_words(terms: &mut Vec<Bytes>, words: &[Bytes]) -> Result<(), NoMemory>
-    ensures { OnOk result (terms.new.items ≡ terms.old.items ++ words.now) }
-{
-    for word in words {
-        terms.push(word.clone()?)?;
-    }
-    Ok(())
 }
 
 /// The extents of the expression, frame by frame, each with the number of its frame.
@@ -142,7 +134,7 @@ fn addresses_of<'a>(lists: &'a [TermList], term: &[u8]) -> &'a [u64]
     requires { IsStrictlySortedBy (slice_cmp nat_cmp) (map (λ list. list.term) lists.now) }
     ensures { result.now ≡ addresses_in lists.now term.now }
 {
-    match list_of(lists, term) {
+    match find_term(lists, term) {
         Some(place) => lists[place].at.as_slice(),
         None => &[],
     }

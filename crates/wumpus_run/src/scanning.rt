@@ -1,17 +1,16 @@
 //! The texts of a view as the solver sees them: one frame behind the other, and where terms stand.
-ghost use Rattle.std.specs.Prelude.{◌≡◌, ◌+◌, ◌≤◌, ◌^◌, [], length, map, IfOk, OnOk, MatchOption};
-ghost use Rattle.std.specs.List.{AllByRecursion};
+ghost use Rattle.std.specs.Prelude.{◌≡◌, ◌+◌, ◌≤◌, ◌^◌, [], length, map, IfOk, OnOk};
 ghost use Rattle.std.specs.List.Sorted.{IsStrictlySortedBy};
 ghost use Rattle.std.specs.Cmp.Lexicographic.{slice_cmp};
 ghost use Rattle.std.specs.Ordering.{nat_cmp};
-ghost use Rattle.wumpus_run.specs.Scans.{IsScan, IsOther, IsListOf, noted, with_places, list_without_places};
+ghost use Rattle.wumpus_run.specs.Scans.{IsScan, noted, with_places, list_without_places};
 ghost use Rattle.wumpus_run.specs.States.{AreShort, text_in};
 ghost use Rattle.wumpus_run.specs.View.{shown_of};
 
 use std::alloc::Global;
-use std::cmp::Ordering;
 use std::collections::BTreeMap;
 use wu_base::{Bytes, Ino, NoMemory, Range, Sequence, TermList};
+use wu_solve::find_term;
 use wu_token::{Token, tokens};
 use wu_view::Seen;
 
@@ -85,29 +84,10 @@ fn note(lists: &mut [TermList], term: &[u8], address: u64) -> Result<(), NoMemor
     requires { IsStrictlySortedBy (slice_cmp nat_cmp) (map (λ list. list.term) lists.old) }
     ensures { OnOk result (lists.new ≡ map (noted term.now address) lists.old) }
 {
-    match list_of(lists, term) {
+    match find_term(lists, term) {
         Some(place) => lists[place].at.push(address),
         None => Ok(()),
     }
-}
-
-/// The place of the term's list.
-pub(crate) fn list_of(lists: &[TermList], term: &[u8]) -> Option<usize>
-    requires { IsStrictlySortedBy (slice_cmp nat_cmp) (map (λ list. list.term) lists.now) }
-    ensures { MatchOption result (AllByRecursion (IsOther term.now) lists.now) (IsListOf term.now lists.now) }
-{
-    let mut low = 0;
-    let mut high = lists.len();
-    while low < high {
-        let middle = low + (high - low) / 2;
-        let list = &lists[middle];
-        match list.term.as_slice().cmp(&term) {
-            Ordering::Less => low = middle + 1,
-            Ordering::Equal => return Some(middle),
-            Ordering::Greater => high = middle,
-        }
-    }
-    None
 }
 
 /// The text of a file: the empty one where it was given none.
