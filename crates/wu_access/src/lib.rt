@@ -2,7 +2,10 @@
 //! permission bits, where user 0 passes every check.
 #![tactic(auto)]
 
-ghost use Rattle.std.specs.Prelude.{◌≡◌, ◌↔◌, IsTrue};
+ghost use Rattle.std.specs.Prelude.{◌≡◌, ◌↔◌, ◌==◌, IsTrue};
+ghost use Rattle.std.specs.Ordering.{nat_cmp};
+ghost use Rattle.std.specs.List.{list_any};
+ghost use Rattle.std.specs.List.Sorted.{IsStrictlySortedBy};
 ghost use Rattle.wu_access.specs.Access.{Allows, deciding_digit_of, is_allowed, is_granted};
 
 use wu_base::{Gid, Sequence, Uid};
@@ -24,7 +27,7 @@ pub struct Perm {
 pub struct UserRec {
     /// The user.
     pub uid: Uid,
-    /// Her groups, ascending.
+    /// Her groups, ascending and without repeats.
     pub groups: Sequence<Gid>,
 }
 
@@ -39,8 +42,10 @@ pub enum Want {
 
 /// Whether the user may do that. User 0 may do anything. The owner's bits alone decide for the node's
 /// owner, else the group's bits alone where the node's group is among the user's groups, else the bits
-/// of others. Takes no memory.
+/// of others. The user's groups ascend without repeats, as each tree keeps them. Takes no memory, and time
+/// logarithmic in the number of her groups.
 pub fn allows(user: &UserRec, node: &Perm, want: Want) -> bool
+    requires { IsStrictlySortedBy nat_cmp user.now.groups }
     ensures check { result ≡ is_allowed user.now node.now want }
     ensures cases { IsTrue result ↔ Allows user.now node.now want }
 {
@@ -49,15 +54,24 @@ pub fn allows(user: &UserRec, node: &Perm, want: Want) -> bool
 
 /// The octal digit of the node's mode that decides for the user.
 fn deciding_digit(user: &UserRec, node: &Perm) -> u16
+    requires { IsStrictlySortedBy nat_cmp user.now.groups }
     ensures { result ≡ deciding_digit_of user.now node.now }
 {
     if user.uid == node.uid {
         node.mode / 0o100 % 0o10
-    } else if user.groups.as_slice().contains(&node.gid) {
+    } else if is_among(user.groups.as_slice(), node.gid) {
         node.mode / 0o10 % 0o10
     } else {
         node.mode % 0o10
     }
+}
+
+/// Whether a group is among groups that ascend.
+fn is_among(groups: &[Gid], group: Gid) -> bool
+    requires { IsStrictlySortedBy nat_cmp groups.now }
+    ensures { result ≡ list_any (λ other. other == group) groups.now }
+{
+    groups.binary_search(&group).is_ok()
 }
 
 /// Whether an octal digit of a mode has the bit that is wanted.

@@ -12,3 +12,4 @@ pub mod Listed
 pub mod Reached
 pub mod Built
 pub mod Renames
+pub mod Users

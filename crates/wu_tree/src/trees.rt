@@ -1,6 +1,8 @@
 //! A tree, and what it tells.
 ghost use Rattle.std.specs.Prelude.{◌≡◌, ◌≢◌, true, IfOk, IfSome, ◌≤◌, [], map, MatchOption, slice_get};
 ghost use Rattle.std.specs.Option.{option_map};
+ghost use Rattle.std.specs.Ordering.{nat_cmp};
+ghost use Rattle.std.specs.List.Sorted.{IsStrictlySortedBy};
 
 use crate::events::Node;
 use crate::inodes::{Hold, Inode};
@@ -130,7 +132,8 @@ impl Tree {
     /// The numbers of the user's groups, ascending and without repeats. One who was never given has none.
     /// Takes no memory, and time logarithmic in the number of users.
     pub fn groups_of(&self, uid: Uid) -> &[Gid]
-        ensures { result.now ≡ groups_of self.now uid }
+        ensures groups { result.now ≡ groups_of self.now uid }
+        ensures ascend { IsStrictlySortedBy nat_cmp result.now }
     {
         match self.users.get(&uid) {
             Some(user) => user.groups.as_slice(),

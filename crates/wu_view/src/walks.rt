@@ -1,5 +1,7 @@
 //! The walk from the root through the directories that a user may enter.
 ghost use Rattle.std.specs.Prelude.{◌≡◌, ◌∷◌, ◌++◌, OnOk, IfOk};
+ghost use Rattle.std.specs.Ordering.{nat_cmp};
+ghost use Rattle.std.specs.List.Sorted.{IsStrictlySortedBy};
 ghost use Rattle.wu_view.specs.Walks.{met_at, met_node, walked, walked_whole};
 
 use std::alloc::Global;
@@ -28,6 +30,7 @@ pub(crate) fn open_links(
     tree: &Tree,
     user: &UserRec,
 ) -> Result<Vec<(Ino, Bytes)>, NoMemory>
+    requires { IsStrictlySortedBy nat_cmp user.now.groups }
     ensures { IfOk result (λ found. found.items ≡ walked_whole tree.now user.now) }
 {
     let mut files = Vec::new(alloc);
@@ -49,6 +52,7 @@ fn walk(
     path: &mut Vec<u8>,
     files: &mut Vec<(Ino, Bytes)>,
 ) -> Result<(), NoMemory>
+    requires { IsStrictlySortedBy nat_cmp user.now.groups }
     ensures files { OnOk result (files.new.items ≡ files.old.items ++ walked tree.now user.now depth directory path.old.items) }
     ensures path { OnOk result (path.new.items ≡ path.old.items) }
 {
@@ -77,6 +81,7 @@ fn walk(
 
 /// What the user meets at the node of that number.
 fn meet(tree: &Tree, user: &UserRec, ino: Ino) -> Met
+    requires { IsStrictlySortedBy nat_cmp user.now.groups }
     ensures { result ≡ met_at tree.now user.now ino }
 {
     match tree.node(ino) {
@@ -86,6 +91,7 @@ fn meet(tree: &Tree, user: &UserRec, ino: Ino) -> Met
 }
 
 fn meet_node(user: &UserRec, node: &Node) -> Met
+    requires { IsStrictlySortedBy nat_cmp user.now.groups }
     ensures { result ≡ met_node user.now (Some node.now) }
 {
     let (want, met) = match node.kind {

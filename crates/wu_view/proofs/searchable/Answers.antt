@@ -15,10 +15,13 @@ use Rattle.wu_view.proofs.searchable.Goals as goal
 pub ascending-view-requires : goal.ascending-view-requires
 ascending-view-requires c = seen_exact
 
+pub open_links-requires : goal.open_links-requires
+open_links-requires c = subst (λ (l : List ℕ). IsStrictlySortedBy nat_cmp l) (sym (c.from.ensures ∙ c.in_ok-groups.ensures.items)) c.groups_of.ensures.ascend
+
 pub returns : goal.returns
 unfolding view_of
 returns c =
-    let groups : c.from.result ≡ groups_of c.args.tree.now c.args.uid = c.from.ensures ∙ c.in_ok-groups.ensures.items ∙ c.groups_of.ensures in
+    let groups : c.from.result ≡ groups_of c.args.tree.now c.args.uid = c.from.ensures ∙ c.in_ok-groups.ensures.items ∙ c.groups_of.ensures.groups in
     let found : c.in_ok-found.found.items ≡ walked_whole c.args.tree.now (user_with c.args.uid c.from.result) = c.in_ok-found.ensures in
     let paths : (ino : ℕ) → get nat_cmp c.in_ok-files.files ino ≡ unless_empty (paths_of ino (walked_whole c.args.tree.now (user_with c.args.uid c.from.result))) =
     λ ino. c.in_ok-files.ensures.paths ino ∙ ap (λ (l : List Found). unless_empty (paths_of ino l)) found in
