@@ -5,7 +5,7 @@ use std::alloc::Global;
 use std::process::Abort;
 use std::test::Fail;
 use wu_ask::{Answered, Ask, Query, RankLine};
-use wu_base::{Bytes, INPUT_MAX, Sequence};
+use wu_base::{Bytes, INPUT_MAX, NoMemory, Sequence};
 use wu_gcl::{Expr, ExprFault};
 use wu_outside::{Failed, MemSource, PlainSource, Source};
 use wu_tree::{Event, Refusal};
@@ -298,11 +298,8 @@ fn a_ranking_has_at_most_64_words(rt: HostRuntime) -> Result<(), Fail> {
     expect_refused(alloc, &rt, line.as_slice(), Why::ManyWords)
 }
 
-#[test]
-fn replies_are_written(rt: HostRuntime) -> Result<(), Fail> {
-    let alloc = rt.alloc();
-    let mut paths = Sequence::new(alloc);
-    paths.push(Bytes::from_slice(alloc, b"/a\tb")?)?;
+/// A list of one region.
+fn one_region(alloc: Global) -> Result<Sequence<RankLine>, NoMemory> {
     let mut shown = Sequence::new(alloc);
     shown.push(RankLine {
         score: 27,
@@ -310,6 +307,15 @@ fn replies_are_written(rt: HostRuntime) -> Result<(), Fail> {
         start: 1,
         end: 4,
     })?;
+    Ok(shown)
+}
+
+#[test]
+fn replies_are_written(rt: HostRuntime) -> Result<(), Fail> {
+    let alloc = rt.alloc();
+    let mut paths = Sequence::new(alloc);
+    paths.push(Bytes::from_slice(alloc, b"/a\tb")?)?;
+    let shown = one_region(alloc)?;
     let rows: [(Reply, &[u8]); 7] = [
         (Reply::Ok, b"ok\n"),
         (Reply::Refused(Why::LongLine), b"refused\tlongline\n"),
