@@ -4,9 +4,13 @@ use wu_base::{Bytes, Sequence};
 /// A mark that every text has, beside its words: its start and end, and those of each line.
 #[derive(Clone, Copy, Debug, PartialEq, Eq)]
 pub enum Tag {
+    /// `<file>`, before the first line.
     FileStart,
+    /// `</file>`, behind the last line.
     FileEnd,
+    /// `<line>`, before a line's words.
     LineStart,
+    /// `</line>`, behind them.
     LineEnd,
 }
 
@@ -40,9 +44,9 @@ pub enum Expr {
     File,
     /// One whole line.
     Line,
-    /// So many addresses, at least 1, wherever they begin.
+    /// So many addresses, from 1 to 65535, wherever they begin.
     Window(u16),
-    /// What an operator makes of two expressions.
+    /// What an operator makes of two expressions, its left operand first.
     Both(Op, Box<Expr>, Box<Expr>),
 }
 
@@ -51,7 +55,7 @@ pub enum Expr {
 pub enum ExprFault {
     /// They aren't a list of tokens, or the tokens don't fit the grammar.
     NotAnExpression,
-    /// There are too many operators or opening parentheses.
+    /// There are more than OPERATORS_MAX operators or more than PARENS_MAX opening parentheses.
     TooLarge,
     /// A quoted text is no tag and has no word.
     NoWord,

@@ -8,7 +8,8 @@ use crate::expressions::{Expr, Tag};
 use std::alloc::Global;
 use wu_base::{Bytes, NoMemory};
 
-/// The distinct words and tags of the expression, ascending by their bytes.
+/// The distinct words and tags of the expression, ascending by their bytes. The one error is want of
+/// memory.
 pub fn terms_of(alloc: Global, expr: &Expr) -> Result<Vec<Bytes>, NoMemory>
     ensures { IfOk result (λ v. AreTerms (region_of expr.now) v.items) }
 {
@@ -50,7 +51,7 @@ fn put_tag(alloc: Global, terms: &mut Vec<Bytes>, tag: Tag) -> Result<(), NoMemo
     Ok(())
 }
 
-/// A tag as a term.
+/// A tag as a term: the bytes that stand for it among a text's words. Takes no memory.
 pub fn tag_bytes(tag: Tag) -> &'static [u8]
     ensures { result.now ≡ tag_text tag }
 {

@@ -13,7 +13,7 @@ use std::alloc::Global;
 use wu_base::{Bytes, NoMemory};
 
 /// The expression's text: one space round each operator and between the words of a phrase, and
-/// parentheses round each operand that has an operator.
+/// parentheses round each operand that has an operator. The one error is want of memory.
 pub fn print(alloc: Global, expr: &Expr) -> Result<Vec<u8>, NoMemory>
     ensures text { IfOk result (λ v. v.items ≡ printed (region_of expr.now)) }
     // What a text spells is read again from what is printed of it.

@@ -15,7 +15,7 @@ use wu_base::{NoMemory, OPERATORS_MAX, PARENS_MAX};
 /// The region expression that the text spells, or the first of its faults: the text isn't a list of
 /// tokens; it has more than OPERATORS_MAX operators or more than PARENS_MAX opening parentheses; the
 /// tokens don't fit the grammar; a quoted text that is no tag has no word; a window's length isn't a
-/// decimal number from 1 to 65535 without a leading zero.
+/// decimal number from 1 to 65535 without a leading zero. The one error is want of memory.
 pub fn parse(alloc: Global, text: &[u8]) -> Result<Result<Expr, ExprFault>, NoMemory>
     ensures reads { IfOk result (λ r. Reads text.now (seen r)) }
     // Each phrase has a word, and each window an address.

@@ -1,18 +1,12 @@
 -- Lemmas on what is held and used.
-use Rattle.std.proofs.Common.{◌≡◌, ℕ, zero, suc, ◌+◌, ◌-◌, ◌≤◌, List, [], ◌∷◌, ◌++◌, length, take, drop, slice_range, Option, refl, sym, ap, ◌∙◌, append_assoc, append-nil, length-append, subst, arith}
-use Rattle.std.proofs.lemmas.List.{drop-take, drop-drop, length-take, take-append-drop}
+use Rattle.std.proofs.Common.{◌≡◌, ℕ, ◌+◌, ◌-◌, ◌≤◌, List, [], ◌++◌, length, take, drop, slice_range, Option, refl, sym, ap, ◌∙◌, append_assoc, append-nil, length-append, subst, arith}
+use Rattle.std.proofs.lemmas.List.{drop-take, drop-drop, length-take, take-take, take-append-le, take-append-drop}
 use Rattle.std.proofs.KnownBytes.{Consumes-trans, Consumes-nil}
 use Rattle.wu_script.specs.Holding.{Held, Uses}
 
-front : (g r : List ℕ) (len count : ℕ) → count ≤ length g → length g ≤ len → take count (take len (g ++ r)) ≡ take count g
-front g r len zero within fits = refl
-front [] r len (suc count) within fits = absurd (omega arith)
-front (x ∷ g) r zero (suc count) within fits = absurd (omega arith)
-front (x ∷ g) r (suc len) (suc count) within fits = ap (λ xs. x ∷ xs) (front g r len count (omega arith) (omega arith))
-
 -- the bytes at the front of a buffer that was filled anew
 pub filled : (g r : List ℕ) (len count : ℕ) → count ≤ length g → length g ≤ len → slice_range (take len (g ++ r)) 0 count ≡ take count g
-filled g r len count within fits = let same : count - 0 ≡ count = omega arith in rw same (front g r len count within fits)
+filled g r len count within fits = let same : count - 0 ≡ count = omega arith in rw same (take-take count len (g ++ r) (omega arith) ∙ take-append-le count g r within)
 
 -- the bytes that are left of a window, some of whose bytes were used
 pub window_left : (items : List ℕ) (at' end count : ℕ) → count ≤ length (slice_range items at' end) → slice_range items (at' + count) end ≡ drop count (slice_range items at' end)

@@ -1,8 +1,8 @@
 -- Lemmas on the items of a script.
-use Rattle.std.proofs.Common.{◌≡◌, ℕ, ◌<◌, ◌≤◌, Bool, true, false, ◌||◌, eqb, List, [], ◌∷◌, ◌++◌, length, refl, ap, sym, ◌∙◌, subst, append_assoc, append-nil, length-append, MatchBool, arith}
+use Rattle.std.proofs.Common.{◌≡◌, ℕ, ◌<◌, ◌≤◌, Bool, true, false, eqb, List, [], ◌∷◌, ◌++◌, length, refl, ap, sym, ◌∙◌, subst, append_assoc, append-nil, length-append, MatchBool, arith}
 use Rattle.std.proofs.Math.Seq.{take-append_seam, drop-append_seam}
 use Rattle.std.specs.Prelude.{nat_lt}
-use Rattle.std.proofs.lemmas.Bool.{lt-ltb, le-ltb}
+use Rattle.std.proofs.lemmas.Bool.{lt-ltb, le-ltb, or_parts}
 use Rattle.wu_script.specs.declared.types.Why.{Why}
 use Rattle.wu_script.specs.declared.types.Why.TheVariants.{LongLine, Truncated, TooLong, BadBody}
 use Rattle.wu_script.specs.declared.types.Item.{Item}
@@ -11,32 +11,24 @@ use Rattle.wu_script.specs.declared.types.Command.{Command}
 use Rattle.wu_script.specs.declared.types.Command.TheVariants as commands
 use Rattle.wu_script.specs.Holding.{Held}
 use Rattle.wu_script.specs.Taking.{IsOneLine, Kept, closing}
-use Rattle.wu_script.specs.Commands.{Meaning, Happens, Counts, Ranks, ListsPaths, GivesText, IsRefused, IsBlank, meaning_of, IsCommand, IsRefusal, IsBlankLine, IsTextHead, Shows}
+use Rattle.wu_script.specs.Commands.{Meaning, GivesText, IsRefused, meaning_of, IsCommand, IsRefusal, IsBlankLine, IsTextHead, Shows}
 use Rattle.wu_script.specs.declared.types.Line.{Line}
 use Rattle.wu_script.specs.Items.{Entry, Spoken, Texted, First, line_at, after_line, has_feed, body_entry, text_at, entry_at, first_of, IsEntry, IsOneItem, IsOneBody, IsItem}
-
-or_left : (a b : Bool) → (a || b) ≡ false → a ≡ false
-or_left true b e = cc
-or_left false b e = refl
-
-or_right : (a b : Bool) → (a || b) ≡ false → b ≡ false
-or_right true b e = cc
-or_right false b e = e
 
 -- a line and what follows it
 pub line_at-closed : (text rest : List ℕ) → IsOneLine text → (line_at (text ++ 10 ∷ rest) ≡ text) × (after_line (text ++ 10 ∷ rest) ≡ rest) × (has_feed (text ++ 10 ∷ rest) ≡ true)
 line_at-closed [] rest one = (refl, refl, refl)
 line_at-closed (byte ∷ text) rest one =
-    let tail = line_at-closed text rest (or_right (eqb byte 10) _ one) in
-    let here = or_left (eqb byte 10) _ one in
-    (rw (here, tail.0) refl, rw (here, tail.1) refl, rw (here, tail.2) refl)
+    let parts = or_parts (eqb byte 10) _ one in
+    let tail = line_at-closed text rest parts.1 in
+    (rw (parts.0, tail.0) refl, rw (parts.0, tail.1) refl, rw (parts.0, tail.2) refl)
 
 pub line_at-last : (text : List ℕ) → IsOneLine text → (line_at text ≡ text) × (after_line text ≡ [])
 line_at-last [] one = (refl, refl)
 line_at-last (byte ∷ text) one =
-    let tail = line_at-last text (or_right (eqb byte 10) _ one) in
-    let here = or_left (eqb byte 10) _ one in
-    (rw (here, tail.0) refl, rw (here, tail.1) refl)
+    let parts = or_parts (eqb byte 10) _ one in
+    let tail = line_at-last text parts.1 in
+    (rw (parts.0, tail.0) refl, rw (parts.0, tail.1) refl)
 
 pub line_used : (text : List ℕ) (closed : Bool) → IsOneLine text → (line_at (text ++ closing closed) ≡ text) × (after_line (text ++ closing closed) ≡ []) × (has_feed (text ++ closing closed) ≡ closed)
 line_used text true one = line_at-closed text [] one
@@ -51,41 +43,21 @@ IsSpoken (GivesText ino len) = ⊥
 IsSpoken _ = Unit {0}
 
 entry_at-spoken : (meaning : Meaning) (rest : List ℕ) (closed : Bool) → IsSpoken meaning → entry_at meaning rest closed ≡ record { entry = Spoken meaning; rest = rest; closed = closed }
-entry_at-spoken (Happens event) rest closed spoken = refl
-entry_at-spoken (Counts uid text) rest closed spoken = refl
-entry_at-spoken (Ranks uid k unit words) rest closed spoken = refl
-entry_at-spoken (ListsPaths uid) rest closed spoken = refl
 entry_at-spoken (GivesText ino len) rest closed spoken = absurd spoken
-entry_at-spoken (IsRefused why) rest closed spoken = refl
-entry_at-spoken IsBlank rest closed spoken = refl
+entry_at-spoken _ rest closed spoken = refl
 
 pub spoken_command : (command : Command) (meaning : Meaning) → IsCommand command meaning → IsSpoken meaning
-spoken_command command (Happens event) is = tt
-spoken_command command (Counts uid text) is = tt
-spoken_command command (Ranks uid k unit words) is = tt
-spoken_command command (ListsPaths uid) is = tt
 spoken_command (commands.Update event) (GivesText ino len) is = is
 spoken_command (commands.Ask query) (GivesText ino len) is = is
-spoken_command command (IsRefused why) is = tt
-spoken_command command IsBlank is = tt
+spoken_command _ _ is = tt
 
 pub spoken_refusal : (why : Why) (meaning : Meaning) → IsRefusal why meaning → IsSpoken meaning
-spoken_refusal why (Happens event) is = tt
-spoken_refusal why (Counts uid text) is = tt
-spoken_refusal why (Ranks uid k unit words) is = tt
-spoken_refusal why (ListsPaths uid) is = tt
 spoken_refusal why (GivesText ino len) is = is
-spoken_refusal why (IsRefused other) is = tt
-spoken_refusal why IsBlank is = tt
+spoken_refusal why _ is = tt
 
 pub spoken_blank : (meaning : Meaning) → IsBlankLine meaning → IsSpoken meaning
-spoken_blank (Happens event) is = tt
-spoken_blank (Counts uid text) is = tt
-spoken_blank (Ranks uid k unit words) is = tt
-spoken_blank (ListsPaths uid) is = tt
 spoken_blank (GivesText ino len) is = is
-spoken_blank (IsRefused other) is = tt
-spoken_blank IsBlank is = tt
+spoken_blank _ is = tt
 
 -- a line of more bytes than a line may have
 pub meaning_of-long : (text : List ℕ) → 65536 < length text → meaning_of text ≡ IsRefused LongLine
@@ -115,15 +87,12 @@ spoken_item new item text closed one last some spoken entry =
 
 -- one item is no end
 pub one_item : (new : Held) (item : Item) (used : List ℕ) → IsOneItem new item used → IsItem new item used
-one_item new (items.Command command) used is = is
-one_item new (items.Text ino body) used is = is
-one_item new (items.Refused why) used is = is
-one_item new items.Blank used is = is
 one_item new items.End used is = absurd (no_end (first_of used).entry is.entry)
   where
     no_end : (entry : Entry) → IsEntry items.End entry → ⊥
     no_end (Spoken meaning) is = is
     no_end (Texted ino body) is = is
+one_item new _ used is = is
 
 -- a line with another item after it
 pub first_of-closed : (text rest : List ℕ) → IsOneLine text → first_of (text ++ 10 ∷ [] ++ rest) ≡ entry_at (meaning_of text) rest true
@@ -184,12 +153,7 @@ shown read line slice text shows is same = subst (λ l. Shows l (meaning_of text
 
 pub head_meaning : (ino len : ℕ) (meaning : Meaning) → IsTextHead ino len meaning → meaning ≡ GivesText ino len
 head_meaning ino len (GivesText i n) is = ap (λ x. GivesText x n) (sym is.0) ∙ ap (λ x. GivesText ino x) (sym is.1)
-head_meaning ino len (Happens event) is = absurd is
-head_meaning ino len (Counts uid text) is = absurd is
-head_meaning ino len (Ranks uid k unit words) is = absurd is
-head_meaning ino len (ListsPaths uid) is = absurd is
-head_meaning ino len (IsRefused why) is = absurd is
-head_meaning ino len IsBlank is = absurd is
+head_meaning ino len _ is = absurd is
 
 pub headed : (text used : List ℕ) (closed : Bool) (ino len : ℕ) → IsOneLine text → meaning_of text ≡ GivesText ino len → (closed ≡ false → used ≡ []) → first_of (text ++ closing closed ++ used) ≡ text_at ino len used
 headed text used true ino len one is none = first_of-closed text used one ∙ ap (λ m. entry_at m used true) is

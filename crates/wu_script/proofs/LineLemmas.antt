@@ -1,20 +1,17 @@
 -- Lemmas on lines and their pieces.
-use Rattle.std.proofs.Common.{not, ◌≡◌, ℕ, zero, suc, ◌+◌, ◌<◌, ◌≤◌, Bool, true, false, eqb, List, [], ◌∷◌, ◌++◌, length, get_or, Option, Some, None, MatchOption, refl, ap, sym, ◌∙◌, subst, append_assoc, append-nil, arith}
+use Rattle.std.proofs.Common.{not, ◌≡◌, ℕ, zero, suc, ◌+◌, ◌<◌, ◌≤◌, Bool, true, false, eqb, List, [], ◌∷◌, ◌++◌, length, get_or, Option, Some, None, MatchOption, refl, ap, sym, ◌∙◌, subst, append_assoc, append-nil, length-append, arith}
 use Rattle.std.specs.List.{list_any}
-use Rattle.std.proofs.lemmas.Bool.{eqb-true}
-use Rattle.std.proofs.lemmas.List.Folds.{list_any-append}
+use Rattle.std.proofs.lemmas.Bool.{eqb-true, false_from_ne_true}
+use Rattle.std.proofs.lemmas.List.{nil_from_length}
+use Rattle.std.proofs.lemmas.List.Elements.{All-from_get_or}
+use Rattle.std.proofs.lemmas.List.Folds.{list_any-append, list_any_none}
 use Rattle.memchr.specs.Find.{IsFirstByte, is_byte}
 use Rattle.wu_script.specs.Holding.{Held, Uses}
 use Rattle.wu_script.specs.Taking.{closing, Kept, IsOneLine, IsFirstFeed, TakesPiece}
 use Rattle.wu_script.proofs.InputLemmas.{Uses-trans, Uses-front}
 
-not_true : (b : Bool) → ¬ (b ≡ true) → b ≡ false
-not_true true never = absurd (never refl)
-not_true false never = refl
-
 none_feed : (bytes : List ℕ) → ((i : ℕ) → 0 ≤ i → i < length bytes → ¬ (eqb (get_or bytes i 0) 10 ≡ true)) → IsOneLine bytes
-none_feed [] none = refl
-none_feed (byte ∷ bytes) none = rw (not_true (eqb byte 10) (none 0 (omega arith) (omega arith))) (none_feed bytes (λ i low high. none (suc i) (omega arith) (omega arith)))
+none_feed bytes none = list_any_none (λ byte. eqb byte 10) bytes (All-from_get_or (λ x. eqb x 10 ≡ false) bytes 0 (λ i within. false_from_ne_true _ (none i (omega arith) within)))
 
 first_feed : (bytes : List ℕ) (k : ℕ) → k < length bytes → ((i : ℕ) → 0 ≤ i → i < k → ¬ (eqb (get_or bytes i 0) 10 ≡ true)) → eqb (get_or bytes k 0) 10 ≡ true → IsFirstFeed bytes k
 first_feed [] k within none is = absurd (omega arith)
@@ -24,7 +21,7 @@ first_feed (byte ∷ bytes) (suc k) within none is =
     record {
       within = within;
       parts = let next : suc k + 1 ≡ suc (k + 1) = omega arith in rw next (ap (λ bs. byte ∷ bs) rest.parts);
-      one = rw (not_true (eqb byte 10) (none 0 (omega arith) (omega arith))) rest.one;
+      one = rw (false_from_ne_true (eqb byte 10) (none 0 (omega arith) (omega arith))) rest.one;
     }
 
 -- where memchr finds the first LF
@@ -82,8 +79,5 @@ kept_long limit text kept false is e = is
 pub nothing_used : (left left' : Option (List ℕ)) (old new : Held) (used : List ℕ) → Uses left left' old new used → (old.bytes ≡ []) × (old.ended ≡ true) → used ≡ []
 nothing_used left left' old new used uses none =
     let given = (uses.over none.1).0 in
-    empty_front used new.bytes (sym uses.joined ∙ ap (λ xs. xs ++ uses.given) none.0 ∙ given)
-  where
-    empty_front : (xs ys : List ℕ) → xs ++ ys ≡ [] → xs ≡ []
-    empty_front [] ys e = refl
-    empty_front (x ∷ xs) ys e = cc (e)
+    let whole : used ++ new.bytes ≡ [] = sym uses.joined ∙ ap (λ xs. xs ++ uses.given) none.0 ∙ given in
+    nil_from_length used (omega (arith, length-append used new.bytes, ap length whole))

@@ -1,9 +1,9 @@
 -- Lemmas on bytes in which the first item isn't closed.
-use Rattle.std.proofs.Common.{◌≡◌, ℕ, zero, suc, ◌<◌, ◌≤◌, Bool, true, false, eqb, List, [], ◌∷◌, ◌++◌, length, take, drop, Option, refl, ap, sym, ◌∙◌, subst, length-append, arith}
+use Rattle.std.proofs.Common.{◌≡◌, ℕ, ◌<◌, ◌≤◌, Bool, true, false, eqb, List, [], ◌∷◌, ◌++◌, length, take, drop, Option, refl, ap, sym, ◌∙◌, subst, length-append, arith}
 use Rattle.std.specs.Prelude.{nat_lt}
 use Rattle.std.proofs.Math.Seq.{drop-append_seam}
-use Rattle.std.proofs.lemmas.Bool.{ltb-true, ltb-false}
-use Rattle.std.proofs.lemmas.List.{length-take, take-append-le, drop-append-le}
+use Rattle.std.proofs.lemmas.Bool.{ltb-true, ltb-false, or_parts}
+use Rattle.std.proofs.lemmas.List.{length-take, take-append-le, drop-append-le, take-append-drop, take_all, drop_all}
 use Rattle.std.proofs.lemmas.List.Folds.{list_any-append}
 use Rattle.wu_script.specs.Holding.{Held, Uses}
 use Rattle.wu_script.specs.Taking.{closing, IsOneLine}
@@ -14,13 +14,7 @@ use Rattle.wu_script.proofs.TurnLemmas.{after_last, entry_unclosed, text_at-noth
 
 -- a front of a line is one
 pub one_line-take : (n : ℕ) (bytes : List ℕ) → IsOneLine bytes → IsOneLine (take n bytes)
-one_line-take zero bytes one = refl
-one_line-take (suc n) [] one = refl
-one_line-take (suc n) (byte ∷ bytes) one = by_case (eqb byte 10) refl (one_line-take n bytes)
-  where
-    by_case : (here : Bool) → eqb byte 10 ≡ here → (IsOneLine bytes → IsOneLine (take n bytes)) → IsOneLine (byte ∷ take n bytes)
-    by_case true is below = cc (rw is at one)
-    by_case false is below = rw is (below (rw is at one))
+one_line-take n bytes one = (or_parts _ _ (sym (list_any-append (λ byte. eqb byte 10) (take n bytes) (drop n bytes)) ∙ ap has_feed (take-append-drop n bytes) ∙ one)).0
 
 -- an LF stays, whatever follows
 pub feed_more : (bytes more : List ℕ) → has_feed bytes ≡ true → has_feed (bytes ++ more) ≡ true
@@ -46,12 +40,6 @@ text_open ino len bytes one = by_case (nat_lt (length bytes) len) refl
     by_case : (short : Bool) → nat_lt (length bytes) len ≡ short → (text_at ino len bytes).closed ≡ false
     by_case true is = rw is refl
     by_case false is = rw is one
-
-drop_all : (len : ℕ) (bytes : List ℕ) → length bytes ≤ len → drop len bytes ≡ []
-drop_all zero [] within = refl
-drop_all zero (byte ∷ bytes) within = absurd (omega arith)
-drop_all (suc len) [] within = refl
-drop_all (suc len) (byte ∷ bytes) within = drop_all len bytes (omega arith)
 
 -- also where no more bytes stand there than the body has
 pub text_open-front : (ino len : ℕ) (bytes : List ℕ) → length bytes ≤ len → (text_at ino len bytes).closed ≡ false
@@ -85,21 +73,12 @@ head_open ino len n line closed one is = by_case (nat_lt (length line) n) refl
     whole : (first_of (line ++ closing closed)).closed ≡ false
     whole = ap (λ (f : First). f.closed) (first_of-line line closed one ∙ ap (λ m. entry_at m [] closed) (head_meaning ino len (meaning_of line) is)) ∙ text_at-nothing ino len
 
-    all : (c : Bool) → length line < n → take n (line ++ closing c) ≡ line ++ closing c
-    all c more = take_all n (line ++ closing c) (enough c)
-      where
-        enough : (c : Bool) → length (line ++ closing c) ≤ n
-        enough true = omega (arith, length-append line (10 ∷ []), more)
-        enough false = omega (arith, length-append line [], more)
-
-        take_all : (n : ℕ) (bytes : List ℕ) → length bytes ≤ n → take n bytes ≡ bytes
-        take_all zero [] within = refl
-        take_all zero (byte ∷ bytes) within = absurd (omega arith)
-        take_all (suc n) [] within = refl
-        take_all (suc n) (byte ∷ bytes) within = ap (λ bs. byte ∷ bs) (take_all n bytes (omega arith))
+    enough : (c : Bool) → length line < n → length (line ++ closing c) ≤ n
+    enough true more = omega (arith, length-append line (10 ∷ []), more)
+    enough false more = omega (arith, length-append line [], more)
 
     by_case : (over : Bool) → nat_lt (length line) n ≡ over → (first_of (take n (line ++ closing closed))).closed ≡ false
-    by_case true is = subst (λ (bs : List ℕ). (first_of bs).closed ≡ false) (sym (all closed (ltb-true (length line) n is))) whole
+    by_case true is = subst (λ (bs : List ℕ). (first_of bs).closed ≡ false) (sym (take_all n (line ++ closing closed) (enough closed (ltb-true (length line) n is)))) whole
     by_case false is = subst (λ (bs : List ℕ). (first_of bs).closed ≡ false) (sym (take-append-le n line (closing closed) (ltb-false (length line) n is))) (line_open (take n line) (one_line-take n line one))
 
 pub headed_open : (ino len : ℕ) (line bytes : List ℕ) (closed : Bool) → IsOneLine line → IsTextHead ino len (meaning_of line) → (closed ≡ false → bytes ≡ []) → (text_at ino len bytes).closed ≡ false → (first_of (line ++ closing closed ++ bytes)).closed ≡ false

@@ -1,6 +1,6 @@
 -- Lemmas on reading that stopped without an item.
-use Rattle.std.proofs.Common.{◌≡◌, ℕ, zero, suc, ◌+◌, ◌-◌, ◌<◌, ◌≤◌, Bool, true, false, List, [], ◌∷◌, ◌++◌, length, take, Option, Result, Ok, Err, IfErr, IsErrAnd, refl, ap, sym, ◌∙◌, subst, append_assoc, append-nil, length-append, ◌⊎◌, inl, inr, arith}
-use Rattle.std.proofs.Math.Seq.{take-append-add}
+use Rattle.std.proofs.Common.{◌≡◌, ℕ, ◌+◌, ◌-◌, ◌<◌, ◌≤◌, Bool, true, false, List, [], ◌++◌, length, take, Option, Result, Ok, Err, IfErr, IsErrAnd, refl, ap, sym, ◌∙◌, subst, append_assoc, append-nil, length-append, ◌⊎◌, inl, inr, arith}
+use Rattle.std.proofs.Math.Seq.{take-append-add, take-nil}
 use Rattle.std.proofs.lemmas.List.{take-append-le}
 use Rattle.std.specs.Prelude.{nat_lt}
 use Rattle.std.proofs.lemmas.Bool.{ltb-true, ltb-false}
@@ -79,12 +79,7 @@ settled_after NoMemory old between first used more joined counted =
 
 nothing_settled : (end : ReadEnd) (held : Held) (given : List ℕ) → held.bytes ≡ [] → given ≡ [] → settled end held given ≡ []
 nothing_settled ReadFault held given none over = rw (none, over) refl
-nothing_settled InputTooLong held given none over = rw (none, over) (take_nothing held.spare [] refl)
-  where
-    take_nothing : (n : ℕ) (bytes : List ℕ) → bytes ≡ [] → take n bytes ≡ []
-    take_nothing zero bytes is = refl
-    take_nothing (suc n) [] is = refl
-    take_nothing (suc n) (byte ∷ bytes) is = cc (is)
+nothing_settled InputTooLong held given none over = rw (none, over) (take-nil held.spare)
 nothing_settled NoMemory held given none over = rw (none, over) refl
 
 -- reading that stopped after some uses: each front of the used bytes is short, and so are the used bytes with what is settled after them

@@ -3,11 +3,11 @@ use Rattle.std.proofs.Common.{◌≡◌, ℕ, zero, suc, ◌<◌, ◌≤◌, Boo
 use Rattle.std.specs.Prelude.{nat_lt, if◌then◌else◌}
 use Rattle.std.specs.Io.KnownBytes.{IsAtEnd, prepend_known}
 use Rattle.std.proofs.lemmas.Bool.{lt-ltb, le-ltb, ltb-false}
-use Rattle.std.proofs.lemmas.List.{take-append-le, length-drop}
+use Rattle.std.proofs.lemmas.List.{take-append-le, drop-append-le, length-drop}
 use Rattle.wu_script.specs.declared.types.Item.{Item}
 use Rattle.wu_script.specs.declared.types.Item.TheVariants as items
 use Rattle.wu_script.specs.Holding.{Held}
-use Rattle.wu_script.specs.Commands.{Meaning, Happens, Counts, Ranks, ListsPaths, GivesText, IsRefused, IsBlank, meaning_of}
+use Rattle.wu_script.specs.Commands.{Meaning, GivesText, meaning_of}
 use Rattle.wu_script.specs.Items.{First, line_at, after_line, has_feed, text_at, entry_at, Entry, first_of, items_within, items_of, whole_within, whole_items_of, IsEntry, IsOneItem, IsItem, TakesItem, IsFirstItem, IsNext}
 
 -- a line that is closed stays, whatever follows
@@ -20,11 +20,6 @@ line_more (byte ∷ bytes) more feed = by_case (eqb byte 10) refl (λ below. lin
     by_case false is below =
         let tail = below (rw is at feed) in
         (rw (is, tail.0) refl, rw (is, tail.1) refl, rw (is, tail.2) refl)
-
-drop-append-le : (n : ℕ) (xs ys : List ℕ) → n ≤ length xs → drop n (xs ++ ys) ≡ drop n xs ++ ys
-drop-append-le zero xs ys within = refl
-drop-append-le (suc n) [] ys within = absurd (omega arith)
-drop-append-le (suc n) (x ∷ xs) ys within = drop-append-le n xs ys (omega arith)
 
 -- what a first item is when more bytes follow it
 abbrev more_after : First → List ℕ → First
@@ -47,12 +42,7 @@ text_at-nothing ino (suc len) = rw (lt-ltb 0 (suc len) (omega arith)) refl
 
 entry_more : (meaning : Meaning) (rest more : List ℕ) → (entry_at meaning rest true).closed ≡ true → entry_at meaning (rest ++ more) true ≡ more_after (entry_at meaning rest true) more
 entry_more (GivesText ino len) rest more closed = text_more ino len rest more closed
-entry_more (Happens event) rest more closed = refl
-entry_more (Counts uid text) rest more closed = refl
-entry_more (Ranks uid k unit words) rest more closed = refl
-entry_more (ListsPaths uid) rest more closed = refl
-entry_more (IsRefused why) rest more closed = refl
-entry_more IsBlank rest more closed = refl
+entry_more _ rest more closed = refl
 
 pub after_last : (bytes : List ℕ) → has_feed bytes ≡ false → after_line bytes ≡ []
 after_last [] none = refl
@@ -64,12 +54,7 @@ after_last (byte ∷ bytes) none = by_case (eqb byte 10) refl (λ below. after_l
 
 pub entry_unclosed : (meaning : Meaning) → (entry_at meaning [] false).closed ≡ false
 entry_unclosed (GivesText ino len) = text_at-nothing ino len
-entry_unclosed (Happens event) = refl
-entry_unclosed (Counts uid text) = refl
-entry_unclosed (Ranks uid k unit words) = refl
-entry_unclosed (ListsPaths uid) = refl
-entry_unclosed (IsRefused why) = refl
-entry_unclosed IsBlank = refl
+entry_unclosed _ = refl
 
 -- an item whose closing LF was given stays, whatever follows
 pub first_more : (bytes more : List ℕ) → (first_of bytes).closed ≡ true → first_of (bytes ++ more) ≡ more_after (first_of bytes) more
@@ -115,10 +100,7 @@ turn_known : (new : Held) (item : Item) (bytes used ys : List ℕ) → bytes ≡
 turn_known new items.End bytes used ys known at_end is =
     let none : new.bytes ++ ys ≡ [] = ap (λ bs. bs ++ ys) is.1 ∙ at_end is.2 in
     (known ∙ ap (λ bs. bs ++ (new.bytes ++ ys)) is.0 ∙ none, none)
-turn_known new (items.Command command) bytes used ys known at_end is = turn_one new (items.Command command) bytes used ys known at_end is
-turn_known new (items.Text ino body) bytes used ys known at_end is = turn_one new (items.Text ino body) bytes used ys known at_end is
-turn_known new (items.Refused why) bytes used ys known at_end is = turn_one new (items.Refused why) bytes used ys known at_end is
-turn_known new items.Blank bytes used ys known at_end is = turn_one new items.Blank bytes used ys known at_end is
+turn_known new item bytes used ys known at_end is = turn_one new item bytes used ys known at_end is
 
 -- over a source that tells what it has left the item taken is the first
 pub turn_taken : (left left' : Option (List ℕ)) (old new : Held) (item : Item) → TakesItem left left' old new item → (old.ended ≡ true → IsAtEnd left) → IsNext (prepend_known old.bytes left) (prepend_known new.bytes left') item
@@ -155,12 +137,7 @@ text_short ino len bytes = by_case (nat_lt (length bytes) len) refl
 
 entry_short : (meaning : Meaning) (rest : List ℕ) (closed : Bool) → length (entry_at meaning rest closed).rest ≤ length rest
 entry_short (GivesText ino len) rest closed = text_short ino len rest
-entry_short (Happens event) rest closed = omega arith
-entry_short (Counts uid text) rest closed = omega arith
-entry_short (Ranks uid k unit words) rest closed = omega arith
-entry_short (ListsPaths uid) rest closed = omega arith
-entry_short (IsRefused why) rest closed = omega arith
-entry_short IsBlank rest closed = omega arith
+entry_short _ rest closed = omega arith
 
 -- an item takes a byte or more
 first_short : (byte : ℕ) (bytes : List ℕ) → length (first_of (byte ∷ bytes)).rest ≤ length bytes

@@ -4,7 +4,7 @@ use Rattle.std.specs.List.{list_any}
 use Rattle.wu_script.specs.declared.types.Why.TheVariants.{Truncated, TooLong, BadBody}
 use Rattle.wu_script.specs.declared.types.Item.{Item}
 use Rattle.wu_script.specs.declared.types.Item.TheVariants as items
-use Rattle.wu_script.specs.Commands.{Meaning, Happens, Counts, Ranks, ListsPaths, GivesText, IsRefused, IsBlank, meaning_of, IsCommand, IsRefusal, IsBlankLine, IsSoundCommand}
+use Rattle.wu_script.specs.Commands.{Meaning, GivesText, IsRefused, meaning_of, IsCommand, IsRefusal, IsBlankLine, IsSoundCommand}
 use Rattle.wu_script.specs.declared.ends.ReadEnd.{ReadEnd}
 use Rattle.wu_script.specs.Holding.{Held, Uses, Stops}
 
@@ -50,12 +50,7 @@ text_at ino len bytes =
 
 abbrev pub entry_at : Meaning → List ℕ → Bool → First
 entry_at (GivesText ino len) rest closed = text_at ino len rest
-entry_at (Happens event) rest closed = record { entry = Spoken (Happens event); rest = rest; closed = closed }
-entry_at (Counts uid text) rest closed = record { entry = Spoken (Counts uid text); rest = rest; closed = closed }
-entry_at (Ranks uid k unit words) rest closed = record { entry = Spoken (Ranks uid k unit words); rest = rest; closed = closed }
-entry_at (ListsPaths uid) rest closed = record { entry = Spoken (ListsPaths uid); rest = rest; closed = closed }
-entry_at (IsRefused why) rest closed = record { entry = Spoken (IsRefused why); rest = rest; closed = closed }
-entry_at IsBlank rest closed = record { entry = Spoken IsBlank; rest = rest; closed = closed }
+entry_at meaning rest closed = record { entry = Spoken meaning; rest = rest; closed = closed }
 
 -- the first item of bytes, of which there is one or more
 unfoldable pub first_of : List ℕ → First

@@ -20,7 +20,8 @@ use wu_tree::Event;
 /// LINE_MAX bytes; blank, no byte or `#` at its front; `Syntax` for an escape fault; `Unbuilt` for a
 /// command that isn't built yet; `Syntax` for an unknown command, a wrong number of fields or a field
 /// out of form or range; the faults of a `count`'s expression, or of a `rank`'s unit; `NoWord` and
-/// `ManyWords` for a `rank` by no word, or by more than RANK_WORDS_MAX.
+/// `ManyWords` for a `rank` by no word, or by more than RANK_WORDS_MAX. The one error is want of
+/// memory.
 #[tactic(auto, unfolding(crate::specs::Commands::meaning_of, crate::specs::Commands::fields_meaning))]
 pub fn read_command(alloc: Global, line: &[u8]) -> Result<Line, NoMemory>
     ensures says { IfOk result (λ read. Shows read (meaning_of line.now)) }

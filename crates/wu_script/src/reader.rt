@@ -36,7 +36,8 @@ impl Model for Reader {
 impl Reader {
     ghost use Rattle.wu_script.specs.Items.{TakesItem, TakesBody, IsNext, IsSoundItem, StopsBeforeItem, first_of, text_at};
 
-    /// A reader of a script of at most so many bytes.
+    /// A reader of a script of at most so many bytes. It takes room for READ_MAX bytes; the one error
+    /// is want of memory.
     pub fn new(alloc: Global, max_input: u64) -> Result<Reader, NoMemory>
         ensures { IfOk result (λ reader. reader ≡ record { bytes = []; spare = max_input; ended = false }) }
     {
@@ -49,7 +50,7 @@ impl Reader {
     /// The next item of the script. It asks the source for at most READ_MAX bytes at once, and at most
     /// as many as it may give, or for one byte where it may give none, and for nothing while a whole
     /// item is held. `InputTooLong` comes where that byte is given, `ReadFault` where the source
-    /// failed. After `End` or an error a reader is only dropped.
+    /// failed, and `NoMemory` for want of memory. After `End` or an error a reader is only dropped.
     pub fn next<I: Source>(&mut self, source: &mut I) -> Result<Item, ReadEnd>
         // Over every source: bytes that were held or given are the item, and were used.
         ensures taken { IfOk result (TakesItem (I.left source.old) (I.left source.new) self.old self.new) }

@@ -10,7 +10,9 @@ use wu_fields::{put_decimal, put_field};
 use wu_gcl::ExprFault;
 use wu_tree::Refusal;
 
-/// Appends the lines of the reply. After want of memory `out` is as it was.
+/// Appends the lines of the reply: the fields of a line have a TAB between each two, numbers are
+/// decimal, paths are escaped, and each line ends with LF. The one error is want of memory; `out` is
+/// then as it was.
 pub fn put_reply(out: &mut Vec<u8>, reply: &Reply) -> Result<(), NoMemory>
     ensures ok { OnOk result (out.new.items ≡ out.old.items ++ reply_bytes reply.now) }
     ensures err { OnErr result (out.new.items ≡ out.old.items) }

@@ -5,7 +5,7 @@ use std::alloc::Global;
 use std::process::Abort;
 use std::test::Fail;
 use wu_ask::{Answered, Ask, Query, RankLine};
-use wu_base::{Bytes, INPUT_MAX, Sequence};
+use wu_base::{Bytes, INPUT_MAX, NoMemory, Sequence};
 use wu_gcl::{Expr, ExprFault};
 use wu_outside::{Failed, MemSource, PlainSource, Source};
 use wu_tree::{Event, Refusal};
@@ -133,26 +133,24 @@ fn expect_letters(
 
 #[test]
 fn items_are_the_same_in_any_pieces(rt: HostRuntime) -> Result<(), Fail> {
-    let alloc = rt.alloc();
-    expect_letters(alloc, &rt, b"", b".")?;
-    expect_letters(alloc, &rt, b"\n# no reply\n\nfly\nfind\n", b"---SU.")?;
-    expect_letters(
-        alloc,
-        &rt,
-        b"text\t2\t5\napple\ncount\t5\t\"apple\"",
-        b"ta.",
-    )?;
-    expect_letters(alloc, &rt, b"text\t2\t0", b"t.")?;
-    expect_letters(alloc, &rt, b"text\t2\t9\nabc", b"C.")?;
-    expect_letters(alloc, &rt, b"text\t2\t3\nabcd\npaths\t0\n", b"Ba.")?;
-    expect_letters(alloc, &rt, b"text\t2\t3\nabc\n\npaths\t0\n", b"t-a.")?;
-    expect_letters(alloc, &rt, b"text\t0\t3\nabc\nunlink\t1\ta\\x", b"SSS.")?;
-    expect_letters(
-        alloc,
-        &rt,
-        b"count\t5\tapple\nchmod\t2\t0640\nrename\t1\ta\t1\tb",
-        b"Euu.",
-    )
+    let rows: [(&[u8], &[u8]); 9] = [
+        (b"", b"."),
+        (b"\n# no reply\n\nfly\nfind\n", b"---SU."),
+        (b"text\t2\t5\napple\ncount\t5\t\"apple\"", b"ta."),
+        (b"text\t2\t0", b"t."),
+        (b"text\t2\t9\nabc", b"C."),
+        (b"text\t2\t3\nabcd\npaths\t0\n", b"Ba."),
+        (b"text\t2\t3\nabc\n\npaths\t0\n", b"t-a."),
+        (b"text\t0\t3\nabc\nunlink\t1\ta\\x", b"SSS."),
+        (
+            b"count\t5\tapple\nchmod\t2\t0640\nrename\t1\ta\t1\tb",
+            b"Euu.",
+        ),
+    ];
+    for (script, wanted) in &rows {
+        expect_letters(rt.alloc(), &rt, script, wanted)?;
+    }
+    Ok(())
 }
 
 #[test]
@@ -270,45 +268,38 @@ fn a_ranking_has_a_unit_and_words(rt: HostRuntime) -> Result<(), Fail> {
         wanted.push(Bytes::from_slice(alloc, word)?)?;
     }
     assert!(rt; words == wanted);
-    expect_refused(alloc, &rt, b"rank\t5\t10001\tline\tpear", Why::Syntax)?;
-    expect_refused(alloc, &rt, b"rank\t5\t9\tline", Why::Syntax)?;
-    expect_refused(
-        alloc,
-        &rt,
-        b"rank\t5\t9\t\"!\"\t",
-        Why::Expr(ExprFault::NoWord),
-    )?;
-    expect_refused(
-        alloc,
-        &rt,
-        b"rank\t5\t9\tpear\t",
-        Why::Expr(ExprFault::NotAnExpression),
-    )?;
-    expect_refused(alloc, &rt, b"rank\t5\t9\tline\t!?", Why::NoWord)?;
-    let mut long = Vec::from_slice(alloc, b"rank\t5\t9\tline\t")?;
-    for _ in 0..64 {
-        long.extend_from_slice(b"x ")?;
-    }
-    assert!(rt; matches!(read_command(alloc, long.as_slice())?, Line::Command(_)));
-    long.push(b'y')?;
-    expect_refused(alloc, &rt, long.as_slice(), Why::ManyWords)
+    Ok(())
 }
 
 #[test]
-fn replies_are_written(rt: HostRuntime) -> Result<(), Fail> {
+fn rankings_are_refused_for_the_unit_before_the_words(rt: HostRuntime) -> Result<(), Fail> {
+    let rows: [(&[u8], Why); 5] = [
+        (b"rank\t5\t10001\tline\tpear", Why::Syntax),
+        (b"rank\t5\t9\tline", Why::Syntax),
+        (b"rank\t5\t9\t\"!\"\t", Why::Expr(ExprFault::NoWord)),
+        (b"rank\t5\t9\tpear\t", Why::Expr(ExprFault::NotAnExpression)),
+        (b"rank\t5\t9\tline\t!?", Why::NoWord),
+    ];
+    for (line, wanted) in &rows {
+        expect_refused(rt.alloc(), &rt, line, *wanted)?;
+    }
+    Ok(())
+}
+
+#[test]
+fn a_ranking_has_at_most_64_words(rt: HostRuntime) -> Result<(), Fail> {
     let alloc = rt.alloc();
-    let mut out = Vec::new(alloc);
-    let mut paths = Sequence::new(alloc);
-    paths.push(Bytes::from_slice(alloc, b"/a\tb")?)?;
-    put_reply(&mut out, &Reply::Ok)?;
-    put_reply(&mut out, &Reply::Refused(Why::LongLine))?;
-    put_reply(&mut out, &Reply::Refused(Why::Tree(Refusal::NotEmpty)))?;
-    put_reply(&mut out, &Reply::Refused(Why::Expr(ExprFault::TooLarge)))?;
-    put_reply(
-        &mut out,
-        &Reply::Answered(Answered::Count { hits: 4, files: 2 }),
-    )?;
-    put_reply(&mut out, &Reply::Answered(Answered::Paths { paths }))?;
+    let mut line = Vec::from_slice(alloc, b"rank\t5\t9\tline\t")?;
+    for _ in 0..64 {
+        line.extend_from_slice(b"x ")?;
+    }
+    assert!(rt; matches!(read_command(alloc, line.as_slice())?, Line::Command(_)));
+    line.push(b'y')?;
+    expect_refused(alloc, &rt, line.as_slice(), Why::ManyWords)
+}
+
+/// A list of one region.
+fn one_region(alloc: Global) -> Result<Sequence<RankLine>, NoMemory> {
     let mut shown = Sequence::new(alloc);
     shown.push(RankLine {
         score: 27,
@@ -316,10 +307,58 @@ fn replies_are_written(rt: HostRuntime) -> Result<(), Fail> {
         start: 1,
         end: 4,
     })?;
-    let ranked = Answered::Rank { listed: 2, shown };
-    put_reply(&mut out, &Reply::Answered(ranked))?;
-    let wanted =
-        b"ok\nrefused\tlongline\nrefused\tnotempty\nrefused\ttoolarge\ncount\t4\t2\npaths\t1\n/a\\tb\nrank\t2\t1\n27\t/a\\tb\t1\t4\n";
-    assert_eq!(rt; out.as_slice(), wanted.as_slice());
+    Ok(shown)
+}
+
+#[test]
+fn replies_are_written(rt: HostRuntime) -> Result<(), Fail> {
+    let alloc = rt.alloc();
+    let mut paths = Sequence::new(alloc);
+    paths.push(Bytes::from_slice(alloc, b"/a\tb")?)?;
+    let shown = one_region(alloc)?;
+    let rows: [(Reply, &[u8]); 7] = [
+        (Reply::Ok, b"ok\n"),
+        (Reply::Refused(Why::LongLine), b"refused\tlongline\n"),
+        (
+            Reply::Refused(Why::Tree(Refusal::NotEmpty)),
+            b"refused\tnotempty\n",
+        ),
+        (
+            Reply::Refused(Why::Expr(ExprFault::TooLarge)),
+            b"refused\ttoolarge\n",
+        ),
+        (
+            Reply::Answered(Answered::Count { hits: 4, files: 2 }),
+            b"count\t4\t2\n",
+        ),
+        (
+            Reply::Answered(Answered::Paths { paths }),
+            b"paths\t1\n/a\\tb\n",
+        ),
+        (
+            Reply::Answered(Answered::Rank { listed: 2, shown }),
+            b"rank\t2\t1\n27\t/a\\tb\t1\t4\n",
+        ),
+    ];
+    for (reply, wanted) in &rows {
+        let mut out = Vec::new(alloc);
+        put_reply(&mut out, reply)?;
+        assert_eq!(rt; out.as_slice(), *wanted);
+    }
+    Ok(())
+}
+
+#[test]
+fn ends_have_texts(rt: HostRuntime) -> Result<(), Fail> {
+    let text = format!(in rt.alloc();
+        "{}, {}, {}",
+        ReadEnd::ReadFault,
+        ReadEnd::InputTooLong,
+        ReadEnd::NoMemory
+    )?;
+    assert_eq!(rt;
+        text.as_str(),
+        "the source failed, the input is too long, no memory"
+    );
     Ok(())
 }

@@ -45,6 +45,7 @@ pub enum Line {
     Command(Command),
     /// A file gets a text, whose bytes follow the line.
     TextHead {
+        /// The file's number, at least 1.
         ino: Ino,
         /// So many bytes, at most 2^40.
         len: u64,
@@ -62,6 +63,7 @@ pub enum Item {
     Command(Command),
     /// A file gets a text.
     Text {
+        /// The file's number, at least 1.
         ino: Ino,
         /// At most TEXT_MAX bytes.
         body: Bytes,
