@@ -2,7 +2,6 @@ pub mod InputLemmas
 pub mod ItemLemmas
 pub mod LineLemmas
 pub mod ListLemmas
-pub mod NumberLemmas
 pub mod OpenLemmas
 pub mod StopLemmas
 pub mod TurnLemmas
