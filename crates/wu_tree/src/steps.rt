@@ -19,8 +19,8 @@ impl Tree {
     ghost use Rattle.wu_tree.specs.Steps.{IsEvent, IsStep, absent_rules, create_rules, dropped_at, effect_of, first_of, link_rules, mkdir_rules, next, refusal_of, rename_effect, rename_rules, renamed, rmdir_rules, text_rules, unlink_rules, with_link, with_node, with_perm, with_user, without_link};
 
     /// One event: its effect where it is accepted, or why it is refused, by the first rule of its list that
-    /// applies. A refused event changes nothing, and neither does one for which there is no memory. Mkdir
-    /// and Create carry no number 0, and a mode has at most four octal digits.
+    /// applies. A refused event changes nothing, and neither does one for which there is no memory, which is
+    /// the only error. Mkdir and Create carry no number 0, and a mode has at most four octal digits.
     ///
     /// The time grows with the event's own bytes and with the number of look-ups by number or name, each of
     /// which is logarithmic in the tree. There are a few, and more at two events: Mkdir, and Rename of a

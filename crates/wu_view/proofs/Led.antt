@@ -15,7 +15,7 @@ use Rattle.wu_tree.specs.declared.events.Node.{Node}
 use Rattle.wu_tree.specs.FileSystems.{FileSystem, Link, place_cmp, child_of, is_directory, is_directory_node, is_file, is_file_node, node_of, depth, ancestors}
 use Rattle.wu_tree.specs.Rules.{IsTree}
 use Rattle.wu_tree.proofs.Keeps.{place_total, place_exact, path_is}
-use Rattle.wu_view.specs.Views.{directory_path, path_of, may, is_open, open_paths, Leads, joined, IsOpenPath}
+use Rattle.wu_view.specs.Views.{directory_path, path_of, may, is_open, open_paths, Leads, IsOpenWay, joined, IsOpenPath}
 use Rattle.wu_view.proofs.Members.{Has, Has-from_Contains, Contains-from_Has, Has-map, map_has, Has-filter, filter_has}
 use Rattle.wu_view.proofs.Sorted.{has-ascending, ascending_has}
 use Rattle.wu_view.proofs.Ways.{link_facts, depth_range, depth_below, path_below_is, open_below, root_path, root_open}
@@ -46,15 +46,32 @@ module _ (fs : FileSystem) (t : IsTree fs) (user : UserRec) where
   found_child : (d c : ℕ) (name : List ℕ) → child_of fs d name ≡ Some c → Has ((d, name), c) fs.links
   found_child d c name h = Has-from_Contains ((d, name), c) fs.links (Contains-from_lookup (tells_apart place_exact) (d, name) c fs.links h)
 
-  leads-push : (a d c : ℕ) (names : List (List ℕ)) (name : List ℕ) → Leads fs user a names d → may fs user Execute d ≡ true → child_of fs d name ≡ Some c → Leads fs user a (names ++ name ∷ []) c
+  -- links lead by the names to the node, and each directory on the way grants execute
+  abbrev LeadsOpen : ℕ → List (List ℕ) → ℕ → Type 0
+  LeadsOpen d [] ino = d ≡ ino
+  LeadsOpen d (name ∷ names) ino = (may fs user Execute d ≡ true) × ((child : ℕ) × (child_of fs d name ≡ Some child) × LeadsOpen child names ino)
+
+  leads_by : (d : ℕ) (names : List (List ℕ)) (ino : ℕ) → LeadsOpen d names ino → Leads fs d names ino
+  leads_by d [] ino l = l
+  leads_by d (name ∷ names) ino l = (l.1.0, l.1.1, leads_by l.1.0 names ino l.1.2)
+
+  open_by : (d : ℕ) (names : List (List ℕ)) (ino : ℕ) → LeadsOpen d names ino → IsOpenWay fs user d names
+  open_by d [] ino l = tt
+  open_by d (name ∷ names) ino l = (l.0, λ child h. let e : l.1.0 ≡ child = cc (l.1.1, h) in subst (λ c. IsOpenWay fs user c names) e (open_by l.1.0 names ino l.1.2))
+
+  both_lead : (d : ℕ) (names : List (List ℕ)) (ino : ℕ) → Leads fs d names ino → IsOpenWay fs user d names → LeadsOpen d names ino
+  both_lead d [] ino l o = l
+  both_lead d (name ∷ names) ino l o = (o.0, (l.0, l.1, both_lead l.0 names ino l.2 (o.1 l.0 l.1)))
+
+  leads-push : (a d c : ℕ) (names : List (List ℕ)) (name : List ℕ) → LeadsOpen a names d → may fs user Execute d ≡ true → child_of fs d name ≡ Some c → LeadsOpen a (names ++ name ∷ []) c
   leads-push a d c [] name l m h = (subst (λ x. may fs user Execute x ≡ true) (sym l) m, (c, subst (λ x. child_of fs x name ≡ Some c) (sym l) h, refl))
   leads-push a d c (n ∷ names) name l m h = (l.0, (l.1.0, l.1.1, leads-push l.1.0 d c names name l.1.2 m h))
 
   -- names lead to each open directory
-  led : (n d : ℕ) → depth fs.links d ≤ n → is_directory fs d ≡ true → is_open fs user d ≡ true → (names : List (List ℕ)) × Leads fs user 1 names d × (joined names ≡ directory_path fs.links d)
+  led : (n d : ℕ) → depth fs.links d ≤ n → is_directory fs d ≡ true → is_open fs user d ≡ true → (names : List (List ℕ)) × LeadsOpen 1 names d × (joined names ≡ directory_path fs.links d)
   led zero d l h o = let r : 1 ≤ depth fs.links d = (depth_range fs.links d).0 in absurd (omega arith)
   led (suc n) d l h o =
-      elim (d == 1) as (λ b. (d == 1) ≡ b → (names : List (List ℕ)) × Leads fs user 1 names d × (joined names ≡ directory_path fs.links d)) [
+      elim (d == 1) as (λ b. (d == 1) ≡ b → (names : List (List ℕ)) × LeadsOpen 1 names d × (joined names ≡ directory_path fs.links d)) [
         | true ↦ λ a. let e : d ≡ 1 = eqb-true d 1 a in ([], sym e, sym (ap (directory_path fs.links) e ∙ root_path fs t))
         | false ↦ λ a.
             let r = link_to fs t d h (not_one fs t d a) in
@@ -77,10 +94,11 @@ module _ (fs : FileSystem) (t : IsTree fs) (user : UserRec) where
       let b = both (link.1 == ino) (is_open fs user link.0.0) f.1 in
       let i = led 255 link.0.0 (depth_range fs.links link.0.0).1 (link_facts fs t link f.0).parent b.1 in
       let c : child_of fs link.0.0 link.0.1 ≡ Some ino = child_found link f.0 ∙ ap Some (eqb-true link.1 ino b.0) in
-      (i.0 ++ link.0.1 ∷ [], leads-push 1 link.0.0 ino i.0 link.0.1 i.1 (open_itself link.0.0 b.1) c, joined-push i.0 link.0.1 ∙ ap (λ (l : List ℕ). l ++ 47 ∷ link.0.1) i.2 ∙ m.1.1)
+      let l : LeadsOpen 1 (i.0 ++ link.0.1 ∷ []) ino = leads-push 1 link.0.0 ino i.0 link.0.1 i.1 (open_itself link.0.0 b.1) c in
+      (i.0 ++ link.0.1 ∷ [], leads_by 1 (i.0 ++ link.0.1 ∷ []) ino l, open_by 1 (i.0 ++ link.0.1 ∷ []) ino l, joined-push i.0 link.0.1 ∙ ap (λ (l : List ℕ). l ++ 47 ∷ link.0.1) i.2 ∙ m.1.1)
 
   -- a directory that is open if it grants execute
-  from_names : (ino d : ℕ) (names : List (List ℕ)) → is_file fs ino ≡ true → is_directory fs d ≡ true → (may fs user Execute d ≡ true → is_open fs user d ≡ true) → Leads fs user d names ino
+  from_names : (ino d : ℕ) (names : List (List ℕ)) → is_file fs ino ≡ true → is_directory fs d ≡ true → (may fs user Execute d ≡ true → is_open fs user d ≡ true) → LeadsOpen d names ino
       → Has (directory_path fs.links d ++ joined names) (opened_paths fs t user ino)
   from_names ino d [] f h o l = absurd (never_both (node_of fs ino) (subst (λ x. is_directory fs x ≡ true) l h) f)
   from_names ino d (name ∷ []) f h o l =
@@ -92,7 +110,7 @@ module _ (fs : FileSystem) (t : IsTree fs) (user : UserRec) where
   from_names ino d (name ∷ next ∷ names) f h o l =
       let link : Link = ((d, name), l.1.0) in
       let within : Has link fs.links = found_child d l.1.0 name l.1.1 in
-      let below : Leads fs user l.1.0 (next ∷ names) ino = l.1.2 in
+      let below : LeadsOpen l.1.0 (next ∷ names) ino = l.1.2 in
       let dir : is_directory fs l.1.0 ≡ true = (link_facts fs t ((l.1.0, next), below.1.0) (found_child l.1.0 below.1.0 next below.1.1)).parent in
       let i = from_names ino l.1.0 (next ∷ names) f dir (λ m. open_below fs t user link within dir ∙ and_true (may fs user Execute l.1.0) (is_open fs user d) m (o l.0)) below in
       subst (λ (p : List ℕ). Has p (opened_paths fs t user ino))
@@ -103,5 +121,5 @@ module _ (fs : FileSystem) (t : IsTree fs) (user : UserRec) where
   open_paths_lead ino path f = (
     λ h. to_names ino path (ascending_has nat_list_cmp_total exact_bytes path (opened_paths fs t user ino) (Has-from_Contains path (open_paths fs user ino) h)),
     λ n. Contains-from_Has path (open_paths fs user ino) (has-ascending nat_list_cmp_total exact_bytes path (opened_paths fs t user ino)
-        (subst (λ (p : List ℕ). Has p (opened_paths fs t user ino)) (ap (λ (p : List ℕ). p ++ joined n.0) (root_path fs t) ∙ n.2) (from_names ino 1 n.0 f t.root (root_open fs t user) n.1))),
+        (subst (λ (p : List ℕ). Has p (opened_paths fs t user ino)) (ap (λ (p : List ℕ). p ++ joined n.0) (root_path fs t) ∙ n.3) (from_names ino 1 n.0 f t.root (root_open fs t user) (both_lead 1 n.0 ino n.1 n.2)))),
   )

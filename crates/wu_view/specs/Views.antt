@@ -14,7 +14,7 @@ use Rattle.wu_tree.specs.declared.events.Node.{Node}
 use Rattle.wu_tree.specs.FileSystems.{FileSystem, Link, Place, node_of, child_of, groups_of, is_file, path_up}
 use Rattle.wu_view.specs.declared.Seen.{Seen}
 
--- ---- paths
+-- ---- paths from the links up
 
 -- the name that the node's first link gives it: a directory's name in its parent
 abbrev pub name_of : List Link → ℕ → List ℕ
@@ -34,6 +34,22 @@ directory_path links directory = spell links (path_up links directory)
 abbrev pub path_of : List Link → Place → List ℕ
 path_of links place = directory_path links place.0 ++ 47 ∷ place.1
 
+-- ---- paths from the root down, as POSIX.1 resolves a path name
+
+-- links lead by these names from the directory to the node
+abbrev pub Leads : FileSystem → ℕ → List (List ℕ) → ℕ → Type 0
+Leads fs directory [] ino = directory ≡ ino
+Leads fs directory (name ∷ names) ino = (child : ℕ) × (child_of fs directory name ≡ Some child) × Leads fs child names ino
+
+-- links lead by these names from the root to the node
+abbrev pub IsPath : FileSystem → List (List ℕ) → ℕ → Type 0
+IsPath fs names ino = Leads fs 1 names ino
+
+-- `/` and the names, joined by `/`
+abbrev pub joined : List (List ℕ) → List ℕ
+joined [] = []
+joined (name ∷ names) = 47 ∷ (name ++ joined names)
+
 -- ---- access
 
 abbrev pub is_granted_node : UserRec → Want → Option Node → Bool
@@ -43,6 +59,16 @@ is_granted_node user want (Some node) = is_allowed user node.perm want
 -- whether the user may do that with the node
 abbrev pub may : FileSystem → UserRec → Want → ℕ → Bool
 may fs user want ino = is_granted_node user want (node_of fs ino)
+
+-- each directory in which one of the names is looked up, from that one on, grants the user execute
+abbrev pub IsOpenWay : FileSystem → UserRec → ℕ → List (List ℕ) → Type 0
+IsOpenWay fs user directory [] = Unit {0}
+IsOpenWay fs user directory (name ∷ names) =
+    (may fs user Execute directory ≡ true) × ((child : ℕ) → child_of fs directory name ≡ Some child → IsOpenWay fs user child names)
+
+-- a path of the node, on which each directory, the root included, grants the user execute
+abbrev pub IsOpenPath : FileSystem → UserRec → List ℕ → ℕ → Type 0
+IsOpenPath fs user path ino = (names : List (List ℕ)) × IsPath fs names ino × IsOpenWay fs user 1 names × (joined names ≡ path)
 
 -- whether the directory and each above it, the root included, grant her execute
 abbrev pub is_open : FileSystem → UserRec → ℕ → Bool
@@ -78,21 +104,6 @@ seen_as fs user ino = record { paths = open_paths fs user ino; ino = ino }
 abbrev pub is_empty : {X : Type 0} → List X → Bool
 is_empty [] = true
 is_empty (x ∷ xs) = false
-
--- the same from the root down: the names lead from a directory to the node, and each directory on the way grants her execute
-abbrev pub Leads : FileSystem → UserRec → ℕ → List (List ℕ) → ℕ → Type 0
-Leads fs user directory [] ino = directory ≡ ino
-Leads fs user directory (name ∷ names) ino =
-    (may fs user Execute directory ≡ true) × ((child : ℕ) × (child_of fs directory name ≡ Some child) × Leads fs user child names ino)
-
--- `/` and the names, joined by `/`
-abbrev pub joined : List (List ℕ) → List ℕ
-joined [] = []
-joined (name ∷ names) = 47 ∷ (name ++ joined names)
-
--- the path leads from the root to the node, through directories each of which grants her execute
-abbrev pub IsOpenPath : FileSystem → UserRec → List ℕ → ℕ → Type 0
-IsOpenPath fs user path ino = (names : List (List ℕ)) × Leads fs user 1 names ino × (joined names ≡ path)
 
 -- the files that grant the user read and have an open path, each with its open paths, by the least of them
 unfoldable pub view_for : FileSystem → UserRec → List Seen

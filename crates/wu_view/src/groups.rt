@@ -10,7 +10,7 @@ use std::alloc::Global;
 use std::collections::BTreeMap;
 use wu_base::{Bytes, Ino, NoMemory, Sequence};
 
-/// The paths of each file.
+/// The paths of each file, in the order in which they were found.
 pub(crate) fn by_file(
     alloc: Global,
     found: Vec<(Ino, Bytes)>,
@@ -25,7 +25,7 @@ pub(crate) fn by_file(
     Ok(files)
 }
 
-/// Puts one more path to those of a file.
+/// Puts one more path behind those of a file.
 fn add_path(
     alloc: Global,
     files: &mut BTreeMap<Ino, Sequence<Bytes>>,

@@ -20,16 +20,16 @@ use wu_tree::Tree;
 /// A file that a user may search. Files are ordered by their paths, that is by the least of them.
 #[derive(Debug, PartialEq, Eq, PartialOrd, Ord, Drop)]
 pub struct Seen {
-    /// The paths that are open for her, at least one, in byte order. A path is `/` and the names from the
-    /// root to the file, joined by `/`.
+    /// The paths that are open for her, at least one, in byte order and without repeats. A path is `/` and the
+    /// names from the root to the file, joined by `/`.
     pub paths: Sequence<Bytes>,
-    /// The file.
+    /// The file's number.
     pub ino: Ino,
 }
 
 /// The files that a user may search, by their least open paths: those that grant her read and have a path
 /// on which each directory, the root included, grants her execute. Read on directories isn't asked. User 0
-/// may search all files; a user who was never given has no groups.
+/// may search all files; a user who was never given has no groups. The only error is want of memory.
 ///
 /// Goes once through the entries of each directory that the user may reach, and of no other; then the paths
 /// are sorted. So the time is near linear in these entries and in the bytes of the answer. The memory grows
@@ -52,8 +52,9 @@ pub fn searchable(alloc: Global, tree: &Tree, uid: Uid) -> Result<Vec<Seen>, NoM
     Ok(view)
 }
 
-/// The open paths of a file are those that lead to it from the root by names of links, through directories
-/// each of which, the root included, grants the user execute.
+/// Returns nothing and does nothing, in constant time: its clause says of the view's definition that the open
+/// paths of a file are those that lead to it from the root by names of links, through directories each of
+/// which, the root included, grants the user execute. Proofs of callers cite it.
 pub fn open_paths_lead_from_the_root(tree: &Tree)
     ensures { (user : UserRec) (ino : ℕ) (path : List ℕ) → is_file tree.now ino ≡ true → (Contains (open_paths tree.now user ino) path ↔ IsOpenPath tree.now user path ino) }
 {

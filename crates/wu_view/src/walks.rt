@@ -9,14 +9,14 @@ use wu_access::{UserRec, Want, allows};
 use wu_base::{Bytes, DEPTH_MAX, Ino, NoMemory};
 use wu_tree::{Kind, Node, Tree};
 
-/// What a user meets in a directory.
+/// What a user meets at a node.
 #[derive(Clone, Copy)]
 pub(crate) enum Met {
     /// A file that grants her read.
     Readable,
     /// A directory that grants her execute.
     Passable,
-    /// Anything else.
+    /// A node that denies her this, or none.
     Closed,
 }
 
@@ -41,8 +41,8 @@ pub(crate) fn open_links(
     Ok(files)
 }
 
-/// Adds the files that are found in a directory of that path, and below it in at most `depth` directories
-/// one below the other. The path is afterwards as it was.
+/// Adds the links to files that are found in a directory of that path, and below it in at most `depth`
+/// directories one below the other. The path is afterwards as it was, unless there was no memory.
 fn walk(
     alloc: Global,
     tree: &Tree,
@@ -105,7 +105,7 @@ fn meet_node(user: &UserRec, node: &Node) -> Met
     }
 }
 
-/// Goes from a directory's path to that of an entry.
+/// Makes of a directory's path that of an entry.
 fn descend(path: &mut Vec<u8>, name: &[u8]) -> Result<(), NoMemory>
     ensures { OnOk result (path.new.items ≡ path.old.items ++ 47 ∷ name.now) }
 {
