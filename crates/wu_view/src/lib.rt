@@ -52,9 +52,8 @@ pub fn searchable(alloc: Global, tree: &Tree, uid: Uid) -> Result<Vec<Seen>, NoM
     Ok(view)
 }
 
-/// Returns nothing and does nothing, in constant time: its clause says of the view's definition that the open
-/// paths of a file are those that lead to it from the root by names of links, through directories each of
-/// which, the root included, grants the user execute. Proofs of callers cite it.
+/// A law: the open paths of a file are those that lead to it from the root by names of links, through
+/// directories each of which, the root included, grants the user execute.
 pub fn open_paths_lead_from_the_root(tree: &Tree)
     ensures { (user : UserRec) (ino : ℕ) (path : List ℕ) → is_file tree.now ino ≡ true → (Contains (open_paths tree.now user ino) path ↔ IsOpenPath tree.now user path ino) }
 {
