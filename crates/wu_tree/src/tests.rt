@@ -161,9 +161,14 @@ fn links_that_may_not_move(rt: HostRuntime) -> Result<(), Fail> {
         (Step::Rename(1, b"d", 2, b"f"), Some(Refusal::Loop)),
         (Step::Rename(1, b"g", 1, b"d"), Some(Refusal::Kind)),
         (Step::Rename(2, b"e", 1, b"d"), Some(Refusal::NotEmpty)),
+        (Step::Rename(1, b"d", 1, b"g"), Some(Refusal::Kind)),
         (Step::Rename(1, b"d", 1, b"d"), None),
         (Step::Rename(2, b"e", 1, b"e"), None),
-        (Step::Rmdir(1, b"e"), None),
+        // An empty directory is replaced.
+        (Step::Mkdir(6, 1, b"h"), None),
+        (Step::Rename(1, b"e", 1, b"h"), None),
+        (Step::Rmdir(1, b"e"), Some(Refusal::NoSuch)),
+        (Step::Rmdir(1, b"h"), None),
     ];
     assert_eq!(rt; first_wrong(rt.alloc(), &mut tree, &table)?, None);
     Ok(())
