@@ -1,5 +1,5 @@
 //! What a source gave and no item has used yet.
-ghost use Rattle.std.specs.Prelude.{◌≡◌, ◌≤◌, ◌<◌, [], false, true, length, Ok, Err, OnOk, IfErr, IfOk, MatchResult, take, drop, slice_range, vec_len};
+ghost use Rattle.std.specs.Prelude.{◌≡◌, ◌≤◌, ◌<◌, [], false, true, length, min, max, Ok, Err, OnOk, IfErr, IfOk, MatchResult, take, drop, slice_range, vec_len};
 ghost use Rattle.std.specs.Io.KnownBytes.{Consumes, Keeps, IsAtEnd};
 ghost use Rattle.wu_outside.specs.Faults.{Rose, HasCause};
 ghost use Rattle.wu_script.specs.Holding.{Held, Uses, Stops};
@@ -129,16 +129,7 @@ fn read_front<I: Source>(source: &mut I, buffer: &mut [u8], room: usize) -> Resu
 
 /// How many bytes to ask for.
 fn room_for(spare: u64) -> usize
-    ensures some { 0 < result }
-    ensures within { result ≤ 65536 }
-    ensures one { spare ≡ 0 → result ≡ 1 }
-    ensures spared { 0 < spare → result ≤ spare }
+    ensures { result ≡ max 1 (min spare 65536) }
 {
-    if spare == 0 {
-        1
-    } else if spare < READ_MAX as u64 {
-        spare as usize
-    } else {
-        READ_MAX
-    }
+    (spare.min(READ_MAX as u64) as usize).max(1)
 }
