@@ -1,5 +1,5 @@
 -- The lists that the operators make, and the sets that they stand for.
-use Rattle.std.proofs.Common.{◌≡◌, ℕ, ◌+◌, ◌<◌, ◌≤◌, Bool, true, false, List, [], ◌∷◌, length, refl, arith, eqb, eqb-true, eq-eqb}
+use Rattle.std.proofs.Common.{◌≡◌, ℕ, ◌+◌, ◌≤◌, Bool, true, false, List, [], ◌∷◌, refl, arith, eqb, eqb-true, eq-eqb}
 use Rattle.std.proofs.Math.Bool.{and-true}
 use Rattle.std.specs.Cmp.{both_ways}
 use Rattle.std.proofs.lemmas.Bool.{and_parts}
@@ -87,7 +87,3 @@ module _ (n : ℕ) (stands : List ℕ → ℕ → Bool) (xs : List Extent) where
   pub both_listed : (op : Op) (left right : Region) → Lists n (combined op n (is_in left stands n) (is_in right stands n)) xs → Lists n (is_in (Both op left right) stands n) xs
   unfolding is_in
   both_listed op left right lists = lists
-
-pub no_words : (words : List (List ℕ)) → length words < 1 → words ≡ []
-no_words [] few = refl
-no_words (word ∷ words) few = absurd (omega arith)

@@ -1,37 +1,23 @@
 -- Ascending numbers, and where a binary search ends in them.
-use Rattle.std.proofs.Common.{◌≡◌, ℕ, zero, suc, ◌+◌, ◌<◌, ◌≤◌, Bool, true, false, ◌⊎◌, List, [], ◌∷◌, length, take, drop, get_or, filter, nat_lt, nat_le, Result, Ok, Err, refl, sym, ap, inl, inr, arith, lt-ltb, le-ltb, le-leb, eq-eqb, eqb-true, add-one, eqb}
+use Rattle.std.proofs.Common.{◌≡◌, ℕ, zero, suc, ◌<◌, ◌≤◌, Bool, true, false, ◌⊎◌, List, [], ◌∷◌, length, take, drop, get_or, filter, nat_lt, nat_le, Result, Ok, Err, refl, sym, ap, inl, inr, arith, lt-ltb, le-ltb, le-leb, eq-eqb, eqb-true, eqb}
 use Rattle.std.specs.Cmp.{both_ways}
 use Rattle.std.specs.Prelude.{is_ok}
 use Rattle.std.specs.List.Sorted.{IsStrictlyIncreasing, IsBinarySearchResult}
 use Rattle.std.specs.Ordering.{nat_cmp}
 use Rattle.std.proofs.lemmas.List.Sorted.{searched}
+use Rattle.std.proofs.lemmas.Map.Keys.{below_from_sorted, non_decreasing_from_sorted, sorted_from_strictly_increasing, sorted_tail, IsStrictlyIncreasing-from_sorted}
 use Rattle.std.proofs.lemmas.Bool.{false≢true, or_cases, or_left, or_right}
 use Rattle.std.proofs.lemmas.Bool.Decides.{nat_tests}
 use Rattle.wu_solve.specs.Addresses.{is_among}
 
 pub increasing_far : (xs : List ℕ) → IsStrictlyIncreasing xs → (i j : ℕ) → i < j → j < length xs → get_or xs i 0 < get_or xs j 0
-increasing_far xs up i zero less within = absurd (omega arith)
-increasing_far xs up i (suc j) less within =
-    let step : get_or xs j 0 < get_or xs (suc j) 0 = rw (← add-one j) (up j (omega arith)) in
-    let cases : (i ≡ j) ⊎ (i < j) = grind arith in
-    elim cases [
-      | inl same ↦ rw same step
-      | inr before ↦ let far = increasing_far xs up i j before (omega arith) in omega arith
-    ]
+increasing_far xs up i j less within = below_from_sorted xs i j 0 (sorted_from_strictly_increasing xs up) less within
 
 pub increasing_not_below : (xs : List ℕ) → IsStrictlyIncreasing xs → (i j : ℕ) → i ≤ j → j < length xs → get_or xs i 0 ≤ get_or xs j 0
-increasing_not_below xs up i j less within =
-    let cases : (i ≡ j) ⊎ (i < j) = grind arith in
-    elim cases [
-      | inl same ↦ rw same (omega arith)
-      | inr before ↦ let far = increasing_far xs up i j before within in omega arith
-    ]
+increasing_not_below xs up i j less within = non_decreasing_from_sorted xs (sorted_from_strictly_increasing xs up) i j 0 less within
 
 pub increasing_rest : (x : ℕ) (xs : List ℕ) → IsStrictlyIncreasing (x ∷ xs) → IsStrictlyIncreasing xs
-increasing_rest x xs up k within =
-    let next : get_or (x ∷ xs) (suc k) 0 < get_or (x ∷ xs) (suc k + 1) 0 = up (suc k) (omega arith) in
-    let one : suc k + 1 ≡ suc (k + 1) = omega arith in
-    rw one at next
+increasing_rest x xs up = IsStrictlyIncreasing-from_sorted xs (sorted_tail nat_cmp x xs (sorted_from_strictly_increasing (x ∷ xs) up))
 
 -- the front of a list, where it passes and the rest fails
 take_filter : (p : ℕ → Bool) (xs : List ℕ) (i : ℕ) → i ≤ length xs → ((k : ℕ) → k < i → p (get_or xs k 0) ≡ true) → ((k : ℕ) → i ≤ k → k < length xs → p (get_or xs k 0) ≡ false) → take i xs ≡ filter p xs

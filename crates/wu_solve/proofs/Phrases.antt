@@ -1,5 +1,5 @@
 -- The list of a phrase's extents, and that of windows.
-use Rattle.std.proofs.Common.{◌≡◌, ℕ, zero, suc, ◌+◌, ◌-◌, ◌<◌, ◌≤◌, Bool, true, false, cond, ◌&&◌, ◌⊎◌, List, [], ◌∷◌, length, get_or, filter, map, nat_lt, nat_le, refl, sym, ap, ◌∙◌, subst, inl, inr, arith, eqb, eqb-true, eq-eqb, leb-true, ltb-true, lt-ltb, le-leb}
+use Rattle.std.proofs.Common.{◌≡◌, ℕ, zero, suc, ◌+◌, ◌-◌, ◌<◌, ◌≤◌, Bool, true, ◌&&◌, ◌⊎◌, List, [], ◌∷◌, length, get_or, filter, map, nat_lt, nat_le, refl, sym, ap, ◌∙◌, subst, inl, inr, arith, eqb, eqb-true, eq-eqb, leb-true, ltb-true, lt-ltb, le-leb}
 use Rattle.std.specs.List.{range_with_len}
 use Rattle.std.specs.List.Sorted.{IsStrictlyIncreasing}
 use Rattle.std.proofs.lemmas.Bool.{false≢true, and_parts, and_from, or_cases, or_left, or_right}
@@ -11,7 +11,9 @@ use Rattle.wu_solve.specs.Listing.{IsBefore, IsAscending, Has, IsExtentIn, Lists
 use Rattle.wu_solve.specs.Addresses.{is_among, has_address, stands_by}
 use Rattle.wu_solve.specs.Operands.{extent_at, run_from, goes_on, phrase_extents}
 use Rattle.wu_solve.proofs.Sets.{all_from, same_ends}
-use Rattle.wu_solve.proofs.Numbers.{increasing_far, increasing_rest}
+use Rattle.wu_solve.proofs.Numbers.{increasing_far, increasing_rest, among_place}
+use Rattle.wu_solve.proofs.Frames.{among_filter}
+use Rattle.std.proofs.lemmas.List.Kept.{IsStrictlyIncreasing-filter}
 
 -- numbers in a list, by recursion
 
@@ -33,52 +35,23 @@ abbrev Rises : List ℕ → Type 0
 Rises [] = Unit {0}
 Rises (x ∷ xs) = ((a : ℕ) → Among xs a → x < a) × Rises xs
 
-place : (xs : List ℕ) (a : ℕ) → Among xs a → (k : ℕ) × (k < length xs) × (get_or xs k 0 ≡ a)
-place [] a has = absurd has
-place (x ∷ xs) a (inl here) = (0, omega arith, here)
-place (x ∷ xs) a (inr more) = let p = place xs a more in (suc p.0, omega (arith, p.1), p.2)
-
 rises : (xs : List ℕ) → IsStrictlyIncreasing xs → Rises xs
 rises [] up = tt
 rises (x ∷ xs) up = (
   λ a has.
-      let p = place xs a has in
+      let p = among_place xs a (to_among xs a has) in
       let far : get_or (x ∷ xs) 0 0 < get_or (x ∷ xs) (suc p.0) 0 = increasing_far (x ∷ xs) up 0 (suc p.0) (omega arith) (omega (arith, p.1)) in
       omega (arith, p.2),
   rises xs (increasing_rest x xs up),
 )
 
-among_cond : (p : ℕ → Bool) (x a : ℕ) (kept : List ℕ) (test : Bool) → p x ≡ test → Among (cond test (x ∷ kept) kept) a → ((x ≡ a) × (p a ≡ true)) ⊎ Among kept a
-among_cond p x a kept true is (inl here) = inl (here, subst (λ (n : ℕ). p n ≡ true) here is)
-among_cond p x a kept true is (inr more) = inr more
-among_cond p x a kept false is more = inr more
-
 from_kept : (p : ℕ → Bool) (xs : List ℕ) (a : ℕ) → Among (filter p xs) a → Among xs a × (p a ≡ true)
-from_kept p [] a has = absurd has
-from_kept p (x ∷ xs) a has =
-    elim (among_cond p x a (filter p xs) (p x) refl has) [
-      | inl here ↦ (inl here.0, here.1)
-      | inr more ↦ let f = from_kept p xs a more in (inr f.0, f.1)
-    ]
-
-more_cond : (x a : ℕ) (kept : List ℕ) (test : Bool) → Among kept a → Among (cond test (x ∷ kept) kept) a
-more_cond x a kept true has = inr has
-more_cond x a kept false has = has
+from_kept p xs a has =
+    let b = and_parts (is_among xs a) (p a) (sym (among_filter p xs a) ∙ to_among (filter p xs) a has) in
+    (from_among xs a b.0, b.1)
 
 to_kept : (p : ℕ → Bool) (xs : List ℕ) (a : ℕ) → Among xs a → p a ≡ true → Among (filter p xs) a
-to_kept p [] a has is = absurd has
-to_kept p (x ∷ xs) a (inl here) is =
-    let now : p x ≡ true = subst (λ (n : ℕ). p n ≡ true) (sym here) is in
-    rw now (inl here)
-to_kept p (x ∷ xs) a (inr more) is = more_cond x a (filter p xs) (p x) (to_kept p xs a more is)
-
-rises_cond : (x : ℕ) (kept : List ℕ) (test : Bool) → ((a : ℕ) → Among kept a → x < a) → Rises kept → Rises (cond test (x ∷ kept) kept)
-rises_cond x kept true below up = (below, up)
-rises_cond x kept false below up = up
-
-kept_rises : (p : ℕ → Bool) (xs : List ℕ) → Rises xs → Rises (filter p xs)
-kept_rises p [] up = tt
-kept_rises p (x ∷ xs) up = rises_cond x (filter p xs) (p x) (λ a has. up.0 a (from_kept p xs a has).0) (kept_rises p xs up.1)
+to_kept p xs a has is = from_among (filter p xs) a (among_filter p xs a ∙ and_from (is_among xs a) (p a) (to_among xs a has) is)
 
 -- the extents from numbers on
 
@@ -172,7 +145,7 @@ phrase_complete lists start len first more addresses are x is passes =
 pub phrase_listed : (lists : List TermList) (start len : ℕ) (first : List ℕ) (more : List (List ℕ)) (addresses : List ℕ) → FrameAddresses lists start len first addresses →
     Lists len (is_in (Phrase (first ∷ more)) (stands_by lists start) len) (phrase_extents lists start len more addresses)
 phrase_listed lists start len first more addresses are = record {
-  ascending = extents_ascend start (length more) (filter (goes_on lists start len more) addresses) (kept_rises _ addresses (rises addresses are.ascending))
+  ascending = extents_ascend start (length more) (filter (goes_on lists start len more) addresses) (rises _ (IsStrictlyIncreasing-filter (goes_on lists start len more) addresses are.ascending))
       (λ a has. (frame_address lists start len first addresses are a (from_kept (goes_on lists start len more) addresses a has).0).low);
   sound = phrase_sound lists start len first more addresses are;
   complete = phrase_complete lists start len first more addresses are;

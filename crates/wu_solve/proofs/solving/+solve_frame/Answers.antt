@@ -1,4 +1,5 @@
-use Rattle.std.proofs.Common.{◌≡◌, ◌∙◌, [], sym, rules}
+use Rattle.std.proofs.Common.{◌≡◌, ◌∙◌, [], sym, rules, arith}
+use Rattle.std.proofs.lemmas.List.{nil_from_length}
 use Rattle.std.proofs.lemmas.Result.{IfOk-weaker}
 use Rattle.wu_gcl.specs.declared.expressions.Tag.TheVariants.{FileStart, FileEnd, LineStart, LineEnd}
 use Rattle.wu_gcl.specs.declared.expressions.Op.TheVariants.{FollowedBy}
@@ -7,12 +8,12 @@ use Rattle.wu_gcl.specs.Reading.{tag_text}
 use Rattle.wu_gcl.specs.Extents.{combined, is_in, is_term_at}
 use Rattle.wu_solve.specs.Addresses.{stands_by}
 use Rattle.wu_solve.specs.Listing.{Lists}
-use Rattle.wu_solve.proofs.Combining.{no_phrase, no_words, mark_listed, file_listed, line_listed, both_listed}
+use Rattle.wu_solve.proofs.Combining.{no_phrase, mark_listed, file_listed, line_listed, both_listed}
 use Rattle.wu_solve.proofs.solving.+solve_frame.Goals as goal
 
 pub returns-in-empty : goal.returns-in-empty
 returns-in-empty t c =
-    let none : c.in-Phrase.words ≡ [] = sym c.as_slice.ensures ∙ no_words c.as_slice.result.now c.in-empty.len_below in
+    let none : c.in-Phrase.words ≡ [] = sym c.as_slice.ensures ∙ nil_from_length c.as_slice.result.now (omega (arith, c.in-empty.len_below)) in
     rw (c.in-Phrase.is, none, c.new.ensures.items) (no_phrase c.args.frame.len (stands_by c.args.lists.now c.args.frame.start))
 
 pub returns-in-Tag : goal.returns-in-Tag
