@@ -1,3 +1,5 @@
+pub mod Ends
 pub mod Faults
 pub mod Gains
-pub mod Counted
+pub mod Known
+pub mod Schedule

@@ -5,6 +5,7 @@
 
 mod memory;
 mod plain;
+mod schedule;
 mod standard;
 mod traits;
 mod writing;
@@ -14,6 +15,3 @@ pub use plain::{PlainSink, PlainSource, PlainStore};
 pub use standard::{StdIn, StdOut};
 pub use traits::{Failed, Fault, Sink, Source, Store};
 pub use writing::write_all;
-
-#[cfg(test)]
-mod tests;
