@@ -1,5 +1,9 @@
+pub mod Content
+pub mod Crash
 pub mod Ends
 pub mod Faults
 pub mod Gains
 pub mod Known
+pub mod Ranges
 pub mod Schedule
+pub mod Stored

@@ -5,7 +5,7 @@ ghost use Rattle.wu_outside.specs.Ends.{GivesEnd};
 ghost use Rattle.wu_outside.specs.Faults.{HasWriteCause};
 ghost use Rattle.wu_outside.specs.Known.{KnownSource};
 
-use crate::traits::{Failed, Fault, Sink, Source, Store};
+use crate::traits::{Failed, Fault, Sink, Source};
 use std::alloc::Global;
 use std::marker::Model;
 
@@ -111,29 +111,5 @@ impl Sink for PlainSink {
     {
         self.bytes.extend_from_slice(piece)?;
         Ok(piece.len())
-    }
-}
-
-/// A store that keeps nothing yet.
-#[derive(Debug, Drop)]
-pub struct PlainStore {
-    allocator: Global,
-}
-
-impl PlainStore {
-    /// An empty store. Takes no memory.
-    pub fn new(alloc: Global) -> PlainStore {
-        PlainStore { allocator: alloc }
-    }
-}
-
-impl Store for PlainStore {
-    ghost faults = { λ _. 0 };
-
-    /// There is nothing to be kept, so nothing fails.
-    fn sync(&mut self) -> Result<(), Fault>
-        ensures { IsOk result }
-    {
-        Ok(())
     }
 }
