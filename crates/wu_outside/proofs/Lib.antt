@@ -1,2 +1,3 @@
+pub mod CrashLogs
 pub mod Reading
 pub mod Sending

@@ -4,6 +4,8 @@ pub mod Ends
 pub mod Faults
 pub mod Gains
 pub mod Known
+pub mod LogSteps
+pub mod Logs
 pub mod Ranges
 pub mod Schedule
 pub mod Stored

@@ -4,7 +4,9 @@
 #![tactic(auto)]
 
 mod copies;
+mod logs;
 mod memory;
+mod memory_store;
 mod plain;
 mod plain_store;
 mod ranges;
@@ -14,6 +16,7 @@ mod traits;
 mod writing;
 
 pub use memory::{MemSink, MemSource};
+pub use memory_store::MemStore;
 pub use plain::{PlainSink, PlainSource};
 pub use plain_store::PlainStore;
 pub use ranges::ReadRange;
