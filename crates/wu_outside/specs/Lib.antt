@@ -9,3 +9,4 @@ pub mod Logs
 pub mod Ranges
 pub mod Schedule
 pub mod Stored
+pub mod Surviving
