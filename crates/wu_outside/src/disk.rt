@@ -1,7 +1,7 @@
 //! Files on disk, for the store in a folder: the trusted edge. Each error of the system counts as a
 //! fault, an interrupted call included.
-ghost use Rattle.std.specs.Prelude.{◌≡◌, ◌≤◌, length, IfOk, IfSome, Ok, MatchResult};
-ghost use Rattle.wu_outside.specs.Faults.{HasFaultCause, CountsFault};
+ghost use Rattle.std.specs.Prelude.{◌≡◌, ◌≤◌, length, IfOk, IsErr, MatchOption, MatchResult};
+ghost use Rattle.wu_outside.specs.Faults.{HasFaultCause};
 
 use crate::traits::Fault;
 use std::fs::{DirBuilder, OpenFile, OpenOptions};
@@ -16,7 +16,7 @@ const LAST_PLACE: u64 = u64::MAX / 2;
 /// The value of a call of the system. An error counts.
 pub fn count_error<T: Drop>(faults: &mut u64, outcome: io::Result<T>) -> Result<T, Fault>
     ensures cause { HasFaultCause faults.old faults.new result }
-    ensures same { IfOk outcome (λ value. result ≡ Ok value) }
+    ensures same { MatchResult result (λ value. outcome ≡ Ok value) (λ _. IsErr outcome) }
 {
     match outcome {
         Ok(value) => Ok(value),
@@ -33,7 +33,9 @@ pub fn count_other_error<T: Drop>(
     outcome: io::Result<T>,
 ) -> Result<Option<T>, Fault>
     ensures cause { HasFaultCause faults.old faults.new result }
-    ensures same { IfOk outcome (λ value. result ≡ Ok (Some value)) }
+    ensures same { MatchResult result
+        (λ found. MatchOption found (IsErr outcome) (λ value. outcome ≡ Ok value))
+        (λ _. IsErr outcome) }
 {
     match outcome {
         Ok(value) => Ok(Some(value)),
