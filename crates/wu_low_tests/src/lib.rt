@@ -3,4 +3,8 @@
 #![tactic(auto)]
 
 #[cfg(test)]
+mod access;
+#[cfg(test)]
 mod lists;
+#[cfg(test)]
+mod logarithms;
