@@ -1,10 +1,10 @@
-//! The front of an ascending list of extents, and what is left of the list from a place on.
+//! The first extents of an ascending list, and what is left of the list from a place on.
 ghost use Rattle.std.specs.Prelude.{◌≡◌};
-ghost use Rattle.wu_solve.specs.Fronts.{from_start, from_end, behind, first_ends_before, first_ends_by, first_starts_by};
+ghost use Rattle.wu_solve.specs.FirstExtents.{from_start, from_end, after_start, first_ends_before, first_ends_by, first_starts_by};
 
 use wu_base::Extent;
 
-/// What is left without those in front that start before the place.
+/// What is left from the first extent on that doesn't start before the place.
 pub fn starting_from(extents: &[Extent], place: u64) -> &[Extent]
     ensures { result.now ≡ from_start place extents.now }
 {
@@ -15,7 +15,7 @@ pub fn starting_from(extents: &[Extent], place: u64) -> &[Extent]
     &extents[i..]
 }
 
-/// What is left without those in front that end before the place.
+/// What is left from the first extent on that doesn't end before the place.
 pub fn ending_from(extents: &[Extent], place: u64) -> &[Extent]
     ensures { result.now ≡ from_end place extents.now }
 {
@@ -26,9 +26,9 @@ pub fn ending_from(extents: &[Extent], place: u64) -> &[Extent]
     &extents[i..]
 }
 
-/// What is left without those in front that start at the place or before it.
-pub fn starting_behind(extents: &[Extent], place: u64) -> &[Extent]
-    ensures { result.now ≡ behind place extents.now }
+/// What is left from the first extent on that starts after the place.
+pub fn starting_after(extents: &[Extent], place: u64) -> &[Extent]
+    ensures { result.now ≡ after_start place extents.now }
 {
     let mut i = 0;
     while i < extents.len() && extents[i].start <= place {
@@ -41,28 +41,19 @@ pub fn starting_behind(extents: &[Extent], place: u64) -> &[Extent]
 pub fn ends_by(extents: &[Extent], place: u64) -> bool
     ensures { result ≡ first_ends_by place extents.now }
 {
-    match extents.first() {
-        Some(first) => first.end <= place,
-        None => false,
-    }
+    extents.first().is_some_and(|first| first.end <= place)
 }
 
 /// Whether there is a first that starts at the place or before it.
 pub fn starts_by(extents: &[Extent], place: u64) -> bool
     ensures { result ≡ first_starts_by place extents.now }
 {
-    match extents.first() {
-        Some(first) => first.start <= place,
-        None => false,
-    }
+    extents.first().is_some_and(|first| first.start <= place)
 }
 
 /// Whether there is a first that ends before the place.
 pub fn ends_before(extents: &[Extent], place: u64) -> bool
     ensures { result ≡ first_ends_before place extents.now }
 {
-    match extents.first() {
-        Some(first) => first.end < place,
-        None => false,
-    }
+    extents.first().is_some_and(|first| first.end < place)
 }
