@@ -6,18 +6,16 @@ ghost use Rattle.wu_gcl.specs.Terms.{terms_in, AreTerms};
 
 use crate::expressions::{Expr, Tag};
 use std::alloc::Global;
-use wu_base::{Bytes, NoMemory};
+use wu_base::{Bytes, NoMemory, sorted_once};
 
-/// The distinct words and tags of the expression, ascending by their bytes. The one error is want of
+/// The distinct words and tags of the expression, ascending by their bytes. The one error is out of
 /// memory.
 pub fn terms_of(alloc: Global, expr: &Expr) -> Result<Vec<Bytes>, NoMemory>
     ensures { IfOk result (λ v. AreTerms (region_of expr.now) v.items) }
 {
     let mut terms = Vec::new(alloc);
     put_terms(alloc, &mut terms, expr)?;
-    terms.sort()?;
-    terms.dedup();
-    Ok(terms)
+    Ok(sorted_once(terms))
 }
 
 /// Appends the terms in the order in which they are named.

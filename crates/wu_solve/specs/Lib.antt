@@ -1,8 +1,7 @@
 pub mod Listing
 pub mod Merging
-pub mod Fronts
+pub mod FirstExtents
 pub mod Addresses
 pub mod Operands
-pub mod Stretches
+pub mod Prefixes
 pub mod Solving
-pub mod Plain

@@ -95,7 +95,7 @@ pub fn solve_frame(
     }
 }
 
-/// Puts the extents, at addresses, behind those that were found.
+/// Puts the extents, at addresses, after those that were found.
 fn put_moved(found: &mut Vec<Extent>, start: u64, extents: &[Extent]) -> Result<(), NoMemory>
     requires { All (λ x. (start + x.start < 2 ^ 64) × (start + x.end < 2 ^ 64)) extents.now }
     ensures { OnOk result (found.new.items ≡ found.old.items ++ map (moved start) extents.now) }
