@@ -2,14 +2,4 @@
 #![tactic(auto)]
 
 #[cfg(test)]
-mod calls;
-#[cfg(test)]
-mod crashes;
-#[cfg(test)]
-mod failing;
-#[cfg(test)]
-mod folders;
-#[cfg(test)]
-mod random_calls;
-#[cfg(test)]
 mod streams;
