@@ -11,6 +11,7 @@ use Rattle.std.specs.Fmt.{decimal}
 use Rattle.std.proofs.lemmas.Fmt.{decimal_by_steps, first_decimal, decimal_is_IsNumeral}
 use Rattle.std.proofs.lemmas.Bool.Decides.{nat_tests}
 use Rattle.wu_token.specs.Words.{words_of}
+use Rattle.wu_token.specs.Tokens.{file_start, file_end, line_start, line_end}
 use Rattle.wu_gcl.specs.declared.expressions.Tag.{Tag}
 use Rattle.wu_gcl.specs.declared.expressions.Tag.TheVariants.{FileStart, FileEnd, LineStart, LineEnd}
 use Rattle.wu_gcl.specs.declared.expressions.Op.{Op}
@@ -312,13 +313,17 @@ grouped_means WholeLine syntax = refl
 grouped_means (Window n) syntax = refl
 grouped_means (Both op left right) syntax = refl
 
+tag_means : (tag : Tag) → value_of (Quoted (tag_text tag)) ≡ Ok (Mark tag)
+unfolding file_start file_end line_start line_end
+tag_means FileStart = refl
+tag_means FileEnd = refl
+tag_means LineStart = refl
+tag_means LineEnd = refl
+
 syntax_means : (region : Region) → IsReadable region → meaning (syntax_of region) ≡ Ok region
 syntax_means (Phrase []) is = absurd (omega (arith, is.0))
 syntax_means (Phrase (word ∷ words)) is = rw (no_tag_in word words is.1, words_of-join word words is.1) refl
-syntax_means (Mark FileStart) is = refl
-syntax_means (Mark FileEnd) is = refl
-syntax_means (Mark LineStart) is = refl
-syntax_means (Mark LineEnd) is = refl
+syntax_means (Mark tag) is = tag_means tag
 syntax_means WholeFile is = refl
 syntax_means WholeLine is = refl
 syntax_means (Window n) is =
@@ -386,6 +391,7 @@ atom_spelled : (region : Region) (atom : Atom) → IsToken (Operand atom) → Is
 atom_spelled region atom is = record { on = λ tokens rest ends are. token_on (Operand atom) tokens rest is ends are }
 
 tag_is : (tag : Tag) → AllByRecursion (λ b. b ≢ 34) (tag_text tag)
+unfolding file_start file_end line_start line_end
 tag_is FileStart = run_passes is_unquote (λ b. b ≢ 34) passes_unquote (codes "<file>")
 tag_is FileEnd = run_passes is_unquote (λ b. b ≢ 34) passes_unquote (codes "</file>")
 tag_is LineStart = run_passes is_unquote (λ b. b ≢ 34) passes_unquote (codes "<line>")

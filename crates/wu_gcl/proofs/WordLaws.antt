@@ -7,6 +7,7 @@ use Rattle.std.proofs.lemmas.Bool.Decides.{nat_tests}
 use Rattle.std.proofs.lemmas.List.{take_all, length-map}
 use Rattle.std.proofs.lemmas.List.Elements.{All-from_recursion}
 use Rattle.std.proofs.lemmas.List.Splits.{slice_split_none, slice_split_at}
+use Rattle.wu_token.specs.Tokens.{file_start, file_end, line_start, line_end}
 use Rattle.wu_gcl.specs.Reading.{tag_at}
 use Rattle.wu_gcl.proofs.Texts.{All-append}
 use Rattle.wu_token.specs.Words.{is_word_byte, is_separator, has_bytes, runs_of, word_of, words_of}
@@ -165,6 +166,7 @@ other_than byte true same is =
     cc
 
 no_tag : (byte : ℕ) (rest : List ℕ) → is_word_byte byte ≡ true → tag_at (byte ∷ rest) ≡ None
+unfolding file_start file_end line_start line_end
 no_tag byte rest is =
     let other : eqb byte 60 ≡ false = other_than byte (eqb byte 60) refl is in
     rw other refl

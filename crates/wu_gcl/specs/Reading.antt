@@ -1,5 +1,5 @@
 -- What bytes say as a region expression.
-use Rattle.std.specs.Prelude.{◌≡◌, ◌⊎◌, ℕ, ◌<◌, ◌≤◌, ◌==◌, Bool, List, [], ◌∷◌, Option, Some, None, Result, Ok, Err, codes, if◌then◌else◌}
+use Rattle.std.specs.Prelude.{◌≡◌, ◌⊎◌, ℕ, ◌<◌, ◌≤◌, ◌==◌, Bool, List, [], ◌∷◌, Option, Some, None, Result, Ok, Err, if◌then◌else◌}
 use Rattle.std.specs.Cmp.Lexicographic.{pointwise}
 use Rattle.std.specs.Prelude.{nat_eq}
 use Rattle.wu_gcl.specs.declared.expressions.Tag.{Tag}
@@ -11,6 +11,7 @@ use Rattle.wu_gcl.specs.declared.expressions.ExprFault.TheVariants.{NotAnExpress
 use Rattle.wu_base.specs.declared.limits.TheConstants.{OPERATORS_MAX, PARENS_MAX}
 use Rattle.wu_fields.specs.Numbers.{number_of}
 use Rattle.wu_token.specs.Words.{words_of}
+use Rattle.wu_token.specs.Tokens.{file_start, file_end, line_start, line_end}
 use Rattle.wu_gcl.specs.declared.expressions.TheConstants.{WINDOW_MAX}
 use Rattle.wu_gcl.specs.Lexical.{Atom, Quoted, Bracketed, FileWord, LineWord, Token, AreTokens, HasNoTokens}
 use Rattle.wu_gcl.specs.Grammar.{Syntax, Single, Group, Join, tokens_in, IsGrouped, operator_count, open_count}
@@ -21,10 +22,10 @@ abbrev pub Value : Type 0
 Value = Result Region ExprFault
 
 abbrev pub tag_text : Tag → List ℕ
-tag_text FileStart = codes "<file>"
-tag_text FileEnd = codes "</file>"
-tag_text LineStart = codes "<line>"
-tag_text LineEnd = codes "</line>"
+tag_text FileStart = file_start
+tag_text FileEnd = file_end
+tag_text LineStart = line_start
+tag_text LineEnd = line_end
 
 abbrev pub is_tag_text : Tag → List ℕ → Bool
 is_tag_text tag bytes = pointwise nat_eq bytes (tag_text tag)

@@ -1,10 +1,11 @@
 //! What operands say.
 ghost use Rattle.std.specs.Prelude.{◌≡◌, IfOk};
-ghost use Rattle.wu_gcl.specs.Reading.{value_of, quoted_value, tag_at, window_of, seen};
+ghost use Rattle.wu_gcl.specs.Reading.{value_of, quoted_value, tag_at, is_tag_text, window_of, seen};
 ghost use Rattle.wu_gcl.specs.Views.{atom_of};
 
 use crate::expressions::{Expr, ExprFault, Tag, WINDOW_MAX};
 use crate::lexing::Atom;
+use crate::naming::tag_bytes;
 use std::alloc::Global;
 use wu_base::{NoMemory, Sequence};
 use wu_fields::read_decimal;
@@ -43,17 +44,24 @@ fn quoted(alloc: Global, bytes: &[u8]) -> Result<Result<Expr, ExprFault>, NoMemo
 fn tag_at(bytes: &[u8]) -> Option<Tag>
     ensures { result ≡ tag_at bytes.now }
 {
-    if bytes == b"<file>".as_slice() {
+    if is_tag(Tag::FileStart, bytes) {
         Some(Tag::FileStart)
-    } else if bytes == b"</file>".as_slice() {
+    } else if is_tag(Tag::FileEnd, bytes) {
         Some(Tag::FileEnd)
-    } else if bytes == b"<line>".as_slice() {
+    } else if is_tag(Tag::LineStart, bytes) {
         Some(Tag::LineStart)
-    } else if bytes == b"</line>".as_slice() {
+    } else if is_tag(Tag::LineEnd, bytes) {
         Some(Tag::LineEnd)
     } else {
         None
     }
+}
+
+/// Whether the bytes are exactly the tag.
+fn is_tag(tag: Tag, bytes: &[u8]) -> bool
+    ensures { result ≡ is_tag_text tag bytes.now }
+{
+    bytes == tag_bytes(tag)
 }
 
 /// The window of that length, where the digits are a decimal number from 1 to WINDOW_MAX without a
