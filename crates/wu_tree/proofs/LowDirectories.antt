@@ -7,13 +7,15 @@ use Rattle.std.specs.Map.{lookup, set_value}
 use Rattle.std.specs.BTreeMap.{is_at}
 use borrow.Author.Tests.{eqb-true, eqb-false, ne_eqb}
 use Rattle.wu_access.specs.declared.UserRec.{UserRec}
+use Rattle.std.proofs.lemmas.Bool.{and_parts}
+use Rattle.wu_base.proofs.Members.{Has, any_has}
 use Rattle.wu_tree.specs.declared.inodes.Inode.{Inode}
 use Rattle.wu_tree.specs.FileSystems.{FileSystem, Link, is_directory, is_kind_file, parent_of}
 use Rattle.wu_tree.specs.Paths.{children_of, reaches}
 use Rattle.wu_tree.specs.Inodes.{file_system, IsHeld, IsSound, height_at, height_in, height_over_at, height_over_in, higher_of, kind_of, parent_in, with_height, without_heights, IsLower, AreHeights}
-use Rattle.wu_tree.proofs.Downs.{Has, both, any_has, child_parent, linked_once, parent_child}
+use Rattle.wu_tree.proofs.PathsDown.{child_parent, linked_once, parent_child}
 use Rattle.wu_tree.proofs.DirectoryHeights.{set_here, set_other, set_heights, set_height_alone, higher_is_parent, over_directory, found_again}
-use Rattle.wu_tree.proofs.Sound.{directory_inode, parent_kept}
+use Rattle.wu_tree.proofs.TreeInvariant.{directory_inode, parent_kept}
 
 module _ (inodes : List (ℕ × Inode)) (links : List Link) (users : List (ℕ × UserRec)) (s : IsSound inodes links users) where
   abbrev fs : FileSystem
@@ -22,7 +24,8 @@ module _ (inodes : List (ℕ × Inode)) (links : List Link) (users : List (ℕ �
   -- a directory in another one is lower
   lower : (d c : ℕ) → is_directory fs c ≡ true → c ≢ 1 → parent_of links c ≡ Some d → min (height_at inodes c + 1) 255 ≤ height_at inodes d
   lower d c k n p =
-      elim (lookup (is_at (nat_cmp c)) inodes) as (λ o. lookup (is_at (nat_cmp c)) inodes ≡ o → min (height_at inodes c + 1) 255 ≤ height_at inodes d) [
+      elim (lookup (is_at (nat_cmp c)) inodes) as
+      (λ o. lookup (is_at (nat_cmp c)) inodes ≡ o → min (height_at inodes c + 1) 255 ≤ height_at inodes d) [
         | None ↦ λ f. absurd (directory_inode inodes links users s c k f)
         | Some inode ↦ λ f.
             let higher : higher_of c inode ≡ Some d =
@@ -35,7 +38,7 @@ module _ (inodes : List (ℕ × Inode)) (links : List Link) (users : List (ℕ �
   not_reached zero d l h r = omega arith
   not_reached (suc n) d l h r =
       let f = any_has (λ c. is_directory fs c && reaches fs n c) (children_of links d) r in
-      let b = both (is_directory fs f.0) (reaches fs n f.0) f.1.1 in
+      let b = and_parts (is_directory fs f.0) (reaches fs n f.0) f.1.1 in
       let p = child_parent fs s.tree.links (linked_once fs s.tree.nodes) d f.0 f.1.0 b.0 in
       not_reached n f.0 (omega arith) (omega (arith, lower d f.0 b.0 p.0 p.1)) b.1
 
@@ -52,7 +55,8 @@ pub record IsLowered (before after : List (ℕ × Inode)) : Type 0 where
   pub heights : AreHeights after
   pub lower : (ino : ℕ) → height_at after ino ≤ height_at before ino
 
-module _ (links : List Link) (inodes : List (ℕ × Inode)) (held : AllByRecursion (λ e. IsHeld links e.0 e.1.hold) inodes) (a : AreHeights inodes)
+module _ (links : List Link) (inodes : List (ℕ × Inode)) (held : AllByRecursion (λ e. IsHeld links e.0 e.1.hold) inodes)
+    (a : AreHeights inodes)
     (d height : ℕ) (covered : (child : ℕ) → Has child (children_of links d) → height_over_at inodes child ≤ height) where
   module _ (old : Inode) (found : lookup (is_at (nat_cmp d)) inodes ≡ Some old) (n : ℕ) (is : n ≡ min old.height height) where
     abbrev v : Inode
@@ -61,7 +65,8 @@ module _ (links : List Link) (inodes : List (ℕ × Inode)) (held : AllByRecursi
     abbrev after : List (ℕ × Inode)
     after = set_value (is_at (nat_cmp d)) inodes v
 
-    below : (q : ℕ) (inode : Inode) → lookup (is_at (nat_cmp q)) inodes ≡ Some inode → higher_of q inode ≡ Some d → min (inode.height + 1) 255 ≤ n
+    below : (q : ℕ) (inode : Inode) → lookup (is_at (nat_cmp q)) inodes ≡ Some inode → higher_of q inode ≡ Some d
+        → min (inode.height + 1) 255 ≤ n
     below q inode f h =
         let c = covered q (parent_child links d q (higher_is_parent links inodes held q inode f d h)) in
         let over : height_over_at inodes q ≡ min (inode.height + 1) 255 = ap height_over_in f ∙ over_directory q inode d h in
@@ -72,7 +77,8 @@ module _ (links : List Link) (inodes : List (ℕ × Inode)) (held : AllByRecursi
         elim (p == d) as (λ b. (p == d) ≡ b → min (n + 1) 255 ≤ height_at after p) [
           | true ↦ λ e.
               let same : p ≡ d = eqb-true p d e in
-              subst (λ x. min (n + 1) 255 ≤ height_at after x) (sym same) (omega (arith, below d old found (h ∙ ap Some same), ap height_in (set_here inodes d old found v)))
+              subst (λ x. min (n + 1) 255 ≤ height_at after x) (sym same)
+              (omega (arith, below d old found (h ∙ ap Some same), ap height_in (set_here inodes d old found v)))
           | false ↦ λ e. omega (arith, a d old found p h, ap height_in (set_other inodes d old found v p (eqb-false p d e)))
         ] refl
 
@@ -81,7 +87,8 @@ module _ (links : List Link) (inodes : List (ℕ × Inode)) (held : AllByRecursi
         elim (q == d) as (λ b. (q == d) ≡ b → height_at after q ≤ height_at inodes q) [
           | true ↦ λ e.
               let same : q ≡ d = eqb-true q d e in
-              subst (λ x. height_at after x ≤ height_at inodes x) (sym same) (omega (arith, ap height_in found, ap height_in (set_here inodes d old found v)))
+              subst (λ x. height_at after x ≤ height_at inodes x) (sym same)
+              (omega (arith, ap height_in found, ap height_in (set_here inodes d old found v)))
           | false ↦ λ e. omega (arith, ap height_in (set_other inodes d old found v q (eqb-false q d e)))
         ] refl
 
@@ -92,18 +99,22 @@ module _ (links : List Link) (inodes : List (ℕ × Inode)) (held : AllByRecursi
       lower = falls;
     }
 
-  pub lowered : (o : Option Inode) → lookup (is_at (nat_cmp d)) inodes ≡ o → (n : ℕ) → n ≡ min (height_in o) height → IsLowered inodes (with_height n o d inodes)
+  pub lowered : (o : Option Inode) → lookup (is_at (nat_cmp d)) inodes ≡ o → (n : ℕ) → n ≡ min (height_in o) height
+      → IsLowered inodes (with_height n o d inodes)
   lowered None f n is = record { nodes = refl; heights = a; lower = λ q. omega arith }
   lowered (Some old) f n is = lowered_there old f n is
 
 -- what a node asks of its directory falls too
-pub over_falls : (before after : List (ℕ × Inode)) → IsLowered before after → (ino : ℕ) → height_over_at after ino ≤ height_over_at before ino
+pub over_falls : (before after : List (ℕ × Inode)) → IsLowered before after → (ino : ℕ)
+    → height_over_at after ino ≤ height_over_at before ino
 over_falls before after p ino =
-    elim (lookup (is_at (nat_cmp ino)) after) as (λ o. lookup (is_at (nat_cmp ino)) after ≡ o → height_over_in o ≤ height_over_at before ino) [
+    elim (lookup (is_at (nat_cmp ino)) after) as
+    (λ o. lookup (is_at (nat_cmp ino)) after ≡ o → height_over_in o ≤ height_over_at before ino) [
       | None ↦ λ f. omega arith
       | Some j ↦ λ f.
           let i = found_again after before (sym p.nodes) ino j f in
-          let kind : is_kind_file (kind_of i.0.hold) ≡ is_kind_file (kind_of j.hold) = ap (λ (k : Inode). is_kind_file (kind_of k.hold)) i.1.1 in
+          let kind : is_kind_file (kind_of i.0.hold)
+          ≡ is_kind_file (kind_of j.hold) = ap (λ (k : Inode). is_kind_file (kind_of k.hold)) i.1.1 in
           let fell : j.height ≤ i.0.height = omega (arith, p.lower ino, ap height_in f, ap height_in i.1.0) in
           rw i.1.0 (over_by (is_kind_file (kind_of j.hold)) (is_kind_file (kind_of i.0.hold)) j.height i.0.height kind fell)
     ] refl

@@ -15,8 +15,8 @@ use Rattle.wu_tree.specs.Inodes.{IsHeld, first_hold}
 use Rattle.wu_tree.specs.FileSystems.{FileSystem, Link, place_cmp, is_name, is_directory, is_directory_node, is_there, node_of, child_of, is_within, link_count, parent_of, path_up, depth}
 use Rattle.wu_tree.specs.Steps.{with_node}
 use Rattle.wu_tree.specs.Rules.{IsLink, Hangs, IsNumbered, IsTree}
-use Rattle.wu_tree.proofs.Entries.{lookup-insert_entry, All-insert_entry, All-map, All-map2, ascend-insert_entry, counted-insert_entry, number_itself}
-use Rattle.wu_tree.proofs.Keeps.{place_total, place_exact, other_number, Around, around_insert, same_hangs, same_path, path_of_child, count_none, no_parent, absent_child, absent_directory, parent-insert_new}
+use Rattle.wu_tree.proofs.MapEntries.{lookup-insert_entry, All-insert_entry, All-map, All-map2, ascend-insert_entry, counted-insert_entry, number_itself}
+use Rattle.wu_tree.proofs.ParentPaths.{place_total, place_exact, other_number, SameElsewhere, same_elsewhere_insert, same_hangs, same_path, path_of_child, count_none, no_parent, absent_child, absent_directory, parent-insert_new}
 
 kept_some : {T : Type 0} (b : Bool) (x : T) (o : Option T) → is_some o ≡ true → is_some (cond b (Some x) o) ≡ true
 kept_some true x o h = refl
@@ -36,17 +36,20 @@ module _ (fs : FileSystem) (t : IsTree fs) (ino parent : ℕ) (name : List ℕ) 
   no_child : AllByRecursion (λ l. l.1 ≢ ino) fs.links
   no_child = absent_child fs fs.links t.links ino new
 
-  pub new_around : Around fs.links links' ino
-  new_around = around_insert fs.links (parent, name) ino no_place (absent_directory fs fs.links t.links ino (ap is_directory_node new))
+  pub new_around : SameElsewhere fs.links links' ino
+  new_around = same_elsewhere_insert fs.links (parent, name) ino no_place
+      (absent_directory fs fs.links t.links ino (ap is_directory_node new))
 
   node_after : (q : ℕ) → node_of (with_node fs ino parent name node) q ≡ cond (is_eq (nat_cmp q ino)) (Some node) (node_of fs q)
   node_after q = lookup-insert_entry nat_cmp_total fs.nodes ino node q
 
   not_new : (q : ℕ) → is_directory fs q ≡ true → q ≢ ino
-  not_new q h e = let f : is_directory fs q ≡ false = ap is_directory_node (ap (node_of fs) e ∙ new) in absurd (let g : true ≡ false = sym h ∙ f in cc)
+  not_new q h e = let f : is_directory fs q
+      ≡ false = ap is_directory_node (ap (node_of fs) e ∙ new) in absurd (let g : true ≡ false = sym h ∙ f in cc)
 
   kept_directory : (q : ℕ) → is_directory fs q ≡ true → is_directory (with_node fs ino parent name node) q ≡ true
-  kept_directory q h = ap is_directory_node (node_after q ∙ ap (λ (b : Bool). cond b (Some node) (node_of fs q)) (other_number q ino (not_new q h))) ∙ h
+  kept_directory q h = ap is_directory_node
+      (node_after q ∙ ap (λ (b : Bool). cond b (Some node) (node_of fs q)) (other_number q ino (not_new q h))) ∙ h
 
   kept_there : (q : ℕ) → is_there fs q ≡ true → is_there (with_node fs ino parent name node) q ≡ true
   kept_there q h = rw (node_after q) (kept_some (is_eq (nat_cmp q ino)) node (node_of fs q) h)
@@ -55,7 +58,9 @@ module _ (fs : FileSystem) (t : IsTree fs) (ino parent : ℕ) (name : List ℕ) 
   new_there = rw (node_after ino, number_itself ino) refl
 
   count_one : link_count links' ino ≡ 1
-  count_one = let c : cond {A = ℕ} (ino == ino) 1 0 ≡ 1 = rw (eq-eqb ino ino refl) refl in omega (arith, counted-insert_entry (λ v. v == ino) place_cmp fs.links (parent, name) ino no_place, count_none fs.links ino no_child)
+  count_one = let c : cond {A = ℕ} (ino == ino) 1 0
+      ≡ 1 = rw (eq-eqb ino ino refl) refl in omega
+      (arith, counted-insert_entry (λ v. v == ino) place_cmp fs.links (parent, name) ino no_place, count_none fs.links ino no_child)
 
   pub parent_here : parent_of links' ino ≡ Some parent
   parent_here = parent-insert_new fs.links (parent, name) ino no_place (no_parent fs.links ino no_child)
@@ -81,24 +86,29 @@ module _ (fs : FileSystem) (t : IsTree fs) (ino parent : ℕ) (name : List ℕ) 
   new_link : is_name name ≡ true → IsLink (with_node fs ino parent name node) ((parent, name), ino)
   new_link n = record { parent = kept_directory parent directory; child = new_there; no_root = no_root; name = n }
 
-  pub node_keeps : 1 ≤ ino → node.perm.mode ≤ 0xFFF → is_name name ≡ true → (node.kind ≡ Directory → depth fs.links parent < 255) → is_within fs.links 1 parent ≡ true
+  pub node_keeps : 1 ≤ ino → node.perm.mode ≤ 0xFFF → is_name name ≡ true → (node.kind ≡ Directory → depth fs.links parent < 255)
+      → is_within fs.links 1 parent ≡ true
       → IsTree (with_node fs ino parent name node)
   node_keeps low mode n d w = record {
     users_ascend = t.users_ascend;
     groups_ascend = t.groups_ascend;
     nodes_ascend = ascend-insert_entry nat_cmp_total fs.nodes ino node t.nodes_ascend;
     links_ascend = ascend-insert_entry place_total fs.links (parent, name) ino t.links_ascend;
-    numbered = All-insert_entry IsNumbered nat_cmp fs.nodes ino node t.numbered (λ q e. (subst (λ x. 1 ≤ x) (exact_unsigned ino q e) low, mode)) (low, mode);
+    numbered = All-insert_entry IsNumbered nat_cmp fs.nodes ino node t.numbered
+        (λ q e. (subst (λ x. 1 ≤ x) (exact_unsigned ino q e) low, mode)) (low, mode);
     root = kept_directory 1 t.root;
     links =
         All-insert_entry (IsLink (with_node fs ino parent name node)) place_cmp fs.links (parent, name) ino
-        (All-map (IsLink fs) (IsLink (with_node fs ino parent name node)) fs.links (λ l p. record { parent = kept_directory l.0.0 p.parent; child = kept_there l.1 p.child; no_root = p.no_root; name = p.name }) t.links)
+        (All-map (IsLink fs) (IsLink (with_node fs ino parent name node)) fs.links
+        (λ l p. record { parent = kept_directory l.0.0 p.parent; child = kept_there l.1 p.child; no_root = p.no_root; name = p.name }) t.links)
         (λ q e. subst (λ x. IsLink (with_node fs ino parent name node) (x, ino)) (place_exact (parent, name) q e) (new_link n))
         (new_link n);
     nodes =
         All-insert_entry (λ e. Hangs links' e.0 e.1.kind) nat_cmp fs.nodes ino node
         (All-map2 (λ e. Hangs fs.links e.0 e.1.kind) (λ e. is_eq (nat_cmp ino e.0) ≡ false) (λ e. Hangs links' e.0 e.1.kind) fs.nodes
-        (λ e m p. same_hangs new_around e.0 e.1.kind (λ s. let g : is_eq (nat_cmp ino e.0) ≡ true = subst (λ x. is_eq (nat_cmp x e.0) ≡ true) s (number_itself e.0) in absurd (let f : true ≡ false = sym g ∙ m in cc)) p)
+        (λ e m p. same_hangs new_around e.0 e.1.kind
+        (λ s. let g : is_eq (nat_cmp ino e.0)
+        ≡ true = subst (λ x. is_eq (nat_cmp x e.0) ≡ true) s (number_itself e.0) in absurd (let f : true ≡ false = sym g ∙ m in cc)) p)
         no_number t.nodes)
         (λ q e. subst (λ x. Hangs links' x node.kind) (exact_unsigned ino q e) (new_hangs node.kind d w))
         (new_hangs node.kind d w);

@@ -121,7 +121,12 @@ is_within links other directory = list_any (λ ino. ino == other) (path_up links
 
 -- the root alone: owner 0, group 0, mode 755 octal
 abbrev pub root_alone : FileSystem
-root_alone = record { nodes = (1, record { kind = Directory; perm = record { uid = 0; gid = 0; mode = 0x1ED } }) ∷ []; links = []; users = [] }
+root_alone = record {
+  nodes =
+      (1, record { kind = Directory; perm = record { uid = 0; gid = 0; mode = 0x1ED } }) ∷ [];
+  links = [];
+  users = [];
+}
 
 -- a directory's names with what they name, by the bytes of the names
 abbrev pub entries_of : List Link → ℕ → List (List ℕ × ℕ)

@@ -110,7 +110,8 @@ moved_hold parent (Links count) = Links count
 abbrev pub with_link_lost : Option Inode → ℕ → List (ℕ × Inode) → List (ℕ × Inode)
 with_link_lost None ino inodes = inodes
 with_link_lost (Some inode) ino inodes =
-    cond (has_one_link inode.hold) (remove_entry (is_at (nat_cmp ino)) inodes) (set_value (is_at (nat_cmp ino)) inodes (record inode { hold = fewer_links inode.hold }))
+    cond (has_one_link inode.hold) (remove_entry (is_at (nat_cmp ino)) inodes)
+    (set_value (is_at (nat_cmp ino)) inodes (record inode { hold = fewer_links inode.hold }))
 
 abbrev pub with_parent : ℕ → Option Inode → ℕ → List (ℕ × Inode) → List (ℕ × Inode)
 with_parent parent None ino inodes = inodes

@@ -5,3 +5,5 @@ pub mod Nested
 pub mod Inodes
 pub mod Paths
 pub mod Lists
+pub mod Walks
+pub mod Effects

@@ -89,7 +89,8 @@ place_test fs links = is_directory fs 1 && list_all (λ link. link_test fs (link
 -- the directories at or below that one, to n levels
 unfoldable pub below : FileSystem → ℕ → ℕ → List ℕ
 below fs zero directory = []
-below fs (suc n) directory = directory ∷ flat_map (λ child. cond (is_directory fs child) (below fs n child) []) (children_of fs.links directory)
+below fs (suc n) directory = directory ∷ flat_map (λ child. cond (is_directory fs child) (below fs n child) [])
+    (children_of fs.links directory)
 
 abbrev pub hung_once : Option Hung → Bool
 hung_once None = false

@@ -2,10 +2,10 @@
 -- it is accepted, and gives the next file system. Links, removal and renaming are those of POSIX.1.
 use Rattle.std.specs.Prelude.{◌≡◌, ℕ, ◌+◌, ◌-◌, ◌≤◌, Bool, false, ◌&&◌, ◌||◌, not, cond, ◌==◌, nat_lt, nat_le, Option, None, Some, Result, Ok, Err, MatchResult, List, [], ◌∷◌, ◌++◌}
 use Rattle.std.specs.Ordering.{nat_cmp}
-use Rattle.std.specs.List.{list_any, fold}
+use Rattle.std.specs.List.{list_any}
 use Rattle.std.specs.Map.{remove_entry, set_value}
 use Rattle.std.specs.BTreeMap.{is_at, insert_entry}
-use Rattle.std.specs.BTreeSet.{insert_key}
+use Rattle.wu_base.specs.SortedOnce.{sorted_once}
 use Rattle.wu_access.specs.declared.Perm.{Perm}
 use Rattle.wu_tree.specs.declared.events.Kind.TheVariants.{Directory, File}
 use Rattle.wu_tree.specs.declared.events.Node.{Node}
@@ -108,7 +108,8 @@ rename_rules fs parent name new_parent new_name =
     ∷ (not (is_there fs parent) || not (is_there fs new_parent), NoSuch)
     ∷ (is_file fs parent || is_file fs new_parent, OfWrongKind)
     ∷ (not (is_used fs parent name), NoSuch)
-    ∷ cond (is_link_to (named_by fs parent name) (child_of fs new_parent new_name)) [] (move_rules fs (named_by fs parent name) new_parent (child_of fs new_parent new_name))
+    ∷ cond (is_link_to (named_by fs parent name) (child_of fs new_parent new_name)) []
+    (move_rules fs (named_by fs parent name) new_parent (child_of fs new_parent new_name))
 
 abbrev pub absent_rules : FileSystem → ℕ → List Rule
 absent_rules fs ino = (not (is_there fs ino), NoSuch) ∷ []
@@ -128,10 +129,6 @@ refusal_of fs (Chown ino uid gid) = first_of (absent_rules fs ino)
 
 -- ---- changes
 
--- numbers, ascending and without repeats
-abbrev pub ascending : List ℕ → List ℕ
-ascending numbers = fold (insert_key nat_cmp) [] numbers
-
 -- with a new node and its link
 abbrev pub with_node : FileSystem → ℕ → ℕ → List ℕ → Node → FileSystem
 with_node fs ino parent name node =
@@ -143,7 +140,7 @@ with_link fs ino parent name = record fs { links = insert_entry place_cmp fs.lin
 
 -- with the groups of a user
 abbrev pub with_user : FileSystem → ℕ → List ℕ → FileSystem
-with_user fs uid groups = record fs { users = insert_entry nat_cmp fs.users uid (ascending groups) }
+with_user fs uid groups = record fs { users = insert_entry nat_cmp fs.users uid (sorted_once nat_cmp groups) }
 
 -- with the permissions of a node changed
 abbrev pub with_perm : (Perm → Perm) → FileSystem → ℕ → Option Node → FileSystem
@@ -176,7 +173,8 @@ is_same_node fs parent name new_parent new_name = is_link_to (named_by fs parent
 abbrev pub renamed : FileSystem → ℕ → List ℕ → ℕ → List ℕ → FileSystem
 renamed fs parent name new_parent new_name =
     cond (is_same_node fs parent name new_parent new_name) fs
-    (with_link_moved (cond (is_used fs new_parent new_name) (without_link fs new_parent new_name) fs) parent name new_parent new_name (named_by fs parent name))
+    (with_link_moved (cond (is_used fs new_parent new_name) (without_link fs new_parent new_name) fs) parent name new_parent new_name
+    (named_by fs parent name))
 
 -- after an event that is accepted
 abbrev pub next : FileSystem → Event → FileSystem

@@ -3,7 +3,7 @@
 ghost use Rattle.std.specs.Prelude.{◌≡◌, ◌+◌, ◌<◌, ◌≤◌, true, false, None, Some, OnOk, OnErr, IfOk, ◌==◌, ◌≢◌};
 ghost use Rattle.std.specs.Ordering.{nat_cmp};
 ghost use Rattle.std.specs.List.Sorted.{IsStrictlySortedBy};
-ghost use Rattle.wu_tree.specs.Steps.{ascending as ascending_of};
+ghost use Rattle.wu_base.specs.SortedOnce.{sorted_once};
 ghost use Rattle.wu_tree.specs.FileSystems.{child_of, depth, is_directory, is_file, is_name, is_used, link_count, node_of, IsLeaf};
 
 use crate::events::{Kind, Node};
@@ -11,9 +11,8 @@ use crate::heights::raise;
 use crate::inodes::{Hold, Inode};
 use crate::trees::Tree;
 use std::alloc::Global;
-use std::collections::BTreeSet;
 use wu_access::{Perm, UserRec};
-use wu_base::{Gid, Ino, NoMemory, Sequence, Uid};
+use wu_base::{Gid, Ino, NoMemory, Sequence, Uid, sorted_once};
 
 impl Tree {
     ghost use Rattle.wu_tree.specs.Steps.{named_by, with_link, with_node, with_perm, with_user, without_link};
@@ -153,14 +152,11 @@ impl Tree {
 }
 
 /// The numbers ascending and without repeats.
+#[tactic(auto, using(std::proofs::lemmas::Map::Lookups::exact_unsigned))]
 fn ascending(alloc: Global, numbers: &[Gid]) -> Result<Sequence<Gid>, NoMemory>
-    ensures numbers { IfOk result (λ s. s ≡ ascending_of numbers.now) }
+    ensures numbers { IfOk result (λ s. s ≡ sorted_once nat_cmp numbers.now) }
     ensures ascend { IfOk result (λ s. IsStrictlySortedBy nat_cmp s) }
 {
-    let mut set = BTreeSet::new(alloc);
-    for number in numbers {
-        set.insert(*number)?;
-    }
-    let ascending: Vec<Gid> = set.into_iter().collect(alloc)?;
-    Ok(Sequence::from(ascending))
+    let numbers = Vec::from_slice(alloc, numbers)?;
+    Ok(Sequence::from(sorted_once(numbers)))
 }

@@ -3,8 +3,8 @@
 ghost use Rattle.std.specs.Prelude.{◌≡◌, ◌+◌, ◌≤◌, true, cond, Some, None};
 
 use crate::heights::height_of;
-use crate::trees::{ROOT, Tree};
-use wu_base::{DEPTH_MAX, Ino};
+use crate::trees::Tree;
+use wu_base::{DEPTH_MAX, Ino, ROOT};
 
 impl Tree {
     ghost use Rattle.wu_tree.specs.FileSystems.{is_directory, is_within, path_up};

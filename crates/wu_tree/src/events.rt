@@ -1,4 +1,5 @@
 //! What a tree is made of, what happens to it, and what is answered.
+use thiserror::Error;
 use wu_access::Perm;
 use wu_base::{Bytes, Gid, Ino, Sequence, Uid};
 
@@ -21,7 +22,7 @@ pub struct Node {
 }
 
 /// A link: the name that a node has in a directory.
-#[derive(Clone, Debug, PartialEq, Eq, Drop)]
+#[derive(Debug, Drop)]
 pub struct LinkRec {
     /// The number of the directory.
     pub parent: Ino,
@@ -32,8 +33,8 @@ pub struct LinkRec {
 }
 
 /// What happened to the machine's files and users. Nodes, users and groups stand as their numbers. A name
-/// is any bytes: `is_name` tells whether it may be one.
-#[derive(Clone, Debug, PartialEq, Eq, Drop)]
+/// is any bytes: an event whose name may not be one is refused.
+#[derive(Debug, Drop)]
 pub enum Event {
     /// A user is in these groups and no others.
     User {
@@ -122,21 +123,28 @@ pub enum Event {
 }
 
 /// Why an event is refused.
-#[derive(Clone, Copy, Debug, PartialEq, Eq)]
+#[derive(Clone, Copy, Debug, PartialEq, Eq, Error)]
 pub enum Refusal {
     /// A name has no byte or more than 255, holds `/` or NUL, or is `.` or `..`.
+    #[error("not a file name")]
     BadName,
     /// There is no such node, or no such name in the directory.
+    #[error("no such file or directory")]
     NoSuch,
     /// A node is a file that had to be a directory, or the other way round.
+    #[error("a file where a directory is needed, or a directory where a file is")]
     Kind,
     /// The number or the name is in use.
+    #[error("the number or the name is in use")]
     Exists,
     /// The directory has entries.
+    #[error("the directory is not empty")]
     NotEmpty,
     /// A directory would come to stand in itself, or below itself.
+    #[error("a directory can't be moved into itself")]
     Loop,
     /// A directory would have a depth of more than 255, where the root has depth 1.
+    #[error("a directory would lie deeper than 255")]
     Deep,
 }
 

@@ -10,9 +10,9 @@ ghost use Rattle.wu_tree.specs.Inodes.{AreHeights, IsHeld, height_at, height_ove
 
 use crate::inodes::Inode;
 use crate::links::Links;
-use crate::trees::{ROOT, Tree};
+use crate::trees::Tree;
 use std::collections::BTreeMap;
-use wu_base::{DEPTH_MAX, Ino};
+use wu_base::{DEPTH_MAX, Ino, ROOT};
 
 /// The height that is kept of a node, and 0 where there is none.
 pub(crate) fn height_of(inodes: &BTreeMap<Ino, Inode>, ino: Ino) -> u8

@@ -15,10 +15,9 @@ mod refusals;
 mod steps;
 mod tallies;
 mod trees;
+mod walks;
 
 pub use events::{Effect, Event, Kind, LinkRec, Node, Refusal};
-pub use names::is_name;
+pub use steps::effects_tell_files;
 pub use trees::Tree;
-
-#[cfg(test)]
-mod tests;
+pub use walks::{Entries, Nodes, Users};

@@ -43,10 +43,7 @@ impl Links {
     pub(crate) fn child(&self, directory: Ino, name: &[u8]) -> Option<Ino>
         ensures { result ≡ lookup (is_at (place_cmp (directory, name.now))) self.now }
     {
-        match self.directories.get(&directory) {
-            Some(names) => names.get(name).copied(),
-            None => None,
-        }
+        self.directories.get(&directory)?.get(name).copied()
     }
 
     /// The names in a directory and what they name, or None where it has no entries. Takes no memory.

@@ -6,7 +6,7 @@ use wu_base::NAME_MAX;
 
 /// Whether these bytes may be the name of a link: 1 to 255 bytes, none of them `/` or NUL, and neither
 /// `.` nor `..`. Takes no memory.
-pub fn is_name(name: &[u8]) -> bool
+pub(crate) fn is_name(name: &[u8]) -> bool
     ensures { result ≡ name_test name.now }
 {
     has_name_length(name) && has_name_bytes(name) && !is_dots(name)

@@ -16,11 +16,11 @@ use crate::inodes::{Hold, Inode};
 use crate::links::Links;
 use crate::names::is_name;
 use crate::tallies::{Hung, tally};
-use crate::trees::{ROOT, Tree};
+use crate::trees::Tree;
 use std::alloc::Global;
 use std::collections::{BTreeMap, BTreeSet};
 use wu_access::UserRec;
-use wu_base::{DEPTH_MAX, Gid, Ino, NoMemory, Sequence, Uid};
+use wu_base::{DEPTH_MAX, Gid, Ino, NoMemory, ROOT, Sequence, Uid};
 
 impl Tree {
     /// The tree of exactly these nodes, links and users, or None where they make no tree. They make one where

@@ -71,10 +71,7 @@ impl Tree {
         ensures { result ≡ is_file self.now ino }
     {
         match self.node(ino) {
-            Some(node) => match node.kind {
-                Kind::Directory => false,
-                Kind::File => true,
-            },
+            Some(node) => matches!(node.kind, Kind::File),
             None => false,
         }
     }
@@ -83,10 +80,7 @@ impl Tree {
         ensures { result ≡ is_directory self.now ino }
     {
         match self.node(ino) {
-            Some(node) => match node.kind {
-                Kind::Directory => true,
-                Kind::File => false,
-            },
+            Some(node) => matches!(node.kind, Kind::Directory),
             None => false,
         }
     }

@@ -1,5 +1,6 @@
 //! The steps of a tree: each event is accepted whole or refused.
 ghost use Rattle.std.specs.Prelude.{◌≡◌, ◌≤◌, ◌+◌, ◌-◌, None, Some, IfOk, OnOk, OnErr};
+ghost use Rattle.wu_tree.specs.Effects.{EffectsTellFiles};
 
 use crate::events::{Effect, Event, Kind, Node, Refusal};
 use crate::trees::Tree;
@@ -253,4 +254,13 @@ fn texted(ino: Ino) -> Effect
         texted: Some(ino),
         ..NO_EFFECT
     }
+}
+
+/// A law: of an event that is accepted, the effect tells which files there are afterwards. A node is a regular
+/// file exactly where it isn't the file that was dropped, and is the one that was made or was a file before;
+/// and a text was given to a file that is there. So who keeps a text for each file need only follow the effects.
+pub fn effects_tell_files(tree: &Tree)
+    ensures { EffectsTellFiles tree.now }
+{
+    tree.keeps_the_rules();
 }

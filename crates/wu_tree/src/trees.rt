@@ -11,10 +11,7 @@ use std::alloc::Global;
 use std::collections::BTreeMap;
 use std::marker::Model;
 use wu_access::{Perm, UserRec};
-use wu_base::{Gid, Ino, NoMemory, Uid};
-
-/// The number of the root directory.
-pub(crate) const ROOT: Ino = 1;
+use wu_base::{Gid, Ino, NoMemory, ROOT, Uid};
 
 /// A tree of directories and files, and the users with their groups. Contracts see the file system that it
 /// stands for: its nodes, its links and its users. The numbers of nodes, users and groups have 32 bits.
@@ -167,10 +164,7 @@ impl Tree {
         ensures parent { result ≡ parent_of self.now.links directory }
         ensures directory { IfSome result (λ parent. is_directory self.now parent ≡ true) }
     {
-        match self.inodes.get(&directory) {
-            Some(inode) => inode.hold.parent(),
-            None => None,
-        }
+        self.inodes.get(&directory)?.hold.parent()
     }
 
     /// Whether the directory has entries.

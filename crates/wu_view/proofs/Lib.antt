@@ -1,8 +1,6 @@
-pub mod Members
-pub mod Sorted
-pub mod Walked
-pub mod Ways
-pub mod Opened
-pub mod Shown
-pub mod Apart
-pub mod Led
+pub mod WalkSteps
+pub mod LinkPaths
+pub mod OpenWalks
+pub mod ShownFiles
+pub mod LeastPaths
+pub mod PathResolution

@@ -4,12 +4,12 @@ use Rattle.std.specs.Prelude.{◌≡◌, ℕ, Bool, true, false, ◌&&◌, not, 
 use Rattle.std.specs.declared.cmp.Ordering.{Ordering}
 use Rattle.std.specs.Ordering.{nat_cmp, ordering_then}
 use Rattle.std.specs.Cmp.Lexicographic.{slice_cmp}
-use Rattle.std.specs.List.{list_all, fold}
-use Rattle.std.specs.BTreeSet.{insert_key}
+use Rattle.std.specs.List.{list_all}
+use Rattle.wu_base.specs.SortedOnce.{sorted_once}
 use Rattle.wu_access.specs.declared.UserRec.{UserRec}
 use Rattle.wu_access.specs.declared.Want.{Want}
 use Rattle.wu_access.specs.declared.Want.TheVariants.{Read, Execute}
-use Rattle.wu_access.specs.Access.{is_allowed}
+use Rattle.wu_access.specs.Access.{Allows, is_allowed}
 use Rattle.wu_tree.specs.declared.events.Node.{Node}
 use Rattle.wu_tree.specs.FileSystems.{FileSystem, Link, Place, node_of, child_of, groups_of, is_file, path_up}
 use Rattle.wu_view.specs.declared.Seen.{Seen}
@@ -56,7 +56,15 @@ abbrev pub is_granted_node : UserRec → Want → Option Node → Bool
 is_granted_node user want None = false
 is_granted_node user want (Some node) = is_allowed user node.perm want
 
--- whether the user may do that with the node
+-- the node is there and grants the user what she wants
+abbrev pub GrantsNode : UserRec → Want → Option Node → Type 0
+GrantsNode user want None = ⊥
+GrantsNode user want (Some node) = Allows user node.perm want
+
+abbrev pub Grants : FileSystem → UserRec → Want → ℕ → Type 0
+Grants fs user want ino = GrantsNode user want (node_of fs ino)
+
+-- the same as a test
 abbrev pub may : FileSystem → UserRec → Want → ℕ → Bool
 may fs user want ino = is_granted_node user want (node_of fs ino)
 
@@ -64,7 +72,7 @@ may fs user want ino = is_granted_node user want (node_of fs ino)
 abbrev pub IsOpenWay : FileSystem → UserRec → ℕ → List (List ℕ) → Type 0
 IsOpenWay fs user directory [] = Unit {0}
 IsOpenWay fs user directory (name ∷ names) =
-    (may fs user Execute directory ≡ true) × ((child : ℕ) → child_of fs directory name ≡ Some child → IsOpenWay fs user child names)
+    Grants fs user Execute directory × ((child : ℕ) → child_of fs directory name ≡ Some child → IsOpenWay fs user child names)
 
 -- a path of the node, on which each directory, the root included, grants the user execute
 abbrev pub IsOpenPath : FileSystem → UserRec → List ℕ → ℕ → Type 0
@@ -80,10 +88,6 @@ is_readable fs user ino = is_file fs ino && may fs user Read ino
 
 -- ---- the view
 
--- sorted, and each item once
-abbrev pub ascending : {X : Type 0} → (X → X → Ordering) → List X → List X
-ascending compare items = fold (insert_key compare) [] items
-
 -- the order of bytes, the shorter of two first where it begins the other
 abbrev pub path_cmp : List ℕ → List ℕ → Ordering
 path_cmp p q = slice_cmp nat_cmp p q
@@ -95,7 +99,7 @@ seen_cmp a b = ordering_then (slice_cmp path_cmp a.paths b.paths) (nat_cmp a.ino
 -- a file's open paths: of each of its links whose directory is open, in byte order
 abbrev pub open_paths : FileSystem → UserRec → ℕ → List (List ℕ)
 open_paths fs user ino =
-    ascending path_cmp (map (λ link. path_of fs.links link.0) (filter (λ link. link.1 == ino && is_open fs user link.0.0) fs.links))
+    sorted_once path_cmp (map (λ link. path_of fs.links link.0) (filter (λ link. link.1 == ino && is_open fs user link.0.0) fs.links))
 
 -- the file with its open paths
 abbrev pub seen_as : FileSystem → UserRec → ℕ → Seen
@@ -108,7 +112,9 @@ is_empty (x ∷ xs) = false
 -- the files that grant the user read and have an open path, each with its open paths, by the least of them
 unfoldable pub view_for : FileSystem → UserRec → List Seen
 view_for fs user =
-    ascending seen_cmp (filter (λ seen. not (is_empty seen.paths)) (map (λ node. seen_as fs user node.0) (filter (λ node. is_readable fs user node.0) fs.nodes)))
+    sorted_once seen_cmp
+    (filter (λ seen. not (is_empty seen.paths))
+    (map (λ node. seen_as fs user node.0) (filter (λ node. is_readable fs user node.0) fs.nodes)))
 
 abbrev pub user_with : ℕ → List ℕ → UserRec
 user_with uid groups = record { uid = uid; groups = groups }

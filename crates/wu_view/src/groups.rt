@@ -5,10 +5,9 @@ ghost use Rattle.std.specs.BTreeMap.{IsOrdered, get};
 ghost use Rattle.wu_view.specs.Groups.{paths_of, seen_in, seen_with, unless_empty};
 
 use crate::Seen;
-use crate::orders::ascending;
 use std::alloc::Global;
 use std::collections::BTreeMap;
-use wu_base::{Bytes, Ino, NoMemory, Sequence};
+use wu_base::{Bytes, Ino, NoMemory, Sequence, sorted_once};
 
 /// The paths of each file, in the order in which they were found.
 pub(crate) fn by_file(
@@ -25,7 +24,7 @@ pub(crate) fn by_file(
     Ok(files)
 }
 
-/// Puts one more path behind those of a file.
+/// Puts one more path after those of a file.
 fn add_path(
     alloc: Global,
     files: &mut BTreeMap<Ino, Sequence<Bytes>>,
@@ -65,7 +64,7 @@ fn sorted(ino: Ino, paths: Sequence<Bytes>) -> Seen
     ensures { result ≡ seen_with (ino, paths) }
 {
     Seen {
-        paths: Sequence::from(ascending(paths.into_vec())),
+        paths: Sequence::from(sorted_once(paths.into_vec())),
         ino,
     }
 }

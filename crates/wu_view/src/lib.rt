@@ -1,20 +1,19 @@
 //! A user's view of a tree: the files that she may search, each with the paths that are open for her.
 #![tactic(auto)]
 
-ghost use Rattle.std.specs.Prelude.{◌≡◌, ◌↔◌, ℕ, true, IfOk, List, map};
+ghost use Rattle.std.specs.Prelude.{◌≡◌, ◌↔◌, ℕ, true, IfOk, IsTrue, List, map};
 ghost use Rattle.std.specs.List.{Contains};
 ghost use Rattle.std.specs.List.Sorted.{IsStrictlySortedBy};
-ghost use Rattle.wu_view.specs.Views.{IsOpenPath, least_path, open_paths, path_cmp, view_of};
+ghost use Rattle.wu_view.specs.Views.{Grants, IsOpenPath, is_readable, least_path, open_paths, path_cmp, view_of};
 ghost use Rattle.wu_access.specs.declared.UserRec.{UserRec};
 ghost use Rattle.wu_tree.specs.FileSystems.{is_file};
 
 mod groups;
-mod orders;
 mod walks;
 
 use std::alloc::Global;
-use wu_access::UserRec;
-use wu_base::{Bytes, Ino, NoMemory, Sequence, Uid};
+use wu_access::{UserRec, Want, check_is_decided_by_cases};
+use wu_base::{Bytes, Ino, NoMemory, Sequence, Uid, sorted_once};
 use wu_tree::Tree;
 
 /// A file that a user may search. Files are ordered by their paths, that is by the least of them.
@@ -48,17 +47,17 @@ pub fn searchable(alloc: Global, tree: &Tree, uid: Uid) -> Result<Vec<Seen>, NoM
     let found = walks::open_links(alloc, tree, &user)?;
     let files = groups::by_file(alloc, found)?;
     let seen = groups::seen(alloc, files)?;
-    let view = orders::ascending(seen);
+    let view = sorted_once(seen);
     Ok(view)
 }
 
 /// A law: the open paths of a file are those that lead to it from the root by names of links, through
-/// directories each of which, the root included, grants the user execute.
+/// directories each of which, the root included, grants the user execute; and the files that she may search
+/// are files that grant her read. What a node grants is told case by case.
 pub fn open_paths_lead_from_the_root(tree: &Tree)
-    ensures { (user : UserRec) (ino : ℕ) (path : List ℕ) → is_file tree.now ino ≡ true → (Contains (open_paths tree.now user ino) path ↔ IsOpenPath tree.now user path ino) }
+    ensures reads { (user : UserRec) (ino : ℕ) → IsTrue (is_readable tree.now user ino) ↔ (IsTrue (is_file tree.now ino) × Grants tree.now user Want.Read ino) }
+    ensures paths { (user : UserRec) (ino : ℕ) (path : List ℕ) → is_file tree.now ino ≡ true → (Contains (open_paths tree.now user ino) path ↔ IsOpenPath tree.now user path ino) }
 {
     tree.keeps_the_rules();
+    check_is_decided_by_cases();
 }
-
-#[cfg(test)]
-mod tests;

@@ -6,7 +6,7 @@ ghost use Rattle.wu_view.specs.Walks.{met_at, met_node, walked, walked_whole};
 
 use std::alloc::Global;
 use wu_access::{UserRec, Want, allows};
-use wu_base::{Bytes, DEPTH_MAX, Ino, NoMemory};
+use wu_base::{Bytes, DEPTH_MAX, Ino, NoMemory, ROOT};
 use wu_tree::{Kind, Node, Tree};
 
 /// What a user meets at a node.
@@ -19,9 +19,6 @@ pub(crate) enum Met {
     /// A node that denies her this, or none.
     Closed,
 }
-
-/// The number of the root directory.
-const ROOT: Ino = 1;
 
 /// The links to files that grant the user read, of which each directory up to the root grants her execute:
 /// the number and the path of each.

@@ -1,15 +1,16 @@
+-- without entries
 use Rattle.std.proofs.Common.{◌≡◌, ◌≤◌, ◌∙◌, ℕ, List, [], refl, sym, ap, subst, inl, inr, ⊎_elim, arith, rules}
 use Rattle.std.specs.Prelude.{map}
+use Rattle.wu_base.proofs.Members.{Has}
 use Rattle.wu_tree.specs.FileSystems.{entries_of}
 use Rattle.wu_tree.specs.Paths.{children_of}
 use Rattle.wu_tree.specs.Inodes.{height_over_at}
-use Rattle.wu_tree.proofs.Downs.{Has, children_named}
+use Rattle.wu_tree.proofs.PathsDown.{children_named}
 use Rattle.wu_tree.proofs.LowDirectories.{IsLowered, lowered, lowered_then, over_falls}
-use Rattle.wu_tree.proofs.Sound.{same_holds}
+use Rattle.wu_tree.proofs.TreeInvariant.{same_holds}
 use Rattle.wu_tree.proofs.heights.+lower.Goals as goal
 use Rattle.wu_tree.proofs.heights.+lower.Goals.{After-set_height, After-set_height-2}
 
--- without entries
 bare : (t : ℕ) (c : After-set_height t) → IsLowered c.args.inodes.now.entries c.set_height.new.inodes.entries
 bare t c =
     let none : children_of c.args.links.now c.args.directory ≡ [] = ap (λ (l : List (List ℕ × ℕ)). map (λ e. e.1) l) c.in_default.ensures in
@@ -35,8 +36,10 @@ loop-child-init t c =
     (record { nodes = refl; heights = c.requires.heights; lower = λ ino. omega arith }, λ child h. inl (subst (λ l. Has child l) e h))
 
 pub lower-requires : goal.lower-requires
-lower-requires t c =
-    (omega arith, (same_holds c.args.inodes.now.entries c.loop-child.inodes.entries c.args.links.now [] c.loop-child.invariant.0.nodes c.requires.held, c.loop-child.invariant.0.heights))
+lower-requires t c = (
+  omega arith,
+  (same_holds c.args.inodes.now.entries c.loop-child.inodes.entries c.args.links.now [] c.loop-child.invariant.0.nodes c.requires.held, c.loop-child.invariant.0.heights),
+)
 
 pub loop-child-preserved : goal.loop-child-preserved
 loop-child-preserved t c =
@@ -59,8 +62,10 @@ loop-child-preserved t c =
 -- with entries
 full : (t : ℕ) (c : After-set_height-2 t) → IsLowered c.args.inodes.now.entries c.set_height-2.new.inodes.entries
 full t c =
-    let all : (child : ℕ) → Has child (children_of c.args.links.now c.args.directory) → height_over_at c.loop-child.inodes.entries child ≤ c.loop-child.height =
-    λ child h. ⊎_elim (λ i. absurd (subst (λ l. Has child l) c.in-None.ensures.steps.0 i)) (λ low. low) (c.loop-child.invariant.1 child h) in
+    let all : (child : ℕ) → Has child (children_of c.args.links.now c.args.directory)
+    → height_over_at c.loop-child.inodes.entries child ≤ c.loop-child.height =
+    λ child h. ⊎_elim (λ i. absurd (subst (λ l. Has child l) c.in-None.ensures.steps.0 i)) (λ low. low)
+    (c.loop-child.invariant.1 child h) in
     let held = same_holds c.args.inodes.now.entries c.loop-child.inodes.entries c.args.links.now [] c.loop-child.invariant.0.nodes c.requires.held in
     lowered_then c.args.inodes.now.entries c.loop-child.inodes.entries c.set_height-2.new.inodes.entries c.loop-child.invariant.0
     (rw c.set_height-2.ensures

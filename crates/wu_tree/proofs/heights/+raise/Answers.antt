@@ -18,13 +18,16 @@ raise-requires t c =
     (omega (arith, ap height_in f), (high_there c.args.inodes.now.entries c.in-Some-higher_of.parent (omega arith), c.requires.heights))
 
 -- the directory is raised after its parent
-below : (t : ℕ) (c : goal.After-set_height t) → IsRaised c.args.inodes.now.entries c.set_height.new.inodes.entries c.args.directory c.args.height
+below : (t : ℕ) (c : goal.After-set_height t)
+    → IsRaised c.args.inodes.now.entries c.set_height.new.inodes.entries c.args.directory c.args.height
 below t c =
     let f : lookup (is_at (nat_cmp c.args.directory)) c.args.inodes.now.entries ≡ Some c.in-Some.inode = search rules in
-    let up : min (c.args.height + 1) 255 ≤ height_at c.raise.new.inodes.entries c.in-Some-higher_of.parent = omega (arith, c.raise.ensures.raised) in
+    let up : min (c.args.height + 1) 255 ≤ height_at c.raise.new.inodes.entries c.in-Some-higher_of.parent = omega
+    (arith, c.raise.ensures.raised) in
     rw c.set_height.ensures
     (raise_below c.args.inodes.now.entries c.raise.new.inodes.entries c.raise.ensures.nodes c.raise.ensures.heights c.args.directory c.args.height c.in-Some.inode f
-    c.in-Some-higher_of.parent (min (c.args.height + 1) 255) c.max-height.result (sym c.higher_of.ensures ∙ c.in-Some-higher_of.is) refl up (omega arith))
+    c.in-Some-higher_of.parent (min (c.args.height + 1) 255) c.max-height.result (sym c.higher_of.ensures ∙ c.in-Some-higher_of.is) refl up
+    (omega arith))
 
 pub returns-in-Some-higher_of-clause-nodes : goal.returns-in-Some-higher_of-clause-nodes
 returns-in-Some-higher_of-clause-nodes t c = (below t c).nodes
@@ -36,7 +39,8 @@ pub returns-in-Some-higher_of-clause-raised : goal.returns-in-Some-higher_of-cla
 returns-in-Some-higher_of-clause-raised t c = (below t c).raised
 
 -- the root
-top : (t : ℕ) (c : goal.After-set_height-in-None t) → IsRaised c.args.inodes.now.entries c.set_height-in-None.new.inodes.entries c.args.directory c.args.height
+top : (t : ℕ) (c : goal.After-set_height-in-None t)
+    → IsRaised c.args.inodes.now.entries c.set_height-in-None.new.inodes.entries c.args.directory c.args.height
 top t c =
     let f : lookup (is_at (nat_cmp c.args.directory)) c.args.inodes.now.entries ≡ Some c.in-Some.inode = search rules in
     rw c.set_height-in-None.ensures

@@ -14,4 +14,6 @@ abbrev pub invariant-loop-child : goal.invariant-loop-child
 invariant-loop-child l =
     fold (insert_key nat_cmp) l.fn.reached.keys (below (file_system l.inodes.entries l.links []) l.levels l.directory)
     ≡ fold (insert_key nat_cmp) l.reached.keys
-    (flat_map (λ child. cond (is_directory (file_system l.inodes.entries l.links []) child) (below (file_system l.inodes.entries l.links []) (l.levels - 1) child) []) l.child-iterator)
+    (flat_map
+    (λ child. cond (is_directory (file_system l.inodes.entries l.links []) child)
+    (below (file_system l.inodes.entries l.links []) (l.levels - 1) child) []) l.child-iterator)

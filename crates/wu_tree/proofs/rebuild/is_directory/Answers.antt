@@ -8,7 +8,14 @@ use Rattle.wu_tree.specs.Inodes.{node_in}
 use Rattle.wu_tree.proofs.rebuild.is_directory.Goals as goal
 
 pub returns-in-Some : goal.returns-in-Some
-returns-in-Some c = ap not c.is_file.ensures ∙ sym (ap is_directory_node (lookup-map_values node_in (is_at (nat_cmp c.args.ino)) c.args.inodes.now.entries ∙ ap (option_map node_in) (sym c.in-Some.ensures.value)))
+returns-in-Some c = ap not c.is_file.ensures
+    ∙ sym
+    (ap is_directory_node
+    (lookup-map_values node_in (is_at (nat_cmp c.args.ino)) c.args.inodes.now.entries
+    ∙ ap (option_map node_in) (sym c.in-Some.ensures.value)))
 
 pub returns-in-None : goal.returns-in-None
-returns-in-None c = sym (ap is_directory_node (lookup-map_values node_in (is_at (nat_cmp c.args.ino)) c.args.inodes.now.entries ∙ ap (option_map node_in) (sym c.in-None.ensures.value)))
+returns-in-None c = sym
+    (ap is_directory_node
+    (lookup-map_values node_in (is_at (nat_cmp c.args.ino)) c.args.inodes.now.entries
+    ∙ ap (option_map node_in) (sym c.in-None.ensures.value)))

@@ -3,10 +3,11 @@ use Rattle.std.specs.Prelude.{nat_lt}
 use Rattle.std.specs.Cmp.{nat_cmp_total}
 use Rattle.std.proofs.lemmas.List.Sorted.{answers_always}
 use Rattle.wu_tree.specs.declared.events.Node.{Node}
-use Rattle.wu_tree.proofs.Listed.{sorted_answer, less_is}
+use Rattle.wu_tree.proofs.ListTests.{sorted_answer, less_is}
 use Rattle.wu_tree.proofs.rebuild.nodes_ascend.Goals as goal
 
 pub returns : goal.returns
 returns c =
-    sorted_answer nat_cmp_total (λ (n : ℕ × Node). n.0) (λ (a b : ℕ × Node). nat_lt a.0 b.0) (λ a b. less_is a.0 b.0) c.args.nodes.now c.is_sorted_by.result
+    sorted_answer nat_cmp_total (λ (n : ℕ × Node). n.0) (λ (a b : ℕ × Node). nat_lt a.0 b.0)
+    (λ a b. less_is a.0 b.0) c.args.nodes.now c.is_sorted_by.result
     (c.is_sorted_by.ensures.cases (λ (a b : ℕ × Node). nat_lt a.0 b.0) (answers_always _ _ _ (λ f a r g k. search rules)))

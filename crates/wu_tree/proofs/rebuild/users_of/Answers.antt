@@ -6,7 +6,7 @@ use Rattle.std.specs.List.Sorted.{IsStrictlySortedBy}
 use Rattle.std.specs.BTreeMap.{insert_entry}
 use Rattle.wu_access.specs.declared.UserRec.{UserRec}
 use Rattle.wu_tree.specs.Lists.{user_of}
-use Rattle.wu_tree.proofs.Listed.{grown, keys_mapped}
+use Rattle.wu_tree.proofs.ListTests.{grown, keys_mapped}
 use Rattle.wu_tree.proofs.rebuild.users_of.Goals as goal
 
 pub loop-user-preserved : goal.loop-user-preserved
@@ -17,4 +17,5 @@ loop-user-preserved c =
     ∙ ap (λ (l : List (ℕ × UserRec)). insert_entry nat_cmp l user.uid c.in_ok-copy.field-0) c.loop-user.invariant
     ∙ ap (λ (u : UserRec). insert_entry nat_cmp (map entry (take c.loop-user.user-index c.args.users.now)) user.uid u) c.in_ok-copy.ensures
     ∙ grown nat_cmp_total entry c.args.users.now c.loop-user.user-index user c.loop-user-test.true (sym c.user-item.is)
-    (subst (λ (k : List ℕ). IsStrictlySortedBy nat_cmp k) (keys_mapped user_of c.args.users.now ∙ sym (keys_mapped entry c.args.users.now)) c.requires)
+    (subst (λ (k : List ℕ). IsStrictlySortedBy nat_cmp k)
+    (keys_mapped user_of c.args.users.now ∙ sym (keys_mapped entry c.args.users.now)) c.requires)

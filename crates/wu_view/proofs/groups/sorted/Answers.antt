@@ -1,5 +1,5 @@
 use Rattle.std.proofs.lemmas.Map.Lookups.{exact_bytes}
 use Rattle.wu_view.proofs.groups.sorted.Goals as goal
 
-pub ascending-requires : goal.ascending-requires
-ascending-requires c = exact_bytes
+pub sorted_once-requires : goal.sorted_once-requires
+sorted_once-requires c = record { exact = exact_bytes }

@@ -9,5 +9,7 @@ decreases-walk l = l.depth
 abbrev pub invariant-loop-name : goal.invariant-loop-name
 invariant-loop-name l = record {
   path : l.path.items ≡ l.fn.path.items;
-  files : l.files.items ≡ l.fn.files.items ++ found_in l.tree l.user (walked l.tree l.user (l.depth - 1)) l.fn.path.items (map (λ entry. (entry.0.now.items, entry.1.now)) l.yielded);
+  files : l.files.items ≡ l.fn.files.items
+      ++ found_in l.tree l.user (walked l.tree l.user (l.depth - 1)) l.fn.path.items
+      (map (λ entry. (entry.0.now.items, entry.1.now)) l.yielded);
 }

@@ -1,5 +1,5 @@
 use Rattle.std.proofs.Common.{◌∙◌, sym}
-use Rattle.wu_tree.proofs.Nest.{any_some, any_none, not_empty}
+use Rattle.wu_tree.proofs.LinksByDirectory.{any_some, any_none, not_empty}
 use Rattle.wu_tree.proofs.links.Links.has_entries.Goals as goal
 
 pub returns-in-Some : goal.returns-in-Some

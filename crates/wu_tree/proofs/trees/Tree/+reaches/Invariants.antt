@@ -10,4 +10,5 @@ decreases-reaches l = l.levels
 
 abbrev pub invariant-loop-child : goal.invariant-loop-child
 invariant-loop-child l =
-    reaches l.self l.levels l.directory ≡ list_any (λ child. is_directory l.self child && reaches l.self (l.levels - 1) child) l.child-iterator
+    reaches l.self l.levels l.directory
+    ≡ list_any (λ child. is_directory l.self child && reaches l.self (l.levels - 1) child) l.child-iterator

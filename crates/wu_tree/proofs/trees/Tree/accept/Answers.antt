@@ -10,7 +10,9 @@ pub returns-in-Rmdir-clause-next : goal.returns-in-Rmdir-clause-next
 returns-in-Rmdir-clause-next c = rw (c.in-Rmdir.is, ← c.as_slice-in-Rmdir.ensures) c.rmdir.ensures.next
 
 pub returns-in-Rename-clause-effect : goal.returns-in-Rename-clause-effect
-returns-in-Rename-clause-effect c = rw (c.in-Rename.is, ← c.as_slice-in-Rename.ensures, ← c.as_slice-in-Rename-2.ensures) c.rename.ensures.effect
+returns-in-Rename-clause-effect c = rw
+    (c.in-Rename.is, ← c.as_slice-in-Rename.ensures, ← c.as_slice-in-Rename-2.ensures) c.rename.ensures.effect
 
 pub returns-in-Rename-clause-next : goal.returns-in-Rename-clause-next
-returns-in-Rename-clause-next c = rw (c.in-Rename.is, ← c.as_slice-in-Rename.ensures, ← c.as_slice-in-Rename-2.ensures) c.rename.ensures.next
+returns-in-Rename-clause-next c = rw
+    (c.in-Rename.is, ← c.as_slice-in-Rename.ensures, ← c.as_slice-in-Rename-2.ensures) c.rename.ensures.next

@@ -1,7 +1,7 @@
 use Rattle.std.proofs.Common.{◌≡◌, ◌≤◌, ◌∙◌, rules, sym, ap, arith}
 use Rattle.wu_tree.specs.declared.inodes.Hold.{Hold}
 use Rattle.wu_tree.specs.Inodes.{file_system, first_hold, height_at, height_over}
-use Rattle.wu_tree.proofs.Sound.{IsNewNode, directory_kept, node_added, put_back, same_sound, same_system}
+use Rattle.wu_tree.proofs.TreeInvariant.{IsNewNode, directory_kept, node_added, put_back, same_sound, same_system}
 use Rattle.wu_tree.proofs.trees.Tree.add_node.Goals as goal
 
 pub raise-requires-clause-there : goal.raise-requires-clause-there
@@ -17,7 +17,8 @@ invariant_of-self c = rw c.in_err-insert.ensures.err (same_sound _ _ _ _ c.raise
 pub returns-in_err-insert-clause-err : goal.returns-in_err-insert-clause-err
 returns-in_err-insert-clause-err c =
     let e : file_system c.insert.new.self.entries c.self.inside.links c.self.inside.users.entries ≡ c.args.self.now =
-    rw c.in_err-insert.ensures.err (same_system _ _ c.self.inside.links c.self.inside.users.entries c.raise.ensures.nodes ∙ c.self.view_is) in
+    rw c.in_err-insert.ensures.err
+    (same_system _ _ c.self.inside.links c.self.inside.users.entries c.raise.ensures.nodes ∙ c.self.view_is) in
     search (e, rules)
 
 pub invariant_of-self-in-Err : goal.invariant_of-self-in-Err
@@ -53,10 +54,14 @@ asked c = record {
   shallow = c.requires.shallow;
 }
 
-room : (c : goal.In_default) → height_over (record { perm = c.args.node.perm; hold = first_hold c.args.node.kind c.args.parent; height = 0 }) ≤ height_at c.raise.new.inodes.entries c.args.parent
+room : (c : goal.In_default)
+    → height_over
+    (record { perm = c.args.node.perm; hold = first_hold c.args.node.kind c.args.parent; height = 0 }) ≤ height_at c.raise.new.inodes.entries c.args.parent
 room c =
-    let e : height_over (record { perm = c.args.node.perm; hold = first_hold c.args.node.kind c.args.parent; height = 0 }) ≡ c.height_over.result =
-    ap (λ (h : Hold). height_over (record { perm = c.args.node.perm; hold = h; height = 0 })) (sym c.first.ensures) ∙ sym c.height_over.ensures in
+    let e : height_over (record { perm = c.args.node.perm; hold = first_hold c.args.node.kind c.args.parent; height = 0 })
+    ≡ c.height_over.result =
+    ap (λ (h : Hold). height_over (record { perm = c.args.node.perm; hold = h; height = 0 })) (sym c.first.ensures)
+    ∙ sym c.height_over.ensures in
     omega (arith, e, c.raise.ensures.raised)
 
 pub invariant_of-self-in_default : goal.invariant_of-self-in_default

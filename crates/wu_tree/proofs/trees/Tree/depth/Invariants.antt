@@ -1,6 +1,6 @@
 use Rattle.std.proofs.Common.{◌≡◌, ◌≤◌, ◌+◌, ◌-◌, true, length}
 use Rattle.wu_tree.specs.FileSystems.{is_directory, ancestors, path_up}
-use Rattle.wu_tree.proofs.Keeps.{has_root}
+use Rattle.wu_tree.proofs.ParentPaths.{has_root}
 use Rattle.wu_tree.proofs.trees.Tree.depth.Given as goal
 
 abbrev pub invariant-loop-current : goal.invariant-loop-current

@@ -6,7 +6,7 @@ use Rattle.std.proofs.lemmas.List.Sums.{length-filter}
 use Rattle.wu_tree.specs.declared.inodes.Inode.{Inode}
 use Rattle.wu_tree.specs.Inodes.{kind_of}
 use Rattle.wu_tree.specs.FileSystems.{is_kind_file}
-use Rattle.wu_tree.proofs.Sound.{files_by_value}
+use Rattle.wu_tree.proofs.TreeInvariant.{files_by_value}
 use Rattle.wu_tree.proofs.trees.Tree.file_count.Goals as goal
 
 pub returns : goal.returns
@@ -14,7 +14,10 @@ returns c =
     let test = λ (i : Inode). is_kind_file (kind_of i.hold) in
     rw (← c.self.view_is)
     (count_from_yields_List c.filter.result c.count.result c.count.ensures.ran
-    (YieldsList-from_filter _ test (YieldsList-at c.filter.ensures.source (YieldsList-from_shown (TakesFirst deref) deref (λ s. s) (λ s t h. ap length h.0) (λ s x t h. h) c.values.result)) c.filter.ensures.closure (λ x r q k. search rules))
+    (YieldsList-from_filter _ test
+    (YieldsList-at c.filter.ensures.source
+    (YieldsList-from_shown (TakesFirst deref) deref (λ s. s) (λ s t h. ap length h.0)
+    (λ s x t h. h) c.values.result)) c.filter.ensures.closure (λ x r q k. search rules))
     ∙ length-filter test c.values.result
     ∙ ap (count_by test) c.values.ensures.rest
     ∙ files_by_value c.self.inside.inodes.entries)

@@ -1,5 +1,5 @@
 use Rattle.std.proofs.Common.{◌∙◌}
-use Rattle.wu_tree.proofs.Sound.{same_sound, same_system}
+use Rattle.wu_tree.proofs.TreeInvariant.{same_sound, same_system}
 use Rattle.wu_tree.proofs.trees.Tree.lower_heights.Goals as goal
 
 pub lower-requires-clause-held : goal.lower-requires-clause-held

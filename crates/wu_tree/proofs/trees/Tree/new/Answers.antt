@@ -1,4 +1,4 @@
-use Rattle.wu_tree.proofs.Sound.{root_sound}
+use Rattle.wu_tree.proofs.TreeInvariant.{root_sound}
 use Rattle.wu_tree.proofs.trees.Tree.new.Goals as goal
 
 pub invariant_of-result : goal.invariant_of-result

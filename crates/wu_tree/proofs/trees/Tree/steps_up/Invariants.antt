@@ -1,7 +1,7 @@
 use Rattle.std.proofs.Common.{◌≡◌, ◌≤◌, ◌+◌, ◌-◌, true}
 use Rattle.wu_tree.specs.FileSystems.{is_directory, ancestors, path_up}
 use Rattle.wu_tree.specs.Paths.{through, steps_to}
-use Rattle.wu_tree.proofs.Keeps.{has_root}
+use Rattle.wu_tree.proofs.ParentPaths.{has_root}
 use Rattle.wu_tree.proofs.trees.Tree.steps_up.Given as goal
 
 abbrev pub invariant-loop-current : goal.invariant-loop-current

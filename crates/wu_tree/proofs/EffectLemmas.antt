@@ -1,0 +1,256 @@
+-- The effect of an accepted event tells which files there are after it.
+use Rattle.std.proofs.Common.{◌≡◌, ◌≢◌, ℕ, List, [], ◌∷◌, refl, ap, sym, ◌∙◌, subst, Bool, true, false, cond, not, inl, inr, ⊎_elim}
+use Rattle.std.specs.Prelude.{◌↔◌, ◌⊎◌, ◌&&◌, ◌||◌, ◌==◌, Option, None, Some, Result, Ok, Err, is_some}
+use Rattle.std.specs.Ordering.{is_eq, nat_cmp}
+use Rattle.std.specs.Cmp.{nat_cmp_total}
+use Rattle.std.specs.List.{AllByRecursion}
+use Rattle.std.specs.Map.{lookup, remove_entry, set_value}
+use Rattle.std.specs.BTreeMap.{is_at, insert_entry}
+use Rattle.std.proofs.lemmas.Map.{lookup-none}
+use borrow.Author.Tests.{eqb-true, eqb-false}
+use Rattle.wu_access.specs.declared.Perm.{Perm}
+use Rattle.wu_tree.specs.declared.events.Kind.TheVariants.{Directory, File}
+use Rattle.wu_tree.specs.declared.events.Node.{Node}
+use Rattle.wu_tree.specs.declared.events.Event.{Event}
+use Rattle.wu_tree.specs.declared.events.Event.TheVariants.{User, Mkdir, Create, Text, Link, Unlink, Rmdir, Rename, Chmod, Chown}
+use Rattle.wu_tree.specs.declared.events.Effect.{Effect}
+use Rattle.wu_tree.specs.declared.events.Refusal.{Refusal}
+use Rattle.wu_tree.specs.FileSystems.{FileSystem, is_file, is_file_node, is_directory, is_directory_node, is_there, is_kind_file, is_used, node_of, child_of, link_count}
+use Rattle.wu_tree.specs.Rules.{IsTree}
+use Rattle.wu_tree.specs.Steps.{Rule, first_of, mkdir_rules, create_rules, text_rules, unlink_rules, rmdir_rules, named_by, no_effect, dropped_at, without_link, with_link_moved, with_node, refusal_of, next, effect_of, unless_refused, step, with_perm, is_last_link, is_link_to}
+use Rattle.wu_tree.specs.Effects.{TellsFiles}
+use Rattle.wu_tree.proofs.MapEntries.{lookup-insert_entry, lookup-remove_other, none_left, number_itself}
+use Rattle.wu_tree.proofs.ParentPaths.{same_number, other_number}
+use Rattle.wu_tree.proofs.LinkRemovals.{apart_from}
+use Rattle.wu_tree.proofs.Permissions.{set_same}
+
+-- ---- one node: what is said of it before and after
+module _ (dropped : Option ℕ) (q : ℕ) (before after : Bool) where
+  stays : (dropped ≡ Some q → ⊥) → after ≡ before → (after ≡ true) ↔ ((dropped ≢ Some q) × ((None ≡ Some q) ⊎ (before ≡ true)))
+  stays n e = (λ h. (n, inr (sym e ∙ h)), λ g. ⊎_elim (λ m. absurd cc) (λ b. e ∙ b) g.1)
+
+  goes : dropped ≡ Some q → after ≡ false → (after ≡ true) ↔ ((dropped ≢ Some q) × ((None ≡ Some q) ⊎ (before ≡ true)))
+  goes d e = (λ h. absurd (let f : true ≡ false = sym h ∙ e in cc), λ g. absurd (g.0 d))
+
+  is_none : before ≡ false → after ≡ false → (dropped ≡ Some q → ⊥)
+      → (after ≡ true) ↔ ((dropped ≢ Some q) × ((None ≡ Some q) ⊎ (before ≡ true)))
+  is_none b a n = stays n (a ∙ sym b)
+
+none_some : (q : ℕ) → None ≡ Some q → ⊥
+none_some q h = cc
+
+some_same : (c q : ℕ) → Some c ≡ Some q → q ≡ c
+some_same c q h = cc
+
+-- files that stay
+unchanged : (fs after : FileSystem) → ((q : ℕ) → is_file after q ≡ is_file fs q) → TellsFiles fs no_effect after
+unchanged fs after e = record {
+  files = λ q. stays None q (is_file fs q) (is_file after q) (none_some q) (e q);
+  text = λ q h. absurd
+      (none_some q h);
+}
+
+-- ---- a link that goes, with its node where it was the last
+module _ (fs : FileSystem) (t : IsTree fs) (c : ℕ) where
+  abbrev removed : List (ℕ × Node)
+  removed = remove_entry (is_at (nat_cmp c)) fs.nodes
+
+  gone : lookup (is_at (nat_cmp c)) removed ≡ None
+  gone = lookup-none (is_at (nat_cmp c)) removed (none_left c fs.nodes t.nodes_ascend)
+
+  other : (last : Bool) (q : ℕ) → q ≢ c → is_file_node (lookup (is_at (nat_cmp q)) (cond last removed fs.nodes)) ≡ is_file fs q
+  other true q n = ap is_file_node (lookup-remove_other (is_at (nat_cmp q)) (is_at (nat_cmp c)) (λ k p. apart_from c q k n p) fs.nodes)
+  other false q n = refl
+
+  none_dropped : (file last : Bool) (q : ℕ) → q ≢ c → cond (file && last) (Some c) None ≡ Some q → ⊥
+  none_dropped true true q n h = n (some_same c q h)
+  none_dropped true false q n h = none_some q h
+  none_dropped false last q n h = none_some q h
+
+  itself : (file last : Bool) → is_file fs c ≡ file
+      → (is_file_node (lookup (is_at (nat_cmp c)) (cond last removed fs.nodes)) ≡ true)
+      ↔ ((cond (file && last) (Some c) None ≢ Some c) × ((None ≡ Some c) ⊎ (is_file fs c ≡ true)))
+  itself true true f = goes (Some c) c (is_file fs c) _ refl (ap is_file_node gone)
+  itself true false f = stays None c (is_file fs c) _ (none_some c) refl
+  itself false true f = is_none None c (is_file fs c) _ f (ap is_file_node gone) (none_some c)
+  itself false false f = stays None c (is_file fs c) _ (none_some c) refl
+
+  pub tells_removal : (after : FileSystem) (dropped : Option ℕ) (file last : Bool) → is_file fs c ≡ file
+      → after.nodes ≡ cond last removed fs.nodes
+      → dropped ≡ cond (file && last) (Some c) None → TellsFiles fs (record no_effect { dropped = dropped }) after
+  tells_removal after dropped file last f n d = record {
+    files = λ q.
+        subst (λ (nodes : List (ℕ × Node)). (is_file_node (lookup (is_at (nat_cmp q)) nodes) ≡ true) ↔
+        ((dropped ≢ Some q) × ((None ≡ Some q) ⊎ (is_file fs q ≡ true)))) (sym n)
+        (subst (λ (o : Option ℕ). (is_file_node (lookup (is_at (nat_cmp q)) (cond last removed fs.nodes)) ≡ true) ↔
+        ((o ≢ Some q) × ((None ≡ Some q) ⊎ (is_file fs q ≡ true)))) (sym d)
+        (elim (q == c) as (λ b. (q == c) ≡ b → (is_file_node (lookup (is_at (nat_cmp q)) (cond last removed fs.nodes)) ≡ true)
+        ↔ ((cond (file && last) (Some c) None ≢ Some q) × ((None ≡ Some q) ⊎ (is_file fs q ≡ true)))) [
+          | true ↦ λ e. subst (λ x. (is_file_node (lookup (is_at (nat_cmp x)) (cond last removed fs.nodes)) ≡ true)
+              ↔ ((cond (file && last) (Some c) None ≢ Some x) × ((None ≡ Some x) ⊎ (is_file fs x ≡ true)))) (sym (eqb-true q c e))
+              (itself file last f)
+          | false ↦ λ e. stays (cond (file && last) (Some c) None) q (is_file fs q) _ (none_dropped file last q (eqb-false q c e))
+              (other last q (eqb-false q c e))
+        ] refl));
+    text = λ q h. absurd (none_some q h);
+  }
+
+module _ (fs : FileSystem) (t : IsTree fs) (parent : ℕ) (name : List ℕ) where
+  pub removal : (o : Option ℕ) → child_of fs parent name ≡ o → is_some o ≡ true
+      → TellsFiles fs (record no_effect { dropped = dropped_at fs parent name }) (without_link fs parent name)
+  removal None found h = absurd cc
+  removal (Some c) found h =
+      tells_removal fs t c (without_link fs parent name) (dropped_at fs parent name) (is_file fs c) (link_count fs.links c == 1) refl
+      (rw found refl) (rw found refl)
+
+  cond_none : (b : Bool) → cond {A = Option ℕ} b None None ≡ None
+  cond_none true = refl
+  cond_none false = refl
+
+  -- with a link at another place besides
+  pub move_onto : (from : ℕ) (old : List ℕ) (child : ℕ) (o : Option ℕ) → child_of fs parent name ≡ o
+      → TellsFiles fs (record no_effect { dropped = dropped_at fs parent name })
+      (with_link_moved (cond (is_some o) (without_link fs parent name) fs) from old parent name child)
+  move_onto from old child None found =
+      let last : Bool = is_file fs (named_by fs parent name) && is_last_link fs parent name in
+      let none : dropped_at fs parent name ≡ None = ap (λ (o : Option ℕ). cond last o None) found ∙ cond_none last in
+      subst (λ (d : Option ℕ). TellsFiles fs (record no_effect { dropped = d }) (with_link_moved fs from old parent name child)) (sym none)
+      (unchanged fs (with_link_moved fs from old parent name child) (λ q. refl))
+  move_onto from old child (Some c) found =
+      tells_removal fs t c (with_link_moved (without_link fs parent name) from old parent name child) (dropped_at fs parent name)
+      (is_file fs c) (link_count fs.links c == 1) refl
+      (rw found refl) (rw found refl)
+
+-- ---- what it takes that no rule refuses
+first_rule : (rule : Rule) (rules : List Rule) → first_of (rule ∷ rules) ≡ None → (rule.0 ≡ false) × (first_of rules ≡ None)
+first_rule rule rules h =
+    elim rule.0 as (λ b. rule.0 ≡ b → cond b (Some rule.1) (first_of rules) ≡ None → (b ≡ false) × (first_of rules ≡ None)) [
+      | true ↦ λ e g. absurd cc
+      | false ↦ λ e g. (refl, g)
+    ] refl h
+
+-- no rule of a list applies
+none_applies : (rules : List Rule) → first_of rules ≡ None → AllByRecursion (λ rule. rule.0 ≡ false) rules
+none_applies [] h = tt
+none_applies (rule ∷ rules) h = let f = first_rule rule rules h in (f.0, none_applies rules f.1)
+
+neither : (a b : Bool) → (a || b) ≡ false → a ≡ false
+neither true b h = absurd cc
+neither false b h = refl
+
+not_false : (b : Bool) → not b ≡ false → b ≡ true
+not_false true h = refl
+not_false false h = absurd cc
+
+absent_file : (o : Option Node) → is_some o ≡ false → is_file_node o ≡ false
+absent_file None h = refl
+absent_file (Some node) h = absurd cc
+
+kind_file : (o : Option Node) → is_some o ≡ true → is_directory_node o ≡ false → is_file_node o ≡ true
+kind_file None h g = absurd cc
+kind_file (Some node) h g = not_false (is_kind_file node.kind) g
+
+-- ---- a node that is made
+module _ (fs : FileSystem) (ino parent : ℕ) (name : List ℕ) (node : Node) (new : is_there fs ino ≡ false) where
+  old : (q : ℕ) → is_eq (nat_cmp q ino) ≡ true → is_file fs q ≡ false
+  old q e = ap (is_file fs) (same_number q ino e) ∙ absent_file (node_of fs ino) new
+
+  file_at : (q : ℕ) (b : Bool) → is_eq (nat_cmp q ino) ≡ b
+      → is_file (with_node fs ino parent name node) q ≡ is_file_node (cond b (Some node) (node_of fs q))
+  file_at q b e = ap is_file_node
+      (lookup-insert_entry nat_cmp_total fs.nodes ino node q ∙ ap (λ (b : Bool). cond b (Some node) (node_of fs q)) e)
+
+  pub directory_made : is_kind_file node.kind ≡ false → TellsFiles fs no_effect (with_node fs ino parent name node)
+  directory_made k =
+      unchanged fs (with_node fs ino parent name node) (λ q.
+      elim (is_eq (nat_cmp q ino)) as (λ b. is_eq (nat_cmp q ino) ≡ b → is_file (with_node fs ino parent name node) q ≡ is_file fs q) [
+        | true ↦ λ e. file_at q true e ∙ k ∙ sym (old q e)
+        | false ↦ λ e. file_at q false e
+      ] refl)
+
+  pub file_made : is_kind_file node.kind ≡ true → TellsFiles fs (record no_effect { made = Some ino }) (with_node fs ino parent name node)
+  file_made k = record {
+    files = λ q.
+        elim (is_eq (nat_cmp q ino)) as (λ b. is_eq (nat_cmp q ino) ≡ b
+        → (is_file (with_node fs ino parent name node) q ≡ true) ↔ ((None ≢ Some q) × ((Some ino ≡ Some q) ⊎ (is_file fs q ≡ true)))) [
+          | true ↦ λ e. (λ h. (none_some q, inl (ap Some (sym (same_number q ino e)))), λ g. file_at q true e ∙ k)
+          | false ↦ λ e. (
+            λ h. (none_some q, inr (sym (file_at q false e) ∙ h)),
+            λ g. ⊎_elim
+                (λ m. absurd
+                (let same : is_eq (nat_cmp q ino)
+                ≡ true = subst (λ x. is_eq (nat_cmp x ino) ≡ true) (sym (some_same ino q m)) (number_itself ino) in let f : true
+                ≡ false = sym same ∙ e in cc))
+                (λ b. file_at q false e ∙ b) g.1,
+          )
+        ] refl;
+    text = λ q h. absurd (none_some q h);
+  }
+
+-- ---- permissions
+perm_changed : (fs : FileSystem) (change : Perm → Perm) (ino : ℕ) (o : Option Node) → node_of fs ino ≡ o
+    → TellsFiles fs no_effect (with_perm change fs ino o)
+perm_changed fs change ino None h = unchanged fs fs (λ q. refl)
+perm_changed fs change ino (Some node) h =
+    unchanged fs (with_perm change fs ino (Some node))
+    (λ q. set_same is_file_node (is_at (nat_cmp q)) (is_at (nat_cmp ino)) fs.nodes node (record node { perm = change node.perm }) h refl)
+
+-- ---- any event
+abbrev the_ok : FileSystem × Effect → Result (FileSystem × Effect) Refusal
+the_ok p = Ok p
+
+ok_same : (p q : FileSystem × Effect) → the_ok p ≡ the_ok q → p ≡ q
+ok_same p q h = cc
+
+module _ (fs : FileSystem) (t : IsTree fs) where
+  tells : (event : Event) → refusal_of fs event ≡ None → TellsFiles fs (effect_of fs event) (next fs event)
+  tells (User uid groups) h = unchanged fs (next fs (User uid groups)) (λ q. refl)
+  tells (Mkdir ino parent name perm) h =
+      let a = (none_applies (mkdir_rules fs ino parent name) h).1.1.1 in
+      directory_made fs ino parent name (record { kind = Directory; perm = perm })
+      (neither (is_there fs ino) (is_used fs parent name) a.0) refl
+  tells (Create ino parent name perm) h =
+      let a = (none_applies (create_rules fs ino parent name) h).1.1.1 in
+      file_made fs ino parent name (record { kind = File; perm = perm }) (neither (is_there fs ino) (is_used fs parent name) a.0) refl
+  tells (Text ino) h =
+      let a = none_applies (text_rules fs ino) h in
+      let file : is_file fs ino ≡ true = kind_file (node_of fs ino) (not_false (is_there fs ino) a.0) a.1.0 in
+      record {
+        files = λ q. stays None q (is_file fs q) (is_file fs q) (none_some q) refl;
+        text = λ q e. subst (λ x. is_file fs x ≡ true) (sym (some_same ino q e)) file;
+      }
+  tells (Link ino parent name) h = unchanged fs (next fs (Link ino parent name)) (λ q. refl)
+  tells (Unlink parent name) h =
+      let a = (none_applies (unlink_rules fs parent name) h).1.1.1 in
+      removal fs t parent name (child_of fs parent name) refl (not_false (is_used fs parent name) a.0)
+  tells (Rmdir parent name) h =
+      let a = (none_applies (rmdir_rules fs parent name) h).1.1.1 in
+      let no_file : is_file fs (named_by fs parent name) ≡ false = a.1.0 in
+      let none : dropped_at fs parent name ≡ None = rw no_file refl in
+      subst (λ (d : Option ℕ). TellsFiles fs (record no_effect { dropped = d }) (without_link fs parent name)) none
+      (removal fs t parent name (child_of fs parent name) refl (not_false (is_used fs parent name) a.0))
+  tells (Rename parent name new_parent new_name) h =
+      elim (is_link_to (named_by fs parent name) (child_of fs new_parent new_name)) as (λ b.
+      TellsFiles fs (cond b no_effect (record no_effect { dropped = dropped_at fs new_parent new_name }))
+      (cond b fs
+      (with_link_moved (cond (is_used fs new_parent new_name) (without_link fs new_parent new_name) fs) parent name new_parent new_name
+      (named_by fs parent name)))) [
+        | true ↦ unchanged fs fs (λ q. refl)
+        | false ↦ move_onto fs t new_parent new_name parent name (named_by fs parent name) (child_of fs new_parent new_name) refl
+      ]
+  tells (Chmod ino mode) h = perm_changed fs (λ perm. record perm { mode = mode }) ino (node_of fs ino) refl
+  tells (Chown ino uid gid) h = perm_changed fs (λ perm. record perm { uid = uid; gid = gid }) ino (node_of fs ino) refl
+
+  pub effects_tell_files : (event : Event) (after : FileSystem) (effect : Effect) → step fs event ≡ Ok (after, effect)
+      → TellsFiles fs effect after
+  effects_tell_files event after effect h =
+      elim (refusal_of fs event) as
+      (λ o. refusal_of fs event ≡ o → unless_refused o (next fs event) (effect_of fs event) ≡ Ok (after, effect)
+      → TellsFiles fs effect after) [
+        | None ↦ λ r e.
+            let pair = ok_same (next fs event, effect_of fs event) (after, effect) e in
+            let n : next fs event ≡ after = ap (λ (p : FileSystem × Effect). p.0) pair in
+            let f : effect_of fs event ≡ effect = ap (λ (p : FileSystem × Effect). p.1) pair in
+            subst (λ (v : FileSystem). TellsFiles fs effect v) n (subst (λ (v : Effect). TellsFiles fs v (next fs event)) f (tells event r))
+        | Some refusal ↦ λ r e. absurd cc
+      ] refl h
