@@ -5,7 +5,7 @@
 #![tactic(auto)]
 
 mod containment;
-mod fronts;
+mod first_extents;
 mod laws;
 mod lookup;
 mod merging;
@@ -16,6 +16,3 @@ mod solving;
 pub use laws::{extents_ascend, frames_of_texts};
 pub use lookup::find_term;
 pub use solving::solve;
-
-#[cfg(test)]
-mod tests;
