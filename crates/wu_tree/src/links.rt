@@ -66,7 +66,7 @@ impl Links {
         }
     }
 
-    /// Puts a link to its place, instead of the one that may stand there. After want of memory the links
+    /// Puts a link to its place, instead of the one that may stand there. Out of memory, the links
     /// are as they were.
     pub(crate) fn insert(
         &mut self,

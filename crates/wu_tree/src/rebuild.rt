@@ -28,7 +28,7 @@ impl Tree {
     /// where they keep the rules: a user's groups ascend without repeats; no node has number 0, and a mode is
     /// at most 7777 octal; node 1 is a directory, and no link names it; a link stands in a directory that is
     /// there and names a node that is there, and its name is a name; any other directory has one link, and is
-    /// reached from node 1 at a depth of at most 255; and a file has a link. The only error is want of memory.
+    /// reached from node 1 at a depth of at most 255; and a file has a link. The only error is out of memory.
     /// The time is near linear: for each node, link and user a few look-ups.
     pub fn rebuild(
         alloc: Global,

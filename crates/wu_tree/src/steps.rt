@@ -25,8 +25,9 @@ impl Tree {
     ///
     /// The time grows with the event's own bytes and with the number of look-ups by number or name, each of
     /// which is logarithmic in the tree. There are a few, and more at two events: Mkdir, and Rename of a
-    /// directory, go from a directory up to the root, in at most 255 steps; and where Rename takes a
-    /// directory deeper down, it looks at the nodes below that directory, each once.
+    /// directory, go from a directory up to the root, in at most 255 steps each time. Rename looks at the
+    /// entries below a directory only where the height that is kept of it leaves open whether one below comes
+    /// to lie too deep, at each once or twice; where it is accepted, it lowers the heights below.
     pub fn apply(&mut self, event: &Event) -> Result<Result<Effect, Refusal>, NoMemory>
         requires { IsEvent event.now }
         ensures step { IfOk result (λ answer. IsStep self.old event.now answer self.new) }

@@ -28,7 +28,7 @@ pub struct Seen {
 
 /// The files that a user may search, by their least open paths: those that grant her read and have a path
 /// on which each directory, the root included, grants her execute. Read on directories isn't asked. User 0
-/// may search all files; a user who was never given has no groups. The only error is want of memory.
+/// may search all files; a user who was never given has no groups. The only error is out of memory.
 ///
 /// Goes once through the entries of each directory that the user may reach, and of no other; then the paths
 /// are sorted. So the time is near linear in these entries and in the bytes of the answer. The memory grows
