@@ -8,4 +8,6 @@ mod crashes;
 #[cfg(test)]
 mod failing;
 #[cfg(test)]
+mod folders;
+#[cfg(test)]
 mod streams;
