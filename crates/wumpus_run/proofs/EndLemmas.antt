@@ -9,7 +9,7 @@ use Rattle.wu_script.specs.declared.types.Item.TheVariants as items
 use Rattle.wu_script.specs.Holding.{Held}
 use Rattle.wu_script.specs.Items.{items_of, IsNext, StopsBeforeItem}
 use Rattle.wu_script.proofs.TurnLemmas.{items_of-none}
-use Rattle.wumpus_run.specs.declared.options.Settings.{Settings}
+use Rattle.wu_options.specs.declared.command_lines.Settings.{Settings}
 use Rattle.wumpus_run.specs.declared.statuses.Status.{Status}
 use Rattle.wumpus_run.specs.declared.statuses.Status.TheVariants.{Done, Usage, ReadFault, WriteFault, NoMemory, InputTooLong}
 use Rattle.wumpus_run.specs.States.{State, first_state}

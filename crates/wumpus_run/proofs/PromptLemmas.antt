@@ -12,7 +12,7 @@ use Rattle.wu_script.specs.Holding.{Held, Uses, but_last, settled}
 use Rattle.wu_script.specs.Items.{Entry, First, first_of, whole_items_of, IsItem, IsOneItem, TakesItem, StopsBeforeItem}
 use Rattle.wu_script.proofs.TurnLemmas.{first_more, whole_items_of-none, whole_items_of-closed, whole_items_more}
 use Rattle.wu_script.proofs.OpenLemmas.{open_none}
-use Rattle.wumpus_run.specs.declared.options.Settings.{Settings}
+use Rattle.wu_options.specs.declared.command_lines.Settings.{Settings}
 use Rattle.wumpus_run.specs.States.{State, first_state}
 use Rattle.wumpus_run.specs.Output.{Reading, IsReading, bytes_of, reply_to, after, output_of, item_bytes, after_item}
 use Rattle.wumpus_run.specs.Session.{IsAnswered, AnswersWholeItems, AnswersAllButOneRead, HoldsNothingBack, status_of}

@@ -5,7 +5,6 @@ pub mod Answer
 pub mod Scans
 pub mod Rankings
 pub mod Output
-pub mod Options
 pub mod Taking
 pub mod Session
 pub mod Units

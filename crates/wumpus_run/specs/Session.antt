@@ -1,5 +1,5 @@
 -- What a session did, told by what the source had left and what the sink gained.
-use Rattle.std.specs.Prelude.{◌≡◌, ℕ, ◌+◌, ◌≤◌, ◌<◌, ◌⊎◌, ◌↔◌, List, [], length, take, Option, Some, None, IfSome}
+use Rattle.std.specs.Prelude.{◌≡◌, ℕ, ◌+◌, ◌≤◌, ◌<◌, ◌⊎◌, ◌↔◌, List, [], length, take, Option, Some, None, IfSome, option_and_then}
 use Rattle.std.specs.Io.KnownBytes.{Appends, Consumes}
 use Rattle.wu_outside.specs.Gains.{GainsPrefix}
 use Rattle.wu_script.specs.Holding.{but_last}
@@ -8,12 +8,24 @@ use Rattle.wu_script.specs.declared.ends.ReadEnd.{ReadEnd}
 use Rattle.wu_script.specs.declared.ends.ReadEnd.TheVariants as ends
 use Rattle.wu_script.specs.declared.types.Item.{Item}
 use Rattle.wu_script.specs.declared.types.Item.TheVariants as items
-use Rattle.wumpus_run.specs.declared.options.Settings.{Settings}
+use Rattle.wu_options.specs.CommandLines.{command_line_of}
+use Rattle.wu_options.specs.declared.command_lines.CommandLine.{CommandLine}
+use Rattle.wu_options.specs.declared.command_lines.CommandLine.TheVariants.{Run, Demo}
+use Rattle.wu_options.specs.declared.command_lines.Settings.{Settings}
 use Rattle.wumpus_run.specs.declared.statuses.Status.{Status}
 use Rattle.wumpus_run.specs.declared.statuses.Status.TheVariants.{Done, Usage, ReadFault, WriteFault, NoMemory, InputTooLong}
 use Rattle.wumpus_run.specs.States.{first_state}
 use Rattle.wumpus_run.specs.Output.{Reading, IsReading, output_of}
 use Rattle.wumpus_run.specs.Taking.{TakesExactly, TakesAtMost, GainsAtLeast}
+
+-- the settings of a session, where the command line is that of `run`; a demo is to come
+abbrev pub session_settings : CommandLine → Option Settings
+session_settings (Run settings) = Some settings
+session_settings (Demo number) = None
+
+-- the settings of the session that the arguments ask for
+abbrev pub settings_of : List (List ℕ) → Option Settings
+settings_of arguments = option_and_then session_settings (command_line_of arguments)
 
 -- an item that isn't the end of the script
 abbrev pub IsAnswered : Item → Type 0

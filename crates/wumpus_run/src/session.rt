@@ -2,23 +2,23 @@
 ghost use Rattle.std.specs.Prelude.{◌≡◌, ◌++◌, [], None, Some, false, IfOk, OnOk, MatchBool};
 ghost use Rattle.wu_outside.specs.Faults.{Rose};
 ghost use Rattle.wu_script.specs.Items.{IsSoundItem};
-ghost use Rattle.wumpus_run.specs.Options.{settings_of, texts_of};
+ghost use Rattle.wu_options.specs.CommandLines.{texts_of};
 ghost use Rattle.wumpus_run.specs.Output.{verdict_bytes, item_bytes, after_item};
 ghost use Rattle.wumpus_run.specs.States.{first_state};
-ghost use Rattle.wumpus_run.specs.Session.{status_of, IsAnswered, IsUsage, AnswersAll, AnswersFront, StaysWithin, IsTooLong, HoldsNothingBack, Ends, Completes};
+ghost use Rattle.wumpus_run.specs.Session.{settings_of, status_of, IsAnswered, IsUsage, AnswersAll, AnswersFront, StaysWithin, IsTooLong, HoldsNothingBack, Ends, Completes};
 
 use crate::machine::Machine;
-use crate::options::{Settings, read_options};
 use crate::statuses::Status;
 use std::alloc::Global;
 use wu_base::{Bytes, NoMemory};
+use wu_options::{CommandLine, Settings, read_command_line};
 use wu_outside::{Fault, Sink, Source, Store, write_all};
 use wu_script::{Command, Item, ReadEnd, Reader, Reply, Why, put_reply};
 use wu_tree::{Event, Refusal};
 
 /// Runs a session: reads the script from the source as it comes, and writes the reply to each of its
-/// items to the sink before it reads the next. The words are those behind the program's name; they
-/// say how many bytes the input may have.
+/// items to the sink before it reads the next. `words` are the command-line arguments, those after
+/// the program's name; they say how many bytes the input may have.
 pub fn run<I: Source, O: Sink, D: Store>(
     alloc: Global,
     words: &[&str],
@@ -26,7 +26,7 @@ pub fn run<I: Source, O: Sink, D: Store>(
     sink: &mut O,
     store: &mut D,
 ) -> Status
-    // Usage comes exactly where the words are in no form, and then nothing is touched.
+    // Usage comes exactly where the arguments ask for no session, and then nothing is touched.
     ensures usage { IsUsage result (settings_of (texts_of words.now)) }
     ensures untouched { settings_of (texts_of words.now) ≡ None → (source.new ≡ source.old) × (sink.new ≡ sink.old) }
     ensures store { store.new ≡ store.old }
@@ -55,9 +55,9 @@ pub fn run<I: Source, O: Sink, D: Store>(
     ensures complete { ¬ Rose (I.faults source.old) (I.faults source.new) → ¬ Rose (O.faults sink.old) (O.faults sink.new)
         → Completes result (settings_of (texts_of words.now)) (I.left source.old) }
 {
-    match read_options(alloc, words) {
-        Ok(Some(settings)) => answer_script(alloc, settings, source, sink),
-        Ok(None) => Status::Usage,
+    match read_command_line(alloc, words) {
+        Ok(Some(CommandLine::Run(settings))) => answer_script(alloc, settings, source, sink),
+        Ok(Some(CommandLine::Demo(_)) | None) => Status::Usage,
         Err(NoMemory) => Status::NoMemory,
     }
 }

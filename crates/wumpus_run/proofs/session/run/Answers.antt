@@ -1,4 +1,5 @@
-use Rattle.wumpus_run.specs.Options.{settings_of, texts_of}
+use Rattle.wu_options.specs.CommandLines.{texts_of}
+use Rattle.wumpus_run.specs.Session.{settings_of}
 use Rattle.wumpus_run.specs.declared.statuses.Status.TheVariants.{NoMemory}
 use Rattle.wumpus_run.proofs.EndLemmas.{IsTooLong-none}
 use Rattle.wumpus_run.proofs.PromptLemmas.{AnswersAllButOneRead-none}

@@ -4,7 +4,7 @@ pub mod MatchedRows
 pub mod WordLooks
 pub mod WalkSteps
 pub mod SeenRows
-pub mod FrontSettings
+pub mod Prefixes
 pub mod Verdicts
 use Rattle.std.proofs.Common.{◌≡◌, ◌∙◌, ◌||◌, Bool, cond, codes, true, false, refl, sym, ap, subst, List, [], ◌∷◌, Option, Some, None}
 use Rattle.std.proofs.Math.Bool.{or-true}
@@ -18,13 +18,14 @@ use Rattle.clap.specs.Faults.{check_fault, default_fault, defaults_fault, entere
 use Rattle.clap.specs.declared.error.kind.ErrorKind.{ErrorKind}
 use Rattle.clap.proofs.WalkLemmas.{first_value-rows, raw_values-rows}
 use Rattle.clap.specs.declared.parser.matches.Found.{Found}
-use Rattle.wumpus_run.specs.declared.options.Settings.{Settings}
-use Rattle.wumpus_run.specs.Options.{said_in, max_input, flush, command_app, settings_of, settings_by}
-use Rattle.wumpus_run.proofs.OptionLemmas.BuiltCommand.{built_words, rule_for, rules_built, shape_built, app_built, held}
-use Rattle.wumpus_run.proofs.OptionLemmas.WordLooks.{split_and, refused}
-use Rattle.wumpus_run.proofs.OptionLemmas.WalkSteps.{state, or_else_none}
-use Rattle.wumpus_run.proofs.OptionLemmas.SeenRows.{Seen}
-use Rattle.wumpus_run.proofs.OptionLemmas.Verdicts.{faults_from, rows_from, said_of, Agrees, all_meet}
+use Rattle.wu_options.specs.declared.command_lines.CommandLine.{CommandLine}
+use Rattle.wu_options.specs.CommandLines.{max_input, flush, command_line_of, command_line_by}
+use Rattle.wu_options.specs.Parser.{command_app, said_in}
+use Rattle.wu_options.proofs.OptionLemmas.BuiltCommand.{built_words, rule_for, rules_built, shape_built, app_built, held}
+use Rattle.wu_options.proofs.OptionLemmas.WordLooks.{split_and, refused}
+use Rattle.wu_options.proofs.OptionLemmas.WalkSteps.{state, or_else_none}
+use Rattle.wu_options.proofs.OptionLemmas.SeenRows.{Seen}
+use Rattle.wu_options.proofs.OptionLemmas.Verdicts.{faults_from, rows_from, said_of, Agrees, all_meet}
 
 pub no_entry : (stop : Option (Text × List Text)) → entered_fault app_built stop ≡ []
 no_entry None = refl
@@ -68,12 +69,12 @@ rows_found words = finished_as (walk rules_built [] nothing_held words).held
 pub nothing_seen : Seen
 nothing_seen = record { most = None; flushed = None; words = [] }
 
-pub agrees : (words : List Text) → Agrees (fault_of command_app words) (matches_of command_app words) (settings_of words)
-unfolding settings_of nothing_seen
+pub agrees : (words : List Text) → Agrees (fault_of command_app words) (matches_of command_app words) (command_line_of words)
+unfolding command_line_of nothing_seen
 agrees words =
     let m = (all_meet words).0 nothing_seen [] None idle tt refl (refl, refl, refl) in
-    subst (λ (kinds : Kinds). Agrees kinds (matches_of command_app words) (settings_of words)) (sym (faults_are words))
-    (subst (λ (rows : List Row). Agrees (faults_from (state [] None idle false) words) rows (settings_of words)) (sym (rows_found words)) m)
+    subst (λ (kinds : Kinds). Agrees kinds (matches_of command_app words) (command_line_of words)) (sym (faults_are words))
+    (subst (λ (rows : List Row). Agrees (faults_from (state [] None idle false) words) rows (command_line_of words)) (sym (rows_found words)) m)
 
 -- ---- what a parse tells
 
@@ -84,25 +85,25 @@ said_is found = λ i. record {
   words = unwrap_or (raw_values-rows found (codes "words") i) [];
 }
 
-pub agrees_without : (kinds : Kinds) (rows : List Row) (settings : Option Settings) → kinds ≡ [] → Agrees kinds rows settings → settings_by (said_of rows) ≡ settings
-agrees_without [] rows settings none a = a
-agrees_without (k ∷ ks) rows settings none a = cc
+pub agrees_without : (kinds : Kinds) (rows : List Row) (line : Option CommandLine) → kinds ≡ [] → Agrees kinds rows line → command_line_by (said_of rows) ≡ line
+agrees_without [] rows line none a = a
+agrees_without (k ∷ ks) rows line none a = cc
 
-pub agrees_among : (kinds : Kinds) (rows : List Row) (settings : Option Settings) (k : ErrorKind) → IsAmong k kinds → Agrees kinds rows settings → settings ≡ None
-agrees_among [] rows settings k among a = absurd among
-agrees_among (x ∷ xs) rows settings k among a = a
+pub agrees_among : (kinds : Kinds) (rows : List Row) (line : Option CommandLine) (k : ErrorKind) → IsAmong k kinds → Agrees kinds rows line → line ≡ None
+agrees_among [] rows line k among a = absurd among
+agrees_among (x ∷ xs) rows line k among a = a
 
 -- the words of a parse that succeeds give what was found
-pub found_settings : (app : App) (words : List Text) (found : Found) → app ≡ command_app → fault_of app words ≡ [] → rows_of found ≡ matches_of app words
-    → settings_by (said_in found) ≡ settings_of words
-found_settings app words found same none rows =
-    ap settings_by (said_is found ∙ ap said_of (rows ∙ ap (λ (a : App). matches_of a words) same))
-    ∙ agrees_without (fault_of command_app words) (matches_of command_app words) (settings_of words) (ap (λ (a : App). fault_of a words) (sym same) ∙ none) (agrees words)
+pub found_line : (app : App) (words : List Text) (found : Found) → app ≡ command_app → fault_of app words ≡ [] → rows_of found ≡ matches_of app words
+    → command_line_by (said_in found) ≡ command_line_of words
+found_line app words found same none rows =
+    ap command_line_by (said_is found ∙ ap said_of (rows ∙ ap (λ (a : App). matches_of a words) same))
+    ∙ agrees_without (fault_of command_app words) (matches_of command_app words) (command_line_of words) (ap (λ (a : App). fault_of a words) (sym same) ∙ none) (agrees words)
 
 -- and words that are refused are in no form
-pub no_settings : (app : App) (words : List Text) (k : ErrorKind) → app ≡ command_app → IsAmong k (fault_of app words) → None ≡ settings_of words
-no_settings app words k same among =
-    sym (agrees_among (fault_of command_app words) (matches_of command_app words) (settings_of words) k
+pub no_line : (app : App) (words : List Text) (k : ErrorKind) → app ≡ command_app → IsAmong k (fault_of app words) → None ≡ command_line_of words
+no_line app words k same among =
+    sym (agrees_among (fault_of command_app words) (matches_of command_app words) (command_line_of words) k
     (subst (λ (a : App). IsAmong k (fault_of a words)) same among) (agrees words))
 
 pub is_simple_command : is_simple command_app ≡ true

@@ -7,14 +7,14 @@ use Rattle.clap.specs.Walk.{Walk, Waiting, idle, option, positional as to_positi
 use Rattle.clap.specs.Kinds.{Kinds, or_else}
 use Rattle.clap.specs.Faults.{option_fault, other_fault, use_fault, settle_fault, walk_fault, word_fault}
 use Rattle.clap.specs.declared.error.kind.ErrorKind.TheVariants.{ArgumentConflict}
-use Rattle.wumpus_run.specs.declared.options.Settings.{Settings}
-use Rattle.wumpus_run.specs.Options.{Key, Said, only_words, said_from, settings_by, sort_of, needs_value, with_value, fault, positional}
-use Rattle.wumpus_run.proofs.OptionLemmas.BuiltCommand.{name_of, rule_for, rules_built, shape_built, held, Fails, IsHyphened}
-use Rattle.wumpus_run.proofs.OptionLemmas.MatchedRows.{first_is}
-use Rattle.wumpus_run.proofs.OptionLemmas.WordLooks.{IsPlain, Look, look, two_dashes, option_use, refused, plain, no_text}
-use Rattle.wumpus_run.proofs.OptionLemmas.WalkSteps.{Pending, state, pending_fault, rows_with, turn, step, TakesStep, word_pending, trailing_step, dashes_step, no_subcommand, IsFree, plain_step, asked_step, use_turn, after_use, use_step}
-use Rattle.wumpus_run.proofs.OptionLemmas.SeenRows.{Seen, given_for, word_after, value_after, listed, alone, Holds, words_held, option_held, fresh_use, repeated_use, pending_is, rows_are, unvalued}
-use Rattle.wumpus_run.proofs.OptionLemmas.FrontSettings.{joined, rest, rest_by, word_joined, value_joined, lost_repeated, lost_hyphened, lost_word}
+use Rattle.wu_options.specs.declared.command_lines.CommandLine.{CommandLine}
+use Rattle.wu_options.specs.CommandLines.{Key, Said, only_words, said_from, command_line_by, sort_of, needs_value, with_value, fault, positional}
+use Rattle.wu_options.proofs.OptionLemmas.BuiltCommand.{name_of, rule_for, rules_built, shape_built, held, Fails, IsHyphened}
+use Rattle.wu_options.proofs.OptionLemmas.MatchedRows.{first_is}
+use Rattle.wu_options.proofs.OptionLemmas.WordLooks.{IsPlain, Look, look, two_dashes, option_use, refused, plain, no_text}
+use Rattle.wu_options.proofs.OptionLemmas.WalkSteps.{Pending, state, pending_fault, rows_with, turn, step, TakesStep, word_pending, trailing_step, dashes_step, no_subcommand, IsFree, plain_step, asked_step, use_turn, after_use, use_step}
+use Rattle.wu_options.proofs.OptionLemmas.SeenRows.{Seen, given_for, word_after, value_after, listed, alone, Holds, words_held, option_held, fresh_use, repeated_use, pending_is, rows_are, unvalued}
+use Rattle.wu_options.proofs.OptionLemmas.Prefixes.{joined, rest, rest_by, word_joined, value_joined, lost_repeated, lost_hyphened, lost_word}
 
 -- the faults of the words from here on, and the rows at their end
 abbrev pub faults_from : Walk → List Text → Kinds
@@ -30,43 +30,43 @@ said_of rows = record {
   words = unwrap_or (all_of (codes "words") rows) [];
 }
 
--- where there is no fault the rows give these settings, and where there is one there are none
-abbrev pub Agrees : Kinds → List Row → Option Settings → Type 0
-Agrees [] rows settings = settings_by (said_of rows) ≡ settings
-Agrees (k ∷ ks) rows settings = settings ≡ None
+-- where there is no fault the rows give this line, and where there is one there is none
+abbrev pub Agrees : Kinds → List Row → Option CommandLine → Type 0
+Agrees [] rows line = command_line_by (said_of rows) ≡ line
+Agrees (k ∷ ks) rows line = line ≡ None
 
-abbrev pub Meets : Walk → List Text → Option Settings → Type 0
-Meets w words settings = Agrees (faults_from w words) (rows_from w words) settings
+abbrev pub Meets : Walk → List Text → Option CommandLine → Type 0
+Meets w words line = Agrees (faults_from w words) (rows_from w words) line
 
-pub meets_as : (w : Walk) (words : List Text) (a b : Option Settings) → a ≡ b → Meets w words a → Meets w words b
-meets_as w words a b e m = subst (λ (o : Option Settings). Meets w words o) e m
+pub meets_as : (w : Walk) (words : List Text) (a b : Option CommandLine) → a ≡ b → Meets w words a → Meets w words b
+meets_as w words a b e m = subst (λ (o : Option CommandLine). Meets w words o) e m
 
-abbrev pub MeetsAfter : List Text → Option Settings → Kinds → Walk → Type 0
-MeetsAfter words settings kinds after =
+abbrev pub MeetsAfter : List Text → Option CommandLine → Kinds → Walk → Type 0
+MeetsAfter words line kinds after =
     Agrees (or_else (or_else kinds (walk_fault shape_built [] after words)) (settle_fault rules_built false (fold (walked rules_built []) after words).held))
-    (rows_from after words) settings
+    (rows_from after words) line
 
-pub meets_step : (w after : Walk) (word : Text) (words : List Text) (settings : Option Settings) → TakesStep w word [] after → Meets after words settings
-    → Meets w (word ∷ words) settings
+pub meets_step : (w after : Walk) (word : Text) (words : List Text) (line : Option CommandLine) → TakesStep w word [] after → Meets after words line
+    → Meets w (word ∷ words) line
 unfolding walk_fault
-meets_step w after word words settings s m =
-    subst (λ (kinds : Kinds). MeetsAfter words settings kinds (step w word)) (sym s.0)
-    (subst (λ (x : Walk). MeetsAfter words settings [] x) (sym s.1) m)
+meets_step w after word words line s m =
+    subst (λ (kinds : Kinds). MeetsAfter words line kinds (step w word)) (sym s.0)
+    (subst (λ (x : Walk). MeetsAfter words line [] x) (sym s.1) m)
 
-pub meets_fault : (w : Walk) (word : Text) (words : List Text) (settings : Option Settings) → Fails (turn w word) → settings ≡ None → Meets w (word ∷ words) settings
+pub meets_fault : (w : Walk) (word : Text) (words : List Text) (line : Option CommandLine) → Fails (turn w word) → line ≡ None → Meets w (word ∷ words) line
 unfolding walk_fault
-meets_fault w word words settings f none =
-    subst (λ (kinds : Kinds). MeetsAfter words settings kinds (step w word)) (sym f.2) none
+meets_fault w word words line f none =
+    subst (λ (kinds : Kinds). MeetsAfter words line kinds (step w word)) (sym f.2) none
 
-pub ends : (rows : List Row) (pending : Pending) (waiting : Waiting) (trailing : Bool) (settings : Option Settings) → pending_fault rows pending ≡ []
-    → settings_by (said_of (rows_with rows pending)) ≡ settings → Meets (state rows pending waiting trailing) [] settings
+pub ends : (rows : List Row) (pending : Pending) (waiting : Waiting) (trailing : Bool) (line : Option CommandLine) → pending_fault rows pending ≡ []
+    → command_line_by (said_of (rows_with rows pending)) ≡ line → Meets (state rows pending waiting trailing) [] line
 unfolding walk_fault
-ends rows pending waiting trailing settings none e = subst (λ (kinds : Kinds). Agrees kinds (rows_with rows pending) settings) (sym none) e
+ends rows pending waiting trailing line none e = subst (λ (kinds : Kinds). Agrees kinds (rows_with rows pending) line) (sym none) e
 
-pub ends_badly : (rows : List Row) (pending : Pending) (waiting : Waiting) (trailing : Bool) (settings : Option Settings) → Fails (pending_fault rows pending)
-    → settings ≡ None → Meets (state rows pending waiting trailing) [] settings
+pub ends_badly : (rows : List Row) (pending : Pending) (waiting : Waiting) (trailing : Bool) (line : Option CommandLine) → Fails (pending_fault rows pending)
+    → line ≡ None → Meets (state rows pending waiting trailing) [] line
 unfolding walk_fault
-ends_badly rows pending waiting trailing settings f none = subst (λ (kinds : Kinds). Agrees kinds (rows_with rows pending) settings) (sym f.2) none
+ends_badly rows pending waiting trailing line f none = subst (λ (kinds : Kinds). Agrees kinds (rows_with rows pending) line) (sym f.2) none
 
 pub fails_as : (a b : Kinds) → a ≡ b → Fails b → Fails a
 fails_as a b e f = (f.0, f.1, e ∙ f.2)
@@ -89,23 +89,23 @@ abbrev pub IsClosed : Waiting → Bool → Type 0
 IsClosed waiting true = ⊤
 IsClosed waiting false = IsFree waiting
 
-pub doomed : (words : List Text) (rows : List Row) (pending : Pending) (waiting : Waiting) (trailing : Bool) (settings : Option Settings)
-    → IsClosed waiting trailing → Fails (pending_fault rows pending) → settings ≡ None → Meets (state rows pending waiting trailing) words settings
-doomed [] rows pending waiting trailing settings closed f none = ends_badly rows pending waiting trailing settings f none
-doomed (word ∷ words) rows pending waiting true settings closed f none =
-    meets_fault (state rows pending waiting true) word words settings (fails_as _ _ (trailing_step rows pending waiting word).0 f) none
-doomed (word ∷ words) rows pending waiting false settings closed f none =
-    go (look word) (doomed words rows pending waiting true settings tt f none)
+pub doomed : (words : List Text) (rows : List Row) (pending : Pending) (waiting : Waiting) (trailing : Bool) (line : Option CommandLine)
+    → IsClosed waiting trailing → Fails (pending_fault rows pending) → line ≡ None → Meets (state rows pending waiting trailing) words line
+doomed [] rows pending waiting trailing line closed f none = ends_badly rows pending waiting trailing line f none
+doomed (word ∷ words) rows pending waiting true line closed f none =
+    meets_fault (state rows pending waiting true) word words line (fails_as _ _ (trailing_step rows pending waiting word).0 f) none
+doomed (word ∷ words) rows pending waiting false line closed f none =
+    go (look word) (doomed words rows pending waiting true line tt f none)
   where
-    go : Look word → Meets (state rows pending waiting true) words settings → Meets (state rows pending waiting false) (word ∷ words) settings
-    go (two_dashes is) later = rw is (meets_step (state rows pending waiting false) (state rows pending waiting true) (45 ∷ 45 ∷ []) words settings (dashes_step rows pending waiting) later)
-    go (option_use key name given begins sort dashes long rule) later = meets_fault (state rows pending waiting false) word words settings
+    go : Look word → Meets (state rows pending waiting true) words line → Meets (state rows pending waiting false) (word ∷ words) line
+    go (two_dashes is) later = rw is (meets_step (state rows pending waiting false) (state rows pending waiting true) (45 ∷ 45 ∷ []) words line (dashes_step rows pending waiting) later)
+    go (option_use key name given begins sort dashes long rule) later = meets_fault (state rows pending waiting false) word words line
         (fails_as _ _ (use_turn key name given rows pending waiting word dashes long rule) (option_fails key given rows pending f)) none
-    go (refused begins sort fails) later = meets_fault (state rows pending waiting false) word words settings
+    go (refused begins sort fails) later = meets_fault (state rows pending waiting false) word words line
         (refused_turn rows pending waiting word (fails rows pending)) none
-    go (plain sort p) later = meets_fault (state rows pending waiting false) word words settings
+    go (plain sort p) later = meets_fault (state rows pending waiting false) word words line
         (fails_as _ _ (plain_step rows pending waiting word closed p).0 f) none
-    go (no_text begins sort p) later = meets_fault (state rows pending waiting false) word words settings
+    go (no_text begins sort p) later = meets_fault (state rows pending waiting false) word words line
         (fails_as _ _ (plain_step rows pending waiting word closed p).0 f) none
 
 pub first_listed : (id : Text) (rows : List Row) (o : Option Text) → all_of id rows ≡ alone o → option_to_list (first_of id rows) ≡ option_to_list o ++ []
@@ -130,12 +130,12 @@ pub word_passes : (rows : List Row) (word : Text) → pending_fault rows (word_p
 word_passes rows word = refl
 
 pub trailing_meets : (words : List Text) (seen : Seen) (rows : List Row) (pending : Pending) (waiting : Waiting) → pending_fault rows pending ≡ []
-    → Holds (rows_with rows pending) seen → Meets (state rows pending waiting true) words (settings_by (joined seen (only_words words)))
-trailing_meets [] seen rows pending waiting none h = ends rows pending waiting true _ none (ap settings_by (said_at_end (rows_with rows pending) seen h))
+    → Holds (rows_with rows pending) seen → Meets (state rows pending waiting true) words (command_line_by (joined seen (only_words words)))
+trailing_meets [] seen rows pending waiting none h = ends rows pending waiting true _ none (ap command_line_by (said_at_end (rows_with rows pending) seen h))
 trailing_meets (word ∷ words) seen rows pending waiting none h =
     let s = trailing_step rows pending waiting word in
     meets_step (state rows pending waiting true) (state (rows_with rows pending) (word_pending word) to_positional true) word words _ (s.0 ∙ none, s.1)
-    (meets_as _ words _ _ (ap settings_by (λ i. record {
+    (meets_as _ words _ _ (ap command_line_by (λ i. record {
       max_inputs = option_to_list seen.most ++ [];
       flushes = option_to_list seen.flushed ++ [];
       words = append_assoc seen.words (word ∷ []) words i;
@@ -233,7 +233,7 @@ asked_word word words open_ih key seen rows h = go (look word)
 
 pub all_meet : (words : List Text) → OpenMeets words × AskedMeets words
 all_meet [] = (
-  (λ seen rows pending waiting free none h. ends rows pending waiting false _ none (ap settings_by (said_at_end (rows_with rows pending) seen h))),
+  (λ seen rows pending waiting free none h. ends rows pending waiting false _ none (ap command_line_by (said_at_end (rows_with rows pending) seen h))),
   (λ key seen rows h. ends_badly rows (Some (name_of key, [])) (option (name_of key)) false _ (unvalued key rows) refl),
 )
 all_meet (word ∷ words) =

@@ -7,9 +7,9 @@ use Rattle.clap.specs.Words.{Row, Text}
 use Rattle.clap.specs.Walk.{Held, long_or_other, next, plain_word, subcommand_or_other, trailing as to_trailing, Step, Walk, Waiting, after_step, arg_by_long, idle, is_pending, option, positional as to_positional, pushed, settled, settled_rows, subcommand_met, used, value as to_value, walked, word_met}
 use Rattle.clap.specs.Kinds.{Kinds, or_else}
 use Rattle.clap.specs.Faults.{option_fault, other_fault, settle_fault, step_fault, turn_fault, word_fault}
-use Rattle.wumpus_run.specs.Options.{Key, max_input, flush}
-use Rattle.wumpus_run.proofs.OptionLemmas.BuiltCommand.{built_words, name_of, rule_for, rules_built, shape_built, held}
-use Rattle.wumpus_run.proofs.OptionLemmas.WordLooks.{IsPlain}
+use Rattle.wu_options.specs.CommandLines.{Key, max_input, flush}
+use Rattle.wu_options.proofs.OptionLemmas.BuiltCommand.{built_words, name_of, rule_for, rules_built, shape_built, held}
+use Rattle.wu_options.proofs.OptionLemmas.WordLooks.{IsPlain}
 
 abbrev pub Pending : Type 0
 Pending = Option (Text × List Text)

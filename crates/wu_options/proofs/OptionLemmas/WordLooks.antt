@@ -8,13 +8,13 @@ use Rattle.clap.specs.Words.{Row, Text}
 use Rattle.clap.specs.Walk.{bundle_met, long_or_other, plain_word, Waiting, arg_by_long}
 use Rattle.clap.specs.Faults.{flags_fault, other_fault}
 use Rattle.clap.specs.declared.error.kind.ErrorKind.TheVariants.{UnknownArgument}
-use Rattle.wumpus_run.specs.Options.{Key, Sort, behind, max_input, flush, sort_of, use_of, use_with, needs_value, with_value, fault, positional}
-use Rattle.wumpus_run.proofs.OptionLemmas.BuiltCommand.{name_of, rule_for, rules_built, shape_built, held, Fails, IsHyphened}
+use Rattle.wu_options.specs.CommandLines.{Key, Sort, rest_after, max_input, flush, sort_of, use_of, use_with, needs_value, with_value, fault, positional}
+use Rattle.wu_options.proofs.OptionLemmas.BuiltCommand.{name_of, rule_for, rules_built, shape_built, held, Fails, IsHyphened}
 
 abbrev pub is_equals : ℕ → Bool
 is_equals x = x == 61
 
--- what stands behind the name in the rest of a long word, if that is the name in it
+-- what comes after the name in the rest of a long word, if that is the name in it
 abbrev pub named : Text → Text → Option (Option Text)
 named name text = cond (bytes_eq name (before_first is_equals text))
     (Some (cond (has_byte 61 text) (Some (after_first is_equals text)) None)) None
@@ -40,7 +40,7 @@ pub is_false : (b : Bool) → not b ≡ true → b ≡ false
 is_false true e = sym e
 is_false false e = refl
 
-pub cut : (name text : Text) → has_no_equals name ≡ true → named name text ≡ option_and_then value_behind (behind name text)
+pub cut : (name text : Text) → has_no_equals name ≡ true → named name text ≡ option_and_then value_behind (rest_after name text)
 cut [] [] none = refl
 cut [] (t ∷ ts) none = go (t == 61) refl
   where
@@ -51,8 +51,8 @@ cut (x ∷ xs) [] none = refl
 cut (x ∷ xs) (t ∷ ts) none =
     go (t == 61) (x == t) refl refl (is_false (x == 61) (split_and (not (x == 61)) _ none).0) (cut xs ts (split_and (not (x == 61)) _ none).1)
   where
-    go : (b d : Bool) → (t == 61) ≡ b → (x == t) ≡ d → (x == 61) ≡ false → named xs ts ≡ option_and_then value_behind (behind xs ts)
-        → named (x ∷ xs) (t ∷ ts) ≡ option_and_then value_behind (behind (x ∷ xs) (t ∷ ts))
+    go : (b d : Bool) → (t == 61) ≡ b → (x == t) ≡ d → (x == 61) ≡ false → named xs ts ≡ option_and_then value_behind (rest_after xs ts)
+        → named (x ∷ xs) (t ∷ ts) ≡ option_and_then value_behind (rest_after (x ∷ xs) (t ∷ ts))
     go true true e d not_equals h =
         let bad : (x == 61) ≡ true = rw (eqb-true x t d) e in
         absurd (true≢false (sym bad ∙ not_equals))
@@ -77,8 +77,8 @@ use_sorted key (Some (c ∷ value)) = go (c == 61) refl
     go false e = rw e refl
 
 pub use_named : (key : Key) (text : Text) → use_of key (45 ∷ 45 ∷ text) ≡ option_map (use_sort key) (named (name_of key) text)
-use_named max_input text = use_sorted max_input (behind (name_of max_input) text) ∙ ap (option_map (use_sort max_input)) (sym (cut (name_of max_input) text refl))
-use_named flush text = use_sorted flush (behind (name_of flush) text) ∙ ap (option_map (use_sort flush)) (sym (cut (name_of flush) text refl))
+use_named max_input text = use_sorted max_input (rest_after (name_of max_input) text) ∙ ap (option_map (use_sort max_input)) (sym (cut (name_of max_input) text refl))
+use_named flush text = use_sorted flush (rest_after (name_of flush) text) ∙ ap (option_map (use_sort flush)) (sym (cut (name_of flush) text refl))
 
 -- the reader passes the word on to what waits for a word
 abbrev pub IsPlain : Text → Type 0

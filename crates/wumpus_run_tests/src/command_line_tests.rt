@@ -1,14 +1,21 @@
-use crate::options::{Settings, read_options};
+//! Command lines, and what they ask for.
 use std::test::Fail;
+use wu_options::{CommandLine, Settings, read_command_line};
 
 #[test]
-fn words_in_no_form(rt: HostRuntime) -> Result<(), Fail> {
-    let rows: [&[&str]; 27] = [
+fn invalid_arguments(rt: HostRuntime) -> Result<(), Fail> {
+    let rows: [&[&str]; 33] = [
         &[],
         &["run", "demo"],
         &["demo"],
         &["demo", "007"],
-        &["demo", "7"],
+        &["demo", "7", "--flush=5"],
+        &["--max-input", "7", "demo", "7"],
+        &["demo", "18446744073709551616"],
+        &["demo", "7", "7"],
+        &["demo", "+7"],
+        &["7", "demo"],
+        &["run", "7"],
         &["run", "--flush=0"],
         &["run", "--", "--flush=5"],
         &["run", "--flush=1", "--flush=1"],
@@ -32,14 +39,14 @@ fn words_in_no_form(rt: HostRuntime) -> Result<(), Fail> {
         &["run", ""],
         &["Run"],
     ];
-    for words in rows {
-        assert_eq!(rt; read_options(rt.alloc(), words)?, None);
+    for arguments in rows {
+        assert_eq!(rt; read_command_line(rt.alloc(), arguments)?, None);
     }
     Ok(())
 }
 
 #[test]
-fn words_in_the_form(rt: HostRuntime) -> Result<(), Fail> {
+fn arguments_of_a_session(rt: HostRuntime) -> Result<(), Fail> {
     let rows: [(&[&str], u64, u32); 9] = [
         (&["run"], 1_099_511_627_776, 1_048_576),
         (&["--flush", "5", "run"], 1_099_511_627_776, 5),
@@ -59,12 +66,36 @@ fn words_in_the_form(rt: HostRuntime) -> Result<(), Fail> {
         (&["--max-input", "7", "--", "run"], 7, 1_048_576),
         (&["--flush=1", "--max-input=2", "run"], 2, 1),
     ];
-    for (words, max_input, flush_at) in rows {
+    for (arguments, max_input, flush_at) in rows {
         let settings = Settings {
             max_input,
             flush_at,
         };
-        assert_eq!(rt; read_options(rt.alloc(), words)?, Some(settings));
+        assert_eq!(rt;
+            read_command_line(rt.alloc(), arguments)?,
+            Some(CommandLine::Run(settings))
+        );
+    }
+    Ok(())
+}
+
+#[test]
+fn arguments_of_a_demo(rt: HostRuntime) -> Result<(), Fail> {
+    let rows: [(&[&str], u64); 5] = [
+        (&["demo", "7"], 7),
+        (&["demo", "0"], 0),
+        (
+            &["demo", "18446744073709551615"],
+            18_446_744_073_709_551_615,
+        ),
+        (&["--", "demo", "7"], 7),
+        (&["demo", "--", "7"], 7),
+    ];
+    for (arguments, number) in rows {
+        assert_eq!(rt;
+            read_command_line(rt.alloc(), arguments)?,
+            Some(CommandLine::Demo(number))
+        );
     }
     Ok(())
 }

@@ -7,7 +7,8 @@ use Rattle.clap.specs.Kinds.{Kinds}
 use Rattle.clap.specs.declared.error.kind.ErrorKind.{ErrorKind}
 use Rattle.clap.specs.declared.builder.action.ArgAction.TheVariants.{Set, Append}
 use Rattle.clap.specs.declared.builder.value_parser.ValueParser.TheVariants as vp
-use Rattle.wumpus_run.specs.Options.{Key, max_input, flush, command_app}
+use Rattle.wu_options.specs.CommandLines.{Key, max_input, flush}
+use Rattle.wu_options.specs.Parser.{command_app}
 
 abbrev pub built_option : Text → Rule
 built_option name = record (new_rule name) {

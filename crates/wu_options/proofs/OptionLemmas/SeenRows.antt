@@ -7,10 +7,10 @@ use Rattle.clap.specs.Walk.{reading_by, used, has_row, without}
 use Rattle.clap.specs.Faults.{use_fault}
 use Rattle.clap.specs.declared.error.kind.ErrorKind.TheVariants.{ArgumentConflict, InvalidValue}
 use Rattle.clap.specs.declared.parser.matches.ValueSource.TheVariants.{CommandLine}
-use Rattle.wumpus_run.specs.Options.{Key, max_input, flush}
-use Rattle.wumpus_run.proofs.OptionLemmas.BuiltCommand.{built_option, built_words, name_of, rule_for, Fails}
-use Rattle.wumpus_run.proofs.OptionLemmas.MatchedRows.{other_with_values, other_without, same_with_values, none_without, has_row_is}
-use Rattle.wumpus_run.proofs.OptionLemmas.WalkSteps.{pending_fault, rows_with, word_pending}
+use Rattle.wu_options.specs.CommandLines.{Key, max_input, flush}
+use Rattle.wu_options.proofs.OptionLemmas.BuiltCommand.{built_option, built_words, name_of, rule_for, Fails}
+use Rattle.wu_options.proofs.OptionLemmas.MatchedRows.{other_with_values, other_without, same_with_values, none_without, has_row_is}
+use Rattle.wu_options.proofs.OptionLemmas.WalkSteps.{pending_fault, rows_with, word_pending}
 
 -- the values so far, and the positional words
 pub record Seen : Type 0 where

@@ -1,33 +1,28 @@
-//! The words behind the program's name, and the settings that they give.
+//! The command-line arguments are read as one command without a subcommand.
 ghost use Rattle.std.specs.Prelude.{◌≡◌, ◌≤◌, IfOk, IfSome, map, option_map, codes};
 ghost use Rattle.std.specs.Option.{option_to_list};
 ghost use Rattle.clap.specs.Words.{app_of, found_of};
-ghost use Rattle.wumpus_run.specs.Options.{command_app, is_run, number_in, said_in, settings_by, settings_of};
+ghost use Rattle.wu_options.specs.CommandLines.{command_line_of, command_line_by, settings_by, demo_by, number_in};
+ghost use Rattle.wu_options.specs.Parser.{command_app, said_in};
 
+use crate::command_lines::{CommandLine, FLUSH_MAX, Settings};
 use clap::error::ErrorKind;
 use clap::{Arg, ArgAction, ArgMatches, Command};
 use std::alloc::{AllocError, Global};
 use wu_base::{FLUSH_DEFAULT, INPUT_MAX, NoMemory};
 use wu_fields::read_decimal;
 
-/// The settings of a session.
-#[derive(Clone, Copy, Debug, PartialEq, Eq)]
-pub struct Settings {
-    /// The most bytes of the input, from 0 to 2^40.
-    pub max_input: u64,
-    /// The number of postings in memory from which on they are flushed, from 1 to 2^32 - 1.
-    pub flush_at: u32,
-}
-
-/// Reads the words behind the program's name. They are in a form where the one positional word is
-/// `run`, and `--max-input` and `--flush` stand at most once, each with a number in its range, as
-/// `--flush=5` or as `--flush` and the next word. Else the answer is `None`.
-pub fn read_options(alloc: Global, words: &[&str]) -> Result<Option<Settings>, NoMemory>
-    ensures { IfOk result (λ settings. settings ≡ settings_of (map (λ word. word.now) words.now)) }
+/// Reads the command-line arguments, those after the program's name. They ask for a session where
+/// the one positional argument is `run`, and `--max-input` and `--flush` are each given at most
+/// once, with a number in their range, as `--flush=5` or as `--flush` and the next argument; they
+/// ask for a demo where the positional arguments are `demo` and a decimal number up to 2^64 - 1,
+/// and there is no option. All other arguments are invalid, and the answer is `None`.
+pub fn read_command_line(alloc: Global, arguments: &[&str]) -> Result<Option<CommandLine>, NoMemory>
+    ensures { IfOk result (λ line. line ≡ command_line_of (map (λ argument. argument.now) arguments.now)) }
 {
     let command = command(alloc)?;
-    match command.try_get_matches_from(words) {
-        Ok(matches) => Ok(settings_in(&matches)),
+    match command.try_get_matches_from(arguments) {
+        Ok(matches) => Ok(command_line_in(&matches)),
         Err(error) => match error.kind() {
             ErrorKind::OutOfMemory => Err(NoMemory),
             _ => Ok(None),
@@ -35,8 +30,9 @@ pub fn read_options(alloc: Global, words: &[&str]) -> Result<Option<Settings>, N
     }
 }
 
-/// The command, without a subcommand. Values stay text, and `settings_in` decides on them: that an
-/// option here takes no value which begins with `-` and is longer costs nothing, since no number does.
+/// The command, without a subcommand. Values stay text, and `command_line_in` decides on them: that
+/// an option here takes no value which begins with `-` and is longer costs nothing, since no number
+/// does.
 fn command<'a>(alloc: Global) -> Result<Command<'a>, AllocError>
     ensures { IfOk result (λ command. app_of command ≡ command_app) }
 {
@@ -56,19 +52,28 @@ fn command<'a>(alloc: Global) -> Result<Command<'a>, AllocError>
         .arg(words)
 }
 
-/// The settings that the matches give, if they are in a form.
+/// What the matches ask for, if they are valid.
+fn command_line_in(matches: &ArgMatches<'_>) -> Option<CommandLine>
+    ensures { result ≡ command_line_by (said_in (found_of matches.now)) }
+{
+    match matches.get_strs("words")? {
+        [command] if *command == "run" => Some(CommandLine::Run(settings_in(matches)?)),
+        [command, number] if *command == "demo" => Some(CommandLine::Demo(demo_in(
+            matches, number,
+        )?)),
+        _ => None,
+    }
+}
+
+/// The settings that the options give.
 fn settings_in(matches: &ArgMatches<'_>) -> Option<Settings>
     ensures { result ≡ settings_by (said_in (found_of matches.now)) }
 {
-    let words = matches.get_strs("words")?;
-    if !is_run(words) {
-        return None;
-    }
     let max_input = number_in(matches.get_str("max-input"), 0, INPUT_MAX, INPUT_MAX)?;
     let flush_at = number_in(
         matches.get_str("flush"),
         1,
-        u32::MAX as u64,
+        FLUSH_MAX as u64,
         FLUSH_DEFAULT as u64,
     )?;
     Some(Settings {
@@ -77,13 +82,13 @@ fn settings_in(matches: &ArgMatches<'_>) -> Option<Settings>
     })
 }
 
-/// Whether the positional words are the one word `run`.
-fn is_run(words: &[&str]) -> bool
-    ensures { result ≡ is_run (map (λ word. word.now) words.now) }
+/// The number of a demo, which has no options.
+fn demo_in(matches: &ArgMatches<'_>, number: &str) -> Option<u64>
+    ensures { result ≡ demo_by (said_in (found_of matches.now)) number.now }
 {
-    match words {
-        [word] => *word == "run",
-        _ => false,
+    match (matches.get_str("max-input"), matches.get_str("flush")) {
+        (None, None) => read_decimal(number.as_bytes(), u64::MAX),
+        _ => None,
     }
 }
 

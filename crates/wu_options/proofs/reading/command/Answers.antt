@@ -2,8 +2,8 @@ use Rattle.std.proofs.Common.{rules, ap, ap₂, ◌≡◌, ◌∙◌, codes, tru
 use Rattle.std.proofs.lemmas.Result.{IfOk-weaker}
 use Rattle.clap.specs.Words.{App, app_of, rule_of, with_rule}
 use Rattle.clap.specs.Simple.{app_of_fields}
-use Rattle.wumpus_run.specs.Options.{bare_app, option_rule, words_rule}
-use Rattle.wumpus_run.proofs.options.command.Goals as goal
+use Rattle.wu_options.specs.Parser.{bare_app, option_rule, words_rule}
+use Rattle.wu_options.proofs.reading.command.Goals as goal
 
 abbrev without_name : App → App
 without_name app = record app { top = record app.top { no_binary_name = true } }
