@@ -1,6 +1,6 @@
 -- The access check of POSIX.1 ("file access permissions"): the owner's bits alone decide for the owner, the group's bits
 -- alone for a member of the node's group, else the bits of others. That user 0 passes every check is this project's choice.
-use Rattle.std.specs.Prelude.{◌≡◌, ◌≢◌, ℕ, ◌/◌, ◌%◌, Bool, true, cond, ◌==◌, ◌⊎◌, IsTrue}
+use Rattle.std.specs.Prelude.{◌≡◌, ◌≢◌, ◌↔◌, ℕ, ◌/◌, ◌%◌, Bool, true, cond, ◌==◌, ◌⊎◌, IsTrue}
 use Rattle.std.specs.List.{list_any}
 use Rattle.wu_access.specs.declared.Perm.{Perm}
 use Rattle.wu_access.specs.declared.UserRec.{UserRec}
@@ -42,3 +42,7 @@ Allows user node want =
     ⊎ ((user.uid ≡ node.uid) × IsTrue (is_granted (owner_digit node.mode) want))
     ⊎ ((user.uid ≢ node.uid) × IsTrue (is_member user node) × IsTrue (is_granted (group_digit node.mode) want))
     ⊎ ((user.uid ≢ node.uid) × (¬ IsTrue (is_member user node)) × IsTrue (is_granted (other_digit node.mode) want))
+
+-- the check is the same as its cases, for any groups
+abbrev pub IsDecidedByCases : Type 0
+IsDecidedByCases = (user : UserRec) (node : Perm) (want : Want) → IsTrue (is_allowed user node want) ↔ Allows user node want

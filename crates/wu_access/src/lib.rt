@@ -2,13 +2,12 @@
 //! permission bits, where user 0 passes every check.
 #![tactic(auto)]
 
-ghost use Rattle.std.specs.Prelude.{◌≡◌, ◌↔◌, ◌==◌, IsTrue};
+ghost use Rattle.std.specs.Prelude.{◌≡◌, ◌↔◌, IsTrue};
 ghost use Rattle.std.specs.Ordering.{nat_cmp};
-ghost use Rattle.std.specs.List.{list_any};
 ghost use Rattle.std.specs.List.Sorted.{IsStrictlySortedBy};
-ghost use Rattle.wu_access.specs.Access.{Allows, deciding_digit_of, is_allowed, is_granted};
+ghost use Rattle.wu_access.specs.Access.{Allows, IsDecidedByCases, deciding_digit_of, is_allowed, is_granted};
 
-use wu_base::{Gid, Sequence, Uid};
+use wu_base::{Gid, Sequence, Uid, is_among};
 
 /// A node's owner, group and permissions.
 #[derive(Clone, Copy, Debug, PartialEq, Eq)]
@@ -59,19 +58,11 @@ fn deciding_digit(user: &UserRec, node: &Perm) -> u16
 {
     if user.uid == node.uid {
         node.mode / 0o100 % 0o10
-    } else if is_among(user.groups.as_slice(), node.gid) {
+    } else if is_among(&node.gid, user.groups.as_slice()) {
         node.mode / 0o10 % 0o10
     } else {
         node.mode % 0o10
     }
-}
-
-/// Whether a group is among groups that ascend.
-fn is_among(groups: &[Gid], group: Gid) -> bool
-    requires { IsStrictlySortedBy nat_cmp groups.now }
-    ensures { result ≡ list_any (λ other. other == group) groups.now }
-{
-    groups.binary_search(&group).is_ok()
 }
 
 /// Whether an octal digit of a mode has the bit that is wanted.
@@ -84,5 +75,8 @@ fn grants(digit: u16, want: Want) -> bool
     }
 }
 
-#[cfg(test)]
-mod tests;
+/// A law: the check grants exactly what its cases grant, whatever the user's groups are, also where
+/// they don't ascend.
+pub fn check_is_decided_by_cases()
+    ensures { IsDecidedByCases }
+{}

@@ -69,6 +69,3 @@ pub enum Answered {
         paths: Sequence<Bytes>,
     },
 }
-
-#[cfg(test)]
-mod tests;

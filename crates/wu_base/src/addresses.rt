@@ -8,25 +8,28 @@ pub type Uid = u32;
 /// A group's number.
 pub type Gid = u32;
 
-/// A node's number, at least 1. Node 1 is the root directory.
+/// A node's number, at least 1.
 pub type Ino = u32;
 
-/// The addresses from `start` to `end`, both counted in: none where `end` is below `start`.
-#[derive(Clone, Copy, Debug, PartialEq, Eq, PartialOrd, Ord)]
+/// The root directory's number.
+pub const ROOT: Ino = 1;
+
+/// The addresses from `start` to `end`, both included: none where `end` is below `start`.
+#[derive(Clone, Copy, Debug, PartialEq, Eq)]
 pub struct Extent {
     pub start: u64,
     pub end: u64,
 }
 
 /// The `len` addresses from `start` on.
-#[derive(Clone, Copy, Debug, PartialEq, Eq, PartialOrd, Ord)]
+#[derive(Clone, Copy, Debug, PartialEq, Eq)]
 pub struct Range {
     pub start: u64,
     pub len: u64,
 }
 
 /// A term and the addresses where it stands, ascending.
-#[derive(Clone, Debug, PartialEq, Eq, Drop)]
+#[derive(Debug, PartialEq, Eq, Drop)]
 pub struct TermList {
     pub term: Bytes,
     pub at: Sequence<u64>,

@@ -1,13 +1,15 @@
-//! What every crate of Wumpus stands on: byte strings, lists, addresses and the limits.
+//! What every crate of Wumpus depends on: byte strings, lists, addresses and the limits.
 #![tactic(auto)]
 
 mod addresses;
+mod ascending;
 mod byte_strings;
 mod limits;
 mod memory;
 mod sequences;
 
-pub use addresses::{Extent, Gid, Ino, Range, TermList, Uid};
+pub use addresses::{Extent, Gid, Ino, ROOT, Range, TermList, Uid};
+pub use ascending::{is_among, sorted_once};
 pub use byte_strings::Bytes;
 pub use limits::{
     BLOBS_SPENT_AT, DEPTH_MAX, FLUSH_DEFAULT, INPUT_MAX, K_MAX, LINE_MAX, NAME_MAX, OPERATORS_MAX,
@@ -15,6 +17,3 @@ pub use limits::{
 };
 pub use memory::NoMemory;
 pub use sequences::Sequence;
-
-#[cfg(test)]
-mod tests;

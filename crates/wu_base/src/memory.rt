@@ -1,10 +1,10 @@
-//! Want of memory, the one error that any call may answer.
+//! Out of memory, the one error that any call may give.
 ghost use Rattle.std.specs.Prelude.{⊤};
 
 use std::alloc::{AllocError, AllocFailed};
 use thiserror::Error;
 
-/// There was no memory for the call. It has one value, so nothing can be learned from it.
+/// The call ran out of memory. It has one value, so nothing can be learned from it.
 #[derive(Clone, Copy, Debug, PartialEq, Eq, Error)]
 #[error("no memory")]
 pub struct NoMemory;

@@ -60,7 +60,7 @@ impl<T> Sequence<T> {
 }
 
 impl<T: Drop> Sequence<T> {
-    /// Puts an item at the end. After want of memory the items are as they were.
+    /// Puts an item at the end. Out of memory, the items are as they were.
     pub fn push(&mut self, item: T) -> Result<(), NoMemory>
         ensures ok { OnOk result (self.new ≡ self.old ++ item ∷ []) }
         ensures err { OnErr result (self.new ≡ self.old) }

@@ -28,6 +28,3 @@ pub use expressions::{Expr, ExprFault, Op, Tag};
 pub use naming::{tag_bytes, terms_of};
 pub use printer::print;
 pub use reading::{each_text_is_read, one_reading, parse};
-
-#[cfg(test)]
-mod tests;

@@ -16,22 +16,27 @@ pub record HoldsBetween {X : Type 0} (p : X → Bool) (xs : List X) (low high : 
   pub between : (k : ℕ) (d : X) → k < length xs → low ≤ k → k < high → p (get_or xs k d) ≡ true
   pub after : (k : ℕ) (d : X) → k < length xs → high ≤ k → p (get_or xs k d) ≡ false
 
-later : {X : Type 0} (p : X → Bool) (x : X) (xs : List X) (low high i j : ℕ) → HoldsBetween p (x ∷ xs) low high → i ≡ low - 1 → j ≡ high - 1 → HoldsBetween p xs i j
+later : {X : Type 0} (p : X → Bool) (x : X) (xs : List X) (low high i j : ℕ) → HoldsBetween p (x ∷ xs) low high → i ≡ low - 1 → j ≡ high - 1
+    → HoldsBetween p xs i j
 later p x xs low high i j h e f = record {
   before = λ k d l m. h.before (suc k) d (omega arith) (omega arith);
   between = λ k d l m n. h.between (suc k) d (omega arith) (omega arith) (omega arith);
   after = λ k d l m. h.after (suc k) d (omega arith) (omega arith);
 }
 
-count-cons : {X : Type 0} (p : X → Bool) (x : X) (xs : List X) (b : Bool) (n : ℕ) → p x ≡ b → count_by p xs ≡ n → count_by p (x ∷ xs) ≡ cond b 1 0 + n
+count-cons : {X : Type 0} (p : X → Bool) (x : X) (xs : List X) (b : Bool) (n : ℕ) → p x ≡ b → count_by p xs ≡ n
+    → count_by p (x ∷ xs) ≡ cond b 1 0 + n
 count-cons p x xs b n e f = sum_by-cons (λ y. cond (p y) 1 0) x xs ∙ ap (λ c. cond c 1 0 + count_by p xs) e ∙ ap (λ m. cond b 1 0 + m) f
 
-pub count-between : {X : Type 0} (p : X → Bool) (xs : List X) (low high : ℕ) → high ≤ length xs → HoldsBetween p xs low high → count_by p xs ≡ high - low
+pub count-between : {X : Type 0} (p : X → Bool) (xs : List X) (low high : ℕ) → high ≤ length xs → HoldsBetween p xs low high
+    → count_by p xs ≡ high - low
 count-between p [] low high l h = omega arith
 count-between p (x ∷ xs) zero zero l h =
-    count-cons p x xs false 0 (h.after 0 x (omega arith) (omega arith)) (count-between p xs 0 0 (omega arith) (later p x xs 0 0 0 0 h (omega arith) (omega arith)))
+    count-cons p x xs false 0 (h.after 0 x (omega arith) (omega arith))
+    (count-between p xs 0 0 (omega arith) (later p x xs 0 0 0 0 h (omega arith) (omega arith)))
 count-between p (x ∷ xs) zero (suc high) l h =
-    count-cons p x xs true (high - 0) (h.between 0 x (omega arith) (omega arith) (omega arith)) (count-between p xs 0 high (omega arith) (later p x xs 0 (suc high) 0 high h (omega arith) (omega arith)))
+    count-cons p x xs true (high - 0) (h.between 0 x (omega arith) (omega arith) (omega arith))
+    (count-between p xs 0 high (omega arith) (later p x xs 0 (suc high) 0 high h (omega arith) (omega arith)))
     ∙ (omega arith)
 count-between p (x ∷ xs) (suc low) high l h =
     count-cons p x xs false (high - 1 - low) (h.before 0 x (omega arith) (omega arith))
@@ -83,7 +88,8 @@ between_points e xs i j low high = record {
   after = λ k d l m. lies-after e (get_or xs k d) (leb-false _ _ (high.1 k d m l));
 }
 
-span-le : (e : Extent) (xs : List ℕ) (i j : ℕ) → IsStrictlyIncreasing xs → j ≤ length xs → EndsBefore xs e.start i → EndsUpTo xs e.end j → i < j → j - i ≤ length_of e
+span-le : (e : Extent) (xs : List ℕ) (i j : ℕ) → IsStrictlyIncreasing xs → j ≤ length xs → EndsBefore xs e.start i → EndsUpTo xs e.end j
+    → i < j → j - i ≤ length_of e
 span-le e xs i j up l low high h =
     let first : e.start ≤ get_or xs i 0 = ltb-false _ _ (low.1 i 0 (omega arith) (omega arith)) in
     let last : get_or xs (j - 1) 0 ≤ e.end = leb-true _ _ (high.0 (j - 1) 0 (omega arith) (omega arith)) in
@@ -92,7 +98,8 @@ span-le e xs i j up l low high h =
     let s : get_or xs i 0 + (j - 1 - i) ≤ get_or xs (j - 1) 0 = subst (λ (k : ℕ). get_or xs i 0 + (j - 1 - i) ≤ get_or xs k 0) eq r in
     omega arith
 
-pub counted : (e : Extent) (xs : List ℕ) (i j : ℕ) → IsStrictlyIncreasing xs → j ≤ length xs → EndsBefore xs e.start i → EndsUpTo xs e.end j → Counted e xs (j - i)
+pub counted : (e : Extent) (xs : List ℕ) (i j : ℕ) → IsStrictlyIncreasing xs → j ≤ length xs → EndsBefore xs e.start i → EndsUpTo xs e.end j
+    → Counted e xs (j - i)
 unfolding frequency
 counted e xs i j up l low high = record {
   value = sym (count-between (lies_in e) xs i j l (between_points e xs i j low high));

@@ -1,11 +1,11 @@
 //! How often words stand in units, counted in ascending lists of addresses.
-ghost use Rattle.std.specs.Prelude.{◌≡◌, ℕ, ◌+◌, ◌<◌, ◌≤◌, ◌^◌, length};
+ghost use Rattle.std.specs.Prelude.{◌≡◌, ◌<◌, ◌≤◌, ◌^◌, length};
 ghost use Rattle.std.specs.List.{All};
 ghost use Rattle.std.specs.List.Sorted.{IsStrictlyIncreasing};
-ghost use Rattle.wu_rank.specs.Scores.{length_of, total_length, frequency, holders, idf_of};
+ghost use Rattle.wu_rank.specs.Scores.{length_of, total_length, count_at, holders, idf_of};
 
 use crate::results::Unit;
-use wu_base::Extent;
+use wu_base::{Extent, TermList};
 use wu_log2::{lg, lg_never_falls};
 
 /// How many addresses the extent has.
@@ -32,40 +32,41 @@ pub fn summed_length(units: &[Unit]) -> u128
     sum
 }
 
-/// How many of the ascending `addresses` the extent has, by two binary searches.
-pub(crate) fn count_in(extent: Extent, addresses: &[u64]) -> u64
-    requires { IsStrictlyIncreasing addresses.now }
-    ensures value { result ≡ frequency extent addresses.now }
-    ensures within { result ≤ length_of extent }
+/// How often the word of the list is in the unit, by two binary searches.
+pub(crate) fn count_in(unit: Unit, list: &TermList) -> u64
+    requires { IsStrictlyIncreasing list.now.at }
+    ensures value { result ≡ count_at list.now unit }
+    ensures within { result ≤ length_of unit.extent }
 {
-    let before_start = addresses.partition_point(|address| *address < extent.start);
-    let up_to_end = addresses.partition_point(|address| *address <= extent.end);
+    let addresses = list.at.as_slice();
+    let before_start = addresses.partition_point(|address| *address < unit.extent.start);
+    let up_to_end = addresses.partition_point(|address| *address <= unit.extent.end);
     up_to_end.saturating_sub(before_start) as u64
 }
 
-/// How many of the units have one of the ascending `addresses`.
-fn count_holders(units: &[Unit], addresses: &[u64]) -> u64
-    requires { IsStrictlyIncreasing addresses.now }
-    ensures value { result ≡ holders units.now addresses.now }
+/// In how many of the units the word of the list is.
+fn count_holders(units: &[Unit], list: &TermList) -> u64
+    requires { IsStrictlyIncreasing list.now.at }
+    ensures value { result ≡ holders count_at units.now list.now }
     ensures few { result ≤ length units.now }
 {
     let mut held = 0;
     for unit in units {
-        if count_in(unit.extent, addresses) > 0 {
+        if count_in(*unit, list) > 0 {
             held += 1;
         }
     }
     held
 }
 
-/// The inverse document frequency of the word that stands at the ascending `addresses`, in units of
-/// 1/65536, and 0 for a word that no unit holds.
-pub(crate) fn inverse_frequency(units: &[Unit], addresses: &[u64]) -> u32
-    requires { IsStrictlyIncreasing addresses.now }
-    ensures value { result ≡ idf_of units.now addresses.now }
+/// The inverse document frequency of the word of the list, in units of 1/65536, and 0 for a word
+/// that no unit holds.
+pub(crate) fn inverse_frequency(units: &[Unit], list: &TermList) -> u32
+    requires { IsStrictlyIncreasing list.now.at }
+    ensures value { result ≡ idf_of count_at units.now list.now }
     ensures small { result ≤ 2 ^ 22 }
 {
-    let held = count_holders(units, addresses);
+    let held = count_holders(units, list);
     if held == 0 {
         return 0;
     }

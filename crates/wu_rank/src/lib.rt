@@ -3,14 +3,13 @@
 
 mod bm25;
 mod counting;
+mod laws;
 mod ordering;
 mod results;
 mod scoring;
 
 pub use bm25::{Ranker, bm25_weigh};
 pub use counting::summed_length;
+pub use laws::{any_order_of_units, one_order};
 pub use results::{Ranked, Ranking, Unit};
 pub use scoring::rank;
-
-#[cfg(test)]
-mod tests;

@@ -19,8 +19,8 @@ fn compare(a: &Ranked, b: &Ranked) -> Ordering
         .then(a.unit.extent.end.cmp(&b.unit.extent.end))
 }
 
-/// The first `count` of them, in the order of a ranking. It takes time in proportion to their
-/// number and to that of sorting the first ones.
+/// The first `count` of them, in the order of a ranking. Selecting them takes linear
+/// time on average, and only they are sorted.
 pub(crate) fn first(
     alloc: Global,
     mut all: Vec<Ranked>,

@@ -4,7 +4,7 @@ ghost use Rattle.std.specs.List.{All};
 ghost use Rattle.std.specs.List.Sorted.{IsStrictlyIncreasing};
 ghost use Rattle.wu_rank.specs.declared.results.Unit.{Unit as RankedUnit};
 ghost use Rattle.wu_rank.specs.Bm25.{IsWeigher};
-ghost use Rattle.wu_rank.specs.Scores.{CanRank, idf_of, score_if_listed, all_listed};
+ghost use Rattle.wu_rank.specs.Scores.{CanRank, count_at, idf_of, score_if_listed, all_listed};
 ghost use Rattle.wu_rank.specs.Order.{listed};
 
 use crate::bm25::Ranker;
@@ -22,12 +22,12 @@ fn inverse_frequencies(
 ) -> Result<Vec<u32>, NoMemory>
     requires { All (λ word. IsStrictlyIncreasing word.at) lists.now }
     ensures value { IfOk result
-        (λ idfs. idfs.items ≡ map (λ word. idf_of units.now word.at) lists.now) }
+        (λ idfs. idfs.items ≡ map (idf_of count_at units.now) lists.now) }
     ensures small { IfOk result (λ idfs. All (λ idf. idf ≤ 2 ^ 22) idfs.items) }
 {
     let mut idfs = Vec::with_capacity(alloc, lists.len())?;
     for list in lists {
-        idfs.push(inverse_frequency(units, list.at.as_slice()))?;
+        idfs.push(inverse_frequency(units, list))?;
     }
     Ok(idfs)
 }
@@ -43,16 +43,16 @@ fn score_at<F: Fn(u32, u64, u64) -> u64>(
     requires weigher { IsWeigher (F.pre ranker.now.weigh) (F.post ranker.now.weigh) ranker.now.n ranker.now.t }
     requires rankable { CanRank units.now lists.now ranker.now.n ranker.now.t }
     requires inside { place < length units.now }
-    requires rarities { idfs.now ≡ map (λ word. idf_of units.now word.at) lists.now }
+    requires rarities { idfs.now ≡ map (idf_of count_at units.now) lists.now }
     requires small { All (λ idf. idf ≤ 2 ^ 22) idfs.now }
-    ensures { (d : RankedUnit) → result ≡ score_if_listed units.now lists.now (slice_index_or units.now place d) }
+    ensures { (d : RankedUnit) → result ≡ score_if_listed count_at units.now lists.now (slice_index_or units.now place d) }
 {
     let unit = units[place];
     let length = extent_length(unit.extent);
     let mut held = false;
     let mut total = 0;
     for i in 0..lists.len() {
-        let frequency = count_in(unit.extent, lists[i].at.as_slice());
+        let frequency = count_in(unit, &lists[i]);
         if frequency > 0 {
             held = true;
             total += ranker.weigh(idfs[i], frequency, length);
@@ -70,7 +70,7 @@ fn score_all<F: Fn(u32, u64, u64) -> u64>(
 ) -> Result<Vec<Ranked>, NoMemory>
     requires weigher { IsWeigher (F.pre ranker.now.weigh) (F.post ranker.now.weigh) ranker.now.n ranker.now.t }
     requires rankable { CanRank units.now lists.now ranker.now.n ranker.now.t }
-    ensures { IfOk result (λ all. all.items ≡ all_listed units.now lists.now) }
+    ensures { IfOk result (λ all. all.items ≡ all_listed count_at units.now lists.now) }
 {
     let idfs = inverse_frequencies(alloc, units, lists)?;
     let mut all = Vec::new(alloc);
@@ -86,11 +86,12 @@ fn score_all<F: Fn(u32, u64, u64) -> u64>(
 /// The number of units that hold a query word, and the first `k` of them: by score, falling, then
 /// by place, then by start. A score is the sum of the BM25 weights of the query's words, each in
 /// units of 1/65536 and rounded down, and a word that no unit holds adds nothing. The lists, at most
-/// 64, have the ascending addresses of each of the words, of a repeated one as often as the query
+/// RANK_WORDS_MAX, have the ascending addresses of each of the words, of a repeated one as often as the query
 /// has it. Each unit is shorter than 2^26. Over no units nothing is listed.
 ///
 /// It takes four binary searches for each unit and word, two to tell which units hold the word and
-/// two to weigh it there, and sorts only the first `k`.
+/// two to weigh it there. Selecting the first `k` takes linear time on average, and only they are
+/// sorted.
 pub fn rank<F: Fn(u32, u64, u64) -> u64>(
     alloc: Global,
     units: &[Unit],
@@ -100,8 +101,8 @@ pub fn rank<F: Fn(u32, u64, u64) -> u64>(
 ) -> Result<Ranking, NoMemory>
     requires weigher { IsWeigher (F.pre ranker.now.weigh) (F.post ranker.now.weigh) ranker.now.n ranker.now.t }
     requires rankable { CanRank units.now lists.now ranker.now.n ranker.now.t }
-    ensures listed { IfOk result (λ ranking. ranking.listed ≡ length (listed units.now lists.now)) }
-    ensures top { IfOk result (λ ranking. ranking.top ≡ take k (listed units.now lists.now)) }
+    ensures listed { IfOk result (λ ranking. ranking.listed ≡ length (listed count_at units.now lists.now)) }
+    ensures top { IfOk result (λ ranking. ranking.top ≡ take k (listed count_at units.now lists.now)) }
 {
     let all = score_all(alloc, units, lists, ranker)?;
     let listed = all.len() as u64;

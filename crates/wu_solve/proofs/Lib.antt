@@ -15,4 +15,3 @@ pub mod Covers
 pub mod Spans
 pub mod Combining
 pub mod Results
-pub mod Trying

@@ -5,4 +5,3 @@ pub mod Addresses
 pub mod Operands
 pub mod Stretches
 pub mod Solving
-pub mod Plain

@@ -16,6 +16,3 @@ mod solving;
 pub use laws::{extents_ascend, frames_of_texts};
 pub use lookup::find_term;
 pub use solving::solve;
-
-#[cfg(test)]
-mod tests;

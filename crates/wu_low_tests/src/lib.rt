@@ -1,0 +1,10 @@
+//! Tests of the crates below: byte strings and lists, the access check, words and tokens, written fields,
+//! logarithms. Each sees public items alone.
+#![tactic(auto)]
+
+#[cfg(test)]
+mod access;
+#[cfg(test)]
+mod lists;
+#[cfg(test)]
+mod logarithms;

@@ -1,0 +1,167 @@
+-- A ranking of units at other places, whose words are counted in another way, is the same ranking there.
+use Rattle.std.proofs.Common.{◌≡◌, ℕ, ◌+◌, ◌-◌, ◌<◌, Bool, true, false, cond, ◌||◌, List, [], ◌∷◌, map, refl, sym, ap, ap₂, ◌∙◌, arith, eqb}
+use Rattle.std.proofs.lemmas.Cmp.{ranked}
+use Rattle.std.proofs.lemmas.List.{length-map}
+use Rattle.std.proofs.lemmas.List.Sums.{sum_by-cons}
+use Rattle.std.specs.List.{AllByRecursion, filter}
+use Rattle.std.specs.Prelude.{count_by, nat_lt}
+use Rattle.std.specs.Ordering.{nat_cmp, ordering_then, is_lt, MatchOrdering}
+use Rattle.std.specs.declared.cmp.Ordering.{Ordering}
+use Rattle.std.specs.declared.cmp.Ordering.TheVariants.{Less, Equal, Greater}
+use Rattle.wu_log2.specs.Logarithm.{lg}
+use Rattle.wu_rank.specs.declared.results.Unit.{Unit as RankedUnit}
+use Rattle.wu_rank.specs.declared.results.Ranked.{Ranked}
+use Rattle.wu_rank.specs.Bm25.{weigh}
+use Rattle.wu_rank.specs.Scores.{has, holders, idf_of, length_of, total_length, part, score, holds, scored, all_listed}
+use Rattle.wu_rank.specs.Order.{compare_ranked, comes_before, in_order, listed}
+use Rattle.wu_rank.proofs.Sorting.{same_number}
+use Rattle.wu_rank.proofs.Orders.{in_order-map}
+
+-- the unit, where the file at each place starts at some address
+abbrev pub shifted : (ℕ → ℕ) → RankedUnit → RankedUnit
+shifted start unit = record {
+  extent = record { start = start unit.place + unit.extent.start; end = start unit.place + unit.extent.end };
+  place = unit.place;
+}
+
+abbrev pub shifted_ranked : (ℕ → ℕ) → Ranked → Ranked
+shifted_ranked start r = record { score = r.score; unit = shifted start r.unit }
+
+-- each word is as often in the shifted unit as, counted in the other way, in the unit
+abbrev pub Agrees : {V W : Type 0} → (V → RankedUnit → ℕ) → (W → RankedUnit → ℕ) → (ℕ → ℕ) → (W → V) → RankedUnit → Type 0
+Agrees {V} {W} count other start known unit = (word : W) → count (known word) (shifted start unit) ≡ other word unit
+
+-- ---- scores
+
+count_by-cons : {X : Type 0} (p : X → Bool) (x : X) (xs : List X) → count_by p (x ∷ xs) ≡ cond (p x) 1 0 + count_by p xs
+count_by-cons p x xs = sum_by-cons (λ y. cond (p y) 1 0) x xs
+
+holders_same : {V W : Type 0} (count : V → RankedUnit → ℕ) (other : W → RankedUnit → ℕ) (start : ℕ → ℕ) (known : W → V)
+    (units : List RankedUnit) (word : W) → AllByRecursion (Agrees count other start known) units
+    → holders count (map (shifted start) units) (known word) ≡ holders other units word
+unfolding holders
+holders_same count other start known [] word agree = refl
+holders_same count other start known (unit ∷ units) word agree =
+    count_by-cons (has count (known word)) (shifted start unit) (map (shifted start) units)
+    ∙ ap₂ (λ (f n : ℕ). cond (nat_lt 0 f) 1 0 + n) (agree.0 word) (holders_same count other start known units word agree.1)
+    ∙ sym (count_by-cons (has other word) unit units)
+
+pub length_same : (start : ℕ → ℕ) (unit : RankedUnit) → length_of (shifted start unit).extent ≡ length_of unit.extent
+length_same start unit = omega arith
+
+total_same : (start : ℕ → ℕ) (units : List RankedUnit) → total_length (map (shifted start) units) ≡ total_length units
+unfolding total_length
+total_same start [] = refl
+total_same start (unit ∷ units) =
+    sum_by-cons (λ (u : RankedUnit). length_of u.extent) (shifted start unit) (map (shifted start) units)
+    ∙ ap₂ (λ (m n : ℕ). m + n) (length_same start unit) (total_same start units)
+    ∙ sym (sum_by-cons (λ (u : RankedUnit). length_of u.extent) unit units)
+
+weighed_same : (h n t f l i m u g k : ℕ) → h ≡ i → n ≡ m → t ≡ u → f ≡ g → l ≡ k
+    → cond (eqb h 0) 0 (weigh (cond (eqb h 0) 0 (lg n - lg h)) f l n t) ≡ cond (eqb i 0) 0 (weigh (cond (eqb i 0) 0 (lg m - lg i)) g k m u)
+weighed_same h n t f l i m u g k hi nm tu fg lk = rw (hi, nm, tu, fg, lk) refl
+
+part_same : {V W : Type 0} (count : V → RankedUnit → ℕ) (other : W → RankedUnit → ℕ) (start : ℕ → ℕ) (known : W → V)
+    (units : List RankedUnit) (unit : RankedUnit) (word : W) → AllByRecursion (Agrees count other start known) units
+    → Agrees count other start known unit
+    → part count (map (shifted start) units) (shifted start unit) (known word) ≡ part other units unit word
+unfolding part idf_of
+part_same count other start known units unit word all agrees =
+    weighed_same _ _ _ _ _ _ _ _ _ _ (holders_same count other start known units word all) (length-map units (shifted start))
+    (total_same start units) (agrees word) (length_same start unit)
+
+score_same : {V W : Type 0} (count : V → RankedUnit → ℕ) (other : W → RankedUnit → ℕ) (start : ℕ → ℕ) (known : W → V)
+    (units : List RankedUnit) (unit : RankedUnit) (words : List W) → AllByRecursion (Agrees count other start known) units
+    → Agrees count other start known unit
+    → score count (map (shifted start) units) (map known words) (shifted start unit) ≡ score other units words unit
+unfolding score
+score_same count other start known units unit [] all agrees = refl
+score_same count other start known units unit (word ∷ words) all agrees =
+    sum_by-cons (part count (map (shifted start) units) (shifted start unit)) (known word) (map known words)
+    ∙ ap₂ (λ (m n : ℕ). m + n) (part_same count other start known units unit word all agrees)
+    (score_same count other start known units unit words all agrees)
+    ∙ sym (sum_by-cons (part other units unit) word words)
+
+holds_same : {V W : Type 0} (count : V → RankedUnit → ℕ) (other : W → RankedUnit → ℕ) (start : ℕ → ℕ) (known : W → V)
+    (unit : RankedUnit) (words : List W) → Agrees count other start known unit
+    → holds count (map known words) (shifted start unit) ≡ holds other words unit
+unfolding holds
+holds_same count other start known unit [] agrees = refl
+holds_same count other start known unit (word ∷ words) agrees =
+    ap₂ (λ (f : ℕ) (b : Bool). nat_lt 0 f || b) (agrees word) (holds_same count other start known unit words agrees)
+
+listed_more : (f : RankedUnit → Ranked) (g : Ranked → Ranked) (h : RankedUnit → Ranked) (a u : RankedUnit) (us vs : List RankedUnit)
+    (b c : Bool) → b ≡ c → f a ≡ g (h u) → map f us ≡ map g (map h vs)
+    → map f (cond b (a ∷ us) us) ≡ map g (map h (cond c (u ∷ vs) vs))
+listed_more f g h a u us vs true true is first rest = ap₂ (λ (r : Ranked) (rs : List Ranked). r ∷ rs) first rest
+listed_more f g h a u us vs false false is first rest = rest
+listed_more f g h a u us vs true false is first rest = cc
+listed_more f g h a u us vs false true is first rest = cc
+
+some_listed : {V W : Type 0} (count : V → RankedUnit → ℕ) (other : W → RankedUnit → ℕ) (start : ℕ → ℕ) (known : W → V)
+    (units : List RankedUnit) (words : List W) (some : List RankedUnit) → AllByRecursion (Agrees count other start known) units
+    → AllByRecursion (Agrees count other start known) some
+    → map (scored count (map (shifted start) units) (map known words)) (filter (holds count (map known words)) (map (shifted start) some))
+    ≡ map (shifted_ranked start) (map (scored other units words) (filter (holds other words) some))
+some_listed count other start known units words [] all agree = refl
+some_listed count other start known units words (unit ∷ some) all agree =
+    let lists = map known words in
+    listed_more (scored count (map (shifted start) units) lists) (shifted_ranked start) (scored other units words) (shifted start unit) unit
+    (filter (holds count lists) (map (shifted start) some)) (filter (holds other words) some) (holds count lists (shifted start unit))
+    (holds other words unit)
+    (holds_same count other start known unit words agree.0)
+    (ap (λ (n : ℕ). let r : Ranked = record { score = n; unit = shifted start unit } in r)
+    (score_same count other start known units unit words all agree.0))
+    (some_listed count other start known units words some all agree.1)
+
+-- ---- the order
+
+alike : (x y m n : ℕ) (o p : Ordering) → (x < y → m < n) → (x ≡ y → m ≡ n) → (y < x → n < m)
+    → MatchOrdering o (x < y) (x ≡ y) (y < x) → MatchOrdering p (m < n) (m ≡ n) (n < m) → o ≡ p
+alike x y m n Less Less l e g one other = refl
+alike x y m n Less Equal l e g one other = let h = l one in absurd (omega arith)
+alike x y m n Less Greater l e g one other = let h = l one in absurd (omega arith)
+alike x y m n Equal Less l e g one other = let h = e one in absurd (omega arith)
+alike x y m n Equal Equal l e g one other = refl
+alike x y m n Equal Greater l e g one other = let h = e one in absurd (omega arith)
+alike x y m n Greater Less l e g one other = let h = g one in absurd (omega arith)
+alike x y m n Greater Equal l e g one other = let h = g one in absurd (omega arith)
+alike x y m n Greater Greater l e g one other = refl
+
+-- numbers counted from one start
+moved_alike : (s t x y : ℕ) → s ≡ t → nat_cmp (s + x) (t + y) ≡ nat_cmp x y
+moved_alike s t x y same =
+    alike (s + x) (t + y) x y (nat_cmp (s + x) (t + y)) (nat_cmp x y) (λ h. omega arith) (λ h. omega arith) (λ h. omega arith)
+    (ranked (s + x) (t + y) (nat_cmp (s + x) (t + y)) refl) (ranked x y (nat_cmp x y) refl)
+
+-- units of one file stand as before, and others by their places
+compare_same : (start : ℕ → ℕ) (a b : Ranked) → compare_ranked (shifted_ranked start a) (shifted_ranked start b) ≡ compare_ranked a b
+unfolding compare_ranked
+compare_same start a b = by (nat_cmp b.score a.score) (nat_cmp a.unit.place b.unit.place) refl where
+  by : (o p : Ordering) → nat_cmp a.unit.place b.unit.place ≡ p
+      → ordering_then
+      (ordering_then (ordering_then o p)
+      (nat_cmp (start a.unit.place + a.unit.extent.start) (start b.unit.place + b.unit.extent.start)))
+      (nat_cmp (start a.unit.place + a.unit.extent.end) (start b.unit.place + b.unit.extent.end))
+      ≡ ordering_then (ordering_then (ordering_then o p) (nat_cmp a.unit.extent.start b.unit.extent.start))
+      (nat_cmp a.unit.extent.end b.unit.extent.end)
+  by Less p is = refl
+  by Greater p is = refl
+  by Equal Less is = refl
+  by Equal Greater is = refl
+  by Equal Equal is =
+      let same : start a.unit.place ≡ start b.unit.place = ap start (same_number a.unit.place b.unit.place is) in
+      ap₂ ordering_then (moved_alike (start a.unit.place) (start b.unit.place) a.unit.extent.start b.unit.extent.start same)
+      (moved_alike (start a.unit.place) (start b.unit.place) a.unit.extent.end b.unit.extent.end same)
+
+before_same : (start : ℕ → ℕ) (a b : Ranked) → comes_before (shifted_ranked start a) (shifted_ranked start b) ≡ comes_before a b
+unfolding comes_before
+before_same start a b = ap is_lt (compare_same start a b)
+
+pub listed_shifted : {V W : Type 0} (count : V → RankedUnit → ℕ) (other : W → RankedUnit → ℕ) (start : ℕ → ℕ) (known : W → V)
+    (units : List RankedUnit) (words : List W) → AllByRecursion (Agrees count other start known) units
+    → listed count (map (shifted start) units) (map known words) ≡ map (shifted_ranked start) (listed other units words)
+unfolding listed all_listed
+listed_shifted count other start known units words agree =
+    ap in_order (some_listed count other start known units words units agree agree)
+    ∙ in_order-map (shifted_ranked start) (before_same start) (map (scored other units words) (filter (holds other words) units))

@@ -1,0 +1,139 @@
+//! Texts in one space of addresses, and the lists of their terms.
+ghost use Rattle.std.specs.Prelude.{All, IfOk};
+ghost use Rattle.std.specs.List.Sorted.{IsStrictlyIncreasing, IsStrictlySortedBy};
+ghost use Rattle.std.specs.Cmp.Lexicographic.{slice_cmp};
+ghost use Rattle.std.specs.Ordering.{nat_cmp};
+ghost use Rattle.wu_solve.specs.Addresses.{AreLists};
+ghost use Rattle.wu_solve.specs.Solving.{IsFrame};
+
+use crate::plain::solve_plainly;
+use std::alloc::Global;
+use wu_base::{Bytes, Extent, NoMemory, Range, Sequence, TEXT_MAX, TermList};
+use wu_gcl::{parse, terms_of};
+use wu_solve::solve;
+use wu_token::tokens;
+
+/// The terms of texts, one text after the other, and the frame of each text.
+#[derive(Drop)]
+pub struct Corpus {
+    pub terms: Vec<Bytes>,
+    pub frames: Vec<Range>,
+}
+
+/// The corpus of the texts.
+pub fn corpus_of(alloc: Global, texts: &[&[u8]]) -> Result<Corpus, NoMemory> {
+    let mut terms = Vec::new(alloc);
+    let mut frames = Vec::new(alloc);
+    for text in texts {
+        let start = terms.len() as u64;
+        put_terms(alloc, &mut terms, text)?;
+        let len = (terms.len() as u64).saturating_sub(start);
+        frames.push(Range { start, len })?;
+    }
+    Ok(Corpus { terms, frames })
+}
+
+/// Appends the terms of the text.
+fn put_terms(alloc: Global, terms: &mut Vec<Bytes>, text: &[u8]) -> Result<(), NoMemory> {
+    if text.len() > TEXT_MAX {
+        return Ok(());
+    }
+    for token in tokens(alloc, text)? {
+        terms.push(token.term)?;
+    }
+    Ok(())
+}
+
+/// The addresses at which the term stands.
+fn places_of(alloc: Global, term: &[u8], terms: &[Bytes]) -> Result<Vec<u64>, NoMemory>
+    ensures { IfOk result (λ v. IsStrictlyIncreasing v.items) }
+{
+    let mut places = Vec::new(alloc);
+    for i in 0..terms.len() {
+        if terms[i].as_slice() == term {
+            places.push(i as u64)?;
+        }
+    }
+    Ok(places)
+}
+
+/// The lists of distinct words, ascending, over the terms.
+fn lists_of(alloc: Global, words: &[Bytes], terms: &[Bytes]) -> Result<Vec<TermList>, NoMemory>
+    requires { IsStrictlySortedBy (slice_cmp nat_cmp) words.now }
+    ensures { IfOk result (λ v. AreLists v.items) }
+{
+    let mut lists = Vec::new(alloc);
+    for word in words {
+        let at = Sequence::from(places_of(alloc, word.as_slice(), terms)?);
+        lists.push(TermList {
+            term: word.clone()?,
+            at,
+        })?;
+    }
+    Ok(lists)
+}
+
+/// The lists of any words over the terms.
+pub fn word_lists(
+    alloc: Global,
+    words: &[&[u8]],
+    terms: &[Bytes],
+) -> Result<Vec<TermList>, NoMemory>
+    ensures { IfOk result (λ lists. All (λ word. IsStrictlyIncreasing word.at) lists.items) }
+{
+    let mut lists = Vec::new(alloc);
+    for word in words {
+        let term = Bytes::from_slice(alloc, word)?;
+        let at = Sequence::from(places_of(alloc, word, terms)?);
+        lists.push(TermList { term, at })?;
+    }
+    Ok(lists)
+}
+
+/// The frame of the text with this number; an empty one where there is no such text.
+pub fn frame_of(corpus: &Corpus, number: usize) -> Range
+    ensures { IsFrame result }
+{
+    match corpus.frames.get(number) {
+        Some(frame) if frame.start < 1 << 46 && frame.len < 1 << 46 => *frame,
+        _ => Range { start: 0, len: 0 },
+    }
+}
+
+/// What the expression means over the terms, frame by frame; nothing, where the text spells none.
+pub fn solved(
+    alloc: Global,
+    text: &[u8],
+    terms: &[Bytes],
+    frames: &[Range],
+) -> Result<Vec<Extent>, NoMemory>
+    requires { All IsFrame frames.now }
+{
+    match parse(alloc, text)? {
+        Ok(expr) => {
+            let words = terms_of(alloc, &expr)?;
+            let lists = lists_of(alloc, &words, terms)?;
+            solve(alloc, &expr, frames, &lists)
+        }
+        Err(_) => Ok(Vec::new(alloc)),
+    }
+}
+
+/// What the expression means in the frame, each extent of an operator found by trying all.
+pub fn solved_plainly(
+    alloc: Global,
+    text: &[u8],
+    terms: &[Bytes],
+    frame: Range,
+) -> Result<Vec<Extent>, NoMemory>
+    requires { IsFrame frame }
+{
+    match parse(alloc, text)? {
+        Ok(expr) => {
+            let words = terms_of(alloc, &expr)?;
+            let lists = lists_of(alloc, &words, terms)?;
+            solve_plainly(alloc, &expr, frame, &lists)
+        }
+        Err(_) => Ok(Vec::new(alloc)),
+    }
+}
