@@ -1,2 +1,4 @@
+pub mod CrashLogs
 pub mod Reading
 pub mod Sending
+pub mod Survival

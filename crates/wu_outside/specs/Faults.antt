@@ -1,7 +1,8 @@
--- What a count of faults says of a call. A call of the outside may fail at any time; the count tells when it did.
-use Rattle.std.specs.Prelude.{◌≡◌, ℕ, ◌+◌, ◌-◌, ◌^◌, ◌≤◌, min, OnErr, Result, Err}
+-- What a count of faults says of a call. A call of the outside may fail at any time; the count tells when it did, and
+-- stands still on every other answer.
+use Rattle.std.specs.Prelude.{◌≡◌, ℕ, ◌+◌, ◌-◌, ◌^◌, ◌≤◌, ◌<◌, List, length, min, OnOk, OnErr, IfOk, Result, Ok, Err}
 use Rattle.wu_outside.specs.declared.traits.Fault.{Fault}
-use Rattle.wu_outside.specs.declared.traits.Fault.TheVariants.{Failed}
+use Rattle.wu_outside.specs.declared.traits.Fault.TheVariants.{Failed, NoMemory}
 
 -- the count rose, or stands at 2^64 - 1, the last value of a counter
 abbrev pub Rose : ℕ → ℕ → Type 0
@@ -11,12 +12,24 @@ Rose before now = min (before + 1) (2 ^ 64 - 1) ≤ now
 abbrev pub CountsFault : ℕ → ℕ → Type 0
 CountsFault before now = now ≡ min (before + 1) (2 ^ 64 - 1)
 
--- the count hasn't fallen, and an error was answered only where it rose
+-- the count hasn't fallen, it rose where an error was answered, and is as it was where none was
 pub record HasCause {T E : Type 0} (before now : ℕ) (r : Result T E) : Type 0 where
   pub kept : before ≤ now
   pub rose : OnErr r (Rose before now)
+  pub calm : OnOk r (now ≡ before)
 
--- the same of a call that may also want memory: that answer needs no rise
+-- the same of a call that may also run out of memory: that answer leaves the count too
 pub record HasFaultCause {T : Type 0} (before now : ℕ) (r : Result T Fault) : Type 0 where
   pub kept : before ≤ now
   pub rose : r ≡ Err Failed → Rose before now
+  pub calm : OnOk r (now ≡ before)
+  pub out_of_memory : r ≡ Err NoMemory → now ≡ before
+
+-- the same of a write of a piece, for which it is a fault too to take nothing of a piece that isn't empty
+pub record HasWriteCause (before now : ℕ) (piece : List ℕ) (r : Result ℕ Fault) : Type 0 where
+  pub kept : before ≤ now
+  pub rose : r ≡ Err Failed → Rose before now
+  pub stuck : r ≡ Ok 0 → 0 < length piece → Rose before now
+  pub calm : IfOk r (λ count. 0 < count → now ≡ before)
+  pub empty : length piece ≡ 0 → OnOk r (now ≡ before)
+  pub out_of_memory : r ≡ Err NoMemory → now ≡ before

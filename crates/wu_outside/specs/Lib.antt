@@ -1,3 +1,12 @@
+pub mod Content
+pub mod Crash
+pub mod Ends
 pub mod Faults
 pub mod Gains
-pub mod Counted
+pub mod Known
+pub mod LogSteps
+pub mod Logs
+pub mod Ranges
+pub mod Schedule
+pub mod Stored
+pub mod Surviving

@@ -3,17 +3,23 @@
 //! its tests use.
 #![tactic(auto)]
 
+mod copies;
+mod logs;
 mod memory;
+mod memory_store;
 mod plain;
+mod plain_store;
+mod ranges;
+mod schedule;
 mod standard;
 mod traits;
 mod writing;
 
 pub use memory::{MemSink, MemSource};
-pub use plain::{PlainSink, PlainSource, PlainStore};
+pub use memory_store::MemStore;
+pub use plain::{PlainSink, PlainSource};
+pub use plain_store::PlainStore;
+pub use ranges::ReadRange;
 pub use standard::{StdIn, StdOut};
 pub use traits::{Failed, Fault, Sink, Source, Store};
 pub use writing::write_all;
-
-#[cfg(test)]
-mod tests;

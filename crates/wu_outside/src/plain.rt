@@ -1,23 +1,28 @@
 //! Objects in memory without faults: each tells its content, and its count of faults is always 0.
-ghost use Rattle.std.specs.Prelude.{◌≡◌, List, ℕ, ◌≤◌, min, [], drop, length, Some, vec_len, IfOk, IsOk, IsOkAnd};
+ghost use Rattle.std.specs.Prelude.{◌≡◌, List, ℕ, ◌≤◌, min, [], drop, length, Some, false, vec_len, IfOk, IsOk, IsOkAnd};
 ghost use Rattle.std.specs.Io.KnownBytes.{ReadConsumes, WriteAppends};
-ghost use Rattle.wu_outside.specs.Faults.{HasFaultCause};
+ghost use Rattle.wu_outside.specs.Ends.{GivesEnd};
+ghost use Rattle.wu_outside.specs.Faults.{HasWriteCause};
+ghost use Rattle.wu_outside.specs.Known.{KnownSource};
 
-use crate::traits::{Failed, Fault, Sink, Source, Store};
+use crate::traits::{Failed, Fault, Sink, Source};
 use std::alloc::Global;
 use std::marker::Model;
 
-/// A source of known bytes. Contracts see the bytes that are left.
+/// A source of known bytes. Contracts see the bytes that are left, whether a read gave the end, and
+/// how many bytes the last one gave.
 #[derive(Debug, Drop)]
 pub struct PlainSource {
     bytes: Vec<u8>,
     at: usize,
+    ended: bool,
+    last_read: usize,
 }
 
 impl Model for PlainSource {
-    ghost Value = { List ℕ };
+    ghost Value = { KnownSource };
 
-    ghost view = { λ s. drop s.at s.bytes.items };
+    ghost view = { λ s. record { left = drop s.at s.bytes.items; ended = s.ended; last_read = s.last_read } };
 
     ghost invariant = { λ s. s.at ≤ vec_len s.bytes };
 }
@@ -25,26 +30,40 @@ impl Model for PlainSource {
 impl PlainSource {
     /// A source that gives these bytes and then its end.
     pub fn new(bytes: Vec<u8>) -> PlainSource
-        ensures { result ≡ bytes.items }
+        ensures { result ≡ record { left = bytes.items; ended = false; last_read = 0 } }
     {
-        PlainSource { bytes, at: 0 }
+        PlainSource {
+            bytes,
+            at: 0,
+            ended: false,
+            last_read: 0,
+        }
     }
 }
 
 impl Source for PlainSource {
-    ghost left = { λ s. Some s };
+    ghost left = { λ s. Some s.left };
+
+    ghost ended = { λ s. s.ended };
+
+    ghost last_read = { λ s. s.last_read };
 
     ghost faults = { λ _. 0 };
 
     /// Gives as many of the bytes as are left and have room.
     fn read(&mut self, buf: &mut [u8]) -> Result<usize, Failed>
-        ensures bytes { ReadConsumes (Some self.old) (Some self.new) result buf.new }
-        ensures all_that_fits { IsOkAnd result (λ n. n ≡ min (length self.old) (length buf.new)) }
+        requires { self.old.ended ≡ false }
+        ensures bytes { ReadConsumes (Some self.old.left) (Some self.new.left) result buf.new }
+        ensures all_that_fits { IsOkAnd result (λ n. n ≡ min (length self.old.left) (length buf.new)) }
+        ensures end { IfOk result (λ n. GivesEnd self.old.ended self.new.ended n (length buf.new)) }
+        ensures gave { IfOk result (λ n. self.new.last_read ≡ n) }
     {
         let rest = &self.bytes[self.at..];
         let count = rest.len().min(buf.len());
         buf[..count].copy_from_slice(&rest[..count]);
         self.at += count;
+        self.ended = count == 0 && !buf.is_empty();
+        self.last_read = count;
         Ok(count)
     }
 }
@@ -87,34 +106,10 @@ impl Sink for PlainSink {
     /// Takes the whole piece, or wants memory.
     fn write(&mut self, piece: &[u8]) -> Result<usize, Fault>
         ensures bytes { WriteAppends (Some self.old) (Some self.new) result piece.now }
-        ensures cause { HasFaultCause 0 0 result }
+        ensures cause { HasWriteCause 0 0 piece.now result }
         ensures whole { IfOk result (λ n. n ≡ length piece.now) }
     {
         self.bytes.extend_from_slice(piece)?;
         Ok(piece.len())
-    }
-}
-
-/// A store that keeps nothing yet.
-#[derive(Debug, Drop)]
-pub struct PlainStore {
-    allocator: Global,
-}
-
-impl PlainStore {
-    /// An empty store. Takes no memory.
-    pub fn new(alloc: Global) -> PlainStore {
-        PlainStore { allocator: alloc }
-    }
-}
-
-impl Store for PlainStore {
-    ghost faults = { λ _. 0 };
-
-    /// There is nothing to be kept, so nothing fails.
-    fn sync(&mut self) -> Result<(), Fault>
-        ensures { IsOk result }
-    {
-        Ok(())
     }
 }

@@ -6,8 +6,8 @@ ghost use Rattle.wu_outside.specs.Gains.{GainsPrefix};
 
 use crate::traits::{Fault, Sink};
 
-/// Writes the piece, all of it. After a fault the sink gained a front of it; `Failed` comes only
-/// where the sink's count of faults rose.
+/// Writes the piece, all of it. After a fault the sink gained a prefix of it. `Failed` comes only
+/// where the sink's count of faults rose; on every other answer the count is as it was.
 pub fn write_all<O: Sink>(sink: &mut O, piece: &[u8]) -> Result<(), Fault>
     ensures ok { OnOk result (Appends (O.gained sink.old) (O.gained sink.new) piece.now) }
     ensures err { OnErr result (GainsPrefix (O.gained sink.old) (O.gained sink.new) piece.now) }

@@ -15,7 +15,7 @@ loop-at-preserved g c =
     record {
       within = search rules;
       sent = sent_more (gained c.args.sink.now) (gained c.loop-at.sink) (gained c.write.new.self) c.args.piece.now c.loop-at.at c.in-Ok.count c.loop-at.invariant.sent c.in-Ok.ensures.bytes;
-      kept = search rules;
+      calm = search rules;
     }
 
 pub returns-in-Err-clause-err : goal.returns-in-Err-clause-err

@@ -1,13 +1,13 @@
-use Rattle.std.proofs.Common.{length, take, ◌-◌, ◌≤◌}
+use Rattle.std.proofs.Common.{length, take, ◌-◌, ◌≤◌, ◌≡◌}
 use Rattle.std.specs.Io.KnownBytes.{Appends}
 use Rattle.wu_outside.proofs.writing.write_all.Given as goal
 
--- the front of the piece up to the place was sent
+-- the bytes of the piece up to the place were sent
 abbrev pub invariant-loop-at : goal.invariant-loop-at
 invariant-loop-at g l = record {
   within : l.at ≤ length l.piece;
   sent : Appends (g.O.Sink.gained l.fn.sink) (g.O.Sink.gained l.sink) (take l.at l.piece);
-  kept : g.O.Sink.faults l.fn.sink ≤ g.O.Sink.faults l.sink;
+  calm : g.O.Sink.faults l.sink ≡ g.O.Sink.faults l.fn.sink;
 }
 
 abbrev pub decreases-loop-at : goal.decreases-loop-at

@@ -1,0 +1,144 @@
+//! A store in memory that counts its calls, fails where it is told to, and tells what a crash leaves.
+ghost use Rattle.std.specs.Prelude.{◌≡◌, List, ℕ, [], ◌∷◌, Some, None, reverse, refl, IfOk};
+ghost use Rattle.wu_outside.specs.Crash.{LeftNow};
+ghost use Rattle.wu_outside.specs.Logs.{LoggedStore, moments_of, content_of, crash_log};
+ghost use Rattle.wu_outside.specs.declared.logs.Entry.TheVariants.{HasSynced};
+
+use crate::copies::{read_blob, read_root, size_of_blob};
+use crate::logs::{Entry, crash, find_blob, find_root};
+use crate::ranges::ReadRange;
+use crate::schedule::Schedule;
+use crate::traits::{Fault, Store};
+use std::alloc::Global;
+use std::marker::Model;
+use wu_base::{Bytes, NoMemory};
+
+/// A store that keeps the list of all its changes and syncs since it was made. It tells what it
+/// holds, the ranges read, and what a crash at each moment might have left. A call that is to fail
+/// changes nothing but the counts.
+#[derive(Debug, Drop)]
+pub struct MemStore {
+    allocator: Global,
+    log: Vec<Entry>,
+    ranges: Vec<ReadRange>,
+    schedule: Schedule,
+}
+
+impl Model for MemStore {
+    ghost Value = { LoggedStore };
+
+    ghost view = { λ s. record { log = reverse s.log.items; ranges = s.ranges.items; schedule = s.schedule } };
+}
+
+impl MemStore {
+    /// An empty store. The named calls, counted from 0, fail, and so do all from `stop_from` on.
+    /// Takes no memory.
+    pub fn new(alloc: Global, fails: Vec<u64>, stop_from: u64) -> MemStore
+        ensures log { result.log ≡ [] }
+        ensures ranges { result.ranges ≡ [] }
+        ensures calls { result.schedule ≡ record { calls = 0; faults = 0; fails = fails.items; stop_from = Some stop_from } }
+    {
+        MemStore {
+            allocator: alloc,
+            log: Vec::new(alloc),
+            ranges: Vec::new(alloc),
+            schedule: Schedule::stopping(fails, stop_from),
+        }
+    }
+
+    /// The store after a crash at this moment, which fails no call. Of the changes since the last
+    /// sync, numbered from 0, number i is kept where bit `i mod 64` of `choice` is 1; a put that isn't
+    /// kept leaves the blob absent.
+    pub fn crashed(&self, choice: u64) -> Result<MemStore, NoMemory>
+        ensures log { IfOk result (λ left. left.log ≡ HasSynced ∷ crash_log choice self.now.log) }
+        ensures outcome { IfOk result (λ left. LeftNow (moments_of self.now.log) (content_of left.log)) }
+        ensures ranges { IfOk result (λ left. left.ranges ≡ []) }
+        ensures calls { IfOk result (λ left. left.schedule ≡ record { calls = 0; faults = 0; fails = []; stop_from = None }) }
+    {
+        let mut log = crash(self.allocator, self.log.as_slice(), choice)?;
+        log.push(Entry::HasSynced)?;
+        Ok(MemStore {
+            allocator: self.allocator,
+            log,
+            ranges: Vec::new(self.allocator),
+            schedule: Schedule::calm(self.allocator),
+        })
+    }
+
+    /// The ranges read so far, in order.
+    pub fn reads(&self) -> &[ReadRange]
+        ensures { result.now ≡ self.now.ranges }
+    {
+        self.ranges.as_slice()
+    }
+
+    /// How many calls there were, those that failed among them. The count stands still at 2^64 - 1.
+    pub fn calls(&self) -> u64
+        ensures { result ≡ self.now.schedule.calls }
+    {
+        self.schedule.calls()
+    }
+
+    /// How many calls failed. The count stands still at 2^64 - 1.
+    pub fn faults(&self) -> u64
+        ensures { result ≡ self.now.schedule.faults }
+    {
+        self.schedule.faults()
+    }
+}
+
+impl Store for MemStore {
+    ghost holds = { λ s. Some (content_of s.log) };
+
+    ghost reads = { λ s. Some s.ranges };
+
+    ghost moments = { λ s. Some (moments_of s.log) };
+
+    ghost faults = { λ s. s.schedule.faults };
+
+    fn size(&mut self, blob: u64) -> Result<Option<u64>, Fault> {
+        self.schedule.pass()?;
+        Ok(size_of_blob(find_blob(self.log.as_slice(), blob)))
+    }
+
+    fn read(&mut self, blob: u64, at: u64, buf: &mut [u8]) -> Result<Option<usize>, Fault> {
+        self.schedule.pass()?;
+        let count = read_blob(find_blob(self.log.as_slice(), blob), at, buf);
+        let len = buf.len() as u64;
+        self.ranges.push(ReadRange { blob, at, len })?;
+        Ok(count)
+    }
+
+    fn put(&mut self, blob: u64, bytes: &[u8]) -> Result<(), Fault> {
+        self.schedule.pass()?;
+        let bytes = Bytes::from_slice(self.allocator, bytes)?;
+        self.log.push(Entry::HasPut(blob, bytes))?;
+        Ok(())
+    }
+
+    fn remove(&mut self, blob: u64) -> Result<(), Fault> {
+        self.schedule.pass()?;
+        self.log.push(Entry::HasRemoved(blob))?;
+        Ok(())
+    }
+
+    fn root(&mut self, buf: &mut [u8]) -> Result<Option<usize>, Fault> {
+        self.schedule.pass()?;
+        Ok(read_root(find_root(self.log.as_slice()), buf))
+    }
+
+    fn set_root(&mut self, bytes: &[u8]) -> Result<(), Fault> {
+        self.schedule.pass()?;
+        let bytes = Bytes::from_slice(self.allocator, bytes)?;
+        self.log.push(Entry::HasSetRoot(bytes))?;
+        Ok(())
+    }
+
+    fn sync(&mut self) -> Result<(), Fault> {
+        self.schedule.pass()?;
+        self.log.push(Entry::HasSynced)?;
+        Ok(())
+    }
+
+    ghost told_alike = { λ _. refl };
+}
