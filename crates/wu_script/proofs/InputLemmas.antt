@@ -1,10 +1,10 @@
 -- Lemmas on what is held and used.
-use Rattle.std.proofs.Common.{◌≡◌, ℕ, ◌+◌, ◌-◌, ◌≤◌, List, [], ◌++◌, length, take, drop, slice_range, Option, refl, sym, ap, ◌∙◌, append_assoc, append-nil, length-append, subst, arith}
-use Rattle.std.proofs.lemmas.List.{drop-take, drop-drop, length-take, take-take, take-append-le, take-append-drop}
+use Rattle.std.proofs.Common.{◌≡◌, ℕ, ◌+◌, ◌-◌, ◌≤◌, Bool, List, [], ◌++◌, length, take, drop, slice_range, Option, refl, sym, ap, ◌∙◌, append_assoc, append-nil, length-append, subst, arith}
+use Rattle.std.proofs.lemmas.List.{drop-take, drop-drop, length-drop, length-take, take-take, take-append-le, take-append-drop}
 use Rattle.std.proofs.KnownBytes.{Consumes-trans, Consumes-nil}
-use Rattle.wu_script.specs.Holding.{Held, Uses}
+use Rattle.wu_script.specs.Holding.{Held, Uses, Follows}
 
--- the bytes at the front of a buffer that was filled anew
+-- the first bytes of a buffer that was filled anew
 pub filled : (g r : List ℕ) (len count : ℕ) → count ≤ length g → length g ≤ len → slice_range (take len (g ++ r)) 0 count ≡ take count g
 filled g r len count within fits = let same : count - 0 ≡ count = omega arith in rw same (take-take count len (g ++ r) (omega arith) ∙ take-append-le count g r within)
 
@@ -40,10 +40,18 @@ Uses-front left old new used front spare ended = record { given = []; consumed =
 pub Uses-filled : (left mid left' : Option (List ℕ)) (old between filled : Held) (used : List ℕ) → Uses left mid old between used → Uses mid left' between filled [] → Uses left left' old filled used
 Uses-filled left mid left' old between filled used first fill = subst (Uses left left' old filled) (append-nil used) (Uses-trans left mid left' old between filled used [] first fill)
 
--- some uses, a filling, and so many bytes from the front
+-- some uses, a filling, and so many of the first bytes
 pub part_taken : (left mid left' : Option (List ℕ)) (old between filled new : Held) (used : List ℕ) (n : ℕ) → Uses left mid old between used → Uses mid left' between filled [] → new ≡ record filled { bytes = drop n filled.bytes } → Uses left left' old new (used ++ take n filled.bytes)
 part_taken left mid left' old between filled new used n first fill rest =
     let bytes : new.bytes ≡ drop n filled.bytes = ap (λ (h : Held). h.bytes) rest in
     let front : filled.bytes ≡ take n filled.bytes ++ new.bytes = sym (ap (λ xs. take n filled.bytes ++ xs) bytes ∙ take-append-drop n filled.bytes) in
     let then = Uses-front left' filled new (take n filled.bytes) front (ap (λ (h : Held). h.spare) rest) (ap (λ (h : Held). h.ended) rest) in
     Uses-trans left left' left' old filled new used (take n filled.bytes) (Uses-filled left mid left' old between filled used first fill) then
+
+-- what is held after that came with the source's last read too
+pub part_follows : (ended : Bool) (last_read n : ℕ) (filled new : Held)
+    → Follows ended last_read filled → new ≡ record filled { bytes = drop n filled.bytes } → Follows ended last_read new
+part_follows ended last_read n filled new follows rest = record {
+  going = λ going. follows.going (sym (ap (λ (h : Held). h.ended) rest) ∙ going);
+  recent = omega (arith, follows.recent, ap (λ (h : Held). length h.bytes) rest, length-drop n filled.bytes);
+}

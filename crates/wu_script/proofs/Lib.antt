@@ -1,7 +1,8 @@
+pub mod EarlyEndLemmas
+pub mod FieldListLemmas
 pub mod InputLemmas
 pub mod ItemLemmas
+pub mod ItemListLemmas
 pub mod LineLemmas
-pub mod ListLemmas
-pub mod OpenLemmas
-pub mod StopLemmas
-pub mod TurnLemmas
+pub mod TokenLemmas
+pub mod UnclosedLemmas

@@ -5,8 +5,8 @@ use Rattle.std.proofs.lemmas.Bool.{eqb-true, false_from_ne_true}
 use Rattle.std.proofs.lemmas.List.{nil_from_length}
 use Rattle.std.proofs.lemmas.List.Elements.{All-from_get_or}
 use Rattle.std.proofs.lemmas.List.Folds.{list_any-append, list_any_none}
-use Rattle.memchr.specs.Find.{IsFirstByte, is_byte}
-use Rattle.wu_script.specs.Holding.{Held, Uses}
+use Rattle.bstr.specs.Find.{IsFirstByte, is_byte}
+use Rattle.wu_script.specs.Holding.{Held, Uses, Follows, EndsAt}
 use Rattle.wu_script.specs.Taking.{closing, Kept, IsOneLine, IsFirstFeed, TakesPiece}
 use Rattle.wu_script.proofs.InputLemmas.{Uses-trans, Uses-front}
 
@@ -40,6 +40,22 @@ piece_taken left mid left' old between filled new text piece closed first fill t
     let then = Uses-front left' filled new (piece ++ closing closed) taken.bytes taken.spare taken.ended in
     let joined : (text ++ []) ++ (piece ++ closing closed) ≡ (text ++ piece) ++ closing closed = ap (λ t. t ++ (piece ++ closing closed)) (append-nil text) ∙ sym (append_assoc text piece (closing closed)) in
     subst (Uses left left' old new) joined (Uses-trans left left' left' old filled new (text ++ []) (piece ++ closing closed) held then)
+
+-- what is held after a piece came with the source's last read too
+pub piece_follows : (ended : Bool) (last_read : ℕ) (filled new : Held) (closed : Bool) (piece : List ℕ)
+    → Follows ended last_read filled → TakesPiece filled new closed piece → Follows ended last_read new
+piece_follows ended last_read filled new closed piece follows taken = record {
+  going = λ going. follows.going (sym taken.ended ∙ going);
+  recent = omega (arith, follows.recent, ap length taken.bytes, length-append (piece ++ closing closed) new.bytes);
+}
+
+pub piece_ends : (ended : Bool) (last_read : ℕ) (filled new : Held) (closed : Bool) (piece : List ℕ)
+    → Follows ended last_read filled → TakesPiece filled new closed piece → closed ≡ true → EndsAt closed last_read new
+piece_ends ended last_read filled new false piece follows taken is = cc (is)
+piece_ends ended last_read filled new true piece follows taken is = record {
+  feed = λ _. omega (arith, follows.recent, ap length taken.bytes, length-append (piece ++ 10 ∷ []) new.bytes, length-append piece (10 ∷ []));
+  end = λ unclosed. cc (unclosed);
+}
 
 -- a piece that no LF closed
 pub piece_open : (left left' : Option (List ℕ)) (old new : Held) (text : List ℕ) (closed : Bool) → closed ≡ false → Uses left left' old new (text ++ closing closed) → Uses left left' old new text

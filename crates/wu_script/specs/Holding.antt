@@ -1,6 +1,7 @@
 -- What a reader holds of a source, and how it uses it.
-use Rattle.std.specs.Prelude.{◌≡◌, ℕ, ◌+◌, ◌-◌, ◌≤◌, Bool, true, List, [], ◌++◌, length, take, Option}
+use Rattle.std.specs.Prelude.{◌≡◌, ℕ, ◌+◌, ◌-◌, ◌<◌, ◌≤◌, Bool, true, false, List, [], ◌++◌, length, take, Option, Result, MatchResult}
 use Rattle.std.specs.Io.KnownBytes.{Consumes, IsAtEnd}
+use Rattle.wu_outside.specs.Faults.{Rose}
 use Rattle.wu_script.specs.declared.ends.ReadEnd.{ReadEnd}
 use Rattle.wu_script.specs.declared.ends.ReadEnd.TheVariants.{ReadFault, InputTooLong, NoMemory}
 
@@ -25,7 +26,28 @@ pub record GivesTooMuch (left left' : Option (List ℕ)) (old : Held) : Type 0 w
   pub consumed : Consumes left left' given
   pub counted : length given ≡ old.spare + 1
 
--- ---- reading that stopped without an item
+-- the source gave no end that the reader doesn't know, and what is held came with its last read; the first two arguments are whether
+-- the source gave its end, and how many bytes its last read gave
+pub record Follows (ended : Bool) (last_read : ℕ) (held : Held) : Type 0 where
+  pub going : held.ended ≡ false → ended ≡ false
+  pub recent : length held.bytes ≤ last_read
+
+-- where taking ended: at an LF, which the source's last read gave, or at the end of the input
+pub record EndsAt (closed : Bool) (last_read : ℕ) (new : Held) : Type 0 where
+  pub feed : closed ≡ true → length new.bytes < last_read
+  pub end : closed ≡ false → (new.bytes ≡ []) × (new.ended ≡ true)
+
+-- ---- reading that ended before an item was whole
+
+-- the source's count of faults rose where it failed, and otherwise is as it was
+abbrev pub IsCounted : ReadEnd → ℕ → ℕ → Type 0
+IsCounted ReadFault before now = (before ≤ now) × Rose before now
+IsCounted InputTooLong before now = now ≡ before
+IsCounted NoMemory before now = now ≡ before
+
+-- the count is as it was on every answer but ReadFault, which comes only where it rose
+abbrev pub HasReadCause : {T : Type 0} → ℕ → ℕ → Result T ReadEnd → Type 0
+HasReadCause before now r = MatchResult r (λ _. now ≡ before) (λ end. IsCounted end before now)
 
 -- the bytes but for so many at the end
 abbrev pub but_last : ℕ → List ℕ → List ℕ
@@ -37,18 +59,18 @@ IsGiven ReadFault spare count = count ≤ spare
 IsGiven InputTooLong spare count = count ≡ spare + 1
 IsGiven NoMemory spare count = count ≤ spare
 
--- the bytes of which reading says something at its end: all that were held and given, without the one byte too many;
--- where there was no memory, without the last 65,536, which are those of one read
-abbrev pub settled : ReadEnd → Held → List ℕ → List ℕ
-settled ReadFault old given = old.bytes ++ given
-settled InputTooLong old given = old.bytes ++ take old.spare given
-settled NoMemory old given = but_last 65536 (old.bytes ++ given)
+-- the bytes of which reading says something at its end: all that were held and given, without the one byte too many; out of
+-- memory, without those that the source's last read gave
+abbrev pub settled : ReadEnd → ℕ → Held → List ℕ → List ℕ
+settled ReadFault last_read old given = old.bytes ++ given
+settled InputTooLong last_read old given = old.bytes ++ take old.spare given
+settled NoMemory last_read old given = but_last last_read (old.bytes ++ given)
 
--- reading stopped: the source gave some bytes, and those settled are short of what was to be read, as the first argument says of
--- bytes. After the source's end it isn't asked again: none are given, and only memory can be wanting
-pub record Stops (IsShort : List ℕ → Type 0) (left left' : Option (List ℕ)) (old : Held) (end : ReadEnd) : Type 0 where
+-- reading ended early: the source gave some bytes, and those settled are short of what was to be read, as the first argument says
+-- of bytes. After the source's end it isn't asked again: none are given, and there can only be no memory
+pub record EndsEarly (IsShort : List ℕ → Type 0) (left left' : Option (List ℕ)) (last_read : ℕ) (old : Held) (end : ReadEnd) : Type 0 where
   pub given : List ℕ
   pub consumed : Consumes left left' given
   pub counted : IsGiven end old.spare (length given)
   pub over : old.ended ≡ true → (given ≡ []) × (end ≡ NoMemory)
-  pub short : IsShort (settled end old given)
+  pub short : IsShort (settled end last_read old given)

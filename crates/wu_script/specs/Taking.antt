@@ -1,7 +1,7 @@
 -- Lines and bodies, as they are taken from the front of what is held and given.
 use Rattle.std.specs.Prelude.{◌≡◌, ℕ, ◌≤◌, ◌<◌, ◌==◌, Bool, true, false, List, [], ◌∷◌, ◌++◌, length, take, drop, ◌+◌, Option, MatchBool}
 use Rattle.std.specs.List.{list_any}
-use Rattle.wu_script.specs.Holding.{Held, Uses}
+use Rattle.wu_script.specs.Holding.{Held, Uses, EndsAt}
 
 -- no LF stands in the bytes
 abbrev pub IsOneLine : List ℕ → Type 0
@@ -12,11 +12,12 @@ abbrev pub closing : Bool → List ℕ
 closing true = 10 ∷ []
 closing false = []
 
--- a line was taken; the flag says whether an LF closed it, and otherwise the input ended there
-pub record TakesLine (left left' : Option (List ℕ)) (old new : Held) (closed : Bool) (line : List ℕ) : Type 0 where
+-- a line was taken; the flag says whether an LF closed it, and otherwise the input ended there; the number is how many bytes the
+-- source's last read gave
+pub record TakesLine (left left' : Option (List ℕ)) (last_read : ℕ) (old new : Held) (closed : Bool) (line : List ℕ) : Type 0 where
   pub uses : Uses left left' old new (line ++ closing closed)
   pub one : IsOneLine line
-  pub last : closed ≡ false → (new.bytes ≡ []) × (new.ended ≡ true)
+  pub last : EndsAt closed last_read new
 
 -- the bytes are kept, if they are no more than the limit
 abbrev pub Kept : ℕ → List ℕ → Bool → List ℕ → Type 0

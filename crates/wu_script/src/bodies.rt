@@ -1,9 +1,7 @@
 //! Bodies, as they are taken from a source in whatever pieces it gives them.
-ghost use Rattle.std.specs.Prelude.{◌≡◌, ◌++◌, ◌≤◌, ◌<◌, List, ℕ, true, length, min, take, drop, Err, IfErr, IfOk};
-ghost use Rattle.wu_outside.specs.Faults.{Rose};
-ghost use Rattle.wu_script.specs.Holding.{Held, Uses, Stops};
+ghost use Rattle.std.specs.Prelude.{◌≡◌, ◌++◌, ◌≤◌, ◌<◌, List, ℕ, true, length, min, take, drop, IfErr, IfOk, OnOk};
+ghost use Rattle.wu_script.specs.Holding.{Held, Uses, Follows, EndsEarly, HasReadCause};
 ghost use Rattle.wu_script.specs.Taking.{TakesBytes};
-ghost use Rattle.wu_script.specs.declared.ends.ReadEnd.TheVariants.{ReadFault};
 
 use crate::ends::ReadEnd;
 use crate::input::Input;
@@ -19,13 +17,14 @@ pub fn take_bytes<I: Source>(
     body: &mut Vec<u8>,
     kept: bool,
 ) -> Result<bool, ReadEnd>
+    requires { Follows (I.ended source.old) (I.last_read source.old) input.old }
     ensures taken { IfOk result (λ all. (bytes : List ℕ)
         × TakesBytes (I.left source.old) (I.left source.new) input.old input.new count all bytes
         × (kept ≡ true → body.new.items ≡ body.old.items ++ bytes)) }
+    ensures follows { OnOk result (Follows (I.ended source.new) (I.last_read source.new) input.new) }
     ensures still { count ≤ length input.old.bytes → source.new ≡ source.old }
-    ensures stops { IfErr result (Stops (λ bytes. length bytes < count) (I.left source.old) (I.left source.new) input.old) }
-    ensures fault { result ≡ Err ReadFault → Rose (I.faults source.old) (I.faults source.new) }
-    ensures steady { I.faults source.old ≤ I.faults source.new }
+    ensures early { IfErr result (EndsEarly (λ bytes. length bytes < count) (I.left source.old) (I.left source.new) (I.last_read source.new) input.old) }
+    ensures cause { HasReadCause (I.faults source.old) (I.faults source.new) result }
 {
     let mut missing = count;
     'parts: while missing > 0 {
@@ -56,6 +55,6 @@ fn take_part(
     if kept {
         body.extend_from_slice(&bytes[..count as usize])?;
     }
-    input.use_front(count as usize);
+    input.use_first(count as usize);
     Ok(count)
 }

@@ -1,7 +1,11 @@
 //! What the lines of a script say.
 ghost use Rattle.std.specs.Prelude.{◌≡◌, ◌≤◌, IfOk, IfSome};
 ghost use Rattle.wu_tree.specs.Steps.{IsEvent};
-ghost use Rattle.wu_script.specs.Commands.{Shows, IsSoundLine, command_of, event_meaning, fields_meaning, is_blank, meaning_of, or_syntax, count_of, rank_of, paths_of, Ranks, text_head_of};
+ghost use Rattle.wu_gcl.specs.Reading.{seen};
+ghost use Rattle.wu_gcl.specs.Regions.{IsProper, region_of};
+ghost use Rattle.wu_base.specs.declared.limits.TheConstants.{K_MAX as MostRegions};
+ghost use Rattle.wu_script.specs.Commands.{command_of, event_line, fields_say, is_blank, line_says, query_line, text_line, count_of, rank_of, paths_of, text_head_of, Whole, Asking, CountOf, RankOf};
+ghost use Rattle.wu_script.specs.Said.{IsReading, Reading, IsLine, IsSoundLine};
 
 use crate::events::{
     chmod, chown, create, id_of, link, mkdir, node_of, rename, rmdir, unlink, user,
@@ -10,9 +14,9 @@ use crate::types::{Command, Line, Why};
 use crate::words::{Word, word_of};
 use std::alloc::Global;
 use wu_ask::{Ask, Query};
-use wu_base::{Bytes, K_MAX, LINE_MAX, NoMemory, RANK_WORDS_MAX, Sequence};
+use wu_base::{Bytes, INPUT_MAX, K_MAX, LINE_MAX, NoMemory, RANK_WORDS_MAX, Sequence};
 use wu_fields::{read_decimal, split_fields};
-use wu_gcl::parse;
+use wu_gcl::{Expr, ExprFault, parse};
 use wu_token::words;
 use wu_tree::Event;
 
@@ -20,11 +24,11 @@ use wu_tree::Event;
 /// LINE_MAX bytes; blank, no byte or `#` at its front; `Syntax` for an escape fault; `Unbuilt` for a
 /// command that isn't built yet; `Syntax` for an unknown command, a wrong number of fields or a field
 /// out of form or range; the faults of a `count`'s expression, or of a `rank`'s unit; `NoWord` and
-/// `ManyWords` for a `rank` by no word, or by more than RANK_WORDS_MAX. The one error is want of
-/// memory.
-#[tactic(auto, unfolding(crate::specs::Commands::meaning_of, crate::specs::Commands::fields_meaning))]
+/// `ManyWords` for a `rank` by no word, or by more than RANK_WORDS_MAX. The one error is `NoMemory`:
+/// out of memory.
+#[tactic(auto, unfolding(crate::specs::Commands::line_says, crate::specs::Commands::fields_say))]
 pub fn read_command(alloc: Global, line: &[u8]) -> Result<Line, NoMemory>
-    ensures says { IfOk result (λ read. Shows read (meaning_of line.now)) }
+    ensures says { IfOk result (IsLine (line_says line.now)) }
     ensures sound { IfOk result IsSoundLine }
 {
     if line.len() > LINE_MAX {
@@ -50,9 +54,9 @@ fn is_blank(line: &[u8]) -> bool
 }
 
 /// What the fields of a line say.
-#[tactic(auto, unfolding(crate::specs::Commands::fields_meaning))]
+#[tactic(auto, unfolding(crate::specs::Commands::fields_say))]
 fn read_fields(alloc: Global, fields: &[Bytes]) -> Result<Line, NoMemory>
-    ensures says { IfOk result (λ read. Shows read (fields_meaning (Some fields.now))) }
+    ensures says { IfOk result (IsLine (fields_say (Some fields.now))) }
     ensures sound { IfOk result IsSoundLine }
 {
     match fields {
@@ -64,7 +68,7 @@ fn read_fields(alloc: Global, fields: &[Bytes]) -> Result<Line, NoMemory>
 /// What a command with these fields says.
 #[tactic(auto, unfolding(crate::specs::Commands::command_of))]
 fn read_by_word(alloc: Global, word: Word, fields: &[Bytes]) -> Result<Line, NoMemory>
-    ensures says { IfOk result (λ read. Shows read (command_of word fields.now)) }
+    ensures says { IfOk result (IsLine (command_of word fields.now)) }
     ensures sound { IfOk result IsSoundLine }
 {
     match word {
@@ -89,7 +93,7 @@ fn read_by_word(alloc: Global, word: Word, fields: &[Bytes]) -> Result<Line, NoM
 /// An event, where the fields are those of one.
 fn update(event: Option<Event>) -> Line
     requires { IfSome event IsEvent }
-    ensures says { Shows result (event_meaning event) }
+    ensures says { IsLine (event_line event) result }
     ensures sound { IsSoundLine result }
 {
     match event {
@@ -98,10 +102,10 @@ fn update(event: Option<Event>) -> Line
     }
 }
 
-/// `text`, a node and the length of the text, at most 2^40.
+/// `text`, a node and the length of the text, at most INPUT_MAX.
 #[tactic(auto, unfolding(crate::specs::Commands::text_head_of))]
 fn text_head(fields: &[Bytes]) -> Line
-    ensures says { Shows result (or_syntax (text_head_of fields.now)) }
+    ensures says { IsLine (text_line (text_head_of fields.now)) result }
     ensures sound { IsSoundLine result }
 {
     match fields {
@@ -109,7 +113,7 @@ fn text_head(fields: &[Bytes]) -> Line
             let Some(ino) = node_of(ino) else {
                 return Line::Refused(Why::Syntax);
             };
-            match read_decimal(len.as_slice(), 1_099_511_627_776) {
+            match read_decimal(len.as_slice(), INPUT_MAX) {
                 Some(len) => Line::TextHead { ino, len },
                 None => Line::Refused(Why::Syntax),
             }
@@ -121,7 +125,7 @@ fn text_head(fields: &[Bytes]) -> Line
 /// `count`, a user and an expression.
 #[tactic(auto, unfolding(crate::specs::Commands::count_of))]
 fn count(alloc: Global, fields: &[Bytes]) -> Result<Line, NoMemory>
-    ensures says { IfOk result (λ read. Shows read (or_syntax (count_of fields.now))) }
+    ensures says { IfOk result (IsLine (query_line (count_of fields.now))) }
     ensures sound { IfOk result IsSoundLine }
 {
     match fields {
@@ -129,22 +133,38 @@ fn count(alloc: Global, fields: &[Bytes]) -> Result<Line, NoMemory>
             let Some(uid) = id_of(uid) else {
                 return Ok(Line::Refused(Why::Syntax));
             };
-            match parse(alloc, text.as_slice())? {
-                Ok(expr) => Ok(Line::Command(Command::Ask(Query {
-                    uid,
-                    ask: Ask::Count { expr },
-                }))),
-                Err(fault) => Ok(Line::Refused(Why::Expr(fault))),
-            }
+            counting(alloc, uid, text.as_slice())
         }
         _ => Ok(Line::Refused(Why::Syntax)),
     }
 }
 
+/// A count of the regions of the expression.
+fn counting(alloc: Global, uid: u32, text: &[u8]) -> Result<Line, NoMemory>
+    ensures says { IfOk result (IsLine (Whole (Asking uid (CountOf text.now)))) }
+    ensures sound { IfOk result IsSoundLine }
+{
+    match read_expression(alloc, text)? {
+        Ok(expr) => Ok(Line::Command(Command::Ask(Query {
+            uid,
+            ask: Ask::Count { expr },
+        }))),
+        Err(fault) => Ok(Line::Refused(Why::Expr(fault))),
+    }
+}
+
+/// The expression that the text is, or why it is none.
+fn read_expression(alloc: Global, text: &[u8]) -> Result<Result<Expr, ExprFault>, NoMemory>
+    ensures reads { IfOk result (λ r. (read : Reading) → IsReading read → read text.now ≡ seen r) }
+    ensures proper { IfOk result (λ r. IfOk r (λ expr. IsProper (region_of expr))) }
+{
+    parse(alloc, text)
+}
+
 /// `rank`, a user, how many regions to show, a unit and the words to rank by.
 #[tactic(auto, unfolding(crate::specs::Commands::rank_of))]
 fn rank(alloc: Global, fields: &[Bytes]) -> Result<Line, NoMemory>
-    ensures says { IfOk result (λ read. Shows read (or_syntax (rank_of fields.now))) }
+    ensures says { IfOk result (IsLine (query_line (rank_of fields.now))) }
     ensures sound { IfOk result IsSoundLine }
 {
     match fields {
@@ -164,11 +184,11 @@ fn rank(alloc: Global, fields: &[Bytes]) -> Result<Line, NoMemory>
 /// A ranking of the regions of the unit by the words of the text. The unit's faults come before those
 /// of the words.
 fn ranking(alloc: Global, uid: u32, k: u32, unit: &[u8], text: &[u8]) -> Result<Line, NoMemory>
-    requires { k ≤ 10000 }
-    ensures says { IfOk result (λ read. Shows read (Ranks uid k unit.now text.now)) }
+    requires { k ≤ MostRegions }
+    ensures says { IfOk result (IsLine (Whole (Asking uid (RankOf k unit.now text.now)))) }
     ensures sound { IfOk result IsSoundLine }
 {
-    let unit = match parse(alloc, unit)? {
+    let unit = match read_expression(alloc, unit)? {
         Ok(unit) => unit,
         Err(fault) => return Ok(Line::Refused(Why::Expr(fault))),
     };
@@ -192,7 +212,7 @@ fn ranking(alloc: Global, uid: u32, k: u32, unit: &[u8], text: &[u8]) -> Result<
 /// `paths`, and a user.
 #[tactic(auto, unfolding(crate::specs::Commands::paths_of))]
 fn paths(fields: &[Bytes]) -> Line
-    ensures says { Shows result (or_syntax (paths_of fields.now)) }
+    ensures says { IsLine (query_line (paths_of fields.now)) result }
     ensures sound { IsSoundLine result }
 {
     match fields {

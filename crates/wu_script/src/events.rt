@@ -1,11 +1,12 @@
 //! The events that lines report.
 ghost use Rattle.std.specs.Prelude.{◌≡◌, ◌≤◌, IfOk, IfSome};
 ghost use Rattle.wu_tree.specs.Steps.{IsEvent};
-ghost use Rattle.wu_script.specs.Commands.{id_of, node_of, ids_of, perm_of, user_of, mkdir_of, create_of, link_of, unlink_of, rmdir_of, rename_of, chmod_of, chown_of};
+ghost use Rattle.wu_script.specs.Commands.{id_of, node_of, ids_of, perm_of, new_node_of, mkdir_event, create_event, place_of, unlink_event, rmdir_event, user_of, link_of, rename_of, chmod_of, chown_of};
+ghost use Rattle.std.specs.Option.{option_map};
 
 use std::alloc::Global;
 use wu_access::Perm;
-use wu_base::{Bytes, NoMemory, Sequence};
+use wu_base::{Bytes, Ino, NoMemory, Sequence};
 use wu_fields::{read_decimal, read_octal_mode};
 use wu_tree::Event;
 
@@ -14,10 +15,8 @@ use wu_tree::Event;
 pub fn id_of(field: &Bytes) -> Option<u32>
     ensures { result ≡ id_of field.now }
 {
-    match read_decimal(field.as_slice(), 4_294_967_295) {
-        Some(number) => Some(number as u32),
-        None => None,
-    }
+    let number = read_decimal(field.as_slice(), u32::MAX as u64)?;
+    Some(number as u32)
 }
 
 /// The number of a node, which is at least 1.
@@ -94,15 +93,22 @@ pub fn chmod(fields: &[Bytes]) -> Option<Event>
     }
 }
 
-/// `unlink`, a directory and a name.
-#[tactic(auto, unfolding(crate::specs::Commands::unlink_of))]
-pub fn unlink(alloc: Global, fields: &[Bytes]) -> Result<Option<Event>, NoMemory>
-    ensures value { IfOk result (λ event. event ≡ unlink_of fields.now) }
-    ensures sound { IfOk result (λ event. IfSome event IsEvent) }
+/// A place that is emptied: a directory, and a name in it.
+#[derive(Drop)]
+pub struct Place {
+    parent: Ino,
+    name: Bytes,
+}
+
+/// The place that `unlink` and `rmdir` name.
+#[tactic(auto, unfolding(crate::specs::Commands::place_of))]
+fn read_place(alloc: Global, fields: &[Bytes]) -> Result<Option<Place>, NoMemory>
+    ensures value { IfOk result (λ place. place ≡ place_of fields.now) }
+    ensures sound { IfOk result (λ place. IfSome place (λ p. 1 ≤ p.parent)) }
 {
     match fields {
         [parent, name] => match node_of(parent) {
-            Some(parent) => Ok(Some(Event::Unlink {
+            Some(parent) => Ok(Some(Place {
                 parent,
                 name: Bytes::from_slice(alloc, name.as_slice())?,
             })),
@@ -112,21 +118,25 @@ pub fn unlink(alloc: Global, fields: &[Bytes]) -> Result<Option<Event>, NoMemory
     }
 }
 
-/// `rmdir`, a directory and a name.
-#[tactic(auto, unfolding(crate::specs::Commands::rmdir_of))]
-pub fn rmdir(alloc: Global, fields: &[Bytes]) -> Result<Option<Event>, NoMemory>
-    ensures value { IfOk result (λ event. event ≡ rmdir_of fields.now) }
+/// `unlink`, a directory and a name.
+pub fn unlink(alloc: Global, fields: &[Bytes]) -> Result<Option<Event>, NoMemory>
+    ensures value { IfOk result (λ event. event ≡ option_map unlink_event (place_of fields.now)) }
     ensures sound { IfOk result (λ event. IfSome event IsEvent) }
 {
-    match fields {
-        [parent, name] => match node_of(parent) {
-            Some(parent) => Ok(Some(Event::Rmdir {
-                parent,
-                name: Bytes::from_slice(alloc, name.as_slice())?,
-            })),
-            None => Ok(None),
-        },
-        _ => Ok(None),
+    match read_place(alloc, fields)? {
+        Some(Place { parent, name }) => Ok(Some(Event::Unlink { parent, name })),
+        None => Ok(None),
+    }
+}
+
+/// `rmdir`, a directory and a name.
+pub fn rmdir(alloc: Global, fields: &[Bytes]) -> Result<Option<Event>, NoMemory>
+    ensures value { IfOk result (λ event. event ≡ option_map rmdir_event (place_of fields.now)) }
+    ensures sound { IfOk result (λ event. IfSome event IsEvent) }
+{
+    match read_place(alloc, fields)? {
+        Some(Place { parent, name }) => Ok(Some(Event::Rmdir { parent, name })),
+        None => Ok(None),
     }
 }
 
@@ -171,11 +181,20 @@ pub fn chown(fields: &[Bytes]) -> Option<Event>
     }
 }
 
-/// `mkdir`, a node, a directory, a name, owner, group and mode.
-#[tactic(auto, unfolding(crate::specs::Commands::mkdir_of))]
-pub fn mkdir(alloc: Global, fields: &[Bytes]) -> Result<Option<Event>, NoMemory>
-    ensures value { IfOk result (λ event. event ≡ mkdir_of fields.now) }
-    ensures sound { IfOk result (λ event. IfSome event IsEvent) }
+/// A node that is made: its number, its directory and its name there, owner, group and mode.
+#[derive(Drop)]
+pub struct NewNode {
+    ino: Ino,
+    parent: Ino,
+    name: Bytes,
+    perm: Perm,
+}
+
+/// The node that `mkdir` and `create` make.
+#[tactic(auto, unfolding(crate::specs::Commands::new_node_of))]
+fn read_new_node(alloc: Global, fields: &[Bytes]) -> Result<Option<NewNode>, NoMemory>
+    ensures value { IfOk result (λ node. node ≡ new_node_of fields.now) }
+    ensures sound { IfOk result (λ node. IfSome node (λ n. (1 ≤ n.ino) × (1 ≤ n.parent) × (n.perm.mode ≤ 0xFFF))) }
 {
     match fields {
         [ino, parent, name, uid, gid, mode] => {
@@ -186,7 +205,7 @@ pub fn mkdir(alloc: Global, fields: &[Bytes]) -> Result<Option<Event>, NoMemory>
                 return Ok(None);
             };
             match perm_of(uid, gid, mode) {
-                Some(perm) => Ok(Some(Event::Mkdir {
+                Some(perm) => Ok(Some(NewNode {
                     ino,
                     parent,
                     name: Bytes::from_slice(alloc, name.as_slice())?,
@@ -199,31 +218,49 @@ pub fn mkdir(alloc: Global, fields: &[Bytes]) -> Result<Option<Event>, NoMemory>
     }
 }
 
-/// `create`, likewise.
-#[tactic(auto, unfolding(crate::specs::Commands::create_of))]
-pub fn create(alloc: Global, fields: &[Bytes]) -> Result<Option<Event>, NoMemory>
-    ensures value { IfOk result (λ event. event ≡ create_of fields.now) }
+/// `mkdir`, a node, a directory, a name, owner, group and mode.
+pub fn mkdir(alloc: Global, fields: &[Bytes]) -> Result<Option<Event>, NoMemory>
+    ensures value { IfOk result (λ event. event ≡ option_map mkdir_event (new_node_of fields.now)) }
     ensures sound { IfOk result (λ event. IfSome event IsEvent) }
 {
-    match fields {
-        [ino, parent, name, uid, gid, mode] => {
-            let Some(ino) = node_of(ino) else {
-                return Ok(None);
-            };
-            let Some(parent) = node_of(parent) else {
-                return Ok(None);
-            };
-            match perm_of(uid, gid, mode) {
-                Some(perm) => Ok(Some(Event::Create {
-                    ino,
-                    parent,
-                    name: Bytes::from_slice(alloc, name.as_slice())?,
-                    perm,
-                })),
-                None => Ok(None),
-            }
-        }
-        _ => Ok(None),
+    match read_new_node(alloc, fields)? {
+        Some(
+            NewNode {
+                ino,
+                parent,
+                name,
+                perm,
+            },
+        ) => Ok(Some(Event::Mkdir {
+            ino,
+            parent,
+            name,
+            perm,
+        })),
+        None => Ok(None),
+    }
+}
+
+/// `create`, likewise.
+pub fn create(alloc: Global, fields: &[Bytes]) -> Result<Option<Event>, NoMemory>
+    ensures value { IfOk result (λ event. event ≡ option_map create_event (new_node_of fields.now)) }
+    ensures sound { IfOk result (λ event. IfSome event IsEvent) }
+{
+    match read_new_node(alloc, fields)? {
+        Some(
+            NewNode {
+                ino,
+                parent,
+                name,
+                perm,
+            },
+        ) => Ok(Some(Event::Create {
+            ino,
+            parent,
+            name,
+            perm,
+        })),
+        None => Ok(None),
     }
 }
 

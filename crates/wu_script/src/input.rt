@@ -1,9 +1,10 @@
 //! What a source gave and no item has used yet.
 ghost use Rattle.std.specs.Prelude.{◌≡◌, ◌≤◌, ◌<◌, [], false, true, length, min, max, Ok, Err, OnOk, IfErr, IfOk, MatchResult, take, drop, slice_range, vec_len};
 ghost use Rattle.std.specs.Io.KnownBytes.{Consumes, Keeps, IsAtEnd};
-ghost use Rattle.wu_outside.specs.Faults.{Rose, HasCause};
-ghost use Rattle.wu_script.specs.Holding.{Held, Uses, Stops};
-ghost use Rattle.wu_script.specs.declared.ends.ReadEnd.TheVariants.{ReadFault};
+ghost use Rattle.wu_base.specs.declared.limits.TheConstants.{READ_MAX as MostAtOnce};
+ghost use Rattle.wu_outside.specs.Ends.{GivesEnd};
+ghost use Rattle.wu_outside.specs.Faults.{HasCause};
+ghost use Rattle.wu_script.specs.Holding.{Held, Uses, Follows, EndsEarly, HasReadCause};
 
 use crate::ends::ReadEnd;
 use std::alloc::Global;
@@ -27,7 +28,7 @@ impl Model for Input {
 
     ghost view = { λ s. record { bytes = slice_range s.buffer.items s.at s.end; spare = s.spare; ended = s.ended } };
 
-    ghost invariant = { λ s. (s.at ≤ s.end) × (s.end ≤ vec_len s.buffer) × (vec_len s.buffer ≡ 65536) };
+    ghost invariant = { λ s. (s.at ≤ s.end) × (s.end ≤ vec_len s.buffer) × (vec_len s.buffer ≡ MostAtOnce) };
 }
 
 impl Input {
@@ -47,13 +48,13 @@ impl Input {
     /// The bytes that were given and not used yet.
     pub fn bytes(&self) -> &[u8]
         ensures value { result.now ≡ self.now.bytes }
-        ensures few { length result.now ≤ 65536 }
+        ensures few { length result.now ≤ MostAtOnce }
     {
         &self.buffer[self.at..self.end]
     }
 
-    /// Uses bytes from the front.
-    pub fn use_front(&mut self, count: usize)
+    /// Uses the first bytes.
+    pub fn use_first(&mut self, count: usize)
         requires { count ≤ length self.old.bytes }
         ensures { self.new ≡ record self.old { bytes = drop count self.old.bytes } }
     {
@@ -62,14 +63,14 @@ impl Input {
 
     /// Whether a byte is held. Where none is, and the source hasn't given its end, it is asked first.
     pub fn fill<I: Source>(&mut self, source: &mut I) -> Result<bool, ReadEnd>
+        requires { Follows (I.ended source.old) (I.last_read source.old) self.old }
         ensures given { OnOk result (Uses (I.left source.old) (I.left source.new) self.old self.new []) }
         ensures some { result ≡ Ok true → 0 < length self.new.bytes }
-        ensures few { OnOk result (length self.new.bytes ≤ 65536) }
         ensures none { result ≡ Ok false → (self.new.bytes ≡ []) × (self.new.ended ≡ true) }
+        ensures follows { OnOk result (Follows (I.ended source.new) (I.last_read source.new) self.new) }
         ensures still { 0 < length self.old.bytes → (result ≡ Ok true) × (self.new ≡ self.old) × (source.new ≡ source.old) }
-        ensures stops { IfErr result (Stops (λ bytes. bytes ≡ []) (I.left source.old) (I.left source.new) self.old) }
-        ensures fault { result ≡ Err ReadFault → Rose (I.faults source.old) (I.faults source.new) }
-        ensures kept { I.faults source.old ≤ I.faults source.new }
+        ensures early { IfErr result (EndsEarly (λ bytes. bytes ≡ []) (I.left source.old) (I.left source.new) (I.last_read source.new) self.old) }
+        ensures cause { HasReadCause (I.faults source.old) (I.faults source.new) result }
     {
         if !self.bytes().is_empty() {
             return Ok(true);
@@ -88,12 +89,13 @@ impl Input {
     fn refill<I: Source>(&mut self, source: &mut I) -> Result<(), ReadEnd>
         requires used { self.old.bytes ≡ [] }
         requires going { self.old.ended ≡ false }
+        requires asked { I.ended source.old ≡ false }
         ensures given { OnOk result (Uses (I.left source.old) (I.left source.new) self.old self.new []) }
         ensures progress { OnOk result (self.new.ended ≡ false → 0 < length self.new.bytes) }
         ensures over { OnOk result (self.new.ended ≡ true → self.new.bytes ≡ []) }
-        ensures stops { IfErr result (Stops (λ bytes. bytes ≡ []) (I.left source.old) (I.left source.new) self.old) }
-        ensures fault { result ≡ Err ReadFault → Rose (I.faults source.old) (I.faults source.new) }
-        ensures kept { I.faults source.old ≤ I.faults source.new }
+        ensures follows { OnOk result (Follows (I.ended source.new) (I.last_read source.new) self.new) }
+        ensures early { IfErr result (EndsEarly (λ bytes. bytes ≡ []) (I.left source.old) (I.left source.new) (I.last_read source.new) self.old) }
+        ensures cause { HasReadCause (I.faults source.old) (I.faults source.new) result }
     {
         self.at = 0;
         self.end = 0;
@@ -114,14 +116,19 @@ impl Input {
     }
 }
 
-/// Reads into the front of the buffer.
+/// Reads into the first bytes of the buffer.
 fn read_front<I: Source>(source: &mut I, buffer: &mut [u8], room: usize) -> Result<usize, Failed>
+    requires going { I.ended source.old ≡ false }
     requires some { 0 < room }
     requires within { room ≤ length buffer.old }
     ensures within { IfOk result (λ n. n ≤ room) }
     ensures given { MatchResult result
         (λ n. Consumes (I.left source.old) (I.left source.new) (take n buffer.new) × (n ≡ 0 → IsAtEnd (I.left source.new)))
         (λ _. Keeps (I.left source.old) (I.left source.new)) }
+    ensures end { MatchResult result
+        (λ n. GivesEnd (I.ended source.old) (I.ended source.new) n room)
+        (λ _. I.ended source.new ≡ I.ended source.old) }
+    ensures gave { IfOk result (λ n. I.last_read source.new ≡ n) }
     ensures cause { HasCause (I.faults source.old) (I.faults source.new) result }
 {
     source.read(&mut buffer[..room])
@@ -129,7 +136,7 @@ fn read_front<I: Source>(source: &mut I, buffer: &mut [u8], room: usize) -> Resu
 
 /// How many bytes to ask for.
 fn room_for(spare: u64) -> usize
-    ensures { result ≡ max 1 (min spare 65536) }
+    ensures { result ≡ max 1 (min spare MostAtOnce) }
 {
     (spare.min(READ_MAX as u64) as usize).max(1)
 }

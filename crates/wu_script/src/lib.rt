@@ -6,6 +6,7 @@ mod commands;
 mod ends;
 mod events;
 mod input;
+mod items;
 mod laws;
 mod lines;
 mod reader;
@@ -16,7 +17,8 @@ mod words;
 pub use commands::read_command;
 pub use ends::ReadEnd;
 pub use laws::{
-    a_closed_item_stays, items_are_the_first_and_the_rest, whole_items_are_a_front,
+    a_closed_item_stays, a_script_gives_few_tokens, an_item_gives_few_tokens,
+    items_are_the_first_and_the_rest, whole_items_are_a_prefix,
     whole_items_are_the_first_and_the_rest,
 };
 pub use reader::Reader;

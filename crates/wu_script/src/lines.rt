@@ -1,14 +1,12 @@
 //! Lines, as they are taken from a source in whatever pieces it gives them.
 ghost use Rattle.std.specs.Prelude.{◌≡◌, ◌++◌, ◌∷◌, ◌≤◌, ◌<◌, ◌==◌, List, ℕ, [], false, true, length, Ok, Err, OnOk, IfErr, IfOk, MatchOption};
 ghost use Rattle.std.specs.List.{list_any};
-ghost use Rattle.wu_outside.specs.Faults.{Rose};
-ghost use Rattle.wu_script.specs.Holding.{Held, Uses, Stops};
+ghost use Rattle.wu_script.specs.Holding.{Held, Uses, Follows, EndsEarly, HasReadCause};
 ghost use Rattle.wu_script.specs.Taking.{TakesLine, TakesPiece, Kept, IsOneLine, IsFirstFeed};
-ghost use Rattle.wu_script.specs.declared.ends.ReadEnd.TheVariants.{ReadFault};
 
 use crate::ends::ReadEnd;
 use crate::input::Input;
-use memchr::memchr;
+use bstr::ByteSlice;
 use wu_base::NoMemory;
 use wu_outside::Source;
 
@@ -29,14 +27,14 @@ pub fn take_line<I: Source>(
     line: &mut Vec<u8>,
     limit: usize,
 ) -> Result<Cut, ReadEnd>
+    requires { Follows (I.ended source.old) (I.last_read source.old) input.old }
     ensures taken { IfOk result (λ cut. (text : List ℕ)
-        × TakesLine (I.left source.old) (I.left source.new) input.old input.new cut.closed text
+        × TakesLine (I.left source.old) (I.left source.new) (I.last_read source.new) input.old input.new cut.closed text
         × Kept limit text cut.whole line.new.items) }
-    ensures few { OnOk result (length input.new.bytes < 65536) }
+    ensures follows { OnOk result (Follows (I.ended source.new) (I.last_read source.new) input.new) }
     ensures still { list_any (λ byte. byte == 10) input.old.bytes ≡ true → source.new ≡ source.old }
-    ensures stops { IfErr result (Stops IsOneLine (I.left source.old) (I.left source.new) input.old) }
-    ensures fault { result ≡ Err ReadFault → Rose (I.faults source.old) (I.faults source.new) }
-    ensures steady { I.faults source.old ≤ I.faults source.new }
+    ensures early { IfErr result (EndsEarly IsOneLine (I.left source.old) (I.left source.new) (I.last_read source.new) input.old) }
+    ensures cause { HasReadCause (I.faults source.old) (I.faults source.new) result }
 {
     line.clear();
     let mut whole = true;
@@ -58,7 +56,7 @@ pub fn take_line<I: Source>(
 }
 
 /// Takes the bytes that are held up to the next LF, and the LF, or all where there is none. They
-/// are kept behind the line where that was whole before and is within the limit with them.
+/// are kept after the line where that was whole before and is within the limit with them.
 fn take_piece(
     input: &mut Input,
     line: &mut Vec<u8>,
@@ -67,14 +65,13 @@ fn take_piece(
 ) -> Result<Cut, NoMemory>
     ensures taken { IfOk result (λ cut. (piece : List ℕ) × TakesPiece input.old input.new cut.closed piece
         × ((text : List ℕ) → Kept limit text whole line.old.items → Kept limit (text ++ piece) cut.whole line.new.items)) }
-    ensures few { OnOk result (length input.new.bytes < 65536) }
 {
     let bytes = input.bytes();
     let length = bytes.len();
     match feed_position(bytes) {
         Some(at) => {
             let whole = keep(line, &bytes[..at], limit, whole)?;
-            input.use_front(at + 1);
+            input.use_first(at + 1);
             Ok(Cut {
                 closed: true,
                 whole,
@@ -82,7 +79,7 @@ fn take_piece(
         }
         None => {
             let whole = keep(line, bytes, limit, whole)?;
-            input.use_front(length);
+            input.use_first(length);
             Ok(Cut {
                 closed: false,
                 whole,
@@ -95,7 +92,7 @@ fn take_piece(
 fn feed_position(bytes: &[u8]) -> Option<usize>
     ensures { MatchOption result (IsOneLine bytes.now) (IsFirstFeed bytes.now) }
 {
-    memchr(b'\n', bytes)
+    bytes.find_byte(b'\n')
 }
 
 /// Appends the piece where that leaves the line within the limit, and says whether it does.

@@ -1,9 +1,9 @@
-use Rattle.std.proofs.Common.{◌≡◌, ◌++◌, ◌<◌, [], Ok, length, take, ap, ◌∙◌, append_assoc, length-append, arith}
+use Rattle.std.proofs.Common.{◌≡◌, ◌++◌, ◌<◌, [], refl, Ok, length, take, ap, ◌∙◌, append_assoc, append-nil, length-append, sym, arith}
 use Rattle.std.proofs.lemmas.List.{length-take}
-use Rattle.wu_script.specs.Holding.{Held, Stops}
+use Rattle.wu_script.specs.Holding.{Held, EndsEarly}
 use Rattle.wu_script.specs.declared.ends.ReadEnd.TheVariants.{NoMemory}
-use Rattle.wu_script.proofs.InputLemmas.{Uses-filled, part_taken}
-use Rattle.wu_script.proofs.StopLemmas.{Stops-memory, Stops-after, if_end}
+use Rattle.wu_script.proofs.InputLemmas.{Uses-none, Uses-filled, part_taken, part_follows}
+use Rattle.wu_script.proofs.EarlyEndLemmas.{EndsEarly-memory, EndsEarly-after, IsCounted-after, cause_of, if_end}
 use Rattle.wu_script.proofs.bodies.take_bytes.Goals as goal
 
 pub returns-in-Ok-false-clause-taken : goal.returns-in-Ok-false-clause-taken
@@ -15,6 +15,14 @@ returns-in-Ok-false-clause-taken g c =
       record { uses = uses; whole = λ e. cc (e); short = λ e. (omega (arith, c.parts.invariant.so_far.2), none.0, none.1) },
       c.parts.invariant.so_far.3,
     )
+
+pub parts-init : goal.parts-init
+parts-init g c = record {
+  so_far = ([], Uses-none (g.I.Source.left c.args.source.now) c.args.input.now, omega arith, λ kept. sym (append-nil c.args.body.now.items));
+  follows = c.requires;
+  steady = refl;
+  still = λ all. (refl, all);
+}
 
 pub parts-preserved : goal.parts-preserved
 parts-preserved g c =
@@ -29,7 +37,8 @@ parts-preserved g c =
         omega (arith, length-append bytes (take n held), length-take n held, c.in_ok-part.ensures.count, c.parts.invariant.so_far.2),
         λ kept. c.in_ok-part.ensures.kept kept ∙ ap (λ xs. xs ++ take n held) (c.parts.invariant.so_far.3 kept) ∙ append_assoc c.args.body.now.items bytes (take n held),
       );
-      steady = omega (arith, c.in-Ok-true.ensures.kept);
+      follows = part_follows (g.I.Source.ended c.fill.new.source) (g.I.Source.last_read c.fill.new.source) n c.fill.new.self c.take_part.new.input c.in-Ok-true.ensures.follows c.in_ok-part.ensures.rest;
+      steady = c.in-Ok-true.ensures.cause ∙ c.parts.invariant.steady;
       still = λ all.
           let still = c.parts.invariant.still all in
           let filled = c.in-Ok-true.ensures.still (omega (arith, still.1)) in
@@ -37,22 +46,42 @@ parts-preserved g c =
           (filled.2 ∙ still.0, omega (arith, c.in_ok-part.ensures.count, still.1, same));
     }
 
-pub returns-in-Err-clause-stops : goal.returns-in-Err-clause-stops
-returns-in-Err-clause-stops g c =
+pub returns-in-Err-clause-early : goal.returns-in-Err-clause-early
+returns-in-Err-clause-early g c =
     let left = g.I.Source.left in
     let bytes = c.parts.invariant.so_far.0 in
-    Stops-after (λ bs. length bs < c.args.count) (λ bs. bs ≡ []) (left c.args.source.now) (left c.parts.source) (left c.fill.new.source) c.args.input.now c.parts.input c.in-Err.end bytes c.parts.invariant.so_far.1
+    EndsEarly-after (λ bs. length bs < c.args.count) (λ bs. bs ≡ []) (left c.args.source.now) (left c.parts.source) (left c.fill.new.source) (g.I.Source.last_read c.fill.new.source) c.args.input.now c.parts.input c.in-Err.end bytes c.parts.invariant.so_far.1
     (λ n. omega (arith, length-take n bytes, c.parts.invariant.so_far.2))
     (λ more _ none. omega (arith, length-append bytes more, ap length none, c.parts.invariant.so_far.2))
-    c.in-Err.ensures.stops
+    c.in-Err.ensures.early
 
-pub returns-in_err-part-clause-stops : goal.returns-in_err-part-clause-stops
-returns-in_err-part-clause-stops g c =
+pub returns-in_err-part-clause-early : goal.returns-in_err-part-clause-early
+returns-in_err-part-clause-early g c =
     let left = g.I.Source.left in
     let bytes = c.parts.invariant.so_far.0 in
     let filled = Uses-filled (left c.args.source.now) (left c.parts.source) (left c.fill.new.source) c.args.input.now c.parts.input c.fill.new.self bytes c.parts.invariant.so_far.1 c.in-Ok-true.ensures.given in
-    if_end (Stops (λ bs. length bs < c.args.count) (left c.args.source.now) (left c.fill.new.source) c.args.input.now) NoMemory c.from_residual.result c.from_residual.ensures.1
-    (Stops-after (λ bs. length bs < c.args.count) (λ bs. bs ≡ []) (left c.args.source.now) (left c.fill.new.source) (left c.fill.new.source) c.args.input.now c.fill.new.self NoMemory bytes filled
+    if_end (EndsEarly (λ bs. length bs < c.args.count) (left c.args.source.now) (left c.fill.new.source) (g.I.Source.last_read c.fill.new.source) c.args.input.now) NoMemory c.from_residual.result c.from_residual.ensures.1
+    (EndsEarly-after (λ bs. length bs < c.args.count) (λ bs. bs ≡ []) (left c.args.source.now) (left c.fill.new.source) (left c.fill.new.source) (g.I.Source.last_read c.fill.new.source) c.args.input.now c.fill.new.self NoMemory bytes filled
     (λ n. omega (arith, length-take n bytes, c.parts.invariant.so_far.2))
     (λ more _ none. omega (arith, length-append bytes more, ap length none, c.parts.invariant.so_far.2))
-    (Stops-memory (left c.fill.new.source) c.fill.new.self c.in-Ok-true.ensures.few))
+    (EndsEarly-memory (left c.fill.new.source) (g.I.Source.last_read c.fill.new.source) c.fill.new.self c.in-Ok-true.ensures.follows.recent))
+
+pub returns-in-Ok-false-clause-cause : goal.returns-in-Ok-false-clause-cause
+returns-in-Ok-false-clause-cause g c = c.in-Ok-false.ensures.cause ∙ c.parts.invariant.steady
+
+pub returns-in-Err-clause-cause : goal.returns-in-Err-clause-cause
+returns-in-Err-clause-cause g c =
+    let faults = g.I.Source.faults in
+    IsCounted-after c.in-Err.end (faults c.args.source.now) (faults c.parts.source) (faults c.fill.new.source) c.parts.invariant.steady c.in-Err.ensures.cause
+
+pub returns-in_err-part-clause-cause : goal.returns-in_err-part-clause-cause
+returns-in_err-part-clause-cause g c =
+    let faults = g.I.Source.faults in
+    cause_of NoMemory (faults c.args.source.now) (faults c.fill.new.source) (faults c.fill.new.source) c.from_residual.result c.from_residual.ensures.1
+    (c.in-Ok-true.ensures.cause ∙ c.parts.invariant.steady) refl
+
+pub returns-clause-cause : goal.returns-clause-cause
+returns-clause-cause g c = c.parts.invariant.steady
+
+pub returns-clause-follows : goal.returns-clause-follows
+returns-clause-follows g c = c.parts.invariant.follows

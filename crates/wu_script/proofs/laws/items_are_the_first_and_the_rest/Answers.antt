@@ -1,4 +1,4 @@
-use Rattle.wu_script.proofs.TurnLemmas.{items_of-none, items_of-some}
+use Rattle.wu_script.proofs.ItemListLemmas.{items_of-none, items_of-some}
 use Rattle.wu_script.proofs.laws.items_are_the_first_and_the_rest.Goals as goal
 
 pub returns-clause-none : goal.returns-clause-none

@@ -1,5 +1,5 @@
-use Rattle.wu_script.proofs.TurnLemmas.{whole_items_of-none, whole_items_of-closed}
-use Rattle.wu_script.proofs.OpenLemmas.{open_none}
+use Rattle.wu_script.proofs.ItemListLemmas.{whole_items_of-none, whole_items_of-closed}
+use Rattle.wu_script.proofs.UnclosedLemmas.{open_none}
 use Rattle.wu_script.proofs.laws.whole_items_are_the_first_and_the_rest.Goals as goal
 
 pub returns-clause-none : goal.returns-clause-none

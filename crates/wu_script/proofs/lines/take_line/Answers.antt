@@ -1,11 +1,11 @@
-use Rattle.std.proofs.Common.{◌≡◌, ◌++◌, [], refl, sym, subst, ◌∙◌, arith}
-use Rattle.wu_script.specs.Holding.{Stops}
+use Rattle.std.proofs.Common.{◌≡◌, ◌++◌, [], refl, sym, subst, ◌∙◌}
+use Rattle.wu_script.specs.Holding.{EndsEarly}
 use Rattle.wu_script.specs.Taking.{IsOneLine}
 use Rattle.wu_script.specs.declared.ends.ReadEnd.TheVariants.{NoMemory}
 use Rattle.wu_script.proofs.InputLemmas.{Uses-filled}
-use Rattle.wu_script.proofs.StopLemmas.{Stops-memory, Stops-after, if_end}
-use Rattle.wu_script.proofs.OpenLemmas.{one_line-take}
-use Rattle.wu_script.proofs.LineLemmas.{one_line, piece_taken, piece_open, feed_held, no_feed_held}
+use Rattle.wu_script.proofs.EarlyEndLemmas.{EndsEarly-memory, EndsEarly-after, IsCounted-after, cause_of, if_end}
+use Rattle.wu_script.proofs.UnclosedLemmas.{one_line-take}
+use Rattle.wu_script.proofs.LineLemmas.{one_line, piece_taken, piece_follows, piece_ends, piece_open, feed_held, no_feed_held}
 use Rattle.wu_script.proofs.lines.take_line.Goals as goal
 
 pub returns-in_err-piece-clause-still : goal.returns-in_err-piece-clause-still
@@ -20,7 +20,7 @@ returns-then-piece-clause-taken g c =
     let taken = c.in_ok-piece.ensures.taken.1 in
     let uses = piece_taken (g.I.Source.left c.args.source.now) (g.I.Source.left c.pieces.source) (g.I.Source.left c.fill.new.source) c.args.input.now c.pieces.input c.fill.new.self c.take_piece.new.input text piece c.in_ok-piece.piece.closed c.pieces.invariant.so_far.1 c.in-Ok-true.ensures.given taken in (
       text ++ piece,
-      record { uses = uses; one = one_line text piece c.pieces.invariant.so_far.2 taken.one; last = λ unclosed. absurd (cc (unclosed, c.if-piece.true)) },
+      record { uses = uses; one = one_line text piece c.pieces.invariant.so_far.2 taken.one; last = piece_ends (g.I.Source.ended c.fill.new.source) (g.I.Source.last_read c.fill.new.source) c.fill.new.self c.take_piece.new.input c.in_ok-piece.piece.closed piece c.in-Ok-true.ensures.follows taken c.if-piece.true },
       c.in_ok-piece.ensures.taken.2 text c.pieces.invariant.so_far.3,
     )
 
@@ -37,7 +37,8 @@ pieces-preserved g c =
     let uses = piece_taken (g.I.Source.left c.args.source.now) (g.I.Source.left c.pieces.source) (g.I.Source.left c.fill.new.source) c.args.input.now c.pieces.input c.fill.new.self c.take_piece.new.input text piece c.in_ok-piece.piece.closed c.pieces.invariant.so_far.1 c.in-Ok-true.ensures.given taken in
     record {
       so_far = (text ++ piece, piece_open (g.I.Source.left c.args.source.now) (g.I.Source.left c.fill.new.source) c.args.input.now c.take_piece.new.input (text ++ piece) c.in_ok-piece.piece.closed c.if-piece.false uses, one_line text piece c.pieces.invariant.so_far.2 taken.one, c.in_ok-piece.ensures.taken.2 text c.pieces.invariant.so_far.3);
-      steady = omega (arith, c.in-Ok-true.ensures.kept);
+      follows = piece_follows (g.I.Source.ended c.fill.new.source) (g.I.Source.last_read c.fill.new.source) c.fill.new.self c.take_piece.new.input c.in_ok-piece.piece.closed piece c.in-Ok-true.ensures.follows taken;
+      steady = c.in-Ok-true.ensures.cause ∙ c.pieces.invariant.steady;
       still = λ feed.
           let still = c.pieces.invariant.still feed in
           let filled = c.in-Ok-true.ensures.still (feed_held c.pieces.input c.args.input.now still.0 feed) in
@@ -49,24 +50,46 @@ returns-in-Err-clause-still g c = λ feed.
     let still = c.pieces.invariant.still feed in
     (c.in-Err.ensures.still (feed_held c.pieces.input c.args.input.now still.0 feed)).2 ∙ still.1
 
-pub returns-in-Err-clause-stops : goal.returns-in-Err-clause-stops
-returns-in-Err-clause-stops g c =
+pub returns-in-Err-clause-early : goal.returns-in-Err-clause-early
+returns-in-Err-clause-early g c =
     let left = g.I.Source.left in
     let text = c.pieces.invariant.so_far.0 in
     let one = c.pieces.invariant.so_far.2 in
-    Stops-after IsOneLine (λ bs. bs ≡ []) (left c.args.source.now) (left c.pieces.source) (left c.fill.new.source) c.args.input.now c.pieces.input c.in-Err.end text c.pieces.invariant.so_far.1
+    EndsEarly-after IsOneLine (λ bs. bs ≡ []) (left c.args.source.now) (left c.pieces.source) (left c.fill.new.source) (g.I.Source.last_read c.fill.new.source) c.args.input.now c.pieces.input c.in-Err.end text c.pieces.invariant.so_far.1
     (λ n. one_line-take n text one)
     (λ more _ none. one_line text more one (subst IsOneLine (sym none) refl))
-    c.in-Err.ensures.stops
+    c.in-Err.ensures.early
 
-pub returns-in_err-piece-clause-stops : goal.returns-in_err-piece-clause-stops
-returns-in_err-piece-clause-stops g c =
+pub returns-in_err-piece-clause-early : goal.returns-in_err-piece-clause-early
+returns-in_err-piece-clause-early g c =
     let left = g.I.Source.left in
     let text = c.pieces.invariant.so_far.0 in
     let one = c.pieces.invariant.so_far.2 in
     let filled = Uses-filled (left c.args.source.now) (left c.pieces.source) (left c.fill.new.source) c.args.input.now c.pieces.input c.fill.new.self text c.pieces.invariant.so_far.1 c.in-Ok-true.ensures.given in
-    if_end (Stops IsOneLine (left c.args.source.now) (left c.fill.new.source) c.args.input.now) NoMemory c.from_residual.result c.from_residual.ensures.1
-    (Stops-after IsOneLine (λ bs. bs ≡ []) (left c.args.source.now) (left c.fill.new.source) (left c.fill.new.source) c.args.input.now c.fill.new.self NoMemory text filled
+    if_end (EndsEarly IsOneLine (left c.args.source.now) (left c.fill.new.source) (g.I.Source.last_read c.fill.new.source) c.args.input.now) NoMemory c.from_residual.result c.from_residual.ensures.1
+    (EndsEarly-after IsOneLine (λ bs. bs ≡ []) (left c.args.source.now) (left c.fill.new.source) (left c.fill.new.source) (g.I.Source.last_read c.fill.new.source) c.args.input.now c.fill.new.self NoMemory text filled
     (λ n. one_line-take n text one)
     (λ more _ none. one_line text more one (subst IsOneLine (sym none) refl))
-    (Stops-memory (left c.fill.new.source) c.fill.new.self c.in-Ok-true.ensures.few))
+    (EndsEarly-memory (left c.fill.new.source) (g.I.Source.last_read c.fill.new.source) c.fill.new.self c.in-Ok-true.ensures.follows.recent))
+
+pub returns-in-Ok-false-clause-cause : goal.returns-in-Ok-false-clause-cause
+returns-in-Ok-false-clause-cause g c = c.in-Ok-false.ensures.cause ∙ c.pieces.invariant.steady
+
+pub returns-in-Err-clause-cause : goal.returns-in-Err-clause-cause
+returns-in-Err-clause-cause g c =
+    let faults = g.I.Source.faults in
+    IsCounted-after c.in-Err.end (faults c.args.source.now) (faults c.pieces.source) (faults c.fill.new.source) c.pieces.invariant.steady c.in-Err.ensures.cause
+
+pub returns-in_err-piece-clause-cause : goal.returns-in_err-piece-clause-cause
+returns-in_err-piece-clause-cause g c =
+    let faults = g.I.Source.faults in
+    cause_of NoMemory (faults c.args.source.now) (faults c.fill.new.source) (faults c.fill.new.source) c.from_residual.result c.from_residual.ensures.1
+    (c.in-Ok-true.ensures.cause ∙ c.pieces.invariant.steady) refl
+
+pub returns-then-piece-clause-cause : goal.returns-then-piece-clause-cause
+returns-then-piece-clause-cause g c = c.in-Ok-true.ensures.cause ∙ c.pieces.invariant.steady
+
+pub returns-then-piece-clause-follows : goal.returns-then-piece-clause-follows
+returns-then-piece-clause-follows g c =
+    piece_follows (g.I.Source.ended c.fill.new.source) (g.I.Source.last_read c.fill.new.source) c.fill.new.self c.take_piece.new.input c.in_ok-piece.piece.closed c.in_ok-piece.ensures.taken.0
+    c.in-Ok-true.ensures.follows c.in_ok-piece.ensures.taken.1

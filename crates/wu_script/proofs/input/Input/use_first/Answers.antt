@@ -1,7 +1,7 @@
 use Rattle.std.proofs.Common.{◌≤◌, length, slice_range, ap, ◌∙◌, drop, subst, sym}
 use Rattle.wu_script.specs.Holding.{Held}
 use Rattle.wu_script.proofs.InputLemmas.{window_left}
-use Rattle.wu_script.proofs.input.Input.use_front.Goals as goal
+use Rattle.wu_script.proofs.input.Input.use_first.Goals as goal
 
 pub returns : goal.returns
 returns c =

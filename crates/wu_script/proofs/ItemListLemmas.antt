@@ -1,14 +1,16 @@
--- The items of a script in turn.
-use Rattle.std.proofs.Common.{◌≡◌, ℕ, zero, suc, ◌<◌, ◌≤◌, Bool, true, false, eqb, List, [], ◌∷◌, ◌++◌, length, drop, Option, Some, None, refl, ap, sym, ◌∙◌, subst, append_assoc, append-nil, length-append, arith}
+-- Lemmas on the items of a script: how they follow one another, and which are whole.
+use Rattle.std.proofs.Common.{◌≡◌, ℕ, zero, suc, ◌<◌, ◌≤◌, Bool, true, false, eqb, List, [], ◌∷◌, ◌++◌, length, drop, Option, Some, None, Result, Ok, Err, IfOk, refl, ap, sym, ◌∙◌, subst, append_assoc, append-nil, length-append, arith}
 use Rattle.std.specs.Prelude.{nat_lt, if◌then◌else◌}
 use Rattle.std.specs.Io.KnownBytes.{IsAtEnd, prepend_known}
 use Rattle.std.proofs.lemmas.Bool.{lt-ltb, le-ltb, ltb-false}
 use Rattle.std.proofs.lemmas.List.{take-append-le, drop-append-le, length-drop}
 use Rattle.wu_script.specs.declared.types.Item.{Item}
 use Rattle.wu_script.specs.declared.types.Item.TheVariants as items
+use Rattle.wu_script.specs.declared.ends.ReadEnd.{ReadEnd}
 use Rattle.wu_script.specs.Holding.{Held}
-use Rattle.wu_script.specs.Commands.{Meaning, GivesText, meaning_of}
-use Rattle.wu_script.specs.Items.{First, line_at, after_line, has_feed, text_at, entry_at, Entry, first_of, items_within, items_of, whole_within, whole_items_of, IsEntry, IsOneItem, IsItem, TakesItem, IsFirstItem, IsNext}
+use Rattle.wu_script.specs.Commands.{Entry, LineSays, Whole, TextHead, line_says}
+use Rattle.wu_script.specs.Said.{IsReadAs}
+use Rattle.wu_script.specs.Items.{First, line_at, after_line, has_feed, text_at, entry_at, first_of, items_within, items_of, whole_within, whole_items_of, IsOneItem, IsItem, TakesItem, IsFirstItem, IsNext}
 
 -- a line that is closed stays, whatever follows
 pub line_more : (bytes more : List ℕ) → has_feed bytes ≡ true → (line_at (bytes ++ more) ≡ line_at bytes) × (after_line (bytes ++ more) ≡ after_line bytes ++ more) × (has_feed (bytes ++ more) ≡ true)
@@ -40,9 +42,9 @@ pub text_at-nothing : (ino len : ℕ) → (text_at ino len []).closed ≡ false
 text_at-nothing ino zero = refl
 text_at-nothing ino (suc len) = rw (lt-ltb 0 (suc len) (omega arith)) refl
 
-entry_more : (meaning : Meaning) (rest more : List ℕ) → (entry_at meaning rest true).closed ≡ true → entry_at meaning (rest ++ more) true ≡ more_after (entry_at meaning rest true) more
-entry_more (GivesText ino len) rest more closed = text_more ino len rest more closed
-entry_more _ rest more closed = refl
+entry_more : (says : LineSays Entry) (rest more : List ℕ) → (entry_at says rest true).closed ≡ true → entry_at says (rest ++ more) true ≡ more_after (entry_at says rest true) more
+entry_more (TextHead ino len) rest more closed = text_more ino len rest more closed
+entry_more (Whole entry) rest more closed = refl
 
 pub after_last : (bytes : List ℕ) → has_feed bytes ≡ false → after_line bytes ≡ []
 after_last [] none = refl
@@ -52,22 +54,22 @@ after_last (byte ∷ bytes) none = by_case (eqb byte 10) refl (λ below. after_l
     by_case true is below = cc (rw is at none)
     by_case false is below = rw is (below (rw is at none))
 
-pub entry_unclosed : (meaning : Meaning) → (entry_at meaning [] false).closed ≡ false
-entry_unclosed (GivesText ino len) = text_at-nothing ino len
-entry_unclosed _ = refl
+pub entry_unclosed : (says : LineSays Entry) → (entry_at says [] false).closed ≡ false
+entry_unclosed (TextHead ino len) = text_at-nothing ino len
+entry_unclosed (Whole entry) = refl
 
 -- an item whose closing LF was given stays, whatever follows
 pub first_more : (bytes more : List ℕ) → (first_of bytes).closed ≡ true → first_of (bytes ++ more) ≡ more_after (first_of bytes) more
 unfolding first_of
 first_more bytes more closed = by_case (has_feed bytes) refl
   where
-    by_case : (feed : Bool) → has_feed bytes ≡ feed → entry_at (meaning_of (line_at (bytes ++ more))) (after_line (bytes ++ more)) (has_feed (bytes ++ more)) ≡ more_after (entry_at (meaning_of (line_at bytes)) (after_line bytes) (has_feed bytes)) more
+    by_case : (feed : Bool) → has_feed bytes ≡ feed → entry_at (line_says (line_at (bytes ++ more))) (after_line (bytes ++ more)) (has_feed (bytes ++ more)) ≡ more_after (entry_at (line_says (line_at bytes)) (after_line bytes) (has_feed bytes)) more
     by_case true is =
         let line = line_more bytes more is in
-        rw (line.0, line.1, line.2, is) (entry_more (meaning_of (line_at bytes)) (after_line bytes) more (rw is at closed))
+        rw (line.0, line.1, line.2, is) (entry_more (line_says (line_at bytes)) (after_line bytes) more (rw is at closed))
     by_case false is =
         let none = rw (is, after_last bytes is) at closed in
-        let unclosed = entry_unclosed (meaning_of (line_at bytes)) in
+        let unclosed = entry_unclosed (line_says (line_at bytes)) in
         cc (none, unclosed)
 
 -- the known bytes after a use
@@ -77,42 +79,48 @@ known_used old new given used xs ys consumed joined = ap (λ bs. old ++ bs) cons
 length_used : (used more : List ℕ) → 0 < length used → 0 < length (used ++ more)
 length_used used more some = omega (arith, length-append used more)
 
-turn_one : (new : Held) (item : Item) (bytes used ys : List ℕ) → bytes ≡ used ++ (new.bytes ++ ys) → (new.ended ≡ true → ys ≡ []) → IsOneItem new item used → (0 < length bytes) × IsEntry item (first_of bytes).entry × ((new.bytes ++ ys) ≡ (first_of bytes).rest)
-turn_one new item bytes used ys known at_end is = by_case (first_of used).closed refl
+next_one : (last_read : ℕ) (new : Held) (item : Item) (bytes used ys : List ℕ) → bytes ≡ used ++ (new.bytes ++ ys) → (new.ended ≡ true → ys ≡ []) → IsOneItem last_read new item used → (0 < length bytes) × IsReadAs item (first_of bytes).entry × ((new.bytes ++ ys) ≡ (first_of bytes).rest)
+next_one last_read new item bytes used ys known at_end is = by_case (first_of used).closed refl
   where
-    by_case : (closed : Bool) → (first_of used).closed ≡ closed → (0 < length bytes) × IsEntry item (first_of bytes).entry × ((new.bytes ++ ys) ≡ (first_of bytes).rest)
+    by_case : (closed : Bool) → (first_of used).closed ≡ closed → (0 < length bytes) × IsReadAs item (first_of bytes).entry × ((new.bytes ++ ys) ≡ (first_of bytes).rest)
     by_case true closed =
         let first = ap first_of known ∙ first_more used (new.bytes ++ ys) closed in (
           subst (λ (bs : List ℕ). 0 < length bs) (sym known) (length_used used (new.bytes ++ ys) is.some),
-          subst (λ (f : First). IsEntry item f.entry) (sym first) is.entry,
+          subst (λ (f : First). IsReadAs item f.entry) (sym first) is.entry,
           sym (ap (λ (f : First). f.rest) first ∙ ap (λ rest. rest ++ (new.bytes ++ ys)) is.all),
         )
     by_case false unclosed =
-        let last = is.last unclosed in
+        let last = is.last.end unclosed in
         let none : new.bytes ++ ys ≡ [] = ap (λ bs. bs ++ ys) last.0 ∙ at_end last.1 in
         let whole : bytes ≡ used = known ∙ ap (λ bs. used ++ bs) none ∙ append-nil used in (
           subst (λ (bs : List ℕ). 0 < length bs) (sym whole) is.some,
-          subst (λ (bs : List ℕ). IsEntry item (first_of bs).entry) (sym whole) is.entry,
+          subst (λ (bs : List ℕ). IsReadAs item (first_of bs).entry) (sym whole) is.entry,
           none ∙ sym (ap (λ bs. (first_of bs).rest) whole ∙ is.all),
         )
 
-turn_known : (new : Held) (item : Item) (bytes used ys : List ℕ) → bytes ≡ used ++ (new.bytes ++ ys) → (new.ended ≡ true → ys ≡ []) → IsItem new item used → IsFirstItem bytes (new.bytes ++ ys) item
-turn_known new items.End bytes used ys known at_end is =
+next_known : (last_read : ℕ) (new : Held) (item : Item) (bytes used ys : List ℕ) → bytes ≡ used ++ (new.bytes ++ ys) → (new.ended ≡ true → ys ≡ []) → IsItem last_read new item used → IsFirstItem bytes (new.bytes ++ ys) item
+next_known last_read new items.End bytes used ys known at_end is =
     let none : new.bytes ++ ys ≡ [] = ap (λ bs. bs ++ ys) is.1 ∙ at_end is.2 in
     (known ∙ ap (λ bs. bs ++ (new.bytes ++ ys)) is.0 ∙ none, none)
-turn_known new item bytes used ys known at_end is = turn_one new item bytes used ys known at_end is
+next_known last_read new item bytes used ys known at_end is = next_one last_read new item bytes used ys known at_end is
 
 -- over a source that tells what it has left the item taken is the first
-pub turn_taken : (left left' : Option (List ℕ)) (old new : Held) (item : Item) → TakesItem left left' old new item → (old.ended ≡ true → IsAtEnd left) → IsNext (prepend_known old.bytes left) (prepend_known new.bytes left') item
-turn_taken None left' old new item taken before = tt
-turn_taken (Some xs) None old new item taken before = taken.1.consumed
-turn_taken (Some xs) (Some ys) old new item taken before =
+next_taken : (left left' : Option (List ℕ)) (last_read : ℕ) (old new : Held) (item : Item) → TakesItem left left' last_read old new item → (old.ended ≡ true → IsAtEnd left) → IsNext (prepend_known old.bytes left) (prepend_known new.bytes left') item
+next_taken None left' last_read old new item taken before = tt
+next_taken (Some xs) None last_read old new item taken before = taken.1.consumed
+next_taken (Some xs) (Some ys) last_read old new item taken before =
     let uses = taken.1 in
-    turn_known new item (old.bytes ++ xs) taken.0 ys (known_used old.bytes new.bytes uses.given taken.0 xs ys uses.consumed uses.joined) (uses.at_end before) taken.2
+    next_known last_read new item (old.bytes ++ xs) taken.0 ys (known_used old.bytes new.bytes uses.given taken.0 xs ys uses.consumed uses.joined) (uses.at_end before) taken.2
+
+pub next_ok : (left left' : Option (List ℕ)) (last_read : ℕ) (old new : Held) (r : Result Item ReadEnd)
+    → IfOk r (TakesItem left left' last_read old new) → (old.ended ≡ true → IsAtEnd left)
+    → IfOk r (IsNext (prepend_known old.bytes left) (prepend_known new.bytes left'))
+next_ok left left' last_read old new (Ok item) taken before = next_taken left left' last_read old new item taken before
+next_ok left left' last_read old new (Err end) taken before = tt
 
 -- ---- the list of the items
 
-after_shorter : (byte : ℕ) (bytes : List ℕ) → length (after_line (byte ∷ bytes)) ≤ length bytes
+pub after_shorter : (byte : ℕ) (bytes : List ℕ) → length (after_line (byte ∷ bytes)) ≤ length bytes
 after_shorter byte [] = by_case (eqb byte 10) refl
   where
     by_case : (here : Bool) → eqb byte 10 ≡ here → length (after_line (byte ∷ [])) ≤ 0
@@ -124,7 +132,7 @@ after_shorter byte (next ∷ bytes) = by_case (eqb byte 10) refl (after_shorter 
     by_case true is below = rw is (omega arith)
     by_case false is below = rw is (omega arith)
 
-after_short : (bytes : List ℕ) → length (after_line bytes) ≤ length bytes
+pub after_short : (bytes : List ℕ) → length (after_line bytes) ≤ length bytes
 after_short [] = omega arith
 after_short (byte ∷ bytes) = omega (arith, after_shorter byte bytes)
 
@@ -135,14 +143,14 @@ text_short ino len bytes = by_case (nat_lt (length bytes) len) refl
     by_case true is = rw is (omega arith)
     by_case false is = rw is (omega (arith, after_short (drop len bytes), length-drop len bytes))
 
-entry_short : (meaning : Meaning) (rest : List ℕ) (closed : Bool) → length (entry_at meaning rest closed).rest ≤ length rest
-entry_short (GivesText ino len) rest closed = text_short ino len rest
-entry_short _ rest closed = omega arith
+entry_short : (says : LineSays Entry) (rest : List ℕ) (closed : Bool) → length (entry_at says rest closed).rest ≤ length rest
+entry_short (TextHead ino len) rest closed = text_short ino len rest
+entry_short (Whole entry) rest closed = omega arith
 
 -- an item takes a byte or more
 first_short : (byte : ℕ) (bytes : List ℕ) → length (first_of (byte ∷ bytes)).rest ≤ length bytes
 unfolding first_of
-first_short byte bytes = omega (arith, entry_short (meaning_of (line_at (byte ∷ bytes))) (after_line (byte ∷ bytes)) (has_feed (byte ∷ bytes)), after_shorter byte bytes)
+first_short byte bytes = omega (arith, entry_short (line_says (line_at (byte ∷ bytes))) (after_line (byte ∷ bytes)) (has_feed (byte ∷ bytes)), after_shorter byte bytes)
 
 items_enough : (n m : ℕ) (bytes : List ℕ) → length bytes ≤ n → length bytes ≤ m → items_within n bytes ≡ items_within m bytes
 items_enough zero zero bytes less few = refl
@@ -177,7 +185,7 @@ whole_enough (suc n) (suc m) (byte ∷ bytes) less few = ap (λ entries. if (fir
 
 nothing_closed : (first_of []).closed ≡ false
 unfolding first_of
-nothing_closed = entry_unclosed (meaning_of [])
+nothing_closed = entry_unclosed (line_says [])
 
 -- of no bytes there is no whole item
 pub whole_items_of-none : whole_items_of [] ≡ []
@@ -198,11 +206,11 @@ items_of-closed : StartsWithFirst items_of
 items_of-closed [] closed = cc (nothing_closed, closed)
 items_of-closed (byte ∷ bytes) closed = items_of-some (byte ∷ bytes) (omega arith)
 
-front_within : (all : List ℕ → List Entry) → StartsWithFirst all → (n : ℕ) (bytes more : List ℕ) → length bytes ≤ n → (rest : List Entry) × (all (bytes ++ more) ≡ whole_within n bytes ++ rest)
-front_within all starts zero [] more within = (all more, refl)
-front_within all starts zero (byte ∷ bytes) more within = absurd (omega arith)
-front_within all starts (suc n) [] more within = (all more, refl)
-front_within all starts (suc n) (byte ∷ bytes) more within = by_case (first_of (byte ∷ bytes)).closed refl (front_within all starts n (first_of (byte ∷ bytes)).rest more (omega (arith, first_short byte bytes)))
+prefix_within : (all : List ℕ → List Entry) → StartsWithFirst all → (n : ℕ) (bytes more : List ℕ) → length bytes ≤ n → (rest : List Entry) × (all (bytes ++ more) ≡ whole_within n bytes ++ rest)
+prefix_within all starts zero [] more within = (all more, refl)
+prefix_within all starts zero (byte ∷ bytes) more within = absurd (omega arith)
+prefix_within all starts (suc n) [] more within = (all more, refl)
+prefix_within all starts (suc n) (byte ∷ bytes) more within = by_case (first_of (byte ∷ bytes)).closed refl (prefix_within all starts n (first_of (byte ∷ bytes)).rest more (omega (arith, first_short byte bytes)))
   where
     by_case : (closed : Bool) → (first_of (byte ∷ bytes)).closed ≡ closed → (rest : List Entry) × (all ((first_of (byte ∷ bytes)).rest ++ more) ≡ whole_within n (first_of (byte ∷ bytes)).rest ++ rest) → (rest : List Entry) × (all (byte ∷ bytes ++ more) ≡ (if (first_of (byte ∷ bytes)).closed then (first_of (byte ∷ bytes)).entry ∷ whole_within n (first_of (byte ∷ bytes)).rest else []) ++ rest)
     by_case true is below =
@@ -212,10 +220,10 @@ front_within all starts (suc n) (byte ∷ bytes) more within = by_case (first_of
         )
     by_case false is below = (all (byte ∷ bytes ++ more), rw is refl)
 
--- the whole items are a front of the items, whatever follows
-pub whole_items_front : (bytes more : List ℕ) → (rest : List Entry) × (items_of (bytes ++ more) ≡ whole_items_of bytes ++ rest)
+-- the whole items are the first of the items, whatever follows
+pub whole_items_prefix : (bytes more : List ℕ) → (rest : List Entry) × (items_of (bytes ++ more) ≡ whole_items_of bytes ++ rest)
 unfolding whole_items_of
-whole_items_front bytes more = front_within items_of items_of-closed (length bytes) bytes more (omega arith)
+whole_items_prefix bytes more = prefix_within items_of items_of-closed (length bytes) bytes more (omega arith)
 
 whole_within-is : (bytes : List ℕ) → whole_within (length bytes) bytes ≡ whole_items_of bytes
 unfolding whole_items_of
@@ -224,5 +232,5 @@ whole_within-is bytes = refl
 -- and of the whole items
 pub whole_items_more : (bytes more : List ℕ) → (rest : List Entry) × (whole_items_of (bytes ++ more) ≡ whole_items_of bytes ++ rest)
 whole_items_more bytes more =
-    let front = front_within whole_items_of whole_items_of-closed (length bytes) bytes more (omega arith) in
-    (front.0, front.1 ∙ ap (λ entries. entries ++ front.0) (whole_within-is bytes))
+    let prefix = prefix_within whole_items_of whole_items_of-closed (length bytes) bytes more (omega arith) in
+    (prefix.0, prefix.1 ∙ ap (λ entries. entries ++ prefix.0) (whole_within-is bytes))

@@ -1,8 +1,0 @@
-use Rattle.wu_script.proofs.TurnLemmas.{whole_items_front, whole_items_more}
-use Rattle.wu_script.proofs.laws.whole_items_are_a_front.Goals as goal
-
-pub returns-clause-items : goal.returns-clause-items
-returns-clause-items c = whole_items_front
-
-pub returns-clause-whole : goal.returns-clause-whole
-returns-clause-whole c = whole_items_more
