@@ -12,4 +12,3 @@ mod statuses;
 pub use laws::equal_views_are_answered_alike;
 pub use session::run;
 pub use statuses::Status;
-
