@@ -5,7 +5,8 @@ use Rattle.std.specs.Option.{option_map}
 use Rattle.std.proofs.lemmas.List.Splits.{join_with_byte-slice_split}
 use Rattle.std.proofs.lemmas.Bool.{eqb-false}
 use Rattle.wu_fields.specs.Fields.{escaped, letter_of, byte_of, unescaped, all_some, fields_of, line_of}
-use Rattle.wu_fields.proofs.FieldLemmas.{eqb-other, unescaped-itself, is_or_not, or_left, or_right}
+use Rattle.wu_fields.proofs.FieldLemmas.{unescaped-itself}
+use Rattle.std.proofs.lemmas.Bool.{or_parts, cases_eq, ne_eqb}
 
 abbrev tabless : List ℕ → Bool
 tabless bytes = list_any (λ b. eqb b 9) bytes
@@ -17,28 +18,36 @@ front : {A : Type 0} (first : A) (rest : Option (List A)) (values : List A) → 
 front first None values e = cc
 front first (Some more) values e = (more, refl, cc)
 
-letter_read : (letter byte : ℕ) (rest field : List ℕ) → byte_of letter ≡ Some byte → letter_of byte ≡ Some letter → unescaped (92 ∷ letter ∷ rest) ≡ Some field → ((more : List ℕ) → unescaped rest ≡ Some more → rest ≡ escaped more) → 92 ∷ letter ∷ rest ≡ escaped field
+letter_read : (letter byte : ℕ) (rest field : List ℕ) → byte_of letter ≡ Some byte → letter_of byte ≡ Some letter
+    → unescaped (92 ∷ letter ∷ rest) ≡ Some field → ((more : List ℕ) → unescaped rest ≡ Some more → rest ≡ escaped more)
+    → 92 ∷ letter ∷ rest ≡ escaped field
 letter_read letter byte rest field meant written e on =
     let parts = front byte (unescaped rest) field (rw meant at e) in
     rw (parts.2, written) (ap (λ more. 92 ∷ letter ∷ more) (on parts.0 parts.1))
 
-letter_by_kind : (letter : ℕ) (rest field : List ℕ) → (letter ≡ 92) ⊎ (letter ≢ 92) → (letter ≡ 116) ⊎ (letter ≢ 116) → (letter ≡ 110) ⊎ (letter ≢ 110) → unescaped (92 ∷ letter ∷ rest) ≡ Some field → ((more : List ℕ) → unescaped rest ≡ Some more → rest ≡ escaped more) → 92 ∷ letter ∷ rest ≡ escaped field
+letter_by_kind : (letter : ℕ) (rest field : List ℕ) → (letter ≡ 92) ⊎ (letter ≢ 92) → (letter ≡ 116) ⊎ (letter ≢ 116)
+    → (letter ≡ 110) ⊎ (letter ≢ 110) → unescaped (92 ∷ letter ∷ rest) ≡ Some field
+    → ((more : List ℕ) → unescaped rest ≡ Some more → rest ≡ escaped more) → 92 ∷ letter ∷ rest ≡ escaped field
 unfolding letter_of byte_of
 letter_by_kind letter rest field (inl k) t n e on = letter_read letter 92 rest field (rw k refl) (rw k refl) e on
 letter_by_kind letter rest field (inr slash) (inl k) n e on = letter_read letter 9 rest field (rw k refl) (rw k refl) e on
 letter_by_kind letter rest field (inr slash) (inr t) (inl k) e on = letter_read letter 10 rest field (rw k refl) (rw k refl) e on
 letter_by_kind letter rest field (inr slash) (inr t) (inr n) e on =
-    let none : byte_of letter ≡ None = rw (eqb-other 92 letter (λ k. slash (sym k)), eqb-other 116 letter (λ k. t (sym k)), eqb-other 110 letter (λ k. n (sym k))) refl in
+    let none : byte_of letter ≡ None =
+    rw (ne_eqb 92 letter (λ k. slash (sym k)), ne_eqb 116 letter (λ k. t (sym k)), ne_eqb 110 letter (λ k. n (sym k))) refl in
     cc (rw none at e)
 
-byte_read : (byte : ℕ) (rest field : List ℕ) → byte ≢ 92 → eqb byte 9 ≡ false → eqb byte 10 ≡ false → unescaped (byte ∷ rest) ≡ Some field → ((more : List ℕ) → unescaped rest ≡ Some more → rest ≡ escaped more) → byte ∷ rest ≡ escaped field
+byte_read : (byte : ℕ) (rest field : List ℕ) → byte ≢ 92 → eqb byte 9 ≡ false → eqb byte 10 ≡ false
+    → unescaped (byte ∷ rest) ≡ Some field → ((more : List ℕ) → unescaped rest ≡ Some more → rest ≡ escaped more)
+    → byte ∷ rest ≡ escaped field
 unfolding letter_of
 byte_read byte rest field slash tab feed e on =
-    let parts = front byte (unescaped rest) field (sym (unescaped-itself byte rest (eqb-other byte 92 slash)) ∙ e) in
-    rw (parts.2, eqb-other 92 byte (λ k. slash (sym k)), flipped byte 9 tab, flipped byte 10 feed) (ap (λ more. byte ∷ more) (on parts.0 parts.1))
+    let parts = front byte (unescaped rest) field (sym (unescaped-itself byte rest (ne_eqb byte 92 slash)) ∙ e) in
+    rw (parts.2, ne_eqb 92 byte (λ k. slash (sym k)), flipped byte 9 tab, flipped byte 10 feed)
+    (ap (λ more. byte ∷ more) (on parts.0 parts.1))
   where
     flipped : (m n : ℕ) → eqb m n ≡ false → eqb n m ≡ false
-    flipped m n other = eqb-other n m (λ e. eqb-false m n other (sym e))
+    flipped m n other = ne_eqb n m (λ e. eqb-false m n other (sym e))
 
 last_by_kind : (byte : ℕ) (field : List ℕ) → (byte ≡ 92) ⊎ (byte ≢ 92) → eqb byte 9 ≡ false → eqb byte 10 ≡ false → unescaped (byte ∷ []) ≡ Some field → byte ∷ [] ≡ escaped field
 last_by_kind byte field (inl k) tab feed e = cc (rw k at e)
@@ -48,20 +57,26 @@ last_by_kind byte field (inr slash) tab feed e = byte_read byte [] field slash t
     nothing [] e = refl
     nothing (byte ∷ more) e = cc
 
-first_by_kind : (byte next : ℕ) (rest field : List ℕ) → (byte ≡ 92) ⊎ (byte ≢ 92) → eqb byte 9 ≡ false → eqb byte 10 ≡ false → unescaped (byte ∷ next ∷ rest) ≡ Some field → ((more : List ℕ) → unescaped rest ≡ Some more → rest ≡ escaped more) → ((more : List ℕ) → unescaped (next ∷ rest) ≡ Some more → next ∷ rest ≡ escaped more) → byte ∷ next ∷ rest ≡ escaped field
-first_by_kind byte next rest field (inl k) tab feed e after on = ap (λ b. b ∷ next ∷ rest) k ∙ letter_by_kind next rest field (is_or_not next 92) (is_or_not next 116) (is_or_not next 110) (ap (λ b. unescaped (b ∷ next ∷ rest)) (sym k) ∙ e) after
+first_by_kind : (byte next : ℕ) (rest field : List ℕ) → (byte ≡ 92) ⊎ (byte ≢ 92) → eqb byte 9 ≡ false → eqb byte 10 ≡ false
+    → unescaped (byte ∷ next ∷ rest) ≡ Some field → ((more : List ℕ) → unescaped rest ≡ Some more → rest ≡ escaped more)
+    → ((more : List ℕ) → unescaped (next ∷ rest) ≡ Some more → next ∷ rest ≡ escaped more) → byte ∷ next ∷ rest ≡ escaped field
+first_by_kind byte next rest field (inl k) tab feed e after on = ap (λ b. b ∷ next ∷ rest) k
+    ∙ letter_by_kind next rest field (cases_eq next 92) (cases_eq next 116) (cases_eq next 110)
+    (ap (λ b. unescaped (b ∷ next ∷ rest)) (sym k) ∙ e) after
 first_by_kind byte next rest field (inr slash) tab feed e after on = byte_read byte (next ∷ rest) field slash tab feed e on
 
 -- bytes without a TAB and an LF are what is written for the field that they are read as
 spelled : (written field : List ℕ) → tabless written ≡ false → feedless written ≡ false → unescaped written ≡ Some field → written ≡ escaped field
 spelled [] [] tab feed e = refl
 spelled [] (byte ∷ field) tab feed e = cc
-spelled (byte ∷ []) field tab feed e = last_by_kind byte field (is_or_not byte 92) (or_left (eqb byte 9) _ tab) (or_left (eqb byte 10) _ feed) e
+spelled (byte ∷ []) field tab feed e =
+    last_by_kind byte field (cases_eq byte 92) (or_parts (eqb byte 9) _ tab).0 (or_parts (eqb byte 10) _ feed).0 e
 spelled (byte ∷ next ∷ rest) field tab feed e =
-    let tabs = or_right (eqb byte 9) (tabless (next ∷ rest)) tab in
-    let feeds = or_right (eqb byte 10) (feedless (next ∷ rest)) feed in
-    first_by_kind byte next rest field (is_or_not byte 92) (or_left (eqb byte 9) _ tab) (or_left (eqb byte 10) _ feed) e
-    (λ more. spelled rest more (or_right (eqb next 9) _ tabs) (or_right (eqb next 10) _ feeds)) (λ more. spelled (next ∷ rest) more tabs feeds)
+    let tabs = (or_parts (eqb byte 9) (tabless (next ∷ rest)) tab).1 in
+    let feeds = (or_parts (eqb byte 10) (feedless (next ∷ rest)) feed).1 in
+    first_by_kind byte next rest field (cases_eq byte 92) (or_parts (eqb byte 9) _ tab).0 (or_parts (eqb byte 10) _ feed).0 e
+    (λ more. spelled rest more (or_parts (eqb next 9) _ tabs).1 (or_parts (eqb next 10) _ feeds).1)
+    (λ more. spelled (next ∷ rest) more tabs feeds)
 
 -- no piece has a TAB or an LF
 abbrev AllClean : List (List ℕ) → Type 0
@@ -75,9 +90,14 @@ clean_more false byte (piece ∷ pieces) tab feed clean = (rw (tab, clean.0) ref
 
 clean_split : (line : List ℕ) → feedless line ≡ false → AllClean (slice_split (λ b. eqb b 9) line)
 clean_split [] feed = (refl, refl, tt)
-clean_split (byte ∷ line) feed = clean_more (eqb byte 9) byte (slice_split (λ b. eqb b 9) line) refl (or_left (eqb byte 10) _ feed) (clean_split line (or_right (eqb byte 10) _ feed))
+clean_split (byte ∷ line) feed =
+    clean_more (eqb byte 9) byte (slice_split (λ b. eqb b 9) line) refl (or_parts (eqb byte 10) _ feed).0
+    (clean_split line (or_parts (eqb byte 10) _ feed).1)
 
-all_spelled_on : (piece : List ℕ) (pieces fields : List (List ℕ)) (first : Option (List ℕ)) → unescaped piece ≡ first → AllClean (piece ∷ pieces) → all_some (first ∷ map unescaped pieces) ≡ Some fields → ((more : List (List ℕ)) → all_some (map unescaped pieces) ≡ Some more → pieces ≡ map escaped more) → piece ∷ pieces ≡ map escaped fields
+all_spelled_on : (piece : List ℕ) (pieces fields : List (List ℕ)) (first : Option (List ℕ)) → unescaped piece ≡ first
+    → AllClean (piece ∷ pieces) → all_some (first ∷ map unescaped pieces) ≡ Some fields
+    → ((more : List (List ℕ)) → all_some (map unescaped pieces) ≡ Some more → pieces ≡ map escaped more)
+    → piece ∷ pieces ≡ map escaped fields
 all_spelled_on piece pieces fields None is clean e on = cc
 all_spelled_on piece pieces fields (Some field) is clean e on =
     let parts = front field (all_some (map unescaped pieces)) fields e in

@@ -3,9 +3,10 @@ ghost use Rattle.std.specs.Prelude.{◌≡◌, ◌++◌, ◌<◌, ◌==◌, fals
 ghost use Rattle.std.specs.List.{list_any, list_all};
 ghost use Rattle.wu_fields.specs.Fields.{escaped, letter_of, fields_of, line_of};
 
+use bstr::ByteSlice;
 use wu_base::NoMemory;
 
-/// Appends the field, escaped. After want of memory `out` is as it was.
+/// Appends the field, escaped. Out of memory, `out` is as it was.
 #[tactic(auto, using(crate::proofs::FieldLemmas::escaped_plain))]
 pub fn put_field(out: &mut Vec<u8>, field: &[u8]) -> Result<(), NoMemory>
     ensures ok { OnOk result (out.new.items ≡ out.old.items ++ escaped field.now) }
@@ -24,7 +25,7 @@ pub fn put_field(out: &mut Vec<u8>, field: &[u8]) -> Result<(), NoMemory>
     }
 }
 
-/// Appends the field, escaped. After want of memory `out` may have gained bytes.
+/// Appends the field, escaped. Out of memory, `out` may have gained bytes.
 fn append_escaped(out: &mut Vec<u8>, field: &[u8]) -> Result<(), NoMemory>
     ensures ok { OnOk result (out.new.items ≡ out.old.items ++ escaped field.now) }
     ensures err { OnErr result ((more : List ℕ) × (out.new.items ≡ out.old.items ++ more)) }
@@ -42,7 +43,7 @@ fn append_escaped(out: &mut Vec<u8>, field: &[u8]) -> Result<(), NoMemory>
 fn is_plain(field: &[u8]) -> bool
     ensures { result ≡ list_all (λ byte. is_none (letter_of byte)) field.now }
 {
-    field.iter().all(|byte| letter_of(*byte).is_none())
+    field.find_byteset(b"\\\t\n").is_none()
 }
 
 /// The letter that stands for the byte after a backslash, if the byte is escaped.

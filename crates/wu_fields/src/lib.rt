@@ -8,6 +8,3 @@ mod splitting;
 pub use escaping::{put_field, read_fields_are_written_back, written_fields_are_read_back};
 pub use numbers::{put_decimal, read_decimal, read_octal_mode, written_numbers_are_read_back};
 pub use splitting::split_fields;
-
-#[cfg(test)]
-mod tests;

@@ -101,7 +101,7 @@ fn is_octal_digit(byte: u8) -> bool
     matches!(byte, b'0'..=b'7')
 }
 
-/// Appends the number in decimal. After want of memory `out` is as it was.
+/// Appends the number in decimal. Out of memory, `out` is as it was.
 pub fn put_decimal(out: &mut Vec<u8>, number: u64) -> Result<(), NoMemory>
     ensures ok { OnOk result (out.new.items ≡ out.old.items ++ decimal number) }
     ensures err { OnErr result (out.new.items ≡ out.old.items) }

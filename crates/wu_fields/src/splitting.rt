@@ -3,6 +3,7 @@ ghost use Rattle.std.specs.Prelude.{◌≡◌, IfOk, map, Option, List, ℕ};
 ghost use Rattle.std.specs.Option.{option_map};
 ghost use Rattle.wu_fields.specs.Fields.{fields_of, unescaped, byte_of};
 
+use bstr::ByteSlice;
 use std::alloc::Global;
 use wu_base::{Bytes, NoMemory};
 
@@ -25,10 +26,9 @@ pub fn split_fields(alloc: Global, line: &[u8]) -> Result<Option<Vec<Bytes>>, No
 fn unescape(alloc: Global, written: &[u8]) -> Result<Option<Bytes>, NoMemory>
     ensures { IfOk result (λ field. field ≡ unescaped written.now) }
 {
-    if written.contains(&b'\\') {
-        unescape_bytes(alloc, written)
-    } else {
-        Ok(Some(Bytes::from_slice(alloc, written)?))
+    match written.find_byte(b'\\') {
+        Some(_) => unescape_bytes(alloc, written),
+        None => Ok(Some(Bytes::from_slice(alloc, written)?)),
     }
 }
 

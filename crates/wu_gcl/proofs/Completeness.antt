@@ -19,7 +19,8 @@ IsBelow-more low high (Paren ∷ waiting) up below = tt
 IsBelow-more low high (Left left op ∷ waiting) up below = omega arith
 
 -- nothing is joined where what waits binds less tightly
-pub reduced-below : (level : ℕ) (waiting : List Waiting) (value : Value) → IsBelow level waiting → reduced level waiting value ≡ (waiting, value)
+pub reduced-below : (level : ℕ) (waiting : List Waiting) (value : Value) → IsBelow level waiting
+    → reduced level waiting value ≡ (waiting, value)
 reduced-below level [] value below = refl
 reduced-below level (Paren ∷ waiting) value below = refl
 reduced-below level (Left left op ∷ waiting) value below = grind (arith, nat_tests)
@@ -45,9 +46,11 @@ closed rest waiting_on value waiting inner same = ap (λ (joined : List Waiting 
 pub joined : (op : Op) (rest : List Token) (waiting_on : List Waiting) (value : Value) (waiting : List Waiting) (left : Value) →
     reduced (precedence op) waiting_on value ≡ (waiting, left) →
     run (Operator op ∷ rest) (operand_held waiting_on value) ≡ run rest (operand_wanted (Left left op ∷ waiting))
-joined op rest waiting_on value waiting left same = ap (λ (joined : List Waiting × Value). run rest (operand_wanted (Left joined.1 op ∷ joined.0))) same
+joined op rest waiting_on value waiting left same = ap
+    (λ (joined : List Waiting × Value). run rest (operand_wanted (Left joined.1 op ∷ joined.0))) same
 
-pub holds : (syntax : Syntax) → IsGrouped syntax → (waiting : List Waiting) (rest : List Token) → IsBelow (tightness syntax) waiting → Holds syntax waiting rest
+pub holds : (syntax : Syntax) → IsGrouped syntax → (waiting : List Waiting) (rest : List Token) → IsBelow (tightness syntax) waiting
+    → Holds syntax waiting rest
 holds (Single atom) grouped waiting rest below = record { waiting_on = waiting; value = value_of atom; reached = refl; worth = λ level up. refl }
 holds (Group inner) grouped waiting rest below =
     let inside : Holds inner (Paren ∷ waiting) (Close ∷ rest) = holds inner grouped (Paren ∷ waiting) (Close ∷ rest) tt in
@@ -55,17 +58,22 @@ holds (Group inner) grouped waiting rest below =
       waiting_on = waiting;
       value = meaning inner;
       reached =
-          rw append_assoc (inside.reached ∙ closed rest inside.waiting_on inside.value waiting (meaning inner) (inside.worth 0 (omega arith)));
+          rw append_assoc
+          (inside.reached ∙ closed rest inside.waiting_on inside.value waiting (meaning inner) (inside.worth 0 (omega arith)));
       worth = λ level up. refl;
     }
 holds (Join op left right) grouped waiting rest below =
-    let first : Holds left waiting (Operator op ∷ (tokens_in right ++ rest)) = holds left grouped.2 waiting _ (IsBelow-more _ _ waiting grouped.0 below) in
+    let first : Holds left waiting (Operator op ∷ (tokens_in right ++ rest)) = holds left grouped.2 waiting _
+    (IsBelow-more _ _ waiting grouped.0 below) in
     let second : Holds right (Left (meaning left) op ∷ waiting) rest = holds right grouped.3 _ rest grouped.1 in
     record {
       waiting_on = second.waiting_on;
       value = second.value;
       reached =
-          rw append_assoc (first.reached ∙ joined op (tokens_in right ++ rest) first.waiting_on first.value waiting (meaning left) (first.worth (precedence op) grouped.0 ∙ reduced-below (precedence op) waiting (meaning left) below) ∙ second.reached);
+          rw append_assoc
+          (first.reached
+          ∙ joined op (tokens_in right ++ rest) first.waiting_on first.value waiting (meaning left)
+          (first.worth (precedence op) grouped.0 ∙ reduced-below (precedence op) waiting (meaning left) below) ∙ second.reached);
       worth = λ level up. second.worth level (omega arith) ∙ reduced-join level (meaning left) op waiting (meaning right) up;
     }
 
@@ -73,5 +81,6 @@ holds (Join op left right) grouped waiting rest below =
 pub evaluated_in : (syntax : Syntax) → IsGrouped syntax → evaluated (tokens_in syntax) ≡ Some (meaning syntax)
 evaluated_in syntax grouped =
     let whole : Holds syntax [] [] = holds syntax grouped [] [] tt in
-    let same : run (tokens_in syntax) (operand_wanted []) ≡ run [] (operand_held whole.waiting_on whole.value) = rw append-nil at whole.reached in
+    let same : run (tokens_in syntax) (operand_wanted [])
+    ≡ run [] (operand_held whole.waiting_on whole.value) = rw append-nil at whole.reached in
     same ∙ ap (λ (joined : List Waiting × Value). ended_at joined.0 joined.1) (whole.worth 0 (omega arith))

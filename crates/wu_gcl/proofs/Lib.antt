@@ -1,8 +1,7 @@
 pub mod Completeness
 pub mod Soundness
-pub mod Fronts
+pub mod FirstTokens
 pub mod Texts
-pub mod Decimals
 pub mod Outcomes
 pub mod Uniqueness
 pub mod Existence

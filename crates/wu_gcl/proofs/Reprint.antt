@@ -1,26 +1,31 @@
 -- What is printed spells the expression that it was printed from.
-use Rattle.std.proofs.Common.{◌≡◌, ◌≢◌, ℕ, ◌+◌, ◌-◌, ◌*◌, ◌/◌, ◌%◌, ◌^◌, ◌<◌, ◌≤◌, Bool, true, false, cond, List, [], ◌∷◌, ◌++◌, length, length-append, get_or, append_assoc, append-nil, Option, Some, None, Ok, Err, refl, ◌∙◌, ap, inl, arith, eqb}
-use Rattle.std.specs.Prelude.{◌||◌, codes, nat_lt, Result, IfOk}
-use Rattle.std.specs.Char.{IsAsciiDigit}
-use Rattle.std.specs.List.{AllByRecursion, join_with_byte}
+use Rattle.std.proofs.Common.{◌≡◌, ◌≢◌, ℕ, ◌+◌, ◌-◌, ◌/◌, ◌%◌, ◌^◌, ◌<◌, ◌≤◌, Bool, true, false, cond, List, [], ◌∷◌, ◌++◌, length, length-append, get_or, append_assoc, append-nil, Option, Some, None, Ok, Err, refl, ◌∙◌, ap, inl, arith, eqb, zero, suc, le-leb}
+use Rattle.std.specs.Prelude.{◌&&◌, codes, nat_le, Result, IfOk}
+use Rattle.std.specs.Char.{IsAsciiDigit, is_ascii_digit}
+use Rattle.std.specs.List.{AllByRecursion, join_with_byte, list_all}
+use Rattle.std.specs.Str.Parse.{digits_value}
+use Rattle.std.proofs.Math.Dec.{eqb-suc-zero}
+use Rattle.std.proofs.lemmas.Bool.{leb-true, and_parts, and_from}
+use Rattle.wu_fields.specs.Numbers.{number_of, is_plain_numeral}
 use Rattle.std.specs.Fmt.{decimal}
-use Rattle.std.proofs.lemmas.Fmt.{decimal_by_steps, first_decimal}
+use Rattle.std.proofs.lemmas.Fmt.{decimal_by_steps, first_decimal, decimal_is_IsNumeral}
 use Rattle.std.proofs.lemmas.Bool.Decides.{nat_tests}
 use Rattle.wu_token.specs.Words.{words_of}
+use Rattle.wu_token.specs.Tokens.{file_start, file_end, line_start, line_end}
 use Rattle.wu_gcl.specs.declared.expressions.Tag.{Tag}
 use Rattle.wu_gcl.specs.declared.expressions.Tag.TheVariants.{FileStart, FileEnd, LineStart, LineEnd}
 use Rattle.wu_gcl.specs.declared.expressions.Op.{Op}
+use Rattle.wu_gcl.specs.declared.expressions.TheConstants.{WINDOW_MAX}
 use Rattle.wu_gcl.specs.declared.expressions.Expr.{Expr}
 use Rattle.wu_gcl.specs.declared.expressions.ExprFault.{ExprFault}
 use Rattle.wu_gcl.specs.declared.expressions.ExprFault.TheVariants.{BadWindow}
 use Rattle.wu_gcl.specs.Lexical.{Atom, Quoted, Bracketed, FileWord, LineWord, Token, Operand, Operator, Open, Close, op_text, token_text, IsToken, EndsBefore, IsBlank, AreTokens, starts_with_letter}
 use Rattle.wu_gcl.specs.Grammar.{Syntax, Single, Group, Join, tokens_in, precedence, tightness, IsGrouped, operator_count, open_count}
 use Rattle.wu_gcl.specs.Regions.{Region, Phrase, Mark, WholeFile, WholeLine, Window, Both, region_of, IsProper}
-use Rattle.wu_gcl.specs.Reading.{Value, tag_text, tag_at, quoted_value, phrase_of, digits_behind, window_of, value_of, join, meaning, Spells, Reads, seen}
+use Rattle.wu_gcl.specs.Reading.{Value, tag_text, tag_at, quoted_value, phrase_of, window_with, window_of, value_of, join, meaning, Spells, Reads, seen}
 use Rattle.wu_gcl.specs.Scanning.{is_unquote}
 use Rattle.wu_gcl.specs.Printing.{operand_text, printed}
-use Rattle.wu_gcl.proofs.Decimals.{digits_behind-le}
-use Rattle.wu_gcl.proofs.Fronts.{run_passes, passes_unquote}
+use Rattle.wu_gcl.proofs.FirstTokens.{run_passes, passes_unquote}
 use Rattle.wu_gcl.proofs.Soundness.{precedence_below}
 use Rattle.wu_gcl.proofs.WordLaws.{IsWord, words_of_are, words_of-join, no_quote_in, no_tag_in}
 
@@ -47,7 +52,7 @@ IsReadable (Phrase words) = (0 < length words) × AllByRecursion IsWord words
 IsReadable (Mark tag) = Unit {0}
 IsReadable WholeFile = Unit {0}
 IsReadable WholeLine = Unit {0}
-IsReadable (Window n) = (1 ≤ n) × (n ≤ 65535)
+IsReadable (Window n) = (1 ≤ n) × (n ≤ WINDOW_MAX)
 IsReadable (Both op left right) = IsReadable left × IsReadable right
 
 abbrev IsReadableValue : Value → Type 0
@@ -62,21 +67,24 @@ quoted_readable : (tag : Option Tag) (bytes : List ℕ) → IsReadableValue (quo
 quoted_readable (Some tag) bytes = tt
 quoted_readable None bytes = phrase_readable (words_of bytes) (words_of_are bytes)
 
-window_by : (test : Bool) (digit : ℕ) (digits : List ℕ) → eqb digit 48 || nat_lt 65535 (digits_behind 0 (digit ∷ digits)) ≡ test → IsAsciiDigit digit →
-    IsReadableValue (cond test (Err BadWindow) (Ok (Window (digits_behind 0 (digit ∷ digits)))))
-window_by true digit digits is digit_is = tt
-window_by false digit digits is digit_is =
-    let most : digits_behind 0 (digit ∷ digits) ≤ 65535 = grind (arith, nat_tests) in
-    let other : digit ≢ 48 = grind (arith, nat_tests) in
-    (omega (arith, digits_behind-le (10 * 0 + (digit - 48)) digits, digit_is.0, other), most)
+some_readable : (n : ℕ) → n ≤ WINDOW_MAX → IsReadableValue (window_with (Some n))
+some_readable zero most = tt
+some_readable (suc n) most = rw (eqb-suc-zero n) (omega arith, most)
 
-window_readable : (digits : List ℕ) → AllByRecursion IsAsciiDigit digits → IsReadableValue (window_of digits)
-window_readable [] all = tt
-window_readable (digit ∷ digits) all = window_by _ digit digits refl all.0
+-- a number that is read is at most the greatest
+window_by : (test : Bool) (n : ℕ) → (test ≡ true → n ≤ WINDOW_MAX) → IsReadableValue (window_with (cond test (Some n) None))
+window_by true n most = some_readable n (most refl)
+window_by false n most = tt
+
+window_readable : (digits : List ℕ) → IsReadableValue (window_of digits)
+unfolding number_of
+window_readable digits =
+    window_by (is_plain_numeral digits && nat_le (digits_value 10 digits) WINDOW_MAX) (digits_value 10 digits)
+    (λ read. leb-true _ _ (and_parts (is_plain_numeral digits) _ read).1)
 
 value_readable : (atom : Atom) → IsToken (Operand atom) → IsReadableValue (value_of atom)
 value_readable (Quoted bytes) is = quoted_readable (tag_at bytes) bytes
-value_readable (Bracketed digits) is = window_readable digits is.1
+value_readable (Bracketed digits) is = window_readable digits
 value_readable FileWord is = tt
 value_readable LineWord is = tt
 
@@ -90,16 +98,17 @@ All-front : (P : Token → Type 0) (a b : List Token) → AllByRecursion P (a ++
 All-front P [] b all = tt
 All-front P (x ∷ a) b all = (all.0, All-front P a b all.1)
 
-All-behind : (P : Token → Type 0) (a b : List Token) → AllByRecursion P (a ++ b) → AllByRecursion P b
-All-behind P [] b all = all
-All-behind P (x ∷ a) b all = All-behind P a b all.1
+All-after : (P : Token → Type 0) (a b : List Token) → AllByRecursion P (a ++ b) → AllByRecursion P b
+All-after P [] b all = all
+All-after P (x ∷ a) b all = All-after P a b all.1
 
 meaning_readable : (syntax : Syntax) → AllByRecursion IsToken (tokens_in syntax) → IsReadableValue (meaning syntax)
 meaning_readable (Single atom) all = value_readable atom all.0
 meaning_readable (Group inner) all = meaning_readable inner (All-front IsToken (tokens_in inner) (Close ∷ []) all.1)
 meaning_readable (Join op left right) all =
-    join_readable op (meaning left) (meaning right) (meaning_readable left (All-front IsToken (tokens_in left) (Operator op ∷ tokens_in right) all))
-    (meaning_readable right (All-behind IsToken (tokens_in left) (Operator op ∷ tokens_in right) all).1)
+    join_readable op (meaning left) (meaning right)
+    (meaning_readable left (All-front IsToken (tokens_in left) (Operator op ∷ tokens_in right) all))
+    (meaning_readable right (All-after IsToken (tokens_in left) (Operator op ∷ tokens_in right) all).1)
 
 tokens_are : (tokens : List Token) (text : List ℕ) → AreTokens tokens text → AllByRecursion IsToken tokens
 tokens_are [] text are = tt
@@ -133,7 +142,8 @@ abbrev IsCounted : ℕ → Value → Type 0
 IsCounted n (Ok region) = both_count region ≡ n
 IsCounted n (Err fault) = Unit {0}
 
-join_counted : (op : Op) (left right : Value) (m n : ℕ) → IsCounted m left → IsCounted n right → IsCounted (m + (1 + n)) (join op left right)
+join_counted : (op : Op) (left right : Value) (m n : ℕ) → IsCounted m left → IsCounted n right
+    → IsCounted (m + (1 + n)) (join op left right)
 join_counted op (Ok left) (Ok right) m n l r = omega arith
 join_counted op (Ok left) (Err fault) m n l r = tt
 join_counted op (Err fault) (Ok right) m n l r = tt
@@ -151,30 +161,34 @@ window_counted_by : (test : Bool) (n : ℕ) → IsCounted 0 (cond test (Err BadW
 window_counted_by true n = tt
 window_counted_by false n = refl
 
-window_counted : (digits : List ℕ) → IsCounted 0 (window_of digits)
-window_counted [] = tt
-window_counted (digit ∷ digits) = window_counted_by _ (digits_behind 0 (digit ∷ digits))
+window_counted : (number : Option ℕ) → IsCounted 0 (window_with number)
+window_counted None = tt
+window_counted (Some n) = window_counted_by (eqb n 0) n
 
 value_counted : (atom : Atom) → IsCounted 0 (value_of atom)
 value_counted (Quoted bytes) = quoted_counted (tag_at bytes) bytes
-value_counted (Bracketed digits) = window_counted digits
+value_counted (Bracketed digits) = window_counted (number_of digits WINDOW_MAX)
 value_counted FileWord = refl
 value_counted LineWord = refl
 
 meaning_counted : (syntax : Syntax) → IsCounted (operator_count (tokens_in syntax)) (meaning syntax)
 meaning_counted (Single atom) = value_counted atom
 meaning_counted (Group inner) =
-    let same : operator_count (tokens_in inner ++ Close ∷ []) ≡ operator_count (tokens_in inner) = operator_count-append (tokens_in inner) (Close ∷ []) ∙ omega arith in
+    let same : operator_count (tokens_in inner ++ Close ∷ [])
+    ≡ operator_count (tokens_in inner) = operator_count-append (tokens_in inner) (Close ∷ []) ∙ omega arith in
     rw same (meaning_counted inner)
 meaning_counted (Join op left right) =
-    rw operator_count-append (join_counted op (meaning left) (meaning right) (operator_count (tokens_in left)) (operator_count (tokens_in right)) (meaning_counted left) (meaning_counted right))
+    rw operator_count-append
+    (join_counted op (meaning left) (meaning right) (operator_count (tokens_in left)) (operator_count (tokens_in right))
+    (meaning_counted left) (meaning_counted right))
 
 -- how many operators and parentheses the printed text has
 record IsCountedSyntax (operators opens : ℕ) (syntax : Syntax) : Type 0 where
   operators_are : operator_count (tokens_in syntax) ≡ operators
   opens_are : open_count (tokens_in syntax) ≤ opens
 
-grouped_counts : (region : Region) (syntax : Syntax) → IsCountedSyntax (both_count region) (both_count region - 1) syntax → IsCountedSyntax (both_count region) (both_count region) (grouped region syntax)
+grouped_counts : (region : Region) (syntax : Syntax) → IsCountedSyntax (both_count region) (both_count region - 1) syntax
+    → IsCountedSyntax (both_count region) (both_count region) (grouped region syntax)
 grouped_counts (Phrase words) syntax is = record { operators_are = is.operators_are; opens_are = omega (arith, is.opens_are) }
 grouped_counts (Mark tag) syntax is = record { operators_are = is.operators_are; opens_are = omega (arith, is.opens_are) }
 grouped_counts WholeFile syntax is = record { operators_are = is.operators_are; opens_are = omega (arith, is.opens_are) }
@@ -192,11 +206,25 @@ syntax_counts WholeFile = record { operators_are = refl; opens_are = omega arith
 syntax_counts WholeLine = record { operators_are = refl; opens_are = omega arith }
 syntax_counts (Window n) = record { operators_are = refl; opens_are = omega arith }
 syntax_counts (Both op left right) =
-    let first : IsCountedSyntax (both_count left) (both_count left) (grouped left (syntax_of left)) = grouped_counts left (syntax_of left) (syntax_counts left) in
-    let second : IsCountedSyntax (both_count right) (both_count right) (grouped right (syntax_of right)) = grouped_counts right (syntax_of right) (syntax_counts right) in
+    let first : IsCountedSyntax (both_count left) (both_count left) (grouped left (syntax_of left)) = grouped_counts left (syntax_of left)
+    (syntax_counts left) in
+    let second : IsCountedSyntax (both_count right) (both_count right) (grouped right (syntax_of right)) = grouped_counts right
+    (syntax_of right) (syntax_counts right) in
     record {
-      operators_are = omega (arith, operator_count-append (tokens_in (grouped left (syntax_of left))) (Operator op ∷ tokens_in (grouped right (syntax_of right))), first.operators_are, second.operators_are);
-      opens_are = omega (arith, open_count-append (tokens_in (grouped left (syntax_of left))) (Operator op ∷ tokens_in (grouped right (syntax_of right))), first.opens_are, second.opens_are);
+      operators_are = omega (
+        arith,
+        operator_count-append (tokens_in (grouped left (syntax_of left)))
+            (Operator op ∷ tokens_in (grouped right (syntax_of right))),
+        first.operators_are,
+        second.operators_are,
+      );
+      opens_are = omega (
+        arith,
+        open_count-append (tokens_in (grouped left (syntax_of left)))
+            (Operator op ∷ tokens_in (grouped right (syntax_of right))),
+        first.opens_are,
+        second.opens_are,
+      );
     }
 
 -- ---- parentheses stand round each operand that has an operator
@@ -223,29 +251,29 @@ syntax_grouped WholeFile = tt
 syntax_grouped WholeLine = tt
 syntax_grouped (Window n) = tt
 syntax_grouped (Both op left right) =
-    let low : precedence op < 4 = precedence_below op in
-    (rw (grouped_tight left) (omega arith), rw (grouped_tight right) low, grouped_is left (syntax_of left) (syntax_grouped left), grouped_is right (syntax_of right) (syntax_grouped right))
+    let low : precedence op < 4 = precedence_below op in (
+      rw (grouped_tight left) (omega arith),
+      rw (grouped_tight right) low,
+      grouped_is left (syntax_of left)
+          (syntax_grouped left),
+      grouped_is right (syntax_of right) (syntax_grouped right),
+    )
 
 -- ---- it means the same
-digits_behind-push : (n : ℕ) (digits : List ℕ) (digit : ℕ) → digits_behind n (digits ++ digit ∷ []) ≡ 10 * digits_behind n digits + (digit - 48)
-digits_behind-push n [] digit = refl
-digits_behind-push n (first ∷ digits) digit = digits_behind-push (10 * n + (first - 48)) digits digit
-
 record IsDecimal (n : ℕ) (digits : List ℕ) : Type 0 where
-  value : digits_behind 0 digits ≡ n
   some : 0 < length digits
   all : AllByRecursion IsAsciiDigit digits
 
-digit_push : (digits : List ℕ) (digit : ℕ) → AllByRecursion IsAsciiDigit digits → IsAsciiDigit digit → AllByRecursion IsAsciiDigit (digits ++ digit ∷ [])
+digit_push : (digits : List ℕ) (digit : ℕ) → AllByRecursion IsAsciiDigit digits → IsAsciiDigit digit
+    → AllByRecursion IsAsciiDigit (digits ++ digit ∷ [])
 digit_push [] digit all is = (is, tt)
 digit_push (first ∷ digits) digit all is = (all.0, digit_push digits digit all.1 is)
 
 decimal_one : (n : ℕ) → n < 10 → IsDecimal n ((48 + n) ∷ [])
-decimal_one n less = record { value = omega arith; some = omega arith; all = ((omega arith, omega arith), tt) }
+decimal_one n less = record { some = omega arith; all = ((omega arith, omega arith), tt) }
 
 decimal_more : (n : ℕ) (digits : List ℕ) → 10 ≤ n → IsDecimal (n / 10) digits → IsDecimal n (digits ++ ((48 + n % 10) ∷ []))
 decimal_more n digits more is = record {
-  value = digits_behind-push 0 digits (48 + n % 10) ∙ omega (arith, is.value);
   some = rw length-append (omega arith);
   all = digit_push digits (48 + n % 10) is.all (omega arith, omega arith);
 }
@@ -253,11 +281,29 @@ decimal_more n digits more is = record {
 decimal_is : (n : ℕ) → n < 2 ^ 64 → IsDecimal n (decimal n)
 decimal_is = decimal_by_steps IsDecimal decimal_one decimal_more
 
-window_again : (n : ℕ) (digits : List ℕ) → digits_behind 0 digits ≡ n → 48 < get_or digits 0 0 → n ≤ 65535 → window_of digits ≡ Ok (Window n)
-window_again n [] value first most = absurd (omega arith)
-window_again n (digit ∷ digits) value first most =
-    let test : (eqb digit 48 || nat_lt 65535 (digits_behind 0 (digit ∷ digits))) ≡ false = grind (arith, nat_tests) in
-    rw (test, value) refl
+digit_true : (digit : ℕ) → IsAsciiDigit digit → is_ascii_digit digit ≡ true
+digit_true digit is = and_from _ _ (le-leb 48 digit is.0) (le-leb digit 57 is.1)
+
+digits_true : (digits : List ℕ) → AllByRecursion IsAsciiDigit digits → list_all is_ascii_digit digits ≡ true
+digits_true [] all = refl
+digits_true (digit ∷ digits) all = and_from _ _ (digit_true digit all.0) (digits_true digits all.1)
+
+plain : (digits : List ℕ) → AllByRecursion IsAsciiDigit digits → 48 < get_or digits 0 0 → is_plain_numeral digits ≡ true
+plain [] all first = absurd (omega arith)
+plain (digit ∷ digits) all first =
+    let other : (eqb digit 48) ≡ false = grind (arith, nat_tests) in
+    and_from _ _ (digits_true (digit ∷ digits) all) (rw other refl)
+
+window_read : (test : Bool) (n m : ℕ) → test ≡ true → n ≡ m → 1 ≤ m → window_with (cond test (Some n) None) ≡ Ok (Window m)
+window_read test n zero is same some = absurd (omega arith)
+window_read test n (suc m) is same some = rw (is, same, eqb-suc-zero m) refl
+
+window_again : (n : ℕ) (digits : List ℕ) → digits_value 10 digits ≡ n → AllByRecursion IsAsciiDigit digits → 48 < get_or digits 0 0
+    → 1 ≤ n → n ≤ WINDOW_MAX → window_of digits ≡ Ok (Window n)
+unfolding number_of
+window_again n digits value all first some most =
+    window_read (is_plain_numeral digits && nat_le (digits_value 10 digits) WINDOW_MAX) (digits_value 10 digits) n
+    (and_from _ _ (plain digits all first) (le-leb _ _ (omega (arith, value, most)))) value some
 
 grouped_means : (region : Region) (syntax : Syntax) → meaning (grouped region syntax) ≡ meaning syntax
 grouped_means (Phrase words) syntax = refl
@@ -267,19 +313,23 @@ grouped_means WholeLine syntax = refl
 grouped_means (Window n) syntax = refl
 grouped_means (Both op left right) syntax = refl
 
+tag_means : (tag : Tag) → value_of (Quoted (tag_text tag)) ≡ Ok (Mark tag)
+unfolding file_start file_end line_start line_end
+tag_means FileStart = refl
+tag_means FileEnd = refl
+tag_means LineStart = refl
+tag_means LineEnd = refl
+
 syntax_means : (region : Region) → IsReadable region → meaning (syntax_of region) ≡ Ok region
 syntax_means (Phrase []) is = absurd (omega (arith, is.0))
 syntax_means (Phrase (word ∷ words)) is = rw (no_tag_in word words is.1, words_of-join word words is.1) refl
-syntax_means (Mark FileStart) is = refl
-syntax_means (Mark FileEnd) is = refl
-syntax_means (Mark LineStart) is = refl
-syntax_means (Mark LineEnd) is = refl
+syntax_means (Mark tag) is = tag_means tag
 syntax_means WholeFile is = refl
 syntax_means WholeLine is = refl
 syntax_means (Window n) is =
     let fits : n < 2 ^ 64 = omega (arith, is.1) in
     let decimal_n : IsDecimal n (decimal n) = decimal_is n fits in
-    window_again n (decimal n) decimal_n.value (first_decimal n is.0 fits) is.1
+    window_again n (decimal n) (decimal_is_IsNumeral n fits).1 decimal_n.all (first_decimal n is.0 fits) is.0 is.1
 syntax_means (Both op left right) is =
     let first : meaning (grouped left (syntax_of left)) ≡ Ok left = grouped_means left (syntax_of left) ∙ syntax_means left is.0 in
     let second : meaning (grouped right (syntax_of right)) ≡ Ok right = grouped_means right (syntax_of right) ∙ syntax_means right is.1 in
@@ -304,7 +354,8 @@ ends_before Open rest ends = tt
 ends_before Close rest ends = tt
 
 -- one token more at the front
-token_on : (token : Token) (tokens : List Token) (rest : List ℕ) → IsToken token → (starts_with_letter rest ≡ false) → AreTokens tokens rest → AreTokens (token ∷ tokens) (token_text token ++ rest)
+token_on : (token : Token) (tokens : List Token) (rest : List ℕ) → IsToken token → (starts_with_letter rest ≡ false) → AreTokens tokens rest
+    → AreTokens (token ∷ tokens) (token_text token ++ rest)
 token_on token tokens rest is ends are =
     ([], token_text token ++ rest, rest, refl, tt, record { spelled = refl; proper = is; ended = ends_before token rest ends }, are)
 
@@ -313,9 +364,11 @@ op_is op tokens rest are = ([], op_text op ++ rest, rest, refl, tt, record { spe
 
 -- what the tokens of the printed text are, whatever follows it but a letter
 record IsSpelled (region : Region) (syntax : Syntax) (text : List ℕ) : Type 0 where
-  on : (tokens : List Token) (rest : List ℕ) → (starts_with_letter rest ≡ false) → AreTokens tokens rest → AreTokens (tokens_in syntax ++ tokens) (text ++ rest)
+  on : (tokens : List Token) (rest : List ℕ) → (starts_with_letter rest ≡ false) → AreTokens tokens rest
+      → AreTokens (tokens_in syntax ++ tokens) (text ++ rest)
 
-grouped_spelled : (region : Region) (syntax : Syntax) (text : List ℕ) → IsSpelled region syntax text → IsSpelled region (grouped region syntax) (operand_text region text)
+grouped_spelled : (region : Region) (syntax : Syntax) (text : List ℕ) → IsSpelled region syntax text
+    → IsSpelled region (grouped region syntax) (operand_text region text)
 grouped_spelled (Phrase words) syntax text is = is
 grouped_spelled (Mark tag) syntax text is = is
 grouped_spelled WholeFile syntax text is = is
@@ -338,6 +391,7 @@ atom_spelled : (region : Region) (atom : Atom) → IsToken (Operand atom) → Is
 atom_spelled region atom is = record { on = λ tokens rest ends are. token_on (Operand atom) tokens rest is ends are }
 
 tag_is : (tag : Tag) → AllByRecursion (λ b. b ≢ 34) (tag_text tag)
+unfolding file_start file_end line_start line_end
 tag_is FileStart = run_passes is_unquote (λ b. b ≢ 34) passes_unquote (codes "<file>")
 tag_is FileEnd = run_passes is_unquote (λ b. b ≢ 34) passes_unquote (codes "</file>")
 tag_is LineStart = run_passes is_unquote (λ b. b ≢ 34) passes_unquote (codes "<line>")
@@ -352,8 +406,10 @@ syntax_spelled (Window n) is =
     let decimal_n : IsDecimal n (decimal n) = decimal_is n (omega (arith, is.1)) in
     atom_spelled (Window n) (Bracketed (decimal n)) (decimal_n.some, decimal_n.all)
 syntax_spelled (Both op left right) is =
-    let first : IsSpelled left (grouped left (syntax_of left)) (operand_text left (printed left)) = grouped_spelled left (syntax_of left) (printed left) (syntax_spelled left is.0) in
-    let second : IsSpelled right (grouped right (syntax_of right)) (operand_text right (printed right)) = grouped_spelled right (syntax_of right) (printed right) (syntax_spelled right is.1) in
+    let first : IsSpelled left (grouped left (syntax_of left)) (operand_text left (printed left)) = grouped_spelled left (syntax_of left)
+    (printed left) (syntax_spelled left is.0) in
+    let second : IsSpelled right (grouped right (syntax_of right)) (operand_text right (printed right)) = grouped_spelled right
+    (syntax_of right) (printed right) (syntax_spelled right is.1) in
     record {
       on = λ tokens rest ends are.
           rw (
@@ -361,10 +417,13 @@ syntax_spelled (Both op left right) is =
             append_assoc (operand_text left (printed left)) (32 ∷ (op_text op ++ (32 ∷ operand_text right (printed right)))) rest,
             append_assoc (op_text op) (32 ∷ operand_text right (printed right)) rest,
           )
-          (first.on (Operator op ∷ (tokens_in (grouped right (syntax_of right)) ++ tokens)) (32 ∷ (op_text op ++ (32 ∷ (operand_text right (printed right) ++ rest)))) refl
-          (behind_space (Operator op ∷ (tokens_in (grouped right (syntax_of right)) ++ tokens)) (op_text op ++ (32 ∷ (operand_text right (printed right) ++ rest)))
+          (first.on (Operator op ∷ (tokens_in (grouped right (syntax_of right)) ++ tokens))
+          (32 ∷ (op_text op ++ (32 ∷ (operand_text right (printed right) ++ rest)))) refl
+          (behind_space (Operator op ∷ (tokens_in (grouped right (syntax_of right)) ++ tokens))
+          (op_text op ++ (32 ∷ (operand_text right (printed right) ++ rest)))
           (op_is op (tokens_in (grouped right (syntax_of right)) ++ tokens) (32 ∷ (operand_text right (printed right) ++ rest))
-          (behind_space (tokens_in (grouped right (syntax_of right)) ++ tokens) (operand_text right (printed right) ++ rest) (second.on tokens rest ends are)))));
+          (behind_space (tokens_in (grouped right (syntax_of right)) ++ tokens) (operand_text right (printed right) ++ rest)
+          (second.on tokens rest ends are)))));
     }
 
 -- ---- what is printed of what a text spells spells it
@@ -400,7 +459,8 @@ spelled_proper region text says =
     readable_proper region (rw says.meant at (meaning_readable says.syntax tokens))
 
 -- the same of what parse gave
-pub read_proper : (text : List ℕ) (result : Result Expr ExprFault) → Reads text (seen result) → IfOk result (λ expr. IsProper (region_of expr))
+pub read_proper : (text : List ℕ) (result : Result Expr ExprFault) → Reads text (seen result)
+    → IfOk result (λ expr. IsProper (region_of expr))
 read_proper text (Ok expr) reads = spelled_proper (region_of expr) text reads
 read_proper text (Err fault) reads = tt
 

@@ -10,7 +10,7 @@ use Rattle.wu_gcl.specs.Reading.{Value, value_of, join, meaning}
 use Rattle.wu_gcl.specs.Pending.{Waiting, Paren, Left, reduced, operand_held, closed_at, ended_at, run, evaluated}
 use Rattle.wu_gcl.proofs.Completeness.{IsBelow, reduced-below, reduced-join}
 
--- an operand and the operator behind it, before which these tokens stand
+-- an operand and the operator after it, before which these tokens stand
 pub record Opens (used before : List Token) (left : Value) (op : Op) : Type 0 where
   pub syntax : Syntax
   pub spelled : used ≡ before ++ (tokens_in syntax ++ Operator op ∷ [])
@@ -67,7 +67,8 @@ reduces level [] value used held = record { held = held; below = tt }
 reduces level (Paren ∷ waiting) value used held = record { held = held; below = tt }
 reduces level (Left left op ∷ waiting) value used held = elim (cases_lt (precedence op) level) [
   | inl less ↦ rw (reduced-below level (Left left op ∷ waiting) value less) (record { held = held; below = less })
-  | inr up ↦ rw (reduced-join level left op waiting value up) (reduces level waiting (join op left value) used (joined level left op waiting value used up held))
+  | inr up ↦ rw (reduced-join level left op waiting value up)
+      (reduces level waiting (join op left value) used (joined level left op waiting value used up held))
 ]
 
 -- the tokens are an expression of this value
@@ -82,14 +83,22 @@ abbrev pub LeadsTo : List Waiting → Option Value → List Token → Type 0
 LeadsTo waiting None used = Leads waiting used
 LeadsTo waiting (Some value) used = Held 4 waiting value used
 
-Held-less : (low high : ℕ) (waiting : List Waiting) (value : Value) (used : List Token) → low ≤ high → Held high waiting value used → Held low waiting value used
+Held-less : (low high : ℕ) (waiting : List Waiting) (value : Value) (used : List Token) → low ≤ high → Held high waiting value used
+    → Held low waiting value used
 Held-less low high waiting value used up held =
     record { before = held.before; syntax = held.syntax; spelled = held.spelled; grouped = held.grouped; tight = omega arith; meant = held.meant; below = held.below; leads = held.leads }
 
 -- where the tokens end, all that waits is joined, and no parenthesis is open
-ended_in : (waiting : List Waiting) (value found : Value) (used : List Token) → Held 0 waiting value used → ended_at waiting value ≡ Some found → Expresses used found
+ended_in : (waiting : List Waiting) (value found : Value) (used : List Token) → Held 0 waiting value used
+    → ended_at waiting value ≡ Some found → Expresses used found
 ended_in [] value found used held same =
-    record { syntax = held.syntax; spelled = held.spelled ∙ ap (λ (b : List Token). b ++ tokens_in held.syntax) held.leads; grouped = held.grouped; meant = held.meant ∙ cc }
+    record {
+      syntax = held.syntax;
+      spelled = held.spelled
+          ∙ ap (λ (b : List Token). b ++ tokens_in held.syntax) held.leads;
+      grouped = held.grouped;
+      meant = held.meant ∙ cc;
+    }
 ended_in (w ∷ waiting) value found used held same = cc
 
 -- an operand binds more tightly than each operator
@@ -117,22 +126,34 @@ IsBelow_all (Left left BothOf ∷ waiting) = omega arith
 IsBelow_all (Left left FollowedBy ∷ waiting) = omega arith
 
 -- one operand more
-single : (atom : Atom) (waiting : List Waiting) (used : List Token) → Leads waiting used → Held 4 waiting (value_of atom) (used ++ Operand atom ∷ [])
+single : (atom : Atom) (waiting : List Waiting) (used : List Token) → Leads waiting used
+    → Held 4 waiting (value_of atom) (used ++ Operand atom ∷ [])
 single atom waiting used leads =
     record { before = used; syntax = Single atom; spelled = refl; grouped = tt; tight = omega arith; meant = refl; below = IsBelow_all waiting; leads = leads }
 
--- an operator behind what is held
-left_of : (op : Op) (waiting : List Waiting) (value : Value) (used : List Token) → (held : Held (precedence op) waiting value used) → Opens (used ++ Operator op ∷ []) held.before value op
+-- an operator after what is held
+left_of : (op : Op) (waiting : List Waiting) (value : Value) (used : List Token) → (held : Held (precedence op) waiting value used)
+    → Opens (used ++ Operator op ∷ []) held.before value op
 left_of op waiting value used held =
-    record { syntax = held.syntax; spelled = ap (λ (b : List Token). b ++ Operator op ∷ []) held.spelled ∙ append_assoc held.before (tokens_in held.syntax) (Operator op ∷ []); grouped = held.grouped; tight = held.tight; meant = held.meant }
+    record {
+      syntax = held.syntax;
+      spelled = ap (λ (b : List Token). b ++ Operator op ∷ []) held.spelled
+          ∙ append_assoc held.before (tokens_in held.syntax)
+          (Operator op ∷ []);
+      grouped = held.grouped;
+      tight = held.tight;
+      meant = held.meant;
+    }
 
 -- parentheses round what is held
-grouped_in : (waiting : List Waiting) (value : Value) (used : List Token) → Held 0 (Paren ∷ waiting) value used → Held 4 waiting value (used ++ Close ∷ [])
+grouped_in : (waiting : List Waiting) (value : Value) (used : List Token) → Held 0 (Paren ∷ waiting) value used
+    → Held 4 waiting value (used ++ Close ∷ [])
 grouped_in waiting value used held =
     record {
       before = held.leads.0;
       syntax = Group held.syntax;
-      spelled = ap (λ (b : List Token). b ++ Close ∷ []) (held.spelled ∙ ap (λ (b : List Token). b ++ tokens_in held.syntax) held.leads.1) ∙ simp append_assoc;
+      spelled = ap (λ (b : List Token). b ++ Close ∷ []) (held.spelled ∙ ap (λ (b : List Token). b ++ tokens_in held.syntax) held.leads.1)
+          ∙ simp append_assoc;
       grouped = held.grouped;
       tight = omega arith;
       meant = held.meant;
@@ -144,20 +165,23 @@ ran_none : (tokens : List Token) (found : Value) → run tokens None ≡ Some fo
 ran_none [] found ran = cc
 ran_none (token ∷ tokens) found ran = cc
 
--- what goes on behind a closing parenthesis goes on behind what it ends
+-- what goes on after a closing parenthesis goes on after what it ends
 closing : (tokens used : List Token) (waiting : List Waiting) (value found : Value) → Held 0 waiting value used →
     run tokens (closed_at waiting value) ≡ Some found →
-    ((outer : List Waiting) (inner : Value) → Held 4 outer inner (used ++ Close ∷ []) → run tokens (operand_held outer inner) ≡ Some found → Expresses ((used ++ Close ∷ []) ++ tokens) found) →
+    ((outer : List Waiting) (inner : Value) → Held 4 outer inner (used ++ Close ∷ []) → run tokens (operand_held outer inner) ≡ Some found
+    → Expresses ((used ++ Close ∷ []) ++ tokens) found) →
     Expresses (used ++ (Close ∷ tokens)) found
 closing tokens used [] value found held ran on = absurd (ran_none tokens found ran)
 closing tokens used (Paren ∷ waiting) value found held ran on = rw one_more (on waiting value (grouped_in waiting value used held) ran)
 closing tokens used (Left left op ∷ waiting) value found held ran on = absurd (ran_none tokens found ran)
 
-pub expresses : (tokens used : List Token) (waiting : List Waiting) (operand : Option Value) (value : Value) → LeadsTo waiting operand used →
+pub expresses : (tokens used : List Token) (waiting : List Waiting) (operand : Option Value) (value : Value)
+    → LeadsTo waiting operand used →
     run tokens (Some record { waiting = waiting; operand = operand }) ≡ Some value → Expresses (used ++ tokens) value
 expresses [] used waiting None value leads ran = cc
 expresses [] used waiting (Some operand) value leads ran =
-    let whole : Reduces 0 (reduced 0 waiting operand).0 (reduced 0 waiting operand).1 used = reduces 0 waiting operand used (Held-less 0 4 waiting operand used (omega arith) leads) in
+    let whole : Reduces 0 (reduced 0 waiting operand).0 (reduced 0 waiting operand).1 used = reduces 0 waiting operand used
+    (Held-less 0 4 waiting operand used (omega arith) leads) in
     rw append-nil (ended_in _ _ value used whole.held ran)
 expresses (Operand atom ∷ tokens) used waiting None value leads ran =
     rw one_more (expresses tokens (used ++ Operand atom ∷ []) waiting (Some (value_of atom)) value (single atom waiting used leads) ran)
@@ -165,16 +189,21 @@ expresses (Operand atom ∷ tokens) used waiting (Some held) value leads ran = a
 expresses (Operator op ∷ tokens) used waiting None value leads ran = absurd (ran_none tokens value ran)
 expresses (Operator op ∷ tokens) used waiting (Some operand) value leads ran =
     let left : Reduces (precedence op) (reduced (precedence op) waiting operand).0 (reduced (precedence op) waiting operand).1 used =
-    reduces (precedence op) waiting operand used (Held-less (precedence op) 4 waiting operand used (omega (arith, precedence_below op)) leads) in
-    rw one_more (expresses tokens (used ++ Operator op ∷ []) (Left (reduced (precedence op) waiting operand).1 op ∷ (reduced (precedence op) waiting operand).0) None value
+    reduces (precedence op) waiting operand used
+    (Held-less (precedence op) 4 waiting operand used (omega (arith, precedence_below op)) leads) in
+    rw one_more
+    (expresses tokens (used ++ Operator op ∷ [])
+    (Left (reduced (precedence op) waiting operand).1 op ∷ (reduced (precedence op) waiting operand).0) None value
     (left.held.before, left_of op _ _ used left.held, left.below, left.held.leads) ran)
 expresses (Open ∷ tokens) used waiting None value leads ran =
     rw one_more (expresses tokens (used ++ Open ∷ []) (Paren ∷ waiting) None value (used, refl, leads) ran)
 expresses (Open ∷ tokens) used waiting (Some held) value leads ran = absurd (ran_none tokens value ran)
 expresses (Close ∷ tokens) used waiting None value leads ran = absurd (ran_none tokens value ran)
 expresses (Close ∷ tokens) used waiting (Some operand) value leads ran =
-    let inner : Reduces 0 (reduced 0 waiting operand).0 (reduced 0 waiting operand).1 used = reduces 0 waiting operand used (Held-less 0 4 waiting operand used (omega arith) leads) in
-    closing tokens used (reduced 0 waiting operand).0 (reduced 0 waiting operand).1 value inner.held ran (λ waiting found held after. expresses tokens (used ++ Close ∷ []) waiting (Some found) value held after)
+    let inner : Reduces 0 (reduced 0 waiting operand).0 (reduced 0 waiting operand).1 used = reduces 0 waiting operand used
+    (Held-less 0 4 waiting operand used (omega arith) leads) in
+    closing tokens used (reduced 0 waiting operand).0 (reduced 0 waiting operand).1 value inner.held ran
+    (λ waiting found held after. expresses tokens (used ++ Close ∷ []) waiting (Some found) value held after)
 
 -- what is found is the value of an expression
 pub expressed : (tokens : List Token) (value : Value) → evaluated tokens ≡ Some value → Expresses tokens value

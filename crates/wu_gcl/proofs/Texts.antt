@@ -5,8 +5,8 @@ use Rattle.std.proofs.lemmas.Bool.Decides.{nat_tests}
 use Rattle.std.proofs.lemmas.List.{drop_at, take-append-drop, length-drop}
 use Rattle.wu_gcl.specs.declared.expressions.Op.TheVariants.{Containing, ContainedIn, NotContaining, NotContainedIn, OneOf, BothOf, FollowedBy}
 use Rattle.wu_gcl.specs.Lexical.{Quoted, Bracketed, FileWord, LineWord, Token, Operand, Operator, Open, Close, token_text, IsBlank, Stands, AreTokens, HasNoTokens}
-use Rattle.wu_gcl.specs.Scanning.{is_blank, after_blanks, front_of}
-use Rattle.wu_gcl.proofs.Fronts.{prefix_len-run, run_passes, stands_at_front, front_stands}
+use Rattle.wu_gcl.specs.Scanning.{is_blank, after_blanks, first_token}
+use Rattle.wu_gcl.proofs.FirstTokens.{prefix_len-run, run_passes, stands_at_front, front_stands}
 
 blank_passes : (b : ℕ) → IsBlank b → is_blank b ≡ true
 blank_passes b blank = grind (arith, nat_tests)
@@ -53,7 +53,7 @@ cleared b text true is clear =
     rw one clear
 cleared b text false is clear = rw is refl
 
--- behind all the blanks no blank stands
+-- after all the blanks no blank stands
 pub clear : (text : List ℕ) → prefix_len is_blank (after_blanks text) ≡ 0
 clear [] = refl
 clear (b ∷ text) = cleared b text (is_blank b) refl (clear text)
@@ -69,36 +69,40 @@ All-append P (x ∷ a) b first second = (first.0, All-append P a b first.1 secon
 
 -- the blanks at the front of a text are no part of its tokens
 pub blanks_on : (tokens : List Token) (text : List ℕ) → AreTokens tokens (after_blanks text) → AreTokens tokens text
-blanks_on [] text are = rw (← take-append-drop (prefix_len is_blank text) text) (All-append IsBlank _ _ (run_passes is_blank IsBlank passes_blank text) are)
+blanks_on [] text are = rw (← take-append-drop (prefix_len is_blank text) text)
+    (All-append IsBlank _ _ (run_passes is_blank IsBlank passes_blank text) are)
 blanks_on (token ∷ tokens) text (blanks, token_on, rest, same, blank, stands, are) = (
   take (prefix_len is_blank text) text ++ blanks,
   token_on,
   rest,
-  sym (take-append-drop (prefix_len is_blank text) text) ∙ ap (λ (behind : List ℕ). take (prefix_len is_blank text) text ++ behind) same ∙ sym (append_assoc _ blanks token_on),
+  sym (take-append-drop (prefix_len is_blank text) text) ∙ ap (λ (after : List ℕ). take (prefix_len is_blank text) text ++ after) same
+      ∙ sym (append_assoc _ blanks token_on),
   All-append IsBlank _ blanks (run_passes is_blank IsBlank passes_blank text) blank,
   stands,
   are,
 )
 
--- where a token stands behind blanks, it is what stands behind all blanks
-pub behind_blanks : (text blanks token_on rest : List ℕ) (token : Token) → text ≡ blanks ++ token_on → AllByRecursion IsBlank blanks → Stands token rest token_on → after_blanks text ≡ token_on
-behind_blanks text blanks token_on rest token same blank stands =
+-- where a token stands after blanks, it is what stands after all blanks
+pub token_after_blanks : (text blanks token_on rest : List ℕ) (token : Token) → text ≡ blanks ++ token_on → AllByRecursion IsBlank blanks
+    → Stands token rest token_on → after_blanks text ≡ token_on
+token_after_blanks text blanks token_on rest token same blank stands =
     let start : prefix_len is_blank token_on ≡ 0 = rw stands.spelled (clear_at token rest) in
-    let n : prefix_len is_blank (blanks ++ token_on) ≡ length blanks = prefix_len-run is_blank IsBlank blank_passes blanks token_on blank start in
+    let n : prefix_len is_blank (blanks ++ token_on)
+    ≡ length blanks = prefix_len-run is_blank IsBlank blank_passes blanks token_on blank start in
     rw (same, n) (drop_at blanks token_on (length blanks) refl)
 
 pub blanks_off : (tokens : List Token) (text : List ℕ) → AreTokens tokens text → AreTokens tokens (after_blanks text)
 blanks_off [] text are = rw (all_blank text are) tt
 blanks_off (token ∷ tokens) text (blanks, token_on, rest, same, blank, stands, are) =
-    ([], token_on, rest, behind_blanks text blanks token_on rest token same blank stands, tt, stands, are)
+    ([], token_on, rest, token_after_blanks text blanks token_on rest token same blank stands, tt, stands, are)
 
--- what stands at the front, and the tokens behind it
+-- what stands at the front, and the tokens after it
 pub record Starts (tokens : List Token) (text : List ℕ) : Type 0 where
   pub token : Token
   pub rest : List ℕ
   pub more : List Token
   pub split : tokens ≡ token ∷ more
-  pub found : front_of text ≡ Some (token, rest)
+  pub found : first_token text ≡ Some (token, rest)
   pub are : AreTokens more rest
 
 starts_blank : (text : List ℕ) → prefix_len is_blank text ≡ 0 → 0 < length text → AllByRecursion IsBlank text → ⊥
@@ -108,11 +112,20 @@ starts_blank (b ∷ text) clear some are =
     let more : 1 + prefix_len is_blank text ≡ 0 = rw passes at clear in
     omega arith
 
-pub starts : (tokens : List Token) (text : List ℕ) → prefix_len is_blank text ≡ 0 → 0 < length text → AreTokens tokens text → Starts tokens text
+pub starts : (tokens : List Token) (text : List ℕ) → prefix_len is_blank text ≡ 0 → 0 < length text → AreTokens tokens text
+    → Starts tokens text
 starts [] text clear some are = absurd (starts_blank text clear some are)
 starts (token ∷ tokens) text clear some (blanks, token_on, rest, same, blank, stands, are) =
-    let all : after_blanks text ≡ token_on = behind_blanks text blanks token_on rest token same blank stands in
-    record { token = token; rest = rest; more = tokens; split = refl; found = rw (sym (ap (λ (n : ℕ). drop n text) clear) ∙ all) (stands_at_front token rest token_on stands); are = are }
+    let all : after_blanks text ≡ token_on = token_after_blanks text blanks token_on rest token same blank stands in
+    record {
+      token = token;
+      rest = rest;
+      more = tokens;
+      split = refl;
+      found = rw (sym (ap (λ (n : ℕ). drop n text) clear) ∙ all)
+          (stands_at_front token rest token_on stands);
+      are = are;
+    }
 
 -- The tokens of the text are those that are done, and those of the rest.
 pub record Lexed (text : List ℕ) (done : List Token) (rest : List ℕ) : Type 0 where
@@ -122,40 +135,46 @@ pub record Lexed (text : List ℕ) (done : List Token) (rest : List ℕ) : Type 
 pub lexed_start : (text : List ℕ) → Lexed text [] (after_blanks text)
 lexed_start text = record { on = λ more are. blanks_on more text are; only = λ tokens are. (tokens, refl, blanks_off tokens text are) }
 
-same_front : (text : List ℕ) (token : Token) (behind : List ℕ) (done tokens left : List Token) (first : Token) (rest : List ℕ) (more : List Token) →
-    front_of text ≡ Some (token, behind) → front_of text ≡ Some (first, rest) → tokens ≡ done ++ left → left ≡ first ∷ more → AreTokens more rest →
-    (others : List Token) × (tokens ≡ (done ++ token ∷ []) ++ others) × AreTokens others (after_blanks behind)
-same_front text token behind done tokens left first rest more found again same split are =
-    let options : ◌≡◌ {A = Option (Token × List ℕ)} (Some (first, rest)) (Some (token, behind)) = sym again ∙ found in
-    let pairs : ◌≡◌ {A = Token × List ℕ} (first, rest) (token, behind) = cc in
+same_front : (text : List ℕ) (token : Token) (after : List ℕ) (done tokens left : List Token) (first : Token) (rest : List ℕ)
+    (more : List Token) →
+    first_token text ≡ Some (token, after) → first_token text ≡ Some (first, rest) → tokens ≡ done ++ left → left ≡ first ∷ more
+    → AreTokens more rest →
+    (others : List Token) × (tokens ≡ (done ++ token ∷ []) ++ others) × AreTokens others (after_blanks after)
+same_front text token after done tokens left first rest more found again same split are =
+    let options : ◌≡◌ {A = Option (Token × List ℕ)} (Some (first, rest)) (Some (token, after)) = sym again ∙ found in
+    let pairs : ◌≡◌ {A = Token × List ℕ} (first, rest) (token, after) = cc in
     let firsts : first ≡ token = ap (λ (pair : Token × List ℕ). pair.0) pairs in
-    let rests : rest ≡ behind = ap (λ (pair : Token × List ℕ). pair.1) pairs in (
+    let rests : rest ≡ after = ap (λ (pair : Token × List ℕ). pair.1) pairs in (
       more,
-      same ∙ ap (λ (behind : List Token). done ++ behind) (split ∙ ap (λ (t : Token). t ∷ more) firsts) ∙ sym (append_assoc done (token ∷ []) more),
-      blanks_off more behind (rw rests at are),
+      same ∙ ap (λ (after : List Token). done ++ after) (split ∙ ap (λ (t : Token). t ∷ more) firsts)
+          ∙ sym (append_assoc done (token ∷ []) more),
+      blanks_off more after (rw rests at are),
     )
 
-pub lexed_more : (text : List ℕ) (done : List Token) (rest : List ℕ) (token : Token) (behind : List ℕ) → Lexed text done rest → prefix_len is_blank rest ≡ 0 → 0 < length rest →
-    front_of rest ≡ Some (token, behind) → Lexed text (done ++ token ∷ []) (after_blanks behind)
-lexed_more text done rest token behind lexed clear some found = record {
-  on = λ more are. rw append_assoc (lexed.on (token ∷ more) ([], rest, behind, refl, tt, front_stands rest token behind found, blanks_on more behind are));
+pub lexed_more : (text : List ℕ) (done : List Token) (rest : List ℕ) (token : Token) (after : List ℕ) → Lexed text done rest
+    → prefix_len is_blank rest ≡ 0 → 0 < length rest →
+    first_token rest ≡ Some (token, after) → Lexed text (done ++ token ∷ []) (after_blanks after)
+lexed_more text done rest token after lexed clear some found = record {
+  on = λ more are. rw append_assoc
+      (lexed.on (token ∷ more) ([], rest, after, refl, tt, front_stands rest token after found, blanks_on more after are));
   only = λ tokens are.
       let left : (more : List Token) × (tokens ≡ done ++ more) × AreTokens more rest = lexed.only tokens are in
       let first : Starts left.0 rest = starts left.0 rest clear some left.2 in
-      same_front rest token behind done tokens left.0 first.token first.rest first.more found first.found left.1 first.split first.are;
+      same_front rest token after done tokens left.0 first.token first.rest first.more found first.found left.1 first.split first.are;
 }
 
 pub lexed_end : (text : List ℕ) (done : List Token) → Lexed text done [] → AreTokens done text
 lexed_end text done lexed = rw append-nil at (lexed.on [] tt)
 
-pub lexed_none : (text : List ℕ) (done : List Token) (rest : List ℕ) → Lexed text done rest → prefix_len is_blank rest ≡ 0 → 0 < length rest → front_of rest ≡ None → HasNoTokens text
+pub lexed_none : (text : List ℕ) (done : List Token) (rest : List ℕ) → Lexed text done rest → prefix_len is_blank rest ≡ 0 → 0 < length rest
+    → first_token rest ≡ None → HasNoTokens text
 lexed_none text done rest lexed clear some none tokens are =
     let left : (more : List Token) × (tokens ≡ done ++ more) × AreTokens more rest = lexed.only tokens are in
     let first : Starts left.0 rest = starts left.0 rest clear some left.2 in
-    let found : front_of rest ≡ Some (first.token, first.rest) = first.found in
+    let found : first_token rest ≡ Some (first.token, first.rest) = first.found in
     cc
 
-pub front_shorter : (text : List ℕ) (token : Token) (rest : List ℕ) → front_of text ≡ Some (token, rest) → length rest < length text
+pub front_shorter : (text : List ℕ) (token : Token) (rest : List ℕ) → first_token text ≡ Some (token, rest) → length rest < length text
 front_shorter text token rest found =
     let stands : Stands token rest text = front_stands text token rest found in
     let some : 0 < length (token_text token) = token_length token in
@@ -172,7 +191,8 @@ pub record Progress (text : List ℕ) (done : List Token) (rest : List ℕ) : Ty
 pub progress_start : (text : List ℕ) → Progress text [] (after_blanks text)
 progress_start text = record { lexed = lexed_start text; clear = clear text }
 
-pub progress_more : (text : List ℕ) (done : List Token) (rest : List ℕ) (token : Token) (behind : List ℕ) → Progress text done rest → 0 < length rest →
-    front_of rest ≡ Some (token, behind) → Progress text (done ++ token ∷ []) (after_blanks behind)
-progress_more text done rest token behind progress some found =
-    record { lexed = lexed_more text done rest token behind progress.lexed progress.clear some found; clear = clear behind }
+pub progress_more : (text : List ℕ) (done : List Token) (rest : List ℕ) (token : Token) (after : List ℕ) → Progress text done rest
+    → 0 < length rest →
+    first_token rest ≡ Some (token, after) → Progress text (done ++ token ∷ []) (after_blanks after)
+progress_more text done rest token after progress some found =
+    record { lexed = lexed_more text done rest token after progress.lexed progress.clear some found; clear = clear after }

@@ -5,10 +5,10 @@ use Rattle.wu_gcl.specs.declared.expressions.ExprFault.TheVariants.{NotAnExpress
 use Rattle.wu_gcl.specs.Lexical.{Token, token_text, Stands, AreTokens, HasNoTokens}
 use Rattle.wu_gcl.specs.Grammar.{Syntax, operator_count}
 use Rattle.wu_gcl.specs.Reading.{Value, IsSmall, IsLarge, IsWritten, Says, Reads}
-use Rattle.wu_gcl.specs.Scanning.{front_of}
+use Rattle.wu_gcl.specs.Scanning.{first_token}
 use Rattle.wu_gcl.specs.Pending.{evaluated, is_large, found, outcome}
-use Rattle.wu_gcl.proofs.Fronts.{stands_at_front}
-use Rattle.wu_gcl.proofs.Texts.{all_blank, behind_blanks, token_length}
+use Rattle.wu_gcl.proofs.FirstTokens.{stands_at_front}
+use Rattle.wu_gcl.proofs.Texts.{all_blank, token_after_blanks, token_length}
 use Rattle.wu_gcl.proofs.Completeness.{evaluated_in}
 use Rattle.wu_gcl.proofs.Soundness.{Expresses, expressed}
 
@@ -16,20 +16,25 @@ use Rattle.wu_gcl.proofs.Soundness.{Expresses, expressed}
 not_blank : (token : Token) (rest token_on : List ℕ) → Stands token rest token_on → token_on ≡ [] → ⊥
 not_blank token rest token_on stands none =
     let some : 0 < length (token_text token) = token_length token in
-    let whole : length token_on ≡ length (token_text token) + length rest = ap length stands.spelled ∙ length-append (token_text token) rest in
+    let whole : length token_on ≡ length (token_text token) + length rest = ap length stands.spelled
+    ∙ length-append (token_text token) rest in
     let zero : length token_on ≡ 0 = ap length none in
     omega arith
 
 pub one_list : (first second : List Token) (text : List ℕ) → AreTokens first text → AreTokens second text → first ≡ second
 one_list [] [] text a b = refl
 one_list [] (token ∷ tokens) text a (blanks, token_on, rest, same, blank, stands, are) =
-    absurd (not_blank token rest token_on stands (sym (behind_blanks text blanks token_on rest token same blank stands) ∙ all_blank text a))
+    absurd (not_blank token rest token_on stands
+    (sym (token_after_blanks text blanks token_on rest token same blank stands) ∙ all_blank text a))
 one_list (token ∷ tokens) [] text (blanks, token_on, rest, same, blank, stands, are) b =
-    absurd (not_blank token rest token_on stands (sym (behind_blanks text blanks token_on rest token same blank stands) ∙ all_blank text b))
-one_list (token ∷ tokens) (other ∷ others) text (blanks, token_on, rest, same, blank, stands, are) (blanks', token_on', rest', same', blank', stands', are') =
-    let here : token_on ≡ token_on' = sym (behind_blanks text blanks token_on rest token same blank stands) ∙ behind_blanks text blanks' token_on' rest' other same' blank' stands' in
+    absurd (not_blank token rest token_on stands
+    (sym (token_after_blanks text blanks token_on rest token same blank stands) ∙ all_blank text b))
+one_list (token ∷ tokens) (other ∷ others) text (blanks, token_on, rest, same, blank, stands, are)
+    (blanks', token_on', rest', same', blank', stands', are') =
+    let here : token_on ≡ token_on' = sym (token_after_blanks text blanks token_on rest token same blank stands)
+    ∙ token_after_blanks text blanks' token_on' rest' other same' blank' stands' in
     let fronts : ◌≡◌ {A = Option (Token × List ℕ)} (Some (token, rest)) (Some (other, rest')) =
-    sym (stands_at_front token rest token_on stands) ∙ ap front_of here ∙ stands_at_front other rest' token_on' stands' in
+    sym (stands_at_front token rest token_on stands) ∙ ap first_token here ∙ stands_at_front other rest' token_on' stands' in
     let pairs : ◌≡◌ {A = Token × List ℕ} (token, rest) (other, rest') = cc in
     let heads : token ≡ other = ap (λ (pair : Token × List ℕ). pair.0) pairs in
     let rests : rest ≡ rest' = ap (λ (pair : Token × List ℕ). pair.1) pairs in
@@ -68,10 +73,12 @@ said : (text : List ℕ) (value : Value) → Says text value → Comes text valu
 said text value says = record {
   lexing = Some says.tokens;
   lexed = says.lexed;
-  comes = rw (small_test says.tokens says.small) (sym says.meant ∙ sym (ap found (ap evaluated says.written.spelled ∙ evaluated_in says.syntax says.written.grouped)));
+  comes = rw (small_test says.tokens says.small)
+      (sym says.meant ∙ sym (ap found (ap evaluated says.written.spelled ∙ evaluated_in says.syntax says.written.grouped)));
 }
 
-unwritten : (tokens : List Token) (value : Option Value) → evaluated tokens ≡ value → ((syntax : Syntax) → IsWritten syntax tokens → ⊥) → found value ≡ Err NotAnExpression
+unwritten : (tokens : List Token) (value : Option Value) → evaluated tokens ≡ value → ((syntax : Syntax) → IsWritten syntax tokens → ⊥)
+    → found value ≡ Err NotAnExpression
 unwritten tokens None is none = refl
 unwritten tokens (Some value) is none =
     let expresses : Expresses tokens value = expressed tokens value is in
@@ -79,12 +86,19 @@ unwritten tokens (Some value) is none =
 
 refused : (text : List ℕ) → Reads text (Err NotAnExpression) → Comes text (Err NotAnExpression)
 refused text (inl none) = record { lexing = None; lexed = none; comes = refl }
-refused text (inr (tokens, lexed, small, none)) = record { lexing = Some tokens; lexed = lexed; comes = rw (small_test tokens small) (sym (unwritten tokens (evaluated tokens) refl none)) }
+refused text
+    (inr (tokens, lexed, small, none)) = record {
+      lexing = Some tokens;
+      lexed = lexed;
+      comes = rw (small_test tokens small)
+          (sym (unwritten tokens (evaluated tokens) refl none));
+    }
 
 comes_from : (text : List ℕ) (value : Value) → Reads text value → Comes text value
 comes_from text (Ok region) reads = said text (Ok region) reads
 comes_from text (Err NotAnExpression) reads = refused text reads
-comes_from text (Err TooLarge) (tokens, lexed, large) = record { lexing = Some tokens; lexed = lexed; comes = rw (large_test tokens large) refl }
+comes_from text (Err TooLarge)
+    (tokens, lexed, large) = record { lexing = Some tokens; lexed = lexed; comes = rw (large_test tokens large) refl }
 comes_from text (Err NoWord) reads = said text (Err NoWord) reads
 comes_from text (Err BadWindow) reads = said text (Err BadWindow) reads
 

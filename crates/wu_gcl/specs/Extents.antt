@@ -19,7 +19,8 @@ same_extent one other = one.start == other.start && one.end == other.end
 
 -- every extent of a text of n places, by its start, then by its end
 unfoldable pub extents_of : ℕ → List Extent
-extents_of n = flat_map (λ first. map (λ last. record { start = first; end = last }) (range_with_len first (n - first))) (range_with_len 0 n)
+extents_of n = flat_map (λ first. map (λ last. record { start = first; end = last }) (range_with_len first (n - first)))
+    (range_with_len 0 n)
 
 -- A set of extents is told by a test, true of the extents in it. The text has n places.
 -- Some extent of the text passes the test.
@@ -54,7 +55,7 @@ in_either left right x = left x || right x
 unfoldable pub holds_both : ℕ → (Extent → Bool) → (Extent → Bool) → Extent → Bool
 holds_both n left right x = some_extent n (λ y. holds x y && left y) && some_extent n (λ z. holds x z && right z)
 
--- holds an extent of the left set, and one of the right set that starts behind its end
+-- holds an extent of the left set, and one of the right set that starts after its end
 unfoldable pub holds_in_order : ℕ → (Extent → Bool) → (Extent → Bool) → Extent → Bool
 holds_in_order n left right x =
     some_extent n (λ y. holds x y && left y && some_extent n (λ z. holds x z && right z && nat_lt y.end z.start))
@@ -70,7 +71,7 @@ combined BothOf n left right = innermost n (holds_both n left right)
 combined FollowedBy n left right = innermost n (holds_in_order n left right)
 
 -- Where terms stand is told by a test of a term and a place.
--- The words stand there, one behind the other from the place on.
+-- The words stand there, one after the other from the place on.
 abbrev pub words_stand : (List ℕ → ℕ → Bool) → List (List ℕ) → ℕ → Bool
 words_stand stands [] place = true
 words_stand stands (word ∷ words) place = stands word place && words_stand stands words (place + 1)

@@ -74,11 +74,12 @@ pub record Stands (token : Token) (rest text : List ℕ) : Type 0 where
   pub proper : IsToken token
   pub ended : EndsBefore token rest
 
--- the text is these tokens, with any spaces and TABs before, between and behind them
+-- the text is these tokens, with any spaces and TABs before, between and after them
 abbrev pub AreTokens : List Token → List ℕ → Type 0
 AreTokens [] text = AllByRecursion IsBlank text
 AreTokens (token ∷ tokens) text =
-    (blanks : List ℕ) × (token_on : List ℕ) × (rest : List ℕ) × (text ≡ blanks ++ token_on) × AllByRecursion IsBlank blanks × Stands token rest token_on × AreTokens tokens rest
+    (blanks : List ℕ) × (token_on : List ℕ) × (rest : List ℕ) × (text ≡ blanks ++ token_on) × AllByRecursion IsBlank blanks
+    × Stands token rest token_on × AreTokens tokens rest
 
 -- the text isn't a list of tokens
 abbrev pub HasNoTokens : List ℕ → Type 0

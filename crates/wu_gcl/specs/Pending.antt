@@ -1,5 +1,6 @@
 -- Reading tokens from the left, with a stack of what is open.
 use Rattle.std.specs.Prelude.{ℕ, Bool, ◌||◌, nat_le, nat_lt, List, [], ◌∷◌, Option, Some, None, Err, if◌then◌else◌}
+use Rattle.wu_base.specs.declared.limits.TheConstants.{OPERATORS_MAX, PARENS_MAX}
 use Rattle.wu_gcl.specs.declared.expressions.Op.{Op}
 use Rattle.wu_gcl.specs.Lexical.{Token, Operand, Operator, Open, Close}
 use Rattle.wu_gcl.specs.declared.expressions.ExprFault.TheVariants.{NotAnExpression, TooLarge}
@@ -66,9 +67,9 @@ run (token ∷ tokens) (Some state) = run tokens (stepped token state.waiting st
 abbrev pub evaluated : List Token → Option Value
 evaluated tokens = run tokens (operand_wanted [])
 
--- more than 63 operators or more than 64 opening parentheses
+-- more than OPERATORS_MAX operators or more than PARENS_MAX opening parentheses
 abbrev pub is_large : List Token → Bool
-is_large tokens = nat_lt 63 (operator_count tokens) || nat_lt 64 (open_count tokens)
+is_large tokens = nat_lt OPERATORS_MAX (operator_count tokens) || nat_lt PARENS_MAX (open_count tokens)
 
 abbrev pub found : Option Value → Value
 found None = Err NotAnExpression

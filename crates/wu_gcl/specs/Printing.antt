@@ -10,7 +10,7 @@ use Rattle.wu_gcl.specs.Reading.{tag_text}
 abbrev pub quoted : List ℕ → List ℕ
 quoted bytes = 34 ∷ (bytes ++ 34 ∷ [])
 
--- a word behind a space
+-- a word after a space
 abbrev pub spaced : List ℕ → List ℕ
 spaced word = 32 ∷ word
 

@@ -1,5 +1,5 @@
 -- What bytes say as a region expression.
-use Rattle.std.specs.Prelude.{◌≡◌, ◌⊎◌, ℕ, ◌+◌, ◌-◌, ◌*◌, ◌<◌, ◌≤◌, ◌==◌, ◌||◌, Bool, nat_lt, List, [], ◌∷◌, Option, Some, None, Result, Ok, Err, codes, if◌then◌else◌}
+use Rattle.std.specs.Prelude.{◌≡◌, ◌⊎◌, ℕ, ◌<◌, ◌≤◌, ◌==◌, Bool, List, [], ◌∷◌, Option, Some, None, Result, Ok, Err, if◌then◌else◌}
 use Rattle.std.specs.Cmp.Lexicographic.{pointwise}
 use Rattle.std.specs.Prelude.{nat_eq}
 use Rattle.wu_gcl.specs.declared.expressions.Tag.{Tag}
@@ -8,7 +8,11 @@ use Rattle.wu_gcl.specs.declared.expressions.Op.{Op}
 use Rattle.wu_gcl.specs.declared.expressions.Expr.{Expr}
 use Rattle.wu_gcl.specs.declared.expressions.ExprFault.{ExprFault}
 use Rattle.wu_gcl.specs.declared.expressions.ExprFault.TheVariants.{NotAnExpression, TooLarge, NoWord, BadWindow}
+use Rattle.wu_base.specs.declared.limits.TheConstants.{OPERATORS_MAX, PARENS_MAX}
+use Rattle.wu_fields.specs.Numbers.{number_of}
 use Rattle.wu_token.specs.Words.{words_of}
+use Rattle.wu_token.specs.Tokens.{file_start, file_end, line_start, line_end}
+use Rattle.wu_gcl.specs.declared.expressions.TheConstants.{WINDOW_MAX}
 use Rattle.wu_gcl.specs.Lexical.{Atom, Quoted, Bracketed, FileWord, LineWord, Token, AreTokens, HasNoTokens}
 use Rattle.wu_gcl.specs.Grammar.{Syntax, Single, Group, Join, tokens_in, IsGrouped, operator_count, open_count}
 use Rattle.wu_gcl.specs.Regions.{Region, Phrase, Mark, WholeFile, WholeLine, Window, Both, region_of}
@@ -18,10 +22,10 @@ abbrev pub Value : Type 0
 Value = Result Region ExprFault
 
 abbrev pub tag_text : Tag → List ℕ
-tag_text FileStart = codes "<file>"
-tag_text FileEnd = codes "</file>"
-tag_text LineStart = codes "<line>"
-tag_text LineEnd = codes "</line>"
+tag_text FileStart = file_start
+tag_text FileEnd = file_end
+tag_text LineStart = line_start
+tag_text LineEnd = line_end
 
 abbrev pub is_tag_text : Tag → List ℕ → Bool
 is_tag_text tag bytes = pointwise nat_eq bytes (tag_text tag)
@@ -43,17 +47,13 @@ abbrev pub quoted_value : Option Tag → List ℕ → Value
 quoted_value (Some tag) bytes = Ok (Mark tag)
 quoted_value None bytes = phrase_of (words_of bytes)
 
--- the number that decimal digits are, behind those of n
-abbrev pub digits_behind : ℕ → List ℕ → ℕ
-digits_behind n [] = n
-digits_behind n (digit ∷ digits) = digits_behind (10 * n + (digit - 48)) digits
+abbrev pub window_with : Option ℕ → Value
+window_with None = Err BadWindow
+window_with (Some n) = if n == 0 then Err BadWindow else Ok (Window n)
 
--- a window's length: no leading zero, and so at least 1, and at most 65535
+-- a window's length: a decimal number from 1 to WINDOW_MAX without a leading zero
 abbrev pub window_of : List ℕ → Value
-window_of [] = Err BadWindow
-window_of (digit ∷ digits) =
-    if digit == 48 || nat_lt 65535 (digits_behind 0 (digit ∷ digits)) then Err BadWindow
-    else Ok (Window (digits_behind 0 (digit ∷ digits)))
+window_of digits = window_with (number_of digits WINDOW_MAX)
 
 abbrev pub value_of : Atom → Value
 value_of (Quoted bytes) = quoted_value (tag_at bytes) bytes
@@ -61,7 +61,7 @@ value_of (Bracketed digits) = window_of digits
 value_of FileWord = Ok WholeFile
 value_of LineWord = Ok WholeLine
 
--- of two faults the one that counts: want of a word comes before a bad window
+-- of two faults the one that counts: a missing word comes before a bad window
 abbrev pub first_fault : ExprFault → ExprFault → ExprFault
 first_fault BadWindow fault = fault
 first_fault fault _ = fault
@@ -78,13 +78,13 @@ meaning (Single atom) = value_of atom
 meaning (Group inner) = meaning inner
 meaning (Join op left right) = join op (meaning left) (meaning right)
 
--- at most 63 operators and at most 64 opening parentheses
+-- at most OPERATORS_MAX operators and at most PARENS_MAX opening parentheses
 pub record IsSmall (tokens : List Token) : Type 0 where
-  pub operators : operator_count tokens ≤ 63
-  pub groups : open_count tokens ≤ 64
+  pub operators : operator_count tokens ≤ OPERATORS_MAX
+  pub groups : open_count tokens ≤ PARENS_MAX
 
 abbrev pub IsLarge : List Token → Type 0
-IsLarge tokens = (63 < operator_count tokens) ⊎ (64 < open_count tokens)
+IsLarge tokens = (OPERATORS_MAX < operator_count tokens) ⊎ (PARENS_MAX < open_count tokens)
 
 -- the tokens are this expression
 pub record IsWritten (syntax : Syntax) (tokens : List Token) : Type 0 where

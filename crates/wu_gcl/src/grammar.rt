@@ -75,7 +75,7 @@ fn wanted(alloc: Global, waiting: &mut Vec<Waiting>, token: &Token<'_>) -> Resul
     }
 }
 
-/// After a token behind an operand.
+/// After a token that follows an operand.
 fn held(
     alloc: Global,
     waiting: &mut Vec<Waiting>,
@@ -160,23 +160,18 @@ fn reduced(
 fn joined(alloc: Global, op: Op, left: Operand, right: Operand) -> Result<Operand, NoMemory>
     ensures { IfOk result (λ r. seen r ≡ join op (seen left) (seen right)) }
 {
-    match left {
-        Ok(left) => match right {
-            Ok(right) => {
-                let left = Box::new(alloc, left)?;
-                let right = Box::new(alloc, right)?;
-                Ok(Ok(Expr::Both(op, left, right)))
-            }
-            Err(fault) => Ok(Err(fault)),
-        },
-        Err(fault) => match right {
-            Ok(_) => Ok(Err(fault)),
-            Err(other) => Ok(Err(first_fault(fault, other))),
-        },
+    match (left, right) {
+        (Ok(left), Ok(right)) => {
+            let left = Box::new(alloc, left)?;
+            let right = Box::new(alloc, right)?;
+            Ok(Ok(Expr::Both(op, left, right)))
+        }
+        (Ok(_), Err(fault)) | (Err(fault), Ok(_)) => Ok(Err(fault)),
+        (Err(fault), Err(other)) => Ok(Err(first_fault(fault, other))),
     }
 }
 
-/// Of two operands' faults the one that counts: want of a word comes before a bad window.
+/// Of two operands' faults the one that counts: a missing word comes before a bad window.
 fn first_fault(fault: ExprFault, other: ExprFault) -> ExprFault
     ensures { result ≡ first_fault fault other }
 {

@@ -3,7 +3,7 @@ ghost use Rattle.std.specs.Prelude.{◌≡◌, List, ℕ, ◌<◌, ◌≤◌, So
 ghost use Rattle.std.specs.List.{prefix_len};
 ghost use Rattle.std.specs.Char.{is_ascii_digit, is_ascii_alphabetic};
 ghost use Rattle.wu_gcl.specs.Lexical.{AreTokens, HasNoTokens};
-ghost use Rattle.wu_gcl.specs.Scanning.{front_of, quoted_at, bracketed_at, closed_by, word_at, negation_at, dots_at, seen_front, after_blanks, is_blank, is_unquote};
+ghost use Rattle.wu_gcl.specs.Scanning.{first_token, quoted_at, bracketed_at, closed_by, word_at, negation_at, dots_at, seen_token, after_blanks, is_blank, is_unquote};
 ghost use Rattle.wu_gcl.specs.Views.{token_of};
 
 use crate::expressions::Op;
@@ -39,23 +39,23 @@ pub fn tokens(alloc: Global, text: &[u8]) -> Result<Option<Vec<Token<'_>>>, NoMe
     let mut tokens = Vec::new(alloc);
     let mut rest = after_blanks(text);
     'texts: while !rest.is_empty() {
-        let Some((token, behind)) = front_of(rest) else {
+        let Some((token, after)) = first_token(rest) else {
             return Ok(None);
         };
         tokens.push(token)?;
-        rest = after_blanks(behind);
+        rest = after_blanks(after);
     }
     Ok(Some(tokens))
 }
 
-/// The text without the spaces and TABs at its front.
+/// The text without the spaces and TABs at its start.
 fn after_blanks(text: &[u8]) -> &[u8]
     ensures { result.now ≡ after_blanks text.now }
 {
     &text[blanks_len(text)..]
 }
 
-/// How many spaces and TABs stand at the front.
+/// How many spaces and TABs stand at the start.
 fn blanks_len(text: &[u8]) -> usize
     ensures value { result ≡ prefix_len is_blank text.now }
     ensures within { result ≤ length text.now }
@@ -73,7 +73,7 @@ fn unquoted_len(text: &[u8]) -> usize
     text.iter().take_while(|b| **b != b'"').count()
 }
 
-/// How many ASCII digits stand at the front.
+/// How many ASCII digits stand at the start.
 fn digits_len(text: &[u8]) -> usize
     ensures value { result ≡ prefix_len is_ascii_digit text.now }
     ensures within { result ≤ length text.now }
@@ -81,7 +81,7 @@ fn digits_len(text: &[u8]) -> usize
     text.iter().take_while(|b| b.is_ascii_digit()).count()
 }
 
-/// How many ASCII letters stand at the front.
+/// How many ASCII letters stand at the start.
 fn letters_len(text: &[u8]) -> usize
     ensures value { result ≡ prefix_len is_ascii_alphabetic text.now }
     ensures within { result ≤ length text.now }
@@ -89,9 +89,9 @@ fn letters_len(text: &[u8]) -> usize
     text.iter().take_while(|b| b.is_ascii_alphabetic()).count()
 }
 
-/// The token at the front of the text, and what stands behind it.
-fn front_of(text: &[u8]) -> Option<(Token<'_>, &[u8])>
-    ensures { seen_front result ≡ front_of text.now }
+/// The token at the start of the text, and what stands after it.
+fn first_token(text: &[u8]) -> Option<(Token<'_>, &[u8])>
+    ensures { seen_token result ≡ first_token text.now }
 {
     let (first, rest) = text.split_first()?;
     match *first {
@@ -111,7 +111,7 @@ fn front_of(text: &[u8]) -> Option<(Token<'_>, &[u8])>
 
 /// The rest of a quoted text whose first quote is read.
 fn quoted_at(text: &[u8]) -> Option<(Token<'_>, &[u8])>
-    ensures { seen_front result ≡ quoted_at text.now }
+    ensures { seen_token result ≡ quoted_at text.now }
 {
     let end = unquoted_len(text);
     if end < text.len() {
@@ -123,7 +123,7 @@ fn quoted_at(text: &[u8]) -> Option<(Token<'_>, &[u8])>
 
 /// The rest of a window whose opening bracket is read.
 fn bracketed_at(text: &[u8]) -> Option<(Token<'_>, &[u8])>
-    ensures { seen_front result ≡ bracketed_at text.now }
+    ensures { seen_token result ≡ bracketed_at text.now }
 {
     let end = digits_len(text);
     if end == 0 {
@@ -134,7 +134,7 @@ fn bracketed_at(text: &[u8]) -> Option<(Token<'_>, &[u8])>
 
 /// A window of these digits, where the text begins with a closing bracket.
 fn closed_by<'a>(digits: &'a [u8], text: &'a [u8]) -> Option<(Token<'a>, &'a [u8])>
-    ensures { seen_front result ≡ closed_by digits.now text.now }
+    ensures { seen_token result ≡ closed_by digits.now text.now }
 {
     let (first, rest) = text.split_first()?;
     match *first {
@@ -143,9 +143,9 @@ fn closed_by<'a>(digits: &'a [u8], text: &'a [u8]) -> Option<(Token<'a>, &'a [u8
     }
 }
 
-/// The word `file` or `line`, where all the letters at the front of the text are it.
+/// The word `file` or `line`, where all the letters at the start of the text are it.
 fn word_at(text: &[u8]) -> Option<(Token<'_>, &[u8])>
-    ensures { seen_front result ≡ word_at text.now }
+    ensures { seen_token result ≡ word_at text.now }
 {
     let end = letters_len(text);
     let letters = &text[..end];
@@ -161,7 +161,7 @@ fn word_at(text: &[u8]) -> Option<(Token<'_>, &[u8])>
 
 /// The rest of an operator whose slash is read.
 fn negation_at(text: &[u8]) -> Option<(Token<'_>, &[u8])>
-    ensures { seen_front result ≡ negation_at text.now }
+    ensures { seen_token result ≡ negation_at text.now }
 {
     let (first, rest) = text.split_first()?;
     match *first {
@@ -173,7 +173,7 @@ fn negation_at(text: &[u8]) -> Option<(Token<'_>, &[u8])>
 
 /// The rest of an operator whose first dot is read.
 fn dots_at(text: &[u8]) -> Option<(Token<'_>, &[u8])>
-    ensures { seen_front result ≡ dots_at text.now }
+    ensures { seen_token result ≡ dots_at text.now }
 {
     let (first, rest) = text.split_first()?;
     match *first {

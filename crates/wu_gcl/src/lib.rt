@@ -24,7 +24,7 @@ mod operands;
 mod printer;
 mod reading;
 
-pub use expressions::{Expr, ExprFault, Op, Tag};
+pub use expressions::{Expr, ExprFault, Op, Tag, WINDOW_MAX};
 pub use naming::{tag_bytes, terms_of};
 pub use printer::print;
 pub use reading::{each_text_is_read, one_reading, parse};

@@ -6,18 +6,17 @@ ghost use Rattle.wu_gcl.specs.Terms.{terms_in, AreTerms};
 
 use crate::expressions::{Expr, Tag};
 use std::alloc::Global;
-use wu_base::{Bytes, NoMemory};
+use wu_base::{Bytes, NoMemory, sorted_once};
+use wu_token::{FILE_END, FILE_START, LINE_END, LINE_START};
 
-/// The distinct words and tags of the expression, ascending by their bytes. The one error is want of
+/// The distinct words and tags of the expression, ascending by their bytes. The one error is out of
 /// memory.
 pub fn terms_of(alloc: Global, expr: &Expr) -> Result<Vec<Bytes>, NoMemory>
     ensures { IfOk result (λ v. AreTerms (region_of expr.now) v.items) }
 {
     let mut terms = Vec::new(alloc);
     put_terms(alloc, &mut terms, expr)?;
-    terms.sort()?;
-    terms.dedup();
-    Ok(terms)
+    Ok(sorted_once(terms))
 }
 
 /// Appends the terms in the order in which they are named.
@@ -56,9 +55,9 @@ pub fn tag_bytes(tag: Tag) -> &'static [u8]
     ensures { result.now ≡ tag_text tag }
 {
     match tag {
-        Tag::FileStart => b"<file>",
-        Tag::FileEnd => b"</file>",
-        Tag::LineStart => b"<line>",
-        Tag::LineEnd => b"</line>",
+        Tag::FileStart => FILE_START,
+        Tag::FileEnd => FILE_END,
+        Tag::LineStart => LINE_START,
+        Tag::LineEnd => LINE_END,
     }
 }

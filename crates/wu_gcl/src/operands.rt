@@ -1,16 +1,15 @@
 //! What operands say.
-ghost use Rattle.std.specs.Prelude.{◌≡◌, ◌<◌, IfOk, MatchOption};
-ghost use Rattle.wu_gcl.specs.Reading.{value_of, quoted_value, tag_at, digits_behind, window_of, seen};
+ghost use Rattle.std.specs.Prelude.{◌≡◌, IfOk};
+ghost use Rattle.wu_gcl.specs.Reading.{value_of, quoted_value, tag_at, is_tag_text, window_of, seen};
 ghost use Rattle.wu_gcl.specs.Views.{atom_of};
 
-use crate::expressions::{Expr, ExprFault, Tag};
+use crate::expressions::{Expr, ExprFault, Tag, WINDOW_MAX};
 use crate::lexing::Atom;
+use crate::naming::tag_bytes;
 use std::alloc::Global;
 use wu_base::{NoMemory, Sequence};
+use wu_fields::read_decimal;
 use wu_token::words;
-
-/// The greatest length of a window.
-const WINDOW_MAX: u32 = 65_535;
 
 /// What an operand says, or its fault.
 pub fn operand_of(alloc: Global, atom: &Atom<'_>) -> Result<Result<Expr, ExprFault>, NoMemory>
@@ -45,46 +44,33 @@ fn quoted(alloc: Global, bytes: &[u8]) -> Result<Result<Expr, ExprFault>, NoMemo
 fn tag_at(bytes: &[u8]) -> Option<Tag>
     ensures { result ≡ tag_at bytes.now }
 {
-    if bytes == b"<file>".as_slice() {
+    if is_tag(Tag::FileStart, bytes) {
         Some(Tag::FileStart)
-    } else if bytes == b"</file>".as_slice() {
+    } else if is_tag(Tag::FileEnd, bytes) {
         Some(Tag::FileEnd)
-    } else if bytes == b"<line>".as_slice() {
+    } else if is_tag(Tag::LineStart, bytes) {
         Some(Tag::LineStart)
-    } else if bytes == b"</line>".as_slice() {
+    } else if is_tag(Tag::LineEnd, bytes) {
         Some(Tag::LineEnd)
     } else {
         None
     }
 }
 
-/// The window of that length, where the digits are a decimal number from 1 to 65535 without a
+/// Whether the bytes are exactly the tag.
+fn is_tag(tag: Tag, bytes: &[u8]) -> bool
+    ensures { result ≡ is_tag_text tag bytes.now }
+{
+    bytes == tag_bytes(tag)
+}
+
+/// The window of that length, where the digits are a decimal number from 1 to WINDOW_MAX without a
 /// leading zero.
 fn window_of(digits: &[u8]) -> Result<Expr, ExprFault>
     ensures { seen result ≡ window_of digits.now }
 {
-    let Some((first, _)) = digits.split_first() else {
-        return Err(ExprFault::BadWindow);
-    };
-    if *first == b'0' {
-        return Err(ExprFault::BadWindow);
+    match read_decimal(digits, WINDOW_MAX) {
+        Some(length) if length > 0 => Ok(Expr::Window(length as u16)),
+        _ => Err(ExprFault::BadWindow),
     }
-    match number_of(digits) {
-        Some(length) => Ok(Expr::Window(length)),
-        None => Err(ExprFault::BadWindow),
-    }
-}
-
-/// The number that decimal digits are; None where it is above 65535.
-fn number_of(digits: &[u8]) -> Option<u16>
-    ensures { MatchOption result (65535 < digits_behind 0 digits.now) (λ n. (n ≡ digits_behind 0 digits.now) × (n < 65536)) }
-{
-    let mut number: u32 = 0;
-    for digit in digits {
-        number = 10 * number + u32::from(digit.saturating_sub(b'0'));
-        if number > WINDOW_MAX {
-            return None;
-        }
-    }
-    Some(number as u16)
 }

@@ -13,7 +13,7 @@ use std::alloc::Global;
 use wu_base::{Bytes, NoMemory};
 
 /// The expression's text: one space round each operator and between the words of a phrase, and
-/// parentheses round each operand that has an operator. The one error is want of memory.
+/// parentheses round each operand that has an operator. The one error is out of memory.
 pub fn print(alloc: Global, expr: &Expr) -> Result<Vec<u8>, NoMemory>
     ensures text { IfOk result (λ v. v.items ≡ printed (region_of expr.now)) }
     // What a text spells is read again from what is printed of it.
@@ -81,7 +81,7 @@ fn put_words(out: &mut Vec<u8>, words: &[Bytes]) -> Result<(), NoMemory>
     Ok(())
 }
 
-/// Appends the words, each behind a space.
+/// Appends the words, each after a space.
 fn put_spaced(out: &mut Vec<u8>, words: &[Bytes]) -> Result<(), NoMemory>
     ensures { OnOk result (out.new.items ≡ out.old.items ++ flat_map spaced words.now) }
 {

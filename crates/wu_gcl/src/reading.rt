@@ -15,7 +15,7 @@ use wu_base::{NoMemory, OPERATORS_MAX, PARENS_MAX};
 /// The region expression that the text spells, or the first of its faults: the text isn't a list of
 /// tokens; it has more than OPERATORS_MAX operators or more than PARENS_MAX opening parentheses; the
 /// tokens don't fit the grammar; a quoted text that is no tag has no word; a window's length isn't a
-/// decimal number from 1 to 65535 without a leading zero. The one error is want of memory.
+/// decimal number from 1 to WINDOW_MAX without a leading zero. The one error is out of memory.
 pub fn parse(alloc: Global, text: &[u8]) -> Result<Result<Expr, ExprFault>, NoMemory>
     ensures reads { IfOk result (λ r. Reads text.now (seen r)) }
     // Each phrase has a word, and each window an address.
@@ -34,10 +34,7 @@ fn said(alloc: Global, tokens: &[Token<'_>]) -> Result<Result<Expr, ExprFault>, 
     if is_large(tokens) {
         return Ok(Err(ExprFault::TooLarge));
     }
-    match evaluated(alloc, tokens)? {
-        Some(operand) => Ok(operand),
-        None => Ok(Err(ExprFault::NotAnExpression)),
-    }
+    Ok(evaluated(alloc, tokens)?.unwrap_or(Err(ExprFault::NotAnExpression)))
 }
 
 /// Whether there are too many operators or opening parentheses.
@@ -73,12 +70,12 @@ fn open_count(tokens: &[Token<'_>]) -> usize
     count
 }
 
-/// A text says one thing: it spells one expression at most, or has one fault.
+/// No text has two readings: it spells one expression, or has one fault.
 pub fn one_reading()
     ensures { (text : List ℕ) (first second : Value) → Reads text first → Reads text second → first ≡ second }
 {}
 
-/// Every text says something: it spells an expression or has a fault.
+/// Every text spells an expression or has a fault.
 pub fn each_text_is_read()
     ensures { (text : List ℕ) → (value : Value) × Reads text value }
 {}

@@ -8,3 +8,5 @@ mod access;
 mod lists;
 #[cfg(test)]
 mod logarithms;
+#[cfg(test)]
+mod tokens;

@@ -2,7 +2,7 @@
 use std::alloc::{AllocError, Global};
 use std::test::Fail;
 use wu_base::NoMemory;
-use wu_gcl::{ExprFault, each_text_is_read, one_reading, parse, print, terms_of};
+use wu_gcl::{ExprFault, Tag, each_text_is_read, one_reading, parse, print, tag_bytes, terms_of};
 
 /// What is printed of the expression that the text spells; no bytes where it spells none.
 fn reprinted(alloc: Global, text: &[u8]) -> Result<Vec<u8>, NoMemory> {
@@ -130,4 +130,35 @@ fn terms_are_distinct_and_ascending(rt: HostRuntime) -> Result<(), Fail> {
         assert_eq!(rt; joined.as_slice(), *terms);
     }
     Ok(())
+}
+
+#[test]
+fn faults_have_texts(rt: HostRuntime) -> Result<(), Fail> {
+    let rows = [
+        (ExprFault::NotAnExpression, "not a region expression"),
+        (ExprFault::TooLarge, "too many operators or parentheses"),
+        (ExprFault::NoWord, "a quoted text has no word"),
+        (
+            ExprFault::BadWindow,
+            "a window is not a number from 1 to 65535",
+        ),
+    ];
+    for (fault, expected) in rows {
+        let text = format!(in rt.alloc(); "{fault}")?;
+        assert_eq!(rt; text.as_str(), expected);
+    }
+    Ok(())
+}
+
+#[test]
+fn tags_stand_for_themselves(rt: HostRuntime) {
+    let rows: [(Tag, &[u8]); 4] = [
+        (Tag::FileStart, b"<file>"),
+        (Tag::FileEnd, b"</file>"),
+        (Tag::LineStart, b"<line>"),
+        (Tag::LineEnd, b"</line>"),
+    ];
+    for (tag, term) in rows {
+        assert_eq!(rt; tag_bytes(tag), term);
+    }
 }

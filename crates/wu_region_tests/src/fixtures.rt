@@ -58,7 +58,7 @@ fn places_of(alloc: Global, term: &[u8], terms: &[Bytes]) -> Result<Vec<u64>, No
 }
 
 /// The lists of distinct words, ascending, over the terms.
-fn lists_of(alloc: Global, words: &[Bytes], terms: &[Bytes]) -> Result<Vec<TermList>, NoMemory>
+pub fn lists_of(alloc: Global, words: &[Bytes], terms: &[Bytes]) -> Result<Vec<TermList>, NoMemory>
     requires { IsStrictlySortedBy (slice_cmp nat_cmp) words.now }
     ensures { IfOk result (λ v. AreLists v.items) }
 {

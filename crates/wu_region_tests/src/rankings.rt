@@ -8,7 +8,9 @@ use crate::fixtures::{Corpus, corpus_of, frame_of, solved, word_lists};
 use std::alloc::Global;
 use std::test::Fail;
 use wu_base::{NoMemory, TermList};
-use wu_rank::{Ranked, Ranker, Ranking, Unit, bm25_weigh, rank, summed_length};
+use wu_rank::{
+    Ranked, Ranker, Ranking, Unit, any_order_of_units, bm25_weigh, one_order, rank, summed_length,
+};
 
 /// Whether each unit is short enough to be ranked.
 fn are_short(units: &[Unit]) -> bool
@@ -161,6 +163,8 @@ fn a_word_in_one_of_two_files(rt: HostRuntime) -> Result<(), Fail> {
     for row in &rows {
         assert!(rt; is_ranked(rt.alloc(), &corpus, row)?);
     }
+    one_order();
+    any_order_of_units();
     Ok(())
 }
 

@@ -1,9 +1,10 @@
 //! The extents that expressions mean.
-use crate::fixtures::{Corpus, corpus_of, frame_of, solved, solved_plainly};
+use crate::fixtures::{Corpus, corpus_of, frame_of, lists_of, solved, solved_plainly};
 use std::alloc::Global;
 use std::test::Fail;
 use wu_base::{Extent, NoMemory, Range};
-use wu_solve::{extents_ascend, frames_of_texts};
+use wu_gcl::{parse, terms_of};
+use wu_solve::{extents_ascend, find_term, frames_of_texts};
 
 /// Whether these are the extents, by their starts and ends.
 fn are(extents: &[Extent], expected: &[(u64, u64)]) -> bool {
@@ -147,6 +148,31 @@ fn texts_of_others_count_for_nothing(rt: HostRuntime) -> Result<(), Fail> {
     ];
     for (seen, text, expected) in &rows {
         assert!(rt; counted(rt.alloc(), &corpus, seen, text)? == *expected);
+    }
+    Ok(())
+}
+
+/// The place of the term's list among those of the terms of the expression.
+fn list_place(alloc: Global, expression: &[u8], term: &[u8]) -> Result<Option<usize>, NoMemory> {
+    match parse(alloc, expression)? {
+        Ok(expr) => {
+            let lists = lists_of(alloc, &terms_of(alloc, &expr)?, &[])?;
+            Ok(find_term(&lists, term))
+        }
+        Err(_) => Ok(None),
+    }
+}
+
+#[test]
+fn a_term_has_its_own_list(rt: HostRuntime) -> Result<(), Fail> {
+    let rows: [(&[u8], Option<usize>); 4] = [
+        (b"<line>", Some(1)),
+        (b"ab", Some(3)),
+        (b"abc", None),
+        (b"", None),
+    ];
+    for (term, place) in rows {
+        assert!(rt; list_place(rt.alloc(), b"line > \"b ab a\"", term)? == place);
     }
     Ok(())
 }

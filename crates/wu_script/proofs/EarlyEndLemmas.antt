@@ -1,5 +1,6 @@
 -- Lemmas on reading that ended early.
-use Rattle.std.proofs.Common.{◌≡◌, ℕ, ◌+◌, ◌-◌, ◌<◌, ◌≤◌, Bool, true, false, List, [], ◌++◌, length, take, Option, Result, Ok, Err, IfErr, IsErrAnd, refl, ap, sym, ◌∙◌, subst, append_assoc, append-nil, length-append, ◌⊎◌, inl, inr, arith}
+use Rattle.std.proofs.Common.{◌≡◌, ℕ, ◌+◌, ◌-◌, ◌<◌, ◌≤◌, Bool, true, false, List, [], ◌++◌, length, take, Option, Result, Ok, Err, IfErr, IsErrAnd}
+use Rattle.std.proofs.Common.{refl, ap, sym, ◌∙◌, subst, append_assoc, append-nil, length-append, ◌⊎◌, inl, inr, arith}
 use Rattle.std.proofs.Math.Seq.{take-append-add, take-nil}
 use Rattle.std.proofs.lemmas.List.{take-append-le}
 use Rattle.std.specs.Prelude.{nat_lt}
@@ -11,7 +12,8 @@ use Rattle.wu_script.specs.declared.ends.ReadEnd.TheVariants.{ReadFault, InputTo
 use Rattle.wu_script.specs.Holding.{Held, Uses, GivesTooMuch, EndsEarly, IsCounted, HasReadCause, IsGiven, settled, but_last}
 
 -- the source failed while no byte was held
-pub EndsEarly-fault : (left left' : Option (List ℕ)) (last_read : ℕ) (held : Held) → held.bytes ≡ [] → (held.ended ≡ true → ⊥) → Keeps left left' → EndsEarly (λ bytes. bytes ≡ []) left left' last_read held ReadFault
+pub EndsEarly-fault : (left left' : Option (List ℕ)) (last_read : ℕ) (held : Held) → held.bytes ≡ [] → (held.ended ≡ true → ⊥)
+    → Keeps left left' → EndsEarly (λ bytes. bytes ≡ []) left left' last_read held ReadFault
 EndsEarly-fault left left' last_read held none going keeps = record {
   given = [];
   consumed = Consumes-kept left left left' [] (Consumes-nil left) keeps;
@@ -21,7 +23,9 @@ EndsEarly-fault left left' last_read held none going keeps = record {
 }
 
 -- the source gave a byte that it may not, while no byte was held
-pub EndsEarly-long : (left left' : Option (List ℕ)) (last_read : ℕ) (held : Held) (given : List ℕ) → held.bytes ≡ [] → (held.ended ≡ true → ⊥) → held.spare ≡ 0 → length given ≡ 1 → Consumes left left' given → EndsEarly (λ bytes. bytes ≡ []) left left' last_read held InputTooLong
+pub EndsEarly-long : (left left' : Option (List ℕ)) (last_read : ℕ) (held : Held) (given : List ℕ) → held.bytes ≡ []
+    → (held.ended ≡ true → ⊥) → held.spare ≡ 0 → length given ≡ 1 → Consumes left left' given
+    → EndsEarly (λ bytes. bytes ≡ []) left left' last_read held InputTooLong
 EndsEarly-long left left' last_read held given none going full one consumed = record {
   given = given;
   consumed = consumed;
@@ -31,7 +35,8 @@ EndsEarly-long left left' last_read held given none going full one consumed = re
 }
 
 -- nothing was given, and there was no memory
-pub EndsEarly-memory : (left : Option (List ℕ)) (last_read : ℕ) (held : Held) → length held.bytes ≤ last_read → EndsEarly (λ bytes. bytes ≡ []) left left last_read held NoMemory
+pub EndsEarly-memory : (left : Option (List ℕ)) (last_read : ℕ) (held : Held) → length held.bytes ≤ last_read
+    → EndsEarly (λ bytes. bytes ≡ []) left left last_read held NoMemory
 EndsEarly-memory left last_read held few = record {
   given = [];
   consumed = Consumes-nil left;
@@ -44,10 +49,14 @@ EndsEarly-memory left last_read held few = record {
     none is = rw is refl
 
 -- what ended early short of one thing ended early short of another
-pub EndsEarly-also : (IsShort IsShorter : List ℕ → Type 0) (left left' : Option (List ℕ)) (last_read : ℕ) (old : Held) (end : ReadEnd) → ((bytes : List ℕ) → IsShorter bytes → IsShort bytes) → EndsEarly IsShorter left left' last_read old end → EndsEarly IsShort left left' last_read old end
-EndsEarly-also IsShort IsShorter left left' last_read old end also stops = record { given = stops.given; consumed = stops.consumed; counted = stops.counted; over = stops.over; short = also _ stops.short }
+pub EndsEarly-also : (IsShort IsShorter : List ℕ → Type 0) (left left' : Option (List ℕ)) (last_read : ℕ) (old : Held) (end : ReadEnd)
+    → ((bytes : List ℕ) → IsShorter bytes → IsShort bytes) → EndsEarly IsShorter left left' last_read old end
+    → EndsEarly IsShort left left' last_read old end
+EndsEarly-also IsShort IsShorter left left' last_read old end also stops = record
+    { given = stops.given; consumed = stops.consumed; counted = stops.counted; over = stops.over; short = also _ stops.short }
 
-given_after : (end : ReadEnd) (spare later first more : ℕ) → later + first ≡ spare → IsGiven end later more → IsGiven end spare (first + more)
+given_after : (end : ReadEnd) (spare later first more : ℕ) → later + first ≡ spare → IsGiven end later more
+    → IsGiven end spare (first + more)
 given_after ReadFault spare later first more counted is = omega arith
 given_after InputTooLong spare later first more counted is = omega arith
 given_after NoMemory spare later first more counted is = omega arith
@@ -56,38 +65,56 @@ joined_after : (old first used new more : List ℕ) → old ++ first ≡ used ++
 joined_after old first used new more joined = sym (append_assoc old first more) ∙ ap (λ bs. bs ++ more) joined ∙ append_assoc used new more
 
 -- the last bytes are taken from what follows the used ones, or reach into these
-but_last_after : (count : ℕ) (used rest : List ℕ) → (but_last count (used ++ rest) ≡ used ++ but_last count rest) ⊎ ((n : ℕ) × (but_last count (used ++ rest) ≡ take n used))
+but_last_after : (count : ℕ) (used rest : List ℕ)
+    → (but_last count (used ++ rest) ≡ used ++ but_last count rest) ⊎ ((n : ℕ) × (but_last count (used ++ rest) ≡ take n used))
 but_last_after count used rest = by_size (nat_lt (length rest) count) refl
   where
-    by_size : (less : Bool) → nat_lt (length rest) count ≡ less → (but_last count (used ++ rest) ≡ used ++ but_last count rest) ⊎ ((n : ℕ) × (but_last count (used ++ rest) ≡ take n used))
+    by_size : (less : Bool) → nat_lt (length rest) count ≡ less
+        → (but_last count (used ++ rest) ≡ used ++ but_last count rest) ⊎ ((n : ℕ) × (but_last count (used ++ rest) ≡ take n used))
     by_size false is =
         let enough : count ≤ length rest = ltb-false (length rest) count is in
         let size : length (used ++ rest) - count ≡ length used + (length rest - count) = omega (arith, length-append used rest) in
         inl (ap (λ n. take n (used ++ rest)) size ∙ take-append-add used rest (length rest - count))
     by_size true is =
         let less : length rest < count = ltb-true (length rest) count is in
-        inr (length (used ++ rest) - count, take-append-le (length (used ++ rest) - count) used rest (omega (arith, length-append used rest)))
+        inr (
+          length (used ++ rest) - count,
+          take-append-le (length (used ++ rest) - count) used rest
+              (omega (arith, length-append used rest)),
+        )
 
 -- what is settled after some uses: the used bytes and what is settled after them, or a prefix of the used ones
-settled_after : (end : ReadEnd) (last_read : ℕ) (old between : Held) (first used more : List ℕ) → old.bytes ++ first ≡ used ++ between.bytes → between.spare + length first ≡ old.spare → (settled end last_read old (first ++ more) ≡ used ++ settled end last_read between more) ⊎ ((n : ℕ) × (settled end last_read old (first ++ more) ≡ take n used))
-settled_after ReadFault last_read old between first used more joined counted = inl (joined_after old.bytes first used between.bytes more joined)
+settled_after : (end : ReadEnd) (last_read : ℕ) (old between : Held) (first used more : List ℕ) → old.bytes ++ first ≡ used ++ between.bytes
+    → between.spare + length first ≡ old.spare
+    → (settled end last_read old (first ++ more) ≡ used ++ settled end last_read between more) ⊎
+    ((n : ℕ) × (settled end last_read old (first ++ more) ≡ take n used))
+settled_after ReadFault last_read old between first used more joined counted = inl
+    (joined_after old.bytes first used between.bytes more joined)
 settled_after InputTooLong last_read old between first used more joined counted =
     let spare : old.spare ≡ length first + between.spare = omega arith in
-    inl (ap (λ n. old.bytes ++ take n (first ++ more)) spare ∙ ap (λ bs. old.bytes ++ bs) (take-append-add first more between.spare) ∙ joined_after old.bytes first used between.bytes (take between.spare more) joined)
+    inl (ap (λ n. old.bytes ++ take n (first ++ more)) spare ∙ ap (λ bs. old.bytes ++ bs) (take-append-add first more between.spare)
+    ∙ joined_after old.bytes first used between.bytes (take between.spare more) joined)
 settled_after NoMemory last_read old between first used more joined counted =
-    subst (λ (bs : List ℕ). (but_last last_read bs ≡ used ++ but_last last_read (between.bytes ++ more)) ⊎ ((n : ℕ) × (but_last last_read bs ≡ take n used))) (sym (joined_after old.bytes first used between.bytes more joined)) (but_last_after last_read used (between.bytes ++ more))
+    subst (λ (bs : List ℕ). (but_last last_read bs ≡ used ++ but_last last_read (between.bytes ++ more)) ⊎
+    ((n : ℕ) × (but_last last_read bs ≡ take n used))) (sym (joined_after old.bytes first used between.bytes more joined))
+    (but_last_after last_read used (between.bytes ++ more))
 
-nothing_settled : (end : ReadEnd) (last_read : ℕ) (held : Held) (given : List ℕ) → held.bytes ≡ [] → given ≡ [] → settled end last_read held given ≡ []
+nothing_settled : (end : ReadEnd) (last_read : ℕ) (held : Held) (given : List ℕ) → held.bytes ≡ [] → given ≡ []
+    → settled end last_read held given ≡ []
 nothing_settled ReadFault last_read held given none over = rw (none, over) refl
 nothing_settled InputTooLong last_read held given none over = rw (none, over) (take-nil held.spare)
 nothing_settled NoMemory last_read held given none over = rw (none, over) (take-nil (0 - last_read))
 
 -- reading that ended early after some uses: each prefix of the used bytes is short, and so are the used bytes with what is settled after them
-pub EndsEarly-after : (IsShort IsLater : List ℕ → Type 0) (left mid left' : Option (List ℕ)) (last_read : ℕ) (old between : Held) (end : ReadEnd) (used : List ℕ) → Uses left mid old between used → ((n : ℕ) → IsShort (take n used)) → ((bytes : List ℕ) → (between.bytes ≡ [] → between.ended ≡ true → bytes ≡ []) → IsLater bytes → IsShort (used ++ bytes)) → EndsEarly IsLater mid left' last_read between end → EndsEarly IsShort left left' last_read old end
+pub EndsEarly-after : (IsShort IsLater : List ℕ → Type 0) (left mid left' : Option (List ℕ)) (last_read : ℕ) (old between : Held)
+    (end : ReadEnd) (used : List ℕ) → Uses left mid old between used → ((n : ℕ) → IsShort (take n used))
+    → ((bytes : List ℕ) → (between.bytes ≡ [] → between.ended ≡ true → bytes ≡ []) → IsLater bytes → IsShort (used ++ bytes))
+    → EndsEarly IsLater mid left' last_read between end → EndsEarly IsShort left left' last_read old end
 EndsEarly-after IsShort IsLater left mid left' last_read old between end used first front more stops = record {
   given = first.given ++ stops.given;
   consumed = Consumes-trans left mid left' first.given stops.given first.consumed stops.consumed;
-  counted = subst (IsGiven end old.spare) (sym (length-append first.given stops.given)) (given_after end old.spare between.spare (length first.given) (length stops.given) first.counted stops.counted);
+  counted = subst (IsGiven end old.spare) (sym (length-append first.given stops.given))
+      (given_after end old.spare between.spare (length first.given) (length stops.given) first.counted stops.counted);
   over = λ ended.
       let before = first.over ended in
       let later = stops.over before.1 in
@@ -95,18 +122,24 @@ EndsEarly-after IsShort IsLater left mid left' last_read old between end used fi
   short = by_case (settled_after end last_read old between first.given used stops.given first.joined first.counted);
 }
   where
-    by_case : (settled end last_read old (first.given ++ stops.given) ≡ used ++ settled end last_read between stops.given) ⊎ ((n : ℕ) × (settled end last_read old (first.given ++ stops.given) ≡ take n used)) → IsShort (settled end last_read old (first.given ++ stops.given))
-    by_case (inl whole) = subst IsShort (sym whole) (more (settled end last_read between stops.given) (λ none ended. nothing_settled end last_read between stops.given none (stops.over ended).0) stops.short)
+    by_case : (settled end last_read old (first.given ++ stops.given) ≡ used ++ settled end last_read between stops.given) ⊎
+        ((n : ℕ) × (settled end last_read old (first.given ++ stops.given) ≡ take n used))
+        → IsShort (settled end last_read old (first.given ++ stops.given))
+    by_case (inl whole) = subst IsShort (sym whole)
+        (more (settled end last_read between stops.given)
+        (λ none ended. nothing_settled end last_read between stops.given none (stops.over ended).0) stops.short)
     by_case (inr part) = subst IsShort (sym part.1) (front part.0)
 
 -- the source gave one byte too many
-pub EndsEarly-too_long : (IsShort : List ℕ → Type 0) (left left' : Option (List ℕ)) (last_read : ℕ) (old : Held) (end : ReadEnd) → EndsEarly IsShort left left' last_read old end → end ≡ InputTooLong → GivesTooMuch left left' old
+pub EndsEarly-too_long : (IsShort : List ℕ → Type 0) (left left' : Option (List ℕ)) (last_read : ℕ) (old : Held) (end : ReadEnd)
+    → EndsEarly IsShort left left' last_read old end → end ≡ InputTooLong → GivesTooMuch left left' old
 EndsEarly-too_long IsShort left left' last_read old ReadFault stops is = cc (is)
 EndsEarly-too_long IsShort left left' last_read old InputTooLong stops is = record { given = stops.given; consumed = stops.consumed; counted = stops.counted }
 EndsEarly-too_long IsShort left left' last_read old NoMemory stops is = cc (is)
 
 -- the bytes after the first of the used ones count as held
-pub Uses-first_of : (left left' : Option (List ℕ)) (old new : Held) (first after : List ℕ) → Uses left left' old new (first ++ after) → Uses left left' old (record new { bytes = after ++ new.bytes }) first
+pub Uses-first_of : (left left' : Option (List ℕ)) (old new : Held) (first after : List ℕ) → Uses left left' old new (first ++ after)
+    → Uses left left' old (record new { bytes = after ++ new.bytes }) first
 Uses-first_of left left' old new first after uses = record {
   given = uses.given;
   consumed = uses.consumed;

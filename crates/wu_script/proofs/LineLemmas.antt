@@ -1,5 +1,6 @@
 -- Lemmas on lines and their pieces.
-use Rattle.std.proofs.Common.{not, ◌≡◌, ℕ, zero, suc, ◌+◌, ◌<◌, ◌≤◌, Bool, true, false, eqb, List, [], ◌∷◌, ◌++◌, length, get_or, Option, Some, None, MatchOption, refl, ap, sym, ◌∙◌, subst, append_assoc, append-nil, length-append, arith}
+use Rattle.std.proofs.Common.{not, ◌≡◌, ℕ, zero, suc, ◌+◌, ◌<◌, ◌≤◌, Bool, true, false, eqb, List, [], ◌∷◌, ◌++◌, length, get_or, Option, Some, None}
+use Rattle.std.proofs.Common.{MatchOption, refl, ap, sym, ◌∙◌, subst, append_assoc, append-nil, length-append, arith}
 use Rattle.std.specs.List.{list_any}
 use Rattle.std.proofs.lemmas.Bool.{eqb-true, false_from_ne_true}
 use Rattle.std.proofs.lemmas.List.{nil_from_length}
@@ -11,9 +12,11 @@ use Rattle.wu_script.specs.Taking.{closing, Kept, IsOneLine, IsFirstFeed, TakesP
 use Rattle.wu_script.proofs.InputLemmas.{Uses-trans, Uses-front}
 
 none_feed : (bytes : List ℕ) → ((i : ℕ) → 0 ≤ i → i < length bytes → ¬ (eqb (get_or bytes i 0) 10 ≡ true)) → IsOneLine bytes
-none_feed bytes none = list_any_none (λ byte. eqb byte 10) bytes (All-from_get_or (λ x. eqb x 10 ≡ false) bytes 0 (λ i within. false_from_ne_true _ (none i (omega arith) within)))
+none_feed bytes none = list_any_none (λ byte. eqb byte 10) bytes
+    (All-from_get_or (λ x. eqb x 10 ≡ false) bytes 0 (λ i within. false_from_ne_true _ (none i (omega arith) within)))
 
-first_feed : (bytes : List ℕ) (k : ℕ) → k < length bytes → ((i : ℕ) → 0 ≤ i → i < k → ¬ (eqb (get_or bytes i 0) 10 ≡ true)) → eqb (get_or bytes k 0) 10 ≡ true → IsFirstFeed bytes k
+first_feed : (bytes : List ℕ) (k : ℕ) → k < length bytes → ((i : ℕ) → 0 ≤ i → i < k → ¬ (eqb (get_or bytes i 0) 10 ≡ true))
+    → eqb (get_or bytes k 0) 10 ≡ true → IsFirstFeed bytes k
 first_feed [] k within none is = absurd (omega arith)
 first_feed (byte ∷ bytes) zero within none is = record { within = within; parts = ap (λ b. b ∷ bytes) (eqb-true byte 10 is); one = refl }
 first_feed (byte ∷ bytes) (suc k) within none is =
@@ -34,11 +37,14 @@ pub one_line : (text piece : List ℕ) → IsOneLine text → IsOneLine piece �
 one_line text piece first second = list_any-append (λ byte. eqb byte 10) text piece ∙ rw (first, second) refl
 
 -- a piece after the pieces so far
-pub piece_taken : (left mid left' : Option (List ℕ)) (old between filled new : Held) (text piece : List ℕ) (closed : Bool) → Uses left mid old between text → Uses mid left' between filled [] → TakesPiece filled new closed piece → Uses left left' old new (text ++ piece ++ closing closed)
+pub piece_taken : (left mid left' : Option (List ℕ)) (old between filled new : Held) (text piece : List ℕ) (closed : Bool)
+    → Uses left mid old between text → Uses mid left' between filled [] → TakesPiece filled new closed piece
+    → Uses left left' old new (text ++ piece ++ closing closed)
 piece_taken left mid left' old between filled new text piece closed first fill taken =
     let held = Uses-trans left mid left' old between filled text [] first fill in
     let then = Uses-front left' filled new (piece ++ closing closed) taken.bytes taken.spare taken.ended in
-    let joined : (text ++ []) ++ (piece ++ closing closed) ≡ (text ++ piece) ++ closing closed = ap (λ t. t ++ (piece ++ closing closed)) (append-nil text) ∙ sym (append_assoc text piece (closing closed)) in
+    let joined : (text ++ []) ++ (piece ++ closing closed) ≡ (text ++ piece)
+    ++ closing closed = ap (λ t. t ++ (piece ++ closing closed)) (append-nil text) ∙ sym (append_assoc text piece (closing closed)) in
     subst (Uses left left' old new) joined (Uses-trans left left' left' old filled new (text ++ []) (piece ++ closing closed) held then)
 
 -- what is held after a piece came with the source's last read too
@@ -53,17 +59,20 @@ pub piece_ends : (ended : Bool) (last_read : ℕ) (filled new : Held) (closed : 
     → Follows ended last_read filled → TakesPiece filled new closed piece → closed ≡ true → EndsAt closed last_read new
 piece_ends ended last_read filled new false piece follows taken is = cc (is)
 piece_ends ended last_read filled new true piece follows taken is = record {
-  feed = λ _. omega (arith, follows.recent, ap length taken.bytes, length-append (piece ++ 10 ∷ []) new.bytes, length-append piece (10 ∷ []));
+  feed = λ _. omega
+      (arith, follows.recent, ap length taken.bytes, length-append (piece ++ 10 ∷ []) new.bytes, length-append piece (10 ∷ []));
   end = λ unclosed. cc (unclosed);
 }
 
 -- a piece that no LF closed
-pub piece_open : (left left' : Option (List ℕ)) (old new : Held) (text : List ℕ) (closed : Bool) → closed ≡ false → Uses left left' old new (text ++ closing closed) → Uses left left' old new text
+pub piece_open : (left left' : Option (List ℕ)) (old new : Held) (text : List ℕ) (closed : Bool) → closed ≡ false
+    → Uses left left' old new (text ++ closing closed) → Uses left left' old new text
 piece_open left left' old new text true unclosed uses = cc
 piece_open left left' old new text false unclosed uses = subst (Uses left left' old new) (append-nil text) uses
 
 -- where an LF is held, a piece is closed
-pub piece_closed : (old new : Held) (closed : Bool) (piece : List ℕ) → TakesPiece old new closed piece → closed ≡ false → list_any (λ byte. eqb byte 10) old.bytes ≡ false
+pub piece_closed : (old new : Held) (closed : Bool) (piece : List ℕ) → TakesPiece old new closed piece → closed ≡ false
+    → list_any (λ byte. eqb byte 10) old.bytes ≡ false
 piece_closed old new true piece taken unclosed = cc
 piece_closed old new false piece taken unclosed = rw (taken.bytes, taken.all unclosed, append-nil, append-nil) taken.one
 
@@ -76,10 +85,12 @@ feed_held held old same feed = some_byte held.bytes (ap (λ (h : Held). list_any
     some_byte (byte ∷ bytes) feed = omega arith
 
 -- a piece that no LF closed isn't the first where an LF was held
-pub no_feed_held : (filled between old new : Held) (closed : Bool) (piece : List ℕ) → filled ≡ between → between ≡ old → TakesPiece filled new closed piece → closed ≡ false → list_any (λ byte. eqb byte 10) old.bytes ≡ true → ⊥
+pub no_feed_held : (filled between old new : Held) (closed : Bool) (piece : List ℕ) → filled ≡ between → between ≡ old
+    → TakesPiece filled new closed piece → closed ≡ false → list_any (λ byte. eqb byte 10) old.bytes ≡ true → ⊥
 no_feed_held filled between old new closed piece first second taken unclosed feed =
     let none = piece_closed filled new closed piece taken unclosed in
-    let some : list_any (λ byte. eqb byte 10) filled.bytes ≡ true = ap (λ (h : Held). list_any (λ byte. eqb byte 10) h.bytes) (first ∙ second) ∙ feed in
+    let some : list_any (λ byte. eqb byte 10) filled.bytes
+    ≡ true = ap (λ (h : Held). list_any (λ byte. eqb byte 10) h.bytes) (first ∙ second) ∙ feed in
     cc (none, some)
 
 -- what is kept of a line
@@ -92,7 +103,8 @@ kept_long limit text kept true is e = cc (e)
 kept_long limit text kept false is e = is
 
 -- nothing is used where nothing is held and the source gave its end
-pub nothing_used : (left left' : Option (List ℕ)) (old new : Held) (used : List ℕ) → Uses left left' old new used → (old.bytes ≡ []) × (old.ended ≡ true) → used ≡ []
+pub nothing_used : (left left' : Option (List ℕ)) (old new : Held) (used : List ℕ) → Uses left left' old new used
+    → (old.bytes ≡ []) × (old.ended ≡ true) → used ≡ []
 nothing_used left left' old new used uses none =
     let given = (uses.over none.1).0 in
     let whole : used ++ new.bytes ≡ [] = sym uses.joined ∙ ap (λ xs. xs ++ uses.given) none.0 ∙ given in

@@ -17,7 +17,9 @@ use Rattle.wu_script.specs.declared.types.Why.TheVariants.{LongLine}
 use Rattle.wu_script.specs.declared.words.Word.{Word}
 use Rattle.wu_script.specs.declared.words.Word.TheVariants as words
 use Rattle.wu_script.specs.Words.{word_of}
-use Rattle.wu_script.specs.Commands.{Wish, Entry, Happening, Asking, Refusing, Blank, LineSays, Whole, TextHead, event_line, query_line, text_line, user_of, new_node_of, mkdir_event, create_event, link_of, place_of, unlink_event, rmdir_event, rename_of, chmod_of, chown_of, text_head_of, count_of, rank_of, paths_of, command_of, fields_say, is_blank, line_says}
+use Rattle.wu_script.specs.Commands.{Wish, Entry, Happening, Asking, Refusing, Blank, LineSays, Whole, TextHead, event_line, query_line, text_line}
+use Rattle.wu_script.specs.Commands.{user_of, new_node_of, mkdir_event, create_event, link_of, place_of, unlink_event, rmdir_event, rename_of}
+use Rattle.wu_script.specs.Commands.{chmod_of, chown_of, text_head_of, count_of, rank_of, paths_of, command_of, fields_say, is_blank, line_says}
 use Rattle.wu_script.specs.Said.{Reading, said_of, question_in, asked, event_tokens, tokens_given, text_given}
 use Rattle.wu_script.specs.Items.{line_at, after_line, has_feed, body_entry, text_at, entry_at, first_of, items_within, items_of}
 use Rattle.wu_script.proofs.ItemListLemmas.{after_short, after_shorter}
@@ -27,7 +29,8 @@ event_few (events.Text ino) text = length-tokens_of text
 event_few (events.Create ino parent name perm) text = omega (arith, length-tokens_of [])
 event_few _ text = omega arith
 
-asked_few : (uid : ℕ) (question : Result Question Why) → tokens_given (asked uid question) ≤ 3 * length (text_given (asked uid question)) + 2
+asked_few : (uid : ℕ) (question : Result Question Why)
+    → tokens_given (asked uid question) ≤ 3 * length (text_given (asked uid question)) + 2
 asked_few uid (Ok question) = omega arith
 asked_few uid (Err why) = omega arith
 
@@ -43,7 +46,8 @@ asked_text uid (Ok question) = refl
 asked_text uid (Err why) = refl
 
 -- a text has no more bytes than its body
-body_text : (read : Reading) (ino len : ℕ) (body tail : List ℕ) → length (text_given (said_of read (body_entry ino len body tail))) ≤ length body
+body_text : (read : Reading) (ino len : ℕ) (body tail : List ℕ)
+    → length (text_given (said_of read (body_entry ino len body tail))) ≤ length body
 body_text read ino len body [] = by_case (nat_lt TEXT_MAX len) refl
   where
     by_case : (over : Bool) → nat_lt TEXT_MAX len ≡ over → length (text_given (said_of read (body_entry ino len body []))) ≤ length body
@@ -51,7 +55,8 @@ body_text read ino len body [] = by_case (nat_lt TEXT_MAX len) refl
     by_case false is = rw is (omega arith)
 body_text read ino len body (byte ∷ tail) = by_case (nat_lt TEXT_MAX len) refl
   where
-    by_case : (over : Bool) → nat_lt TEXT_MAX len ≡ over → length (text_given (said_of read (body_entry ino len body (byte ∷ tail)))) ≤ length body
+    by_case : (over : Bool) → nat_lt TEXT_MAX len ≡ over
+        → length (text_given (said_of read (body_entry ino len body (byte ∷ tail)))) ≤ length body
     by_case true is = rw is (omega arith)
     by_case false is = rw is (omega arith)
 
@@ -64,7 +69,14 @@ text_uses read ino len bytes = by_case (nat_lt (length bytes) len) refl
     by_case true is = rw is (omega arith)
     by_case false is =
         let within : len ≤ length bytes = ltb-false (length bytes) len is in
-        rw is (omega (arith, body_text read ino len (take len bytes) (line_at (drop len bytes)), length-take-le len bytes within, after_short (drop len bytes), length-drop len bytes))
+        rw is (omega (
+          arith,
+          body_text read ino len (take len bytes) (line_at (drop len bytes)),
+          length-take-le len bytes within,
+          after_short
+              (drop len bytes),
+          length-drop len bytes,
+        ))
 
 -- ---- a line gives no text
 
@@ -117,7 +129,9 @@ line_none line = by_long (nat_lt LINE_MAX (length line)) refl
     by_blank false is = rw is (fields_none (fields_of line))
 
     by_long : (long : Bool) → nat_lt LINE_MAX (length line) ≡ long
-        → IsWithoutText (if nat_lt LINE_MAX (length line) then Whole (Refusing LongLine) else if is_blank line then Whole Blank else fields_say (fields_of line))
+        → IsWithoutText
+        (if nat_lt LINE_MAX (length line) then Whole (Refusing LongLine) else if is_blank line then Whole Blank else fields_say
+        (fields_of line))
     by_long true is = rw is tt
     by_long false is = rw is (by_blank (is_blank line) refl)
 
@@ -142,7 +156,8 @@ first_uses read [] some = absurd (omega arith)
 first_uses read (byte ∷ bytes) some =
     omega (
       arith,
-      line_uses read (line_says (line_at (byte ∷ bytes))) (after_line (byte ∷ bytes)) (has_feed (byte ∷ bytes)) (line_none (line_at (byte ∷ bytes))),
+      line_uses read (line_says (line_at (byte ∷ bytes))) (after_line (byte ∷ bytes)) (has_feed (byte ∷ bytes))
+          (line_none (line_at (byte ∷ bytes))),
       after_shorter byte bytes,
     )
 
@@ -160,7 +175,13 @@ tokens_within read zero bytes = omega arith
 tokens_within read (suc n) [] = omega arith
 tokens_within read (suc n) (byte ∷ bytes) =
     let first = first_of (byte ∷ bytes) in
-    omega (arith, sum_by-cons (λ entry. tokens_given (said_of read entry)) first.entry (items_within n first.rest), first_tokens read (byte ∷ bytes) (omega arith), tokens_within read n first.rest)
+    omega (
+      arith,
+      sum_by-cons (λ entry. tokens_given (said_of read entry)) first.entry (items_within n first.rest),
+      first_tokens read
+          (byte ∷ bytes) (omega arith),
+      tokens_within read n first.rest,
+    )
 
 pub script_tokens : (read : Reading) (bytes : List ℕ) → tokens_in read (items_of bytes) ≤ 3 * length bytes
 unfolding items_of

@@ -52,7 +52,8 @@ rank_line line = decimal line.score ++ 9 ∷ [] ++ escaped line.path ++ 9 ∷ []
 -- its fields have a TAB between each two
 unfoldable pub answer_bytes : Answered → List ℕ
 answer_bytes (answers.Count hits files) = codes "count\t" ++ decimal hits ++ 9 ∷ [] ++ decimal files ++ 10 ∷ []
-answer_bytes (answers.Rank listed shown) = codes "rank\t" ++ decimal listed ++ 9 ∷ [] ++ decimal (length shown) ++ 10 ∷ [] ++ flat_map rank_line shown
+answer_bytes (answers.Rank listed shown) = codes "rank\t" ++ decimal listed ++ 9 ∷ [] ++ decimal (length shown) ++ 10 ∷ []
+    ++ flat_map rank_line shown
 answer_bytes (answers.Paths paths) = codes "paths\t" ++ decimal (length paths) ++ 10 ∷ [] ++ flat_map path_line paths
 
 unfoldable pub reply_bytes : Reply → List ℕ

@@ -9,7 +9,8 @@ is field word = pointwise nat_eq field word
 
 -- a command that will be built later
 abbrev pub is_unbuilt : List ℕ → Bool
-is_unbuilt field = is field (codes "find") || is field (codes "flush") || is field (codes "work") || is field (codes "stat") || is field (codes "save")
+is_unbuilt field = is field (codes "find") || is field (codes "flush") || is field (codes "work") || is field (codes "stat") || is field
+    (codes "save")
 
 unfoldable pub word_of : List ℕ → Word
 word_of field =

@@ -1,7 +1,8 @@
 //! The events that lines report.
 ghost use Rattle.std.specs.Prelude.{◌≡◌, ◌≤◌, IfOk, IfSome};
 ghost use Rattle.wu_tree.specs.Steps.{IsEvent};
-ghost use Rattle.wu_script.specs.Commands.{id_of, node_of, ids_of, perm_of, new_node_of, mkdir_event, create_event, place_of, unlink_event, rmdir_event, user_of, link_of, rename_of, chmod_of, chown_of};
+ghost use Rattle.wu_script.specs.Commands.{id_of, node_of, ids_of, perm_of, new_node_of, mkdir_event, create_event, place_of, unlink_event};
+ghost use Rattle.wu_script.specs.Commands.{rmdir_event, user_of, link_of, rename_of, chmod_of, chown_of};
 ghost use Rattle.std.specs.Option.{option_map};
 
 use std::alloc::Global;

@@ -24,6 +24,3 @@ pub use laws::{
 pub use reader::Reader;
 pub use replies::put_reply;
 pub use types::{Command, Item, Line, Reply, Why};
-
-#[cfg(test)]
-mod tests;

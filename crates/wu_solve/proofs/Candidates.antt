@@ -9,9 +9,11 @@ use Rattle.wu_solve.proofs.Operators.{holds_through}
 pub itself : (x : Extent) → Holds x x
 itself x = record { start = omega arith; last = omega arith }
 
-module _ (IsCandidate IsOther : Extent → Type 0) (xs : List Extent) (inner : AreInnermost IsOther xs) (wider : (x : Extent) → IsOther x → IsCandidate x) where
+module _ (IsCandidate IsOther : Extent → Type 0) (xs : List Extent) (inner : AreInnermost IsOther xs)
+    (wider : (x : Extent) → IsOther x → IsCandidate x) where
   -- one that stands before the others, of which each that is left holds it
-  pub taken : (v : Extent) → IsCandidate v → ((x : Extent) → IsOther x → IsBefore v x) → ((x : Extent) → IsCandidate x → Holds x v ⊎ IsOther x) → AreInnermost IsCandidate (v ∷ xs)
+  pub taken : (v : Extent) → IsCandidate v → ((x : Extent) → IsOther x → IsBefore v x)
+      → ((x : Extent) → IsCandidate x → Holds x v ⊎ IsOther x) → AreInnermost IsCandidate (v ∷ xs)
   taken v is before cases = record {
     ascending = (all_from (IsBefore v) xs (λ x has. before x (inner.sound x has)), inner.ascending);
     sound = λ x has. elim has [ inl here ↦ subst IsCandidate here is | inr more ↦ wider x (inner.sound x more) ];

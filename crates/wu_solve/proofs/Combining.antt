@@ -53,10 +53,12 @@ one_place a b = both_ways (eqb (a + 1) (b + 1)) (eqb a b)
     (λ is. let same : a ≡ b = eqb-true a b is in eq-eqb (a + 1) (b + 1) (omega arith))
 
 -- a phrase of one word is that word's places
-pub word_listed : (n : ℕ) (stands : List ℕ → ℕ → Bool) (term : List ℕ) (xs : List Extent) → Lists n (is_in (Phrase (term ∷ [])) stands n) xs → Lists n (is_term_at stands term) xs
+pub word_listed : (n : ℕ) (stands : List ℕ → ℕ → Bool) (term : List ℕ) (xs : List Extent) → Lists n (is_in (Phrase (term ∷ [])) stands n) xs
+    → Lists n (is_term_at stands term) xs
 unfolding is_in
 word_listed n stands term xs lists =
-    same_lists n (is_in (Phrase (term ∷ [])) stands n) (is_term_at stands term) xs (λ x. rw (one_place x.start x.end, and-true (stands term x.start)) refl) lists
+    same_lists n (is_in (Phrase (term ∷ [])) stands n) (is_term_at stands term) xs
+    (λ x. rw (one_place x.start x.end, and-true (stands term x.start)) refl) lists
 
 -- no word stands nowhere
 pub no_phrase : (n : ℕ) (stands : List ℕ → ℕ → Bool) → Lists n (is_in (Phrase []) stands n) []
@@ -76,14 +78,17 @@ module _ (n : ℕ) (stands : List ℕ → ℕ → Bool) (xs : List Extent) where
   unfolding is_in
   mark_listed tag lists = lists
 
-  pub file_listed : Lists n (combined FollowedBy n (is_term_at stands (tag_text FileStart)) (is_term_at stands (tag_text FileEnd))) xs → Lists n (is_in WholeFile stands n) xs
+  pub file_listed : Lists n (combined FollowedBy n (is_term_at stands (tag_text FileStart)) (is_term_at stands (tag_text FileEnd))) xs
+      → Lists n (is_in WholeFile stands n) xs
   unfolding is_in
   file_listed lists = lists
 
-  pub line_listed : Lists n (combined FollowedBy n (is_term_at stands (tag_text LineStart)) (is_term_at stands (tag_text LineEnd))) xs → Lists n (is_in WholeLine stands n) xs
+  pub line_listed : Lists n (combined FollowedBy n (is_term_at stands (tag_text LineStart)) (is_term_at stands (tag_text LineEnd))) xs
+      → Lists n (is_in WholeLine stands n) xs
   unfolding is_in
   line_listed lists = lists
 
-  pub both_listed : (op : Op) (left right : Region) → Lists n (combined op n (is_in left stands n) (is_in right stands n)) xs → Lists n (is_in (Both op left right) stands n) xs
+  pub both_listed : (op : Op) (left right : Region) → Lists n (combined op n (is_in left stands n) (is_in right stands n)) xs
+      → Lists n (is_in (Both op left right) stands n) xs
   unfolding is_in
   both_listed op left right lists = lists

@@ -7,7 +7,8 @@ use Rattle.std.proofs.lemmas.List.Kept.{IsStrictlyIncreasing-filter}
 use Rattle.wu_solve.specs.Addresses.{is_among}
 use Rattle.wu_solve.proofs.Numbers.{place_among}
 
-kept_among : (p : ℕ → Bool) (x a : ℕ) (xs : List ℕ) (test : Bool) → p x ≡ test → is_among (filter p xs) a ≡ (is_among xs a && p a) → is_among (cond test (x ∷ filter p xs) (filter p xs)) a ≡ ((eqb x a || is_among xs a) && p a)
+kept_among : (p : ℕ → Bool) (x a : ℕ) (xs : List ℕ) (test : Bool) → p x ≡ test → is_among (filter p xs) a ≡ (is_among xs a && p a)
+    → is_among (cond test (x ∷ filter p xs) (filter p xs)) a ≡ ((eqb x a || is_among xs a) && p a)
 kept_among p x a xs true is more = here (eqb x a) refl
   where
     here : (same : Bool) → eqb x a ≡ same → (same || is_among (filter p xs) a) ≡ ((same || is_among xs a) && p a)
@@ -26,13 +27,16 @@ among_filter p [] a = refl
 among_filter p (x ∷ xs) a = kept_among p x a xs (p x) refl (among_filter p xs a)
 
 pub in_frame : (xs : List ℕ) (start len : ℕ) (a : ℕ) →
-    is_among (filter (λ a. nat_lt a (start + len)) (filter (λ a. nat_le start a) xs)) a ≡ (is_among xs a && (nat_le start a && nat_lt a (start + len)))
+    is_among (filter (λ a. nat_lt a (start + len)) (filter (λ a. nat_le start a) xs)) a
+    ≡ (is_among xs a && (nat_le start a && nat_lt a (start + len)))
 in_frame xs start len a =
     among_filter (λ a. nat_lt a (start + len)) (filter (λ a. nat_le start a) xs) a
     ∙ ap (λ (b : Bool). b && nat_lt a (start + len)) (among_filter (λ a. nat_le start a) xs a)
     ∙ and_assoc (is_among xs a) (nat_le start a) (nat_lt a (start + len))
 
-pub within_frame : (xs : List ℕ) (start len k : ℕ) (others : List ℕ) → ((a : ℕ) → is_among xs a ≡ (is_among others a && (nat_le start a && nat_lt a (start + len)))) → k < length xs → (start ≤ get_or xs k 0) × (get_or xs k 0 < start + len)
+pub within_frame : (xs : List ℕ) (start len k : ℕ) (others : List ℕ)
+    → ((a : ℕ) → is_among xs a ≡ (is_among others a && (nat_le start a && nat_lt a (start + len)))) → k < length xs
+    → (start ≤ get_or xs k 0) × (get_or xs k 0 < start + len)
 within_frame xs start len k others same within =
     let a = get_or xs k 0 in
     let is : (is_among others a && (nat_le start a && nat_lt a (start + len))) ≡ true = sym (same a) ∙ place_among xs a k within refl in
@@ -40,5 +44,7 @@ within_frame xs start len k others same within =
     let c = and_parts (nat_le start a) (nat_lt a (start + len)) b.1 in
     (leb-true start a c.0, ltb-true a (start + len) c.1)
 
-pub frame_increasing : (xs : List ℕ) (start len : ℕ) → IsStrictlyIncreasing xs → IsStrictlyIncreasing (filter (λ a. nat_lt a (start + len)) (filter (λ a. nat_le start a) xs))
-frame_increasing xs start len up = IsStrictlyIncreasing-filter (λ a. nat_lt a (start + len)) (filter (λ a. nat_le start a) xs) (IsStrictlyIncreasing-filter (λ a. nat_le start a) xs up)
+pub frame_increasing : (xs : List ℕ) (start len : ℕ) → IsStrictlyIncreasing xs
+    → IsStrictlyIncreasing (filter (λ a. nat_lt a (start + len)) (filter (λ a. nat_le start a) xs))
+frame_increasing xs start len up = IsStrictlyIncreasing-filter (λ a. nat_lt a (start + len)) (filter (λ a. nat_le start a) xs)
+    (IsStrictlyIncreasing-filter (λ a. nat_le start a) xs up)

@@ -1,7 +1,5 @@
 -- Ascending numbers, and where a binary search ends in them.
-use Rattle.std.proofs.Common.{◌≡◌, ℕ, zero, suc, ◌<◌, ◌≤◌, Bool, true, false, ◌⊎◌, List, [], ◌∷◌, length, take, drop, get_or, filter, nat_lt, nat_le, Result, Ok, Err, refl, sym, ap, inl, inr, arith, lt-ltb, le-ltb, le-leb, eq-eqb, eqb-true, eqb}
-use Rattle.std.specs.Cmp.{both_ways}
-use Rattle.std.specs.Prelude.{is_ok}
+use Rattle.std.proofs.Common.{◌≡◌, ℕ, zero, suc, ◌<◌, ◌≤◌, Bool, true, false, List, [], ◌∷◌, length, take, drop, get_or, filter, nat_lt, nat_le, Ok, Err, refl, ap, inl, inr, arith, lt-ltb, le-ltb, le-leb, eq-eqb, eqb-true, eqb}
 use Rattle.std.specs.List.Sorted.{IsStrictlyIncreasing, IsBinarySearchResult}
 use Rattle.std.specs.Ordering.{nat_cmp}
 use Rattle.std.proofs.lemmas.List.Sorted.{searched}
@@ -20,27 +18,37 @@ pub increasing_rest : (x : ℕ) (xs : List ℕ) → IsStrictlyIncreasing (x ∷ 
 increasing_rest x xs up = IsStrictlyIncreasing-from_sorted xs (sorted_tail nat_cmp x xs (sorted_from_strictly_increasing (x ∷ xs) up))
 
 -- the front of a list, where it passes and the rest fails
-take_filter : (p : ℕ → Bool) (xs : List ℕ) (i : ℕ) → i ≤ length xs → ((k : ℕ) → k < i → p (get_or xs k 0) ≡ true) → ((k : ℕ) → i ≤ k → k < length xs → p (get_or xs k 0) ≡ false) → take i xs ≡ filter p xs
+take_filter : (p : ℕ → Bool) (xs : List ℕ) (i : ℕ) → i ≤ length xs → ((k : ℕ) → k < i → p (get_or xs k 0) ≡ true)
+    → ((k : ℕ) → i ≤ k → k < length xs → p (get_or xs k 0) ≡ false) → take i xs ≡ filter p xs
 take_filter p [] i within front rest = let none : i ≡ 0 = omega arith in rw none refl
 take_filter p (x ∷ xs) zero within front rest =
     let here : p x ≡ false = rest 0 (omega arith) (omega arith) in
-    let more : take 0 xs ≡ filter p xs = take_filter p xs 0 (omega arith) (λ k less. absurd (omega arith)) (λ k low high. rest (suc k) (omega arith) (omega arith)) in
+    let more : take 0 xs
+    ≡ filter p xs = take_filter p xs 0 (omega arith) (λ k less. absurd (omega arith))
+    (λ k low high. rest (suc k) (omega arith) (omega arith)) in
     rw here more
 take_filter p (x ∷ xs) (suc i) within front rest =
     let here : p x ≡ true = front 0 (omega arith) in
-    let more : take i xs ≡ filter p xs = take_filter p xs i (omega arith) (λ k less. front (suc k) (omega arith)) (λ k low high. rest (suc k) (omega arith) (omega arith)) in
+    let more : take i xs
+    ≡ filter p xs = take_filter p xs i (omega arith) (λ k less. front (suc k) (omega arith))
+    (λ k low high. rest (suc k) (omega arith) (omega arith)) in
     rw (here, more) refl
 
 -- the rest of a list, where it passes and the front fails
-drop_filter : (p : ℕ → Bool) (xs : List ℕ) (i : ℕ) → i ≤ length xs → ((k : ℕ) → k < i → p (get_or xs k 0) ≡ false) → ((k : ℕ) → i ≤ k → k < length xs → p (get_or xs k 0) ≡ true) → drop i xs ≡ filter p xs
+drop_filter : (p : ℕ → Bool) (xs : List ℕ) (i : ℕ) → i ≤ length xs → ((k : ℕ) → k < i → p (get_or xs k 0) ≡ false)
+    → ((k : ℕ) → i ≤ k → k < length xs → p (get_or xs k 0) ≡ true) → drop i xs ≡ filter p xs
 drop_filter p [] i within front rest = let none : i ≡ 0 = omega arith in rw none refl
 drop_filter p (x ∷ xs) zero within front rest =
     let here : p x ≡ true = rest 0 (omega arith) (omega arith) in
-    let more : drop 0 xs ≡ filter p xs = drop_filter p xs 0 (omega arith) (λ k less. absurd (omega arith)) (λ k low high. rest (suc k) (omega arith) (omega arith)) in
+    let more : drop 0 xs
+    ≡ filter p xs = drop_filter p xs 0 (omega arith) (λ k less. absurd (omega arith))
+    (λ k low high. rest (suc k) (omega arith) (omega arith)) in
     rw here (ap (λ (l : List ℕ). x ∷ l) more)
 drop_filter p (x ∷ xs) (suc i) within front rest =
     let here : p x ≡ false = front 0 (omega arith) in
-    let more : drop i xs ≡ filter p xs = drop_filter p xs i (omega arith) (λ k less. front (suc k) (omega arith)) (λ k low high. rest (suc k) (omega arith) (omega arith)) in
+    let more : drop i xs
+    ≡ filter p xs = drop_filter p xs i (omega arith) (λ k less. front (suc k) (omega arith))
+    (λ k low high. rest (suc k) (omega arith) (omega arith)) in
     rw here more
 
 -- where the numbers below the bound end
@@ -49,7 +57,8 @@ pub record EndsBelow (xs : List ℕ) (bound i : ℕ) : Type 0 where
   pub front : (k : ℕ) → k < i → get_or xs k 0 < bound
   pub rest : (k : ℕ) → i ≤ k → k < length xs → bound ≤ get_or xs k 0
 
-pub found_there : (xs : List ℕ) (bound i : ℕ) → IsStrictlyIncreasing xs → IsBinarySearchResult (λ y. nat_cmp y bound) xs (Ok i) → EndsBelow xs bound i
+pub found_there : (xs : List ℕ) (bound i : ℕ) → IsStrictlyIncreasing xs → IsBinarySearchResult (λ y. nat_cmp y bound) xs (Ok i)
+    → EndsBelow xs bound i
 found_there xs bound i up is =
     let s = searched xs bound (Ok i) is (increasing_not_below xs up) in
     record {
@@ -58,7 +67,8 @@ found_there xs bound i up is =
       rest = λ k low high. let far = increasing_not_below xs up i k low high in omega (arith, s.1);
     }
 
-pub not_found : (xs : List ℕ) (bound i : ℕ) → IsStrictlyIncreasing xs → IsBinarySearchResult (λ y. nat_cmp y bound) xs (Err i) → EndsBelow xs bound i
+pub not_found : (xs : List ℕ) (bound i : ℕ) → IsStrictlyIncreasing xs → IsBinarySearchResult (λ y. nat_cmp y bound) xs (Err i)
+    → EndsBelow xs bound i
 not_found xs bound i up is =
     let s = searched xs bound (Err i) is (increasing_not_below xs up) in
     record {
@@ -94,15 +104,3 @@ pub place_among : (xs : List ℕ) (a k : ℕ) → k < length xs → get_or xs k 
 place_among [] a k within is = absurd (omega arith)
 place_among (x ∷ xs) a zero within is = or_left _ _ (eq-eqb x a is)
 place_among (x ∷ xs) a (suc k) within is = or_right _ _ (place_among xs a k (omega arith) is)
-
-pub searched_for : (xs : List ℕ) (a : ℕ) (r : Result ℕ ℕ) → IsStrictlyIncreasing xs → IsBinarySearchResult (λ y. nat_cmp y a) xs r → is_ok r ≡ is_among xs a
-searched_for xs a (Ok i) up is = let s = searched xs a (Ok i) is (increasing_not_below xs up) in sym (place_among xs a i s.0 s.1)
-searched_for xs a (Err i) up is =
-    let ends = searched xs a (Err i) is (increasing_not_below xs up) in
-    both_ways false (is_among xs a) (λ impossible. absurd (false≢true impossible)) (λ among.
-    let p = among_place xs a among in
-    let cases : (p.0 < i) ⊎ (i ≤ p.0) = grind arith in
-    elim cases [
-      | inl low ↦ let b = ends.1 p.0 low in absurd (omega (arith, p.2))
-      | inr high ↦ let b = ends.2 p.0 high p.1 in absurd (omega (arith, p.2))
-    ])

@@ -11,8 +11,10 @@ use Rattle.wu_solve.specs.Merging.{holding, held}
 use Rattle.wu_solve.proofs.Sets.{Holds, holds_means, holds_from, same_means, same_from, same_ends, found, finds, all_has, all_from, from_filter, to_filter}
 use Rattle.wu_solve.proofs.Order.{some_found, some_from}
 
-kept_ascending : (p : Extent → Bool) (x : Extent) (xs : List Extent) (test : Bool) → AllByRecursion (IsBefore x) xs → IsAscending (filter p xs) → IsAscending (cond test (x ∷ filter p xs) (filter p xs))
-kept_ascending p x xs true all up = (all_from (IsBefore x) (filter p xs) (λ y has. all_has (IsBefore x) xs y all (from_filter p xs y has).0), up)
+kept_ascending : (p : Extent → Bool) (x : Extent) (xs : List Extent) (test : Bool) → AllByRecursion (IsBefore x) xs
+    → IsAscending (filter p xs) → IsAscending (cond test (x ∷ filter p xs) (filter p xs))
+kept_ascending p x xs true all up =
+    (all_from (IsBefore x) (filter p xs) (λ y has. all_has (IsBefore x) xs y all (from_filter p xs y has).0), up)
 kept_ascending p x xs false all up = up
 
 pub filter_ascending : (p : Extent → Bool) (xs : List Extent) → IsAscending xs → IsAscending (filter p xs)
@@ -26,7 +28,8 @@ filter_lists n set p xs lists = record {
   complete = λ x is passes. let b = and_parts (set x) (p x) passes in to_filter p xs x (lists.complete x is b.0) b.1;
 }
 
-pub same_lists : (n : ℕ) (set other : Extent → Bool) (xs : List Extent) → ((x : Extent) → set x ≡ other x) → Lists n set xs → Lists n other xs
+pub same_lists : (n : ℕ) (set other : Extent → Bool) (xs : List Extent) → ((x : Extent) → set x ≡ other x) → Lists n set xs
+    → Lists n other xs
 same_lists n set other xs same lists = record {
   ascending = lists.ascending;
   sound = λ x has. let s = lists.sound x has in (s.0, sym (same x) ∙ s.1);
@@ -36,28 +39,34 @@ same_lists n set other xs same lists = record {
 -- some extent of the set passes: one of its list
 pub some_listed : (n : ℕ) (set q : Extent → Bool) (xs : List Extent) → Lists n set xs → list_any q xs ≡ some_extent n (λ y. q y && set y)
 some_listed n set q xs lists = both_ways _ _
-    (λ is. let f = found q xs is in let s = lists.sound f.0 f.1 in some_from n (λ y. q y && set y) f.0 s.0 (and_from (q f.0) (set f.0) f.2 s.1))
-    (λ is. let f = some_found n (λ y. q y && set y) is in let b = and_parts (q f.0) (set f.0) f.2 in finds q xs f.0 (lists.complete f.0 f.1 b.1) b.0)
+    (λ is. let f = found q xs is in let s = lists.sound f.0 f.1 in some_from n (λ y. q y && set y) f.0 s.0
+    (and_from (q f.0) (set f.0) f.2 s.1))
+    (λ is. let f = some_found n (λ y. q y && set y) is in let b = and_parts (q f.0) (set f.0) f.2 in finds q xs f.0
+    (lists.complete f.0 f.1 b.1) b.0)
 
-pub containing_listed : (n : ℕ) (left right : Extent → Bool) (ys zs : List Extent) → Lists n left ys → Lists n right zs → Lists n (containing n left right) (holding true ys zs)
+pub containing_listed : (n : ℕ) (left right : Extent → Bool) (ys zs : List Extent) → Lists n left ys → Lists n right zs
+    → Lists n (containing n left right) (holding true ys zs)
 unfolding containing
 containing_listed n left right ys zs ly lz =
     same_lists n _ (containing n left right) _ (λ x. ap (λ (b : Bool). left x && b) (some_listed n right (λ y. holds x y) zs lz))
     (filter_lists n left (λ x. list_any (λ y. holds x y) zs) ys ly)
 
-pub not_containing_listed : (n : ℕ) (left right : Extent → Bool) (ys zs : List Extent) → Lists n left ys → Lists n right zs → Lists n (not_containing n left right) (holding false ys zs)
+pub not_containing_listed : (n : ℕ) (left right : Extent → Bool) (ys zs : List Extent) → Lists n left ys → Lists n right zs
+    → Lists n (not_containing n left right) (holding false ys zs)
 unfolding not_containing
 not_containing_listed n left right ys zs ly lz =
     same_lists n _ (not_containing n left right) _ (λ x. ap (λ (b : Bool). left x && not b) (some_listed n right (λ y. holds x y) zs lz))
     (filter_lists n left (λ x. not (list_any (λ y. holds x y) zs)) ys ly)
 
-pub contained_in_listed : (n : ℕ) (left right : Extent → Bool) (ys zs : List Extent) → Lists n left ys → Lists n right zs → Lists n (contained_in n left right) (held true ys zs)
+pub contained_in_listed : (n : ℕ) (left right : Extent → Bool) (ys zs : List Extent) → Lists n left ys → Lists n right zs
+    → Lists n (contained_in n left right) (held true ys zs)
 unfolding contained_in
 contained_in_listed n left right ys zs ly lz =
     same_lists n _ (contained_in n left right) _ (λ x. ap (λ (b : Bool). left x && b) (some_listed n right (λ y. holds y x) zs lz))
     (filter_lists n left (λ x. list_any (λ y. holds y x) zs) ys ly)
 
-pub not_contained_in_listed : (n : ℕ) (left right : Extent → Bool) (ys zs : List Extent) → Lists n left ys → Lists n right zs → Lists n (not_contained_in n left right) (held false ys zs)
+pub not_contained_in_listed : (n : ℕ) (left right : Extent → Bool) (ys zs : List Extent) → Lists n left ys → Lists n right zs
+    → Lists n (not_contained_in n left right) (held false ys zs)
 unfolding not_contained_in
 not_contained_in_listed n left right ys zs ly lz =
     same_lists n _ (not_contained_in n left right) _ (λ x. ap (λ (b : Bool). left x && not b) (some_listed n right (λ y. holds y x) zs lz))

@@ -26,16 +26,19 @@ not_itself x y same before =
     let moved : Earlier x x = subst (λ (z : Extent). Earlier x z) (sym same) before in
     not_both x x moved moved
 
-first_same : (x y : Extent) (xs ys : List Extent) → AllByRecursion (Earlier x) xs → AllByRecursion (Earlier y) ys → (y ≡ x) ⊎ Has ys x → (x ≡ y) ⊎ Has xs y → x ≡ y
+first_same : (x y : Extent) (xs ys : List Extent) → AllByRecursion (Earlier x) xs → AllByRecursion (Earlier y) ys → (y ≡ x) ⊎ Has ys x
+    → (x ≡ y) ⊎ Has xs y → x ≡ y
 first_same x y xs ys xall yall (inl same) other = sym same
 first_same x y xs ys xall yall (inr has) (inl same) = same
-first_same x y xs ys xall yall (inr has) (inr other) = absurd (not_both x y (all_has (Earlier x) xs y xall other) (all_has (Earlier y) ys x yall has))
+first_same x y xs ys xall yall (inr has) (inr other) = absurd
+    (not_both x y (all_has (Earlier x) xs y xall other) (all_has (Earlier y) ys x yall has))
 
 rest_has : (x y z : Extent) (xs ys : List Extent) → AllByRecursion (Earlier x) xs → x ≡ y → Has xs z → (y ≡ z) ⊎ Has ys z → Has ys z
 rest_has x y z xs ys all same has (inl is) = absurd (not_itself x z (same ∙ is) (all_has (Earlier x) xs z all has))
 rest_has x y z xs ys all same has (inr more) = more
 
-pub one_list : (xs ys : List Extent) → IsOrdered xs → IsOrdered ys → ((x : Extent) → Has xs x → Has ys x) → ((x : Extent) → Has ys x → Has xs x) → xs ≡ ys
+pub one_list : (xs ys : List Extent) → IsOrdered xs → IsOrdered ys → ((x : Extent) → Has xs x → Has ys x)
+    → ((x : Extent) → Has ys x → Has xs x) → xs ≡ ys
 one_list [] [] xup yup to back = refl
 one_list [] (y ∷ ys) xup yup to back = absurd (back y (inl refl))
 one_list (x ∷ xs) [] xup yup to back = absurd (to x (inl refl))
@@ -46,10 +49,12 @@ one_list (x ∷ xs) (y ∷ ys) xup yup to back =
     (λ z has. rest_has y x z ys xs yup.0 (sym same) has (back z (inr has))) in
     cc
 
-ordered_append : (xs ys : List Extent) → IsOrdered xs → IsOrdered ys → ((x y : Extent) → Has xs x → Has ys y → Earlier x y) → IsOrdered (xs ++ ys)
+ordered_append : (xs ys : List Extent) → IsOrdered xs → IsOrdered ys → ((x y : Extent) → Has xs x → Has ys y → Earlier x y)
+    → IsOrdered (xs ++ ys)
 ordered_append [] ys xup yup apart = yup
 ordered_append (x ∷ xs) ys xup yup apart = (
-  all_from (Earlier x) (xs ++ ys) (λ z has. elim (has_either xs ys z has) [ inl left ↦ all_has (Earlier x) xs z xup.0 left | inr right ↦ apart x z (inl refl) right ]),
+  all_from (Earlier x) (xs ++ ys)
+      (λ z has. elim (has_either xs ys z has) [ inl left ↦ all_has (Earlier x) xs z xup.0 left | inr right ↦ apart x z (inl refl) right ]),
   ordered_append xs ys xup.1 yup (λ v w hv hw. apart v w (inr hv) hw),
 )
 
@@ -81,14 +86,18 @@ row_has first b (suc k) x s low high =
 
 row_ordered : (first b k : ℕ) → IsOrdered (row first b k)
 row_ordered first b zero = tt
-row_ordered first b (suc k) =
-    (all_from _ (row first (b + 1) k) (λ x has. let r = in_row first (b + 1) k x has in inr (sym r.0, omega (arith, r.1))), row_ordered first (b + 1) k)
+row_ordered first b (suc k) = (
+  all_from _ (row first (b + 1) k)
+      (λ x has. let r = in_row first (b + 1) k x has in inr (sym r.0, omega (arith, r.1))),
+  row_ordered first (b + 1) k,
+)
 
 in_rows : (n a k : ℕ) (x : Extent) → Has (rows n a k) x → (a ≤ x.start) × (x.start < a + k) × IsExtentIn n x
 in_rows n a zero x has = absurd has
 in_rows n a (suc k) x has =
     elim (has_either (row a a (n - a)) (rows n (a + 1) k) x has) [
-      | inl here ↦ let r = in_row a a (n - a) x here in (omega (arith, r.0), omega (arith, r.0), record { ordered = omega (arith, r.0, r.1); within = omega (arith, r.1, r.2) })
+      | inl here ↦ let r = in_row a a (n - a) x here in
+          (omega (arith, r.0), omega (arith, r.0), record { ordered = omega (arith, r.0, r.1); within = omega (arith, r.1, r.2) })
       | inr more ↦ let r = in_rows n (a + 1) k x more in (omega (arith, r.0), omega (arith, r.1), r.2)
     ]
 
@@ -97,7 +106,8 @@ rows_have n a zero x low high is = absurd (omega arith)
 rows_have n a (suc k) x low high is =
     let cases : (x.start ≡ a) ⊎ (a + 1 ≤ x.start) = grind arith in
     elim cases [
-      | inl here ↦ has_left (row a a (n - a)) (rows n (a + 1) k) x (row_has a a (n - a) x here (omega (arith, is.ordered)) (omega (arith, is.ordered, is.within)))
+      | inl here ↦ has_left (row a a (n - a)) (rows n (a + 1) k) x
+          (row_has a a (n - a) x here (omega (arith, is.ordered)) (omega (arith, is.ordered, is.within)))
       | inr more ↦ has_right (row a a (n - a)) (rows n (a + 1) k) x (rows_have n (a + 1) k x more (omega arith) is)
     ]
 
@@ -119,8 +129,10 @@ pub extents_ordered : (n : ℕ) → IsOrdered (extents_of n)
 unfolding extents_of
 extents_ordered n = rows_ordered n 0 n
 
-kept_ordered : (p : Extent → Bool) (x : Extent) (xs : List Extent) (test : Bool) → AllByRecursion (Earlier x) xs → IsOrdered (filter p xs) → IsOrdered (cond test (x ∷ filter p xs) (filter p xs))
-kept_ordered p x xs true all up = (all_from (Earlier x) (filter p xs) (λ y has. all_has (Earlier x) xs y all (from_filter p xs y has).0), up)
+kept_ordered : (p : Extent → Bool) (x : Extent) (xs : List Extent) (test : Bool) → AllByRecursion (Earlier x) xs → IsOrdered (filter p xs)
+    → IsOrdered (cond test (x ∷ filter p xs) (filter p xs))
+kept_ordered p x xs true all up =
+    (all_from (Earlier x) (filter p xs) (λ y has. all_has (Earlier x) xs y all (from_filter p xs y has).0), up)
 kept_ordered p x xs false all up = up
 
 pub filter_ordered : (p : Extent → Bool) (xs : List Extent) → IsOrdered xs → IsOrdered (filter p xs)
@@ -133,7 +145,8 @@ ordered_from (x ∷ xs) up = (all_from (Earlier x) xs (λ y has. inl (all_has (I
 
 -- a list of a set is the extents of the text that are in it
 pub listed : (n : ℕ) (set : Extent → Bool) (xs : List Extent) → Lists n set xs → xs ≡ filter set (extents_of n)
-listed n set xs lists = one_list xs (filter set (extents_of n)) (ordered_from xs lists.ascending) (filter_ordered set (extents_of n) (extents_ordered n))
+listed n set xs lists = one_list xs (filter set (extents_of n)) (ordered_from xs lists.ascending)
+    (filter_ordered set (extents_of n) (extents_ordered n))
     (λ x has. let s = lists.sound x has in to_filter set (extents_of n) x (extents_have n x s.0) s.1)
     (λ x has. let f = from_filter set (extents_of n) x has in lists.complete x (extents_in n x f.0) f.1)
 

@@ -40,7 +40,8 @@ rises [] up = tt
 rises (x ∷ xs) up = (
   λ a has.
       let p = among_place xs a (to_among xs a has) in
-      let far : get_or (x ∷ xs) 0 0 < get_or (x ∷ xs) (suc p.0) 0 = increasing_far (x ∷ xs) up 0 (suc p.0) (omega arith) (omega (arith, p.1)) in
+      let far : get_or (x ∷ xs) 0 0 < get_or (x ∷ xs) (suc p.0) 0 = increasing_far (x ∷ xs) up 0 (suc p.0) (omega arith)
+      (omega (arith, p.1)) in
       omega (arith, p.2),
   rises xs (increasing_rest x xs up),
 )
@@ -65,46 +66,57 @@ map_has f [] a has = absurd has
 map_has f (x ∷ xs) a (inl here) = inl (ap f here)
 map_has f (x ∷ xs) a (inr more) = inr (map_has f xs a more)
 
-extents_ascend : (start behind : ℕ) (xs : List ℕ) → Rises xs → ((a : ℕ) → Among xs a → start ≤ a) → IsAscending (map (extent_at start behind) xs)
-extents_ascend start behind [] up within = tt
-extents_ascend start behind (x ∷ xs) up within = (
-  all_from (IsBefore (extent_at start behind x)) (map (extent_at start behind) xs) (λ y has.
-      let m = has_map (extent_at start behind) xs y has in
+extents_ascend : (start after : ℕ) (xs : List ℕ) → Rises xs → ((a : ℕ) → Among xs a → start ≤ a)
+    → IsAscending (map (extent_at start after) xs)
+extents_ascend start after [] up within = tt
+extents_ascend start after (x ∷ xs) up within = (
+  all_from (IsBefore (extent_at start after x)) (map (extent_at start after) xs) (λ y has.
+      let m = has_map (extent_at start after) xs y has in
       let less : x < m.0 = up.0 m.0 m.1 in
       let low : start ≤ x = within x (inl refl) in
-      subst (λ (e : Extent). IsBefore (extent_at start behind x) e) m.2 (record { starts = omega arith; ends = omega arith })),
-  extents_ascend start behind xs up.1 (λ a has. within a (inr has)),
+      subst (λ (e : Extent). IsBefore (extent_at start after x) e) m.2 (record { starts = omega arith; ends = omega arith })),
+  extents_ascend start after xs up.1 (λ a has. within a (inr has)),
 )
 
 -- the words stand at the place of the frame where they stand at the address
-words_moved : (lists : List TermList) (start : ℕ) (words : List (List ℕ)) (place : ℕ) → words_stand (stands_by lists start) words place ≡ words_stand (has_address lists) words (start + place)
+words_moved : (lists : List TermList) (start : ℕ) (words : List (List ℕ)) (place : ℕ)
+    → words_stand (stands_by lists start) words place ≡ words_stand (has_address lists) words (start + place)
 words_moved lists start [] place = refl
 words_moved lists start (word ∷ words) place =
     let next : start + (place + 1) ≡ start + place + 1 = omega arith in
-    ap (λ (b : Bool). has_address lists word (start + place) && b) (words_moved lists start words (place + 1) ∙ ap (words_stand (has_address lists) words) next)
+    ap (λ (b : Bool). has_address lists word (start + place) && b)
+    (words_moved lists start words (place + 1) ∙ ap (words_stand (has_address lists) words) next)
 
 pub record FrameAddresses (lists : List TermList) (start len : ℕ) (term addresses : List ℕ) : Type 0 where
   pub ascending : IsStrictlyIncreasing addresses
-  pub same : (address : ℕ) → is_among addresses address ≡ (has_address lists term address && (nat_le start address && nat_lt address (start + len)))
+  pub same : (address : ℕ)
+      → is_among addresses address ≡ (has_address lists term address && (nat_le start address && nat_lt address (start + len)))
 
 record InFrame (lists : List TermList) (start len : ℕ) (term : List ℕ) (a : ℕ) : Type 0 where
   stands : has_address lists term a ≡ true
   low : start ≤ a
   high : a < start + len
 
-frame_address : (lists : List TermList) (start len : ℕ) (term addresses : List ℕ) → FrameAddresses lists start len term addresses → (a : ℕ) → Among addresses a → InFrame lists start len term a
+frame_address : (lists : List TermList) (start len : ℕ) (term addresses : List ℕ) → FrameAddresses lists start len term addresses → (a : ℕ)
+    → Among addresses a → InFrame lists start len term a
 frame_address lists start len term addresses are a has =
     let is = sym (are.same a) ∙ to_among addresses a has in
     let b = and_parts (has_address lists term a) (nat_le start a && nat_lt a (start + len)) is in
     let c = and_parts (nat_le start a) (nat_lt a (start + len)) b.1 in
     record { stands = b.0; low = leb-true start a c.0; high = ltb-true a (start + len) c.1 }
 
-address_frame : (lists : List TermList) (start len : ℕ) (term addresses : List ℕ) → FrameAddresses lists start len term addresses → (a : ℕ) → InFrame lists start len term a → Among addresses a
+address_frame : (lists : List TermList) (start len : ℕ) (term addresses : List ℕ) → FrameAddresses lists start len term addresses → (a : ℕ)
+    → InFrame lists start len term a → Among addresses a
 address_frame lists start len term addresses are a is =
-    from_among addresses a (are.same a ∙ and_from (has_address lists term a) _ is.stands (and_from (nat_le start a) (nat_lt a (start + len)) (le-leb start a is.low) (lt-ltb a (start + len) is.high)))
+    from_among addresses a
+    (are.same a
+    ∙ and_from (has_address lists term a) _ is.stands
+    (and_from (nat_le start a) (nat_lt a (start + len)) (le-leb start a is.low) (lt-ltb a (start + len) is.high)))
 
-phrase_sound : (lists : List TermList) (start len : ℕ) (first : List ℕ) (more : List (List ℕ)) (addresses : List ℕ) → FrameAddresses lists start len first addresses →
-    (x : Extent) → Has (phrase_extents lists start len more addresses) x → IsExtentIn len x × (is_in (Phrase (first ∷ more)) (stands_by lists start) len x ≡ true)
+phrase_sound : (lists : List TermList) (start len : ℕ) (first : List ℕ) (more : List (List ℕ)) (addresses : List ℕ)
+    → FrameAddresses lists start len first addresses →
+    (x : Extent) → Has (phrase_extents lists start len more addresses) x
+    → IsExtentIn len x × (is_in (Phrase (first ∷ more)) (stands_by lists start) len x ≡ true)
 unfolding is_in
 phrase_sound lists start len first more addresses are x has =
     let m = has_map (extent_at start (length more)) (filter (goes_on lists start len more) addresses) x has in
@@ -117,14 +129,17 @@ phrase_sound lists start len first more addresses are x has =
     let back : start + (a - start) ≡ a = omega arith in
     let next : start + (a - start + 1) ≡ a + 1 = omega arith in
     let here : has_address lists first (start + (a - start)) ≡ true = ap (has_address lists first) back ∙ f.stands in
-    let rest : words_stand (stands_by lists start) more (a - start + 1) ≡ true = words_moved lists start more (a - start + 1) ∙ ap (words_stand (has_address lists) more) next ∙ g.1 in
+    let rest : words_stand (stands_by lists start) more (a - start + 1) ≡ true = words_moved lists start more (a - start + 1)
+    ∙ ap (words_stand (has_address lists) more) next ∙ g.1 in
     subst (λ (e : Extent). IsExtentIn len e × (is_in (Phrase (first ∷ more)) (stands_by lists start) len e ≡ true)) m.2 (
       record { ordered = omega arith; within = fits },
       and_from _ _ (eq-eqb _ _ (omega arith)) (and_from _ _ here rest),
     )
 
-phrase_complete : (lists : List TermList) (start len : ℕ) (first : List ℕ) (more : List (List ℕ)) (addresses : List ℕ) → FrameAddresses lists start len first addresses →
-    (x : Extent) → IsExtentIn len x → is_in (Phrase (first ∷ more)) (stands_by lists start) len x ≡ true → Has (phrase_extents lists start len more addresses) x
+phrase_complete : (lists : List TermList) (start len : ℕ) (first : List ℕ) (more : List (List ℕ)) (addresses : List ℕ)
+    → FrameAddresses lists start len first addresses →
+    (x : Extent) → IsExtentIn len x → is_in (Phrase (first ∷ more)) (stands_by lists start) len x ≡ true
+    → Has (phrase_extents lists start len more addresses) x
 unfolding is_in
 phrase_complete lists start len first more addresses are x is passes =
     let b = and_parts (eqb (x.start + suc (length more)) (x.end + 1)) (words_stand (stands_by lists start) (first ∷ more) x.start) passes in
@@ -137,22 +152,28 @@ phrase_complete lists start len first more addresses are x is passes =
     let place : start + x.start - start ≡ x.start = omega arith in
     let next : start + (x.start + 1) ≡ start + x.start + 1 = omega arith in
     let goes : goes_on lists start len more (start + x.start) ≡ true =
-    and_from _ _ (lt-ltb _ _ (omega arith)) (ap (words_stand (has_address lists) more) (sym next) ∙ sym (words_moved lists start more (x.start + 1)) ∙ w.1) in
-    let has = map_has (extent_at start (length more)) (filter (goes_on lists start len more) addresses) (start + x.start) (to_kept (goes_on lists start len more) addresses (start + x.start) among goes) in
-    let same : extent_at start (length more) (start + x.start) ≡ x = same_ends (extent_at start (length more) (start + x.start)) x place (omega arith) in
+    and_from _ _ (lt-ltb _ _ (omega arith))
+    (ap (words_stand (has_address lists) more) (sym next) ∙ sym (words_moved lists start more (x.start + 1)) ∙ w.1) in
+    let has = map_has (extent_at start (length more)) (filter (goes_on lists start len more) addresses) (start + x.start)
+    (to_kept (goes_on lists start len more) addresses (start + x.start) among goes) in
+    let same : extent_at start (length more) (start + x.start)
+    ≡ x = same_ends (extent_at start (length more) (start + x.start)) x place (omega arith) in
     subst (λ (e : Extent). Has (phrase_extents lists start len more addresses) e) same has
 
-pub phrase_listed : (lists : List TermList) (start len : ℕ) (first : List ℕ) (more : List (List ℕ)) (addresses : List ℕ) → FrameAddresses lists start len first addresses →
+pub phrase_listed : (lists : List TermList) (start len : ℕ) (first : List ℕ) (more : List (List ℕ)) (addresses : List ℕ)
+    → FrameAddresses lists start len first addresses →
     Lists len (is_in (Phrase (first ∷ more)) (stands_by lists start) len) (phrase_extents lists start len more addresses)
 phrase_listed lists start len first more addresses are = record {
-  ascending = extents_ascend start (length more) (filter (goes_on lists start len more) addresses) (rises _ (IsStrictlyIncreasing-filter (goes_on lists start len more) addresses are.ascending))
+  ascending = extents_ascend start (length more) (filter (goes_on lists start len more) addresses)
+      (rises _ (IsStrictlyIncreasing-filter (goes_on lists start len more) addresses are.ascending))
       (λ a has. (frame_address lists start len first addresses are a (from_kept (goes_on lists start len more) addresses a has).0).low);
   sound = phrase_sound lists start len first more addresses are;
   complete = phrase_complete lists start len first more addresses are;
 }
 
 -- more words than the frame has addresses
-pub no_room : (len : ℕ) (stands : List ℕ → ℕ → Bool) (first : List ℕ) (more : List (List ℕ)) → len ≤ length more → Lists len (is_in (Phrase (first ∷ more)) stands len) []
+pub no_room : (len : ℕ) (stands : List ℕ → ℕ → Bool) (first : List ℕ) (more : List (List ℕ)) → len ≤ length more
+    → Lists len (is_in (Phrase (first ∷ more)) stands len) []
 unfolding is_in
 no_room len stands first more long = record {
   ascending = tt;
@@ -181,17 +202,18 @@ range_rises : (a n : ℕ) → Rises (range_with_len a n)
 range_rises a zero = tt
 range_rises a (suc n) = (λ b has. let r = in_range (a + 1) n b has in omega (arith, r.0), range_rises (a + 1) n)
 
-runs_ascend : (behind : ℕ) (xs : List ℕ) → Rises xs → IsAscending (map (run_from behind) xs)
-runs_ascend behind [] up = tt
-runs_ascend behind (x ∷ xs) up = (
-  all_from (IsBefore (run_from behind x)) (map (run_from behind) xs) (λ y has.
-      let m = has_map (run_from behind) xs y has in
+runs_ascend : (after : ℕ) (xs : List ℕ) → Rises xs → IsAscending (map (run_from after) xs)
+runs_ascend after [] up = tt
+runs_ascend after (x ∷ xs) up = (
+  all_from (IsBefore (run_from after x)) (map (run_from after) xs) (λ y has.
+      let m = has_map (run_from after) xs y has in
       let less : x < m.0 = up.0 m.0 m.1 in
-      subst (λ (e : Extent). IsBefore (run_from behind x) e) m.2 (record { starts = omega arith; ends = omega arith })),
-  runs_ascend behind xs up.1,
+      subst (λ (e : Extent). IsBefore (run_from after x) e) m.2 (record { starts = omega arith; ends = omega arith })),
+  runs_ascend after xs up.1,
 )
 
-pub windows_listed : (size len : ℕ) (stands : List ℕ → ℕ → Bool) → 0 < size → size ≤ len → Lists len (is_in (Window size) stands len) (map (run_from (size - 1)) (range_with_len 0 (len - size + 1)))
+pub windows_listed : (size len : ℕ) (stands : List ℕ → ℕ → Bool) → 0 < size → size ≤ len
+    → Lists len (is_in (Window size) stands len) (map (run_from (size - 1)) (range_with_len 0 (len - size + 1)))
 unfolding is_in
 windows_listed size len stands some fits = record {
   ascending = runs_ascend (size - 1) (range_with_len 0 (len - size + 1)) (range_rises 0 (len - size + 1));
@@ -204,8 +226,10 @@ windows_listed size len stands some fits = record {
   complete = λ x is passes.
       let ends : x.start + size ≡ x.end + 1 = eqb-true _ _ passes in
       let inside : x.end < len = is.within in
-      let has = map_has (run_from (size - 1)) (range_with_len 0 (len - size + 1)) x.start (range_has 0 (len - size + 1) x.start (omega arith) (omega arith)) in
-      subst (λ (e : Extent). Has (map (run_from (size - 1)) (range_with_len 0 (len - size + 1))) e) (same_ends (run_from (size - 1) x.start) x (omega arith) (omega arith)) has;
+      let has = map_has (run_from (size - 1)) (range_with_len 0 (len - size + 1)) x.start
+      (range_has 0 (len - size + 1) x.start (omega arith) (omega arith)) in
+      subst (λ (e : Extent). Has (map (run_from (size - 1)) (range_with_len 0 (len - size + 1))) e)
+      (same_ends (run_from (size - 1) x.start) x (omega arith) (omega arith)) has;
 }
 
 pub no_windows : (size len : ℕ) (stands : List ℕ → ℕ → Bool) → (size ≡ 0) ⊎ (len < size) → Lists len (is_in (Window size) stands len) []

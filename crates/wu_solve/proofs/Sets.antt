@@ -26,7 +26,8 @@ same_means x y is =
     let tests = and_parts (eqb x.start y.start) (eqb x.end y.end) is in
     let starts : x.start ≡ y.start = eqb-true _ _ tests.0 in
     let ends : x.end ≡ y.end = eqb-true _ _ tests.1 in
-    ap (λ (n : ℕ). let e : Extent = record { start = n; end = x.end } in e) starts ∙ ap (λ (n : ℕ). let e : Extent = record { start = y.start; end = n } in e) ends
+    ap (λ (n : ℕ). let e : Extent = record { start = n; end = x.end } in e) starts
+    ∙ ap (λ (n : ℕ). let e : Extent = record { start = y.start; end = n } in e) ends
 
 pub same_from : (x y : Extent) → x ≡ y → same_extent x y ≡ true
 same_from x y is = subst (λ (z : Extent). same_extent x z ≡ true) is (and_from _ _ (eq-eqb x.start x.start refl) (eq-eqb x.end x.end refl))
@@ -73,7 +74,8 @@ has_either (y ∷ xs) ys x (inl here) = inl (inl here)
 has_either (y ∷ xs) ys x (inr more) =
     elim (has_either xs ys x more) [ inl left ↦ inl (inr left) | inr right ↦ inr right ]
 
-kept_by : (p : Extent → Bool) (y x : Extent) (ys : List Extent) (test : Bool) → p y ≡ test → Has (cond test (y ∷ ys) ys) x → ((Has ys x → (p x ≡ true))) → (p x ≡ true) × ((y ≡ x) ⊎ Has ys x)
+kept_by : (p : Extent → Bool) (y x : Extent) (ys : List Extent) (test : Bool) → p y ≡ test → Has (cond test (y ∷ ys) ys) x
+    → ((Has ys x → (p x ≡ true))) → (p x ≡ true) × ((y ≡ x) ⊎ Has ys x)
 kept_by p y x ys true is (inl here) rest = (subst (λ (z : Extent). p z ≡ true) here is, inl here)
 kept_by p y x ys true is (inr more) rest = (rest more, inr more)
 kept_by p y x ys false is more rest = (rest more, inr more)

@@ -3,9 +3,10 @@ use Rattle.std.proofs.Common.{◌≡◌, Bool, true, false, cond, List, [], ◌�
 use Rattle.std.proofs.lemmas.Bool.{false≢true}
 use Rattle.wu_base.specs.declared.addresses.Extent.{Extent}
 use Rattle.wu_solve.specs.Listing.{IsAscending, Has}
-use Rattle.wu_solve.specs.Fronts.{skipped}
+use Rattle.wu_solve.specs.FirstExtents.{skipped}
 
-in_cond : (test : Bool) (y : Extent) (ys rest : List Extent) (x : Extent) → (Has rest x → Has ys x) → Has (cond test rest (y ∷ ys)) x → Has (y ∷ ys) x
+in_cond : (test : Bool) (y : Extent) (ys rest : List Extent) (x : Extent) → (Has rest x → Has ys x) → Has (cond test rest (y ∷ ys)) x
+    → Has (y ∷ ys) x
 in_cond true y ys rest x less has = inr (less has)
 in_cond false y ys rest x less has = has
 
@@ -13,7 +14,8 @@ pub in_skipped : (test : Extent → Bool) (ys : List Extent) (x : Extent) → Ha
 in_skipped test [] x has = has
 in_skipped test (y ∷ ys) x has = in_cond (test y) y ys (skipped test ys) x (in_skipped test ys x) has
 
-has_cond : (test : Bool) (y : Extent) (ys rest : List Extent) (x : Extent) → (test ≡ true → y ≡ x → ⊥) → (Has ys x → Has rest x) → Has (y ∷ ys) x → Has (cond test rest (y ∷ ys)) x
+has_cond : (test : Bool) (y : Extent) (ys rest : List Extent) (x : Extent) → (test ≡ true → y ≡ x → ⊥) → (Has ys x → Has rest x)
+    → Has (y ∷ ys) x → Has (cond test rest (y ∷ ys)) x
 has_cond true y ys rest x other more (inl here) = absurd (other refl here)
 has_cond true y ys rest x other more (inr has) = more has
 has_cond false y ys rest x other more has = has
@@ -25,7 +27,8 @@ has_skipped test (y ∷ ys) x fails has =
     (λ passes here. false≢true (sym (subst (λ (e : Extent). test e ≡ false) (sym here) fails) ∙ passes))
     (has_skipped test ys x fails) has
 
-cond_ascending : (test : Bool) (y : Extent) (ys rest : List Extent) → IsAscending (y ∷ ys) → IsAscending rest → IsAscending (cond test rest (y ∷ ys))
+cond_ascending : (test : Bool) (y : Extent) (ys rest : List Extent) → IsAscending (y ∷ ys) → IsAscending rest
+    → IsAscending (cond test rest (y ∷ ys))
 cond_ascending true y ys rest up more = more
 cond_ascending false y ys rest up more = up
 
@@ -33,7 +36,8 @@ pub skipped_ascending : (test : Extent → Bool) (ys : List Extent) → IsAscend
 skipped_ascending test [] up = up
 skipped_ascending test (y ∷ ys) up = cond_ascending (test y) y ys (skipped test ys) up (skipped_ascending test ys up.1)
 
-first_cond : (test : Extent → Bool) (b : Bool) (y z : Extent) (ys zs rest : List Extent) → test y ≡ b → (rest ≡ z ∷ zs → test z ≡ false) → cond b rest (y ∷ ys) ≡ z ∷ zs → test z ≡ false
+first_cond : (test : Extent → Bool) (b : Bool) (y z : Extent) (ys zs rest : List Extent) → test y ≡ b → (rest ≡ z ∷ zs → test z ≡ false)
+    → cond b rest (y ∷ ys) ≡ z ∷ zs → test z ≡ false
 first_cond test true y z ys zs rest is more same = more same
 first_cond test false y z ys zs rest is more same =
     let first : y ≡ z = cc in

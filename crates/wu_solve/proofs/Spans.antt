@@ -6,20 +6,20 @@ use Rattle.std.proofs.lemmas.Bool.Decides.{nat_tests}
 use Rattle.wu_base.specs.declared.addresses.Extent.{Extent}
 use Rattle.wu_solve.specs.Listing.{IsBefore, IsAscending, Has}
 use Rattle.wu_solve.specs.Merging.{span, IsSpan, AreInnermost}
-use Rattle.wu_solve.specs.Fronts.{behind, first_ends_before}
+use Rattle.wu_solve.specs.FirstExtents.{after_start, first_ends_before}
 use Rattle.wu_solve.proofs.Sets.{Holds, all_has}
 use Rattle.wu_solve.proofs.Candidates.{itself, taken, passed}
 use Rattle.wu_solve.proofs.Walking.{first_is_before}
 use Rattle.wu_solve.proofs.Skipping.{in_skipped, has_skipped, skipped_ascending, first_skipped}
 
--- the span from an extent to the first of those behind it, unless the span of the next one lies in it
+-- the span from an extent to the first of those after it, unless the span of the next one lies in it
 abbrev pub span_before : Extent → List Extent → List Extent → List Extent → List Extent
 span_before y ys [] more = more
 span_before y ys (z ∷ zs) more = if first_ends_before z.start ys then more else span y z ∷ more
 
 abbrev pub spans : List Extent → List Extent → List Extent
 spans [] zs = []
-spans (y ∷ ys) zs = span_before y ys (behind y.end zs) (spans ys (behind y.end zs))
+spans (y ∷ ys) zs = span_before y ys (after_start y.end zs) (spans ys (after_start y.end zs))
 
 abbrev Inner : List Extent → List Extent → List Extent → Type 0
 Inner ys zs xs = AreInnermost (IsSpan ys zs) xs
@@ -35,11 +35,14 @@ first_of : (place : ℕ) (ys : List Extent) → first_ends_before place ys ≡ t
 first_of place [] some = absurd (false≢true some)
 first_of place (y ∷ ys) some = (y, inl refl, ltb-true y.end place some)
 
-skipped_span : (y z : Extent) (ys zs xs : List Extent) → IsAscending (y ∷ ys) → IsAscending (z ∷ zs) → first_ends_before z.start ys ≡ true → Inner ys (z ∷ zs) xs → Inner (y ∷ ys) (z ∷ zs) xs
+skipped_span : (y z : Extent) (ys zs xs : List Extent) → IsAscending (y ∷ ys) → IsAscending (z ∷ zs) → first_ends_before z.start ys ≡ true
+    → Inner ys (z ∷ zs) xs → Inner (y ∷ ys) (z ∷ zs) xs
 skipped_span y z ys zs xs yup zup some inner =
-    passed (IsSpan (y ∷ ys) (z ∷ zs)) (IsSpan ys (z ∷ zs)) xs inner (λ x c. (c.0, c.1, inr c.2, c.3, c.4, c.5)) (λ x c. later x c.0 c.1 c.2 c.3 c.4 c.5)
+    passed (IsSpan (y ∷ ys) (z ∷ zs)) (IsSpan ys (z ∷ zs)) xs inner (λ x c. (c.0, c.1, inr c.2, c.3, c.4, c.5))
+    (λ x c. later x c.0 c.1 c.2 c.3 c.4 c.5)
   where
-    later : (x v w : Extent) → Has (y ∷ ys) v → Has (z ∷ zs) w → v.end < w.start → span v w ≡ x → (e : Extent) × IsSpan ys (z ∷ zs) e × Holds x e
+    later : (x v w : Extent) → Has (y ∷ ys) v → Has (z ∷ zs) w → v.end < w.start → span v w ≡ x
+        → (e : Extent) × IsSpan ys (z ∷ zs) e × Holds x e
     later x v w (inl here) hw apart is =
         let f = first_of z.start ys some in
         let u = f.0 in
@@ -49,9 +52,11 @@ skipped_span y z ys zs xs yup zup some inner =
         (span u z, (u, z, f.1, inl refl, f.2, refl), subst (λ (e : Extent). Holds e (span u z)) (ap (λ (e : Extent). span e w) here ∙ is) h)
     later x v w (inr more) hw apart is = (x, (v, w, more, hw, apart, is), itself x)
 
-put_span : (y z : Extent) (ys zs xs : List Extent) → IsAscending (y ∷ ys) → IsAscending (z ∷ zs) → y.end < z.start → first_ends_before z.start ys ≡ false → Inner ys (z ∷ zs) xs → Inner (y ∷ ys) (z ∷ zs) (span y z ∷ xs)
+put_span : (y z : Extent) (ys zs xs : List Extent) → IsAscending (y ∷ ys) → IsAscending (z ∷ zs) → y.end < z.start
+    → first_ends_before z.start ys ≡ false → Inner ys (z ∷ zs) xs → Inner (y ∷ ys) (z ∷ zs) (span y z ∷ xs)
 put_span y z ys zs xs yup zup low none inner =
-    taken (IsSpan (y ∷ ys) (z ∷ zs)) (IsSpan ys (z ∷ zs)) xs inner (λ x c. (c.0, c.1, inr c.2, c.3, c.4, c.5)) (span y z) (y, z, inl refl, inl refl, low, refl) before (λ x c. cases x c.0 c.1 c.2 c.3 c.4 c.5)
+    taken (IsSpan (y ∷ ys) (z ∷ zs)) (IsSpan ys (z ∷ zs)) xs inner (λ x c. (c.0, c.1, inr c.2, c.3, c.4, c.5)) (span y z)
+    (y, z, inl refl, inl refl, low, refl) before (λ x c. cases x c.0 c.1 c.2 c.3 c.4 c.5)
   where
     behind_first : (w : Extent) → z.start < w.start → Has (z ∷ zs) w → z.end < w.end
     behind_first w later (inl here) = let same : z.start ≡ w.start = ap (λ (e : Extent). e.start) here in absurd (omega arith)
@@ -72,11 +77,14 @@ put_span y z ys zs xs yup zup low none inner =
         inl (subst (λ (e : Extent). Holds e (span y z)) (ap (λ (e : Extent). span e w) here ∙ is) h)
     cases x v w (inr more) hw apart is = inr (v, w, more, hw, apart, is)
 
-choose : (b : Bool) (y z : Extent) (ys zs xs : List Extent) → IsAscending (y ∷ ys) → IsAscending (z ∷ zs) → y.end < z.start → first_ends_before z.start ys ≡ b → Inner ys (z ∷ zs) xs → Inner (y ∷ ys) (z ∷ zs) (cond b xs (span y z ∷ xs))
+choose : (b : Bool) (y z : Extent) (ys zs xs : List Extent) → IsAscending (y ∷ ys) → IsAscending (z ∷ zs) → y.end < z.start
+    → first_ends_before z.start ys ≡ b → Inner ys (z ∷ zs) xs → Inner (y ∷ ys) (z ∷ zs) (cond b xs (span y z ∷ xs))
 choose true y z ys zs xs yup zup low is inner = skipped_span y z ys zs xs yup zup is inner
 choose false y z ys zs xs yup zup low is inner = put_span y z ys zs xs yup zup low is inner
 
-step : (y : Extent) (ys left xs : List Extent) → IsAscending (y ∷ ys) → IsAscending left → ((z : Extent) (zs : List Extent) → left ≡ z ∷ zs → y.end < z.start) → Inner ys left xs → Inner (y ∷ ys) left (span_before y ys left xs)
+step : (y : Extent) (ys left xs : List Extent) → IsAscending (y ∷ ys) → IsAscending left
+    → ((z : Extent) (zs : List Extent) → left ≡ z ∷ zs → y.end < z.start) → Inner ys left xs
+    → Inner (y ∷ ys) left (span_before y ys left xs)
 step y ys [] xs yup zup low inner = record {
   ascending = inner.ascending;
   sound = λ x has. absurd (inner.sound x has).3;
@@ -88,7 +96,7 @@ not_behind : (y z : Extent) → y.end < z.start → nat_le z.start y.end ≡ fal
 not_behind y z apart = grind (arith, nat_tests)
 
 -- of those in front no span begins
-widen : (y : Extent) (ys zs xs : List Extent) → IsAscending (y ∷ ys) → Inner (y ∷ ys) (behind y.end zs) xs → Inner (y ∷ ys) zs xs
+widen : (y : Extent) (ys zs xs : List Extent) → IsAscending (y ∷ ys) → Inner (y ∷ ys) (after_start y.end zs) xs → Inner (y ∷ ys) zs xs
 widen y ys zs xs yup inner = record {
   ascending = inner.ascending;
   sound = λ x has. let c = inner.sound x has in (c.0, c.1, c.2, in_skipped (λ z. nat_le z.start y.end) zs c.1 c.3, c.4, c.5);
@@ -102,7 +110,7 @@ widen y ys zs xs yup inner = record {
 pub spans_inner : (ys zs : List Extent) → IsAscending ys → IsAscending zs → AreInnermost (IsSpan ys zs) (spans ys zs)
 spans_inner [] zs yup zup = record { ascending = tt; sound = λ x has. absurd has; dense = λ x c. absurd c.2 }
 spans_inner (y ∷ ys) zs yup zup =
-    let up : IsAscending (behind y.end zs) = skipped_ascending (λ z. nat_le z.start y.end) zs zup in
-    widen y ys zs _ yup (step y ys (behind y.end zs) (spans ys (behind y.end zs)) yup up
+    let up : IsAscending (after_start y.end zs) = skipped_ascending (λ z. nat_le z.start y.end) zs zup in
+    widen y ys zs _ yup (step y ys (after_start y.end zs) (spans ys (after_start y.end zs)) yup up
     (λ z more same. leb-false z.start y.end (first_skipped (λ z. nat_le z.start y.end) zs more z same))
-    (spans_inner ys (behind y.end zs) yup.1 up))
+    (spans_inner ys (after_start y.end zs) yup.1 up))

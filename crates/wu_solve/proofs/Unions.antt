@@ -10,7 +10,7 @@ use Rattle.wu_solve.proofs.Sets.{Holds, holds_means, holds_from, all_has}
 use Rattle.wu_solve.proofs.Candidates.{itself, taken, passed}
 use Rattle.wu_solve.proofs.Walking.{first_is_before}
 
--- the walk from an extent of the left list on; more walks those behind it
+-- the walk from an extent of the left list on; more walks those after it
 abbrev pub union_from : Extent → List Extent → (List Extent → List Extent) → List Extent → List Extent
 union_from y ys more [] = y ∷ ys
 union_from y ys more (z ∷ zs) =
@@ -35,19 +35,27 @@ turned : (ys zs xs : List Extent) → Inner ys zs xs → Inner zs ys xs
 turned ys zs xs inner = passed (IsOneOf zs ys) (IsOneOf ys zs) xs inner (turn ys zs) (λ x c. (x, turn zs ys x c, itself x))
 
 -- what lies in the lists, without the first of the left one
-behind : (y : Extent) (ys zs : List Extent) (x : Extent) → IsOneOf ys zs x → IsOneOf (y ∷ ys) zs x
-behind y ys zs x (inl left) = inl (inr left)
-behind y ys zs x (inr right) = inr right
+after : (y : Extent) (ys zs : List Extent) (x : Extent) → IsOneOf ys zs x → IsOneOf (y ∷ ys) zs x
+after y ys zs x (inl left) = inl (inr left)
+after y ys zs x (inr right) = inr right
 
 none_left : (zs : List Extent) → IsAscending zs → Inner [] zs zs
-none_left zs up = record { ascending = up; sound = λ x has. inr has; dense = λ x is. elim is [ inl never ↦ absurd never | inr has ↦ (x, has, holds_from x x (itself x)) ] }
+none_left zs up = record {
+  ascending = up;
+  sound = λ x has. inr has;
+  dense = λ x is. elim is [
+    | inl never ↦ absurd never
+    | inr has ↦
+        (x, has, holds_from x x (itself x))
+  ];
+}
 
 none_right : (ys : List Extent) → IsAscending ys → Inner ys [] ys
 none_right ys up = turned [] ys ys (none_left ys up)
 
 -- an extent that holds one of the others is left out
 left_out : (y z : Extent) (ys zs xs : List Extent) → holds y z ≡ true → Inner ys (z ∷ zs) xs → Inner (y ∷ ys) (z ∷ zs) xs
-left_out y z ys zs xs is inner = passed (IsOneOf (y ∷ ys) (z ∷ zs)) (IsOneOf ys (z ∷ zs)) xs inner (behind y ys (z ∷ zs)) held
+left_out y z ys zs xs is inner = passed (IsOneOf (y ∷ ys) (z ∷ zs)) (IsOneOf ys (z ∷ zs)) xs inner (after y ys (z ∷ zs)) held
   where
     held : (x : Extent) → IsOneOf (y ∷ ys) (z ∷ zs) x → (e : Extent) × IsOneOf ys (z ∷ zs) e × Holds x e
     held x (inl (inl here)) = (z, inr (inl refl), subst (λ (e : Extent). Holds e z) here (holds_means y z is))
@@ -57,20 +65,28 @@ left_out y z ys zs xs is inner = passed (IsOneOf (y ∷ ys) (z ∷ zs)) (IsOneOf
 right_out : (y z : Extent) (ys zs xs : List Extent) → holds z y ≡ true → Inner (y ∷ ys) zs xs → Inner (y ∷ ys) (z ∷ zs) xs
 right_out y z ys zs xs is inner = turned (z ∷ zs) (y ∷ ys) xs (left_out z y zs ys xs is (turned (y ∷ ys) zs xs inner))
 
-left_put : (y z : Extent) (ys zs xs : List Extent) → IsAscending (y ∷ ys) → IsAscending (z ∷ zs) → IsBefore y z → Inner ys (z ∷ zs) xs → Inner (y ∷ ys) (z ∷ zs) (y ∷ xs)
-left_put y z ys zs xs yup zup before inner = taken (IsOneOf (y ∷ ys) (z ∷ zs)) (IsOneOf ys (z ∷ zs)) xs inner (behind y ys (z ∷ zs)) y (inl (inl refl)) later cases
+left_put : (y z : Extent) (ys zs xs : List Extent) → IsAscending (y ∷ ys) → IsAscending (z ∷ zs) → IsBefore y z → Inner ys (z ∷ zs) xs
+    → Inner (y ∷ ys) (z ∷ zs) (y ∷ xs)
+left_put y z ys zs xs yup zup before inner = taken (IsOneOf (y ∷ ys) (z ∷ zs)) (IsOneOf ys (z ∷ zs)) xs inner (after y ys (z ∷ zs)) y
+    (inl (inl refl)) later cases
   where
     later : (x : Extent) → IsOneOf ys (z ∷ zs) x → IsBefore y x
     later x (inl left) = all_has (IsBefore y) ys x yup.0 left
-    later x (inr right) = let b = first_is_before z x zs zup right in record { starts = omega (arith, before.starts, b.0); ends = omega (arith, before.ends, b.1) }
+    later x (inr right) = let b = first_is_before z x zs zup right in record {
+      starts = omega (arith, before.starts, b.0);
+      ends = omega
+          (arith, before.ends, b.1);
+    }
 
     cases : (x : Extent) → IsOneOf (y ∷ ys) (z ∷ zs) x → Holds x y ⊎ IsOneOf ys (z ∷ zs) x
     cases x (inl (inl here)) = inl (subst (λ (e : Extent). Holds e y) here (itself y))
     cases x (inl (inr more)) = inr (inl more)
     cases x (inr right) = inr (inr right)
 
-right_put : (y z : Extent) (ys zs xs : List Extent) → IsAscending (y ∷ ys) → IsAscending (z ∷ zs) → IsBefore z y → Inner (y ∷ ys) zs xs → Inner (y ∷ ys) (z ∷ zs) (z ∷ xs)
-right_put y z ys zs xs yup zup before inner = turned (z ∷ zs) (y ∷ ys) (z ∷ xs) (left_put z y zs ys xs zup yup before (turned (y ∷ ys) zs xs inner))
+right_put : (y z : Extent) (ys zs xs : List Extent) → IsAscending (y ∷ ys) → IsAscending (z ∷ zs) → IsBefore z y → Inner (y ∷ ys) zs xs
+    → Inner (y ∷ ys) (z ∷ zs) (z ∷ xs)
+right_put y z ys zs xs yup zup before inner = turned (z ∷ zs) (y ∷ ys) (z ∷ xs)
+    (left_put z y zs ys xs zup yup before (turned (y ∷ ys) zs xs inner))
 
 not_held : (y z : Extent) → holds y z ≡ false → y.start ≤ z.start → y.end < z.end
 not_held y z is starts = by_test (leb z.end y.end) refl
@@ -79,9 +95,11 @@ not_held y z is starts = by_test (leb z.end y.end) refl
     by_test true ends = absurd (false≢true (sym is ∙ holds_from y z (record { start = starts; last = leb-true z.end y.end ends })))
     by_test false ends = leb-false z.end y.end ends
 
-step : (y z : Extent) (ys zs : List Extent) (more : List Extent → List Extent) (b c d : Bool) → holds y z ≡ b → holds z y ≡ c → nat_lt y.start z.start ≡ d →
+step : (y z : Extent) (ys zs : List Extent) (more : List Extent → List Extent) (b c d : Bool) → holds y z ≡ b → holds z y ≡ c
+    → nat_lt y.start z.start ≡ d →
     IsAscending (y ∷ ys) → IsAscending (z ∷ zs) → Inner ys (z ∷ zs) (more (z ∷ zs)) → Inner (y ∷ ys) zs (union_from y ys more zs) →
-    Inner (y ∷ ys) (z ∷ zs) (cond b (more (z ∷ zs)) (cond c (union_from y ys more zs) (cond d (y ∷ more (z ∷ zs)) (z ∷ union_from y ys more zs))))
+    Inner (y ∷ ys) (z ∷ zs)
+    (cond b (more (z ∷ zs)) (cond c (union_from y ys more zs) (cond d (y ∷ more (z ∷ zs)) (z ∷ union_from y ys more zs))))
 step y z ys zs more true c d hb hc hd yup zup left right = left_out y z ys zs _ hb left
 step y z ys zs more false true d hb hc hd yup zup left right = right_out y z ys zs _ hc right
 step y z ys zs more false false true hb hc hd yup zup left right =
@@ -96,10 +114,13 @@ step y z ys zs more false false false hb hc hd yup zup left right =
       | inr same ↦ absurd (false≢true (sym hb ∙ holds_from y z (record { start = omega arith; last = omega arith })))
     ]
 
-from_left : (y : Extent) (ys : List Extent) (more : List Extent → List Extent) → IsAscending (y ∷ ys) → ((zs : List Extent) → IsAscending zs → Inner ys zs (more zs)) → (zs : List Extent) → IsAscending zs → Inner (y ∷ ys) zs (union_from y ys more zs)
+from_left : (y : Extent) (ys : List Extent) (more : List Extent → List Extent) → IsAscending (y ∷ ys)
+    → ((zs : List Extent) → IsAscending zs → Inner ys zs (more zs)) → (zs : List Extent) → IsAscending zs
+    → Inner (y ∷ ys) zs (union_from y ys more zs)
 from_left y ys more yup rest [] zup = none_right (y ∷ ys) yup
 from_left y ys more yup rest (z ∷ zs) zup =
-    step y z ys zs more (holds y z) (holds z y) (nat_lt y.start z.start) refl refl refl yup zup (rest (z ∷ zs) zup) (from_left y ys more yup rest zs zup.1)
+    step y z ys zs more (holds y z) (holds z y) (nat_lt y.start z.start) refl refl refl yup zup (rest (z ∷ zs) zup)
+    (from_left y ys more yup rest zs zup.1)
 
 pub union_inner : (ys zs : List Extent) → IsAscending ys → IsAscending zs → AreInnermost (IsOneOf ys zs) (union ys zs)
 union_inner [] zs yup zup = none_left zs zup
@@ -110,6 +131,7 @@ union_none [] = refl
 union_none (y ∷ ys) = sym (append-nil (y ∷ ys))
 
 -- where a list is at its end
-pub union_end : (left right : List Extent) (i j : ℕ) → (length left ≤ i) ⊎ (length right ≤ j) → union (drop i left) (drop j right) ≡ drop i left ++ drop j right
+pub union_end : (left right : List Extent) (i j : ℕ) → (length left ≤ i) ⊎ (length right ≤ j)
+    → union (drop i left) (drop j right) ≡ drop i left ++ drop j right
 union_end left right i j (inl end) = rw (drop_of_length-le left end) refl
 union_end left right i j (inr end) = rw (drop_of_length-le right end) (union_none (drop i left))

@@ -32,4 +32,4 @@ pub record IsListOf (term : List ℕ) (lists : List TermList) (place : ℕ) : Ty
   pub within : place < length lists
   pub same : (d : TermList) → pointwise nat_eq term (slice_index_or lists place d).term ≡ true
   pub before : AllByRecursion (IsOther term) (take place lists)
-  pub behind : AllByRecursion (IsOther term) (drop (suc place) lists)
+  pub after : AllByRecursion (IsOther term) (drop (suc place) lists)

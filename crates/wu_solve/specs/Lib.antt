@@ -1,7 +1,11 @@
-pub mod Listing
-pub mod Merging
-pub mod Fronts
+-- ---- What a reader of the contracts trusts
+
 pub mod Addresses
-pub mod Operands
-pub mod Stretches
+pub mod Listing
 pub mod Solving
+-- ---- What only private functions and proofs need: operands by lists of addresses, operators by merging lists of extents
+
+pub mod Operands
+pub mod Prefixes
+pub mod Merging
+pub mod FirstExtents

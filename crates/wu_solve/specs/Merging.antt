@@ -30,7 +30,7 @@ IsOneOf left right x = Has left x ⊎ Has right x
 abbrev pub IsCover : List Extent → List Extent → Extent → Type 0
 IsCover left right x = (y : Extent) × (z : Extent) × Has left y × Has right z × (cover y z ≡ x)
 
--- a span whose second extent starts behind the end of the first
+-- a span whose second extent starts after the end of the first
 abbrev pub IsSpan : List Extent → List Extent → Extent → Type 0
 IsSpan left right x = (y : Extent) × (z : Extent) × Has left y × Has right z × (y.end < z.start) × (span y z ≡ x)
 

@@ -5,15 +5,15 @@ use Rattle.wu_base.specs.declared.addresses.TermList.{TermList}
 use Rattle.wu_gcl.specs.Extents.{words_stand}
 use Rattle.wu_solve.specs.Addresses.{has_address}
 
--- the extent from an address on, with so many places behind the first
+-- the extent from an address on, with so many places after the first
 abbrev pub extent_at : ℕ → ℕ → ℕ → Extent
-extent_at start behind address = record { start = address - start; end = address - start + behind }
+extent_at start after address = record { start = address - start; end = address - start + after }
 
--- the extent from a place on, with so many places behind the first
+-- the extent from a place on, with so many places after the first
 abbrev pub run_from : ℕ → ℕ → Extent
-run_from behind first = record { start = first; end = first + behind }
+run_from after first = record { start = first; end = first + after }
 
--- the words stand behind the address, and end within the frame
+-- the words stand after the address, and end within the frame
 abbrev pub goes_on : List TermList → ℕ → ℕ → List (List ℕ) → ℕ → Bool
 goes_on lists start len more address = nat_lt (address - start + length more) len && words_stand (has_address lists) more (address + 1)
 

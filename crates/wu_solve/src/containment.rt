@@ -3,7 +3,7 @@ ghost use Rattle.std.specs.Prelude.{◌≡◌, IfOk};
 ghost use Rattle.wu_solve.specs.Listing.{IsAscending};
 ghost use Rattle.wu_solve.specs.Merging.{is_wanted, holding, held};
 
-use crate::fronts::{ending_from, ends_by, starting_from, starts_by};
+use crate::first_extents::{ending_from, ends_by, starting_from, starts_by};
 use std::alloc::Global;
 use wu_base::{Extent, NoMemory};
 

@@ -5,7 +5,7 @@
 #![tactic(auto)]
 
 mod containment;
-mod fronts;
+mod first_extents;
 mod laws;
 mod lookup;
 mod merging;

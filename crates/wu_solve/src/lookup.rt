@@ -6,7 +6,7 @@ ghost use Rattle.std.specs.Cmp.Lexicographic.{slice_cmp};
 ghost use Rattle.std.specs.Ordering.{nat_cmp};
 ghost use Rattle.wu_solve.specs.Addresses.{is_among, has_address, AreLists, IsOther, IsListOf};
 
-use wu_base::{Range, TermList};
+use wu_base::{Range, TermList, is_among};
 
 /// The addresses from the bound on.
 pub fn addresses_from(addresses: &[u64], bound: u64) -> &[u64]
@@ -59,7 +59,7 @@ pub fn has_address(lists: &[TermList], term: &[u8], address: u64) -> bool
     requires { AreLists lists.now }
     ensures { result ≡ has_address lists.now term.now address }
 {
-    addresses_of(lists, term).binary_search(&address).is_ok()
+    is_among(&address, addresses_of(lists, term))
 }
 
 /// The term's addresses in the frame.

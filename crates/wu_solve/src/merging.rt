@@ -4,7 +4,7 @@ ghost use Rattle.wu_gcl.specs.Extents.{holds};
 ghost use Rattle.wu_solve.specs.Listing.{IsAscending};
 ghost use Rattle.wu_solve.specs.Merging.{cover, span, IsOneOf, IsCover, IsSpan, AreInnermost};
 
-use crate::fronts::{ends_before, ends_by, starting_behind};
+use crate::first_extents::{ends_before, ends_by, starting_after};
 use std::alloc::Global;
 use wu_base::{Extent, NoMemory};
 
@@ -83,7 +83,7 @@ pub fn both_of(alloc: Global, left: &[Extent], right: &[Extent]) -> Result<Vec<E
     Ok(found)
 }
 
-/// The spans from an extent of the left list to one of the right list behind its end, but those
+/// The spans from an extent of the left list to one of the right list after its end, but those
 /// that hold another.
 pub fn followed_by(
     alloc: Global,
@@ -98,7 +98,7 @@ pub fn followed_by(
     let mut rest = right;
     for i in 0..left.len() {
         let first = left[i];
-        rest = starting_behind(rest, first.end);
+        rest = starting_after(rest, first.end);
         if let Some(other) = rest.first() {
             if !ends_before(&left[i + 1..], other.start) {
                 found.push(Extent {

@@ -8,22 +8,22 @@ ghost use Rattle.wu_solve.specs.Addresses.{is_among, has_address, stands_by, Are
 ghost use Rattle.wu_base.specs.declared.addresses.TermList.{TermList};
 ghost use Rattle.wu_solve.specs.Listing.{Lists};
 ghost use Rattle.wu_solve.specs.Operands.{run_from};
-ghost use Rattle.wu_solve.specs.Stretches.{FrontStands};
+ghost use Rattle.wu_solve.specs.Prefixes.{PrefixStands};
 
 use crate::lookup::{addresses_in, has_address};
 use crate::overlaps::{Stretch, farther, known_words, overlaps};
 use std::alloc::Global;
 use wu_base::{Bytes, Extent, NoMemory, Range, TermList};
 
-/// How many of the words, the first ones, stand one behind the other from the address on, where so
+/// How many of the words, the first ones, stand one after the other from the address on, where so
 /// many are known to.
 fn words_from(lists: &[TermList], words: &[Bytes], address: u64, known: usize) -> usize
     requires lists { AreLists lists.now }
     requires fits { address + length words.now < 2 ^ 64 }
     requires within { known ≤ length words.now }
-    requires known { FrontStands (has_address lists.now) words.now address known }
+    requires known { PrefixStands (has_address lists.now) words.now address known }
     ensures within { result ≤ length words.now }
-    ensures stand { FrontStands (has_address lists.now) words.now address result }
+    ensures stand { PrefixStands (has_address lists.now) words.now address result }
     ensures whole { words_stand (has_address lists.now) words.now address ≡ nat_eq result (length words.now) }
 {
     for count in known..words.len() {
@@ -34,7 +34,7 @@ fn words_from(lists: &[TermList], words: &[Bytes], address: u64, known: usize) -
     words.len()
 }
 
-/// The extents at which the words stand one behind the other. Where no address has two terms, words
+/// The extents at which the words stand one after the other. Where no address has two terms, words
 /// are looked up at most three times as often as the frame has addresses, however often the phrase
 /// repeats itself: what an earlier match tells of a later one isn't looked up again.
 pub fn phrase(
@@ -48,8 +48,8 @@ pub fn phrase(
     requires frame { frame.start + frame.len ≤ 2 ^ 47 }
     ensures { IfOk result (λ v. Lists frame.len (is_in (Phrase (first.now ∷ more.now)) (stands_by lists.now frame.start) frame.len) v.items) }
 {
-    let behind = more.len() as u64;
-    if behind >= frame.len {
+    let after = more.len() as u64;
+    if after >= frame.len {
         return Ok(Vec::new(alloc));
     }
     let overlaps = overlaps(alloc, more)?;
@@ -65,10 +65,10 @@ pub fn phrase(
             count,
         };
         stretch = farther(stretch, here);
-        if behind < frame.len - start && count == more.len() {
+        if after < frame.len - start && count == more.len() {
             found.push(Extent {
                 start,
-                end: start + behind,
+                end: start + after,
             })?;
         }
     }
@@ -90,16 +90,16 @@ pub fn windows(alloc: Global, size: u16, frame: Range) -> Result<Vec<Extent>, No
     Ok(runs(alloc, places - 1, frame.len - places + 1)?)
 }
 
-/// The first so many extents that have so many addresses behind the first.
-fn runs(alloc: Global, behind: u64, count: u64) -> Result<Vec<Extent>, NoMemory>
-    requires { count + behind < 2 ^ 63 }
-    ensures { IfOk result (λ v. v.items ≡ map (run_from behind) (range_with_len 0 count)) }
+/// The first so many extents that have so many addresses after the first.
+fn runs(alloc: Global, after: u64, count: u64) -> Result<Vec<Extent>, NoMemory>
+    requires { count + after < 2 ^ 63 }
+    ensures { IfOk result (λ v. v.items ≡ map (run_from after) (range_with_len 0 count)) }
 {
     let mut found = Vec::new(alloc);
     for start in 0..count {
         found.push(Extent {
             start,
-            end: start + behind,
+            end: start + after,
         })?;
     }
     Ok(found)

@@ -1,7 +1,7 @@
-//! Where a phrase repeats its own front, so that no word of a text is looked up twice for it.
+//! Where a phrase repeats its own first words, so that no word of a text is looked up twice for it.
 ghost use Rattle.std.specs.Prelude.{◌≡◌, ◌⊎◌, ℕ, ◌+◌, ◌<◌, ◌≤◌, Bool, List, length, IfOk};
 ghost use Rattle.wu_gcl.specs.Extents.{is_token_at};
-ghost use Rattle.wu_solve.specs.Stretches.{FrontStands, AreOverlaps};
+ghost use Rattle.wu_solve.specs.Prefixes.{PrefixStands, AreOverlaps};
 
 use std::alloc::Global;
 use wu_base::{Bytes, NoMemory};
@@ -19,7 +19,7 @@ pub struct Stretch {
 pub fn known_words(stretch: Stretch, overlaps: &[usize], place: u64) -> usize
     ensures within { result ≤ stretch.count }
     ensures stand { (stands : List ℕ → ℕ → Bool) (words : List (List ℕ)) → AreOverlaps words overlaps.now
-        → FrontStands stands words stretch.start stretch.count → FrontStands stands words place result }
+        → PrefixStands stands words stretch.start stretch.count → PrefixStands stands words place result }
 {
     if place < stretch.start {
         return 0;
@@ -66,8 +66,8 @@ pub fn overlaps(alloc: Global, words: &[Bytes]) -> Result<Vec<usize>, NoMemory>
 /// How many of the first words stand at the place too, where so many are known to.
 fn overlap_at(words: &[Bytes], place: usize, known: usize) -> usize
     requires place { place < length words.now }
-    requires known { FrontStands (is_token_at words.now) words.now place known }
-    ensures { FrontStands (is_token_at words.now) words.now place result }
+    requires known { PrefixStands (is_token_at words.now) words.now place known }
+    ensures { PrefixStands (is_token_at words.now) words.now place result }
 {
     let rest = words.len() - place;
     for count in known..rest {

@@ -95,7 +95,7 @@ pub fn solve_frame(
     }
 }
 
-/// Puts the extents, at addresses, behind those that were found.
+/// Puts the extents, at addresses, after those that were found.
 fn put_moved(found: &mut Vec<Extent>, start: u64, extents: &[Extent]) -> Result<(), NoMemory>
     requires { All (λ x. (start + x.start < 2 ^ 64) × (start + x.end < 2 ^ 64)) extents.now }
     ensures { OnOk result (found.new.items ≡ found.old.items ++ map (moved start) extents.now) }
@@ -113,7 +113,7 @@ fn put_moved(found: &mut Vec<Extent>, start: u64, extents: &[Extent]) -> Result<
 /// first address to its last. Every frame ends at or before address 2^47. The lists ascend by their
 /// terms' bytes, and the addresses of each ascend. An address counts as a term where the term's list
 /// has it: a term without a list stands nowhere, and two lists may share an address. The one error is
-/// want of memory.
+/// out of memory.
 pub fn solve(
     alloc: Global,
     expr: &Expr,

@@ -1,9 +1,10 @@
 -- The first line of a text and the first run of a line, found by the position of the byte that ends it.
-use Rattle.std.proofs.Common.{◌≡◌, ℕ, ◌+◌, ◌<◌, ◌≤◌, inl, inr, min, Bool, true, false, not, cond, nat_lt, List, [], ◌∷◌, length, take, drop, filter, get_or, Some, None, unwrap_or, refl, sym, ◌∙◌, ap, add-zero, suc, arith}
+use Rattle.std.proofs.Common.{◌≡◌, ℕ, ◌+◌, ◌<◌, ◌≤◌, inl, inr, Bool, true, false, not, cond, nat_lt, List, [], ◌∷◌, length, take}
+use Rattle.std.proofs.Common.{drop, filter, get_or, Some, None, unwrap_or, refl, sym, ◌∙◌, ap, add-zero, suc, arith}
 use Rattle.std.specs.List.{slice_split, onto_first, position, position_or_len}
 use Rattle.std.proofs.lemmas.Bool.{cases_lt, cond-true, cond-false, cases_Bool}
 use Rattle.std.proofs.lemmas.Bool.Decides.{nat_tests}
-use Rattle.std.proofs.lemmas.List.{drop_more, drop_all, take_all, nil_from_length, length-take-le, length-drop, drop-drop}
+use Rattle.std.proofs.lemmas.List.{drop_more, drop_all, take_all, nil_from_length, length-take-le}
 use Rattle.std.proofs.lemmas.List.Splits.{slice_split-cons_yes, slice_split_none, slice_split_first}
 use Rattle.std.proofs.lemmas.List.Sums.{prefix_len-le-length, fails_before_first, passes_at_first, prefix_len-drop_yes}
 use Rattle.std.proofs.lemmas.List.Elements.{All-from_get_or}
@@ -22,7 +23,7 @@ option_at-unwrap : (i n : ℕ) → i ≤ n → unwrap_or (cond (nat_lt i n) (Som
 option_at-unwrap i n h = grind (arith, nat_tests)
 
 module _ {X : Type 0} (p : X → Bool) where
-  first-le : (xs : List X) → position_or_len p xs ≤ length xs
+  pub first-le : (xs : List X) → position_or_len p xs ≤ length xs
   first-le xs = prefix_len-le-length (λ x. not (p x)) xs
 
   -- the list, where none of its elements passes
@@ -45,39 +46,19 @@ pub lines_of-none : (text : List ℕ) → length text ≡ 0 → lines_of text �
 unfolding lines_of
 lines_of-none text h = rw (nil_from_length text h)
 
-lines_of-last : (text : List ℕ) → 0 < length text → length text ≤ position_or_len is_line_feed text → lines_of text ≡ text ∷ []
+pub lines_of-last : (text : List ℕ) → 0 < length text → length text ≤ position_or_len is_line_feed text → lines_of text ≡ text ∷ []
 unfolding lines_of
 lines_of-last text some h =
     let test : has_bytes text ≡ true = grind (arith, nat_tests) in
     ap lines_of_pieces (split-all is_line_feed text 0 h) ∙ cond-true (has_bytes text) (text ∷ []) [] test
 
-lines_of-more : (text : List ℕ) → position_or_len is_line_feed text < length text → lines_of text ≡ take (position_or_len is_line_feed text) text ∷ lines_of (drop (position_or_len is_line_feed text + 1) text)
+pub lines_of-more : (text : List ℕ) → position_or_len is_line_feed text < length text
+    → lines_of text ≡ take (position_or_len is_line_feed text) text ∷ lines_of (drop (position_or_len is_line_feed text + 1) text)
 unfolding lines_of
 lines_of-more text h =
     let n = position_or_len is_line_feed text in
     let rest = split-cons is_line_feed (drop (n + 1) text) in
     ap lines_of_pieces (slice_split_first is_line_feed text 0 h) ∙ lines_of_pieces-more (take n text) (slice_split is_line_feed (drop (n + 1) text)) rest.0 rest.1 rest.2
-
-pub placed-nil : (start : ℕ) (parts : List (List ℕ)) → parts ≡ [] → placed start parts ≡ []
-placed-nil start parts e = rw e
-
-pub placed-lines-first : (start : ℕ) (text : List ℕ) (n m : ℕ) → 0 < length text → n ≡ unwrap_or (position is_line_feed text) (length text) → m ≡ min (length (drop n text)) 1
-    → placed start (lines_of text) ≡ record { start = start; bytes = take n text } ∷ placed (start + n + m) (lines_of (drop m (drop n text)))
-placed-lines-first start text n m some at_n at_m =
-    let i = position_or_len is_line_feed text in
-    let same : n ≡ i = at_n ∙ option_at-unwrap i (length text) (first-le is_line_feed text) in
-    elim (cases_lt n (length text)) [
-      | inl before ↦
-          let one : m ≡ 1 = omega (arith, length-drop n text) in
-          let rest : drop m (drop n text) ≡ drop (n + 1) text = rw one (drop-drop 1 n text) in
-          let cut : lines_of text ≡ take n text ∷ lines_of (drop (n + 1) text) = rw same (lines_of-more text (omega arith)) in
-          rw (rest, one, cut, length-take-le n text (omega arith))
-      | inr behind ↦
-          let last : lines_of text ≡ text ∷ [] = lines_of-last text some (omega arith) in
-          let whole : take n text ≡ text = take_all n text behind in
-          let rest : length (drop m (drop n text)) ≡ 0 = omega (arith, length-drop m (drop n text), length-drop n text) in
-          rw (last, whole, lines_of-none (drop m (drop n text)) rest)
-    ]
 
 -- ---- runs
 runs : ℕ → List ℕ → List Piece
@@ -90,7 +71,8 @@ runs-nil start = refl
 runs-skip : (start : ℕ) (byte : ℕ) (bytes : List ℕ) → is_separator byte ≡ true → runs start (byte ∷ bytes) ≡ runs (start + 1) bytes
 unfolding runs runs_at
 runs-skip start byte bytes e =
-    ap (λ parts. filter (λ run. has_bytes run.bytes) (placed start parts)) (slice_split-cons_yes is_separator byte bytes e) ∙ ap (λ n. filter (λ run. has_bytes run.bytes) (placed (n + 1) (slice_split is_separator bytes))) (add-zero start)
+    ap (λ parts. filter (λ run. has_bytes run.bytes) (placed start parts)) (slice_split-cons_yes is_separator byte bytes e)
+    ∙ ap (λ n. filter (λ run. has_bytes run.bytes) (placed (n + 1) (slice_split is_separator bytes))) (add-zero start)
 
 runs-skip_all : (start : ℕ) (bytes : List ℕ) → runs start bytes ≡ runs (start + position_or_len is_word_byte bytes) (drop (position_or_len is_word_byte bytes) bytes)
 runs-skip_all start [] = ap (λ n. runs n []) (sym (add-zero start))
@@ -113,24 +95,31 @@ runs-last start bytes some h =
     let test : has_bytes bytes ≡ true = grind (arith, nat_tests) in
     ap (λ parts. filter (λ run. has_bytes run.bytes) (placed start parts)) (split-all is_separator bytes 0 h) ∙ cond-true (has_bytes bytes) _ _ test
 
-runs-more : (start : ℕ) (bytes : List ℕ) (n : ℕ) → n ≡ position_or_len is_separator bytes → 0 < n → n < length bytes → runs start bytes ≡ record { start = start; bytes = take n bytes } ∷ runs (start + n + 1) (drop (n + 1) bytes)
+runs-more : (start : ℕ) (bytes : List ℕ) (n : ℕ) → n ≡ position_or_len is_separator bytes → 0 < n → n < length bytes
+    → runs start bytes ≡ record { start = start; bytes = take n bytes } ∷ runs (start + n + 1) (drop (n + 1) bytes)
 unfolding runs runs_at
 runs-more start bytes n e some h =
     let taken : length (take n bytes) ≡ n = length-take-le n bytes (omega arith) in
     let test : has_bytes (take n bytes) ≡ true = grind (arith, nat_tests) in
     let cut : slice_split is_separator bytes ≡ take n bytes ∷ slice_split is_separator (drop (n + 1) bytes) = rw e (slice_split_first is_separator bytes 0 (omega arith)) in
-    ap (λ parts. filter (λ run. has_bytes run.bytes) (placed start parts)) cut ∙ cond-true (has_bytes (take n bytes)) _ _ test ∙ ap (λ k. record { start = start; bytes = take n bytes } ∷ filter (λ run. has_bytes run.bytes) (placed (start + k + 1) (slice_split is_separator (drop (n + 1) bytes)))) taken
+    ap (λ parts. filter (λ run. has_bytes run.bytes) (placed start parts)) cut ∙ cond-true (has_bytes (take n bytes)) _ _ test
+    ∙ ap
+    (λ k.
+    record { start = start; bytes = take n bytes }
+    ∷ filter (λ run. has_bytes run.bytes) (placed (start + k + 1) (slice_split is_separator (drop (n + 1) bytes))))
+    taken
 
 runs-first : (start : ℕ) (bytes : List ℕ) (n : ℕ) → n ≡ position_or_len is_separator bytes → 0 < n → runs start bytes ≡ record { start = start; bytes = take n bytes } ∷ runs (start + n) (drop n bytes)
 runs-first start bytes n e some =
     elim (cases_lt n (length bytes)) [
       | inl before ↦
           let stop : is_separator (get_or bytes n 0) ≡ true = rw e (passes_at_first is_separator bytes 0 (omega arith)) in
-          let rest : runs (start + n) (drop n bytes) ≡ runs (start + n + 1) (drop (n + 1) bytes) = ap (runs (start + n)) (drop_more bytes n 0 before) ∙ runs-skip (start + n) (get_or bytes n 0) (drop (n + 1) bytes) stop in
+          let rest : runs (start + n) (drop n bytes) ≡ runs (start + n + 1) (drop (n + 1) bytes) =
+          ap (runs (start + n)) (drop_more bytes n 0 before) ∙ runs-skip (start + n) (get_or bytes n 0) (drop (n + 1) bytes) stop in
           runs-more start bytes n e some before ∙ ap (λ more. record { start = start; bytes = take n bytes } ∷ more) (sym rest)
-      | inr behind ↦
+      | inr after ↦
           let nonempty : 0 < length bytes = omega (arith, first-le is_separator bytes) in
-          rw (take_all n bytes behind, drop_all n bytes behind, runs-nil (start + n)) (runs-last start bytes nonempty (omega arith))
+          rw (take_all n bytes after, drop_all n bytes after, runs-nil (start + n)) (runs-last start bytes nonempty (omega arith))
     ]
 
 word_first : (bytes : List ℕ) (k : ℕ) → k ≡ position_or_len is_word_byte bytes → k < length bytes → 0 < position_or_len is_separator (drop k bytes)

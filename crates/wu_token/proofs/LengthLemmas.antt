@@ -5,12 +5,13 @@ use Rattle.std.specs.Char.{to_ascii_lowercase}
 use Rattle.std.proofs.lemmas.Bool.{cases_Bool, cond-true, cond-false}
 use Rattle.std.proofs.lemmas.Bool.Decides.{nat_tests}
 use Rattle.std.proofs.lemmas.List.{length-map, length-append, length-take}
-use Rattle.std.proofs.lemmas.List.Elements.{All-nil, All-cons, All-append, All-map, All-weaker}
+use Rattle.std.proofs.lemmas.List.Elements.{All-nil, All-cons, All-append, All-filter, All-map, All-weaker}
 use Rattle.wu_base.specs.declared.limits.TheConstants.{WORD_MAX}
 use Rattle.wu_token.specs.declared.spans.Token.{Token}
 use Rattle.wu_token.specs.Words.{has_bytes, is_separator, runs_of, word_of, words_of, IsTerm}
 use Rattle.wu_token.specs.Tokens.{is_line_feed, file_start, file_end, line_start, line_end, lines_of_pieces, lines_of, line_tokens_of, tokens_of}
 use Rattle.wu_token.specs.Places.{Piece, placed, runs_at, tag_at, word_at, line_tokens_at, placed_tokens_of}
+use Rattle.wu_token.specs.Pieces.{EndsBy}
 use Rattle.std.proofs.lemmas.List.Sums.{sum_by-cons}
 use Rattle.wu_token.proofs.PlacesLemmas.{term-placed_tokens_of, bytes-runs_at}
 use Rattle.wu_token.proofs.CutLemmas.{split-cons}
@@ -51,7 +52,10 @@ taken-cons piece pieces = sum_by-cons (λ piece. length piece + 1) piece pieces
 
 taken-onto_first : (byte : ℕ) (parts : List (List ℕ)) (first : List ℕ) (more : List (List ℕ)) → parts ≡ first ∷ more → taken (onto_first byte parts) ≡ 1 + taken parts
 taken-onto_first byte parts first more e =
-    ap (λ ps. taken (onto_first byte ps)) e ∙ (let step : taken ((byte ∷ first) ∷ more) ≡ 1 + taken (first ∷ more) = omega (arith, taken-cons (byte ∷ first) more, taken-cons first more) in step) ∙ ap (λ ps. 1 + taken ps) (sym e)
+    ap (λ ps. taken (onto_first byte ps)) e
+    ∙ (let step : taken ((byte ∷ first) ∷ more) ≡ 1 + taken (first ∷ more) =
+    omega (arith, taken-cons (byte ∷ first) more, taken-cons first more) in step)
+    ∙ ap (λ ps. 1 + taken ps) (sym e)
 
 taken-slice_split : (p : ℕ → Bool) (bytes : List ℕ) → taken (slice_split p bytes) ≡ length bytes + 1
 taken-slice_split p [] = refl
@@ -110,7 +114,9 @@ IsTerm-word_of run some =
 pub IsTerm-words_of : (bytes : List ℕ) → All IsTerm (words_of bytes)
 unfolding words_of runs_of
 IsTerm-words_of bytes =
-    All-map IsTerm word_of (runs_of bytes) (All-weaker (λ run. has_bytes run ≡ true) (λ run. IsTerm (word_of run)) IsTerm-word_of (runs_of bytes) (All-filter_passes has_bytes (slice_split is_separator bytes)))
+    All-map IsTerm word_of (runs_of bytes)
+    (All-weaker (λ run. has_bytes run ≡ true) (λ run. IsTerm (word_of run)) IsTerm-word_of (runs_of bytes)
+    (All-filter_passes has_bytes (slice_split is_separator bytes)))
 
 abbrev HasTerm : Token → Type 0
 HasTerm token = IsTerm token.term
@@ -135,7 +141,10 @@ HasTerm-lines (line ∷ more) =
 pub HasTerm-placed_tokens_of : (text : List ℕ) → All (λ token. IsTerm token.term) (placed_tokens_of text)
 unfolding placed_tokens_of tag_at
 HasTerm-placed_tokens_of text =
-    All-cons HasTerm _ _ IsTerm-tags.0 (All-append HasTerm (flat_map line_tokens_at (placed 0 (lines_of text))) _ (HasTerm-lines (placed 0 (lines_of text))) (All-cons HasTerm _ [] IsTerm-tags.1 (All-nil HasTerm)))
+    All-cons HasTerm _ _ IsTerm-tags.0
+    (All-append HasTerm (flat_map line_tokens_at (placed 0 (lines_of text))) _
+    (HasTerm-lines (placed 0 (lines_of text)))
+    (All-cons HasTerm _ [] IsTerm-tags.1 (All-nil HasTerm)))
 
 pub IsTerm-tokens_of : (text : List ℕ) → All IsTerm (tokens_of text)
 IsTerm-tokens_of text =
@@ -157,3 +166,45 @@ length-placed text =
 
 pub length-text : (text : List ℕ) → 2 + length (flat_map line_tokens_at (placed 0 (lines_of text))) ≡ length (tokens_of text)
 length-text text = length-placed text ∙ length-placed_tokens_of text
+
+-- ---- no piece ends after what it was cut from
+abbrev IsBefore : ℕ → Piece → Type 0
+IsBefore end piece = piece.start + length piece.bytes + 1 ≤ end
+
+before-placed : (start : ℕ) (pieces : List (List ℕ)) → All (IsBefore (start + taken pieces)) (placed start pieces)
+before-placed start [] = All-nil (IsBefore (start + taken []))
+before-placed start (piece ∷ pieces) =
+    let end : start + length piece + 1 + taken pieces ≡ start + taken (piece ∷ pieces) = omega (arith, taken-cons piece pieces) in
+    let later = start + length piece + 1 in
+    let more = subst (λ n. All (IsBefore n) (placed later pieces)) end (before-placed later pieces) in
+    All-cons (IsBefore (start + taken (piece ∷ pieces))) _ _ (omega (arith, taken-cons piece pieces)) more
+
+before-lines : (start : ℕ) (pieces : List (List ℕ)) → All (IsBefore (start + taken pieces)) (placed start (lines_of_pieces pieces))
+before-lines start [] = All-nil (IsBefore (start + taken []))
+before-lines start (last ∷ []) =
+    elim (has_bytes last) as (λ b. All (IsBefore (start + taken (last ∷ []))) (placed start (cond b (last ∷ []) []))) [
+      | true ↦ before-placed start (last ∷ [])
+      | false ↦ All-nil (IsBefore (start + taken (last ∷ [])))
+    ]
+before-lines start (line ∷ next ∷ more) =
+    let end : start + length line + 1 + taken (next ∷ more) ≡ start + taken (line ∷ next ∷ more) =
+    omega (arith, taken-cons line (next ∷ more)) in
+    let others = before-lines (start + length line + 1) (next ∷ more) in
+    let later = subst (λ n. All (IsBefore n) (placed (start + length line + 1) (lines_of_pieces (next ∷ more)))) end others in
+    All-cons (IsBefore (start + taken (line ∷ next ∷ more))) _ _ (omega (arith, taken-cons line (next ∷ more))) later
+
+pub within-lines : (text : List ℕ) → All (EndsBy (length text)) (placed 0 (lines_of text))
+unfolding lines_of
+within-lines text =
+    let pieces = slice_split is_line_feed text in
+    let total = taken-slice_split is_line_feed text in
+    All-weaker (IsBefore (0 + taken pieces)) (EndsBy (length text)) (λ piece before. omega arith) _ (before-lines 0 pieces)
+
+pub within-runs : (line : Piece) → All (EndsBy (line.start + length line.bytes)) (runs_at line)
+unfolding runs_at
+within-runs line =
+    let pieces = slice_split is_separator line.bytes in
+    let total = taken-slice_split is_separator line.bytes in
+    All-filter (λ run. has_bytes run.bytes) (EndsBy (line.start + length line.bytes)) _
+    (All-weaker (IsBefore (line.start + taken pieces)) (EndsBy (line.start + length line.bytes)) (λ piece before. omega arith) _
+    (before-placed line.start pieces))

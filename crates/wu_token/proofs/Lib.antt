@@ -1,4 +1,5 @@
 pub mod PlacesLemmas
 pub mod CutLemmas
+pub mod LineLemmas
 pub mod WordLemmas
 pub mod LengthLemmas

@@ -1,11 +1,12 @@
 -- The terms of the tokens with their places are the tokens of the text.
-use Rattle.std.proofs.Common.{◌≡◌, ℕ, ◌+◌, true, false, cond, List, [], ◌∷◌, ◌++◌, length, filter, map, refl, ◌∙◌, ap, ap₂}
+use Rattle.std.proofs.Common.{◌≡◌, ℕ, ◌+◌, true, false, cond, List, [], ◌∷◌, ◌++◌, length, filter, map, refl, sym, ◌∙◌, ap, ap₂}
 use Rattle.std.specs.List.{slice_split, flat_map}
 use Rattle.std.proofs.lemmas.List.{map-append}
 use Rattle.wu_token.specs.declared.spans.Token.{Token}
 use Rattle.wu_token.specs.Words.{has_bytes, is_separator, runs_of, word_of, words_of}
 use Rattle.wu_token.specs.Tokens.{file_start, file_end, line_start, line_end, lines_of, line_tokens_of, tokens_of}
 use Rattle.wu_token.specs.Places.{Piece, placed, runs_at, tag_at, word_at, line_tokens_at, placed_tokens_of}
+use Rattle.wu_token.specs.Pieces.{line_terms, GiveTheTerms}
 
 abbrev bytes_of : Piece → List ℕ
 bytes_of piece = piece.bytes
@@ -20,7 +21,9 @@ bytes-placed start (part ∷ more) = ap (λ rest. part ∷ rest) (bytes-placed (
 bytes-filter : (pieces : List Piece) → map bytes_of (filter (λ p. has_bytes p.bytes) pieces) ≡ filter has_bytes (map bytes_of pieces)
 bytes-filter [] = refl
 bytes-filter (piece ∷ more) =
-    elim (has_bytes piece.bytes) as (λ b. map bytes_of (cond b (piece ∷ filter (λ p. has_bytes p.bytes) more) (filter (λ p. has_bytes p.bytes) more)) ≡ cond b (piece.bytes ∷ filter has_bytes (map bytes_of more)) (filter has_bytes (map bytes_of more)))
+    let kept = filter (λ p. has_bytes p.bytes) more in
+    let same = filter has_bytes (map bytes_of more) in
+    elim (has_bytes piece.bytes) as (λ b. map bytes_of (cond b (piece ∷ kept) kept) ≡ cond b (piece.bytes ∷ same) same)
     [ true ↦ ap (λ rest. piece.bytes ∷ rest) (bytes-filter more) | false ↦ bytes-filter more ]
 
 pub bytes-runs_at : (line : Piece) → map (λ run. run.bytes) (runs_at line) ≡ runs_of line.bytes
@@ -48,7 +51,9 @@ pub term-placed_tokens_of : (text : List ℕ) → map (λ token. token.term) (pl
 unfolding placed_tokens_of tokens_of tag_at
 term-placed_tokens_of text =
     ap (λ rest. file_start ∷ rest)
-    (map-append term_of (flat_map line_tokens_at (placed 0 (lines_of text))) _ ∙ ap (λ terms. terms ++ file_end ∷ []) (term-lines (placed 0 (lines_of text)) ∙ ap (flat_map line_tokens_of) (bytes-placed 0 (lines_of text))))
+    (map-append term_of (flat_map line_tokens_at (placed 0 (lines_of text))) _
+    ∙ ap (λ terms. terms ++ file_end ∷ [])
+    (term-lines (placed 0 (lines_of text)) ∙ ap (flat_map line_tokens_of) (bytes-placed 0 (lines_of text))))
 
 words-placed : (runs : List Piece) → map (λ run. word_of run.bytes) runs ≡ map word_of (map bytes_of runs)
 words-placed [] = refl
@@ -57,3 +62,18 @@ words-placed (run ∷ more) = ap (λ rest. word_of run.bytes ∷ rest) (words-pl
 pub words-runs_at : (line : Piece) → map (λ run. word_of run.bytes) (runs_at line) ≡ words_of line.bytes
 unfolding words_of
 words-runs_at line = words-placed (runs_at line) ∙ ap (map word_of) (bytes-runs_at line)
+
+-- ---- the terms by lines and runs
+terms-line : (line : Piece) → line_terms line ≡ line_tokens_of line.bytes
+unfolding line_tokens_of
+terms-line line = ap (λ words. line_start ∷ (words ++ line_end ∷ [])) (words-runs_at line)
+
+terms-lines : (lines : List Piece) → flat_map line_terms lines ≡ flat_map line_tokens_of (map bytes_of lines)
+terms-lines [] = refl
+terms-lines (line ∷ more) = ap₂ ◌++◌ (terms-line line) (terms-lines more)
+
+pub tokens_of-pieces : GiveTheTerms
+unfolding tokens_of
+tokens_of-pieces text =
+    ap (λ terms. file_start ∷ (terms ++ file_end ∷ []))
+    (ap (flat_map line_tokens_of) (sym (bytes-placed 0 (lines_of text))) ∙ sym (terms-lines (placed 0 (lines_of text))))

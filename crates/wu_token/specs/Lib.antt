@@ -1,4 +1,4 @@
 pub mod Words
 pub mod Tokens
 pub mod Places
-pub mod Left
+pub mod Pieces

@@ -1,5 +1,6 @@
 -- The tokens of a text: `<file>`, then for each line `<line>`, its words and `</line>`, last `</file>`.
--- Tags take places among the words, as in Clarke, Cormack and Burkowski, The Computer Journal 38(1), 1995. Lines are those of POSIX.1, with an incomplete line at the end.
+-- Tags take places among the words, as in Clarke, Cormack and Burkowski, The Computer Journal 38(1), 1995. Lines are those
+-- of POSIX.1, with an incomplete line at the end.
 use Rattle.std.specs.Prelude.{ℕ, Bool, List, [], ◌∷◌, ◌++◌, ◌==◌, if◌then◌else◌, codes}
 use Rattle.std.specs.List.{slice_split, flat_map}
 use Rattle.wu_token.specs.Words.{has_bytes, words_of}

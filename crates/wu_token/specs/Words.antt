@@ -1,5 +1,7 @@
--- The words of a byte string: its maximal runs of ASCII letters, ASCII digits and bytes of 0x80 and above, each cut to its first WORD_MAX bytes, with ASCII letters in lower case.
--- The choice of these bytes is this project's own; a byte of a UTF-8 sequence beyond ASCII is a word byte, and no byte is read as a character.
+-- The words of a byte string: its maximal runs of ASCII letters, ASCII digits and bytes of 0x80 and above, each cut to its
+-- first WORD_MAX bytes, with ASCII letters in lower case.
+-- The choice of these bytes is this project's own; a byte of a UTF-8 sequence beyond ASCII is a word byte, and no byte is
+-- read as a character.
 use Rattle.std.specs.Prelude.{ℕ, ◌≤◌, Bool, List, ◌||◌, ◌==◌, nat_le, not, filter, map, take, length}
 use Rattle.std.specs.List.{slice_split}
 use Rattle.std.specs.Char.{is_ascii_alphanumeric}

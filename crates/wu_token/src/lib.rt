@@ -2,12 +2,12 @@
 #![tactic(auto)]
 
 mod bytes;
+mod lowered;
 mod pieces;
 mod spans;
 mod terms;
 
-pub use spans::Token;
-pub use terms::{token_count, tokens, words};
-
-#[cfg(test)]
-mod tests;
+pub use lowered::Word;
+pub use pieces::{Lines, Piece, Runs};
+pub use spans::{FILE_END, FILE_START, LINE_END, LINE_START, Token};
+pub use terms::{pieces_give_the_terms, token_count, tokens, words};

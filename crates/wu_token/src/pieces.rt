@@ -1,9 +1,13 @@
 //! A text in pieces: its lines, and the runs of a line.
-ghost use Rattle.std.specs.Prelude.{◌≡◌, ◌+◌, ◌^◌, ◌<◌, ◌≤◌, length, take, drop};
+ghost use Rattle.std.specs.Prelude.{◌≡◌, ◌+◌, ◌^◌, ◌<◌, ◌≤◌, All, length, take, drop};
+ghost use Rattle.wu_token.specs.Tokens.{lines_of};
+ghost use Rattle.wu_token.specs.Places.{placed, runs_at};
 
-use crate::bytes::{line_feed_at, separator_at, word_byte_at};
+use crate::bytes::{separator_at, without_line_feed, word_byte_at};
+use bstr::{ByteSlice, LinesWithTerminator};
+use std::marker::Model;
 
-/// Some bytes of a text, and the place of the first of them in the text.
+/// Some bytes of a text, and the place of the first of them in the text, counted in bytes from 0.
 #[derive(Clone, Copy)]
 pub struct Piece<'a> {
     pub start: usize,
@@ -12,6 +16,8 @@ pub struct Piece<'a> {
 }
 
 impl<'a> Piece<'a> {
+    ghost use Rattle.wu_token.specs.Pieces.{EndsBy, end_of, piece_of};
+
     /// The first `len` bytes, and the rest.
     fn split_at(self, len: usize) -> (Piece<'a>, Piece<'a>)
         requires { len ≤ length self.bytes.now }
@@ -34,68 +40,104 @@ impl<'a> Piece<'a> {
         (front, back)
     }
 
-    /// The lines, without their line feeds. What follows the last line feed is a line only if it
-    /// has bytes.
-    pub fn lines(self) -> Lines<'a>
-        ensures { result.rest ≡ self.entry }
+    /// The place after the last byte.
+    pub fn end(&self) -> usize
+        ensures { result ≡ end_of self.now }
     {
-        Lines { rest: self }
+        self.start + self.bytes.len()
     }
 
-    /// The maximal runs of word bytes.
+    /// The maximal runs of word bytes, in order. Takes no memory.
     pub fn runs(self) -> Runs<'a>
-        ensures { result.rest ≡ self.entry }
+        ensures runs { result ≡ runs_at (piece_of self.entry) }
+        ensures within { All (EndsBy (end_of self.entry)) result }
     {
         Runs { rest: self }
     }
 }
 
-/// The lines of what is left.
+/// The lines that are left of a text. Contracts see the list of them.
 #[derive(Drop)]
 pub struct Lines<'a> {
-    rest: Piece<'a>,
+    start: usize,
+    rest: LinesWithTerminator<'a>,
+}
+
+impl<'a> Model for Lines<'a> {
+    ghost use Rattle.std.specs.Prelude.{◌+◌, ◌^◌, ◌<◌, List, length};
+    ghost use Rattle.std.specs.List.{concat};
+    ghost use Rattle.wu_token.specs.Places.{Piece as PlacedPiece};
+    ghost use Rattle.wu_token.specs.Pieces.{stripped};
+
+    ghost Value = { List PlacedPiece };
+
+    ghost view = { λ s. stripped s.start s.rest };
+
+    ghost invariant = { λ s. s.start + length (concat s.rest) < 2 ^ 64 };
+}
+
+impl<'a> Lines<'a> {
+    ghost use Rattle.wu_token.specs.Pieces.{EndsBy};
+
+    /// The lines of a text, in order, without their line feeds. What follows the last line feed is a line
+    /// only if it has bytes. Takes no memory.
+    pub fn of_text(text: &'a [u8]) -> Lines<'a>
+        ensures lines { result ≡ placed 0 (lines_of text.now) }
+        ensures within { All (EndsBy (length text.now)) result }
+    {
+        Lines {
+            start: 0,
+            rest: text.lines_with_terminator(),
+        }
+    }
 }
 
 impl<'a> Iterator for Lines<'a> {
     ghost use Rattle.std.specs.Iterator.{item_count};
-    ghost use Rattle.wu_token.specs.Left.{YieldsLine, lines_left};
+    ghost use Rattle.wu_token.specs.Pieces.{YieldsPiece};
 
     type Item = Piece<'a>;
 
-    ghost next_gives = { YieldsLine };
+    ghost next_gives = { YieldsPiece };
 
-    ghost remaining = { item_count lines_left };
+    ghost remaining = { item_count (λ left. left) };
 
     fn next(&mut self) -> Option<Piece<'a>> {
-        if self.rest.bytes.is_empty() {
-            return None;
-        }
-        let bytes = self.rest.bytes;
-        let (line, rest) = self
-            .rest
-            .split_at(line_feed_at(bytes).unwrap_or(bytes.len()));
-        // The line feed, where there is one.
-        let (_, rest) = rest.split_at(rest.bytes.len().min(1));
-        self.rest = rest;
-        Some(line)
+        let line = self.rest.next()?;
+        let start = self.start;
+        self.start += line.len();
+        Some(Piece {
+            start,
+            bytes: without_line_feed(line),
+        })
     }
 }
 
-/// The runs of what is left.
+/// The runs that are left of a line. Contracts see the list of them.
 #[derive(Drop)]
 pub struct Runs<'a> {
     rest: Piece<'a>,
 }
 
+impl<'a> Model for Runs<'a> {
+    ghost use Rattle.std.specs.Prelude.{List};
+    ghost use Rattle.wu_token.specs.Places.{Piece as PlacedPiece, runs_at};
+    ghost use Rattle.wu_token.specs.Pieces.{piece_of};
+
+    ghost Value = { List PlacedPiece };
+
+    ghost view = { λ s. runs_at (piece_of s.rest) };
+}
+
 impl<'a> Iterator for Runs<'a> {
     ghost use Rattle.std.specs.Iterator.{item_count};
-    ghost use Rattle.wu_token.specs.Left.{YieldsRun, runs_left};
+    ghost use Rattle.wu_token.specs.Pieces.{YieldsPiece};
 
     type Item = Piece<'a>;
 
-    ghost next_gives = { YieldsRun };
+    ghost next_gives = { YieldsPiece };
 
-    ghost remaining = { item_count runs_left };
+    ghost remaining = { item_count (λ left. left) };
 
     fn next(&mut self) -> Option<Piece<'a>> {
         let (_, rest) = self.rest.split_at(word_byte_at(self.rest.bytes)?);

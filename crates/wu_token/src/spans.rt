@@ -1,10 +1,10 @@
 //! A token and its place.
 ghost use Rattle.std.specs.Prelude.{◌≡◌, ◌^◌, ◌<◌, IfOk};
-ghost use Rattle.wu_token.specs.Words.{word_of};
 
+use crate::lowered::Word;
 use crate::pieces::Piece;
 use std::alloc::Global;
-use wu_base::{Bytes, NoMemory, WORD_MAX};
+use wu_base::{Bytes, NoMemory};
 
 /// The term of the place where a file starts.
 pub const FILE_START: &[u8] = b"<file>";
@@ -23,7 +23,7 @@ pub const LINE_END: &[u8] = b"</line>";
 /// its `start`. A word takes the bytes of its whole run, also those that don't count.
 #[derive(Clone, Debug, PartialEq, Eq, Drop)]
 pub struct Token {
-    /// From 1 to [`WORD_MAX`] bytes.
+    /// From 1 to [`WORD_MAX`](wu_base::WORD_MAX) bytes.
     pub term: Bytes,
     pub start: u32,
     pub end: u32,
@@ -31,7 +31,7 @@ pub struct Token {
 
 impl Token {
     ghost use Rattle.wu_token.specs.Places.{tag_at, word_at};
-    ghost use Rattle.wu_token.specs.Left.{piece_of, end_of};
+    ghost use Rattle.wu_token.specs.Pieces.{piece_of, end_of};
 
     /// The token of a tag at a place.
     pub(crate) fn tag(alloc: Global, tag: &[u8], place: usize) -> Result<Token, NoMemory>
@@ -50,19 +50,10 @@ impl Token {
         requires { end_of run < 2 ^ 32 }
         ensures { IfOk result (λ token. token ≡ word_at (piece_of run.entry)) }
     {
-        let end = run.start + run.bytes.len();
         Ok(Token {
-            term: word_of_run(alloc, run.bytes)?,
+            term: Bytes::from_slice(alloc, Word::of_run(run.bytes).as_slice())?,
             start: run.start as u32,
-            end: end as u32,
+            end: run.end() as u32,
         })
     }
-}
-
-/// The word of a run: its first [`WORD_MAX`] bytes, with ASCII letters in lower case.
-pub fn word_of_run(alloc: Global, run: &[u8]) -> Result<Bytes, NoMemory>
-    ensures { IfOk result (λ word. word ≡ word_of run.now) }
-{
-    let counted = &run[..run.len().min(WORD_MAX)];
-    Ok(Bytes::from(counted.to_ascii_lowercase(alloc)?))
 }

@@ -3,10 +3,11 @@ ghost use Rattle.std.specs.Prelude.{◌≡◌, ◌+◌, ◌*◌, ◌^◌, ◌<�
 ghost use Rattle.wu_token.specs.Words.{IsTerm, words_of};
 ghost use Rattle.wu_token.specs.Tokens.{tokens_of};
 ghost use Rattle.wu_token.specs.Places.{line_tokens_at, placed_tokens_of};
-ghost use Rattle.wu_token.specs.Left.{piece_of, end_of};
+ghost use Rattle.wu_token.specs.Pieces.{GiveTheTerms, end_of, piece_of};
 
-use crate::pieces::Piece;
-use crate::spans::{FILE_END, FILE_START, LINE_END, LINE_START, Token, word_of_run};
+use crate::lowered::Word;
+use crate::pieces::{Lines, Piece};
+use crate::spans::{FILE_END, FILE_START, LINE_END, LINE_START, Token};
 use std::alloc::Global;
 use wu_base::{Bytes, NoMemory, TEXT_MAX};
 
@@ -19,7 +20,7 @@ pub fn words(alloc: Global, bytes: &[u8]) -> Result<Vec<Bytes>, NoMemory>
 {
     let mut words = Vec::new(alloc);
     for run in (Piece { start: 0, bytes }).runs() {
-        words.push(word_of_run(alloc, run.bytes)?)?;
+        words.push(Bytes::from_slice(alloc, Word::of_run(run.bytes).as_slice())?)?;
     }
     Ok(words)
 }
@@ -29,12 +30,11 @@ fn push_line(alloc: Global, tokens: &mut Vec<Token>, line: Piece) -> Result<(), 
     requires { end_of line < 2 ^ 32 }
     ensures { OnOk result (tokens.new.items ≡ tokens.old.items ++ line_tokens_at (piece_of line.entry)) }
 {
-    let end = line.start + line.bytes.len();
     tokens.push(Token::tag(alloc, LINE_START, line.start)?)?;
     for run in line.runs() {
         tokens.push(Token::word(alloc, run)?)?;
     }
-    tokens.push(Token::tag(alloc, LINE_END, end)?)?;
+    tokens.push(Token::tag(alloc, LINE_END, line.end())?)?;
     Ok(())
 }
 
@@ -51,11 +51,7 @@ pub fn tokens(alloc: Global, text: &[u8]) -> Result<Vec<Token>, NoMemory>
 {
     let mut tokens = Vec::new(alloc);
     tokens.push(Token::tag(alloc, FILE_START, 0)?)?;
-    let whole = Piece {
-        start: 0,
-        bytes: text,
-    };
-    for line in whole.lines() {
+    for line in Lines::of_text(text) {
         push_line(alloc, &mut tokens, line)?;
     }
     tokens.push(Token::tag(alloc, FILE_END, text.len())?)?;
@@ -78,12 +74,14 @@ pub fn token_count(text: &[u8]) -> u64
     ensures bound { result ≤ 3 * length text.now + 2 }
 {
     let mut count = 2;
-    let whole = Piece {
-        start: 0,
-        bytes: text,
-    };
-    for line in whole.lines() {
+    for line in Lines::of_text(text) {
         count += line_token_count(line);
     }
     count
 }
+
+/// A law: the lines of a text, the runs of each and their words, with the tags around them, are the terms
+/// of the text's tokens, in order.
+pub fn pieces_give_the_terms()
+    ensures { GiveTheTerms }
+{}

@@ -1,10 +1,10 @@
 -- Lists that pass the tests make a tree, and no others do.
-use Rattle.std.proofs.Common.{◌≡◌, ◌≢◌, ℕ, ◌≤◌, List, [], ◌∷◌, refl, ap, sym, ◌∙◌, subst, Bool, true, false, not, ◌&&◌, arith}
+use Rattle.std.proofs.Common.{◌≡◌, ◌≢◌, ℕ, ◌≤◌, List, [], ◌∷◌, refl, ap, sym, ◌∙◌, subst, Bool, true, false, not, cond, ◌&&◌, arith}
 use Rattle.std.specs.Prelude.{Option, None, Some, map, nat_le, ◌==◌}
-use Rattle.std.specs.Ordering.{nat_cmp}
+use Rattle.std.specs.Ordering.{is_eq, nat_cmp}
 use Rattle.std.specs.List.{AllByRecursion, list_any, list_all, fold}
 use Rattle.std.specs.List.Sorted.{IsStrictlySortedBy}
-use Rattle.std.specs.Map.{keys_of}
+use Rattle.std.specs.Map.{keys_of, lookup}
 use Rattle.std.specs.BTreeMap.{is_at}
 use Rattle.std.specs.BTreeSet.{insert_key}
 use borrow.Author.Tests.{eqb-false, ne_eqb, leb-true, le-leb}
@@ -15,12 +15,14 @@ use Rattle.wu_tree.specs.declared.events.Node.{Node}
 use Rattle.wu_tree.specs.declared.events.LinkRec.{LinkRec}
 use Rattle.wu_tree.specs.declared.inodes.Inode.{Inode}
 use Rattle.wu_tree.specs.declared.tallies.Hung.{Hung}
-use Rattle.wu_tree.specs.FileSystems.{FileSystem, Link, place_cmp, is_directory, is_there, is_name}
-use Rattle.wu_tree.specs.Inodes.{nodes_in, users_in, kind_of, file_system, IsHeld, IsSound}
-use Rattle.wu_tree.specs.Lists.{ascends, below, child_test, hold_of, hung_of, inode_of, link_of, link_test, linked_test, listed, number_test, order_test, place_test, reached_test, user_of}
+use Rattle.wu_tree.specs.FileSystems.{FileSystem, Link, place_cmp, node_of, is_directory, is_there, is_name, is_kind_file}
+use Rattle.wu_tree.specs.Inodes.{nodes_in, users_in, kind_of, file_system, IsHeld, IsSound, height_in, height_at, higher_of}
+use Rattle.wu_tree.specs.Lists.{ascends, below, child_test, first_height, hold_of, hung_of, inode_of, link_of, link_test, linked_test, listed, number_test, order_test, place_test, reached_test, user_of}
 use Rattle.wu_tree.specs.Rules.{IsLink, IsNumbered, Hangs, IsTree}
 use Rattle.wu_tree.proofs.Entries.{All-map}
-use Rattle.wu_tree.proofs.Downs.{both, and_true}
+use Rattle.wu_tree.proofs.Downs.{both, and_true, parent_there}
+use Rattle.wu_tree.proofs.DirectoryHeights.{higher_is_parent}
+use Rattle.wu_tree.proofs.Keeps.{directory_found}
 use Rattle.wu_tree.proofs.Listed.{Decides, decided_yes, decided_no, decides_both, decides_all, decides_ascends, all_mapped}
 use Rattle.wu_tree.proofs.Reached.{hang_from_tests, links_from_hang, walk_from_hang, each_held}
 
@@ -124,6 +126,23 @@ module _ (g : ℕ → Option Hung) where
   nodes_back (n ∷ nodes) =
       ap (λ (k : Kind). (n.0, record { kind = k; perm = n.1.perm }) ∷ nodes_in (map entry nodes)) (same_kind n.1.kind (g n.0)) ∙ ap (λ (l : List (ℕ × Node)). n ∷ l) (nodes_back nodes)
 
+  -- a directory is as high as can be
+  directory_high : (es : List (ℕ × Node)) (d : ℕ) (node : Node) → lookup (is_at (nat_cmp d)) es ≡ Some node → not (is_kind_file node.kind) ≡ true → height_at (map entry es) d ≡ 255
+  directory_high [] d node f k = absurd cc
+  directory_high (e ∷ es) d node f k =
+      elim (is_eq (nat_cmp d e.0)) as (λ b. cond b (Some e.1) (lookup (is_at (nat_cmp d)) es) ≡ Some node
+      → height_in (cond b (Some (inode_of (g e.0) e.1)) (lookup (is_at (nat_cmp d)) (map entry es))) ≡ 255) [
+        | true ↦ λ h. high_kind e.1.kind (subst (λ (n : Node). not (is_kind_file n.kind) ≡ true) (sym (same_node e.1 node h)) k)
+        | false ↦ λ h. directory_high es d node h k
+      ] f
+    where
+      same_node : (m n : Node) → Some m ≡ Some n → m ≡ n
+      same_node m n h = cc
+
+      high_kind : (kind : Kind) → not (is_kind_file kind) ≡ true → first_height kind ≡ 255
+      high_kind Directory h = refl
+      high_kind File h = absurd cc
+
   -- what a walk from the root finds
   abbrev pub walked_by : List (ℕ × Node) → List Link → List ℕ
   walked_by nodes links = fold (insert_key nat_cmp) [] (below (file_system (map entry nodes) links []) 255 1)
@@ -208,7 +227,15 @@ module _ (g : ℕ → Option Hung) where
           tree = subst (λ (v : FileSystem). IsTree v) (sym built_view) built_tree;
           held = held nodes (each_held bare (bare_links placed.1) order.0.0.0.0 each_hangs);
           keyed = keyed_users users;
+          heights = λ q inode f parent h. omega (arith, high q inode f parent h);
         }
+          where
+            -- each directory is as high as can be
+            high : (q : ℕ) (inode : Inode) → lookup (is_at (nat_cmp q)) (map entry nodes) ≡ Some inode → (parent : ℕ) → higher_of q inode ≡ Some parent → height_at (map entry nodes) parent ≡ 255
+            high q inode f parent h =
+                let p = higher_is_parent fs.links (map entry nodes) (held nodes (each_held bare (bare_links placed.1) order.0.0.0.0 each_hangs)) q inode f parent h in
+                let d = directory_found (node_of fs parent) (parent_there fs placed.1 q parent p) in
+                directory_high nodes parent d.0 d.1 d.2
 
       -- the same of the maps that the code makes
       module _ (inodes : List (ℕ × Inode)) (kept : List Link) (start keys : List ℕ) (i : inodes ≡ map entry nodes) (k : kept ≡ map link_of links) (n : start ≡ [])

@@ -13,3 +13,5 @@ pub mod Reached
 pub mod Built
 pub mod Renames
 pub mod Users
+pub mod DirectoryHeights
+pub mod LowDirectories

@@ -1,5 +1,5 @@
 -- A renaming leaves a sound tree that stands for the file system with the link moved.
-use Rattle.std.proofs.Common.{◌≡◌, ◌≢◌, ℕ, ◌+◌, ◌≤◌, List, [], ◌∷◌, refl, ap, sym, ◌∙◌, subst, Bool, true, false, cond, not, inl, inr, ⊎_elim}
+use Rattle.std.proofs.Common.{◌≡◌, ◌≢◌, ℕ, ◌+◌, ◌≤◌, List, [], ◌∷◌, refl, ap, sym, ◌∙◌, subst, Bool, true, false, cond, not, inl, inr, ⊎_elim, arith}
 use Rattle.std.specs.Prelude.{Option, None, Some, ◌==◌}
 use Rattle.std.specs.Ordering.{is_eq, nat_cmp}
 use Rattle.std.specs.List.{AllByRecursion}
@@ -19,7 +19,7 @@ use Rattle.wu_tree.specs.declared.events.Node.{Node}
 use Rattle.wu_tree.specs.declared.inodes.Hold.{Hold}
 use Rattle.wu_tree.specs.declared.inodes.Hold.TheVariants.{Entries, Links}
 use Rattle.wu_tree.specs.declared.inodes.Inode.{Inode}
-use Rattle.wu_tree.specs.Inodes.{node_in, nodes_in, file_system, IsHeld, IsSound, kind_of, moved_hold, with_link_lost, with_parent, has_one_link, fewer_links}
+use Rattle.wu_tree.specs.Inodes.{node_in, nodes_in, file_system, IsHeld, IsSound, kind_of, moved_hold, with_link_lost, with_parent, has_one_link, fewer_links, parent_in, height_in, height_at, height_over, height_over_in, height_over_at, AreHeights, without_heights}
 use Rattle.wu_tree.specs.FileSystems.{FileSystem, IsLeaf, Link, Place, place_cmp, is_name, is_within, is_directory, is_directory_node, is_kind_file, node_of, child_of, link_count, path_up, depth}
 use Rattle.wu_tree.specs.Steps.{without_link, with_link_moved, renamed, is_too_deep}
 use Rattle.wu_tree.specs.Paths.{through, steps_to}
@@ -28,7 +28,8 @@ use Rattle.wu_tree.proofs.Entries.{is_equal, All-found, All-map, All-map2, All-s
 use Rattle.wu_tree.proofs.Keeps.{directory_found, place_total, place_exact, same_number, same_path, leaf_links, Around}
 use Rattle.wu_tree.proofs.Drops.{drop_around, child_no_root, apart_from}
 use Rattle.wu_tree.proofs.Ways.{moved, same_count, same_parent, parent_moved, moved_no_root, move_keeps, StaysAbove, stays_above, file_above, file_path}
-use Rattle.wu_tree.proofs.Sound.{node_found, not_passed, held_at, hangs_at, ascend, linked_there, found_linked, has_one, last_sound, last_view, several_sound, several_view}
+use Rattle.wu_tree.proofs.DirectoryHeights.{kept_heights, lower_than, set_other}
+use Rattle.wu_tree.proofs.Sound.{same_sound, same_system, node_found, not_passed, held_at, hangs_at, ascend, linked_there, found_linked, has_one, last_sound, last_view, several_sound, several_view}
 
 -- nothing is left at a place that was taken out
 none_left_at : (k : Place) (links : List Link) → IsStrictlySortedBy place_cmp (keys_of links) → NonePasses (is_at (place_cmp k)) (remove_entry (is_at (place_cmp k)) links)
@@ -72,14 +73,23 @@ module _ (inodes : List (ℕ × Inode)) (links : List Link) (users : List (ℕ �
         (λ e. inr (parent_moved (file_system inodes links users) s.tree parent name new_parent new_name c found free e.0)) k
     settled_held (Links n) g k = same_count (file_system inodes links users) s.tree parent name new_parent new_name c found free c ∙ g
 
-    settled_sound : IsTree (record (file_system inodes links users) { links = after }) → IsSound (set_value (is_at (nat_cmp c)) inodes settled) after users
-    settled_sound tree = record {
+    settled_parent : (h : Hold) (p : ℕ) → parent_in (moved_hold new_parent h) ≡ Some p → p ≡ new_parent
+    settled_parent (Entries q) p e = cc
+    settled_parent (Links n) p e = absurd cc
+
+    settled_sound : IsTree (record (file_system inodes links users) { links = after }) → height_over inode ≤ height_at inodes new_parent
+        → IsSound (set_value (is_at (nat_cmp c)) inodes settled) after users
+    settled_sound tree over = record {
       tree = subst (λ (n : List (ℕ × Node)). IsTree (record (file_system inodes links users) { nodes = n; links = after })) (sym nodes_stay) tree;
       held =
           All-set_number (λ e. IsHeld after e.0 e.1.hold) c inodes settled (ascend inodes links users s)
           (All-map (λ e. IsHeld links e.0 e.1.hold) (λ e. is_eq (nat_cmp c e.0) ≡ false → IsHeld after e.0 e.1.hold) inodes (λ e p m. held_on e.0 e.1.hold (not_passed c e.0 m) p) s.held)
           (settled_held inode.hold (held_at inodes links users s c inode there) (hangs_at inodes links users s c inode there));
       keyed = s.keyed;
+      heights =
+          let settled_over : height_over settled ≤ height_at inodes new_parent = rw (moved_kind new_parent inode.hold) over in
+          kept_heights inodes c inode there settled s.heights (omega arith)
+          (lower_than inodes c settled new_parent (λ p e. settled_parent inode.hold p e) settled_over);
     }
 
   -- whatever is kept of the child
@@ -89,9 +99,9 @@ module _ (inodes : List (ℕ × Inode)) (links : List Link) (users : List (ℕ �
 
   pub free_sound : (o : Option Inode) → lookup (is_at (nat_cmp c)) inodes ≡ o → is_directory (file_system inodes links users) new_parent ≡ true → is_name new_name ≡ true
       → through c (path_up links new_parent) ≡ false → AllByRecursion (StaysAbove (file_system inodes links users) s.tree parent name new_parent new_name c found free) (nodes_in inodes)
-      → IsSound (with_parent new_parent o c inodes) after users
-  free_sound None h d n t a = absurd (linked_there inodes links users s c (found_linked inodes links users s parent name c found) h)
-  free_sound (Some inode) h d n t a = settled_sound inode h (move_keeps (file_system inodes links users) s.tree parent name new_parent new_name c found free d n t a)
+      → height_over_in o ≤ height_at inodes new_parent → IsSound (with_parent new_parent o c inodes) after users
+  free_sound None h d n t a over = absurd (linked_there inodes links users s c (found_linked inodes links users s parent name c found) h)
+  free_sound (Some inode) h d n t a over = settled_sound inode h (move_keeps (file_system inodes links users) s.tree parent name new_parent new_name c found free d n t a) over
 
 -- the links as the code changes them
 pub same_after_insert : (links : List Link) (k l : Place) (c : ℕ) → IsStrictlySortedBy place_cmp (keys_of links) → is_eq (place_cmp k l) ≡ false
@@ -193,6 +203,17 @@ module _ (inodes : List (ℕ × Inode)) (links : List Link) (users : List (ℕ �
             (several_sound inodes links users s new_parent new_name tg ft leaf more inode h, several_view inodes links users s new_parent new_name tg ft leaf more inode h)
       ] one
 
+-- another node stays as it was
+lost_other : (inodes : List (ℕ × Inode)) (q tg : ℕ) (o : Option Inode) → lookup (is_at (nat_cmp tg)) inodes ≡ o → q ≢ tg
+    → lookup (is_at (nat_cmp q)) (with_link_lost o tg inodes) ≡ lookup (is_at (nat_cmp q)) inodes
+lost_other inodes q tg None h n = refl
+lost_other inodes q tg (Some inode) h n =
+    elim (has_one_link inode.hold) as (λ b. lookup (is_at (nat_cmp q)) (cond b (remove_entry (is_at (nat_cmp tg)) inodes) (set_value (is_at (nat_cmp tg)) inodes (record inode { hold = fewer_links inode.hold })))
+    ≡ lookup (is_at (nat_cmp q)) inodes) [
+      | true ↦ lookup-remove_other (is_at (nat_cmp q)) (is_at (nat_cmp tg)) (λ k p. apart_from tg q k n p) inodes
+      | false ↦ set_other inodes tg inode h (record inode { hold = fewer_links inode.hold }) q n
+    ]
+
 -- ---- what the rules of a renaming say
 hung_one : (links : List Link) (q : ℕ) (k : Kind) → q ≢ 1 → not (is_kind_file k) ≡ true → Hangs links q k → link_count links q ≡ 1
 hung_one links q Directory r h g = ⊎_elim (λ e. absurd (r e)) (λ p. p.0) g
@@ -224,30 +245,38 @@ places_apart links k l o c a b n =
       | false ↦ λ p. refl
     ] refl
 
-module _ (inodes : List (ℕ × Inode)) (links : List Link) (users : List (ℕ × UserRec)) (s : IsSound inodes links users) (parent : ℕ) (name : List ℕ) (new_parent : ℕ) (new_name : List ℕ) (c : ℕ)
-    (found : child_of (file_system inodes links users) parent name ≡ Some c) (directory : is_directory (file_system inodes links users) new_parent ≡ true) (named : is_name new_name ≡ true)
-    (outside : is_directory (file_system inodes links users) c ≡ true → is_within links c new_parent ≡ false)
-    (shallow : is_directory (file_system inodes links users) c ≡ true → is_too_deep (file_system inodes links users) c new_parent ≡ false) where
+-- what is asked of a link that moves to a name in a directory, whether the name is free or is that of a node that goes
+pub record IsMove (fs : FileSystem) (parent : ℕ) (name : List ℕ) (new_parent : ℕ) (new_name : List ℕ) (child : ℕ) : Type 0 where
+  pub found : child_of fs parent name ≡ Some child
+  pub directory : is_directory fs new_parent ≡ true
+  pub named : is_name new_name ≡ true
+  pub outside : is_directory fs child ≡ true → is_within fs.links child new_parent ≡ false
+  pub shallow : is_directory fs child ≡ true → is_too_deep fs child new_parent ≡ false
+
+module _ (inodes : List (ℕ × Inode)) (links : List Link) (users : List (ℕ × UserRec)) (s : IsSound inodes links users)
+    (parent : ℕ) (name : List ℕ) (new_parent : ℕ) (new_name : List ℕ) (c : ℕ)
+    (move : IsMove (file_system inodes links users) parent name new_parent new_name c)
+    (over : height_over_at inodes c ≤ height_at inodes new_parent) where
   abbrev pub links_after : List Link
   links_after = remove_entry (is_at (place_cmp (parent, name))) (insert_entry place_cmp links (new_parent, new_name) c)
 
   child_apart : c ≢ 1
-  child_apart = (All-found (IsLink (file_system inodes links users)) (is_at (place_cmp (parent, name))) links c s.tree.links found).2.no_root
+  child_apart = (All-found (IsLink (file_system inodes links users)) (is_at (place_cmp (parent, name))) links c s.tree.links move.found).2.no_root
 
   rules : (through c (path_up links new_parent) ≡ false) × AllByRecursion (Above links c new_parent) (nodes_in inodes)
-  rules = conditions (file_system inodes links users) s.tree c new_parent child_apart directory outside shallow
+  rules = conditions (file_system inodes links users) s.tree c new_parent child_apart move.directory move.outside move.shallow
 
   -- to a free place
   module _ (free : child_of (file_system inodes links users) new_parent new_name ≡ None) where
-    free_links : links_after ≡ after inodes links users s parent name new_parent new_name c found free
-    free_links = same_after_insert links (parent, name) (new_parent, new_name) c s.tree.links_ascend (places_apart links (parent, name) (new_parent, new_name) None c found free (λ e. cc))
+    free_links : links_after ≡ after inodes links users s parent name new_parent new_name c move.found free
+    free_links = same_after_insert links (parent, name) (new_parent, new_name) c s.tree.links_ascend (places_apart links (parent, name) (new_parent, new_name) None c move.found free (λ e. cc))
 
     pub to_free : IsSound (with_parent new_parent (lookup (is_at (nat_cmp c)) inodes) c inodes) links_after users
         × (file_system (with_parent new_parent (lookup (is_at (nat_cmp c)) inodes) c inodes) links_after users ≡ with_link_moved (file_system inodes links users) parent name new_parent new_name c)
     to_free =
         rw free_links (
-          free_sound inodes links users s parent name new_parent new_name c found free (lookup (is_at (nat_cmp c)) inodes) refl directory named rules.0 rules.1,
-          free_view inodes links users s parent name new_parent new_name c found free (lookup (is_at (nat_cmp c)) inodes) refl,
+          free_sound inodes links users s parent name new_parent new_name c move.found free (lookup (is_at (nat_cmp c)) inodes) refl move.directory move.named rules.0 rules.1 over,
+          free_view inodes links users s parent name new_parent new_name c move.found free (lookup (is_at (nat_cmp c)) inodes) refl,
         )
 
   -- in place of a target
@@ -262,7 +291,7 @@ module _ (inodes : List (ℕ × Inode)) (links : List Link) (users : List (ℕ �
     bare = leaf_links (file_system inodes links users) s.tree tg leaf
 
     apart : is_eq (place_cmp (parent, name) (new_parent, new_name)) ≡ false
-    apart = places_apart links (parent, name) (new_parent, new_name) (Some tg) c found ft (λ e. other (same_some tg c e))
+    apart = places_apart links (parent, name) (new_parent, new_name) (Some tg) c move.found ft (λ e. other (same_some tg c e))
 
     sound_left : IsSound inodes_left links_left users
     sound_left = (lost inodes links users s new_parent new_name tg ft leaf (lookup (is_at (nat_cmp tg)) inodes) refl).0
@@ -271,7 +300,7 @@ module _ (inodes : List (ℕ × Inode)) (links : List Link) (users : List (ℕ �
     view_left = (lost inodes links users s new_parent new_name tg ft leaf (lookup (is_at (nat_cmp tg)) inodes) refl).1 ∙ is_left (file_system inodes links users) s.tree new_parent new_name tg ft bare
 
     found_left : child_of (file_system inodes_left links_left users) parent name ≡ Some c
-    found_left = left_found (file_system inodes links users) s.tree new_parent new_name tg ft bare parent name c apart found
+    found_left = left_found (file_system inodes links users) s.tree new_parent new_name tg ft bare parent name c apart move.found
 
     free_left : child_of (file_system inodes_left links_left users) new_parent new_name ≡ None
     free_left = left_free (file_system inodes links users) s.tree new_parent new_name tg ft bare
@@ -279,7 +308,7 @@ module _ (inodes : List (ℕ × Inode)) (links : List Link) (users : List (ℕ �
     directory_left : is_directory (file_system inodes_left links_left users) new_parent ≡ true
     directory_left =
         ap (λ (v : FileSystem). is_directory v new_parent) view_left
-        ∙ left_directory (file_system inodes links users) s.tree new_parent new_name tg ft bare new_parent (parent_apart (file_system inodes links users) s.tree new_parent new_name tg ft bare) ∙ directory
+        ∙ left_directory (file_system inodes links users) s.tree new_parent new_name tg ft bare new_parent (parent_apart (file_system inodes links users) s.tree new_parent new_name tg ft bare) ∙ move.directory
 
     outside_left : through c (path_up links_left new_parent) ≡ false
     outside_left = ap (through c) (left_path (file_system inodes links users) s.tree new_parent new_name tg ft bare new_parent (parent_apart (file_system inodes links users) s.tree new_parent new_name tg ft bare)) ∙ rules.0
@@ -289,6 +318,16 @@ module _ (inodes : List (ℕ × Inode)) (links : List Link) (users : List (ℕ �
         subst (λ (v : FileSystem). AllByRecursion (Above links_left c new_parent) v.nodes) (sym view_left)
         (left_above (file_system inodes links users) s.tree new_parent new_name tg ft bare c (λ e. other (sym e)) rules.1)
 
+    -- the heights of the two stay where the target goes
+    over_left : height_over_at inodes_left c ≤ height_at inodes_left new_parent
+    over_left =
+        omega (
+          arith,
+          over,
+          ap height_in (lost_other inodes new_parent tg (lookup (is_at (nat_cmp tg)) inodes) refl (parent_apart (file_system inodes links users) s.tree new_parent new_name tg ft bare)),
+          ap height_over_in (lost_other inodes c tg (lookup (is_at (nat_cmp tg)) inodes) refl (λ e. other (sym e))),
+        )
+
     target_links : links_after ≡ after inodes_left links_left users sound_left parent name new_parent new_name c found_left free_left
     target_links = same_after_replace links (parent, name) (new_parent, new_name) c s.tree.links_ascend apart
 
@@ -297,10 +336,51 @@ module _ (inodes : List (ℕ × Inode)) (links : List Link) (users : List (ℕ �
         ≡ with_link_moved (without_link (file_system inodes links users) new_parent new_name) parent name new_parent new_name c)
     onto_target =
         rw target_links (
-          free_sound inodes_left links_left users sound_left parent name new_parent new_name c found_left free_left (lookup (is_at (nat_cmp c)) inodes_left) refl directory_left named outside_left above_left,
+          free_sound inodes_left links_left users sound_left parent name new_parent new_name c found_left free_left (lookup (is_at (nat_cmp c)) inodes_left) refl directory_left move.named outside_left above_left over_left,
           free_view inodes_left links_left users sound_left parent name new_parent new_name c found_left free_left (lookup (is_at (nat_cmp c)) inodes_left) refl
               ∙ ap (λ (v : FileSystem). with_link_moved v parent name new_parent new_name c) (lost inodes links users s new_parent new_name tg ft leaf (lookup (is_at (nat_cmp tg)) inodes) refl).1,
         )
+
+-- the same with the heights that are kept by then, of the file system that the tree stood for
+module _ (inodes others : List (ℕ × Inode)) (links : List Link) (users : List (ℕ × UserRec)) (s : IsSound inodes links users)
+    (same : without_heights others ≡ without_heights inodes) (heights : AreHeights others)
+    (fs : FileSystem) (view : file_system inodes links users ≡ fs)
+    (parent : ℕ) (name : List ℕ) (new_parent : ℕ) (new_name : List ℕ) (c : ℕ) (move : IsMove fs parent name new_parent new_name c)
+    (over : height_over_at others c ≤ height_at others new_parent) where
+  sound : IsSound others links users
+  sound = same_sound inodes others links users same s heights
+
+  stands : file_system others links users ≡ fs
+  stands = same_system inodes others links users same ∙ view
+
+  moves : IsMove (file_system others links users) parent name new_parent new_name c
+  moves = subst (λ (v : FileSystem). IsMove v parent name new_parent new_name c) (sym stands) move
+
+  abbrev links_moved : List Link
+  links_moved = remove_entry (is_at (place_cmp (parent, name))) (insert_entry place_cmp links (new_parent, new_name) c)
+
+  pub moved_to_free : child_of fs new_parent new_name ≡ None
+      → IsSound (with_parent new_parent (lookup (is_at (nat_cmp c)) others) c others) links_moved users
+      × (file_system (with_parent new_parent (lookup (is_at (nat_cmp c)) others) c others) links_moved users
+      ≡ with_link_moved fs parent name new_parent new_name c)
+  moved_to_free free =
+      let none : child_of (file_system others links users) new_parent new_name ≡ None =
+      subst (λ (v : FileSystem). child_of v new_parent new_name ≡ None) (sym stands) free in
+      let done = to_free others links users sound parent name new_parent new_name c moves over none in
+      (done.0, done.1 ∙ ap (λ (v : FileSystem). with_link_moved v parent name new_parent new_name c) stands)
+
+  pub moved_onto : (tg : ℕ) → child_of fs new_parent new_name ≡ Some tg → IsLeaf fs tg → tg ≢ c
+      → IsSound (with_parent new_parent (lookup (is_at (nat_cmp c)) (with_link_lost (lookup (is_at (nat_cmp tg)) others) tg others)) c
+      (with_link_lost (lookup (is_at (nat_cmp tg)) others) tg others)) links_moved users
+      × (file_system (with_parent new_parent (lookup (is_at (nat_cmp c)) (with_link_lost (lookup (is_at (nat_cmp tg)) others) tg others)) c
+      (with_link_lost (lookup (is_at (nat_cmp tg)) others) tg others)) links_moved users
+      ≡ with_link_moved (without_link fs new_parent new_name) parent name new_parent new_name c)
+  moved_onto tg target leaf other =
+      let here : child_of (file_system others links users) new_parent new_name ≡ Some tg =
+      subst (λ (v : FileSystem). child_of v new_parent new_name ≡ Some tg) (sym stands) target in
+      let low : IsLeaf (file_system others links users) tg = subst (λ (v : FileSystem). IsLeaf v tg) (sym stands) leaf in
+      let done = onto_target others links users sound parent name new_parent new_name c moves over tg here low other in
+      (done.0, done.1 ∙ ap (λ (v : FileSystem). with_link_moved (without_link v new_parent new_name) parent name new_parent new_name c) stands)
 
 -- ---- what the definition says of either
 pub renamed_onto : (fs : FileSystem) (parent : ℕ) (name : List ℕ) (new_parent : ℕ) (new_name : List ℕ) (c tg : ℕ) → child_of fs parent name ≡ Some c → child_of fs new_parent new_name ≡ Some tg → (tg == c) ≡ false

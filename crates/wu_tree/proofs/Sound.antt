@@ -19,8 +19,8 @@ use Rattle.wu_tree.specs.declared.events.Node.{Node}
 use Rattle.wu_tree.specs.declared.inodes.Hold.{Hold}
 use Rattle.wu_tree.specs.declared.inodes.Hold.TheVariants.{Entries, Links}
 use Rattle.wu_tree.specs.declared.inodes.Inode.{Inode}
-use Rattle.wu_tree.specs.Inodes.{node_in, nodes_in, users_in, file_system, IsHeld, IsSound, first_hold, fewer_links, has_one_link, kind_of, parent_in}
-use Rattle.wu_tree.specs.FileSystems.{IsLeaf, Place, Link, place_cmp, node_of, child_of, is_directory, is_there, is_file, is_file_node, is_directory_node, parent_of, is_kind_file, link_count, is_name, depth}
+use Rattle.wu_tree.specs.Inodes.{node_in, nodes_in, users_in, file_system, IsHeld, IsSound, first_hold, fewer_links, has_one_link, kind_of, parent_in, height_at, height_over, higher_of, AreHeights, without_heights}
+use Rattle.wu_tree.specs.FileSystems.{FileSystem, IsLeaf, Place, Link, place_cmp, node_of, child_of, is_directory, is_there, is_file, is_file_node, is_directory_node, parent_of, is_kind_file, link_count, is_name, depth}
 use Rattle.wu_tree.specs.Rules.{IsTree, IsLink, Hangs}
 use Rattle.wu_tree.specs.Steps.{with_perm, with_node, with_link, without_link}
 use Rattle.wu_tree.proofs.Entries.{ascend-insert_entry, set_value-read, insert_entry-read, remove_entry-read, remove_entry-insert_entry, All-insert_entry, All-map, All-map2, All-found, All-remove_entry, All-set_number, counted-remove_entry, none_left, number_itself}
@@ -31,6 +31,7 @@ use Rattle.std.proofs.lemmas.Map.Steps.{set_value_same}
 use borrow.Author.Tests.{eq-eqb}
 use Rattle.wu_tree.proofs.NewNodes.{node_keeps, new_around, new_held}
 use Rattle.wu_tree.proofs.Perms.{perm_keeps, held_again}
+use Rattle.wu_tree.proofs.DirectoryHeights.{same_heights, insert_heights, remove_heights, lower_than, higher_parts, higher_has_links, found_again}
 
 pub not_passed : (k q : ℕ) → is_eq (nat_cmp k q) ≡ false → q ≢ k
 not_passed k q h e = let f : is_eq (nat_cmp k q) ≡ true = subst (λ x. is_eq (nat_cmp x q) ≡ true) e (number_itself q) in absurd (let g : true ≡ false = sym f ∙ h in cc)
@@ -54,7 +55,7 @@ module _ (inodes : List (ℕ × Inode)) (links : List Link) (users : List (ℕ �
   inode_absent ino h = none_of_some node_in (lookup (is_at (nat_cmp ino)) inodes) (sym (lookup-map_values node_in (is_at (nat_cmp ino)) inodes) ∙ h)
 
   -- ---- other permissions
-  module _ (ino : ℕ) (old inode : Inode) (found : lookup (is_at (nat_cmp ino)) inodes ≡ Some old) (hold : inode.hold ≡ old.hold) where
+  module _ (ino : ℕ) (old inode : Inode) (found : lookup (is_at (nat_cmp ino)) inodes ≡ Some old) (hold : inode.hold ≡ old.hold) (height : inode.height ≡ old.height) where
     pub perm_sound : inode.perm.mode ≤ 0xFFF → IsSound (set_value (is_at (nat_cmp ino)) inodes inode) links users
     perm_sound mode = record {
       tree =
@@ -62,6 +63,7 @@ module _ (inodes : List (ℕ × Inode)) (links : List Link) (users : List (ℕ �
           (perm_keeps (file_system inodes links users) s.tree ino (node_in old) (node_in inode) (node_found ino old found) (ap kind_of hold) mode);
       held = held_again links inodes ino old inode s.held found hold;
       keyed = s.keyed;
+      heights = same_heights inodes ino old inode found s.heights (ap parent_in hold) height;
     }
 
     pub perm_view : file_system (set_value (is_at (nat_cmp ino)) inodes inode) links users
@@ -74,11 +76,15 @@ module _ (inodes : List (ℕ × Inode)) (links : List Link) (users : List (ℕ �
   -- ---- a new node
   module _ (ino parent : ℕ) (name : List ℕ) (node : Node) where
     abbrev pub first_inode : Inode
-    first_inode = record { perm = node.perm; hold = first_hold node.kind parent }
+    first_inode = record { perm = node.perm; hold = first_hold node.kind parent; height = 0 }
 
     first_kind : (k : Kind) → kind_of (first_hold k parent) ≡ k
     first_kind Directory = refl
     first_kind File = refl
+
+    first_parent : (k : Kind) (p : ℕ) → parent_in (first_hold k parent) ≡ Some p → p ≡ parent
+    first_parent Directory p e = cc
+    first_parent File p e = absurd cc
 
     first_node : node_in first_inode ≡ node
     first_node = ap (λ (k : Kind). record { kind = k; perm = node.perm }) (first_kind node.kind)
@@ -95,8 +101,8 @@ module _ (inodes : List (ℕ × Inode)) (links : List Link) (users : List (ℕ �
 
       pub add_sound : is_directory (file_system inodes links users) parent ≡ true → child_of (file_system inodes links users) parent name ≡ None
           → 1 ≤ ino → node.perm.mode ≤ 0xFFF → is_name name ≡ true → (node.kind ≡ Directory → depth links parent < 255)
-          → IsSound (insert_entry nat_cmp inodes ino first_inode) (insert_entry place_cmp links (parent, name) ino) users
-      add_sound directory free low mode n d = record {
+          → height_over first_inode ≤ height_at inodes parent → IsSound (insert_entry nat_cmp inodes ino first_inode) (insert_entry place_cmp links (parent, name) ino) users
+      add_sound directory free low mode n d over = record {
         tree = rw add_view (node_keeps (file_system inodes links users) s.tree ino parent name node new directory free low mode n d (reached (file_system inodes links users) s.tree parent directory));
         held =
             let around = new_around (file_system inodes links users) s.tree ino parent name node new directory free in
@@ -107,6 +113,9 @@ module _ (inodes : List (ℕ × Inode)) (links : List Link) (users : List (ℕ �
             (λ q e. subst (λ x. IsHeld (insert_entry place_cmp links (parent, name) ino) x first_inode.hold) (exact_unsigned ino q e) first)
             first;
         keyed = s.keyed;
+        heights =
+            insert_heights inodes ino first_inode (inode_absent ino new) s.heights
+            (lower_than inodes ino first_inode parent (λ p e. first_parent node.kind p e) over);
       }
 
   -- ---- nodes with links
@@ -165,12 +174,17 @@ module _ (inodes : List (ℕ × Inode)) (links : List Link) (users : List (ℕ �
           All-map2 (λ e. IsHeld links e.0 e.1.hold) (λ e. is_eq (nat_cmp c e.0) ≡ false) (λ e. IsHeld left e.0 e.1.hold) (remove_entry (is_at (nat_cmp c)) inodes)
           (λ e m p. same_held around_left e.0 e.1.hold (not_passed c e.0 m) p) (none_left c inodes ascend) (All-remove_entry (λ e. IsHeld links e.0 e.1.hold) (is_at (nat_cmp c)) inodes s.held);
       keyed = s.keyed;
+      heights = remove_heights inodes c ascend s.heights (λ q inode f h. higher_has_links links inodes s.held q inode f c bare h);
     }
 
     -- one of several
     module _ (more : link_count links c ≢ 1) (inode : Inode) (there : lookup (is_at (nat_cmp c)) inodes ≡ Some inode) where
       abbrev pub lighter : Inode
       lighter = record inode { hold = fewer_links inode.hold }
+
+      lighter_parent : (h : Hold) → parent_in (fewer_links h) ≡ parent_in h
+      lighter_parent (Entries p) = refl
+      lighter_parent (Links n) = refl
 
       lighter_kind : (h : Hold) → kind_of (fewer_links h) ≡ kind_of h
       lighter_kind (Entries p) = refl
@@ -201,12 +215,17 @@ module _ (inodes : List (ℕ × Inode)) (links : List Link) (users : List (ℕ �
             (All-map (λ e. IsHeld links e.0 e.1.hold) (λ e. is_eq (nat_cmp c e.0) ≡ false → IsHeld left e.0 e.1.hold) inodes (λ e p m. same_held around_left e.0 e.1.hold (not_passed c e.0 m) p) s.held)
             (lighter_held inode.hold (held_at c inode there) (hangs_at c inode there));
         keyed = s.keyed;
+        heights = same_heights inodes c inode lighter there s.heights (lighter_parent inode.hold) refl;
       }
 
   -- ---- one more link
   file_hold : (h : Hold) → is_kind_file (kind_of h) ≡ true → (n : ℕ) → kind_of (Links n) ≡ kind_of h
   file_hold (Entries p) e n = absurd cc
   file_hold (Links m) e n = refl
+
+  file_parent : (h : Hold) → kind_of h ≡ File → None ≡ parent_in h
+  file_parent (Entries p) e = absurd cc
+  file_parent (Links m) e = refl
 
   pub file_inode : (ino : ℕ) → is_file (file_system inodes links users) ino ≡ true → lookup (is_at (nat_cmp ino)) inodes ≡ None → ⊥
   file_inode ino f h = let g : is_file (file_system inodes links users) ino ≡ false = ap is_file_node (node_absent ino h) in let x : true ≡ false = sym f ∙ g in cc
@@ -249,6 +268,7 @@ module _ (inodes : List (ℕ × Inode)) (links : List Link) (users : List (ℕ �
           (λ e p m. same_held (link_around (file_system inodes links users) s.tree ino parent name file free) e.0 e.1.hold (not_passed ino e.0 m) p) s.held)
           (one_more (file_system inodes links users) s.tree ino parent name file free ∙ sym counts);
       keyed = s.keyed;
+      heights = same_heights inodes ino inode heavier there s.heights (file_parent inode.hold (sym kind_stays)) refl;
     }
 
   -- ---- a user's groups
@@ -281,6 +301,7 @@ module _ (inodes : List (ℕ × Inode)) (links : List Link) (users : List (ℕ �
       tree = subst (λ (u : List (ℕ × List ℕ)). IsTree (record (file_system inodes links users) { users = u })) (sym users_put) (user_keeps ascends);
       held = s.held;
       keyed = All-insert_entry (λ e. e.1.uid ≡ e.0) nat_cmp users uid user_of s.keyed (λ q e. exact_unsigned uid q e) refl;
+      heights = s.heights;
     }
 
   -- ---- parents
@@ -298,9 +319,89 @@ module _ (inodes : List (ℕ × Inode)) (links : List Link) (users : List (ℕ �
   pub directory_inode : (d : ℕ) → is_directory (file_system inodes links users) d ≡ true → lookup (is_at (nat_cmp d)) inodes ≡ None → ⊥
   directory_inode d f h = let g : is_directory (file_system inodes links users) d ≡ false = ap is_directory_node (node_absent d h) in let x : true ≡ false = sym f ∙ g in cc
 
+-- ---- other heights
+module _ (inodes others : List (ℕ × Inode)) (links : List Link) (users : List (ℕ × UserRec)) (same : without_heights others ≡ without_heights inodes) where
+  unseen : (es : List (ℕ × Inode)) → nodes_in (without_heights es) ≡ nodes_in es
+  unseen [] = refl
+  unseen (e ∷ es) = ap (λ (l : List (ℕ × Node)). (e.0, node_in e.1) ∷ l) (unseen es)
+
+  pub same_nodes : nodes_in others ≡ nodes_in inodes
+  same_nodes = sym (unseen others) ∙ ap nodes_in same ∙ unseen inodes
+
+  pub same_system : file_system others links users ≡ file_system inodes links users
+  same_system = ap (λ (n : List (ℕ × Node)). record { nodes = n; links = links; users = users_in users }) same_nodes
+
+  held_without : (es : List (ℕ × Inode)) → AllByRecursion (λ e. IsHeld links e.0 e.1.hold) es → AllByRecursion (λ e. IsHeld links e.0 e.1.hold) (without_heights es)
+  held_without [] a = tt
+  held_without (e ∷ es) a = (a.0, held_without es a.1)
+
+  held_with : (es : List (ℕ × Inode)) → AllByRecursion (λ e. IsHeld links e.0 e.1.hold) (without_heights es) → AllByRecursion (λ e. IsHeld links e.0 e.1.hold) es
+  held_with [] a = tt
+  held_with (e ∷ es) a = (a.0, held_with es a.1)
+
+  pub same_holds : AllByRecursion (λ e. IsHeld links e.0 e.1.hold) inodes → AllByRecursion (λ e. IsHeld links e.0 e.1.hold) others
+  same_holds a = held_with others (subst (λ es. AllByRecursion (λ e. IsHeld links e.0 e.1.hold) es) (sym same) (held_without inodes a))
+
+  pub same_sound : IsSound inodes links users → AreHeights others → IsSound others links users
+  same_sound s heights = record {
+    tree = subst (λ (v : FileSystem). IsTree v) (sym same_system) s.tree;
+    held = same_holds s.held;
+    keyed = s.keyed;
+    heights = heights;
+  }
+
+-- a new node, where the heights that are kept by then make room for it
+pub record IsNewNode (fs : FileSystem) (ino parent : ℕ) (name : List ℕ) (node : Node) : Type 0 where
+  pub low : 1 ≤ ino
+  pub mode : node.perm.mode ≤ 0xFFF
+  pub named : is_name name ≡ true
+  pub directory : is_directory fs parent ≡ true
+  pub new : node_of fs ino ≡ None
+  pub free : child_of fs parent name ≡ None
+  pub shallow : node.kind ≡ Directory → depth fs.links parent < 255
+
+module _ (inodes others : List (ℕ × Inode)) (links : List Link) (users : List (ℕ × UserRec)) (s : IsSound inodes links users)
+    (same : without_heights others ≡ without_heights inodes) (heights : AreHeights others)
+    (fs : FileSystem) (view : file_system inodes links users ≡ fs)
+    (ino parent : ℕ) (node : Node) where
+  sound : IsSound others links users
+  sound = same_sound inodes others links users same s heights
+
+  stands : file_system others links users ≡ fs
+  stands = same_system inodes others links users same ∙ view
+
+  abbrev new_inode : Inode
+  new_inode = record { perm = node.perm; hold = first_hold node.kind parent; height = 0 }
+
+  pub put_back : node_of fs ino ≡ None → remove_entry (is_at (nat_cmp ino)) (insert_entry nat_cmp others ino new_inode) ≡ others
+  put_back new = taken_back others links users sound ino parent [] node (ap (λ (v : FileSystem). node_of v ino) stands ∙ new)
+
+  module _ (name : List ℕ) (asked : IsNewNode fs ino parent name node) where
+    asked_here : IsNewNode (file_system others links users) ino parent name node
+    asked_here = subst (λ (v : FileSystem). IsNewNode v ino parent name node) (sym stands) asked
+
+    pub node_added : height_over new_inode ≤ height_at others parent
+        → IsSound (insert_entry nat_cmp others ino new_inode) (insert_entry place_cmp links (parent, name) ino) users
+        × (file_system (insert_entry nat_cmp others ino new_inode) (insert_entry place_cmp links (parent, name) ino) users
+        ≡ with_node fs ino parent name node)
+    node_added over =
+        let a = asked_here in (
+          add_sound others links users sound ino parent name node a.new a.directory a.free a.low a.mode a.named a.shallow over,
+          add_view others links users sound ino parent name node ∙ ap (λ (v : FileSystem). with_node v ino parent name node) stands,
+        )
+
+-- a directory's node is there
+pub directory_kept : (inodes : List (ℕ × Inode)) (links : List Link) (users : List (ℕ × UserRec)) → IsSound inodes links users → (fs : FileSystem) → file_system inodes links users ≡ fs
+    → (d : ℕ) → is_directory fs d ≡ true → is_some (lookup (is_at (nat_cmp d)) inodes) ≡ true
+directory_kept inodes links users s fs view d h =
+    elim (lookup (is_at (nat_cmp d)) inodes) as (λ o. lookup (is_at (nat_cmp d)) inodes ≡ o → is_some o ≡ true) [
+      | None ↦ λ e. absurd (directory_inode inodes links users s d (subst (λ (v : FileSystem). is_directory v d ≡ true) (sym view) h) e)
+      | Some inode ↦ λ e. refl
+    ] refl
+
 -- ---- the root alone
 abbrev pub root_inode : Inode
-root_inode = record { perm = record { uid = 0; gid = 0; mode = 493 }; hold = Entries 1 }
+root_inode = record { perm = record { uid = 0; gid = 0; mode = 493 }; hold = Entries 1; height = 0 }
 
 pub root_sound : IsSound ((1, root_inode) ∷ []) [] []
 unfolding IsStrictlySortedBy
@@ -317,7 +418,15 @@ root_sound = record {
   };
   held = (inl refl, tt);
   keyed = tt;
+  heights = λ ino inode f parent h. absurd (root_lowest ino inode parent f h);
 }
+  where
+    root_lowest : (ino : ℕ) (inode : Inode) (parent : ℕ) → cond (is_eq (nat_cmp ino 1)) (Some root_inode) None ≡ Some inode → higher_of ino inode ≡ Some parent → ⊥
+    root_lowest ino inode parent f h =
+        elim (is_eq (nat_cmp ino 1)) as (λ b. is_eq (nat_cmp ino 1) ≡ b → cond b (Some root_inode) None ≡ Some inode → ⊥) [
+          | true ↦ λ e g. (higher_parts ino inode parent h).0 (same_number ino 1 e)
+          | false ↦ λ e g. cc
+        ] refl f
 
 -- ---- users and nodes as a walk over the values meets them
 pub map_through : {X Y Z : Type 0} (f : X → Y) (g : Y → Z) (o : Option X) → option_map (λ x. g (f x)) o ≡ option_map g (option_map f o)

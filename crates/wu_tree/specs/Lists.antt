@@ -67,8 +67,13 @@ hold_of Directory (Some hung) = Entries hung.parent
 hold_of File None = Links 0
 hold_of File (Some hung) = Links hung.count
 
+-- any number of levels may lie below a directory
+abbrev pub first_height : Kind → ℕ
+first_height Directory = 255
+first_height File = 0
+
 abbrev pub inode_of : Option Hung → Node → Inode
-inode_of hung node = record { perm = node.perm; hold = hold_of node.kind hung }
+inode_of hung node = record { perm = node.perm; hold = hold_of node.kind hung; height = first_height node.kind }
 
 -- the rules of a link, as a test
 abbrev pub child_test : FileSystem → ℕ → Bool

@@ -7,6 +7,7 @@ ghost use Rattle.wu_tree.specs.Steps.{ascending as ascending_of};
 ghost use Rattle.wu_tree.specs.FileSystems.{child_of, depth, is_directory, is_file, is_name, is_used, link_count, node_of, IsLeaf};
 
 use crate::events::{Kind, Node};
+use crate::heights::raise;
 use crate::inodes::{Hold, Inode};
 use crate::trees::Tree;
 use std::alloc::Global;
@@ -38,7 +39,9 @@ impl Tree {
         let inode = Inode {
             perm: node.perm,
             hold: Hold::first(node.kind, parent),
+            height: 0,
         };
+        raise(&mut self.inodes, parent, inode.height_over());
         self.inodes.insert(ino, inode)?;
         if let Err(error) = self.links.insert(self.alloc, parent, name, ino) {
             self.inodes.remove(&ino);

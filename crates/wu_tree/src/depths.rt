@@ -1,7 +1,8 @@
 //! How directories lie to each other. A step up goes from a directory to the one in which it stands, and
 //! costs a look-up by number; at most 254 lead to the root.
-ghost use Rattle.std.specs.Prelude.{◌≡◌, ◌+◌, true, cond, Some, None};
+ghost use Rattle.std.specs.Prelude.{◌≡◌, ◌+◌, ◌≤◌, true, cond, Some, None};
 
+use crate::heights::height_of;
 use crate::trees::{ROOT, Tree};
 use wu_base::{DEPTH_MAX, Ino};
 
@@ -19,8 +20,8 @@ impl Tree {
     }
 
     /// Whether some directory at or below `child` would lie deeper than 255, were `child` an entry of
-    /// `parent`. Goes up from both; where `child` comes to lie no deeper than before, that tells it. Else the
-    /// nodes below `child` are looked at, each at most once.
+    /// `parent`. Goes up from both; the kept height of `child` tells it, or that `child` comes to lie no deeper
+    /// than before. Where neither does, the entries below `child` are looked at, each at most once.
     pub(crate) fn is_too_deep(&self, child: Ino, parent: Ino) -> bool
         requires child { is_directory self.now child ≡ true }
         requires parent { is_directory self.now parent ≡ true }
@@ -35,12 +36,17 @@ impl Tree {
     }
 
     /// Whether some directory lies exactly `levels` steps below `directory`, which lies 0 steps below itself.
-    /// Looks at each node below `directory` at most once.
+    /// Looks at each entry below `directory` at most once, and at none in a directory whose height is less.
     fn reaches(&self, directory: Ino, levels: usize) -> bool
+        requires directory { is_directory self.now directory ≡ true }
+        requires levels { levels ≤ 255 }
         ensures { result ≡ reaches self.now levels directory }
     {
         if levels == 0 {
             return true;
+        }
+        if usize::from(height_of(&self.inodes, directory)) < levels {
+            return false;
         }
         let Some(names) = self.entries(directory) else {
             return false;

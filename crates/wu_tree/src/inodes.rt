@@ -1,6 +1,6 @@
 //! What a tree keeps of a node.
 ghost use Rattle.std.specs.Prelude.{◌≡◌};
-ghost use Rattle.wu_tree.specs.Inodes.{fewer_links, first_hold, has_one_link, kind_of, moved_hold, node_in, parent_in};
+ghost use Rattle.wu_tree.specs.Inodes.{fewer_links, first_hold, has_one_link, height_over, kind_of, moved_hold, node_in, parent_in};
 ghost use Rattle.wu_tree.specs.FileSystems.{is_kind_file};
 
 use crate::events::{Kind, Node};
@@ -12,6 +12,9 @@ use wu_base::Ino;
 pub(crate) struct Inode {
     pub(crate) perm: Perm,
     pub(crate) hold: Hold,
+    /// Of a directory: at most so many levels of directories lie below it, or any number where it is 255. A
+    /// file has 0.
+    pub(crate) height: u8,
 }
 
 /// What a tree keeps of the links that name a node, by which they hold it in the tree. It also tells the
@@ -33,6 +36,17 @@ impl Inode {
         Node {
             kind: self.hold.kind(),
             perm: self.perm,
+        }
+    }
+
+    /// The least height of a directory in which the node stands. Files don't count.
+    pub(crate) fn height_over(&self) -> u8
+        ensures { result ≡ height_over self.now }
+    {
+        if self.hold.is_file() {
+            0
+        } else {
+            self.height.saturating_add(1)
         }
     }
 }

@@ -5,6 +5,7 @@
 mod changes;
 mod depths;
 mod events;
+mod heights;
 mod inodes;
 mod links;
 mod moves;

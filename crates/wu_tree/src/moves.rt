@@ -5,6 +5,7 @@ ghost use Rattle.std.specs.BTreeMap.{get};
 ghost use Rattle.wu_tree.specs.FileSystems.{child_of, is_directory, is_name, is_within, IsLeaf};
 ghost use Rattle.wu_tree.specs.Inodes.{with_link_lost, with_parent};
 
+use crate::heights::raise_over;
 use crate::inodes::Inode;
 use crate::trees::Tree;
 use std::collections::BTreeMap;
@@ -32,6 +33,7 @@ impl Tree {
         ensures err { OnErr result (self.new ≡ self.old) }
     {
         self.links.insert(self.alloc, new_parent, new_name, child)?;
+        raise_over(&mut self.inodes, new_parent, child);
         self.links.remove(parent, name);
         move_inode(&mut self.inodes, child, new_parent);
         Ok(())
@@ -59,6 +61,7 @@ impl Tree {
         ensures err { OnErr result (self.new ≡ self.old) }
     {
         self.links.insert(self.alloc, new_parent, new_name, child)?;
+        raise_over(&mut self.inodes, new_parent, child);
         self.links.remove(parent, name);
         drop_inode_link(&mut self.inodes, target);
         move_inode(&mut self.inodes, child, new_parent);

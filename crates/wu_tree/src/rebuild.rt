@@ -8,7 +8,7 @@ ghost use Rattle.std.specs.BTreeMap.{get};
 ghost use Rattle.std.specs.BTreeSet.{insert_key, contains};
 ghost use Rattle.wu_tree.specs.FileSystems.{is_directory, place_cmp};
 ghost use Rattle.wu_tree.specs.Inodes.{file_system};
-ghost use Rattle.wu_tree.specs.Lists.{ascends, below, child_test, hold_of, inode_of, is_less, link_of, link_test, linked_test, listed, number_test, order_test, place_test, reached_test, user_of};
+ghost use Rattle.wu_tree.specs.Lists.{ascends, below, child_test, first_height, hold_of, inode_of, is_less, link_of, link_test, linked_test, listed, number_test, order_test, place_test, reached_test, user_of};
 ghost use Rattle.wu_tree.specs.Rules.{IsTree};
 
 use crate::events::{Kind, LinkRec, Node};
@@ -57,12 +57,14 @@ impl Tree {
             return Ok(None);
         }
         let users = users_of(alloc, users)?;
-        Ok(Some(Tree {
+        let mut tree = Tree {
             alloc,
             inodes,
             links: kept,
             users,
-        }))
+        };
+        tree.lower_heights(ROOT);
+        Ok(Some(tree))
     }
 }
 
@@ -140,11 +142,20 @@ fn inodes_of(
 {
     let mut inodes = BTreeMap::new(alloc);
     for (ino, node) in nodes {
-        let hold = hold(node.kind, tally.get(ino).copied());
-        let perm = node.perm;
-        inodes.insert(*ino, Inode { perm, hold })?;
+        inodes.insert(*ino, inode(*node, tally.get(ino).copied()))?;
     }
     Ok(inodes)
+}
+
+/// What is kept of a node that hangs so.
+fn inode(node: Node, hung: Option<Hung>) -> Inode
+    ensures { result ≡ inode_of hung node }
+{
+    Inode {
+        perm: node.perm,
+        hold: hold(node.kind, hung),
+        height: first_height(node.kind),
+    }
 }
 
 /// What ties a node to the links that hangs so. The root counts as its own parent.
@@ -162,6 +173,16 @@ fn hold(kind: Kind, hung: Option<Hung>) -> Hold
             Some(hung) => Hold::Links { count: hung.count },
             None => Hold::Links { count: 0 },
         },
+    }
+}
+
+/// The height of a node before it is known how many levels lie below it.
+fn first_height(kind: Kind) -> u8
+    ensures { result ≡ first_height kind }
+{
+    match kind {
+        Kind::Directory => u8::MAX,
+        Kind::File => 0,
     }
 }
 

@@ -159,6 +159,22 @@ impl Tree {
         ensures next { OnOk result (self.new ≡ renamed self.old parent name.now new_parent new_name.now) }
         ensures err { OnErr result (self.new ≡ self.old) }
     {
+        self.lower_if_high(parent, name, new_parent);
+        self.move_link(parent, name, new_parent, new_name)
+    }
+
+    fn move_link(
+        &mut self,
+        parent: Ino,
+        name: &[u8],
+        new_parent: Ino,
+        new_name: &[u8],
+    ) -> Result<Effect, NoMemory>
+        requires { first_of (rename_rules self.old parent name.now new_parent new_name.now) ≡ None }
+        ensures effect { IfOk result (λ effect. effect ≡ rename_effect self.old parent name.now new_parent new_name.now) }
+        ensures next { OnOk result (self.new ≡ renamed self.old parent name.now new_parent new_name.now) }
+        ensures err { OnErr result (self.new ≡ self.old) }
+    {
         let Some(child) = self.child(parent, name) else {
             return Ok(NO_EFFECT);
         };

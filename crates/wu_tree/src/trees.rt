@@ -54,6 +54,7 @@ impl Tree {
                 mode: 0o755,
             },
             hold: Hold::Entries { parent: ROOT },
+            height: 0,
         };
         let mut inodes = BTreeMap::new(alloc);
         inodes.insert(ROOT, root)?;

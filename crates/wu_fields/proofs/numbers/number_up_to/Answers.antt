@@ -9,7 +9,8 @@ use Rattle.std.specs.List.{list_all}
 use Rattle.std.specs.Str.Parse.{digits_value}
 use Rattle.wu_fields.proofs.numbers.number_up_to.Goals as goal
 
-next_value : (ds : List ℕ) (i number : ℕ) → i < length ds → is_ascii_digit (get_or ds i 0) ≡ true → number ≡ digits_value 10 (take i ds) → digits_value 10 (take (i + 1) ds) ≡ number * 10 + (get_or ds i 0 - 48)
+next_value : (ds : List ℕ) (i number : ℕ) → i < length ds → is_ascii_digit (get_or ds i 0) ≡ true
+    → number ≡ digits_value 10 (take i ds) → digits_value 10 (take (i + 1) ds) ≡ number * 10 + (get_or ds i 0 - 48)
 next_value ds i number inside digit value =
     let worth : digit_value (get_or ds i 0) ≡ get_or ds i 0 - 48 = grind (arith, nat_tests) in
     rw (digits_value_more 10 ds i inside, worth, value)

@@ -5,7 +5,7 @@ use Rattle.std.specs.Char.{is_ascii_digit}
 use Rattle.std.specs.List.{list_all}
 use Rattle.std.specs.Str.Parse.{digits_value}
 use Rattle.wu_fields.specs.Numbers.{is_plain_numeral, number_of}
-use Rattle.wu_fields.proofs.FieldLemmas.{eqb-other}
+use Rattle.std.proofs.lemmas.Bool.{ne_eqb}
 use Rattle.wu_fields.proofs.numbers.written_numbers_are_read_back.Goals as goal
 
 numerals : IsNumeralModel (λ ds. list_all is_ascii_digit ds ≡ true) (digits_value 10)
@@ -13,7 +13,7 @@ numerals = numerals_by_value _ (search rules)
 
 unpadded : (ds : List ℕ) → 0 < length ds → get_or ds 0 0 ≢ 48 → list_all is_ascii_digit ds ≡ true → is_plain_numeral ds ≡ true
 unpadded [] some nonzero digits = absurd (omega arith)
-unpadded (d ∷ ds) some nonzero digits = rw (digits, eqb-other d 48 nonzero) refl
+unpadded (d ∷ ds) some nonzero digits = rw (digits, ne_eqb d 48 nonzero) refl
 
 plain : (n : ℕ) → n < 2 ^ 64 → is_plain_numeral (decimal n) ≡ true
 plain zero small = rw (decimal_digit 0 (lit< tt)) refl

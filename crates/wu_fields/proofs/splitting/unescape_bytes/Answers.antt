@@ -23,13 +23,17 @@ loop-byte-preserved c =
     elim c.if-after_backslash.branch [
       | then-after_backslash+in-Some+in_ok-push-in-Some w ↦
           let step = unescaped-letter read written i w.in-Some.meant c.loop-byte-test.true (sym w.in-Some.ensures) in
-          onto-step _ read _ _ _ true _ false (drop i written) rest c.loop-byte.invariant step w.if-after_backslash.true (ap (λ v. v.items) w.field-is ∙ w.in_ok-push-in-Some.ensures.items) w.after_backslash-is
+          onto-step _ read _ _ _ true _ false (drop i written) rest c.loop-byte.invariant step w.if-after_backslash.true
+          (ap (λ v. v.items) w.field-is ∙ w.in_ok-push-in-Some.ensures.items)
+          w.after_backslash-is
       | else-after_backslash+then-byte-eq92 w ↦
           let step = unescaped-backslash read written i c.loop-byte-test.true w.if-byte-eq92.true in
           onto-step _ read _ _ _ false _ true (drop i written) rest c.loop-byte.invariant step w.if-after_backslash.false (ap (λ v. v.items) w.field-is) w.after_backslash-is
       | else-after_backslash+else-byte-eq92+in_ok-push w ↦
           let step = unescaped-plain read written i c.loop-byte-test.true w.if-byte-eq92.false in
-          onto-step _ read _ _ _ false _ false (drop i written) rest c.loop-byte.invariant step w.if-after_backslash.false (ap (λ v. v.items) w.field-is ∙ w.in_ok-push.ensures.items) (w.after_backslash-is ∙ w.if-after_backslash.false)
+          onto-step _ read _ _ _ false _ false (drop i written) rest c.loop-byte.invariant step w.if-after_backslash.false
+          (ap (λ v. v.items) w.field-is ∙ w.in_ok-push.ensures.items)
+          (w.after_backslash-is ∙ w.if-after_backslash.false)
     ]
 
 pub returns-then-after_backslash-2 : goal.returns-then-after_backslash-2

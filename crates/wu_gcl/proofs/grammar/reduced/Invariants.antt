@@ -6,7 +6,8 @@ use Rattle.wu_gcl.proofs.grammar.reduced.Given as goal
 
 abbrev pub invariant-loop-left : goal.invariant-loop-left
 invariant-loop-left l =
-    reduced l.level (stack_of l.initial.waiting.items) (seen l.initial.operand) ≡ reduced l.level (stack_of l.waiting.items) (seen l.operand)
+    reduced l.level (stack_of l.initial.waiting.items) (seen l.initial.operand)
+    ≡ reduced l.level (stack_of l.waiting.items) (seen l.operand)
 
 abbrev pub decreases-loop-left : goal.decreases-loop-left
 decreases-loop-left l = vec_len l.waiting

@@ -2,7 +2,7 @@ use Rattle.std.proofs.Common.{arith, sym, ◌≡◌, [], ◌<◌, Some, map, len
 use Rattle.std.proofs.lemmas.List.{map_push, nil_from_length}
 use Rattle.std.proofs.lemmas.Bool.Decides.{nat_tests}
 use Rattle.wu_gcl.specs.Views.{token_of}
-use Rattle.wu_gcl.specs.Scanning.{front_of}
+use Rattle.wu_gcl.specs.Scanning.{first_token}
 use Rattle.wu_gcl.proofs.Texts.{progress_start, progress_more, lexed_none, lexed_end, front_shorter, after_blanks-shorter}
 use Rattle.wu_gcl.proofs.lexing.tokens.Goals as goal
 
@@ -16,17 +16,25 @@ returns-in_default c =
 
 pub texts-smaller : goal.texts-smaller
 texts-smaller c =
-    let found : front_of c.texts.rest.now ≡ Some (token_of c.in-Some.token, c.in-Some.behind.now) = sym c.in-Some.ensures in
-    rw c.after_blanks-rest-in-texts.ensures (omega (arith, front_shorter c.texts.rest.now (token_of c.in-Some.token) c.in-Some.behind.now found, after_blanks-shorter c.in-Some.behind.now))
+    let found : first_token c.texts.rest.now ≡ Some (token_of c.in-Some.token, c.in-Some.after.now) = sym c.in-Some.ensures in
+    rw c.after_blanks-rest-in-texts.ensures
+    (omega (
+      arith,
+      front_shorter c.texts.rest.now
+          (token_of c.in-Some.token) c.in-Some.after.now found,
+      after_blanks-shorter c.in-Some.after.now,
+    ))
 
 pub texts-preserved : goal.texts-preserved
 texts-preserved c =
     let some : 0 < length c.texts.rest.now = grind (arith, nat_tests, c.is_empty.ensures, c.texts-test.true) in
-    let found : front_of c.texts.rest.now ≡ Some (token_of c.in-Some.token, c.in-Some.behind.now) = sym c.in-Some.ensures in
+    let found : first_token c.texts.rest.now ≡ Some (token_of c.in-Some.token, c.in-Some.after.now) = sym c.in-Some.ensures in
     rw (c.after_blanks-rest-in-texts.ensures, c.in_ok-push.ensures.items, map_push token_of c.texts.tokens.items c.in-Some.token)
-    (progress_more c.args.text.now (map token_of c.texts.tokens.items) c.texts.rest.now (token_of c.in-Some.token) c.in-Some.behind.now c.texts.invariant some found)
+    (progress_more c.args.text.now (map token_of c.texts.tokens.items) c.texts.rest.now
+    (token_of c.in-Some.token) c.in-Some.after.now c.texts.invariant some found)
 
 pub returns : goal.returns
 returns c =
-    let none : c.texts.rest.now ≡ [] = nil_from_length c.texts.rest.now (grind (arith, nat_tests, c.is_empty.ensures, c.texts-test.false)) in
+    let none : c.texts.rest.now
+    ≡ [] = nil_from_length c.texts.rest.now (grind (arith, nat_tests, c.is_empty.ensures, c.texts-test.false)) in
     lexed_end c.args.text.now (map token_of c.texts.tokens.items) (rw none at c.texts.invariant.lexed)

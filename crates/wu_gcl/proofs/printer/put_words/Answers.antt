@@ -8,4 +8,5 @@ pub returns : goal.returns
 returns c =
     let split : c.args.words.now ≡ c.in-Some.first.now ∷ c.in-Some.more.now = c.in-Some.ensures.cases.0 in
     let front : c.put.new.out.items ≡ c.args.out.now.items ++ c.in-Some.first.now = rw (← c.as_slice.ensures) c.in_ok-put.ensures in
-    rw (split, c.in_ok-put_spaced.ensures, front, join_spaced) (append_assoc c.args.out.now.items c.in-Some.first.now (flat_map spaced c.in-Some.more.now))
+    rw (split, c.in_ok-put_spaced.ensures, front, join_spaced)
+    (append_assoc c.args.out.now.items c.in-Some.first.now (flat_map spaced c.in-Some.more.now))

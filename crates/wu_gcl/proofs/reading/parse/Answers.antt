@@ -11,7 +11,8 @@ use Rattle.wu_gcl.proofs.reading.parse.Goals as goal
 pub returns-in-Some-clause-reads : goal.returns-in-Some-clause-reads
 returns-in-Some-clause-reads c =
     let lexed : AreTokens (map token_of c.in-Some.tokens.items) c.args.text.now = rw c.in-Some.is at c.in_ok-tokens.ensures in
-    let said : IfOk c.said.result (λ r. seen r ≡ outcome (map token_of c.in-Some.tokens.items)) = rw (← c.deref.ensures.value) c.said.ensures in
+    let said : IfOk c.said.result (λ r. seen r ≡ outcome (map token_of c.in-Some.tokens.items)) = rw
+    (← c.deref.ensures.value) c.said.ensures in
     reads_all c.args.text.now (map token_of c.in-Some.tokens.items) c.said.result lexed said
 
 pub returns-in-Some-clause-proper : goal.returns-in-Some-clause-proper

@@ -9,7 +9,8 @@ use Rattle.wu_script.proofs.bodies.take_bytes.Goals as goal
 pub returns-in-Ok-false-clause-taken : goal.returns-in-Ok-false-clause-taken
 returns-in-Ok-false-clause-taken g c =
     let bytes = c.parts.invariant.so_far.0 in
-    let uses = Uses-filled (g.I.Source.left c.args.source.now) (g.I.Source.left c.parts.source) (g.I.Source.left c.fill.new.source) c.args.input.now c.parts.input c.fill.new.self bytes c.parts.invariant.so_far.1 c.in-Ok-false.ensures.given in
+    let uses = Uses-filled (g.I.Source.left c.args.source.now) (g.I.Source.left c.parts.source)
+    (g.I.Source.left c.fill.new.source) c.args.input.now c.parts.input c.fill.new.self bytes c.parts.invariant.so_far.1 c.in-Ok-false.ensures.given in
     let none = c.in-Ok-false.ensures.none (ap Ok c.in-Ok-false.field-0-test) in (
       bytes,
       record { uses = uses; whole = λ e. cc (e); short = λ e. (omega (arith, c.parts.invariant.so_far.2), none.0, none.1) },
@@ -18,7 +19,13 @@ returns-in-Ok-false-clause-taken g c =
 
 pub parts-init : goal.parts-init
 parts-init g c = record {
-  so_far = ([], Uses-none (g.I.Source.left c.args.source.now) c.args.input.now, omega arith, λ kept. sym (append-nil c.args.body.now.items));
+  so_far = (
+    [],
+    Uses-none (g.I.Source.left c.args.source.now) c.args.input.now,
+    omega arith,
+    λ kept. sym
+        (append-nil c.args.body.now.items),
+  );
   follows = c.requires;
   steady = refl;
   still = λ all. (refl, all);
@@ -29,15 +36,19 @@ parts-preserved g c =
     let bytes = c.parts.invariant.so_far.0 in
     let n = c.in_ok-part.part in
     let held = c.fill.new.self.bytes in
-    let uses = part_taken (g.I.Source.left c.args.source.now) (g.I.Source.left c.parts.source) (g.I.Source.left c.fill.new.source) c.args.input.now c.parts.input c.fill.new.self c.take_part.new.input bytes n c.parts.invariant.so_far.1 c.in-Ok-true.ensures.given c.in_ok-part.ensures.rest in
+    let uses = part_taken (g.I.Source.left c.args.source.now) (g.I.Source.left c.parts.source)
+    (g.I.Source.left c.fill.new.source) c.args.input.now c.parts.input c.fill.new.self c.take_part.new.input bytes n c.parts.invariant.so_far.1
+    c.in-Ok-true.ensures.given c.in_ok-part.ensures.rest in
     record {
       so_far = (
         bytes ++ take n held,
         uses,
         omega (arith, length-append bytes (take n held), length-take n held, c.in_ok-part.ensures.count, c.parts.invariant.so_far.2),
-        λ kept. c.in_ok-part.ensures.kept kept ∙ ap (λ xs. xs ++ take n held) (c.parts.invariant.so_far.3 kept) ∙ append_assoc c.args.body.now.items bytes (take n held),
+        λ kept. c.in_ok-part.ensures.kept kept ∙ ap (λ xs. xs ++ take n held) (c.parts.invariant.so_far.3 kept)
+            ∙ append_assoc c.args.body.now.items bytes (take n held),
       );
-      follows = part_follows (g.I.Source.ended c.fill.new.source) (g.I.Source.last_read c.fill.new.source) n c.fill.new.self c.take_part.new.input c.in-Ok-true.ensures.follows c.in_ok-part.ensures.rest;
+      follows = part_follows (g.I.Source.ended c.fill.new.source)
+          (g.I.Source.last_read c.fill.new.source) n c.fill.new.self c.take_part.new.input c.in-Ok-true.ensures.follows c.in_ok-part.ensures.rest;
       steady = c.in-Ok-true.ensures.cause ∙ c.parts.invariant.steady;
       still = λ all.
           let still = c.parts.invariant.still all in
@@ -50,7 +61,8 @@ pub returns-in-Err-clause-early : goal.returns-in-Err-clause-early
 returns-in-Err-clause-early g c =
     let left = g.I.Source.left in
     let bytes = c.parts.invariant.so_far.0 in
-    EndsEarly-after (λ bs. length bs < c.args.count) (λ bs. bs ≡ []) (left c.args.source.now) (left c.parts.source) (left c.fill.new.source) (g.I.Source.last_read c.fill.new.source) c.args.input.now c.parts.input c.in-Err.end bytes c.parts.invariant.so_far.1
+    EndsEarly-after (λ bs. length bs < c.args.count) (λ bs. bs ≡ []) (left c.args.source.now) (left c.parts.source) (left c.fill.new.source)
+    (g.I.Source.last_read c.fill.new.source) c.args.input.now c.parts.input c.in-Err.end bytes c.parts.invariant.so_far.1
     (λ n. omega (arith, length-take n bytes, c.parts.invariant.so_far.2))
     (λ more _ none. omega (arith, length-append bytes more, ap length none, c.parts.invariant.so_far.2))
     c.in-Err.ensures.early
@@ -59,12 +71,16 @@ pub returns-in_err-part-clause-early : goal.returns-in_err-part-clause-early
 returns-in_err-part-clause-early g c =
     let left = g.I.Source.left in
     let bytes = c.parts.invariant.so_far.0 in
-    let filled = Uses-filled (left c.args.source.now) (left c.parts.source) (left c.fill.new.source) c.args.input.now c.parts.input c.fill.new.self bytes c.parts.invariant.so_far.1 c.in-Ok-true.ensures.given in
-    if_end (EndsEarly (λ bs. length bs < c.args.count) (left c.args.source.now) (left c.fill.new.source) (g.I.Source.last_read c.fill.new.source) c.args.input.now) NoMemory c.from_residual.result c.from_residual.ensures.1
-    (EndsEarly-after (λ bs. length bs < c.args.count) (λ bs. bs ≡ []) (left c.args.source.now) (left c.fill.new.source) (left c.fill.new.source) (g.I.Source.last_read c.fill.new.source) c.args.input.now c.fill.new.self NoMemory bytes filled
+    let filled = Uses-filled (left c.args.source.now) (left c.parts.source)
+    (left c.fill.new.source) c.args.input.now c.parts.input c.fill.new.self bytes c.parts.invariant.so_far.1 c.in-Ok-true.ensures.given in
+    if_end (EndsEarly (λ bs. length bs < c.args.count) (left c.args.source.now) (left c.fill.new.source)
+    (g.I.Source.last_read c.fill.new.source) c.args.input.now) NoMemory c.from_residual.result c.from_residual.ensures.1
+    (EndsEarly-after (λ bs. length bs < c.args.count) (λ bs. bs ≡ []) (left c.args.source.now) (left c.fill.new.source)
+    (left c.fill.new.source) (g.I.Source.last_read c.fill.new.source) c.args.input.now c.fill.new.self NoMemory bytes filled
     (λ n. omega (arith, length-take n bytes, c.parts.invariant.so_far.2))
     (λ more _ none. omega (arith, length-append bytes more, ap length none, c.parts.invariant.so_far.2))
-    (EndsEarly-memory (left c.fill.new.source) (g.I.Source.last_read c.fill.new.source) c.fill.new.self c.in-Ok-true.ensures.follows.recent))
+    (EndsEarly-memory (left c.fill.new.source)
+    (g.I.Source.last_read c.fill.new.source) c.fill.new.self c.in-Ok-true.ensures.follows.recent))
 
 pub returns-in-Ok-false-clause-cause : goal.returns-in-Ok-false-clause-cause
 returns-in-Ok-false-clause-cause g c = c.in-Ok-false.ensures.cause ∙ c.parts.invariant.steady
@@ -72,12 +88,14 @@ returns-in-Ok-false-clause-cause g c = c.in-Ok-false.ensures.cause ∙ c.parts.i
 pub returns-in-Err-clause-cause : goal.returns-in-Err-clause-cause
 returns-in-Err-clause-cause g c =
     let faults = g.I.Source.faults in
-    IsCounted-after c.in-Err.end (faults c.args.source.now) (faults c.parts.source) (faults c.fill.new.source) c.parts.invariant.steady c.in-Err.ensures.cause
+    IsCounted-after c.in-Err.end (faults c.args.source.now) (faults c.parts.source)
+    (faults c.fill.new.source) c.parts.invariant.steady c.in-Err.ensures.cause
 
 pub returns-in_err-part-clause-cause : goal.returns-in_err-part-clause-cause
 returns-in_err-part-clause-cause g c =
     let faults = g.I.Source.faults in
-    cause_of NoMemory (faults c.args.source.now) (faults c.fill.new.source) (faults c.fill.new.source) c.from_residual.result c.from_residual.ensures.1
+    cause_of NoMemory (faults c.args.source.now) (faults c.fill.new.source)
+    (faults c.fill.new.source) c.from_residual.result c.from_residual.ensures.1
     (c.in-Ok-true.ensures.cause ∙ c.parts.invariant.steady) refl
 
 pub returns-clause-cause : goal.returns-clause-cause

@@ -2,7 +2,6 @@ use Rattle.std.proofs.Common.{◌≡◌, ◌++◌, ◌<◌, List, ℕ, [], false
 use Rattle.wu_script.specs.Holding.{EndsEarly}
 use Rattle.wu_script.specs.Taking.{closing, IsOneLine}
 use Rattle.wu_script.specs.Taken.{IsSoundHeard}
-use Rattle.wu_script.specs.Commands.{line_says}
 use Rattle.wu_script.specs.Items.{first_of, text_at}
 use Rattle.wu_script.specs.declared.ends.ReadEnd.TheVariants.{NoMemory}
 use Rattle.wu_script.specs.declared.items.Heard.TheVariants as heard
@@ -10,7 +9,7 @@ use Rattle.wu_script.proofs.InputLemmas.{Uses-trans}
 use Rattle.wu_script.proofs.LineLemmas.{one_line, kept_whole, kept_long, nothing_used}
 use Rattle.wu_script.proofs.EarlyEndLemmas.{EndsEarly-memory, EndsEarly-also, EndsEarly-after, Uses-first_of, if_end}
 use Rattle.wu_script.proofs.UnclosedLemmas.{one_line-take, line_open, closed_feed, head_open, headed_open, body_held, closing_recent}
-use Rattle.wu_script.proofs.ItemLemmas.{long_item, heard_as, heard_item, head_line, head_item, item_before_end}
+use Rattle.wu_script.proofs.ItemLemmas.{long_item, heard_as, heard_item, head_says, head_item, item_before_end}
 use Rattle.wu_script.proofs.items.take_item.Goals as goal
 
 pub returns-then-not-cut-clause-taken : goal.returns-then-not-cut-clause-taken
@@ -19,7 +18,8 @@ returns-then-not-cut-clause-taken g c =
     let closed = c.in_ok-cut.cut.closed in (
       taken.0 ++ closing closed,
       taken.1.uses,
-      long_item (g.I.Source.last_read c.take_line.new.source) c.take_line.new.input taken.0 closed taken.1.one taken.1.last (kept_long _ taken.0 _ c.in_ok-cut.cut.whole taken.2 c.if-not-cut.true),
+      long_item (g.I.Source.last_read c.take_line.new.source) c.take_line.new.input taken.0 closed taken.1.one taken.1.last
+          (kept_long _ taken.0 _ c.in_ok-cut.cut.whole taken.2 c.if-not-cut.true),
     )
 
 pub returns-in-Item-clause-taken : goal.returns-in-Item-clause-taken
@@ -27,11 +27,13 @@ returns-in-Item-clause-taken g c =
     let taken = c.in_ok-cut.ensures.taken in
     let closed = c.in_ok-cut.cut.closed in
     let kept = kept_whole _ taken.0 c.take_line.new.line.items c.in_ok-cut.cut.whole taken.2 c.if-not-cut.false in
-    let says = heard_as c.in_ok-item.field-0 (heard.Item c.in-Item.item) c.take_line.new.line.items taken.0 c.in_ok-item.ensures.says c.in-Item.is kept in (
+    let says = heard_as c.in_ok-item.field-0
+    (heard.Item c.in-Item.item) c.take_line.new.line.items taken.0 c.in_ok-item.ensures.says c.in-Item.is kept in (
       taken.0 ++ closing closed,
       taken.1.uses,
       heard_item (g.I.Source.last_read c.take_line.new.source) c.take_line.new.input c.in-Item.item taken.0 closed taken.1.one taken.1.last
-          (λ unclosed. subst (λ (xs : List ℕ). 0 < length xs) kept (c.if-is_end.ensures unclosed)) says (subst IsSoundHeard c.in-Item.is c.in_ok-item.ensures.sound).1,
+          (λ unclosed. subst (λ (xs : List ℕ). 0 < length xs) kept (c.if-is_end.ensures unclosed)) says
+          (subst IsSoundHeard c.in-Item.is c.in_ok-item.ensures.sound).1,
     )
 
 pub returns-in-Ok-clause-taken : goal.returns-in-Ok-clause-taken
@@ -43,12 +45,17 @@ returns-in-Ok-clause-taken g c =
     let body = c.in-Ok.ensures.taken in
     let used = taken.0 ++ closing closed ++ body.0 in
     let kept = kept_whole _ taken.0 c.take_line.new.line.items c.in_ok-cut.cut.whole taken.2 c.if-not-cut.false in
-    let says = head_line (line_says taken.0) c.in-TextHead.ino c.in-TextHead.len (heard_as c.in_ok-item.field-0 (heard.TextHead c.in-TextHead.ino c.in-TextHead.len) c.take_line.new.line.items taken.0 c.in_ok-item.ensures.says c.in-TextHead.is kept) in
-    let none = λ (unclosed : closed ≡ false). nothing_used (left c.take_line.new.source) (left c.take_text.new.source) c.take_line.new.input c.take_text.new.input body.0 body.1 (taken.1.last.end unclosed) in (
+    let says = head_says _ taken.0 c.take_line.new.line.items c.in_ok-cut.cut.whole c.in_ok-item.field-0 c.in-TextHead.ino c.in-TextHead.len taken.2
+    c.if-not-cut.false c.in_ok-item.ensures.says c.in-TextHead.is in
+    let none = λ (unclosed : closed ≡ false). nothing_used (left c.take_line.new.source)
+    (left c.take_text.new.source) c.take_line.new.input c.take_text.new.input body.0 body.1 (taken.1.last.end unclosed) in (
       used,
-      Uses-trans (left c.args.source.now) (left c.take_line.new.source) (left c.take_text.new.source) c.args.input.now c.take_line.new.input c.take_text.new.input (taken.0 ++ closing closed) body.0 taken.1.uses body.1,
+      Uses-trans (left c.args.source.now) (left c.take_line.new.source)
+          (left c.take_text.new.source) c.args.input.now c.take_line.new.input c.take_text.new.input
+          (taken.0 ++ closing closed) body.0 taken.1.uses body.1,
       item_before_end last_read c.take_text.new.input c.in-Ok.item used c.in-Ok.ensures.more
-          (head_item last_read c.take_text.new.input c.in-Ok.item c.in-TextHead.ino c.in-TextHead.len taken.0 body.0 closed taken.1.one says none (λ unclosed. subst (λ (xs : List ℕ). 0 < length xs) kept (c.if-is_end.ensures unclosed)) body.2),
+          (head_item last_read c.take_text.new.input c.in-Ok.item c.in-TextHead.ino c.in-TextHead.len taken.0 body.0 closed taken.1.one says none
+          (λ unclosed. subst (λ (xs : List ℕ). 0 < length xs) kept (c.if-is_end.ensures unclosed)) body.2),
     )
 
 pub returns-in-Err-clause-idle : goal.returns-in-Err-clause-idle
@@ -56,9 +63,11 @@ returns-in-Err-clause-idle g c = λ held.
     let left = g.I.Source.left in
     let taken = c.in_ok-cut.ensures.taken in
     let closed = c.in_ok-cut.cut.closed in
-    let kept = kept_whole _ taken.0 c.take_line.new.line.items c.in_ok-cut.cut.whole taken.2 c.if-not-cut.false in
-    let says = head_line (line_says taken.0) c.in-TextHead.ino c.in-TextHead.len (heard_as c.in_ok-item.field-0 (heard.TextHead c.in-TextHead.ino c.in-TextHead.len) c.take_line.new.line.items taken.0 c.in_ok-item.ensures.says c.in-TextHead.is kept) in
-    let body = body_held (left c.args.source.now) (left c.take_line.new.source) c.args.input.now c.take_line.new.input c.in-TextHead.ino c.in-TextHead.len taken.0 closed taken.1.uses taken.1.one says (λ unclosed. (taken.1.last.end unclosed).0) held in
+    let says = head_says _ taken.0 c.take_line.new.line.items c.in_ok-cut.cut.whole c.in_ok-item.field-0 c.in-TextHead.ino c.in-TextHead.len taken.2
+    c.if-not-cut.false c.in_ok-item.ensures.says c.in-TextHead.is in
+    let body = body_held (left c.args.source.now)
+    (left c.take_line.new.source) c.args.input.now c.take_line.new.input c.in-TextHead.ino c.in-TextHead.len taken.0 closed taken.1.uses taken.1.one
+    says (λ unclosed. (taken.1.last.end unclosed).0) held in
     c.in-Err.ensures.idle body ∙ c.in_ok-cut.ensures.still (closed_feed c.args.input.now.bytes held)
 
 pub returns-in-Ok-clause-idle : goal.returns-in-Ok-clause-idle
@@ -66,9 +75,11 @@ returns-in-Ok-clause-idle g c = λ held.
     let left = g.I.Source.left in
     let taken = c.in_ok-cut.ensures.taken in
     let closed = c.in_ok-cut.cut.closed in
-    let kept = kept_whole _ taken.0 c.take_line.new.line.items c.in_ok-cut.cut.whole taken.2 c.if-not-cut.false in
-    let says = head_line (line_says taken.0) c.in-TextHead.ino c.in-TextHead.len (heard_as c.in_ok-item.field-0 (heard.TextHead c.in-TextHead.ino c.in-TextHead.len) c.take_line.new.line.items taken.0 c.in_ok-item.ensures.says c.in-TextHead.is kept) in
-    let body = body_held (left c.args.source.now) (left c.take_line.new.source) c.args.input.now c.take_line.new.input c.in-TextHead.ino c.in-TextHead.len taken.0 closed taken.1.uses taken.1.one says (λ unclosed. (taken.1.last.end unclosed).0) held in
+    let says = head_says _ taken.0 c.take_line.new.line.items c.in_ok-cut.cut.whole c.in_ok-item.field-0 c.in-TextHead.ino c.in-TextHead.len taken.2
+    c.if-not-cut.false c.in_ok-item.ensures.says c.in-TextHead.is in
+    let body = body_held (left c.args.source.now)
+    (left c.take_line.new.source) c.args.input.now c.take_line.new.input c.in-TextHead.ino c.in-TextHead.len taken.0 closed taken.1.uses taken.1.one
+    says (λ unclosed. (taken.1.last.end unclosed).0) held in
     c.in-Ok.ensures.idle body ∙ c.in_ok-cut.ensures.still (closed_feed c.args.input.now.bytes held)
 
 pub returns-in_err-cut-clause-early : goal.returns-in_err-cut-clause-early
@@ -76,8 +87,10 @@ returns-in_err-cut-clause-early g c =
     let left = g.I.Source.left in
     let last_read = g.I.Source.last_read c.take_line.new.source in
     let end = c.in_err-cut.field-0.0 in
-    if_end (EndsEarly (λ bs. (first_of bs).closed ≡ false) (left c.args.source.now) (left c.take_line.new.source) last_read c.args.input.now) end c.from_residual.result c.from_residual.ensures.1
-    (EndsEarly-also (λ bs. (first_of bs).closed ≡ false) IsOneLine (left c.args.source.now) (left c.take_line.new.source) last_read c.args.input.now end line_open c.in_err-cut.ensures.early)
+    if_end (EndsEarly (λ bs. (first_of bs).closed ≡ false) (left c.args.source.now)
+    (left c.take_line.new.source) last_read c.args.input.now) end c.from_residual.result c.from_residual.ensures.1
+    (EndsEarly-also (λ bs. (first_of bs).closed ≡ false) IsOneLine (left c.args.source.now)
+    (left c.take_line.new.source) last_read c.args.input.now end line_open c.in_err-cut.ensures.early)
 
 pub returns-in_err-item-clause-early : goal.returns-in_err-item-clause-early
 returns-in_err-item-clause-early g c =
@@ -87,9 +100,12 @@ returns-in_err-item-clause-early g c =
     let closed = c.in_ok-cut.cut.closed in
     let between = c.take_line.new.input in
     let held = record between { bytes = closing closed ++ between.bytes } in
-    let first = Uses-first_of (left c.args.source.now) (left c.take_line.new.source) c.args.input.now between taken.0 (closing closed) taken.1.uses in
-    if_end (EndsEarly (λ bs. (first_of bs).closed ≡ false) (left c.args.source.now) (left c.take_line.new.source) last_read c.args.input.now) NoMemory c.from_residual-in_err-item.result c.from_residual-in_err-item.ensures.1
-    (EndsEarly-after (λ bs. (first_of bs).closed ≡ false) (λ bs. bs ≡ []) (left c.args.source.now) (left c.take_line.new.source) (left c.take_line.new.source) last_read c.args.input.now held NoMemory taken.0 first
+    let first = Uses-first_of (left c.args.source.now) (left c.take_line.new.source) c.args.input.now between taken.0
+    (closing closed) taken.1.uses in
+    if_end (EndsEarly (λ bs. (first_of bs).closed ≡ false) (left c.args.source.now)
+    (left c.take_line.new.source) last_read c.args.input.now) NoMemory c.from_residual-in_err-item.result c.from_residual-in_err-item.ensures.1
+    (EndsEarly-after (λ bs. (first_of bs).closed ≡ false) (λ bs. bs ≡ []) (left c.args.source.now) (left c.take_line.new.source)
+    (left c.take_line.new.source) last_read c.args.input.now held NoMemory taken.0 first
     (λ n. line_open (take n taken.0) (one_line-take n taken.0 taken.1.one))
     (λ more _ none. line_open (taken.0 ++ more) (one_line taken.0 more taken.1.one (subst IsOneLine (sym none) refl)))
     (EndsEarly-memory (left c.take_line.new.source) last_read held (closing_recent closed last_read between taken.1.last)))
@@ -99,10 +115,13 @@ returns-in-Err-clause-early g c =
     let left = g.I.Source.left in
     let taken = c.in_ok-cut.ensures.taken in
     let closed = c.in_ok-cut.cut.closed in
-    let kept = kept_whole _ taken.0 c.take_line.new.line.items c.in_ok-cut.cut.whole taken.2 c.if-not-cut.false in
-    let says = head_line (line_says taken.0) c.in-TextHead.ino c.in-TextHead.len (heard_as c.in_ok-item.field-0 (heard.TextHead c.in-TextHead.ino c.in-TextHead.len) c.take_line.new.line.items taken.0 c.in_ok-item.ensures.says c.in-TextHead.is kept) in
-    EndsEarly-after (λ bs. (first_of bs).closed ≡ false) (λ bs. (text_at c.in-TextHead.ino c.in-TextHead.len bs).closed ≡ false) (left c.args.source.now) (left c.take_line.new.source) (left c.take_text.new.source)
-    (g.I.Source.last_read c.take_text.new.source) c.args.input.now c.take_line.new.input c.in-Err.end (taken.0 ++ closing closed) taken.1.uses
+    let says = head_says _ taken.0 c.take_line.new.line.items c.in_ok-cut.cut.whole c.in_ok-item.field-0 c.in-TextHead.ino c.in-TextHead.len taken.2
+    c.if-not-cut.false c.in_ok-item.ensures.says c.in-TextHead.is in
+    EndsEarly-after (λ bs. (first_of bs).closed ≡ false) (λ bs. (text_at c.in-TextHead.ino c.in-TextHead.len bs).closed ≡ false)
+    (left c.args.source.now) (left c.take_line.new.source) (left c.take_text.new.source)
+    (g.I.Source.last_read c.take_text.new.source) c.args.input.now c.take_line.new.input c.in-Err.end
+    (taken.0 ++ closing closed) taken.1.uses
     (λ n. head_open c.in-TextHead.ino c.in-TextHead.len n taken.0 closed taken.1.one says)
-    (λ more none short. headed_open c.in-TextHead.ino c.in-TextHead.len taken.0 more closed taken.1.one says (λ unclosed. none (taken.1.last.end unclosed).0 (taken.1.last.end unclosed).1) short)
+    (λ more none short. headed_open c.in-TextHead.ino c.in-TextHead.len taken.0 more closed taken.1.one says
+    (λ unclosed. none (taken.1.last.end unclosed).0 (taken.1.last.end unclosed).1) short)
     c.in-Err.ensures.early

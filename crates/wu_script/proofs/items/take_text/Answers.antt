@@ -15,8 +15,11 @@ returns-clause-taken g c =
     let tail = c.in-Ok.ensures.taken in
     let closed = c.in-Ok.tail.closed in (
       taken.0 ++ (tail.0 ++ closing closed),
-      Uses-trans (left c.args.source.now) (left c.take_bytes.new.source) (left c.take_line.new.source) c.args.input.now c.take_bytes.new.input c.take_line.new.input taken.0 (tail.0 ++ closing closed) taken.1.uses tail.1.uses,
-      taken_body (g.I.Source.last_read c.take_line.new.source) c.take_line.new.input c.args.ino c.args.len c.text_item.result taken.0 tail.0 c.take_bytes.new.body.items c.take_line.new.line.items
+      Uses-trans (left c.args.source.now) (left c.take_bytes.new.source)
+          (left c.take_line.new.source) c.args.input.now c.take_bytes.new.input c.take_line.new.input taken.0
+          (tail.0 ++ closing closed) taken.1.uses tail.1.uses,
+      taken_body
+          (g.I.Source.last_read c.take_line.new.source) c.take_line.new.input c.args.ino c.args.len c.text_item.result taken.0 tail.0 c.take_bytes.new.body.items c.take_line.new.line.items
           closed c.is_kept-kept.result c.in-Ok.tail.whole (taken.1.whole c.if-not-all.false) tail.1.one tail.1.last (record {
             fits = c.is_kept-kept.ensures;
             same = λ kept. taken.2 kept ∙ ap (λ xs. xs ++ taken.0) c.in_ok-body.ensures;
@@ -41,14 +44,18 @@ pub returns-in-Err-clause-idle : goal.returns-in-Err-clause-idle
 returns-in-Err-clause-idle g c = λ held.
     let left = g.I.Source.left in
     let taken = c.in_ok-all.ensures.taken in
-    let feed = tail_held (left c.args.source.now) (left c.take_bytes.new.source) c.args.input.now c.take_bytes.new.input c.args.ino c.args.len taken.0 taken.1.uses (taken.1.whole c.if-not-all.false) held in
+    let feed = tail_held (left c.args.source.now)
+    (left c.take_bytes.new.source) c.args.input.now c.take_bytes.new.input c.args.ino c.args.len taken.0 taken.1.uses
+    (taken.1.whole c.if-not-all.false) held in
     c.in-Err.ensures.still feed ∙ c.in_ok-all.ensures.still (closed_body c.args.ino c.args.len c.args.input.now.bytes held).0
 
 pub returns-clause-idle : goal.returns-clause-idle
 returns-clause-idle g c = λ held.
     let left = g.I.Source.left in
     let taken = c.in_ok-all.ensures.taken in
-    let feed = tail_held (left c.args.source.now) (left c.take_bytes.new.source) c.args.input.now c.take_bytes.new.input c.args.ino c.args.len taken.0 taken.1.uses (taken.1.whole c.if-not-all.false) held in
+    let feed = tail_held (left c.args.source.now)
+    (left c.take_bytes.new.source) c.args.input.now c.take_bytes.new.input c.args.ino c.args.len taken.0 taken.1.uses
+    (taken.1.whole c.if-not-all.false) held in
     c.in-Ok.ensures.still feed ∙ c.in_ok-all.ensures.still (closed_body c.args.ino c.args.len c.args.input.now.bytes held).0
 
 pub returns-in-Err-clause-early : goal.returns-in-Err-clause-early
@@ -56,7 +63,8 @@ returns-in-Err-clause-early g c =
     let left = g.I.Source.left in
     let taken = c.in_ok-all.ensures.taken in
     let size = taken.1.whole c.if-not-all.false in
-    EndsEarly-after (λ bs. (text_at c.args.ino c.args.len bs).closed ≡ false) IsOneLine (left c.args.source.now) (left c.take_bytes.new.source) (left c.take_line.new.source) (g.I.Source.last_read c.take_line.new.source)
+    EndsEarly-after (λ bs. (text_at c.args.ino c.args.len bs).closed ≡ false) IsOneLine (left c.args.source.now)
+    (left c.take_bytes.new.source) (left c.take_line.new.source) (g.I.Source.last_read c.take_line.new.source)
     c.args.input.now c.take_bytes.new.input c.in-Err.end taken.0 taken.1.uses
     (λ n. text_open-body c.args.ino c.args.len n taken.0 size)
     (λ more _ one. text_open-line c.args.ino c.args.len taken.0 more size one)

@@ -18,9 +18,17 @@ returns-then-piece-clause-taken g c =
     let text = c.pieces.invariant.so_far.0 in
     let piece = c.in_ok-piece.ensures.taken.0 in
     let taken = c.in_ok-piece.ensures.taken.1 in
-    let uses = piece_taken (g.I.Source.left c.args.source.now) (g.I.Source.left c.pieces.source) (g.I.Source.left c.fill.new.source) c.args.input.now c.pieces.input c.fill.new.self c.take_piece.new.input text piece c.in_ok-piece.piece.closed c.pieces.invariant.so_far.1 c.in-Ok-true.ensures.given taken in (
+    let uses = piece_taken (g.I.Source.left c.args.source.now) (g.I.Source.left c.pieces.source)
+    (g.I.Source.left c.fill.new.source) c.args.input.now c.pieces.input c.fill.new.self c.take_piece.new.input text piece c.in_ok-piece.piece.closed
+    c.pieces.invariant.so_far.1 c.in-Ok-true.ensures.given taken in (
       text ++ piece,
-      record { uses = uses; one = one_line text piece c.pieces.invariant.so_far.2 taken.one; last = piece_ends (g.I.Source.ended c.fill.new.source) (g.I.Source.last_read c.fill.new.source) c.fill.new.self c.take_piece.new.input c.in_ok-piece.piece.closed piece c.in-Ok-true.ensures.follows taken c.if-piece.true },
+      record {
+        uses = uses;
+        one = one_line text piece c.pieces.invariant.so_far.2 taken.one;
+        last = piece_ends
+            (g.I.Source.ended c.fill.new.source)
+            (g.I.Source.last_read c.fill.new.source) c.fill.new.self c.take_piece.new.input c.in_ok-piece.piece.closed piece c.in-Ok-true.ensures.follows taken c.if-piece.true;
+      },
       c.in_ok-piece.ensures.taken.2 text c.pieces.invariant.so_far.3,
     )
 
@@ -34,10 +42,22 @@ pieces-preserved g c =
     let text = c.pieces.invariant.so_far.0 in
     let piece = c.in_ok-piece.ensures.taken.0 in
     let taken = c.in_ok-piece.ensures.taken.1 in
-    let uses = piece_taken (g.I.Source.left c.args.source.now) (g.I.Source.left c.pieces.source) (g.I.Source.left c.fill.new.source) c.args.input.now c.pieces.input c.fill.new.self c.take_piece.new.input text piece c.in_ok-piece.piece.closed c.pieces.invariant.so_far.1 c.in-Ok-true.ensures.given taken in
+    let uses = piece_taken (g.I.Source.left c.args.source.now) (g.I.Source.left c.pieces.source)
+    (g.I.Source.left c.fill.new.source) c.args.input.now c.pieces.input c.fill.new.self c.take_piece.new.input text piece c.in_ok-piece.piece.closed
+    c.pieces.invariant.so_far.1 c.in-Ok-true.ensures.given taken in
     record {
-      so_far = (text ++ piece, piece_open (g.I.Source.left c.args.source.now) (g.I.Source.left c.fill.new.source) c.args.input.now c.take_piece.new.input (text ++ piece) c.in_ok-piece.piece.closed c.if-piece.false uses, one_line text piece c.pieces.invariant.so_far.2 taken.one, c.in_ok-piece.ensures.taken.2 text c.pieces.invariant.so_far.3);
-      follows = piece_follows (g.I.Source.ended c.fill.new.source) (g.I.Source.last_read c.fill.new.source) c.fill.new.self c.take_piece.new.input c.in_ok-piece.piece.closed piece c.in-Ok-true.ensures.follows taken;
+      so_far = (
+        text
+            ++ piece,
+        piece_open (g.I.Source.left c.args.source.now)
+            (g.I.Source.left c.fill.new.source) c.args.input.now c.take_piece.new.input
+            (text
+            ++ piece) c.in_ok-piece.piece.closed c.if-piece.false uses,
+        one_line text piece c.pieces.invariant.so_far.2 taken.one,
+        c.in_ok-piece.ensures.taken.2 text c.pieces.invariant.so_far.3,
+      );
+      follows = piece_follows (g.I.Source.ended c.fill.new.source)
+          (g.I.Source.last_read c.fill.new.source) c.fill.new.self c.take_piece.new.input c.in_ok-piece.piece.closed piece c.in-Ok-true.ensures.follows taken;
       steady = c.in-Ok-true.ensures.cause ∙ c.pieces.invariant.steady;
       still = λ feed.
           let still = c.pieces.invariant.still feed in
@@ -55,7 +75,8 @@ returns-in-Err-clause-early g c =
     let left = g.I.Source.left in
     let text = c.pieces.invariant.so_far.0 in
     let one = c.pieces.invariant.so_far.2 in
-    EndsEarly-after IsOneLine (λ bs. bs ≡ []) (left c.args.source.now) (left c.pieces.source) (left c.fill.new.source) (g.I.Source.last_read c.fill.new.source) c.args.input.now c.pieces.input c.in-Err.end text c.pieces.invariant.so_far.1
+    EndsEarly-after IsOneLine (λ bs. bs ≡ []) (left c.args.source.now) (left c.pieces.source) (left c.fill.new.source)
+    (g.I.Source.last_read c.fill.new.source) c.args.input.now c.pieces.input c.in-Err.end text c.pieces.invariant.so_far.1
     (λ n. one_line-take n text one)
     (λ more _ none. one_line text more one (subst IsOneLine (sym none) refl))
     c.in-Err.ensures.early
@@ -65,12 +86,16 @@ returns-in_err-piece-clause-early g c =
     let left = g.I.Source.left in
     let text = c.pieces.invariant.so_far.0 in
     let one = c.pieces.invariant.so_far.2 in
-    let filled = Uses-filled (left c.args.source.now) (left c.pieces.source) (left c.fill.new.source) c.args.input.now c.pieces.input c.fill.new.self text c.pieces.invariant.so_far.1 c.in-Ok-true.ensures.given in
-    if_end (EndsEarly IsOneLine (left c.args.source.now) (left c.fill.new.source) (g.I.Source.last_read c.fill.new.source) c.args.input.now) NoMemory c.from_residual.result c.from_residual.ensures.1
-    (EndsEarly-after IsOneLine (λ bs. bs ≡ []) (left c.args.source.now) (left c.fill.new.source) (left c.fill.new.source) (g.I.Source.last_read c.fill.new.source) c.args.input.now c.fill.new.self NoMemory text filled
+    let filled = Uses-filled (left c.args.source.now) (left c.pieces.source)
+    (left c.fill.new.source) c.args.input.now c.pieces.input c.fill.new.self text c.pieces.invariant.so_far.1 c.in-Ok-true.ensures.given in
+    if_end (EndsEarly IsOneLine (left c.args.source.now) (left c.fill.new.source)
+    (g.I.Source.last_read c.fill.new.source) c.args.input.now) NoMemory c.from_residual.result c.from_residual.ensures.1
+    (EndsEarly-after IsOneLine (λ bs. bs ≡ []) (left c.args.source.now) (left c.fill.new.source) (left c.fill.new.source)
+    (g.I.Source.last_read c.fill.new.source) c.args.input.now c.fill.new.self NoMemory text filled
     (λ n. one_line-take n text one)
     (λ more _ none. one_line text more one (subst IsOneLine (sym none) refl))
-    (EndsEarly-memory (left c.fill.new.source) (g.I.Source.last_read c.fill.new.source) c.fill.new.self c.in-Ok-true.ensures.follows.recent))
+    (EndsEarly-memory (left c.fill.new.source)
+    (g.I.Source.last_read c.fill.new.source) c.fill.new.self c.in-Ok-true.ensures.follows.recent))
 
 pub returns-in-Ok-false-clause-cause : goal.returns-in-Ok-false-clause-cause
 returns-in-Ok-false-clause-cause g c = c.in-Ok-false.ensures.cause ∙ c.pieces.invariant.steady
@@ -78,12 +103,14 @@ returns-in-Ok-false-clause-cause g c = c.in-Ok-false.ensures.cause ∙ c.pieces.
 pub returns-in-Err-clause-cause : goal.returns-in-Err-clause-cause
 returns-in-Err-clause-cause g c =
     let faults = g.I.Source.faults in
-    IsCounted-after c.in-Err.end (faults c.args.source.now) (faults c.pieces.source) (faults c.fill.new.source) c.pieces.invariant.steady c.in-Err.ensures.cause
+    IsCounted-after c.in-Err.end (faults c.args.source.now) (faults c.pieces.source)
+    (faults c.fill.new.source) c.pieces.invariant.steady c.in-Err.ensures.cause
 
 pub returns-in_err-piece-clause-cause : goal.returns-in_err-piece-clause-cause
 returns-in_err-piece-clause-cause g c =
     let faults = g.I.Source.faults in
-    cause_of NoMemory (faults c.args.source.now) (faults c.fill.new.source) (faults c.fill.new.source) c.from_residual.result c.from_residual.ensures.1
+    cause_of NoMemory (faults c.args.source.now) (faults c.fill.new.source)
+    (faults c.fill.new.source) c.from_residual.result c.from_residual.ensures.1
     (c.in-Ok-true.ensures.cause ∙ c.pieces.invariant.steady) refl
 
 pub returns-then-piece-clause-cause : goal.returns-then-piece-clause-cause
@@ -91,5 +118,6 @@ returns-then-piece-clause-cause g c = c.in-Ok-true.ensures.cause ∙ c.pieces.in
 
 pub returns-then-piece-clause-follows : goal.returns-then-piece-clause-follows
 returns-then-piece-clause-follows g c =
-    piece_follows (g.I.Source.ended c.fill.new.source) (g.I.Source.last_read c.fill.new.source) c.fill.new.self c.take_piece.new.input c.in_ok-piece.piece.closed c.in_ok-piece.ensures.taken.0
+    piece_follows (g.I.Source.ended c.fill.new.source)
+    (g.I.Source.last_read c.fill.new.source) c.fill.new.self c.take_piece.new.input c.in_ok-piece.piece.closed c.in_ok-piece.ensures.taken.0
     c.in-Ok-true.ensures.follows c.in_ok-piece.ensures.taken.1

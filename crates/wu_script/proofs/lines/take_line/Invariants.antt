@@ -7,7 +7,8 @@ use Rattle.wu_script.proofs.lines.take_line.Given as goal
 -- the pieces so far make the first bytes of a line, all used; where an LF was held at first, nothing was used yet
 abbrev pub invariant-pieces : goal.invariant-pieces
 invariant-pieces g l = record {
-  so_far : (text : List ℕ) × Uses (g.I.Source.left l.fn.source) (g.I.Source.left l.source) l.fn.input l.input text × IsOneLine text × Kept l.limit text l.whole l.line.items;
+  so_far : (text : List ℕ) × Uses (g.I.Source.left l.fn.source) (g.I.Source.left l.source) l.fn.input l.input text × IsOneLine text
+      × Kept l.limit text l.whole l.line.items;
   follows : Follows (g.I.Source.ended l.source) (g.I.Source.last_read l.source) l.input;
   steady : g.I.Source.faults l.source ≡ g.I.Source.faults l.fn.source;
   still : list_any (λ byte. byte == 10) l.fn.input.bytes ≡ true → (l.input ≡ l.fn.input) × (l.source ≡ l.fn.source);

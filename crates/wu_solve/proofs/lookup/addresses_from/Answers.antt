@@ -12,5 +12,6 @@ returns-in-Ok c =
 pub returns-in-Err : goal.returns-in-Err
 returns-in-Err c =
     let addresses = c.args.addresses.now in
-    let whole : take (length addresses - c.in-Err.i) (drop c.in-Err.i addresses) ≡ drop c.in-Err.i addresses = grind (arith, common_steps) in
+    let whole : take (length addresses - c.in-Err.i) (drop c.in-Err.i addresses)
+    ≡ drop c.in-Err.i addresses = grind (arith, common_steps) in
     whole ∙ from_bound _ _ _ (not_found addresses c.args.bound c.in-Err.i c.requires c.in-Err.ensures.position)

@@ -8,9 +8,11 @@ use Rattle.wu_solve.proofs.lookup.find_term.Goals as goal
 pub returns-in-Ok : goal.returns-in-Ok
 returns-in-Ok c =
     found c.args.lists.now c.args.term.now c.in-Ok.place c.requires c.in-Ok.ensures.bound
-    (c.in-Ok.ensures.position (λ list. slice_cmp nat_cmp list.term c.args.term.now) (always_returns_same _ _ _ (λ a r f called. (search rules, search rules))))
+    (c.in-Ok.ensures.position (λ list. slice_cmp nat_cmp list.term c.args.term.now)
+    (always_returns_same _ _ _ (λ a r f called. (search rules, search rules))))
 
 pub returns-in-Err : goal.returns-in-Err
 returns-in-Err c =
     not_found c.args.lists.now c.args.term.now c.in-Err.field-0 c.requires
-    (c.in-Err.ensures.position (λ list. slice_cmp nat_cmp list.term c.args.term.now) (always_returns_same _ _ _ (λ a r f called. (search rules, search rules))))
+    (c.in-Err.ensures.position (λ list. slice_cmp nat_cmp list.term c.args.term.now)
+    (always_returns_same _ _ _ (λ a r f called. (search rules, search rules))))

@@ -1,9 +1,9 @@
 use Rattle.std.proofs.Common.{◌∙◌}
-use Rattle.wu_solve.proofs.Numbers.{searched_for}
+use Rattle.std.proofs.lemmas.Map.Keys.{sorted_from_strictly_increasing}
 use Rattle.wu_solve.proofs.lookup.has_address.Goals as goal
 
+pub is_among-requires : goal.is_among-requires
+is_among-requires c = record { ascending = sorted_from_strictly_increasing c.addresses_of.result.now c.addresses_of.ensures.ascending }
+
 pub returns : goal.returns
-returns c =
-    c.is_ok.ensures.value
-    ∙ searched_for c.addresses_of.result.now c.args.address c.binary_search.result c.addresses_of.ensures.ascending c.binary_search.ensures.position
-    ∙ c.addresses_of.ensures.same c.args.address
+returns c = c.is_among.ensures ∙ c.addresses_of.ensures.same c.args.address

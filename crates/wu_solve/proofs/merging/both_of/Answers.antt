@@ -15,5 +15,6 @@ returns c =
       | else-loop-i-test w ↦ inl (omega arith)
     ] in
     let whole : c.loop-i.found.items ≡ covers left right =
-    sym (append-nil c.loop-i.found.items) ∙ ap (λ (xs : List Extent). c.loop-i.found.items ++ xs) (sym (covers_end left right i j over)) ∙ c.loop-i.invariant.same in
+    sym (append-nil c.loop-i.found.items) ∙ ap (λ (xs : List Extent). c.loop-i.found.items ++ xs) (sym (covers_end left right i j over))
+    ∙ c.loop-i.invariant.same in
     rw whole (covers_inner left right c.requires.left_ascends c.requires.right_ascends)

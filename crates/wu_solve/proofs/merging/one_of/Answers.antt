@@ -17,5 +17,6 @@ returns c =
     ] in
     let put : c.extend_from_slice-2.new.self.items ≡ (c.loop-i.found.items ++ drop i left) ++ drop j right = grind (arith, common_steps) in
     let whole : c.extend_from_slice-2.new.self.items ≡ union left right =
-    put ∙ append_assoc c.loop-i.found.items (drop i left) (drop j right) ∙ ap (λ (xs : List Extent). c.loop-i.found.items ++ xs) (sym (union_end left right i j over)) ∙ c.loop-i.invariant.same in
+    put ∙ append_assoc c.loop-i.found.items (drop i left) (drop j right)
+    ∙ ap (λ (xs : List Extent). c.loop-i.found.items ++ xs) (sym (union_end left right i j over)) ∙ c.loop-i.invariant.same in
     rw whole (union_inner left right c.requires.left_ascends c.requires.right_ascends)

@@ -17,4 +17,5 @@ pub returns : goal.returns
 returns c = λ lists.
     let some : 0 < c.args.size = omega arith in
     let fits : c.args.size ≤ c.args.frame.len = omega arith in
-    rw (c.in_ok-runs.ensures, c.from-places.ensures) (windows_listed c.args.size c.args.frame.len (stands_by lists c.args.frame.start) some fits)
+    rw (c.in_ok-runs.ensures, c.from-places.ensures)
+    (windows_listed c.args.size c.args.frame.len (stands_by lists c.args.frame.start) some fits)

@@ -19,5 +19,6 @@ returns-then-not-has_address-clause-whole c =
 pub returns-clause-whole : goal.returns-clause-whole
 returns-clause-whole c =
     let words = c.args.words.now in
-    all_stand (has_address c.args.lists.now) words c.args.address (λ k less. c.loop-count.invariant k (omega (arith, c.loop-count-test.false, less)))
+    all_stand (has_address c.args.lists.now) words c.args.address
+    (λ k less. c.loop-count.invariant k (omega (arith, c.loop-count-test.false, less)))
     ∙ sym (eq-eqb (length words) (length words) (omega arith))

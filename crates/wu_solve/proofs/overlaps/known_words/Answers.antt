@@ -11,4 +11,5 @@ returns-in-Some-clause-stand c = λ stands words again front.
     let few : c.min.result ≤ get_or c.args.overlaps.now shift 0 = omega (arith, told) in
     let inside : shift + c.min.result ≤ c.args.stretch.count = omega arith in
     let there : c.args.place ≡ c.args.stretch.start + shift = omega arith in
-    carried stands words c.args.stretch.start c.args.stretch.count shift (get_or c.args.overlaps.now shift 0) c.min.result c.args.place front (again shift within) few inside there
+    carried stands words c.args.stretch.start c.args.stretch.count shift
+    (get_or c.args.overlaps.now shift 0) c.min.result c.args.place front (again shift within) few inside there

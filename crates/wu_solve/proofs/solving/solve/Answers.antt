@@ -14,7 +14,9 @@ put_moved-requires c =
     let none : Range = record { start = 0; len = 0 } in
     let frame = get_or c.args.frames.now i none in
     let within : i < length c.args.frames.now = omega arith in
-    rw c.deref.ensures.value (moved_fits frame.len frame.start (is_in (region_of c.args.expr.now) (stands_by c.args.lists.now frame.start) frame.len) c.in_ok-extents.extents.items
+    rw c.deref.ensures.value
+    (moved_fits frame.len frame.start
+    (is_in (region_of c.args.expr.now) (stands_by c.args.lists.now frame.start) frame.len) c.in_ok-extents.extents.items
     (c.requires.frames i none within) c.in_ok-extents.ensures)
 
 pub loop-frame-preserved : goal.loop-frame-preserved
@@ -26,10 +28,14 @@ loop-frame-preserved c =
     let frame = get_or frames i none in
     let within : i < length frames = omega arith in
     let put : map (moved frame.start) c.deref.result.now ≡ frame_hits region c.args.lists.now frame =
-    ap (map (moved frame.start)) c.deref.ensures.value ∙ frame_listed region c.args.lists.now frame c.in_ok-extents.extents.items c.in_ok-extents.ensures in
-    rw c.in_ok-put_moved.ensures (next_frame region c.args.lists.now frames i none c.loop-frame.found.items (map (moved frame.start) c.deref.result.now) within put ∙ c.loop-frame.invariant)
+    ap (map (moved frame.start)) c.deref.ensures.value
+    ∙ frame_listed region c.args.lists.now frame c.in_ok-extents.extents.items c.in_ok-extents.ensures in
+    rw c.in_ok-put_moved.ensures
+    (next_frame region c.args.lists.now frames i none c.loop-frame.found.items (map (moved frame.start) c.deref.result.now) within put
+    ∙ c.loop-frame.invariant)
 
 pub returns-clause-ascending : goal.returns-clause-ascending
 returns-clause-ascending c = λ apart.
-    let whole : c.loop-frame.found.items ≡ frames_hits (region_of c.args.expr.now) c.args.lists.now c.args.frames.now = grind (arith, common_steps) in
+    let whole : c.loop-frame.found.items
+    ≡ frames_hits (region_of c.args.expr.now) c.args.lists.now c.args.frames.now = grind (arith, common_steps) in
     rw whole (frames_ascend (region_of c.args.expr.now) c.args.lists.now c.args.frames.now apart)

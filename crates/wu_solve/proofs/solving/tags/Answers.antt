@@ -12,6 +12,7 @@ pub returns : goal.returns
 returns c =
     let stands = stands_by c.args.lists.now c.args.frame.start in
     let n = c.args.frame.len in
-    IfOk-weaker c.phrase.result (λ v. Lists n (is_in (Phrase (tag_text c.args.tag ∷ [])) stands n) v.items) (λ v. Lists n (is_term_at stands (tag_text c.args.tag)) v.items)
+    IfOk-weaker c.phrase.result (λ v. Lists n (is_in (Phrase (tag_text c.args.tag ∷ [])) stands n) v.items)
+    (λ v. Lists n (is_term_at stands (tag_text c.args.tag)) v.items)
     (λ v lists. word_listed n stands (tag_text c.args.tag) v.items lists)
     (rw c.tag_bytes.ensures at c.phrase.ensures)

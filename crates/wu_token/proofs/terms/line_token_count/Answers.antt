@@ -1,18 +1,19 @@
 use Rattle.std.proofs.Common.{◌≡◌, length, ap, ◌∙◌, inl, arith}
 use Rattle.std.proofs.lemmas.Iterator.Consumers.{YieldsList-from_shown, count_from_yields_List}
 use Rattle.wu_token.specs.Places.{runs_at}
-use Rattle.wu_token.specs.Left.{piece_of, runs_left, YieldsRun}
+use Rattle.wu_token.specs.Pieces.{piece_of, YieldsPiece}
 use Rattle.wu_token.proofs.LengthLemmas.{length-runs_at, length-line_tokens_at}
 use Rattle.wu_token.proofs.terms.line_token_count.Goals as goal
 use Rattle.wu_token.proofs.terms.line_token_count.Goals.{After-count}
 
 counted : (c : After-count) → c.count.result ≡ length (runs_at (piece_of c.args.line))
 counted c =
-    count_from_yields_List c.runs.result c.count.result c.count.ensures.ran (YieldsList-from_shown YieldsRun piece_of runs_left (λ s t h. ap length h.0.0) (λ s x t h. h.0) c.runs.result)
-    ∙ ap (λ rest. length (runs_at (piece_of rest))) c.runs.ensures
+    count_from_yields_List c.runs.result c.count.result c.count.ensures.ran
+    (YieldsList-from_shown YieldsPiece piece_of (λ left. left) (λ s t h. ap length h.0) (λ s x t h. h) c.runs.result)
+    ∙ ap length c.runs.ensures.runs
 
 pub count-requires-clause-fits : goal.count-requires-clause-fits
-count-requires-clause-fits c = inl (omega (arith, length-runs_at (piece_of c.runs.result.rest)))
+count-requires-clause-fits c = inl (omega (arith, ap length c.runs.ensures.runs, length-runs_at (piece_of c.args.line)))
 
 pub overflow_add-result : goal.overflow_add-result
 overflow_add-result c = omega (arith, counted c, length-runs_at (piece_of c.args.line))

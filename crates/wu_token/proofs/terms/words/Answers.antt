@@ -6,7 +6,7 @@ use Rattle.wu_token.proofs.terms.words.Goals as goal
 
 pub loop-run-init : goal.loop-run-init
 loop-run-init c =
-    rw (c.new-words.ensures.items, c.into_iter-run-iterator.ensures.into_iter_gives, c.runs-run-items.ensures) (words-runs_at _)
+    rw (c.new-words.ensures.items, c.into_iter-run-iterator.ensures.into_iter_gives, c.runs-run-items.ensures.runs) (words-runs_at _)
 
 pub returns-clause-lengths : goal.returns-clause-lengths
 returns-clause-lengths c =

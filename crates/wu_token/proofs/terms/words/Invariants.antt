@@ -1,7 +1,6 @@
 use Rattle.std.proofs.Common.{◌≡◌, ◌++◌, map}
 use Rattle.wu_token.specs.Words.{words_of, word_of}
-use Rattle.wu_token.specs.Left.{runs_left}
 use Rattle.wu_token.proofs.terms.words.Given as goal
 
 abbrev pub invariant-loop-run : goal.invariant-loop-run
-invariant-loop-run l = l.words.items ++ map (λ run. word_of run.bytes) (runs_left l.run-iterator) ≡ words_of l.bytes
+invariant-loop-run l = l.words.items ++ map (λ run. word_of run.bytes) l.run-iterator ≡ words_of l.bytes

@@ -1,10 +1,11 @@
-use Rattle.std.proofs.Common.{◌≡◌, ◌-◌, ◌∙◌, ℕ, true, false, sym, ap, List, []}
+use Rattle.std.proofs.Common.{◌≡◌, ◌-◌, ◌∙◌, ℕ, true, false, sym, ap, List, [], arith}
 use Rattle.std.specs.Prelude.{◌&&◌, map}
 use Rattle.std.specs.List.{list_any}
 use Rattle.wu_tree.specs.FileSystems.{is_directory, entries_of}
 use Rattle.wu_tree.specs.Paths.{reaches}
 use Rattle.wu_tree.proofs.Downs.{reaches-zero, reaches-suc, children_named, and_true, no_first, no_second, any_first, any_skip}
 use Rattle.wu_tree.proofs.trees.Tree.+reaches.Goals.{else-is_directory-via-then-is_directory+else-reaches, else-is_directory-via-else-is_directory}
+use Rattle.wu_tree.proofs.LowDirectories.{too_low}
 use Rattle.wu_tree.proofs.trees.Tree.+reaches.Goals as goal
 
 pub returns-then-levels-eq0 : goal.returns-then-levels-eq0
@@ -43,3 +44,8 @@ pub returns : goal.returns
 returns t c =
     let test = λ (child : ℕ). is_directory c.args.self.now child && reaches c.args.self.now (c.args.levels - 1) child in
     sym (c.loop-child.invariant ∙ ap (list_any test) c.in-None.ensures.steps.0)
+
+-- the directory is too low
+pub returns-then-from-levels : goal.returns-then-from-levels
+returns-then-from-levels t c =
+    sym (too_low c.self.inside.inodes.entries c.self.inside.links c.self.inside.users.entries c.self.invariant c.args.self.now c.self.view_is c.args.levels c.args.directory c.requires.levels (omega arith))

@@ -1,33 +1,28 @@
-use Rattle.std.proofs.Common.{◌≡◌, sym, subst, true, false}
-use Rattle.std.specs.Prelude.{Some}
-use Rattle.wu_tree.specs.Inodes.{file_system}
-use Rattle.wu_tree.specs.FileSystems.{FileSystem, IsLeaf, child_of, is_directory, is_within}
-use Rattle.wu_tree.specs.Steps.{is_too_deep}
-use Rattle.wu_tree.proofs.Renames.{onto_target}
+use Rattle.wu_tree.proofs.Renames.{IsMove, moved_onto}
+use Rattle.wu_tree.proofs.Sound.{directory_kept}
 use Rattle.wu_tree.proofs.trees.Tree.move_onto.Goals as goal
+
+pub raise_over-requires-clause-there : goal.raise_over-requires-clause-there
+raise_over-requires-clause-there c = directory_kept _ _ _ c.self.invariant _ c.self.view_is c.args.new_parent c.requires.directory
+
+pub raise_over-requires-clause-heights : goal.raise_over-requires-clause-heights
+raise_over-requires-clause-heights c = c.self.invariant.heights
+
+abbrev move : (c : goal.After-move_inode) → IsMove c.args.self.now c.args.parent c.args.name.now c.args.new_parent c.args.new_name.items c.args.child
+move c = record {
+  found = c.requires.found;
+  directory = c.requires.directory;
+  named = c.requires.named;
+  outside = c.requires.outside;
+  shallow = c.requires.shallow;
+}
 
 pub invariant_of-self-2 : goal.invariant_of-self-2
 invariant_of-self-2 c =
-    let t = c.self.inside in
-    let found : child_of (file_system t.inodes.entries t.links t.users.entries) c.args.parent c.args.name.now ≡ Some c.args.child = subst (λ (v : FileSystem). child_of v c.args.parent c.args.name.now ≡ Some c.args.child) (sym c.self.view_is) c.requires.found in
-    let directory : is_directory (file_system t.inodes.entries t.links t.users.entries) c.args.new_parent ≡ true = subst (λ (v : FileSystem). is_directory v c.args.new_parent ≡ true) (sym c.self.view_is) c.requires.directory in
-    let outside : is_directory (file_system t.inodes.entries t.links t.users.entries) c.args.child ≡ true → is_within t.links c.args.child c.args.new_parent ≡ false =
-    subst (λ (v : FileSystem). is_directory v c.args.child ≡ true → is_within v.links c.args.child c.args.new_parent ≡ false) (sym c.self.view_is) c.requires.outside in
-    let shallow : is_directory (file_system t.inodes.entries t.links t.users.entries) c.args.child ≡ true → is_too_deep (file_system t.inodes.entries t.links t.users.entries) c.args.child c.args.new_parent ≡ false =
-    subst (λ (v : FileSystem). is_directory v c.args.child ≡ true → is_too_deep v c.args.child c.args.new_parent ≡ false) (sym c.self.view_is) c.requires.shallow in
-    let target : child_of (file_system t.inodes.entries t.links t.users.entries) c.args.new_parent c.args.new_name.items ≡ Some c.args.target = subst (λ (v : FileSystem). child_of v c.args.new_parent c.args.new_name.items ≡ Some c.args.target) (sym c.self.view_is) c.requires.target in
-    let leaf : IsLeaf (file_system t.inodes.entries t.links t.users.entries) c.args.target = subst (λ (v : FileSystem). IsLeaf v c.args.target) (sym c.self.view_is) c.requires.leaf in
-    rw (c.move_inode.ensures, c.drop_inode_link.ensures, c.remove.ensures, c.in_ok-insert.ensures.ok) (onto_target _ _ _ c.self.invariant c.args.parent c.args.name.now c.args.new_parent c.args.new_name.items c.args.child found directory c.requires.named outside shallow c.args.target target leaf c.requires.other).0
+    rw (c.move_inode.ensures, c.drop_inode_link.ensures, c.remove.ensures, c.in_ok-insert.ensures.ok)
+    (moved_onto _ _ _ _ c.self.invariant c.raise_over.ensures.nodes c.raise_over.ensures.heights _ c.self.view_is _ _ _ _ _ (move c) c.raise_over.ensures.raised c.args.target c.requires.target c.requires.leaf c.requires.other).0
 
 pub returns-clause-ok : goal.returns-clause-ok
 returns-clause-ok c =
-    let t = c.self.inside in
-    let found : child_of (file_system t.inodes.entries t.links t.users.entries) c.args.parent c.args.name.now ≡ Some c.args.child = subst (λ (v : FileSystem). child_of v c.args.parent c.args.name.now ≡ Some c.args.child) (sym c.self.view_is) c.requires.found in
-    let directory : is_directory (file_system t.inodes.entries t.links t.users.entries) c.args.new_parent ≡ true = subst (λ (v : FileSystem). is_directory v c.args.new_parent ≡ true) (sym c.self.view_is) c.requires.directory in
-    let outside : is_directory (file_system t.inodes.entries t.links t.users.entries) c.args.child ≡ true → is_within t.links c.args.child c.args.new_parent ≡ false =
-    subst (λ (v : FileSystem). is_directory v c.args.child ≡ true → is_within v.links c.args.child c.args.new_parent ≡ false) (sym c.self.view_is) c.requires.outside in
-    let shallow : is_directory (file_system t.inodes.entries t.links t.users.entries) c.args.child ≡ true → is_too_deep (file_system t.inodes.entries t.links t.users.entries) c.args.child c.args.new_parent ≡ false =
-    subst (λ (v : FileSystem). is_directory v c.args.child ≡ true → is_too_deep v c.args.child c.args.new_parent ≡ false) (sym c.self.view_is) c.requires.shallow in
-    let target : child_of (file_system t.inodes.entries t.links t.users.entries) c.args.new_parent c.args.new_name.items ≡ Some c.args.target = subst (λ (v : FileSystem). child_of v c.args.new_parent c.args.new_name.items ≡ Some c.args.target) (sym c.self.view_is) c.requires.target in
-    let leaf : IsLeaf (file_system t.inodes.entries t.links t.users.entries) c.args.target = subst (λ (v : FileSystem). IsLeaf v c.args.target) (sym c.self.view_is) c.requires.leaf in
-    rw (c.move_inode.ensures, c.drop_inode_link.ensures, c.remove.ensures, c.in_ok-insert.ensures.ok, ← c.self.view_is) (onto_target _ _ _ c.self.invariant c.args.parent c.args.name.now c.args.new_parent c.args.new_name.items c.args.child found directory c.requires.named outside shallow c.args.target target leaf c.requires.other).1
+    rw (c.move_inode.ensures, c.drop_inode_link.ensures, c.remove.ensures, c.in_ok-insert.ensures.ok)
+    (moved_onto _ _ _ _ c.self.invariant c.raise_over.ensures.nodes c.raise_over.ensures.heights _ c.self.view_is _ _ _ _ _ (move c) c.raise_over.ensures.raised c.args.target c.requires.target c.requires.leaf c.requires.other).1

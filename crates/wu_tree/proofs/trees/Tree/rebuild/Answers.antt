@@ -33,8 +33,8 @@ returns-then-not-are_reached c =
 pub users_of-requires : goal.users_of-requires
 users_of-requires c = (in_order c.args.nodes.now c.args.links.now c.args.users.now (sym c.if-not-are_in_order.ensures)).0.0.1
 
-pub invariant_of-result : goal.invariant_of-result
-invariant_of-result c =
+pub invariant_of-tree : goal.invariant_of-tree
+invariant_of-tree c =
     rw (c.in_ok-inodes.ensures, c.in_ok-kept.ensures, c.in_ok-users.ensures)
     (made_sound (λ ino. get nat_cmp c.in_ok-tally.tally ino) c.args.nodes.now c.args.links.now c.args.users.now c.in_ok-tally.ensures c.in_ok-inodes.inodes.entries c.in_ok-kept.kept c.new-reached.result.keys c.reach.new.reached.keys
     c.in_ok-inodes.ensures c.in_ok-kept.ensures c.new-reached.ensures.empty c.in_ok-reach.ensures (sym c.if-not-are_in_order.ensures) (sym c.if-not-are_placed.ensures) (sym c.if-not-are_linked.ensures) (sym c.if-not-are_reached.ensures))
@@ -43,5 +43,5 @@ pub returns : goal.returns
 returns c = (
   made_tree (λ ino. get nat_cmp c.in_ok-tally.tally ino) c.args.nodes.now c.args.links.now c.args.users.now c.in_ok-tally.ensures c.in_ok-inodes.inodes.entries c.in_ok-kept.kept c.new-reached.result.keys c.reach.new.reached.keys
       c.in_ok-inodes.ensures c.in_ok-kept.ensures c.new-reached.ensures.empty c.in_ok-reach.ensures (sym c.if-not-are_in_order.ensures) (sym c.if-not-are_placed.ensures) (sym c.if-not-are_linked.ensures) (sym c.if-not-are_reached.ensures),
-  rw (c.in_ok-inodes.ensures, c.in_ok-kept.ensures, c.in_ok-users.ensures) (built_view (λ ino. get nat_cmp c.in_ok-tally.tally ino) c.args.nodes.now c.args.links.now c.args.users.now),
+  c.lower_heights.ensures ∙ (rw (c.in_ok-inodes.ensures, c.in_ok-kept.ensures, c.in_ok-users.ensures) (built_view (λ ino. get nat_cmp c.in_ok-tally.tally ino) c.args.nodes.now c.args.links.now c.args.users.now)),
 )

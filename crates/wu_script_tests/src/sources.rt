@@ -1,0 +1,106 @@
+//! Sources that give a script in their own ways, and the words for the items that were read.
+ghost use Rattle.std.specs.Prelude.{◌≡◌, Some, false};
+
+use std::alloc::Global;
+use std::test::Fail;
+use wu_outside::{Failed, PlainSource, Source};
+use wu_script::{Command, Item, ReadEnd, Reader, Why};
+
+/// A source that gives at most so many bytes at once.
+#[derive(Drop)]
+pub struct Trickle {
+    pub plain: PlainSource,
+    pub most: usize,
+}
+
+impl Source for Trickle {
+    ghost left = { λ s. Some s.plain.left };
+
+    ghost ended = { λ s. s.plain.ended };
+
+    ghost last_read = { λ s. s.plain.last_read };
+
+    ghost faults = { λ _. 0 };
+
+    fn read(&mut self, buf: &mut [u8]) -> Result<usize, Failed> {
+        let room = self.most.max(1).min(buf.len());
+        self.plain.read(&mut buf[..room])
+    }
+}
+
+/// A source that notes how many bytes each of its first reads asked for.
+#[derive(Drop)]
+pub struct Noting {
+    pub plain: PlainSource,
+    pub asked: [usize; 4],
+    pub reads: usize,
+}
+
+impl Source for Noting {
+    ghost left = { λ s. Some s.plain.left };
+
+    ghost ended = { λ s. s.plain.ended };
+
+    ghost last_read = { λ s. s.plain.last_read };
+
+    ghost faults = { λ _. 0 };
+
+    fn read(&mut self, buf: &mut [u8]) -> Result<usize, Failed> {
+        if self.reads < 4 {
+            self.asked[self.reads] = buf.len();
+            self.reads += 1;
+        }
+        self.plain.read(buf)
+    }
+}
+
+/// A word for an item.
+fn word_of(item: &Item) -> &'static str {
+    match item {
+        Item::Command(Command::Update(_)) => "update ",
+        Item::Command(Command::Ask(_)) => "ask ",
+        Item::Text { .. } => "text ",
+        Item::Blank => "blank ",
+        Item::End => "end",
+        Item::Refused(why) => match why {
+            Why::LongLine => "longline ",
+            Why::Syntax => "syntax ",
+            Why::Truncated => "truncated ",
+            Why::TooLong => "toolong ",
+            Why::BadBody => "badbody ",
+            Why::Unbuilt => "unbuilt ",
+            _ => "other ",
+        },
+    }
+}
+
+/// The words for the items that are read, up to the end or an error.
+pub fn words_of_items<I: Source>(
+    alloc: Global,
+    source: &mut I,
+    max_input: u64,
+) -> Result<String, Fail>
+    requires { I.ended source.old ≡ false }
+{
+    let mut reader = Reader::new(alloc, max_input)?;
+    let mut words = String::new(alloc);
+    for _ in 0..20 {
+        match reader.next(source) {
+            Ok(item) => {
+                words.push_str(word_of(&item))?;
+                if matches!(item, Item::End) {
+                    return Ok(words);
+                }
+            }
+            Err(end) => {
+                words.push_str(match end {
+                    ReadEnd::ReadFault => "fault",
+                    ReadEnd::InputTooLong => "too long",
+                    ReadEnd::NoMemory => "no memory",
+                })?;
+                return Ok(words);
+            }
+        }
+    }
+    Ok(words)
+}
