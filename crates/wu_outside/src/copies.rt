@@ -38,7 +38,7 @@ pub fn read_root(root: Option<&Bytes>, buf: &mut [u8]) -> Option<usize>
 }
 
 /// Copies bytes from a place on.
-fn copy_from(bytes: &[u8], at: u64, buf: &mut [u8]) -> usize
+pub fn copy_from(bytes: &[u8], at: u64, buf: &mut [u8]) -> usize
     ensures count { result ≡ length (take (length buf.new) (drop at bytes.now)) }
     ensures copied { take result buf.new ≡ take (length buf.new) (drop at bytes.now) }
 {

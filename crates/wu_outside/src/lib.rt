@@ -4,9 +4,12 @@
 #![tactic(auto)]
 
 mod copies;
+mod disk;
+mod folder;
 mod logs;
 mod memory;
 mod memory_store;
+mod open_blob;
 mod plain;
 mod plain_store;
 mod ranges;
@@ -15,6 +18,7 @@ mod standard;
 mod traits;
 mod writing;
 
+pub use folder::DirStore;
 pub use memory::{MemSink, MemSource};
 pub use memory_store::MemStore;
 pub use plain::{PlainSink, PlainSource};

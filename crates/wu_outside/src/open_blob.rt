@@ -1,0 +1,86 @@
+//! A blob whose file stays open.
+ghost use Rattle.std.specs.Prelude.{◌≤◌, length, IfOk};
+
+use crate::copies::copy_from;
+use crate::disk::read_at;
+use std::alloc::{AllocError, Global};
+use std::io;
+use std::io::{Read, Seek};
+
+/// How many bytes are read at once where a read goes on after the last one.
+const WINDOW: usize = 16_384;
+
+/// An open file of a blob, with a window of its bytes.
+#[derive(Drop)]
+pub struct OpenBlob<F> {
+    blob: u64,
+    file: F,
+    /// The place after the last read, once there was one.
+    next: Option<u64>,
+    window: Vec<u8>,
+    window_at: u64,
+    window_len: usize,
+}
+
+impl<F: Read + Seek> OpenBlob<F> {
+    /// The blob of this number, over its file.
+    pub fn new(alloc: Global, blob: u64, file: F) -> Result<OpenBlob<F>, AllocError>
+    where
+        F: Drop,
+    {
+        Ok(OpenBlob {
+            blob,
+            file,
+            next: None,
+            window: vec![in alloc; 0u8; WINDOW]?,
+            window_at: 0,
+            window_len: 0,
+        })
+    }
+
+    /// Whether it is the blob of this number.
+    pub fn is_of(&self, blob: u64) -> bool {
+        self.blob == blob
+    }
+
+    /// Reads from a place on, as far as the blob goes and there is room. Where the read goes on after
+    /// the last one, the window is filled.
+    pub fn read_at(&mut self, at: u64, buf: &mut [u8]) -> io::Result<usize>
+        ensures { IfOk result (λ n. n ≤ length buf.new) }
+    {
+        let goes_on = self.next == Some(at);
+        let held = self.take_held(at, buf);
+        let rest = &mut buf[held..];
+        let rest_at = at.saturating_add(held as u64);
+        let more = if rest.is_empty() {
+            0
+        } else if goes_on && rest.len() < WINDOW {
+            self.fill(rest_at)?;
+            self.take_held(rest_at, rest)
+        } else {
+            read_at(&mut self.file, rest_at, rest)?
+        };
+        let count = held + more;
+        self.next = Some(at.saturating_add(count as u64));
+        Ok(count)
+    }
+
+    /// Copies what the window holds from a place on.
+    fn take_held(&self, at: u64, buf: &mut [u8]) -> usize
+        ensures { result ≤ length buf.new }
+    {
+        let held = &self.window[..self.window_len.min(self.window.len())];
+        if at < self.window_at {
+            return 0;
+        }
+        copy_from(held, at - self.window_at, buf)
+    }
+
+    /// Fills the window from a place on.
+    fn fill(&mut self, at: u64) -> io::Result<()> {
+        self.window_len = 0;
+        self.window_at = at;
+        self.window_len = read_at(&mut self.file, at, self.window.as_mut_slice())?;
+        Ok(())
+    }
+}
