@@ -1,7 +1,7 @@
 //! The program `wumpus`: a session over standard input and output.
 #![tactic(auto)]
 
-ghost use Rattle.std.specs.Prelude.{◌≡◌, ◌↔◌, None, MatchBool};
+ghost use Rattle.std.specs.Prelude.{◌≡◌};
 ghost use Rattle.std.specs.Process.{exit_status};
 ghost use Rattle.wumpus_run.specs.Session.{code_of};
 
@@ -14,7 +14,12 @@ use wu_outside::{PlainStore, StdIn, StdOut};
 use wumpus_run::{Status, run};
 
 fn main(rt: HostRuntime) -> ExitCode {
-    let status = session(&rt);
+    run_to_end(&rt)
+}
+
+/// Runs a session, prints what ended it, and tells how the process ends.
+fn run_to_end(rt: &HostRuntime) -> ExitCode {
+    let status = session(rt);
     if let Some(message) = message(status) {
         // The exit status tells the same where this line can't be written.
         let _ = eprintln!(rt; "wumpus: {message}");

@@ -1,4 +1,4 @@
-use crate::{exit_code, main, message};
+use crate::{exit_code, message, run_to_end};
 use std::process::ExitCode;
 use wumpus_run::Status;
 
@@ -22,7 +22,7 @@ fn statuses_have_their_lines(rt: HostRuntime) {
 
 #[test]
 fn without_arguments_the_program_ends_with_status_1(rt: HostRuntime) {
-    assert_eq!(rt; main(rt), ExitCode::from(1));
+    assert_eq!(rt; run_to_end(&rt), ExitCode::from(1));
 }
 
 #[test]

@@ -15,8 +15,8 @@ pub fn session(
     arguments: &[&str],
     script: &[u8],
 ) -> Result<(Status, MemSink), Fail> {
-    let mut source = MemSource::new(Vec::from_slice(alloc, script)?);
-    let mut sink = MemSink::new(alloc);
+    let mut source = MemSource::new(Vec::from_slice(alloc, script)?, Vec::new(alloc));
+    let mut sink = MemSink::new(alloc, Vec::new(alloc));
     let mut store = PlainStore::new(alloc);
     let status = run(alloc, arguments, &mut source, &mut sink, &mut store);
     Ok((status, sink))
