@@ -15,7 +15,8 @@ crash_in_two choice log start within cut =
     let since = changes_since_sync (reverse log) in
     let newer = reverse (drop start log) in
     let older = reverse (take start log) in
-    let parts : reverse log ≡ newer ++ older = ap reverse (sym (take-append-drop start log)) ∙ reverse-append (take start log) (drop start log) in
+    let parts : reverse log ≡ newer ++ older =
+    ap reverse (sym (take-append-drop start log)) ∙ reverse-append (take start log) (drop start log) in
     let long : length newer ≡ length log - start = length-reverse (drop start log) ∙ length-drop start log in
     let fits : length newer ≡ since = omega arith in
     let front : take since (reverse log) ≡ newer =
@@ -57,12 +58,14 @@ after_put : (kept : Bool) (blob : ℕ) (bytes : List ℕ) (earlier left : List E
     → IsPartly (moments_of (HasPut blob bytes ∷ earlier)).now (content_of (left_of kept (HasPut blob bytes) ++ left))
 after_put true blob bytes earlier left partly = record {
   blobs = λ other. put_blob other blob (other == blob) (Some bytes) ((content_of left).blobs other)
-      (MayBlobBe (moments_of earlier).now.tried other ((moments_of earlier).now.synced.blobs other)) (eqb→eq other blob) (partly.blobs other);
+      (MayBlobBe (moments_of earlier).now.tried other ((moments_of earlier).now.synced.blobs other))
+      (eqb→eq other blob) (partly.blobs other);
   root = partly.root;
 }
 after_put false blob bytes earlier left partly = record {
   blobs = λ other. put_blob other blob (other == blob) None ((content_of left).blobs other)
-      (MayBlobBe (moments_of earlier).now.tried other ((moments_of earlier).now.synced.blobs other)) (eqb→eq other blob) (partly.blobs other);
+      (MayBlobBe (moments_of earlier).now.tried other ((moments_of earlier).now.synced.blobs other))
+      (eqb→eq other blob) (partly.blobs other);
   root = partly.root;
 }
 
@@ -70,7 +73,8 @@ after_removal : (kept : Bool) (blob : ℕ) (earlier left : List Entry) → IsPar
     → IsPartly (moments_of (HasRemoved blob ∷ earlier)).now (content_of (left_of kept (HasRemoved blob) ++ left))
 after_removal true blob earlier left partly = record {
   blobs = λ other. removed_blob other blob (other == blob) ((content_of left).blobs other)
-      (MayBlobBe (moments_of earlier).now.tried other ((moments_of earlier).now.synced.blobs other)) (eqb→eq other blob) (partly.blobs other);
+      (MayBlobBe (moments_of earlier).now.tried other ((moments_of earlier).now.synced.blobs other))
+      (eqb→eq other blob) (partly.blobs other);
   root = partly.root;
 }
 after_removal false blob earlier left partly = record { blobs = λ other. inr (partly.blobs other); root = partly.root }

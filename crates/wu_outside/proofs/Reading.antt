@@ -8,4 +8,5 @@ pub taken_from_rest : (bytes front behind : List ℕ) (place n : ℕ) → n ≤ 
 taken_from_rest bytes front behind place n within is =
     let rest = drop place bytes in
     let given : take n (front ++ behind) ≡ take n rest = take_at front behind n (ap length is ∙ length-take-le n rest within) ∙ is in
-    sym (take-append-drop n rest) ∙ ap (λ xs. xs ++ drop n rest) (sym given) ∙ ap (λ xs. take n (front ++ behind) ++ xs) (drop-drop n place bytes)
+    sym (take-append-drop n rest) ∙ ap (λ xs. xs ++ drop n rest) (sym given)
+    ∙ ap (λ xs. take n (front ++ behind) ++ xs) (drop-drop n place bytes)

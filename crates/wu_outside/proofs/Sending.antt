@@ -13,6 +13,7 @@ sent_more before between now piece place n first second =
     let joined = ap (λ xs. take place piece ++ take n xs) (take_rest piece place) ∙ sym (take-add place n piece) in
     subst (Appends before now) joined (Appends-trans before between now _ _ first second)
 
--- what was sent up to a place is a front of the piece
-pub GainsPrefix-place : (before now : Option (List ℕ)) (piece : List ℕ) (place : ℕ) → Appends before now (take place piece) → GainsPrefix before now piece
+-- what was sent up to a place is a prefix of the piece
+pub GainsPrefix-place : (before now : Option (List ℕ)) (piece : List ℕ) (place : ℕ) → Appends before now (take place piece)
+    → GainsPrefix before now piece
 GainsPrefix-place before now piece place sent = (take place piece, drop place piece, sym (take-append-drop place piece), sent)

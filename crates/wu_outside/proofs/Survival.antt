@@ -54,7 +54,8 @@ back_again false blob changed left between to = refl
 but_for : (tried : List Change) (synced left : Content) (changed : ℕ) (Kind : Content → Type 0) → Ignores Kind changed
     → ((blob : ℕ) → (blob ≡ changed) ⊎ MayBlobBe tried blob (synced.blobs blob) (left.blobs blob))
     → MayRootBe tried synced.root left.root
-    → ((other : Content) → ((blob : ℕ) → MayBlobBe tried blob (synced.blobs blob) (other.blobs blob)) → MayRootBe tried synced.root other.root → Kind other)
+    → ((other : Content) → ((blob : ℕ) → MayBlobBe tried blob (synced.blobs blob) (other.blobs blob))
+    → MayRootBe tried synced.root other.root → Kind other)
     → Kind left
 but_for tried synced left changed Kind ignores blobs root each =
     let was = with_blob changed (synced.blobs changed) left in
@@ -280,7 +281,8 @@ earlier old new Kind number left grown (k, moment, within, is, may) =
           let inside : place < rest = omega arith in
           let cut_old = length-take rest (all_moments old) in
           let shifted : get_or (all_moments old) place moment ≡ moment =
-          sym (get_or-append-add added (all_moments old) place moment) ∙ ap (λ i. get_or (added ++ all_moments old) i moment) along ∙ found in
+          sym (get_or-append-add added (all_moments old) place moment)
+          ∙ ap (λ i. get_or (added ++ all_moments old) i moment) along ∙ found in
           inl (place, moment, omega (arith, cut_old), get_or-take rest (all_moments old) place moment inside ∙ shifted, may)
       | inl within_added ↦
           let first : get_or added k moment ≡ moment = sym (get_or_append_left added (all_moments old) moment k within_added) ∙ found in

@@ -103,7 +103,7 @@ impl Sink for PlainSink {
 
     ghost faults = { λ _. 0 };
 
-    /// Takes the whole piece, or wants memory.
+    /// Takes the whole piece, or runs out of memory.
     fn write(&mut self, piece: &[u8]) -> Result<usize, Fault>
         ensures bytes { WriteAppends (Some self.old) (Some self.new) result piece.now }
         ensures cause { HasWriteCause 0 0 piece.now result }

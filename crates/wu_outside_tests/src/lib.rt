@@ -2,4 +2,10 @@
 #![tactic(auto)]
 
 #[cfg(test)]
+mod calls;
+#[cfg(test)]
+mod crashes;
+#[cfg(test)]
+mod failing;
+#[cfg(test)]
 mod streams;

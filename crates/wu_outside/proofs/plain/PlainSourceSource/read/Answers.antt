@@ -9,4 +9,8 @@ returns-clause-bytes c =
     let place = c.self.inside.at in
     let bytes = c.self.inside.bytes.items in
     let n = c.min-count.result in
-    (sym (ap (λ s. s.left) c.self.view_is) ∙ taken_from_rest bytes c.copy_from_slice.new.self (drop n c.args.buf.now) place n (grind (arith, common_steps)) (grind (arith, common_steps)), λ none room. nil_from_length (drop (place + n) bytes) (grind (arith, common_steps)))
+    let rest = drop n c.args.buf.now in (
+      sym (ap (λ s. s.left) c.self.view_is)
+          ∙ taken_from_rest bytes c.copy_from_slice.new.self rest place n (grind (arith, common_steps)) (grind (arith, common_steps)),
+      λ none room. nil_from_length (drop (place + n) bytes) (grind (arith, common_steps)),
+    )
