@@ -1,5 +1,4 @@
 pub mod EarlyEndLemmas
-pub mod FieldListLemmas
 pub mod InputLemmas
 pub mod ItemLemmas
 pub mod ItemListLemmas

@@ -1,4 +1,4 @@
--- Lines and bodies, as they are taken from the front of what is held and given.
+-- Lines and bodies, as they are taken from the first bytes of what is held and given.
 use Rattle.std.specs.Prelude.{◌≡◌, ℕ, ◌≤◌, ◌<◌, ◌==◌, Bool, true, false, List, [], ◌∷◌, ◌++◌, length, take, drop, ◌+◌, Option, MatchBool}
 use Rattle.std.specs.List.{list_any}
 use Rattle.wu_script.specs.Holding.{Held, Uses, EndsAt}

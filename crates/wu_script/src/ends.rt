@@ -1,6 +1,6 @@
 //! How reading ends before the end of the input.
 ghost use Rattle.std.specs.Prelude.{◌≡◌};
-ghost use Rattle.wu_script.specs.declared.ends.ReadEnd.TheVariants.{NoMemory as WantsMemory};
+ghost use Rattle.wu_script.specs.declared.ends.ReadEnd.TheVariants.{NoMemory as OutOfMemory};
 
 use std::alloc::{AllocError, AllocFailed};
 use thiserror::Error;
@@ -21,7 +21,7 @@ pub enum ReadEnd {
 }
 
 impl From<AllocError> for ReadEnd {
-    ghost from_gives = { λ _ e. e ≡ WantsMemory };
+    ghost from_gives = { λ _ e. e ≡ OutOfMemory };
 
     fn from(_error: AllocError) -> ReadEnd {
         ReadEnd::NoMemory
@@ -29,7 +29,7 @@ impl From<AllocError> for ReadEnd {
 }
 
 impl<T: Drop> From<AllocFailed<T>> for ReadEnd {
-    ghost from_gives = { λ _ e. e ≡ WantsMemory };
+    ghost from_gives = { λ _ e. e ≡ OutOfMemory };
 
     fn from(_error: AllocFailed<T>) -> ReadEnd {
         ReadEnd::NoMemory
@@ -37,7 +37,7 @@ impl<T: Drop> From<AllocFailed<T>> for ReadEnd {
 }
 
 impl From<NoMemory> for ReadEnd {
-    ghost from_gives = { λ _ e. e ≡ WantsMemory };
+    ghost from_gives = { λ _ e. e ≡ OutOfMemory };
 
     fn from(_error: NoMemory) -> ReadEnd {
         ReadEnd::NoMemory

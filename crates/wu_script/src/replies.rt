@@ -11,7 +11,7 @@ use wu_gcl::ExprFault;
 use wu_tree::Refusal;
 
 /// Appends the lines of the reply: the fields of a line have a TAB between each two, numbers are
-/// decimal, paths are escaped, and each line ends with LF. The one error is want of memory; `out` is
+/// decimal, paths are escaped, and each line ends with LF. The one error is `NoMemory`; `out` is
 /// then as it was.
 pub fn put_reply(out: &mut Vec<u8>, reply: &Reply) -> Result<(), NoMemory>
     ensures ok { OnOk result (out.new.items ≡ out.old.items ++ reply_bytes reply.now) }
@@ -26,7 +26,7 @@ pub fn put_reply(out: &mut Vec<u8>, reply: &Reply) -> Result<(), NoMemory>
     }
 }
 
-/// Appends the reply. After want of memory `out` may have gained bytes.
+/// Appends the reply. Out of memory `out` may have gained bytes.
 #[tactic(auto, unfolding(crate::specs::Replies::reply_bytes))]
 fn append_reply(out: &mut Vec<u8>, reply: &Reply) -> Result<(), NoMemory>
     ensures ok { OnOk result (out.new.items ≡ out.old.items ++ reply_bytes reply.now) }

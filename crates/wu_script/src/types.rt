@@ -47,7 +47,7 @@ pub enum Line {
     TextHead {
         /// The file's number, at least 1.
         ino: Ino,
-        /// So many bytes, at most 2^40.
+        /// So many bytes, at most INPUT_MAX.
         len: u64,
     },
     /// No command.

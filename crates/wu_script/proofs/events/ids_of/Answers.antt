@@ -1,7 +1,7 @@
 use Rattle.std.proofs.Common.{List, ℕ, map, Some, ap, sym, ◌∙◌, take_all, arith}
 use Rattle.wu_fields.specs.Fields.{all_some}
 use Rattle.wu_script.specs.Commands.{id_of, ids_of}
-use Rattle.wu_script.proofs.FieldListLemmas.{all_some_fault, all_some_more}
+use Rattle.wu_fields.proofs.FieldLemmas.{all_some_fault, all_some_more}
 use Rattle.wu_script.proofs.events.ids_of.Goals as goal
 
 pub returns-in-None : goal.returns-in-None
