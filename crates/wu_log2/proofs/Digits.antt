@@ -2,7 +2,9 @@
 use Rattle.std.proofs.Common.{◌≡◌, ℕ, zero, suc, ◌+◌, ◌-◌, ◌*◌, ◌/◌, ◌^◌, ◌<◌, ◌≤◌, refl, sym, ap, ◌∙◌, ⊎_elim, arith, lit<, lit≤}
 use Rattle.std.proofs.lemmas.Bool.{cases_lt, le-leb, lt-leb}
 use Rattle.std.proofs.lemmas.Nat.{pow_pos, pow-add, pow_below, mul-lt, mul-pow, le-div, div_below}
-use Rattle.std.proofs.Math.Nat.{pow-suc, pow-zero, one-mul, two-pow-succ, one-le-pow, pow-le-pow_right, mul-le-mul_left, mul-le-mul_right, mul-le-mul, mul-lt-mul_of_pos_left, div-mul-le_self, lt-mul-div-succ, mul_comm, mul-div_cancel}
+use Rattle.std.proofs.Math.Nat.{pow-suc, pow-zero, one-mul, two-pow-succ, one-le-pow, pow-le-pow_right, mul-le-mul_left}
+use Rattle.std.proofs.Math.Nat.{mul-le-mul_right, mul-le-mul, mul-lt-mul_of_pos_left, div-mul-le_self, lt-mul-div-succ, mul_comm}
+use Rattle.std.proofs.Math.Nat.{mul-div_cancel}
 use Rattle.wu_log2.specs.Logarithm.{highest_place, with_digits, lg}
 
 -- ---- the highest place

@@ -4,9 +4,6 @@
 ghost use Rattle.std.specs.Prelude.{◌≡◌, ℕ, ◌+◌, ◌*◌, ◌^◌, ◌<◌, ◌≤◌};
 ghost use Rattle.wu_log2.specs.Logarithm.{lg};
 
-#[cfg(test)]
-mod tests;
-
 /// How many binary digits the logarithm has after its point.
 const FRACTION_DIGITS: u32 = 16;
 

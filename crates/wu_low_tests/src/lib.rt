@@ -5,6 +5,8 @@
 #[cfg(test)]
 mod access;
 #[cfg(test)]
+mod fields;
+#[cfg(test)]
 mod lists;
 #[cfg(test)]
 mod logarithms;

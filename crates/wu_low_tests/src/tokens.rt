@@ -55,11 +55,12 @@ fn an_empty_line_stands_at_its_line_feed(rt: HostRuntime) -> Result<(), Fail> {
 
 #[test]
 fn words_are_lowered_and_cut(rt: HostRuntime) -> Result<(), Fail> {
-    let rows: [(&[u8], &[&[u8]]); 5] = [
-        (b"", &[]),
-        (b"!!", &[]),
+    let rows: [(&[u8], &[&[u8]]); 3] = [
         (b"Ab\rC9", &[b"ab", b"c9"]),
-        (&[b'A'; 65], &[&[b'a'; 64]]),
+        (
+            b"AAAAAAAAAAAAAAAAAAAAAAAAAAAAAAAAAAAAAAAAAAAAAAAAAAAAAAAAAAAAAAAAA",
+            &[b"aaaaaaaaaaaaaaaaaaaaaaaaaaaaaaaaaaaaaaaaaaaaaaaaaaaaaaaaaaaaaaaa"],
+        ),
         (b"\x7f\x80Z\n", &[b"\x80z"]),
     ];
     for (bytes, expected) in rows {
@@ -68,6 +69,15 @@ fn words_are_lowered_and_cut(rt: HostRuntime) -> Result<(), Fail> {
         for (word, wanted) in found.iter().zip(expected) {
             assert_eq!(rt; word.as_slice(), *wanted);
         }
+    }
+    Ok(())
+}
+
+#[test]
+fn separators_alone_have_no_word(rt: HostRuntime) -> Result<(), Fail> {
+    let rows: [&[u8]; 3] = [b"", b"!!", b"\r\n \x7f"];
+    for bytes in rows {
+        assert!(rt; words(rt.alloc(), bytes)?.is_empty());
     }
     Ok(())
 }
