@@ -1,6 +1,8 @@
 -- A ranking of units at other places, whose words are counted in another way, is the same ranking there.
 use Rattle.std.proofs.Common.{◌≡◌, ℕ, ◌+◌, ◌-◌, ◌<◌, Bool, true, false, cond, ◌||◌, List, [], ◌∷◌, map, refl, sym, ap, ap₂, ◌∙◌, arith, eqb}
+use Rattle.std.specs.Cmp.{nat_cmp_is}
 use Rattle.std.proofs.lemmas.Cmp.{ranked}
+use Rattle.std.proofs.lemmas.Map.Lookups.{exact_unsigned}
 use Rattle.std.proofs.lemmas.List.{length-map}
 use Rattle.std.proofs.lemmas.List.Sums.{sum_by-cons}
 use Rattle.std.specs.List.{AllByRecursion, filter}
@@ -14,7 +16,6 @@ use Rattle.wu_rank.specs.declared.results.Ranked.{Ranked}
 use Rattle.wu_rank.specs.Bm25.{weigh}
 use Rattle.wu_rank.specs.Scores.{has, holders, idf_of, length_of, total_length, part, score, holds, scored, all_listed}
 use Rattle.wu_rank.specs.Order.{compare_ranked, comes_before, in_order, listed}
-use Rattle.wu_rank.proofs.Sorting.{same_number}
 use Rattle.wu_rank.proofs.Orders.{in_order-map}
 
 -- the unit, where the file at each place starts at some address
@@ -116,23 +117,14 @@ some_listed count other start known units words (unit ∷ some) all agree =
 
 -- ---- the order
 
-alike : (x y m n : ℕ) (o p : Ordering) → (x < y → m < n) → (x ≡ y → m ≡ n) → (y < x → n < m)
-    → MatchOrdering o (x < y) (x ≡ y) (y < x) → MatchOrdering p (m < n) (m ≡ n) (n < m) → o ≡ p
-alike x y m n Less Less l e g one other = refl
-alike x y m n Less Equal l e g one other = let h = l one in absurd (omega arith)
-alike x y m n Less Greater l e g one other = let h = l one in absurd (omega arith)
-alike x y m n Equal Less l e g one other = let h = e one in absurd (omega arith)
-alike x y m n Equal Equal l e g one other = refl
-alike x y m n Equal Greater l e g one other = let h = e one in absurd (omega arith)
-alike x y m n Greater Less l e g one other = let h = g one in absurd (omega arith)
-alike x y m n Greater Equal l e g one other = let h = g one in absurd (omega arith)
-alike x y m n Greater Greater l e g one other = refl
-
 -- numbers counted from one start
 moved_alike : (s t x y : ℕ) → s ≡ t → nat_cmp (s + x) (t + y) ≡ nat_cmp x y
-moved_alike s t x y same =
-    alike (s + x) (t + y) x y (nat_cmp (s + x) (t + y)) (nat_cmp x y) (λ h. omega arith) (λ h. omega arith) (λ h. omega arith)
-    (ranked (s + x) (t + y) (nat_cmp (s + x) (t + y)) refl) (ranked x y (nat_cmp x y) refl)
+moved_alike s t x y same = nat_cmp_is x y _ (go (nat_cmp (s + x) (t + y)) (ranked (s + x) (t + y) _ refl))
+  where
+    go : (o : Ordering) → MatchOrdering o (s + x < t + y) (s + x ≡ t + y) (t + y < s + x) → MatchOrdering o (x < y) (x ≡ y) (y < x)
+    go Less moved = omega arith
+    go Equal moved = omega arith
+    go Greater moved = omega arith
 
 -- units of one file stand as before, and others by their places
 compare_same : (start : ℕ → ℕ) (a b : Ranked) → compare_ranked (shifted_ranked start a) (shifted_ranked start b) ≡ compare_ranked a b
@@ -150,7 +142,7 @@ compare_same start a b = by (nat_cmp b.score a.score) (nat_cmp a.unit.place b.un
   by Equal Less is = refl
   by Equal Greater is = refl
   by Equal Equal is =
-      let same : start a.unit.place ≡ start b.unit.place = ap start (same_number a.unit.place b.unit.place is) in
+      let same : start a.unit.place ≡ start b.unit.place = ap start (exact_unsigned a.unit.place b.unit.place is) in
       ap₂ ordering_then (moved_alike (start a.unit.place) (start b.unit.place) a.unit.extent.start b.unit.extent.start same)
       (moved_alike (start a.unit.place) (start b.unit.place) a.unit.extent.end b.unit.extent.end same)
 

@@ -1,15 +1,17 @@
 -- Each list of units has one order: the list that is sorted and has the same units.
-use Rattle.std.proofs.Common.{◌≡◌, ℕ, zero, suc, ◌+◌, ◌<◌, ◌≤◌, Bool, true, false, cond, List, [], ◌∷◌, ◌++◌, length, get_or, refl, sym, ap, ap₂, ◌∙◌, subst, ◌⊎◌, inl, inr, ⊎_elim, arith}
+use Rattle.std.proofs.Common.{◌≡◌, ℕ, zero, suc, ◌+◌, ◌<◌, ◌≤◌, Bool, true, false, cond, List, [], ◌∷◌, ◌++◌, length, get_or, refl, sym, ap, ap₂, ◌∙◌, ⊎_elim, arith}
 use Rattle.std.specs.List.{sum_by, fold}
 use Rattle.std.specs.BTreeSet.{insert_key}
 use Rattle.std.specs.List.Sorted.{IsPermutation, IsSortedBy}
 use Rattle.std.specs.Cmp.{IsTotalOrder, IsStrictWeakOrder}
-use Rattle.std.specs.Ordering.{nat_cmp, ordering_then, is_lt, ordering_reverse, MatchOrdering}
+use Rattle.std.specs.Ordering.{ordering_then, is_lt, ordering_reverse}
 use Rattle.std.specs.declared.cmp.Ordering.{Ordering}
 use Rattle.std.specs.declared.cmp.Ordering.TheVariants.{Less, Equal, Greater}
-use Rattle.std.proofs.lemmas.Cmp.{ranked, nat_cmp_total, on_total, then_total, back_total}
+use Rattle.std.proofs.lemmas.Cmp.{nat_cmp_total, on_total, then_total, back_total}
 use Rattle.std.proofs.lemmas.List.Sorted.{ranks_by, sorted_far, sum_by-IsPermutation, IsPermutation-refl, IsPermutation-cons, IsPermutation-trans, IsPermutation-middle, IsPermutation-append_left}
 use Rattle.std.proofs.lemmas.List.{append-nil}
+use Rattle.std.proofs.lemmas.Bool.{cases_Bool}
+use Rattle.std.proofs.lemmas.Map.Lookups.{exact_unsigned}
 use Rattle.std.proofs.lemmas.List.Sums.{sum_by-cons}
 use Rattle.wu_rank.specs.declared.results.Ranked.{Ranked}
 use Rattle.wu_rank.specs.Order.{compare_ranked, comes_before, kept_apart, IsInOrder, in_order}
@@ -28,9 +30,6 @@ compare_total =
 pub before_order : IsStrictWeakOrder comes_before
 unfolding comes_before
 before_order = ranks_by compare_total (λ (r : Ranked). r)
-
-pub same_number : (x y : ℕ) → nat_cmp x y ≡ Equal → x ≡ y
-same_number x y e = subst (λ o. MatchOrdering o (x < y) (x ≡ y) (y < x)) e (ranked x y (nat_cmp x y) refl)
 
 both_equal : (o p : Ordering) → ordering_then o p ≡ Equal → (o ≡ Equal) × (p ≡ Equal)
 both_equal Less p e = cc
@@ -54,7 +53,7 @@ compare_same a b h =
     let l = both_equal _ _ h in
     let m = both_equal _ _ l.0 in
     let n = both_equal _ _ m.0 in
-    same_ranked a b (sym (same_number _ _ n.0)) (same_number _ _ n.1) (same_number _ _ m.1) (same_number _ _ l.1)
+    same_ranked a b (sym (exact_unsigned _ _ n.0)) (exact_unsigned _ _ n.1) (exact_unsigned _ _ m.1) (exact_unsigned _ _ l.1)
 
 neither_less : (o p : Ordering) → o ≡ ordering_reverse p → is_lt o ≡ false → is_lt p ≡ false → o ≡ Equal
 neither_less Less p e h k = cc
@@ -115,10 +114,6 @@ sorted-from_Ascends (x ∷ y ∷ ys) h (suc k) d low high =
 
 -- ---- there is such a list: each unit is put before the first that it comes before
 
-true_or_false : (b : Bool) → (b ≡ true) ⊎ (b ≡ false)
-true_or_false true = inl refl
-true_or_false false = inr refl
-
 abbrev put_in : List Ranked → Ranked → List Ranked
 put_in ys x = insert_key kept_apart ys x
 
@@ -128,7 +123,7 @@ NoneBefore-put_in x y (z ∷ zs) h k =
     ⊎_elim
     (λ (e : comes_before y z ≡ true). rw e (h, k))
     (λ (e : comes_before y z ≡ false). rw e (k.0, NoneBefore-put_in x y zs h k.1))
-    (true_or_false (comes_before y z))
+    (cases_Bool (comes_before y z))
 
 Ascends-put_in : (y : Ranked) (ys : List Ranked) → Ascends ys → Ascends (put_in ys y)
 Ascends-put_in y [] h = (tt, tt)
@@ -138,7 +133,7 @@ Ascends-put_in y (z ∷ zs) h =
     let back : comes_before z y ≡ false = before_order.one_way y z e in
     rw e ((back, NoneBefore-chain z y zs h.0 back), h))
     (λ (e : comes_before y z ≡ false). rw e (NoneBefore-put_in z y zs e h.0, Ascends-put_in y zs h.1))
-    (true_or_false (comes_before y z))
+    (cases_Bool (comes_before y z))
 
 put_in-moves : (x : Ranked) (xs : List Ranked) → IsPermutation (x ∷ xs) (put_in xs x)
 put_in-moves x [] = IsPermutation-refl (x ∷ [])
@@ -147,7 +142,7 @@ put_in-moves x (y ∷ ys) =
     (λ (e : comes_before x y ≡ true). rw e (IsPermutation-refl (x ∷ y ∷ ys)))
     (λ (e : comes_before x y ≡ false).
     rw e (IsPermutation-trans _ _ _ (IsPermutation-middle (x ∷ []) y ys) (IsPermutation-cons y (x ∷ ys) (put_in ys x) (put_in-moves x ys))))
-    (true_or_false (comes_before x y))
+    (cases_Bool (comes_before x y))
 
 Ascends-fold : (done units : List Ranked) → Ascends done → Ascends (fold put_in done units)
 Ascends-fold done [] h = h
