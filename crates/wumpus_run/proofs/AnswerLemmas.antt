@@ -16,7 +16,8 @@ use Rattle.wu_view.specs.declared.Seen.{Seen}
 use Rattle.wu_view.specs.Views.{view_of as files_of}
 use Rattle.wumpus_run.specs.States.{State, Texts}
 use Rattle.wumpus_run.specs.View.{Shown, shown_of, view_of}
-use Rattle.wumpus_run.specs.Answer.{Question, Ranking, question_of, line_of, answer}
+use Rattle.wu_ask.specs.Questions.{Question, Ranking, question_of}
+use Rattle.wumpus_run.specs.Answer.{line_of, answer}
 use Rattle.wumpus_run.specs.Rankings.{ranking_of}
 
 -- the answer to a question for paths, from the files of the view

@@ -26,7 +26,8 @@ use Rattle.wu_solve.proofs.Results.{frame_of_text, hits_listed}
 use Rattle.wu_solve.proofs.Sets.{all_from}
 use Rattle.wumpus_run.specs.View.{Shown}
 use Rattle.wumpus_run.specs.Hits.{hits_in, has_hit}
-use Rattle.wumpus_run.specs.Answer.{Counting, answer}
+use Rattle.wu_ask.specs.Questions.{Counting}
+use Rattle.wumpus_run.specs.Answer.{answer}
 use Rattle.wumpus_run.specs.Scans.{tokens_in, frames_from, places_from, list_among, IsScan}
 
 -- ---- the addresses of a term

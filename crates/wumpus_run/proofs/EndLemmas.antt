@@ -3,19 +3,22 @@ use Rattle.std.proofs.Common.{◌≡◌, ℕ, ◌+◌, ◌≤◌, List, [], ◌+
 use Rattle.std.specs.Io.KnownBytes.{Appends, IsAtEnd}
 use Rattle.std.proofs.KnownBytes.{Appends-nil, Consumes-nil, Consumes-trans}
 use Rattle.wu_outside.specs.Faults.{Rose}
+use Rattle.wu_outside.specs.declared.traits.Fault.{Fault}
+use Rattle.wu_outside.specs.declared.traits.Fault.TheVariants.{Failed}
+use Rattle.wu_outside.specs.declared.traits.Fault.TheVariants as faults
 use Rattle.wu_script.specs.declared.ends.ReadEnd.{ReadEnd}
 use Rattle.wu_script.specs.declared.ends.ReadEnd.TheVariants as ends
 use Rattle.wu_script.specs.declared.types.Item.TheVariants as items
-use Rattle.wu_script.specs.Holding.{Held}
-use Rattle.wu_script.specs.Items.{items_of, IsNext, StopsBeforeItem}
-use Rattle.wu_script.proofs.TurnLemmas.{items_of-none}
-use Rattle.wumpus_run.specs.declared.options.Settings.{Settings}
+use Rattle.wu_script.specs.Holding.{Held, IsCounted as IsReadCounted}
+use Rattle.wu_script.specs.Items.{items_of, IsNext, EndsBeforeItem}
+use Rattle.wu_script.proofs.ItemListLemmas.{items_of-none}
+use Rattle.wu_options.specs.declared.command_lines.Settings.{Settings}
 use Rattle.wumpus_run.specs.declared.statuses.Status.{Status}
 use Rattle.wumpus_run.specs.declared.statuses.Status.TheVariants.{Done, Usage, ReadFault, WriteFault, NoMemory, InputTooLong}
-use Rattle.wumpus_run.specs.States.{State, first_state}
-use Rattle.wumpus_run.specs.Output.{Reading, output_of}
+use Rattle.wumpus_run.specs.States.{State}
+use Rattle.wumpus_run.specs.Replies.{Rules, AreRules, output_of}
 use Rattle.wumpus_run.specs.Taking.{TakesAtMost, TakesExactly}
-use Rattle.wumpus_run.specs.Session.{AnswersAll, AnswersFront, IsTooLong, HoldsNothingBack, Ends, Completes, status_of}
+use Rattle.wumpus_run.specs.Session.{Moment, AnswersAll, AnswersAllButOneRead, AnswersPrefix, IsTooLong, HoldsNothingBack, Ends, Completes, IsCounted, status_of, status_of_fault}
 use Rattle.wumpus_run.proofs.SessionLemmas.{HasSent, HasSent-all, IsOnTheWay, HasAnswered, HasTaken}
 
 taken_twice : (input : List ℕ) (left : Option (List ℕ)) (most : ℕ) → TakesAtMost most (Some input) left → TakesExactly (most + 1) (Some input) left → ⊥
@@ -23,24 +26,9 @@ taken_twice input None most few many = absurd few.1
 taken_twice input (Some rest) most few many =
     omega (arith, ap length few.1, ap length many.1, length-append few.0 rest, length-append many.0 rest, few.2, many.2)
 
-not_long : (status : Status) (told : Settings) (before left : Option (List ℕ)) → (status ≡ InputTooLong → ⊥) → TakesAtMost told.max_input before left → IsTooLong status (Some told) before left
-not_long status told None left other few = tt
-not_long status told (Some input) left other few = (λ long. absurd (other long), λ many. absurd (taken_twice input left told.max_input few many))
-
-long : (told : Settings) (before left : Option (List ℕ)) → TakesExactly (told.max_input + 1) before left → IsTooLong InputTooLong (Some told) before left
-long told None left many = tt
-long told (Some input) left many = (λ same. many, λ taken. refl)
-
--- no more was taken than the input may have
-pub Ends-short : (status : Status) (told : Settings) (before left gained now : Option (List ℕ)) → (status ≡ InputTooLong → ⊥) → TakesAtMost told.max_input before left → AnswersFront before gained now
-    → HoldsNothingBack status (Some told) before left gained now → Ends status told before left gained now
-Ends-short status told before left gained now other few front prompt =
-    record { too_long = not_long status told before left other few; taken = (few.0, few.1, omega (arith, few.2)); front = front; prompt = prompt }
-
--- one byte more was taken
-Ends-long : (told : Settings) (before left gained now : Option (List ℕ)) → TakesExactly (told.max_input + 1) before left → AnswersFront before gained now
-    → HoldsNothingBack InputTooLong (Some told) before left gained now → Ends InputTooLong told before left gained now
-Ends-long told before left gained now many front prompt = record { too_long = long told before left many; taken = (many.0, many.1, omega (arith, many.2)); front = front; prompt = prompt }
+too_much : (input : List ℕ) (left : Option (List ℕ)) (most : ℕ) → TakesExactly (most + 1) (Some input) left → length input ≤ most → ⊥
+too_much input None most many within = absurd many.1
+too_much input (Some rest) most many within = omega (arith, ap length many.1, length-append many.0 rest, many.2)
 
 -- so far no more was taken
 pub TakesAtMost-taken : (before left : Option (List ℕ)) (spare most : ℕ) → HasTaken before left spare most → TakesAtMost most before left
@@ -52,74 +40,157 @@ TakesAtMost-none before most = ([], Consumes-nil before, omega arith)
 pub HasTaken-none : (before : Option (List ℕ)) (most : ℕ) → HasTaken before before most most
 HasTaken-none before most = ([], Consumes-nil before, omega arith)
 
--- nothing was sent
-pub AnswersFront-none : (before gained : Option (List ℕ)) → AnswersFront before gained gained
-AnswersFront-none None gained = tt
-AnswersFront-none (Some input) gained = λ read reading. ([], output_of read first_state (items_of input), refl, Appends-nil gained)
+module _ (told : Settings) (start : State) where
+  not_long : (status : Status) (before now : Moment) → (status ≡ InputTooLong → ⊥) → TakesAtMost told.max_input before.left now.left
+      → IsTooLong status (Some told) before now
+  not_long status before now other few = by_case before.left few
+    where
+      by_case : (left : Option (List ℕ)) → TakesAtMost told.max_input left now.left
+          → IsTooLong status (Some told) (record before { left = left }) now
+      by_case None few = tt
+      by_case (Some input) few = (λ long. absurd (other long), λ many. absurd (taken_twice input now.left told.max_input few many))
 
--- reading stopped
-pub Ends-stopped : (end : ReadEnd) (told : Settings) (before between left gained now : Option (List ℕ)) (old : Held) → HasTaken before between old.spare told.max_input → StopsBeforeItem between left old end
-    → AnswersFront before gained now → HoldsNothingBack (status_of end) (Some told) before left gained now → Ends (status_of end) told before left gained now
-Ends-stopped ends.ReadFault told before between left gained now old taken stops front prompt =
-    Ends-short ReadFault told before left gained now (λ e. (cc))
-    (taken.0 ++ stops.given, Consumes-trans before between left taken.0 stops.given taken.1 stops.consumed, omega (arith, length-append taken.0 stops.given, taken.2, stops.counted)) front prompt
-Ends-stopped ends.InputTooLong told before between left gained now old taken stops front prompt =
-    Ends-long told before left gained now
-    (taken.0 ++ stops.given, Consumes-trans before between left taken.0 stops.given taken.1 stops.consumed, omega (arith, length-append taken.0 stops.given, taken.2, stops.counted)) front prompt
-Ends-stopped ends.NoMemory told before between left gained now old taken stops front prompt =
-    Ends-short NoMemory told before left gained now (λ e. (cc))
-    (taken.0 ++ stops.given, Consumes-trans before between left taken.0 stops.given taken.1 stops.consumed, omega (arith, length-append taken.0 stops.given, taken.2, stops.counted)) front prompt
+  long : (before now : Moment) → TakesExactly (told.max_input + 1) before.left now.left → IsTooLong InputTooLong (Some told) before now
+  long before now many = by_case before.left many
+    where
+      by_case : (left : Option (List ℕ)) → TakesExactly (told.max_input + 1) left now.left
+          → IsTooLong InputTooLong (Some told) (record before { left = left }) now
+      by_case None many = tt
+      by_case (Some input) many = (λ same. many, λ taken. refl)
 
--- ---- the end of the script
+  -- no more was taken than the input may have
+  pub Ends-short : (status : Status) (before now : Moment) → (status ≡ InputTooLong → ⊥) → TakesAtMost told.max_input before.left now.left
+      → AnswersPrefix start (Some told) before now → HoldsNothingBack start status (Some told) before now → Ends start status told before now
+  Ends-short status before now other few prefix prompt = record {
+    too_long = not_long status before now other few;
+    taken = (few.0, few.1, omega (arith, few.2));
+    prefix = prefix;
+    prompt = prompt;
+  }
 
-finished : (read : Reading) → (gained now : Option (List ℕ)) (input rest : List ℕ) (s : State) → rest ≡ [] → HasSent gained now (output_of read first_state (items_of input)) (output_of read s (items_of rest))
-    → Appends gained now (output_of read first_state (items_of input))
-finished read gained now input rest s none sent =
-    HasSent-all gained now (output_of read first_state (items_of input))
-    (subst (HasSent gained now (output_of read first_state (items_of input))) (ap (λ bs. output_of read s (items_of bs)) none ∙ ap (output_of read s) items_of-none) sent)
+  -- one byte more was taken
+  Ends-long : (before now : Moment) → TakesExactly (told.max_input + 1) before.left now.left → AnswersPrefix start (Some told) before now
+      → HoldsNothingBack start InputTooLong (Some told) before now → Ends start InputTooLong told before now
+  Ends-long before now many prefix prompt = record {
+    too_long = long before now many;
+    taken = (many.0, many.1, omega (arith, many.2));
+    prefix = prefix;
+    prompt = prompt;
+  }
 
-finished_if : (read : Reading) → (gained now : Option (List ℕ)) (input : List ℕ) (known rest : Option (List ℕ)) (s : State) → IsNext known rest items.End → IsOnTheWay read gained now (Some input) known s
-    → Appends gained now (output_of read first_state (items_of input))
-finished_if read gained now input None rest s next sent = absurd sent
-finished_if read gained now input (Some bytes) None s next sent = absurd next
-finished_if read gained now input (Some bytes) (Some rest) s next sent = finished read gained now input bytes s next.0 sent
+  -- nothing was sent
+  pub AnswersPrefix-none : (before : Moment) → AnswersPrefix start (Some told) before before
+  AnswersPrefix-none before = by_case before.left
+    where
+      by_case : (left : Option (List ℕ)) → AnswersPrefix start (Some told) (record before { left = left }) before
+      by_case None = tt
+      by_case (Some input) = λ rules are. ([], output_of rules start (items_of input), refl, Appends-nil before.gained)
 
--- the input was read to its end, and everything was answered
-pub AnswersAll-end : (told : Settings) (before left gained now : Option (List ℕ)) (s : State) (known rest : Option (List ℕ)) → IsAtEnd left → HasAnswered gained now before known s → IsNext known rest items.End
-    → TakesAtMost told.max_input before left → AnswersAll (Some told) before left gained now
-AnswersAll-end told None left gained now s known rest ended answered next few = tt
-AnswersAll-end told (Some input) None gained now s known rest ended answered next few = absurd few.1
-AnswersAll-end told (Some input) (Some xs) gained now s known rest ended answered next few = (
-  omega (arith, ap length few.1, length-append few.0 xs, ap length ended, few.2),
-  ap Some ended,
-  λ read reading. finished_if read gained now input known rest s next (answered read reading),
-)
+  -- reading stopped
+  pub Ends-stopped : (end : ReadEnd) (before now : Moment) (between : Option (List ℕ)) (old : Held)
+      → HasTaken before.left between old.spare told.max_input → EndsBeforeItem between now.left now.last_read old end
+      → AnswersPrefix start (Some told) before now → HoldsNothingBack start (status_of end) (Some told) before now
+      → Ends start (status_of end) told before now
+  Ends-stopped ends.ReadFault before now between old taken stops prefix prompt =
+      Ends-short ReadFault before now (λ e. (cc)) (
+        taken.0 ++ stops.given,
+        Consumes-trans before.left between now.left taken.0 stops.given taken.1 stops.consumed,
+        omega (arith, length-append taken.0 stops.given, taken.2, stops.counted),
+      ) prefix prompt
+  Ends-stopped ends.InputTooLong before now between old taken stops prefix prompt =
+      Ends-long before now (
+        taken.0 ++ stops.given,
+        Consumes-trans before.left between now.left taken.0 stops.given taken.1 stops.consumed,
+        omega (arith, length-append taken.0 stops.given, taken.2, stops.counted),
+      ) prefix prompt
+  Ends-stopped ends.NoMemory before now between old taken stops prefix prompt =
+      Ends-short NoMemory before now (λ e. (cc)) (
+        taken.0 ++ stops.given,
+        Consumes-trans before.left between now.left taken.0 stops.given taken.1 stops.consumed,
+        omega (arith, length-append taken.0 stops.given, taken.2, stops.counted),
+      ) prefix prompt
 
--- nothing was taken where the words weren't read
-pub IsTooLong-none : (status : Status) (settings : Option Settings) (before : Option (List ℕ)) → (status ≡ InputTooLong → ⊥) → IsTooLong status settings before before
+  -- a reply wasn't written whole
+  pub Ends-unwritten : (fault : Fault) (before now : Moment) → TakesAtMost told.max_input before.left now.left
+      → AnswersPrefix start (Some told) before now → AnswersAllButOneRead start (Some told) before now
+      → Ends start (status_of_fault fault) told before now
+  Ends-unwritten Failed before now few prefix prompt = Ends-short WriteFault before now (λ e. (cc)) few prefix prompt
+  Ends-unwritten faults.NoMemory before now few prefix prompt = Ends-short NoMemory before now (λ e. (cc)) few prefix prompt
+
+  -- ---- the end of the script
+
+  finished : (rules : Rules) (gained now : Option (List ℕ)) (input rest : List ℕ) (s : State) → rest ≡ []
+      → HasSent gained now (output_of rules start (items_of input)) (output_of rules s (items_of rest))
+      → Appends gained now (output_of rules start (items_of input))
+  finished rules gained now input rest s none sent =
+      HasSent-all gained now (output_of rules start (items_of input))
+      (subst (HasSent gained now (output_of rules start (items_of input))) (ap (λ bs. output_of rules s (items_of bs)) none ∙ ap (output_of rules s) items_of-none)
+      sent)
+
+  finished_if : (rules : Rules) (gained now : Option (List ℕ)) (input : List ℕ) (known rest : Option (List ℕ)) (s : State) → IsNext known rest items.End
+      → IsOnTheWay told start rules gained now (Some input) known s → Appends gained now (output_of rules start (items_of input))
+  finished_if rules gained now input None rest s next sent = absurd sent
+  finished_if rules gained now input (Some bytes) None s next sent = absurd next
+  finished_if rules gained now input (Some bytes) (Some rest) s next sent = finished rules gained now input bytes s next.0 sent
+
+  ended_input : (input : List ℕ) (left : Option (List ℕ)) → IsAtEnd left → TakesAtMost told.max_input (Some input) left
+      → (length input ≤ told.max_input) × (left ≡ Some [])
+  ended_input input None ended few = absurd few.1
+  ended_input input (Some xs) ended few = (omega (arith, ap length few.1, length-append few.0 xs, ap length ended, few.2), ap Some ended)
+
+  -- the input was read to its end, and everything was answered
+  pub AnswersAll-end : (before now : Moment) (s : State) (known rest : Option (List ℕ)) → IsAtEnd now.left
+      → HasAnswered told start before.gained now.gained before.left known s → IsNext known rest items.End
+      → TakesAtMost told.max_input before.left now.left → AnswersAll start (Some told) before now
+  AnswersAll-end before now s known rest ended answered next few = by_case before.left answered few
+    where
+      by_case : (left : Option (List ℕ)) → HasAnswered told start before.gained now.gained left known s → TakesAtMost told.max_input left now.left
+          → AnswersAll start (Some told) (record before { left = left }) now
+      by_case None answered few = tt
+      by_case (Some input) answered few =
+          let over = ended_input input now.left ended few in
+          (over.0, over.1, λ rules are. finished_if rules before.gained now.gained input known rest s next (answered rules are))
+
+  -- a session that no fault ended is done, or has too long an input, unless there was no memory
+  pub Completes-all : (status : Status) (before now : Moment) → (status ≡ Usage → ⊥) → (status ≡ ReadFault → ⊥) → (status ≡ WriteFault → ⊥)
+      → (status ≡ Done → AnswersAll start (Some told) before now) → IsTooLong status (Some told) before now → Completes status (Some told) before
+  Completes-all status before now form read write all over = by_case status before.left form read write all over
+    where
+      by_case : (status : Status) (left : Option (List ℕ)) → (status ≡ Usage → ⊥) → (status ≡ ReadFault → ⊥) → (status ≡ WriteFault → ⊥)
+          → (status ≡ Done → AnswersAll start (Some told) (record before { left = left }) now)
+          → IsTooLong status (Some told) (record before { left = left }) now → Completes status (Some told) (record before { left = left })
+      by_case status None form read write all over = tt
+      by_case Done (Some input) form read write all over = (λ within. inl refl, λ beyond. let done = all refl in absurd (omega (arith, done.0)))
+      by_case Usage (Some input) form read write all over = absurd (form refl)
+      by_case ReadFault (Some input) form read write all over = absurd (read refl)
+      by_case WriteFault (Some input) form read write all over = absurd (write refl)
+      by_case NoMemory (Some input) form read write all over = (λ within. inr refl, λ beyond. inr refl)
+      by_case InputTooLong (Some input) form read write all over =
+          (λ within. absurd (too_much input now.left told.max_input (over.0 refl) within), λ beyond. inl refl)
+
+-- nothing was taken where the arguments weren't read
+pub IsTooLong-none : (status : Status) (settings : Option Settings) (before : Moment) → (status ≡ InputTooLong → ⊥) → IsTooLong status settings before before
 IsTooLong-none status None before other = tt
-IsTooLong-none status (Some told) before other = not_long status told before before other (TakesAtMost-none before told.max_input)
+IsTooLong-none status (Some told) before other = too_long told status before other
+  where
+    too_long : (told : Settings) (status : Status) (before : Moment) → (status ≡ InputTooLong → ⊥) → IsTooLong status (Some told) before before
+    too_long told status before other = by_case before.left
+      where
+        by_case : (left : Option (List ℕ)) → IsTooLong status (Some told) (record before { left = left }) (record before { left = left })
+        by_case None = tt
+        by_case (Some input) =
+            (λ long. absurd (other long), λ many. absurd (taken_twice input (Some input) told.max_input (TakesAtMost-none (Some input) told.max_input) many))
 
-pub read_fault_end : (end : ReadEnd) → status_of end ≡ ReadFault → end ≡ ends.ReadFault
-read_fault_end ends.ReadFault is = refl
-read_fault_end ends.InputTooLong is = cc
-read_fault_end ends.NoMemory is = cc
+-- ---- the counts of faults
 
--- a count that rose later rose
-pub Rose-earlier : (before between now : ℕ) → before ≤ between → Rose between now → Rose before now
-Rose-earlier before between now kept rose = grind (arith, kept, rose)
+-- a count that rose after one that was as before rose
+Rose-since : (before between now : ℕ) → between ≡ before → Rose between now → Rose before now
+Rose-since before between now same rose = subst (λ (n : ℕ). Rose n now) same rose
 
-too_much : (input : List ℕ) (left : Option (List ℕ)) (most : ℕ) → TakesExactly (most + 1) (Some input) left → length input ≤ most → ⊥
-too_much input None most many within = absurd many.1
-too_much input (Some rest) most many within = omega (arith, ap length many.1, length-append many.0 rest, many.2)
-
--- a session that no fault ended is done, or has too long an input, unless there was no memory
-pub Completes-all : (status : Status) (told : Settings) (before left gained now : Option (List ℕ)) → (status ≡ Usage → ⊥) → (status ≡ ReadFault → ⊥) → (status ≡ WriteFault → ⊥)
-    → (status ≡ Done → AnswersAll (Some told) before left gained now) → IsTooLong status (Some told) before left → Completes status (Some told) before
-Completes-all status told None left gained now form read write all over = tt
-Completes-all Done told (Some input) left gained now form read write all over = (λ within. inl refl, λ beyond. let done = all refl in absurd (omega (arith, done.0)))
-Completes-all Usage told (Some input) left gained now form read write all over = absurd (form refl)
-Completes-all ReadFault told (Some input) left gained now form read write all over = absurd (read refl)
-Completes-all WriteFault told (Some input) left gained now form read write all over = absurd (write refl)
-Completes-all NoMemory told (Some input) left gained now form read write all over = (λ within. inr refl, λ beyond. inr refl)
-Completes-all InputTooLong told (Some input) left gained now form read write all over = (λ within. absurd (too_much input left told.max_input (over.0 refl) within), λ beyond. inl refl)
+-- where no item could be read
+pub IsCounted-read : (end : ReadEnd) (before between now : ℕ) → between ≡ before → IsReadCounted end between now
+    → IsCounted ReadFault (status_of end) before now
+IsCounted-read ends.ReadFault before between now same counted =
+    record { rose = λ e. Rose-since before between now same counted.1; calm = λ other. absurd (other refl) }
+IsCounted-read ends.InputTooLong before between now same counted = record { rose = λ e. (cc); calm = λ other. counted ∙ same }
+IsCounted-read ends.NoMemory before between now same counted = record { rose = λ e. (cc); calm = λ other. counted ∙ same }

@@ -8,4 +8,3 @@ pub mod EndLemmas
 pub mod StateLemmas
 pub mod UnitLemmas
 pub mod RankLemmas
-pub mod OptionLemmas

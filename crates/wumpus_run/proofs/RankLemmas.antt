@@ -21,8 +21,9 @@ use Rattle.wu_log2.specs.Logarithm.{lg}
 use Rattle.wu_rank.specs.declared.results.Unit.{Unit as RankedUnit}
 use Rattle.wu_rank.specs.declared.results.Ranked.{Ranked}
 use Rattle.wu_rank.specs.Bm25.{weigh}
-use Rattle.wu_rank.specs.Scores.{length_of, lies_in, frequency, has, holders, total_length, idf_of, part, score, holds, scored, all_listed}
-use Rattle.wu_rank.specs.Order.{compare_ranked, comes_before, put_in, in_order, listed}
+use Rattle.wu_rank.specs.Scores.{length_of, lies_in, frequency, count_at}
+use Rattle.wu_rank.specs.Order.{listed}
+use Rattle.wu_rank.proofs.Shifting.{Agrees, listed_shifted}
 use Rattle.wu_solve.specs.Addresses.{has_address}
 use Rattle.wu_solve.specs.Listing.{IsExtentIn}
 use Rattle.wu_solve.specs.Solving.{moved, frame_hits, frames_hits}
@@ -35,7 +36,7 @@ use Rattle.wumpus_run.specs.View.{Shown, shown_of}
 use Rattle.wumpus_run.specs.States.{Texts, AreShort, text_in}
 use Rattle.wumpus_run.specs.Hits.{hits_in}
 use Rattle.wumpus_run.specs.Scans.{tokens_in, frames_from, places_from, list_among, IsScan}
-use Rattle.wumpus_run.specs.Rankings.{unit_at, units_from, units_of, tokens_at, frequency_in, has_word, holders_in, part_in, score_in, scored_in, is_listed, ranking_of}
+use Rattle.wumpus_run.specs.Rankings.{unit_at, units_from, units_of, tokens_at, frequency_in, ranking_of}
 use Rattle.wumpus_run.specs.Units.{AreTermsWith, units_in, start_at, in_its_file, list_in}
 use Rattle.wumpus_run.proofs.CountLemmas.{Tells, count_by-cons, frame_of_file, places_increase, scan_has, scan_few}
 use Rattle.wumpus_run.proofs.UnitLemmas.{words_found}
@@ -203,10 +204,10 @@ take_front (token ∷ tokens) back zero (suc k) within = ap (λ (ts : List (List
 take_front (token ∷ tokens) back (suc s) k within = take_front tokens back s k (omega arith)
 
 -- the word's addresses in a unit are as many as its places there
-abbrev pub Agrees : List Shown → RankedUnit → Type 0
-Agrees view unit = (word : List ℕ) → frequency (at_addresses (frames_from 0 view) unit).extent (places_from 0 word (tokens_in view)) ≡ frequency_in view word unit
+abbrev AgreesIn : List Shown → RankedUnit → Type 0
+AgreesIn view = Agrees count_at (frequency_in view) (start_at (frames_from 0 view)) (list_among (tokens_in view))
 
-unit_agrees : (view : List Shown) (unit : RankedUnit) → IsUnitOf view unit → Agrees view unit
+unit_agrees : (view : List Shown) (unit : RankedUnit) → IsUnitOf view unit → AgreesIn view unit
 unfolding frequency frequency_in
 unit_agrees view unit is = λ word.
     let cut = cut_at view 0 unit.place is.seen in
@@ -229,148 +230,20 @@ unit_agrees view unit is = λ word.
     ∙ ap (λ (ts : List (List ℕ)). count_by (pointwise nat_eq word) (take size ts)) (drop_front front (tokens ++ cut.1) s)
     ∙ ap (count_by (pointwise nat_eq word)) (take_front tokens cut.1 s size fits)
 
-all_agree : (view : List Shown) (units : List RankedUnit) → AllByRecursion (IsUnitOf view) units → AllByRecursion (Agrees view) units
+all_agree : (view : List Shown) (units : List RankedUnit) → AllByRecursion (IsUnitOf view) units → AllByRecursion (AgreesIn view) units
 all_agree view [] are = tt
 all_agree view (unit ∷ units) are = (unit_agrees view unit are.0, all_agree view units are.1)
 
--- ---- scores
-
-holders_same : (view : List Shown) (units : List RankedUnit) (word : List ℕ) → AllByRecursion (Agrees view) units → holders (map (at_addresses (frames_from 0 view)) units) (places_from 0 word (tokens_in view)) ≡ holders_in view units word
-unfolding holders holders_in
-holders_same view [] word agree = refl
-holders_same view (unit ∷ units) word agree =
-    count_by-cons (has (places_from 0 word (tokens_in view))) (at_addresses (frames_from 0 view) unit) (map (at_addresses (frames_from 0 view)) units)
-    ∙ ap₂ (λ (f n : ℕ). cond (nat_lt 0 f) 1 0 + n) (agree.0 word) (holders_same view units word agree.1)
-    ∙ sym (count_by-cons (has_word view word) unit units)
-
-length_same : (start : ℕ) (x : Extent) → length_of (moved start x) ≡ length_of x
-length_same start x = omega arith
-
-total_same : (frames : List Range) (units : List RankedUnit) → total_length (map (at_addresses frames) units) ≡ total_length units
-unfolding total_length
-total_same frames [] = refl
-total_same frames (unit ∷ units) =
-    sum_by-cons (λ (u : RankedUnit). length_of u.extent) (at_addresses frames unit) (map (at_addresses frames) units)
-    ∙ ap₂ (λ (m n : ℕ). m + n) (length_same (start_at frames unit.place) unit.extent) (total_same frames units)
-    ∙ sym (sum_by-cons (λ (u : RankedUnit). length_of u.extent) unit units)
-
-weighed_same : (h n t f l i m u g k : ℕ) → h ≡ i → n ≡ m → t ≡ u → f ≡ g → l ≡ k
-    → cond (eqb h 0) 0 (weigh (cond (eqb h 0) 0 (lg n - lg h)) f l n t) ≡ cond (eqb i 0) 0 (weigh (lg m - lg i) g k m u)
-weighed_same h n t f l i m u g k hi nm tu fg lk = rw (hi, nm, tu, fg, lk) (by (eqb i 0)) where
-  by : (z : Bool) → cond z 0 (weigh (cond z 0 (lg m - lg i)) g k m u) ≡ cond z 0 (weigh (lg m - lg i) g k m u)
-  by true = refl
-  by false = refl
-
-part_same : (view : List Shown) (units : List RankedUnit) (unit : RankedUnit) (word : List ℕ) → AllByRecursion (Agrees view) units → Agrees view unit
-    → part (map (at_addresses (frames_from 0 view)) units) (at_addresses (frames_from 0 view) unit) (places_from 0 word (tokens_in view)) ≡ part_in view units unit word
-unfolding part idf_of part_in
-part_same view units unit word all agrees =
-    weighed_same _ _ _ _ _ _ _ _ _ _ (holders_same view units word all) (length-map units (at_addresses (frames_from 0 view))) (total_same (frames_from 0 view) units) (agrees word)
-    (length_same (start_at (frames_from 0 view) unit.place) unit.extent)
-
-score_same : (view : List Shown) (units : List RankedUnit) (unit : RankedUnit) (words : List (List ℕ)) → AllByRecursion (Agrees view) units → Agrees view unit
-    → score (map (at_addresses (frames_from 0 view)) units) (map (list_among (tokens_in view)) words) (at_addresses (frames_from 0 view) unit) ≡ score_in view units words unit
-unfolding score score_in
-score_same view units unit [] all agrees = refl
-score_same view units unit (word ∷ words) all agrees =
-    sum_by-cons (λ (list : TermList). part (map (at_addresses (frames_from 0 view)) units) (at_addresses (frames_from 0 view) unit) list.at) (list_among (tokens_in view) word) (map (list_among (tokens_in view)) words)
-    ∙ ap₂ (λ (m n : ℕ). m + n) (part_same view units unit word all agrees) (score_same view units unit words all agrees)
-    ∙ sym (sum_by-cons (part_in view units unit) word words)
-
-holds_same : (view : List Shown) (unit : RankedUnit) (words : List (List ℕ)) → Agrees view unit → holds (map (list_among (tokens_in view)) words) (at_addresses (frames_from 0 view) unit) ≡ is_listed view words unit
-unfolding holds
-holds_same view unit [] agrees = refl
-holds_same view unit (word ∷ words) agrees = ap₂ (λ (f : ℕ) (b : Bool). nat_lt 0 f || b) (agrees word) (holds_same view unit words agrees)
-
-listed_more : (f : RankedUnit → Ranked) (g : Ranked → Ranked) (h : RankedUnit → Ranked) (a u : RankedUnit) (us vs : List RankedUnit) (b c : Bool) → b ≡ c → f a ≡ g (h u) → map f us ≡ map g (map h vs)
-    → map f (cond b (a ∷ us) us) ≡ map g (map h (cond c (u ∷ vs) vs))
-listed_more f g h a u us vs true true is first rest = ap₂ (λ (r : Ranked) (rs : List Ranked). r ∷ rs) first rest
-listed_more f g h a u us vs false false is first rest = rest
-listed_more f g h a u us vs true false is first rest = cc
-listed_more f g h a u us vs false true is first rest = cc
-
-some_listed : (view : List Shown) (units : List RankedUnit) (words : List (List ℕ)) (some : List RankedUnit) → AllByRecursion (Agrees view) units → AllByRecursion (Agrees view) some
-    → map (scored (map (at_addresses (frames_from 0 view)) units) (map (list_among (tokens_in view)) words)) (filter (holds (map (list_among (tokens_in view)) words)) (map (at_addresses (frames_from 0 view)) some))
-    ≡ map (ranked_at_addresses (frames_from 0 view)) (map (scored_in view units words) (filter (is_listed view words) some))
-some_listed view units words [] all agree = refl
-some_listed view units words (unit ∷ some) all agree =
-    let frames = frames_from 0 view in
-    let lists = map (list_among (tokens_in view)) words in
-    listed_more (scored (map (at_addresses frames) units) lists) (ranked_at_addresses frames) (scored_in view units words) (at_addresses frames unit) unit
-    (filter (holds lists) (map (at_addresses frames) some)) (filter (is_listed view words) some) (holds lists (at_addresses frames unit)) (is_listed view words unit)
-    (holds_same view unit words agree.0)
-    (ap (λ (n : ℕ). let r : Ranked = record { score = n; unit = at_addresses frames unit } in r) (score_same view units unit words all agree.0))
-    (some_listed view units words some all agree.1)
-
--- ---- the order
-
-same_place : (x y : ℕ) → nat_cmp x y ≡ Equal → x ≡ y
-same_place x y e = subst (λ (o : Ordering). MatchOrdering o (x < y) (x ≡ y) (y < x)) e (ranked x y (nat_cmp x y) refl)
-
-one_order : (x y m n : ℕ) (o p : Ordering) → (x < y → m < n) → (x ≡ y → m ≡ n) → (y < x → n < m) → MatchOrdering o (x < y) (x ≡ y) (y < x) → MatchOrdering p (m < n) (m ≡ n) (n < m) → o ≡ p
-one_order x y m n Less Less l e g one other = refl
-one_order x y m n Less Equal l e g one other = let h = l one in absurd (omega arith)
-one_order x y m n Less Greater l e g one other = let h = l one in absurd (omega arith)
-one_order x y m n Equal Less l e g one other = let h = e one in absurd (omega arith)
-one_order x y m n Equal Equal l e g one other = refl
-one_order x y m n Equal Greater l e g one other = let h = e one in absurd (omega arith)
-one_order x y m n Greater Less l e g one other = let h = g one in absurd (omega arith)
-one_order x y m n Greater Equal l e g one other = let h = g one in absurd (omega arith)
-one_order x y m n Greater Greater l e g one other = refl
-
--- numbers counted from one start
-moved_alike : (s t x y : ℕ) → s ≡ t → nat_cmp (s + x) (t + y) ≡ nat_cmp x y
-moved_alike s t x y same =
-    one_order (s + x) (t + y) x y (nat_cmp (s + x) (t + y)) (nat_cmp x y) (λ h. omega arith) (λ h. omega arith) (λ h. omega arith)
-    (ranked (s + x) (t + y) (nat_cmp (s + x) (t + y)) refl) (ranked x y (nat_cmp x y) refl)
-
--- units of one file stand as before, and others by their places
-compare_same : (frames : List Range) (a b : Ranked) → compare_ranked (ranked_at_addresses frames a) (ranked_at_addresses frames b) ≡ compare_ranked a b
-unfolding compare_ranked
-compare_same frames a b = by (nat_cmp b.score a.score) (nat_cmp a.unit.place b.unit.place) refl where
-  by : (o p : Ordering) → nat_cmp a.unit.place b.unit.place ≡ p
-      → ordering_then (ordering_then (ordering_then o p) (nat_cmp (start_at frames a.unit.place + a.unit.extent.start) (start_at frames b.unit.place + b.unit.extent.start)))
-      (nat_cmp (start_at frames a.unit.place + a.unit.extent.end) (start_at frames b.unit.place + b.unit.extent.end))
-      ≡ ordering_then (ordering_then (ordering_then o p) (nat_cmp a.unit.extent.start b.unit.extent.start)) (nat_cmp a.unit.extent.end b.unit.extent.end)
-  by Less p is = refl
-  by Greater p is = refl
-  by Equal Less is = refl
-  by Equal Greater is = refl
-  by Equal Equal is =
-      let same : start_at frames a.unit.place ≡ start_at frames b.unit.place = ap (start_at frames) (same_place a.unit.place b.unit.place is) in
-      ap₂ ordering_then (moved_alike (start_at frames a.unit.place) (start_at frames b.unit.place) a.unit.extent.start b.unit.extent.start same)
-      (moved_alike (start_at frames a.unit.place) (start_at frames b.unit.place) a.unit.extent.end b.unit.extent.end same)
-
-before_same : (frames : List Range) (a b : Ranked) → comes_before (ranked_at_addresses frames a) (ranked_at_addresses frames b) ≡ comes_before a b
-unfolding comes_before
-before_same frames a b = ap is_lt (compare_same frames a b)
-
-put_more : (f : Ranked → Ranked) (x y : Ranked) (ys zs ws : List Ranked) (b c : Bool) → b ≡ c → zs ≡ map f ws → cond b (f x ∷ f y ∷ map f ys) (f y ∷ zs) ≡ map f (cond c (x ∷ y ∷ ys) (y ∷ ws))
-put_more f x y ys zs ws true true is rest = refl
-put_more f x y ys zs ws false false is rest = ap (λ (rs : List Ranked). f y ∷ rs) rest
-put_more f x y ys zs ws true false is rest = cc
-put_more f x y ys zs ws false true is rest = cc
-
-put_in_same : (frames : List Range) (x : Ranked) (ys : List Ranked) → put_in (ranked_at_addresses frames x) (map (ranked_at_addresses frames) ys) ≡ map (ranked_at_addresses frames) (put_in x ys)
-unfolding put_in
-put_in_same frames x [] = refl
-put_in_same frames x (y ∷ ys) =
-    put_more (ranked_at_addresses frames) x y ys (put_in (ranked_at_addresses frames x) (map (ranked_at_addresses frames) ys)) (put_in x ys)
-    (comes_before (ranked_at_addresses frames x) (ranked_at_addresses frames y)) (comes_before x y) (before_same frames x y) (put_in_same frames x ys)
-
-in_order_same : (frames : List Range) (xs : List Ranked) → in_order (map (ranked_at_addresses frames) xs) ≡ map (ranked_at_addresses frames) (in_order xs)
-unfolding in_order
-in_order_same frames [] = refl
-in_order_same frames (x ∷ xs) = ap (put_in (ranked_at_addresses frames x)) (in_order_same frames xs) ∙ put_in_same frames x (in_order xs)
+-- ---- the ranking
 
 -- the ranking of the units at addresses is that of the view, at addresses
 ranking_same : (view : List Shown) (region : Region) (words : List (List ℕ))
-    → listed (map (at_addresses (frames_from 0 view)) (units_of region view)) (map (list_among (tokens_in view)) words) ≡ map (ranked_at_addresses (frames_from 0 view)) (ranking_of view region words)
-unfolding listed all_listed ranking_of
+    → listed count_at (map (at_addresses (frames_from 0 view)) (units_of region view)) (map (list_among (tokens_in view)) words)
+    ≡ map (ranked_at_addresses (frames_from 0 view)) (ranking_of view region words)
+unfolding ranking_of
 ranking_same view region words =
-    let units = units_of region view in
-    let agree = all_agree view units (units_of_inside region view) in
-    ap in_order (some_listed view units words units agree agree) ∙ in_order_same (frames_from 0 view) (map (scored_in view units words) (filter (is_listed view words) units))
+    listed_shifted count_at (frequency_in view) (start_at (frames_from 0 view)) (list_among (tokens_in view)) (units_of region view) words
+    (all_agree view (units_of region view) (units_of_inside region view))
 
 -- ---- back to the files
 
@@ -446,13 +319,13 @@ scan_words files region words terms frames lists units found is =
     is.by_word ∙ ap (λ (ls : List TermList). map (list_in ls) words) is.scan.by_term ∙ words_found (tokens_in files) terms words is.wanted.of_words
 
 scan_ranking : (files : List Shown) (region : Region) (words terms : List (List ℕ)) (frames : List Range) (lists : List TermList) (units : List RankedUnit) (found : List TermList) → IsGathered files region words terms frames lists units found
-    → listed units found ≡ map (ranked_at_addresses (frames_from 0 files)) (ranking_of files region words)
+    → listed count_at units found ≡ map (ranked_at_addresses (frames_from 0 files)) (ranking_of files region words)
 scan_ranking files region words terms frames lists units found is =
-    ap₂ listed (scan_units files region words terms frames lists units found is) (scan_words files region words terms frames lists units found is) ∙ ranking_same files region words
+    ap₂ (listed count_at) (scan_units files region words terms frames lists units found is) (scan_words files region words terms frames lists units found is) ∙ ranking_same files region words
 
 -- as many units are listed
 pub scan_listed : (files : List Shown) (region : Region) (words terms : List (List ℕ)) (frames : List Range) (lists : List TermList) (units : List RankedUnit) (found : List TermList) (n : ℕ) → IsGathered files region words terms frames lists units found
-    → n ≡ length (listed units found) → n ≡ length (ranking_of files region words)
+    → n ≡ length (listed count_at units found) → n ≡ length (ranking_of files region words)
 scan_listed files region words terms frames lists units found n is n_is =
     n_is ∙ ap length (scan_ranking files region words terms frames lists units found is) ∙ length-map (ranking_of files region words) (ranked_at_addresses (frames_from 0 files))
 
@@ -463,7 +336,7 @@ map-taken f (suc k) (r ∷ rs) = ap (λ (xs : List Ranked). f r ∷ xs) (map-tak
 
 -- and the first of them are the first of the ranking
 pub scan_top : (files : List Shown) (region : Region) (words terms : List (List ℕ)) (frames : List Range) (lists : List TermList) (units : List RankedUnit) (found : List TermList) (k : ℕ) (top back : List Ranked) → IsGathered files region words terms frames lists units found
-    → top ≡ take k (listed units found) → back ≡ map (in_its_file frames) top → back ≡ take k (ranking_of files region words)
+    → top ≡ take k (listed count_at units found) → back ≡ map (in_its_file frames) top → back ≡ take k (ranking_of files region words)
 scan_top files region words terms frames lists units found k top back is top_is back_is =
     let ranking = ranking_of files region words in
     let first : top ≡ map (ranked_at_addresses (frames_from 0 files)) (take k ranking) =

@@ -1,27 +1,14 @@
 -- The written answer to a query, over a user's view alone.
 use Rattle.std.specs.Prelude.{ℕ, List, [], length, map, take, count_by, slice_get, option_and_then, unwrap_or}
 use Rattle.std.specs.List.{flat_map}
-use Rattle.wu_gcl.specs.Regions.{Region, region_of}
 use Rattle.wu_rank.specs.declared.results.Ranked.{Ranked}
-use Rattle.wu_ask.specs.declared.Ask.{Ask}
-use Rattle.wu_ask.specs.declared.Ask.TheVariants as asks
+use Rattle.wu_ask.specs.Questions.{Question, Counting, Ranking, ListingPaths}
 use Rattle.wu_ask.specs.declared.RankLine.{RankLine}
 use Rattle.wu_ask.specs.declared.Answered.{Answered}
 use Rattle.wu_ask.specs.declared.Answered.TheVariants.{Count, Rank, Paths}
 use Rattle.wumpus_run.specs.View.{Shown}
 use Rattle.wumpus_run.specs.Hits.{hits_in, has_hit}
 use Rattle.wumpus_run.specs.Rankings.{ranking_of}
-
--- what a query asks; an expression stands as what it says
-pub data Question : Type 0 where
-  Counting : (region : Region) → Question
-  Ranking : (k : ℕ) (unit : Region) (words : List (List ℕ)) → Question
-  ListingPaths : Question
-
-abbrev pub question_of : Ask → Question
-question_of (asks.Count expr) = Counting (region_of expr)
-question_of (asks.Rank k unit words) = Ranking k (region_of unit) words
-question_of asks.Paths = ListingPaths
 
 -- the least open path of the file at a place of the view
 abbrev pub path_at : List Shown → ℕ → List ℕ

@@ -1,87 +1,116 @@
--- What a session did, told by what the source had left and what the sink gained.
-use Rattle.std.specs.Prelude.{◌≡◌, ℕ, ◌+◌, ◌≤◌, ◌<◌, ◌⊎◌, ◌↔◌, List, [], length, take, Option, Some, None, IfSome}
+-- What a session did, by what source and sink told before and after it.
+use Rattle.std.specs.Prelude.{◌≡◌, ℕ, ◌+◌, ◌≤◌, ◌<◌, ◌⊎◌, ◌↔◌, List, [], length, take, Option, Some, None, IfSome, option_and_then}
 use Rattle.std.specs.Io.KnownBytes.{Appends, Consumes}
+use Rattle.wu_outside.specs.Faults.{Rose}
+use Rattle.wu_outside.specs.declared.traits.Fault.{Fault}
+use Rattle.wu_outside.specs.declared.traits.Fault.TheVariants.{Failed}
+use Rattle.wu_outside.specs.declared.traits.Fault.TheVariants as faults
 use Rattle.wu_outside.specs.Gains.{GainsPrefix}
 use Rattle.wu_script.specs.Holding.{but_last}
 use Rattle.wu_script.specs.Items.{items_of, whole_items_of}
 use Rattle.wu_script.specs.declared.ends.ReadEnd.{ReadEnd}
 use Rattle.wu_script.specs.declared.ends.ReadEnd.TheVariants as ends
-use Rattle.wu_script.specs.declared.types.Item.{Item}
-use Rattle.wu_script.specs.declared.types.Item.TheVariants as items
-use Rattle.wumpus_run.specs.declared.options.Settings.{Settings}
+use Rattle.wu_options.specs.CommandLines.{command_line_of}
+use Rattle.wu_options.specs.declared.command_lines.CommandLine.{CommandLine}
+use Rattle.wu_options.specs.declared.command_lines.CommandLine.TheVariants.{Run, Demo}
+use Rattle.wu_options.specs.declared.command_lines.Settings.{Settings}
 use Rattle.wumpus_run.specs.declared.statuses.Status.{Status}
 use Rattle.wumpus_run.specs.declared.statuses.Status.TheVariants.{Done, Usage, ReadFault, WriteFault, NoMemory, InputTooLong}
-use Rattle.wumpus_run.specs.States.{first_state}
-use Rattle.wumpus_run.specs.Output.{Reading, IsReading, output_of}
+use Rattle.wumpus_run.specs.States.{State}
+use Rattle.wumpus_run.specs.Replies.{Rules, AreRules, output_of}
 use Rattle.wumpus_run.specs.Taking.{TakesExactly, TakesAtMost, GainsAtLeast}
 
--- an item that isn't the end of the script
-abbrev pub IsAnswered : Item → Type 0
-IsAnswered items.End = ⊥
-IsAnswered item = Unit {0}
+-- what source and sink tell at a moment: the bytes that the source has left and those that the sink gained, where they tell
+-- them; how many bytes the source's last read gave; and how many calls of each failed
+pub record Moment : Type 0 where
+  pub left : Option (List ℕ)
+  pub last_read : ℕ
+  pub read_faults : ℕ
+  pub gained : Option (List ℕ)
+  pub write_faults : ℕ
 
--- how a session ends where no item could be read
-abbrev pub status_of : ReadEnd → Status
-status_of ends.ReadFault = ReadFault
-status_of ends.InputTooLong = InputTooLong
-status_of ends.NoMemory = NoMemory
+abbrev pub moment : Option (List ℕ) → ℕ → ℕ → Option (List ℕ) → ℕ → Moment
+moment left last_read read_faults gained write_faults = record {
+  left = left;
+  last_read = last_read;
+  read_faults = read_faults;
+  gained = gained;
+  write_faults = write_faults;
+}
 
--- `Usage` comes only where the words are in no form, and then it does come, unless there was no memory to read them.
+-- ---- which session
+
+-- the settings of a session, where the command line is that of `run`; a demo is to come
+abbrev pub session_settings : CommandLine → Option Settings
+session_settings (Run settings) = Some settings
+session_settings (Demo number) = None
+
+-- the settings of the session that the arguments ask for
+abbrev pub settings_of : List (List ℕ) → Option Settings
+settings_of arguments = option_and_then session_settings (command_line_of arguments)
+
+-- `Usage` comes only where the arguments ask for no session, and then it does come, unless there was no memory to read them.
 pub record IsUsage (status : Status) (settings : Option Settings) : Type 0 where
   pub only : status ≡ Usage → settings ≡ None
   pub comes : settings ≡ None → (status ≡ Usage) ⊎ (status ≡ NoMemory)
 
--- The input has at most as many bytes as it may and none is left; the sink gained exactly the output for its items.
-abbrev pub AnswersAll : Option Settings → Option (List ℕ) → Option (List ℕ) → Option (List ℕ) → Option (List ℕ) → Type 0
-AnswersAll settings before left gained now =
-    IfSome settings (λ told. IfSome before (λ input. (length input ≤ told.max_input) × (left ≡ Some [])
-    × ((read : Reading) → IsReading read → Appends gained now (output_of read first_state (items_of input)))))
+-- ---- what was taken, and which fault came
 
--- The sink gained a front of the output for the items of the input.
-abbrev pub AnswersFront : Option (List ℕ) → Option (List ℕ) → Option (List ℕ) → Type 0
-AnswersFront before gained now =
-    IfSome before (λ input. (read : Reading) → IsReading read → GainsPrefix gained now (output_of read first_state (items_of input)))
+-- An object's fault ends a session exactly where its count of faults rose.
+pub record IsCounted (fault status : Status) (before now : ℕ) : Type 0 where
+  pub rose : status ≡ fault → Rose before now
+  pub calm : (status ≡ fault → ⊥) → now ≡ before
 
--- The source gave no byte behind the one past the limit.
-abbrev pub StaysWithin : Option Settings → Option (List ℕ) → Option (List ℕ) → Type 0
-StaysWithin settings before left = IfSome settings (λ told. TakesAtMost (told.max_input + 1) before left)
+-- The source gave at most one byte past the limit.
+abbrev pub StaysWithin : Option Settings → Moment → Moment → Type 0
+StaysWithin settings before now = IfSome settings (λ told. TakesAtMost (told.max_input + 1) before.left now.left)
 
 -- The input is called too long exactly where as many bytes as it may have were taken, and one more.
-abbrev pub IsTooLong : Status → Option Settings → Option (List ℕ) → Option (List ℕ) → Type 0
-IsTooLong status settings before left =
-    IfSome settings (λ told. IfSome before (λ input. (status ≡ InputTooLong) ↔ TakesExactly (told.max_input + 1) (Some input) left))
+abbrev pub IsTooLong : Status → Option Settings → Moment → Moment → Type 0
+IsTooLong status settings before now = IfSome settings (λ told. IfSome before.left (λ input.
+    (status ≡ InputTooLong) ↔ TakesExactly (told.max_input + 1) (Some input) now.left))
 
--- The sink gained exactly the output for the whole items of the bytes that the source gave, the one byte too many left out.
-abbrev pub AnswersWholeItems : Option Settings → Option (List ℕ) → Option (List ℕ) → Option (List ℕ) → Option (List ℕ) → Type 0
-AnswersWholeItems settings before left gained now = IfSome settings (λ told. (given : List ℕ) × Consumes before left given
-    × ((read : Reading) → IsReading read → Appends gained now (output_of read first_state (whole_items_of (take told.max_input given)))))
+-- ---- what was written, from a state on
 
--- The sink gained at least the output for the whole items of the bytes that the source gave, without those of one read at the end.
-abbrev pub AnswersAllButOneRead : Option (List ℕ) → Option (List ℕ) → Option (List ℕ) → Option (List ℕ) → Type 0
-AnswersAllButOneRead before left gained now = (given : List ℕ) × Consumes before left given
-    × ((read : Reading) → IsReading read → GainsAtLeast gained now (output_of read first_state (whole_items_of (but_last 65536 given))))
+-- The input has at most as many bytes as it may and none is left; the sink gained exactly the output for its items.
+abbrev pub AnswersAll : State → Option Settings → Moment → Moment → Type 0
+AnswersAll start settings before now = IfSome settings (λ told. IfSome before.left (λ input.
+    (length input ≤ told.max_input) × (now.left ≡ Some [])
+    × ((rules : Rules) → AreRules told rules → Appends before.gained now.gained (output_of rules start (items_of input)))))
+
+-- The sink gained a prefix of the output for the items of the input.
+abbrev pub AnswersPrefix : State → Option Settings → Moment → Moment → Type 0
+AnswersPrefix start settings before now = IfSome settings (λ told. IfSome before.left (λ input.
+    (rules : Rules) → AreRules told rules → GainsPrefix before.gained now.gained (output_of rules start (items_of input))))
+
+-- The sink gained exactly the output for the whole items of the bytes that the source gave, without the one byte too many.
+abbrev pub AnswersWholeItems : State → Option Settings → Moment → Moment → Type 0
+AnswersWholeItems start settings before now = IfSome settings (λ told. (given : List ℕ) × Consumes before.left now.left given
+    × ((rules : Rules) → AreRules told rules
+    → Appends before.gained now.gained (output_of rules start (whole_items_of (take told.max_input given)))))
+
+-- The sink gained at least the output for the whole items of the bytes that the source gave, without those of its last read.
+abbrev pub AnswersAllButOneRead : State → Option Settings → Moment → Moment → Type 0
+AnswersAllButOneRead start settings before now = IfSome settings (λ told. (given : List ℕ) × Consumes before.left now.left given
+    × ((rules : Rules) → AreRules told rules
+    → GainsAtLeast before.gained now.gained (output_of rules start (whole_items_of (but_last now.last_read given)))))
 
 -- No reply was held back where a session ended early.
-abbrev pub HoldsNothingBack : Status → Option Settings → Option (List ℕ) → Option (List ℕ) → Option (List ℕ) → Option (List ℕ) → Type 0
-HoldsNothingBack Done settings before left gained now = Unit {0}
-HoldsNothingBack Usage settings before left gained now = Unit {0}
-HoldsNothingBack ReadFault settings before left gained now = AnswersWholeItems settings before left gained now
-HoldsNothingBack InputTooLong settings before left gained now = AnswersWholeItems settings before left gained now
-HoldsNothingBack WriteFault settings before left gained now = AnswersAllButOneRead before left gained now
-HoldsNothingBack NoMemory settings before left gained now = AnswersAllButOneRead before left gained now
-
--- What holds however a session ends.
-pub record Ends (status : Status) (told : Settings) (before left gained now : Option (List ℕ)) : Type 0 where
-  pub too_long : IsTooLong status (Some told) before left
-  pub taken : StaysWithin (Some told) before left
-  pub front : AnswersFront before gained now
-  pub prompt : HoldsNothingBack status (Some told) before left gained now
+abbrev pub HoldsNothingBack : State → Status → Option Settings → Moment → Moment → Type 0
+HoldsNothingBack start Done settings before now = Unit {0}
+HoldsNothingBack start Usage settings before now = Unit {0}
+HoldsNothingBack start ReadFault settings before now = AnswersWholeItems start settings before now
+HoldsNothingBack start InputTooLong settings before now = AnswersWholeItems start settings before now
+HoldsNothingBack start WriteFault settings before now = AnswersAllButOneRead start settings before now
+HoldsNothingBack start NoMemory settings before now = AnswersAllButOneRead start settings before now
 
 -- An input within the limit is answered, and a longer one called too long, unless there was no memory.
-abbrev pub Completes : Status → Option Settings → Option (List ℕ) → Type 0
-Completes status settings before = IfSome settings (λ told. IfSome before (λ input.
+abbrev pub Completes : Status → Option Settings → Moment → Type 0
+Completes status settings before = IfSome settings (λ told. IfSome before.left (λ input.
     (length input ≤ told.max_input → (status ≡ Done) ⊎ (status ≡ NoMemory))
     × (told.max_input < length input → (status ≡ InputTooLong) ⊎ (status ≡ NoMemory))))
+
+-- ---- how it ended
 
 -- the exit status of the program
 abbrev pub code_of : Status → ℕ
@@ -91,3 +120,21 @@ code_of ReadFault = 2
 code_of WriteFault = 3
 code_of NoMemory = 4
 code_of InputTooLong = 5
+
+-- how a session ends where no item could be read
+abbrev pub status_of : ReadEnd → Status
+status_of ends.ReadFault = ReadFault
+status_of ends.InputTooLong = InputTooLong
+status_of ends.NoMemory = NoMemory
+
+-- how it ends where a reply couldn't be written
+abbrev pub status_of_fault : Fault → Status
+status_of_fault Failed = WriteFault
+status_of_fault faults.NoMemory = NoMemory
+
+-- what holds however a session ends
+pub record Ends (start : State) (status : Status) (told : Settings) (before now : Moment) : Type 0 where
+  pub too_long : IsTooLong status (Some told) before now
+  pub taken : StaysWithin (Some told) before now
+  pub prefix : AnswersPrefix start (Some told) before now
+  pub prompt : HoldsNothingBack start status (Some told) before now

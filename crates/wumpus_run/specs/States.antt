@@ -1,5 +1,6 @@
 -- The state of a session: a file tree, and the texts of its files.
 use Rattle.std.specs.Prelude.{ℕ, ◌≤◌, List, [], length, Option, Some, None, Result, Ok, Err, unwrap_or}
+use Rattle.std.specs.Result.{result_unwrap_or}
 use Rattle.std.specs.Ordering.{nat_cmp}
 use Rattle.std.specs.Map.{lookup, remove_entry}
 use Rattle.std.specs.BTreeMap.{is_at, insert_entry}
@@ -14,6 +15,7 @@ use Rattle.wu_tree.specs.declared.events.Refusal.{Refusal}
 abbrev pub Texts : Type 0
 Texts = List (ℕ × List ℕ)
 
+-- a file system, and the texts of exactly its files
 pub record State : Type 0 where
   pub tree : FileSystem
   pub texts : Texts
@@ -22,7 +24,7 @@ pub record State : Type 0 where
 abbrev pub first_state : State
 first_state = record { tree = root_alone; texts = [] }
 
--- the text of a file; one that was given none has the empty text
+-- the text of a file, and no text of what is no file
 abbrev pub text_in : Texts → ℕ → List ℕ
 text_in texts ino = unwrap_or (lookup (is_at (nat_cmp ino)) texts) []
 
@@ -38,7 +40,7 @@ with_text (Some ino) text texts = insert_entry nat_cmp texts ino text
 
 -- a file that is made has the empty text, and the text of one that is gone goes with it
 abbrev pub texts_after : Effect → List ℕ → Texts → Texts
-texts_after effect text texts = with_text effect.texted text (without_text effect.made (without_text effect.dropped texts))
+texts_after effect text texts = with_text effect.texted text (with_text effect.made [] (without_text effect.dropped texts))
 
 abbrev pub stepped : List ℕ → Texts → Result (FileSystem × Effect) Refusal → Result State Refusal
 stepped text texts (Ok (tree, effect)) = Ok (record { tree = tree; texts = texts_after effect text texts })
@@ -47,6 +49,10 @@ stepped text texts (Err refusal) = Err refusal
 -- what an event makes of a state, where `text` is the text that it gives, or why it is refused
 unfoldable pub step : State → Event → List ℕ → Result State Refusal
 step s event text = stepped text s.texts (tree_step s.tree event)
+
+-- the state after an event, which is the one before where it is refused
+abbrev pub after_event : State → Event → List ℕ → State
+after_event s event text = result_unwrap_or (step s event text) s
 
 -- no text is longer than a text may be
 abbrev pub AreShort : Texts → Type 0

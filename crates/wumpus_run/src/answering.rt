@@ -1,23 +1,23 @@
 //! The answer to a query, over the files that the user may search.
 ghost use Rattle.std.specs.Prelude.{◌≡◌, ◌≤◌, ◌^◌, ◌++◌, [], All, length, map, count_by, nat_lt, unwrap_or, slice_get, IfOk, OnOk};
 ghost use Rattle.std.specs.List.{flat_map};
+ghost use Rattle.wu_ask.specs.Questions.{question_of, IsSoundAsk, Counting, Ranking};
+ghost use Rattle.wu_base.specs.declared.limits.TheConstants.{RANK_WORDS_MAX};
 ghost use Rattle.wu_solve.specs.Addresses.{AreLists};
 ghost use Rattle.wu_solve.specs.Solving.{frame_hits, frames_hits, IsFrame};
-ghost use Rattle.wumpus_run.specs.Answer.{answer, question_of, line_of, path_at, Counting, Ranking};
+ghost use Rattle.wumpus_run.specs.Answer.{answer, line_of, path_at};
 ghost use Rattle.wumpus_run.specs.States.{AreShort, Texts};
-ghost use Rattle.wu_script.specs.Commands.{IsSoundAsk};
 ghost use Rattle.wumpus_run.specs.View.{shown_of};
 ghost use Rattle.wu_gcl.specs.Regions.{region_of};
 
 use crate::ranking::rank_units;
-use crate::scanning::scan_texts;
+use crate::scanning::{extents_in, scan_texts};
 use std::alloc::Global;
 use std::collections::BTreeMap;
 use wu_ask::{Answered, Ask, RankLine};
-use wu_base::{Bytes, Extent, Ino, NoMemory, Range, Sequence, TermList};
+use wu_base::{Bytes, Ino, NoMemory, Range, Sequence, TermList};
 use wu_gcl::{Expr, terms_of};
 use wu_rank::Ranked;
-use wu_solve::solve;
 use wu_view::Seen;
 
 /// The answer to the question, over the view and the texts of its files.
@@ -70,26 +70,12 @@ fn count_in(
     let mut hits = 0;
     let mut files = 0;
     for frame in frames {
-        let extents = solve_in(alloc, expr, *frame, lists)?;
+        let extents = extents_in(alloc, expr, *frame, lists)?;
         let count = extents.len() as u64;
         hits += count;
         files += u64::from(count > 0);
     }
     Ok((hits, files))
-}
-
-/// The extents of the expression in one frame.
-pub(crate) fn solve_in(
-    alloc: Global,
-    expr: &Expr,
-    frame: Range,
-    lists: &[TermList],
-) -> Result<Vec<Extent>, NoMemory>
-    requires lists { AreLists lists.now }
-    requires frame { IsFrame frame }
-    ensures { IfOk result (λ v. v.items ≡ frame_hits (region_of expr.now) lists.now frame) }
-{
-    solve(alloc, expr, &[frame], lists)
 }
 
 /// How many units hold a word, and the first `k` of them.
@@ -102,13 +88,13 @@ fn ranked(
     words: &[Bytes],
 ) -> Result<Answered, NoMemory>
     requires short { AreShort texts.now.entries }
-    requires few { length words.now ≤ 64 }
+    requires few { length words.now ≤ RANK_WORDS_MAX }
     ensures { IfOk result (λ answered. answered ≡ answer (map (shown_of texts.now.entries) view.now) (Ranking k (region_of unit.now) words.now)) }
 {
-    let listing = rank_units(alloc, texts, view, unit, words, k)?;
-    let shown = lines_of(alloc, view, &listing.top)?;
+    let ranking = rank_units(alloc, texts, view, unit, words, k)?;
+    let shown = lines_of(alloc, view, ranking.top.as_slice())?;
     Ok(Answered::Rank {
-        listed: listing.listed,
+        listed: ranking.listed,
         shown: Sequence::from(shown),
     })
 }

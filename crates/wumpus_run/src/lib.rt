@@ -4,7 +4,6 @@
 mod answering;
 mod laws;
 mod machine;
-mod options;
 mod ranking;
 mod scanning;
 mod session;
@@ -13,8 +12,3 @@ mod statuses;
 pub use laws::equal_views_are_answered_alike;
 pub use session::run;
 pub use statuses::Status;
-
-#[cfg(test)]
-mod option_tests;
-#[cfg(test)]
-mod tests;

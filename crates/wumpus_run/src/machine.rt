@@ -1,43 +1,32 @@
-//! The state of a session: the file tree, and the texts of its files.
-ghost use Rattle.std.specs.Prelude.{◌≡◌, ◌≤◌, length, Ok, Err, IfOk, OnOk, MatchResult};
-ghost use Rattle.wumpus_run.specs.Answer.{answer, question_of};
-ghost use Rattle.wumpus_run.specs.States.{AreShort, with_text, without_text};
+//! The machine that keeps a session's state: the file tree, and the texts of its files.
+ghost use Rattle.std.specs.Prelude.{◌≡◌, ◌≤◌, [], length, IfOk, OnOk};
+ghost use Rattle.wu_ask.specs.Questions.{question_of, IsSoundAsk};
+ghost use Rattle.wu_tree.specs.Steps.{IsEvent};
+ghost use Rattle.wu_tree.specs.declared.events.Event.TheVariants.{Text};
+ghost use Rattle.wumpus_run.specs.Answer.{answer};
+ghost use Rattle.wumpus_run.specs.Machines.{Stands, StandsForSome, judged};
+ghost use Rattle.wumpus_run.specs.States.{State, AreShort, after_event, first_state, step, with_text, without_text};
+ghost use Rattle.wumpus_run.specs.View.{view_of};
 
 use crate::answering::answer;
 use std::alloc::Global;
 use std::collections::BTreeMap;
-use std::marker::Model;
 use wu_ask::{Answered, Query};
 use wu_base::{Bytes, Ino, NoMemory, TEXT_MAX};
 use wu_tree::{Event, Refusal, Tree};
 use wu_view::searchable;
 
-/// A file tree with the texts of its files. Contracts see the definition's state.
+/// A file tree with the texts of its files.
 #[derive(Debug, Drop)]
 pub struct Machine {
     tree: Tree,
     texts: BTreeMap<Ino, Bytes>,
 }
 
-impl Model for Machine {
-    ghost use Rattle.wumpus_run.specs.States.{State, AreShort};
-
-    ghost Value = { State };
-
-    ghost view = { λ m. record { tree = m.tree; texts = m.texts.entries } };
-
-    ghost invariant = { λ m. AreShort m.texts.entries };
-}
-
 impl Machine {
-    ghost use Rattle.wu_script.specs.Commands.{IsSoundAsk};
-    ghost use Rattle.wu_tree.specs.Steps.{IsEvent};
-    ghost use Rattle.wumpus_run.specs.States.{State, first_state, step};
-    ghost use Rattle.wumpus_run.specs.View.{view_of};
-
     /// The root directory alone.
     pub fn new(alloc: Global) -> Result<Machine, NoMemory>
-        ensures { IfOk result (λ machine. machine ≡ first_state) }
+        ensures { IfOk result (λ machine. Stands machine first_state) }
     {
         Ok(Machine {
             tree: Tree::new(alloc)?,
@@ -45,43 +34,75 @@ impl Machine {
         })
     }
 
-    /// Applies an event; where it gives a file a text, `text` is that. A refused event changes
-    /// nothing. After want of memory the machine is only dropped.
-    pub fn update(&mut self, event: &Event, text: Bytes) -> Result<Result<(), Refusal>, NoMemory>
-        requires event { IsEvent event.now }
-        requires short { length text ≤ TEXT_MAX }
-        ensures { IfOk result (λ verdict. MatchResult verdict
-            (λ _. step self.old event.now text ≡ Ok self.new)
-            (λ refusal. (step self.old event.now text ≡ Err refusal) × (self.new ≡ self.old))) }
+    /// Applies an event. A file that is made has the empty text. A refused event changes nothing.
+    /// Out of memory, the machine is only dropped.
+    pub fn update(&mut self, alloc: Global, event: &Event) -> Result<Result<(), Refusal>, NoMemory>
+        requires { IsEvent event.now }
+        ensures { (s : State) → Stands self.old s → IfOk result (λ verdict.
+            (verdict ≡ judged (step s event.now [])) × Stands self.new (after_event s event.now [])) }
     {
-        match self.tree.apply(event)? {
-            Ok(effect) => {
-                forget(&mut self.texts, effect.dropped);
-                forget(&mut self.texts, effect.made);
-                keep(&mut self.texts, effect.texted, text)?;
-                Ok(Ok(()))
-            }
-            Err(refusal) => Ok(Err(refusal)),
-        }
+        let effect = match self.tree.apply(event)? {
+            Ok(effect) => effect,
+            Err(refusal) => return Ok(Err(refusal)),
+        };
+        forget(&mut self.texts, effect.dropped);
+        empty(alloc, &mut self.texts, effect.made)?;
+        empty(alloc, &mut self.texts, effect.texted)?;
+        Ok(Ok(()))
+    }
+
+    /// Gives a file this text. Where that is refused nothing changes. Out of memory, the machine is
+    /// only dropped.
+    pub fn give_text(
+        &mut self,
+        alloc: Global,
+        ino: Ino,
+        text: Bytes,
+    ) -> Result<Result<(), Refusal>, NoMemory>
+        requires { length text ≤ TEXT_MAX }
+        ensures { (s : State) → Stands self.old s → IfOk result (λ verdict.
+            (verdict ≡ judged (step s (Text ino) text)) × Stands self.new (after_event s (Text ino) text)) }
+    {
+        let effect = match self.tree.apply(&Event::Text { ino })? {
+            Ok(effect) => effect,
+            Err(refusal) => return Ok(Err(refusal)),
+        };
+        forget(&mut self.texts, effect.dropped);
+        empty(alloc, &mut self.texts, effect.made)?;
+        keep(&mut self.texts, effect.texted, text)?;
+        Ok(Ok(()))
     }
 
     /// The answer to a query, over what the user may search.
     pub fn answer(&self, alloc: Global, query: &Query) -> Result<Answered, NoMemory>
-        requires { IsSoundAsk query.now.ask }
-        ensures { IfOk result (λ answered. answered ≡ answer (view_of self.now query.now.uid) (question_of query.now.ask)) }
+        requires sound { IsSoundAsk query.now.ask }
+        requires stands { StandsForSome self.now }
+        ensures { (s : State) → Stands self.now s → IfOk result (λ answered.
+            answered ≡ answer (view_of s query.now.uid) (question_of query.now.ask)) }
     {
         let view = searchable(alloc, &self.tree, query.uid)?;
         answer(alloc, &self.texts, view, &query.ask)
     }
 }
 
-/// The text of a file that is made or gone goes.
+/// The text of a file that is gone goes.
 fn forget(texts: &mut BTreeMap<Ino, Bytes>, file: Option<Ino>)
     ensures entries { texts.new.entries ≡ without_text file texts.old.entries }
     ensures short { AreShort texts.old.entries → AreShort texts.new.entries }
 {
     if let Some(ino) = file {
         texts.remove(&ino);
+    }
+}
+
+/// The file, if there is one, has the empty text.
+fn empty(alloc: Global, texts: &mut BTreeMap<Ino, Bytes>, file: Option<Ino>) -> Result<(), NoMemory>
+    ensures entries { OnOk result (texts.new.entries ≡ with_text file [] texts.old.entries) }
+    ensures short { OnOk result (AreShort texts.old.entries → AreShort texts.new.entries) }
+{
+    match file {
+        Some(_) => keep(texts, file, Bytes::from_slice(alloc, b"")?),
+        None => Ok(()),
     }
 }
 

@@ -3,8 +3,9 @@ ghost use Rattle.std.specs.Prelude.{◌≡◌, ◌≤◌, ◌<◌, ◌^◌, ◌+
 ghost use Rattle.std.specs.List.Sorted.{IsStrictlySortedBy, IsStrictlyIncreasing};
 ghost use Rattle.std.specs.Cmp.Lexicographic.{slice_cmp};
 ghost use Rattle.std.specs.Ordering.{nat_cmp};
+ghost use Rattle.wu_base.specs.declared.limits.TheConstants.{RANK_WORDS_MAX};
 ghost use Rattle.wu_gcl.specs.Regions.{region_of};
-ghost use Rattle.wu_rank.specs.Scores.{length_of, total_length};
+ghost use Rattle.wu_rank.specs.Scores.{count_at, length_of, total_length};
 ghost use Rattle.wu_rank.specs.Order.{listed};
 ghost use Rattle.wu_solve.specs.Addresses.{AreLists};
 ghost use Rattle.wu_solve.specs.Solving.{IsFrame};
@@ -13,8 +14,7 @@ ghost use Rattle.wumpus_run.specs.States.{AreShort};
 ghost use Rattle.wumpus_run.specs.Units.{AreTermsWith, units_in, start_at, in_its_file, addresses_in, list_in};
 ghost use Rattle.wumpus_run.specs.View.{shown_of};
 
-use crate::answering::solve_in;
-use crate::scanning::{Scan, scan_texts};
+use crate::scanning::{Scan, extents_in, scan_texts};
 use std::alloc::Global;
 use std::collections::BTreeMap;
 use wu_base::{Bytes, Extent, Ino, NoMemory, Range, Sequence, TermList};
@@ -23,18 +23,10 @@ use wu_rank::{Ranked, Ranker, Ranking, Unit, bm25_weigh, rank, summed_length};
 use wu_solve::find_term;
 use wu_view::Seen;
 
-/// How many units hold a query word, and the best of them, the best first. A unit's extent is counted
-/// from the first token of its file, and its place is that of the file in the view.
-#[derive(Debug, Drop)]
-pub struct Listing {
-    pub listed: u64,
-    pub top: Vec<Ranked>,
-}
-
 /// The units that hold one of the words, by BM25 over the view alone, and the first `k` of them: by
 /// score, falling, then by file, then by start. The units are the extents of `unit`; a word that is
-/// given more than once counts as often. The answer is want of memory also where the view has more
-/// than 2^32 files.
+/// given more than once counts as often. The answer is out of memory also where the view has more than
+/// 2^32 files. The extents are counted from the first tokens of their files.
 pub fn rank_units(
     alloc: Global,
     texts: &BTreeMap<Ino, Bytes>,
@@ -42,11 +34,11 @@ pub fn rank_units(
     unit: &Expr,
     words: &[Bytes],
     k: u32,
-) -> Result<Listing, NoMemory>
+) -> Result<Ranking, NoMemory>
     requires short { AreShort texts.now.entries }
-    requires few { length words.now ≤ 64 }
-    ensures listed { IfOk result (λ listing. listing.listed ≡ length (ranking_of (map (shown_of texts.now.entries) view.now) (region_of unit.now) words.now)) }
-    ensures top { IfOk result (λ listing. listing.top.items ≡ take k (ranking_of (map (shown_of texts.now.entries) view.now) (region_of unit.now) words.now)) }
+    requires few { length words.now ≤ RANK_WORDS_MAX }
+    ensures listed { IfOk result (λ ranking. ranking.listed ≡ length (ranking_of (map (shown_of texts.now.entries) view.now) (region_of unit.now) words.now)) }
+    ensures top { IfOk result (λ ranking. ranking.top ≡ take k (ranking_of (map (shown_of texts.now.entries) view.now) (region_of unit.now) words.now)) }
 {
     let terms = terms_with(alloc, unit, words)?;
     let Scan { frames, lists } = scan_texts(alloc, texts, view, terms)?;
@@ -54,7 +46,10 @@ pub fn rank_units(
     let word_lists = lists_of_words(alloc, words, &lists)?;
     let Ranking { listed, top } = rank_all(alloc, &units, &word_lists, k)?;
     let top = in_their_files(alloc, &frames, top.as_slice())?;
-    Ok(Listing { listed, top })
+    Ok(Ranking {
+        listed,
+        top: Sequence::from(top),
+    })
 }
 
 /// The terms of the expression and the words, each once, ascending by their bytes.
@@ -85,7 +80,7 @@ fn units_of_frames(
             Ok(place) => place,
             Err(_) => return Err(NoMemory),
         };
-        let extents = solve_in(alloc, unit, frames[i], lists)?;
+        let extents = extents_in(alloc, unit, frames[i], lists)?;
         put_units(&mut units, &extents, place)?;
     }
     Ok(units)
@@ -145,10 +140,10 @@ fn rank_all(alloc: Global, units: &[Unit], lists: &[TermList], k: u32) -> Result
     requires some { All (λ unit. 1 ≤ length_of unit.extent) units.now }
     requires short { All (λ unit. length_of unit.extent < 2 ^ 26) units.now }
     requires few_units { length units.now ≤ 2 ^ 47 }
-    requires few_lists { length lists.now ≤ 64 }
+    requires few_lists { length lists.now ≤ RANK_WORDS_MAX }
     requires ascending { All (λ word. IsStrictlyIncreasing word.at) lists.now }
-    ensures listed { IfOk result (λ ranking. ranking.listed ≡ length (listed units.now lists.now)) }
-    ensures top { IfOk result (λ ranking. ranking.top ≡ take k (listed units.now lists.now)) }
+    ensures listed { IfOk result (λ ranking. ranking.listed ≡ length (listed count_at units.now lists.now)) }
+    ensures top { IfOk result (λ ranking. ranking.top ≡ take k (listed count_at units.now lists.now)) }
 {
     let (n, t) = statistics(units);
     let ranker = Ranker::new(|idf, f, l| bm25_weigh(idf, f, l, n, t), n, t);

@@ -1,23 +1,27 @@
-//! The texts of a view as the solver sees them: one frame behind the other, and where terms stand.
+//! The texts of a view as the solver sees them: one frame after the other, and where terms stand.
 ghost use Rattle.std.specs.Prelude.{◌≡◌, ◌+◌, ◌≤◌, ◌^◌, [], length, map, IfOk, OnOk};
 ghost use Rattle.std.specs.List.Sorted.{IsStrictlySortedBy};
 ghost use Rattle.std.specs.Cmp.Lexicographic.{slice_cmp};
 ghost use Rattle.std.specs.Ordering.{nat_cmp};
+ghost use Rattle.wu_gcl.specs.Regions.{region_of};
+ghost use Rattle.wu_solve.specs.Addresses.{AreLists};
+ghost use Rattle.wu_solve.specs.Solving.{frame_hits, IsFrame};
 ghost use Rattle.wumpus_run.specs.Scans.{IsScan, noted, with_places, list_without_places};
 ghost use Rattle.wumpus_run.specs.States.{AreShort, text_in};
 ghost use Rattle.wumpus_run.specs.View.{shown_of};
 
 use std::alloc::Global;
 use std::collections::BTreeMap;
-use wu_base::{Bytes, Ino, NoMemory, Range, Sequence, TermList};
-use wu_solve::find_term;
+use wu_base::{Bytes, Extent, Ino, NoMemory, Range, Sequence, TermList};
+use wu_gcl::Expr;
+use wu_solve::{find_term, solve};
 use wu_token::{Token, tokens};
 use wu_view::Seen;
 
 /// All addresses are below this.
 const ADDRESSES_END: u64 = 1 << 47;
 
-/// The frames of a view's files, in its order, one behind the other from address 0 on, and where
+/// The frames of a view's files, in its order, one after the other from address 0 on, and where
 /// some terms stand in them.
 #[derive(Debug, Drop)]
 pub struct Scan {
@@ -25,7 +29,7 @@ pub struct Scan {
     pub lists: Vec<TermList>,
 }
 
-/// Cuts the texts of the view into tokens, and notes where the terms stand. The answer is want of
+/// Cuts the texts of the view into tokens, and notes where the terms stand. The answer is out of
 /// memory also where the texts have more than 2^47 tokens.
 pub fn scan_texts(
     alloc: Global,
@@ -51,6 +55,20 @@ pub fn scan_texts(
         next += len;
     }
     Ok(Scan { frames, lists })
+}
+
+/// The extents of the expression in one frame.
+pub fn extents_in(
+    alloc: Global,
+    expr: &Expr,
+    frame: Range,
+    lists: &[TermList],
+) -> Result<Vec<Extent>, NoMemory>
+    requires lists { AreLists lists.now }
+    requires frame { IsFrame frame }
+    ensures { IfOk result (λ v. v.items ≡ frame_hits (region_of expr.now) lists.now frame) }
+{
+    solve(alloc, expr, &[frame], lists)
 }
 
 /// A list for each of the terms.

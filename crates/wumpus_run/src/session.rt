@@ -1,24 +1,27 @@
 //! A session: the script is read as it comes, and each item is answered in turn.
 ghost use Rattle.std.specs.Prelude.{◌≡◌, ◌++◌, [], None, Some, false, IfOk, OnOk, MatchBool};
 ghost use Rattle.wu_outside.specs.Faults.{Rose};
-ghost use Rattle.wu_script.specs.Items.{IsSoundItem};
-ghost use Rattle.wumpus_run.specs.Options.{settings_of, texts_of};
-ghost use Rattle.wumpus_run.specs.Output.{verdict_bytes, item_bytes, after_item};
-ghost use Rattle.wumpus_run.specs.States.{first_state};
-ghost use Rattle.wumpus_run.specs.Session.{status_of, IsAnswered, IsUsage, AnswersAll, AnswersFront, StaysWithin, IsTooLong, HoldsNothingBack, Ends, Completes};
+ghost use Rattle.wu_script.specs.Items.{IsBeforeEnd};
+ghost use Rattle.wu_script.specs.Said.{IsSoundItem, said_by};
+ghost use Rattle.wu_options.specs.CommandLines.{texts_of};
+ghost use Rattle.wumpus_run.specs.Machines.{Stands, StandsForSome, verdict_bytes};
+ghost use Rattle.wumpus_run.specs.Replies.{said_bytes, after};
+ghost use Rattle.wumpus_run.specs.States.{State, first_state};
+ghost use Rattle.wumpus_run.specs.Session.{settings_of, moment, status_of, status_of_fault, IsUsage, IsCounted, AnswersAll, AnswersPrefix, StaysWithin, IsTooLong, HoldsNothingBack, Ends, Completes};
 
 use crate::machine::Machine;
-use crate::options::{Settings, read_options};
 use crate::statuses::Status;
 use std::alloc::Global;
-use wu_base::{Bytes, NoMemory};
+use wu_base::NoMemory;
+use wu_options::{CommandLine, Settings, read_command_line};
 use wu_outside::{Fault, Sink, Source, Store, write_all};
 use wu_script::{Command, Item, ReadEnd, Reader, Reply, Why, put_reply};
-use wu_tree::{Event, Refusal};
+use wu_tree::Refusal;
 
 /// Runs a session: reads the script from the source as it comes, and writes the reply to each of its
-/// items to the sink before it reads the next. The words are those behind the program's name; they
-/// say how many bytes the input may have.
+/// items to the sink before it reads the next. `words` are the command-line arguments, those after
+/// the program's name; they say how many bytes the input may have. The source is one that has not
+/// given its end.
 pub fn run<I: Source, O: Sink, D: Store>(
     alloc: Global,
     words: &[&str],
@@ -26,38 +29,48 @@ pub fn run<I: Source, O: Sink, D: Store>(
     sink: &mut O,
     store: &mut D,
 ) -> Status
-    // Usage comes exactly where the words are in no form, and then nothing is touched.
+    requires { I.ended source.old ≡ false }
+    // Usage comes exactly where the arguments ask for no session, and then nothing is touched.
     ensures usage { IsUsage result (settings_of (texts_of words.now)) }
-    ensures untouched { settings_of (texts_of words.now) ≡ None → (source.new ≡ source.old) × (sink.new ≡ sink.old) }
+    ensures untouched { (settings_of (texts_of words.now)) ≡ None → (source.new ≡ source.old) × (sink.new ≡ sink.old) }
     ensures store { store.new ≡ store.old }
 
     // The input was read to its end, and the sink gained the replies to its items, and nothing else.
-    ensures done { result ≡ Status.Done → AnswersAll (settings_of (texts_of words.now))
-        (I.left source.old) (I.left source.new) (O.gained sink.old) (O.gained sink.new) }
+    ensures done { result ≡ Status.Done → AnswersAll first_state (settings_of (texts_of words.now))
+        (moment (I.left source.old) (I.last_read source.old) (I.faults source.old) (O.gained sink.old) (O.faults sink.old))
+        (moment (I.left source.new) (I.last_read source.new) (I.faults source.new) (O.gained sink.new) (O.faults sink.new)) }
 
-    // A fault has its cause.
-    ensures read_fault { result ≡ Status.ReadFault → Rose (I.faults source.old) (I.faults source.new) }
-    ensures write_fault { result ≡ Status.WriteFault → Rose (O.faults sink.old) (O.faults sink.new) }
-    ensures too_long { IsTooLong result (settings_of (texts_of words.now)) (I.left source.old) (I.left source.new) }
+    // A fault of the source or the sink ends the session, exactly where its count of faults rose.
+    ensures read_fault { IsCounted Status.ReadFault result (I.faults source.old) (I.faults source.new) }
+    ensures write_fault { IsCounted Status.WriteFault result (O.faults sink.old) (O.faults sink.new) }
+    ensures too_long { IsTooLong result (settings_of (texts_of words.now))
+        (moment (I.left source.old) (I.last_read source.old) (I.faults source.old) (O.gained sink.old) (O.faults sink.old))
+        (moment (I.left source.new) (I.last_read source.new) (I.faults source.new) (O.gained sink.new) (O.faults sink.new)) }
 
-    // Whatever the status, no byte behind the one past the limit was taken, and the sink gained a
-    // front of the output.
-    ensures taken { StaysWithin (settings_of (texts_of words.now)) (I.left source.old) (I.left source.new) }
-    ensures front { AnswersFront (I.left source.old) (O.gained sink.old) (O.gained sink.new) }
+    // Whatever the status, no byte after the one past the limit was taken, and the sink gained a
+    // prefix of the output.
+    ensures taken { StaysWithin (settings_of (texts_of words.now))
+        (moment (I.left source.old) (I.last_read source.old) (I.faults source.old) (O.gained sink.old) (O.faults sink.old))
+        (moment (I.left source.new) (I.last_read source.new) (I.faults source.new) (O.gained sink.new) (O.faults sink.new)) }
+    ensures prefix { AnswersPrefix first_state (settings_of (texts_of words.now))
+        (moment (I.left source.old) (I.last_read source.old) (I.faults source.old) (O.gained sink.old) (O.faults sink.old))
+        (moment (I.left source.new) (I.last_read source.new) (I.faults source.new) (O.gained sink.new) (O.faults sink.new)) }
 
     // No reply was held back: where the source failed or gave too much, the sink gained exactly the
     // replies to the whole items that the source gave; where the sink failed or there was no memory,
-    // at least those to the whole items before the last 65,536 bytes.
-    ensures prompt { HoldsNothingBack result (settings_of (texts_of words.now))
-        (I.left source.old) (I.left source.new) (O.gained sink.old) (O.gained sink.new) }
+    // at least those to the whole items before the bytes of the source's last read.
+    ensures prompt { HoldsNothingBack first_state result (settings_of (texts_of words.now))
+        (moment (I.left source.old) (I.last_read source.old) (I.faults source.old) (O.gained sink.old) (O.faults sink.old))
+        (moment (I.left source.new) (I.last_read source.new) (I.faults source.new) (O.gained sink.new) (O.faults sink.new)) }
 
     // Without a fault the session is done, unless there was no memory or the input is too long.
     ensures complete { ¬ Rose (I.faults source.old) (I.faults source.new) → ¬ Rose (O.faults sink.old) (O.faults sink.new)
-        → Completes result (settings_of (texts_of words.now)) (I.left source.old) }
+        → Completes result (settings_of (texts_of words.now))
+        (moment (I.left source.old) (I.last_read source.old) (I.faults source.old) (O.gained sink.old) (O.faults sink.old)) }
 {
-    match read_options(alloc, words) {
-        Ok(Some(settings)) => answer_script(alloc, settings, source, sink),
-        Ok(None) => Status::Usage,
+    match read_command_line(alloc, words) {
+        Ok(Some(CommandLine::Run(settings))) => answer_script(alloc, settings, source, sink),
+        Ok(Some(CommandLine::Demo(_)) | None) => Status::Usage,
         Err(NoMemory) => Status::NoMemory,
     }
 }
@@ -69,12 +82,16 @@ fn answer_script<I: Source, O: Sink>(
     source: &mut I,
     sink: &mut O,
 ) -> Status
+    requires { I.ended source.old ≡ false }
     ensures usage { result ≡ Status.Usage → ⊥ }
-    ensures done { result ≡ Status.Done → AnswersAll (Some settings)
-        (I.left source.old) (I.left source.new) (O.gained sink.old) (O.gained sink.new) }
-    ensures read_fault { result ≡ Status.ReadFault → Rose (I.faults source.old) (I.faults source.new) }
-    ensures write_fault { result ≡ Status.WriteFault → Rose (O.faults sink.old) (O.faults sink.new) }
-    ensures ends { Ends result settings (I.left source.old) (I.left source.new) (O.gained sink.old) (O.gained sink.new) }
+    ensures done { result ≡ Status.Done → AnswersAll first_state (Some settings)
+        (moment (I.left source.old) (I.last_read source.old) (I.faults source.old) (O.gained sink.old) (O.faults sink.old))
+        (moment (I.left source.new) (I.last_read source.new) (I.faults source.new) (O.gained sink.new) (O.faults sink.new)) }
+    ensures read_fault { IsCounted Status.ReadFault result (I.faults source.old) (I.faults source.new) }
+    ensures write_fault { IsCounted Status.WriteFault result (O.faults sink.old) (O.faults sink.new) }
+    ensures ends { Ends first_state result settings
+        (moment (I.left source.old) (I.last_read source.old) (I.faults source.old) (O.gained sink.old) (O.faults sink.old))
+        (moment (I.left source.new) (I.last_read source.new) (I.faults source.new) (O.gained sink.new) (O.faults sink.new)) }
 {
     let (mut reader, mut machine) = match start(alloc, settings) {
         Ok(start) => start,
@@ -96,8 +113,7 @@ fn answer_script<I: Source, O: Sink>(
         }
         match write_all(sink, reply.as_slice()) {
             Ok(()) => {}
-            Err(Fault::Failed) => return Status::WriteFault,
-            Err(Fault::NoMemory) => return Status::NoMemory,
+            Err(fault) => return status_of_fault(fault),
         }
     }
 }
@@ -105,7 +121,7 @@ fn answer_script<I: Source, O: Sink>(
 /// A reader of the script, and the root directory alone.
 fn start(alloc: Global, settings: Settings) -> Result<(Reader, Machine), NoMemory>
     ensures reader { IfOk result (λ start. start.0 ≡ record { bytes = []; spare = settings.max_input; ended = false }) }
-    ensures machine { IfOk result (λ start. start.1 ≡ first_state) }
+    ensures machine { IfOk result (λ start. Stands start.1 first_state) }
 {
     Ok((
         Reader::new(alloc, settings.max_input)?,
@@ -124,9 +140,19 @@ fn status_of(end: ReadEnd) -> Status
     }
 }
 
+/// How a session ends where a reply couldn't be written.
+fn status_of_fault(fault: Fault) -> Status
+    ensures { result ≡ status_of_fault fault }
+{
+    match fault {
+        Fault::Failed => Status::WriteFault,
+        Fault::NoMemory => Status::NoMemory,
+    }
+}
+
 /// Whether the script has ended.
 fn is_end(item: &Item) -> bool
-    ensures { MatchBool result (item.now ≡ Item.End) (IsAnswered item.now) }
+    ensures { MatchBool result (item.now ≡ Item.End) (IsBeforeEnd item.now) }
 {
     match item {
         Item::End => true,
@@ -141,22 +167,18 @@ fn answer(
     item: Item,
     out: &mut Vec<u8>,
 ) -> Result<(), NoMemory>
-    requires { IsSoundItem item }
-    ensures reply { OnOk result (out.new.items ≡ out.old.items ++ item_bytes machine.old item) }
-    ensures state { OnOk result (machine.new ≡ after_item machine.old item) }
+    requires sound { IsSoundItem item }
+    requires stands { StandsForSome machine.old }
+    ensures { (s : State) → Stands machine.old s → OnOk result
+        ((out.new.items ≡ out.old.items ++ said_bytes s (said_by item)) × Stands machine.new (after s (said_by item))) }
 {
     match item {
-        Item::Command(Command::Update(event)) => {
-            let none = Bytes::from_slice(alloc, b"")?;
-            put_verdict(out, machine.update(&event, none)?)
-        }
+        Item::Command(Command::Update(event)) => put_verdict(out, machine.update(alloc, &event)?),
         Item::Command(Command::Ask(query)) => {
             let answered = machine.answer(alloc, &query)?;
             put_reply(out, &Reply::Answered(answered))
         }
-        Item::Text { ino, body } => {
-            put_verdict(out, machine.update(&Event::Text { ino }, body)?)
-        }
+        Item::Text { ino, body } => put_verdict(out, machine.give_text(alloc, ino, body)?),
         Item::Refused(why) => put_reply(out, &Reply::Refused(why)),
         Item::Blank | Item::End => Ok(()),
     }

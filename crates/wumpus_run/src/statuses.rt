@@ -7,13 +7,13 @@ ghost use Rattle.wumpus_run.specs.Session.{code_of};
 pub enum Status {
     /// The source was read to its end, and every reply was written.
     Done,
-    /// The words behind the program's name are in no form.
+    /// The command-line arguments are invalid, or ask for no session.
     Usage,
     /// The source failed.
     ReadFault,
     /// The sink failed.
     WriteFault,
-    /// There was no memory.
+    /// Out of memory.
     NoMemory,
     /// The input has more bytes than its limit.
     InputTooLong,

@@ -34,4 +34,4 @@ returns-clause-listed c =
 
 pub returns-clause-top : goal.returns-clause-top
 returns-clause-top c =
-    scan_top _ _ _ _ _ _ _ _ _ _ _ (gathered _ _ _ _ _ _ _ _ _ _ _ c.in_ok-terms.ensures c.in_ok-frames.ensures c.deref.ensures.value c.deref-2.ensures.value c.deref-3.ensures.value c.in_ok-units.ensures c.in_ok-word_lists.ensures) (c.as_slice.ensures ∙ rw (c.deref-4.ensures.value, c.deref-5.ensures.value) at c.in_ok-listed.ensures.top) (rw c.deref-6.ensures.value at c.in_ok-top.ensures)
+    c.from.ensures ∙ scan_top _ _ _ _ _ _ _ _ _ _ _ (gathered _ _ _ _ _ _ _ _ _ _ _ c.in_ok-terms.ensures c.in_ok-frames.ensures c.deref.ensures.value c.deref-2.ensures.value c.deref-3.ensures.value c.in_ok-units.ensures c.in_ok-word_lists.ensures) (c.as_slice.ensures ∙ rw (c.deref-4.ensures.value, c.deref-5.ensures.value) at c.in_ok-listed.ensures.top) (rw c.deref-6.ensures.value at c.in_ok-top.ensures)

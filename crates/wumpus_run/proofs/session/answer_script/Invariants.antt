@@ -1,18 +1,26 @@
-use Rattle.std.proofs.Common.{◌≡◌, ◌+◌, ◌≤◌, length, true}
+use Rattle.std.proofs.Common.{◌≡◌, ◌+◌, length, true}
 use Rattle.std.specs.Io.KnownBytes.{IsAtEnd, prepend_known}
+use Rattle.wu_script.specs.Holding.{Follows}
+use Rattle.wumpus_run.specs.States.{State, first_state}
+use Rattle.wumpus_run.specs.Machines.{Stands}
 use Rattle.wumpus_run.proofs.SessionLemmas.{HasAnswered, HasTaken}
 use Rattle.wumpus_run.proofs.PromptLemmas.{HasReplied}
 use Rattle.wumpus_run.proofs.session.answer_script.Given as goal
 
--- what was sent, and what answers the rest of the input, are the whole output
+-- the machine stands for a state; what was sent, and what answers the rest of the input from it, are the whole output
 abbrev pub invariant-items : goal.invariant-items
 invariant-items g l = record {
-  answered : HasAnswered (g.O.Sink.gained l.fn.sink) (g.O.Sink.gained l.sink) (g.I.Source.left l.fn.source) (prepend_known l.reader.bytes (g.I.Source.left l.source)) l.machine;
-  replied : HasReplied (g.I.Source.left l.fn.source) (g.I.Source.left l.source) (g.O.Sink.gained l.fn.sink) (g.O.Sink.gained l.sink) l.reader l.machine l.fn.settings.max_input;
+  state : State;
+  stands : Stands l.machine state;
+  answered : HasAnswered l.fn.settings first_state (g.O.Sink.gained l.fn.sink) (g.O.Sink.gained l.sink) (g.I.Source.left l.fn.source)
+      (prepend_known l.reader.bytes (g.I.Source.left l.source)) state;
+  replied : HasReplied l.fn.settings first_state (g.I.Source.left l.fn.source) (g.I.Source.left l.source) (g.O.Sink.gained l.fn.sink) (g.O.Sink.gained l.sink)
+      l.reader state l.fn.settings.max_input;
   taken : HasTaken (g.I.Source.left l.fn.source) (g.I.Source.left l.source) l.reader.spare l.fn.settings.max_input;
+  follows : Follows (g.I.Source.ended l.source) (g.I.Source.last_read l.source) l.reader;
   at_end : l.reader.ended ≡ true → IsAtEnd (g.I.Source.left l.source);
-  steady : g.I.Source.faults l.fn.source ≤ g.I.Source.faults l.source;
-  kept : g.O.Sink.faults l.fn.sink ≤ g.O.Sink.faults l.sink;
+  read_calm : g.I.Source.faults l.source ≡ g.I.Source.faults l.fn.source;
+  write_calm : g.O.Sink.faults l.sink ≡ g.O.Sink.faults l.fn.sink;
 }
 
 -- each turn takes a byte, or ends the session

@@ -1,13 +1,18 @@
-use Rattle.std.proofs.Common.{◌≡◌, IfOk, subst}
-use Rattle.wumpus_run.specs.States.{State}
-use Rattle.wumpus_run.specs.View.{view_of}
-use Rattle.wumpus_run.specs.Answer.{answer, question_of}
+use Rattle.std.proofs.Common.{◌≡◌, ◌∙◌, ap, map, subst, IfOk}
+use Rattle.wu_ask.specs.Questions.{question_of}
+use Rattle.wu_tree.specs.FileSystems.{FileSystem}
+use Rattle.wu_view.specs.Views.{view_of as files_of}
+use Rattle.wumpus_run.specs.Answer.{answer}
+use Rattle.wumpus_run.specs.States.{Texts}
+use Rattle.wumpus_run.specs.View.{shown_of}
 use Rattle.wumpus_run.proofs.AnswerLemmas.{view-answer}
 use Rattle.wumpus_run.proofs.machine.Machine.answer.Goals as goal
 
 pub returns : goal.returns
-returns c =
-    let was : State = record { tree = c.self.inside.tree; texts = c.self.inside.texts.entries } in
+returns c = λ s stands.
     let query = c.args.query.now in
-    subst (λ s. IfOk c.answer.result (λ answered. answered ≡ answer (view_of s query.uid) (question_of query.ask))) c.self.view_is
-    (view-answer was c.in_ok-view.view.items query.uid (question_of query.ask) c.answer.result c.in_ok-view.ensures.view c.answer.ensures)
+    let view = c.in_ok-view.view.items in
+    view-answer s view query.uid (question_of query.ask) c.answer.result
+    (c.in_ok-view.ensures.view ∙ ap (λ (t : FileSystem). files_of t query.uid) stands.tree)
+    (subst (λ (texts : Texts). IfOk c.answer.result (λ answered. answered ≡ answer (map (shown_of texts) view) (question_of query.ask))) stands.texts
+    c.answer.ensures)

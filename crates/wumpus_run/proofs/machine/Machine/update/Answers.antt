@@ -1,24 +1,18 @@
-use Rattle.std.proofs.Common.{◌∙◌, ap, sym}
-use Rattle.wumpus_run.specs.States.{State, step, without_text, with_text}
-use Rattle.wumpus_run.proofs.StateLemmas.{step-accepted, step-refused}
+use Rattle.std.proofs.Common.{[], ◌∙◌, ap}
+use Rattle.wumpus_run.specs.States.{with_text, without_text}
+use Rattle.wumpus_run.proofs.StateLemmas.{accepted, refused}
 use Rattle.wumpus_run.proofs.machine.Machine.update.Goals as goal
 
-pub invariant_of-self-in_err-keep-in-Ok : goal.invariant_of-self-in_err-keep-in-Ok
-invariant_of-self-in_err-keep-in-Ok c = c.in_err-keep-in-Ok.ensures.short (c.forget-in-Ok.ensures.short (c.forget.ensures.short c.self.invariant))
-
-pub invariant_of-self-in-Ok : goal.invariant_of-self-in-Ok
-invariant_of-self-in-Ok c = c.in_ok-keep-in-Ok.ensures.short (c.forget-in-Ok.ensures.short (c.forget.ensures.short c.self.invariant))
-
-pub returns-in_ok-keep-in-Ok : goal.returns-in_ok-keep-in-Ok
-returns-in_ok-keep-in-Ok c =
-    let was : State = record { tree = c.self.inside.tree; texts = c.self.inside.texts.entries } in
-    ap (λ s. step s c.args.event.now c.args.text) (sym c.self.view_is)
-    ∙ step-accepted was c.args.event.now c.args.text c.apply.new.self c.in-Ok.effect _ (rw c.in-Ok.is at c.in_ok-effect.ensures.step)
-    (c.in_ok-keep-in-Ok.ensures.entries ∙ ap (with_text c.in-Ok.effect.texted c.args.text) (c.forget-in-Ok.ensures.entries ∙ ap (without_text c.in-Ok.effect.made) c.forget.ensures.entries))
-
 pub returns-in-Err : goal.returns-in-Err
-returns-in-Err c =
-    let was : State = record { tree = c.self.inside.tree; texts = c.self.inside.texts.entries } in (
-      ap (λ s. step s c.args.event.now c.args.text) (sym c.self.view_is) ∙ step-refused was c.args.event.now c.args.text c.in-Err.refusal (rw c.in-Err.is at c.in_ok-effect.ensures.step).0,
-      ap (λ tree. let now : State = record { tree = tree; texts = c.self.inside.texts.entries } in now) (rw c.in-Err.is at c.in_ok-effect.ensures.step).1 ∙ c.self.view_is,
-    )
+returns-in-Err c = λ s stands.
+    let step = rw c.in-Err.is at c.in_ok-effect.ensures.step in
+    refused c.args.self.now c.apply.new.self c.args.event.now [] c.in-Err.refusal s step.0 step.1 stands
+
+pub returns : goal.returns
+returns c = λ s stands.
+    let effect = c.in-Ok.effect in
+    accepted c.args.self.now (record { tree = c.apply.new.self; texts = c.empty-2.new.texts }) c.args.event.now [] effect s
+    (rw c.in-Ok.is at c.in_ok-effect.ensures.step)
+    (c.in_ok-empty-2.ensures.entries
+    ∙ ap (with_text effect.texted []) (c.in_ok-empty.ensures.entries ∙ ap (with_text effect.made []) c.forget.ensures.entries))
+    (λ short. c.in_ok-empty-2.ensures.short (c.in_ok-empty.ensures.short (c.forget.ensures.short short))) stands

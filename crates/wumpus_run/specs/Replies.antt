@@ -1,0 +1,80 @@
+-- The replies to a script, and the state that it leaves.
+use Rattle.std.specs.Prelude.{◌≡◌, ℕ, List, [], ◌∷◌, map, Option, Some, None, Result, Ok, Err}
+use Rattle.std.specs.List.{flat_map}
+use Rattle.wu_tree.specs.declared.events.Refusal.{Refusal}
+use Rattle.wu_script.specs.declared.types.Why.TheVariants.{Tree}
+use Rattle.wu_script.specs.declared.types.Reply.{Reply}
+use Rattle.wu_script.specs.declared.types.Reply.TheVariants.{Ok as Accepted, Answered, Refused}
+use Rattle.wu_script.specs.Commands.{Entry}
+use Rattle.wu_script.specs.Said.{Reading, IsReading, Said, Happens, Asks, IsRefused, SaysNothing, said_of}
+use Rattle.wu_script.specs.Replies.{reply_bytes}
+use Rattle.wu_options.specs.declared.command_lines.Settings.{Settings}
+use Rattle.wumpus_run.specs.States.{State, step, after_event}
+use Rattle.wumpus_run.specs.View.{view_of}
+use Rattle.wumpus_run.specs.Answer.{answer}
+
+-- ---- of one item
+
+-- the reply to an event
+abbrev pub verdict_of : Result State Refusal → Reply
+verdict_of (Ok s) = Accepted
+verdict_of (Err refusal) = Refused (Tree refusal)
+
+-- the reply to what an item says in a state; an empty line and a comment have none
+abbrev pub reply_to : State → Said → Option Reply
+reply_to s (Happens event text) = Some (verdict_of (step s event text))
+reply_to s (Asks uid question) = Some (Answered (answer (view_of s uid) question))
+reply_to s (IsRefused why) = Some (Refused why)
+reply_to s SaysNothing = None
+
+-- the state after it; only an accepted event changes it
+abbrev pub after : State → Said → State
+after s (Happens event text) = after_event s event text
+after s (Asks uid question) = s
+after s (IsRefused why) = s
+after s SaysNothing = s
+
+abbrev pub bytes_of : Option Reply → List ℕ
+bytes_of None = []
+bytes_of (Some reply) = reply_bytes reply
+
+-- the bytes that answer it
+abbrev pub said_bytes : State → Said → List ℕ
+said_bytes s said = bytes_of (reply_to s said)
+
+-- ---- of a script
+
+-- an item with the state that it meets
+abbrev pub Met : Type 0
+Met = State × Said
+
+-- each item with the state that it meets, which the items before it leave
+abbrev pub met : State → List Said → List Met
+met s [] = []
+met s (said ∷ saids) = (s, said) ∷ met (after s said) saids
+
+-- the replies to items
+abbrev pub replies_to : State → List Said → List ℕ
+replies_to s saids = flat_map (λ m. said_bytes m.0 m.1) (met s saids)
+
+-- the state that items leave
+abbrev pub left_by : State → List Met → State
+left_by s [] = s
+left_by s (m ∷ ms) = left_by (after m.0 m.1) ms
+
+abbrev pub last_state : State → List Said → State
+last_state s saids = left_by s (met s saids)
+
+-- What items and states leave open: what each text says as an expression, and from how many postings in memory on they are
+-- flushed, which no reply depends on as long as there is no index.
+pub record Rules : Type 0 where
+  pub read : Reading
+  pub flush_at : ℕ
+
+-- the rules of a session; there is one such reading, since each text has one
+abbrev pub AreRules : Settings → Rules → Type 0
+AreRules told rules = IsReading rules.read × (rules.flush_at ≡ told.flush_at)
+
+-- the output for the items of a script
+abbrev pub output_of : Rules → State → List Entry → List ℕ
+output_of rules s entries = replies_to s (map (said_of rules.read) entries)
