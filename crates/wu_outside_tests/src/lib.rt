@@ -10,4 +10,6 @@ mod failing;
 #[cfg(test)]
 mod folders;
 #[cfg(test)]
+mod random_calls;
+#[cfg(test)]
 mod streams;
