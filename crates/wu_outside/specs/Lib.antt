@@ -1,12 +1,20 @@
-pub mod Content
-pub mod Crash
-pub mod Ends
+-- ---- What a reader of the contracts trusts
+
+-- faults, the end of a source, what a sink gains
 pub mod Faults
+pub mod Ends
 pub mod Gains
-pub mod Known
-pub mod LogSteps
-pub mod Logs
+-- what a store holds, which ranges of it were read, and what a crash leaves
+pub mod Content
 pub mod Ranges
+pub mod Crash
+-- what calls leave to a crash, composed
+pub mod Surviving
+-- the objects in memory
+pub mod Known
 pub mod Schedule
 pub mod Stored
-pub mod Surviving
+pub mod Logs
+-- ---- What only private functions and proofs need: one entry of a log
+
+pub mod LogSteps
