@@ -11,7 +11,7 @@ use wu_base::NoMemory;
 use wu_outside::Source;
 
 /// What became of a line.
-#[derive(Clone, Copy, Debug)]
+#[derive(Clone, Copy)]
 pub struct Cut {
     /// Whether an LF closed it; otherwise the input ended there.
     pub closed: bool,

@@ -3,7 +3,7 @@ ghost use Rattle.std.specs.Prelude.{◌≡◌};
 ghost use Rattle.wu_script.specs.Words.{word_of, is_unbuilt};
 
 /// What the first field of a line says.
-#[derive(Clone, Copy, Debug, PartialEq, Eq)]
+#[derive(Drop)]
 pub enum Word {
     User,
     Mkdir,
