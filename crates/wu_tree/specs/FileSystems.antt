@@ -7,6 +7,7 @@ use Rattle.std.specs.Cmp.Lexicographic.{slice_cmp, pointwise}
 use Rattle.std.specs.List.{list_any, list_all}
 use Rattle.std.specs.Map.{lookup}
 use Rattle.std.specs.BTreeMap.{is_at}
+use Rattle.wu_base.specs.declared.limits.TheConstants.{DEPTH_MAX, NAME_MAX}
 use Rattle.wu_tree.specs.declared.events.Kind.{Kind}
 use Rattle.wu_tree.specs.declared.events.Kind.TheVariants.{Directory, File}
 use Rattle.wu_tree.specs.declared.events.Node.{Node}
@@ -32,7 +33,7 @@ pub record FileSystem : Type 0 where
   pub users : List (ℕ × List ℕ)
 
 abbrev pub is_name_length : List ℕ → Bool
-is_name_length name = nat_lt 0 (length name) && nat_le (length name) 255
+is_name_length name = nat_lt 0 (length name) && nat_le (length name) NAME_MAX
 
 -- neither `/` nor NUL stands in a name
 abbrev pub are_name_bytes : List ℕ → Bool
@@ -42,7 +43,7 @@ are_name_bytes name = list_all (λ b. not (b == 47) && not (b == 0)) name
 abbrev pub is_dots : List ℕ → Bool
 is_dots name = pointwise nat_eq name (46 ∷ []) || pointwise nat_eq name (46 ∷ 46 ∷ [])
 
--- a name has 1 to 255 bytes, none of them `/` or NUL, and is neither `.` nor `..`
+-- a name has 1 to NAME_MAX bytes, none of them `/` or NUL, and is neither `.` nor `..`
 abbrev pub is_name : List ℕ → Bool
 is_name name = is_name_length name && are_name_bytes name && not (is_dots name)
 
@@ -107,9 +108,9 @@ unfoldable pub ancestors : List Link → ℕ → ℕ → List ℕ
 ancestors links zero directory = []
 ancestors links (suc n) directory = directory ∷ cond (directory == 1) [] (above (ancestors links n) (parent_of links directory))
 
--- the directory and all above it; no directory of a tree lies deeper than 255
+-- the directory and all above it; no directory of a tree lies deeper than DEPTH_MAX
 unfoldable pub path_up : List Link → ℕ → List ℕ
-path_up links directory = ancestors links 255 directory
+path_up links directory = ancestors links DEPTH_MAX directory
 
 -- how deep a directory lies, where the root has depth 1
 abbrev pub depth : List Link → ℕ → ℕ

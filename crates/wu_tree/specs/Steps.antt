@@ -5,6 +5,7 @@ use Rattle.std.specs.Ordering.{nat_cmp}
 use Rattle.std.specs.List.{list_any}
 use Rattle.std.specs.Map.{remove_entry, set_value}
 use Rattle.std.specs.BTreeMap.{is_at, insert_entry}
+use Rattle.wu_base.specs.declared.limits.TheConstants.{DEPTH_MAX}
 use Rattle.wu_base.specs.SortedOnce.{sorted_once}
 use Rattle.wu_access.specs.declared.Perm.{Perm}
 use Rattle.wu_tree.specs.declared.events.Kind.TheVariants.{Directory, File}
@@ -40,13 +41,13 @@ named (Some child) = child
 abbrev pub named_by : FileSystem → ℕ → List ℕ → ℕ
 named_by fs parent name = named (child_of fs parent name)
 
--- whether some directory at or below `child` would lie deeper than 255, were `child` an entry of `parent`
+-- whether some directory at or below `child` would lie deeper than DEPTH_MAX, were `child` an entry of `parent`
 abbrev pub is_too_deep : FileSystem → ℕ → ℕ → Bool
 is_too_deep fs child parent =
     list_any
     (λ node.
     not (is_kind_file node.1.kind) && is_within fs.links child node.0
-    && nat_lt 255 (depth fs.links parent + 1 + (depth fs.links node.0 - depth fs.links child)))
+    && nat_lt DEPTH_MAX (depth fs.links parent + 1 + (depth fs.links node.0 - depth fs.links child)))
     fs.nodes
 
 -- whether what stands at a place, if anything does, is a link to that node; a link to a node of the other kind; a link to a
@@ -74,7 +75,7 @@ move_rules fs child parent target =
 
 abbrev pub mkdir_rules : FileSystem → ℕ → ℕ → List ℕ → List Rule
 mkdir_rules fs ino parent name =
-    place_rules fs parent name ++ (is_there fs ino || is_used fs parent name, Exists) ∷ (nat_le 255 (depth fs.links parent), Deep) ∷ []
+    place_rules fs parent name ++ (is_there fs ino || is_used fs parent name, Exists) ∷ (nat_le DEPTH_MAX (depth fs.links parent), Deep) ∷ []
 
 abbrev pub create_rules : FileSystem → ℕ → ℕ → List ℕ → List Rule
 create_rules fs ino parent name = place_rules fs parent name ++ (is_there fs ino || is_used fs parent name, Exists) ∷ []

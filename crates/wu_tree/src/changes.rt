@@ -12,7 +12,7 @@ use crate::inodes::{Hold, Inode};
 use crate::trees::Tree;
 use std::alloc::Global;
 use wu_access::{Perm, UserRec};
-use wu_base::{Gid, Ino, NoMemory, Sequence, Uid, sorted_once};
+use wu_base::{DEPTH_MAX, Gid, Ino, NoMemory, Sequence, Uid, sorted_once};
 
 impl Tree {
     ghost use Rattle.wu_tree.specs.Steps.{named_by, with_link, with_node, with_perm, with_user, without_link};
@@ -31,7 +31,7 @@ impl Tree {
         requires directory { is_directory self.old parent ≡ true }
         requires new { node_of self.old ino ≡ None }
         requires free { child_of self.old parent name.items ≡ None }
-        requires shallow { node.kind ≡ Kind.Directory → depth self.old.links parent < 255 }
+        requires shallow { node.kind ≡ Kind.Directory → depth self.old.links parent < DEPTH_MAX }
         ensures ok { OnOk result (self.new ≡ with_node self.old ino parent name.items node) }
         ensures err { OnErr result (self.new ≡ self.old) }
     {

@@ -39,7 +39,7 @@ impl Tree {
     /// Looks at each entry below `directory` at most once, and at none in a directory whose height is less.
     fn reaches(&self, directory: Ino, levels: usize) -> bool
         requires directory { is_directory self.now directory ≡ true }
-        requires levels { levels ≤ 255 }
+        requires levels { levels ≤ DEPTH_MAX }
         ensures { result ≡ reaches self.now levels directory }
     {
         if levels == 0 {

@@ -11,7 +11,7 @@ use std::alloc::Global;
 use std::collections::BTreeMap;
 use std::marker::Model;
 use wu_access::{Perm, UserRec};
-use wu_base::{Gid, Ino, NoMemory, ROOT, Uid};
+use wu_base::{DEPTH_MAX, Gid, Ino, NoMemory, ROOT, Uid};
 
 /// A tree of directories and files, and the users with their groups. Contracts see the file system that it
 /// stands for: its nodes, its links and its users. The numbers of nodes, users and groups have 32 bits.
@@ -178,7 +178,7 @@ impl Tree {
     pub(crate) fn depth(&self, directory: Ino) -> usize
         requires { is_directory self.now directory ≡ true }
         ensures depth { result ≡ depth_of self.now.links directory }
-        ensures small { result ≤ 255 }
+        ensures small { result ≤ DEPTH_MAX }
     {
         self.keeps_the_rules();
         let mut depth = 1;

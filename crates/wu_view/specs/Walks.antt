@@ -1,6 +1,8 @@
 -- What a walk finds that goes down from a directory through those that grant the user execute.
 use Rattle.std.specs.Prelude.{ℕ, zero, suc, Bool, cond, Option, None, Some, List, [], ◌∷◌, ◌++◌}
 use Rattle.std.specs.List.{flat_map}
+use Rattle.wu_base.specs.declared.limits.TheConstants.{DEPTH_MAX}
+use Rattle.wu_base.specs.declared.addresses.TheConstants.{ROOT}
 use Rattle.wu_access.specs.declared.UserRec.{UserRec}
 use Rattle.wu_access.specs.declared.Want.TheVariants.{Read, Execute}
 use Rattle.wu_access.specs.Access.{is_allowed}
@@ -50,4 +52,4 @@ if_passable Closed found = []
 
 -- what is found from the root on
 abbrev pub walked_whole : FileSystem → UserRec → List Found
-walked_whole fs user = if_passable (met_at fs user 1) (walked fs user 255 1 [])
+walked_whole fs user = if_passable (met_at fs user ROOT) (walked fs user DEPTH_MAX ROOT [])
