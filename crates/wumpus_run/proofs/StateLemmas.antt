@@ -1,5 +1,5 @@
 -- Events, the state and the machine that stands for it.
-use Rattle.std.proofs.Common.{◌≡◌, ℕ, List, [], Ok, Err, refl, ap, ◌∙◌, sym, subst}
+use Rattle.std.proofs.Common.{◌≡◌, ℕ, List, Ok, Err, refl, ap, ◌∙◌, sym, subst}
 use Rattle.std.specs.Result.{result_unwrap_or}
 use Rattle.wu_tree.specs.FileSystems.{FileSystem}
 use Rattle.wu_tree.specs.Steps.{step as tree_step}

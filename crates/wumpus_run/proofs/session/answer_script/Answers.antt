@@ -1,4 +1,4 @@
-use Rattle.std.proofs.Common.{◌≡◌, [], ◌++◌, refl, ap, ◌∙◌, subst}
+use Rattle.std.proofs.Common.{[], ◌++◌, refl, ap, ◌∙◌, subst}
 use Rattle.std.specs.Io.KnownBytes.{prepend_known}
 use Rattle.std.proofs.KnownBytes.{Appends-nil}
 use Rattle.wu_script.specs.Items.{IsNext, IsItem}
