@@ -35,13 +35,15 @@ pub same_either : {X : Type 0} (b : Bool) (x : X) → cond b x x ≡ x
 same_either true x = refl
 same_either false x = refl
 
-pub no_defaults : (rules : List Rule) → list_all (λ a. is_empty a.defaults) rules ≡ true → (rows : List Row) → defaults_fault rows rules ≡ []
+pub no_defaults : (rules : List Rule) → list_all (λ a. is_empty a.defaults) rules ≡ true → (rows : List Row)
+    → defaults_fault rows rules ≡ []
 unfolding defaults_fault
 no_defaults [] e rows = refl
 no_defaults (a ∷ rules) e rows =
     let parts = split_and (is_empty a.defaults) _ e in
     let first : default_fault rows a ≡ [] = rw (parts.0, or-true (has_row a.id rows)) refl in
-    ap (λ (kinds : Kinds). or_else kinds (defaults_fault (with_default rows a) rules)) first ∙ no_defaults rules parts.1 (with_default rows a)
+    ap (λ (kinds : Kinds). or_else kinds (defaults_fault (with_default rows a) rules)) first
+    ∙ no_defaults rules parts.1 (with_default rows a)
 
 pub no_check : (rows : List Row) (b : Bool) → check_fault shape_built rows b ≡ []
 no_check rows true = refl
@@ -74,7 +76,8 @@ unfolding command_line_of nothing_seen
 agrees words =
     let m = (all_meet words).0 nothing_seen [] None idle tt refl (refl, refl, refl) in
     subst (λ (kinds : Kinds). Agrees kinds (matches_of command_app words) (command_line_of words)) (sym (faults_are words))
-    (subst (λ (rows : List Row). Agrees (faults_from (state [] None idle false) words) rows (command_line_of words)) (sym (rows_found words)) m)
+    (subst (λ (rows : List Row). Agrees (faults_from (state [] None idle false) words) rows (command_line_of words))
+    (sym (rows_found words)) m)
 
 -- ---- what a parse tells
 
@@ -85,23 +88,28 @@ said_is found = λ i. record {
   words = unwrap_or (raw_values-rows found (codes "words") i) [];
 }
 
-pub agrees_without : (kinds : Kinds) (rows : List Row) (line : Option CommandLine) → kinds ≡ [] → Agrees kinds rows line → command_line_by (said_of rows) ≡ line
+pub agrees_without : (kinds : Kinds) (rows : List Row) (line : Option CommandLine) → kinds ≡ [] → Agrees kinds rows line
+    → command_line_by (said_of rows) ≡ line
 agrees_without [] rows line none a = a
 agrees_without (k ∷ ks) rows line none a = cc
 
-pub agrees_among : (kinds : Kinds) (rows : List Row) (line : Option CommandLine) (k : ErrorKind) → IsAmong k kinds → Agrees kinds rows line → line ≡ None
+pub agrees_among : (kinds : Kinds) (rows : List Row) (line : Option CommandLine) (k : ErrorKind) → IsAmong k kinds → Agrees kinds rows line
+    → line ≡ None
 agrees_among [] rows line k among a = absurd among
 agrees_among (x ∷ xs) rows line k among a = a
 
 -- the words of a parse that succeeds give what was found
-pub found_line : (app : App) (words : List Text) (found : Found) → app ≡ command_app → fault_of app words ≡ [] → rows_of found ≡ matches_of app words
+pub found_line : (app : App) (words : List Text) (found : Found) → app ≡ command_app → fault_of app words ≡ []
+    → rows_of found ≡ matches_of app words
     → command_line_by (said_in found) ≡ command_line_of words
 found_line app words found same none rows =
     ap command_line_by (said_is found ∙ ap said_of (rows ∙ ap (λ (a : App). matches_of a words) same))
-    ∙ agrees_without (fault_of command_app words) (matches_of command_app words) (command_line_of words) (ap (λ (a : App). fault_of a words) (sym same) ∙ none) (agrees words)
+    ∙ agrees_without (fault_of command_app words) (matches_of command_app words) (command_line_of words)
+    (ap (λ (a : App). fault_of a words) (sym same) ∙ none) (agrees words)
 
 -- and words that are refused are in no form
-pub no_line : (app : App) (words : List Text) (k : ErrorKind) → app ≡ command_app → IsAmong k (fault_of app words) → None ≡ command_line_of words
+pub no_line : (app : App) (words : List Text) (k : ErrorKind) → app ≡ command_app → IsAmong k (fault_of app words)
+    → None ≡ command_line_of words
 no_line app words k same among =
     sym (agrees_among (fault_of command_app words) (matches_of command_app words) (command_line_of words) k
     (subst (λ (a : App). IsAmong k (fault_of a words)) same among) (agrees words))

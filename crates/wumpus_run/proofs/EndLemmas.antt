@@ -16,12 +16,13 @@ use Rattle.wu_options.specs.declared.command_lines.Settings.{Settings}
 use Rattle.wumpus_run.specs.declared.statuses.Status.{Status}
 use Rattle.wumpus_run.specs.declared.statuses.Status.TheVariants.{Done, Usage, ReadFault, WriteFault, NoMemory, InputTooLong}
 use Rattle.wumpus_run.specs.States.{State}
-use Rattle.wumpus_run.specs.Replies.{Rules, AreRules, output_of}
+use Rattle.wumpus_run.specs.Replies.{Rules, output_of}
 use Rattle.wumpus_run.specs.Taking.{TakesAtMost, TakesExactly}
 use Rattle.wumpus_run.specs.Session.{Moment, AnswersAll, AnswersAllButOneRead, AnswersPrefix, IsTooLong, HoldsNothingBack, Ends, Completes, IsCounted, status_of, status_of_fault}
 use Rattle.wumpus_run.proofs.SessionLemmas.{HasSent, HasSent-all, IsOnTheWay, HasAnswered, HasTaken}
 
-taken_twice : (input : List ℕ) (left : Option (List ℕ)) (most : ℕ) → TakesAtMost most (Some input) left → TakesExactly (most + 1) (Some input) left → ⊥
+taken_twice : (input : List ℕ) (left : Option (List ℕ)) (most : ℕ) → TakesAtMost most (Some input) left
+    → TakesExactly (most + 1) (Some input) left → ⊥
 taken_twice input None most few many = absurd few.1
 taken_twice input (Some rest) most few many =
     omega (arith, ap length few.1, ap length many.1, length-append few.0 rest, length-append many.0 rest, few.2, many.2)
@@ -60,7 +61,8 @@ module _ (told : Settings) (start : State) where
 
   -- no more was taken than the input may have
   pub Ends-short : (status : Status) (before now : Moment) → (status ≡ InputTooLong → ⊥) → TakesAtMost told.max_input before.left now.left
-      → AnswersPrefix start (Some told) before now → HoldsNothingBack start status (Some told) before now → Ends start status told before now
+      → AnswersPrefix start (Some told) before now → HoldsNothingBack start status (Some told) before now
+      → Ends start status told before now
   Ends-short status before now other few prefix prompt = record {
     too_long = not_long status before now other few;
     taken = (few.0, few.1, omega (arith, few.2));
@@ -124,10 +126,12 @@ module _ (told : Settings) (start : State) where
       → Appends gained now (output_of rules start (items_of input))
   finished rules gained now input rest s none sent =
       HasSent-all gained now (output_of rules start (items_of input))
-      (subst (HasSent gained now (output_of rules start (items_of input))) (ap (λ bs. output_of rules s (items_of bs)) none ∙ ap (output_of rules s) items_of-none)
+      (subst (HasSent gained now (output_of rules start (items_of input)))
+      (ap (λ bs. output_of rules s (items_of bs)) none ∙ ap (output_of rules s) items_of-none)
       sent)
 
-  finished_if : (rules : Rules) (gained now : Option (List ℕ)) (input : List ℕ) (known rest : Option (List ℕ)) (s : State) → IsNext known rest items.End
+  finished_if : (rules : Rules) (gained now : Option (List ℕ)) (input : List ℕ) (known rest : Option (List ℕ)) (s : State)
+      → IsNext known rest items.End
       → IsOnTheWay told start rules gained now (Some input) known s → Appends gained now (output_of rules start (items_of input))
   finished_if rules gained now input None rest s next sent = absurd sent
   finished_if rules gained now input (Some bytes) None s next sent = absurd next
@@ -144,7 +148,8 @@ module _ (told : Settings) (start : State) where
       → TakesAtMost told.max_input before.left now.left → AnswersAll start (Some told) before now
   AnswersAll-end before now s known rest ended answered next few = by_case before.left answered few
     where
-      by_case : (left : Option (List ℕ)) → HasAnswered told start before.gained now.gained left known s → TakesAtMost told.max_input left now.left
+      by_case : (left : Option (List ℕ)) → HasAnswered told start before.gained now.gained left known s
+          → TakesAtMost told.max_input left now.left
           → AnswersAll start (Some told) (record before { left = left }) now
       by_case None answered few = tt
       by_case (Some input) answered few =
@@ -153,14 +158,16 @@ module _ (told : Settings) (start : State) where
 
   -- a session that no fault ended is done, or has too long an input, unless there was no memory
   pub Completes-all : (status : Status) (before now : Moment) → (status ≡ Usage → ⊥) → (status ≡ ReadFault → ⊥) → (status ≡ WriteFault → ⊥)
-      → (status ≡ Done → AnswersAll start (Some told) before now) → IsTooLong status (Some told) before now → Completes status (Some told) before
+      → (status ≡ Done → AnswersAll start (Some told) before now) → IsTooLong status (Some told) before now
+      → Completes status (Some told) before
   Completes-all status before now form read write all over = by_case status before.left form read write all over
     where
       by_case : (status : Status) (left : Option (List ℕ)) → (status ≡ Usage → ⊥) → (status ≡ ReadFault → ⊥) → (status ≡ WriteFault → ⊥)
           → (status ≡ Done → AnswersAll start (Some told) (record before { left = left }) now)
           → IsTooLong status (Some told) (record before { left = left }) now → Completes status (Some told) (record before { left = left })
       by_case status None form read write all over = tt
-      by_case Done (Some input) form read write all over = (λ within. inl refl, λ beyond. let done = all refl in absurd (omega (arith, done.0)))
+      by_case Done (Some input) form read write all over =
+          (λ within. inl refl, λ beyond. let done = all refl in absurd (omega (arith, done.0)))
       by_case Usage (Some input) form read write all over = absurd (form refl)
       by_case ReadFault (Some input) form read write all over = absurd (read refl)
       by_case WriteFault (Some input) form read write all over = absurd (write refl)
@@ -169,17 +176,22 @@ module _ (told : Settings) (start : State) where
           (λ within. absurd (too_much input now.left told.max_input (over.0 refl) within), λ beyond. inl refl)
 
 -- nothing was taken where the arguments weren't read
-pub IsTooLong-none : (status : Status) (settings : Option Settings) (before : Moment) → (status ≡ InputTooLong → ⊥) → IsTooLong status settings before before
+pub IsTooLong-none : (status : Status) (settings : Option Settings) (before : Moment) → (status ≡ InputTooLong → ⊥)
+    → IsTooLong status settings before before
 IsTooLong-none status None before other = tt
 IsTooLong-none status (Some told) before other = too_long told status before other
   where
-    too_long : (told : Settings) (status : Status) (before : Moment) → (status ≡ InputTooLong → ⊥) → IsTooLong status (Some told) before before
+    too_long : (told : Settings) (status : Status) (before : Moment) → (status ≡ InputTooLong → ⊥)
+        → IsTooLong status (Some told) before before
     too_long told status before other = by_case before.left
       where
         by_case : (left : Option (List ℕ)) → IsTooLong status (Some told) (record before { left = left }) (record before { left = left })
         by_case None = tt
-        by_case (Some input) =
-            (λ long. absurd (other long), λ many. absurd (taken_twice input (Some input) told.max_input (TakesAtMost-none (Some input) told.max_input) many))
+        by_case (Some input) = (
+          λ long. absurd (other long),
+          λ many. absurd
+              (taken_twice input (Some input) told.max_input (TakesAtMost-none (Some input) told.max_input) many),
+        )
 
 -- ---- the counts of faults
 

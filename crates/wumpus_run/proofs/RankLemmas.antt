@@ -1,26 +1,21 @@
 -- A ranking by addresses is the ranking by what the files' texts hold.
-use Rattle.std.proofs.Common.{◌≡◌, ℕ, zero, suc, ◌+◌, ◌-◌, ◌≤◌, ◌<◌, ◌^◌, Bool, true, false, cond, ◌||◌, List, [], ◌∷◌, ◌++◌, length, take, drop, map, filter, refl, sym, ap, ap₂, ◌∙◌, subst, arith, append_assoc, length-append, Ordering, Less, Equal, Greater, le-leb, eqb}
+use Rattle.std.proofs.Common.{◌≡◌, ℕ, zero, suc, ◌+◌, ◌-◌, ◌≤◌, ◌<◌, ◌^◌, Bool, true, false, cond, List, [], ◌∷◌, ◌++◌, length, take, drop, map, refl, sym, ap, ap₂, ◌∙◌, subst, arith, append_assoc, length-append, le-leb}
 use Rattle.std.proofs.Math.Dec.{eqb-suc-zero}
 use Rattle.std.proofs.Math.Bool.{and-false}
 use Rattle.std.proofs.lemmas.Bool.{lt-leb}
-use Rattle.std.proofs.lemmas.Cmp.{ranked}
 use Rattle.std.proofs.lemmas.List.{length-map, map-append}
 use Rattle.std.proofs.lemmas.List.Elements.{All-from_recursion}
-use Rattle.std.proofs.lemmas.List.Sums.{sum_by-cons}
-use Rattle.std.specs.Prelude.{All, nat_eq, nat_le, nat_lt, count_by}
+use Rattle.std.specs.Prelude.{All, nat_eq, nat_le, count_by}
 use Rattle.std.specs.List.{AllByRecursion}
 use Rattle.std.specs.List.Sorted.{IsStrictlyIncreasing}
 use Rattle.std.specs.Cmp.Lexicographic.{pointwise, nat_list_eq_equiv}
-use Rattle.std.specs.Ordering.{nat_cmp, ordering_then, is_lt, MatchOrdering}
 use Rattle.wu_base.specs.declared.addresses.Extent.{Extent}
 use Rattle.wu_base.specs.declared.addresses.Range.{Range}
 use Rattle.wu_base.specs.declared.addresses.TermList.{TermList}
 use Rattle.wu_gcl.specs.Extents.{is_token_at}
 use Rattle.wu_gcl.specs.Regions.{Region}
-use Rattle.wu_log2.specs.Logarithm.{lg}
 use Rattle.wu_rank.specs.declared.results.Unit.{Unit as RankedUnit}
 use Rattle.wu_rank.specs.declared.results.Ranked.{Ranked}
-use Rattle.wu_rank.specs.Bm25.{weigh}
 use Rattle.wu_rank.specs.Scores.{length_of, lies_in, frequency, count_at}
 use Rattle.wu_rank.specs.Order.{listed}
 use Rattle.wu_rank.proofs.Shifting.{Agrees, listed_shifted}
@@ -50,43 +45,64 @@ ranked_at_addresses frames r = record { score = r.score; unit = at_addresses fra
 
 -- ---- the units of the frames
 
-map-at_addresses : (frames : List Range) (place start : ℕ) (xs : List Extent) → start_at frames place ≡ start → map (at_addresses frames) (map (unit_at place) xs) ≡ map (unit_at place) (map (moved start) xs)
+map-at_addresses : (frames : List Range) (place start : ℕ) (xs : List Extent) → start_at frames place ≡ start
+    → map (at_addresses frames) (map (unit_at place) xs) ≡ map (unit_at place) (map (moved start) xs)
 map-at_addresses frames place start [] is = refl
 map-at_addresses frames place start (x ∷ xs) is =
-    ap₂ (λ (u : RankedUnit) (us : List RankedUnit). u ∷ us) (ap (λ (s : ℕ). unit_at place (moved s x)) is) (map-at_addresses frames place start xs is)
+    ap₂ (λ (u : RankedUnit) (us : List RankedUnit). u ∷ us) (ap (λ (s : ℕ). unit_at place (moved s x)) is)
+    (map-at_addresses frames place start xs is)
 
 -- the frames from a place on
 abbrev Continues : List Range → ℕ → List Range → Type 0
 Continues frames place rest = (i : ℕ) → start_at frames (place + i) ≡ start_at rest i
 
-units_moved : (region : Region) (lists : List TermList) (all front : List (List ℕ)) (frames : List Range) (place : ℕ) (files : List Shown) → Tells region lists all → all ≡ front ++ tokens_in files
-    → Continues frames place (frames_from (length front) files) → units_in place region lists (frames_from (length front) files) ≡ map (at_addresses frames) (units_from place region files)
+units_moved : (region : Region) (lists : List TermList) (all front : List (List ℕ)) (frames : List Range) (place : ℕ) (files : List Shown)
+    → Tells region lists all → all ≡ front ++ tokens_in files
+    → Continues frames place (frames_from (length front) files)
+    → units_in place region lists (frames_from (length front) files) ≡ map (at_addresses frames) (units_from place region files)
 units_moved region lists all front frames place [] tells split same = refl
 units_moved region lists all front frames place (file ∷ files) tells split same =
     let tokens = tokens_of file.text in
     let zeroth : place ≡ place + 0 = omega arith in
     let starts : start_at frames place ≡ length front = ap (start_at frames) zeroth ∙ same 0 in
-    let here : map (unit_at place) (frame_hits region lists (record { start = length front; len = length tokens })) ≡ map (at_addresses frames) (map (unit_at place) (hits_in region file)) =
-    ap (map (unit_at place)) (frame_of_file region lists all front (tokens_in files) file tells split) ∙ sym (map-at_addresses frames place (length front) (hits_in region file) starts) in
+    let here : map (unit_at place) (frame_hits region lists (record { start = length front; len = length tokens }))
+    ≡ map (at_addresses frames) (map (unit_at place) (hits_in region file)) =
+    ap (map (unit_at place)) (frame_of_file region lists all front (tokens_in files) file tells split)
+    ∙ sym (map-at_addresses frames place (length front) (hits_in region file) starts) in
     let long : length (front ++ tokens) ≡ length front + length tokens = length-append front tokens in
-    let goes_on : Continues frames (suc place) (frames_from (length front + length tokens) files) = λ i. (let e : suc place + i ≡ place + suc i = omega arith in ap (start_at frames) e ∙ same (suc i)) in
-    let behind = units_moved region lists all (front ++ tokens) frames (suc place) files tells (split ∙ sym (append_assoc front tokens (tokens_in files)))
+    let goes_on : Continues frames (suc place) (frames_from (length front + length tokens) files) = λ i.
+    (let e : suc place + i ≡ place + suc i = omega arith in ap (start_at frames) e ∙ same (suc i)) in
+    let behind = units_moved region lists all (front ++ tokens) frames (suc place) files tells
+    (split ∙ sym (append_assoc front tokens (tokens_in files)))
     (subst (λ (n : ℕ). Continues frames (suc place) (frames_from n files)) (sym long) goes_on) in
-    let rest : units_in (suc place) region lists (frames_from (length front + length tokens) files) ≡ map (at_addresses frames) (units_from (suc place) region files) =
-    subst (λ (n : ℕ). units_in (suc place) region lists (frames_from n files) ≡ map (at_addresses frames) (units_from (suc place) region files)) long behind in
-    ap₂ (λ (us vs : List RankedUnit). us ++ vs) here rest ∙ sym (map-append (at_addresses frames) (map (unit_at place) (hits_in region file)) (units_from (suc place) region files))
+    let rest : units_in (suc place) region lists (frames_from (length front + length tokens) files)
+    ≡ map (at_addresses frames) (units_from (suc place) region files) =
+    subst (λ (n : ℕ). units_in (suc place) region lists (frames_from n files)
+    ≡ map (at_addresses frames) (units_from (suc place) region files)) long behind in
+    ap₂ (λ (us vs : List RankedUnit). us ++ vs) here rest
+    ∙ sym (map-append (at_addresses frames) (map (unit_at place) (hits_in region file)) (units_from (suc place) region files))
 
 -- the units of a scan's frames are those of the files, at addresses
-units_scanned : (region : Region) (lists : List TermList) (files : List Shown) → Tells region lists (tokens_in files) → units_in 0 region lists (frames_from 0 files) ≡ map (at_addresses (frames_from 0 files)) (units_of region files)
+units_scanned : (region : Region) (lists : List TermList) (files : List Shown) → Tells region lists (tokens_in files)
+    → units_in 0 region lists (frames_from 0 files) ≡ map (at_addresses (frames_from 0 files)) (units_of region files)
 unfolding units_of
 units_scanned region lists files tells =
-    units_moved region lists (tokens_in files) [] (frames_from 0 files) 0 files tells refl (λ i. let e : 0 + i ≡ i = omega arith in ap (start_at (frames_from 0 files)) e)
+    units_moved region lists (tokens_in files) [] (frames_from 0 files) 0 files tells refl
+    (λ i. let e : 0 + i ≡ i = omega arith in ap (start_at (frames_from 0 files)) e)
 
-length-units_in : (place : ℕ) (region : Region) (lists : List TermList) (frames : List Range) → length (units_in place region lists frames) ≡ length (frames_hits region lists frames)
+length-units_in : (place : ℕ) (region : Region) (lists : List TermList) (frames : List Range)
+    → length (units_in place region lists frames) ≡ length (frames_hits region lists frames)
 length-units_in place region lists [] = refl
 length-units_in place region lists (frame ∷ frames) =
     let here = frame_hits region lists frame in
-    omega (arith, length-append (map (unit_at place) here) (units_in (suc place) region lists frames), length-map here (unit_at place), length-units_in (suc place) region lists frames, length-append here (frames_hits region lists frames))
+    omega (
+      arith,
+      length-append (map (unit_at place) here) (units_in (suc place) region lists frames),
+      length-map here
+          (unit_at place),
+      length-units_in (suc place) region lists frames,
+      length-append here (frames_hits region lists frames),
+    )
 
 -- ---- a unit's file
 
@@ -104,22 +120,30 @@ both_all : (P : RankedUnit → Type 0) (us vs : List RankedUnit) → AllByRecurs
 both_all P [] vs one other = other
 both_all P (u ∷ us) vs one other = (one.0, both_all P us vs one.1 other)
 
-placed_all : (view : List Shown) (place : ℕ) (xs : List Extent) → place < length view → AllByRecursion (IsExtentIn (length (tokens_at view place))) xs → AllByRecursion (IsUnitOf view) (map (unit_at place) xs)
+placed_all : (view : List Shown) (place : ℕ) (xs : List Extent) → place < length view
+    → AllByRecursion (IsExtentIn (length (tokens_at view place))) xs → AllByRecursion (IsUnitOf view) (map (unit_at place) xs)
 placed_all view place [] seen inside = tt
 placed_all view place (x ∷ xs) seen inside = (record { seen = seen; inside = inside.0 }, placed_all view place xs seen inside.1)
 
 file_inside : (region : Region) (file : Shown) → AllByRecursion (IsExtentIn (length (tokens_of file.text))) (hits_in region file)
 unfolding hits_in
-file_inside region file = all_from (IsExtentIn (length (tokens_of file.text))) (hits_in region file) (inside_text region (is_token_at (tokens_of file.text)) (length (tokens_of file.text)))
+file_inside region file = all_from (IsExtentIn (length (tokens_of file.text))) (hits_in region file)
+    (inside_text region (is_token_at (tokens_of file.text)) (length (tokens_of file.text)))
 
-units_inside : (region : Region) (view : List Shown) (place : ℕ) (files : List Shown) → ((i : ℕ) → tokens_at view (place + i) ≡ tokens_at files i) → place + length files ≡ length view → AllByRecursion (IsUnitOf view) (units_from place region files)
+units_inside : (region : Region) (view : List Shown) (place : ℕ) (files : List Shown)
+    → ((i : ℕ) → tokens_at view (place + i) ≡ tokens_at files i) → place + length files ≡ length view
+    → AllByRecursion (IsUnitOf view) (units_from place region files)
 units_inside region view place [] same long = tt
 units_inside region view place (file ∷ files) same long =
     let zeroth : place ≡ place + 0 = omega arith in
     let here : tokens_at view place ≡ tokens_of file.text = ap (tokens_at view) zeroth ∙ same 0 in
-    let inside = subst (λ (ts : List (List ℕ)). AllByRecursion (IsExtentIn (length ts)) (hits_in region file)) (sym here) (file_inside region file) in
-    both_all (IsUnitOf view) (map (unit_at place) (hits_in region file)) (units_from (suc place) region files) (placed_all view place (hits_in region file) (omega arith) inside)
-    (units_inside region view (suc place) files (λ i. let e : suc place + i ≡ place + suc i = omega arith in ap (tokens_at view) e ∙ same (suc i) ∙ tokens_behind file files i) (omega arith))
+    let inside = subst (λ (ts : List (List ℕ)). AllByRecursion (IsExtentIn (length ts)) (hits_in region file)) (sym here)
+    (file_inside region file) in
+    both_all (IsUnitOf view) (map (unit_at place) (hits_in region file)) (units_from (suc place) region files)
+    (placed_all view place (hits_in region file) (omega arith) inside)
+    (units_inside region view (suc place) files
+    (λ i. let e : suc place + i ≡ place + suc i = omega arith in ap (tokens_at view) e ∙ same (suc i) ∙ tokens_behind file files i)
+    (omega arith))
 
 units_of_inside : (region : Region) (view : List Shown) → AllByRecursion (IsUnitOf view) (units_of region view)
 unfolding units_of
@@ -132,7 +156,8 @@ pub record IsCut (view : List Shown) (start place : ℕ) (front back : List (Lis
   pub whole : tokens_in view ≡ front ++ (tokens_at view place ++ back)
   pub starts : start_at (frames_from start view) place ≡ start + length front
 
-cut_at : (view : List Shown) (start place : ℕ) → place < length view → (front : List (List ℕ)) × (back : List (List ℕ)) × IsCut view start place front back
+cut_at : (view : List Shown) (start place : ℕ) → place < length view
+    → (front : List (List ℕ)) × (back : List (List ℕ)) × IsCut view start place front back
 cut_at [] start place within = absurd (omega arith)
 cut_at (file ∷ files) start zero within = ([], tokens_in files, record { whole = refl; starts = omega arith })
 cut_at (file ∷ files) start (suc place) within =
@@ -157,19 +182,23 @@ lies_behind : (e : Extent) (n : ℕ) → e.end < n → lies_in e n ≡ false
 lies_behind e n h = rw (lt-leb n e.end h) (and-false (nat_le e.start n))
 
 -- one that doesn't lie there adds nothing, whether it is listed or not
-not_counted : (e : Extent) (n : ℕ) (more : List ℕ) (b : Bool) → lies_in e n ≡ false → count_by (lies_in e) (cond b (n ∷ more) more) ≡ count_by (lies_in e) more
+not_counted : (e : Extent) (n : ℕ) (more : List ℕ) (b : Bool) → lies_in e n ≡ false
+    → count_by (lies_in e) (cond b (n ∷ more) more) ≡ count_by (lies_in e) more
 not_counted e n more true out =
     let none : 0 + count_by (lies_in e) more ≡ count_by (lies_in e) more = omega arith in
     count_by-cons (lies_in e) n more ∙ ap (λ (c : Bool). cond c 1 0 + count_by (lies_in e) more) out ∙ none
 not_counted e n more false out = refl
 
-counted_once : (e : Extent) (n : ℕ) (more : List ℕ) (b : Bool) (k : ℕ) → lies_in e n ≡ true → count_by (lies_in e) more ≡ k → count_by (lies_in e) (cond b (n ∷ more) more) ≡ cond b 1 0 + k
+counted_once : (e : Extent) (n : ℕ) (more : List ℕ) (b : Bool) (k : ℕ) → lies_in e n ≡ true → count_by (lies_in e) more ≡ k
+    → count_by (lies_in e) (cond b (n ∷ more) more) ≡ cond b 1 0 + k
 counted_once e n more true k lies is = count_by-cons (lies_in e) n more ∙ ap₂ (λ (c : Bool) (m : ℕ). cond c 1 0 + m) lies is
 counted_once e n more false k lies is = omega (arith, is)
 
 -- the tokens before an extent
-count_before : (n k : ℕ) (word : List ℕ) (tokens : List (List ℕ)) (e : Extent) → n + k ≤ e.start → count_by (lies_in e) (places_from n word tokens) ≡ count_by (lies_in e) (places_from (n + k) word (drop k tokens))
-count_before n zero word tokens e below = let same : n ≡ n + 0 = omega arith in ap (λ (m : ℕ). count_by (lies_in e) (places_from m word tokens)) same
+count_before : (n k : ℕ) (word : List ℕ) (tokens : List (List ℕ)) (e : Extent) → n + k ≤ e.start
+    → count_by (lies_in e) (places_from n word tokens) ≡ count_by (lies_in e) (places_from (n + k) word (drop k tokens))
+count_before n zero word tokens e below = let same : n
+    ≡ n + 0 = omega arith in ap (λ (m : ℕ). count_by (lies_in e) (places_from m word tokens)) same
 count_before n (suc k) word [] e below = refl
 count_before n (suc k) word (token ∷ tokens) e below =
     let same : suc n + k ≡ n + suc k = omega arith in
@@ -178,13 +207,16 @@ count_before n (suc k) word (token ∷ tokens) e below =
     ∙ ap (λ (m : ℕ). count_by (lies_in e) (places_from m word (drop k tokens))) same
 
 -- and those from its first on
-count_within : (n k : ℕ) (word : List ℕ) (tokens : List (List ℕ)) (e : Extent) → e.start ≤ n → k ≡ e.end + 1 - n → count_by (lies_in e) (places_from n word tokens) ≡ count_by (pointwise nat_eq word) (take k tokens)
+count_within : (n k : ℕ) (word : List ℕ) (tokens : List (List ℕ)) (e : Extent) → e.start ≤ n → k ≡ e.end + 1 - n
+    → count_by (lies_in e) (places_from n word tokens) ≡ count_by (pointwise nat_eq word) (take k tokens)
 count_within n zero word [] e above is = refl
 count_within n (suc k) word [] e above is = refl
 count_within n zero word (token ∷ tokens) e above is =
-    not_counted e n (places_from (suc n) word tokens) (pointwise nat_eq token word) (lies_behind e n (omega arith)) ∙ count_within (suc n) 0 word tokens e (omega arith) (omega arith)
+    not_counted e n (places_from (suc n) word tokens) (pointwise nat_eq token word) (lies_behind e n (omega arith))
+    ∙ count_within (suc n) 0 word tokens e (omega arith) (omega arith)
 count_within n (suc k) word (token ∷ tokens) e above is =
-    counted_once e n (places_from (suc n) word tokens) (pointwise nat_eq token word) (count_by (pointwise nat_eq word) (take k tokens)) (lies_within e n above (omega arith))
+    counted_once e n (places_from (suc n) word tokens) (pointwise nat_eq token word) (count_by (pointwise nat_eq word) (take k tokens))
+    (lies_within e n above (omega arith))
     (count_within (suc n) k word tokens e (omega arith) (omega arith))
     ∙ ap (λ (b : Bool). cond b 1 0 + count_by (pointwise nat_eq word) (take k tokens)) (nat_list_eq_equiv.symm token word)
     ∙ sym (count_by-cons (pointwise nat_eq word) token (take k tokens))
@@ -270,8 +302,10 @@ text_short texts (seen ∷ view) (suc place) short =
     let behind = tokens_behind (shown_of texts seen) (map (shown_of texts) view) place in
     subst (λ (ts : List (List ℕ)). length ts < 2 ^ 26) (sym behind) (text_short texts view place short)
 
-fits_all : (texts : Texts) (view : List Seen) (frames : List Range) (units : List RankedUnit) → AreShort texts → AllByRecursion (IsUnitOf (map (shown_of texts) view)) units
-    → AllByRecursion (λ unit. 1 ≤ length_of unit.extent) (map (at_addresses frames) units) × AllByRecursion (λ unit. length_of unit.extent < 2 ^ 26) (map (at_addresses frames) units)
+fits_all : (texts : Texts) (view : List Seen) (frames : List Range) (units : List RankedUnit) → AreShort texts
+    → AllByRecursion (IsUnitOf (map (shown_of texts) view)) units
+    → AllByRecursion (λ unit. 1 ≤ length_of unit.extent) (map (at_addresses frames) units)
+    × AllByRecursion (λ unit. length_of unit.extent < 2 ^ 26) (map (at_addresses frames) units)
 fits_all texts view frames [] short are = (tt, tt)
 fits_all texts view frames (unit ∷ units) short are =
     let more = fits_all texts view frames units short are.1 in
@@ -285,20 +319,24 @@ lists_increase tokens [] = tt
 lists_increase tokens (word ∷ words) = (places_increase 0 word tokens, lists_increase tokens words)
 
 words_ascend : (tokens words : List (List ℕ)) → All (λ list. IsStrictlyIncreasing list.at) (map (list_among tokens) words)
-words_ascend tokens words = All-from_recursion (λ (list : TermList). IsStrictlyIncreasing list.at) (map (list_among tokens) words) (lists_increase tokens words)
+words_ascend tokens words = All-from_recursion (λ (list : TermList). IsStrictlyIncreasing list.at) (map (list_among tokens) words)
+    (lists_increase tokens words)
 
 -- ---- over a scan
 
 -- what was scanned, and what was made of it
-pub record IsGathered (files : List Shown) (region : Region) (words terms : List (List ℕ)) (frames : List Range) (lists : List TermList) (units : List RankedUnit) (found : List TermList) : Type 0 where
+pub record IsGathered (files : List Shown) (region : Region) (words terms : List (List ℕ)) (frames : List Range) (lists : List TermList)
+    (units : List RankedUnit) (found : List TermList) : Type 0 where
   pub wanted : AreTermsWith region words terms
   pub scan : IsScan files terms frames lists
   pub by_frame : units ≡ units_in 0 region lists frames
   pub by_word : found ≡ map (list_in lists) words
 
 -- of lists and frames as they were lent
-pub gathered : (files : List Shown) (region : Region) (words terms : List (List ℕ)) (frames : List Range) (lists : List TermList) (units : List RankedUnit) (found : List TermList) (lent_frames : List Range) (lent lent_again : List TermList)
-    → AreTermsWith region words terms → IsScan files terms frames lists → lent_frames ≡ frames → lent ≡ lists → lent_again ≡ lists → units ≡ units_in 0 region lent lent_frames → found ≡ map (list_in lent_again) words
+pub gathered : (files : List Shown) (region : Region) (words terms : List (List ℕ)) (frames : List Range) (lists : List TermList)
+    (units : List RankedUnit) (found : List TermList) (lent_frames : List Range) (lent lent_again : List TermList)
+    → AreTermsWith region words terms → IsScan files terms frames lists → lent_frames ≡ frames → lent ≡ lists → lent_again ≡ lists
+    → units ≡ units_in 0 region lent lent_frames → found ≡ map (list_in lent_again) words
     → IsGathered files region words terms frames lists units found
 gathered files region words terms frames lists units found lent_frames lent lent_again wanted scan same_frames same_lists same_again by_frame by_word = record {
   wanted = wanted;
@@ -307,27 +345,36 @@ gathered files region words terms frames lists units found lent_frames lent lent
   by_word = by_word ∙ ap (λ (ls : List TermList). map (list_in ls) words) same_again;
 }
 
-scan_units : (files : List Shown) (region : Region) (words terms : List (List ℕ)) (frames : List Range) (lists : List TermList) (units : List RankedUnit) (found : List TermList) → IsGathered files region words terms frames lists units found
+scan_units : (files : List Shown) (region : Region) (words terms : List (List ℕ)) (frames : List Range) (lists : List TermList)
+    (units : List RankedUnit) (found : List TermList) → IsGathered files region words terms frames lists units found
     → units ≡ map (at_addresses (frames_from 0 files)) (units_of region files)
 scan_units files region words terms frames lists units found is =
-    let tells : Tells region lists (tokens_in files) = λ term has address. ap (λ (ls : List TermList). has_address ls term address) is.scan.by_term ∙ scan_has (tokens_in files) term terms address (is.wanted.of_region term has) in
+    let tells : Tells region lists (tokens_in files) = λ term has address. ap
+    (λ (ls : List TermList). has_address ls term address) is.scan.by_term
+    ∙ scan_has (tokens_in files) term terms address (is.wanted.of_region term has) in
     is.by_frame ∙ ap (units_in 0 region lists) is.scan.by_file ∙ units_scanned region lists files tells
 
-scan_words : (files : List Shown) (region : Region) (words terms : List (List ℕ)) (frames : List Range) (lists : List TermList) (units : List RankedUnit) (found : List TermList) → IsGathered files region words terms frames lists units found
+scan_words : (files : List Shown) (region : Region) (words terms : List (List ℕ)) (frames : List Range) (lists : List TermList)
+    (units : List RankedUnit) (found : List TermList) → IsGathered files region words terms frames lists units found
     → found ≡ map (list_among (tokens_in files)) words
 scan_words files region words terms frames lists units found is =
-    is.by_word ∙ ap (λ (ls : List TermList). map (list_in ls) words) is.scan.by_term ∙ words_found (tokens_in files) terms words is.wanted.of_words
+    is.by_word ∙ ap (λ (ls : List TermList). map (list_in ls) words) is.scan.by_term
+    ∙ words_found (tokens_in files) terms words is.wanted.of_words
 
-scan_ranking : (files : List Shown) (region : Region) (words terms : List (List ℕ)) (frames : List Range) (lists : List TermList) (units : List RankedUnit) (found : List TermList) → IsGathered files region words terms frames lists units found
+scan_ranking : (files : List Shown) (region : Region) (words terms : List (List ℕ)) (frames : List Range) (lists : List TermList)
+    (units : List RankedUnit) (found : List TermList) → IsGathered files region words terms frames lists units found
     → listed count_at units found ≡ map (ranked_at_addresses (frames_from 0 files)) (ranking_of files region words)
 scan_ranking files region words terms frames lists units found is =
-    ap₂ (listed count_at) (scan_units files region words terms frames lists units found is) (scan_words files region words terms frames lists units found is) ∙ ranking_same files region words
+    ap₂ (listed count_at) (scan_units files region words terms frames lists units found is)
+    (scan_words files region words terms frames lists units found is) ∙ ranking_same files region words
 
 -- as many units are listed
-pub scan_listed : (files : List Shown) (region : Region) (words terms : List (List ℕ)) (frames : List Range) (lists : List TermList) (units : List RankedUnit) (found : List TermList) (n : ℕ) → IsGathered files region words terms frames lists units found
+pub scan_listed : (files : List Shown) (region : Region) (words terms : List (List ℕ)) (frames : List Range) (lists : List TermList)
+    (units : List RankedUnit) (found : List TermList) (n : ℕ) → IsGathered files region words terms frames lists units found
     → n ≡ length (listed count_at units found) → n ≡ length (ranking_of files region words)
 scan_listed files region words terms frames lists units found n is n_is =
-    n_is ∙ ap length (scan_ranking files region words terms frames lists units found is) ∙ length-map (ranking_of files region words) (ranked_at_addresses (frames_from 0 files))
+    n_is ∙ ap length (scan_ranking files region words terms frames lists units found is)
+    ∙ length-map (ranking_of files region words) (ranked_at_addresses (frames_from 0 files))
 
 map-taken : (f : Ranked → Ranked) (k : ℕ) (rs : List Ranked) → take k (map f rs) ≡ map f (take k rs)
 map-taken f zero rs = refl
@@ -335,38 +382,51 @@ map-taken f (suc k) [] = refl
 map-taken f (suc k) (r ∷ rs) = ap (λ (xs : List Ranked). f r ∷ xs) (map-taken f k rs)
 
 -- and the first of them are the first of the ranking
-pub scan_top : (files : List Shown) (region : Region) (words terms : List (List ℕ)) (frames : List Range) (lists : List TermList) (units : List RankedUnit) (found : List TermList) (k : ℕ) (top back : List Ranked) → IsGathered files region words terms frames lists units found
+pub scan_top : (files : List Shown) (region : Region) (words terms : List (List ℕ)) (frames : List Range) (lists : List TermList)
+    (units : List RankedUnit) (found : List TermList) (k : ℕ) (top back : List Ranked)
+    → IsGathered files region words terms frames lists units found
     → top ≡ take k (listed count_at units found) → back ≡ map (in_its_file frames) top → back ≡ take k (ranking_of files region words)
 scan_top files region words terms frames lists units found k top back is top_is back_is =
     let ranking = ranking_of files region words in
     let first : top ≡ map (ranked_at_addresses (frames_from 0 files)) (take k ranking) =
-    top_is ∙ ap (take k) (scan_ranking files region words terms frames lists units found is) ∙ map-taken (ranked_at_addresses (frames_from 0 files)) k ranking in
-    back_is ∙ ap₂ (λ (fs : List Range) (rs : List Ranked). map (in_its_file fs) rs) is.scan.by_file first ∙ files_again (frames_from 0 files) (take k ranking)
+    top_is ∙ ap (take k) (scan_ranking files region words terms frames lists units found is)
+    ∙ map-taken (ranked_at_addresses (frames_from 0 files)) k ranking in
+    back_is ∙ ap₂ (λ (fs : List Range) (rs : List Ranked). map (in_its_file fs) rs) is.scan.by_file first
+    ∙ files_again (frames_from 0 files) (take k ranking)
 
 -- no unit is empty
-pub scan_some : (texts : Texts) (view : List Seen) (region : Region) (words terms : List (List ℕ)) (frames : List Range) (lists : List TermList) (units : List RankedUnit) (found : List TermList) → AreShort texts
+pub scan_some : (texts : Texts) (view : List Seen) (region : Region) (words terms : List (List ℕ)) (frames : List Range)
+    (lists : List TermList) (units : List RankedUnit) (found : List TermList) → AreShort texts
     → IsGathered (map (shown_of texts) view) region words terms frames lists units found → All (λ unit. 1 ≤ length_of unit.extent) units
 scan_some texts view region words terms frames lists units found short is =
     let files = map (shown_of texts) view in
     let fit = fits_all texts view (frames_from 0 files) (units_of region files) short (units_of_inside region files) in
     subst (All (λ (unit : RankedUnit). 1 ≤ length_of unit.extent)) (sym (scan_units files region words terms frames lists units found is))
-    (All-from_recursion (λ (unit : RankedUnit). 1 ≤ length_of unit.extent) (map (at_addresses (frames_from 0 files)) (units_of region files)) fit.0)
+    (All-from_recursion (λ (unit : RankedUnit). 1 ≤ length_of unit.extent)
+    (map (at_addresses (frames_from 0 files)) (units_of region files)) fit.0)
 
 -- and none too long
-pub scan_short : (texts : Texts) (view : List Seen) (region : Region) (words terms : List (List ℕ)) (frames : List Range) (lists : List TermList) (units : List RankedUnit) (found : List TermList) → AreShort texts
-    → IsGathered (map (shown_of texts) view) region words terms frames lists units found → All (λ unit. length_of unit.extent < 2 ^ 26) units
+pub scan_short : (texts : Texts) (view : List Seen) (region : Region) (words terms : List (List ℕ)) (frames : List Range)
+    (lists : List TermList) (units : List RankedUnit) (found : List TermList) → AreShort texts
+    → IsGathered (map (shown_of texts) view) region words terms frames lists units found
+    → All (λ unit. length_of unit.extent < 2 ^ 26) units
 scan_short texts view region words terms frames lists units found short is =
     let files = map (shown_of texts) view in
     let fit = fits_all texts view (frames_from 0 files) (units_of region files) short (units_of_inside region files) in
-    subst (All (λ (unit : RankedUnit). length_of unit.extent < 2 ^ 26)) (sym (scan_units files region words terms frames lists units found is))
-    (All-from_recursion (λ (unit : RankedUnit). length_of unit.extent < 2 ^ 26) (map (at_addresses (frames_from 0 files)) (units_of region files)) fit.1)
+    subst (All (λ (unit : RankedUnit). length_of unit.extent < 2 ^ 26))
+    (sym (scan_units files region words terms frames lists units found is))
+    (All-from_recursion (λ (unit : RankedUnit). length_of unit.extent < 2 ^ 26)
+    (map (at_addresses (frames_from 0 files)) (units_of region files)) fit.1)
 
-pub scan_few_units : (files : List Shown) (region : Region) (words terms : List (List ℕ)) (frames : List Range) (lists : List TermList) (units : List RankedUnit) (found : List TermList) → IsGathered files region words terms frames lists units found → length units ≤ 2 ^ 47
+pub scan_few_units : (files : List Shown) (region : Region) (words terms : List (List ℕ)) (frames : List Range) (lists : List TermList)
+    (units : List RankedUnit) (found : List TermList) → IsGathered files region words terms frames lists units found → length units ≤ 2 ^ 47
 scan_few_units files region words terms frames lists units found is =
     omega (arith, ap length is.by_frame, length-units_in 0 region lists frames, scan_few region files terms frames lists is.scan)
 
 -- the words' lists ascend
-pub scan_ascends : (files : List Shown) (region : Region) (words terms : List (List ℕ)) (frames : List Range) (lists : List TermList) (units : List RankedUnit) (found : List TermList) → IsGathered files region words terms frames lists units found
+pub scan_ascends : (files : List Shown) (region : Region) (words terms : List (List ℕ)) (frames : List Range) (lists : List TermList)
+    (units : List RankedUnit) (found : List TermList) → IsGathered files region words terms frames lists units found
     → All (λ list. IsStrictlyIncreasing list.at) found
 scan_ascends files region words terms frames lists units found is =
-    subst (All (λ (list : TermList). IsStrictlyIncreasing list.at)) (sym (scan_words files region words terms frames lists units found is)) (words_ascend (tokens_in files) words)
+    subst (All (λ (list : TermList). IsStrictlyIncreasing list.at)) (sym (scan_words files region words terms frames lists units found is))
+    (words_ascend (tokens_in files) words)

@@ -1,5 +1,5 @@
 -- What is replied to an item in the machine's state.
-use Rattle.std.proofs.Common.{◌≡◌, List, ℕ, Ok, Err, Some, refl, ap, ◌∙◌}
+use Rattle.std.proofs.Common.{◌≡◌, ℕ, Ok, Err, Some, refl, ap}
 use Rattle.wu_ask.specs.Questions.{Question}
 use Rattle.wu_tree.specs.declared.events.Refusal.{Refusal}
 use Rattle.wu_script.specs.Said.{Asks}

@@ -24,9 +24,15 @@ pub HasSent-none : (before : Option (List ℕ)) (output : List ℕ) → HasSent 
 HasSent-none before output = record { front = []; whole = refl; gained = Appends-nil before }
 
 -- a piece more was sent
-pub HasSent-more : (before between now : Option (List ℕ)) (output piece rest : List ℕ) → HasSent before between output (piece ++ rest) → Appends between now piece → HasSent before now output rest
+pub HasSent-more : (before between now : Option (List ℕ)) (output piece rest : List ℕ) → HasSent before between output (piece ++ rest)
+    → Appends between now piece → HasSent before now output rest
 HasSent-more before between now output piece rest sent gained =
-    record { front = sent.front ++ piece; whole = sent.whole ∙ sym (append_assoc sent.front piece rest); gained = Appends-trans before between now sent.front piece sent.gained gained }
+    record {
+      front = sent.front ++ piece;
+      whole = sent.whole
+          ∙ sym (append_assoc sent.front piece rest);
+      gained = Appends-trans before between now sent.front piece sent.gained gained;
+    }
 
 -- where nothing is left to come, the whole output was gained
 pub HasSent-all : (before now : Option (List ℕ)) (output : List ℕ) → HasSent before now output [] → Appends before now output
@@ -37,14 +43,17 @@ pub HasSent-prefix : (before now : Option (List ℕ)) (output rest : List ℕ) �
 HasSent-prefix before now output rest sent = (sent.front, rest, sent.whole, sent.gained)
 
 -- what was sent, and a prefix of the next piece, is a prefix of the output
-pub HasSent-part : (before between now : Option (List ℕ)) (output piece rest : List ℕ) → HasSent before between output (piece ++ rest) → GainsPrefix between now piece → GainsPrefix before now output
+pub HasSent-part : (before between now : Option (List ℕ)) (output piece rest : List ℕ) → HasSent before between output (piece ++ rest)
+    → GainsPrefix between now piece → GainsPrefix before now output
 HasSent-part before between now output piece rest sent part =
     let split : output ≡ (sent.front ++ part.0) ++ (part.1 ++ rest) =
-    sent.whole ∙ ap (λ xs. sent.front ++ (xs ++ rest)) part.2 ∙ ap (λ xs. sent.front ++ xs) (append_assoc part.0 part.1 rest) ∙ sym (append_assoc sent.front part.0 (part.1 ++ rest)) in
+    sent.whole ∙ ap (λ xs. sent.front ++ (xs ++ rest)) part.2 ∙ ap (λ xs. sent.front ++ xs) (append_assoc part.0 part.1 rest)
+    ∙ sym (append_assoc sent.front part.0 (part.1 ++ rest)) in
     (sent.front ++ part.0, part.1 ++ rest, split, Appends-trans before between now sent.front part.0 sent.gained part.3)
 
 -- an item that isn't the end is the first of some bytes
-first_item : (bytes rest : List ℕ) (item : Item) → IsBeforeEnd item → IsFirstItem bytes rest item → (0 < length bytes) × IsReadAs item (first_of bytes).entry × (rest ≡ (first_of bytes).rest)
+first_item : (bytes rest : List ℕ) (item : Item) → IsBeforeEnd item → IsFirstItem bytes rest item
+    → (0 < length bytes) × IsReadAs item (first_of bytes).entry × (rest ≡ (first_of bytes).rest)
 first_item bytes rest (items.Command command) other is = is
 first_item bytes rest (items.Text ino body) other is = is
 first_item bytes rest (items.Refused why) other is = is
@@ -64,7 +73,8 @@ module _ (told : Settings) (start : State) where
   abbrev pub IsOnTheWay : Rules → Option (List ℕ) → Option (List ℕ) → Option (List ℕ) → Option (List ℕ) → State → Type 0
   IsOnTheWay rules before now None left s = Unit {0}
   IsOnTheWay rules before now (Some input) None s = ⊥
-  IsOnTheWay rules before now (Some input) (Some left) s = HasSent before now (output_of rules start (items_of input)) (output_of rules s (items_of left))
+  IsOnTheWay rules before now (Some input) (Some left) s = HasSent before now (output_of rules start (items_of input))
+      (output_of rules s (items_of left))
 
   -- the same, whatever reads the texts of expressions
   abbrev pub HasAnswered : Option (List ℕ) → Option (List ℕ) → Option (List ℕ) → Option (List ℕ) → State → Type 0
@@ -79,7 +89,8 @@ module _ (told : Settings) (start : State) where
   HasAnswered-none before input = λ rules are. at_start rules before input
 
   -- the output for some bytes is what answers the first item, and the output for what comes after it
-  output-first : (rules : Rules) → AreRules told rules → (s : State) (bytes rest : List ℕ) (item : Item) → IsBeforeEnd item → IsFirstItem bytes rest item
+  output-first : (rules : Rules) → AreRules told rules → (s : State) (bytes rest : List ℕ) (item : Item) → IsBeforeEnd item
+      → IsFirstItem bytes rest item
       → output_of rules s (items_of bytes) ≡ said_bytes s (said_by item) ++ output_of rules (after s (said_by item)) (items_of rest)
   output-first rules are s bytes rest item other is =
       let first = first_item bytes rest item other is in
@@ -88,57 +99,82 @@ module _ (told : Settings) (start : State) where
       ∙ ap (λ said. said_bytes s said ++ output_of rules (after s said) (items_of (first_of bytes).rest)) (sym says)
       ∙ ap (λ bs. said_bytes s (said_by item) ++ output_of rules (after s (said_by item)) (items_of bs)) (sym first.2)
 
-  turn : (rules : Rules) → AreRules told rules → (before between now input left rest : Option (List ℕ)) (s : State) (item : Item) → IsBeforeEnd item → IsNext left rest item
-      → IsOnTheWay rules before between input left s → Appends between now (said_bytes s (said_by item)) → IsOnTheWay rules before now input rest (after s (said_by item))
+  turn : (rules : Rules) → AreRules told rules → (before between now input left rest : Option (List ℕ)) (s : State) (item : Item)
+      → IsBeforeEnd item → IsNext left rest item
+      → IsOnTheWay rules before between input left s → Appends between now (said_bytes s (said_by item))
+      → IsOnTheWay rules before now input rest (after s (said_by item))
   turn rules are before between now None left rest s item other next sent gained = tt
   turn rules are before between now (Some input) None rest s item other next sent gained = absurd sent
   turn rules are before between now (Some input) (Some left) None s item other next sent gained = absurd next
   turn rules are before between now (Some input) (Some left) (Some rest) s item other next sent gained =
-      HasSent-more before between now (output_of rules start (items_of input)) (said_bytes s (said_by item)) (output_of rules (after s (said_by item)) (items_of rest))
-      (subst (HasSent before between (output_of rules start (items_of input))) (output-first rules are s left rest item other next) sent) gained
+      HasSent-more before between now (output_of rules start (items_of input)) (said_bytes s (said_by item))
+      (output_of rules (after s (said_by item)) (items_of rest))
+      (subst (HasSent before between (output_of rules start (items_of input)))
+      (output-first rules are s left rest item other next) sent) gained
 
   -- a turn of the loop: an item was rules, and what answers it was written
-  pub HasAnswered-turn : (before between now input left rest : Option (List ℕ)) (s new : State) (item : Item) (reply written : List ℕ) → IsBeforeEnd item → IsNext left rest item
-      → HasAnswered before between input left s → reply ≡ said_bytes s (said_by item) → new ≡ after s (said_by item) → written ≡ reply → Appends between now written → HasAnswered before now input rest new
+  pub HasAnswered-turn : (before between now input left rest : Option (List ℕ)) (s new : State) (item : Item) (reply written : List ℕ)
+      → IsBeforeEnd item → IsNext left rest item
+      → HasAnswered before between input left s → reply ≡ said_bytes s (said_by item) → new ≡ after s (said_by item) → written ≡ reply
+      → Appends between now written → HasAnswered before now input rest new
   HasAnswered-turn before between now input left rest s new item reply written other next sent replies state same gained = λ rules are.
-      subst (IsOnTheWay rules before now input rest) (sym state) (turn rules are before between now input left rest s item other next (sent rules are) (subst (Appends between now) (same ∙ replies) gained))
+      subst (IsOnTheWay rules before now input rest) (sym state)
+      (turn rules are before between now input left rest s item other next (sent rules are)
+      (subst (Appends between now) (same ∙ replies) gained))
 
   -- what was sent so far is a prefix of the output
   abbrev pub IsPrefix : Option (List ℕ) → Option (List ℕ) → Option (List ℕ) → Type 0
-  IsPrefix before now input = IfSome input (λ bytes. (rules : Rules) → AreRules told rules → GainsPrefix before now (output_of rules start (items_of bytes)))
+  IsPrefix before now input = IfSome input
+      (λ bytes. (rules : Rules) → AreRules told rules → GainsPrefix before now (output_of rules start (items_of bytes)))
 
-  pub IsPrefix-sent : (before now input left : Option (List ℕ)) (s : State) → HasAnswered before now input left s → IsPrefix before now input
+  pub IsPrefix-sent : (before now input left : Option (List ℕ)) (s : State) → HasAnswered before now input left s
+      → IsPrefix before now input
   IsPrefix-sent before now None left s sent = tt
   IsPrefix-sent before now (Some input) None s sent = λ rules are. absurd (sent rules are)
-  IsPrefix-sent before now (Some input) (Some left) s sent = λ rules are. HasSent-prefix before now (output_of rules start (items_of input)) (output_of rules s (items_of left)) (sent rules are)
+  IsPrefix-sent before now (Some input) (Some left) s sent = λ rules are. HasSent-prefix before now (output_of rules start (items_of input))
+      (output_of rules s (items_of left)) (sent rules are)
 
-  part : (rules : Rules) → AreRules told rules → (before between now : Option (List ℕ)) (input : List ℕ) (left rest : Option (List ℕ)) (s : State) (item : Item) → IsBeforeEnd item → IsNext left rest item
-      → IsOnTheWay rules before between (Some input) left s → GainsPrefix between now (said_bytes s (said_by item)) → GainsPrefix before now (output_of rules start (items_of input))
+  part : (rules : Rules) → AreRules told rules
+      → (before between now : Option (List ℕ)) (input : List ℕ) (left rest : Option (List ℕ)) (s : State) (item : Item) → IsBeforeEnd item
+      → IsNext left rest item
+      → IsOnTheWay rules before between (Some input) left s → GainsPrefix between now (said_bytes s (said_by item))
+      → GainsPrefix before now (output_of rules start (items_of input))
   part rules are before between now input None rest s item other next sent gained = absurd sent
   part rules are before between now input (Some left) None s item other next sent gained = absurd next
   part rules are before between now input (Some left) (Some rest) s item other next sent gained =
-      HasSent-part before between now (output_of rules start (items_of input)) (said_bytes s (said_by item)) (output_of rules (after s (said_by item)) (items_of rest))
-      (subst (HasSent before between (output_of rules start (items_of input))) (output-first rules are s left rest item other next) sent) gained
+      HasSent-part before between now (output_of rules start (items_of input)) (said_bytes s (said_by item))
+      (output_of rules (after s (said_by item)) (items_of rest))
+      (subst (HasSent before between (output_of rules start (items_of input)))
+      (output-first rules are s left rest item other next) sent) gained
 
   -- a turn that a fault ended: a prefix of what answers the item was written
-  pub IsPrefix-part : (before between now input left rest : Option (List ℕ)) (s : State) (item : Item) (reply written : List ℕ) → IsBeforeEnd item → IsNext left rest item
-      → HasAnswered before between input left s → reply ≡ said_bytes s (said_by item) → written ≡ reply → GainsPrefix between now written → IsPrefix before now input
+  pub IsPrefix-part : (before between now input left rest : Option (List ℕ)) (s : State) (item : Item) (reply written : List ℕ)
+      → IsBeforeEnd item → IsNext left rest item
+      → HasAnswered before between input left s → reply ≡ said_bytes s (said_by item) → written ≡ reply → GainsPrefix between now written
+      → IsPrefix before now input
   IsPrefix-part before between now None left rest s item reply written other next sent replies same gained = tt
   IsPrefix-part before between now (Some input) left rest s item reply written other next sent replies same gained = λ rules are.
-      part rules are before between now input left rest s item other next (sent rules are) (subst (GainsPrefix between now) (same ∙ replies) gained)
+      part rules are before between now input left rest s item other next (sent rules are)
+      (subst (GainsPrefix between now) (same ∙ replies) gained)
 
 -- so many bytes were given, and so many more may be
 abbrev pub HasTaken : Option (List ℕ) → Option (List ℕ) → ℕ → ℕ → Type 0
 HasTaken before left spare most = (given : List ℕ) × Consumes before left given × (spare + length given ≡ most)
 
 -- an item more was taken
-pub HasTaken-more : (before between left : Option (List ℕ)) (last_read : ℕ) (old new : Held) (item : Item) (most : ℕ) → HasTaken before between old.spare most → TakesItem between left last_read old new item → HasTaken before left new.spare most
+pub HasTaken-more : (before between left : Option (List ℕ)) (last_read : ℕ) (old new : Held) (item : Item) (most : ℕ)
+    → HasTaken before between old.spare most → TakesItem between left last_read old new item → HasTaken before left new.spare most
 HasTaken-more before between left last_read old new item most taken more =
-    let uses = more.1 in
-    (taken.0 ++ uses.given, Consumes-trans before between left taken.0 uses.given taken.1 uses.consumed, omega (arith, length-append taken.0 uses.given, taken.2, uses.counted))
+    let uses = more.1 in (
+      taken.0 ++ uses.given,
+      Consumes-trans before between left taken.0 uses.given taken.1 uses.consumed,
+      omega
+          (arith, length-append taken.0 uses.given, taken.2, uses.counted),
+    )
 
 -- each item but the end takes a byte or more of what is held and may be given
-pub takes_one : (left left' : Option (List ℕ)) (last_read : ℕ) (old new : Held) (item : Item) → IsBeforeEnd item → TakesItem left left' last_read old new item → length new.bytes + new.spare < length old.bytes + old.spare
+pub takes_one : (left left' : Option (List ℕ)) (last_read : ℕ) (old new : Held) (item : Item) → IsBeforeEnd item
+    → TakesItem left left' last_read old new item → length new.bytes + new.spare < length old.bytes + old.spare
 takes_one left left' last_read old new item other taken =
     let uses = taken.1 in
     omega (arith, some_used last_read new item taken.0 other taken.2, ap length uses.joined, length-append old.bytes uses.given, length-append taken.0 new.bytes, uses.counted)

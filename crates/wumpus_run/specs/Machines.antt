@@ -1,5 +1,5 @@
 -- How the machine that keeps a session's state stands for it.
-use Rattle.std.specs.Prelude.{◌≡◌, ◌++◌, List, ℕ, Result, Ok, Err}
+use Rattle.std.specs.Prelude.{◌≡◌, List, ℕ, Result, Ok, Err}
 use Rattle.wu_tree.specs.declared.events.Refusal.{Refusal}
 use Rattle.wu_script.specs.declared.types.Why.TheVariants.{Tree}
 use Rattle.wu_script.specs.declared.types.Reply.TheVariants.{Ok as Accepted, Refused}

@@ -1,4 +1,4 @@
--- The texts of a view, one frame behind the other, and where terms stand in them.
+-- The texts of a view, one frame after the other, and where terms stand in them.
 use Rattle.std.specs.Prelude.{◌≡◌, ℕ, suc, ◌+◌, ◌≤◌, ◌^◌, List, [], ◌∷◌, ◌++◌, length, map, nat_eq, if◌then◌else◌}
 use Rattle.std.specs.List.{flat_map}
 use Rattle.std.specs.Cmp.Lexicographic.{pointwise}
@@ -14,7 +14,8 @@ tokens_in files = flat_map (λ file. tokens_of file.text) files
 -- the frames of files whose first begins at an address
 abbrev pub frames_from : ℕ → List Shown → List Range
 frames_from start [] = []
-frames_from start (file ∷ files) = record { start = start; len = length (tokens_of file.text) } ∷ frames_from (start + length (tokens_of file.text)) files
+frames_from start (file ∷ files) = record { start = start; len = length (tokens_of file.text) } ∷ frames_from
+    (start + length (tokens_of file.text)) files
 
 -- the addresses of the term among tokens of which the first has this address
 abbrev pub places_from : ℕ → List ℕ → List (List ℕ) → List ℕ

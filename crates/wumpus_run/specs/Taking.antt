@@ -10,6 +10,6 @@ TakesAtMost most old new = (bytes : List ℕ) × Consumes old new bytes × (leng
 abbrev pub TakesExactly : ℕ → Option (List ℕ) → Option (List ℕ) → Type 0
 TakesExactly count old new = (bytes : List ℕ) × Consumes old new bytes × (length bytes ≡ count)
 
--- the sink gained these bytes, and perhaps more behind them
+-- the sink gained these bytes, and perhaps more after them
 abbrev pub GainsAtLeast : Option (List ℕ) → Option (List ℕ) → List ℕ → Type 0
 GainsAtLeast old new bytes = (more : List ℕ) × Appends old new (bytes ++ more)

@@ -23,7 +23,8 @@ pub record AreTermsWith (region : Region) (words terms : List (List ℕ)) : Type
 -- the units of frames, of which the first is that of the file with this place in the view
 abbrev pub units_in : ℕ → Region → List TermList → List Range → List RankedUnit
 units_in place region lists [] = []
-units_in place region lists (frame ∷ frames) = map (unit_at place) (frame_hits region lists frame) ++ units_in (suc place) region lists frames
+units_in place region lists (frame ∷ frames) = map (unit_at place) (frame_hits region lists frame)
+    ++ units_in (suc place) region lists frames
 
 abbrev pub no_frame : Range
 no_frame = record { start = 0; len = 0 }

@@ -17,7 +17,7 @@ ghost use Rattle.wumpus_run.specs.View.{shown_of};
 use crate::scanning::{Scan, extents_in, scan_texts};
 use std::alloc::Global;
 use std::collections::BTreeMap;
-use wu_base::{Bytes, Extent, Ino, NoMemory, Range, Sequence, TermList};
+use wu_base::{Bytes, Extent, Ino, NoMemory, Range, Sequence, TermList, sorted_once};
 use wu_gcl::{Expr, terms_of};
 use wu_rank::{Ranked, Ranker, Ranking, Unit, bm25_weigh, rank, summed_length};
 use wu_solve::find_term;
@@ -58,9 +58,7 @@ fn terms_with(alloc: Global, unit: &Expr, words: &[Bytes]) -> Result<Vec<Bytes>,
 {
     let mut terms = terms_of(alloc, unit)?;
     terms.extend_from_slice(words)?;
-    terms.sort()?;
-    terms.dedup();
-    Ok(terms)
+    Ok(sorted_once(terms))
 }
 
 /// The extents of the expression, frame by frame, each with the number of its frame.

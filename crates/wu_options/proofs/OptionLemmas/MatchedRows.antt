@@ -22,7 +22,8 @@ module _ (id other : Text) (apart : bytes_eq other id ≡ false) where
   pub misses : (r : Row) → bytes_eq r.id other ≡ true → bytes_eq r.id id ≡ false
   misses r e = ap (λ (x : Text). bytes_eq x id) ((bytes_eq-Decides r.id other).0 e) ∙ apart
 
-  pub other_with_values : (how : Reading) (s : ValueSource) (vs : List Text) (rows : List Row) → all_of id (with_values other how s vs rows) ≡ all_of id rows
+  pub other_with_values : (how : Reading) (s : ValueSource) (vs : List Text) (rows : List Row)
+      → all_of id (with_values other how s vs rows) ≡ all_of id rows
   other_with_values how s vs [] = rw apart refl
   other_with_values how s vs (r ∷ rs) = go (bytes_eq r.id other) refl (other_with_values how s vs rs)
     where
@@ -35,7 +36,8 @@ module _ (id other : Text) (apart : bytes_eq other id ≡ false) where
   other_without [] = refl
   other_without (r ∷ rs) = go (bytes_eq r.id other) refl (other_without rs)
     where
-      go : (b : Bool) → bytes_eq r.id other ≡ b → all_of id (without other rs) ≡ all_of id rs → all_of id (without other (r ∷ rs)) ≡ all_of id (r ∷ rs)
+      go : (b : Bool) → bytes_eq r.id other ≡ b → all_of id (without other rs) ≡ all_of id rs
+          → all_of id (without other (r ∷ rs)) ≡ all_of id (r ∷ rs)
       go true e h = rw (e, misses r e) refl
       go false e h = rw e (cons_all id r _ rs h)
 

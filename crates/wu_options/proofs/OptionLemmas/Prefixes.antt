@@ -32,7 +32,8 @@ pub rest_by : (seen : Seen) (word : Text) (words : List Text) (sort : Sort) → 
     → rest seen None (word ∷ words) ≡ with_said seen (said_by sort word words (λ key. said_from key words))
 rest_by seen word words sort e = ap (λ (x : Sort). with_said seen (said_by x word words (λ key. said_from key words))) e
 
-pub word_joined : (seen : Seen) (word : Text) (said : Option Said) → with_said (word_after word seen) said ≡ with_said seen (option_map (word_before word) said)
+pub word_joined : (seen : Seen) (word : Text) (said : Option Said)
+    → with_said (word_after word seen) said ≡ with_said seen (option_map (word_before word) said)
 word_joined seen word None = refl
 word_joined seen word (Some s) = ap command_line_by (λ i. record {
   max_inputs = option_to_list seen.most ++ s.max_inputs;
@@ -75,7 +76,8 @@ abbrev pub values_for : Key → Said → List Text
 values_for max_input said = said.max_inputs
 values_for flush said = said.flushes
 
-pub no_demo : (key : Key) (said : Said) (v : Text) (more : List Text) (number : Text) → values_for key said ≡ v ∷ more → demo_by said number ≡ None
+pub no_demo : (key : Key) (said : Said) (v : Text) (more : List Text) (number : Text) → values_for key said ≡ v ∷ more
+    → demo_by said number ≡ None
 no_demo max_input said v more number e = rw e refl
 no_demo flush said v more number e = rw e (go said.max_inputs)
   where
@@ -90,7 +92,8 @@ lost_by key said v more given none = go said.words
   where
     go : (words : List Text) → asked_by said words ≡ None
     go [] = refl
-    go (command ∷ []) = ap (λ (o : Option Settings). cond (bytes_eq command (codes "run")) (option_map Run o) None) (no_settings key said none)
+    go (command ∷ []) = ap (λ (o : Option Settings). cond (bytes_eq command (codes "run")) (option_map Run o) None)
+        (no_settings key said none)
         ∙ same_none (bytes_eq command (codes "run"))
     go (command ∷ number ∷ []) = ap (λ (o : Option ℕ). cond (bytes_eq command (codes "demo")) (option_map Demo o) None)
         (no_demo key said v more number given) ∙ same_none (bytes_eq command (codes "demo"))
@@ -105,7 +108,8 @@ number_lost least most default v [] h =
     ap (at_least least) (ap (λ (text : Text). number_of text most) h.2 ∙ hyphened_number h.0 h.1 most)
 number_lost least most default v (w ∷ more) h = refl
 
-pub lost_repeated : (key : Key) (u v : Text) (seen : Seen) (said : Option Said) → given_for key seen ≡ Some u → with_said seen (option_map (value_before key v) said) ≡ None
+pub lost_repeated : (key : Key) (u v : Text) (seen : Seen) (said : Option Said) → given_for key seen ≡ Some u
+    → with_said seen (option_map (value_before key v) said) ≡ None
 lost_repeated key u v seen None is = refl
 lost_repeated max_input u v seen (Some s) is = lost_by max_input (joined seen (value_before max_input v s)) u (v ∷ s.max_inputs)
     (ap (λ o. option_to_list o ++ v ∷ s.max_inputs) is)
@@ -114,17 +118,21 @@ lost_repeated flush u v seen (Some s) is = lost_by flush (joined seen (value_bef
     (ap (λ o. option_to_list o ++ v ∷ s.flushes) is)
     (ap (λ o. number_in 1 FLUSH_MAX FLUSH_DEFAULT (option_to_list o ++ v ∷ s.flushes)) is)
 
-pub lost_first : (key : Key) (v : Text) (seen : Seen) (said : Option Said) → given_for key seen ≡ None → IsHyphened v → with_said seen (option_map (value_before key v) said) ≡ None
+pub lost_first : (key : Key) (v : Text) (seen : Seen) (said : Option Said) → given_for key seen ≡ None → IsHyphened v
+    → with_said seen (option_map (value_before key v) said) ≡ None
 lost_first key v seen None none h = refl
 lost_first max_input v seen (Some s) none h = lost_by max_input (joined seen (value_before max_input v s)) v s.max_inputs
     (ap (λ o. option_to_list o ++ v ∷ s.max_inputs) none)
-    (ap (λ o. number_in 0 INPUT_MAX INPUT_MAX (option_to_list o ++ v ∷ s.max_inputs)) none ∙ number_lost 0 INPUT_MAX INPUT_MAX v s.max_inputs h)
+    (ap (λ o. number_in 0 INPUT_MAX INPUT_MAX (option_to_list o ++ v ∷ s.max_inputs)) none
+    ∙ number_lost 0 INPUT_MAX INPUT_MAX v s.max_inputs h)
 lost_first flush v seen (Some s) none h = lost_by flush (joined seen (value_before flush v s)) v s.flushes
     (ap (λ o. option_to_list o ++ v ∷ s.flushes) none)
-    (ap (λ o. number_in 1 FLUSH_MAX FLUSH_DEFAULT (option_to_list o ++ v ∷ s.flushes)) none ∙ number_lost 1 FLUSH_MAX FLUSH_DEFAULT v s.flushes h)
+    (ap (λ o. number_in 1 FLUSH_MAX FLUSH_DEFAULT (option_to_list o ++ v ∷ s.flushes)) none
+    ∙ number_lost 1 FLUSH_MAX FLUSH_DEFAULT v s.flushes h)
 
 -- a value that begins with a hyphen and is longer is no number
-pub lost_hyphened : (key : Key) (v : Text) (seen : Seen) (said : Option Said) → IsHyphened v → with_said seen (option_map (value_before key v) said) ≡ None
+pub lost_hyphened : (key : Key) (v : Text) (seen : Seen) (said : Option Said) → IsHyphened v
+    → with_said seen (option_map (value_before key v) said) ≡ None
 lost_hyphened key v seen said h = go (given_for key seen) refl
   where
     go : (o : Option Text) → given_for key seen ≡ o → with_said seen (option_map (value_before key v) said) ≡ None
@@ -134,7 +142,8 @@ lost_hyphened key v seen said h = go (given_for key seen) refl
 -- where a positional argument begins with a hyphen and is longer, the line asks for nothing
 pub no_number : (said : Said) (number : Text) → IsHyphened number → demo_by said number ≡ None
 no_number said number h =
-    ap (without_options said.max_inputs said.flushes) (ap (λ (text : Text). number_of text (2 ^ 64 - 1)) h.2 ∙ hyphened_number h.0 h.1 (2 ^ 64 - 1))
+    ap (without_options said.max_inputs said.flushes)
+    (ap (λ (text : Text). number_of text (2 ^ 64 - 1)) h.2 ∙ hyphened_number h.0 h.1 (2 ^ 64 - 1))
     ∙ go said.max_inputs said.flushes
   where
     go : (max_inputs flushes : List Text) → without_options max_inputs flushes None ≡ None
@@ -142,11 +151,13 @@ no_number said number h =
     go [] (f ∷ fs) = refl
     go (m ∷ ms) flushes = refl
 
-pub spoiled : (said : Said) (front : List Text) (word : Text) (more : List Text) → IsHyphened word → asked_by said ((front ++ word ∷ []) ++ more) ≡ None
+pub spoiled : (said : Said) (front : List Text) (word : Text) (more : List Text) → IsHyphened word
+    → asked_by said ((front ++ word ∷ []) ++ more) ≡ None
 spoiled said [] word [] h = ap (λ (text : Text). asked_by said (text ∷ [])) h.2
 spoiled said [] word (number ∷ []) h = ap (λ (text : Text). asked_by said (text ∷ number ∷ [])) h.2
 spoiled said [] word (number ∷ other ∷ more) h = refl
-spoiled said (command ∷ []) word [] h = ap (λ (o : Option ℕ). cond (bytes_eq command (codes "demo")) (option_map Demo o) None) (no_number said word h)
+spoiled said (command ∷ []) word [] h = ap (λ (o : Option ℕ). cond (bytes_eq command (codes "demo")) (option_map Demo o) None)
+    (no_number said word h)
     ∙ same_none (bytes_eq command (codes "demo"))
 spoiled said (command ∷ []) word (other ∷ more) h = refl
 spoiled said (command ∷ number ∷ []) word more h = refl

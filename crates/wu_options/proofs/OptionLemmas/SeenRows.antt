@@ -44,7 +44,8 @@ pub listed_more : (vs : List Text) (v : Text) → Some (unwrap_or (listed vs) []
 listed_more [] v = refl
 listed_more (x ∷ xs) v = refl
 
-pub words_held : (word : Text) (rows : List Row) (seen : Seen) → Holds rows seen → Holds (rows_with rows (word_pending word)) (word_after word seen)
+pub words_held : (word : Text) (rows : List Row) (seen : Seen) → Holds rows seen
+    → Holds (rows_with rows (word_pending word)) (word_after word seen)
 words_held word rows seen h = (
   other_with_values (codes "max-input") (codes "words") refl (reading_by built_words) CommandLine (word ∷ []) rows ∙ h.0,
   other_with_values (codes "flush") (codes "words") refl (reading_by built_words) CommandLine (word ∷ []) rows ∙ h.1,
@@ -83,18 +84,21 @@ row_given max_input rows seen h = has_row_is (codes "max-input") rows ∙ ap is_
 row_given flush rows seen h = has_row_is (codes "flush") rows ∙ ap is_some h.1 ∙ some_alone seen.flushed
 
 -- a first use passes, and a second is refused
-pub fresh_use : (key : Key) (v : Text) (rows : List Row) (seen : Seen) → Holds rows seen → given_for key seen ≡ None → use_fault false (rule_for key) (v ∷ []) rows ≡ []
+pub fresh_use : (key : Key) (v : Text) (rows : List Row) (seen : Seen) → Holds rows seen → given_for key seen ≡ None
+    → use_fault false (rule_for key) (v ∷ []) rows ≡ []
 fresh_use key v rows seen h none = rw (row_given key rows seen h ∙ ap is_some none) refl
 
 pub repeated_use : (key : Key) (u v : Text) (rows : List Row) (seen : Seen) → Holds rows seen → given_for key seen ≡ Some u
     → use_fault false (rule_for key) (v ∷ []) rows ≡ ArgumentConflict ∷ []
 repeated_use key u v rows seen h is = rw (row_given key rows seen h ∙ ap is_some is) refl
 
-pub pending_is : (key : Key) (values : List Text) (rows : List Row) → pending_fault rows (Some (name_of key, values)) ≡ use_fault false (rule_for key) values rows
+pub pending_is : (key : Key) (values : List Text) (rows : List Row)
+    → pending_fault rows (Some (name_of key, values)) ≡ use_fault false (rule_for key) values rows
 pending_is max_input values rows = refl
 pending_is flush values rows = refl
 
-pub rows_are : (key : Key) (values : List Text) (rows : List Row) → rows_with rows (Some (name_of key, values)) ≡ used (rule_for key) values rows
+pub rows_are : (key : Key) (values : List Text) (rows : List Row)
+    → rows_with rows (Some (name_of key, values)) ≡ used (rule_for key) values rows
 rows_are max_input values rows = refl
 rows_are flush values rows = refl
 

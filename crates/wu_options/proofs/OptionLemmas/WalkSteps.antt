@@ -55,13 +55,16 @@ word_pending word = Some (codes "words", word ∷ [])
 pub to_words : (rows : List Row) (pending : Pending) (waiting : Waiting) (trailing : Bool) (word : Text)
     → met waiting trailing word (held rows pending) ≡ (held rows pending, to_value)
     → word_fault shape_built [] trailing waiting word (held rows pending) ≡ []
-    → TakesStep (state rows pending waiting trailing) word (pending_fault rows pending) (state (rows_with rows pending) (word_pending word) to_positional trailing)
+    → TakesStep (state rows pending waiting trailing) word (pending_fault rows pending)
+    (state (rows_with rows pending) (word_pending word) to_positional trailing)
 unfolding walked
 to_words rows pending waiting trailing word is passes = (
-  (λ i. or_else (passes i) (step_fault shape_built 1 (is i).0 (is i).1)) ∙ no_more (is_pending built_words pending) [] (pending_fault rows pending),
+  (λ i. or_else (passes i) (step_fault shape_built 1 (is i).0 (is i).1))
+      ∙ no_more (is_pending built_words pending) [] (pending_fault rows pending),
   ap (λ (m : Held × Step). after_step rules_built word (state rows pending waiting trailing) m.0 m.1) is
       ∙ (λ i. record {
-        held = pushed (codes "words") word (no_more (is_pending built_words pending) (held rows pending) (settled rules_built (held rows pending)) i);
+        held = pushed (codes "words") word
+            (no_more (is_pending built_words pending) (held rows pending) (settled rules_built (held rows pending)) i);
         waiting = to_positional;
         position = 1;
         is_trailing = or_false trailing i;
@@ -70,10 +73,12 @@ to_words rows pending waiting trailing word is passes = (
 )
 
 pub trailing_step : (rows : List Row) (pending : Pending) (waiting : Waiting) (word : Text)
-    → TakesStep (state rows pending waiting true) word (pending_fault rows pending) (state (rows_with rows pending) (word_pending word) to_positional true)
+    → TakesStep (state rows pending waiting true) word (pending_fault rows pending)
+    (state (rows_with rows pending) (word_pending word) to_positional true)
 trailing_step rows pending waiting word = to_words rows pending waiting true word refl refl
 
-pub dashes_step : (rows : List Row) (pending : Pending) (waiting : Waiting) → TakesStep (state rows pending waiting false) (45 ∷ 45 ∷ []) [] (state rows pending waiting true)
+pub dashes_step : (rows : List Row) (pending : Pending) (waiting : Waiting)
+    → TakesStep (state rows pending waiting false) (45 ∷ 45 ∷ []) [] (state rows pending waiting true)
 unfolding walked
 dashes_step rows pending idle = (refl, refl)
 dashes_step rows pending (option id) = (refl, refl)
@@ -94,7 +99,8 @@ pub plain_met : (rows : List Row) (pending : Pending) (waiting : Waiting) (word 
     → met waiting false word (held rows pending) ≡ plain_word rules_built waiting word (held rows pending)
 plain_met rows pending waiting word p =
     ap (λ (o : Option Text). subcommand_or_other rules_built o waiting 1 word (held rows pending)) (no_subcommand waiting word)
-    ∙ ap (λ (b : Bool). cond b (held rows pending, to_trailing 1) (long_or_other rules_built waiting word (long_of word) (held rows pending))) p.0
+    ∙ ap (λ (b : Bool). cond b (held rows pending, to_trailing 1)
+    (long_or_other rules_built waiting word (long_of word) (held rows pending))) p.0
     ∙ p.2 rows pending waiting
 
 pub plain_passes : (rows : List Row) (pending : Pending) (waiting : Waiting) (word : Text) → IsPlain word
@@ -108,27 +114,33 @@ free_met (option id) word h free = absurd free
 free_met to_positional word h free = refl
 
 pub plain_step : (rows : List Row) (pending : Pending) (waiting : Waiting) (word : Text) → IsFree waiting → IsPlain word
-    → TakesStep (state rows pending waiting false) word (pending_fault rows pending) (state (rows_with rows pending) (word_pending word) to_positional false)
+    → TakesStep (state rows pending waiting false) word (pending_fault rows pending)
+    (state (rows_with rows pending) (word_pending word) to_positional false)
 plain_step rows pending waiting word free p =
-    to_words rows pending waiting false word (plain_met rows pending waiting word p ∙ free_met waiting word (held rows pending) free) (plain_passes rows pending waiting word p)
+    to_words rows pending waiting false word (plain_met rows pending waiting word p ∙ free_met waiting word (held rows pending) free)
+    (plain_passes rows pending waiting word p)
 
 -- a plain word is the value of an option that waits for it
 pub asked_met : (key : Key) (rows : List Row) (word : Text)
-    → plain_word rules_built (option (name_of key)) word (held rows (Some (name_of key, []))) ≡ (held rows (Some (name_of key, word ∷ [])), next idle)
+    → plain_word rules_built (option (name_of key)) word (held rows (Some (name_of key, [])))
+    ≡ (held rows (Some (name_of key, word ∷ [])), next idle)
 asked_met max_input rows word = refl
 asked_met flush rows word = refl
 
 pub asked_step : (key : Key) (rows : List Row) (word : Text) → IsPlain word
-    → TakesStep (state rows (Some (name_of key, [])) (option (name_of key)) false) word [] (state rows (Some (name_of key, word ∷ [])) idle false)
+    → TakesStep (state rows (Some (name_of key, [])) (option (name_of key)) false) word []
+    (state rows (Some (name_of key, word ∷ [])) idle false)
 unfolding walked
 asked_step key rows word p =
     let is = plain_met rows (Some (name_of key, [])) (option (name_of key)) word p ∙ asked_met key rows word in (
-      (λ i. or_else (plain_passes rows (Some (name_of key, [])) (option (name_of key)) word p i) (step_fault shape_built 1 (is i).0 (is i).1)),
+      (λ i. or_else (plain_passes rows (Some (name_of key, [])) (option (name_of key)) word p i)
+          (step_fault shape_built 1 (is i).0 (is i).1)),
       ap (λ (m : Held × Step). after_step rules_built word (state rows (Some (name_of key, [])) (option (name_of key)) false) m.0 m.1) is,
     )
 
 -- a use of an option
-pub use_turn : (key : Key) (name : Text) (given : Option Text) (rows : List Row) (pending : Pending) (waiting : Waiting) (word : Text) → bytes_eq word (45 ∷ 45 ∷ []) ≡ false
+pub use_turn : (key : Key) (name : Text) (given : Option Text) (rows : List Row) (pending : Pending) (waiting : Waiting) (word : Text)
+    → bytes_eq word (45 ∷ 45 ∷ []) ≡ false
     → long_of word ≡ Some (name, given) → arg_by_long rules_built name ≡ Some (rule_for key)
     → turn (state rows pending waiting false) word ≡ option_fault rules_built false (rule_for key) given (held rows pending)
 use_turn key name (Some v) rows pending waiting word dashes long rule = rw (no_subcommand waiting word, dashes, long, rule) (or_else_none _)
@@ -138,7 +150,8 @@ abbrev pub after_use : Key → Option Text → List Row → Walk
 after_use key (Some v) rows = state (used (rule_for key) (v ∷ []) rows) None idle false
 after_use key None rows = state rows (Some (name_of key, [])) (option (name_of key)) false
 
-pub use_step : (key : Key) (name : Text) (given : Option Text) (rows : List Row) (pending : Pending) (waiting : Waiting) (word : Text) → bytes_eq word (45 ∷ 45 ∷ []) ≡ false
+pub use_step : (key : Key) (name : Text) (given : Option Text) (rows : List Row) (pending : Pending) (waiting : Waiting) (word : Text)
+    → bytes_eq word (45 ∷ 45 ∷ []) ≡ false
     → long_of word ≡ Some (name, given) → arg_by_long rules_built name ≡ Some (rule_for key)
     → step (state rows pending waiting false) word ≡ after_use key given (rows_with rows pending)
 unfolding walked

@@ -30,7 +30,8 @@ pub before_more : (t : ℕ) (ts : Text) → (t == 61) ≡ false → before_first
 before_more t ts e = rw (e, one-add (position_or_len is_equals ts)) refl
 
 pub after_more : (t : ℕ) (ts : Text) → (t == 61) ≡ false → after_first is_equals (t ∷ ts) ≡ after_first is_equals ts
-after_more t ts e = rw (e, one-add (position_or_len is_equals ts), add-one (suc (position_or_len is_equals ts)), add-one (position_or_len is_equals ts)) refl
+after_more t ts e = rw
+    (e, one-add (position_or_len is_equals ts), add-one (suc (position_or_len is_equals ts)), add-one (position_or_len is_equals ts)) refl
 
 pub split_and : (a b : Bool) → (a && b) ≡ true → (a ≡ true) × (b ≡ true)
 split_and true b e = (refl, e)
@@ -49,7 +50,8 @@ cut [] (t ∷ ts) none = go (t == 61) refl
     go false e = rw (before_more t ts e, e) refl
 cut (x ∷ xs) [] none = refl
 cut (x ∷ xs) (t ∷ ts) none =
-    go (t == 61) (x == t) refl refl (is_false (x == 61) (split_and (not (x == 61)) _ none).0) (cut xs ts (split_and (not (x == 61)) _ none).1)
+    go (t == 61) (x == t) refl refl (is_false (x == 61) (split_and (not (x == 61)) _ none).0)
+    (cut xs ts (split_and (not (x == 61)) _ none).1)
   where
     go : (b d : Bool) → (t == 61) ≡ b → (x == t) ≡ d → (x == 61) ≡ false → named xs ts ≡ option_and_then value_behind (rest_after xs ts)
         → named (x ∷ xs) (t ∷ ts) ≡ option_and_then value_behind (rest_after (x ∷ xs) (t ∷ ts))
@@ -67,7 +69,8 @@ abbrev pub use_sort : Key → Option Text → Sort
 use_sort key None = needs_value key
 use_sort key (Some value) = with_value key value
 
-pub use_sorted : (key : Key) (rest : Option Text) → option_and_then (use_with key) rest ≡ option_map (use_sort key) (option_and_then value_behind rest)
+pub use_sorted : (key : Key) (rest : Option Text)
+    → option_and_then (use_with key) rest ≡ option_map (use_sort key) (option_and_then value_behind rest)
 use_sorted key None = refl
 use_sorted key (Some []) = refl
 use_sorted key (Some (c ∷ value)) = go (c == 61) refl
@@ -77,8 +80,10 @@ use_sorted key (Some (c ∷ value)) = go (c == 61) refl
     go false e = rw e refl
 
 pub use_named : (key : Key) (text : Text) → use_of key (45 ∷ 45 ∷ text) ≡ option_map (use_sort key) (named (name_of key) text)
-use_named max_input text = use_sorted max_input (rest_after (name_of max_input) text) ∙ ap (option_map (use_sort max_input)) (sym (cut (name_of max_input) text refl))
-use_named flush text = use_sorted flush (rest_after (name_of flush) text) ∙ ap (option_map (use_sort flush)) (sym (cut (name_of flush) text refl))
+use_named max_input text = use_sorted max_input (rest_after (name_of max_input) text)
+    ∙ ap (option_map (use_sort max_input)) (sym (cut (name_of max_input) text refl))
+use_named flush text = use_sorted flush (rest_after (name_of flush) text)
+    ∙ ap (option_map (use_sort flush)) (sym (cut (name_of flush) text refl))
 
 -- the reader passes the word on to what waits for a word
 abbrev pub IsPlain : Text → Type 0
@@ -91,10 +96,12 @@ IsPlain word = (bytes_eq word (45 ∷ 45 ∷ []) ≡ false)
 -- the reader and a fault to the definition
 pub data Look (word : Text) : Type 0 where
   two_dashes : word ≡ 45 ∷ 45 ∷ [] → Look word
-  option_use : (key : Key) (name : Text) (given : Option Text) → IsHyphened word → sort_of word ≡ use_sort key given → bytes_eq word (45 ∷ 45 ∷ []) ≡ false
+  option_use : (key : Key) (name : Text) (given : Option Text) → IsHyphened word → sort_of word ≡ use_sort key given
+      → bytes_eq word (45 ∷ 45 ∷ []) ≡ false
       → long_of word ≡ Some (name, given) → arg_by_long rules_built name ≡ Some (rule_for key) → Look word
   refused : IsHyphened word → sort_of word ≡ fault
-      → ((rows : List Row) (pending : Option (Text × List Text)) → Fails (other_fault shape_built None word (held rows pending))) → Look word
+      → ((rows : List Row) (pending : Option (Text × List Text)) → Fails (other_fault shape_built None word (held rows pending)))
+      → Look word
   plain : sort_of word ≡ positional → IsPlain word → Look word
   no_text : IsHyphened word → sort_of word ≡ fault → IsPlain word → Look word
 
@@ -149,7 +156,8 @@ is_plain word dashes long short = (dashes, (λ rows pending. rw (dashes, long, s
 
 pub plain_look : (x : ℕ) (xs : Text) → (x == 45) ≡ false → Look (x ∷ xs)
 plain_look x [] other = plain (rw (other, not_same x 45 other) refl) (is_plain (x ∷ []) (rw other refl) (rw other refl) (rw other refl))
-plain_look x (y ∷ ys) other = plain (rw (other, not_same x 45 other) refl) (is_plain (x ∷ y ∷ ys) (rw other refl) (rw other refl) (rw other refl))
+plain_look x (y ∷ ys) other = plain (rw (other, not_same x 45 other) refl)
+    (is_plain (x ∷ y ∷ ys) (rw other refl) (rw other refl) (rw other refl))
 
 pub look : (word : Text) → Look word
 look [] = plain refl (is_plain [] refl refl refl)

@@ -20,7 +20,11 @@ returns c =
     let flush_is : rule_of c.action-flush.result ≡ option_rule (codes "flush") = search rules in
     let words_is : rule_of c.action-words.result ≡ words_rule = search rules in
     let bare_is : app_of c.disable_version_flag.result ≡ bare_app = ap app_of_fields c.disable_version_flag.ensures
-    ∙ ap without_version (ap app_of_fields c.disable_help_flag.ensures ∙ ap without_help (ap app_of_fields c.no_binary_name.ensures ∙ ap without_name c.new-4.ensures.app)) in
+    ∙ ap without_version
+    (ap app_of_fields c.disable_help_flag.ensures
+    ∙ ap without_help (ap app_of_fields c.no_binary_name.ensures ∙ ap without_name c.new-4.ensures.app)) in
     IfOk-weaker c.arg-3.result _ _ (λ command added. added.shape (search rules)
-    ∙ ap₂ with_rule (c.in_ok-arg-2.ensures.shape (search rules) ∙ ap₂ with_rule (c.in_ok-arg.ensures.shape (search rules) ∙ ap₂ with_rule bare_is max_input_is) flush_is) words_is)
+    ∙ ap₂ with_rule
+    (c.in_ok-arg-2.ensures.shape (search rules)
+    ∙ ap₂ with_rule (c.in_ok-arg.ensures.shape (search rules) ∙ ap₂ with_rule bare_is max_input_is) flush_is) words_is)
     c.arg-3.ensures

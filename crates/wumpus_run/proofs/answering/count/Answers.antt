@@ -11,23 +11,29 @@ pub count_in-requires-clause-lists : goal.count_in-requires-clause-lists
 count_in-requires-clause-lists c =
     let files = map (shown_of c.args.texts.now.entries) c.args.view.now in
     let scan = c.in_ok-scan.ensures in
-    subst AreLists (sym c.deref-2.ensures.value) (scan_lists files c.in_ok-terms.terms.items c.in_ok-scan.scan.frames.items c.in_ok-scan.scan.lists.items scan c.in_ok-terms.ensures.ascending)
+    subst AreLists (sym c.deref-2.ensures.value)
+    (scan_lists files c.in_ok-terms.terms.items c.in_ok-scan.scan.frames.items c.in_ok-scan.scan.lists.items scan c.in_ok-terms.ensures.ascending)
 
 pub count_in-requires-clause-frames : goal.count_in-requires-clause-frames
 count_in-requires-clause-frames c =
     let files = map (shown_of c.args.texts.now.entries) c.args.view.now in
     let scan = c.in_ok-scan.ensures in
-    subst (All IsFrame) (sym c.deref.ensures.value) (scan_frames files c.in_ok-terms.terms.items c.in_ok-scan.scan.frames.items c.in_ok-scan.scan.lists.items scan)
+    subst (All IsFrame) (sym c.deref.ensures.value)
+    (scan_frames files c.in_ok-terms.terms.items c.in_ok-scan.scan.frames.items c.in_ok-scan.scan.lists.items scan)
 
 pub count_in-requires-clause-few : goal.count_in-requires-clause-few
 count_in-requires-clause-few c =
     let files = map (shown_of c.args.texts.now.entries) c.args.view.now in
     let scan = c.in_ok-scan.ensures in
-    rw (c.deref-2.ensures.value, c.deref.ensures.value) (scan_few (region_of c.args.expr.now) files c.in_ok-terms.terms.items c.in_ok-scan.scan.frames.items c.in_ok-scan.scan.lists.items scan)
+    rw (c.deref-2.ensures.value, c.deref.ensures.value)
+    (scan_few
+    (region_of c.args.expr.now) files c.in_ok-terms.terms.items c.in_ok-scan.scan.frames.items c.in_ok-scan.scan.lists.items scan)
 
 pub returns : goal.returns
 returns c =
     let files = map (shown_of c.args.texts.now.entries) c.args.view.now in
     let scan = c.in_ok-scan.ensures in
-    scan_counted (region_of c.args.expr.now) files c.in_ok-terms.terms.items c.in_ok-scan.scan.frames.items c.in_ok-scan.scan.lists.items c.in_ok-hits.hits c.in_ok-hits.files scan c.in_ok-terms.ensures
-    (rw (c.deref-2.ensures.value, c.deref.ensures.value) at c.in_ok-hits.ensures.hits) (rw (c.deref-2.ensures.value, c.deref.ensures.value) at c.in_ok-hits.ensures.files)
+    scan_counted
+    (region_of c.args.expr.now) files c.in_ok-terms.terms.items c.in_ok-scan.scan.frames.items c.in_ok-scan.scan.lists.items c.in_ok-hits.hits c.in_ok-hits.files scan c.in_ok-terms.ensures
+    (rw (c.deref-2.ensures.value, c.deref.ensures.value) at c.in_ok-hits.ensures.hits)
+    (rw (c.deref-2.ensures.value, c.deref.ensures.value) at c.in_ok-hits.ensures.files)

@@ -11,4 +11,14 @@ overflow_add-hits c =
     let frames = c.args.frames.now in
     let i = c.loop-frame.frame-index in
     let none : Range = record { start = 0; len = 0 } in
-    omega (arith, hits-more region lists frames i none c.loop-frame-test.true, hits-taken region lists frames (i + 1), c.loop-frame.invariant.hits, c.requires.few, ap length c.in_ok-extents.ensures, c.len-count.ensures, c.in_ok-extents.extents.ok.0)
+    omega (
+      arith,
+      hits-more region lists frames i none c.loop-frame-test.true,
+      hits-taken region lists frames
+          (i + 1),
+      c.loop-frame.invariant.hits,
+      c.requires.few,
+      ap length c.in_ok-extents.ensures,
+      c.len-count.ensures,
+      c.in_ok-extents.extents.ok.0,
+    )

@@ -3,7 +3,8 @@ use Rattle.wumpus_run.proofs.UnitLemmas.{total_least, total_short}
 use Rattle.wumpus_run.proofs.ranking.statistics.Goals as goal
 
 pub returns-clause-some_length : goal.returns-clause-some_length
-returns-clause-some_length c = rw c.summed_length.ensures (total_least c.args.units.now c.is_empty.result c.requires.some c.is_empty.ensures c.if-is_empty.false)
+returns-clause-some_length c = rw c.summed_length.ensures
+    (total_least c.args.units.now c.is_empty.result c.requires.some c.is_empty.ensures c.if-is_empty.false)
 
 pub returns-clause-short : goal.returns-clause-short
 returns-clause-short c = omega (arith, c.summed_length.ensures, total_short c.args.units.now c.requires.short)

@@ -6,7 +6,8 @@ pub loop-i-init : goal.loop-i-init
 loop-i-init c = unnoted c.args.start c.args.lists.now
 
 pub note-requires : goal.note-requires
-note-requires c = sorted_noted c.args.start (map (λ token. token.term) (take c.loop-i.i c.args.tokens.now)) c.args.lists.now c.loop-i.lists c.loop-i.invariant c.requires.sorted
+note-requires c = sorted_noted c.args.start
+    (map (λ token. token.term) (take c.loop-i.i c.args.tokens.now)) c.args.lists.now c.loop-i.lists c.loop-i.invariant c.requires.sorted
 
 pub loop-i-preserved : goal.loop-i-preserved
 loop-i-preserved c =

@@ -7,7 +7,9 @@ use Rattle.wumpus_run.proofs.scanning.scan_texts.Given as goal
 abbrev pub invariant-loop-seen : goal.invariant-loop-seen
 invariant-loop-seen l = record {
   frames : l.frames.items ≡ frames_from 0 (map (shown_of l.texts.entries) (take l.seen-index l.view));
-  lists : l.lists.items ≡ map (with_places 0 (tokens_in (map (shown_of l.texts.entries) (take l.seen-index l.view)))) (map list_without_places l.fn.terms.items);
+  lists : l.lists.items
+      ≡ map (with_places 0 (tokens_in (map (shown_of l.texts.entries) (take l.seen-index l.view))))
+      (map list_without_places l.fn.terms.items);
   next : l.next ≡ length (tokens_in (map (shown_of l.texts.entries) (take l.seen-index l.view)));
   within : l.next ≤ 2 ^ 47;
 }

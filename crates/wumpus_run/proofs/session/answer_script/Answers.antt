@@ -1,4 +1,4 @@
-use Rattle.std.proofs.Common.{◌≡◌, [], ◌++◌, refl, ap, ◌∙◌, subst}
+use Rattle.std.proofs.Common.{[], ◌++◌, refl, ap, ◌∙◌, subst}
 use Rattle.std.specs.Io.KnownBytes.{prepend_known}
 use Rattle.std.proofs.KnownBytes.{Appends-nil}
 use Rattle.wu_script.specs.Items.{IsNext, IsItem}
@@ -47,7 +47,8 @@ returns-then-is_end-clause-done g c = λ e.
     let rest = prepend_known c.next.new.self.bytes (g.I.Source.left c.next.new.source) in
     let item = c.in-Ok-next.item in
     let took = c.in-Ok-next.ensures.taken in
-    let taken = HasTaken-more before.left (g.I.Source.left c.items.source) now.left now.last_read c.items.reader c.next.new.self item told.max_input i.taken took in
+    let taken = HasTaken-more before.left
+    (g.I.Source.left c.items.source) now.left now.last_read c.items.reader c.next.new.self item told.max_input i.taken took in
     let few = TakesAtMost-taken before.left now.left c.next.new.self.spare told.max_input taken in
     let last = subst (λ item. IsItem now.last_read c.next.new.self item took.0) c.if-is_end.ensures took.2 in
     AnswersAll-end told first_state before now i.state known rest (c.in-Ok-next.ensures.at_end i.at_end last.2) i.answered
@@ -64,7 +65,8 @@ returns-then-is_end-clause-ends g c =
     let known = prepend_known c.items.reader.bytes (g.I.Source.left c.items.source) in
     let item = c.in-Ok-next.item in
     let took = c.in-Ok-next.ensures.taken in
-    let taken = HasTaken-more before.left (g.I.Source.left c.items.source) now.left now.last_read c.items.reader c.next.new.self item told.max_input i.taken took in
+    let taken = HasTaken-more before.left
+    (g.I.Source.left c.items.source) now.left now.last_read c.items.reader c.next.new.self item told.max_input i.taken took in
     let few = TakesAtMost-taken before.left now.left c.next.new.self.spare told.max_input taken in
     let prefix = IsPrefix-sent told first_state before.gained now.gained before.left known i.state i.answered in
     Ends-short told first_state Done before now (λ e. (cc)) few prefix tt
@@ -80,16 +82,19 @@ returns-in-Err-answer-clause-ends g c =
     let known = prepend_known c.items.reader.bytes (g.I.Source.left c.items.source) in
     let item = c.in-Ok-next.item in
     let took = c.in-Ok-next.ensures.taken in
-    let taken = HasTaken-more before.left (g.I.Source.left c.items.source) now.left now.last_read c.items.reader c.next.new.self item told.max_input i.taken took in
+    let taken = HasTaken-more before.left
+    (g.I.Source.left c.items.source) now.left now.last_read c.items.reader c.next.new.self item told.max_input i.taken took in
     let few = TakesAtMost-taken before.left now.left c.next.new.self.spare told.max_input taken in
     let prefix = IsPrefix-sent told first_state before.gained now.gained before.left known i.state i.answered in
     Ends-short told first_state NoMemory before now (λ e. (cc)) few prefix
-    (AnswersAllButOneRead-taken told first_state before now (g.I.Source.left c.items.source) now.gained c.items.reader c.next.new.self i.state item []
+    (AnswersAllButOneRead-taken told first_state before now
+    (g.I.Source.left c.items.source) now.gained c.items.reader c.next.new.self i.state item []
     c.if-is_end.ensures took i.replied (Appends-nil now.gained))
 
 pub items-smaller : goal.items-smaller
 items-smaller g c =
-    takes_one (g.I.Source.left c.items.source) (g.I.Source.left c.next.new.source) (g.I.Source.last_read c.next.new.source) c.items.reader c.next.new.self
+    takes_one (g.I.Source.left c.items.source) (g.I.Source.left c.next.new.source)
+    (g.I.Source.last_read c.next.new.source) c.items.reader c.next.new.self
     c.in-Ok-next.item c.if-is_end.ensures c.in-Ok-next.ensures.taken
 
 pub items-preserved : goal.items-preserved
@@ -104,7 +109,8 @@ items-preserved g c =
     let rest = prepend_known c.next.new.self.bytes (g.I.Source.left c.next.new.source) in
     let item = c.in-Ok-next.item in
     let took = c.in-Ok-next.ensures.taken in
-    let taken = HasTaken-more before.left (g.I.Source.left c.items.source) now.left now.last_read c.items.reader c.next.new.self item told.max_input i.taken took in
+    let taken = HasTaken-more before.left
+    (g.I.Source.left c.items.source) now.left now.last_read c.items.reader c.next.new.self item told.max_input i.taken took in
     let few = TakesAtMost-taken before.left now.left c.next.new.self.spare told.max_input taken in
     let s = i.state in
     let t = after s (said_by item) in
@@ -114,9 +120,11 @@ items-preserved g c =
       state = t;
       stands = answered.1;
       answered = HasAnswered-turn told first_state before.gained (g.O.Sink.gained c.items.sink) now.gained before.left known rest s t item
-          c.answer.new.out.items c.as_slice.result.now c.if-is_end.ensures (c.in-Ok-next.ensures.first i.at_end) i.answered reply refl c.as_slice.ensures.value
+          c.answer.new.out.items c.as_slice.result.now c.if-is_end.ensures
+          (c.in-Ok-next.ensures.first i.at_end) i.answered reply refl c.as_slice.ensures.value
           c.in-Ok-write_all.ensures.ok;
-      replied = HasReplied-turn told first_state before.left (g.I.Source.left c.items.source) now.left before.gained (g.O.Sink.gained c.items.sink) now.gained
+      replied = HasReplied-turn told first_state before.left (g.I.Source.left c.items.source) now.left before.gained
+          (g.O.Sink.gained c.items.sink) now.gained
           now.last_read c.items.reader c.next.new.self s t item c.answer.new.out.items c.as_slice.result.now told.max_input c.if-is_end.ensures took i.replied
           reply refl c.as_slice.ensures.value c.in-Ok-write_all.ensures.ok;
       taken = taken;
@@ -138,14 +146,17 @@ returns-in-Err-write_all-clause-ends g c =
     let rest = prepend_known c.next.new.self.bytes (g.I.Source.left c.next.new.source) in
     let item = c.in-Ok-next.item in
     let took = c.in-Ok-next.ensures.taken in
-    let taken = HasTaken-more before.left (g.I.Source.left c.items.source) now.left now.last_read c.items.reader c.next.new.self item told.max_input i.taken took in
+    let taken = HasTaken-more before.left
+    (g.I.Source.left c.items.source) now.left now.last_read c.items.reader c.next.new.self item told.max_input i.taken took in
     let few = TakesAtMost-taken before.left now.left c.next.new.self.spare told.max_input taken in
     let s = i.state in
     let reply = (c.in-Ok-answer.ensures s i.stands).0 ∙ ap (λ xs. xs ++ said_bytes s (said_by item)) c.clear.ensures.items in
     let part = c.in-Err-write_all.ensures.err in
     rw c.status_of_fault.ensures
     (Ends-unwritten told first_state c.in-Err-write_all.fault before now few
-    (IsPrefix-part told first_state before.gained (g.O.Sink.gained c.items.sink) now.gained before.left known rest s item c.answer.new.out.items
+    (IsPrefix-part told first_state before.gained
+    (g.O.Sink.gained c.items.sink) now.gained before.left known rest s item c.answer.new.out.items
     c.as_slice.result.now c.if-is_end.ensures (c.in-Ok-next.ensures.first i.at_end) i.answered reply c.as_slice.ensures.value part)
-    (AnswersAllButOneRead-taken told first_state before now (g.I.Source.left c.items.source) (g.O.Sink.gained c.items.sink) c.items.reader c.next.new.self s
+    (AnswersAllButOneRead-taken told first_state before now (g.I.Source.left c.items.source)
+    (g.O.Sink.gained c.items.sink) c.items.reader c.next.new.self s
     item part.0 c.if-is_end.ensures took i.replied part.3))

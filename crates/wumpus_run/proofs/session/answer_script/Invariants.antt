@@ -14,7 +14,8 @@ invariant-items g l = record {
   stands : Stands l.machine state;
   answered : HasAnswered l.fn.settings first_state (g.O.Sink.gained l.fn.sink) (g.O.Sink.gained l.sink) (g.I.Source.left l.fn.source)
       (prepend_known l.reader.bytes (g.I.Source.left l.source)) state;
-  replied : HasReplied l.fn.settings first_state (g.I.Source.left l.fn.source) (g.I.Source.left l.source) (g.O.Sink.gained l.fn.sink) (g.O.Sink.gained l.sink)
+  replied : HasReplied l.fn.settings first_state (g.I.Source.left l.fn.source) (g.I.Source.left l.source) (g.O.Sink.gained l.fn.sink)
+      (g.O.Sink.gained l.sink)
       l.reader state l.fn.settings.max_input;
   taken : HasTaken (g.I.Source.left l.fn.source) (g.I.Source.left l.source) l.reader.spare l.fn.settings.max_input;
   follows : Follows (g.I.Source.ended l.source) (g.I.Source.last_read l.source) l.reader;

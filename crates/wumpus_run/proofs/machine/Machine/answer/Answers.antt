@@ -14,5 +14,6 @@ returns c = λ s stands.
     let view = c.in_ok-view.view.items in
     view-answer s view query.uid (question_of query.ask) c.answer.result
     (c.in_ok-view.ensures.view ∙ ap (λ (t : FileSystem). files_of t query.uid) stands.tree)
-    (subst (λ (texts : Texts). IfOk c.answer.result (λ answered. answered ≡ answer (map (shown_of texts) view) (question_of query.ask))) stands.texts
+    (subst (λ (texts : Texts). IfOk c.answer.result
+    (λ answered. answered ≡ answer (map (shown_of texts) view) (question_of query.ask))) stands.texts
     c.answer.ensures)

@@ -1,6 +1,6 @@
 use Rattle.std.proofs.Common.{[], ◌∙◌, ap}
 use Rattle.wu_tree.specs.declared.events.Event.TheVariants.{Text}
-use Rattle.wumpus_run.specs.States.{with_text, without_text}
+use Rattle.wumpus_run.specs.States.{with_text}
 use Rattle.wumpus_run.proofs.StateLemmas.{accepted, refused}
 use Rattle.wumpus_run.proofs.machine.Machine.give_text.Goals as goal
 

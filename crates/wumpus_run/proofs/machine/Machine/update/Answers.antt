@@ -1,5 +1,5 @@
 use Rattle.std.proofs.Common.{[], ◌∙◌, ap}
-use Rattle.wumpus_run.specs.States.{with_text, without_text}
+use Rattle.wumpus_run.specs.States.{with_text}
 use Rattle.wumpus_run.proofs.StateLemmas.{accepted, refused}
 use Rattle.wumpus_run.proofs.machine.Machine.update.Goals as goal
 
