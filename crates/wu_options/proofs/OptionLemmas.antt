@@ -107,7 +107,7 @@ found_line app words found same none rows =
     ∙ agrees_without (fault_of command_app words) (matches_of command_app words) (command_line_of words)
     (ap (λ (a : App). fault_of a words) (sym same) ∙ none) (agrees words)
 
--- and words that are refused are in no form
+-- and words that are refused are invalid
 pub no_line : (app : App) (words : List Text) (k : ErrorKind) → app ≡ command_app → IsAmong k (fault_of app words)
     → None ≡ command_line_of words
 no_line app words k same among =

@@ -276,7 +276,7 @@ module _ (told : Settings) (start : State) where
 
   -- ---- an early end
 
-  -- the bytes given up to the limit, where reading stopped for another cause than want of memory
+  -- the bytes given up to the limit, where reading stopped for another cause than memory
   taken_whole : (given more used : List ℕ) (last_read : ℕ) (old : Held) (most : ℕ) (end : ReadEnd) (left left' : Option (List ℕ))
       → (end ≡ ends.NoMemory → ⊥) → given ≡ used ++ old.bytes → old.spare + length given ≡ most
       → (stops : EndsBeforeItem left left' last_read old end)
