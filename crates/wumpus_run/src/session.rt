@@ -1,6 +1,8 @@
 //! A session: the script is read as it comes, and each item is answered in turn.
-ghost use Rattle.std.specs.Prelude.{◌≡◌, ◌++◌, [], None, Some, false, IfOk, OnOk, MatchBool};
-ghost use Rattle.wu_outside.specs.Faults.{Rose};
+ghost use Rattle.std.specs.Prelude.{◌≡◌, ◌++◌, [], None, Some, false, IfOk, OnErr, OnOk, MatchBool};
+ghost use Rattle.std.specs.Io.KnownBytes.{Appends};
+ghost use Rattle.wu_outside.specs.Faults.{HasFaultCause, Rose};
+ghost use Rattle.wu_outside.specs.Gains.{GainsPrefix};
 ghost use Rattle.wu_script.specs.Items.{IsBeforeEnd};
 ghost use Rattle.wu_script.specs.Said.{IsSoundItem, said_by};
 ghost use Rattle.wu_options.specs.CommandLines.{texts_of};
@@ -111,7 +113,7 @@ fn answer_script<I: Source, O: Sink>(
             Ok(()) => {}
             Err(NoMemory) => return Status::NoMemory,
         }
-        match write_all(sink, reply.as_slice()) {
+        match write_reply(sink, reply.as_slice()) {
             Ok(()) => {}
             Err(fault) => return status_of_fault(fault),
         }
@@ -138,6 +140,15 @@ fn status_of(end: ReadEnd) -> Status
         ReadEnd::InputTooLong => Status::InputTooLong,
         ReadEnd::NoMemory => Status::NoMemory,
     }
+}
+
+/// Writes a reply, once; after a fault the sink gained a prefix of it.
+fn write_reply<O: Sink>(sink: &mut O, reply: &[u8]) -> Result<(), Fault>
+    ensures ok { OnOk result (Appends (O.gained sink.old) (O.gained sink.new) reply.now) }
+    ensures err { OnErr result (GainsPrefix (O.gained sink.old) (O.gained sink.new) reply.now) }
+    ensures cause { HasFaultCause (O.faults sink.old) (O.faults sink.new) result }
+{
+    write_all(sink, reply)
 }
 
 /// How a session ends where a reply couldn't be written.

@@ -104,7 +104,7 @@ items-preserved g c =
     let before = moment (g.I.Source.left c.args.source.now) (g.I.Source.last_read c.args.source.now) (g.I.Source.faults c.args.source.now)
     (g.O.Sink.gained c.args.sink.now) (g.O.Sink.faults c.args.sink.now) in
     let now = moment (g.I.Source.left c.next.new.source) (g.I.Source.last_read c.next.new.source) (g.I.Source.faults c.next.new.source)
-    (g.O.Sink.gained c.write_all.new.sink) (g.O.Sink.faults c.write_all.new.sink) in
+    (g.O.Sink.gained c.write_reply.new.sink) (g.O.Sink.faults c.write_reply.new.sink) in
     let known = prepend_known c.items.reader.bytes (g.I.Source.left c.items.source) in
     let rest = prepend_known c.next.new.self.bytes (g.I.Source.left c.next.new.source) in
     let item = c.in-Ok-next.item in
@@ -122,26 +122,26 @@ items-preserved g c =
       answered = HasAnswered-turn told first_state before.gained (g.O.Sink.gained c.items.sink) now.gained before.left known rest s t item
           c.answer.new.out.items c.as_slice.result.now c.if-is_end.ensures
           (c.in-Ok-next.ensures.first i.at_end) i.answered reply refl c.as_slice.ensures.value
-          c.in-Ok-write_all.ensures.ok;
+          c.in-Ok-write_reply.ensures.ok;
       replied = HasReplied-turn told first_state before.left (g.I.Source.left c.items.source) now.left before.gained
           (g.O.Sink.gained c.items.sink) now.gained
           now.last_read c.items.reader c.next.new.self s t item c.answer.new.out.items c.as_slice.result.now told.max_input c.if-is_end.ensures took i.replied
-          reply refl c.as_slice.ensures.value c.in-Ok-write_all.ensures.ok;
+          reply refl c.as_slice.ensures.value c.in-Ok-write_reply.ensures.ok;
       taken = taken;
       follows = c.in-Ok-next.ensures.follows;
       at_end = λ e. c.in-Ok-next.ensures.at_end i.at_end e;
       read_calm = c.in-Ok-next.ensures.cause ∙ i.read_calm;
-      write_calm = c.in-Ok-write_all.ensures.cause.calm ∙ i.write_calm;
+      write_calm = c.in-Ok-write_reply.ensures.cause.calm ∙ i.write_calm;
     }
 
-pub returns-in-Err-write_all-clause-ends : goal.returns-in-Err-write_all-clause-ends
-returns-in-Err-write_all-clause-ends g c =
+pub returns-in-Err-write_reply-clause-ends : goal.returns-in-Err-write_reply-clause-ends
+returns-in-Err-write_reply-clause-ends g c =
     let told = c.args.settings in
     let i = c.items.invariant in
     let before = moment (g.I.Source.left c.args.source.now) (g.I.Source.last_read c.args.source.now) (g.I.Source.faults c.args.source.now)
     (g.O.Sink.gained c.args.sink.now) (g.O.Sink.faults c.args.sink.now) in
     let now = moment (g.I.Source.left c.next.new.source) (g.I.Source.last_read c.next.new.source) (g.I.Source.faults c.next.new.source)
-    (g.O.Sink.gained c.write_all.new.sink) (g.O.Sink.faults c.write_all.new.sink) in
+    (g.O.Sink.gained c.write_reply.new.sink) (g.O.Sink.faults c.write_reply.new.sink) in
     let known = prepend_known c.items.reader.bytes (g.I.Source.left c.items.source) in
     let rest = prepend_known c.next.new.self.bytes (g.I.Source.left c.next.new.source) in
     let item = c.in-Ok-next.item in
@@ -151,9 +151,9 @@ returns-in-Err-write_all-clause-ends g c =
     let few = TakesAtMost-taken before.left now.left c.next.new.self.spare told.max_input taken in
     let s = i.state in
     let reply = (c.in-Ok-answer.ensures s i.stands).0 ∙ ap (λ xs. xs ++ said_bytes s (said_by item)) c.clear.ensures.items in
-    let part = c.in-Err-write_all.ensures.err in
+    let part = c.in-Err-write_reply.ensures.err in
     rw c.status_of_fault.ensures
-    (Ends-unwritten told first_state c.in-Err-write_all.fault before now few
+    (Ends-unwritten told first_state c.in-Err-write_reply.fault before now few
     (IsPrefix-part told first_state before.gained
     (g.O.Sink.gained c.items.sink) now.gained before.left known rest s item c.answer.new.out.items
     c.as_slice.result.now c.if-is_end.ensures (c.in-Ok-next.ensures.first i.at_end) i.answered reply c.as_slice.ensures.value part)
