@@ -6,5 +6,7 @@ pub mod PromptLemmas
 pub mod SessionLemmas
 pub mod EndLemmas
 pub mod StateLemmas
+pub mod FramesOfFiles
+pub mod UnitsOfFrames
 pub mod UnitLemmas
 pub mod RankLemmas

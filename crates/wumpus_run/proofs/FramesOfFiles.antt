@@ -1,0 +1,146 @@
+-- Frames of files, at any addresses and in any order: their extents, and how many these are. A file is told by its place, as a number.
+use Rattle.std.proofs.Common.{◌≡◌, ℕ, zero, suc, ◌+◌, ◌<◌, Bool, true, false, cond, ◌&&◌, ◌||◌, ◌⊎◌, List, [], ◌∷◌, ◌++◌, length, map, get_or, refl, sym, ap, ap₂, ◌∙◌, subst, inl, inr, arith, length-append}
+use Rattle.std.proofs.Math.Bool.{or-true}
+use Rattle.std.proofs.lemmas.List.{length-map}
+use Rattle.std.proofs.lemmas.List.Concat.{length-flat_map}
+use Rattle.std.proofs.lemmas.List.Sorted.{sum_by-IsPermutation, All-permutation}
+use Rattle.std.proofs.lemmas.List.Sums.{sum_by-cons}
+use Rattle.std.specs.Cmp.{both_ways}
+use Rattle.std.specs.Prelude.{nat_eq, nat_lt, Contains, count_by}
+use Rattle.std.specs.List.{flat_map, AllByRecursion, sum_by}
+use Rattle.std.specs.List.Sorted.{IsStrictlyIncreasing, IsStrictlySortedBy, IsPermutation}
+use Rattle.std.specs.Cmp.Lexicographic.{pointwise, slice_cmp, nat_list_eq_equiv, same_text}
+use Rattle.std.specs.Ordering.{nat_cmp}
+use Rattle.wu_base.specs.declared.addresses.Extent.{Extent}
+use Rattle.wu_base.specs.declared.addresses.Range.{Range}
+use Rattle.wu_base.specs.declared.addresses.TermList.{TermList}
+use Rattle.wu_gcl.specs.Extents.{is_token_at, token_hits}
+use Rattle.wu_gcl.specs.Regions.{Region}
+use Rattle.wu_gcl.specs.Terms.{terms_in}
+use Rattle.wu_solve.specs.Addresses.{is_among, has_address, AreLists}
+use Rattle.wu_solve.specs.Solving.{moved, frame_hits, frames_hits}
+use Rattle.wu_solve.proofs.Results.{frame_of_text}
+
+-- the term's list, where a function tells the addresses of each term
+abbrev pub list_at : (List ℕ → List ℕ) → List ℕ → TermList
+list_at addresses term = record { term = term; at = addresses term }
+
+-- The frame is as long as the file's tokens, and a term has an address of the frame exactly where the token there is the term.
+pub record IsFrameOf (addresses : List ℕ → List ℕ) (tokens : List (List ℕ)) (frame : Range) : Type 0 where
+  pub long : frame.len ≡ length tokens
+  pub told : (term : List ℕ) (i : ℕ) → i < length tokens → is_among (addresses term) (frame.start + i) ≡ is_token_at tokens term i
+
+-- The frames of the files with these places, where functions tell each file's tokens and its frame; each term's addresses ascend.
+pub record FramesOf (addresses : List ℕ → List ℕ) (tokens : ℕ → List (List ℕ)) (frame : ℕ → Range) (places : List ℕ) : Type 0 where
+  pub each : AllByRecursion (λ place. IsFrameOf addresses (tokens place) (frame place)) places
+  pub ascending : (term : List ℕ) → IsStrictlyIncreasing (addresses term)
+
+-- the expression's terms are among these
+abbrev pub HasTerms : Region → List (List ℕ) → Type 0
+HasTerms region terms = (term : List ℕ) → Contains (terms_in region) term → Contains terms term
+
+-- ---- the lists
+
+chosen : (p a b : Bool) → ((p && a) || b) ≡ true → ((p ≡ true) × (a ≡ true)) ⊎ (b ≡ true)
+chosen true true b h = inl (refl, refl)
+chosen true false b h = inr h
+chosen false a b h = inr h
+
+found : (addresses : List ℕ → List ℕ) (term : List ℕ) (terms : List (List ℕ)) (address : ℕ)
+    → has_address (map (list_at addresses) terms) term address ≡ true → is_among (addresses term) address ≡ true
+found addresses term [] address h = absurd (cc)
+found addresses term (t ∷ terms) address h =
+    elim (chosen (pointwise nat_eq t term) (is_among (addresses t) address)
+    (has_address (map (list_at addresses) terms) term address) h) [
+      | inl here ↦ subst (λ w. is_among (addresses w) address ≡ true) (same_text t term (sym here.0)) here.1
+      | inr more ↦ found addresses term terms address more
+    ]
+
+finds : (addresses : List ℕ → List ℕ) (term : List ℕ) (terms : List (List ℕ)) (address k : ℕ) → k < length terms
+    → get_or terms k term ≡ term → is_among (addresses term) address ≡ true
+    → has_address (map (list_at addresses) terms) term address ≡ true
+finds addresses term [] address k within is h = absurd (omega arith)
+finds addresses term (t ∷ terms) address zero within is h =
+    let same : pointwise nat_eq t term ≡ true = subst (λ w. pointwise nat_eq t w ≡ true) is (nat_list_eq_equiv.refl t) in
+    let among : is_among (addresses t) address ≡ true = subst (λ w. is_among (addresses w) address ≡ true) (sym is) h in
+    rw (same, among) refl
+finds addresses term (t ∷ terms) address (suc k) within is h =
+    rw (finds addresses term terms address k (omega arith) is h) (or-true (pointwise nat_eq t term && is_among (addresses t) address))
+
+-- lists made by a function of the term have exactly its addresses
+pub lists_have : (addresses : List ℕ → List ℕ) (term : List ℕ) (terms : List (List ℕ)) (address : ℕ) → Contains terms term
+    → has_address (map (list_at addresses) terms) term address ≡ is_among (addresses term) address
+lists_have addresses term terms address has =
+    both_ways (has_address (map (list_at addresses) terms) term address) (is_among (addresses term) address)
+    (found addresses term terms address) (finds addresses term terms address has.0 has.1 has.2)
+
+pub terms_of_lists : (addresses : List ℕ → List ℕ) (terms : List (List ℕ)) → map (λ list. list.term) (map (list_at addresses) terms) ≡ terms
+terms_of_lists addresses [] = refl
+terms_of_lists addresses (term ∷ terms) = ap (λ ts. term ∷ ts) (terms_of_lists addresses terms)
+
+pub lists_ascend : (addresses : List ℕ → List ℕ) (terms : List (List ℕ)) → ((term : List ℕ) → IsStrictlyIncreasing (addresses term))
+    → AllByRecursion (λ list. IsStrictlyIncreasing list.at) (map (list_at addresses) terms)
+lists_ascend addresses [] up = tt
+lists_ascend addresses (term ∷ terms) up = (up term, lists_ascend addresses terms up)
+
+-- and are what the solver asks for
+pub are_lists : (addresses : List ℕ → List ℕ) (terms : List (List ℕ)) → ((term : List ℕ) → IsStrictlyIncreasing (addresses term))
+    → IsStrictlySortedBy (slice_cmp nat_cmp) terms → AreLists (map (list_at addresses) terms)
+are_lists addresses terms up sorted = record {
+  terms = subst (IsStrictlySortedBy (slice_cmp nat_cmp)) (sym (terms_of_lists addresses terms)) sorted;
+  addresses = lists_ascend addresses terms up;
+}
+
+-- ---- extents
+
+-- the extents in a file's frame are those of its tokens, moved by the frame's start
+pub frame_of_file : (region : Region) (addresses : List ℕ → List ℕ) (terms tokens : List (List ℕ)) (frame : Range)
+    → HasTerms region terms → IsFrameOf addresses tokens frame
+    → frame_hits region (map (list_at addresses) terms) frame ≡ map (moved frame.start) (token_hits region tokens)
+frame_of_file region addresses terms tokens frame all is =
+    frame_of_text region (map (list_at addresses) terms) frame tokens is.long
+    (λ term has i within. lists_have addresses term terms (frame.start + i) (all term has) ∙ is.told term i within)
+
+-- ---- how many extents there are
+
+-- the frames have as many extents as the files with these places, and as many have one
+pub record IsCounted (region : Region) (lists : List TermList) (frames : List Range) (extents : ℕ → List Extent) (places : List ℕ)
+    : Type 0 where
+  pub hits : length (frames_hits region lists frames) ≡ length (flat_map extents places)
+  pub files : count_by (λ frame. nat_lt 0 (length (frame_hits region lists frame))) frames
+      ≡ count_by (λ place. nat_lt 0 (length (extents place))) places
+
+count_by-cons : {X : Type 0} (p : X → Bool) (x : X) (xs : List X) → count_by p (x ∷ xs) ≡ cond (p x) 1 0 + count_by p xs
+count_by-cons p x xs = sum_by-cons (λ y. cond (p y) 1 0) x xs
+
+in_this_order : (region : Region) (addresses : List ℕ → List ℕ) (terms : List (List ℕ)) (tokens : ℕ → List (List ℕ)) (frame : ℕ → Range)
+    (places : List ℕ) → HasTerms region terms → AllByRecursion (λ place. IsFrameOf addresses (tokens place) (frame place)) places
+    → IsCounted region (map (list_at addresses) terms) (map frame places) (λ place. token_hits region (tokens place)) places
+in_this_order region addresses terms tokens frame [] all each = record { hits = refl; files = refl }
+in_this_order region addresses terms tokens frame (place ∷ places) all each =
+    let lists = map (list_at addresses) terms in
+    let here = token_hits region (tokens place) in
+    let same : length (frame_hits region lists (frame place)) ≡ length here =
+    ap length (frame_of_file region addresses terms (tokens place) (frame place) all each.0) ∙ length-map here (moved (frame place).start) in
+    let more = in_this_order region addresses terms tokens frame places all each.1 in
+    record {
+      hits = length-append (frame_hits region lists (frame place)) (frames_hits region lists (map frame places))
+          ∙ ap₂ (λ (m n : ℕ). m + n) same more.hits
+          ∙ sym (length-append here (flat_map (λ p. token_hits region (tokens p)) places));
+      files = count_by-cons (λ f. nat_lt 0 (length (frame_hits region lists f))) (frame place) (map frame places)
+          ∙ ap₂ (λ (m n : ℕ). cond (nat_lt 0 m) 1 0 + n) same more.files
+          ∙ sym (count_by-cons (λ p. nat_lt 0 (length (token_hits region (tokens p)))) place places);
+    }
+
+-- the frames may come in any order
+pub frames_counted : (region : Region) (addresses : List ℕ → List ℕ) (terms : List (List ℕ)) (tokens : ℕ → List (List ℕ))
+    (frame : ℕ → Range) (places order : List ℕ) → HasTerms region terms → FramesOf addresses tokens frame order → IsPermutation places order
+    → IsCounted region (map (list_at addresses) terms) (map frame order) (λ place. token_hits region (tokens place)) places
+frames_counted region addresses terms tokens frame places order all framed same =
+    let extents : ℕ → List Extent = λ place. token_hits region (tokens place) in
+    let is = in_this_order region addresses terms tokens frame order all framed.each in
+    record {
+      hits = is.hits ∙ length-flat_map extents order ∙ sum_by-IsPermutation (λ p. length (extents p)) places order same
+          ∙ sym (length-flat_map extents places);
+      files = is.files ∙ sum_by-IsPermutation (λ p. cond (nat_lt 0 (length (extents p))) 1 0) places order same;
+    }
