@@ -8,5 +8,6 @@ pub mod EndLemmas
 pub mod StateLemmas
 pub mod FramesOfFiles
 pub mod UnitsOfFrames
+pub mod ScannedFrames
 pub mod UnitLemmas
 pub mod RankLemmas

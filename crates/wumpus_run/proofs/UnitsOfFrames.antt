@@ -1,23 +1,19 @@
 -- The units of a query in frames of files, at any addresses and in any order: how often a word is in one, and their ranking.
-use Rattle.std.proofs.Common.{◌≡◌, ℕ, zero, suc, ◌+◌, ◌-◌, ◌≤◌, ◌<◌, Bool, true, false, cond, ◌||◌, List, [], ◌∷◌, ◌++◌, length, take, drop, get_or, map, refl, sym, ap, ap₂, ◌∙◌, subst, arith, append_assoc, length-drop, le-leb, eqb}
-use Rattle.std.proofs.Math.Bool.{and-false}
-use Rattle.std.proofs.lemmas.Bool.{lt-leb}
+use Rattle.std.proofs.Common.{◌≡◌, ℕ, zero, suc, ◌+◌, ◌≤◌, ◌<◌, Bool, true, false, cond, ◌||◌, List, [], ◌∷◌, ◌++◌, length, take, drop, get_or, map, refl, sym, ap, ap₂, ◌∙◌, subst, arith, append_assoc, length-drop, eqb}
 use Rattle.std.proofs.lemmas.Bool.Decides.{nat_tests}
 use Rattle.std.proofs.lemmas.Grind.{flat_map-append}
 use Rattle.std.proofs.lemmas.List.{map-append}
 use Rattle.std.proofs.lemmas.List.Sorted.{IsPermutation-refl, IsPermutation-trans, IsPermutation-append_left, IsPermutation-append_right, IsPermutation-append_comm, sum_by-IsPermutation}
 use Rattle.std.proofs.lemmas.List.Sums.{sum_by-cons, sum_by-append}
-use Rattle.std.specs.Prelude.{nat_eq, nat_le, count_by}
+use Rattle.std.specs.Prelude.{nat_eq, count_by}
 use Rattle.std.specs.List.{flat_map, AllByRecursion, sum_by}
 use Rattle.std.specs.List.Sorted.{IsStrictlyIncreasing, IsPermutation}
 use Rattle.std.specs.Cmp.Lexicographic.{pointwise, nat_list_eq_equiv}
 use Rattle.wu_base.specs.declared.addresses.Extent.{Extent}
 use Rattle.wu_base.specs.declared.addresses.Range.{Range}
-use Rattle.wu_base.specs.declared.addresses.TermList.{TermList}
 use Rattle.wu_gcl.specs.Extents.{is_token_at, token_hits}
 use Rattle.wu_gcl.specs.Regions.{Region}
 use Rattle.wu_rank.specs.declared.results.Unit.{Unit as RankedUnit}
-use Rattle.wu_rank.specs.declared.results.Ranked.{Ranked}
 use Rattle.wu_rank.specs.Scores.{length_of, lies_in, frequency, count_at}
 use Rattle.wu_rank.specs.Order.{listed}
 use Rattle.wu_rank.proofs.Shifting.{Agrees, shifted, shifted_ranked, listed_shifted}
@@ -167,9 +163,13 @@ counted_places xs word (suc k) a b (token ∷ tokens) up ends fits told =
     ap (is_among xs) first ∙ told 0 (omega arith) ∙ nat_list_eq_equiv.symm token word in
     let rest = counted_places xs word k (suc a) b tokens up (omega arith) (omega arith)
     (λ i within. let same : suc a + i ≡ a + suc i = omega arith in ap (is_among xs) same ∙ told (suc i) (omega arith)) in
-    split_first a b xs (omega arith)
-    ∙ ap₂ (λ (m n : ℕ). m + n) (there_once a 0 xs up ∙ ap (λ (c : Bool). cond c 1 0) here) rest
-    ∙ sym (count_by-cons (pointwise nat_eq word) token (take k tokens))
+    omega (
+      arith,
+      split_first a b xs (omega arith),
+      there_once a 0 xs up ∙ ap (λ (c : Bool). cond c 1 0) here,
+      rest,
+      count_by-cons (pointwise nat_eq word) token (take k tokens),
+    )
 
 dropped : (tokens : List (List ℕ)) (word : List ℕ) (s i : ℕ) → is_token_at tokens word (s + i) ≡ is_token_at (drop s tokens) word i
 dropped tokens word zero i = let same : 0 + i ≡ i = omega arith in ap (is_token_at tokens word) same
