@@ -6,5 +6,6 @@ pub mod PromptLemmas
 pub mod SessionLemmas
 pub mod EndLemmas
 pub mod StateLemmas
+pub mod TextLemmas
 pub mod UnitLemmas
 pub mod RankLemmas
