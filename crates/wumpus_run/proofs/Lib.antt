@@ -6,6 +6,8 @@ pub mod PromptLemmas
 pub mod SessionLemmas
 pub mod EndLemmas
 pub mod StateLemmas
+pub mod TreeLemmas
+pub mod EventLemmas
 pub mod TextLemmas
 pub mod UnitLemmas
 pub mod RankLemmas

@@ -1,12 +1,15 @@
--- The texts of a state are those of its regular files: at first, and after each event.
-use Rattle.std.proofs.Common.{◌≡◌, ◌≢◌, ℕ, List, [], Bool, true, false, cond, Ok, Err, refl, ap, sym, ◌∙◌, subst, inl, inr, ⊎_elim}
+-- The texts of a state are those of its regular files: at first, after each event, and throughout a script.
+use Rattle.std.proofs.Common.{◌≡◌, ◌≢◌, ℕ, List, [], ◌∷◌, map, Bool, true, false, cond, Ok, Err, refl, ap, sym, ◌∙◌, subst}
+use Rattle.std.proofs.Common.{inl, inr, ⊎_elim}
 use Rattle.std.specs.Prelude.{◌⊎◌, Option, Some, None, Result, is_some}
 use Rattle.std.specs.Result.{result_unwrap_or}
 use Rattle.std.specs.Ordering.{is_eq, nat_cmp}
 use Rattle.std.specs.Cmp.{nat_cmp_total}
+use Rattle.std.specs.List.{All, AllByRecursion}
 use Rattle.std.specs.List.Sorted.{IsStrictlySortedBy}
 use Rattle.std.specs.Map.{keys_of, lookup, remove_entry}
 use Rattle.std.specs.BTreeMap.{is_at}
+use Rattle.std.proofs.lemmas.List.Elements.{All-from_recursion}
 use Rattle.std.proofs.lemmas.Map.{lookup-none}
 use Rattle.wu_tree.specs.declared.events.Event.{Event}
 use Rattle.wu_tree.specs.declared.events.Event.TheVariants.{User, Mkdir, Create, Text, Link, Unlink, Rmdir, Rename, Chmod, Chown}
@@ -17,14 +20,22 @@ use Rattle.wu_tree.specs.declared.events.Refusal.{Refusal}
 use Rattle.wu_tree.specs.FileSystems.{FileSystem, is_file, is_file_node}
 use Rattle.wu_tree.specs.Rules.{IsTree}
 use Rattle.wu_tree.specs.Steps.{refusal_of, next, effect_of, no_effect, dropped_at, is_same_node, unless_refused}
+use Rattle.wu_tree.specs.Steps.{IsEvent}
 use Rattle.wu_tree.specs.Steps.{step as tree_step}
 use Rattle.wu_tree.specs.Effects.{TellsFiles}
-use Rattle.wu_tree.proofs.MapEntries.{ascend-insert_entry, ascend-remove_entry, lookup-insert_entry, lookup-remove_other, none_left, number_itself}
+use Rattle.wu_tree.proofs.MapEntries.{ascend-insert_entry, ascend-remove_entry, lookup-insert_entry, lookup-remove_other}
+use Rattle.wu_tree.proofs.MapEntries.{none_left, number_itself}
 use Rattle.wu_tree.proofs.ParentPaths.{same_number}
 use Rattle.wu_tree.proofs.LinkRemovals.{apart_from}
 use Rattle.wu_tree.proofs.EffectLemmas.{effects_tell_files}
+use Rattle.wu_tree.proofs.TreeInvariant.{root_sound}
+use Rattle.wu_script.specs.Said.{Reading, Said, Happens, Asks, IsRefused, SaysNothing, said_of}
+use Rattle.wu_script.specs.Items.{items_of}
+use Rattle.wumpus_run.specs.Replies.{after, met, last_state}
 use Rattle.wumpus_run.specs.States.{State, Texts, HasTheTexts, first_state, has_text, without_text, with_text, texts_after, after_event}
 use Rattle.wumpus_run.proofs.StateLemmas.{step-accepted, step-refused}
+use Rattle.wumpus_run.proofs.TreeLemmas.{step_keeps}
+use Rattle.wumpus_run.proofs.EventLemmas.{TellsEvent, script_tells}
 
 -- ---- numbers that there may be
 
@@ -183,3 +194,47 @@ no_file false = refl
 pub first_texts : HasTheTexts first_state
 unfolding IsStrictlySortedBy
 first_texts = record { ascend = tt; files = λ q. sym (no_file (is_eq (nat_cmp q 1))) }
+
+-- ---- a script
+
+-- a state whose tree keeps the rules, with the texts of its files
+abbrev IsWhole : State → Type 0
+IsWhole s = IsTree s.tree × HasTheTexts s
+
+tree_stays : (s : State) (event : Event) (text : List ℕ) → IsEvent event → IsTree s.tree → IsTree (after_event s event text).tree
+tree_stays s event text v t =
+    elim (tree_step s.tree event) as (λ r. tree_step s.tree event ≡ r → IsTree (after_event s event text).tree) [
+      | Ok p ↦ λ e.
+          subst (λ (v : State). IsTree v.tree)
+          (sym (ap (λ r. result_unwrap_or r s) (step-accepted s event text p.0 p.1 (texts_after p.1 text s.texts) e refl)))
+          (step_keeps s.tree t event p.0 p.1 v e)
+      | Err refusal ↦ λ e.
+          subst (λ (v : State). IsTree v.tree) (sym (ap (λ r. result_unwrap_or r s) (step-refused s event text refusal e))) t
+    ] refl
+
+stays_whole : (s : State) (said : Said) → TellsEvent said → IsWhole s → IsWhole (after s said)
+stays_whole s (Happens event text) v w = (tree_stays s event text v w.0, texts_stay s event text w.0 w.1)
+stays_whole s (Asks uid question) v w = w
+stays_whole s (IsRefused why) v w = w
+stays_whole s SaysNothing v w = w
+
+first_whole : IsWhole first_state
+first_whole = (root_sound.tree, first_texts)
+
+met_whole : (s : State) (saids : List Said) → AllByRecursion TellsEvent saids → IsWhole s
+    → AllByRecursion (λ m. HasTheTexts m.0) (met s saids)
+met_whole s [] v w = tt
+met_whole s (said ∷ saids) v w = (w.1, met_whole (after s said) saids v.1 (stays_whole s said v.0 w))
+
+left_whole : (s : State) (saids : List Said) → AllByRecursion TellsEvent saids → IsWhole s → IsWhole (last_state s saids)
+left_whole s [] v w = w
+left_whole s (said ∷ saids) v w = left_whole (after s said) saids v.1 (stays_whole s said v.0 w)
+
+-- every state that the items of a script meet, and the one that they leave
+pub met_texts : (read : Reading) (bytes : List ℕ) → All (λ m. HasTheTexts m.0) (met first_state (map (said_of read) (items_of bytes)))
+met_texts read bytes =
+    All-from_recursion (λ m. HasTheTexts m.0) (met first_state (map (said_of read) (items_of bytes)))
+    (met_whole first_state (map (said_of read) (items_of bytes)) (script_tells read bytes) first_whole)
+
+pub left_texts : (read : Reading) (bytes : List ℕ) → HasTheTexts (last_state first_state (map (said_of read) (items_of bytes)))
+left_texts read bytes = (left_whole first_state (map (said_of read) (items_of bytes)) (script_tells read bytes) first_whole).1
