@@ -11,7 +11,7 @@ use Rattle.wumpus_run.specs.Machines.{Stands, judged}
 use Rattle.wumpus_run.specs.States.{State, Texts, AreShort, after_event, step, stepped, texts_after}
 
 -- what an accepted event makes of a state
-step-accepted : (s : State) (event : Event) (text : List ℕ) (tree : FileSystem) (effect : Effect) (texts : Texts)
+pub step-accepted : (s : State) (event : Event) (text : List ℕ) (tree : FileSystem) (effect : Effect) (texts : Texts)
     → tree_step s.tree event ≡ Ok (tree, effect) → texts ≡ texts_after effect text s.texts
     → step s event text ≡ Ok (record { tree = tree; texts = texts })
 unfolding step
@@ -19,7 +19,7 @@ step-accepted s event text tree effect texts is kept =
     ap (stepped text s.texts) is ∙ ap (λ t. Ok (record { tree = tree; texts = t })) (sym kept)
 
 -- a refused event
-step-refused : (s : State) (event : Event) (text : List ℕ) (refusal : Refusal) → tree_step s.tree event ≡ Err refusal
+pub step-refused : (s : State) (event : Event) (text : List ℕ) (refusal : Refusal) → tree_step s.tree event ≡ Err refusal
     → step s event text ≡ Err refusal
 unfolding step
 step-refused s event text refusal is = ap (stepped text s.texts) is

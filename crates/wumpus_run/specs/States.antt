@@ -1,11 +1,12 @@
 -- The state of a session: a file tree, and the texts of its files.
-use Rattle.std.specs.Prelude.{ℕ, ◌≤◌, List, [], length, Option, Some, None, Result, Ok, Err, unwrap_or}
+use Rattle.std.specs.Prelude.{◌≡◌, ℕ, ◌≤◌, Bool, List, [], length, Option, Some, None, Result, Ok, Err, is_some, unwrap_or}
 use Rattle.std.specs.Result.{result_unwrap_or}
 use Rattle.std.specs.Ordering.{nat_cmp}
-use Rattle.std.specs.Map.{lookup, remove_entry}
+use Rattle.std.specs.List.Sorted.{IsStrictlySortedBy}
+use Rattle.std.specs.Map.{keys_of, lookup, remove_entry}
 use Rattle.std.specs.BTreeMap.{is_at, insert_entry}
 use Rattle.wu_base.specs.declared.limits.TheConstants.{TEXT_MAX}
-use Rattle.wu_tree.specs.FileSystems.{FileSystem, root_alone}
+use Rattle.wu_tree.specs.FileSystems.{FileSystem, root_alone, is_file}
 use Rattle.wu_tree.specs.Steps.{step as tree_step}
 use Rattle.wu_tree.specs.declared.events.Event.{Event}
 use Rattle.wu_tree.specs.declared.events.Effect.{Effect}
@@ -57,3 +58,14 @@ after_event s event text = result_unwrap_or (step s event text) s
 -- no text is longer than a text may be
 abbrev pub AreShort : Texts → Type 0
 AreShort texts = (ino : ℕ) → length (text_in texts ino) ≤ TEXT_MAX
+
+-- whether there is a text of that number
+abbrev pub has_text : Texts → ℕ → Bool
+has_text texts ino = is_some (lookup (is_at (nat_cmp ino)) texts)
+
+-- the texts of a state are those of its regular files
+pub record HasTheTexts (s : State) : Type 0 where
+  -- their numbers ascend, without repeats
+  pub ascend : IsStrictlySortedBy nat_cmp (keys_of s.texts)
+  -- there is a text of a number exactly where that is the number of a regular file
+  pub files : (ino : ℕ) → has_text s.texts ino ≡ is_file s.tree ino

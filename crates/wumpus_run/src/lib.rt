@@ -9,6 +9,6 @@ mod scanning;
 mod session;
 mod statuses;
 
-pub use laws::equal_views_are_answered_alike;
+pub use laws::{equal_views_are_answered_alike, states_have_the_texts_of_their_files};
 pub use session::run;
 pub use statuses::Status;
