@@ -1,8 +1,8 @@
 -- The units of a query in frames of files, at any addresses and in any order: how often a word is in one, and their ranking.
-use Rattle.std.proofs.Common.{◌≡◌, ℕ, zero, suc, ◌+◌, ◌≤◌, ◌<◌, Bool, true, false, cond, ◌||◌, List, [], ◌∷◌, ◌++◌, length, take, drop, get_or, map, refl, sym, ap, ap₂, ◌∙◌, subst, arith, append_assoc, length-drop, eqb}
+use Rattle.std.proofs.Common.{◌≡◌, ℕ, zero, suc, ◌+◌, ◌≤◌, ◌<◌, Bool, true, false, cond, ◌||◌, List, [], ◌∷◌, ◌++◌, length, take, drop, get_or, map, refl, sym, ap, ap₂, ◌∙◌, subst, arith, append_assoc, length-append, length-drop, eqb}
 use Rattle.std.proofs.lemmas.Bool.Decides.{nat_tests}
 use Rattle.std.proofs.lemmas.Grind.{flat_map-append}
-use Rattle.std.proofs.lemmas.List.{map-append}
+use Rattle.std.proofs.lemmas.List.{length-map, map-append}
 use Rattle.std.proofs.lemmas.List.Sorted.{IsPermutation-refl, IsPermutation-trans, IsPermutation-append_left, IsPermutation-append_right, IsPermutation-append_comm, sum_by-IsPermutation}
 use Rattle.std.proofs.lemmas.List.Sums.{sum_by-cons, sum_by-append}
 use Rattle.std.specs.Prelude.{nat_eq, count_by}
@@ -90,6 +90,45 @@ units_inside region addresses tokens frame (place ∷ places) each =
     (all_from (IsExtentIn (length (tokens place))) here (inside_text region (is_token_at (tokens place)) (length (tokens place)))))
     (units_inside region addresses tokens frame places each.1)
 
+fits_all : (addresses : List ℕ → List ℕ) (tokens : ℕ → List (List ℕ)) (frame : ℕ → Range) (bound : ℕ) (units : List RankedUnit)
+    → ((place : ℕ) → length (tokens place) < bound) → AllByRecursion (IsUnitIn addresses tokens frame) units
+    → AllByRecursion (λ unit. 1 ≤ length_of unit.extent) (map (shifted (start_of frame)) units)
+    × AllByRecursion (λ unit. length_of unit.extent < bound) (map (shifted (start_of frame)) units)
+fits_all addresses tokens frame bound [] short are = (tt, tt)
+fits_all addresses tokens frame bound (unit ∷ units) short are =
+    let more = fits_all addresses tokens frame bound units short are.1 in
+    let ordered : unit.extent.start ≤ unit.extent.end = are.0.inside.ordered in
+    let within : unit.extent.end < length (tokens unit.place) = are.0.inside.within in
+    let few = short unit.place in
+    ((omega arith, more.0), (omega arith, more.1))
+
+-- no unit is empty, and none is as long as a bound on the files' tokens
+pub units_fit : (region : Region) (addresses : List ℕ → List ℕ) (terms : List (List ℕ)) (tokens : ℕ → List (List ℕ)) (frame : ℕ → Range)
+    (places : List ℕ) (bound : ℕ) → HasTerms region terms
+    → AllByRecursion (λ place. IsFrameOf addresses (tokens place) (frame place)) places → ((place : ℕ) → length (tokens place) < bound)
+    → AllByRecursion (λ unit. 1 ≤ length_of unit.extent)
+    (units_at (λ place. frame_hits region (map (list_at addresses) terms) (frame place)) places)
+    × AllByRecursion (λ unit. length_of unit.extent < bound)
+    (units_at (λ place. frame_hits region (map (list_at addresses) terms) (frame place)) places)
+units_fit region addresses terms tokens frame places bound all each short =
+    subst (λ (us : List RankedUnit). AllByRecursion (λ unit. 1 ≤ length_of unit.extent) us
+    × AllByRecursion (λ unit. length_of unit.extent < bound) us)
+    (sym (units_shifted region addresses terms tokens frame places all each))
+    (fits_all addresses tokens frame bound (units_at (λ place. token_hits region (tokens place)) places) short
+    (units_inside region addresses tokens frame places each))
+
+-- there are as many units as extents
+pub length-units_at : (extents : ℕ → List Extent) (places : List ℕ) → length (units_at extents places) ≡ length (flat_map extents places)
+length-units_at extents [] = refl
+length-units_at extents (place ∷ places) =
+    omega (
+      arith,
+      length-append (map (unit_of place) (extents place)) (units_at extents places),
+      length-map (extents place) (unit_of place),
+      length-units_at extents places,
+      length-append (extents place) (flat_map extents places),
+    )
+
 -- ---- how often a word is in a unit
 
 -- from the bound on, each above the one before it
@@ -124,6 +163,9 @@ there_once a low (x ∷ xs) up = count_by-cons (λ y. eqb y a) x xs ∙ by (eqb 
       → cond b 1 0 + count_by (λ y. eqb y a) xs ≡ cond (b || is_among xs a) 1 0
   by true is rest = let behind = none_lower a (suc x) xs up.1 (grind (arith, nat_tests, is)) in omega (arith, behind.0)
   by false is rest = let same : 0 + count_by (λ y. eqb y a) xs ≡ count_by (λ y. eqb y a) xs = omega arith in same ∙ rest
+
+once_if : (a : ℕ) (xs : List ℕ) (b : Bool) → Climbs 0 xs → is_among xs a ≡ b → count_by (λ x. eqb x a) xs ≡ cond b 1 0
+once_if a xs b up is = there_once a 0 xs up ∙ ap (λ (c : Bool). cond c 1 0) is
 
 abbrev from_to : ℕ → ℕ → Extent
 from_to a b = record { start = a; end = b }
@@ -166,7 +208,7 @@ counted_places xs word (suc k) a b (token ∷ tokens) up ends fits told =
     omega (
       arith,
       split_first a b xs (omega arith),
-      there_once a 0 xs up ∙ ap (λ (c : Bool). cond c 1 0) here,
+      once_if a xs (pointwise nat_eq word token) up here,
       rest,
       count_by-cons (pointwise nat_eq word) token (take k tokens),
     )
