@@ -89,8 +89,8 @@ scan_counted region files terms frames lists hits found scan are hits_is found_i
     ∙ length-flat_map (λ place. token_hits region (tokens_at files place)) places ∙ sums_by_place long files 0 files first
     ∙ sym (length-flat_map (hits_in region) files))
     (found_is
-    ∙ ap₂ (λ (ls : List TermList) (fs : List Range). count_by (λ frame. nat_lt 0 (length (frame_hits region ls frame))) fs) scan.by_term by_place
-    ∙ is.files ∙ sums_by_place some files 0 files first)
+    ∙ ap₂ (λ (ls : List TermList) (fs : List Range). count_by (λ frame. nat_lt 0 (length (frame_hits region ls frame))) fs)
+    scan.by_term by_place ∙ is.files ∙ sums_by_place some files 0 files first)
 
 -- the next frame's extents
 pub hits-more : (region : Region) (lists : List TermList) (frames : List Range) (i : ℕ) (d : Range) → i < length frames

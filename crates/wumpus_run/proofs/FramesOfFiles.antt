@@ -112,7 +112,7 @@ pub record IsCounted (region : Region) (lists : List TermList) (frames : List Ra
   pub files : count_by (λ frame. nat_lt 0 (length (frame_hits region lists frame))) frames
       ≡ count_by (λ place. nat_lt 0 (length (extents place))) places
 
-count_by-cons : {X : Type 0} (p : X → Bool) (x : X) (xs : List X) → count_by p (x ∷ xs) ≡ cond (p x) 1 0 + count_by p xs
+pub count_by-cons : {X : Type 0} (p : X → Bool) (x : X) (xs : List X) → count_by p (x ∷ xs) ≡ cond (p x) 1 0 + count_by p xs
 count_by-cons p x xs = sum_by-cons (λ y. cond (p y) 1 0) x xs
 
 in_this_order : (region : Region) (addresses : List ℕ → List ℕ) (terms : List (List ℕ)) (tokens : ℕ → List (List ℕ)) (frame : ℕ → Range)
@@ -123,7 +123,8 @@ in_this_order region addresses terms tokens frame (place ∷ places) all each =
     let lists = map (list_at addresses) terms in
     let here = token_hits region (tokens place) in
     let same : length (frame_hits region lists (frame place)) ≡ length here =
-    ap length (frame_of_file region addresses terms (tokens place) (frame place) all each.0) ∙ length-map here (moved (frame place).start) in
+    ap length (frame_of_file region addresses terms (tokens place) (frame place) all each.0)
+    ∙ length-map here (moved (frame place).start) in
     let more = in_this_order region addresses terms tokens frame places all each.1 in
     record {
       hits = length-append (frame_hits region lists (frame place)) (frames_hits region lists (map frame places))

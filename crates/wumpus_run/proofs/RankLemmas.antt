@@ -1,5 +1,5 @@
 -- A ranking by addresses is the ranking by what the files' texts hold.
-use Rattle.std.proofs.Common.{◌≡◌, ℕ, zero, suc, ◌+◌, ◌-◌, ◌≤◌, ◌<◌, ◌^◌, List, [], ◌∷◌, ◌++◌, length, take, map, refl, sym, ap, ap₂, ◌∙◌, subst, arith, add-one}
+use Rattle.std.proofs.Common.{◌≡◌, ℕ, zero, suc, ◌+◌, ◌≤◌, ◌<◌, ◌^◌, List, [], ◌∷◌, ◌++◌, length, take, map, refl, sym, ap, ap₂, ◌∙◌, subst, arith, add-one}
 use Rattle.std.proofs.lemmas.List.{length-map}
 use Rattle.std.proofs.lemmas.List.Elements.{All-from_recursion}
 use Rattle.std.proofs.lemmas.List.Folds.{flat_map-map}
@@ -25,10 +25,10 @@ use Rattle.wumpus_run.specs.States.{Texts, AreShort, text_in}
 use Rattle.wumpus_run.specs.Hits.{hits_in}
 use Rattle.wumpus_run.specs.Scans.{tokens_in, frames_from, list_among, IsScan}
 use Rattle.wumpus_run.specs.Rankings.{unit_at, units_from, units_of, tokens_at, frequency_in, ranking_of}
-use Rattle.wumpus_run.specs.Units.{AreTermsWith, units_in, start_at, in_its_file, list_in}
+use Rattle.wumpus_run.specs.Units.{AreTermsWith, units_in, in_its_file, list_in}
 use Rattle.wumpus_run.proofs.CountLemmas.{scan_few}
 use Rattle.wumpus_run.proofs.FramesOfFiles.{list_at, lists_ascend}
-use Rattle.wumpus_run.proofs.UnitsOfFrames.{units_at, start_of, units_fit, length-units_at, frames_ranked}
+use Rattle.wumpus_run.proofs.UnitsOfFrames.{units_in_frames, units_in_files, start_of, units_fit, length-units_at, frames_ranked, shifted_back}
 use Rattle.wumpus_run.proofs.ScannedFrames.{frame_at, scanned, all_places, scan_framed, length-frames_from, frames_by_place, tokens_behind}
 use Rattle.wumpus_run.proofs.UnitLemmas.{words_found}
 
@@ -36,15 +36,11 @@ use Rattle.wumpus_run.proofs.UnitLemmas.{words_found}
 abbrev starts_in : List Shown → ℕ → ℕ
 starts_in files = start_of (frame_at (frames_from 0 files))
 
--- the extents of the files, by their places
-abbrev hits_at : Region → List Shown → ℕ → List Extent
-hits_at region files place = token_hits region (tokens_at files place)
-
 -- ---- the units by place
 
 units_in-places : (region : Region) (lists : List TermList) (all : List Range) (first : ℕ) (frames : List Range)
     → ((i : ℕ) → frame_at all (first + i) ≡ frame_at frames i)
-    → units_in first region lists frames ≡ units_at (λ place. frame_hits region lists (frame_at all place)) (range_with_len first (length frames))
+    → units_in first region lists frames ≡ units_in_frames region lists (frame_at all) (range_with_len first (length frames))
 units_in-places region lists all first [] same = refl
 units_in-places region lists all first (frame ∷ frames) same =
     let zeroth : first ≡ first + 0 = omega arith in
@@ -56,7 +52,7 @@ units_in-places region lists all first (frame ∷ frames) same =
 
 units_from-places : (region : Region) (view : List Shown) (first : ℕ) (files : List Shown)
     → ((i : ℕ) → tokens_at view (first + i) ≡ tokens_at files i)
-    → units_from first region files ≡ units_at (hits_at region view) (range_with_len first (length files))
+    → units_from first region files ≡ units_in_files region (tokens_at view) (range_with_len first (length files))
 unfolding hits_in
 units_from-places region view first [] same = refl
 units_from-places region view first (file ∷ files) same =
@@ -67,25 +63,9 @@ units_from-places region view first (file ∷ files) same =
     ∙ units_from-places region view (first + 1) files
     (λ i. let e : (first + 1) + i ≡ first + suc i = omega arith in ap (tokens_at view) e ∙ same (suc i) ∙ tokens_behind file files i))
 
-units_of-places : (region : Region) (view : List Shown) → units_of region view ≡ units_at (hits_at region view) (all_places view)
+units_of-places : (region : Region) (view : List Shown) → units_of region view ≡ units_in_files region (tokens_at view) (all_places view)
 unfolding units_of
 units_of-places region view = units_from-places region view 0 view (λ i. let e : 0 + i ≡ i = omega arith in ap (tokens_at view) e)
-
--- ---- back to the files
-
-abbrev ranked_of : ℕ → ℕ → ℕ → ℕ → Ranked
-ranked_of points place first last = record { score = points; unit = record { extent = record { start = first; end = last }; place = place } }
-
-file_again : (frames : List Range) (r : Ranked) → in_its_file frames (shifted_ranked (start_at frames) r) ≡ r
-file_again frames r =
-    let s = start_at frames r.unit.place in
-    let first : (s + r.unit.extent.start) - s ≡ r.unit.extent.start = omega arith in
-    let last : (s + r.unit.extent.end) - s ≡ r.unit.extent.end = omega arith in
-    ap₂ (λ (m n : ℕ). ranked_of r.score r.unit.place m n) first last
-
-files_again : (frames : List Range) (rs : List Ranked) → map (in_its_file frames) (map (shifted_ranked (start_at frames)) rs) ≡ rs
-files_again frames [] = refl
-files_again frames (r ∷ rs) = ap₂ (λ (x : Ranked) (xs : List Ranked). x ∷ xs) (file_again frames r) (files_again frames rs)
 
 -- ---- what the ranker asks for
 
@@ -112,7 +92,7 @@ pub gathered : (files : List Shown) (region : Region) (words terms : List (List 
     → AreTermsWith region words terms → IsScan files terms frames lists → lent_frames ≡ frames → lent ≡ lists → lent_again ≡ lists
     → units ≡ units_in 0 region lent lent_frames → found ≡ map (list_in lent_again) words
     → IsGathered files region words terms frames lists units found
-gathered files region words terms frames lists units found lent_frames lent lent_again wanted scan same_frames same_lists same_again by_frame by_word = record {
+gathered files region words terms frames lists units found _ _ _ wanted scan same_frames same_lists same_again by_frame by_word = record {
   wanted = wanted;
   scan = scan;
   by_frame = by_frame ∙ ap₂ (λ (ls : List TermList) (fs : List Range). units_in 0 region ls fs) same_lists same_frames;
@@ -122,12 +102,12 @@ gathered files region words terms frames lists units found lent_frames lent lent
 -- the units of a scan are those of its frames, by place
 units_scanned : (files : List Shown) (region : Region) (words terms : List (List ℕ)) (frames : List Range) (lists : List TermList)
     (units : List RankedUnit) (found : List TermList) → IsGathered files region words terms frames lists units found
-    → units ≡ units_at (λ place. frame_hits region (map (list_at (scanned files)) terms) (frame_at (frames_from 0 files) place)) (all_places files)
+    → units ≡ units_in_frames region (map (list_at (scanned files)) terms) (frame_at (frames_from 0 files)) (all_places files)
 units_scanned files region words terms frames lists units found is =
     let all = frames_from 0 files in
     is.by_frame ∙ ap₂ (λ (ls : List TermList) (fs : List Range). units_in 0 region ls fs) is.scan.by_term is.scan.by_file
     ∙ units_in-places region (map (list_at (scanned files)) terms) all 0 all (λ i. let e : 0 + i ≡ i = omega arith in ap (frame_at all) e)
-    ∙ ap (λ (n : ℕ). units_at (λ place. frame_hits region (map (list_at (scanned files)) terms) (frame_at all place)) (range_with_len 0 n))
+    ∙ ap (λ (n : ℕ). units_in_frames region (map (list_at (scanned files)) terms) (frame_at all) (range_with_len 0 n))
     (length-frames_from 0 files)
 
 -- no unit is empty, and none is too long
@@ -188,7 +168,7 @@ scan_top files region words terms frames lists units found k top back is top_is 
     top_is ∙ ap (take k) (scan_ranking files region words terms frames lists units found is)
     ∙ map-taken (shifted_ranked (starts_in files)) k ranking in
     back_is ∙ ap₂ (λ (fs : List Range) (rs : List Ranked). map (in_its_file fs) rs) is.scan.by_file first
-    ∙ files_again (frames_from 0 files) (take k ranking)
+    ∙ shifted_back (starts_in files) (take k ranking)
 
 -- no unit is empty
 pub scan_some : (texts : Texts) (view : List Seen) (region : Region) (words terms : List (List ℕ)) (frames : List Range)

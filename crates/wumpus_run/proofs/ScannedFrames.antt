@@ -131,8 +131,10 @@ scanned files term = places_from 0 term (tokens_in files)
 abbrev pub all_places : List Shown → List ℕ
 all_places files = range_with_len 0 (length files)
 
-framed_at : (files : List Shown) (place : ℕ) → place < length files
-    → IsFrameOf (scanned files) (tokens_at files place) (frame_at (frames_from 0 files) place)
+abbrev IsFramed : List Shown → ℕ → Type 0
+IsFramed files place = IsFrameOf (scanned files) (tokens_at files place) (frame_at (frames_from 0 files) place)
+
+framed_at : (files : List Shown) (place : ℕ) → place < length files → IsFramed files place
 framed_at files place within =
     let cut = cut_at files 0 place within in
     let front = cut.0 in
@@ -158,9 +160,8 @@ each_in_range P first (suc n) holds =
 pub scan_framed : (files : List Shown)
     → FramesOf (scanned files) (tokens_at files) (frame_at (frames_from 0 files)) (all_places files)
 scan_framed files = record {
-  each = each_in_range (λ place. IsFrameOf (scanned files) (tokens_at files place) (frame_at (frames_from 0 files) place)) 0 (length files)
-      (λ i within. let same : i ≡ 0 + i = omega arith in
-      subst (λ place. IsFrameOf (scanned files) (tokens_at files place) (frame_at (frames_from 0 files) place)) same (framed_at files i within));
+  each = each_in_range (IsFramed files) 0 (length files)
+      (λ i within. let same : i ≡ 0 + i = omega arith in subst (IsFramed files) same (framed_at files i within));
   ascending = λ term. places_increase 0 term (tokens_in files);
 }
 
@@ -172,8 +173,8 @@ length-frames_from start (file ∷ files) = ap suc (length-frames_from (start + 
 
 -- the frames of a scan, by their places
 pub frames_by_place : (files : List Shown) → frames_from 0 files ≡ map (frame_at (frames_from 0 files)) (all_places files)
-frames_by_place files = fill_by_all (frame_at (frames_from 0 files)) (frames_from 0 files) (length files) no_frame (length-frames_from 0 files)
-    (λ k within. refl)
+frames_by_place files =
+    let all = frames_from 0 files in fill_by_all (frame_at all) all (length files) no_frame (length-frames_from 0 files) (λ k within. refl)
 
 -- a sum over the tokens of files is that over the places that they have in a view
 pub sums_by_place : (f : List (List ℕ) → ℕ) (view : List Shown) (first : ℕ) (files : List Shown)
