@@ -1,4 +1,4 @@
--- Frames of files, at any addresses and in any order: their extents, and how many these are. A file is told by its place, as a number.
+-- Frames of files at any addresses, in any order: their extents, and how many these are. A number tells each file: its place in a view.
 use Rattle.std.proofs.Common.{◌≡◌, ℕ, zero, suc, ◌+◌, ◌≤◌, ◌<◌, ◌^◌, Bool, true, false, cond, ◌&&◌, ◌||◌, ◌⊎◌, List, [], ◌∷◌, length, map, get_or, refl, sym, ap, ap₂, ◌∙◌, subst, inl, inr, arith, length-append}
 use Rattle.std.proofs.Math.Bool.{or-true}
 use Rattle.std.proofs.lemmas.List.{length-map}
@@ -33,6 +33,7 @@ pub record IsFrameOf (addresses : List ℕ → List ℕ) (tokens : List (List �
   pub told : (term : List ℕ) (i : ℕ) → i < length tokens → is_among (addresses term) (frame.start + i) ≡ is_token_at tokens term i
 
 -- The frames of the files with these places, where functions tell each file's tokens and its frame; each term's addresses ascend.
+-- Whether the frames lie apart matters only to the bound on their extents.
 pub record FramesOf (addresses : List ℕ → List ℕ) (tokens : ℕ → List (List ℕ)) (frame : ℕ → Range) (places : List ℕ) : Type 0 where
   pub each : AllByRecursion (λ place. IsFrameOf addresses (tokens place) (frame place)) places
   pub ascending : (term : List ℕ) → IsStrictlyIncreasing (addresses term)
@@ -154,11 +155,11 @@ few_ascend : (low high : ℕ) (xs : List Extent) → IsAscending xs → AllByRec
     → AllByRecursion (λ x. x.start < high) xs → low ≤ high → length xs + low ≤ high
 few_ascend low high [] up above below within = omega arith
 few_ascend low high (x ∷ xs) up above below within =
-    let more = few_ascend (x.start + 1) high xs up.1 (behind xs up.0) below.1 (omega (arith, below.0)) in
+    let more = few_ascend (x.start + 1) high xs up.1 (later xs up.0) below.1 (omega (arith, below.0)) in
     omega (arith, more, above.0) where
-      behind : (ys : List Extent) → AllByRecursion (IsBefore x) ys → AllByRecursion (λ y. x.start + 1 ≤ y.start) ys
-      behind [] before = tt
-      behind (y ∷ ys) before = (omega (arith, before.0.starts), behind ys before.1)
+      later : (ys : List Extent) → AllByRecursion (IsBefore x) ys → AllByRecursion (λ y. x.start + 1 ≤ y.start) ys
+      later [] before = tt
+      later (y ∷ ys) before = (omega (arith, before.0.starts), later ys before.1)
 
 -- no more than there are places
 hits_few : (region : Region) (stands : List ℕ → ℕ → Bool) (n : ℕ) → length (hits region stands n) ≤ n
@@ -195,7 +196,7 @@ few_addresses low high (frame ∷ frames) some above below apart =
       sum_by-cons (λ (f : Range). f.len) frame frames,
     )
 
--- Frames that lie apart have no more extents than there are addresses.
+-- frames that lie apart, in any order, have no more extents than there are addresses
 pub frames_few : (region : Region) (lists : List TermList) (by_address frames : List Range) → IsPermutation by_address frames
     → AreApart by_address → AllByRecursion IsFrame by_address → length (frames_hits region lists frames) ≤ 2 ^ 47
 frames_few region lists by_address frames same apart are =

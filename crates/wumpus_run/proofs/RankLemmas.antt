@@ -29,7 +29,7 @@ use Rattle.wumpus_run.specs.Units.{AreTermsWith, units_in, in_its_file, list_in}
 use Rattle.wumpus_run.proofs.CountLemmas.{scan_few}
 use Rattle.wumpus_run.proofs.FramesOfFiles.{list_at, lists_ascend}
 use Rattle.wumpus_run.proofs.UnitsOfFrames.{units_in_frames, units_in_files, start_of, units_fit, length-units_at, frames_ranked, shifted_back}
-use Rattle.wumpus_run.proofs.ScannedFrames.{frame_at, scanned, all_places, scan_framed, length-frames_from, frames_by_place, tokens_behind}
+use Rattle.wumpus_run.proofs.ScannedFrames.{frame_at, scanned, all_places, scan_framed, length-frames_from, frames_by_place, tokens_after}
 use Rattle.wumpus_run.proofs.UnitLemmas.{words_found}
 
 -- where the file at each place of the view starts
@@ -61,7 +61,7 @@ units_from-places region view first (file ∷ files) same =
     (ap (λ (ts : List (List ℕ)). map (unit_at first) (token_hits region ts)) (sym (ap (tokens_at view) zeroth ∙ same 0)))
     (ap (λ (n : ℕ). units_from n region files) (sym (add-one first))
     ∙ units_from-places region view (first + 1) files
-    (λ i. let e : (first + 1) + i ≡ first + suc i = omega arith in ap (tokens_at view) e ∙ same (suc i) ∙ tokens_behind file files i))
+    (λ i. let e : (first + 1) + i ≡ first + suc i = omega arith in ap (tokens_at view) e ∙ same (suc i) ∙ tokens_after file files i))
 
 units_of-places : (region : Region) (view : List Shown) → units_of region view ≡ units_in_files region (tokens_at view) (all_places view)
 unfolding units_of
@@ -73,8 +73,8 @@ text_short : (texts : Texts) (view : List Seen) (place : ℕ) → AreShort texts
 text_short texts [] place short = omega arith
 text_short texts (seen ∷ view) zero short = omega (arith, length-tokens_of (text_in texts seen.ino), short seen.ino)
 text_short texts (seen ∷ view) (suc place) short =
-    let behind = tokens_behind (shown_of texts seen) (map (shown_of texts) view) place in
-    subst (λ (ts : List (List ℕ)). length ts < 2 ^ 26) (sym behind) (text_short texts view place short)
+    let same = tokens_after (shown_of texts seen) (map (shown_of texts) view) place in
+    subst (λ (ts : List (List ℕ)). length ts < 2 ^ 26) (sym same) (text_short texts view place short)
 
 -- ---- over a scan
 

@@ -166,7 +166,7 @@ there_once a low [] up = refl
 there_once a low (x ∷ xs) up = count_by-cons (λ y. eqb y a) x xs ∙ by (eqb x a) refl (there_once a (suc x) xs up.1) where
   by : (b : Bool) → eqb x a ≡ b → count_by (λ y. eqb y a) xs ≡ cond (is_among xs a) 1 0
       → cond b 1 0 + count_by (λ y. eqb y a) xs ≡ cond (b || is_among xs a) 1 0
-  by true is rest = let behind = none_lower a (suc x) xs up.1 (grind (arith, nat_tests, is)) in omega (arith, behind.0)
+  by true is rest = let others = none_lower a (suc x) xs up.1 (grind (arith, nat_tests, is)) in omega (arith, others.0)
   by false is rest = let same : 0 + count_by (λ y. eqb y a) xs ≡ count_by (λ y. eqb y a) xs = omega arith in same ∙ rest
 
 once_if : (a : ℕ) (xs : List ℕ) (b : Bool) → Climbs 0 xs → is_among xs a ≡ b → count_by (λ x. eqb x a) xs ≡ cond b 1 0
