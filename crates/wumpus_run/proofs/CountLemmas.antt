@@ -1,8 +1,8 @@
 -- Counting the extents of an expression over the frames of a view is counting them over its files.
-use Rattle.std.proofs.Common.{◌≡◌, ℕ, zero, suc, ◌+◌, ◌≤◌, ◌<◌, ◌^◌, Bool, cond, List, [], ◌∷◌, ◌++◌, length, map, take, get_or, sym, ap, ap₂, ◌∙◌, subst, arith, append-nil, length-append}
+use Rattle.std.proofs.Common.{◌≡◌, ℕ, zero, suc, ◌+◌, ◌≤◌, ◌<◌, ◌^◌, cond, List, [], ◌∷◌, ◌++◌, length, map, take, get_or, sym, ap, ap₂, ◌∙◌, subst, arith, append-nil, length-append}
 use Rattle.std.proofs.lemmas.List.Elements.{All-from_recursion}
 use Rattle.std.proofs.lemmas.Grind.{flat_map-append}
-use Rattle.std.proofs.lemmas.List.{take_more, length-map}
+use Rattle.std.proofs.lemmas.List.{take_more}
 use Rattle.std.proofs.lemmas.List.Concat.{length-flat_map}
 use Rattle.std.proofs.lemmas.List.Sorted.{IsPermutation-refl}
 use Rattle.std.specs.Prelude.{All, nat_lt, count_by}
@@ -10,7 +10,6 @@ use Rattle.std.specs.List.{AllByRecursion}
 use Rattle.std.specs.List.Sorted.{IsStrictlySortedBy}
 use Rattle.std.specs.Cmp.Lexicographic.{slice_cmp}
 use Rattle.std.specs.Ordering.{nat_cmp}
-use Rattle.wu_base.specs.declared.addresses.Extent.{Extent}
 use Rattle.wu_base.specs.declared.addresses.Range.{Range}
 use Rattle.wu_base.specs.declared.addresses.TermList.{TermList}
 use Rattle.wu_gcl.specs.Extents.{hits, token_hits}
@@ -19,17 +18,14 @@ use Rattle.wu_gcl.specs.Terms.{AreTerms}
 use Rattle.wu_token.specs.Tokens.{tokens_of}
 use Rattle.wu_ask.specs.declared.Answered.TheVariants.{Count}
 use Rattle.wu_ask.specs.Questions.{Counting}
-use Rattle.wu_solve.specs.Addresses.{stands_by, AreLists}
-use Rattle.wu_solve.specs.Listing.{IsBefore, IsAscending}
-use Rattle.wu_solve.specs.Solving.{moved, frame_hits, frames_hits, IsFrame}
-use Rattle.wu_solve.proofs.Results.{hits_listed}
-use Rattle.wu_solve.proofs.Sets.{all_from}
+use Rattle.wu_solve.specs.Addresses.{AreLists}
+use Rattle.wu_solve.specs.Solving.{frame_hits, frames_hits, IsFrame, AreApart}
 use Rattle.wumpus_run.specs.View.{Shown}
 use Rattle.wumpus_run.specs.Hits.{hits_in}
 use Rattle.wumpus_run.specs.Answer.{answer}
 use Rattle.wumpus_run.specs.Rankings.{tokens_at}
 use Rattle.wumpus_run.specs.Scans.{tokens_in, frames_from, IsScan}
-use Rattle.wumpus_run.proofs.FramesOfFiles.{are_lists, frames_counted}
+use Rattle.wumpus_run.proofs.FramesOfFiles.{are_lists, frames_counted, frames_few}
 use Rattle.wumpus_run.proofs.ScannedFrames.{places_increase, frame_at, scanned, all_places, scan_framed, frames_by_place, sums_by_place}
 
 -- the lists of a scan are what the solver asks for
@@ -53,49 +49,24 @@ scan_frames files terms frames lists scan = subst (All IsFrame) (sym scan.by_fil
 
 -- ---- how many extents there are
 
-few_ascend : (low high : ℕ) (xs : List Extent) → IsAscending xs → AllByRecursion (λ x. low ≤ x.start) xs
-    → AllByRecursion (λ x. x.start < high) xs → low ≤ high → length xs + low ≤ high
-few_ascend low high [] up above below within = omega arith
-few_ascend low high (x ∷ xs) up above below within =
-    let more = few_ascend (x.start + 1) high xs up.1 (behind xs up.0) below.1 (omega (arith, below.0)) in
-    omega (arith, more, above.0) where
-      behind : (ys : List Extent) → AllByRecursion (IsBefore x) ys → AllByRecursion (λ y. x.start + 1 ≤ y.start) ys
-      behind [] before = tt
-      behind (y ∷ ys) before = (omega (arith, before.0.starts), behind ys before.1)
+starts_above : (low start : ℕ) (files : List Shown) → low ≤ start → AllByRecursion (λ frame. low ≤ frame.start) (frames_from start files)
+starts_above low start [] above = tt
+starts_above low start (file ∷ files) above =
+    (above, starts_above low (start + length (tokens_of file.text)) files (omega (arith, above)))
 
--- no more than there are places
-hits_few : (region : Region) (stands : List ℕ → ℕ → Bool) (n : ℕ) → length (hits region stands n) ≤ n
-hits_few region stands n =
-    let listed = hits_listed region stands n in
-    let xs = hits region stands n in
-    let few = few_ascend 0 n xs listed.ascending (all_from (λ x. 0 ≤ x.start) xs (λ x has. omega arith))
-    (all_from (λ x. x.start < n) xs (λ x has. let sound = (listed.sound x has).0 in omega (arith, sound.ordered, sound.within)))
-    (omega arith) in
-    omega (arith, few)
+-- the frames of a scan lie apart
+frames_apart : (start : ℕ) (files : List Shown) → AreApart (frames_from start files)
+frames_apart start [] = tt
+frames_apart start (file ∷ files) =
+    let next = start + length (tokens_of file.text) in (starts_above next next files (omega arith), frames_apart next files)
 
-frames_few : (region : Region) (lists : List TermList) (start : ℕ) (files : List Shown)
-    → length (frames_hits region lists (frames_from start files)) ≤ length (tokens_in files)
-frames_few region lists start [] = omega arith
-frames_few region lists start (file ∷ files) =
-    let frame : Range = record { start = start; len = length (tokens_of file.text) } in
-    let here = frame_hits region lists frame in
-    let behind = frames_from (start + length (tokens_of file.text)) files in
-    omega (
-      arith,
-      length-append here (frames_hits region lists behind),
-      length-map (hits region (stands_by lists start) (length (tokens_of file.text))) (moved start),
-      hits_few region (stands_by lists start) (length (tokens_of file.text)),
-      frames_few region lists (start + length (tokens_of file.text)) files,
-      length-append (tokens_of file.text) (tokens_in files),
-    )
-
--- a scan's frames have no more extents than addresses
+-- and have no more extents than there are addresses
 pub scan_few : (region : Region) (files : List Shown) (terms : List (List ℕ)) (frames : List Range) (lists : List TermList)
     → IsScan files terms frames lists → length (frames_hits region lists frames) ≤ 2 ^ 47
 scan_few region files terms frames lists scan =
-    let few = subst (λ fs. length (frames_hits region lists fs) ≤ length (tokens_in files)) (sym scan.by_file)
-    (frames_few region lists 0 files) in
-    omega (arith, few, scan.within)
+    let all = frames_from 0 files in
+    subst (λ fs. length (frames_hits region lists fs) ≤ 2 ^ 47) (sym scan.by_file)
+    (frames_few region lists all all (IsPermutation-refl all) (frames_apart 0 files) (frames_within 0 files (omega (arith, scan.within))))
 
 -- ---- the counts
 
@@ -118,8 +89,8 @@ scan_counted region files terms frames lists hits found scan are hits_is found_i
     ∙ length-flat_map (λ place. token_hits region (tokens_at files place)) places ∙ sums_by_place long files 0 files first
     ∙ sym (length-flat_map (hits_in region) files))
     (found_is
-    ∙ ap₂ (λ (ls : List TermList) (fs : List Range). count_by (λ frame. nat_lt 0 (length (frame_hits region ls frame))) fs) scan.by_term by_place
-    ∙ is.files ∙ sums_by_place some files 0 files first)
+    ∙ ap₂ (λ (ls : List TermList) (fs : List Range). count_by (λ frame. nat_lt 0 (length (frame_hits region ls frame))) fs)
+    scan.by_term by_place ∙ is.files ∙ sums_by_place some files 0 files first)
 
 -- the next frame's extents
 pub hits-more : (region : Region) (lists : List TermList) (frames : List Range) (i : ℕ) (d : Range) → i < length frames

@@ -1,7 +1,8 @@
 -- A ranking by addresses is the ranking by what the files' texts hold.
-use Rattle.std.proofs.Common.{◌≡◌, ℕ, zero, suc, ◌+◌, ◌-◌, ◌≤◌, ◌<◌, ◌^◌, List, [], ◌∷◌, ◌++◌, length, take, map, refl, sym, ap, ap₂, ◌∙◌, subst, arith, add-one, length-append}
+use Rattle.std.proofs.Common.{◌≡◌, ℕ, zero, suc, ◌+◌, ◌≤◌, ◌<◌, ◌^◌, List, [], ◌∷◌, ◌++◌, length, take, map, refl, sym, ap, ap₂, ◌∙◌, subst, arith, add-one}
 use Rattle.std.proofs.lemmas.List.{length-map}
 use Rattle.std.proofs.lemmas.List.Elements.{All-from_recursion}
+use Rattle.std.proofs.lemmas.List.Folds.{flat_map-map}
 use Rattle.std.proofs.lemmas.List.Sorted.{IsPermutation-refl}
 use Rattle.std.specs.Prelude.{All}
 use Rattle.std.specs.List.{range_with_len, AllByRecursion}
@@ -15,7 +16,7 @@ use Rattle.wu_rank.specs.declared.results.Unit.{Unit as RankedUnit}
 use Rattle.wu_rank.specs.declared.results.Ranked.{Ranked}
 use Rattle.wu_rank.specs.Scores.{length_of, count_at}
 use Rattle.wu_rank.specs.Order.{listed}
-use Rattle.wu_rank.proofs.Shifting.{shifted, shifted_ranked}
+use Rattle.wu_rank.proofs.Shifting.{shifted_ranked}
 use Rattle.wu_solve.specs.Solving.{frame_hits, frames_hits}
 use Rattle.wu_token.proofs.LengthLemmas.{length-tokens_of}
 use Rattle.wu_view.specs.declared.Seen.{Seen}
@@ -24,26 +25,22 @@ use Rattle.wumpus_run.specs.States.{Texts, AreShort, text_in}
 use Rattle.wumpus_run.specs.Hits.{hits_in}
 use Rattle.wumpus_run.specs.Scans.{tokens_in, frames_from, list_among, IsScan}
 use Rattle.wumpus_run.specs.Rankings.{unit_at, units_from, units_of, tokens_at, frequency_in, ranking_of}
-use Rattle.wumpus_run.specs.Units.{AreTermsWith, units_in, start_at, in_its_file, list_in}
+use Rattle.wumpus_run.specs.Units.{AreTermsWith, units_in, in_its_file, list_in}
 use Rattle.wumpus_run.proofs.CountLemmas.{scan_few}
 use Rattle.wumpus_run.proofs.FramesOfFiles.{list_at, lists_ascend}
-use Rattle.wumpus_run.proofs.UnitsOfFrames.{units_at, start_of, IsUnitIn, units_shifted, units_inside, frames_ranked}
-use Rattle.wumpus_run.proofs.ScannedFrames.{frame_at, scanned, all_places, scan_framed, length-frames_from, tokens_behind}
+use Rattle.wumpus_run.proofs.UnitsOfFrames.{units_in_frames, units_in_files, start_of, units_fit, length-units_at, frames_ranked, shifted_back}
+use Rattle.wumpus_run.proofs.ScannedFrames.{frame_at, scanned, all_places, scan_framed, length-frames_from, frames_by_place, tokens_after}
 use Rattle.wumpus_run.proofs.UnitLemmas.{words_found}
 
 -- where the file at each place of the view starts
 abbrev starts_in : List Shown → ℕ → ℕ
 starts_in files = start_of (frame_at (frames_from 0 files))
 
--- the extents of the files, by their places
-abbrev hits_at : Region → List Shown → ℕ → List Extent
-hits_at region files place = token_hits region (tokens_at files place)
-
 -- ---- the units by place
 
 units_in-places : (region : Region) (lists : List TermList) (all : List Range) (first : ℕ) (frames : List Range)
     → ((i : ℕ) → frame_at all (first + i) ≡ frame_at frames i)
-    → units_in first region lists frames ≡ units_at (λ place. frame_hits region lists (frame_at all place)) (range_with_len first (length frames))
+    → units_in first region lists frames ≡ units_in_frames region lists (frame_at all) (range_with_len first (length frames))
 units_in-places region lists all first [] same = refl
 units_in-places region lists all first (frame ∷ frames) same =
     let zeroth : first ≡ first + 0 = omega arith in
@@ -55,7 +52,7 @@ units_in-places region lists all first (frame ∷ frames) same =
 
 units_from-places : (region : Region) (view : List Shown) (first : ℕ) (files : List Shown)
     → ((i : ℕ) → tokens_at view (first + i) ≡ tokens_at files i)
-    → units_from first region files ≡ units_at (hits_at region view) (range_with_len first (length files))
+    → units_from first region files ≡ units_in_files region (tokens_at view) (range_with_len first (length files))
 unfolding hits_in
 units_from-places region view first [] same = refl
 units_from-places region view first (file ∷ files) same =
@@ -64,41 +61,11 @@ units_from-places region view first (file ∷ files) same =
     (ap (λ (ts : List (List ℕ)). map (unit_at first) (token_hits region ts)) (sym (ap (tokens_at view) zeroth ∙ same 0)))
     (ap (λ (n : ℕ). units_from n region files) (sym (add-one first))
     ∙ units_from-places region view (first + 1) files
-    (λ i. let e : (first + 1) + i ≡ first + suc i = omega arith in ap (tokens_at view) e ∙ same (suc i) ∙ tokens_behind file files i))
+    (λ i. let e : (first + 1) + i ≡ first + suc i = omega arith in ap (tokens_at view) e ∙ same (suc i) ∙ tokens_after file files i))
 
-units_of-places : (region : Region) (view : List Shown) → units_of region view ≡ units_at (hits_at region view) (all_places view)
+units_of-places : (region : Region) (view : List Shown) → units_of region view ≡ units_in_files region (tokens_at view) (all_places view)
 unfolding units_of
 units_of-places region view = units_from-places region view 0 view (λ i. let e : 0 + i ≡ i = omega arith in ap (tokens_at view) e)
-
-length-units_in : (place : ℕ) (region : Region) (lists : List TermList) (frames : List Range)
-    → length (units_in place region lists frames) ≡ length (frames_hits region lists frames)
-length-units_in place region lists [] = refl
-length-units_in place region lists (frame ∷ frames) =
-    let here = frame_hits region lists frame in
-    omega (
-      arith,
-      length-append (map (unit_at place) here) (units_in (suc place) region lists frames),
-      length-map here
-          (unit_at place),
-      length-units_in (suc place) region lists frames,
-      length-append here (frames_hits region lists frames),
-    )
-
--- ---- back to the files
-
-abbrev ranked_of : ℕ → ℕ → ℕ → ℕ → Ranked
-ranked_of points place first last = record { score = points; unit = record { extent = record { start = first; end = last }; place = place } }
-
-file_again : (frames : List Range) (r : Ranked) → in_its_file frames (shifted_ranked (start_at frames) r) ≡ r
-file_again frames r =
-    let s = start_at frames r.unit.place in
-    let first : (s + r.unit.extent.start) - s ≡ r.unit.extent.start = omega arith in
-    let last : (s + r.unit.extent.end) - s ≡ r.unit.extent.end = omega arith in
-    ap₂ (λ (m n : ℕ). ranked_of r.score r.unit.place m n) first last
-
-files_again : (frames : List Range) (rs : List Ranked) → map (in_its_file frames) (map (shifted_ranked (start_at frames)) rs) ≡ rs
-files_again frames [] = refl
-files_again frames (r ∷ rs) = ap₂ (λ (x : Ranked) (xs : List Ranked). x ∷ xs) (file_again frames r) (files_again frames rs)
 
 -- ---- what the ranker asks for
 
@@ -106,33 +73,8 @@ text_short : (texts : Texts) (view : List Seen) (place : ℕ) → AreShort texts
 text_short texts [] place short = omega arith
 text_short texts (seen ∷ view) zero short = omega (arith, length-tokens_of (text_in texts seen.ino), short seen.ino)
 text_short texts (seen ∷ view) (suc place) short =
-    let behind = tokens_behind (shown_of texts seen) (map (shown_of texts) view) place in
-    subst (λ (ts : List (List ℕ)). length ts < 2 ^ 26) (sym behind) (text_short texts view place short)
-
-fits_all : (texts : Texts) (view : List Seen) (addresses : List ℕ → List ℕ) (frame : ℕ → Range) (units : List RankedUnit) → AreShort texts
-    → AllByRecursion (IsUnitIn addresses (tokens_at (map (shown_of texts) view)) frame) units
-    → AllByRecursion (λ unit. 1 ≤ length_of unit.extent) (map (shifted (start_of frame)) units)
-    × AllByRecursion (λ unit. length_of unit.extent < 2 ^ 26) (map (shifted (start_of frame)) units)
-fits_all texts view addresses frame [] short are = (tt, tt)
-fits_all texts view addresses frame (unit ∷ units) short are =
-    let more = fits_all texts view addresses frame units short are.1 in
-    let ordered : unit.extent.start ≤ unit.extent.end = are.0.inside.ordered in
-    let within : unit.extent.end < length (tokens_at (map (shown_of texts) view) unit.place) = are.0.inside.within in
-    let few = text_short texts view unit.place short in
-    ((omega arith, more.0), (omega arith, more.1))
-
--- the units at addresses fit what the ranker asks for
-units_fit : (texts : Texts) (view : List Seen) (region : Region) → AreShort texts
-    → AllByRecursion (λ unit. 1 ≤ length_of unit.extent)
-    (map (shifted (starts_in (map (shown_of texts) view))) (units_of region (map (shown_of texts) view)))
-    × AllByRecursion (λ unit. length_of unit.extent < 2 ^ 26)
-    (map (shifted (starts_in (map (shown_of texts) view))) (units_of region (map (shown_of texts) view)))
-units_fit texts view region short =
-    let files = map (shown_of texts) view in
-    let frame = frame_at (frames_from 0 files) in
-    let inside = units_inside region (scanned files) (tokens_at files) frame (all_places files) (scan_framed files).each in
-    fits_all texts view (scanned files) frame (units_of region files) short
-    (subst (AllByRecursion (IsUnitIn (scanned files) (tokens_at files) frame)) (sym (units_of-places region files)) inside)
+    let same = tokens_after (shown_of texts seen) (map (shown_of texts) view) place in
+    subst (λ (ts : List (List ℕ)). length ts < 2 ^ 26) (sym same) (text_short texts view place short)
 
 -- ---- over a scan
 
@@ -150,7 +92,7 @@ pub gathered : (files : List Shown) (region : Region) (words terms : List (List 
     → AreTermsWith region words terms → IsScan files terms frames lists → lent_frames ≡ frames → lent ≡ lists → lent_again ≡ lists
     → units ≡ units_in 0 region lent lent_frames → found ≡ map (list_in lent_again) words
     → IsGathered files region words terms frames lists units found
-gathered files region words terms frames lists units found lent_frames lent lent_again wanted scan same_frames same_lists same_again by_frame by_word = record {
+gathered files region words terms frames lists units found _ _ _ wanted scan same_frames same_lists same_again by_frame by_word = record {
   wanted = wanted;
   scan = scan;
   by_frame = by_frame ∙ ap₂ (λ (ls : List TermList) (fs : List Range). units_in 0 region ls fs) same_lists same_frames;
@@ -160,22 +102,26 @@ gathered files region words terms frames lists units found lent_frames lent lent
 -- the units of a scan are those of its frames, by place
 units_scanned : (files : List Shown) (region : Region) (words terms : List (List ℕ)) (frames : List Range) (lists : List TermList)
     (units : List RankedUnit) (found : List TermList) → IsGathered files region words terms frames lists units found
-    → units ≡ units_at (λ place. frame_hits region (map (list_at (scanned files)) terms) (frame_at (frames_from 0 files) place)) (all_places files)
+    → units ≡ units_in_frames region (map (list_at (scanned files)) terms) (frame_at (frames_from 0 files)) (all_places files)
 units_scanned files region words terms frames lists units found is =
     let all = frames_from 0 files in
     is.by_frame ∙ ap₂ (λ (ls : List TermList) (fs : List Range). units_in 0 region ls fs) is.scan.by_term is.scan.by_file
     ∙ units_in-places region (map (list_at (scanned files)) terms) all 0 all (λ i. let e : 0 + i ≡ i = omega arith in ap (frame_at all) e)
-    ∙ ap (λ (n : ℕ). units_at (λ place. frame_hits region (map (list_at (scanned files)) terms) (frame_at all place)) (range_with_len 0 n))
+    ∙ ap (λ (n : ℕ). units_in_frames region (map (list_at (scanned files)) terms) (frame_at all) (range_with_len 0 n))
     (length-frames_from 0 files)
 
-scan_units : (files : List Shown) (region : Region) (words terms : List (List ℕ)) (frames : List Range) (lists : List TermList)
-    (units : List RankedUnit) (found : List TermList) → IsGathered files region words terms frames lists units found
-    → units ≡ map (shifted (starts_in files)) (units_of region files)
-scan_units files region words terms frames lists units found is =
-    units_scanned files region words terms frames lists units found is
-    ∙ units_shifted region (scanned files) terms (tokens_at files) (frame_at (frames_from 0 files)) (all_places files) is.wanted.of_region
-    (scan_framed files).each
-    ∙ ap (map (shifted (starts_in files))) (sym (units_of-places region files))
+-- no unit is empty, and none is too long
+scan_fits : (texts : Texts) (view : List Seen) (region : Region) (words terms : List (List ℕ)) (frames : List Range)
+    (lists : List TermList) (units : List RankedUnit) (found : List TermList) → AreShort texts
+    → IsGathered (map (shown_of texts) view) region words terms frames lists units found
+    → AllByRecursion (λ unit. 1 ≤ length_of unit.extent) units × AllByRecursion (λ unit. length_of unit.extent < 2 ^ 26) units
+scan_fits texts view region words terms frames lists units found short is =
+    let files = map (shown_of texts) view in
+    subst (λ (us : List RankedUnit). AllByRecursion (λ unit. 1 ≤ length_of unit.extent) us
+    × AllByRecursion (λ unit. length_of unit.extent < 2 ^ 26) us)
+    (sym (units_scanned files region words terms frames lists units found is))
+    (units_fit region (scanned files) terms (tokens_at files) (frame_at (frames_from 0 files)) (all_places files) (2 ^ 26)
+    is.wanted.of_region (scan_framed files).each (λ place. text_short texts view place short))
 
 scan_words : (files : List Shown) (region : Region) (words terms : List (List ℕ)) (frames : List Range) (lists : List TermList)
     (units : List RankedUnit) (found : List TermList) → IsGathered files region words terms frames lists units found
@@ -222,18 +168,15 @@ scan_top files region words terms frames lists units found k top back is top_is 
     top_is ∙ ap (take k) (scan_ranking files region words terms frames lists units found is)
     ∙ map-taken (shifted_ranked (starts_in files)) k ranking in
     back_is ∙ ap₂ (λ (fs : List Range) (rs : List Ranked). map (in_its_file fs) rs) is.scan.by_file first
-    ∙ files_again (frames_from 0 files) (take k ranking)
+    ∙ shifted_back (starts_in files) (take k ranking)
 
 -- no unit is empty
 pub scan_some : (texts : Texts) (view : List Seen) (region : Region) (words terms : List (List ℕ)) (frames : List Range)
     (lists : List TermList) (units : List RankedUnit) (found : List TermList) → AreShort texts
     → IsGathered (map (shown_of texts) view) region words terms frames lists units found → All (λ unit. 1 ≤ length_of unit.extent) units
 scan_some texts view region words terms frames lists units found short is =
-    let files = map (shown_of texts) view in
-    let fit = units_fit texts view region short in
-    subst (All (λ (unit : RankedUnit). 1 ≤ length_of unit.extent)) (sym (scan_units files region words terms frames lists units found is))
-    (All-from_recursion (λ (unit : RankedUnit). 1 ≤ length_of unit.extent)
-    (map (shifted (starts_in files)) (units_of region files)) fit.0)
+    All-from_recursion (λ (unit : RankedUnit). 1 ≤ length_of unit.extent) units
+    (scan_fits texts view region words terms frames lists units found short is).0
 
 -- and none too long
 pub scan_short : (texts : Texts) (view : List Seen) (region : Region) (words terms : List (List ℕ)) (frames : List Range)
@@ -241,17 +184,25 @@ pub scan_short : (texts : Texts) (view : List Seen) (region : Region) (words ter
     → IsGathered (map (shown_of texts) view) region words terms frames lists units found
     → All (λ unit. length_of unit.extent < 2 ^ 26) units
 scan_short texts view region words terms frames lists units found short is =
-    let files = map (shown_of texts) view in
-    let fit = units_fit texts view region short in
-    subst (All (λ (unit : RankedUnit). length_of unit.extent < 2 ^ 26))
-    (sym (scan_units files region words terms frames lists units found is))
-    (All-from_recursion (λ (unit : RankedUnit). length_of unit.extent < 2 ^ 26)
-    (map (shifted (starts_in files)) (units_of region files)) fit.1)
+    All-from_recursion (λ (unit : RankedUnit). length_of unit.extent < 2 ^ 26) units
+    (scan_fits texts view region words terms frames lists units found short is).1
 
 pub scan_few_units : (files : List Shown) (region : Region) (words terms : List (List ℕ)) (frames : List Range) (lists : List TermList)
     (units : List RankedUnit) (found : List TermList) → IsGathered files region words terms frames lists units found → length units ≤ 2 ^ 47
 scan_few_units files region words terms frames lists units found is =
-    omega (arith, ap length is.by_frame, length-units_in 0 region lists frames, scan_few region files terms frames lists is.scan)
+    let frame = frame_at (frames_from 0 files) in
+    let places = all_places files in
+    let made = map (list_at (scanned files)) terms in
+    let hits : ℕ → List Extent = λ place. frame_hits region made (frame place) in
+    omega (
+      arith,
+      ap length (units_scanned files region words terms frames lists units found is),
+      length-units_at hits places,
+      ap length (flat_map-map (frame_hits region made) frame places),
+      ap (λ (fs : List Range). length (frames_hits region made fs)) (sym (frames_by_place files)),
+      ap₂ (λ (ls : List TermList) (fs : List Range). length (frames_hits region ls fs)) is.scan.by_term is.scan.by_file,
+      scan_few region files terms frames lists is.scan,
+    )
 
 -- the words' lists ascend
 pub scan_ascends : (files : List Shown) (region : Region) (words terms : List (List ℕ)) (frames : List Range) (lists : List TermList)

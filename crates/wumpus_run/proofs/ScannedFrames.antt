@@ -79,21 +79,21 @@ places_increase n term (token ∷ tokens) =
 
 -- ---- the frame at a place
 
-behind_front : (front tokens : List (List ℕ)) (term : List ℕ) (i : ℕ)
+after_prefix : (front tokens : List (List ℕ)) (term : List ℕ) (i : ℕ)
     → is_token_at (front ++ tokens) term (length front + i) ≡ is_token_at tokens term i
-behind_front [] tokens term i = let same : 0 + i ≡ i = omega arith in ap (is_token_at tokens term) same
-behind_front (token ∷ front) tokens term i =
+after_prefix [] tokens term i = let same : 0 + i ≡ i = omega arith in ap (is_token_at tokens term) same
+after_prefix (token ∷ front) tokens term i =
     let same : length (token ∷ front) + i ≡ suc (length front + i) = omega arith in
-    ap (is_token_at (token ∷ (front ++ tokens)) term) same ∙ behind_front front tokens term i
+    ap (is_token_at (token ∷ (front ++ tokens)) term) same ∙ after_prefix front tokens term i
 
-before_back : (tokens back : List (List ℕ)) (term : List ℕ) (i : ℕ) → i < length tokens
+before_suffix : (tokens back : List (List ℕ)) (term : List ℕ) (i : ℕ) → i < length tokens
     → is_token_at (tokens ++ back) term i ≡ is_token_at tokens term i
-before_back [] back term i within = absurd (omega arith)
-before_back (token ∷ tokens) back term zero within = refl
-before_back (token ∷ tokens) back term (suc i) within = before_back tokens back term i (omega arith)
+before_suffix [] back term i within = absurd (omega arith)
+before_suffix (token ∷ tokens) back term zero within = refl
+before_suffix (token ∷ tokens) back term (suc i) within = before_suffix tokens back term i (omega arith)
 
-pub tokens_behind : (file : Shown) (files : List Shown) (place : ℕ) → tokens_at (file ∷ files) (suc place) ≡ tokens_at files place
-tokens_behind file files place =
+pub tokens_after : (file : Shown) (files : List Shown) (place : ℕ) → tokens_at (file ∷ files) (suc place) ≡ tokens_at files place
+tokens_after file files place =
     let less : suc place - 1 ≡ place = omega arith in
     ap (λ (b : Bool). cond b (tokens_of file.text) (tokens_at files (suc place - 1))) (eqb-suc-zero place) ∙ ap (tokens_at files) less
 
@@ -117,9 +117,9 @@ cut_at (file ∷ files) start (suc place) within =
       rest.1,
       record {
         whole = ap (λ (ts : List (List ℕ)). tokens ++ ts) rest.2.whole ∙ sym (append_assoc tokens rest.0 (tokens_at files place ++ rest.1))
-            ∙ ap (λ (ts : List (List ℕ)). (tokens ++ rest.0) ++ (ts ++ rest.1)) (sym (tokens_behind file files place));
+            ∙ ap (λ (ts : List (List ℕ)). (tokens ++ rest.0) ++ (ts ++ rest.1)) (sym (tokens_after file files place));
         starts = omega (arith, rest.2.starts, length-append tokens rest.0);
-        long = rest.2.long ∙ ap length (sym (tokens_behind file files place));
+        long = rest.2.long ∙ ap length (sym (tokens_after file files place));
       },
     )
 
@@ -131,8 +131,10 @@ scanned files term = places_from 0 term (tokens_in files)
 abbrev pub all_places : List Shown → List ℕ
 all_places files = range_with_len 0 (length files)
 
-framed_at : (files : List Shown) (place : ℕ) → place < length files
-    → IsFrameOf (scanned files) (tokens_at files place) (frame_at (frames_from 0 files) place)
+abbrev IsFramed : List Shown → ℕ → Type 0
+IsFramed files place = IsFrameOf (scanned files) (tokens_at files place) (frame_at (frames_from 0 files) place)
+
+framed_at : (files : List Shown) (place : ℕ) → place < length files → IsFramed files place
 framed_at files place within =
     let cut = cut_at files 0 place within in
     let front = cut.0 in
@@ -143,7 +145,7 @@ framed_at files place within =
           (let same : (frame_at (frames_from 0 files) place).start + i ≡ 0 + (length front + i) = omega (arith, cut.2.starts) in
           ap (is_among (scanned files term)) same ∙ among_places 0 term (tokens_in files) (length front + i)
           ∙ ap (λ (ts : List (List ℕ)). is_token_at ts term (length front + i)) cut.2.whole
-          ∙ behind_front front (tokens ++ cut.1) term i ∙ before_back tokens cut.1 term i fits);
+          ∙ after_prefix front (tokens ++ cut.1) term i ∙ before_suffix tokens cut.1 term i fits);
     }
 
 each_in_range : (P : ℕ → Type 0) (first n : ℕ) → ((i : ℕ) → i < n → P (first + i)) → AllByRecursion P (range_with_len first n)
@@ -158,9 +160,8 @@ each_in_range P first (suc n) holds =
 pub scan_framed : (files : List Shown)
     → FramesOf (scanned files) (tokens_at files) (frame_at (frames_from 0 files)) (all_places files)
 scan_framed files = record {
-  each = each_in_range (λ place. IsFrameOf (scanned files) (tokens_at files place) (frame_at (frames_from 0 files) place)) 0 (length files)
-      (λ i within. let same : i ≡ 0 + i = omega arith in
-      subst (λ place. IsFrameOf (scanned files) (tokens_at files place) (frame_at (frames_from 0 files) place)) same (framed_at files i within));
+  each = each_in_range (IsFramed files) 0 (length files)
+      (λ i within. let same : i ≡ 0 + i = omega arith in subst (IsFramed files) same (framed_at files i within));
   ascending = λ term. places_increase 0 term (tokens_in files);
 }
 
@@ -172,8 +173,8 @@ length-frames_from start (file ∷ files) = ap suc (length-frames_from (start + 
 
 -- the frames of a scan, by their places
 pub frames_by_place : (files : List Shown) → frames_from 0 files ≡ map (frame_at (frames_from 0 files)) (all_places files)
-frames_by_place files = fill_by_all (frame_at (frames_from 0 files)) (frames_from 0 files) (length files) no_frame (length-frames_from 0 files)
-    (λ k within. refl)
+frames_by_place files =
+    let all = frames_from 0 files in fill_by_all (frame_at all) all (length files) no_frame (length-frames_from 0 files) (λ k within. refl)
 
 -- a sum over the tokens of files is that over the places that they have in a view
 pub sums_by_place : (f : List (List ℕ) → ℕ) (view : List Shown) (first : ℕ) (files : List Shown)
@@ -185,5 +186,5 @@ sums_by_place f view first (file ∷ files) same =
     sum_by-cons (λ place. f (tokens_at view place)) first (range_with_len (first + 1) (length files))
     ∙ ap₂ (λ (m n : ℕ). m + n) (ap f (ap (tokens_at view) zeroth ∙ same 0))
     (sums_by_place f view (first + 1) files
-    (λ i. let e : (first + 1) + i ≡ first + suc i = omega arith in ap (tokens_at view) e ∙ same (suc i) ∙ tokens_behind file files i))
+    (λ i. let e : (first + 1) + i ≡ first + suc i = omega arith in ap (tokens_at view) e ∙ same (suc i) ∙ tokens_after file files i))
     ∙ sym (sum_by-cons (λ (f' : Shown). f (tokens_of f'.text)) file files)

@@ -1,8 +1,8 @@
 -- The units of a query in frames of files, at any addresses and in any order: how often a word is in one, and their ranking.
-use Rattle.std.proofs.Common.{◌≡◌, ℕ, zero, suc, ◌+◌, ◌≤◌, ◌<◌, Bool, true, false, cond, ◌||◌, List, [], ◌∷◌, ◌++◌, length, take, drop, get_or, map, refl, sym, ap, ap₂, ◌∙◌, subst, arith, append_assoc, length-drop, eqb}
+use Rattle.std.proofs.Common.{◌≡◌, ℕ, zero, suc, ◌+◌, ◌-◌, ◌≤◌, ◌<◌, Bool, true, false, cond, ◌||◌, List, [], ◌∷◌, ◌++◌, length, take, drop, get_or, map, refl, sym, ap, ap₂, ◌∙◌, subst, arith, append_assoc, length-append, length-drop, eqb}
 use Rattle.std.proofs.lemmas.Bool.Decides.{nat_tests}
 use Rattle.std.proofs.lemmas.Grind.{flat_map-append}
-use Rattle.std.proofs.lemmas.List.{map-append}
+use Rattle.std.proofs.lemmas.List.{length-map, map-append}
 use Rattle.std.proofs.lemmas.List.Sorted.{IsPermutation-refl, IsPermutation-trans, IsPermutation-append_left, IsPermutation-append_right, IsPermutation-append_comm, sum_by-IsPermutation}
 use Rattle.std.proofs.lemmas.List.Sums.{sum_by-cons, sum_by-append}
 use Rattle.std.specs.Prelude.{nat_eq, count_by}
@@ -11,9 +11,11 @@ use Rattle.std.specs.List.Sorted.{IsStrictlyIncreasing, IsPermutation}
 use Rattle.std.specs.Cmp.Lexicographic.{pointwise, nat_list_eq_equiv}
 use Rattle.wu_base.specs.declared.addresses.Extent.{Extent}
 use Rattle.wu_base.specs.declared.addresses.Range.{Range}
+use Rattle.wu_base.specs.declared.addresses.TermList.{TermList}
 use Rattle.wu_gcl.specs.Extents.{is_token_at, token_hits}
 use Rattle.wu_gcl.specs.Regions.{Region}
 use Rattle.wu_rank.specs.declared.results.Unit.{Unit as RankedUnit}
+use Rattle.wu_rank.specs.declared.results.Ranked.{Ranked}
 use Rattle.wu_rank.specs.Scores.{length_of, lies_in, frequency, count_at}
 use Rattle.wu_rank.specs.Order.{listed}
 use Rattle.wu_rank.proofs.Shifting.{Agrees, shifted, shifted_ranked, listed_shifted}
@@ -24,7 +26,7 @@ use Rattle.wu_solve.specs.Solving.{moved, frame_hits}
 use Rattle.wu_solve.proofs.Numbers.{increasing_rest}
 use Rattle.wu_solve.proofs.Results.{hits_in as inside_text}
 use Rattle.wu_solve.proofs.Sets.{all_from}
-use Rattle.wumpus_run.proofs.FramesOfFiles.{list_at, IsFrameOf, FramesOf, HasTerms, frame_of_file}
+use Rattle.wumpus_run.proofs.FramesOfFiles.{list_at, IsFrameOf, FramesOf, HasTerms, frame_of_file, count_by-cons}
 
 abbrev pub unit_of : ℕ → Extent → RankedUnit
 unit_of place extent = record { extent = extent; place = place }
@@ -32,6 +34,12 @@ unit_of place extent = record { extent = extent; place = place }
 -- the units of the files with these places, where a function tells each file's extents
 abbrev pub units_at : (ℕ → List Extent) → List ℕ → List RankedUnit
 units_at extents places = flat_map (λ place. map (unit_of place) (extents place)) places
+
+abbrev pub units_in_frames : Region → List TermList → (ℕ → Range) → List ℕ → List RankedUnit
+units_in_frames region lists frame places = units_at (λ place. frame_hits region lists (frame place)) places
+
+abbrev pub units_in_files : Region → (ℕ → List (List ℕ)) → List ℕ → List RankedUnit
+units_in_files region tokens places = units_at (λ place. token_hits region (tokens place)) places
 
 -- how often the word is in the unit, where a function tells each file's tokens
 abbrev pub frequency_at : (ℕ → List (List ℕ)) → List ℕ → RankedUnit → ℕ
@@ -50,8 +58,8 @@ moved_units start place (x ∷ xs) = ap (λ (us : List RankedUnit). shifted star
 
 pub units_shifted : (region : Region) (addresses : List ℕ → List ℕ) (terms : List (List ℕ)) (tokens : ℕ → List (List ℕ)) (frame : ℕ → Range)
     (places : List ℕ) → HasTerms region terms → AllByRecursion (λ place. IsFrameOf addresses (tokens place) (frame place)) places
-    → units_at (λ place. frame_hits region (map (list_at addresses) terms) (frame place)) places
-    ≡ map (shifted (start_of frame)) (units_at (λ place. token_hits region (tokens place)) places)
+    → units_in_frames region (map (list_at addresses) terms) frame places
+    ≡ map (shifted (start_of frame)) (units_in_files region tokens places)
 units_shifted region addresses terms tokens frame [] all each = refl
 units_shifted region addresses terms tokens frame (place ∷ places) all each =
     let here = token_hits region (tokens place) in
@@ -59,7 +67,7 @@ units_shifted region addresses terms tokens frame (place ∷ places) all each =
     (ap (map (unit_of place)) (frame_of_file region addresses terms (tokens place) (frame place) all each.0)
     ∙ moved_units (start_of frame) place here)
     (units_shifted region addresses terms tokens frame places all each.1)
-    ∙ sym (map-append (shifted (start_of frame)) (map (unit_of place) here) (units_at (λ p. token_hits region (tokens p)) places))
+    ∙ sym (map-append (shifted (start_of frame)) (map (unit_of place) here) (units_in_files region tokens places))
 
 -- ---- a unit's file
 
@@ -81,14 +89,53 @@ placed_all addresses tokens frame place (x ∷ xs) framed inside =
 
 pub units_inside : (region : Region) (addresses : List ℕ → List ℕ) (tokens : ℕ → List (List ℕ)) (frame : ℕ → Range) (places : List ℕ)
     → AllByRecursion (λ place. IsFrameOf addresses (tokens place) (frame place)) places
-    → AllByRecursion (IsUnitIn addresses tokens frame) (units_at (λ place. token_hits region (tokens place)) places)
+    → AllByRecursion (IsUnitIn addresses tokens frame) (units_in_files region tokens places)
 units_inside region addresses tokens frame [] each = tt
 units_inside region addresses tokens frame (place ∷ places) each =
     let here = token_hits region (tokens place) in
-    both_all (IsUnitIn addresses tokens frame) (map (unit_of place) here) (units_at (λ p. token_hits region (tokens p)) places)
+    both_all (IsUnitIn addresses tokens frame) (map (unit_of place) here) (units_in_files region tokens places)
     (placed_all addresses tokens frame place here each.0
     (all_from (IsExtentIn (length (tokens place))) here (inside_text region (is_token_at (tokens place)) (length (tokens place)))))
     (units_inside region addresses tokens frame places each.1)
+
+fits_all : (addresses : List ℕ → List ℕ) (tokens : ℕ → List (List ℕ)) (frame : ℕ → Range) (bound : ℕ) (units : List RankedUnit)
+    → ((place : ℕ) → length (tokens place) < bound) → AllByRecursion (IsUnitIn addresses tokens frame) units
+    → AllByRecursion (λ unit. 1 ≤ length_of unit.extent) (map (shifted (start_of frame)) units)
+    × AllByRecursion (λ unit. length_of unit.extent < bound) (map (shifted (start_of frame)) units)
+fits_all addresses tokens frame bound [] short are = (tt, tt)
+fits_all addresses tokens frame bound (unit ∷ units) short are =
+    let more = fits_all addresses tokens frame bound units short are.1 in
+    let ordered : unit.extent.start ≤ unit.extent.end = are.0.inside.ordered in
+    let within : unit.extent.end < length (tokens unit.place) = are.0.inside.within in
+    let few = short unit.place in
+    ((omega arith, more.0), (omega arith, more.1))
+
+-- no unit is empty, and none is as long as a bound on the files' tokens
+pub units_fit : (region : Region) (addresses : List ℕ → List ℕ) (terms : List (List ℕ)) (tokens : ℕ → List (List ℕ)) (frame : ℕ → Range)
+    (places : List ℕ) (bound : ℕ) → HasTerms region terms
+    → AllByRecursion (λ place. IsFrameOf addresses (tokens place) (frame place)) places → ((place : ℕ) → length (tokens place) < bound)
+    → AllByRecursion (λ unit. 1 ≤ length_of unit.extent)
+    (units_in_frames region (map (list_at addresses) terms) frame places)
+    × AllByRecursion (λ unit. length_of unit.extent < bound)
+    (units_in_frames region (map (list_at addresses) terms) frame places)
+units_fit region addresses terms tokens frame places bound all each short =
+    subst (λ (us : List RankedUnit). AllByRecursion (λ unit. 1 ≤ length_of unit.extent) us
+    × AllByRecursion (λ unit. length_of unit.extent < bound) us)
+    (sym (units_shifted region addresses terms tokens frame places all each))
+    (fits_all addresses tokens frame bound (units_in_files region tokens places) short
+    (units_inside region addresses tokens frame places each))
+
+-- there are as many units as extents
+pub length-units_at : (extents : ℕ → List Extent) (places : List ℕ) → length (units_at extents places) ≡ length (flat_map extents places)
+length-units_at extents [] = refl
+length-units_at extents (place ∷ places) =
+    omega (
+      arith,
+      length-append (map (unit_of place) (extents place)) (units_at extents places),
+      length-map (extents place) (unit_of place),
+      length-units_at extents places,
+      length-append (extents place) (flat_map extents places),
+    )
 
 -- ---- how often a word is in a unit
 
@@ -101,9 +148,6 @@ climbs : (low : ℕ) (xs : List ℕ) → IsStrictlyIncreasing xs → (0 < length
 climbs low [] up from = tt
 climbs low (x ∷ xs) up from =
     (from (omega arith), climbs (suc x) xs (increasing_rest x xs up) (λ some. let next = up 0 (omega (arith, some)) in omega (arith, next)))
-
-count_by-cons : {X : Type 0} (p : X → Bool) (x : X) (xs : List X) → count_by p (x ∷ xs) ≡ cond (p x) 1 0 + count_by p xs
-count_by-cons p x xs = sum_by-cons (λ y. cond (p y) 1 0) x xs
 
 -- an address below all is none of them
 none_lower : (a low : ℕ) (xs : List ℕ) → Climbs low xs → a < low → (count_by (λ x. eqb x a) xs ≡ 0) × (is_among xs a ≡ false)
@@ -122,8 +166,11 @@ there_once a low [] up = refl
 there_once a low (x ∷ xs) up = count_by-cons (λ y. eqb y a) x xs ∙ by (eqb x a) refl (there_once a (suc x) xs up.1) where
   by : (b : Bool) → eqb x a ≡ b → count_by (λ y. eqb y a) xs ≡ cond (is_among xs a) 1 0
       → cond b 1 0 + count_by (λ y. eqb y a) xs ≡ cond (b || is_among xs a) 1 0
-  by true is rest = let behind = none_lower a (suc x) xs up.1 (grind (arith, nat_tests, is)) in omega (arith, behind.0)
+  by true is rest = let others = none_lower a (suc x) xs up.1 (grind (arith, nat_tests, is)) in omega (arith, others.0)
   by false is rest = let same : 0 + count_by (λ y. eqb y a) xs ≡ count_by (λ y. eqb y a) xs = omega arith in same ∙ rest
+
+once_if : (a : ℕ) (xs : List ℕ) (b : Bool) → Climbs 0 xs → is_among xs a ≡ b → count_by (λ x. eqb x a) xs ≡ cond b 1 0
+once_if a xs b up is = there_once a 0 xs up ∙ ap (λ (c : Bool). cond c 1 0) is
 
 abbrev from_to : ℕ → ℕ → Extent
 from_to a b = record { start = a; end = b }
@@ -166,7 +213,7 @@ counted_places xs word (suc k) a b (token ∷ tokens) up ends fits told =
     omega (
       arith,
       split_first a b xs (omega arith),
-      there_once a 0 xs up ∙ ap (λ (c : Bool). cond c 1 0) here,
+      once_if a xs (pointwise nat_eq word token) up here,
       rest,
       count_by-cons (pointwise nat_eq word) token (take k tokens),
     )
@@ -182,7 +229,8 @@ abbrev pub AgreesAt : (List ℕ → List ℕ) → (ℕ → List (List ℕ)) → 
 AgreesAt addresses tokens frame = Agrees count_at (frequency_at tokens) (start_of frame) (list_at addresses)
 
 pub unit_agrees : (addresses : List ℕ → List ℕ) (tokens : ℕ → List (List ℕ)) (frame : ℕ → Range) (unit : RankedUnit)
-    → ((term : List ℕ) → IsStrictlyIncreasing (addresses term)) → IsUnitIn addresses tokens frame unit → AgreesAt addresses tokens frame unit
+    → ((term : List ℕ) → IsStrictlyIncreasing (addresses term)) → IsUnitIn addresses tokens frame unit
+    → AgreesAt addresses tokens frame unit
 unfolding frequency
 unit_agrees addresses tokens frame unit up is = λ word.
     let xs = addresses word in
@@ -262,8 +310,8 @@ flat_map-IsPermutation f xs ys same = permuted f xs ys (λ g. sym (sum_by-IsPerm
 -- the ranking at addresses, of frames in any order, is that of the files' tokens, at addresses
 pub frames_ranked : (region : Region) (addresses : List ℕ → List ℕ) (terms words : List (List ℕ)) (tokens : ℕ → List (List ℕ))
     (frame : ℕ → Range) (places order : List ℕ) → HasTerms region terms → FramesOf addresses tokens frame order → IsPermutation places order
-    → listed count_at (units_at (λ place. frame_hits region (map (list_at addresses) terms) (frame place)) order) (map (list_at addresses) words)
-    ≡ map (shifted_ranked (start_of frame)) (listed (frequency_at tokens) (units_at (λ place. token_hits region (tokens place)) places) words)
+    → listed count_at (units_in_frames region (map (list_at addresses) terms) frame order) (map (list_at addresses) words)
+    ≡ map (shifted_ranked (start_of frame)) (listed (frequency_at tokens) (units_in_files region tokens places) words)
 frames_ranked region addresses terms words tokens frame places order all framed same =
     let extents : ℕ → List Extent = λ place. token_hits region (tokens place) in
     ap (λ (us : List RankedUnit). listed count_at us (map (list_at addresses) words))
@@ -274,3 +322,27 @@ frames_ranked region addresses terms words tokens frame places order all framed 
     ∙ ap (map (shifted_ranked (start_of frame)))
     (listed-IsPermutation (frequency_at tokens) (units_at extents places) (units_at extents order) words
     (flat_map-IsPermutation (λ place. map (unit_of place) (extents place)) places order same))
+
+-- ---- back to the files
+
+-- the unit, with its extent counted from its file's first token, where the file at each place starts at some address
+abbrev pub unshifted : (ℕ → ℕ) → Ranked → Ranked
+unshifted start r =
+    let from : ℕ = start r.unit.place in record {
+      score = r.score;
+      unit = record { extent = record { start = r.unit.extent.start - from; end = r.unit.extent.end - from }; place = r.unit.place };
+    }
+
+abbrev ranked_of : ℕ → ℕ → ℕ → ℕ → Ranked
+ranked_of points place first last = record { score = points; unit = unit_of place (from_to first last) }
+
+shifted_back_one : (start : ℕ → ℕ) (r : Ranked) → unshifted start (shifted_ranked start r) ≡ r
+shifted_back_one start r =
+    let s = start r.unit.place in
+    let first : (s + r.unit.extent.start) - s ≡ r.unit.extent.start = omega arith in
+    let last : (s + r.unit.extent.end) - s ≡ r.unit.extent.end = omega arith in
+    ap₂ (λ (m n : ℕ). ranked_of r.score r.unit.place m n) first last
+
+pub shifted_back : (start : ℕ → ℕ) (rs : List Ranked) → map (unshifted start) (map (shifted_ranked start) rs) ≡ rs
+shifted_back start [] = refl
+shifted_back start (r ∷ rs) = ap₂ (λ (x : Ranked) (xs : List Ranked). x ∷ xs) (shifted_back_one start r) (shifted_back start rs)
