@@ -1,5 +1,6 @@
 -- Lemmas on spelled blocks.
-use Rattle.std.proofs.Common.{◌≡◌, ℕ, suc, ◌+◌, ◌-◌, ◌<◌, ◌≤◌, List, [], ◌∷◌, ◌++◌, length, get_or, drop, Option, Some, None, refl, ap, sym, ◌∙◌, append_assoc, append-nil, length-append, ◌⊎◌, ⊎_elim, arith}
+use Rattle.std.proofs.Common.{◌≡◌, ℕ, suc, ◌+◌, ◌-◌, ◌<◌, ◌≤◌, List, [], ◌∷◌, ◌++◌, length, get_or, drop, Option, Some, None, refl, ap, sym}
+use Rattle.std.proofs.Common.{◌∙◌, append_assoc, append-nil, length-append, ◌⊎◌, ⊎_elim, arith}
 use Rattle.std.specs.Prelude.{slice_get}
 use Rattle.std.specs.List.{last_or}
 use Rattle.std.specs.List.Sorted.{IsStrictlyIncreasing}
@@ -10,7 +11,8 @@ use Rattle.wu_vbyte.proofs.NumberLemmas.{one_number, has_spelling, starts_not_em
 
 -- ---- what starts with a number
 
-pub starts_longer : (bytes : List ℕ) (n : ℕ) (rest more : List ℕ) → StartsWithNumber bytes n rest → StartsWithNumber (bytes ++ more) n (rest ++ more)
+pub starts_longer : (bytes : List ℕ) (n : ℕ) (rest more : List ℕ) → StartsWithNumber bytes n rest
+    → StartsWithNumber (bytes ++ more) n (rest ++ more)
 starts_longer bytes n rest more s = (s.0, s.1, rw s.2 (append_assoc s.0 rest more))
 
 code_longer : (n : ℕ) (code : List ℕ) → SpellsNumber n code → 1 ≤ length code
@@ -50,7 +52,8 @@ gaps_same before (a ∷ later) (b ∷ others) code s t =
     first_same a b later others same
     (gaps_same b later others t.1 (rw same at (rw one.1 at s.3)) t.3)
 
-pub block_same : (low : ℕ) (addresses others code : List ℕ) → SpellsBlock low addresses code → SpellsBlock low others code → addresses ≡ others
+pub block_same : (low : ℕ) (addresses others code : List ℕ) → SpellsBlock low addresses code → SpellsBlock low others code
+    → addresses ≡ others
 block_same low [] others code s t = absurd s
 block_same low (a ∷ later) [] code s t = absurd t
 block_same low (a ∷ later) (b ∷ others) code s t =
@@ -69,7 +72,8 @@ gaps_apart before [] (b ∷ others) code other rest left s t l e = absurd (omega
 gaps_apart before (a ∷ later) [] code other rest left s t l e = absurd (omega arith)
 gaps_apart before (a ∷ later) (b ∷ others) code other rest left s t l e =
     let longer = starts_longer other (b - before) t.1 left t.2 in
-    let one = one_number (code ++ rest) (a - before) (b - before) (s.1 ++ rest) (t.1 ++ left) (starts_longer code (a - before) s.1 rest s.2) (rw (sym e) at longer) in
+    let one = one_number (code ++ rest) (a - before) (b - before) (s.1 ++ rest) (t.1 ++ left)
+    (starts_longer code (a - before) s.1 rest s.2) (rw (sym e) at longer) in
     let distance = one.0 in
     let above = s.0 in
     let over = t.0 in
@@ -83,7 +87,8 @@ block_apart low [] others code other rest left s t l e = absurd s
 block_apart low (a ∷ later) [] code other rest left s t l e = absurd t
 block_apart low (a ∷ later) (b ∷ others) code other rest left s t l e =
     let longer = starts_longer other (b - low) t.1 left t.2 in
-    let one = one_number (code ++ rest) (a - low) (b - low) (s.1 ++ rest) (t.1 ++ left) (starts_longer code (a - low) s.1 rest s.2) (rw (sym e) at longer) in
+    let one = one_number (code ++ rest) (a - low) (b - low) (s.1 ++ rest) (t.1 ++ left)
+    (starts_longer code (a - low) s.1 rest s.2) (rw (sym e) at longer) in
     let distance = one.0 in
     let above = s.0 in
     let over = t.0 in
@@ -136,23 +141,27 @@ completes_next old low addresses out new before a d later c above e s = record {
   begun = (c.begun.0 ++ s.0, rw (s.2, c.begun.1) (append_assoc old c.begun.0 s.0));
 }
 
-pub completes_all : (old : List ℕ) (low : ℕ) (addresses out : List ℕ) (before : ℕ) → Completes old low addresses out before [] → AppendsBlock old low addresses out
+pub completes_all : (old : List ℕ) (low : ℕ) (addresses out : List ℕ) (before : ℕ) → Completes old low addresses out before []
+    → AppendsBlock old low addresses out
 completes_all old low addresses out before c = rw (append-nil out) at (c.block [] refl)
 
 pub completes_step : (old : List ℕ) (low : ℕ) (addresses out new : List ℕ) (place : ℕ)
-    → Completes old low addresses out (get_or addresses (place - 1) 0) (drop place addresses) → 1 ≤ place → place < length addresses → IsStrictlyIncreasing addresses
+    → Completes old low addresses out (get_or addresses (place - 1) 0) (drop place addresses) → 1 ≤ place → place < length addresses
+    → IsStrictlyIncreasing addresses
     → AppendsNumber out (get_or addresses place 0 - get_or addresses (place - 1) 0) new
     → Completes old low addresses new (get_or addresses (place + 1 - 1) 0) (drop (place + 1) addresses)
 completes_step old low addresses out new place c some inside h s =
     let this : place - 1 + 1 ≡ place = omega arith in
     let next : place + 1 - 1 ≡ place = omega arith in
     let rises = h (place - 1) (omega arith) in
-    rw next (completes_next old low addresses out new (get_or addresses (place - 1) 0) (get_or addresses place 0) _ (drop (place + 1) addresses)
+    rw next (completes_next old low addresses out new (get_or addresses (place - 1) 0) (get_or addresses place 0) _
+    (drop (place + 1) addresses)
     (rw (drop_more addresses place 0 inside) at c) (rw this at rises) refl s)
 
 pub completes_end : (old : List ℕ) (low : ℕ) (addresses out : List ℕ) (before place : ℕ)
     → Completes old low addresses out before (drop place addresses) → length addresses ≤ place → AppendsBlock old low addresses out
-completes_end old low addresses out before place c over = completes_all old low addresses out before (rw (at_drop_all (λ left. left) addresses place over) at c)
+completes_end old low addresses out before place c over =
+    completes_all old low addresses out before (rw (at_drop_all (λ left. left) addresses place over) at c)
 
 -- ---- reading
 
@@ -172,12 +181,14 @@ block_some low (a ∷ later) bytes s = omega arith
 some_same : (a b : ℕ) → Some a ≡ Some b → a ≡ b
 some_same a b e = cc
 
-gaps_within : (before last : ℕ) (later bytes : List ℕ) → SpellsGaps before later bytes → last_or (Some before) later ≡ Some last → before ≤ last
+gaps_within : (before last : ℕ) (later bytes : List ℕ) → SpellsGaps before later bytes → last_or (Some before) later ≡ Some last
+    → before ≤ last
 gaps_within before last [] bytes s e = let same = some_same before last e in omega arith
 gaps_within before last (a ∷ later) bytes s e = let more = gaps_within a last later s.1 s.3 e in omega (arith, s.0)
 
 -- the first number is that of the first address, which is at most the last
-pub block_first : (low count first last : ℕ) (addresses bytes : List ℕ) → SpellsBlock low addresses bytes → AreFromTo count first last addresses
+pub block_first : (low count first last : ℕ) (addresses bytes : List ℕ) → SpellsBlock low addresses bytes
+    → AreFromTo count first last addresses
     → (low ≤ first) × (first ≤ last) × (rest : List ℕ) × StartsWithNumber bytes (first - low) rest
 block_first low count first last [] bytes s a = absurd s
 block_first low count first last (address ∷ later) bytes s a =
@@ -204,7 +215,8 @@ taken_first low count first last bytes rest from within s = record {
   back = first_back;
 }
   where
-    first_back : (all : List ℕ) → SpellsBlock low all bytes → AreFromTo count first last all → (later : List ℕ) × (all ≡ first ∷ later) × SpellsGaps first later rest
+    first_back : (all : List ℕ) → SpellsBlock low all bytes → AreFromTo count first last all
+        → (later : List ℕ) × (all ≡ first ∷ later) × SpellsGaps first later rest
     first_back [] t a = absurd t
     first_back (address ∷ later) t a =
         let same : address ≡ first = some_same address first a.begin in
@@ -219,7 +231,8 @@ begin_more : (first : ℕ) (taken more : List ℕ) → slice_get taken 0 ≡ Som
 begin_more first [] more e = cc
 begin_more first (x ∷ taken) more e = e
 
-pub taken_next : (low count first last : ℕ) (bytes rest left taken new : List ℕ) (before a : ℕ) → Taken low count first last bytes rest taken before
+pub taken_next : (low count first last : ℕ) (bytes rest left taken new : List ℕ) (before a : ℕ)
+    → Taken low count first last bytes rest taken before
     → before < a → a ≤ last → StartsWithNumber rest (a - before) left → new ≡ taken ++ a ∷ [] → Taken low count first last bytes left new a
 taken_next low count first last bytes rest left taken new before a t above within s e = rw e (record {
   within = within;
@@ -247,7 +260,8 @@ taken_all low count first last bytes taken before t number same =
 
 -- all addresses are taken, and either bytes are left or the last address is another one
 pub taken_not_all : (low count first last : ℕ) (bytes rest taken : List ℕ) (before : ℕ) → Taken low count first last bytes rest taken before
-    → length taken ≡ count → (rest ≡ [] → before ≡ last → ⊥) → (all : List ℕ) → SpellsBlock low all bytes → AreFromTo count first last all → ⊥
+    → length taken ≡ count → (rest ≡ [] → before ≡ last → ⊥) → (all : List ℕ) → SpellsBlock low all bytes
+    → AreFromTo count first last all → ⊥
 taken_not_all low count first last bytes rest taken before t number other all b f = let h = t.back all b f in none h.0 h.1 h.2
   where
     none : (later : List ℕ) → all ≡ taken ++ later → SpellsGaps before later rest → ⊥

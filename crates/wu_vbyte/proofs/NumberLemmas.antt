@@ -1,5 +1,6 @@
 -- Lemmas on spelled numbers.
-use Rattle.std.proofs.Common.{◌≡◌, ℕ, zero, suc, ◌+◌, ◌*◌, ◌/◌, ◌%◌, ◌^◌, ◌<◌, ◌≤◌, List, [], ◌∷◌, ◌++◌, ◌⊎◌, inl, inr, refl, ap, sym, ◌∙◌, append_assoc, length, ⊎_elim, arith}
+use Rattle.std.proofs.Common.{◌≡◌, ℕ, zero, suc, ◌+◌, ◌*◌, ◌/◌, ◌%◌, ◌^◌, ◌<◌, ◌≤◌, List, [], ◌∷◌, ◌++◌, ◌⊎◌, inl, inr, refl, ap, sym, ◌∙◌}
+use Rattle.std.proofs.Common.{append_assoc, length, ⊎_elim, arith}
 use Rattle.std.proofs.lemmas.Bool.{cases_lt}
 use Rattle.std.proofs.lemmas.Nat.{pow-add}
 use Rattle.std.proofs.Math.Nat.{pow-suc, pow-le-pow_right, mul-le-mul, mul-le-mul_right}
@@ -31,7 +32,8 @@ code_of_value (c ∷ c2 ∷ a) (d ∷ d2 ∷ b) p q e =
     ap (λ (bytes : List ℕ). c ∷ bytes) (code_of_value (c2 ∷ a) (d2 ∷ b) p.3 q.3 more) ∙ ap (λ byte. byte ∷ d2 ∷ b) same
 
 -- one byte more at the front
-pub longer_code : (n byte : ℕ) (code : List ℕ) → 128 ≤ byte → byte < 256 → 0 < n → SpellsNumber n code → SpellsNumber (byte % 128 + 128 * n) (byte ∷ code)
+pub longer_code : (n byte : ℕ) (code : List ℕ) → 128 ≤ byte → byte < 256 → 0 < n → SpellsNumber n code
+    → SpellsNumber (byte % 128 + 128 * n) (byte ∷ code)
 longer_code n byte [] l h some s = absurd s.form
 longer_code n byte (next ∷ code) l h some s = record {
   form = (l, h, rw s.value some, s.form);
@@ -94,7 +96,8 @@ higher_part : (n number longer m k group w w2 : ℕ) → n ≡ number + m * w �
 higher_part n number longer m k group w w2 e h l p = rw (e, h, l, p) (weights number group k w)
 
 pub reads_next : (whole left : List ℕ) (byte number longer shift higher : ℕ) → Reads whole (byte ∷ left) number shift
-    → 128 ≤ byte → byte < 256 → shift < 63 → longer ≡ number + (byte % 128) * 2 ^ shift → higher ≡ shift + 7 → Reads whole left longer higher
+    → 128 ≤ byte → byte < 256 → shift < 63 → longer ≡ number + (byte % 128) * 2 ^ shift → higher ≡ shift + 7
+    → Reads whole left longer higher
 reads_next whole left byte number longer shift higher r large small room l h =
     let groups = r.groups in
     let below = r.below in
@@ -145,7 +148,8 @@ reads_too_long whole left byte number shift n rest r large full fits s =
     absurd (omega (arith, t.1, t.2))
 
 -- bytes start with the spelling of one number at most
-pub one_number : (bytes : List ℕ) (number other : ℕ) (rest left : List ℕ) → StartsWithNumber bytes number rest → StartsWithNumber bytes other left
+pub one_number : (bytes : List ℕ) (number other : ℕ) (rest left : List ℕ) → StartsWithNumber bytes number rest
+    → StartsWithNumber bytes other left
     → (number ≡ other) × (rest ≡ left)
 one_number bytes number other rest left s t =
     let h = codes_apart s.0 t.0 rest left s.1.form t.1.form (sym s.2 ∙ t.2) in
@@ -173,7 +177,8 @@ group_fits group shift room groups small =
     omega arith
 
 -- so does a last byte
-pub end_fits : (byte shift : ℕ) → 7 ≤ shift → shift ≤ 63 → shift % 7 ≡ 0 → byte < 128 → (shift ≡ 63 → byte ≡ 1) → (byte + 1) * 2 ^ shift ≤ 2 ^ 64
+pub end_fits : (byte shift : ℕ) → 7 ≤ shift → shift ≤ 63 → shift % 7 ≡ 0 → byte < 128 → (shift ≡ 63 → byte ≡ 1)
+    → (byte + 1) * 2 ^ shift ≤ 2 ^ 64
 end_fits byte shift some most groups small one =
     ⊎_elim
     (λ (s : shift < 63). group_fits byte shift s groups small)
@@ -181,12 +186,14 @@ end_fits byte shift some most groups small one =
     (cases_lt shift 63)
 
 -- the last byte
-pub one_byte : (old out new : List ℕ) (number rest byte : ℕ) → ((code : List ℕ) → SpellsNumber rest code → AppendsNumber old number (out ++ code))
+pub one_byte : (old out new : List ℕ) (number rest byte : ℕ)
+    → ((code : List ℕ) → SpellsNumber rest code → AppendsNumber old number (out ++ code))
     → rest < 128 → byte ≡ rest → new ≡ out ++ byte ∷ [] → AppendsNumber old number new
 one_byte old out new number rest byte before small h e = rw (e, h) (before (rest ∷ []) (record { form = small; value = omega arith }))
 
 -- one byte more at the end
-pub begun_more : (old out new : List ℕ) (byte : ℕ) → ((more : List ℕ) × (out ≡ old ++ more)) → new ≡ out ++ byte ∷ [] → (more : List ℕ) × (new ≡ old ++ more)
+pub begun_more : (old out new : List ℕ) (byte : ℕ) → ((more : List ℕ) × (out ≡ old ++ more)) → new ≡ out ++ byte ∷ []
+    → (more : List ℕ) × (new ≡ old ++ more)
 begun_more old out new byte h e = (h.0 ++ byte ∷ [], rw (e, h.1) (append_assoc old h.0 (byte ∷ [])))
 
 -- each number up to k has a spelling

@@ -7,7 +7,8 @@ loop-place-init c = completes_first _ _ _ _ _ c.requires.some c.requires.low ref
 
 pub loop-place-preserved : goal.loop-place-preserved
 loop-place-preserved c =
-    completes_step _ _ _ _ _ _ c.loop-place.invariant c.loop-place.auto.place c.loop-place-test.true c.requires.ascending c.in_ok-put_number-2.ensures.ok
+    completes_step _ _ _ _ _ _ c.loop-place.invariant c.loop-place.auto.place c.loop-place-test.true
+    c.requires.ascending c.in_ok-put_number-2.ensures.ok
 
 pub returns-clause-ok : goal.returns-clause-ok
 returns-clause-ok c = completes_end _ _ _ _ _ _ c.loop-place.invariant (omega arith)

@@ -7,7 +7,8 @@ returns-else-is_gap-clause-none c address rest above within s =
     let one = one_number _ _ _ _ _ c.in-Some.ensures.found.spelled s in
     refused _ address c.args.before c.args.last one.0 above within c.if-is_gap.ensures
   where
-    refused : (gap address before last : ℕ) → gap ≡ address - before → before < address → address ≤ last → ((gap ≡ 0) ⊎ (last - before < gap)) → ⊥
+    refused : (gap address before last : ℕ) → gap ≡ address - before → before < address → address ≤ last
+        → ((gap ≡ 0) ⊎ (last - before < gap)) → ⊥
     refused gap address before last e above within h =
         ⊎_elim (λ (s : gap ≡ 0). absurd (omega arith)) (λ (s : last - before < gap). absurd (omega arith)) h
 

@@ -28,9 +28,11 @@ loop-preserved c =
 
 pub returns-then-is_complete-clause-found : goal.returns-then-is_complete-clause-found
 returns-then-is_complete-clause-found c =
-    taken_all _ _ _ _ _ _ _ (all_read _ _ _ _ _ _ _ _ c.loop.invariant.taken c.if-is_complete.ensures.0) (omega (arith, c.loop.invariant.number)) c.if-is_complete.ensures.1
+    taken_all _ _ _ _ _ _ _ (all_read _ _ _ _ _ _ _ _ c.loop.invariant.taken c.if-is_complete.ensures.0)
+    (omega (arith, c.loop.invariant.number)) c.if-is_complete.ensures.1
   where
-    all_read : (low count first last : ℕ) (bytes taken : List ℕ) (before place : ℕ) → Taken low count first last bytes (drop place bytes) taken before
+    all_read : (low count first last : ℕ) (bytes taken : List ℕ) (before place : ℕ)
+        → Taken low count first last bytes (drop place bytes) taken before
         → place ≡ length bytes → Taken low count first last bytes [] taken before
     all_read low count first last bytes taken before place t e = rw (at_drop_all (λ left. left) bytes place (omega arith)) at t
 

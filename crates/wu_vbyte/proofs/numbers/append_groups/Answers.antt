@@ -4,7 +4,8 @@ use Rattle.wu_vbyte.proofs.numbers.append_groups.Goals as goal
 
 pub loop-rest-preserved : goal.loop-rest-preserved
 loop-rest-preserved c = record {
-  completed = completed_by _ _ _ _ _ _ _ c.loop-rest.invariant.completed c.loop-rest-test.true c.continued.ensures refl c.in_ok-push.ensures.items;
+  completed = completed_by _ _ _ _ _ _ _ c.loop-rest.invariant.completed c.loop-rest-test.true
+      c.continued.ensures refl c.in_ok-push.ensures.items;
   begun = begun_more _ _ _ _ c.loop-rest.invariant.begun c.in_ok-push.ensures.items;
 }
 

@@ -13,5 +13,6 @@ returns-then-is_last-clause-found c =
     record {
       longer = omega arith;
       within = omega arith;
-      spelled = rw (drop_more bytes c.args.place 0 (omega arith), c.from.ensures) (last_starts _ (drop (c.args.place + 1) bytes) c.if-is_last.ensures);
+      spelled = rw (drop_more bytes c.args.place 0 (omega arith), c.from.ensures)
+          (last_starts _ (drop (c.args.place + 1) bytes) c.if-is_last.ensures);
     }
