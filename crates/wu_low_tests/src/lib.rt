@@ -1,5 +1,5 @@
-//! Tests of the crates below: byte strings and lists, the access check, words and tokens, written fields,
-//! logarithms. Each sees public items alone.
+//! Tests of the crates below: byte strings and lists, numbers and blocks in bytes, the access check, words and
+//! tokens, written fields, logarithms. Each sees public items alone.
 #![tactic(auto)]
 
 #[cfg(test)]
@@ -10,5 +10,7 @@ mod fields;
 mod lists;
 #[cfg(test)]
 mod logarithms;
+#[cfg(test)]
+mod numbers;
 #[cfg(test)]
 mod tokens;

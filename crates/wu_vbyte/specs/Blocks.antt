@@ -1,0 +1,27 @@
+-- Blocks of a posting list: gap compression, as Büttcher, Clarke and Cormack give it in Information Retrieval, chapter 6.
+-- Ascending addresses are spelled by their differences, each of them a number.
+use Rattle.std.specs.Prelude.{ℕ, List, [], ◌∷◌, ◌++◌, ◌-◌, ◌<◌, ◌≤◌, ◌≡◌, Some, None, length, slice_get}
+use Rattle.std.specs.List.{last_or}
+use Rattle.wu_vbyte.specs.Numbers.{StartsWithNumber}
+
+-- the bytes spell how far each address is above the one before it, at least 1
+abbrev pub SpellsGaps : ℕ → List ℕ → List ℕ → Type 0
+SpellsGaps before [] bytes = bytes ≡ []
+SpellsGaps before (address ∷ later) bytes =
+    (before < address) × (rest : List ℕ) × StartsWithNumber bytes (address - before) rest × SpellsGaps address later rest
+
+-- the bytes spell how far the first address is above low, and then how far each later one is above the one before it
+abbrev pub SpellsBlock : ℕ → List ℕ → List ℕ → Type 0
+SpellsBlock low [] bytes = ⊥
+SpellsBlock low (first ∷ later) bytes =
+    (low ≤ first) × (rest : List ℕ) × StartsWithNumber bytes (first - low) rest × SpellsGaps first later rest
+
+-- new is old with the block's spelling at its end
+abbrev pub AppendsBlock : List ℕ → ℕ → List ℕ → List ℕ → Type 0
+AppendsBlock old low addresses new = (code : List ℕ) × SpellsBlock low addresses code × (new ≡ old ++ code)
+
+-- so many addresses, from first to last
+pub record AreFromTo (count first last : ℕ) (addresses : List ℕ) : Type 0 where
+  pub number : length addresses ≡ count
+  pub begin : slice_get addresses 0 ≡ Some first
+  pub end : last_or None addresses ≡ Some last

@@ -1,0 +1,194 @@
+//! Blocks of ascending addresses.
+ghost use Rattle.std.specs.Prelude.{◌≡◌, ◌++◌, ◌+◌, ◌-◌, ◌<◌, ◌≤◌, ◌⊎◌, ℕ, List, OnOk, OnErr, IfOk, IfSome, IfNone, MatchBool, length, drop, slice_index};
+ghost use Rattle.std.specs.List.Sorted.{IsStrictlyIncreasing};
+ghost use Rattle.wu_vbyte.specs.declared.blocks.TheConstants.{BLOCK_LEN};
+ghost use Rattle.wu_vbyte.specs.Numbers.{StartsWithNumber};
+ghost use Rattle.wu_vbyte.specs.Blocks.{SpellsBlock, AppendsBlock, AreFromTo};
+
+use crate::numbers::{put_number, take_number};
+use std::alloc::Global;
+use wu_base::NoMemory;
+
+/// The most addresses of a block.
+pub const BLOCK_LEN: usize = 128;
+
+/// Appends the spelling of the block of these addresses, at most `BLOCK_LEN`, of which none is below
+/// `low`. Out of memory, `out` is as it was.
+pub fn put_block(out: &mut Vec<u8>, low: u64, addresses: &[u64]) -> Result<(), NoMemory>
+    requires some { 0 < length addresses.now }
+    requires few { length addresses.now ≤ BLOCK_LEN }
+    requires low { low ≤ slice_index addresses.now 0 }
+    requires ascending { IsStrictlyIncreasing addresses.now }
+    ensures ok { OnOk result (AppendsBlock out.old.items low addresses.now out.new.items) }
+    ensures err { OnErr result (out.new.items ≡ out.old.items) }
+{
+    let before = out.len();
+    if append_gaps(out, low, addresses).is_ok() {
+        Ok(())
+    } else {
+        out.truncate(before);
+        Err(NoMemory)
+    }
+}
+
+/// Appends the spelling of the block. Out of memory, `out` may have gained bytes.
+fn append_gaps(out: &mut Vec<u8>, low: u64, addresses: &[u64]) -> Result<(), NoMemory>
+    requires some { 0 < length addresses.now }
+    requires low { low ≤ slice_index addresses.now 0 }
+    requires ascending { IsStrictlyIncreasing addresses.now }
+    ensures ok { OnOk result (AppendsBlock out.old.items low addresses.now out.new.items) }
+    ensures err { OnErr result ((more : List ℕ) × (out.new.items ≡ out.old.items ++ more)) }
+{
+    put_number(out, addresses[0] - low)?;
+    for place in 1..addresses.len() {
+        put_number(out, addresses[place] - addresses[place - 1])?;
+    }
+    Ok(())
+}
+
+/// The `count` addresses from `first` to `last` of which the bytes are the spelling, all of the bytes.
+/// `None` exactly where they are no such spelling. Takes memory once, and none before the bytes were
+/// found to be enough for so many addresses.
+pub fn take_block(
+    alloc: Global,
+    bytes: &[u8],
+    low: u64,
+    count: usize,
+    first: u64,
+    last: u64,
+) -> Result<Option<Vec<u64>>, NoMemory>
+    ensures found { IfOk result (λ block. IfSome block (λ found. SpellsBlock low found.items bytes.now × AreFromTo count first last found.items)) }
+    ensures none { IfOk result (λ block. IfNone block ((addresses : List ℕ) → SpellsBlock low addresses bytes.now →
+        AreFromTo count first last addresses → ⊥)) }
+{
+    if !is_enough(bytes.len(), count) {
+        return Ok(None);
+    }
+    if last < first {
+        return Ok(None);
+    }
+    match after_first(bytes, low, first) {
+        Some(place) => take_gaps(alloc, bytes, low, place, count, first, last),
+        None => Ok(None),
+    }
+}
+
+/// Whether so many bytes may hold so many addresses, which take a byte each at least.
+fn is_enough(bytes: usize, count: usize) -> bool
+    ensures { MatchBool result ((0 < count) × (count ≤ bytes)) ((count ≡ 0) ⊎ (bytes < count)) }
+{
+    0 < count && count <= bytes
+}
+
+/// The place after the first number, where that is the one of the address `first`.
+fn after_first(bytes: &[u8], low: u64, first: u64) -> Option<usize>
+    ensures found { IfSome result (λ place. (place ≤ length bytes.now) × (low ≤ first) × StartsWithNumber bytes.now (first - low) (drop place bytes.now)) }
+    ensures none { IfNone result ((rest : List ℕ) → low ≤ first → StartsWithNumber bytes.now (first - low) rest → ⊥) }
+{
+    match take_number(bytes, 0) {
+        Some((number, place)) => {
+            if is_first(number, low, first) {
+                Some(place)
+            } else {
+                None
+            }
+        }
+        None => None,
+    }
+}
+
+/// Whether the number is how far `first` is above `low`.
+fn is_first(number: u64, low: u64, first: u64) -> bool
+    ensures { MatchBool result ((low ≤ first) × (number ≡ first - low)) (low ≤ first → number ≡ first - low → ⊥) }
+{
+    low <= first && number == first - low
+}
+
+/// The address after `before`, up to `last`, whose number stands at `place`, and the place after it.
+fn next_address(bytes: &[u8], place: usize, before: u64, last: u64) -> Option<(u64, usize)>
+    requires inside { place ≤ length bytes.now }
+    requires within { before ≤ last }
+    ensures found { IfSome result (λ found. (found.1 ≤ length bytes.now) × (before < found.0) × (found.0 ≤ last) ×
+        StartsWithNumber (drop place bytes.now) (found.0 - before) (drop found.1 bytes.now)) }
+    ensures none { IfNone result ((address : ℕ) (rest : List ℕ) → before < address → address ≤ last →
+        StartsWithNumber (drop place bytes.now) (address - before) rest → ⊥) }
+{
+    match take_number(bytes, place) {
+        Some((gap, after)) => {
+            if is_gap(gap, last - before) {
+                Some((before + gap, after))
+            } else {
+                None
+            }
+        }
+        None => None,
+    }
+}
+
+/// Whether a number is the difference of two addresses of a block, of which the later is at most so
+/// far away.
+fn is_gap(number: u64, room: u64) -> bool
+    ensures { MatchBool result ((0 < number) × (number ≤ room)) ((number ≡ 0) ⊎ (room < number)) }
+{
+    0 < number && number <= room
+}
+
+/// The block, whose first number ends before `place`.
+fn take_gaps(
+    alloc: Global,
+    bytes: &[u8],
+    low: u64,
+    mut place: usize,
+    count: usize,
+    first: u64,
+    last: u64,
+) -> Result<Option<Vec<u64>>, NoMemory>
+    requires inside { place ≤ length bytes.now }
+    requires count { 0 < count }
+    requires low { low ≤ first }
+    requires within { first ≤ last }
+    requires first { StartsWithNumber bytes.now (first - low) (drop place bytes.now) }
+    ensures found { IfOk result (λ block. IfSome block (λ found. SpellsBlock low found.items bytes.now × AreFromTo count first last found.items)) }
+    ensures none { IfOk result (λ block. IfNone block ((addresses : List ℕ) → SpellsBlock low addresses bytes.now →
+        AreFromTo count first last addresses → ⊥)) }
+{
+    let mut addresses = Vec::with_capacity(alloc, count)?;
+    addresses.push(first)?;
+    let mut before = first;
+    for _ in 1..count {
+        let (address, after) = match next_address(bytes, place, before, last) {
+            Some(next) => next,
+            None => return Ok(None),
+        };
+        addresses.push(address)?;
+        before = address;
+        place = after;
+    }
+    if is_complete(bytes.len(), place, last, before) {
+        Ok(Some(addresses))
+    } else {
+        Ok(None)
+    }
+}
+
+/// Whether the block has ended: at the end of the bytes, with the last address.
+fn is_complete(bytes: usize, place: usize, last: u64, address: u64) -> bool
+    ensures { MatchBool result ((place ≡ bytes) × (address ≡ last)) (place ≡ bytes → address ≡ last → ⊥) }
+{
+    place == bytes && address == last
+}
+
+/// A law: each block of ascending addresses from `low` on has one spelling, and a spelling is that
+/// of one block.
+pub fn each_block_has_one_spelling()
+    ensures some { (low : ℕ) (addresses : List ℕ) → 0 < length addresses → low ≤ slice_index addresses 0 → IsStrictlyIncreasing addresses →
+        (code : List ℕ) × SpellsBlock low addresses code }
+    ensures spelling { (low : ℕ) (addresses code other : List ℕ) → SpellsBlock low addresses code → SpellsBlock low addresses other → code ≡ other }
+    ensures block { (low : ℕ) (addresses others code : List ℕ) → SpellsBlock low addresses code → SpellsBlock low others code → addresses ≡ others }
+{}
+
+/// A law: no block's spelling begins that of another block of as many addresses.
+pub fn no_block_begins_another()
+    ensures { (low : ℕ) (addresses others code other rest left : List ℕ) → SpellsBlock low addresses code → SpellsBlock low others other →
+        length addresses ≡ length others → code ++ rest ≡ other ++ left → (addresses ≡ others) × (rest ≡ left) }
+{}

@@ -1,0 +1,12 @@
+//! The variable-byte code: how numbers, and blocks of ascending addresses, are spelled in bytes of seven bits.
+#![tactic(auto)]
+
+mod blocks;
+mod numbers;
+
+pub use blocks::{
+    BLOCK_LEN, each_block_has_one_spelling, no_block_begins_another, put_block, take_block,
+};
+pub use numbers::{
+    each_number_has_one_spelling, no_number_begins_another, put_number, take_number,
+};

@@ -1,0 +1,134 @@
+//! Numbers from 0 to 2^64 - 1.
+ghost use Rattle.std.specs.Prelude.{◌≡◌, ◌++◌, ◌+◌, ◌*◌, ◌%◌, ◌^◌, ◌<◌, ◌≤◌, ◌⊎◌, ℕ, slice_index, List, OnOk, OnErr, IfSome, IfNone, MatchBool, length, drop};
+ghost use Rattle.wu_vbyte.specs.Numbers.{SpellsNumber, StartsWithNumber, IsNumberAt, AppendsNumber};
+
+use wu_base::NoMemory;
+
+/// How many bits of a number one byte has.
+const GROUP_BITS: u32 = 7;
+
+/// The place in a number of the bits that a tenth byte has. There the number has one bit left.
+const LAST_SHIFT: u32 = 63;
+
+/// Appends the spelling of the number, at most ten bytes. Out of memory, `out` is as it was.
+pub fn put_number(out: &mut Vec<u8>, number: u64) -> Result<(), NoMemory>
+    ensures ok { OnOk result (AppendsNumber out.old.items number out.new.items) }
+    ensures err { OnErr result (out.new.items ≡ out.old.items) }
+{
+    let before = out.len();
+    if append_groups(out, number).is_ok() {
+        Ok(())
+    } else {
+        out.truncate(before);
+        Err(NoMemory)
+    }
+}
+
+/// Appends the spelling of the number. Out of memory, `out` may have gained bytes.
+fn append_groups(out: &mut Vec<u8>, number: u64) -> Result<(), NoMemory>
+    ensures ok { OnOk result (AppendsNumber out.old.items number out.new.items) }
+    ensures err { OnErr result ((more : List ℕ) × (out.new.items ≡ out.old.items ++ more)) }
+{
+    let mut rest = number;
+    while rest >= 128 {
+        out.push(continued(rest))?;
+        rest >>= GROUP_BITS;
+    }
+    out.push(rest as u8)?;
+    Ok(())
+}
+
+/// The byte of the number's lowest seven bits, where another byte follows.
+fn continued(number: u64) -> u8
+    ensures { result ≡ 128 + number % 128 }
+{
+    128 + (number % 128) as u8
+}
+
+/// The number whose spelling stands at `place`, and the place after it. `None` exactly where no
+/// spelling of a number below 2^64 stands there. Takes no memory.
+pub fn take_number(bytes: &[u8], place: usize) -> Option<(u64, usize)>
+    requires { place ≤ length bytes.now }
+    ensures found { IfSome result (λ found. IsNumberAt bytes.now place found.0 found.1) }
+    ensures none { IfNone result ((number : ℕ) (rest : List ℕ) → number < 2 ^ 64 →
+        StartsWithNumber (drop place bytes.now) number rest → ⊥) }
+{
+    if place == bytes.len() {
+        return None;
+    }
+    let first = bytes[place];
+    if is_last(first) {
+        Some((u64::from(first), place + 1))
+    } else {
+        take_groups(bytes, place)
+    }
+}
+
+/// The number whose spelling of two bytes or more stands at `place`, and the place after it. `None`
+/// exactly where no spelling of a number below 2^64 stands there.
+fn take_groups(bytes: &[u8], place: usize) -> Option<(u64, usize)>
+    requires inside { place < length bytes.now }
+    requires continued { 128 ≤ slice_index bytes.now place }
+    ensures found { IfSome result (λ found. IsNumberAt bytes.now place found.0 found.1) }
+    ensures none { IfNone result ((number : ℕ) (rest : List ℕ) → number < 2 ^ 64 →
+        StartsWithNumber (drop place bytes.now) number rest → ⊥) }
+{
+    let mut number = u64::from(bytes[place] % 128);
+    let mut shift = GROUP_BITS;
+    for at in place + 1..bytes.len() {
+        let byte = bytes[at];
+        if is_last(byte) {
+            if !is_end(byte, shift) {
+                return None;
+            }
+            return Some((with_group(number, byte, shift), at + 1));
+        }
+        if shift == LAST_SHIFT {
+            return None;
+        }
+        number = with_group(number, byte % 128, shift);
+        shift += GROUP_BITS;
+    }
+    None
+}
+
+/// Whether a last byte ends a spelling of two bytes or more: it is worth more than 0, and where the
+/// number has one bit left, no more than that bit.
+fn is_end(byte: u8, shift: u32) -> bool
+    requires { shift ≤ 63 }
+    ensures { MatchBool result ((0 < byte) × (shift ≡ 63 → byte ≡ 1)) ((byte ≡ 0) ⊎ (shift ≡ 63) × (1 < byte)) }
+{
+    byte == 1 || byte > 1 && shift < LAST_SHIFT
+}
+
+/// The number with seven more bits above the lowest `shift` ones.
+fn with_group(number: u64, group: u8, shift: u32) -> u64
+    requires shift { shift ≤ 63 }
+    requires below { number < 2 ^ shift }
+    requires fits { (group + 1) * 2 ^ shift ≤ 2 ^ 64 }
+    ensures { result ≡ number + group * 2 ^ shift }
+{
+    number + (u64::from(group) << shift)
+}
+
+/// Whether the byte is the last of a spelling.
+fn is_last(byte: u8) -> bool
+    ensures { MatchBool result (byte < 128) (128 ≤ byte) }
+{
+    byte < 128
+}
+
+/// A law: each number has one spelling, of at most ten bytes where the number is below 2^64, and a
+/// spelling is that of one number.
+pub fn each_number_has_one_spelling()
+    ensures some { (number : ℕ) → (code : List ℕ) × SpellsNumber number code }
+    ensures length { (number : ℕ) (code : List ℕ) → number < 2 ^ 64 → SpellsNumber number code → length code ≤ 10 }
+    ensures spelling { (number : ℕ) (code other : List ℕ) → SpellsNumber number code → SpellsNumber number other → code ≡ other }
+    ensures number { (number other : ℕ) (code : List ℕ) → SpellsNumber number code → SpellsNumber other code → number ≡ other }
+{}
+
+/// A law: no spelling begins another, so bytes begin with at most one.
+pub fn no_number_begins_another()
+    ensures { (bytes : List ℕ) (number other : ℕ) (rest left : List ℕ) → StartsWithNumber bytes number rest →
+        StartsWithNumber bytes other left → (number ≡ other) × (rest ≡ left) }
+{}
