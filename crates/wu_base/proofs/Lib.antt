@@ -1,2 +1,3 @@
+pub mod MapEntries
 pub mod Members
 pub mod SortedLists

@@ -1,4 +1,4 @@
-//! Numbers of users, groups and nodes, and places in the space of addresses.
+//! Numbers of users, groups and nodes, places in the space of addresses, and parts of the index.
 use crate::byte_strings::Bytes;
 use crate::sequences::Sequence;
 
@@ -33,4 +33,16 @@ pub struct Range {
 pub struct TermList {
     pub term: Bytes,
     pub at: Sequence<u64>,
+}
+
+/// A part of the index, as it is recorded outside it: a blob of `size` bytes that holds `stored`
+/// postings, with addresses from `low` to `high`.
+#[derive(Clone, Copy, Debug, PartialEq, Eq)]
+pub struct PartRec {
+    pub blob: u64,
+    pub size: u64,
+    pub generation: u32,
+    pub low: u64,
+    pub high: u64,
+    pub stored: u64,
 }

@@ -47,3 +47,9 @@ pub const SPENT_AT: u64 = 70_368_744_177_664;
 
 /// A store whose next blob number is at least this, 2^62, is spent.
 pub const BLOBS_SPENT_AT: u64 = 4_611_686_018_427_387_904;
+
+/// Every address of the index is below this, 2^47.
+pub const ADDRESSES_MAX: u64 = 140_737_488_355_328;
+
+/// The greatest generation of a part.
+pub const GENERATION_MAX: u32 = 62;

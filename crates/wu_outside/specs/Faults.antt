@@ -3,6 +3,13 @@
 use Rattle.std.specs.Prelude.{◌≡◌, ℕ, ◌+◌, ◌-◌, ◌^◌, ◌≤◌, ◌<◌, List, length, min, OnOk, OnErr, IfOk, Result, Ok, Err}
 use Rattle.wu_outside.specs.declared.traits.Fault.{Fault}
 use Rattle.wu_outside.specs.declared.traits.Fault.TheVariants.{Failed, NoMemory}
+use Rattle.wu_base.specs.declared.troubles.Trouble.{Trouble}
+use Rattle.wu_base.specs.declared.troubles.Trouble.TheVariants.{NoMemory as RanOutOfMemory, StoreFault}
+
+-- what a failed call of the store is to the index above it
+abbrev pub trouble_of : Fault → Trouble
+trouble_of Failed = StoreFault
+trouble_of NoMemory = RanOutOfMemory
 
 -- the count rose, or stands at 2^64 - 1, the last value of a counter
 abbrev pub Rose : ℕ → ℕ → Type 0

@@ -11,7 +11,7 @@ ghost use Rattle.wu_outside.specs.declared.traits.Fault.TheVariants.{NoMemory as
 
 use std::alloc::{AllocError, AllocFailed};
 use thiserror::Error;
-use wu_base::NoMemory;
+use wu_base::{NoMemory, Trouble};
 
 /// A call of the outside failed. The count of faults of its object rose.
 #[derive(Clone, Copy, Debug, PartialEq, Eq, Error)]
@@ -61,6 +61,20 @@ impl From<Failed> for Fault {
 
     fn from(_error: Failed) -> Fault {
         Fault::Failed
+    }
+}
+
+impl From<Fault> for Trouble {
+    ghost use Rattle.std.specs.Prelude.{◌≡◌};
+    ghost use Rattle.wu_outside.specs.Faults.{trouble_of};
+
+    ghost from_gives = { λ fault trouble. trouble ≡ trouble_of fault };
+
+    fn from(fault: Fault) -> Trouble {
+        match fault {
+            Fault::Failed => Trouble::StoreFault,
+            Fault::NoMemory => Trouble::NoMemory,
+        }
     }
 }
 

@@ -18,7 +18,7 @@ use Rattle.wu_tree.specs.Inodes.{height_in, height_at, height_over, higher_of, I
 use Rattle.wu_tree.specs.declared.inodes.Hold.{Hold}
 use Rattle.wu_tree.specs.declared.inodes.Hold.TheVariants.{Entries, Links}
 use Rattle.wu_tree.specs.FileSystems.{Link, parent_of, is_kind_file}
-use Rattle.wu_tree.proofs.MapEntries.{All-found, set_value-read, lookup-set_other, lookup-remove_other, lookup-insert_entry, none_left, number_itself}
+use Rattle.wu_base.proofs.MapEntries.{All-found, set_value-read, lookup-set_other, lookup-remove_other, lookup-insert_entry, none_left, number_itself}
 use Rattle.wu_tree.proofs.ParentPaths.{same_number, parent_found}
 use Rattle.wu_tree.proofs.LinkRemovals.{apart_from}
 

@@ -19,7 +19,7 @@ use Rattle.wu_tree.specs.FileSystems.{FileSystem, is_file, is_file_node, is_dire
 use Rattle.wu_tree.specs.Rules.{IsTree}
 use Rattle.wu_tree.specs.Steps.{Rule, first_of, mkdir_rules, create_rules, text_rules, unlink_rules, rmdir_rules, named_by, no_effect, dropped_at, without_link, with_link_moved, with_node, refusal_of, next, effect_of, unless_refused, step, with_perm, is_last_link, is_link_to}
 use Rattle.wu_tree.specs.Effects.{TellsFiles}
-use Rattle.wu_tree.proofs.MapEntries.{lookup-insert_entry, lookup-remove_other, none_left, number_itself}
+use Rattle.wu_base.proofs.MapEntries.{lookup-insert_entry, lookup-remove_other, none_left, number_itself}
 use Rattle.wu_tree.proofs.ParentPaths.{same_number, other_number}
 use Rattle.wu_tree.proofs.LinkRemovals.{apart_from}
 use Rattle.wu_tree.proofs.Permissions.{set_same}

@@ -1,5 +1,4 @@
 pub mod LinksByDirectory
-pub mod MapEntries
 pub mod ParentPaths
 pub mod NewNodes
 pub mod NewLinks

@@ -10,7 +10,7 @@ use Rattle.std.specs.List.Sorted.{IsStrictlySortedBy}
 use Rattle.std.specs.Map.{keys_of}
 use Rattle.std.specs.BTreeMap.{insert_entry}
 use Rattle.wu_tree.specs.Lists.{is_less, ascends}
-use Rattle.wu_tree.proofs.MapEntries.{all_above}
+use Rattle.wu_base.proofs.MapEntries.{all_above}
 
 -- a test's answer tells whether the fact holds
 abbrev pub Decides : Bool → Type 0 → Type 0

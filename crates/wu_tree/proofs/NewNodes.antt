@@ -15,7 +15,7 @@ use Rattle.wu_tree.specs.Inodes.{IsHeld, first_hold}
 use Rattle.wu_tree.specs.FileSystems.{FileSystem, Link, place_cmp, is_name, is_directory, is_directory_node, is_there, node_of, child_of, is_within, link_count, parent_of, path_up, depth}
 use Rattle.wu_tree.specs.Steps.{with_node}
 use Rattle.wu_tree.specs.Rules.{IsLink, Hangs, IsNumbered, IsTree}
-use Rattle.wu_tree.proofs.MapEntries.{lookup-insert_entry, All-insert_entry, All-map, All-map2, ascend-insert_entry, counted-insert_entry, number_itself}
+use Rattle.wu_base.proofs.MapEntries.{lookup-insert_entry, All-insert_entry, All-map, All-map2, ascend-insert_entry, counted-insert_entry, number_itself}
 use Rattle.wu_tree.proofs.ParentPaths.{place_total, place_exact, other_number, SameElsewhere, same_elsewhere_insert, same_hangs, same_path, path_of_child, count_none, no_parent, absent_child, absent_directory, parent-insert_new}
 
 kept_some : {T : Type 0} (b : Bool) (x : T) (o : Option T) → is_some o ≡ true → is_some (cond b (Some x) o) ≡ true

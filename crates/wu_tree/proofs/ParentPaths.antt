@@ -20,7 +20,7 @@ use Rattle.wu_tree.specs.declared.inodes.Hold.{Hold}
 use Rattle.wu_tree.specs.declared.inodes.Hold.TheVariants.{Entries, Links}
 use Rattle.wu_tree.specs.FileSystems.{FileSystem, IsLeaf, Place, Link, place_cmp, is_directory, is_directory_node, is_kind_file, is_there, node_of, is_within, link_count, parent_of, has_entries, ancestors, path_up, above, depth}
 use Rattle.wu_tree.specs.Rules.{IsLink, Hangs, IsTree}
-use Rattle.wu_tree.proofs.MapEntries.{counted-insert_entry, counted-remove_entry, counted-cons, is_equal, All-found, All-map}
+use Rattle.wu_base.proofs.MapEntries.{counted-insert_entry, counted-remove_entry, counted-cons, is_equal, All-found, All-map}
 
 -- ---- the order of places
 pub place_total : IsTotalOrder place_cmp

@@ -17,7 +17,7 @@ use Rattle.wu_tree.specs.FileSystems.{FileSystem, Link, is_directory, is_directo
 use Rattle.wu_tree.specs.Paths.{through, children_of, reaches}
 use Rattle.wu_tree.specs.Steps.{is_too_deep}
 use Rattle.wu_tree.specs.Rules.{IsLink, Hangs, IsTree}
-use Rattle.wu_tree.proofs.MapEntries.{All-found, all_found}
+use Rattle.wu_base.proofs.MapEntries.{All-found, all_found}
 use Rattle.wu_tree.proofs.ParentPaths.{same_number, has_root, path_is, reached, directory_found, climb}
 use Rattle.wu_tree.proofs.PathsUp.{step_up, same_climb, no_climb, walk_met, steps_and_rest}
 

@@ -13,7 +13,7 @@ use Rattle.wu_tree.specs.FileSystems.{FileSystem, Link, place_cmp, is_name, is_d
 use Rattle.wu_tree.specs.Paths.{through, steps_to}
 use Rattle.wu_tree.specs.Steps.{is_too_deep}
 use Rattle.wu_tree.specs.Rules.{IsLink, Hangs, IsTree}
-use Rattle.wu_tree.proofs.MapEntries.{All-found, All-map, All-map2, All-insert_entry, All-remove_entry, ascend-insert_entry, ascend-remove_entry, counted-insert_entry, counted-remove_entry, all_found}
+use Rattle.wu_base.proofs.MapEntries.{All-found, All-map, All-map2, All-insert_entry, All-remove_entry, ascend-insert_entry, ascend-remove_entry, counted-insert_entry, counted-remove_entry, all_found}
 use Rattle.wu_tree.proofs.ParentPaths.{place_total, place_exact, has_root, path_is, reached, hung_directory, absent_directory, none_counted, no_parent, parent_found, parent-insert_other, parent-insert_new, parent-remove_other}
 
 -- two climbs to the root are the same

@@ -11,7 +11,7 @@ use Rattle.wu_tree.specs.declared.inodes.Inode.{Inode}
 use Rattle.wu_tree.specs.Inodes.{IsHeld}
 use Rattle.wu_tree.specs.FileSystems.{FileSystem, Link, is_directory, is_directory_node, is_there, node_of}
 use Rattle.wu_tree.specs.Rules.{IsLink, Hangs, IsNumbered, IsTree}
-use Rattle.wu_tree.proofs.MapEntries.{All-found, All-map, All-set_value}
+use Rattle.wu_base.proofs.MapEntries.{All-found, All-map, All-set_value}
 use Rattle.wu_tree.proofs.ParentPaths.{same_number}
 
 set_cond : {X : Type 0} (f : Option X → Bool) (b : Bool) (u v w : Option X) → f u ≡ f v → f (cond b u w) ≡ f (cond b v w)

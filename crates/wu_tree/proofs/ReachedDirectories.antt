@@ -21,7 +21,7 @@ use Rattle.wu_tree.specs.Paths.{children_of}
 use Rattle.wu_tree.specs.Lists.{hung_by, hung_of, one_more, below, hold_of, hung_once, is_hung, linked_test, reached_test}
 use Rattle.wu_tree.specs.Inodes.{IsHeld}
 use Rattle.wu_tree.specs.Rules.{IsLink, Hangs}
-use Rattle.wu_tree.proofs.MapEntries.{number_itself, all_found, All-map, All-map2}
+use Rattle.wu_base.proofs.MapEntries.{number_itself, all_found, All-map, All-map2}
 use Rattle.wu_tree.proofs.ParentPaths.{same_number, has_root, path_is, directory_found}
 use Rattle.wu_tree.proofs.PathsUp.{one_up, stable, short, no_climb, step_up}
 use Rattle.wu_tree.proofs.PathsDown.{has_counted, child_parent, parent_child, parent_has, parent_there, linked_once, found_has}

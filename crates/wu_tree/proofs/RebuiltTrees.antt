@@ -20,7 +20,7 @@ use Rattle.wu_tree.specs.FileSystems.{FileSystem, Link, place_cmp, node_of, is_d
 use Rattle.wu_tree.specs.Inodes.{nodes_in, users_in, kind_of, file_system, IsHeld, IsSound, height_in, height_at, higher_of}
 use Rattle.wu_tree.specs.Lists.{ascends, below, child_test, first_height, hold_of, hung_of, inode_of, link_of, link_test, linked_test, listed, number_test, order_test, place_test, reached_test, user_of}
 use Rattle.wu_tree.specs.Rules.{IsLink, IsNumbered, Hangs, IsTree}
-use Rattle.wu_tree.proofs.MapEntries.{All-map}
+use Rattle.wu_base.proofs.MapEntries.{All-map}
 use Rattle.wu_tree.proofs.PathsDown.{parent_there}
 use Rattle.wu_tree.proofs.DirectoryHeights.{higher_is_parent}
 use Rattle.wu_tree.proofs.ParentPaths.{directory_found}

@@ -24,7 +24,7 @@ use Rattle.wu_tree.specs.FileSystems.{FileSystem, IsLeaf, Link, Place, place_cmp
 use Rattle.wu_tree.specs.Steps.{without_link, with_link_moved, renamed, is_too_deep}
 use Rattle.wu_tree.specs.Paths.{through, steps_to}
 use Rattle.wu_tree.specs.Rules.{IsLink, Hangs, IsTree}
-use Rattle.wu_tree.proofs.MapEntries.{is_equal, All-found, All-map, All-map2, All-set_number, All-remove_entry, set_value-read, lookup-remove_other, none_left, insert-remove_same, remove-insert_apart, ascend-remove_entry}
+use Rattle.wu_base.proofs.MapEntries.{is_equal, All-found, All-map, All-map2, All-set_number, All-remove_entry, set_value-read, lookup-remove_other, none_left, insert-remove_same, remove-insert_apart, ascend-remove_entry}
 use Rattle.wu_tree.proofs.ParentPaths.{directory_found, place_total, place_exact, same_number, same_path, leaf_links, SameElsewhere}
 use Rattle.wu_tree.proofs.LinkRemovals.{drop_around, child_no_root, apart_from}
 use Rattle.wu_tree.proofs.PathsUp.{moved, same_count, same_parent, parent_moved, moved_no_root, move_keeps, StaysShallow, stays_shallow, file_above, file_path}

@@ -23,7 +23,7 @@ use Rattle.wu_tree.specs.Inodes.{node_in, nodes_in, users_in, file_system, IsHel
 use Rattle.wu_tree.specs.FileSystems.{FileSystem, IsLeaf, Place, Link, place_cmp, node_of, child_of, is_directory, is_there, is_file, is_file_node, is_directory_node, parent_of, is_kind_file, link_count, is_name, depth}
 use Rattle.wu_tree.specs.Rules.{IsTree, IsLink, Hangs}
 use Rattle.wu_tree.specs.Steps.{with_perm, with_node, with_link, without_link}
-use Rattle.wu_tree.proofs.MapEntries.{ascend-insert_entry, set_value-read, insert_entry-read, remove_entry-read, remove_entry-insert_entry, All-insert_entry, All-map, All-map2, All-found, All-remove_entry, All-set_number, counted-remove_entry, none_left, number_itself}
+use Rattle.wu_base.proofs.MapEntries.{ascend-insert_entry, set_value-read, insert_entry-read, remove_entry-read, remove_entry-insert_entry, All-insert_entry, All-map, All-map2, All-found, All-remove_entry, All-set_number, counted-remove_entry, none_left, number_itself}
 use Rattle.wu_tree.proofs.ParentPaths.{same_number, same_held, reached, linked, leaf_links, SameElsewhere}
 use Rattle.wu_tree.proofs.NewLinks.{link_keeps, link_around, one_more}
 use Rattle.wu_tree.proofs.LinkRemovals.{drop_around, one_fewer, child_no_root, gone_keeps, kept_keeps, is_gone, is_kept}

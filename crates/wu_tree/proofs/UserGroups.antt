@@ -7,7 +7,7 @@ use Rattle.std.specs.Map.{lookup}
 use Rattle.std.specs.BTreeMap.{is_at}
 use Rattle.wu_tree.specs.FileSystems.{FileSystem, groups_of}
 use Rattle.wu_tree.specs.Rules.{IsTree}
-use Rattle.wu_tree.proofs.MapEntries.{All-found}
+use Rattle.wu_base.proofs.MapEntries.{All-found}
 
 pub groups_ascend : (fs : FileSystem) → IsTree fs → (uid : ℕ) → IsStrictlySortedBy nat_cmp (groups_of fs uid)
 unfolding IsStrictlySortedBy

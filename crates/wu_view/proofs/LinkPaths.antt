@@ -13,7 +13,7 @@ use Rattle.wu_tree.specs.declared.events.Kind.{Kind}
 use Rattle.wu_tree.specs.declared.events.Kind.TheVariants.{Directory, File}
 use Rattle.wu_tree.specs.FileSystems.{FileSystem, Link, is_directory, is_kind_file, node_of, link_count, parent_of, ancestors, above, path_up, depth}
 use Rattle.wu_tree.specs.Rules.{IsLink, Hangs, IsTree}
-use Rattle.wu_tree.proofs.MapEntries.{All-found}
+use Rattle.wu_base.proofs.MapEntries.{All-found}
 use Rattle.wu_tree.proofs.ParentPaths.{same_number, directory_found, reached, has_root, path_is, path_below, path_of_root}
 use Rattle.wu_view.specs.Views.{name_of, directory_path, path_of, may, is_open}
 use Rattle.wu_base.proofs.Members.{Has, all_has}

@@ -23,8 +23,8 @@ use Rattle.wu_tree.specs.Steps.{refusal_of, next, effect_of, no_effect, dropped_
 use Rattle.wu_tree.specs.Steps.{IsEvent}
 use Rattle.wu_tree.specs.Steps.{step as tree_step}
 use Rattle.wu_tree.specs.Effects.{TellsFiles}
-use Rattle.wu_tree.proofs.MapEntries.{ascend-insert_entry, ascend-remove_entry, lookup-insert_entry, lookup-remove_other}
-use Rattle.wu_tree.proofs.MapEntries.{none_left, number_itself}
+use Rattle.wu_base.proofs.MapEntries.{ascend-insert_entry, ascend-remove_entry, lookup-insert_entry, lookup-remove_other}
+use Rattle.wu_base.proofs.MapEntries.{none_left, number_itself}
 use Rattle.wu_tree.proofs.ParentPaths.{same_number}
 use Rattle.wu_tree.proofs.LinkRemovals.{apart_from}
 use Rattle.wu_tree.proofs.EffectLemmas.{effects_tell_files}

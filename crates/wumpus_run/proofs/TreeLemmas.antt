@@ -28,7 +28,7 @@ use Rattle.wu_tree.specs.Steps.{Rule, first_of, mkdir_rules, create_rules, link_
 use Rattle.wu_tree.specs.Steps.{named, is_link_to, is_too_deep, refusal_of, next, effect_of, unless_refused, IsEvent}
 use Rattle.wu_tree.specs.Steps.{with_node, with_user, with_perm, without_link, with_link_moved}
 use Rattle.wu_tree.specs.Steps.{step as tree_step}
-use Rattle.wu_tree.proofs.MapEntries.{All-found, All-insert_entry, All-map, ascend-insert_entry}
+use Rattle.wu_base.proofs.MapEntries.{All-found, All-insert_entry, All-map, ascend-insert_entry}
 use Rattle.wu_tree.proofs.ParentPaths.{reached, leaf_links}
 use Rattle.wu_tree.proofs.NewNodes.{node_keeps}
 use Rattle.wu_tree.proofs.NewLinks.{link_keeps}

@@ -7,7 +7,7 @@ use Rattle.std.specs.BTreeMap.{is_at}
 use Rattle.wu_tree.specs.declared.tallies.Hung.{Hung}
 use Rattle.wu_tree.specs.FileSystems.{Link}
 use Rattle.wu_tree.specs.Lists.{hung_of, link_of, one_more}
-use Rattle.wu_tree.proofs.MapEntries.{lookup-insert_entry}
+use Rattle.wu_base.proofs.MapEntries.{lookup-insert_entry}
 use Rattle.wu_tree.proofs.ListTests.{more_mapped}
 use Rattle.wu_tree.proofs.ReachedDirectories.{hung-append}
 use Rattle.wu_tree.proofs.tallies.tally.Goals as goal

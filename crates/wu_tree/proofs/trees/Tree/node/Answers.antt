@@ -5,7 +5,7 @@ use Rattle.std.specs.BTreeMap.{is_at}
 use Rattle.std.specs.Ordering.{nat_cmp}
 use Rattle.wu_tree.specs.Inodes.{node_in}
 use Rattle.wu_tree.specs.Rules.{IsNumbered}
-use Rattle.wu_tree.proofs.MapEntries.{All-found}
+use Rattle.wu_base.proofs.MapEntries.{All-found}
 use Rattle.wu_tree.proofs.trees.Tree.node.Goals as goal
 
 pub returns-in-Some-clause-node : goal.returns-in-Some-clause-node
