@@ -1,1 +1,4 @@
 pub mod Postings
+pub mod Layouts
+pub mod Invariants
+pub mod Steps

@@ -31,6 +31,10 @@ is_in range address = nat_le range.start address && nat_lt address (range.start 
 abbrev pub cut : Range → List Posting → List Posting
 cut range postings = filter (λ posting. is_in range posting.address) postings
 
+-- some of the postings have addresses in the range
+abbrev pub has_some : Range → List Posting → Bool
+has_some range postings = list_any (λ posting. is_in range posting.address) postings
+
 -- the address is in one of the live ranges
 abbrev pub is_live : List Range → ℕ → Bool
 is_live ranges address = list_any (λ range. is_in range address) ranges
