@@ -1,1 +1,3 @@
 pub mod PostingLemmas
+pub mod EntryLemmas
+pub mod RangeLemmas
