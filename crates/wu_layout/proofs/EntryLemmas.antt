@@ -1,12 +1,12 @@
 -- What is kept of each file, after the entry of one is put in or taken out.
-use Rattle.std.proofs.Common.{◌≡◌, ◌≢◌, ℕ, Bool, false, List, [], ◌∷◌, Option, Some, None, IfSome, refl, sym, ◌∙◌, subst}
+use Rattle.std.proofs.Common.{◌≡◌, ◌≢◌, ℕ, false, List, Option, Some, None, IfSome, refl, sym, ◌∙◌, subst}
 use Rattle.std.specs.Ordering.{nat_cmp, is_eq}
 use Rattle.std.specs.Cmp.{nat_cmp_total}
 use Rattle.std.specs.List.Sorted.{IsStrictlySortedBy}
-use Rattle.std.specs.Map.{keys_of, lookup, remove_entry}
+use Rattle.std.specs.Map.{keys_of, remove_entry}
 use Rattle.std.specs.BTreeMap.{is_at, insert_entry}
 use Rattle.std.proofs.lemmas.Bool.{false_from_ne_true}
-use Rattle.std.proofs.lemmas.Map.{NonePasses}
+use Rattle.std.proofs.lemmas.Map.{lookup-none}
 use Rattle.std.proofs.lemmas.Map.Lookups.{exact_unsigned}
 use Rattle.wu_base.proofs.MapEntries.{is_equal, number_itself, none_left, lookup-insert_entry, lookup-remove_other}
 use Rattle.wu_layout.specs.Layouts.{FileEntry, entry_of}
@@ -31,10 +31,6 @@ module _ {X : Type 0} where
   pub IfSome-found : (P : X → Type 0) (o : Option X) (x : X) → o ≡ Some x → IfSome o P → P x
   IfSome-found P o x e h = subst (λ y. IfSome y P) e h
 
-  nothing_found : (test : ℕ → Bool) (es : List (ℕ × X)) → NonePasses test es → lookup test es ≡ None
-  nothing_found test [] n = refl
-  nothing_found test (e ∷ es) n = rw n.0 (nothing_found test es n.1)
-
 pub other_number : (n ino : ℕ) → n ≢ ino → is_eq (nat_cmp n ino) ≡ false
 other_number n ino h = false_from_ne_true (is_eq (nat_cmp n ino)) (λ e. h (exact_unsigned n ino (is_equal _ e)))
 
@@ -48,7 +44,7 @@ module _ (files : List (ℕ × FileEntry)) (ino : ℕ) where
 
   -- an entry taken out
   pub none_after_removal : IsStrictlySortedBy nat_cmp (keys_of files) → entry_of (remove_entry (is_at (nat_cmp ino)) files) ino ≡ None
-  none_after_removal s = nothing_found (is_at (nat_cmp ino)) _ (none_left ino files s)
+  none_after_removal s = lookup-none (is_at (nat_cmp ino)) _ (none_left ino files s)
 
   pub others_after_removal : (n : ℕ) → n ≢ ino → entry_of (remove_entry (is_at (nat_cmp ino)) files) n ≡ entry_of files n
   others_after_removal n h =

@@ -1,3 +1,5 @@
 pub mod PostingLemmas
 pub mod EntryLemmas
 pub mod RangeLemmas
+pub mod HomeLemmas
+pub mod TextLemmas
