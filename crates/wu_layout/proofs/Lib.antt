@@ -3,3 +3,5 @@ pub mod EntryLemmas
 pub mod RangeLemmas
 pub mod HomeLemmas
 pub mod TextLemmas
+pub mod BlobLemmas
+pub mod Updates
