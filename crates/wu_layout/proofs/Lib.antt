@@ -5,3 +5,4 @@ pub mod HomeLemmas
 pub mod TextLemmas
 pub mod BlobLemmas
 pub mod Updates
+pub mod KeptLemmas
