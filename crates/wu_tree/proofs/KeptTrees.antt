@@ -1,7 +1,6 @@
 -- An accepted event leaves a tree.
-use Rattle.std.proofs.Common.{◌≡◌, ◌≢◌, ℕ, ◌<◌, ◌≤◌, List, [], ◌∷◌, Bool, true, false, cond, not, refl, ap, sym, ◌∙◌, subst, inl, inr}
-use Rattle.std.specs.Prelude.{◌&&◌, ◌||◌, ◌⊎◌, ◌==◌, Option, Some, None, Result, Ok, is_some}
-use Rattle.std.specs.Result.{result_unwrap_or}
+use Rattle.std.proofs.Common.{◌≡◌, ◌≢◌, ℕ, ◌<◌, ◌≤◌, List, [], true, false, cond, not, refl, ap, sym, ◌∙◌, subst, inl, inr}
+use Rattle.std.specs.Prelude.{◌||◌, ◌==◌, Option, Some, None, Ok, is_some}
 use Rattle.std.specs.Ordering.{nat_cmp}
 use Rattle.std.specs.Cmp.{nat_cmp_total}
 use Rattle.std.specs.List.{AllByRecursion}
@@ -18,18 +17,18 @@ use Rattle.wu_tree.specs.declared.events.Node.{Node}
 use Rattle.wu_tree.specs.declared.events.Event.{Event}
 use Rattle.wu_tree.specs.declared.events.Event.TheVariants.{User, Mkdir, Create, Text, Link, Unlink, Rmdir, Rename, Chmod, Chown}
 use Rattle.wu_tree.specs.declared.events.Effect.{Effect}
-use Rattle.wu_tree.specs.declared.events.Refusal.{Refusal}
-use Rattle.wu_tree.specs.FileSystems.{FileSystem, IsLeaf, place_cmp, is_name, node_of, child_of, is_there, is_file, is_file_node}
-use Rattle.wu_tree.specs.FileSystems.{is_directory, is_directory_node, is_kind_file, is_used, has_entries}
+use Rattle.wu_tree.specs.FileSystems.{FileSystem, IsLeaf, place_cmp, is_name, node_of, child_of, is_there, is_file}
+use Rattle.wu_tree.specs.FileSystems.{is_directory, is_used, has_entries}
 use Rattle.wu_tree.specs.FileSystems.{is_within, link_count, path_up, depth}
 use Rattle.wu_tree.specs.Paths.{through}
 use Rattle.wu_tree.specs.Rules.{IsTree, IsLink, IsNumbered}
-use Rattle.wu_tree.specs.Steps.{Rule, first_of, mkdir_rules, create_rules, link_rules, unlink_rules, rmdir_rules, rename_rules, move_rules}
-use Rattle.wu_tree.specs.Steps.{named, is_link_to, is_too_deep, refusal_of, next, effect_of, unless_refused, IsEvent}
+use Rattle.wu_tree.specs.Steps.{mkdir_rules, create_rules, link_rules, unlink_rules, rmdir_rules, rename_rules, move_rules}
+use Rattle.wu_tree.specs.Steps.{named, is_link_to, is_too_deep, refusal_of, next, effect_of, IsEvent}
 use Rattle.wu_tree.specs.Steps.{with_node, with_user, with_perm, without_link, with_link_moved}
 use Rattle.wu_tree.specs.Steps.{step as tree_step}
 use Rattle.wu_base.proofs.MapEntries.{All-found, All-insert_entry, All-map, ascend-insert_entry}
 use Rattle.wu_tree.proofs.ParentPaths.{reached, leaf_links}
+use Rattle.wu_tree.proofs.EventRules.{NoneApplies, IsPlace, none_applies, accepted, not_false, one_is_false, second_is_false, kind_file, absent, present, same_some, place}
 use Rattle.wu_tree.proofs.NewNodes.{node_keeps}
 use Rattle.wu_tree.proofs.NewLinks.{link_keeps}
 use Rattle.wu_tree.proofs.LinkRemovals.{gone_keeps, kept_keeps, is_gone, is_kept}
@@ -37,67 +36,6 @@ use Rattle.wu_tree.proofs.Permissions.{perm_keeps}
 use Rattle.wu_tree.proofs.PathsUp.{move_keeps}
 use Rattle.wu_tree.proofs.Renames.{Above, conditions, places_apart, left_fs, is_left, left_found, left_free, left_directory, left_path}
 use Rattle.wu_tree.proofs.Renames.{left_above, parent_apart}
-
--- ---- what it takes that no rule refuses
-
-abbrev Passes : List Rule → Type 0
-Passes rules = AllByRecursion (λ rule. rule.0 ≡ false) rules
-
-first_rule : (rule : Rule) (rules : List Rule) → first_of (rule ∷ rules) ≡ None → (rule.0 ≡ false) × (first_of rules ≡ None)
-first_rule rule rules h =
-    elim rule.0 as (λ b. cond b (Some rule.1) (first_of rules) ≡ None → (b ≡ false) × (first_of rules ≡ None)) [
-      | true ↦ λ g. absurd cc
-      | false ↦ λ g. (refl, g)
-    ] h
-
-passes : (rules : List Rule) → first_of rules ≡ None → Passes rules
-passes [] h = tt
-passes (rule ∷ rules) h = let f = first_rule rule rules h in (f.0, passes rules f.1)
-
-not_false : (b : Bool) → not b ≡ false → b ≡ true
-not_false true h = refl
-not_false false h = absurd cc
-
-one_is_false : (a b : Bool) → (a && b) ≡ false → (a ≡ false) ⊎ (b ≡ false)
-one_is_false true b h = inr h
-one_is_false false b h = inl refl
-
-second_is_false : (a b : Bool) → (a && b) ≡ false → a ≡ true → b ≡ false
-second_is_false true b h e = h
-second_is_false false b h e = absurd cc
-
--- ---- nodes and links that there are
-
-kind_directory : (o : Option Node) → is_some o ≡ true → is_file_node o ≡ false → is_directory_node o ≡ true
-kind_directory None h g = absurd cc
-kind_directory (Some node) h g = ap not g
-
-kind_file : (o : Option Node) → is_some o ≡ true → is_directory_node o ≡ false → is_file_node o ≡ true
-kind_file None h g = absurd cc
-kind_file (Some node) h g = not_false (is_kind_file node.kind) g
-
-absent : {T : Type 0} (o : Option T) → is_some o ≡ false → o ≡ None
-absent None h = refl
-absent (Some x) h = absurd cc
-
-present : (o : Option ℕ) → is_some o ≡ true → (c : ℕ) × (o ≡ Some c)
-present None h = absurd cc
-present (Some c) h = (c, refl)
-
-some_same : (a b : ℕ) → Some a ≡ Some b → a ≡ b
-some_same a b h = cc
-
--- what is asked of a name in a directory
-record IsPlace (fs : FileSystem) (parent : ℕ) (name : List ℕ) : Type 0 where
-  pub directory : is_directory fs parent ≡ true
-  pub valid : is_name name ≡ true
-
-place : (fs : FileSystem) (parent : ℕ) (name : List ℕ) → not (is_name name) ≡ false → not (is_there fs parent) ≡ false
-    → is_file fs parent ≡ false → IsPlace fs parent name
-place fs parent name n t f = record {
-  directory = kind_directory (node_of fs parent) (not_false (is_there fs parent) t) f;
-  valid = not_false (is_name name) n;
-}
 
 module _ (fs : FileSystem) (t : IsTree fs) where
   -- ---- users
@@ -162,13 +100,13 @@ module _ (fs : FileSystem) (t : IsTree fs) where
     no_root : c ≢ 1
     no_root = (All-found (IsLink fs) (is_at (place_cmp (parent, name))) fs.links c t.links found).2.no_root
 
-    asked : (o : Option ℕ) → Passes (move_rules fs c new_parent o)
+    asked : (o : Option ℕ) → NoneApplies (move_rules fs c new_parent o)
         → (through c (path_up fs.links new_parent) ≡ false) × AllByRecursion (Above fs.links c new_parent) fs.nodes
     asked o a =
         conditions fs t c new_parent no_root p.directory (second_is_false (is_directory fs c) (is_within fs.links c new_parent) a.0)
         (second_is_false (is_directory fs c) (is_too_deep fs c new_parent) a.1.1.1.0)
 
-    moved_keeps : (o : Option ℕ) → child_of fs new_parent new_name ≡ o → is_link_to c o ≡ false → Passes (move_rules fs c new_parent o)
+    moved_keeps : (o : Option ℕ) → child_of fs new_parent new_name ≡ o → is_link_to c o ≡ false → NoneApplies (move_rules fs c new_parent o)
         → IsTree (with_link_moved (cond (is_some o) (without_link fs new_parent new_name) fs) parent name new_parent new_name c)
     moved_keeps None free e a =
         let r = asked None a in
@@ -182,7 +120,7 @@ module _ (fs : FileSystem) (t : IsTree fs) where
         let is : without_link fs new_parent new_name ≡ left = is_left fs t new_parent new_name tg there bare in
         let tree : IsTree left = subst IsTree is (removed_keeps new_parent new_name tg there leaf) in
         let gap : new_parent ≢ tg = parent_apart fs t new_parent new_name tg there bare in
-        let apart = places_apart fs.links (parent, name) (new_parent, new_name) (Some tg) c found there (λ h. other (some_same tg c h)) in
+        let apart = places_apart fs.links (parent, name) (new_parent, new_name) (Some tg) c found there (λ h. other (same_some tg c h)) in
         subst (λ (v : FileSystem). IsTree (with_link_moved v parent name new_parent new_name c)) (sym is)
         (move_keeps left tree parent name new_parent new_name c
         (left_found fs t new_parent new_name tg there bare parent name c apart found)
@@ -196,40 +134,40 @@ module _ (fs : FileSystem) (t : IsTree fs) where
   next_keeps : (event : Event) → IsEvent event → refusal_of fs event ≡ None → IsTree (next fs event)
   next_keeps (User uid groups) v h = user_keeps uid groups
   next_keeps (Mkdir ino parent name perm) v h =
-      let a = passes (mkdir_rules fs ino parent name) h in
+      let a = none_applies (mkdir_rules fs ino parent name) h in
       made_keeps ino parent name (record { kind = Directory; perm = perm }) (place fs parent name a.0 a.1.0 a.1.1.0) a.1.1.1.0 v
       (λ e. leb-false 255 (depth fs.links parent) a.1.1.1.1.0)
   next_keeps (Create ino parent name perm) v h =
-      let a = passes (create_rules fs ino parent name) h in
+      let a = none_applies (create_rules fs ino parent name) h in
       made_keeps ino parent name (record { kind = File; perm = perm }) (place fs parent name a.0 a.1.0 a.1.1.0) a.1.1.1.0 v
       (λ e. absurd cc)
   next_keeps (Text ino) v h = t
   next_keeps (Link ino parent name) v h =
-      let a = passes (link_rules fs ino parent name) h in
+      let a = none_applies (link_rules fs ino parent name) h in
       let there = or_parts (not (is_there fs ino)) (not (is_there fs parent)) a.1.0 in
       let kinds = or_parts (is_directory fs ino) (is_file fs parent) a.1.1.0 in
       let p = place fs parent name a.0 there.1 kinds.1 in
       link_keeps fs t ino parent name (kind_file (node_of fs ino) (not_false (is_there fs ino) there.0) kinds.0)
       (absent (child_of fs parent name) a.1.1.1.0) p.directory p.valid
   next_keeps (Unlink parent name) v h =
-      let a = passes (unlink_rules fs parent name) h in
+      let a = none_applies (unlink_rules fs parent name) h in
       let f = present (child_of fs parent name) (not_false (is_used fs parent name) a.1.1.1.0) in
       removed_keeps parent name f.0 f.1 (inl (subst (λ x. is_directory fs x ≡ false) (ap named f.1) a.1.1.1.1.0))
   next_keeps (Rmdir parent name) v h =
-      let a = passes (rmdir_rules fs parent name) h in
+      let a = none_applies (rmdir_rules fs parent name) h in
       let f = present (child_of fs parent name) (not_false (is_used fs parent name) a.1.1.1.0) in
       removed_keeps parent name f.0 f.1 (inr (subst (λ x. has_entries fs.links x ≡ false) (ap named f.1) a.1.1.1.1.1.0))
   next_keeps (Rename parent name new_parent new_name) v h =
-      let a = passes (rename_rules fs parent name new_parent new_name) h in
+      let a = none_applies (rename_rules fs parent name new_parent new_name) h in
       let names = or_parts (not (is_name name)) (not (is_name new_name)) a.0 in
       let there = or_parts (not (is_there fs parent)) (not (is_there fs new_parent)) a.1.0 in
       let kinds = or_parts (is_file fs parent) (is_file fs new_parent) a.1.1.0 in
       let f = present (child_of fs parent name) (not_false (is_used fs parent name) a.1.1.1.0) in
       let o : Option ℕ = child_of fs new_parent new_name in
       let to : FileSystem = cond (is_some o) (without_link fs new_parent new_name) fs in
-      subst (λ x. Passes (cond (is_link_to x o) [] (move_rules fs x new_parent o))
+      subst (λ x. NoneApplies (cond (is_link_to x o) [] (move_rules fs x new_parent o))
       → IsTree (cond (is_link_to x o) fs (with_link_moved to parent name new_parent new_name x))) (sym (ap named f.1))
-      (elim (is_link_to f.0 o) as (λ b. is_link_to f.0 o ≡ b → Passes (cond b [] (move_rules fs f.0 new_parent o))
+      (elim (is_link_to f.0 o) as (λ b. is_link_to f.0 o ≡ b → NoneApplies (cond b [] (move_rules fs f.0 new_parent o))
       → IsTree (cond b fs (with_link_moved to parent name new_parent new_name f.0))) [
         | true ↦ λ e r. t
         | false ↦ λ e r.
@@ -241,16 +179,8 @@ module _ (fs : FileSystem) (t : IsTree fs) where
   next_keeps (Chown ino uid gid) v h =
       perm_change (λ perm. record perm { uid = uid; gid = gid }) ino (node_of fs ino) refl (λ perm low. low)
 
-  accepted_next : (o : Option Refusal) (to after : FileSystem) (told effect : Effect) → unless_refused o to told ≡ Ok (after, effect)
-      → (o ≡ None) × (to ≡ after)
-  accepted_next None to after told effect h = (
-    refl,
-    ap (λ (r : Result (FileSystem × Effect) Refusal). (result_unwrap_or r (to, told)).0) h,
-  )
-  accepted_next (Some refusal) to after told effect h = absurd cc
-
   pub step_keeps : (event : Event) (after : FileSystem) (effect : Effect) → IsEvent event → tree_step fs event ≡ Ok (after, effect)
       → IsTree after
   step_keeps event after effect v h =
-      let a = accepted_next (refusal_of fs event) (next fs event) after (effect_of fs event) effect h in
-      subst IsTree a.1 (next_keeps event v a.0)
+      let a = accepted (refusal_of fs event) (next fs event) after (effect_of fs event) effect h in
+      subst IsTree a.1.0 (next_keeps event v a.0)
