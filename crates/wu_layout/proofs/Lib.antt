@@ -6,3 +6,5 @@ pub mod TextLemmas
 pub mod BlobLemmas
 pub mod Updates
 pub mod KeptLemmas
+pub mod ExchangeLemmas
+pub mod Flushes
