@@ -34,7 +34,7 @@ module _ (text : Text) (entry : FileEntry) where
       let empty : length text.terms ≡ 0 = sym (length-placed entry.range.start text.terms) ∙ ap length (sym none) in
       let all : length (cut entry.range (ps ++ (qs ++ zs))) ≡ 0 = ap length whole ∙ length-placed entry.range.start text.terms ∙ empty in
       let split : length (cut entry.range (ps ++ (qs ++ zs)))
-          ≡ length (cut entry.range ps) + (length (cut entry.range qs) + length (cut entry.range zs)) =
+      ≡ length (cut entry.range ps) + (length (cut entry.range qs) + length (cut entry.range zs)) =
       ap length (cut-append entry.range ps (qs ++ zs))
       ∙ length-append (cut entry.range ps) (cut entry.range (qs ++ zs))
       ∙ ap (λ (n : ℕ). length (cut entry.range ps) + n)

@@ -179,9 +179,13 @@ module _ (text : Text) (range : Range) where
         ⊎_elim
         (λ m.
         let long : length (cut range (flat middle)) ≤ length text.terms =
-        omega (arith, cut_long (flat Before) w, ap length flat_before,
-        length-append (cut range (flat front)) (cut range (flat middle) ++ cut range (flat back)),
-        length-append (cut range (flat middle)) (cut range (flat back))) in
+        omega (
+          arith,
+          cut_long (flat Before) w,
+          ap length flat_before,
+          length-append (cut range (flat front)) (cut range (flat middle) ++ cut range (flat back)),
+          length-append (cut range (flat middle)) (cut range (flat back)),
+        ) in
         SomeOf-right Has front (kept ∷ back) (inl (same ∙ together middle m long)))
         (λ c. SomeOf-right Has front (kept ∷ back) (inr c))
         (SomeOf-cases Has middle back b))
