@@ -1,6 +1,5 @@
 -- What a flush and a checkpoint do to the layout.
 use Rattle.std.proofs.Common.{◌≡◌, ◌⊎◌, ℕ, ◌+◌, ◌^◌, ◌<◌, ◌≤◌, ◌==◌, nat_le, Bool, true, false, cond, List, [], ◌∷◌, ◌++◌, length, map, take, drop, Option, Some, None, IfSome, if◌then◌else◌, refl, ap, sym, ◌∙◌, subst, arith, ⊎_elim, append-nil, length-take, length-drop}
-use Rattle.std.specs.List.{AllByRecursion}
 use Rattle.std.proofs.lemmas.Bool.{cases_eq}
 use Rattle.std.proofs.lemmas.List.{map-append, take-append-le, drop-append-le}
 use Rattle.std.proofs.lemmas.List.Sums.{sum_by_push}
@@ -9,13 +8,9 @@ use Rattle.wu_layout.specs.Layouts.{Text, FileEntry, Part, Job, Layout, entry_of
 use Rattle.wu_layout.specs.Invariants.{AddressesAscend, TextsAreIndexed, NeverRise, GenerationsAreBounded, MayBeTaken, IsSuffixOf, IsAmong, JobIsUnderWay, times_named, BlobsAreDistinct, IsLayoutOf}
 use Rattle.wu_layout.specs.Steps.{flushed, flush, flush_if_full, checkpointed, save, rest}
 use Rattle.wu_layout.proofs.BlobLemmas.{once, once_same, once_other}
+use Rattle.wu_layout.proofs.EachLemmas.{each-append}
 use Rattle.wu_layout.proofs.KeptLemmas.{IsKeptOf, live_is_kept}
 use Rattle.wu_layout.proofs.ExchangeLemmas.{AreHomes, homes_with, homes_exchanged}
-
-module _ {X : Type 0} (P : X → Type 0) where
-  pub AllByRecursion-append : (xs ys : List X) → AllByRecursion P xs → AllByRecursion P ys → AllByRecursion P (xs ++ ys)
-  AllByRecursion-append [] ys a b = b
-  AllByRecursion-append (x ∷ xs) ys a b = (a.0, AllByRecursion-append xs ys a.1 b)
 
 -- ---- postings
 
@@ -42,7 +37,7 @@ module _ (text_of : ℕ → Text) (files : List (ℕ × FileEntry)) (next : ℕ)
 never_rise_push : (parts : List Part) (part : Part) → part.generation ≡ 0 → NeverRise parts → NeverRise (parts ++ part ∷ [])
 never_rise_push [] part z n = (tt, tt)
 never_rise_push (first ∷ parts) part z n = (
-  AllByRecursion-append (λ later. later.generation ≤ first.generation) parts (part ∷ []) n.0 (omega arith, tt),
+  each-append (λ later. later.generation ≤ first.generation) parts (part ∷ []) n.0 (omega arith, tt),
   never_rise_push parts part z n.1,
 )
 
@@ -157,7 +152,7 @@ module _ (is_file : ℕ → Bool) (text_of : ℕ → Text) where
         ranges = d.ranges;
         addresses = record {
           ascend = homes.ascend;
-          filled = AllByRecursion-append (λ p. 0 < length p.postings) layout.parts (part ∷ []) d.addresses.filled (omega arith, tt);
+          filled = each-append (λ p. 0 < length p.postings) layout.parts (part ∷ []) d.addresses.filled (omega arith, tt);
         };
         texts = record { each = homes.each };
         generations =

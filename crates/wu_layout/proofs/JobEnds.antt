@@ -1,0 +1,1 @@
+-- What the end of a job does to the layout.
