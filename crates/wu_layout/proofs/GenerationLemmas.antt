@@ -29,8 +29,7 @@ left_of (first ∷ before) part after n =
 pub never_rise_without : (before taken after : List Part) → NeverRise (before ++ (taken ++ after)) → NeverRise (before ++ after)
 never_rise_without [] taken after n = never_rise_right taken after n
 never_rise_without (first ∷ before) taken after n =
-    let up = λ (later : Part). later.generation ≤ first.generation in
-    (
+    let up = λ (later : Part). later.generation ≤ first.generation in (
       each-append up before after
           (each_left up before (taken ++ after) n.0)
           (each_right up taken after (each_right up before (taken ++ after) n.0)),
@@ -42,8 +41,7 @@ pub never_rise_between : (before after : List Part) (part : Part) → NeverRise 
     → AreUpTo part.generation after → NeverRise (before ++ part ∷ after)
 never_rise_between [] after part n from to = (to, n)
 never_rise_between (first ∷ before) after part n from to =
-    let up = λ (later : Part). later.generation ≤ first.generation in
-    (
+    let up = λ (later : Part). later.generation ≤ first.generation in (
       each-append up before (part ∷ after) (each_left up before after n.0) (from.0, each_right up before after n.0),
       never_rise_between before after part n.1 from.1 to,
     )
@@ -86,8 +84,13 @@ made_cost before (part ∷ []) m =
 made_cost before (left ∷ right ∷ []) m =
     let twice : 2 ^ (left.generation + 1) ≡ 2 ^ left.generation * 2 = pow-add 2 left.generation 1 in
     let alike : 2 ^ left.generation ≡ 2 ^ right.generation = ap (λ (g : ℕ). 2 ^ g) m.0 in
-    omega (arith, twice, alike, sum_by-cons (λ (p : Part). 2 ^ p.generation) left (right ∷ []),
-    sum_by-cons (λ (p : Part). 2 ^ p.generation) right [])
+    omega (
+      arith,
+      twice,
+      alike,
+      sum_by-cons (λ (p : Part). 2 ^ p.generation) left (right ∷ []),
+      sum_by-cons (λ (p : Part). 2 ^ p.generation) right [],
+    )
 made_cost before (first ∷ second ∷ third ∷ more) m = absurd m
 
 flushes_split : (before taken after : List Part)
@@ -104,5 +107,11 @@ pub flushes_made : (before taken after : List Part) (part : Part) → MayBeTaken
     → flushes_for (before ++ part ∷ after) ≤ flushes_for (before ++ (taken ++ after))
 flushes_made before taken after part m e =
     let cost : 2 ^ part.generation ≡ 2 ^ made_generation taken = ap (λ (g : ℕ). 2 ^ g) e in
-    omega (arith, cost, made_cost before taken m, flushes_split before taken after,
-    sum_by-append (λ (p : Part). 2 ^ p.generation) before (part ∷ after), sum_by-cons (λ (p : Part). 2 ^ p.generation) part after)
+    omega (
+      arith,
+      cost,
+      made_cost before taken m,
+      flushes_split before taken after,
+      sum_by-append (λ (p : Part). 2 ^ p.generation) before (part ∷ after),
+      sum_by-cons (λ (p : Part). 2 ^ p.generation) part after,
+    )

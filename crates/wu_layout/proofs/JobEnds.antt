@@ -5,7 +5,7 @@ use Rattle.std.proofs.lemmas.List.{map-append}
 use Rattle.std.proofs.lemmas.List.Folds.{flat_map-map}
 use Rattle.wu_layout.specs.Postings.{Posting, live_of}
 use Rattle.wu_layout.specs.Layouts.{Text, FileEntry, Part, Job, Layout, stored_in, homes_of, parts_before, parts_taken, parts_after}
-use Rattle.wu_layout.specs.Invariants.{AddressesAscend, TextsAreIndexed, GenerationsAreBounded, IsUnderWay, times_named, BlobsAreDistinct, IsLayoutOf}
+use Rattle.wu_layout.specs.Invariants.{AddressesAscend, TextsAreIndexed, IsUnderWay, times_named, BlobsAreDistinct, IsLayoutOf}
 use Rattle.wu_layout.specs.Steps.{made_generation, replaced, end_job}
 use Rattle.wu_layout.proofs.HomeLemmas.{parts_split}
 use Rattle.wu_layout.proofs.BlobLemmas.{count-append, count-cons, once, once_same, once_other}
@@ -61,8 +61,12 @@ count_blobs : (number : ℕ) (parts : List Part)
     → count_by (λ other. other == number) (map (λ part. part.blob) parts) ≡ count_by (λ part. part.blob == number) parts
 count_blobs number [] = refl
 count_blobs number (part ∷ parts) =
-    omega (arith, count_blobs number parts, count-cons (λ (other : ℕ). other == number) part.blob (map (λ (p : Part). p.blob) parts),
-    count-cons (λ (p : Part). p.blob == number) part parts)
+    omega (
+      arith,
+      count_blobs number parts,
+      count-cons (λ (other : ℕ). other == number) part.blob (map (λ (p : Part). p.blob) parts),
+      count-cons (λ (p : Part). p.blob == number) part parts,
+    )
 
 module _ (next : ℕ) (files : List (ℕ × FileEntry)) (before taken after : List Part) (check : ℕ) (stale : List ℕ)
     (d : BlobsAreDistinct next files (before ++ (taken ++ after)) check stale) where
@@ -88,8 +92,8 @@ module _ (next : ℕ) (files : List (ℕ × FileEntry)) (before taken after : Li
   blobs_vanished : BlobsAreDistinct next files (before ++ after) check (stale ++ freed)
   blobs_vanished =
       let same : (number : ℕ)
-          → times_named number files (before ++ after) check (stale ++ freed)
-          ≡ times_named number files (before ++ (taken ++ after)) check stale =
+      → times_named number files (before ++ after) check (stale ++ freed)
+      ≡ times_named number files (before ++ (taken ++ after)) check stale =
       λ number. omega (arith, count_split number, freed_count number, count-append (named number) before after) in
       record {
         positive = d.positive;
@@ -102,14 +106,14 @@ module _ (next : ℕ) (files : List (ℕ × FileEntry)) (before taken after : Li
   blobs_made : (part : Part) → part.blob ≡ next → BlobsAreDistinct (next + 1) files (before ++ part ∷ after) check (stale ++ freed)
   blobs_made part e =
       let put : (number : ℕ)
-          → count_by (named number) (before ++ part ∷ after)
-          ≡ count_by (named number) before + (once part.blob number + count_by (named number) after) =
+      → count_by (named number) (before ++ part ∷ after)
+      ≡ count_by (named number) before + (once part.blob number + count_by (named number) after) =
       λ number.
       count-append (named number) before (part ∷ after)
       ∙ ap (λ (n : ℕ). count_by (named number) before + n) (count-cons (named number) part after) in
       let more : (number : ℕ)
-          → times_named number files (before ++ part ∷ after) check (stale ++ freed)
-          ≡ once part.blob number + times_named number files (before ++ (taken ++ after)) check stale =
+      → times_named number files (before ++ part ∷ after) check (stale ++ freed)
+      ≡ once part.blob number + times_named number files (before ++ (taken ++ after)) check stale =
       λ number. omega (arith, count_split number, freed_count number, put number) in
       record {
         positive = omega arith;
@@ -134,17 +138,10 @@ module _ (is_file : ℕ → Bool) (text_of : ℕ → Text) where
       let before : List Part = parts_before job layout.parts in
       let taken : List Part = parts_taken job layout.parts in
       let after : List Part = parts_after job layout.parts in
-      let split : layout.parts ≡ before ++ (taken ++ after) = parts_split job layout.parts in
-      let addresses : AddressesAscend layout.next (before ++ (taken ++ after)) layout.memory =
-      subst (λ ps. AddressesAscend layout.next ps layout.memory) split d.addresses in
-      let texts : TextsAreIndexed text_of layout.files (before ++ (taken ++ after)) layout.memory =
-      subst (λ ps. TextsAreIndexed text_of layout.files ps layout.memory) split d.texts in
-      let generations : GenerationsAreBounded layout.next layout.flushes (before ++ (taken ++ after)) layout.memory =
-      subst (λ ps. GenerationsAreBounded layout.next layout.flushes ps layout.memory) split d.generations in
-      let blobs : BlobsAreDistinct layout.blob layout.files (before ++ (taken ++ after)) layout.check layout.stale =
-      subst (λ ps. BlobsAreDistinct layout.blob layout.files ps layout.check layout.stale) split d.blobs in
+      let s : IsLayoutOf is_file text_of (record layout { parts = before ++ (taken ++ after) }) =
+      subst (λ ps. IsLayoutOf is_file text_of (record layout { parts = ps })) (parts_split job layout.parts) d in
       let homes : AreHomes text_of layout.files layout.next (homes_of (before ++ after) layout.memory) =
-      homes_vanished text_of layout.files layout.next before taken after layout.memory [] k addresses texts refl in
+      homes_vanished text_of layout.files layout.next before taken after layout.memory [] k s.addresses s.texts refl in
       let filled = λ (p : Part). 0 < length p.postings in
       record {
         ranges = d.ranges;
@@ -152,35 +149,28 @@ module _ (is_file : ℕ → Bool) (text_of : ℕ → Text) where
           ascend = homes.ascend;
           filled =
               each-append filled before after
-              (each_left filled before (taken ++ after) addresses.filled)
-              (each_right filled taken after (each_right filled before (taken ++ after) addresses.filled));
+              (each_left filled before (taken ++ after) s.addresses.filled)
+              (each_right filled taken after (each_right filled before (taken ++ after) s.addresses.filled));
         };
         texts = record { each = homes.each };
         generations = record {
-          never_rise = never_rise_without before taken after generations.never_rise;
-          flushed = omega (arith, flushes_without before taken after, generations.flushed);
-          placed = generations.placed;
-          unflushed = generations.unflushed;
+          never_rise = never_rise_without before taken after s.generations.never_rise;
+          flushed = omega (arith, flushes_without before taken after, s.generations.flushed);
+          placed = s.generations.placed;
+          unflushed = s.generations.unflushed;
         };
         work = tt;
-        blobs = blobs_vanished layout.blob layout.files before taken after layout.check layout.stale blobs;
+        blobs = blobs_vanished layout.blob layout.files before taken after layout.check layout.stale s.blobs;
       }
   layout_after_replaced (posting ∷ postings) job layout u k d =
       let before : List Part = parts_before job layout.parts in
       let taken : List Part = parts_taken job layout.parts in
       let after : List Part = parts_after job layout.parts in
       let part : Part = record { blob = layout.blob; generation = made_generation taken; postings = posting ∷ postings } in
-      let split : layout.parts ≡ before ++ (taken ++ after) = parts_split job layout.parts in
-      let addresses : AddressesAscend layout.next (before ++ (taken ++ after)) layout.memory =
-      subst (λ ps. AddressesAscend layout.next ps layout.memory) split d.addresses in
-      let texts : TextsAreIndexed text_of layout.files (before ++ (taken ++ after)) layout.memory =
-      subst (λ ps. TextsAreIndexed text_of layout.files ps layout.memory) split d.texts in
-      let generations : GenerationsAreBounded layout.next layout.flushes (before ++ (taken ++ after)) layout.memory =
-      subst (λ ps. GenerationsAreBounded layout.next layout.flushes ps layout.memory) split d.generations in
-      let blobs : BlobsAreDistinct layout.blob layout.files (before ++ (taken ++ after)) layout.check layout.stale =
-      subst (λ ps. BlobsAreDistinct layout.blob layout.files ps layout.check layout.stale) split d.blobs in
+      let s : IsLayoutOf is_file text_of (record layout { parts = before ++ (taken ++ after) }) =
+      subst (λ ps. IsLayoutOf is_file text_of (record layout { parts = ps })) (parts_split job layout.parts) d in
       let homes : AreHomes text_of layout.files layout.next (homes_of (before ++ part ∷ after) layout.memory) =
-      homes_made text_of layout.files layout.next before taken after layout.memory (posting ∷ postings) k addresses texts part refl in
+      homes_made text_of layout.files layout.next before taken after layout.memory (posting ∷ postings) k s.addresses s.texts part refl in
       let filled = λ (p : Part). 0 < length p.postings in
       record {
         ranges = d.ranges;
@@ -188,18 +178,18 @@ module _ (is_file : ℕ → Bool) (text_of : ℕ → Text) where
           ascend = homes.ascend;
           filled =
               each-append filled before (part ∷ after)
-              (each_left filled before (taken ++ after) addresses.filled)
-              (omega arith, each_right filled taken after (each_right filled before (taken ++ after) addresses.filled));
+              (each_left filled before (taken ++ after) s.addresses.filled)
+              (omega arith, each_right filled taken after (each_right filled before (taken ++ after) s.addresses.filled));
         };
         texts = record { each = homes.each };
         generations = record {
-          never_rise = never_rise_made before taken after part u.taken refl generations.never_rise;
-          flushed = omega (arith, flushes_made before taken after part u.taken refl, generations.flushed);
-          placed = generations.placed;
-          unflushed = generations.unflushed;
+          never_rise = never_rise_made before taken after part u.taken refl s.generations.never_rise;
+          flushed = omega (arith, flushes_made before taken after part u.taken refl, s.generations.flushed);
+          placed = s.generations.placed;
+          unflushed = s.generations.unflushed;
         };
         work = tt;
-        blobs = blobs_made layout.blob layout.files before taken after layout.check layout.stale blobs part refl;
+        blobs = blobs_made layout.blob layout.files before taken after layout.check layout.stale s.blobs part refl;
       }
 
   pub layout_after_job : (job : Job) (layout : Layout) → IsUnderWay layout.files layout.parts job → IsLayoutOf is_file text_of layout

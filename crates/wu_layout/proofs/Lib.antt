@@ -11,3 +11,5 @@ pub mod EachLemmas
 pub mod Flushes
 pub mod GenerationLemmas
 pub mod JobEnds
+pub mod Picks
+pub mod Units
