@@ -106,15 +106,15 @@ abbrev pub flat : List (List Posting) → List Posting
 flat homes = flat_map (λ home. home) homes
 
 module _ {X : Type 0} (P : X → Type 0) where
-  SomeOf-left : (xs ys : List X) → SomeOf P xs → SomeOf P (xs ++ ys)
+  pub SomeOf-left : (xs ys : List X) → SomeOf P xs → SomeOf P (xs ++ ys)
   SomeOf-left [] ys h = absurd h
   SomeOf-left (x ∷ xs) ys h = ⊎_elim (λ a. inl a) (λ b. inr (SomeOf-left xs ys b)) h
 
-  SomeOf-right : (xs ys : List X) → SomeOf P ys → SomeOf P (xs ++ ys)
+  pub SomeOf-right : (xs ys : List X) → SomeOf P ys → SomeOf P (xs ++ ys)
   SomeOf-right [] ys h = h
   SomeOf-right (x ∷ xs) ys h = inr (SomeOf-right xs ys h)
 
-  SomeOf-cases : (xs ys : List X) → SomeOf P (xs ++ ys) → SomeOf P xs ⊎ SomeOf P ys
+  pub SomeOf-cases : (xs ys : List X) → SomeOf P (xs ++ ys) → SomeOf P xs ⊎ SomeOf P ys
   SomeOf-cases [] ys h = inr h
   SomeOf-cases (x ∷ xs) ys h =
       ⊎_elim (λ a. inl (inl a)) (λ b. ⊎_elim (λ c. inl (inr c)) (λ d. inr d) (SomeOf-cases xs ys b)) h
@@ -165,13 +165,13 @@ module _ (text : Text) (range : Range) where
         ∙ cut-append range (flat front) (kept ++ flat back)
         ∙ ap (λ (ps : List Posting). cut range (flat front) ++ ps) (cut-append range kept (flat back))
 
-    cut_exchanged : cut range (flat After) ≡ cut range (flat Before)
+    pub cut_exchanged : cut range (flat After) ≡ cut range (flat Before)
     cut_exchanged =
         flat_after
         ∙ ap (λ (ps : List Posting). cut range (flat front) ++ (ps ++ cut range (flat back))) same
         ∙ sym flat_before
 
-    home_exchanged : Has (flat Before) → SomeOf Has Before → SomeOf Has After
+    pub home_exchanged : Has (flat Before) → SomeOf Has Before → SomeOf Has After
     home_exchanged w h =
         ⊎_elim
         (λ a. SomeOf-left Has front (kept ∷ back) a)
@@ -179,9 +179,13 @@ module _ (text : Text) (range : Range) where
         ⊎_elim
         (λ m.
         let long : length (cut range (flat middle)) ≤ length text.terms =
-        omega (arith, cut_long (flat Before) w, ap length flat_before,
-        length-append (cut range (flat front)) (cut range (flat middle) ++ cut range (flat back)),
-        length-append (cut range (flat middle)) (cut range (flat back))) in
+        omega (
+          arith,
+          cut_long (flat Before) w,
+          ap length flat_before,
+          length-append (cut range (flat front)) (cut range (flat middle) ++ cut range (flat back)),
+          length-append (cut range (flat middle)) (cut range (flat back)),
+        ) in
         SomeOf-right Has front (kept ∷ back) (inl (same ∙ together middle m long)))
         (λ c. SomeOf-right Has front (kept ∷ back) (inr c))
         (SomeOf-cases Has middle back b))

@@ -6,3 +6,10 @@ pub mod TextLemmas
 pub mod BlobLemmas
 pub mod Updates
 pub mod KeptLemmas
+pub mod ExchangeLemmas
+pub mod EachLemmas
+pub mod Flushes
+pub mod GenerationLemmas
+pub mod JobEnds
+pub mod Picks
+pub mod Units
