@@ -29,8 +29,11 @@ pub accepted : (o : Option Refusal) (to after : FileSystem) (told effect : Effec
     → (o ≡ None) × ((to ≡ after) × (told ≡ effect))
 accepted None to after told effect h = (
   refl,
-  (ap (λ (r : Result (FileSystem × Effect) Refusal). (result_unwrap_or r (to, told)).0) h, ap
-      (λ (r : Result (FileSystem × Effect) Refusal). (result_unwrap_or r (to, told)).1) h),
+  (
+    ap (λ (r : Result (FileSystem × Effect) Refusal). (result_unwrap_or r (to, told)).0) h,
+    ap
+        (λ (r : Result (FileSystem × Effect) Refusal). (result_unwrap_or r (to, told)).1) h,
+  ),
 )
 accepted (Some refusal) to after told effect h = absurd cc
 

@@ -23,17 +23,17 @@ impl Tree {
         &mut self,
         ino: Ino,
         parent: Ino,
-        name: Vec<u8>,
+        name: &[u8],
         node: Node,
     ) -> Result<(), NoMemory>
         requires low { 1 ≤ ino }
         requires mode { node.perm.mode ≤ 0xFFF }
-        requires named { is_name name.items ≡ true }
+        requires named { is_name name.now ≡ true }
         requires directory { is_directory self.old parent ≡ true }
         requires new { node_of self.old ino ≡ None }
-        requires free { child_of self.old parent name.items ≡ None }
+        requires free { child_of self.old parent name.now ≡ None }
         requires shallow { node.kind ≡ Kind.Directory → depth self.old.links parent < DEPTH_MAX }
-        ensures ok { OnOk result (self.new ≡ with_node self.old ino parent name.items node) }
+        ensures ok { OnOk result (self.new ≡ with_node self.old ino parent name.now node) }
         ensures err { OnErr result (self.new ≡ self.old) }
     {
         let inode = Inode {
@@ -61,12 +61,12 @@ impl Tree {
     }
 
     /// Puts one more link to a file into a directory.
-    pub(crate) fn add_link(&mut self, ino: Ino, parent: Ino, name: Vec<u8>) -> Result<(), NoMemory>
-        requires named { is_name name.items ≡ true }
+    pub(crate) fn add_link(&mut self, ino: Ino, parent: Ino, name: &[u8]) -> Result<(), NoMemory>
+        requires named { is_name name.now ≡ true }
         requires directory { is_directory self.old parent ≡ true }
         requires file { is_file self.old ino ≡ true }
-        requires free { child_of self.old parent name.items ≡ None }
-        ensures ok { OnOk result (self.new ≡ with_link self.old ino parent name.items) }
+        requires free { child_of self.old parent name.now ≡ None }
+        ensures ok { OnOk result (self.new ≡ with_link self.old ino parent name.now) }
         ensures err { OnErr result (self.new ≡ self.old) }
     {
         let count = self.next_count(ino)?;

@@ -72,12 +72,13 @@ impl Links {
         &mut self,
         alloc: Global,
         parent: Ino,
-        name: Vec<u8>,
+        name: &[u8],
         child: Ino,
     ) -> Result<(), NoMemory>
-        ensures ok { OnOk result (self.new ≡ insert_entry place_cmp self.old (parent, name.items) child) }
+        ensures ok { OnOk result (self.new ≡ insert_entry place_cmp self.old (parent, name.now) child) }
         ensures err { OnErr result (self.new ≡ self.old) }
     {
+        let name = Vec::from_slice(alloc, name)?;
         if self.has_entries(parent) {
             self.insert_into(parent, name, child)
         } else {

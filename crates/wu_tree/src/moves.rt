@@ -21,12 +21,12 @@ impl Tree {
         parent: Ino,
         name: &[u8],
         new_parent: Ino,
-        new_name: Vec<u8>,
+        new_name: &[u8],
         child: Ino,
     ) -> Result<(), NoMemory>
-        requires moves { IsMove self.old parent name.now new_parent new_name.items child }
-        requires free { child_of self.old new_parent new_name.items ≡ None }
-        ensures ok { OnOk result (self.new ≡ with_link_moved self.old parent name.now new_parent new_name.items child) }
+        requires moves { IsMove self.old parent name.now new_parent new_name.now child }
+        requires free { child_of self.old new_parent new_name.now ≡ None }
+        ensures ok { OnOk result (self.new ≡ with_link_moved self.old parent name.now new_parent new_name.now child) }
         ensures err { OnErr result (self.new ≡ self.old) }
     {
         self.links.insert(self.alloc, new_parent, new_name, child)?;
@@ -42,15 +42,15 @@ impl Tree {
         parent: Ino,
         name: &[u8],
         new_parent: Ino,
-        new_name: Vec<u8>,
+        new_name: &[u8],
         child: Ino,
         target: Ino,
     ) -> Result<(), NoMemory>
-        requires moves { IsMove self.old parent name.now new_parent new_name.items child }
-        requires target { child_of self.old new_parent new_name.items ≡ Some target }
+        requires moves { IsMove self.old parent name.now new_parent new_name.now child }
+        requires target { child_of self.old new_parent new_name.now ≡ Some target }
         requires other { target ≢ child }
         requires leaf { IsLeaf self.old target }
-        ensures ok { OnOk result (self.new ≡ with_link_moved (without_link self.old new_parent new_name.items) parent name.now new_parent new_name.items child) }
+        ensures ok { OnOk result (self.new ≡ with_link_moved (without_link self.old new_parent new_name.now) parent name.now new_parent new_name.now child) }
         ensures err { OnErr result (self.new ≡ self.old) }
     {
         self.links.insert(self.alloc, new_parent, new_name, child)?;

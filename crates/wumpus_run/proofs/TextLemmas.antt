@@ -1,7 +1,7 @@
 -- The texts of a state are those of its regular files: at first, after each event, and throughout a script.
-use Rattle.std.proofs.Common.{◌≡◌, ◌≢◌, ℕ, List, [], ◌∷◌, map, Bool, true, false, cond, Ok, Err, refl, ap, sym, ◌∙◌, subst}
+use Rattle.std.proofs.Common.{◌≡◌, ℕ, List, [], ◌∷◌, map, Bool, true, false, cond, Ok, Err, refl, ap, sym, ◌∙◌, subst}
 use Rattle.std.proofs.Common.{inl, inr, ⊎_elim}
-use Rattle.std.specs.Prelude.{◌⊎◌, Option, Some, None, Result, is_some}
+use Rattle.std.specs.Prelude.{Option, Some, None, is_some}
 use Rattle.std.specs.Result.{result_unwrap_or}
 use Rattle.std.specs.Ordering.{is_eq, nat_cmp}
 use Rattle.std.specs.Cmp.{nat_cmp_total}
@@ -12,19 +12,16 @@ use Rattle.std.specs.BTreeMap.{is_at}
 use Rattle.std.proofs.lemmas.List.Elements.{All-from_recursion}
 use Rattle.std.proofs.lemmas.Map.{lookup-none}
 use Rattle.wu_tree.specs.declared.events.Event.{Event}
-use Rattle.wu_tree.specs.declared.events.Event.TheVariants.{User, Mkdir, Create, Text, Link, Unlink, Rmdir, Rename, Chmod, Chown}
 use Rattle.wu_tree.specs.declared.events.Effect.{Effect}
 use Rattle.wu_tree.specs.declared.events.Kind.TheVariants.{Directory}
 use Rattle.wu_tree.specs.declared.events.Node.{Node}
-use Rattle.wu_tree.specs.declared.events.Refusal.{Refusal}
 use Rattle.wu_tree.specs.FileSystems.{FileSystem, is_file, is_file_node}
 use Rattle.wu_tree.specs.Rules.{IsTree}
-use Rattle.wu_tree.specs.Steps.{refusal_of, next, effect_of, no_effect, dropped_at, is_same_node, unless_refused}
 use Rattle.wu_tree.specs.Steps.{IsEvent}
 use Rattle.wu_tree.specs.Steps.{step as tree_step}
 use Rattle.wu_tree.specs.Effects.{TellsFiles}
 use Rattle.wu_base.proofs.MapEntries.{ascend-insert_entry, ascend-remove_entry, lookup-insert_entry, lookup-remove_other}
-use Rattle.wu_base.proofs.MapEntries.{none_left, number_itself}
+use Rattle.wu_base.proofs.MapEntries.{none_left}
 use Rattle.wu_tree.proofs.ParentPaths.{same_number}
 use Rattle.wu_tree.proofs.LinkRemovals.{apart_from}
 use Rattle.wu_tree.proofs.EffectLemmas.{effects_tell_files}
