@@ -13,3 +13,4 @@ pub mod GenerationLemmas
 pub mod JobEnds
 pub mod Picks
 pub mod Units
+pub mod TermLemmas
