@@ -14,3 +14,4 @@ pub mod JobEnds
 pub mod Picks
 pub mod Units
 pub mod TermLemmas
+pub mod FewParts
