@@ -15,3 +15,5 @@ pub mod Picks
 pub mod Units
 pub mod TermLemmas
 pub mod FewParts
+pub mod NumberedRanges
+pub mod LiveCounts

@@ -61,10 +61,10 @@ length-placed start (term ∷ terms) = ap suc (length-placed (start + 1) terms)
 
 -- ---- ranges that have none of them, or all
 
-outside_below : (range : Range) (a : ℕ) → a < range.start → is_in range a ≡ false
+pub outside_below : (range : Range) (a : ℕ) → a < range.start → is_in range a ≡ false
 outside_below range a l = and_left _ _ (lt-leb range.start a l)
 
-outside_above : (range : Range) (a : ℕ) → range.start + range.len ≤ a → is_in range a ≡ false
+pub outside_above : (range : Range) (a : ℕ) → range.start + range.len ≤ a → is_in range a ≡ false
 outside_above range a l = and_right _ _ (le-ltb a (range.start + range.len) l)
 
 inside : (range : Range) (a : ℕ) → range.start ≤ a → a < range.start + range.len → is_in range a ≡ true

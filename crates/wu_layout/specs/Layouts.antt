@@ -79,6 +79,10 @@ first_layout = record {
 abbrev pub entry_of : List (ℕ × FileEntry) → ℕ → Option FileEntry
 entry_of files ino = lookup (is_at (nat_cmp ino)) files
 
+-- each file's live range, by number
+abbrev pub ranges_by_number : List (ℕ × FileEntry) → List (ℕ × Range)
+ranges_by_number files = map (λ file. (file.0, file.1.range)) files
+
 -- the live ranges
 abbrev pub ranges_of : List (ℕ × FileEntry) → List Range
 ranges_of files = map (λ file. file.1.range) files
