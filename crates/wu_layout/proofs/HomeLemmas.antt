@@ -1,5 +1,6 @@
 -- Where postings stand: in parts from left to right, and then in memory.
-use Rattle.std.proofs.Common.{◌≡◌, ℕ, ◌≤◌, List, [], ◌∷◌, ◌++◌, drop, ap, sym, ◌∙◌, subst, inl, inr, ⊎_elim, arith, append_assoc, append-nil, take-append-drop}
+use Rattle.std.proofs.Common.{◌≡◌, ℕ, ◌≤◌, List, [], ◌∷◌, ◌++◌, drop, map, ap, sym, ◌∙◌, subst, inl, inr, ⊎_elim, arith, append_assoc, append-nil, take-append-drop}
+use Rattle.std.proofs.lemmas.List.{map-append}
 use Rattle.std.proofs.lemmas.List.Concat.{flat_map-append}
 use Rattle.wu_layout.specs.Postings.{Posting, Ascend}
 use Rattle.wu_layout.specs.Layouts.{Part, Job, stored_in, homes_of, postings_of, parts_before, parts_taken, parts_after}
@@ -35,6 +36,17 @@ stored_split job parts =
     ap stored_in (parts_split job parts)
     ∙ stored-append (parts_before job parts) (parts_taken job parts ++ parts_after job parts)
     ∙ ap (λ (ps : List Posting). stored_in (parts_before job parts) ++ ps) (stored-append (parts_taken job parts) (parts_after job parts))
+
+-- ---- homes
+
+abbrev pub postings_in : List Part → List (List Posting)
+postings_in parts = map (λ part. part.postings) parts
+
+pub homes_split : (before after : List Part) (memory : List Posting)
+    → homes_of (before ++ after) memory ≡ postings_in before ++ homes_of after memory
+homes_split before after memory =
+    ap (λ (hs : List (List Posting)). hs ++ memory ∷ []) (map-append (λ (p : Part). p.postings) before after)
+    ∙ append_assoc (postings_in before) (postings_in after) (memory ∷ [])
 
 -- ---- one home of several
 

@@ -1,5 +1,5 @@
 -- How many of a part's postings are live, told by the live ranges alone.
-use Rattle.std.proofs.Common.{◌≡◌, ◌≢◌, ◌⊎◌, ℕ, ◌+◌, ◌-◌, ◌*◌, ◌<◌, ◌≤◌, not, nat_le, nat_lt, min, max, Bool, true, false, cond, List, [], ◌∷◌, ◌++◌, length, sum_by, count_by, Some, IfSome, refl, ap, sym, ◌∙◌, subst, arith, ⊎_elim, inl, inr, eq-zero-or-pos, Less}
+use Rattle.std.proofs.Common.{◌≡◌, ◌≢◌, ℕ, ◌+◌, ◌-◌, ◌*◌, ◌<◌, ◌≤◌, not, nat_le, nat_lt, min, max, Bool, true, false, cond, List, [], ◌∷◌, ◌++◌, length, sum_by, count_by, Some, IfSome, refl, ap, sym, ◌∙◌, subst, arith, ⊎_elim, eq-zero-or-pos, Less}
 use Rattle.std.specs.Ordering.{nat_cmp, is_eq}
 use Rattle.std.specs.List.{AllByRecursion}
 use Rattle.std.specs.List.Sorted.{IsStrictlySortedBy}
@@ -10,11 +10,12 @@ use Rattle.std.proofs.lemmas.List.Filters.{length-filter_both}
 use Rattle.wu_base.specs.declared.addresses.Range.{Range}
 use Rattle.wu_base.proofs.MapEntries.{number_itself, all_found}
 use Rattle.wu_layout.specs.Postings.{Posting, placed_from, is_in, cut, is_live, live_of, dead_of, Ascend}
-use Rattle.wu_layout.specs.Layouts.{Text, FileEntry, Part, entry_of, ranges_of, ranges_by_number}
-use Rattle.wu_layout.specs.Invariants.{AreApart, RangesAreDisjoint, SomeOf, HasText, IsIndexed}
+use Rattle.wu_layout.specs.Layouts.{Text, FileEntry, Part, Layout, entry_of, ranges_of, ranges_by_number, homes_of}
+use Rattle.wu_layout.specs.Invariants.{AreApart, RangesAreDisjoint, SomeOf, HasText, IsIndexed, IsLayoutOf}
 use Rattle.wu_layout.specs.Steps.{is_half_dead}
 use Rattle.wu_layout.proofs.PostingLemmas.{Ascend-bounds, Ascend-split, Ascend-filter, length-placed, outside_below, outside_above, cut_below, cut_above}
 use Rattle.wu_layout.proofs.EntryLemmas.{IfSome-found}
+use Rattle.wu_layout.proofs.HomeLemmas.{postings_in, homes_split}
 use Rattle.wu_layout.proofs.KeptLemmas.{flat, SomeOf-cases}
 use Rattle.wu_layout.proofs.ExchangeLemmas.{AreHomes, flat-append}
 
@@ -261,10 +262,31 @@ module _ (is_file : ℕ → Bool) (text_of : ℕ → Text) (files : List (ℕ ×
       shared_sum files (all_found files d.by_number)
       ∙ live_by_ranges (ranges_of files) own (all_apart is_file next files d)
 
--- ---- half dead
+module _ (is_file : ℕ → Bool) (text_of : ℕ → Text) (layout : Layout) (low high : ℕ) (d : IsLayoutOf is_file text_of layout) where
+  all_homes : AreHomes text_of layout.files layout.next (homes_of layout.parts layout.memory)
+  all_homes = record { ascend = d.addresses.ascend; each = d.texts.each }
 
-swap_cases : {A B : Type 0} → A ⊎ B → B ⊎ A
-swap_cases h = ⊎_elim (λ a. inr a) (λ b. inl b) h
+  -- the live addresses from the first to the last of a part are its live postings
+  pub live_in_part : (before : List Part) (part : Part) (after : List Part) → layout.parts ≡ before ++ part ∷ after
+      → IsSpan low high part.postings
+      → sum_by (λ file. shared low high file.1) (ranges_by_number layout.files)
+      ≡ length (live_of (ranges_of layout.files) part.postings)
+  live_in_part before part after e span =
+      live_in_home is_file text_of layout.files layout.next low high (postings_in before) part.postings (homes_of after layout.memory)
+      d.ranges
+      (subst (AreHomes text_of layout.files layout.next)
+      (ap (λ (ps : List Part). homes_of ps layout.memory) e ∙ homes_split before (part ∷ after) layout.memory)
+      all_homes)
+      span
+
+  -- the same of memory
+  pub live_in_memory : IsSpan low high layout.memory
+      → sum_by (λ file. shared low high file.1) (ranges_by_number layout.files)
+      ≡ length (live_of (ranges_of layout.files) layout.memory)
+  live_in_memory span =
+      live_in_home is_file text_of layout.files layout.next low high (postings_in layout.parts) layout.memory [] d.ranges all_homes span
+
+-- ---- half dead
 
 -- the dead postings are as many as the live ones or more where twice the live ones are no more than all
 pub half_dead_by_numbers : (ranges : List Range) (part : Part)
@@ -275,6 +297,6 @@ half_dead_by_numbers ranges part =
     let all : live + dead ≡ length part.postings =
     length-filter_both (λ (p : Posting). is_live ranges p.address) (λ (p : Posting). not (is_live ranges p.address)) (λ p. refl) part.postings in
     ⊎_elim
-    (λ (l : live ≤ dead). le-leb live dead l ∙ sym (le-leb (2 * live) (length part.postings) (omega arith)))
     (λ (l : dead < live). lt-leb live dead l ∙ sym (lt-leb (2 * live) (length part.postings) (omega arith)))
-    (swap_cases (cases_lt dead live))
+    (λ (l : live ≤ dead). le-leb live dead l ∙ sym (le-leb (2 * live) (length part.postings) (omega arith)))
+    (cases_lt dead live)
