@@ -7,13 +7,9 @@ use Rattle.std.specs.BTreeMap.{is_at, insert_entry}
 use Rattle.std.proofs.lemmas.Bool.{cases_eq}
 use Rattle.wu_base.proofs.MapEntries.{ascend-insert_entry, ascend-remove_entry}
 use Rattle.wu_layout.specs.Layouts.{FileEntry, entry_of}
+use Rattle.wu_layout.specs.Changes.{DiffersAt}
 use Rattle.wu_layout.specs.Invariants.{AreApart, RangesAreDisjoint}
 use Rattle.wu_layout.proofs.EntryLemmas.{IfSome-map, IfSome-all, IfSome-same, entry_put, others_after_put, none_after_removal, others_after_removal}
-
--- after is what before was, but at the number
-pub record DiffersAt {X : Type 0} (ino : ℕ) (before after : ℕ → X) (value : X) : Type 0 where
-  pub there : after ino ≡ value
-  pub elsewhere : (n : ℕ) → n ≢ ino → after n ≡ before n
 
 -- two properties of the entries of p and q
 abbrev Both : (FileEntry → FileEntry → Type 0) → Option FileEntry → Option FileEntry → Type 0
