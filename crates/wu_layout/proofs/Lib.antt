@@ -17,3 +17,4 @@ pub mod TermLemmas
 pub mod FewParts
 pub mod NumberedRanges
 pub mod LiveCounts
+pub mod Garbage
