@@ -18,3 +18,4 @@ pub mod FewParts
 pub mod NumberedRanges
 pub mod LiveCounts
 pub mod Garbage
+pub mod Fetches

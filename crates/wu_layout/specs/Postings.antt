@@ -46,6 +46,10 @@ live_of ranges postings = filter (λ posting. is_live ranges posting.address) po
 abbrev pub dead_of : List Range → List Posting → List Posting
 dead_of ranges postings = filter (λ posting. not (is_live ranges posting.address)) postings
 
+-- what a search is given of a term: its addresses within the frames, which are the live ranges of the files that a user may read
+abbrev pub fetched : List Range → List Posting → List ℕ → List ℕ
+fetched frames postings term = filter (is_live frames) (addresses_of term postings)
+
 -- the addresses ascend strictly, none below the low one, and all below the high one
 abbrev pub Ascend : ℕ → ℕ → List Posting → Type 0
 Ascend low high [] = low ≤ high
