@@ -19,3 +19,4 @@ pub mod NumberedRanges
 pub mod LiveCounts
 pub mod Garbage
 pub mod Fetches
+pub mod ListLemmas
