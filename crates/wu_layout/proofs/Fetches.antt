@@ -77,7 +77,7 @@ module _ (term : List ℕ) where
       let rest : length (addresses_of term (placed_from (start + 1) terms)) ≡ count_by (λ (other : List ℕ). pointwise nat_eq other term) terms =
       placed_count (start + 1) terms in
       let step : length (addresses_of term (placed_from start (first ∷ terms)))
-          ≡ cond {A = ℕ} (pointwise nat_eq first term) 1 0 + length (addresses_of term (placed_from (start + 1) terms)) =
+      ≡ cond {A = ℕ} (pointwise nat_eq first term) 1 0 + length (addresses_of term (placed_from (start + 1) terms)) =
       elim (pointwise nat_eq first term) as
       (λ b. length (map (λ (p : Posting). p.address)
       (cond b (record { address = start; term = first } ∷ filter (is_of term) (placed_from (start + 1) terms))

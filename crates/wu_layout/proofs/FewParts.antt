@@ -45,8 +45,7 @@ fall [] e n = tt
 fall (part ∷ []) e n = (tt, tt)
 fall (left ∷ right ∷ more) e n =
     let r = later_none alike (left, right) (zip (right ∷ more) more) e in
-    let less : right.generation < left.generation = omega (arith, n.0.0, eqb-false left.generation right.generation r.0) in
-    (
+    let less : right.generation < left.generation = omega (arith, n.0.0, eqb-false left.generation right.generation r.0) in (
       (less, each-map (λ p. p.generation ≤ right.generation) (λ p. p.generation < left.generation) more (λ p l. omega arith) n.1.0),
       fall (right ∷ more) r.1 n.1,
     )
@@ -71,7 +70,7 @@ few_where_idle is_file text_of layout d e =
     let ranges : List Range = ranges_of layout.files in
     let none = neither layout.job (pick layout) (not_some (job_of layout) e) in
     let either = neither (option_map (job_at layout 2) (alike_neighbours layout.parts))
-        (option_map (job_at layout 1) (position (is_half_dead ranges) layout.parts)) none.1 in
+    (option_map (job_at layout 1) (position (is_half_dead ranges) layout.parts)) none.1 in
     let falls : Fall layout.parts =
     fall layout.parts (mapped_none (job_at layout 2) (alike_neighbours layout.parts) either.0) d.generations.never_rise in
     record {

@@ -20,3 +20,4 @@ pub mod LiveCounts
 pub mod Garbage
 pub mod Fetches
 pub mod ListLemmas
+pub mod ListTotals

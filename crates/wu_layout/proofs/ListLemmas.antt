@@ -16,7 +16,7 @@ use Rattle.wu_layout.specs.Postings.{Posting, is_of, addresses_of, is_live, live
 use Rattle.wu_layout.specs.Layouts.{terms_of, list_of, lists_of}
 use Rattle.wu_layout.proofs.TermLemmas.{addresses_of-increasing}
 
-abbrev all_terms : List Posting → List (List ℕ)
+abbrev pub all_terms : List Posting → List (List ℕ)
 all_terms ps = map (λ p. p.term) ps
 
 -- ---- a term has a list where it stands somewhere

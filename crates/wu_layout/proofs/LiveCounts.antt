@@ -49,7 +49,7 @@ in_one [] a h = refl
 in_one (range ∷ ranges) a h =
     let rest : count_by (λ (r : Range). is_in r a) ranges ≡ cond {A = ℕ} (is_live ranges a) 1 0 = in_one ranges a h.1 in
     let step : count_by (λ (r : Range). is_in r a) (range ∷ ranges)
-        ≡ cond {A = ℕ} (is_in range a) 1 0 + count_by (λ (r : Range). is_in r a) ranges =
+    ≡ cond {A = ℕ} (is_in range a) 1 0 + count_by (λ (r : Range). is_in r a) ranges =
     sum_by-cons (λ (r : Range). cond {A = ℕ} (is_in r a) 1 0) range ranges in
     step
     ∙ ⊎_elim
@@ -72,9 +72,14 @@ sum_cons p ps (range ∷ ranges) =
       | true ↦ omega arith
       | false ↦ omega arith
     ] in
-    omega (arith, one, sum_cons p ps ranges, sum_by-cons (λ (r : Range). length (cut r (p ∷ ps))) range ranges,
-    sum_by-cons (λ (r : Range). length (cut r ps)) range ranges,
-    sum_by-cons (λ (r : Range). cond {A = ℕ} (is_in r p.address) 1 0) range ranges)
+    omega (
+      arith,
+      one,
+      sum_cons p ps ranges,
+      sum_by-cons (λ (r : Range). length (cut r (p ∷ ps))) range ranges,
+      sum_by-cons (λ (r : Range). length (cut r ps)) range ranges,
+      sum_by-cons (λ (r : Range). cond {A = ℕ} (is_in r p.address) 1 0) range ranges,
+    )
 
 sum_none : (ranges : List Range) → sum_by (λ range. length (cut range [])) ranges ≡ 0
 sum_none [] = refl
@@ -252,9 +257,13 @@ module _ (is_file : ℕ → Bool) (text_of : ℕ → Text) (files : List (ℕ ×
       let i : IsIndexed (text_of e.0) e.1 (front ++ own ∷ back) (flat (front ++ own ∷ back)) =
       IfSome-found (λ entry. IsIndexed (text_of e.0) entry (front ++ own ∷ back) (flat (front ++ own ∷ back)))
       (entry_of files e.0) e.1 a.0 (homes.each e.0) in
-      omega (arith, shared_of_entry (text_of e.0) e.1 i, shared_sum es a.1,
-      sum_by-cons (λ (file : ℕ × Range). shared low high file.1) (e.0, e.1.range) (ranges_by_number es),
-      sum_by-cons (λ (range : Range). length (cut range own)) e.1.range (ranges_of es))
+      omega (
+        arith,
+        shared_of_entry (text_of e.0) e.1 i,
+        shared_sum es a.1,
+        sum_by-cons (λ (file : ℕ × Range). shared low high file.1) (e.0, e.1.range) (ranges_by_number es),
+        sum_by-cons (λ (range : Range). length (cut range own)) e.1.range (ranges_of es),
+      )
 
   -- the live addresses from the first to the last of one home are its live postings
   pub live_in_home : sum_by (λ file. shared low high file.1) (ranges_by_number files) ≡ length (live_of (ranges_of files) own)

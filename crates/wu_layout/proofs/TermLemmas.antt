@@ -67,11 +67,10 @@ between_more : (low least high : ℕ) (addresses : List ℕ) → least ≤ low �
 between_more low least high [] l b = tt
 between_more low least high (a ∷ addresses) l b = ((omega (arith, b.0.0), b.0.1), between_more low least high addresses l b.1)
 
-addresses_between : (low high : ℕ) (ps : List Posting) → Ascend low high ps → AreBetween low high (all_addresses ps)
+pub addresses_between : (low high : ℕ) (ps : List Posting) → Ascend low high ps → AreBetween low high (all_addresses ps)
 addresses_between low high [] a = tt
 addresses_between low high (p ∷ ps) a =
-    let top : p.address + 1 ≤ high = Ascend-bounds (p.address + 1) high ps a.1 in
-    (
+    let top : p.address + 1 ≤ high = Ascend-bounds (p.address + 1) high ps a.1 in (
       (a.0, omega arith),
       between_more (p.address + 1) low high (all_addresses ps) (omega (arith, a.0)) (addresses_between (p.address + 1) high ps a.1),
     )
