@@ -32,10 +32,12 @@ has addresses address = list_any (λ a. a == address) addresses
 
 module _ (term : List ℕ) where
   -- no address before the first
-  none_before : (start address : ℕ) (terms : List (List ℕ)) → address < start → has (addresses_of term (placed_from start terms)) address ≡ false
+  none_before : (start address : ℕ) (terms : List (List ℕ)) → address < start
+      → has (addresses_of term (placed_from start terms)) address ≡ false
   none_before start address [] l = refl
   none_before start address (first ∷ terms) l =
-      let rest : has (addresses_of term (placed_from (start + 1) terms)) address ≡ false = none_before (start + 1) address terms (omega arith) in
+      let rest : has (addresses_of term (placed_from (start + 1) terms)) address ≡ false =
+      none_before (start + 1) address terms (omega arith) in
       elim (pointwise nat_eq first term) as
       (λ b. has (map (λ (p : Posting). p.address)
       (cond b (record { address = start; term = first } ∷ filter (is_of term) (placed_from (start + 1) terms))
@@ -74,7 +76,8 @@ module _ (term : List ℕ) where
       → length (addresses_of term (placed_from start terms)) ≡ count_by (λ other. pointwise nat_eq other term) terms
   placed_count start [] = refl
   placed_count start (first ∷ terms) =
-      let rest : length (addresses_of term (placed_from (start + 1) terms)) ≡ count_by (λ (other : List ℕ). pointwise nat_eq other term) terms =
+      let rest : length (addresses_of term (placed_from (start + 1) terms))
+      ≡ count_by (λ (other : List ℕ). pointwise nat_eq other term) terms =
       placed_count (start + 1) terms in
       let step : length (addresses_of term (placed_from start (first ∷ terms)))
       ≡ cond {A = ℕ} (pointwise nat_eq first term) 1 0 + length (addresses_of term (placed_from (start + 1) terms)) =
@@ -128,10 +131,12 @@ module _ (frames : List Range) (postings : List Posting) (term : List ℕ) (text
       ∙ ap (addresses_of term) indexed
 
   -- an address of the frame is fetched exactly where the text has the term at the place
-  pub fetched_at : (place : ℕ) → place < frame.len → has (fetched frames postings term) (frame.start + place) ≡ is_term_at text.terms term place
+  pub fetched_at : (place : ℕ) → place < frame.len
+      → has (fetched frames postings term) (frame.start + place) ≡ is_term_at text.terms term place
   fetched_at place l =
       let inside : is_in frame (frame.start + place) ≡ true =
-      and_from _ _ (le-leb frame.start (frame.start + place) (omega arith)) (lt-ltb (frame.start + place) (frame.start + frame.len) (omega arith)) in
+      and_from _ _ (le-leb frame.start (frame.start + place) (omega arith))
+      (lt-ltb (frame.start + place) (frame.start + frame.len) (omega arith)) in
       sym (has-filter (is_in frame) (frame.start + place) (fetched frames postings term) inside)
       ∙ ap (λ (xs : List ℕ). has xs (frame.start + place)) fetched_in_frame
       ∙ placed_at term frame.start place text.terms

@@ -154,7 +154,8 @@ module _ (is_file : ℕ → Bool) (text_of : ℕ → Text) where
         };
         texts = record { each = homes.each };
         generations =
-            generations_after_flush layout.next layout.flushes layout.parts layout.memory part refl (omega (arith, k.shorter)) d.generations;
+            generations_after_flush layout.next layout.flushes layout.parts layout.memory part refl (omega (arith, k.shorter))
+            d.generations;
         work = job_after_flush layout.files layout.parts (part ∷ []) layout.job d.work;
         blobs = blobs_after_flush layout.blob layout.files layout.parts layout.check layout.stale d.blobs part refl;
       }

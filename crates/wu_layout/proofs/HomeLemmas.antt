@@ -14,7 +14,8 @@ postings_split (part ∷ parts) memory =
     ap (λ (ps : List Posting). part.postings ++ ps) (postings_split parts memory)
     ∙ sym (append_assoc part.postings (stored_in parts) memory)
 
-pub postings-append : (parts : List Part) (memory more : List Posting) → postings_of parts (memory ++ more) ≡ postings_of parts memory ++ more
+pub postings-append : (parts : List Part) (memory more : List Posting)
+    → postings_of parts (memory ++ more) ≡ postings_of parts memory ++ more
 postings-append parts memory more =
     postings_split parts (memory ++ more)
     ∙ sym (append_assoc (stored_in parts) memory more)

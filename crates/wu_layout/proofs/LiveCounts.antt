@@ -304,7 +304,8 @@ half_dead_by_numbers ranges part =
     let live : ℕ = length (live_of ranges part.postings) in
     let dead : ℕ = length (dead_of ranges part.postings) in
     let all : live + dead ≡ length part.postings =
-    length-filter_both (λ (p : Posting). is_live ranges p.address) (λ (p : Posting). not (is_live ranges p.address)) (λ p. refl) part.postings in
+    length-filter_both (λ (p : Posting). is_live ranges p.address) (λ (p : Posting). not (is_live ranges p.address)) (λ p. refl)
+    part.postings in
     ⊎_elim
     (λ (l : dead < live). lt-leb live dead l ∙ sym (lt-leb (2 * live) (length part.postings) (omega arith)))
     (λ (l : live ≤ dead). le-leb live dead l ∙ sym (le-leb (2 * live) (length part.postings) (omega arith)))

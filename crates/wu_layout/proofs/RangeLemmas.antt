@@ -21,7 +21,8 @@ RangesApart entry other = AreApart entry.range other.range
 none_left_apart : (o : Option FileEntry) → Both RangesApart o None
 none_left_apart o = IfSome-all (λ entry. IfSome {T = FileEntry} None (λ other. RangesApart entry other)) o (λ entry. tt)
 
-module _ (is_file is_file_after : ℕ → Bool) (next : ℕ) (files : List (ℕ × FileEntry)) (ino : ℕ) (d : RangesAreDisjoint is_file next files) where
+module _ (is_file is_file_after : ℕ → Bool) (next : ℕ) (files : List (ℕ × FileEntry)) (ino : ℕ)
+    (d : RangesAreDisjoint is_file next files) where
   pub ranges_after_release : DiffersAt ino is_file is_file_after false
       → RangesAreDisjoint is_file_after next (remove_entry (is_at (nat_cmp ino)) files)
   ranges_after_release f =
@@ -37,7 +38,8 @@ module _ (is_file is_file_after : ℕ → Bool) (next : ℕ) (files : List (ℕ 
             (cases_eq n ino);
         within = λ n.
             ⊎_elim
-            (λ e. subst (λ x. IfSome (entry_of left x) (λ entry. entry.range.start + entry.range.len ≤ next)) (sym e) (IfSome-same _ _ None gone tt))
+            (λ e. subst (λ x. IfSome (entry_of left x) (λ entry. entry.range.start + entry.range.len ≤ next)) (sym e)
+            (IfSome-same _ _ None gone tt))
             (λ h. IfSome-same _ _ _ (rest n h) (d.within n))
             (cases_eq n ino);
         apart = λ p q h.

@@ -81,7 +81,8 @@ module _ (files : List (ℕ × FileEntry)) (parts : List Part) (ino : ℕ) where
         terms = d.terms;
         was_live = λ n.
             ⊎_elim
-            (λ e. subst (λ x. IfSome (entry_of now x) (WasLive job)) (sym e) (IfSome-same _ _ (Some entry) (entry_put files ino entry) (inl none)))
+            (λ e. subst (λ x. IfSome (entry_of now x) (WasLive job)) (sym e)
+            (IfSome-same _ _ (Some entry) (entry_put files ino entry) (inl none)))
             (λ h. IfSome-same _ _ _ (others_after_put files ino entry n h) (d.was_live n))
             (cases_eq n ino);
       }
@@ -113,7 +114,8 @@ pub layout_after_release : (is_file is_file_after : ℕ → Bool) (text_of text_
 layout_after_release is_file is_file_after text_of text_of_after layout ino w d = record {
   ranges = ranges_after_release is_file is_file_after layout.next layout.files ino d.ranges w.files;
   addresses = d.addresses;
-  texts = texts_after_release text_of text_of_after layout.files layout.parts layout.memory ino w.texts d.texts is_file layout.next d.ranges;
+  texts =
+      texts_after_release text_of text_of_after layout.files layout.parts layout.memory ino w.texts d.texts is_file layout.next d.ranges;
   generations = d.generations;
   work = job_after_release layout.files layout.parts ino is_file layout.next layout.job d.ranges d.work;
   blobs = blobs_after_release layout.blob layout.files layout.parts layout.check layout.stale d.blobs ino;
