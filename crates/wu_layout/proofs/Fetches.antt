@@ -1,15 +1,16 @@
 -- What a fetch of a term finds of a text that is indexed at a frame.
-use Rattle.std.proofs.Common.{◌≡◌, ℕ, zero, suc, ◌+◌, ◌<◌, ◌==◌, ◌||◌, nat_eq, Bool, true, false, cond, List, [], ◌∷◌, ◌++◌, length, map, filter, count_by, refl, ap, sym, ◌∙◌, arith, ⊎_elim}
-use Rattle.std.specs.List.{list_any}
+use Rattle.std.proofs.Common.{◌≡◌, ℕ, zero, suc, ◌+◌, ◌<◌, ◌==◌, ◌||◌, nat_eq, Bool, true, false, cond, List, [], ◌∷◌, ◌++◌, length, map, filter, count_by, refl, ap, sym, ◌∙◌, arith, ⊎_elim, append-nil, append_assoc}
+use Rattle.std.specs.List.{list_any, flat_map}
 use Rattle.std.specs.Cmp.Lexicographic.{pointwise}
 use Rattle.std.proofs.lemmas.Bool.{cases_Bool, eq-eqb, ne_eqb, and_from, le-leb, lt-ltb}
+use Rattle.std.proofs.lemmas.List.Elements.{filter-append}
 use Rattle.std.proofs.lemmas.List.Sums.{sum_by-cons}
 use Rattle.wu_base.specs.declared.addresses.Range.{Range}
 use Rattle.wu_layout.specs.Postings.{Posting, placed_from, is_of, addresses_of, is_in, is_live, fetched}
-use Rattle.wu_layout.specs.Layouts.{Text}
+use Rattle.wu_layout.specs.Layouts.{Text, Part, stored_in, postings_of}
 use Rattle.wu_layout.specs.Invariants.{HasText, IsAmong}
 use Rattle.wu_layout.proofs.KeptLemmas.{live_at}
-use Rattle.wu_layout.proofs.TermLemmas.{addresses_of-cut}
+use Rattle.wu_layout.proofs.TermLemmas.{addresses_of-append, addresses_of-cut}
 
 -- ---- the postings of a text
 
@@ -145,3 +146,28 @@ module _ (frames : List Range) (postings : List Posting) (term : List ℕ) (text
   pub fetched_count : length (filter (is_in frame) (fetched frames postings term))
       ≡ count_by (λ other. pointwise nat_eq other term) text.terms
   fetched_count = ap length fetched_in_frame ∙ placed_count term frame.start text.terms
+
+-- ---- part by part
+
+pub addresses_of-stored : (term : List ℕ) (parts : List Part)
+    → addresses_of term (stored_in parts) ≡ flat_map (λ part. addresses_of term part.postings) parts
+addresses_of-stored term [] = refl
+addresses_of-stored term (part ∷ parts) =
+    addresses_of-append term part.postings (stored_in parts)
+    ∙ ap (λ (xs : List ℕ). addresses_of term part.postings ++ xs) (addresses_of-stored term parts)
+
+-- what is fetched of all are what is fetched of each part, from left to right, and then of memory
+pub fetched_by_parts : (frames : List Range) (term : List ℕ) (parts : List Part) (memory : List Posting)
+    → fetched frames (postings_of parts memory) term
+    ≡ flat_map (λ part. fetched frames part.postings term) parts ++ fetched frames memory term
+fetched_by_parts frames term [] memory =
+    ap (λ (ps : List Posting). fetched frames ps term) (append-nil memory)
+fetched_by_parts frames term (part ∷ parts) memory =
+    let rest : fetched frames (postings_of parts memory) term
+        ≡ flat_map (λ (p : Part). fetched frames p.postings term) parts ++ fetched frames memory term =
+    fetched_by_parts frames term parts memory in
+    ap (filter (is_live frames)) (addresses_of-append term part.postings (postings_of parts memory))
+    ∙ filter-append (is_live frames) (addresses_of term part.postings) (addresses_of term (postings_of parts memory))
+    ∙ ap (λ (xs : List ℕ). fetched frames part.postings term ++ xs) rest
+    ∙ sym (append_assoc (fetched frames part.postings term)
+    (flat_map (λ (p : Part). fetched frames p.postings term) parts) (fetched frames memory term))
