@@ -164,7 +164,7 @@ fetched_by_parts frames term [] memory =
     ap (λ (ps : List Posting). fetched frames ps term) (append-nil memory)
 fetched_by_parts frames term (part ∷ parts) memory =
     let rest : fetched frames (postings_of parts memory) term
-        ≡ flat_map (λ (p : Part). fetched frames p.postings term) parts ++ fetched frames memory term =
+    ≡ flat_map (λ (p : Part). fetched frames p.postings term) parts ++ fetched frames memory term =
     fetched_by_parts frames term parts memory in
     ap (filter (is_live frames)) (addresses_of-append term part.postings (postings_of parts memory))
     ∙ filter-append (is_live frames) (addresses_of term part.postings) (addresses_of term (postings_of parts memory))

@@ -1,11 +1,11 @@
 -- Where postings stand: in parts from left to right, and then in memory.
-use Rattle.std.proofs.Common.{◌≡◌, ℕ, ◌≤◌, List, [], ◌∷◌, ◌++◌, drop, map, ap, sym, ◌∙◌, subst, inl, inr, ⊎_elim, arith, append_assoc, append-nil, take-append-drop}
+use Rattle.std.proofs.Common.{◌≡◌, ℕ, ◌≤◌, List, [], ◌∷◌, ◌++◌, length, drop, map, ap, sym, ◌∙◌, subst, inl, inr, ⊎_elim, arith, append_assoc, append-nil, take-append-drop}
 use Rattle.std.proofs.lemmas.List.{map-append}
 use Rattle.std.proofs.lemmas.List.Concat.{flat_map-append}
 use Rattle.wu_layout.specs.Postings.{Posting, Ascend}
 use Rattle.wu_layout.specs.Layouts.{Part, Job, stored_in, homes_of, postings_of, parts_before, parts_taken, parts_after}
 use Rattle.wu_layout.specs.Invariants.{SomeOf, AddressesAscend}
-use Rattle.wu_layout.proofs.PostingLemmas.{Ascend-split, Ascend-bounds}
+use Rattle.wu_layout.proofs.PostingLemmas.{Ascend-length, Ascend-split, Ascend-bounds}
 
 -- all postings are those of the parts, and then those in memory
 pub postings_split : (parts : List Part) (memory : List Posting) → postings_of parts memory ≡ stored_in parts ++ memory
@@ -89,3 +89,7 @@ module _ (next : ℕ) (parts : List Part) (memory : List Posting) (d : Addresses
       let top : split.0 ≤ next = Ascend-bounds split.0 next memory split.1.1 in
       let end : own.0 ≤ split.0 = Ascend-bounds own.0 split.0 after own.1.1 in
       (back.0, own.0, omega arith, own.1.0)
+
+  -- there are at most as many postings as addresses were given
+  pub stored_within : length (postings_of parts memory) ≤ next
+  stored_within = omega (arith, Ascend-length 0 next (postings_of parts memory) d.ascend)
