@@ -49,5 +49,7 @@ module _ (files : List (ℕ × FileEntry)) (ino : ℕ) where
   pub others_after_removal : (n : ℕ) → n ≢ ino → entry_of (remove_entry (is_at (nat_cmp ino)) files) n ≡ entry_of files n
   others_after_removal n h =
       lookup-remove_other (is_at (nat_cmp n)) (is_at (nat_cmp ino))
-      (λ k e. let same : ino ≡ k = exact_unsigned ino k (is_equal _ e) in subst (λ x. is_eq (nat_cmp n x) ≡ false) same (other_number n ino h))
+      (λ k e.
+      let same : ino ≡ k = exact_unsigned ino k (is_equal _ e) in
+      subst (λ x. is_eq (nat_cmp n x) ≡ false) same (other_number n ino h))
       files

@@ -14,7 +14,7 @@ pub record AreHomes (text_of : ℕ → Text) (files : List (ℕ × FileEntry)) (
   pub ascend : Ascend 0 next (flat homes)
   pub each : (ino : ℕ) → IfSome (entry_of files ino) (λ entry. IsIndexed (text_of ino) entry homes (flat homes))
 
-flat-append : (homes more : List (List Posting)) → flat (homes ++ more) ≡ flat homes ++ flat more
+pub flat-append : (homes more : List (List Posting)) → flat (homes ++ more) ≡ flat homes ++ flat more
 flat-append homes more = flat_map-append (λ (home : List Posting). home) homes more
 
 -- an empty home tells nothing

@@ -1,5 +1,5 @@
 -- What a flush and a checkpoint do to the layout.
-use Rattle.std.proofs.Common.{◌≡◌, ◌⊎◌, ℕ, ◌+◌, ◌^◌, ◌<◌, ◌≤◌, ◌==◌, nat_le, Bool, true, false, cond, List, [], ◌∷◌, ◌++◌, length, map, take, drop, Option, Some, None, IfSome, if◌then◌else◌, refl, ap, sym, ◌∙◌, subst, arith, ⊎_elim, append-nil, length-take, length-drop}
+use Rattle.std.proofs.Common.{◌≡◌, ◌⊎◌, ℕ, ◌+◌, ◌^◌, ◌<◌, ◌≤◌, ◌==◌, nat_le, Bool, true, false, cond, List, [], ◌∷◌, ◌++◌, length, take, drop, Option, Some, None, IfSome, if◌then◌else◌, refl, ap, sym, ◌∙◌, subst, arith, ⊎_elim, append-nil, length-take, length-drop}
 use Rattle.std.proofs.lemmas.Bool.{cases_eq}
 use Rattle.std.proofs.lemmas.List.{map-append, take-append-le, drop-append-le}
 use Rattle.std.proofs.lemmas.List.Sums.{sum_by_push}
@@ -8,6 +8,7 @@ use Rattle.wu_layout.specs.Layouts.{Text, FileEntry, Part, Job, Layout, entry_of
 use Rattle.wu_layout.specs.Invariants.{AddressesAscend, TextsAreIndexed, NeverRise, GenerationsAreBounded, MayBeTaken, IsSuffixOf, IsAmong, JobIsUnderWay, times_named, BlobsAreDistinct, IsLayoutOf}
 use Rattle.wu_layout.specs.Steps.{flushed, flush, flush_if_full, checkpointed, save, rest}
 use Rattle.wu_layout.proofs.BlobLemmas.{once, once_same, once_other}
+use Rattle.wu_layout.proofs.HomeLemmas.{postings_in}
 use Rattle.wu_layout.proofs.EachLemmas.{each-append}
 use Rattle.wu_layout.proofs.KeptLemmas.{IsKeptOf, live_is_kept}
 use Rattle.wu_layout.proofs.ExchangeLemmas.{AreHomes, homes_with, homes_exchanged}
@@ -16,9 +17,6 @@ use Rattle.wu_layout.proofs.ExchangeLemmas.{AreHomes, homes_with, homes_exchange
 
 module _ (text_of : ℕ → Text) (files : List (ℕ × FileEntry)) (next : ℕ) (parts : List Part) (memory kept : List Posting)
     (k : IsKeptOf files memory kept) (a : AddressesAscend next parts memory) (t : TextsAreIndexed text_of files parts memory) where
-  abbrev postings_in : List Part → List (List Posting)
-  postings_in ps = map (λ part. part.postings) ps
-
   homes_of_kept : AreHomes text_of files next (postings_in parts ++ kept ∷ [])
   homes_of_kept =
       homes_exchanged text_of files next (postings_in parts) (memory ∷ []) [] kept
@@ -156,7 +154,8 @@ module _ (is_file : ℕ → Bool) (text_of : ℕ → Text) where
         };
         texts = record { each = homes.each };
         generations =
-            generations_after_flush layout.next layout.flushes layout.parts layout.memory part refl (omega (arith, k.shorter)) d.generations;
+            generations_after_flush layout.next layout.flushes layout.parts layout.memory part refl (omega (arith, k.shorter))
+            d.generations;
         work = job_after_flush layout.files layout.parts (part ∷ []) layout.job d.work;
         blobs = blobs_after_flush layout.blob layout.files layout.parts layout.check layout.stale d.blobs part refl;
       }

@@ -1,6 +1,7 @@
 -- Generations, where the parts of a job are replaced by what is made of them.
-use Rattle.std.proofs.Common.{◌≡◌, ℕ, ◌+◌, ◌*◌, ◌^◌, ◌<◌, ◌≤◌, List, [], ◌∷◌, ◌++◌, length, ap, sym, ◌∙◌, subst, arith, pow-add}
+use Rattle.std.proofs.Common.{◌≡◌, ℕ, ◌+◌, ◌*◌, ◌^◌, ◌<◌, ◌≤◌, List, [], ◌∷◌, ◌++◌, length, ap, sym, ◌∙◌, subst, arith, pow-add, pow_mono, ⊎_elim}
 use Rattle.std.specs.List.{AllByRecursion}
+use Rattle.std.proofs.lemmas.Bool.{cases_lt}
 use Rattle.std.proofs.lemmas.List.Sums.{sum_by-append, sum_by-cons}
 use Rattle.wu_layout.specs.Layouts.{Part}
 use Rattle.wu_layout.specs.Invariants.{NeverRise, flushes_for, MayBeTaken}
@@ -115,3 +116,24 @@ flushes_made before taken after part m e =
       sum_by-append (λ (p : Part). 2 ^ p.generation) before (part ∷ after),
       sum_by-cons (λ (p : Part). 2 ^ p.generation) part after,
     )
+
+-- ---- how great generations may be
+
+part_cost : (most : ℕ) (parts : List Part) → flushes_for parts ≤ most → AllByRecursion (λ part. 2 ^ part.generation ≤ most) parts
+part_cost most [] l = tt
+part_cost most (part ∷ parts) l =
+    let split : flushes_for (part ∷ parts) ≡ 2 ^ part.generation + flushes_for parts =
+    sum_by-cons (λ (p : Part). 2 ^ p.generation) part parts in
+    (omega arith, part_cost most parts (omega arith))
+
+-- fewer than 2^n flushes make generations below n
+pub generations_below : (n flushes : ℕ) (parts : List Part) → flushes_for parts ≤ flushes → flushes < 2 ^ n
+    → AllByRecursion (λ part. part.generation < n) parts
+generations_below n flushes parts l h =
+    each-map (λ part. 2 ^ part.generation ≤ flushes) (λ part. part.generation < n) parts
+    (λ part c.
+    ⊎_elim
+    (λ (b : part.generation < n). b)
+    (λ (b : n ≤ part.generation). let p : 2 ^ n ≤ 2 ^ part.generation = pow_mono b in absurd (omega arith))
+    (cases_lt part.generation n))
+    (part_cost flushes parts l)

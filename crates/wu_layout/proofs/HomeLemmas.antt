@@ -1,10 +1,11 @@
 -- Where postings stand: in parts from left to right, and then in memory.
-use Rattle.std.proofs.Common.{◌≡◌, ℕ, ◌≤◌, List, [], ◌∷◌, ◌++◌, drop, ap, sym, ◌∙◌, subst, inl, inr, ⊎_elim, arith, append_assoc, append-nil, take-append-drop}
+use Rattle.std.proofs.Common.{◌≡◌, ℕ, ◌≤◌, List, [], ◌∷◌, ◌++◌, length, drop, map, ap, sym, ◌∙◌, subst, inl, inr, ⊎_elim, arith, append_assoc, append-nil, take-append-drop}
+use Rattle.std.proofs.lemmas.List.{map-append}
 use Rattle.std.proofs.lemmas.List.Concat.{flat_map-append}
 use Rattle.wu_layout.specs.Postings.{Posting, Ascend}
 use Rattle.wu_layout.specs.Layouts.{Part, Job, stored_in, homes_of, postings_of, parts_before, parts_taken, parts_after}
 use Rattle.wu_layout.specs.Invariants.{SomeOf, AddressesAscend}
-use Rattle.wu_layout.proofs.PostingLemmas.{Ascend-split, Ascend-bounds}
+use Rattle.wu_layout.proofs.PostingLemmas.{Ascend-length, Ascend-split, Ascend-bounds}
 
 -- all postings are those of the parts, and then those in memory
 pub postings_split : (parts : List Part) (memory : List Posting) → postings_of parts memory ≡ stored_in parts ++ memory
@@ -13,7 +14,8 @@ postings_split (part ∷ parts) memory =
     ap (λ (ps : List Posting). part.postings ++ ps) (postings_split parts memory)
     ∙ sym (append_assoc part.postings (stored_in parts) memory)
 
-pub postings-append : (parts : List Part) (memory more : List Posting) → postings_of parts (memory ++ more) ≡ postings_of parts memory ++ more
+pub postings-append : (parts : List Part) (memory more : List Posting)
+    → postings_of parts (memory ++ more) ≡ postings_of parts memory ++ more
 postings-append parts memory more =
     postings_split parts (memory ++ more)
     ∙ sym (append_assoc (stored_in parts) memory more)
@@ -35,6 +37,17 @@ stored_split job parts =
     ap stored_in (parts_split job parts)
     ∙ stored-append (parts_before job parts) (parts_taken job parts ++ parts_after job parts)
     ∙ ap (λ (ps : List Posting). stored_in (parts_before job parts) ++ ps) (stored-append (parts_taken job parts) (parts_after job parts))
+
+-- ---- homes
+
+abbrev pub postings_in : List Part → List (List Posting)
+postings_in parts = map (λ part. part.postings) parts
+
+pub homes_split : (before after : List Part) (memory : List Posting)
+    → homes_of (before ++ after) memory ≡ postings_in before ++ homes_of after memory
+homes_split before after memory =
+    ap (λ (hs : List (List Posting)). hs ++ memory ∷ []) (map-append (λ (p : Part). p.postings) before after)
+    ∙ append_assoc (postings_in before) (postings_in after) (memory ∷ [])
 
 -- ---- one home of several
 
@@ -76,3 +89,7 @@ module _ (next : ℕ) (parts : List Part) (memory : List Posting) (d : Addresses
       let top : split.0 ≤ next = Ascend-bounds split.0 next memory split.1.1 in
       let end : own.0 ≤ split.0 = Ascend-bounds own.0 split.0 after own.1.1 in
       (back.0, own.0, omega arith, own.1.0)
+
+  -- there are at most as many postings as addresses were given
+  pub stored_within : length (postings_of parts memory) ≤ next
+  stored_within = omega (arith, Ascend-length 0 next (postings_of parts memory) d.ascend)

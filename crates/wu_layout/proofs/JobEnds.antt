@@ -1,13 +1,12 @@
 -- What the end of a job does to the layout: what it made stands in the place of its parts.
-use Rattle.std.proofs.Common.{◌≡◌, ℕ, ◌+◌, ◌<◌, ◌==◌, Bool, List, [], ◌∷◌, ◌++◌, length, map, count_by, refl, ap, sym, ◌∙◌, subst, arith, ⊎_elim, append_assoc, length-append}
+use Rattle.std.proofs.Common.{◌≡◌, ℕ, ◌+◌, ◌<◌, ◌==◌, Bool, List, [], ◌∷◌, ◌++◌, length, map, count_by, refl, ap, sym, ◌∙◌, subst, arith, ⊎_elim, length-append}
 use Rattle.std.proofs.lemmas.Bool.{cases_eq}
-use Rattle.std.proofs.lemmas.List.{map-append}
 use Rattle.std.proofs.lemmas.List.Folds.{flat_map-map}
 use Rattle.wu_layout.specs.Postings.{Posting, live_of}
 use Rattle.wu_layout.specs.Layouts.{Text, FileEntry, Part, Job, Layout, stored_in, homes_of, parts_before, parts_taken, parts_after}
 use Rattle.wu_layout.specs.Invariants.{AddressesAscend, TextsAreIndexed, IsUnderWay, times_named, BlobsAreDistinct, IsLayoutOf}
 use Rattle.wu_layout.specs.Steps.{made_generation, replaced, end_job}
-use Rattle.wu_layout.proofs.HomeLemmas.{parts_split}
+use Rattle.wu_layout.proofs.HomeLemmas.{postings_in, homes_split, parts_split}
 use Rattle.wu_layout.proofs.BlobLemmas.{count-append, count-cons, once, once_same, once_other}
 use Rattle.wu_layout.proofs.KeptLemmas.{IsKeptOf, was_live_is_kept}
 use Rattle.wu_layout.proofs.ExchangeLemmas.{AreHomes, homes_without, homes_exchanged}
@@ -15,15 +14,6 @@ use Rattle.wu_layout.proofs.EachLemmas.{each-append, each_left, each_right}
 use Rattle.wu_layout.proofs.GenerationLemmas.{never_rise_without, never_rise_made, flushes_without, flushes_made}
 
 -- ---- postings
-
-abbrev postings_in : List Part → List (List Posting)
-postings_in parts = map (λ part. part.postings) parts
-
-homes_split : (before after : List Part) (memory : List Posting)
-    → homes_of (before ++ after) memory ≡ postings_in before ++ homes_of after memory
-homes_split before after memory =
-    ap (λ (hs : List (List Posting)). hs ++ memory ∷ []) (map-append (λ (p : Part). p.postings) before after)
-    ∙ append_assoc (postings_in before) (postings_in after) (memory ∷ [])
 
 module _ (text_of : ℕ → Text) (files : List (ℕ × FileEntry)) (next : ℕ) (before taken after : List Part) (memory kept : List Posting)
     (k : IsKeptOf files (stored_in taken) kept) (a : AddressesAscend next (before ++ (taken ++ after)) memory)

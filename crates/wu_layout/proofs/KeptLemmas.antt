@@ -15,7 +15,7 @@ use Rattle.wu_layout.proofs.EntryLemmas.{IfSome-map}
 
 -- ---- the live postings of some ranges
 
-live_at : (ranges : List Range) (range : Range) (a : ℕ) → IsAmong ranges range → is_in range a ≡ true → is_live ranges a ≡ true
+pub live_at : (ranges : List Range) (range : Range) (a : ℕ) → IsAmong ranges range → is_in range a ≡ true → is_live ranges a ≡ true
 live_at [] range a h t = absurd h
 live_at (other ∷ ranges) range a h t =
     ⊎_elim

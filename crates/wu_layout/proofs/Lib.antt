@@ -13,3 +13,11 @@ pub mod GenerationLemmas
 pub mod JobEnds
 pub mod Picks
 pub mod Units
+pub mod TermLemmas
+pub mod FewParts
+pub mod NumberedRanges
+pub mod LiveCounts
+pub mod Garbage
+pub mod Fetches
+pub mod ListLemmas
+pub mod ListTotals

@@ -20,10 +20,10 @@ use Rattle.wu_layout.proofs.KeptLemmas.{among_ranges}
 -- ---- the first that passes a test
 
 module _ {X : Type 0} (test : X → Bool) (x : X) (xs : List X) where
-  first_here : test x ≡ true → position test (x ∷ xs) ≡ Some 0
+  pub first_here : test x ≡ true → position test (x ∷ xs) ≡ Some 0
   first_here t = rw t (rw (lt-ltb 0 (suc (length xs)) (omega arith)) refl)
 
-  first_later : test x ≡ false → position test (x ∷ xs) ≡ option_map (λ n. suc n) (position test xs)
+  pub first_later : test x ≡ false → position test (x ∷ xs) ≡ option_map (λ n. suc n) (position test xs)
   first_later f =
       rw f
       (⊎_elim
@@ -50,7 +50,7 @@ zip_shorter (x ∷ xs) (y ∷ ys) = let r : length (zip xs ys) ≤ length ys = z
 
 -- ---- which parts are taken
 
-abbrev alike : Part × Part → Bool
+abbrev pub alike : Part × Part → Bool
 alike pair = pair.0.generation == pair.1.generation
 
 pair_number : (parts : List Part) (place : ℕ) → alike_neighbours parts ≡ Some place → length (take 2 (drop place parts)) ≡ 2

@@ -11,6 +11,12 @@ pub Ascend-bounds : (low high : ℕ) (ps : List Posting) → Ascend low high ps 
 Ascend-bounds low high [] a = a
 Ascend-bounds low high (p ∷ ps) a = let r : p.address + 1 ≤ high = Ascend-bounds (p.address + 1) high ps a.1 in omega (arith, a.0)
 
+-- there are no more of them than addresses between the bounds
+pub Ascend-length : (low high : ℕ) (ps : List Posting) → Ascend low high ps → low + length ps ≤ high
+Ascend-length low high [] a = omega (arith, a)
+Ascend-length low high (p ∷ ps) a =
+    let r : p.address + 1 + length ps ≤ high = Ascend-length (p.address + 1) high ps a.1 in omega (arith, a.0)
+
 pub Ascend-above : (low least high : ℕ) (ps : List Posting) → least ≤ low → Ascend low high ps → Ascend least high ps
 Ascend-above low least high [] l a = omega arith
 Ascend-above low least high (p ∷ ps) l a = (omega (arith, a.0), a.1)
@@ -61,10 +67,10 @@ length-placed start (term ∷ terms) = ap suc (length-placed (start + 1) terms)
 
 -- ---- ranges that have none of them, or all
 
-outside_below : (range : Range) (a : ℕ) → a < range.start → is_in range a ≡ false
+pub outside_below : (range : Range) (a : ℕ) → a < range.start → is_in range a ≡ false
 outside_below range a l = and_left _ _ (lt-leb range.start a l)
 
-outside_above : (range : Range) (a : ℕ) → range.start + range.len ≤ a → is_in range a ≡ false
+pub outside_above : (range : Range) (a : ℕ) → range.start + range.len ≤ a → is_in range a ≡ false
 outside_above range a l = and_right _ _ (le-ltb a (range.start + range.len) l)
 
 inside : (range : Range) (a : ℕ) → range.start ≤ a → a < range.start + range.len → is_in range a ≡ true

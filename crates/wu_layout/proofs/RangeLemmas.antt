@@ -7,13 +7,9 @@ use Rattle.std.specs.BTreeMap.{is_at, insert_entry}
 use Rattle.std.proofs.lemmas.Bool.{cases_eq}
 use Rattle.wu_base.proofs.MapEntries.{ascend-insert_entry, ascend-remove_entry}
 use Rattle.wu_layout.specs.Layouts.{FileEntry, entry_of}
+use Rattle.wu_layout.specs.Changes.{DiffersAt}
 use Rattle.wu_layout.specs.Invariants.{AreApart, RangesAreDisjoint}
 use Rattle.wu_layout.proofs.EntryLemmas.{IfSome-map, IfSome-all, IfSome-same, entry_put, others_after_put, none_after_removal, others_after_removal}
-
--- after is what before was, but at the number
-pub record DiffersAt {X : Type 0} (ino : ℕ) (before after : ℕ → X) (value : X) : Type 0 where
-  pub there : after ino ≡ value
-  pub elsewhere : (n : ℕ) → n ≢ ino → after n ≡ before n
 
 -- two properties of the entries of p and q
 abbrev Both : (FileEntry → FileEntry → Type 0) → Option FileEntry → Option FileEntry → Type 0
@@ -25,7 +21,8 @@ RangesApart entry other = AreApart entry.range other.range
 none_left_apart : (o : Option FileEntry) → Both RangesApart o None
 none_left_apart o = IfSome-all (λ entry. IfSome {T = FileEntry} None (λ other. RangesApart entry other)) o (λ entry. tt)
 
-module _ (is_file is_file_after : ℕ → Bool) (next : ℕ) (files : List (ℕ × FileEntry)) (ino : ℕ) (d : RangesAreDisjoint is_file next files) where
+module _ (is_file is_file_after : ℕ → Bool) (next : ℕ) (files : List (ℕ × FileEntry)) (ino : ℕ)
+    (d : RangesAreDisjoint is_file next files) where
   pub ranges_after_release : DiffersAt ino is_file is_file_after false
       → RangesAreDisjoint is_file_after next (remove_entry (is_at (nat_cmp ino)) files)
   ranges_after_release f =
@@ -41,7 +38,8 @@ module _ (is_file is_file_after : ℕ → Bool) (next : ℕ) (files : List (ℕ 
             (cases_eq n ino);
         within = λ n.
             ⊎_elim
-            (λ e. subst (λ x. IfSome (entry_of left x) (λ entry. entry.range.start + entry.range.len ≤ next)) (sym e) (IfSome-same _ _ None gone tt))
+            (λ e. subst (λ x. IfSome (entry_of left x) (λ entry. entry.range.start + entry.range.len ≤ next)) (sym e)
+            (IfSome-same _ _ None gone tt))
             (λ h. IfSome-same _ _ _ (rest n h) (d.within n))
             (cases_eq n ino);
         apart = λ p q h.

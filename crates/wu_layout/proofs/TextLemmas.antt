@@ -63,7 +63,8 @@ module _ (text_of text_of_after : ℕ → Text) (files : List (ℕ × FileEntry)
 
   pub texts_after_place : (is_file : ℕ → Bool) (next blob : ℕ) (text : Text) → RangesAreDisjoint is_file next files
       → AddressesAscend next parts memory → 0 < blob → text_of_after ino ≡ text
-      → TextsAreIndexed text_of_after (insert_entry nat_cmp files ino (entry_for text next blob)) parts (memory ++ placed_from next text.terms)
+      → TextsAreIndexed text_of_after (insert_entry nat_cmp files ino (entry_for text next blob)) parts
+      (memory ++ placed_from next text.terms)
   texts_after_place is_file next blob text ranges addresses l s =
       let entry : FileEntry = entry_for text next blob in
       let now : List (ℕ × FileEntry) = insert_entry nat_cmp files ino entry in
@@ -79,7 +80,8 @@ module _ (text_of text_of_after : ℕ → Text) (files : List (ℕ × FileEntry)
         home = home_in_memory (HasText text entry.range) parts more
             (cut_placed next text.terms entry.range low.0 low.1 memory low.3 low.2 refl refl);
       } in
-      let old : (t : Text) (other : FileEntry) → other.range.start + other.range.len ≤ next → Indexed t memory other → Indexed t more other =
+      let old : (t : Text) (other : FileEntry) → other.range.start + other.range.len ≤ next → Indexed t memory other
+      → Indexed t more other =
       λ t other b i. record {
         kept = i.kept;
         long = i.long;

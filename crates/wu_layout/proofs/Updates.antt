@@ -7,12 +7,13 @@ use Rattle.std.specs.Map.{remove_entry}
 use Rattle.std.specs.BTreeMap.{is_at, insert_entry}
 use Rattle.std.proofs.lemmas.Bool.{cases_eq, eq-eqb, ne_eqb, and_left, not_from_true}
 use Rattle.wu_layout.specs.Postings.{Posting, placed_from, has_some, Ascend}
-use Rattle.wu_layout.specs.Layouts.{Text, FileEntry, Part, Job, Layout, first_layout, entry_of, stored_in, postings_of, parts_taken}
-use Rattle.wu_layout.specs.Invariants.{RangesAreDisjoint, AddressesAscend, GenerationsAreBounded, IsAmong, JobIsUnderWay, IsLayoutOf}
+use Rattle.wu_layout.specs.Layouts.{homes_of, Text, FileEntry, Part, Job, Layout, first_layout, entry_of, stored_in, postings_of, parts_taken}
+use Rattle.wu_layout.specs.Invariants.{IsIndexed, RangesAreDisjoint, AddressesAscend, GenerationsAreBounded, IsAmong, JobIsUnderWay, IsLayoutOf}
+use Rattle.wu_layout.specs.Changes.{DiffersAt, IsWithout, IsWith}
 use Rattle.wu_layout.specs.Steps.{release, place}
 use Rattle.wu_layout.proofs.PostingLemmas.{Ascend-append, Ascend-placed, length-placed, cut_below, none_from_cut}
 use Rattle.wu_layout.proofs.EntryLemmas.{IfSome-same, entry_put, others_after_put, none_after_removal, others_after_removal}
-use Rattle.wu_layout.proofs.RangeLemmas.{DiffersAt, ranges_after_release, ranges_after_place}
+use Rattle.wu_layout.proofs.RangeLemmas.{ranges_after_release, ranges_after_place}
 use Rattle.wu_layout.proofs.HomeLemmas.{postings-append, taken_bounded}
 use Rattle.wu_layout.proofs.TextLemmas.{entry_for, texts_after_release, texts_after_place}
 use Rattle.wu_layout.proofs.BlobLemmas.{once_other, blobs_after_release, blobs_after_place}
@@ -80,7 +81,8 @@ module _ (files : List (ℕ × FileEntry)) (parts : List Part) (ino : ℕ) where
         terms = d.terms;
         was_live = λ n.
             ⊎_elim
-            (λ e. subst (λ x. IfSome (entry_of now x) (WasLive job)) (sym e) (IfSome-same _ _ (Some entry) (entry_put files ino entry) (inl none)))
+            (λ e. subst (λ x. IfSome (entry_of now x) (WasLive job)) (sym e)
+            (IfSome-same _ _ (Some entry) (entry_put files ino entry) (inl none)))
             (λ h. IfSome-same _ _ _ (others_after_put files ino entry n h) (d.was_live n))
             (cases_eq n ino);
       }
@@ -105,33 +107,25 @@ first_is_layout text_of = record {
   };
 }
 
--- The range of a file is released: it is a file no more, or gets a new text at once. The texts of others are as they were.
-pub record IsWithout (ino : ℕ) (is_file is_file_after : ℕ → Bool) (text_of text_of_after : ℕ → Text) : Type 0 where
-  pub files : DiffersAt ino is_file is_file_after false
-  pub texts : (n : ℕ) → n ≢ ino → text_of_after n ≡ text_of n
-
+-- a file's range is released: it is a file no more, or gets a new text at once
 pub layout_after_release : (is_file is_file_after : ℕ → Bool) (text_of text_of_after : ℕ → Text) (layout : Layout) (ino : ℕ)
     → IsWithout ino is_file is_file_after text_of text_of_after
     → IsLayoutOf is_file text_of layout → IsLayoutOf is_file_after text_of_after (release ino layout)
 layout_after_release is_file is_file_after text_of text_of_after layout ino w d = record {
   ranges = ranges_after_release is_file is_file_after layout.next layout.files ino d.ranges w.files;
   addresses = d.addresses;
-  texts = texts_after_release text_of text_of_after layout.files layout.parts layout.memory ino w.texts d.texts is_file layout.next d.ranges;
+  texts =
+      texts_after_release text_of text_of_after layout.files layout.parts layout.memory ino w.texts d.texts is_file layout.next d.ranges;
   generations = d.generations;
   work = job_after_release layout.files layout.parts ino is_file layout.next layout.job d.ranges d.work;
   blobs = blobs_after_release layout.blob layout.files layout.parts layout.check layout.stale d.blobs ino;
 }
 
--- A file gets a text, which has no range now: it is made, or its range was released. The texts of others are as they were.
-pub record IsWith (ino : ℕ) (text : Text) (is_file is_file_after : ℕ → Bool) (text_of text_of_after : ℕ → Text) : Type 0 where
-  pub absent : is_file ino ≡ false
-  pub files : DiffersAt ino is_file is_file_after true
-  pub texts : DiffersAt ino text_of text_of_after text
-
 nothing_there : (o : Option FileEntry) → is_some o ≡ false → o ≡ None
 nothing_there None h = refl
 nothing_there (Some entry) h = absurd cc
 
+-- a file gets a text: it is made, or its range was released
 pub layout_after_place : (is_file is_file_after : ℕ → Bool) (text_of text_of_after : ℕ → Text) (layout : Layout) (ino : ℕ) (text : Text)
     → IsWith ino text is_file is_file_after text_of text_of_after
     → IsLayoutOf is_file text_of layout → IsLayoutOf is_file_after text_of_after (place ino text layout)
@@ -163,3 +157,28 @@ layout_after_text is_file text_of text_of_after layout ino text there texts d =
     (record { absent = gone; files = record { there = there; elsewhere = λ n h. sym (others n h) }; texts = texts })
     (layout_after_release is_file between text_of text_of layout ino
     (record { files = record { there = gone; elsewhere = others }; texts = λ n h. refl }) d)
+
+-- an event that changes no file and no text
+pub layout_after_other : (is_file is_file_after : ℕ → Bool) (text_of text_of_after : ℕ → Text) (layout : Layout)
+    → ((n : ℕ) → is_file_after n ≡ is_file n) → ((n : ℕ) → text_of_after n ≡ text_of n)
+    → IsLayoutOf is_file text_of layout → IsLayoutOf is_file_after text_of_after layout
+layout_after_other is_file is_file_after text_of text_of_after layout files texts d = record {
+  ranges = record {
+    by_number = d.ranges.by_number;
+    of_files = λ ino. d.ranges.of_files ino ∙ sym (files ino);
+    within = d.ranges.within;
+    apart = d.ranges.apart;
+  };
+  addresses = d.addresses;
+  texts = record {
+    each = λ ino.
+        subst
+        (λ text.
+        IfSome (entry_of layout.files ino)
+        (λ entry. IsIndexed text entry (homes_of layout.parts layout.memory) (postings_of layout.parts layout.memory)))
+        (sym (texts ino)) (d.texts.each ino);
+  };
+  generations = d.generations;
+  work = d.work;
+  blobs = d.blobs;
+}

@@ -5,7 +5,7 @@ use Rattle.std.specs.List.{AllByRecursion}
 use Rattle.std.specs.List.Sorted.{IsStrictlySortedBy}
 use Rattle.std.specs.Map.{keys_of}
 use Rattle.wu_base.specs.declared.addresses.Range.{Range}
-use Rattle.wu_layout.specs.Postings.{Posting, placed_from, cut, has_some, Ascend}
+use Rattle.wu_layout.specs.Postings.{Posting, placed_from, cut, has_some, live_of, dead_of, Ascend}
 use Rattle.wu_layout.specs.Layouts.{Text, FileEntry, Part, Job, Layout, entry_of, stored_in, homes_of, postings_of, terms_of, parts_before, parts_taken}
 
 -- ---- ranges
@@ -59,6 +59,11 @@ pub record TextsAreIndexed (text_of : ℕ → Text) (files : List (ℕ × FileEn
 abbrev pub NeverRise : List Part → Type 0
 NeverRise [] = Unit {0}
 NeverRise (part ∷ parts) = AllByRecursion (λ later. later.generation ≤ part.generation) parts × NeverRise parts
+
+-- generations fall from left to right, each below the one before
+abbrev pub Fall : List Part → Type 0
+Fall [] = Unit {0}
+Fall (part ∷ parts) = AllByRecursion (λ later. later.generation < part.generation) parts × Fall parts
 
 -- how many flushes it takes to make such parts
 abbrev pub flushes_for : List Part → ℕ
@@ -118,6 +123,15 @@ pub record BlobsAreDistinct (next : ℕ) (files : List (ℕ × FileEntry)) (part
   pub below : (number : ℕ) → next ≤ number → times_named number files parts check stale ≡ 0
   pub of_parts : count_by (λ part. part.blob == 0) parts ≡ 0
   pub of_stale : count_by (λ number. number == 0) stale ≡ 0
+
+-- ---- where there is no more to do
+
+-- Where background work has no more to do there are few parts, at most the logarithm of the number of flushes, and most of each is
+-- live.
+pub record AreFewParts (ranges : List Range) (flushes : ℕ) (parts : List Part) : Type 0 where
+  pub fall : Fall parts
+  pub few : 2 ^ length parts ≤ flushes + 1
+  pub mostly_live : AllByRecursion (λ part. length (dead_of ranges part.postings) < length (live_of ranges part.postings)) parts
 
 -- ---- all of them
 

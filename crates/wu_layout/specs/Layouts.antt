@@ -10,7 +10,8 @@ use Rattle.std.specs.Map.{lookup}
 use Rattle.std.specs.BTreeMap.{is_at}
 use Rattle.wu_base.specs.SortedOnce.{sorted_once}
 use Rattle.wu_base.specs.declared.addresses.Range.{Range}
-use Rattle.wu_layout.specs.Postings.{Posting}
+use Rattle.wu_base.specs.declared.addresses.TermList.{TermList}
+use Rattle.wu_layout.specs.Postings.{Posting, addresses_of}
 
 -- what the index is given of a text: its terms in order, and whether it has bytes; one without bytes is kept in no blob
 pub record Text : Type 0 where
@@ -79,6 +80,10 @@ first_layout = record {
 abbrev pub entry_of : List (ℕ × FileEntry) → ℕ → Option FileEntry
 entry_of files ino = lookup (is_at (nat_cmp ino)) files
 
+-- each file's live range, by number
+abbrev pub ranges_by_number : List (ℕ × FileEntry) → List (ℕ × Range)
+ranges_by_number files = map (λ file. (file.0, file.1.range)) files
+
 -- the live ranges
 abbrev pub ranges_of : List (ℕ × FileEntry) → List Range
 ranges_of files = map (λ file. file.1.range) files
@@ -100,6 +105,14 @@ postings_of parts memory = flat_map (λ home. home) (homes_of parts memory)
 -- the terms of postings, by their bytes, each of them once
 abbrev pub terms_of : List Posting → List (List ℕ)
 terms_of postings = sorted_once (slice_cmp nat_cmp) (map (λ posting. posting.term) postings)
+
+-- the list of a term: its addresses
+abbrev pub list_of : List Posting → List ℕ → TermList
+list_of postings term = record { term = term; at = addresses_of term postings }
+
+-- the lists of postings, one for each of their terms, by the terms' bytes: so a part has them
+abbrev pub lists_of : List Posting → List TermList
+lists_of postings = map (list_of postings) (terms_of postings)
 
 -- ---- the parts of a job, and those left and right of them
 abbrev pub parts_before : Job → List Part → List Part

@@ -2,3 +2,4 @@ pub mod Postings
 pub mod Layouts
 pub mod Invariants
 pub mod Steps
+pub mod Changes

@@ -1,6 +1,6 @@
 -- Postings, as in an inverted index with addresses of its own (a schema-independent index): each says that a term stands at an
 -- address. See Büttcher, Clarke and Cormack, Information Retrieval, chapters 2 and 4.
-use Rattle.std.specs.Prelude.{ℕ, ◌+◌, ◌≤◌, ◌&&◌, Bool, nat_eq, nat_le, nat_lt, List, [], ◌∷◌, filter, map}
+use Rattle.std.specs.Prelude.{ℕ, ◌+◌, ◌≤◌, ◌&&◌, not, Bool, nat_eq, nat_le, nat_lt, List, [], ◌∷◌, filter, map}
 use Rattle.std.specs.List.{list_any}
 use Rattle.std.specs.Cmp.Lexicographic.{pointwise}
 use Rattle.wu_base.specs.declared.addresses.Range.{Range}
@@ -42,6 +42,13 @@ is_live ranges address = list_any (λ range. is_in range address) ranges
 -- The live postings: the others are dead, for the texts that they were made of are gone or were replaced.
 abbrev pub live_of : List Range → List Posting → List Posting
 live_of ranges postings = filter (λ posting. is_live ranges posting.address) postings
+
+abbrev pub dead_of : List Range → List Posting → List Posting
+dead_of ranges postings = filter (λ posting. not (is_live ranges posting.address)) postings
+
+-- what a search is given of a term: its addresses within the frames, which are the live ranges of the files that a user may read
+abbrev pub fetched : List Range → List Posting → List ℕ → List ℕ
+fetched frames postings term = filter (is_live frames) (addresses_of term postings)
 
 -- the addresses ascend strictly, none below the low one, and all below the high one
 abbrev pub Ascend : ℕ → ℕ → List Posting → Type 0

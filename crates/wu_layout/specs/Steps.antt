@@ -5,7 +5,7 @@ use Rattle.std.specs.Option.{option_or}
 use Rattle.std.specs.Map.{remove_entry}
 use Rattle.std.specs.BTreeMap.{is_at, insert_entry}
 use Rattle.wu_base.specs.declared.addresses.Range.{Range}
-use Rattle.wu_layout.specs.Postings.{Posting, placed_from, is_live, live_of, has_some}
+use Rattle.wu_layout.specs.Postings.{Posting, placed_from, live_of, dead_of, has_some}
 use Rattle.wu_layout.specs.Layouts.{Text, FileEntry, Part, Job, Layout, entry_of, ranges_of, stored_in, terms_of, parts_before, parts_taken, parts_after}
 
 -- ---- texts
@@ -64,10 +64,7 @@ alike_neighbours parts = position (λ pair. pair.0.generation == pair.1.generati
 
 -- the part has as many dead postings as live ones, or more
 abbrev pub is_half_dead : List Range → Part → Bool
-is_half_dead ranges part =
-    nat_le
-    (length (live_of ranges part.postings))
-    (length (filter (λ posting. not (is_live ranges posting.address)) part.postings))
+is_half_dead ranges part = nat_le (length (live_of ranges part.postings)) (length (dead_of ranges part.postings))
 
 -- a job at its start, on these postings of its parts
 abbrev pub job_on : List Range → ℕ → ℕ → List Posting → Job
