@@ -66,8 +66,8 @@ impl Links {
         }
     }
 
-    /// Puts a link to its place, instead of the one that may stand there. Out of memory, the links
-    /// are as they were.
+    /// Puts a link to its place, with a copy of the name, instead of the one that may stand there. Out of
+    /// memory, the links are as they were.
     pub(crate) fn insert(
         &mut self,
         alloc: Global,

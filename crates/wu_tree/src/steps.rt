@@ -246,7 +246,8 @@ fn texted(ino: Ino) -> Effect
 
 /// A law: of an event that is accepted, the effect tells which files there are afterwards. A node is a regular
 /// file exactly where it isn't the file that was dropped, and is the one that was made or was a file before;
-/// no file is both made and dropped; and a text was given to a file that is there. So who keeps a text for each file need only follow the effects.
+/// no file is both made and dropped; and a text was given to a file that is there. So who keeps a text for
+/// each file need only follow the effects.
 pub fn effects_tell_files(tree: &Tree)
     ensures { EffectsTellFiles tree.now }
 {
