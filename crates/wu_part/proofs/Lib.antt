@@ -1,0 +1,4 @@
+pub mod DirectoryLemmas
+pub mod HeaderLemmas
+pub mod ReadingLemmas
+pub mod TermLemmas

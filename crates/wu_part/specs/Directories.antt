@@ -40,7 +40,7 @@ pub record IsEntry (low high : ℕ) (entry : TermEntry) : Type 0 where
   pub some : 0 < length entry.term
   pub short : length entry.term ≤ WORD_MAX
   pub count : 0 < entry.count
-  pub blocks : AreBlocks low high entry.count entry.blocks
+  pub cut : AreBlocks low high entry.count entry.blocks
 
 -- the blocks stand one after another, with nothing between, from place to end
 abbrev pub StandFrom : ℕ → ℕ → List BlockEntry → Type 0

@@ -26,11 +26,11 @@ pub record IsNextBlock (head : Head) (size from count : ℕ) (bytes : List ℕ) 
   pub begin : block.at ≡ place
   pub within : place + block.len ≤ size
 
--- the same of all blocks of so many addresses
-pub record IsNextBlocks (head : Head) (size count : ℕ) (bytes : List ℕ) (place : ℕ) (blocks : List BlockEntry) (rest : List ℕ) (end : ℕ)
-    : Type 0 where
+-- the same of all blocks of so many addresses, none of them below from
+pub record AreNextBlocks (head : Head) (size from count : ℕ) (bytes : List ℕ) (place : ℕ) (blocks : List BlockEntry) (rest : List ℕ)
+    (end : ℕ) : Type 0 where
   pub numbers : StartsWithNumbers bytes (flat_map (block_numbers head.low) blocks) rest
-  pub holds : AreBlocks head.low head.high count blocks
+  pub hold : AreBlocks from head.high count blocks
   pub places : StandFrom place end blocks
   pub within : end ≤ size
 
@@ -42,9 +42,9 @@ pub record IsNextEntry (head : Head) (size : ℕ) (bytes : List ℕ) (place : �
   pub places : StandFrom place end entry.blocks
   pub within : end ≤ size
 
--- the bytes are the entries', as many as the head says
-pub record AreEntries (head : Head) (bytes : List ℕ) (place size : ℕ) (terms : List TermEntry) : Type 0 where
-  pub number : length terms ≡ head.terms
+-- the bytes are those of so many entries
+pub record AreEntries (head : Head) (size count : ℕ) (bytes : List ℕ) (place : ℕ) (terms : List TermEntry) : Type 0 where
+  pub number : length terms ≡ count
   pub spelled : SpellsEntries head.low terms bytes
   pub hold : AllByRecursion (IsEntry head.low head.high) terms
   pub places : StandFrom place size (all_blocks terms)

@@ -130,9 +130,10 @@ fn place_of(terms: &[TermEntry], term: &[u8]) -> Option<usize>
     ensures { MatchOption result ((entry : TermEntry) → Contains terms.now entry → entry.term ≡ term.now → ⊥)
         (λ place. (place < length terms.now) × ((d : TermEntry) → (get_or terms.now place d).term ≡ term.now)) }
 {
-    terms
-        .binary_search_by(|entry| entry.term.as_slice().cmp(&term))
-        .ok()
+    match terms.binary_search_by(|entry| entry.term.as_slice().cmp(&term)) {
+        Ok(place) => Some(place),
+        Err(_) => None,
+    }
 }
 
 /// The entry of a term, and how far its blocks have been gone through: contracts see the entry of

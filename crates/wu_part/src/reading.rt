@@ -9,8 +9,8 @@ ghost use Rattle.wu_vbyte.specs.Numbers.{StartsWithNumber};
 ghost use Rattle.wu_vbyte.specs.Blocks.{SpellsBlock, AreFromTo};
 ghost use Rattle.wu_part.specs.declared.entries.TermEntry.{TermEntry};
 ghost use Rattle.wu_part.specs.declared.entries.BlockEntry.{BlockEntry};
-ghost use Rattle.wu_part.specs.Directories.{PartDirectory, SpellsDirectory, StartsWithNumbers, all_blocks};
-ghost use Rattle.wu_part.specs.Entries.{StartsWithHead, IsNextBlock, IsNextBlocks, IsNextEntry, AreEntries};
+ghost use Rattle.wu_part.specs.Directories.{PartDirectory, SpellsDirectory, StartsWithNumbers};
+ghost use Rattle.wu_part.specs.Entries.{StartsWithHead, IsNextBlock, AreNextBlocks, IsNextEntry, AreEntries};
 
 use crate::directories::Directory;
 use crate::entries::{BlockEntry, TermEntry};
@@ -86,9 +86,15 @@ fn three_numbers(bytes: &[u8]) -> Option<(u64, u64, u64, &[u8])>
     ensures none { IfNone result ((a b c : ℕ) (rest : List ℕ) → a < 2 ^ 64 → b < 2 ^ 64 → c < 2 ^ 64
         → StartsWithNumbers bytes.now (a ∷ b ∷ c ∷ []) rest → ⊥) }
 {
-    let (first, rest) = next_number(bytes)?;
-    let (second, rest) = next_number(rest)?;
-    let (third, rest) = next_number(rest)?;
+    let Some((first, rest)) = next_number(bytes) else {
+        return None;
+    };
+    let Some((second, rest)) = next_number(rest) else {
+        return None;
+    };
+    let Some((third, rest)) = next_number(rest) else {
+        return None;
+    };
     Some((first, second, third, rest))
 }
 
@@ -107,9 +113,15 @@ fn take_head(bytes: &[u8]) -> Option<(Head, &[u8])>
     ensures found { IfSome result (λ taken. StartsWithHead bytes.now taken.0 taken.1.now) }
     ensures none { IfNone result ((directory : PartDirectory) → SpellsDirectory directory bytes.now → ⊥) }
 {
-    let (generation, low, span, rest) = three_numbers(bytes)?;
-    let (stored, rest) = next_number(rest)?;
-    let (terms, rest) = next_number(rest)?;
+    let Some((generation, low, span, rest)) = three_numbers(bytes) else {
+        return None;
+    };
+    let Some((stored, rest)) = next_number(rest) else {
+        return None;
+    };
+    let Some((terms, rest)) = next_number(rest) else {
+        return None;
+    };
     if !are_numbers(generation, low, span, stored) {
         return None;
     }
@@ -147,22 +159,22 @@ fn take_entries(
 ) -> Result<Option<Vec<TermEntry>>, NoMemory>
     requires high { head.now.high < ADDRESSES_MAX }
     requires place { place ≤ size }
-    ensures found { IfOk result (λ read. IfSome read (λ terms. AreEntries head.now bytes.now place size terms.items)) }
-    ensures none { IfOk result (λ read. IfNone read ((terms : List TermEntry) → AreEntries head.now bytes.now place size terms → ⊥)) }
+    ensures found { IfOk result (λ read. IfSome read (λ terms. AreEntries head.now size head.now.terms bytes.now place terms.items)) }
+    ensures none { IfOk result (λ read. IfNone read ((terms : List TermEntry) → AreEntries head.now size head.now.terms bytes.now place terms → ⊥)) }
 {
     let mut terms = Vec::new(alloc);
     let mut rest = bytes;
-    let mut end = place;
+    let mut reached = place;
     for _ in 0..head.terms {
-        let (entry, left, after) = match take_entry(alloc, rest, head, end, size)? {
+        let (entry, left, after) = match take_entry(alloc, rest, head, reached, size)? {
             Some(taken) => taken,
             None => return Ok(None),
         };
         terms.push(entry)?;
         rest = left;
-        end = after;
+        reached = after;
     }
-    if is_end(rest, end, size) {
+    if is_end(rest, reached, size) {
         Ok(Some(terms))
     } else {
         Ok(None)
@@ -219,7 +231,9 @@ fn take_term(bytes: &[u8]) -> Option<(&[u8], &[u8])>
     ensures none { IfNone result ((term rest : List ℕ) → 0 < length term → length term ≤ WORD_MAX
         → StartsWithNumber bytes.now (length term) (term ++ rest) → ⊥) }
 {
-    let (length, rest) = next_number(bytes)?;
+    let Some((length, rest)) = next_number(bytes) else {
+        return None;
+    };
     if is_term_length(length, rest.len()) {
         Some(rest.split_at(length as usize))
     } else {
@@ -239,7 +253,9 @@ fn take_count(bytes: &[u8]) -> Option<(u64, &[u8])>
     ensures found { IfSome result (λ next. StartsWithNumber bytes.now next.0 next.1.now × (0 < next.0)) }
     ensures none { IfNone result ((number : ℕ) (rest : List ℕ) → 0 < number → number < 2 ^ 64 → StartsWithNumber bytes.now number rest → ⊥) }
 {
-    let (count, rest) = next_number(bytes)?;
+    let Some((count, rest)) = next_number(bytes) else {
+        return None;
+    };
     if count > 0 { Some((count, rest)) } else { None }
 }
 
@@ -255,9 +271,9 @@ fn take_blocks<'a>(
 ) -> Result<Option<(Vec<BlockEntry>, &'a [u8], u64)>, NoMemory>
     requires high { head.now.high < ADDRESSES_MAX }
     requires place { place ≤ size }
-    ensures found { IfOk result (λ read. IfSome read (λ next. IsNextBlocks head.now size count bytes.now place next.0.items next.1.now next.2)) }
+    ensures found { IfOk result (λ read. IfSome read (λ next. AreNextBlocks head.now size head.now.low count bytes.now place next.0.items next.1.now next.2)) }
     ensures none { IfOk result (λ read. IfNone read ((blocks : List BlockEntry) (rest : List ℕ) (end : ℕ)
-        → IsNextBlocks head.now size count bytes.now place blocks rest end → ⊥)) }
+        → AreNextBlocks head.now size head.now.low count bytes.now place blocks rest end → ⊥)) }
 {
     let mut blocks = Vec::new(alloc);
     let mut rest = bytes;
@@ -296,7 +312,9 @@ fn take_block_entry<'a>(
     ensures found { IfSome result (λ next. IsNextBlock head.now size from count bytes.now place next.0 next.1.now) }
     ensures none { IfNone result ((block : BlockEntry) (rest : List ℕ) → IsNextBlock head.now size from count bytes.now place block rest → ⊥) }
 {
-    let (above, span, len, rest) = three_numbers(bytes)?;
+    let Some((above, span, len, rest)) = three_numbers(bytes) else {
+        return None;
+    };
     if !fits(above, span, head) {
         return None;
     }
@@ -342,11 +360,11 @@ fn is_room(len: u64, place: u64, size: u64) -> bool
 fn is_whole(head: &Head, terms: &[TermEntry]) -> bool
     ensures { MatchBool result
         (IsStrictlySortedBy (slice_cmp nat_cmp) (map (λ entry. entry.term) terms.now) × (sum_by (λ entry. entry.count) terms.now ≡ head.now.stored)
-        × (list_any (λ block. block.first == head.now.low) (all_blocks terms.now) ≡ true)
-        × (list_any (λ block. block.last == head.now.high) (all_blocks terms.now) ≡ true))
+        × (list_any (λ entry. list_any (λ block. block.first == head.now.low) entry.blocks) terms.now ≡ true)
+        × (list_any (λ entry. list_any (λ block. block.last == head.now.high) entry.blocks) terms.now ≡ true))
         (IsStrictlySortedBy (slice_cmp nat_cmp) (map (λ entry. entry.term) terms.now) → sum_by (λ entry. entry.count) terms.now ≡ head.now.stored
-        → list_any (λ block. block.first == head.now.low) (all_blocks terms.now) ≡ true
-        → list_any (λ block. block.last == head.now.high) (all_blocks terms.now) ≡ true → ⊥) }
+        → list_any (λ entry. list_any (λ block. block.first == head.now.low) entry.blocks) terms.now ≡ true
+        → list_any (λ entry. list_any (λ block. block.last == head.now.high) entry.blocks) terms.now ≡ true → ⊥) }
 {
     terms_ascend(terms)
         && is_sum(terms, head.stored)
@@ -378,7 +396,7 @@ fn is_sum(terms: &[TermEntry], stored: u64) -> bool
 
 /// Whether some block begins at the address.
 fn begins_at(terms: &[TermEntry], address: u64) -> bool
-    ensures { result ≡ list_any (λ block. block.first == address) (all_blocks terms.now) }
+    ensures { result ≡ list_any (λ entry. list_any (λ block. block.first == address) entry.blocks) terms.now }
 {
     terms
         .iter()
@@ -393,7 +411,7 @@ fn has_begin(blocks: &[BlockEntry], address: u64) -> bool
 
 /// Whether some block ends at the address.
 fn ends_at(terms: &[TermEntry], address: u64) -> bool
-    ensures { result ≡ list_any (λ block. block.last == address) (all_blocks terms.now) }
+    ensures { result ≡ list_any (λ entry. list_any (λ block. block.last == address) entry.blocks) terms.now }
 {
     terms
         .iter()
