@@ -5,7 +5,7 @@ use Rattle.wu_base.specs.declared.limits.TheConstants.{WORD_MAX}
 use Rattle.wu_vbyte.specs.declared.blocks.TheConstants.{BLOCK_LEN}
 use Rattle.wu_vbyte.specs.Numbers.{StartsWithNumber}
 use Rattle.wu_vbyte.proofs.NumberLemmas.{one_number}
-use Rattle.wu_vbyte.proofs.BlockLemmas.{starts_length}
+use Rattle.wu_vbyte.proofs.BlockLemmas.{starts_length, starts_longer}
 use Rattle.wu_part.specs.declared.entries.BlockEntry.{BlockEntry}
 use Rattle.wu_part.specs.declared.entries.TermEntry.{TermEntry}
 use Rattle.wu_part.specs.declared.reading.Head.{Head}
@@ -38,6 +38,12 @@ pub numbers_join : (bytes left rest ns ms : List ℕ) → StartsWithNumbers byte
     → StartsWithNumbers bytes (ns ++ ms) rest
 numbers_join bytes left rest [] ms s t = rw s t
 numbers_join bytes left rest (n ∷ ns) ms s t = (s.0, s.1, numbers_join s.0 left rest ns ms s.2 t)
+
+-- more bytes after the numbers
+pub numbers_longer : (bytes rest more ns : List ℕ) → StartsWithNumbers bytes ns rest → StartsWithNumbers (bytes ++ more) ns (rest ++ more)
+numbers_longer bytes rest more [] s = rw s refl
+numbers_longer bytes rest more (n ∷ ns) s =
+    (s.0 ++ more, starts_longer bytes n s.0 more s.1, numbers_longer s.0 rest more ns s.2)
 
 -- ---- places
 

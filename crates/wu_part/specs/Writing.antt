@@ -26,7 +26,8 @@ pub record AppendsBlocks (low : ℕ) (addresses old new before after front : Lis
   pub grown : after ≡ before ++ more
   pub places : StandFrom (length front + length before) (length front + length after) blocks
   pub held : HoldBlocks low (front ++ after) blocks addresses
-  pub cover : (from high : ℕ) → from ≤ first_of addresses → last_of addresses ≤ high → AreBlocks from high (length addresses) blocks
+  pub cover : (from high : ℕ) → (0 < length addresses → from ≤ first_of addresses) → (0 < length addresses → last_of addresses ≤ high)
+      → AreBlocks from high (length addresses) blocks
 
 -- the same of a term's entry
 pub record AppendsList (low : ℕ) (list : TermList) (old new before after front : List ℕ) : Type 0 where

@@ -50,7 +50,7 @@ fn put_head(
 ) -> Result<(), NoMemory>
     requires some { 0 < length lists.now }
     requires lists { AllByRecursion IsList lists.now }
-    requires low { AllByRecursion (λ list. low ≤ last_of list.at) lists.now }
+    requires low { AllByRecursion (λ list. low ≤ first_of list.at) lists.now }
     requires fits { sum_by (λ list. length list.at) lists.now < 2 ^ 64 }
     ensures { OnOk result ((high : ℕ) × AllByRecursion (λ list. last_of list.at ≤ high) lists.now
         × (list_any (λ list. last_of list.at == high) lists.now ≡ true)
@@ -191,8 +191,10 @@ fn put_chunk(
 {
     let before = blocks.len();
     put_block(blocks, low, at)?;
-    put_number(entries, at[0] - low)?;
-    put_number(entries, at[at.len() - 1] - at[0])?;
+    let first = at[0];
+    let last = at[at.len() - 1];
+    put_number(entries, first - low)?;
+    put_number(entries, last - first)?;
     put_number(entries, (blocks.len() - before) as u64)?;
     Ok(())
 }
