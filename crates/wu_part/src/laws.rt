@@ -4,12 +4,12 @@ ghost use Rattle.wu_base.specs.declared.addresses.TermList.{TermList};
 ghost use Rattle.wu_part.specs.Directories.{PartDirectory, SpellsDirectory};
 ghost use Rattle.wu_part.specs.Parts.{SpellsPart};
 
-/// A law: a directory has one spelling, and a spelling is that of one directory.
+/// A law: a directory has one spelling, and a spelling is that of one directory of a size.
 pub fn each_directory_has_one_spelling()
     ensures spelling { (directory : PartDirectory) (code other : List ℕ) → SpellsDirectory directory code → SpellsDirectory directory other
         → code ≡ other }
     ensures directory { (directory other : PartDirectory) (code : List ℕ) → SpellsDirectory directory code → SpellsDirectory other code
-        → directory ≡ other }
+        → directory.size ≡ other.size → directory ≡ other }
 {}
 
 /// A law: lists have one spelling as a part of a generation, and a spelling is that of one directory
