@@ -1,16 +1,15 @@
 -- Lemmas on the spelling of a directory.
-use Rattle.std.proofs.Common.{◌≡◌, ℕ, ◌+◌, ◌-◌, ◌<◌, ◌≤◌, List, [], ◌∷◌, length, map, refl, ap, sym, subst, ◌∙◌, Bool, true, ◌==◌, arith}
+use Rattle.std.proofs.Common.{◌≡◌, ℕ, ◌+◌, ◌-◌, List, [], ◌∷◌, length, map, refl, sym, subst, ◌∙◌, true, ◌==◌, arith}
 use Rattle.std.specs.List.{AllByRecursion, list_any, sum_by}
 use Rattle.std.specs.List.Sorted.{IsStrictlySortedBy}
 use Rattle.std.specs.Cmp.Lexicographic.{slice_cmp}
 use Rattle.std.specs.Ordering.{nat_cmp}
-use Rattle.wu_part.specs.declared.entries.BlockEntry.{BlockEntry}
 use Rattle.wu_part.specs.declared.entries.TermEntry.{TermEntry}
 use Rattle.wu_part.specs.declared.headers.TheConstants.{HEADER_LEN}
 use Rattle.wu_part.specs.declared.reading.Head.{Head}
 use Rattle.wu_part.specs.Directories.{PartDirectory, SpellsDirectory, IsEntry, StandFrom, StartsWithNumbers, SpellsEntries, all_blocks}
 use Rattle.wu_part.specs.Entries.{StartsWithHead, AreEntries}
-use Rattle.wu_part.proofs.ReadingLemmas.{after_first, after_three, stand_within}
+use Rattle.wu_part.proofs.ReadingLemmas.{after_first, after_three}
 use Rattle.wu_part.proofs.TermLemmas.{any_block}
 
 -- the directory has the numbers of the head
@@ -27,15 +26,19 @@ head_of_directory d bytes head entries s h =
     let n = h.numbers in
     let m = s.numbers in
     let three = after_three bytes n.2.2.0 s.entries head.generation head.low (head.high - head.low) d.generation d.low (d.high - d.low)
-        (d.stored ∷ length d.terms ∷ []) (n.0, n.1, (n.2.0, n.2.1, (n.2.2.0, n.2.2.1, refl))) m in
+    (d.stored ∷ length d.terms ∷ []) (n.0, n.1, (n.2.0, n.2.1, (n.2.2.0, n.2.2.1, refl))) m in
     let stored = after_first n.2.2.0 head.stored d.stored n.2.2.2.0 s.entries (length d.terms ∷ []) n.2.2.2.1 three.3 in
     let terms = after_first n.2.2.2.0 head.terms (length d.terms) n.2.2.2.2.0 s.entries [] n.2.2.2.2.1 stored.1 in
     let low : d.low ≡ head.low = three.1 in
     let span : d.high - d.low ≡ head.high - head.low = three.2 in
     let its = s.holds.span in
-    let mine = h.span in
-    (record { generation = three.0; low = low; high = omega arith; stored = stored.0 },
-    terms.0, s.entries, sym terms.1 ∙ n.2.2.2.2.2, s.terms)
+    let mine = h.span in (
+      record { generation = three.0; low = low; high = omega arith; stored = stored.0 },
+      terms.0,
+      s.entries,
+      sym terms.1 ∙ n.2.2.2.2.2,
+      s.terms,
+    )
 
 -- the directory's entries are those that the head announces
 pub entries_of_directory : (d : PartDirectory) (bytes : List ℕ) (head : Head) (entries : List ℕ) (place size : ℕ) → SpellsDirectory d bytes
@@ -64,7 +67,7 @@ pub directory_of_entries : (bytes : List ℕ) (head : Head) (entries : List ℕ)
     → StartsWithHead bytes head entries → place ≡ HEADER_LEN + length bytes → AreEntries head size head.terms entries place terms
     → HasWhole head terms
     → SpellsDirectory
-        (record { generation = head.generation; low = head.low; high = head.high; stored = head.stored; size = size; terms = terms }) bytes
+    (record { generation = head.generation; low = head.low; high = head.high; stored = head.stored; size = size; terms = terms }) bytes
 directory_of_entries bytes head entries place size terms h e a w = record {
   holds = record {
     generation = h.generation;

@@ -1,5 +1,5 @@
 -- Lemmas on spellings: one for each directory and part, and one of them for each spelling.
-use Rattle.std.proofs.Common.{◌≡◌, ℕ, ◌+◌, ◌-◌, ◌<◌, ◌≤◌, List, [], ◌∷◌, ◌++◌, length, take, drop, refl, ap, sym, subst, ◌∙◌, append-nil, length-append, arith}
+use Rattle.std.proofs.Common.{◌≡◌, ℕ, ◌+◌, ◌-◌, List, [], ◌∷◌, ◌++◌, length, take, drop, refl, ap, sym, subst, ◌∙◌}
 use Rattle.std.specs.Prelude.{codes}
 use Rattle.std.specs.Int.{w64, to_be_bytes, from_be_bytes}
 use Rattle.std.specs.List.{AllZip, flat_map}
@@ -51,7 +51,7 @@ directory_is : (d e : PartDirectory) → d.generation ≡ e.generation → d.low
     → d.terms ≡ e.terms → d ≡ e
 directory_is d e generation low high stored size terms =
     let make : ℕ → ℕ → ℕ → ℕ → ℕ → List TermEntry → PartDirectory =
-        λ g l h s n t. record { generation = g; low = l; high = h; stored = s; size = n; terms = t } in
+    λ g l h s n t. record { generation = g; low = l; high = h; stored = s; size = n; terms = t } in
     ap (λ x. make x d.low d.high d.stored d.size d.terms) generation ∙ (ap (λ x. make e.generation x d.high d.stored d.size d.terms) low
     ∙ (ap (λ x. make e.generation e.low x d.stored d.size d.terms) high ∙ (ap (λ x. make e.generation e.low e.high x d.size d.terms) stored
     ∙ (ap (λ x. make e.generation e.low e.high e.stored x d.terms) size ∙ ap (λ x. make e.generation e.low e.high e.stored e.size x) terms))))

@@ -1,13 +1,12 @@
 -- Lemmas on a part's lists and its directory.
-use Rattle.std.proofs.Common.{◌≡◌, ℕ, zero, suc, ◌+◌, ◌-◌, ◌^◌, ◌<◌, ◌≤◌, ⊎_elim, List, [], ◌∷◌, ◌++◌, length, get_or, map, take, drop, eqb, refl, ap, sym, subst, ◌∙◌, Bool, true, false, ◌||◌, ◌==◌, append_assoc, append-nil, length-append, length-drop, arith}
-use Rattle.std.specs.Prelude.{Some, None, slice_get, codes}
-use Rattle.std.specs.Int.{w64, to_be_bytes}
+use Rattle.std.proofs.Common.{◌≡◌, ℕ, zero, suc, ◌+◌, ◌-◌, ◌^◌, ◌<◌, ◌≤◌, ⊎_elim, List, [], ◌∷◌, ◌++◌, length, get_or, map, take, drop, eqb, refl, ap, sym, subst, ◌∙◌, Bool, true, false, ◌||◌, ◌==◌, append_assoc, length-append, arith}
+use Rattle.std.specs.Prelude.{Some, None, slice_get}
 use Rattle.std.specs.List.{AllByRecursion, AllZip, IsDistinct, flat_map, list_any, sum_by, last_or}
 use Rattle.std.specs.List.Sorted.{IsStrictlyIncreasing, IsStrictlySortedBy}
 use Rattle.std.specs.Cmp.Lexicographic.{slice_cmp}
 use Rattle.std.specs.Ordering.{nat_cmp}
 use Rattle.std.proofs.lemmas.Bool.{cases_lt, eq-eqb, eqb-true}
-use Rattle.std.proofs.lemmas.List.{take_all, length-map}
+use Rattle.std.proofs.lemmas.List.{length-map}
 use Rattle.std.proofs.lemmas.List.Concat.{length-flat_map}
 use Rattle.std.proofs.lemmas.List.Folds.{list_any-append}
 use Rattle.std.proofs.lemmas.List.Sums.{sum_by-cons}
@@ -19,8 +18,8 @@ use Rattle.wu_part.specs.declared.entries.BlockEntry.{BlockEntry}
 use Rattle.wu_part.specs.declared.entries.TermEntry.{TermEntry}
 use Rattle.wu_part.specs.declared.headers.TheConstants.{HEADER_LEN}
 use Rattle.wu_part.specs.Headers.{SpellsHeader}
-use Rattle.wu_part.specs.Directories.{PartDirectory, SpellsDirectory, StandFrom, StartsWithNumbers, SpellsEntries, all_blocks}
-use Rattle.wu_part.specs.Parts.{HoldsBlock, HoldBlocks, HoldsList, IsDirectoryOf, SpellsPart, IsList}
+use Rattle.wu_part.specs.Directories.{PartDirectory, StandFrom, StartsWithNumbers, SpellsEntries, all_blocks}
+use Rattle.wu_part.specs.Parts.{HoldsBlock, HoldBlocks, HoldsList, SpellsPart, IsList}
 use Rattle.wu_part.specs.Writing.{AppendsNumbers, AppendsLists, first_of, last_of}
 use Rattle.wu_part.proofs.ReadingLemmas.{numbers_longer}
 use Rattle.wu_part.proofs.WritingLemmas.{never_falls, cut_of, increasing_dropped, from_to}
@@ -58,12 +57,14 @@ lists_within low high (list ∷ lists) are begin end =
 lowered_apart : (low x : ℕ) (xs : List ℕ) → low ≤ x → AllByRecursion (λ a. (low ≤ a) × (a ≤ a)) xs → AllByRecursion (λ y. eqb x y ≡ false) xs
     → AllByRecursion (λ y. eqb (x - low) y ≡ false) (map (λ a. a - low) xs)
 lowered_apart low x [] l all apart = tt
-lowered_apart low x (y ∷ xs) l all apart =
-    (not_equal (x - low) (y - low) (λ same. let e : x ≡ y = (let from = all.0.0 in omega arith) in differs x y apart.0 e),
-    lowered_apart low x xs l all.1 apart.1)
+lowered_apart low x (y ∷ xs) l all apart = (
+  not_equal (x - low) (y - low) (λ same. let e : x ≡ y = (let from = all.0.0 in omega arith) in differs x y apart.0 e),
+  lowered_apart low x xs l all.1 apart.1,
+)
   where
     differs : (a b : ℕ) → eqb a b ≡ false → a ≡ b → ⊥
     differs a b f e = let t : eqb a b ≡ true = eq-eqb a b e in cc
+
     not_equal : (a b : ℕ) → (a ≡ b → ⊥) → eqb a b ≡ false
     not_equal a b f = elim (eqb a b) as (λ v. eqb a b ≡ v → v ≡ false) [ true ↦ λ p. absurd (f (eqb-true a b p)) | false ↦ λ p. refl ] refl
 
@@ -90,7 +91,7 @@ lowered_below low high (x ∷ xs) within q any =
 pub few_within : (low high : ℕ) (xs : List ℕ) → AreWithin low high xs → IsDistinct eqb xs → length xs ≤ high - low + 1
 few_within low high xs within d =
     let few = length-le_from_distinct_below (map (λ a. a - low) xs) (high - low + 1) (lowered_distinct low high xs within d)
-        (lowered_below low high xs within) in
+    (lowered_below low high xs within) in
     omega (arith, length-map xs (λ (a : ℕ). a - low))
 
 pub stored_within : (low high : ℕ) (lists : List TermList) → AllByRecursion IsList lists → IsDistinct eqb (flat_map (λ list. list.at) lists)
@@ -162,12 +163,12 @@ module _ (low : ℕ) (blob : List ℕ) where
       ⊎_elim
       (λ (more : 0 < length (drop BLOCK_LEN addresses)).
       let there : list_any (λ (b : BlockEntry). b.last == value) later ≡ true =
-          some_ends later (drop BLOCK_LEN addresses) value h.1 more (increasing_dropped addresses BLOCK_LEN s)
-          (subst (λ n. (n == value) ≡ true) (sym (cut.end more)) e) in
+      some_ends later (drop BLOCK_LEN addresses) value h.1 more (increasing_dropped addresses BLOCK_LEN s)
+      (subst (λ n. (n == value) ≡ true) (sym (cut.end more)) e) in
       ap (λ b. (block.last == value) || b) there ∙ or_true (block.last == value))
       (λ (none : length (drop BLOCK_LEN addresses) ≤ 0).
       let here : (block.last == value) ≡ true =
-          subst (λ n. (n == value) ≡ true) (sym (last ∙ cut.last (omega arith))) e in
+      subst (λ n. (n == value) ≡ true) (sym (last ∙ cut.last (omega arith))) e in
       ap (λ b. b || list_any (λ (b : BlockEntry). b.last == value) later) here)
       (cases_lt 0 (length (drop BLOCK_LEN addresses)))
     where
@@ -259,45 +260,48 @@ part_of_lists lists generation low high header head entries blocks blob some are
       size = length blob;
       terms = a.terms;
     } in
-    let code_is : code ≡ numbers.0 ++ entries = ap (λ x. x ++ entries) numbers.2 in
-    (directory, refl, record {
-      own = record {
-        size = refl;
-        header = header;
-        code = code;
-        blocks = blocks;
-        whole = apart;
-        header_spelled = subst (λ n. SpellsHeader n header) (sym long) spelled;
-        code_spelled = record {
-          holds = record {
-            generation = young;
-            span = bounds.0;
-            below = bounds.1;
-            some = some_stored lists some are;
-            room = stored_within low high lists are distinct least most;
-            sum = sum;
-            ascending = subst (λ (x : List (List ℕ)). IsStrictlySortedBy (slice_cmp nat_cmp) x) (sym (held_terms low blob a.terms lists held)) ascending;
-            entries = a.hold high most;
-            begin = held_any low blob (λ block. block.first == low) (λ list. first_of list.at == low) a.terms lists held are
-                (λ entry list h is e. some_begins low blob entry.blocks list.at low h.blocks is.count e) first;
-            end = held_any low blob (λ block. block.last == high) (λ list. last_of list.at == high) a.terms lists held are
-                (λ entry list h is e. some_ends low blob entry.blocks list.at high h.blocks is.count is.ascending e) last;
-            places = subst (λ n. StandFrom n (length blob) (all_blocks a.terms)) (omega arith)
-                (subst (λ n. StandFrom (length front + length {A = ℕ} []) n (all_blocks a.terms)) (sym size) a.places);
+    let code_is : code ≡ numbers.0 ++ entries = ap (λ x. x ++ entries) numbers.2 in (
+      directory,
+      refl,
+      record {
+        own = record {
+          size = refl;
+          header = header;
+          code = code;
+          blocks = blocks;
+          whole = apart;
+          header_spelled = subst (λ n. SpellsHeader n header) (sym long) spelled;
+          code_spelled = record {
+            holds = record {
+              generation = young;
+              span = bounds.0;
+              below = bounds.1;
+              some = some_stored lists some are;
+              room = stored_within low high lists are distinct least most;
+              sum = sum;
+              ascending = subst (λ (x : List (List ℕ)). IsStrictlySortedBy (slice_cmp nat_cmp) x) (sym (held_terms low blob a.terms lists held)) ascending;
+              entries = a.hold high most;
+              begin = held_any low blob (λ block. block.first == low) (λ list. first_of list.at == low) a.terms lists held are
+                  (λ entry list h is e. some_begins low blob entry.blocks list.at low h.blocks is.count e) first;
+              end = held_any low blob (λ block. block.last == high) (λ list. last_of list.at == high) a.terms lists held are
+                  (λ entry list h is e. some_ends low blob entry.blocks list.at high h.blocks is.count is.ascending e) last;
+              places = subst (λ n. StandFrom n (length blob) (all_blocks a.terms)) (omega arith)
+                  (subst (λ n. StandFrom (length front + length {A = ℕ} []) n (all_blocks a.terms)) (sym size) a.places);
+            };
+            entries = entries;
+            numbers = subst (λ (n : ℕ). StartsWithNumbers code
+                (generation ∷ low ∷ (high - low) ∷ sum_by (λ (list : TermList). length list.at) lists ∷ n ∷ []) entries) count
+                (subst (λ (x : List ℕ). StartsWithNumbers x
+                (generation ∷ low ∷ (high - low) ∷ sum_by (λ (list : TermList). length list.at) lists ∷ length lists ∷ []) entries) (sym code_is)
+                (numbers_longer numbers.0 [] entries
+                (generation ∷ low ∷ (high - low) ∷ sum_by (λ (list : TermList). length list.at) lists ∷ length lists ∷ []) numbers.1));
+            terms = subst (λ (x : List ℕ). SpellsEntries low a.terms x) (sym a.written) a.spelled;
           };
-          entries = entries;
-          numbers = subst (λ (n : ℕ). StartsWithNumbers code
-              (generation ∷ low ∷ (high - low) ∷ sum_by (λ (list : TermList). length list.at) lists ∷ n ∷ []) entries) count
-              (subst (λ (x : List ℕ). StartsWithNumbers x
-              (generation ∷ low ∷ (high - low) ∷ sum_by (λ (list : TermList). length list.at) lists ∷ length lists ∷ []) entries) (sym code_is)
-              (numbers_longer numbers.0 [] entries
-              (generation ∷ low ∷ (high - low) ∷ sum_by (λ (list : TermList). length list.at) lists ∷ length lists ∷ []) numbers.1));
-          terms = subst (λ (x : List ℕ). SpellsEntries low a.terms x) (sym a.written) a.spelled;
         };
-      };
-      lists_held = held;
-      distinct = distinct;
-    })
+        lists_held = held;
+        distinct = distinct;
+      },
+    )
 
 -- the addresses of all lists are few enough for 64 bits
 pub stored_fits : (lists : List TermList) → AllByRecursion IsList lists → IsDistinct eqb (flat_map (λ list. list.at) lists)
@@ -309,6 +313,7 @@ stored_fits lists are d =
     all_small : (xs : List ℕ) → AllByRecursion (λ a. a < ADDRESSES_MAX) xs → AreWithin 0 (ADDRESSES_MAX - 1) xs
     all_small [] a = tt
     all_small (x ∷ xs) a = ((omega arith, (let small = a.0 in omega arith)), all_small xs a.1)
+
     all_lists : (lists : List TermList) → AllByRecursion IsList lists → AreWithin 0 (ADDRESSES_MAX - 1) (flat_map (λ list. list.at) lists)
     all_lists [] are = tt
     all_lists (list ∷ lists) are =

@@ -1,5 +1,5 @@
 -- Lemmas on what a directory's bytes start with.
-use Rattle.std.proofs.Common.{◌≡◌, ℕ, zero, suc, ◌+◌, ◌-◌, ◌<◌, ◌≤◌, List, [], ◌∷◌, ◌++◌, length, min, refl, ap, sym, subst, ◌∙◌, append_assoc, append-nil, length-append, arith}
+use Rattle.std.proofs.Common.{◌≡◌, ℕ, ◌+◌, ◌-◌, ◌<◌, ◌≤◌, List, [], ◌∷◌, ◌++◌, length, min, refl, ap, sym, subst, ◌∙◌, append_assoc, append-nil, length-append, arith}
 use Rattle.std.specs.List.{flat_map}
 use Rattle.wu_base.specs.declared.limits.TheConstants.{WORD_MAX}
 use Rattle.wu_vbyte.specs.declared.blocks.TheConstants.{BLOCK_LEN}
@@ -9,7 +9,7 @@ use Rattle.wu_vbyte.proofs.BlockLemmas.{starts_length, starts_longer}
 use Rattle.wu_part.specs.declared.entries.BlockEntry.{BlockEntry}
 use Rattle.wu_part.specs.declared.entries.TermEntry.{TermEntry}
 use Rattle.wu_part.specs.declared.reading.Head.{Head}
-use Rattle.wu_part.specs.Directories.{IsBlock, AreBlocks, IsEntry, StandFrom, all_blocks}
+use Rattle.wu_part.specs.Directories.{AreBlocks, StandFrom, all_blocks}
 use Rattle.wu_part.specs.Directories.{StartsWithNumbers, StartsWithEntry, SpellsEntries, block_numbers}
 use Rattle.wu_part.specs.Entries.{IsNextBlock, AreNextBlocks, IsNextEntry, AreEntries}
 
@@ -76,13 +76,16 @@ pub next_of_blocks : (head : Head) (size from count : ℕ) (bytes : List ℕ) (p
 next_of_blocks head size from count bytes place [] rest end b some = absurd (let none = b.hold in omega arith)
 next_of_blocks head size from count bytes place (block ∷ later) rest end b some =
     let within = stand_within (place + block.len) end later b.places.1 in
-    let last = b.within in
-    (block, b.numbers.2.2.0, record {
-      numbers = (b.numbers.0, b.numbers.1, (b.numbers.2.0, b.numbers.2.1, (b.numbers.2.2.0, b.numbers.2.2.1, refl)));
-      holds = b.hold.1;
-      begin = b.places.0;
-      within = omega arith;
-    })
+    let last = b.within in (
+      block,
+      b.numbers.2.2.0,
+      record {
+        numbers = (b.numbers.0, b.numbers.1, (b.numbers.2.0, b.numbers.2.1, (b.numbers.2.2.0, b.numbers.2.2.1, refl)));
+        holds = b.hold.1;
+        begin = b.places.0;
+        within = omega arith;
+      },
+    )
 
 pub blocks_cons : (head : Head) (size from count : ℕ) (bytes : List ℕ) (place : ℕ) (block : BlockEntry) (later : List BlockEntry)
     (left rest : List ℕ) (end : ℕ) → 0 < count
@@ -106,9 +109,9 @@ blocks_uncons head size from count bytes place block [] left rest end some low b
 blocks_uncons head size from count bytes place block (other ∷ later) left rest end some low b m =
     let numbers = flat_map (block_numbers head.low) later in
     let first = after_first bytes (block.first - head.low) (other.first - head.low) b.numbers.0 rest
-        ((other.last - other.first) ∷ other.len ∷ numbers) b.numbers.1 m.numbers in
+    ((other.last - other.first) ∷ other.len ∷ numbers) b.numbers.1 m.numbers in
     let second = after_first b.numbers.0 (block.last - block.first) (other.last - other.first) b.numbers.2.0 rest (other.len ∷ numbers)
-        b.numbers.2.1 first.1 in
+    b.numbers.2.1 first.1 in
     let third = after_first b.numbers.2.0 block.len other.len b.numbers.2.2.0 rest numbers b.numbers.2.2.1 second.1 in
     let mine = b.holds in
     let its = m.hold.1 in
@@ -116,13 +119,16 @@ blocks_uncons head size from count bytes place block (other ∷ later) left rest
     let over : other.last - other.first ≡ block.last - block.first = second.0 in
     let same_first : other.first ≡ block.first = omega arith in
     let same_last : other.last ≡ block.last = omega arith in
-    let same = block_same other block same_first same_last (m.places.0 ∙ sym b.begin) third.0 in
-    (later, ap (λ (x : BlockEntry). x ∷ later) same, record {
-      numbers = rw b.numbers.2.2.2 at third.1;
-      hold = rw same_last at m.hold.2;
-      places = rw third.0 at m.places.1;
-      within = m.within;
-    })
+    let same = block_same other block same_first same_last (m.places.0 ∙ sym b.begin) third.0 in (
+      later,
+      ap (λ (x : BlockEntry). x ∷ later) same,
+      record {
+        numbers = rw b.numbers.2.2.2 at third.1;
+        hold = rw same_last at m.hold.2;
+        places = rw third.0 at m.places.1;
+        within = m.within;
+      },
+    )
 
 -- what was taken of the blocks of so many addresses, and what is left
 pub record TakenBlocks (head : Head) (size count : ℕ) (bytes : List ℕ) (place : ℕ) (taken : List BlockEntry) (from left : ℕ) (rest : List ℕ)
@@ -199,7 +205,7 @@ same_blocks head size from count bytes place (block ∷ later) others rest other
     } in
     let u = blocks_uncons head size from count bytes place block others b.numbers.2.2.0 other stop some low one m in
     let more = same_blocks head size (block.last + 1) (count - BLOCK_LEN) b.numbers.2.2.0 (place + block.len) later u.0 rest other end stop (omega arith)
-        (record { numbers = b.numbers.2.2.2; hold = b.hold.2; places = b.places.1; within = b.within }) u.2 in
+    (record { numbers = b.numbers.2.2.2; hold = b.hold.2; places = b.places.1; within = b.within }) u.2 in
     (ap (λ (x : List BlockEntry). block ∷ x) more.0 ∙ sym u.1, more.1, more.2)
 
 -- equal lists of as many items begin equal lists
@@ -263,9 +269,13 @@ pub entry_of_blocks : (head : Head) (size : ℕ) (bytes : List ℕ) (place : ℕ
     → (left : List ℕ) × (after : List ℕ) × StartsWithNumber bytes (length entry.term) (entry.term ++ left)
     × StartsWithNumber left entry.count after
     × AreNextBlocks head size head.low entry.count after place entry.blocks rest end
-entry_of_blocks head size bytes place entry rest end e =
-    (e.spelled.0, e.spelled.2.0, e.spelled.1, e.spelled.2.1,
-    record { numbers = e.spelled.2.2; hold = e.holds.cut; places = e.places; within = e.within })
+entry_of_blocks head size bytes place entry rest end e = (
+  e.spelled.0,
+  e.spelled.2.0,
+  e.spelled.1,
+  e.spelled.2.1,
+  record { numbers = e.spelled.2.2; hold = e.holds.cut; places = e.places; within = e.within },
+)
 
 pub blocks_of_entry : (head : Head) (size : ℕ) (bytes : List ℕ) (place : ℕ) (entry : TermEntry) (left after rest : List ℕ) (end : ℕ)
     → 0 < length entry.term → length entry.term ≤ WORD_MAX → 0 < entry.count
@@ -313,7 +323,7 @@ same_entry head size bytes place entry other rest left end stop e o =
     let front = same_front entry.term other.term a.0 b.0 one.0 one.1 in
     let count = one_number a.0 entry.count other.count a.1 b.1 a.3 (subst (λ x. StartsWithNumber x other.count b.1) (sym front.1) b.3) in
     let blocks = same_blocks head size head.low entry.count a.1 place entry.blocks other.blocks rest left end stop (omega arith) a.4
-        (blocks_moved head size head.low other.count entry.count b.1 a.1 place other.blocks left stop (sym count.0) (sym count.1) b.4) in
+    (blocks_moved head size head.low other.count entry.count b.1 a.1 place other.blocks left stop (sym count.0) (sym count.1) b.4) in
     (entry_same entry other front.0 count.0 blocks.0, blocks.1, blocks.2)
 
 pub next_of_entries : (head : Head) (size count : ℕ) (bytes : List ℕ) (place : ℕ) (terms : List TermEntry)
@@ -321,13 +331,17 @@ pub next_of_entries : (head : Head) (size count : ℕ) (bytes : List ℕ) (place
     → (entry : TermEntry) × (rest : List ℕ) × (end : ℕ) × IsNextEntry head size bytes place entry rest end
 next_of_entries head size count bytes place [] a some = absurd (let number = a.number in omega arith)
 next_of_entries head size count bytes place (entry ∷ later) a some =
-    let split = stand_split place size entry.blocks (all_blocks later) a.places in
-    (entry, a.spelled.0, split.0, record {
-      spelled = a.spelled.1;
-      holds = a.hold.0;
-      places = split.1;
-      within = stand_within split.0 size (all_blocks later) split.2;
-    })
+    let split = stand_split place size entry.blocks (all_blocks later) a.places in (
+      entry,
+      a.spelled.0,
+      split.0,
+      record {
+        spelled = a.spelled.1;
+        holds = a.hold.0;
+        places = split.1;
+        within = stand_within split.0 size (all_blocks later) split.2;
+      },
+    )
 
 pub entries_cons : (head : Head) (size count : ℕ) (bytes : List ℕ) (place : ℕ) (entry : TermEntry) (later : List TermEntry) (rest : List ℕ)
     (end : ℕ) → 0 < count → IsNextEntry head size bytes place entry rest end → AreEntries head size (count - 1) rest end later
@@ -351,13 +365,16 @@ entries_uncons head size count bytes place entry (other ∷ later) rest end some
       places = split.1;
       within = stand_within split.0 size (all_blocks later) split.2;
     } in
-    let same = same_entry head size bytes place other entry a.spelled.0 rest split.0 end one e in
-    (later, ap (λ (x : TermEntry). x ∷ later) same.0, record {
-      number = let number = a.number in omega arith;
-      spelled = rw same.1 at a.spelled.2;
-      hold = a.hold.1;
-      places = rw same.2 at split.2;
-    })
+    let same = same_entry head size bytes place other entry a.spelled.0 rest split.0 end one e in (
+      later,
+      ap (λ (x : TermEntry). x ∷ later) same.0,
+      record {
+        number = let number = a.number in omega arith;
+        spelled = rw same.1 at a.spelled.2;
+        hold = a.hold.1;
+        places = rw same.2 at split.2;
+      },
+    )
 
 -- what was taken of so many entries, and what is left
 pub record TakenEntries (head : Head) (size count : ℕ) (bytes : List ℕ) (place : ℕ) (taken : List TermEntry) (left : ℕ) (rest : List ℕ)

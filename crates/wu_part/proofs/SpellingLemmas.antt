@@ -1,5 +1,5 @@
 -- Lemmas on the one spelling that lists have as a part.
-use Rattle.std.proofs.Common.{◌≡◌, ℕ, ◌+◌, ◌-◌, ◌<◌, ◌≤◌, List, [], ◌∷◌, ◌++◌, length, min, take, drop, refl, ap, sym, subst, ◌∙◌, append_assoc, length-append, length-drop, Bool, true, false, ◌||◌, ◌==◌, arith}
+use Rattle.std.proofs.Common.{◌≡◌, ℕ, ◌+◌, ◌-◌, ◌≤◌, List, [], ◌∷◌, ◌++◌, length, take, drop, refl, ap, sym, subst, ◌∙◌, append_assoc, length-append, length-drop, true, false, ◌||◌, ◌==◌, arith}
 use Rattle.std.specs.Prelude.{Some, codes, slice_range}
 use Rattle.std.specs.Int.{w64, to_be_bytes}
 use Rattle.std.specs.List.{AllByRecursion, AllZip, flat_map, list_any}
@@ -14,11 +14,10 @@ use Rattle.wu_vbyte.proofs.BlockLemmas.{block_code, block_some}
 use Rattle.wu_part.specs.declared.entries.BlockEntry.{BlockEntry}
 use Rattle.wu_part.specs.declared.entries.TermEntry.{TermEntry}
 use Rattle.wu_part.specs.declared.headers.TheConstants.{HEADER_LEN}
-use Rattle.wu_part.specs.Headers.{SpellsHeader}
-use Rattle.wu_part.specs.Directories.{PartDirectory, SpellsDirectory, IsEntry, AreBlocks, StandFrom, all_blocks}
+use Rattle.wu_part.specs.Directories.{PartDirectory, IsEntry, AreBlocks, StandFrom, all_blocks}
 use Rattle.wu_vbyte.specs.Numbers.{StartsWithNumber}
 use Rattle.wu_part.specs.Directories.{StartsWithNumbers, StartsWithEntry, SpellsEntries, block_numbers}
-use Rattle.wu_part.specs.Parts.{HoldsBlock, HoldBlocks, HoldsList, IsDirectoryOf, SpellsPart}
+use Rattle.wu_part.specs.Parts.{HoldBlocks, HoldsList, IsDirectoryOf, SpellsPart}
 use Rattle.wu_part.proofs.ReadingLemmas.{stand_within}
 use Rattle.wu_part.proofs.PartLemmas.{held_number, held_sum}
 use Rattle.wu_part.proofs.LawLemmas.{numbers_code, number_code}
@@ -50,11 +49,13 @@ same_spans : (low other : ℕ) (blob another : List ℕ) (blocks others : List B
 same_spans low other blob another [] [] addresses a b = tt
 same_spans low other blob another [] (y ∷ others) addresses a b = nothing_held other _ addresses a b.0.spelled
 same_spans low other blob another (x ∷ blocks) [] addresses a b = nothing_held low _ addresses b a.0.spelled
-same_spans low other blob another (x ∷ blocks) (y ∷ others) addresses a b =
-    (record {
-      first = some_same x.first y.first (sym a.0.span.begin ∙ b.0.span.begin);
-      last = some_same x.last y.last (sym a.0.span.end ∙ b.0.span.end);
-    }, same_spans low other blob another blocks others (drop BLOCK_LEN addresses) a.1 b.1)
+same_spans low other blob another (x ∷ blocks) (y ∷ others) addresses a b = (
+  record {
+    first = some_same x.first y.first (sym a.0.span.begin ∙ b.0.span.begin);
+    last = some_same x.last y.last (sym a.0.span.end ∙ b.0.span.end);
+  },
+  same_spans low other blob another blocks others (drop BLOCK_LEN addresses) a.1 b.1,
+)
 
 spans_of_lists : (low other : ℕ) (blob another : List ℕ) (terms others : List TermEntry) (lists : List TermList)
     → AllZip (HoldsList low blob) terms lists → AllZip (HoldsList other another) others lists
@@ -168,11 +169,13 @@ same_held low blob another (x ∷ blocks) (y ∷ others) addresses a b i j =
     let first = some_same x.first y.first (sym a.0.span.begin ∙ b.0.span.begin) in
     let last = some_same x.last y.last (sym a.0.span.end ∙ b.0.span.end) in
     let len : x.len ≡ y.len = sym (bytes_length blob x i.0) ∙ (ap length code ∙ bytes_length another y j.0) in
-    let make : ℕ → ℕ → ℕ → List ℕ = λ f l n. (f - low) ∷ (l - f) ∷ n ∷ [] in
-    (record {
-      numbers = ap (λ n. make n x.last x.len) first ∙ (ap (λ n. make y.first n x.len) last ∙ ap (λ n. make y.first y.last n) len);
-      bytes = code;
-    }, same_held low blob another blocks others (drop BLOCK_LEN addresses) a.1 b.1 i.1 j.1)
+    let make : ℕ → ℕ → ℕ → List ℕ = λ f l n. (f - low) ∷ (l - f) ∷ n ∷ [] in (
+      record {
+        numbers = ap (λ n. make n x.last x.len) first ∙ (ap (λ n. make y.first n x.len) last ∙ ap (λ n. make y.first y.last n) len);
+        bytes = code;
+      },
+      same_held low blob another blocks others (drop BLOCK_LEN addresses) a.1 b.1 i.1 j.1,
+    )
 
 -- the same numbers
 numbers_of_same : (low : ℕ) (blob another : List ℕ) (blocks others : List BlockEntry) → AllZip (IsSameBlock low blob another) blocks others
@@ -202,9 +205,9 @@ entry_bytes : (low : ℕ) (a b : List ℕ) (x y : TermEntry) (rest left : List �
     → x.term ≡ y.term → x.count ≡ y.count → flat_map (block_numbers low) x.blocks ≡ flat_map (block_numbers low) y.blocks → rest ≡ left → a ≡ b
 entry_bytes low a b x y rest left s t term count numbers e =
     let all : x.count ∷ flat_map (block_numbers low) x.blocks ≡ y.count ∷ flat_map (block_numbers low) y.blocks =
-        ap (λ n. n ∷ flat_map (block_numbers low) x.blocks) count ∙ ap (λ (l : List ℕ). y.count ∷ l) numbers in
+    ap (λ n. n ∷ flat_map (block_numbers low) x.blocks) count ∙ ap (λ (l : List ℕ). y.count ∷ l) numbers in
     let after = numbers_code s.0 t.0 (x.count ∷ flat_map (block_numbers low) x.blocks) rest left s.2
-        (subst (λ l. StartsWithNumbers t.0 l left) (sym all) t.2) e in
+    (subst (λ l. StartsWithNumbers t.0 l left) (sym all) t.2) e in
     number_code a b (length x.term) (x.term ++ s.0) (x.term ++ t.0) s.1
     (subst (λ l. StartsWithNumber b (length l) (l ++ t.0)) (sym term) t.1) (ap (λ l. x.term ++ l) after)
 
@@ -242,10 +245,10 @@ behind blob place end (block ∷ later) s e =
 rest_of_blob : (d : PartDirectory) (blob : List ℕ) (o : IsDirectoryOf d blob) → o.blocks ≡ flat_map (bytes_of blob) (all_blocks d.terms)
 rest_of_blob d blob o =
     let long : length (o.header ++ o.code) ≡ HEADER_LEN + length o.code =
-        length-append o.header o.code ∙ ap (λ n. n + length o.code) (ap length o.header_spelled.spelled) in
+    length-append o.header o.code ∙ ap (λ n. n + length o.code) (ap length o.header_spelled.spelled) in
     let whole : blob ≡ (o.header ++ o.code) ++ o.blocks = o.whole ∙ sym (append_assoc o.header o.code o.blocks) in
     let tail : drop (HEADER_LEN + length o.code) blob ≡ o.blocks =
-        ap (λ n. drop n blob) (sym long) ∙ (ap (λ x. drop (length (o.header ++ o.code)) x) whole ∙ drop-append_seam (o.header ++ o.code) o.blocks) in
+    ap (λ n. drop n blob) (sym long) ∙ (ap (λ x. drop (length (o.header ++ o.code)) x) whole ∙ drop-append_seam (o.header ++ o.code) o.blocks) in
     sym tail ∙ behind blob (HEADER_LEN + length o.code) d.size (all_blocks d.terms) o.code_spelled.holds.places (sym o.size)
 
 pub part_code : (d e : PartDirectory) (lists : List TermList) (blob another : List ℕ) → SpellsPart d lists blob → SpellsPart e lists another
@@ -257,26 +260,26 @@ part_code d e lists blob another s t generation =
     let i = inside_of_places _ d.size (all_blocks d.terms) its.holds.places in
     let j = inside_of_places _ e.size (all_blocks e.terms) others.holds.places in
     let same = same_of_lists d.low blob another d.terms e.terms lists its.entries others.entries s.lists_held
-        (subst (λ n. AllZip (HoldsList n another) e.terms lists) (sym bounds.0) t.lists_held)
-        (subst (λ n. AreInside n (all_blocks d.terms)) (sym s.own.size) i) (subst (λ n. AreInside n (all_blocks e.terms)) (sym t.own.size) j)
-        its.terms (subst (λ n. SpellsEntries n e.terms others.entries) (sym bounds.0) others.terms) in
+    (subst (λ n. AllZip (HoldsList n another) e.terms lists) (sym bounds.0) t.lists_held)
+    (subst (λ n. AreInside n (all_blocks d.terms)) (sym s.own.size) i) (subst (λ n. AreInside n (all_blocks e.terms)) (sym t.own.size) j)
+    its.terms (subst (λ n. SpellsEntries n e.terms others.entries) (sym bounds.0) others.terms) in
     let stored : d.stored ≡ e.stored = sym its.holds.sum ∙ (held_sum d.low blob d.terms lists s.lists_held
-        ∙ (sym (held_sum e.low another e.terms lists t.lists_held) ∙ others.holds.sum)) in
+    ∙ (sym (held_sum e.low another e.terms lists t.lists_held) ∙ others.holds.sum)) in
     let count : length d.terms ≡ length e.terms =
-        held_number d.low blob d.terms lists s.lists_held ∙ sym (held_number e.low another e.terms lists t.lists_held) in
+    held_number d.low blob d.terms lists s.lists_held ∙ sym (held_number e.low another e.terms lists t.lists_held) in
     let make : ℕ → ℕ → ℕ → ℕ → ℕ → List ℕ = λ g l h n c. g ∷ l ∷ (h - l) ∷ n ∷ c ∷ [] in
     let numbers : make d.generation d.low d.high d.stored (length d.terms) ≡ make e.generation e.low e.high e.stored (length e.terms) =
-        ap (λ g. make g d.low d.high d.stored (length d.terms)) generation
-        ∙ (ap (λ l. make e.generation l d.high d.stored (length d.terms)) bounds.0
-        ∙ (ap (λ h. make e.generation e.low h d.stored (length d.terms)) bounds.1
-        ∙ (ap (λ n. make e.generation e.low e.high n (length d.terms)) stored ∙ ap (λ c. make e.generation e.low e.high e.stored c) count))) in
+    ap (λ g. make g d.low d.high d.stored (length d.terms)) generation
+    ∙ (ap (λ l. make e.generation l d.high d.stored (length d.terms)) bounds.0
+    ∙ (ap (λ h. make e.generation e.low h d.stored (length d.terms)) bounds.1
+    ∙ (ap (λ n. make e.generation e.low e.high n (length d.terms)) stored ∙ ap (λ c. make e.generation e.low e.high e.stored c) count))) in
     let code : s.own.code ≡ t.own.code =
-        numbers_code s.own.code t.own.code (make d.generation d.low d.high d.stored (length d.terms)) its.entries others.entries its.numbers
-        (subst (λ (l : List ℕ). StartsWithNumbers t.own.code l others.entries) (sym numbers) others.numbers) same.spelling in
+    numbers_code s.own.code t.own.code (make d.generation d.low d.high d.stored (length d.terms)) its.entries others.entries its.numbers
+    (subst (λ (l : List ℕ). StartsWithNumbers t.own.code l others.entries) (sym numbers) others.numbers) same.spelling in
     let header : s.own.header ≡ t.own.header =
-        s.own.header_spelled.spelled ∙ (ap (λ (c : List ℕ). codes "WUMPUSP1" ++ to_be_bytes w64 (length c)) code ∙ sym t.own.header_spelled.spelled) in
+    s.own.header_spelled.spelled ∙ (ap (λ (c : List ℕ). codes "WUMPUSP1" ++ to_be_bytes w64 (length c)) code ∙ sym t.own.header_spelled.spelled) in
     let blocks : s.own.blocks ≡ t.own.blocks =
-        rest_of_blob d blob s.own ∙ (bytes_of_same d.low blob another (all_blocks d.terms) (all_blocks e.terms) same.blocks
-        ∙ sym (rest_of_blob e another t.own)) in
+    rest_of_blob d blob s.own ∙ (bytes_of_same d.low blob another (all_blocks d.terms) (all_blocks e.terms) same.blocks
+    ∙ sym (rest_of_blob e another t.own)) in
     s.own.whole ∙ (ap (λ x. x ++ (s.own.code ++ s.own.blocks)) header ∙ (ap (λ x. t.own.header ++ (x ++ s.own.blocks)) code
     ∙ (ap (λ x. t.own.header ++ (t.own.code ++ x)) blocks ∙ sym t.own.whole)))

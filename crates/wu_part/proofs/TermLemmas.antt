@@ -1,11 +1,11 @@
 -- Lemmas on entries whose terms ascend.
-use Rattle.std.proofs.Common.{◌≡◌, ℕ, zero, suc, ◌+◌, ◌<◌, ◌≤◌, ◌⊎◌, inl, inr, List, [], ◌∷◌, length, get_or, map, refl, sym, ap, subst, ◌∙◌, Bool, true, false, ◌||◌, arith}
+use Rattle.std.proofs.Common.{◌≡◌, ℕ, ◌+◌, ◌<◌, ◌≤◌, ◌⊎◌, inl, inr, List, [], ◌∷◌, length, get_or, map, refl, sym, ap, subst, ◌∙◌, Bool, true, false, ◌||◌, arith}
 use Rattle.std.proofs.lemmas.List.{length-map}
-use Rattle.std.specs.Prelude.{MatchBool, Contains, Ok, Err, nat_eq}
+use Rattle.std.specs.Prelude.{MatchBool, Contains, Ok, Err}
 use Rattle.std.specs.declared.cmp.Ordering.{Ordering}
 use Rattle.std.specs.declared.cmp.Ordering.TheVariants.{Less, Equal, Greater}
 use Rattle.std.specs.Ordering.{nat_cmp, is_lt, is_eq, ordering_reverse, ordering_index}
-use Rattle.std.specs.Cmp.Lexicographic.{pointwise, slice_cmp, nat_list_cmp_total, texts_ties, same_text}
+use Rattle.std.specs.Cmp.Lexicographic.{slice_cmp, nat_list_cmp_total, texts_ties, same_text}
 use Rattle.std.specs.List.{IsAllAdjacentAnswer, list_any}
 use Rattle.std.specs.List.Sorted.{IsStrictlySortedBy, IsBinarySearchResult}
 use Rattle.std.proofs.lemmas.Cmp.{tied_itself}
@@ -69,6 +69,7 @@ sorted_or_not test is entries r a =
         let first = term_at (x ∷ later) k x (omega arith) in
         let second = term_at (x ∷ later) (k + 1) x inside in
         rw (first, second) (told_less _ (f k x inside ∙ is (get_or (x ∷ later) k x) (get_or (x ∷ later) (k + 1) x))))
+
     differs : (entries : List TermEntry)
         → (k : ℕ) × (k + 1 < length entries) × ((d : TermEntry) → false ≡ test (get_or entries k d) (get_or entries (k + 1) d))
         → IsStrictlySortedBy (slice_cmp nat_cmp) (terms entries) → ⊥

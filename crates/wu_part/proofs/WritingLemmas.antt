@@ -1,7 +1,7 @@
 -- Lemmas on what is written of a part.
-use Rattle.std.proofs.Common.{◌≡◌, ℕ, zero, suc, ◌+◌, ◌-◌, ◌<◌, ◌≤◌, ◌⊎◌, ⊎_elim, List, [], ◌∷◌, ◌++◌, length, min, get_or, take, drop}
+use Rattle.std.proofs.Common.{◌≡◌, ℕ, zero, suc, ◌+◌, ◌-◌, ◌<◌, ◌≤◌, ⊎_elim, List, [], ◌∷◌, ◌++◌, length, min, get_or, take, drop}
 use Rattle.std.proofs.Common.{refl, ap, sym, subst, ◌∙◌, append_assoc, append-nil, length-append, length-drop, arith}
-use Rattle.std.specs.Prelude.{Some, None, slice_range, true, false, ◌==◌}
+use Rattle.std.specs.Prelude.{Some, slice_range, true, false, ◌==◌}
 use Rattle.std.specs.List.{AllByRecursion, flat_map, last_or}
 use Rattle.std.specs.List.Sorted.{IsStrictlyIncreasing}
 use Rattle.std.proofs.Math.Seq.{drop-append_seam, take-append_seam}
@@ -9,14 +9,14 @@ use Rattle.std.proofs.lemmas.Bool.{cases_lt, eqb-true}
 use Rattle.std.proofs.lemmas.List.{length-take, get_or-take, get_or-drop, drop-append-le, take-append-le, take_all, at_drop_all}
 use Rattle.wu_vbyte.specs.declared.blocks.TheConstants.{BLOCK_LEN}
 use Rattle.wu_vbyte.specs.Numbers.{StartsWithNumber, AppendsNumber}
-use Rattle.wu_vbyte.specs.Blocks.{SpellsBlock, AppendsBlock, AreFromTo}
+use Rattle.wu_vbyte.specs.Blocks.{AppendsBlock, AreFromTo}
 use Rattle.wu_vbyte.proofs.BlockLemmas.{starts_longer}
 use Rattle.wu_base.specs.declared.addresses.TermList.{TermList}
 use Rattle.wu_part.specs.declared.entries.BlockEntry.{BlockEntry}
 use Rattle.wu_part.specs.declared.entries.TermEntry.{TermEntry}
-use Rattle.wu_part.specs.Directories.{IsBlock, AreBlocks, IsEntry, StandFrom, all_blocks}
-use Rattle.wu_part.specs.Directories.{StartsWithNumbers, StartsWithEntry, SpellsEntries, block_numbers}
-use Rattle.wu_part.specs.Parts.{HoldsBlock, HoldBlocks, HoldsList, IsList}
+use Rattle.wu_part.specs.Directories.{IsBlock, StandFrom, all_blocks}
+use Rattle.wu_part.specs.Directories.{StartsWithEntry, block_numbers}
+use Rattle.wu_part.specs.Parts.{HoldBlocks, IsList}
 use Rattle.wu_part.specs.Writing.{AppendsNumbers, AppendsBlocks, AppendsList, AppendsLists, first_of, last_of}
 use Rattle.wu_part.proofs.ReadingLemmas.{numbers_join, numbers_longer, stand_within, stand_join}
 
@@ -107,9 +107,10 @@ holds_more low blob more place end [] addresses s within h = h
 holds_more low blob more place end (block ∷ later) addresses s within h =
     let after = stand_within (place + block.len) end later s.1 in
     let begin = s.0 in
-    let same = bytes_of_more blob more block.at (block.at + block.len) (omega arith) in
-    (record { spelled = rw same h.0.spelled; span = h.0.span },
-    holds_more low blob more (place + block.len) end later (drop BLOCK_LEN addresses) s.1 within h.1)
+    let same = bytes_of_more blob more block.at (block.at + block.len) (omega arith) in (
+      record { spelled = rw same h.0.spelled; span = h.0.span },
+      holds_more low blob more (place + block.len) end later (drop BLOCK_LEN addresses) s.1 within h.1,
+    )
 
 -- ---- the blocks of a list
 
@@ -150,7 +151,7 @@ cut_of addresses some s =
       next = λ more.
           let n : length (take BLOCK_LEN addresses) - 1 ≡ 127 = omega arith in
           let last : last_of (take BLOCK_LEN addresses) ≡ get_or addresses 127 0 =
-              ap (λ x. get_or (take BLOCK_LEN addresses) x 0) n ∙ get_or-take BLOCK_LEN addresses 127 0 (omega arith) in
+          ap (λ x. get_or (take BLOCK_LEN addresses) x 0) n ∙ get_or-take BLOCK_LEN addresses 127 0 (omega arith) in
           let first : first_of (drop BLOCK_LEN addresses) ≡ get_or addresses 128 0 = get_or-drop BLOCK_LEN addresses 0 0 in
           let up : get_or addresses 127 0 < get_or addresses 128 0 = s 127 (omega arith) in
           rw (last, first) up;
@@ -175,8 +176,8 @@ pub blocks_first : (low : ℕ) (addresses old mid new before middle after front 
     → IsStrictlyIncreasing addresses → IsStrictlyIncreasing (take BLOCK_LEN addresses)
     → AppendsBlock before low (take BLOCK_LEN addresses) middle
     → AppendsNumbers old
-        ((first_of (take BLOCK_LEN addresses) - low) ∷ (last_of (take BLOCK_LEN addresses) - first_of (take BLOCK_LEN addresses))
-        ∷ (length middle - length before) ∷ []) mid
+    ((first_of (take BLOCK_LEN addresses) - low) ∷ (last_of (take BLOCK_LEN addresses) - first_of (take BLOCK_LEN addresses))
+    ∷ (length middle - length before) ∷ []) mid
     → AppendsBlocks low (drop BLOCK_LEN addresses) mid new middle after front
     → AppendsBlocks low addresses old new before after front
 blocks_first low addresses old mid new before middle after front some s chunk_s b n a =
@@ -192,28 +193,31 @@ blocks_first low addresses old mid new before middle after front some s chunk_s 
       len = length middle - length before;
     } in
     let whole : front ++ after ≡ (front ++ before) ++ (b.0 ++ a.more) =
-        ap (λ x. front ++ x) (a.grown ∙ (ap (λ x. x ++ a.more) b.2 ∙ append_assoc before b.0 a.more))
-        ∙ sym (append_assoc front before (b.0 ++ a.more)) in
+    ap (λ x. front ++ x) (a.grown ∙ (ap (λ x. x ++ a.more) b.2 ∙ append_assoc before b.0 a.more))
+    ∙ sym (append_assoc front before (b.0 ++ a.more)) in
     let bytes : slice_range (front ++ after) block.at (block.at + block.len) ≡ b.0 =
-        ap (λ x. slice_range x block.at (block.at + block.len)) whole
-        ∙ bytes_between (front ++ before) b.0 a.more block.at (block.at + block.len) (sym (length-append front before)) (omega arith) in
+    ap (λ x. slice_range x block.at (block.at + block.len)) whole
+    ∙ bytes_between (front ++ before) b.0 a.more block.at (block.at + block.len) (sym (length-append front before)) (omega arith) in
     record {
       blocks = block ∷ a.blocks;
-      numbers = (n.0 ++ a.numbers.0,
-          numbers_join (n.0 ++ a.numbers.0) a.numbers.0 [] (block_numbers low block) (flat_map (block_numbers low) a.blocks)
-          (numbers_longer n.0 [] a.numbers.0 (block_numbers low block) n.1) a.numbers.1,
-          a.numbers.2 ∙ (ap (λ x. x ++ a.numbers.0) n.2 ∙ append_assoc old n.0 a.numbers.0));
+      numbers = (
+        n.0 ++ a.numbers.0,
+        numbers_join (n.0 ++ a.numbers.0) a.numbers.0 [] (block_numbers low block) (flat_map (block_numbers low) a.blocks)
+            (numbers_longer n.0 [] a.numbers.0 (block_numbers low block) n.1) a.numbers.1,
+        a.numbers.2 ∙ (ap (λ x. x ++ a.numbers.0) n.2 ∙ append_assoc old n.0 a.numbers.0),
+      );
       more = b.0 ++ a.more;
       grown = a.grown ∙ (ap (λ x. x ++ a.more) b.2 ∙ append_assoc before b.0 a.more);
       places = (refl, subst (λ x. StandFrom x (length front + length after) a.blocks) (omega arith) a.places);
       held = (record { spelled = rw bytes b.1; span = from_to chunk chunk_some }, a.held);
       cover = λ from high begin end.
           let first = begin some in
-          let last = end some in
-          (some,
-          block_holds chunk from high block.at block.len chunk_some chunk_s (omega (arith, cut.first)) (last_within last)
-          (min (length addresses) BLOCK_LEN) (sym cut.count),
-          rw (sym cut.left) (a.cover (last_of chunk + 1) high (λ more. omega (arith, cut.next more)) (λ more. rw (cut.end more) last)));
+          let last = end some in (
+            some,
+            block_holds chunk from high block.at block.len chunk_some chunk_s (omega (arith, cut.first)) (last_within last)
+                (min (length addresses) BLOCK_LEN) (sym cut.count),
+            rw (sym cut.left) (a.cover (last_of chunk + 1) high (λ more. omega (arith, cut.next more)) (λ more. rw (cut.end more) last)),
+          );
     }
   where
     last_within : {high : ℕ} → last_of addresses ≤ high → last_of (take BLOCK_LEN addresses) ≤ high
@@ -229,9 +233,10 @@ taken_up_to : (addresses : List ℕ) (n m : ℕ) → m ≡ min (length addresses
 taken_up_to addresses n m e =
     ⊎_elim
     (λ (s : n < length addresses). let is : m ≡ n = omega arith in (ap (λ x. take x addresses) is, ap (λ x. drop x addresses) is))
-    (λ (s : length addresses ≤ n).
-    (take_all m addresses (omega arith) ∙ sym (take_all n addresses s),
-    at_drop_all (λ left. left) addresses m (omega arith) ∙ sym (at_drop_all (λ left. left) addresses n s)))
+    (λ (s : length addresses ≤ n). (
+      take_all m addresses (omega arith) ∙ sym (take_all n addresses s),
+      at_drop_all (λ left. left) addresses m (omega arith) ∙ sym (at_drop_all (λ left. left) addresses n s),
+    ))
     (cases_lt n (length addresses))
 
 pub increasing_dropped : (addresses : List ℕ) (n : ℕ) → IsStrictlyIncreasing addresses → IsStrictlyIncreasing (drop n addresses)
@@ -268,7 +273,7 @@ chunk_appended low addresses rest old now mid before middle further chunk later 
     let is = taken_up_to rest BLOCK_LEN n e in
     let block = subst (λ x. AppendsBlock middle low x further) (p ∙ is.0) b in
     let numbers = subst (λ x. AppendsNumbers now ((first_of x - low) ∷ (last_of x - first_of x) ∷ (length further - length middle) ∷ []) mid)
-        (p ∙ is.0) m in
+    (p ∙ is.0) m in
     subst (λ x. LeftToAppend low addresses x old mid before further) (sym (q ∙ is.1)) (record {
       ascending = increasing_dropped rest BLOCK_LEN t.ascending;
       begin = λ more.
@@ -328,11 +333,12 @@ list_appended low list old a b c new before after front is p e q m within =
 
 pub entry_longer : (low : ℕ) (bytes : List ℕ) (entry : TermEntry) (rest more : List ℕ) → StartsWithEntry low bytes entry rest
     → StartsWithEntry low (bytes ++ more) entry (rest ++ more)
-entry_longer low bytes entry rest more s =
-    (s.0 ++ more,
-    subst (λ x. StartsWithNumber (bytes ++ more) (length entry.term) x) (append_assoc entry.term s.0 more)
-    (starts_longer bytes (length entry.term) (entry.term ++ s.0) more s.1),
-    numbers_longer s.0 rest more (entry.count ∷ flat_map (block_numbers low) entry.blocks) s.2)
+entry_longer low bytes entry rest more s = (
+  s.0 ++ more,
+  subst (λ x. StartsWithNumber (bytes ++ more) (length entry.term) x) (append_assoc entry.term s.0 more)
+      (starts_longer bytes (length entry.term) (entry.term ++ s.0) more s.1),
+  numbers_longer s.0 rest more (entry.count ∷ flat_map (block_numbers low) entry.blocks) s.2,
+)
 
 pub lists_none : (low : ℕ) (old before front : List ℕ) → AppendsLists low [] old old before before front
 lists_none low old before front = record {
@@ -359,13 +365,16 @@ lists_first low list lists old mid new before middle after front a m = record {
   grown = m.grown ∙ (ap (λ x. x ++ m.more) a.grown ∙ append_assoc before a.more m.more);
   places = stand_join (length front + length before) (length front + length middle) (length front + length after) a.entry.blocks
       (all_blocks m.terms) a.places m.places;
-  held = (record {
-    term = a.held.term;
-    count = a.held.count;
-    blocks = subst (λ x. HoldBlocks low x a.entry.blocks list.at) (append_assoc front middle m.more ∙ sym (ap (λ x. front ++ x) m.grown))
-        (holds_more low (front ++ middle) m.more (length front + length before) (length front + length middle) a.entry.blocks list.at a.places
-        (omega (arith, length-append front middle)) a.held.blocks);
-  }, m.held);
+  held = (
+    record {
+      term = a.held.term;
+      count = a.held.count;
+      blocks = subst (λ x. HoldBlocks low x a.entry.blocks list.at) (append_assoc front middle m.more ∙ sym (ap (λ x. front ++ x) m.grown))
+          (holds_more low (front ++ middle) m.more (length front + length before) (length front + length middle) a.entry.blocks list.at a.places
+          (omega (arith, length-append front middle)) a.held.blocks);
+    },
+    m.held,
+  );
   hold = λ high all. (a.holds high all.0, m.hold high all.1);
 }
 

@@ -1,5 +1,5 @@
 -- What is written of a part, a piece at a time.
-use Rattle.std.specs.Prelude.{ℕ, List, [], ◌∷◌, ◌++◌, ◌+◌, ◌-◌, ◌<◌, ◌≤◌, ◌≡◌, length, slice_index}
+use Rattle.std.specs.Prelude.{ℕ, List, [], ◌++◌, ◌+◌, ◌-◌, ◌<◌, ◌≤◌, ◌≡◌, length, slice_index}
 use Rattle.std.specs.List.{AllByRecursion, AllZip, flat_map}
 use Rattle.wu_base.specs.declared.addresses.TermList.{TermList}
 use Rattle.wu_part.specs.declared.entries.BlockEntry.{BlockEntry}

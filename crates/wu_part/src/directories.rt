@@ -7,9 +7,8 @@ ghost use Rattle.wu_vbyte.specs.declared.blocks.TheConstants.{BLOCK_LEN};
 ghost use Rattle.wu_part.specs.Directories.{PartDirectory, SpellsDirectory};
 ghost use Rattle.wu_part.specs.declared.entries.TermEntry.{TermEntry};
 
-use crate::entries::{BlockEntry, TermEntry};
+use crate::entries::{BlockEntry, TermEntry, first_count};
 use std::marker::Model;
-use wu_vbyte::BLOCK_LEN;
 
 /// The directory of a part: its generation, its lowest and highest address, how many addresses it
 /// has, its size in bytes, and the entries of its terms, ascending. Each directory is one that some
@@ -177,18 +176,7 @@ impl<'a> Entry<'a> {
         let (block, later) = self.blocks.split_first()?;
         let count = first_count(self.count);
         self.blocks = later;
-        self.count -= count as u64;
-        Some((*block, count))
-    }
-}
-
-/// How many addresses the first block has, of so many.
-fn first_count(count: u64) -> usize
-    ensures { result ≡ min count BLOCK_LEN }
-{
-    if count < BLOCK_LEN as u64 {
-        count as usize
-    } else {
-        BLOCK_LEN
+        self.count -= count;
+        Some((*block, count as usize))
     }
 }

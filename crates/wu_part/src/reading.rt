@@ -13,11 +13,11 @@ ghost use Rattle.wu_part.specs.Directories.{PartDirectory, SpellsDirectory, Star
 ghost use Rattle.wu_part.specs.Entries.{StartsWithHead, IsNextBlock, AreNextBlocks, IsNextEntry, AreEntries};
 
 use crate::directories::Directory;
-use crate::entries::{BlockEntry, TermEntry};
+use crate::entries::{BlockEntry, TermEntry, first_count};
 use crate::headers::HEADER_LEN;
 use std::alloc::Global;
 use wu_base::{ADDRESSES_MAX, Bytes, GENERATION_MAX, NoMemory, Sequence, WORD_MAX};
-use wu_vbyte::{BLOCK_LEN, take_block, take_number};
+use wu_vbyte::{take_block, take_number};
 
 /// The directory of a part of `size` bytes whose spelling the bytes are. `None` exactly where they are
 /// no such spelling. Takes memory only for entries that the bytes were found to hold.
@@ -281,7 +281,7 @@ fn take_blocks<'a>(
     let mut from = head.low;
     let mut left = count;
     while left > 0 {
-        let in_block = left.min(BLOCK_LEN as u64);
+        let in_block = first_count(left);
         let (block, after) = match take_block_entry(rest, head, from, in_block, end, size) {
             Some(taken) => taken,
             None => return Ok(None),
@@ -306,7 +306,6 @@ fn take_block_entry<'a>(
 ) -> Option<(BlockEntry, &'a [u8])>
     requires high { head.now.high < ADDRESSES_MAX }
     requires some { 0 < count }
-    requires few { count ≤ BLOCK_LEN }
     requires from { head.now.low ≤ from }
     requires place { place ≤ size }
     ensures found { IfSome result (λ next. IsNextBlock head.now size from count bytes.now place next.0 next.1.now) }
@@ -325,7 +324,7 @@ fn take_block_entry<'a>(
         at: place,
         len,
     };
-    if first >= from && is_span(span, count) && is_room(len, place, size) {
+    if is_block(first, span, from, count) && is_room(len, place, size) {
         Some((block, rest))
     } else {
         None
@@ -339,12 +338,13 @@ fn fits(above: u64, span: u64, head: &Head) -> bool
     head.low <= head.high && above <= head.high - head.low && span <= head.high - head.low - above
 }
 
-/// Whether the last of so many addresses can be so far above the first.
-fn is_span(span: u64, count: u64) -> bool
+/// Whether a block of so many addresses, none below `from`, may begin at `first` and end so far above.
+fn is_block(first: u64, span: u64, from: u64, count: u64) -> bool
     requires { 0 < count }
-    ensures { MatchBool result ((count ≤ span + 1) × (count ≡ 1 → span ≡ 0)) (count ≤ span + 1 → (count ≡ 1 → span ≡ 0) → ⊥) }
+    ensures { MatchBool result ((from ≤ first) × (count ≤ span + 1) × (count ≡ 1 → span ≡ 0))
+        (from ≤ first → count ≤ span + 1 → (count ≡ 1 → span ≡ 0) → ⊥) }
 {
-    count - 1 <= span && (count > 1 || span == 0)
+    from <= first && count - 1 <= span && (count > 1 || span == 0)
 }
 
 /// Whether so many bytes fit between the place and the part's end.

@@ -6,10 +6,12 @@ use Rattle.wu_part.proofs.TermLemmas.{found, not_found}
 use Rattle.wu_part.proofs.directories.place_of.Goals as goal
 
 pub returns-in-Ok : goal.returns-in-Ok
-returns-in-Ok c =
-    (c.in-Ok.ensures.bound, found c.args.terms.now c.args.term.now c.in-Ok.place c.in-Ok.ensures.bound
-    (c.in-Ok.ensures.position (λ entry. slice_cmp nat_cmp entry.term c.args.term.now)
-    (always_returns_same _ _ _ (λ a r f called. (search rules, search rules)))))
+returns-in-Ok c = (
+  c.in-Ok.ensures.bound,
+  found c.args.terms.now c.args.term.now c.in-Ok.place c.in-Ok.ensures.bound
+      (c.in-Ok.ensures.position (λ entry. slice_cmp nat_cmp entry.term c.args.term.now)
+      (always_returns_same _ _ _ (λ a r f called. (search rules, search rules)))),
+)
 
 pub returns-in-Err : goal.returns-in-Err
 returns-in-Err c =

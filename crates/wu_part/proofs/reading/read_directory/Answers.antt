@@ -17,15 +17,19 @@ returns-in-None-2-clause-none c d s size =
 
 pub invariant_of-result : goal.invariant_of-result
 invariant_of-result c =
-    let w = rw c.deref.ensures.value at c.if-is_whole.ensures in
-    (c.args.bytes.now, directory_of_entries _ _ _ _ _ _ c.in-Some.ensures.found refl (rw c.in-Some-2.is at c.in_ok-terms.ensures.found)
-    (record { ascending = w.0; sum = w.1; begin = w.2; end = w.3 }))
+    let w = rw c.deref.ensures.value at c.if-is_whole.ensures in (
+      c.args.bytes.now,
+      directory_of_entries _ _ _ _ _ _ c.in-Some.ensures.found refl (rw c.in-Some-2.is at c.in_ok-terms.ensures.found)
+          (record { ascending = w.0; sum = w.1; begin = w.2; end = w.3 }),
+    )
 
 pub returns-then-is_whole-clause-found : goal.returns-then-is_whole-clause-found
 returns-then-is_whole-clause-found c =
-    let w = rw c.deref.ensures.value at c.if-is_whole.ensures in
-    (directory_of_entries _ _ _ _ _ _ c.in-Some.ensures.found refl (rw c.in-Some-2.is at c.in_ok-terms.ensures.found)
-    (record { ascending = w.0; sum = w.1; begin = w.2; end = w.3 }), refl)
+    let w = rw c.deref.ensures.value at c.if-is_whole.ensures in (
+      directory_of_entries _ _ _ _ _ _ c.in-Some.ensures.found refl (rw c.in-Some-2.is at c.in_ok-terms.ensures.found)
+          (record { ascending = w.0; sum = w.1; begin = w.2; end = w.3 }),
+      refl,
+    )
 
 pub returns-else-is_whole-clause-none : goal.returns-else-is_whole-clause-none
 returns-else-is_whole-clause-none c d s size =

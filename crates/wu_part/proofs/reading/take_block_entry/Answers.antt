@@ -1,7 +1,7 @@
 use Rattle.std.proofs.Common.{◌-◌, arith}
 use Rattle.wu_part.proofs.ReadingLemmas.{block_of_numbers}
 use Rattle.wu_part.proofs.reading.take_block_entry.Goals as goal
-use Rattle.wu_part.proofs.reading.take_block_entry.Goals.{else-first-from-via-then-first-from+then-is_span+else-is_room, else-first-from-via-then-first-from+else-is_span, else-first-from-via-else-first-from}
+use Rattle.wu_part.proofs.reading.take_block_entry.Goals.{else-is_block-via-then-is_block+else-is_room, else-is_block-via-else-is_block}
 
 pub returns-in_default-clause-none : goal.returns-in_default-clause-none
 returns-in_default-clause-none c block rest b =
@@ -13,12 +13,11 @@ returns-then-not-fits-clause-none c block rest b =
     let is = block_of_numbers _ _ _ _ _ _ _ _ _ _ _ _ c.requires.from c.requires.some c.in-Some.ensures.found b in
     absurd (omega (arith, is.1, b.holds.end, c.if-not-fits.ensures))
 
-pub returns-else-first-from-clause-none : goal.returns-else-first-from-clause-none
-returns-else-first-from-clause-none c block rest b =
+pub returns-else-is_block-clause-none : goal.returns-else-is_block-clause-none
+returns-else-is_block-clause-none c block rest b =
     let is = block_of_numbers _ _ _ _ _ _ _ _ _ _ _ _ c.requires.from c.requires.some c.in-Some.ensures.found b in
-    elim c.else-first-from.branch [
-      | else-first-from-via-then-first-from+then-is_span+else-is_room w ↦ absurd (omega (arith, is.2, b.within, w.if-is_room.ensures))
-      | else-first-from-via-then-first-from+else-is_span w ↦ w.if-is_span.ensures (omega (arith, is.0, is.1, b.holds.room))
+    elim c.else-is_block.branch [
+      | else-is_block-via-then-is_block+else-is_room w ↦ absurd (omega (arith, is.2, b.within, w.if-is_room.ensures))
+      | else-is_block-via-else-is_block w ↦ w.if-is_block.ensures (omega (arith, is.0, b.holds.begin)) (omega (arith, is.0, is.1, b.holds.room))
           (λ one. omega (arith, is.0, is.1, b.holds.single one))
-      | else-first-from-via-else-first-from w ↦ absurd (omega (arith, is.0, b.holds.begin, w.if-first-from.false))
     ]

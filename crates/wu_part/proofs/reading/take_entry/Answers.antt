@@ -1,5 +1,4 @@
 use Rattle.std.proofs.Common.{arith}
-use Rattle.wu_vbyte.proofs.NumberLemmas.{one_number}
 use Rattle.wu_part.proofs.ReadingLemmas.{entry_of_blocks, count_within, after_term, after_count}
 use Rattle.wu_part.proofs.reading.take_entry.Goals as goal
 

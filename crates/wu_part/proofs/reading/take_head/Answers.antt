@@ -1,4 +1,4 @@
-use Rattle.std.proofs.Common.{◌≡◌, ◌-◌, ◌≤◌, [], ◌∷◌, length, refl, arith}
+use Rattle.std.proofs.Common.{◌≡◌, ◌-◌, [], ◌∷◌, length, refl, arith}
 use Rattle.wu_part.proofs.ReadingLemmas.{after_first, after_three, numbers_length, entries_length}
 use Rattle.wu_part.proofs.reading.take_head.Goals as goal
 
