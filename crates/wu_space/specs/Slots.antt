@@ -5,6 +5,7 @@ use Rattle.std.specs.List.{AllByRecursion}
 use Rattle.std.specs.List.Sorted.{IsStrictlySortedBy}
 use Rattle.std.specs.Map.{keys_of}
 use Rattle.wu_base.specs.declared.addresses.Range.{Range}
+use Rattle.wu_base.proofs.Members.{Has}
 use Rattle.wu_space.specs.declared.slots.Slot.{Slot}
 use Rattle.wu_space.specs.declared.slots.TheConstants.{CHUNK}
 use Rattle.wu_space.specs.Addresses.{Ranges, shared}
@@ -65,6 +66,14 @@ weight f slot = cond (is_live slot) (f (file_of slot)) 0
 -- the files of the live slots are those of the list: whatever is summed over either, the sum is the same
 abbrev pub SameFiles : List Slot → Ranges → Type 0
 SameFiles slots files = (f : ℕ × Range → ℕ) → sum_by (weight f) slots ≡ sum_by f files
+
+-- a slot with addresses that begins there has them no more
+pub record Releases (start : ℕ) (old new : List Slot) : Type 0 where
+  pub order : (slot : Slot) → Has slot old → slot.start ≡ start → 0 < slot.len → (low high : ℕ) → AreInOrder low old high → AreInOrder low new high
+  pub same : (slot : Slot) → Has slot old → slot.start ≡ start → 0 < slot.len → (low high : ℕ) → AreInOrder low old high
+      → (f : ℕ × Range → ℕ) → sum_by (weight f) new + f (file_of slot) ≡ sum_by (weight f) old
+  pub sum : (slot : Slot) → Has slot old → slot.start ≡ start → 0 < slot.len → (low high : ℕ) → AreInOrder low old high
+      → length_of new + slot.len ≡ length_of old
 
 -- the live slots stay, in the same order
 pub record KeepsLive (old new : List Slot) : Type 0 where

@@ -1,8 +1,8 @@
 //! The ranges that files were given, by address, with the sums of their lengths.
-ghost use Rattle.std.specs.Prelude.{◌≡◌, ◌-◌, ◌+◌, if◌then◌else◌, None, ◌<◌, ◌≤◌, ◌^◌, ◌∷◌, ◌++◌, [], length, take, filter, sum, sum_by, nat_lt, slice_set, slice_get, Some, OnOk, OnErr, IfOk, IfSome, IfNone, map};
+ghost use Rattle.std.specs.Prelude.{◌≡◌, ◌-◌, ◌+◌, if◌then◌else◌, None, ◌<◌, ◌≤◌, ◌^◌, ◌∷◌, ◌++◌, [], length, take, filter, sum, sum_by, nat_lt, slice_set, slice_index_or, Some, suc, zero, ◌*◌, OnOk, OnErr, List, vec_len, IfOk, IfSome, IfNone, map};
 ghost use Rattle.std.specs.List.Sorted.{IsNonDecreasingBy};
 ghost use Rattle.wu_space.specs.Addresses.{shared};
-ghost use Rattle.wu_space.specs.Slots.{length_of, is_live, range_of_slot, dead, below, KeepsLive, Parts};
+ghost use Rattle.wu_space.specs.Slots.{length_of, is_live, range_of_slot, dead, below, AreSums, KeepsLive, Parts, Releases};
 
 use std::alloc::Global;
 use std::marker::Model;
@@ -116,21 +116,30 @@ impl Slots {
         ensures err { OnErr result (self.new ≡ self.old) }
     {
         let chunk = self.slots.len() / CHUNK;
-        if chunk >= self.sums.len() {
-            self.sums.push(0)?;
-        }
+        make_room(&mut self.sums, chunk)?;
         self.slots.push(slot)?;
         self.sums[chunk] += slot.len;
         Ok(())
     }
 
-    /// Takes the addresses of the slot at that place from it.
-    pub(crate) fn release(&mut self, place: usize)
-        requires { place < length self.old }
-        ensures { IfSome (slice_get self.old place) (λ slot. self.new ≡ slice_set self.old place (dead slot)) }
+    /// Takes its addresses from the slot that begins at `start`.
+    pub(crate) fn release(&mut self, start: u64)
+        requires { IsNonDecreasingBy (λ slot. slot.start) self.old }
+        ensures { Releases start self.old self.new }
     {
-        self.sums[place / CHUNK] -= self.slots[place].len;
-        self.slots[place].len = 0;
+        if let Some(place) = last_up_to(self.slots.as_slice(), start) {
+            self.release_at(place);
+        }
+    }
+
+    /// Takes its addresses from the slot at that place.
+    fn release_at(&mut self, place: usize)
+        requires { place < length self.old }
+        ensures { (d : Slot) → self.new ≡ slice_set self.old place (dead (slice_index_or self.old place d)) }
+    {
+        let slot = self.slots[place];
+        self.sums[place / CHUNK] -= slot.len;
+        self.slots[place] = Slot { len: 0, ..slot };
     }
 
     /// How many addresses the first `count` slots have: takes time for the chunks before them, and for
@@ -158,21 +167,55 @@ impl Slots {
         ensures { self.new ≡ filter is_live self.old }
     {
         self.slots.retain(|slot| slot.len > 0);
-        for sum in self.sums.iter_mut() {
-            *sum = 0;
-        }
-        for place in 0..self.slots.len() {
-            self.sums[place / CHUNK] += self.slots[place].len;
-        }
+        sum_up(self.slots.as_slice(), self.sums.as_mut_slice());
+    }
+}
+
+/// Has a sum for the chunk, where there are sums for those before it.
+fn make_room(sums: &mut Vec<u64>, chunk: usize) -> Result<(), NoMemory>
+    ensures ok { OnOk result (chunk ≤ vec_len sums.old → chunk < vec_len sums.new) }
+    ensures sums { (slots : List Slot) → AreSums slots sums.old.items → AreSums slots sums.new.items }
+{
+    if chunk >= sums.len() {
+        sums.push(0)?;
+    }
+    Ok(())
+}
+
+/// Writes down the summed lengths of each `CHUNK` slots.
+fn sum_up(slots: &[Slot], sums: &mut [u64])
+    requires enough { length slots.now ≤ CHUNK * length sums.old }
+    requires small { length_of slots.now < 2 ^ 64 }
+    ensures { AreSums slots.now sums.new }
+{
+    for sum in sums.iter_mut() {
+        *sum = 0;
+    }
+    for (place, slot) in slots.iter().enumerate() {
+        sums[place / CHUNK] += slot.len;
     }
 }
 
 /// How many of the slots start up to the address.
 pub(crate) fn starts_up_to(slots: &[Slot], address: u64) -> usize
     requires { IsNonDecreasingBy (λ slot. slot.start) slots.now }
-    ensures { Parts address slots.now result }
+    ensures parts { Parts address slots.now result }
+    ensures within { result ≤ length slots.now }
 {
     slots.partition_point(|slot| slot.start <= address)
+}
+
+/// The place of the last slot that starts up to the address.
+pub(crate) fn last_up_to(slots: &[Slot], address: u64) -> Option<usize>
+    requires { IsNonDecreasingBy (λ slot. slot.start) slots.now }
+    ensures some { IfSome result (λ place. Parts address slots.now (suc place)) }
+    ensures within { IfSome result (λ place. place < length slots.now) }
+    ensures none { IfNone result (Parts address slots.now zero) }
+{
+    match starts_up_to(slots, address) {
+        0 => None,
+        count => Some(count - 1),
+    }
 }
 
 fn total(sums: &[u64]) -> u64

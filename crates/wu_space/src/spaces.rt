@@ -1,10 +1,10 @@
 //! The space of addresses, and the live ranges in it.
-ghost use Rattle.std.specs.Prelude.{◌≡◌, ◌+◌, ◌<◌, ◌≤◌, IsPermutation, IsSome, None, IfOk, OnOk, OnErr, OnSome, IfSome, IfNone, [], map, filter};
+ghost use Rattle.std.specs.Prelude.{◌≡◌, ◌+◌, ◌<◌, ◌≤◌, IsPermutation, IsSome, None, IfOk, OnOk, OnErr, OnSome, IfSome, IfNone, [], map, filter, suc, ◌⊎◌};
 ghost use Rattle.std.specs.List.Sorted.{IsNonDecreasingBy};
-ghost use Rattle.wu_space.specs.Slots.{IsAround, count_below, meets, range_of_slot};
+ghost use Rattle.wu_space.specs.Slots.{IsAround, Parts, count_below, meets, range_of_slot};
 
 use crate::rebuilding;
-use crate::slots::{Slot, Slots, starts_up_to};
+use crate::slots::{Slot, Slots, last_up_to, starts_up_to};
 use std::alloc::Global;
 use std::collections::BTreeMap;
 use std::marker::Model;
@@ -82,13 +82,17 @@ impl Space {
             len,
             ino,
         };
-        if self.slots.push(slot).is_err() {
-            self.ranges.remove(&ino);
-            return Err(NoMemory);
+        match self.slots.push(slot) {
+            Ok(()) => {
+                self.next += len;
+                self.total += len;
+                Ok(range)
+            }
+            Err(error) => {
+                self.ranges.remove(&ino);
+                Err(error)
+            }
         }
-        self.next += len;
-        self.total += len;
-        Ok(range)
     }
 
     /// Gives up the file's live range. Its addresses are given to no other file. Takes no memory, and time
@@ -100,8 +104,7 @@ impl Space {
     {
         if let Some(range) = self.ranges.remove(&ino) {
             self.total -= range.len;
-            let place = starts_up_to(self.slots.as_slice(), range.start) - 1;
-            self.slots.release(place);
+            self.slots.release(range.start);
             self.slots.tidy(self.ranges.len());
         }
     }
@@ -124,7 +127,7 @@ impl Space {
         ensures { result ≡ owner_of self.now.ranges addr }
     {
         let slots = self.slots.as_slice();
-        match starts_up_to(slots, addr).checked_sub(1) {
+        match last_up_to(slots, addr) {
             Some(place) => slots[place].owner(addr),
             None => None,
         }
@@ -154,7 +157,7 @@ impl Space {
         let Some(before) = address.checked_sub(1) else {
             return 0;
         };
-        match starts_up_to(slots, before).checked_sub(1) {
+        match last_up_to(slots, before) {
             Some(last) => self.slots.length_before(last) + slots[last].below(address),
             None => 0,
         }
@@ -191,9 +194,20 @@ fn around(slots: &[Slot], low: u64, high: u64) -> &[Slot]
     requires { IsNonDecreasingBy (λ slot. slot.start) slots.now }
     ensures { IsAround low high slots.now result.now }
 {
-    let from = starts_up_to(slots, low).saturating_sub(1);
+    let from = first_around(slots, low);
     let to = starts_up_to(slots, high);
     if from < to { &slots[from..to] } else { &[] }
+}
+
+/// The place of the last slot that starts up to the address, or 0.
+fn first_around(slots: &[Slot], address: u64) -> usize
+    requires { IsNonDecreasingBy (λ slot. slot.start) slots.now }
+    ensures { (result ≡ 0) ⊎ Parts address slots.now (suc result) }
+{
+    match last_up_to(slots, address) {
+        Some(place) => place,
+        None => 0,
+    }
 }
 
 /// The ranges of those of the slots that have an address from `low` to `high`.
