@@ -1,23 +1,18 @@
 -- Sums over files, and which files two lists have in common.
-use Rattle.std.proofs.Common.{◌≡◌, ℕ, zero, suc, ◌+◌, ◌-◌, ◌<◌, ◌≤◌, Bool, true, false, cond, eqb, nat_lt, List, [], ◌∷◌, ◌++◌, length, get_or, set, refl, ap, sym, ◌∙◌, subst, inl, inr, ⊎_elim, arith}
-use Rattle.std.specs.Prelude.{◌⊎◌, ◌&&◌, ◌==◌, Option, None, Some, sum_by, count_by, map, filter, find, IsPermutation}
-use Rattle.std.specs.declared.cmp.Ordering.{Ordering}
+use Rattle.std.proofs.Common.{◌≡◌, ℕ, ◌+◌, ◌<◌, ◌≤◌, Bool, true, false, cond, eqb, List, [], ◌∷◌, ◌++◌, refl, ap, sym, ◌∙◌, subst, inl, inr, ⊎_elim, arith}
+use Rattle.std.specs.Prelude.{◌&&◌, None, Some, sum_by, map, filter, find, IsPermutation}
 use Rattle.std.specs.declared.cmp.Ordering.TheVariants.{Less, Equal, Greater}
 use Rattle.std.specs.Ordering.{match_ordering, nat_cmp, is_eq}
-use Rattle.std.specs.List.{AllByRecursion}
-use Rattle.std.specs.List.Sorted.{IsStrictlySortedBy}
-use Rattle.std.specs.Map.{keys_of, lookup, remove_entry}
+use Rattle.std.specs.Map.{lookup, remove_entry}
 use Rattle.std.specs.BTreeMap.{is_at, insert_entry}
 use Rattle.std.proofs.lemmas.Bool.{cases_lt, and_parts, and_from, eqb-true, eq-eqb}
 use Rattle.std.proofs.lemmas.List.Sums.{sum_by-cons, sum_by-append}
 use Rattle.std.proofs.lemmas.List.Sorted.{IsPermutation-refl, IsPermutation-sym, IsPermutation-cons, IsPermutation-trans, IsPermutation-middle}
 use Rattle.std.proofs.lemmas.Map.Lookups.{exact_unsigned}
 use Rattle.wu_base.specs.declared.addresses.Range.{Range}
-use Rattle.wu_base.proofs.Members.{Has, Has-map}
+use Rattle.wu_base.proofs.Members.{Has}
 use Rattle.wu_base.proofs.MapEntries.{is_equal}
-use Rattle.wu_space.specs.declared.slots.Slot.{Slot}
 use Rattle.wu_space.specs.Addresses.{Ranges}
-use Rattle.wu_space.specs.Slots.{is_live, file_of, weight, SameFiles, length_of}
 
 -- ---- sums over any list
 module _ {X : Type 0} where

@@ -1,8 +1,7 @@
 -- Slots of which those without addresses were left out.
-use Rattle.std.proofs.Common.{◌≡◌, ℕ, ◌+◌, ◌<◌, ◌≤◌, Bool, true, false, cond, nat_lt, List, [], ◌∷◌, refl, ap, sym, ◌∙◌, ⊎_elim, arith}
-use Rattle.std.specs.Prelude.{sum_by, filter}
+use Rattle.std.proofs.Common.{◌≡◌, ℕ, Bool, true, false, cond, List, refl, ◌∙◌, arith}
+use Rattle.std.specs.Prelude.{filter}
 use Rattle.std.proofs.lemmas.Bool.{ltb-false}
-use Rattle.wu_base.specs.declared.addresses.Range.{Range}
 use Rattle.wu_space.specs.declared.slots.Slot.{Slot}
 use Rattle.wu_space.specs.Slots.{KeepsLive, is_live, file_of, weight, length_of}
 use Rattle.wu_space.proofs.Files.{sum_by-same, sum_by-filter}

@@ -6,3 +6,4 @@ pub mod Kept
 pub mod Window
 pub mod Live
 pub mod Released
+pub mod Rebuilt

@@ -1,6 +1,6 @@
 -- What the slots tell of the live ranges.
-use Rattle.std.proofs.Common.{◌≡◌, ℕ, zero, suc, ◌+◌, ◌-◌, ◌<◌, ◌≤◌, Bool, true, false, cond, eqb, nat_lt, min, max, List, [], ◌∷◌, ◌++◌, length, get_or, take, refl, ap, sym, ◌∙◌, subst, inl, inr, ⊎_elim, arith}
-use Rattle.std.specs.Prelude.{◌⊎◌, ◌==◌, Option, None, Some, sum_by, count_by, map, filter, find, option_map, IsPermutation}
+use Rattle.std.proofs.Common.{◌≡◌, ℕ, zero, suc, ◌+◌, ◌-◌, ◌<◌, ◌≤◌, Bool, true, false, cond, eqb, nat_lt, min, List, [], ◌∷◌, ◌++◌, length, get_or, take, refl, ap, sym, ◌∙◌, subst, ⊎_elim, arith}
+use Rattle.std.specs.Prelude.{◌==◌, None, Some, sum_by, count_by, map, filter, find, IsPermutation}
 use Rattle.std.specs.declared.cmp.Ordering.TheVariants.{Less}
 use Rattle.std.specs.Ordering.{nat_cmp, MatchOrdering}
 use Rattle.std.proofs.lemmas.Cmp.{ranked}
@@ -16,7 +16,7 @@ use Rattle.wu_base.specs.declared.addresses.Range.{Range}
 use Rattle.wu_base.proofs.MapEntries.{ascend-insert_entry, ascend-remove_entry}
 use Rattle.wu_base.proofs.Members.{Has, Has-from_Contains, all_from_has}
 use Rattle.wu_space.specs.declared.slots.Slot.{Slot}
-use Rattle.wu_space.specs.Addresses.{Ranges, Addresses, AreLive, IsSpace, is_in, owner_at, live_in, live_ranges, shared}
+use Rattle.wu_space.specs.Addresses.{Ranges, AreLive, IsSpace, is_in, owner_at, live_in, live_ranges, shared}
 use Rattle.wu_space.specs.Slots.{AreInOrder, Parts, SameFiles, IsSound, KeepsLive, Releases, below, count_below, file_of, is_live, length_of, meets, range_of_slot, weight}
 use Rattle.wu_space.proofs.Files.{mark, mark-itself, marked_file, sum_by-same, sum_by-map, sum_by-filter, sum-insert_entry, sum-remove_entry, sum-positive, positive-has, find-none, find-is, IsPermutation-from_sums, same_range, alike_range, exact_range}
 use Rattle.wu_space.proofs.Order.{below-none, below-sum, holder-is, holder-none, order-push, slot-ends}
@@ -289,7 +289,7 @@ module _ (next low high end : ℕ) (is : end ≡ min next (high + 1)) where
       (λ (l : low ≤ end). omega (arith, shares-within files l a))
       (cases_lt end low)
 
-has_from_lookup : (ino : ℕ) (files : Ranges) (range : Range) → lookup (is_at (nat_cmp ino)) files ≡ Some range → Has (ino, range) files
+pub has_from_lookup : (ino : ℕ) (files : Ranges) (range : Range) → lookup (is_at (nat_cmp ino)) files ≡ Some range → Has (ino, range) files
 has_from_lookup ino files range h =
     ⊎_elim
     (λ (l : 0 < sum_by (mark (ino, range)) files).

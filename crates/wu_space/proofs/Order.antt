@@ -1,15 +1,12 @@
 -- Slots that lie one after the other.
-use Rattle.std.proofs.Common.{◌≡◌, ℕ, zero, suc, ◌+◌, ◌-◌, ◌<◌, ◌≤◌, Bool, true, false, cond, nat_lt, min, max, List, [], ◌∷◌, ◌++◌, length, get_or, set, take, refl, ap, sym, ◌∙◌, subst, inl, inr, ⊎_elim, arith}
-use Rattle.std.specs.Prelude.{◌&&◌, sum_by, count_by, map, filter}
+use Rattle.std.proofs.Common.{◌≡◌, ℕ, zero, suc, ◌+◌, ◌<◌, ◌≤◌, Bool, true, false, cond, List, [], ◌∷◌, ◌++◌, length, get_or, set, take, refl, ap, ⊎_elim, arith}
+use Rattle.std.specs.Prelude.{sum_by, filter}
 use Rattle.std.specs.List.{AllByRecursion}
 use Rattle.std.specs.List.Sorted.{IsNonDecreasingBy}
-use Rattle.std.proofs.lemmas.Bool.{cases_lt, lt-ltb, le-ltb}
-use Rattle.std.proofs.lemmas.List.Sums.{sum_by-cons, sum_by_push}
-use Rattle.wu_base.specs.declared.addresses.Range.{Range}
+use Rattle.std.proofs.lemmas.List.Sums.{sum_by-cons}
 use Rattle.wu_base.proofs.Members.{Has, all_has}
 use Rattle.wu_space.specs.declared.slots.Slot.{Slot}
-use Rattle.wu_space.specs.Addresses.{Ranges, is_in, shared, AreApart}
-use Rattle.wu_space.specs.Slots.{AreInOrder, Parts, below, length_of, is_live, weight, file_of, range_of_slot, meets}
+use Rattle.wu_space.specs.Slots.{AreInOrder, Parts, below, length_of}
 
 starts-above : (low : ℕ) (slots : List Slot) (high : ℕ) → AreInOrder low slots high → (k : ℕ) (d : Slot) → k < length slots
     → low ≤ (get_or slots k d).start

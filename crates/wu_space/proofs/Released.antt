@@ -1,12 +1,9 @@
 -- A slot whose addresses were taken from it.
-use Rattle.std.proofs.Common.{◌≡◌, ℕ, zero, suc, ◌+◌, ◌<◌, ◌≤◌, true, cond, nat_lt, List, [], ◌∷◌, length, get_or, set, refl, ap, sym, ◌∙◌, subst, arith}
-use Rattle.std.specs.Prelude.{sum_by}
+use Rattle.std.proofs.Common.{◌≡◌, ℕ, zero, suc, ◌<◌, List, length, get_or, set, refl, ap, arith}
 use Rattle.std.proofs.lemmas.Bool.{lt-ltb}
 use Rattle.std.proofs.lemmas.List.Sums.{sum_by-set}
-use Rattle.wu_base.specs.declared.addresses.Range.{Range}
-use Rattle.wu_base.proofs.Members.{Has}
 use Rattle.wu_space.specs.declared.slots.Slot.{Slot}
-use Rattle.wu_space.specs.Slots.{AreInOrder, Parts, Releases, dead, file_of, length_of, weight}
+use Rattle.wu_space.specs.Slots.{Parts, Releases, dead, file_of, weight}
 use Rattle.wu_space.proofs.Order.{holder-is, holder-none, order-set}
 
 pub Releases-none : (start : ℕ) (slots : List Slot) → Parts start slots zero → Releases start slots slots

@@ -1,13 +1,11 @@
 -- Slots that have an address of an interval stand in a row.
-use Rattle.std.proofs.Common.{◌≡◌, ℕ, zero, suc, ◌+◌, ◌-◌, ◌<◌, ◌≤◌, Bool, true, false, cond, nat_lt, List, [], ◌∷◌, length, get_or, take, drop, refl, ap, sym, ◌∙◌, ⊎_elim, arith}
+use Rattle.std.proofs.Common.{◌≡◌, ℕ, zero, suc, ◌+◌, ◌-◌, ◌<◌, ◌≤◌, false, cond, List, [], ◌∷◌, take, drop, refl, ap, sym, ◌∙◌, ⊎_elim, arith}
 use Rattle.std.specs.Prelude.{◌⊎◌, map, filter}
 use Rattle.std.specs.List.{AllByRecursion}
 use Rattle.std.proofs.lemmas.Bool.{le-ltb}
-use Rattle.wu_base.specs.declared.addresses.Range.{Range}
 use Rattle.wu_space.specs.declared.slots.Slot.{Slot}
 use Rattle.wu_space.specs.Addresses.{shared, AreApart}
 use Rattle.wu_space.specs.Slots.{AreInOrder, Parts, meets, range_of_slot}
-use Rattle.wu_space.proofs.Order.{order-filter}
 
 module _ (low high : ℕ) where
   before-misses : (slot : Slot) → slot.start + slot.len ≤ low → meets low high slot ≡ false

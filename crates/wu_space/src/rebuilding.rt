@@ -2,6 +2,7 @@
 ghost use Rattle.std.specs.Prelude.{◌≡◌, ◌+◌, ◌<◌, ◌≤◌, ◌^◌, IsPermutation, IfOk, OnSome, IfSome, IfNone, MatchBool, map};
 ghost use Rattle.std.specs.Ordering.{nat_cmp};
 ghost use Rattle.std.specs.List.{AllByRecursion};
+ghost use Rattle.std.specs.List.Sorted.{IsNonDecreasingBy};
 ghost use Rattle.wu_space.specs.Addresses.{AreLive};
 ghost use Rattle.wu_space.specs.Rebuilding.{HasOnce, IsFiles, slot_of};
 ghost use Rattle.wu_space.specs.Slots.{AreInOrder, length_of};
@@ -62,7 +63,8 @@ fn by_number(
 
 /// A slot for each range, in the order of their first addresses.
 fn by_address(alloc: Global, ranges: &[(Ino, Range)]) -> Result<Vec<Slot>, NoMemory>
-    ensures { IfOk result (λ slots. IsPermutation (map slot_of ranges.now) slots.items) }
+    ensures slots { IfOk result (λ slots. IsPermutation (map slot_of ranges.now) slots.items) }
+    ensures order { IfOk result (λ slots. IsNonDecreasingBy (λ slot. slot.start) slots.items) }
 {
     let mut slots = slots_of(alloc, ranges)?;
     slots.sort_unstable_by_key(|slot| slot.start);

@@ -1,7 +1,4 @@
-use Rattle.std.proofs.Common.{◌≡◌, ◌-◌, ℕ, List, take, drop, ap, subst, sym, refl, ◌∙◌, arith}
-use Rattle.std.specs.Prelude.{filter}
-use Rattle.wu_space.specs.declared.slots.Slot.{Slot}
-use Rattle.wu_space.specs.Slots.{meets}
+use Rattle.std.proofs.Common.{◌≡◌, ◌-◌, arith}
 use Rattle.wu_space.proofs.Window.{window-is}
 use Rattle.wu_space.proofs.spaces.around.Goals as goal
 

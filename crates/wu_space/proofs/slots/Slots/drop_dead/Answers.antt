@@ -1,4 +1,4 @@
-use Rattle.std.proofs.Common.{◌≡◌, List, ap, sym, arith, rules, ◌∙◌}
+use Rattle.std.proofs.Common.{◌≡◌, List, ap, arith, rules, ◌∙◌}
 use Rattle.std.specs.Prelude.{filter}
 use Rattle.std.proofs.lemmas.Fn.{filter_same}
 use Rattle.wu_space.specs.declared.slots.Slot.{Slot}

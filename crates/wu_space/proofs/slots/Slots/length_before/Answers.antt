@@ -1,7 +1,6 @@
-use Rattle.std.proofs.Common.{◌≡◌, List, length, ◌/◌, ◌<◌, ◌^◌, refl, sym, ap, arith, subst, sum, take}
+use Rattle.std.proofs.Common.{List, length, ◌/◌, refl, ap, arith}
 use Rattle.wu_space.specs.declared.slots.Slot.{Slot}
-use Rattle.wu_space.specs.Slots.{length_of}
-use Rattle.wu_space.proofs.ChunkSums.{Fronts, fronts}
+use Rattle.wu_space.proofs.ChunkSums.{fronts}
 use Rattle.wu_space.proofs.slots.Slots.length_before.Goals as goal
 
 pub length-requires : goal.length-requires

@@ -1,4 +1,4 @@
-use Rattle.std.proofs.Common.{◌≡◌, List, length, get_or, ap, arith, sym}
+use Rattle.std.proofs.Common.{List, ap, arith}
 use Rattle.std.proofs.lemmas.List.{get_or_read}
 use Rattle.wu_space.specs.declared.slots.Slot.{Slot}
 use Rattle.wu_space.specs.Slots.{AreSums, length_of}

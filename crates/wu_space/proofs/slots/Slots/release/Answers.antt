@@ -1,6 +1,6 @@
-use Rattle.std.proofs.Common.{◌≡◌, ◌<◌, suc, zero, List, length, ◌∙◌, ap, subst, sym, arith}
+use Rattle.std.proofs.Common.{◌≡◌, ◌<◌, suc, zero, List, length, ◌∙◌, subst}
 use Rattle.wu_space.specs.declared.slots.Slot.{Slot}
-use Rattle.wu_space.specs.Slots.{Parts, Releases}
+use Rattle.wu_space.specs.Slots.{Parts}
 use Rattle.wu_space.proofs.Released.{Releases-none, Releases-set}
 use Rattle.wu_space.proofs.slots.Slots.release.Goals as goal
 

@@ -1,4 +1,4 @@
-use Rattle.std.proofs.Common.{◌≡◌, ◌+◌, min, subst, ap, sym, refl, ◌∙◌, arith}
+use Rattle.std.proofs.Common.{◌≡◌, ◌+◌, min, subst, ap, arith}
 use Rattle.wu_space.specs.Addresses.{Addresses, IsSpace}
 use Rattle.wu_space.proofs.Live.{space-from_sound, live_in-is}
 use Rattle.wu_space.proofs.spaces.Space.live_in.Goals as goal

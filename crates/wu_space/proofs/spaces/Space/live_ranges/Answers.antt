@@ -1,5 +1,5 @@
-use Rattle.std.proofs.Common.{◌≡◌, List, ap, subst, sym, refl, ◌∙◌, arith}
-use Rattle.std.specs.Prelude.{map, filter, IsPermutation}
+use Rattle.std.proofs.Common.{List, ap, subst, sym, ◌∙◌}
+use Rattle.std.specs.Prelude.{map, IsPermutation}
 use Rattle.std.proofs.lemmas.Result.{IfOk-weaker}
 use Rattle.wu_base.specs.declared.addresses.Range.{Range}
 use Rattle.wu_space.specs.declared.slots.Slot.{Slot}

@@ -1,4 +1,4 @@
-use Rattle.std.proofs.Common.{ap, sym, refl, ◌∙◌, arith}
+use Rattle.std.proofs.Common.{sym, ◌∙◌}
 use Rattle.wu_space.specs.Slots.{IsSound}
 use Rattle.wu_space.proofs.Order.{starts-rise}
 use Rattle.wu_space.proofs.Live.{owner-none, owner-some, parts-start}

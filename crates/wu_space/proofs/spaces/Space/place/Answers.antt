@@ -1,4 +1,4 @@
-use Rattle.std.proofs.Common.{◌≡◌, ℕ, ap, subst, sym, refl, ◌∙◌, arith}
+use Rattle.std.proofs.Common.{◌≡◌, ℕ, ap, subst, sym, arith}
 use Rattle.std.specs.Prelude.{None}
 use Rattle.std.specs.Map.{lookup, remove_entry}
 use Rattle.std.specs.BTreeMap.{is_at, insert_entry}
@@ -8,7 +8,6 @@ use Rattle.std.proofs.lemmas.Map.{none_passes_from_lookup}
 use Rattle.wu_base.proofs.MapEntries.{remove_entry-insert_entry, number_itself}
 use Rattle.wu_base.specs.declared.addresses.Range.{Range}
 use Rattle.wu_space.specs.Addresses.{Addresses, Ranges}
-use Rattle.wu_space.specs.Slots.{IsSound, length_of}
 use Rattle.wu_space.proofs.Order.{total-le}
 use Rattle.wu_space.proofs.Live.{sound-placed}
 use Rattle.wu_space.proofs.spaces.Space.place.Goals as goal

@@ -1,8 +1,4 @@
-use Rattle.std.proofs.Common.{◌≡◌, ap, subst, sym, refl, ◌∙◌, arith}
-use Rattle.std.specs.Prelude.{Some}
-use Rattle.std.specs.Map.{lookup}
-use Rattle.std.specs.BTreeMap.{is_at}
-use Rattle.std.specs.Ordering.{nat_cmp}
+use Rattle.std.proofs.Common.{sym, refl}
 use Rattle.wu_space.proofs.Order.{starts-rise}
 use Rattle.wu_space.proofs.Live.{sound-released, length-of_file}
 use Rattle.wu_space.proofs.spaces.Space.release.Goals as goal
