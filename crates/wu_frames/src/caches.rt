@@ -53,7 +53,10 @@ impl FrameCache {
         ensures { IfOk result (λ frames. AreFrames tree.now space.now.ranges uid frames.now) }
     {
         self.prepare(tree, space, uid)?;
-        self.kept(uid).ok_or(NoMemory)
+        match self.kept(uid) {
+            Some(frames) => Ok(frames),
+            None => Err(NoMemory),
+        }
     }
 
     /// Has the frames of the user kept, as `frames_of` does. Out of memory, those of others may be gone.
@@ -62,10 +65,11 @@ impl FrameCache {
         ensures right { AreFor tree.now space.now.ranges self.new }
         ensures kept { OnOk result (IsSome (frames_for self.new uid)) }
     {
-        if self.kept.get(&uid).is_none() {
-            let frames = making::made(self.alloc, tree, space, uid)?;
-            self.kept.put(uid, frames)?;
+        if self.kept.promote(&uid) {
+            return Ok(());
         }
+        let frames = making::made(self.alloc, tree, space, uid)?;
+        self.kept.put(uid, frames)?;
         Ok(())
     }
 

@@ -7,3 +7,4 @@ pub mod Window
 pub mod Live
 pub mod Released
 pub mod Rebuilt
+pub mod Apart

@@ -1,5 +1,5 @@
 -- What the slots tell of the live ranges.
-use Rattle.std.proofs.Common.{◌≡◌, ℕ, zero, suc, ◌+◌, ◌-◌, ◌<◌, ◌≤◌, Bool, true, false, cond, eqb, nat_lt, min, List, [], ◌∷◌, ◌++◌, length, get_or, take, refl, ap, sym, ◌∙◌, subst, ⊎_elim, arith}
+use Rattle.std.proofs.Common.{◌≡◌, ℕ, zero, suc, ◌+◌, ◌-◌, ◌^◌, ◌<◌, ◌≤◌, Bool, true, false, cond, eqb, nat_lt, min, List, [], ◌∷◌, ◌++◌, length, get_or, take, refl, ap, sym, ◌∙◌, subst, ⊎_elim, arith}
 use Rattle.std.specs.Prelude.{◌==◌, None, Some, sum_by, count_by, map, filter, find, IsPermutation}
 use Rattle.std.specs.declared.cmp.Ordering.TheVariants.{Less}
 use Rattle.std.specs.Ordering.{nat_cmp, MatchOrdering}
@@ -252,9 +252,10 @@ live-from_sound slots files next total s = record {
       omega (arith, slot-ends 0 slots next r.0 s.by_address r.1.0, ap (λ (x : ℕ × Range). x.1.start + x.1.len) r.1.1.1));
 }
 
-pub space-from_sound : (slots : List Slot) (files : Ranges) (next total : ℕ) → IsSound slots files next total
+pub space-from_sound : (slots : List Slot) (files : Ranges) (next total : ℕ) → IsSound slots files next total → next < 2 ^ 64
     → IsSpace (record { next = next; ranges = files })
-space-from_sound slots files next total s = record {
+space-from_sound slots files next total s h = record {
+  small = h;
   by_number = s.by_number;
   live = live-from_sound slots files next total s;
 }

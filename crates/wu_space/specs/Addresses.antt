@@ -1,6 +1,6 @@
 -- The space of addresses, as its callers see it. Each token of each text that was ever indexed has an address; a file's tokens
 -- have a range of them, which is live until the file is given up or has a new text.
-use Rattle.std.specs.Prelude.{ℕ, ◌+◌, ◌-◌, ◌<◌, ◌≤◌, ◌==◌, min, max, Bool, ◌&&◌, nat_lt, nat_le, Option}
+use Rattle.std.specs.Prelude.{ℕ, ◌+◌, ◌-◌, ◌^◌, ◌<◌, ◌≤◌, ◌==◌, min, max, Bool, ◌&&◌, nat_lt, nat_le, Option}
 use Rattle.std.specs.Prelude.{List, [], ◌∷◌, map, filter, find, sum_by, count_by, option_map}
 use Rattle.std.specs.Ordering.{nat_cmp}
 use Rattle.std.specs.List.{AllByRecursion}
@@ -74,5 +74,6 @@ pub record AreLive (next : ℕ) (ranges : Ranges) : Type 0 where
   pub given : AllByRecursion (λ file. file.1.start + file.1.len ≤ next) ranges
 
 pub record IsSpace (space : Addresses) : Type 0 where
+  pub small : space.next < 2 ^ 64
   pub by_number : IsStrictlySortedBy nat_cmp (keys_of space.ranges)
   pub live : AreLive space.next space.ranges

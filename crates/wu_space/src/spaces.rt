@@ -185,7 +185,7 @@ impl Space {
     pub fn keeps_the_rules(&self)
         ensures { IsSpace self.now }
     {
-        let _ = &self.next;
+        let _next = self.next;
     }
 }
 
