@@ -1,6 +1,6 @@
 -- What is kept of users after one asked or was put in.
-use Rattle.std.proofs.Common.{◌≡◌, ℕ, zero, suc, ◌-◌, Bool, true, false, cond, List, [], ◌∷◌, take, nat_eq, refl, ap, sym, ◌∙◌, subst, arith}
-use Rattle.std.specs.Prelude.{Option, None, Some, IsSome, is_some, option_map}
+use Rattle.std.proofs.Common.{◌≡◌, ℕ, zero, suc, ◌-◌, true, List, [], ◌∷◌, take, nat_eq, refl, sym, subst}
+use Rattle.std.specs.Prelude.{None, Some, IsSome, is_some}
 use Rattle.std.specs.Option.{option_map_or}
 use Rattle.std.specs.List.{AllByRecursion}
 use Rattle.std.specs.Map.{lookup, lookup_entry, remove_entry}
@@ -41,8 +41,8 @@ module _ (fs : FileSystem) (live : Ranges) where
       elim (lookup_entry (nat_eq uid) cache.entries) as
       (λ o. lookup_entry (nat_eq uid) cache.entries ≡ o
       → AllByRecursion IsRight
-        (option_map_or (λ (e : ℕ × Frames). (e.0, frames) ∷ remove_entry (nat_eq uid) cache.entries) o
-        ((uid, frames) ∷ take (cache.cap - 1) cache.entries))) [
+      (option_map_or (λ (e : ℕ × Frames). (e.0, frames) ∷ remove_entry (nat_eq uid) cache.entries) o
+      ((uid, frames) ∷ take (cache.cap - 1) cache.entries))) [
         | None ↦ λ e. (p, All-take IsRight (cache.cap - 1) cache.entries a)
         | Some entry ↦ λ e.
             let there = Contains-lookup_entry (nat_eq uid) cache.entries entry e in

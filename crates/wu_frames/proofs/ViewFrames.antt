@@ -1,6 +1,6 @@
 -- Frames of a view: their numbers, their ranges, and their order by address.
-use Rattle.std.proofs.Common.{◌≡◌, ℕ, zero, suc, ◌+◌, ◌<◌, ◌≤◌, ◌^◌, Bool, true, false, cond, List, [], ◌∷◌, ◌++◌, length, get_or, take, refl, ap, sym, ◌∙◌, subst, inl, inr, ⊎_elim, arith}
-use Rattle.std.specs.Prelude.{◌⊎◌, ◌==◌, Option, None, Some, count_by, sum_by, map, filter_map, option_map, IsPermutation}
+use Rattle.std.proofs.Common.{◌≡◌, ℕ, suc, ◌+◌, ◌<◌, ◌≤◌, ◌^◌, cond, List, [], ◌∷◌, ◌++◌, length, get_or, take, refl, ap, sym, ◌∙◌, subst, ⊎_elim, arith}
+use Rattle.std.specs.Prelude.{◌==◌, Option, None, Some, count_by, map, filter_map, option_map, IsPermutation}
 use Rattle.std.specs.Option.{option_to_list}
 use Rattle.std.specs.List.{AllByRecursion, cons_option, enumerate_from}
 use Rattle.std.specs.List.Sorted.{IsNonDecreasingBy}
@@ -10,7 +10,7 @@ use Rattle.std.proofs.lemmas.List.Elements.{filter_map-append, recursion_from_Al
 use Rattle.std.proofs.lemmas.List.Sums.{sum_by-cons}
 use Rattle.std.proofs.lemmas.List.Sorted.{sum_by-IsPermutation, Contains-permutation, IsPermutation-sym}
 use Rattle.wu_base.specs.declared.addresses.Range.{Range}
-use Rattle.wu_base.proofs.Members.{Has, Has-from_Contains, Contains-from_Has, all_has, all_from_has}
+use Rattle.wu_base.proofs.Members.{Has-from_Contains, Contains-from_Has, all_has, all_from_has}
 use Rattle.wu_view.specs.declared.Seen.{Seen}
 use Rattle.wu_tree.specs.FileSystems.{FileSystem}
 use Rattle.wu_view.specs.Views.{view_of}
@@ -56,8 +56,11 @@ module _ (place : ℕ) (ranges : Ranges) (view : List Seen) (frames : List Frame
 
   pub place-fits : IsOnce view → place < 2 ^ 32
   place-fits o =
-      omega (arith, few-from_once (take (place + 1) view) (2 ^ 32) (take-once view (place + 1) o) numbers-more,
-      length-take-le (place + 1) view (omega arith))
+      omega (
+        arith,
+        few-from_once (take (place + 1) view) (2 ^ 32) (take-once view (place + 1) o) numbers-more,
+        length-take-le (place + 1) view (omega arith),
+      )
 
   frame-made : frame_of ranges (place, get_or view place file) ≡ option_map (frame_with place file.ino) (range_of ranges file.ino)
   frame-made = ap (λ (x : Seen). frame_of ranges (place, x)) (sym is)
@@ -68,8 +71,8 @@ module _ (place : ℕ) (ranges : Ranges) (view : List Seen) (frames : List Frame
     made =
         ap (λ (l : List Frame). l ++ frame_with place file.ino range ∷ []) s.made
         ∙ sym (frames_in-more ranges view place file within
-          ∙ ap (λ (o : Option Frame). frames_in ranges (take place view) ++ option_to_list o)
-            (frame-made ∙ ap (λ (o : Option Range). option_map (frame_with place file.ino) o) e));
+        ∙ ap (λ (o : Option Frame). frames_in ranges (take place view) ++ option_to_list o)
+        (frame-made ∙ ap (λ (o : Option Range). option_map (frame_with place file.ino) o) e));
     numbers = numbers-more;
   }
 
@@ -79,8 +82,8 @@ module _ (place : ℕ) (ranges : Ranges) (view : List Seen) (frames : List Frame
         s.made
         ∙ sym (append-nil (frames_in ranges (take place view)))
         ∙ sym (frames_in-more ranges view place file within
-          ∙ ap (λ (o : Option Frame). frames_in ranges (take place view) ++ option_to_list o)
-            (frame-made ∙ ap (λ (o : Option Range). option_map (frame_with place file.ino) o) e));
+        ∙ ap (λ (o : Option Frame). frames_in ranges (take place view) ++ option_to_list o)
+        (frame-made ∙ ap (λ (o : Option Range). option_map (frame_with place file.ino) o) e));
     numbers = numbers-more;
   }
 
@@ -97,7 +100,7 @@ module _ (ranges : Ranges) where
       elim (range_of ranges file.ino) as
       (λ o. range_of ranges file.ino ≡ o
       → AllByRecursion HasRange
-        (cons_option (option_map (frame_with n file.ino) o) (filter_map (frame_of ranges) (enumerate_from (n + 1) view)))) [
+      (cons_option (option_map (frame_with n file.ino) o) (filter_map (frame_of ranges) (enumerate_from (n + 1) view)))) [
         | None ↦ λ e. rest
         | Some range ↦ λ e. (e, rest)
       ] refl
@@ -122,15 +125,19 @@ module _ (ranges : Ranges) where
     all-have =
         all_from_has HasRange frames
         (λ frame h.
-          all_has HasRange frame (frames_in ranges view) (frames-have 0 view)
-          (Has-from_Contains frame (frames_in ranges view)
-          (Contains-permutation frames (frames_in ranges view) frame (IsPermutation-sym (frames_in ranges view) frames moved)
-          (Contains-from_Has frame frames h))))
+        all_has HasRange frame (frames_in ranges view) (frames-have 0 view)
+        (Has-from_Contains frame (frames_in ranges view)
+        (Contains-permutation frames (frames_in ranges view) frame (IsPermutation-sym (frames_in ranges view) frames moved)
+        (Contains-from_Has frame frames h))))
 
     pub each-once : IsOnce view → (ino : ℕ) → count_by (λ frame. frame.ino == ino) frames ≤ 1
     each-once o ino =
-        omega (arith, o ino, frames-once 0 view ino,
-        sum_by-IsPermutation (λ (x : Frame). cond {A = ℕ} (x.ino == ino) 1 0) (frames_in ranges view) frames moved)
+        omega (
+          arith,
+          o ino,
+          frames-once 0 view ino,
+          sum_by-IsPermutation (λ (x : Frame). cond {A = ℕ} (x.ino == ino) 1 0) (frames_in ranges view) frames moved,
+        )
 
   -- ---- by address
 
@@ -146,20 +153,24 @@ module _ (ranges : Ranges) where
         let after : AllByRecursion (λ (x : Frame). frame.range.start + frame.range.len ≤ x.range.start) frames =
         all_from_has (λ (x : Frame). frame.range.start + frame.range.len ≤ x.range.start) frames
         (λ x h.
-          let later : frame.range.start ≤ x.range.start = all_has (λ (y : Frame). frame.range.start ≤ y.range.start) x frames starts h in
-          let there : range_of ranges x.ino ≡ Some x.range = all_has HasRange x frames a.1 h in
-          let other : frame.ino ≡ x.ino → ⊥ = λ e.
-          omega (arith, s frame.ino, o frame.ino, itself,
+        let later : frame.range.start ≤ x.range.start = all_has (λ (y : Frame). frame.range.start ≤ y.range.start) x frames starts h in
+        let there : range_of ranges x.ino ≡ Some x.range = all_has HasRange x frames a.1 h in
+        let other : frame.ino ≡ x.ino → ⊥ = λ e.
+        omega (
+          arith,
+          s frame.ino,
+          o frame.ino,
+          itself,
           sum-positive (λ (y : Frame). cond {A = ℕ} (y.ino == frame.ino) 1 0) x frames h
-          (let one : cond {A = ℕ} (x.ino == frame.ino) 1 0 ≡ 1 = rw (eq-eqb x.ino frame.ino (sym e)) refl in omega arith)) in
-          let some : 0 < x.range.len = filled-from_live next ranges live x.ino x.range there in
-          ⊎_elim (λ i. i) (λ i. absurd (omega (arith, i)))
-          (apart-from_live next ranges live frame.ino x.ino frame.range x.range a.0 there other)) in
-        (
+              (let one : cond {A = ℕ} (x.ino == frame.ino) 1 0 ≡ 1 = rw (eq-eqb x.ino frame.ino (sym e)) refl in omega arith),
+        ) in
+        let some : 0 < x.range.len = filled-from_live next ranges live x.ino x.range there in
+        ⊎_elim (λ i. i) (λ i. absurd (omega (arith, i)))
+        (apart-from_live next ranges live frame.ino x.ino frame.range x.range a.0 there other)) in (
           ranges-after frame.range frames after,
           apart-from_frames frames (λ i j d m n. up (suc i) (suc j) d (omega arith) (omega arith)) a.1 (λ ino. omega (arith, s ino, o ino)),
         )
-        where
+      where
         ranges-after : (range : Range) (xs : List Frame) → AllByRecursion (λ (x : Frame). range.start + range.len ≤ x.range.start) xs
             → AllByRecursion (λ (later : Range). range.start + range.len ≤ later.start) (map (λ (x : Frame). x.range) xs)
         ranges-after range [] b = tt
@@ -174,8 +185,13 @@ module _ (ranges : Ranges) where
         → AllByRecursion (λ (range : Range). range.start + range.len ≤ next) rs → low ≤ next → low + length_of rs ≤ next
     length-within low [] b a w l = omega arith
     length-within low (range ∷ rs) b a w l =
-        omega (arith, b.0, w.0, sum_by-cons (λ (r : Range). r.len) range rs,
-        length-within (range.start + range.len) rs a.0 a.1 w.1 w.0)
+        omega (
+          arith,
+          b.0,
+          w.0,
+          sum_by-cons (λ (r : Range). r.len) range rs,
+          length-within (range.start + range.len) rs a.0 a.1 w.1 w.0,
+        )
 
     from-zero : (rs : List Range) → AllByRecursion (λ (range : Range). 0 ≤ range.start) rs
     from-zero [] = tt

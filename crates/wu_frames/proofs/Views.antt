@@ -1,9 +1,8 @@
 -- A view shows each file once, so that it has no more files than there are numbers.
-use Rattle.std.proofs.Common.{◌≡◌, ℕ, zero, suc, ◌+◌, ◌<◌, ◌≤◌, ◌^◌, Bool, true, false, cond, eqb, List, [], ◌∷◌, length, take, refl, ap, sym, ◌∙◌, subst, ⊎_elim, inl, inr, arith}
+use Rattle.std.proofs.Common.{◌≡◌, ℕ, ◌<◌, ◌≤◌, Bool, true, false, cond, eqb, List, [], ◌∷◌, length, take, refl, ap, sym, ◌∙◌, subst, inl, inr, arith}
 use Rattle.std.specs.Prelude.{◌==◌, count_by, map, filter, not}
-use Rattle.std.specs.declared.cmp.Ordering.{Ordering}
 use Rattle.std.specs.declared.cmp.Ordering.TheVariants.{Less, Equal}
-use Rattle.std.specs.List.{AllByRecursion, IsDistinct, list_any}
+use Rattle.std.specs.List.{AllByRecursion, IsDistinct}
 use Rattle.std.specs.List.Sorted.{IsStrictlySortedBy}
 use Rattle.std.proofs.lemmas.Bool.{eqb-true, eq-eqb, ne_eqb}
 use Rattle.std.proofs.lemmas.Cmp.{tied_itself}
@@ -55,8 +54,12 @@ module _ (fs : FileSystem) (uid : ℕ) where
   none-again ino first (file ∷ files) e f a s =
       let other : file.ino ≡ ino → ⊥ = λ g.
       never_less first file (f ∙ ap shown_of (e ∙ sym g) ∙ sym (s file (inl refl))) a.0 in
-      omega (arith, sum_by-cons (λ (x : Seen). cond {A = ℕ} (x.ino == ino) 1 0) file files,
-      cond-false (file.ino == ino) (ne_eqb file.ino ino other), none-again ino first files e f a.1 (λ x h. s x (inr h)))
+      omega (
+        arith,
+        sum_by-cons (λ (x : Seen). cond {A = ℕ} (x.ino == ino) 1 0) file files,
+        cond-false (file.ino == ino) (ne_eqb file.ino ino other),
+        none-again ino first files e f a.1 (λ x h. s x (inr h)),
+      )
 
   once-from_shown : (files : List Seen) → IsStrictlySortedBy seen_cmp files → AreShown files → IsOnce files
   unfolding IsStrictlySortedBy
@@ -64,11 +67,19 @@ module _ (fs : FileSystem) (uid : ℕ) where
   once-from_shown (file ∷ files) o s ino =
       elim (file.ino == ino) as (λ b. (file.ino == ino) ≡ b → count_by (λ (x : Seen). x.ino == ino) (file ∷ files) ≤ 1) [
         | true ↦ λ p.
-            omega (arith, sum_by-cons (λ (x : Seen). cond {A = ℕ} (x.ino == ino) 1 0) file files, cond-le (file.ino == ino),
-            none-again ino file files (eqb-true file.ino ino p) (s file (inl refl)) o.0 (λ x h. s x (inr h)))
+            omega (
+              arith,
+              sum_by-cons (λ (x : Seen). cond {A = ℕ} (x.ino == ino) 1 0) file files,
+              cond-le (file.ino == ino),
+              none-again ino file files (eqb-true file.ino ino p) (s file (inl refl)) o.0 (λ x h. s x (inr h)),
+            )
         | false ↦ λ p.
-            omega (arith, sum_by-cons (λ (x : Seen). cond {A = ℕ} (x.ino == ino) 1 0) file files, cond-false (file.ino == ino) p,
-            once-from_shown files o.1 (λ x h. s x (inr h)) ino)
+            omega (
+              arith,
+              sum_by-cons (λ (x : Seen). cond {A = ℕ} (x.ino == ino) 1 0) file files,
+              cond-false (file.ino == ino) p,
+              once-from_shown files o.1 (λ x h. s x (inr h)) ino,
+            )
       ] refl
 
   pub view_of-once : IsOnce (view_of fs uid)
@@ -79,12 +90,12 @@ module _ (fs : FileSystem) (uid : ℕ) where
       let opened : List Seen = filter (λ (seen : Seen). not (is_empty seen.paths)) shown in
       once-from_shown (sorted_once seen_cmp opened) (sorted-sorted_once seen_total seen_exact opened)
       (λ file h.
-        let a : Has file opened = sorted_once_has seen_total seen_exact file opened h in
-        let b = filter_has (λ (seen : Seen). not (is_empty seen.paths)) file shown a in
-        let n = map_has (λ (node : ℕ × Node). shown_of node.0) file readable b.0 in
-        let e : shown_of n.0.0 ≡ file = n.1.1 in
-        let ino : n.0.0 ≡ file.ino = ap (λ (x : Seen). x.ino) e in
-        sym e ∙ ap shown_of ino)
+      let a : Has file opened = sorted_once_has seen_total seen_exact file opened h in
+      let b = filter_has (λ (seen : Seen). not (is_empty seen.paths)) file shown a in
+      let n = map_has (λ (node : ℕ × Node). shown_of node.0) file readable b.0 in
+      let e : shown_of n.0.0 ≡ file = n.1.1 in
+      let ino : n.0.0 ≡ file.ino = ap (λ (x : Seen). x.ino) e in
+      sym e ∙ ap shown_of ino)
 
 -- ---- how many files
 
@@ -100,8 +111,7 @@ distinct-from_once : (files : List Seen) → IsOnce files → IsDistinct eqb (ma
 unfolding IsDistinct
 distinct-from_once [] o = tt
 distinct-from_once (file ∷ files) o =
-    let s = sum_by-cons (λ (x : Seen). cond {A = ℕ} (x.ino == file.ino) 1 0) file files in
-    (
+    let s = sum_by-cons (λ (x : Seen). cond {A = ℕ} (x.ino == file.ino) 1 0) file files in (
       none-equal file.ino files (omega (arith, s, o file.ino, cond-true (file.ino == file.ino) (eq-eqb file.ino file.ino refl))),
       distinct-from_once files (λ ino. omega (arith, sum_by-cons (λ (x : Seen). cond {A = ℕ} (x.ino == ino) 1 0) file files, o ino)),
     )
@@ -111,10 +121,10 @@ few-from_once files n o a =
     let numbers : List ℕ = map (λ (file : Seen). file.ino) files in
     let few : length numbers ≤ n = length-le_from_distinct_below numbers n (distinct-from_once files o)
     (λ q h.
-      let r = any_has (eqb q) numbers h in
-      let e : q ≡ r.0 = eqb-true q r.0 r.1.1 in
-      let f = map_has (λ (file : Seen). file.ino) r.0 files r.1.0 in
-      omega (arith, e, f.1.1, all_has (λ (file : Seen). file.ino < n) f.0 files a f.1.0)) in
+    let r = any_has (eqb q) numbers h in
+    let e : q ≡ r.0 = eqb-true q r.0 r.1.1 in
+    let f = map_has (λ (file : Seen). file.ino) r.0 files r.1.0 in
+    omega (arith, e, f.1.1, all_has (λ (file : Seen). file.ino < n) f.0 files a f.1.0)) in
     omega (arith, length-map files (λ (file : Seen). file.ino))
 
 pub take-once : (files : List Seen) (n : ℕ) → IsOnce files → IsOnce (take n files)

@@ -2,8 +2,7 @@
 ghost use Rattle.std.specs.Prelude.{◌≡◌, [], IfOk, OnOk, OnErr, IsSome, option_copied};
 ghost use Rattle.wu_frames.specs.UserFrames.{AreFor, AreFrames, frames_for};
 
-use crate::Frames;
-use crate::making;
+use crate::{Frames, making};
 use lru::LruCache;
 use std::alloc::Global;
 use std::marker::Model;

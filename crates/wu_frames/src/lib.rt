@@ -5,7 +5,6 @@ mod caches;
 mod making;
 
 pub use caches::{FrameCache, USERS_KEPT};
-
 use wu_base::{Ino, Range, Sequence};
 use wu_view::Seen;
 

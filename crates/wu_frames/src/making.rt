@@ -1,22 +1,17 @@
 //! Frames, made of a view and the live ranges.
 ghost use Rattle.std.specs.Prelude.{◌≡◌, ◌≤◌, ◌<◌, ◌^◌, ◌==◌, ℕ, IfOk, IsPermutation, count_by, map, sum_by, length};
 ghost use Rattle.std.specs.List.Sorted.{IsNonDecreasingBy};
-ghost use Rattle.wu_frames.specs.UserFrames.{AreFrames, frames_in, length_of};
+ghost use Rattle.wu_frames.specs.UserFrames.{AreFrames, frame_with, frames_in, length_of};
 
 use crate::{Frame, Frames};
 use std::alloc::Global;
-use wu_base::{NoMemory, Range, Sequence, Uid};
+use wu_base::{Ino, NoMemory, Range, Sequence, Uid};
 use wu_space::Space;
 use wu_tree::Tree;
 use wu_view::{Seen, searchable};
 
 /// The frames of the user, made anew.
-pub(crate) fn made(
-    alloc: Global,
-    tree: &Tree,
-    space: &Space,
-    uid: Uid,
-) -> Result<Frames, NoMemory>
+pub(crate) fn made(alloc: Global, tree: &Tree, space: &Space, uid: Uid) -> Result<Frames, NoMemory>
     ensures { IfOk result (λ frames. AreFrames tree.now space.now.ranges uid frames) }
 {
     space.keeps_the_rules();
@@ -52,15 +47,23 @@ fn in_view_order(alloc: Global, space: &Space, seen: &[Seen]) -> Result<Vec<Fram
     let mut frames = Vec::new(alloc);
     for (place, file) in seen.iter().enumerate() {
         match space.range_of(file.ino) {
-            Some(range) => frames.push(Frame {
-                range,
-                ino: file.ino,
-                place: place as u32,
-            })?,
+            Some(range) => frames.push(frame_at(place, file.ino, range))?,
             None => {}
         }
     }
     Ok(frames)
+}
+
+/// The frame of the file at that place of the view.
+fn frame_at(place: usize, ino: Ino, range: Range) -> Frame
+    requires { place < 2 ^ 32 }
+    ensures { result ≡ frame_with place ino range }
+{
+    Frame {
+        range,
+        ino,
+        place: place as u32,
+    }
 }
 
 /// The ranges of the frames.

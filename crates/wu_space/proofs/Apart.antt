@@ -1,9 +1,6 @@
 -- Live ranges of two files have no address in common.
-use Rattle.std.proofs.Common.{◌≡◌, ℕ, ◌+◌, ◌<◌, ◌≤◌, true, cond, max, List, [], ◌∷◌, refl, ap, sym, ◌∙◌, subst, inl, inr, ⊎_elim, arith}
+use Rattle.std.proofs.Common.{◌≡◌, ℕ, ◌+◌, ◌<◌, ◌≤◌, cond, max, List, [], ◌∷◌, refl, ap, sym, ◌∙◌, inl, inr, ⊎_elim, arith}
 use Rattle.std.specs.Prelude.{◌⊎◌, Some, sum_by}
-use Rattle.std.specs.Ordering.{nat_cmp}
-use Rattle.std.specs.Map.{lookup}
-use Rattle.std.specs.BTreeMap.{is_at}
 use Rattle.std.proofs.lemmas.Bool.{cases_lt, le-leb, lt-ltb}
 use Rattle.std.proofs.lemmas.List.Sums.{sum_by-cons}
 use Rattle.wu_base.specs.declared.addresses.Range.{Range}
@@ -17,15 +14,15 @@ two-count f x y [] h i n a b = absurd h
 two-count f x y (z ∷ zs) h i n a b =
     ⊎_elim
     (λ e.
-      ⊎_elim
-      (λ g. absurd (n (sym e ∙ g)))
-      (λ j. omega (arith, sum_by-cons f z zs, ap f e, sum-positive f y zs j b))
-      i)
+    ⊎_elim
+    (λ g. absurd (n (sym e ∙ g)))
+    (λ j. omega (arith, sum_by-cons f z zs, ap f e, sum-positive f y zs j b))
+    i)
     (λ k.
-      ⊎_elim
-      (λ g. omega (arith, sum_by-cons f z zs, ap f g, sum-positive f x zs k a))
-      (λ j. omega (arith, sum_by-cons f z zs, two-count f x y zs k j n a b))
-      i)
+    ⊎_elim
+    (λ g. omega (arith, sum_by-cons f z zs, ap f g, sum-positive f x zs k a))
+    (λ j. omega (arith, sum_by-cons f z zs, two-count f x y zs k j n a b))
+    i)
     h
 
 holds : ℕ → ℕ × Range → ℕ
@@ -62,10 +59,10 @@ module _ (next : ℕ) (files : Ranges) (live : AreLive next files) where
       let fb : 0 < b.len = filled-from_live q b g in
       ⊎_elim
       (λ (h : b.start < a.start + a.len).
-        ⊎_elim
-        (λ (i : a.start < b.start + b.len).
-          absurd (never-both (max a.start b.start) (p, a) (q, b) ha hb other (omega arith) (omega arith) (omega arith) (omega arith)))
-        (λ (i : b.start + b.len ≤ a.start). inr i)
-        (cases_lt a.start (b.start + b.len)))
+      ⊎_elim
+      (λ (i : a.start < b.start + b.len).
+      absurd (never-both (max a.start b.start) (p, a) (q, b) ha hb other (omega arith) (omega arith) (omega arith) (omega arith)))
+      (λ (i : b.start + b.len ≤ a.start). inr i)
+      (cases_lt a.start (b.start + b.len)))
       (λ (h : a.start + a.len ≤ b.start). inl h)
       (cases_lt b.start (a.start + a.len))

@@ -34,12 +34,19 @@ module _ (slots : List Slot) (sums : List ℕ) (s : AreSums slots sums) where
         ⊎_elim
         (λ (l : c < length sums + 1). rw (take-append-le c sums (0 ∷ []) (omega arith)) (s.so_far c (omega arith)))
         (λ (l : length sums + 1 ≤ c).
-          let e : take c (sums ++ 0 ∷ []) ≡ sums ++ 0 ∷ [] = take_all c (sums ++ 0 ∷ []) (omega (arith, length_push sums 0)) in
-          let all : take (length sums) sums ≡ sums = take_all (length sums) sums (omega arith) in
-          let short : take (512 * length sums) slots ≡ slots = take_all (512 * length sums) slots s.enough in
-          let long : take (512 * c) slots ≡ slots = take_all (512 * c) slots (omega (arith, s.enough)) in
-          omega (arith, ap (λ (xs : List ℕ). sum xs) e, sum_by_push (λ (x : ℕ). x) sums 0, ap (λ (xs : List ℕ). sum xs) all,
-          ap length_of short, ap length_of long, s.so_far (length sums) (omega arith)))
+        let e : take c (sums ++ 0 ∷ []) ≡ sums ++ 0 ∷ [] = take_all c (sums ++ 0 ∷ []) (omega (arith, length_push sums 0)) in
+        let all : take (length sums) sums ≡ sums = take_all (length sums) sums (omega arith) in
+        let short : take (512 * length sums) slots ≡ slots = take_all (512 * length sums) slots s.enough in
+        let long : take (512 * c) slots ≡ slots = take_all (512 * c) slots (omega (arith, s.enough)) in
+        omega (
+          arith,
+          ap (λ (xs : List ℕ). sum xs) e,
+          sum_by_push (λ (x : ℕ). x) sums 0,
+          ap (λ (xs : List ℕ). sum xs) all,
+          ap length_of short,
+          ap length_of long,
+          s.so_far (length sums) (omega arith),
+        ))
         (cases_lt c (length sums + 1));
     small = s.small;
   }
@@ -53,14 +60,21 @@ module _ (slots : List Slot) (sums : List ℕ) (s : AreSums slots sums) where
     so_far = λ c l.
         ⊎_elim
         (λ (b : chunk < c).
-          let e : take (512 * c) (slots ++ slot ∷ []) ≡ slots ++ slot ∷ [] = take_all (512 * c) (slots ++ slot ∷ []) (omega (arith, length_push slots slot)) in
-          let g : take (512 * c) slots ≡ slots = take_all (512 * c) slots (omega arith) in
-          omega (arith, ap length_of e, ap length_of g, sum_by_push (λ (x : Slot). x.len) slots slot, length-set sums chunk v,
-          sum_by-take-set (λ (x : ℕ). x) sums chunk c v 0 h b, s.so_far c (omega (arith, length-set sums chunk v))))
+        let e : take (512 * c) (slots ++ slot ∷ []) ≡ slots ++ slot ∷ [] = take_all (512 * c) (slots ++ slot ∷ []) (omega (arith, length_push slots slot)) in
+        let g : take (512 * c) slots ≡ slots = take_all (512 * c) slots (omega arith) in
+        omega (
+          arith,
+          ap length_of e,
+          ap length_of g,
+          sum_by_push (λ (x : Slot). x.len) slots slot,
+          length-set sums chunk v,
+          sum_by-take-set (λ (x : ℕ). x) sums chunk c v 0 h b,
+          s.so_far c (omega (arith, length-set sums chunk v)),
+        ))
         (λ (b : c < chunk + 1).
-          let e : take (512 * c) (slots ++ slot ∷ []) ≡ take (512 * c) slots = take-append-le (512 * c) slots (slot ∷ []) (omega arith) in
-          let g : take c (set sums chunk v) ≡ take c sums = take-set-le c sums chunk v (omega arith) in
-          rw (e, g) (s.so_far c (omega arith)))
+        let e : take (512 * c) (slots ++ slot ∷ []) ≡ take (512 * c) slots = take-append-le (512 * c) slots (slot ∷ []) (omega arith) in
+        let g : take c (set sums chunk v) ≡ take c sums = take-set-le c sums chunk v (omega arith) in
+        rw (e, g) (s.so_far c (omega arith)))
         (⊎_elim (λ x. inl x) (λ x. inr (omega arith)) (cases_lt chunk c));
     small = omega (arith, sum_by_push (λ (x : Slot). x.len) slots slot);
   }
@@ -89,13 +103,16 @@ module _ (slots : List Slot) (sums : List ℕ) (s : AreSums slots sums) where
         so_far = λ c l.
             ⊎_elim
             (λ (b : chunk < c).
-              omega (arith, sum_by-take-set (λ (x : ℕ). x) sums chunk c v 0 within b,
+            omega (
+              arith,
+              sum_by-take-set (λ (x : ℕ). x) sums chunk c v 0 within b,
               sum_by-take-set (λ (x : Slot). x.len) slots place (512 * c) slot d h (omega arith),
-              s.so_far c (omega (arith, length-set sums chunk v))))
+              s.so_far c (omega (arith, length-set sums chunk v)),
+            ))
             (λ (b : c < chunk + 1).
-              let e : take (512 * c) (set slots place slot) ≡ take (512 * c) slots = take-set-le (512 * c) slots place slot (omega arith) in
-              let g : take c (set sums chunk v) ≡ take c sums = take-set-le c sums chunk v (omega arith) in
-              rw (e, g) (s.so_far c (omega arith)))
+            let e : take (512 * c) (set slots place slot) ≡ take (512 * c) slots = take-set-le (512 * c) slots place slot (omega arith) in
+            let g : take c (set sums chunk v) ≡ take c sums = take-set-le c sums chunk v (omega arith) in
+            rw (e, g) (s.so_far c (omega arith)))
             (⊎_elim (λ x. inl x) (λ x. inr (omega arith)) (cases_lt chunk c));
         small = omega (arith, s.small, sum_by-set (λ (x : Slot). x.len) slots place slot d h);
       }
@@ -126,8 +143,13 @@ pub sum-fits : (slots : List Slot) (sums : List ℕ) (chunk : ℕ) → AreSums s
     → get_or sums chunk 0 ≤ length_of slots
 sum-fits slots sums chunk s h =
     let all : take (length sums) sums ≡ sums = take_all (length sums) sums (omega arith) in
-    omega (arith, get_or-le-sum_by (λ (x : ℕ). x) sums chunk 0 h, ap (λ (xs : List ℕ). sum xs) all, s.so_far (length sums) (omega arith),
-    sum_by-take-le (λ (x : Slot). x.len) slots (512 * length sums))
+    omega (
+      arith,
+      get_or-le-sum_by (λ (x : ℕ). x) sums chunk 0 h,
+      ap (λ (xs : List ℕ). sum xs) all,
+      s.so_far (length sums) (omega arith),
+      sum_by-take-le (λ (x : Slot). x.len) slots (512 * length sums),
+    )
 
 pub AreSums-more : (slots : List Slot) (sums : List ℕ) (place : ℕ) (d : Slot) → AreSums (take place slots) sums → place < length slots
     → length slots ≤ 512 * length sums → length_of slots < 2 ^ 64
@@ -136,16 +158,24 @@ AreSums-more slots sums place d s h enough small =
     let g : take (place + 1) slots ≡ take place slots ++ get_or slots place d ∷ [] = take_more slots place d h in
     let n : length (take place slots) ≡ place = length-take-le place slots (omega arith) in
     let all : length_of (take place slots) + (get_or slots place d).len < 2 ^ 64 =
-    omega (arith, ap length_of g, sum_by_push (λ (x : Slot). x.len) (take place slots) (get_or slots place d),
-    sum_by-take-le (λ (x : Slot). x.len) slots (place + 1)) in
+    omega (
+      arith,
+      ap length_of g,
+      sum_by_push (λ (x : Slot). x.len) (take place slots) (get_or slots place d),
+      sum_by-take-le (λ (x : Slot). x.len) slots (place + 1),
+    ) in
     rw g (AreSums-push (take place slots) sums s (get_or slots place d) (place / 512) _ (omega (arith, n)) (omega arith) all refl)
 
 pub sum-fits-more : (slots : List Slot) (sums : List ℕ) (place : ℕ) (d : Slot) → AreSums (take place slots) sums → place < length slots
     → length slots ≤ 512 * length sums → length_of slots < 2 ^ 64
     → get_or sums (place / 512) 0 + (get_or slots place d).len < 2 ^ 64
 sum-fits-more slots sums place d s h enough small =
-    omega (arith, sum-fits (take place slots) sums (place / 512) s (omega arith), sum_by_more (λ (x : Slot). x.len) slots place d h,
-    sum_by-take-le (λ (x : Slot). x.len) slots (place + 1))
+    omega (
+      arith,
+      sum-fits (take place slots) sums (place / 512) s (omega arith),
+      sum_by_more (λ (x : Slot). x.len) slots place d h,
+      sum_by-take-le (λ (x : Slot). x.len) slots (place + 1),
+    )
 
 pub AreSums-none : (sums : List ℕ) → ((k : ℕ) → k < length sums → get_or sums k 0 ≡ 0) → AreSums [] sums
 AreSums-none sums z = record {
@@ -154,11 +184,12 @@ AreSums-none sums z = record {
   small = lit< tt;
 }
   where
-  none : (n : ℕ) → length_of (take n []) ≡ 0
-  none zero = refl
-  none (suc n) = refl
-  zeros : (xs : List ℕ) (c : ℕ) → ((k : ℕ) → k < length xs → get_or xs k 0 ≡ 0) → sum (take c xs) ≡ 0
-  zeros xs zero z = refl
-  zeros [] (suc c) z = refl
-  zeros (x ∷ xs) (suc c) z =
-      omega (arith, sum_by-cons (λ (y : ℕ). y) x (take c xs), z 0 (omega arith), zeros xs c (λ k h. z (suc k) (omega arith)))
+    none : (n : ℕ) → length_of (take n []) ≡ 0
+    none zero = refl
+    none (suc n) = refl
+
+    zeros : (xs : List ℕ) (c : ℕ) → ((k : ℕ) → k < length xs → get_or xs k 0 ≡ 0) → sum (take c xs) ≡ 0
+    zeros xs zero z = refl
+    zeros [] (suc c) z = refl
+    zeros (x ∷ xs) (suc c) z =
+        omega (arith, sum_by-cons (λ (y : ℕ). y) x (take c xs), z 0 (omega arith), zeros xs c (λ k h. z (suc k) (omega arith)))

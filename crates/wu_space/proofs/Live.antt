@@ -72,14 +72,14 @@ module _ (slots : List Slot) (files : Ranges) (same : SameFiles slots files) whe
         find-none (λ (file : ℕ × Range). is_in file.1 address) files
         (λ file h. false_from_ne_true (is_in file.1 address)
         (λ t.
-          let r = slot-of_file file h in
-          let i = in_range file.1 address t in
-          holder-none address slots r.0 p r.1.0 (omega (arith, i.0, ap (λ (x : ℕ × Range). x.1.start) r.1.1.1)))) in
+        let r = slot-of_file file h in
+        let i = in_range file.1 address t in
+        holder-none address slots r.0 p r.1.0 (omega (arith, i.0, ap (λ (x : ℕ × Range). x.1.start) r.1.1.1)))) in
         rw none refl
 
     pub owner-some : (address place : ℕ) (d : Slot) → Parts address slots (suc place) → place < length slots
         → cond (nat_lt (address - (get_or slots place d).start) (get_or slots place d).len)
-          (Some ((get_or slots place d).ino, address - (get_or slots place d).start)) None
+        (Some ((get_or slots place d).ino, address - (get_or slots place d).start)) None
         ≡ owner_at files address
     owner-some address place d p l =
         let s : Slot = get_or slots place d in
@@ -102,9 +102,9 @@ module _ (slots : List Slot) (files : Ranges) (same : SameFiles slots files) whe
               find-none (λ (file : ℕ × Range). is_in file.1 address) files
               (λ file h. false_from_ne_true (is_in file.1 address)
               (λ t.
-                let i = in_range file.1 address t in
-                let e : file_of s ≡ file = unique file h t in
-                omega (arith, i.0, i.1, ap (λ (x : ℕ × Range). x.1.start + x.1.len) e))) in
+              let i = in_range file.1 address t in
+              let e : file_of s ≡ file = unique file h t in
+              omega (arith, i.0, i.1, ap (λ (x : ℕ × Range). x.1.start + x.1.len) e))) in
               rw none refl
         ] refl
 
@@ -139,20 +139,20 @@ module _ (slots : List Slot) (files : Ranges) (same : SameFiles slots files) whe
   ranges-same low high =
       IsPermutation-from_sums same_range alike_range exact_range (live_ranges files low high) (map range_of_slot (filter (meets low high) slots))
       (λ f.
-        let p : Range → Bool = λ range. nat_lt 0 (shared low high range) in
-        let g : ℕ × Range → ℕ = λ file. cond (p file.1) (f file.1) 0 in
-        let h : Slot → ℕ = λ slot. cond (meets low high slot) (f (range_of_slot slot)) 0 in
-        let a : sum_by f (filter p (map (λ (file : ℕ × Range). file.1) files)) ≡ sum_by (λ (r : Range). cond (p r) (f r) 0) (map (λ (file : ℕ × Range). file.1) files) =
-        sum_by-filter f p (map (λ (file : ℕ × Range). file.1) files) in
-        let b : sum_by (λ (r : Range). cond (p r) (f r) 0) (map (λ (file : ℕ × Range). file.1) files) ≡ sum_by g files =
-        sum_by-map (λ (r : Range). cond (p r) (f r) 0) (λ (file : ℕ × Range). file.1) files in
-        let k : sum_by (weight g) slots ≡ sum_by h slots =
-        sum_by-same (weight g) h (λ slot. meets-live low high slot (f (range_of_slot slot))) slots in
-        let m : sum_by f (map range_of_slot (filter (meets low high) slots)) ≡ sum_by (λ (s : Slot). f (range_of_slot s)) (filter (meets low high) slots) =
-        sum_by-map f range_of_slot (filter (meets low high) slots) in
-        let n : sum_by (λ (s : Slot). f (range_of_slot s)) (filter (meets low high) slots) ≡ sum_by h slots =
-        sum_by-filter (λ (s : Slot). f (range_of_slot s)) (meets low high) slots in
-        a ∙ b ∙ sym (same g) ∙ k ∙ sym n ∙ sym m)
+      let p : Range → Bool = λ range. nat_lt 0 (shared low high range) in
+      let g : ℕ × Range → ℕ = λ file. cond (p file.1) (f file.1) 0 in
+      let h : Slot → ℕ = λ slot. cond (meets low high slot) (f (range_of_slot slot)) 0 in
+      let a : sum_by f (filter p (map (λ (file : ℕ × Range). file.1) files)) ≡ sum_by (λ (r : Range). cond (p r) (f r) 0) (map (λ (file : ℕ × Range). file.1) files) =
+      sum_by-filter f p (map (λ (file : ℕ × Range). file.1) files) in
+      let b : sum_by (λ (r : Range). cond (p r) (f r) 0) (map (λ (file : ℕ × Range). file.1) files) ≡ sum_by g files =
+      sum_by-map (λ (r : Range). cond (p r) (f r) 0) (λ (file : ℕ × Range). file.1) files in
+      let k : sum_by (weight g) slots ≡ sum_by h slots =
+      sum_by-same (weight g) h (λ slot. meets-live low high slot (f (range_of_slot slot))) slots in
+      let m : sum_by f (map range_of_slot (filter (meets low high) slots)) ≡ sum_by (λ (s : Slot). f (range_of_slot s)) (filter (meets low high) slots) =
+      sum_by-map f range_of_slot (filter (meets low high) slots) in
+      let n : sum_by (λ (s : Slot). f (range_of_slot s)) (filter (meets low high) slots) ≡ sum_by h slots =
+      sum_by-filter (λ (s : Slot). f (range_of_slot s)) (meets low high) slots in
+      a ∙ b ∙ sym (same g) ∙ k ∙ sym n ∙ sym m)
 
 -- ---- small facts
 
@@ -230,11 +230,15 @@ one-holds low [] high address o = omega arith
 one-holds low (slot ∷ slots) high address o =
     ⊎_elim
     (λ (h : 0 < holds address slot).
-      let i = holds-in address slot h in
-      omega (arith, sum_by-cons (holds address) slot slots, holds-one address slot,
-      none-holds (slot.start + slot.len) slots high address o.1 i.1))
+    let i = holds-in address slot h in
+    omega (
+      arith,
+      sum_by-cons (holds address) slot slots,
+      holds-one address slot,
+      none-holds (slot.start + slot.len) slots high address o.1 i.1,
+    ))
     (λ (h : holds address slot ≤ 0).
-      omega (arith, sum_by-cons (holds address) slot slots, one-holds (slot.start + slot.len) slots high address o.1))
+    omega (arith, sum_by-cons (holds address) slot slots, one-holds (slot.start + slot.len) slots high address o.1))
     (cases_lt 0 (holds address slot))
 
 pub live-from_sound : (slots : List Slot) (files : Ranges) (next total : ℕ) → IsSound slots files next total → AreLive next files
@@ -267,10 +271,14 @@ module _ (next low high end : ℕ) (is : end ≡ min next (high + 1)) where
       → live_in files low high + count_below low files ≡ count_below end files
   shares-within [] l a = refl
   shares-within (file ∷ files) l a =
-      omega (arith, a.0, sum_by-cons (λ (f : ℕ × Range). shared low high f.1) file files,
-      sum_by-cons (λ (f : ℕ × Range). min f.1.len (low - f.1.start)) file files,
-      sum_by-cons (λ (f : ℕ × Range). min f.1.len (end - f.1.start)) file files,
-      shares-within files l a.1)
+      omega (
+        arith,
+        a.0,
+        sum_by-cons (λ (f : ℕ × Range). shared low high f.1) file files,
+        sum_by-cons (λ (f : ℕ × Range). min f.1.len (low - f.1.start)) file files,
+        sum_by-cons (λ (f : ℕ × Range). min f.1.len (end - f.1.start)) file files,
+        shares-within files l a.1,
+      )
 
   shares-none : (files : Ranges) → end < low → AllByRecursion (λ file. file.1.start + file.1.len ≤ next) files
       → (live_in files low high ≡ 0) × (count_below end files ≤ count_below low files)
@@ -294,10 +302,10 @@ pub has_from_lookup : (ino : ℕ) (files : Ranges) (range : Range) → lookup (i
 has_from_lookup ino files range h =
     ⊎_elim
     (λ (l : 0 < sum_by (mark (ino, range)) files).
-      let r = positive-has (mark (ino, range)) files l in
-      subst (λ (e : ℕ × Range). Has e files) (sym (marked_file (ino, range) r.0 r.1.1)) r.1.0)
+    let r = positive-has (mark (ino, range)) files l in
+    subst (λ (e : ℕ × Range). Has e files) (sym (marked_file (ino, range) r.0 r.1.1)) r.1.0)
     (λ (l : sum_by (mark (ino, range)) files ≤ 0).
-      absurd (omega (arith, sum-remove_entry (mark (ino, range)) ino files range h, mark-itself (ino, range))))
+    absurd (omega (arith, sum-remove_entry (mark (ino, range)) ino files range h, mark-itself (ino, range))))
     (cases_lt 0 (sum_by (mark (ino, range)) files))
 
 count_below-zero : (files : Ranges) → count_below 0 files ≡ 0
@@ -326,7 +334,7 @@ module _ (slots : List Slot) (files : Ranges) (next total : ℕ) (s : IsSound sl
 
   pub sound-placed : (ino len : ℕ) → lookup (is_at (nat_cmp ino)) files ≡ None → 0 < len
       → IsSound (slots ++ record { start = next; len = len; ino = ino } ∷ [])
-        (insert_entry nat_cmp files ino (record { start = next; len = len })) (next + len) (total + len)
+      (insert_entry nat_cmp files ino (record { start = next; len = len })) (next + len) (total + len)
   sound-placed ino len free some =
       let slot : Slot = record { start = next; len = len; ino = ino } in
       let range : Range = record { start = next; len = len } in

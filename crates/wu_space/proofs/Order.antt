@@ -103,8 +103,14 @@ below-sum low (s ∷ slots) high address before zero d o e p =
     omega (arith, sum_by-cons (below address) s slots, none-below address before slots e p.1)
 below-sum low (s ∷ []) high address before (suc place) d o e p = absurd p.1
 below-sum low (s ∷ t ∷ slots) high address before (suc place) d o e p =
-    omega (arith, o.1.0, p.1.0, sum_by-cons (below address) s (t ∷ slots), sum_by-cons (λ (x : Slot). x.len) s (take place (t ∷ slots)),
-    below-sum (s.start + s.len) (t ∷ slots) high address before place d o.1 e p.1)
+    omega (
+      arith,
+      o.1.0,
+      p.1.0,
+      sum_by-cons (below address) s (t ∷ slots),
+      sum_by-cons (λ (x : Slot). x.len) s (take place (t ∷ slots)),
+      below-sum (s.start + s.len) (t ∷ slots) high address before place d o.1 e p.1,
+    )
 
 Parts-unique : (address : ℕ) (slots : List Slot) (m n : ℕ) → Parts address slots m → Parts address slots n → m ≡ n
 Parts-unique address slots zero zero p q = refl

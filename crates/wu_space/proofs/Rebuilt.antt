@@ -71,8 +71,12 @@ pub files-more : (ranges files : Ranges) (place : ℕ) (d : ℕ × Range) → Is
 files-more ranges files place d s h free = record {
   by_number = ascend-insert_entry nat_cmp_total files (get_or ranges place d).0 (get_or ranges place d).1 s.by_number;
   same = λ f.
-      omega (arith, s.same f, sum_by_more f ranges place d h,
-      sum-insert_entry f (get_or ranges place d).0 files (get_or ranges place d).1 free);
+      omega (
+        arith,
+        s.same f,
+        sum_by_more f ranges place d h,
+        sum-insert_entry f (get_or ranges place d).0 files (get_or ranges place d).1 free,
+      );
 }
 
 one-of : (ino : ℕ) (file : ℕ × Range) → file.0 ≡ ino → cond {A = ℕ} (file.0 == ino) 1 0 ≡ 1
@@ -85,8 +89,15 @@ twice-found ranges files place d range s h found once =
     let f : ℕ × Range → ℕ = λ file. cond (file.0 == ino) 1 0 in
     let there : 0 < sum_by f files =
     sum-positive f (ino, range) files (has_from_lookup ino files range found) (omega (arith, one-of ino (ino, range) refl)) in
-    omega (arith, there, s.same f, sum_by_more f ranges place d h, one-of ino (get_or ranges place d) refl,
-    sum_by-take-le f ranges (place + 1), once ino)
+    omega (
+      arith,
+      there,
+      s.same f,
+      sum_by_more f ranges place d h,
+      one-of ino (get_or ranges place d) refl,
+      sum_by-take-le f ranges (place + 1),
+      once ino,
+    )
 
 pub once-from_files : (ranges files : Ranges) → IsFiles ranges files → HasOnce ranges
 once-from_files ranges files s ino = omega (arith, s.same (λ file. cond (file.0 == ino) 1 0), once-from_sorted files s.by_number ino)
@@ -111,11 +122,16 @@ order-from_rules low (s ∷ t ∷ slots) next up f g c l b =
     let apart : s.start + s.len ≤ t.start =
     ⊎_elim
     (λ (h : t.start < s.start + s.len).
-      absurd (omega (arith, c t.start, sum_by-cons (covered t.start) s (t ∷ slots), sum_by-cons (covered t.start) t slots,
-      covers t.start s rise h, covers t.start t (omega arith) (omega (arith, f.1.0)))))
+    absurd (omega (
+      arith,
+      c t.start,
+      sum_by-cons (covered t.start) s (t ∷ slots),
+      sum_by-cons (covered t.start) t slots,
+      covers t.start s rise h,
+      covers t.start t (omega arith) (omega (arith, f.1.0)),
+    )))
     (λ (h : s.start + s.len ≤ t.start). h)
-    (cases_lt t.start (s.start + s.len)) in
-    (
+    (cases_lt t.start (s.start + s.len)) in (
       b s (omega arith),
       order-from_rules (s.start + s.len) (t ∷ slots) next
           (λ i j d m n. up (suc i) (suc j) d (omega arith) (omega arith)) f.1 g.1
@@ -143,16 +159,18 @@ module _ (ranges : Ranges) (slots : List Slot) (moved : IsPermutation (map slot_
   order-from_live next up live =
       let filled : AreFilled slots = all_from_has (λ (slot : Slot). 0 < slot.len) slots
       (λ slot h.
-        let r = file-of slot h in
-        let f : 0 < r.0.1.len = all_has (λ (file : ℕ × Range). 0 < file.1.len) r.0 ranges live.filled r.1.0 in
-        omega (arith, f, ap (λ (x : Slot). x.len) r.1.1)) in
+      let r = file-of slot h in
+      let f : 0 < r.0.1.len = all_has (λ (file : ℕ × Range). 0 < file.1.len) r.0 ranges live.filled r.1.0 in
+      omega (arith, f, ap (λ (x : Slot). x.len) r.1.1)) in
       let given : AllByRecursion (λ (slot : Slot). slot.start + slot.len ≤ next) slots = all_from_has (λ (slot : Slot). slot.start + slot.len ≤ next) slots
       (λ slot h.
-        let r = file-of slot h in
-        let f : r.0.1.start + r.0.1.len ≤ next = all_has (λ (file : ℕ × Range). file.1.start + file.1.len ≤ next) r.0 ranges live.given r.1.0 in
-        omega (arith, f, ap (λ (x : Slot). x.start + x.len) r.1.1)) in
-      (filled, order-from_rules 0 slots next up filled given (λ address. omega (arith, sums-moved (covered address), live.disjoint address))
-      (omega arith) (λ d h. omega arith))
+      let r = file-of slot h in
+      let f : r.0.1.start + r.0.1.len ≤ next = all_has (λ (file : ℕ × Range). file.1.start + file.1.len ≤ next) r.0 ranges live.given r.1.0 in
+      omega (arith, f, ap (λ (x : Slot). x.start + x.len) r.1.1)) in (
+        filled,
+        order-from_rules 0 slots next up filled given (λ address. omega (arith, sums-moved (covered address), live.disjoint address))
+            (omega arith) (λ d h. omega arith),
+      )
 
   weights-filled : (f : ℕ × Range → ℕ) (xs : List Slot) → AreFilled xs → sum_by (weight f) xs ≡ sum_by (λ slot. f (file_of slot)) xs
   weights-filled f [] a = refl

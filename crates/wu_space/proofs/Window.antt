@@ -47,9 +47,9 @@ module _ (low high : ℕ) where
   window-is first slots end from to o p q =
       back-misses (drop from slots) (to - from) (Parts-drop slots from to q)
       ∙ ⊎_elim
-        (λ (e : from ≡ 0). ap (λ (n : ℕ). filter (meets low high) (drop n slots)) e)
-        (λ h. front-misses first slots end from o h)
-        p
+      (λ (e : from ≡ 0). ap (λ (n : ℕ). filter (meets low high) (drop n slots)) e)
+      (λ h. front-misses first slots end from o h)
+      p
 
 later-starts : (low low' : ℕ) (slots : List Slot) (high : ℕ) → low' ≤ low → AreInOrder low slots high
     → AllByRecursion (λ later. low' ≤ later.start) (map range_of_slot slots)

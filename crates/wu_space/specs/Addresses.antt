@@ -55,7 +55,7 @@ AreApart (range ∷ ranges) = AllByRecursion (λ later. range.start + range.len 
 abbrev pub placed : Addresses → ℕ → ℕ → Addresses
 placed space ino len = record {
   next = space.next + len;
-  ranges = insert_entry nat_cmp space.ranges ino (record { start = space.next; len = len })
+  ranges = insert_entry nat_cmp space.ranges ino (record { start = space.next; len = len });
 }
 
 -- the file's range is live no more

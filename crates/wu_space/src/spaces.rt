@@ -53,7 +53,11 @@ impl Space {
     /// The space with these live ranges, given in any order, of which the addresses below `next` were
     /// given; or None exactly where a number occurs twice, an address is in two ranges, a range is empty
     /// or one ends past `next`. Takes time near linear in the number of ranges.
-    pub fn rebuild(alloc: Global, next: u64, ranges: &[(Ino, Range)]) -> Result<Option<Space>, NoMemory>
+    pub fn rebuild(
+        alloc: Global,
+        next: u64,
+        ranges: &[(Ino, Range)],
+    ) -> Result<Option<Space>, NoMemory>
         ensures none { IfOk result (λ found. IfNone found (AreLive next ranges.now → ⊥)) }
         ensures live { IfOk result (λ found. OnSome found (AreLive next ranges.now)) }
         ensures next { IfOk result (λ found. IfSome found (λ space. space.next ≡ next)) }
@@ -170,7 +174,12 @@ impl Space {
         ensures ranges { IfOk result (λ found. IsPermutation (ranges_from_to self.now.ranges low high) found.items) }
         ensures ascending { IfOk result (λ found. AreApart found.items) }
     {
-        met(self.alloc, around(self.slots.as_slice(), low, high), low, high)
+        met(
+            self.alloc,
+            around(self.slots.as_slice(), low, high),
+            low,
+            high,
+        )
     }
 
     /// The next address, which no file was given yet. Takes no memory.

@@ -14,8 +14,12 @@ returns-then-not-are_in_order-clause-none c = λ live.
 
 pub length-total-requires : goal.length-total-requires
 length-total-requires c =
-    omega (arith, total-le _ _ _ c.if-not-are_in_order.ensures.1, ap (λ (l : List Slot). length_of l) c.as_slice.ensures.value,
-    ap (λ (l : List Slot). length_of l) c.as_slice-2.ensures.value)
+    omega (
+      arith,
+      total-le _ _ _ c.if-not-are_in_order.ensures.1,
+      ap (λ (l : List Slot). length_of l) c.as_slice.ensures.value,
+      ap (λ (l : List Slot). length_of l) c.as_slice-2.ensures.value,
+    )
 
 pub invariant_of-result : goal.invariant_of-result
 invariant_of-result c =

@@ -7,8 +7,11 @@ loop-place-init c = AreSums-none _ (λ k h. c.loop-sum.invariant k (omega arith)
 
 pub overflow_add-sums : goal.overflow_add-sums
 overflow_add-sums c =
-    omega (arith, sum-fits-more c.args.slots.now c.loop-place.sums c.loop-place.place (record { start = 0; len = 0; ino = 0 }) c.loop-place.invariant c.loop-place-test.true
-    (omega arith) c.requires.small)
+    omega (
+      arith,
+      sum-fits-more c.args.slots.now c.loop-place.sums c.loop-place.place (record { start = 0; len = 0; ino = 0 }) c.loop-place.invariant c.loop-place-test.true
+          (omega arith) c.requires.small,
+    )
 
 pub loop-place-preserved : goal.loop-place-preserved
 loop-place-preserved c =

@@ -1,6 +1,5 @@
-use Rattle.std.proofs.Common.{◌≡◌, ◌∙◌, true, ap, sym, subst}
-use Rattle.std.specs.Prelude.{is_some}
-use Rattle.wu_frames.specs.UserFrames.{AreFor, Kept, frames_for}
+use Rattle.std.proofs.Common.{sym, subst}
+use Rattle.wu_frames.specs.UserFrames.{AreFor, Kept}
 use Rattle.wu_frames.proofs.Keeping.{kept-promoted, kept-put, right-promoted, right-put}
 use Rattle.wu_frames.proofs.caches.FrameCache.prepare.Goals as goal
 

@@ -10,8 +10,13 @@ pub sum_up-requires-clause-small : goal.sum_up-requires-clause-small
 sum_up-requires-clause-small c =
     let e : c.retain.new.self.items ≡ filter is_live c.self.inside.slots.items =
     filter_same _ is_live _ (λ x b f k. search rules) _ _ c.retain.ensures.filtered in
-    omega (arith, ap (λ (l : List Slot). length_of l) c.as_slice.ensures.value, ap (λ (l : List Slot). length_of l) e,
-    length-filter_live c.self.inside.slots.items, c.self.invariant.small)
+    omega (
+      arith,
+      ap (λ (l : List Slot). length_of l) c.as_slice.ensures.value,
+      ap (λ (l : List Slot). length_of l) e,
+      length-filter_live c.self.inside.slots.items,
+      c.self.invariant.small,
+    )
 
 pub returns : goal.returns
 returns c =

@@ -8,8 +8,13 @@ pub overflow_sub-index_mut : goal.overflow_sub-index_mut
 overflow_sub-index_mut c =
     let w = chunk-covers c.self.inside.slots.items c.self.inside.sums.items c.self.invariant c.args.place _ c.index-slot.result.now
     (omega (arith, ap (λ (l : List Slot). length l) c.self.view_is)) refl in
-    omega (arith, w.0, w.1, ap (λ (x : Slot). x.len) c.index-slot.ensures,
-    get_or_read c.self.inside.sums.items _ _ w.0 c.index_mut.ensures.value 0)
+    omega (
+      arith,
+      w.0,
+      w.1,
+      ap (λ (x : Slot). x.len) c.index-slot.ensures,
+      get_or_read c.self.inside.sums.items _ _ w.0 c.index_mut.ensures.value 0,
+    )
 
 pub invariant_of-self : goal.invariant_of-self
 invariant_of-self c =

@@ -14,10 +14,16 @@ last_up_to-requires c = rw c.as_slice-slots.ensures.slots (starts-rise _ _ _ c.s
 
 pub overflow_add-result : goal.overflow_add-result
 overflow_add-result c =
-    omega (arith, below-fits c.as_slice-slots.result.now c.args.address c.in-Some-last_up_to.last (record { start = 0; len = 0; ino = 0 })
-    c.in-Some-last_up_to.ensures.within, c.length_before.ensures, c.below.ensures, c.as_slice-slots.ensures.small,
-    ap (λ (l : List Slot). length_of l) c.as_slice-slots.ensures.slots,
-    ap (λ (l : List Slot). length_of (take c.in-Some-last_up_to.last l)) c.as_slice-slots.ensures.slots)
+    omega (
+      arith,
+      below-fits c.as_slice-slots.result.now c.args.address c.in-Some-last_up_to.last (record { start = 0; len = 0; ino = 0 })
+          c.in-Some-last_up_to.ensures.within,
+      c.length_before.ensures,
+      c.below.ensures,
+      c.as_slice-slots.ensures.small,
+      ap (λ (l : List Slot). length_of l) c.as_slice-slots.ensures.slots,
+      ap (λ (l : List Slot). length_of (take c.in-Some-last_up_to.last l)) c.as_slice-slots.ensures.slots,
+    )
 
 pub returns-in-Some-last_up_to : goal.returns-in-Some-last_up_to
 returns-in-Some-last_up_to c =

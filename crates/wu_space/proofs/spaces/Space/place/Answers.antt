@@ -18,8 +18,13 @@ push-requires c =
 
 pub overflow_add-self-in-Ok : goal.overflow_add-self-in-Ok
 overflow_add-self-in-Ok c =
-    omega (arith, total-le _ _ _ c.self.invariant.by_address, c.self.invariant.sum, c.requires.fits,
-    ap (λ (s : Addresses). s.next) c.self.view_is)
+    omega (
+      arith,
+      total-le _ _ _ c.self.invariant.by_address,
+      c.self.invariant.sum,
+      c.requires.fits,
+      ap (λ (s : Addresses). s.next) c.self.view_is,
+    )
 
 pub invariant_of-self-in-Ok : goal.invariant_of-self-in-Ok
 invariant_of-self-in-Ok c =
