@@ -10,10 +10,10 @@ use Rattle.std.proofs.lemmas.List.Filters.{length-filter_both}
 use Rattle.wu_base.specs.declared.addresses.Range.{Range}
 use Rattle.wu_base.proofs.MapEntries.{number_itself, all_found}
 use Rattle.wu_layout.specs.Postings.{Posting, placed_from, is_in, cut, is_live, live_of, dead_of, Ascend}
-use Rattle.wu_layout.specs.Layouts.{Text, FileEntry, Part, Layout, entry_of, ranges_of, ranges_by_number, homes_of}
+use Rattle.wu_layout.specs.Layouts.{Text, FileEntry, Part, Layout, entry_of, ranges_of, ranges_by_number, homes_of, stored_in, first_address, last_address}
 use Rattle.wu_layout.specs.Invariants.{AreApart, RangesAreDisjoint, SomeOf, HasText, IsIndexed, IsLayoutOf}
 use Rattle.wu_layout.specs.Steps.{is_half_dead}
-use Rattle.wu_layout.proofs.PostingLemmas.{Ascend-bounds, Ascend-split, Ascend-filter, length-placed, outside_below, outside_above, cut_below, cut_above}
+use Rattle.wu_layout.proofs.PostingLemmas.{Ascend-above, Ascend-length, Ascend-bounds, Ascend-split, Ascend-filter, length-placed, outside_below, outside_above, cut_below, cut_above}
 use Rattle.wu_layout.proofs.EntryLemmas.{IfSome-found}
 use Rattle.wu_layout.proofs.HomeLemmas.{postings_in, homes_split}
 use Rattle.wu_layout.proofs.KeptLemmas.{flat, SomeOf-cases}
@@ -140,29 +140,53 @@ pub record IsSpan (low high : ℕ) (postings : List Posting) : Type 0 where
   pub greatest : (from to : ℕ) → Ascend from to postings → high < to
   pub ordered : low ≤ high
 
-abbrev pub last_address : ℕ → List Posting → ℕ
-last_address first [] = first
-last_address first (p ∷ ps) = last_address p.address ps
+last_is_below : (from to : ℕ) (p : Posting) (ps : List Posting) → Ascend from to (p ∷ ps)
+    → (last_address (p ∷ ps) < to) × (p.address ≤ last_address (p ∷ ps))
+last_is_below from to p [] a = (omega (arith, a.1), omega arith)
+last_is_below from to p (q ∷ ps) a =
+    let r = last_is_below (p.address + 1) to q ps a.1 in (r.0, omega (arith, r.1, a.1.0))
 
-last_is_below : (from to first : ℕ) (ps : List Posting) → first < from → Ascend from to ps
-    → (last_address first ps < to) × (first ≤ last_address first ps)
-last_is_below from to first [] l a = (omega arith, omega arith)
-last_is_below from to first (p ∷ ps) l a =
-    let r = last_is_below (p.address + 1) to p.address ps (omega arith) a.1 in (r.0, omega (arith, r.1, a.0))
-
-ascend_to_last : (to first : ℕ) (ps : List Posting) → Ascend (first + 1) to ps → Ascend (first + 1) (last_address first ps + 1) ps
-ascend_to_last to first [] a = omega arith
-ascend_to_last to first (p ∷ ps) a = (a.0, ascend_to_last to p.address ps a.1)
+ascend_to_last : (from to : ℕ) (p : Posting) (ps : List Posting) → Ascend from to (p ∷ ps)
+    → Ascend from (last_address (p ∷ ps) + 1) (p ∷ ps)
+ascend_to_last from to p [] a = (a.0, omega arith)
+ascend_to_last from to p (q ∷ ps) a = (a.0, ascend_to_last (p.address + 1) to q ps a.1)
 
 -- from the first address to the last
-pub span_of : (low high : ℕ) (p : Posting) (ps : List Posting) → Ascend low high (p ∷ ps)
-    → IsSpan p.address (last_address p.address ps) (p ∷ ps)
-span_of low high p ps a = record {
-  within = (omega arith, ascend_to_last high p.address ps a.1);
+pub span_of : (low high : ℕ) (ps : List Posting) → Ascend low high ps → 0 < length ps → IsSpan (first_address ps) (last_address ps) ps
+span_of low high [] a l = absurd (omega arith)
+span_of low high (p ∷ ps) a l = record {
+  within =
+      let b : Ascend low (last_address (p ∷ ps) + 1) (p ∷ ps) = ascend_to_last low high p ps a in (omega arith, b.1);
   least = λ from to b. b.0;
-  greatest = λ from to b. (last_is_below (p.address + 1) to p.address ps (omega arith) b.1).0;
-  ordered = (last_is_below (p.address + 1) high p.address ps (omega arith) a.1).1;
+  greatest = λ from to b. (last_is_below from to p ps b).0;
+  ordered = (last_is_below low high p ps a).1;
 }
+
+-- at most as many postings as there are addresses from the first to the last
+pub span_length : (low high : ℕ) (ps : List Posting) → Ascend low high ps → 0 < length ps
+    → first_address ps + length ps ≤ last_address ps + 1
+span_length low high ps a l = Ascend-length (first_address ps) (last_address ps + 1) ps (span_of low high ps a l).within
+
+-- the spans of the parts ascend, and end below the next address
+abbrev pub SpansAscend : ℕ → ℕ → List Part → Type 0
+SpansAscend low high [] = low ≤ high
+SpansAscend low high (part ∷ parts) =
+    (low ≤ first_address part.postings)
+    × (first_address part.postings ≤ last_address part.postings)
+    × SpansAscend (last_address part.postings + 1) high parts
+
+pub spans_ascend : (low high : ℕ) (parts : List Part) → Ascend low high (stored_in parts)
+    → AllByRecursion (λ part. 0 < length part.postings) parts → SpansAscend low high parts
+spans_ascend low high [] a f = a
+spans_ascend low high (part ∷ parts) a f =
+    let split = Ascend-split low high part.postings (stored_in parts) a in
+    let span = span_of low split.0 part.postings split.1.0 f.0 in
+    let last : last_address part.postings < split.0 = span.greatest low split.0 split.1.0 in (
+      span.least low split.0 split.1.0,
+      span.ordered,
+      spans_ascend (last_address part.postings + 1) high parts
+          (Ascend-above split.0 (last_address part.postings + 1) high (stored_in parts) (omega arith) split.1.1) f.1,
+    )
 
 placed_bounds : (low high start : ℕ) (terms : List (List ℕ)) → 0 < length terms → Ascend low high (placed_from start terms)
     → (low ≤ start) × (start + length terms ≤ high)

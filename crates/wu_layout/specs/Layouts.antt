@@ -2,13 +2,14 @@
 -- on dynamic inverted indices): new postings gather in memory, a flush makes a part of them, and parts are merged in the
 -- background, as in geometric partitioning (Lester, Moffat and Zobel, Fast on-line index construction by geometric partitioning,
 -- CIKM 2005). A text that is changed or removed leaves its postings behind, dead, until a merge drops them.
-use Rattle.std.specs.Prelude.{ℕ, Bool, Option, None, List, [], ◌∷◌, ◌++◌, map, take, drop}
+use Rattle.std.specs.Prelude.{◌≡◌, ℕ, Bool, length, Option, None, List, [], ◌∷◌, ◌++◌, map, take, drop}
 use Rattle.std.specs.Ordering.{nat_cmp}
 use Rattle.std.specs.Cmp.Lexicographic.{slice_cmp}
 use Rattle.std.specs.List.{flat_map}
 use Rattle.std.specs.Map.{lookup}
 use Rattle.std.specs.BTreeMap.{is_at}
 use Rattle.wu_base.specs.SortedOnce.{sorted_once}
+use Rattle.wu_base.specs.declared.addresses.PartRec.{PartRec}
 use Rattle.wu_base.specs.declared.addresses.Range.{Range}
 use Rattle.wu_base.specs.declared.addresses.TermList.{TermList}
 use Rattle.wu_layout.specs.Postings.{Posting, addresses_of}
@@ -102,6 +103,16 @@ homes_of parts memory = map (λ part. part.postings) parts ++ memory ∷ []
 abbrev pub postings_of : List Part → List Posting → List Posting
 postings_of parts memory = flat_map (λ home. home) (homes_of parts memory)
 
+-- the first address of postings, and the last; 0 where there are none
+abbrev pub first_address : List Posting → ℕ
+first_address [] = 0
+first_address (posting ∷ postings) = posting.address
+
+abbrev pub last_address : List Posting → ℕ
+last_address [] = 0
+last_address (posting ∷ []) = posting.address
+last_address (posting ∷ next ∷ postings) = last_address (next ∷ postings)
+
 -- the terms of postings, by their bytes, each of them once
 abbrev pub terms_of : List Posting → List (List ℕ)
 terms_of postings = sorted_once (slice_cmp nat_cmp) (map (λ posting. posting.term) postings)
@@ -113,6 +124,14 @@ list_of postings term = record { term = term; at = addresses_of term postings }
 -- the lists of postings, one for each of their terms, by the terms' bytes: so a part has them
 abbrev pub lists_of : List Posting → List TermList
 lists_of postings = map (list_of postings) (terms_of postings)
+
+-- what is recorded of a part outside it, but for the size of its blob
+pub record IsRecordOf (recorded : PartRec) (part : Part) : Type 0 where
+  pub blob : recorded.blob ≡ part.blob
+  pub generation : recorded.generation ≡ part.generation
+  pub low : recorded.low ≡ first_address part.postings
+  pub high : recorded.high ≡ last_address part.postings
+  pub stored : recorded.stored ≡ length part.postings
 
 -- ---- the parts of a job, and those left and right of them
 abbrev pub parts_before : Job → List Part → List Part
