@@ -1,7 +1,9 @@
 //! Files on disk, for the store in a folder: the trusted edge. Each error of the system counts as a
 //! fault, an interrupted call included.
-ghost use Rattle.std.specs.Prelude.{◌≡◌, ◌≤◌, length, IfOk, IsErr, MatchOption, MatchResult};
+ghost use Rattle.std.specs.Prelude.{◌≡◌, ◌≢◌, ◌≤◌, length, IfOk, IfErr, IsErr, IsErrAnd, MatchOption, MatchResult};
+ghost use Rattle.std.specs.IoError.{error_kind};
 ghost use Rattle.wu_outside.specs.Faults.{HasFaultCause};
+ghost use Rattle.wu_outside.specs.declared.traits.Fault.TheVariants.{Failed as CallFailed};
 
 use crate::traits::Fault;
 use std::fs::{DirBuilder, OpenFile, OpenOptions};
@@ -16,7 +18,7 @@ const LAST_PLACE: u64 = u64::MAX / 2;
 /// The value of a call of the system. An error counts.
 pub fn count_error<T: Drop>(faults: &mut u64, outcome: io::Result<T>) -> Result<T, Fault>
     ensures cause { HasFaultCause faults.old faults.new result }
-    ensures same { MatchResult result (λ value. outcome ≡ Ok value) (λ _. IsErr outcome) }
+    ensures same { MatchResult result (λ value. outcome ≡ Ok value) (λ fault. (fault ≡ CallFailed) × IsErr outcome) }
 {
     match outcome {
         Ok(value) => Ok(value),
@@ -34,8 +36,10 @@ pub fn count_other_error<T: Drop>(
 ) -> Result<Option<T>, Fault>
     ensures cause { HasFaultCause faults.old faults.new result }
     ensures same { MatchResult result
-        (λ found. MatchOption found (IsErr outcome) (λ value. outcome ≡ Ok value))
-        (λ _. IsErr outcome) }
+        (λ found. MatchOption found
+        (IsErrAnd outcome (λ error. error_kind error ≡ ErrorKind.NotFound))
+        (λ value. outcome ≡ Ok value))
+        (λ fault. (fault ≡ CallFailed) × IsErrAnd outcome (λ error. error_kind error ≢ ErrorKind.NotFound)) }
 {
     match outcome {
         Ok(value) => Ok(Some(value)),
@@ -51,9 +55,19 @@ pub fn count_other_error<T: Drop>(
 pub fn make_folder(files: &impl Files, path: &str) -> io::Result<()> {
     let mut builder = DirBuilder::new();
     builder.mode(0o700);
-    match builder.create(files, path) {
+    accept_existing(builder.create(files, path))
+}
+
+/// What came of making a folder, where one that exists will do.
+fn accept_existing(outcome: io::Result<()>) -> io::Result<()>
+    ensures { MatchResult result
+        (λ _. IsErr outcome → IsErrAnd outcome (λ error. error_kind error ≡ ErrorKind.AlreadyExists))
+        (λ error. (outcome ≡ Err error) × (error_kind error ≢ ErrorKind.AlreadyExists)) }
+{
+    match outcome {
+        Ok(()) => Ok(()),
         Err(error) if error.kind() == ErrorKind::AlreadyExists => Ok(()),
-        outcome => outcome,
+        Err(error) => Err(error),
     }
 }
 

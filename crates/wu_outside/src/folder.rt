@@ -1,5 +1,5 @@
 //! A store in a folder: blob n in the file `b` and the decimal n, the root in the file `root`.
-ghost use Rattle.std.specs.Prelude.{◌≡◌, ◌<◌, length, None, IfOk, IfSome, IsOkAnd, OnOk};
+ghost use Rattle.std.specs.Prelude.{◌≡◌, ◌==◌, None, true, position, IfOk, IfSome, IsOkAnd, OnOk};
 ghost use Rattle.wu_outside.specs.Faults.{HasFaultCause};
 
 use crate::disk::{
@@ -62,6 +62,7 @@ impl<'a, R: Files + AllocGlobal> DirStore<'a, R> {
     /// Makes the folder where it is absent, the first time.
     fn need_folder(&mut self) -> Result<(), Fault>
         ensures cause { HasFaultCause self.old.faults self.new.faults result }
+        ensures made { OnOk result (self.new.is_made ≡ true) }
     {
         if self.is_made {
             return Ok(());
@@ -76,6 +77,7 @@ impl<'a, R: Files + AllocGlobal> DirStore<'a, R> {
     /// no file.
     fn take_open(&mut self, blob: u64) -> Result<Option<OpenBlob<R::File>>, Fault>
         ensures cause { HasFaultCause self.old.faults self.new.faults result }
+        ensures blob { IfOk result (λ found. IfSome found (λ one. one.blob ≡ blob)) }
     {
         if let Some(place) = find_open(self.open.as_slice(), blob) {
             return Ok(Some(self.open.remove(place)));
@@ -211,14 +213,9 @@ fn sync_blobs<R: Files + AllocGlobal>(
 
 /// The place of the blob among the open ones.
 fn find_open<F: Read + Seek>(kept: &[OpenBlob<F>], blob: u64) -> Option<usize>
-    ensures { IfSome result (λ place. place < length kept.now) }
+    ensures { result ≡ position (λ one. one.blob == blob) kept.now }
 {
-    for (place, one) in kept.iter().enumerate() {
-        if one.is_of(blob) {
-            return Some(place);
-        }
-    }
-    None
+    kept.iter().position(|one| one.is_of(blob))
 }
 
 /// The path of the blob's file.

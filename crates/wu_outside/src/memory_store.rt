@@ -1,8 +1,12 @@
 //! A store in memory that counts its calls, fails where it is told to, and tells what a crash leaves.
-ghost use Rattle.std.specs.Prelude.{◌≡◌, List, ℕ, [], ◌∷◌, Some, None, reverse, refl, IfOk};
+ghost use Rattle.std.specs.Prelude.{◌≡◌, List, ℕ, [], ◌∷◌, ◌++◌, Some, None, true, length, option_map, reverse, refl, IfOk, OnOk, OnErr, Err};
+ghost use Rattle.wu_outside.specs.Content.{ReadsFrom, GivesRoot};
 ghost use Rattle.wu_outside.specs.Crash.{LeftNow};
+ghost use Rattle.wu_outside.specs.Faults.{HasFaultCause};
 ghost use Rattle.wu_outside.specs.Logs.{LoggedStore, moments_of, content_of, crash_log};
-ghost use Rattle.wu_outside.specs.declared.logs.Entry.TheVariants.{HasSynced};
+ghost use Rattle.wu_outside.specs.Schedule.{is_failing, after_call};
+ghost use Rattle.wu_outside.specs.declared.logs.Entry.TheVariants.{HasPut, HasRemoved, HasSetRoot, HasSynced};
+ghost use Rattle.wu_outside.specs.declared.traits.Fault.TheVariants.{Failed as CallFailed};
 
 use crate::copies::{read_blob, read_root, size_of_blob};
 use crate::logs::{Entry, crash, find_blob, find_root};
@@ -96,12 +100,27 @@ impl Store for MemStore {
 
     ghost faults = { λ s. s.schedule.faults };
 
-    fn size(&mut self, blob: u64) -> Result<Option<u64>, Fault> {
+    fn size(&mut self, blob: u64) -> Result<Option<u64>, Fault>
+        ensures size { IfOk result (λ size. size ≡ option_map length ((content_of self.old.log).blobs blob)) }
+        ensures log { self.new.log ≡ self.old.log }
+        ensures ranges { self.new.ranges ≡ self.old.ranges }
+        ensures failed { is_failing self.old.schedule ≡ true → result ≡ Err CallFailed }
+        ensures counted { self.new.schedule ≡ after_call self.old.schedule }
+        ensures cause { HasFaultCause self.old.schedule.faults self.new.schedule.faults result }
+    {
         self.schedule.pass()?;
         Ok(size_of_blob(find_blob(self.log.as_slice(), blob)))
     }
 
-    fn read(&mut self, blob: u64, at: u64, buf: &mut [u8]) -> Result<Option<usize>, Fault> {
+    fn read(&mut self, blob: u64, at: u64, buf: &mut [u8]) -> Result<Option<usize>, Fault>
+        ensures bytes { IfOk result (λ count. ReadsFrom ((content_of self.old.log).blobs blob) at count buf.new) }
+        ensures noted { OnOk result (self.new.ranges ≡ self.old.ranges ++ record { blob = blob; at = at; len = length buf.new } ∷ []) }
+        ensures refused { OnErr result (self.new.ranges ≡ self.old.ranges) }
+        ensures log { self.new.log ≡ self.old.log }
+        ensures failed { is_failing self.old.schedule ≡ true → result ≡ Err CallFailed }
+        ensures counted { self.new.schedule ≡ after_call self.old.schedule }
+        ensures cause { HasFaultCause self.old.schedule.faults self.new.schedule.faults result }
+    {
         self.schedule.pass()?;
         let count = read_blob(find_blob(self.log.as_slice(), blob), at, buf);
         let len = buf.len() as u64;
@@ -109,32 +128,67 @@ impl Store for MemStore {
         Ok(count)
     }
 
-    fn put(&mut self, blob: u64, bytes: &[u8]) -> Result<(), Fault> {
+    fn put(&mut self, blob: u64, bytes: &[u8]) -> Result<(), Fault>
+        ensures done { OnOk result (self.new.log ≡ HasPut blob bytes.now ∷ self.old.log) }
+        ensures refused { OnErr result (self.new.log ≡ self.old.log) }
+        ensures ranges { self.new.ranges ≡ self.old.ranges }
+        ensures failed { is_failing self.old.schedule ≡ true → result ≡ Err CallFailed }
+        ensures counted { self.new.schedule ≡ after_call self.old.schedule }
+        ensures cause { HasFaultCause self.old.schedule.faults self.new.schedule.faults result }
+    {
         self.schedule.pass()?;
         let bytes = Bytes::from_slice(self.allocator, bytes)?;
         self.log.push(Entry::HasPut(blob, bytes))?;
         Ok(())
     }
 
-    fn remove(&mut self, blob: u64) -> Result<(), Fault> {
+    fn remove(&mut self, blob: u64) -> Result<(), Fault>
+        ensures done { OnOk result (self.new.log ≡ HasRemoved blob ∷ self.old.log) }
+        ensures refused { OnErr result (self.new.log ≡ self.old.log) }
+        ensures ranges { self.new.ranges ≡ self.old.ranges }
+        ensures failed { is_failing self.old.schedule ≡ true → result ≡ Err CallFailed }
+        ensures counted { self.new.schedule ≡ after_call self.old.schedule }
+        ensures cause { HasFaultCause self.old.schedule.faults self.new.schedule.faults result }
+    {
         self.schedule.pass()?;
         self.log.push(Entry::HasRemoved(blob))?;
         Ok(())
     }
 
-    fn root(&mut self, buf: &mut [u8]) -> Result<Option<usize>, Fault> {
+    fn root(&mut self, buf: &mut [u8]) -> Result<Option<usize>, Fault>
+        ensures bytes { IfOk result (λ count. GivesRoot (content_of self.old.log).root count buf.new) }
+        ensures log { self.new.log ≡ self.old.log }
+        ensures ranges { self.new.ranges ≡ self.old.ranges }
+        ensures failed { is_failing self.old.schedule ≡ true → result ≡ Err CallFailed }
+        ensures counted { self.new.schedule ≡ after_call self.old.schedule }
+        ensures cause { HasFaultCause self.old.schedule.faults self.new.schedule.faults result }
+    {
         self.schedule.pass()?;
         Ok(read_root(find_root(self.log.as_slice()), buf))
     }
 
-    fn set_root(&mut self, bytes: &[u8]) -> Result<(), Fault> {
+    fn set_root(&mut self, bytes: &[u8]) -> Result<(), Fault>
+        ensures done { OnOk result (self.new.log ≡ HasSetRoot bytes.now ∷ self.old.log) }
+        ensures refused { OnErr result (self.new.log ≡ self.old.log) }
+        ensures ranges { self.new.ranges ≡ self.old.ranges }
+        ensures failed { is_failing self.old.schedule ≡ true → result ≡ Err CallFailed }
+        ensures counted { self.new.schedule ≡ after_call self.old.schedule }
+        ensures cause { HasFaultCause self.old.schedule.faults self.new.schedule.faults result }
+    {
         self.schedule.pass()?;
         let bytes = Bytes::from_slice(self.allocator, bytes)?;
         self.log.push(Entry::HasSetRoot(bytes))?;
         Ok(())
     }
 
-    fn sync(&mut self) -> Result<(), Fault> {
+    fn sync(&mut self) -> Result<(), Fault>
+        ensures done { OnOk result (self.new.log ≡ HasSynced ∷ self.old.log) }
+        ensures refused { OnErr result (self.new.log ≡ self.old.log) }
+        ensures ranges { self.new.ranges ≡ self.old.ranges }
+        ensures failed { is_failing self.old.schedule ≡ true → result ≡ Err CallFailed }
+        ensures counted { self.new.schedule ≡ after_call self.old.schedule }
+        ensures cause { HasFaultCause self.old.schedule.faults self.new.schedule.faults result }
+    {
         self.schedule.pass()?;
         self.log.push(Entry::HasSynced)?;
         Ok(())

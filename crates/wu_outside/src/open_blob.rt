@@ -1,5 +1,5 @@
 //! A blob whose file stays open.
-ghost use Rattle.std.specs.Prelude.{◌≤◌, length, IfOk};
+ghost use Rattle.std.specs.Prelude.{◌≡◌, ◌==◌, ◌≤◌, ◌<◌, ◌+◌, ◌-◌, ◌^◌, length, min, take, drop, vec_len, None, Some, IfOk, OnOk, OnErr};
 
 use crate::copies::copy_from;
 use crate::disk::read_at;
@@ -27,6 +27,9 @@ impl<F: Read + Seek> OpenBlob<F> {
     pub fn new(alloc: Global, blob: u64, file: F) -> Result<OpenBlob<F>, AllocError>
     where
         F: Drop,
+        ensures blob { IfOk result (λ one. one.blob ≡ blob) }
+        ensures fresh { IfOk result (λ one. one.next ≡ None) }
+        ensures empty { IfOk result (λ one. one.window_len ≡ 0) }
     {
         Ok(OpenBlob {
             blob,
@@ -39,14 +42,18 @@ impl<F: Read + Seek> OpenBlob<F> {
     }
 
     /// Whether it is the blob of this number.
-    pub fn is_of(&self, blob: u64) -> bool {
+    pub fn is_of(&self, blob: u64) -> bool
+        ensures { result ≡ (self.now.blob == blob) }
+    {
         self.blob == blob
     }
 
     /// Reads from a place on, as far as the blob goes and there is room. Where the read goes on after
     /// the last one, the window is filled.
     pub fn read_at(&mut self, at: u64, buf: &mut [u8]) -> io::Result<usize>
-        ensures { IfOk result (λ n. n ≤ length buf.new) }
+        ensures within { IfOk result (λ n. n ≤ length buf.new) }
+        ensures next { IfOk result (λ n. self.new.next ≡ Some (min (at + n) (2 ^ 64 - 1))) }
+        ensures blob { self.new.blob ≡ self.old.blob }
     {
         let goes_on = self.next == Some(at);
         let held = self.take_held(at, buf);
@@ -67,7 +74,10 @@ impl<F: Read + Seek> OpenBlob<F> {
 
     /// Copies what the window holds from a place on.
     fn take_held(&self, at: u64, buf: &mut [u8]) -> usize
-        ensures { result ≤ length buf.new }
+        ensures within { result ≤ length buf.new }
+        ensures before { at < self.now.window_at → result ≡ 0 }
+        ensures held { self.now.window_at ≤ at → take result buf.new
+            ≡ take (length buf.new) (drop (at - self.now.window_at) (take self.now.window_len self.now.window.items)) }
     {
         let held = &self.window[..self.window_len.min(self.window.len())];
         if at < self.window_at {
@@ -76,8 +86,13 @@ impl<F: Read + Seek> OpenBlob<F> {
         copy_from(held, at - self.window_at, buf)
     }
 
-    /// Fills the window from a place on.
-    fn fill(&mut self, at: u64) -> io::Result<()> {
+    /// Fills the window from a place on. After an error it holds nothing.
+    fn fill(&mut self, at: u64) -> io::Result<()>
+        ensures filled { OnOk result (self.new.window_at ≡ at) }
+        ensures within { self.new.window_len ≤ vec_len self.new.window }
+        ensures failed { OnErr result (self.new.window_len ≡ 0) }
+        ensures blob { self.new.blob ≡ self.old.blob }
+    {
         self.window_len = 0;
         self.window_at = at;
         self.window_len = read_at(&mut self.file, at, self.window.as_mut_slice())?;

@@ -1,7 +1,7 @@
 -- Lemmas on reading that ended early.
 use Rattle.std.proofs.Common.{◌≡◌, ℕ, ◌+◌, ◌-◌, ◌<◌, ◌≤◌, Bool, true, false, List, [], ◌++◌, length, take, Option, Result, Ok, Err, IfErr, IsErrAnd}
 use Rattle.std.proofs.Common.{refl, ap, sym, ◌∙◌, subst, append_assoc, append-nil, length-append, ◌⊎◌, inl, inr, arith}
-use Rattle.std.proofs.Math.Seq.{take-append-add, take-nil}
+use Rattle.std.proofs.Math.Seq.{take-append-add, take-length, take-nil}
 use Rattle.std.proofs.lemmas.List.{take-append-le}
 use Rattle.std.specs.Prelude.{nat_lt}
 use Rattle.std.proofs.lemmas.Bool.{ltb-true, ltb-false}
@@ -9,6 +9,7 @@ use Rattle.std.specs.Io.KnownBytes.{Consumes, Keeps}
 use Rattle.std.proofs.KnownBytes.{Consumes-nil, Consumes-trans, Consumes-kept}
 use Rattle.wu_script.specs.declared.ends.ReadEnd.{ReadEnd}
 use Rattle.wu_script.specs.declared.ends.ReadEnd.TheVariants.{ReadFault, InputTooLong, NoMemory}
+use Rattle.wu_script.proofs.InputLemmas.{Uses-filled}
 use Rattle.wu_script.specs.Holding.{Held, Uses, GivesTooMuch, EndsEarly, IsCounted, HasReadCause, IsGiven, settled, but_last}
 
 -- the source failed while no byte was held
@@ -130,6 +131,36 @@ EndsEarly-after IsShort IsLater left mid left' last_read old between end used fi
         (λ none ended. nothing_settled end last_read between stops.given none (stops.over ended).0) stops.short)
     by_case (inr part) = subst IsShort (sym part.1) (front part.0)
 
+-- an error that was made of another
+pub if_end : {T : Type 0} (P : ReadEnd → Type 0) (end : ReadEnd) (r : Result T ReadEnd) → IsErrAnd r (λ e. e ≡ end) → P end → IfErr r P
+if_end P end (Ok value) is holds = absurd is
+if_end P end (Err e) is holds = subst P (sym is) holds
+
+-- bytes were used, each of whose prefixes is short
+pub record UsesShort (IsShort : List ℕ → Type 0) (left mid : Option (List ℕ)) (old between : Held) (used : List ℕ) : Type 0 where
+  pub uses : Uses left mid old between used
+  pub front : (n : ℕ) → IsShort (take n used)
+
+-- reading that ended early where no byte was held after such bytes
+pub EndsEarly-filling : (IsShort : List ℕ → Type 0) (left mid left' : Option (List ℕ)) (last_read : ℕ) (old between : Held)
+    (end : ReadEnd) (used : List ℕ) → UsesShort IsShort left mid old between used
+    → EndsEarly (λ bytes. bytes ≡ []) mid left' last_read between end → EndsEarly IsShort left left' last_read old end
+EndsEarly-filling IsShort left mid left' last_read old between end used so_far stops =
+    let all : IsShort (used ++ []) = subst IsShort (take-length used ∙ sym (append-nil used)) (so_far.front (length used)) in
+    EndsEarly-after IsShort (λ bytes. bytes ≡ []) left mid left' last_read old between end used so_far.uses so_far.front
+    (λ more _ none. subst (λ (bs : List ℕ). IsShort (used ++ bs)) (sym none) all) stops
+
+-- the same where some were held after a filling, and there was no memory
+pub EndsEarly-filled : {T : Type 0} (IsShort : List ℕ → Type 0) (left mid left' : Option (List ℕ)) (last_read : ℕ)
+    (old between filled : Held) (used : List ℕ) → UsesShort IsShort left mid old between used → Uses mid left' between filled []
+    → length filled.bytes ≤ last_read → (r : Result T ReadEnd) → IsErrAnd r (λ e. e ≡ NoMemory)
+    → IfErr r (EndsEarly IsShort left left' last_read old)
+EndsEarly-filled IsShort left mid left' last_read old between filled used so_far fill few r is =
+    if_end (EndsEarly IsShort left left' last_read old) NoMemory r is
+    (EndsEarly-filling IsShort left left' left' last_read old filled NoMemory used
+    (record { uses = Uses-filled left mid left' old between filled used so_far.uses fill; front = so_far.front })
+    (EndsEarly-memory left' last_read filled few))
+
 -- the source gave one byte too many
 pub EndsEarly-too_long : (IsShort : List ℕ → Type 0) (left left' : Option (List ℕ)) (last_read : ℕ) (old : Held) (end : ReadEnd)
     → EndsEarly IsShort left left' last_read old end → end ≡ InputTooLong → GivesTooMuch left left' old
@@ -148,11 +179,6 @@ Uses-first_of left left' old new first after uses = record {
   over = uses.over;
   at_end = uses.at_end;
 }
-
--- an error that was made of another
-pub if_end : {T : Type 0} (P : ReadEnd → Type 0) (end : ReadEnd) (r : Result T ReadEnd) → IsErrAnd r (λ e. e ≡ end) → P end → IfErr r P
-if_end P end (Ok value) is holds = absurd is
-if_end P end (Err e) is holds = subst P (sym is) holds
 
 -- the count of faults, where one was counted before
 pub IsCounted-after : (end : ReadEnd) (before mid now : ℕ) → mid ≡ before → IsCounted end mid now → IsCounted end before now

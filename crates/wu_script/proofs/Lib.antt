@@ -5,3 +5,4 @@ pub mod ItemListLemmas
 pub mod LineLemmas
 pub mod TokenLemmas
 pub mod UnclosedLemmas
+pub mod EventLemmas

@@ -6,6 +6,8 @@ ghost use Rattle.wu_gcl.specs.Regions.{IsProper, region_of};
 ghost use Rattle.wu_base.specs.declared.limits.TheConstants.{K_MAX as MostRegions};
 ghost use Rattle.wu_script.specs.Commands.{command_of, event_line, fields_say, is_blank, line_says, query_line, text_line, count_of, rank_of, paths_of, text_head_of, Whole, Asking, CountOf, RankOf};
 ghost use Rattle.wu_script.specs.Said.{IsReading, Reading, IsLine, IsSoundLine};
+ghost use Rattle.wu_script.specs.declared.types.Line.TheVariants.{Command as ACommand};
+ghost use Rattle.wu_script.specs.declared.types.Command.TheVariants.{Ask as AQuestion};
 
 use crate::events::{
     chmod, chown, create, id_of, link, mkdir, node_of, rename, rmdir, unlink, user,
@@ -122,6 +124,13 @@ fn text_head(fields: &[Bytes]) -> Line
     }
 }
 
+/// A question of a user.
+fn asking(uid: u32, ask: Ask) -> Line
+    ensures { result ≡ ACommand (AQuestion (record { uid = uid; ask = ask })) }
+{
+    Line::Command(Command::Ask(Query { uid, ask }))
+}
+
 /// `count`, a user and an expression.
 #[tactic(auto, unfolding(crate::specs::Commands::count_of))]
 fn count(alloc: Global, fields: &[Bytes]) -> Result<Line, NoMemory>
@@ -145,10 +154,7 @@ fn counting(alloc: Global, uid: u32, text: &[u8]) -> Result<Line, NoMemory>
     ensures sound { IfOk result IsSoundLine }
 {
     match read_expression(alloc, text)? {
-        Ok(expr) => Ok(Line::Command(Command::Ask(Query {
-            uid,
-            ask: Ask::Count { expr },
-        }))),
+        Ok(expr) => Ok(asking(uid, Ask::Count { expr })),
         Err(fault) => Ok(Line::Refused(Why::Expr(fault))),
     }
 }
@@ -199,14 +205,8 @@ fn ranking(alloc: Global, uid: u32, k: u32, unit: &[u8], text: &[u8]) -> Result<
     if words.len() > RANK_WORDS_MAX {
         return Ok(Line::Refused(Why::ManyWords));
     }
-    Ok(Line::Command(Command::Ask(Query {
-        uid,
-        ask: Ask::Rank {
-            k,
-            unit,
-            words: Sequence::from(words),
-        },
-    })))
+    let words = Sequence::from(words);
+    Ok(asking(uid, Ask::Rank { k, unit, words }))
 }
 
 /// `paths`, and a user.
@@ -217,10 +217,7 @@ fn paths(fields: &[Bytes]) -> Line
 {
     match fields {
         [uid] => match id_of(uid) {
-            Some(uid) => Line::Command(Command::Ask(Query {
-                uid,
-                ask: Ask::Paths,
-            })),
+            Some(uid) => asking(uid, Ask::Paths),
             None => Line::Refused(Why::Syntax),
         },
         _ => Line::Refused(Why::Syntax),

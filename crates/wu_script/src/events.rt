@@ -124,10 +124,8 @@ pub fn unlink(alloc: Global, fields: &[Bytes]) -> Result<Option<Event>, NoMemory
     ensures value { IfOk result (λ event. event ≡ option_map unlink_event (place_of fields.now)) }
     ensures sound { IfOk result (λ event. IfSome event IsEvent) }
 {
-    match read_place(alloc, fields)? {
-        Some(Place { parent, name }) => Ok(Some(Event::Unlink { parent, name })),
-        None => Ok(None),
-    }
+    let place = read_place(alloc, fields)?;
+    Ok(place.map(|Place { parent, name }| Event::Unlink { parent, name }))
 }
 
 /// `rmdir`, a directory and a name.
@@ -135,10 +133,8 @@ pub fn rmdir(alloc: Global, fields: &[Bytes]) -> Result<Option<Event>, NoMemory>
     ensures value { IfOk result (λ event. event ≡ option_map rmdir_event (place_of fields.now)) }
     ensures sound { IfOk result (λ event. IfSome event IsEvent) }
 {
-    match read_place(alloc, fields)? {
-        Some(Place { parent, name }) => Ok(Some(Event::Rmdir { parent, name })),
-        None => Ok(None),
-    }
+    let place = read_place(alloc, fields)?;
+    Ok(place.map(|Place { parent, name }| Event::Rmdir { parent, name }))
 }
 
 /// `link`, a node, a directory and a name.
@@ -224,22 +220,13 @@ pub fn mkdir(alloc: Global, fields: &[Bytes]) -> Result<Option<Event>, NoMemory>
     ensures value { IfOk result (λ event. event ≡ option_map mkdir_event (new_node_of fields.now)) }
     ensures sound { IfOk result (λ event. IfSome event IsEvent) }
 {
-    match read_new_node(alloc, fields)? {
-        Some(
-            NewNode {
-                ino,
-                parent,
-                name,
-                perm,
-            },
-        ) => Ok(Some(Event::Mkdir {
-            ino,
-            parent,
-            name,
-            perm,
-        })),
-        None => Ok(None),
-    }
+    let node = read_new_node(alloc, fields)?;
+    Ok(node.map(|node| Event::Mkdir {
+        ino: node.ino,
+        parent: node.parent,
+        name: node.name,
+        perm: node.perm,
+    }))
 }
 
 /// `create`, likewise.
@@ -247,22 +234,13 @@ pub fn create(alloc: Global, fields: &[Bytes]) -> Result<Option<Event>, NoMemory
     ensures value { IfOk result (λ event. event ≡ option_map create_event (new_node_of fields.now)) }
     ensures sound { IfOk result (λ event. IfSome event IsEvent) }
 {
-    match read_new_node(alloc, fields)? {
-        Some(
-            NewNode {
-                ino,
-                parent,
-                name,
-                perm,
-            },
-        ) => Ok(Some(Event::Create {
-            ino,
-            parent,
-            name,
-            perm,
-        })),
-        None => Ok(None),
-    }
+    let node = read_new_node(alloc, fields)?;
+    Ok(node.map(|node| Event::Create {
+        ino: node.ino,
+        parent: node.parent,
+        name: node.name,
+        perm: node.perm,
+    }))
 }
 
 /// `rename`, a directory and a name, and the same of the new place.

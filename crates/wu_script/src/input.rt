@@ -1,5 +1,5 @@
 //! What a source gave and no item has used yet.
-ghost use Rattle.std.specs.Prelude.{◌≡◌, ◌≤◌, ◌<◌, [], false, true, length, min, max, Ok, Err, OnOk, IfErr, IfOk, MatchResult, take, drop, slice_range, vec_len};
+ghost use Rattle.std.specs.Prelude.{◌≡◌, ◌≤◌, ◌<◌, ◌+◌, [], false, true, length, min, max, Ok, Err, OnOk, IfErr, IfOk, MatchOption, MatchResult, take, drop, slice_range, vec_len};
 ghost use Rattle.std.specs.Io.KnownBytes.{Consumes, Keeps, IsAtEnd};
 ghost use Rattle.wu_base.specs.declared.limits.TheConstants.{READ_MAX as MostAtOnce};
 ghost use Rattle.wu_outside.specs.Ends.{GivesEnd};
@@ -102,14 +102,14 @@ impl Input {
         let room = room_for(self.spare);
         match read_front(source, &mut self.buffer, room) {
             Ok(0) => self.ended = true,
-            Ok(count) => {
-                if self.spare == 0 {
-                    return Err(ReadEnd::InputTooLong);
+            Ok(count) => match spare_after(self.spare, count) {
+                Some(spare) => {
+                    self.spare = spare;
+                    self.end = count;
+                    self.ended = false;
                 }
-                self.spare -= count as u64;
-                self.end = count;
-                self.ended = false;
-            }
+                None => return Err(ReadEnd::InputTooLong),
+            },
             Err(_) => return Err(ReadEnd::ReadFault),
         }
         Ok(())
@@ -132,6 +132,13 @@ fn read_front<I: Source>(source: &mut I, buffer: &mut [u8], room: usize) -> Resu
     ensures cause { HasCause (I.faults source.old) (I.faults source.new) result }
 {
     source.read(&mut buffer[..room])
+}
+
+/// How many more bytes may be given after so many, or None where these were too many.
+fn spare_after(spare: u64, count: usize) -> Option<u64>
+    ensures { MatchOption result (spare < count) (λ left. left + count ≡ spare) }
+{
+    spare.checked_sub(count as u64)
 }
 
 /// How many bytes to ask for.

@@ -1,12 +1,12 @@
 -- The effect of an accepted event tells which files there are after it.
-use Rattle.std.proofs.Common.{◌≡◌, ◌≢◌, ℕ, List, [], ◌∷◌, refl, ap, sym, ◌∙◌, subst, Bool, true, false, cond, not, inl, inr, ⊎_elim}
-use Rattle.std.specs.Prelude.{◌↔◌, ◌⊎◌, ◌&&◌, ◌||◌, ◌==◌, Option, None, Some, Result, Ok, Err, is_some}
+use Rattle.std.proofs.Common.{◌≡◌, ◌≢◌, ℕ, List, refl, ap, sym, ◌∙◌, subst, Bool, true, false, cond, inl, inr, ⊎_elim}
+use Rattle.std.specs.Prelude.{◌↔◌, ◌⊎◌, ◌&&◌, ◌==◌, Option, None, Some, Ok, is_some}
 use Rattle.std.specs.Ordering.{is_eq, nat_cmp}
 use Rattle.std.specs.Cmp.{nat_cmp_total}
-use Rattle.std.specs.List.{AllByRecursion}
-use Rattle.std.specs.Map.{lookup, remove_entry, set_value}
-use Rattle.std.specs.BTreeMap.{is_at, insert_entry}
+use Rattle.std.specs.Map.{lookup, remove_entry}
+use Rattle.std.specs.BTreeMap.{is_at}
 use Rattle.std.proofs.lemmas.Map.{lookup-none}
+use Rattle.std.proofs.lemmas.Bool.{or_parts}
 use borrow.Author.Tests.{eqb-true, eqb-false}
 use Rattle.wu_access.specs.declared.Perm.{Perm}
 use Rattle.wu_tree.specs.declared.events.Kind.TheVariants.{Directory, File}
@@ -14,14 +14,14 @@ use Rattle.wu_tree.specs.declared.events.Node.{Node}
 use Rattle.wu_tree.specs.declared.events.Event.{Event}
 use Rattle.wu_tree.specs.declared.events.Event.TheVariants.{User, Mkdir, Create, Text, Link, Unlink, Rmdir, Rename, Chmod, Chown}
 use Rattle.wu_tree.specs.declared.events.Effect.{Effect}
-use Rattle.wu_tree.specs.declared.events.Refusal.{Refusal}
-use Rattle.wu_tree.specs.FileSystems.{FileSystem, is_file, is_file_node, is_directory, is_directory_node, is_there, is_kind_file, is_used, node_of, child_of, link_count}
+use Rattle.wu_tree.specs.FileSystems.{FileSystem, is_file, is_file_node, is_there, is_kind_file, is_used, node_of, child_of, link_count}
 use Rattle.wu_tree.specs.Rules.{IsTree}
-use Rattle.wu_tree.specs.Steps.{Rule, first_of, mkdir_rules, create_rules, text_rules, unlink_rules, rmdir_rules, named_by, no_effect, dropped_at, without_link, with_link_moved, with_node, refusal_of, next, effect_of, unless_refused, step, with_perm, is_last_link, is_link_to}
+use Rattle.wu_tree.specs.Steps.{mkdir_rules, create_rules, text_rules, unlink_rules, rmdir_rules, named_by, no_effect, dropped_at, without_link, with_link_moved, with_node, refusal_of, next, effect_of, step, with_perm, is_last_link, is_link_to}
 use Rattle.wu_tree.specs.Effects.{TellsFiles}
 use Rattle.wu_base.proofs.MapEntries.{lookup-insert_entry, lookup-remove_other, none_left, number_itself}
-use Rattle.wu_tree.proofs.ParentPaths.{same_number, other_number}
+use Rattle.wu_tree.proofs.ParentPaths.{same_number}
 use Rattle.wu_tree.proofs.LinkRemovals.{apart_from}
+use Rattle.wu_tree.proofs.EventRules.{none_applies, accepted, not_false, kind_file, same_some, none_some}
 use Rattle.wu_tree.proofs.Permissions.{set_same}
 
 -- ---- one node: what is said of it before and after
@@ -36,18 +36,13 @@ module _ (dropped : Option ℕ) (q : ℕ) (before after : Bool) where
       → (after ≡ true) ↔ ((dropped ≢ Some q) × ((None ≡ Some q) ⊎ (before ≡ true)))
   is_none b a n = stays n (a ∙ sym b)
 
-none_some : (q : ℕ) → None ≡ Some q → ⊥
-none_some q h = cc
-
-some_same : (c q : ℕ) → Some c ≡ Some q → q ≡ c
-some_same c q h = cc
-
 -- files that stay
 unchanged : (fs after : FileSystem) → ((q : ℕ) → is_file after q ≡ is_file fs q) → TellsFiles fs no_effect after
 unchanged fs after e = record {
   files = λ q. stays None q (is_file fs q) (is_file after q) (none_some q) (e q);
   text = λ q h. absurd
       (none_some q h);
+  apart = λ q h. none_some q;
 }
 
 -- ---- a link that goes, with its node where it was the last
@@ -63,7 +58,7 @@ module _ (fs : FileSystem) (t : IsTree fs) (c : ℕ) where
   other false q n = refl
 
   none_dropped : (file last : Bool) (q : ℕ) → q ≢ c → cond (file && last) (Some c) None ≡ Some q → ⊥
-  none_dropped true true q n h = n (some_same c q h)
+  none_dropped true true q n h = n (sym (same_some c q h))
   none_dropped true false q n h = none_some q h
   none_dropped false last q n h = none_some q h
 
@@ -93,6 +88,7 @@ module _ (fs : FileSystem) (t : IsTree fs) (c : ℕ) where
               (other last q (eqb-false q c e))
         ] refl));
     text = λ q h. absurd (none_some q h);
+    apart = λ q h. absurd (none_some q h);
   }
 
 module _ (fs : FileSystem) (t : IsTree fs) (parent : ℕ) (name : List ℕ) where
@@ -121,36 +117,11 @@ module _ (fs : FileSystem) (t : IsTree fs) (parent : ℕ) (name : List ℕ) wher
       (is_file fs c) (link_count fs.links c == 1) refl
       (rw found refl) (rw found refl)
 
--- ---- what it takes that no rule refuses
-first_rule : (rule : Rule) (rules : List Rule) → first_of (rule ∷ rules) ≡ None → (rule.0 ≡ false) × (first_of rules ≡ None)
-first_rule rule rules h =
-    elim rule.0 as (λ b. rule.0 ≡ b → cond b (Some rule.1) (first_of rules) ≡ None → (b ≡ false) × (first_of rules ≡ None)) [
-      | true ↦ λ e g. absurd cc
-      | false ↦ λ e g. (refl, g)
-    ] refl h
-
--- no rule of a list applies
-none_applies : (rules : List Rule) → first_of rules ≡ None → AllByRecursion (λ rule. rule.0 ≡ false) rules
-none_applies [] h = tt
-none_applies (rule ∷ rules) h = let f = first_rule rule rules h in (f.0, none_applies rules f.1)
-
-neither : (a b : Bool) → (a || b) ≡ false → a ≡ false
-neither true b h = absurd cc
-neither false b h = refl
-
-not_false : (b : Bool) → not b ≡ false → b ≡ true
-not_false true h = refl
-not_false false h = absurd cc
-
+-- ---- a node that is made
 absent_file : (o : Option Node) → is_some o ≡ false → is_file_node o ≡ false
 absent_file None h = refl
 absent_file (Some node) h = absurd cc
 
-kind_file : (o : Option Node) → is_some o ≡ true → is_directory_node o ≡ false → is_file_node o ≡ true
-kind_file None h g = absurd cc
-kind_file (Some node) h g = not_false (is_kind_file node.kind) g
-
--- ---- a node that is made
 module _ (fs : FileSystem) (ino parent : ℕ) (name : List ℕ) (node : Node) (new : is_there fs ino ≡ false) where
   old : (q : ℕ) → is_eq (nat_cmp q ino) ≡ true → is_file fs q ≡ false
   old q e = ap (is_file fs) (same_number q ino e) ∙ absent_file (node_of fs ino) new
@@ -179,12 +150,13 @@ module _ (fs : FileSystem) (ino parent : ℕ) (name : List ℕ) (node : Node) (n
             λ g. ⊎_elim
                 (λ m. absurd
                 (let same : is_eq (nat_cmp q ino)
-                ≡ true = subst (λ x. is_eq (nat_cmp x ino) ≡ true) (sym (some_same ino q m)) (number_itself ino) in let f : true
+                ≡ true = subst (λ x. is_eq (nat_cmp x ino) ≡ true) (same_some ino q m) (number_itself ino) in let f : true
                 ≡ false = sym same ∙ e in cc))
                 (λ b. file_at q false e ∙ b) g.1,
           )
         ] refl;
     text = λ q h. absurd (none_some q h);
+    apart = λ q h. none_some q;
   }
 
 -- ---- permissions
@@ -196,28 +168,23 @@ perm_changed fs change ino (Some node) h =
     (λ q. set_same is_file_node (is_at (nat_cmp q)) (is_at (nat_cmp ino)) fs.nodes node (record node { perm = change node.perm }) h refl)
 
 -- ---- any event
-abbrev the_ok : FileSystem × Effect → Result (FileSystem × Effect) Refusal
-the_ok p = Ok p
-
-ok_same : (p q : FileSystem × Effect) → the_ok p ≡ the_ok q → p ≡ q
-ok_same p q h = cc
-
 module _ (fs : FileSystem) (t : IsTree fs) where
   tells : (event : Event) → refusal_of fs event ≡ None → TellsFiles fs (effect_of fs event) (next fs event)
   tells (User uid groups) h = unchanged fs (next fs (User uid groups)) (λ q. refl)
   tells (Mkdir ino parent name perm) h =
       let a = (none_applies (mkdir_rules fs ino parent name) h).1.1.1 in
       directory_made fs ino parent name (record { kind = Directory; perm = perm })
-      (neither (is_there fs ino) (is_used fs parent name) a.0) refl
+      (or_parts (is_there fs ino) (is_used fs parent name) a.0).0 refl
   tells (Create ino parent name perm) h =
       let a = (none_applies (create_rules fs ino parent name) h).1.1.1 in
-      file_made fs ino parent name (record { kind = File; perm = perm }) (neither (is_there fs ino) (is_used fs parent name) a.0) refl
+      file_made fs ino parent name (record { kind = File; perm = perm }) (or_parts (is_there fs ino) (is_used fs parent name) a.0).0 refl
   tells (Text ino) h =
       let a = none_applies (text_rules fs ino) h in
       let file : is_file fs ino ≡ true = kind_file (node_of fs ino) (not_false (is_there fs ino) a.0) a.1.0 in
       record {
         files = λ q. stays None q (is_file fs q) (is_file fs q) (none_some q) refl;
-        text = λ q e. subst (λ x. is_file fs x ≡ true) (sym (some_same ino q e)) file;
+        text = λ q e. subst (λ x. is_file fs x ≡ true) (same_some ino q e) file;
+        apart = λ q e. none_some q;
       }
   tells (Link ino parent name) h = unchanged fs (next fs (Link ino parent name)) (λ q. refl)
   tells (Unlink parent name) h =
@@ -244,13 +211,6 @@ module _ (fs : FileSystem) (t : IsTree fs) where
   pub effects_tell_files : (event : Event) (after : FileSystem) (effect : Effect) → step fs event ≡ Ok (after, effect)
       → TellsFiles fs effect after
   effects_tell_files event after effect h =
-      elim (refusal_of fs event) as
-      (λ o. refusal_of fs event ≡ o → unless_refused o (next fs event) (effect_of fs event) ≡ Ok (after, effect)
-      → TellsFiles fs effect after) [
-        | None ↦ λ r e.
-            let pair = ok_same (next fs event, effect_of fs event) (after, effect) e in
-            let n : next fs event ≡ after = ap (λ (p : FileSystem × Effect). p.0) pair in
-            let f : effect_of fs event ≡ effect = ap (λ (p : FileSystem × Effect). p.1) pair in
-            subst (λ (v : FileSystem). TellsFiles fs effect v) n (subst (λ (v : Effect). TellsFiles fs v (next fs event)) f (tells event r))
-        | Some refusal ↦ λ r e. absurd cc
-      ] refl h
+      let a = accepted (refusal_of fs event) (next fs event) after (effect_of fs event) effect h in
+      subst (λ (v : FileSystem). TellsFiles fs effect v) a.1.0
+      (subst (λ (v : Effect). TellsFiles fs v (next fs event)) a.1.1 (tells event a.0))

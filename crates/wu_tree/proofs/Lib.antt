@@ -15,3 +15,5 @@ pub mod UserGroups
 pub mod DirectoryHeights
 pub mod LowDirectories
 pub mod EffectLemmas
+pub mod EventRules
+pub mod KeptTrees

@@ -1,6 +1,6 @@
 -- The ways down from a directory, and how they answer to the ways up.
-use Rattle.std.proofs.Common.{◌≡◌, ◌≢◌, ℕ, zero, suc, ◌+◌, ◌-◌, ◌<◌, ◌≤◌, List, [], ◌∷◌, length, refl, ap, sym, ◌∙◌, subst, Bool, true, false, cond, not, ◌&&◌, ◌||◌, arith, inl, inr, ⊎_elim, Vec, Global}
-use Rattle.std.specs.Prelude.{Some, map, filter, nat_lt, ◌==◌, ◌⊎◌}
+use Rattle.std.proofs.Common.{◌≡◌, ◌≢◌, ℕ, zero, suc, ◌+◌, ◌-◌, ◌<◌, ◌≤◌, List, [], ◌∷◌, length, refl, ap, sym, ◌∙◌, subst, Bool, true, false, cond, not, ◌&&◌, arith, inl, inr, ⊎_elim, Vec, Global}
+use Rattle.std.specs.Prelude.{Some, map, filter, nat_lt, ◌==◌}
 use Rattle.std.specs.List.{AllByRecursion, list_any}
 use Rattle.std.specs.Ordering.{nat_cmp}
 use Rattle.std.specs.Map.{lookup}
@@ -89,7 +89,7 @@ parent_has (l ∷ links) q parent h =
       | false ↦ λ p g. let r = parent_has links q parent g in (r.0, (inr r.1.0, r.1.1))
     ] refl h
 
-count-cons : (link : Link) (links : List Link) (ino : ℕ) → link_count (link ∷ links) ino ≡ cond (link.1 == ino) 1 0 + link_count links ino
+pub count-cons : (link : Link) (links : List Link) (ino : ℕ) → link_count (link ∷ links) ino ≡ cond (link.1 == ino) 1 0 + link_count links ino
 count-cons link links ino = sum_by-cons (λ (l : Link). cond {A = ℕ} (l.1 == ino) 1 0) link links
 
 pub has_counted : (link : Link) (links : List Link) → Has link links → 1 ≤ link_count links link.1
@@ -101,24 +101,31 @@ has_counted link (l ∷ links) h =
     (λ i. omega (arith, count-cons l links link.1, has_counted link links i))
     h
 
--- a link to a node that has no other
-pub only_link : (link : Link) (links : List Link) → Has link links → link_count links link.1 ≡ 1 → parent_of links link.1 ≡ Some link.0.0
-only_link link [] h c = absurd h
-only_link link (l ∷ links) h c =
-    elim (l.1 == link.1) as (λ b. (l.1 == link.1) ≡ b → cond b (Some l.0.0) (parent_of links link.1) ≡ Some link.0.0) [
+-- of a link to a node that has no other, what holds of lists that begin with it, and goes on past links to other nodes
+pub only_link_by : (P : List Link → Type 0) (link : Link) → ((rest : List Link) → (link.1 == link.1) ≡ true → P (link ∷ rest))
+    → ((l : Link) (rest : List Link) → (l.1 == link.1) ≡ false → P rest → P (l ∷ rest))
+    → (links : List Link) → Has link links → link_count links link.1 ≡ 1 → P links
+only_link_by P link here past [] h c = absurd h
+only_link_by P link here past (l ∷ links) h c =
+    elim (l.1 == link.1) as (λ b. (l.1 == link.1) ≡ b → P (l ∷ links)) [
       | true ↦ λ p.
           ⊎_elim
-          (λ e. ap (λ (k : Link). Some k.0.0) e)
+          (λ e. subst (λ (k : Link). P (k ∷ links)) (sym e) (here links (eq-eqb link.1 link.1 refl)))
           (λ i. let d : cond {A = ℕ} (l.1 == link.1) 1 0
           ≡ 1 = rw p refl in absurd (omega (arith, count-cons l links link.1, has_counted link links i)))
           h
       | false ↦ λ p.
           ⊎_elim
-          (λ e. let n : l.1 ≡ link.1 = ap (λ (k : Link). k.1) e in let q : (l.1 == link.1) ≡ true = eq-eqb l.1 link.1 n in absurd cc)
+          (λ e. let q : (l.1 == link.1) ≡ true = eq-eqb l.1 link.1 (ap (λ (k : Link). k.1) e) in absurd cc)
           (λ i. let d : cond {A = ℕ} (l.1 == link.1) 1 0
-          ≡ 0 = rw p refl in only_link link links i (omega (arith, count-cons l links link.1)))
+          ≡ 0 = rw p refl in past l links p (only_link_by P link here past links i (omega (arith, count-cons l links link.1))))
           h
     ] refl
+
+-- its directory is the node's parent
+pub only_link : (link : Link) (links : List Link) → Has link links → link_count links link.1 ≡ 1 → parent_of links link.1 ≡ Some link.0.0
+only_link link =
+    only_link_by (λ links. parent_of links link.1 ≡ Some link.0.0) link (λ rest e. rw e refl) (λ l rest e r. rw e r)
 
 -- ---- what a way up goes through
 through_first : (links : List Link) (d m q : ℕ) → q ≢ 1 → parent_of links q ≡ Some d → has_root (ancestors links (suc m) q) ≡ true

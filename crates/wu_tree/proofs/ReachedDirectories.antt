@@ -1,6 +1,6 @@
 -- Which directories a walk from the root reaches, and how nodes hang.
 use Rattle.std.proofs.Common.{◌≡◌, ◌≢◌, ℕ, zero, suc, ◌+◌, ◌-◌, ◌≤◌, List, [], ◌∷◌, ◌++◌, length, refl, ap, sym, ◌∙◌, subst, Bool, true, false, cond, not, ◌||◌, arith, inl, inr, ⊎_elim}
-use Rattle.std.specs.Prelude.{Option, None, Some, map, ◌==◌, ◌⊎◌}
+use Rattle.std.specs.Prelude.{Option, None, Some, map, ◌==◌}
 use Rattle.std.specs.declared.cmp.Ordering.TheVariants.{Less, Equal, Greater}
 use Rattle.std.specs.Ordering.{nat_cmp, is_eq, match_ordering}
 use Rattle.std.specs.List.{AllByRecursion, list_any, list_all, flat_map, fold}

@@ -21,11 +21,13 @@ use Rattle.wu_tree.specs.declared.inodes.Hold.TheVariants.{Entries, Links}
 use Rattle.wu_tree.specs.declared.inodes.Inode.{Inode}
 use Rattle.wu_tree.specs.Inodes.{node_in, nodes_in, file_system, IsHeld, IsSound, kind_of, moved_hold, with_link_lost, with_parent, has_one_link, fewer_links, parent_in, height_in, height_at, height_over, height_over_in, height_over_at, AreHeights, without_heights}
 use Rattle.wu_tree.specs.FileSystems.{FileSystem, IsLeaf, Link, Place, place_cmp, is_name, is_within, is_directory, is_directory_node, is_kind_file, node_of, child_of, link_count, path_up, depth}
-use Rattle.wu_tree.specs.Steps.{without_link, with_link_moved, renamed, is_too_deep}
+use Rattle.wu_tree.specs.LinkMoves.{IsMove}
+use Rattle.wu_tree.specs.Steps.{named, named_by, without_link, with_link_moved, renamed, is_too_deep}
 use Rattle.wu_tree.specs.Paths.{through, steps_to}
 use Rattle.wu_tree.specs.Rules.{IsLink, Hangs, IsTree}
 use Rattle.wu_base.proofs.MapEntries.{is_equal, All-found, All-map, All-map2, All-set_number, All-remove_entry, set_value-read, lookup-remove_other, none_left, insert-remove_same, remove-insert_apart, ascend-remove_entry}
 use Rattle.wu_tree.proofs.ParentPaths.{directory_found, place_total, place_exact, same_number, same_path, leaf_links, SameElsewhere}
+use Rattle.wu_tree.proofs.EventRules.{same_some}
 use Rattle.wu_tree.proofs.LinkRemovals.{drop_around, child_no_root, apart_from}
 use Rattle.wu_tree.proofs.PathsUp.{moved, same_count, same_parent, parent_moved, moved_no_root, move_keeps, StaysShallow, stays_shallow, file_above, file_path}
 use Rattle.wu_tree.proofs.DirectoryHeights.{kept_heights, lower_than, set_other}
@@ -250,6 +252,21 @@ module _ (inodes : List (ℕ × Inode)) (links : List Link) (users : List (ℕ �
             (several_sound inodes links users s new_parent new_name tg ft leaf more inode h, several_view inodes links users s new_parent new_name tg ft leaf more inode h)
       ] one
 
+-- the same of the file system that the tree stands for
+pub link_lost : (inodes : List (ℕ × Inode)) (links : List Link) (users : List (ℕ × UserRec)) → IsSound inodes links users
+    → (fs : FileSystem) → file_system inodes links users ≡ fs → (parent : ℕ) (name : List ℕ) (child : ℕ)
+    → child_of fs parent name ≡ Some child → IsLeaf fs (named_by fs parent name)
+    → IsSound (with_link_lost (lookup (is_at (nat_cmp child)) inodes) child inodes) (remove_entry (is_at (place_cmp (parent, name))) links) users
+    × (file_system (with_link_lost (lookup (is_at (nat_cmp child)) inodes) child inodes)
+    (remove_entry (is_at (place_cmp (parent, name))) links) users ≡ without_link fs parent name)
+link_lost inodes links users s fs view parent name child found leaf =
+    let here : child_of (file_system inodes links users) parent name ≡ Some child =
+    subst (λ (v : FileSystem). child_of v parent name ≡ Some child) (sym view) found in
+    let low : IsLeaf (file_system inodes links users) child =
+    subst (λ (v : FileSystem). IsLeaf v child) (sym view) (subst (λ x. IsLeaf fs x) (ap named found) leaf) in
+    let done = lost inodes links users s parent name child here low (lookup (is_at (nat_cmp child)) inodes) refl in
+    (done.0, done.1 ∙ ap (λ (v : FileSystem). without_link v parent name) view)
+
 -- another node stays as it was
 lost_other : (inodes : List (ℕ × Inode)) (q tg : ℕ) (o : Option Inode) → lookup (is_at (nat_cmp tg)) inodes ≡ o → q ≢ tg
     → lookup (is_at (nat_cmp q)) (with_link_lost o tg inodes) ≡ lookup (is_at (nat_cmp q)) inodes
@@ -268,9 +285,6 @@ lost_other inodes q tg (Some inode) h n =
 hung_one : (links : List Link) (q : ℕ) (k : Kind) → q ≢ 1 → not (is_kind_file k) ≡ true → Hangs links q k → link_count links q ≡ 1
 hung_one links q Directory r h g = ⊎_elim (λ e. absurd (r e)) (λ p. p.0) g
 hung_one links q File r h g = absurd cc
-
-same_some : (a b : ℕ) → Some a ≡ Some b → a ≡ b
-same_some a b h = cc
 
 directory_one : (fs : FileSystem) → IsTree fs → (c : ℕ) → c ≢ 1 → is_directory fs c ≡ true → link_count fs.links c ≡ 1
 directory_one fs t c r h =
@@ -298,14 +312,6 @@ places_apart links k l o c a b n =
       | true ↦ λ p. absurd (n (sym b ∙ ap (λ x. lookup (is_at (place_cmp x)) links) (sym (place_exact k l (is_equal _ p))) ∙ a))
       | false ↦ λ p. refl
     ] refl
-
--- what is asked of a link that moves to a name in a directory, whether the name is free or is that of a node that goes
-pub record IsMove (fs : FileSystem) (parent : ℕ) (name : List ℕ) (new_parent : ℕ) (new_name : List ℕ) (child : ℕ) : Type 0 where
-  pub found : child_of fs parent name ≡ Some child
-  pub directory : is_directory fs new_parent ≡ true
-  pub named : is_name new_name ≡ true
-  pub outside : is_directory fs child ≡ true → is_within fs.links child new_parent ≡ false
-  pub shallow : is_directory fs child ≡ true → is_too_deep fs child new_parent ≡ false
 
 module _ (inodes : List (ℕ × Inode)) (links : List Link) (users : List (ℕ × UserRec)) (s : IsSound inodes links users)
     (parent : ℕ) (name : List ℕ) (new_parent : ℕ) (new_name : List ℕ) (c : ℕ)

@@ -31,7 +31,7 @@ use Rattle.std.proofs.lemmas.Map.Steps.{set_value_same}
 use borrow.Author.Tests.{eq-eqb}
 use Rattle.wu_tree.proofs.NewNodes.{node_keeps, new_around, new_held}
 use Rattle.wu_tree.proofs.Permissions.{perm_keeps, held_again}
-use Rattle.wu_tree.proofs.DirectoryHeights.{same_heights, insert_heights, remove_heights, lower_than, higher_parts, higher_has_links, found_again}
+use Rattle.wu_tree.proofs.DirectoryHeights.{same_heights, insert_heights, remove_heights, lower_than, higher_parts, higher_has_links}
 
 pub not_passed : (k q : ℕ) → is_eq (nat_cmp k q) ≡ false → q ≢ k
 not_passed k q h e = let f : is_eq (nat_cmp k q)

@@ -9,6 +9,8 @@ pub record TellsFiles (before : FileSystem) (effect : Effect) (after : FileSyste
   -- a node is a regular file where it isn't dropped, and is made or was one
   pub files : (ino : ℕ)
       → IsTrue (is_file after ino) ↔ ((effect.dropped ≢ Some ino) × ((effect.made ≡ Some ino) ⊎ IsTrue (is_file before ino)))
+  -- no file is both made and dropped
+  pub apart : (ino : ℕ) → effect.made ≡ Some ino → effect.dropped ≢ Some ino
   -- a text is given to a file that is there
   pub text : (ino : ℕ) → effect.texted ≡ Some ino → IsTrue (is_file after ino)
 

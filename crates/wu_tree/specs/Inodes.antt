@@ -4,6 +4,7 @@ use Rattle.std.specs.List.{AllByRecursion}
 use Rattle.std.specs.Ordering.{nat_cmp}
 use Rattle.std.specs.Map.{lookup, remove_entry, set_value}
 use Rattle.std.specs.BTreeMap.{is_at}
+use Rattle.wu_base.specs.declared.limits.TheConstants.{DEPTH_MAX}
 use Rattle.wu_access.specs.declared.UserRec.{UserRec}
 use Rattle.wu_tree.specs.declared.events.Kind.{Kind}
 use Rattle.wu_tree.specs.declared.events.Kind.TheVariants.{Directory, File}
@@ -55,7 +56,7 @@ has_one_link (Links count) = count == 1
 abbrev pub file_system : List (ℕ × Inode) → List Link → List (ℕ × UserRec) → FileSystem
 file_system inodes links users = record { nodes = nodes_in inodes; links = links; users = users_in users }
 
--- ---- heights: at most so many levels of directories lie below a directory, or any number of them where it is 255
+-- ---- heights: at most so many levels of directories lie below a directory, or any number of them where it is DEPTH_MAX
 
 abbrev pub height_in : Option Inode → ℕ
 height_in None = 0
@@ -67,7 +68,7 @@ height_at inodes ino = height_in (lookup (is_at (nat_cmp ino)) inodes)
 
 -- the least height of a directory in which a node stands
 abbrev pub height_over : Inode → ℕ
-height_over inode = cond (is_kind_file (kind_of inode.hold)) 0 (min (inode.height + 1) 255)
+height_over inode = cond (is_kind_file (kind_of inode.hold)) 0 (min (inode.height + 1) DEPTH_MAX)
 
 -- the same of the node of that number
 abbrev pub height_over_in : Option Inode → ℕ
@@ -82,7 +83,7 @@ abbrev pub higher_of : ℕ → Inode → Option ℕ
 higher_of ino inode = cond (ino == 1) None (parent_in inode.hold)
 
 abbrev pub IsLower : List (ℕ × Inode) → ℕ → Inode → Type 0
-IsLower inodes ino inode = (parent : ℕ) → higher_of ino inode ≡ Some parent → min (inode.height + 1) 255 ≤ height_at inodes parent
+IsLower inodes ino inode = (parent : ℕ) → higher_of ino inode ≡ Some parent → min (inode.height + 1) DEPTH_MAX ≤ height_at inodes parent
 
 abbrev pub AreHeights : List (ℕ × Inode) → Type 0
 AreHeights inodes = (ino : ℕ) (inode : Inode) → lookup (is_at (nat_cmp ino)) inodes ≡ Some inode → IsLower inodes ino inode

@@ -8,9 +8,10 @@ pub mod Rules
 pub mod Effects
 -- what is left of a walk
 pub mod Walks
--- ---- What only private functions and proofs need: maps, ways up and down, tests of lists
+-- ---- What only private functions and proofs need: maps, ways up and down, moves of links, tests of lists
 
 pub mod Nested
 pub mod Inodes
 pub mod Paths
+pub mod LinkMoves
 pub mod Lists

@@ -5,6 +5,7 @@ use Rattle.std.specs.declared.cmp.Ordering.TheVariants.{Less, Equal, Greater}
 use Rattle.std.specs.Ordering.{nat_cmp}
 use Rattle.std.specs.List.{flat_map, list_all}
 use Rattle.std.specs.Map.{keys_of}
+use Rattle.wu_base.specs.declared.limits.TheConstants.{DEPTH_MAX}
 use Rattle.wu_access.specs.declared.UserRec.{UserRec}
 use Rattle.wu_tree.specs.declared.events.Kind.{Kind}
 use Rattle.wu_tree.specs.declared.events.Kind.TheVariants.{Directory, File}
@@ -69,7 +70,7 @@ hold_of File (Some hung) = Links hung.count
 
 -- any number of levels may lie below a directory
 abbrev pub first_height : Kind → ℕ
-first_height Directory = 255
+first_height Directory = DEPTH_MAX
 first_height File = 0
 
 abbrev pub inode_of : Option Hung → Node → Inode

@@ -9,6 +9,7 @@ ghost use Rattle.wu_tree.specs.FileSystems.{child_of, depth, is_directory, is_fi
 use crate::events::{Kind, Node};
 use crate::heights::raise;
 use crate::inodes::{Hold, Inode};
+use crate::moves::drop_inode_link;
 use crate::trees::Tree;
 use std::alloc::Global;
 use wu_access::{Perm, UserRec};
@@ -22,17 +23,17 @@ impl Tree {
         &mut self,
         ino: Ino,
         parent: Ino,
-        name: Vec<u8>,
+        name: &[u8],
         node: Node,
     ) -> Result<(), NoMemory>
         requires low { 1 ≤ ino }
         requires mode { node.perm.mode ≤ 0xFFF }
-        requires named { is_name name.items ≡ true }
+        requires named { is_name name.now ≡ true }
         requires directory { is_directory self.old parent ≡ true }
         requires new { node_of self.old ino ≡ None }
-        requires free { child_of self.old parent name.items ≡ None }
+        requires free { child_of self.old parent name.now ≡ None }
         requires shallow { node.kind ≡ Kind.Directory → depth self.old.links parent < DEPTH_MAX }
-        ensures ok { OnOk result (self.new ≡ with_node self.old ino parent name.items node) }
+        ensures ok { OnOk result (self.new ≡ with_node self.old ino parent name.now node) }
         ensures err { OnErr result (self.new ≡ self.old) }
     {
         let inode = Inode {
@@ -60,12 +61,12 @@ impl Tree {
     }
 
     /// Puts one more link to a file into a directory.
-    pub(crate) fn add_link(&mut self, ino: Ino, parent: Ino, name: Vec<u8>) -> Result<(), NoMemory>
-        requires named { is_name name.items ≡ true }
+    pub(crate) fn add_link(&mut self, ino: Ino, parent: Ino, name: &[u8]) -> Result<(), NoMemory>
+        requires named { is_name name.now ≡ true }
         requires directory { is_directory self.old parent ≡ true }
         requires file { is_file self.old ino ≡ true }
-        requires free { child_of self.old parent name.items ≡ None }
-        ensures ok { OnOk result (self.new ≡ with_link self.old ino parent name.items) }
+        requires free { child_of self.old parent name.now ≡ None }
+        ensures ok { OnOk result (self.new ≡ with_link self.old ino parent name.now) }
         ensures err { OnErr result (self.new ≡ self.old) }
     {
         let count = self.next_count(ino)?;
@@ -97,35 +98,8 @@ impl Tree {
         ensures { self.new ≡ without_link self.old parent name.now }
     {
         if let Some(child) = self.child(parent, name) {
-            if self.has_one_link(child) {
-                self.drop_last(parent, name, child);
-            } else {
-                self.drop_one(parent, name, child);
-            }
-        }
-    }
-
-    /// Takes the last link of a node out, and the node.
-    fn drop_last(&mut self, parent: Ino, name: &[u8], child: Ino)
-        requires found { child_of self.old parent name.now ≡ Some child }
-        requires leaf { IsLeaf self.old child }
-        requires last { link_count self.old.links child ≡ 1 }
-        ensures { self.new ≡ without_link self.old parent name.now }
-    {
-        self.links.remove(parent, name);
-        self.inodes.remove(&child);
-    }
-
-    /// Takes one of several links to a file out.
-    fn drop_one(&mut self, parent: Ino, name: &[u8], child: Ino)
-        requires found { child_of self.old parent name.now ≡ Some child }
-        requires leaf { IsLeaf self.old child }
-        requires more { link_count self.old.links child ≢ 1 }
-        ensures { self.new ≡ without_link self.old parent name.now }
-    {
-        self.links.remove(parent, name);
-        if let Some(inode) = self.inodes.get_mut(&child) {
-            inode.hold = inode.hold.fewer_links();
+            self.links.remove(parent, name);
+            drop_inode_link(&mut self.inodes, child);
         }
     }
 

@@ -66,18 +66,19 @@ impl Links {
         }
     }
 
-    /// Puts a link to its place, instead of the one that may stand there. Out of memory, the links
-    /// are as they were.
+    /// Puts a link to its place, with a copy of the name, instead of the one that may stand there. Out of
+    /// memory, the links are as they were.
     pub(crate) fn insert(
         &mut self,
         alloc: Global,
         parent: Ino,
-        name: Vec<u8>,
+        name: &[u8],
         child: Ino,
     ) -> Result<(), NoMemory>
-        ensures ok { OnOk result (self.new ≡ insert_entry place_cmp self.old (parent, name.items) child) }
+        ensures ok { OnOk result (self.new ≡ insert_entry place_cmp self.old (parent, name.now) child) }
         ensures err { OnErr result (self.new ≡ self.old) }
     {
+        let name = Vec::from_slice(alloc, name)?;
         if self.has_entries(parent) {
             self.insert_into(parent, name, child)
         } else {

@@ -1,8 +1,8 @@
 //! Renaming: a link moves to another place, and replaces what stood there.
-ghost use Rattle.std.specs.Prelude.{◌≡◌, ◌≢◌, true, false, None, Some, OnOk, OnErr, IfOk};
+ghost use Rattle.std.specs.Prelude.{◌≡◌, ◌≢◌, None, Some, OnOk, OnErr};
 ghost use Rattle.std.specs.Ordering.{nat_cmp};
 ghost use Rattle.std.specs.BTreeMap.{get};
-ghost use Rattle.wu_tree.specs.FileSystems.{child_of, is_directory, is_name, is_within, IsLeaf};
+ghost use Rattle.wu_tree.specs.FileSystems.{child_of, IsLeaf};
 ghost use Rattle.wu_tree.specs.Inodes.{with_link_lost, with_parent};
 
 use crate::heights::raise_over;
@@ -12,7 +12,8 @@ use std::collections::BTreeMap;
 use wu_base::{Ino, NoMemory};
 
 impl Tree {
-    ghost use Rattle.wu_tree.specs.Steps.{is_too_deep, with_link_moved, without_link};
+    ghost use Rattle.wu_tree.specs.LinkMoves.{IsMove};
+    ghost use Rattle.wu_tree.specs.Steps.{with_link_moved, without_link};
 
     /// Moves a link to a place where nothing stands.
     pub(crate) fn move_to_free(
@@ -20,16 +21,12 @@ impl Tree {
         parent: Ino,
         name: &[u8],
         new_parent: Ino,
-        new_name: Vec<u8>,
+        new_name: &[u8],
         child: Ino,
     ) -> Result<(), NoMemory>
-        requires found { child_of self.old parent name.now ≡ Some child }
-        requires free { child_of self.old new_parent new_name.items ≡ None }
-        requires directory { is_directory self.old new_parent ≡ true }
-        requires named { is_name new_name.items ≡ true }
-        requires outside { is_directory self.old child ≡ true → is_within self.old.links child new_parent ≡ false }
-        requires shallow { is_directory self.old child ≡ true → is_too_deep self.old child new_parent ≡ false }
-        ensures ok { OnOk result (self.new ≡ with_link_moved self.old parent name.now new_parent new_name.items child) }
+        requires moves { IsMove self.old parent name.now new_parent new_name.now child }
+        requires free { child_of self.old new_parent new_name.now ≡ None }
+        ensures ok { OnOk result (self.new ≡ with_link_moved self.old parent name.now new_parent new_name.now child) }
         ensures err { OnErr result (self.new ≡ self.old) }
     {
         self.links.insert(self.alloc, new_parent, new_name, child)?;
@@ -45,19 +42,15 @@ impl Tree {
         parent: Ino,
         name: &[u8],
         new_parent: Ino,
-        new_name: Vec<u8>,
+        new_name: &[u8],
         child: Ino,
         target: Ino,
     ) -> Result<(), NoMemory>
-        requires found { child_of self.old parent name.now ≡ Some child }
-        requires target { child_of self.old new_parent new_name.items ≡ Some target }
+        requires moves { IsMove self.old parent name.now new_parent new_name.now child }
+        requires target { child_of self.old new_parent new_name.now ≡ Some target }
         requires other { target ≢ child }
         requires leaf { IsLeaf self.old target }
-        requires directory { is_directory self.old new_parent ≡ true }
-        requires named { is_name new_name.items ≡ true }
-        requires outside { is_directory self.old child ≡ true → is_within self.old.links child new_parent ≡ false }
-        requires shallow { is_directory self.old child ≡ true → is_too_deep self.old child new_parent ≡ false }
-        ensures ok { OnOk result (self.new ≡ with_link_moved (without_link self.old new_parent new_name.items) parent name.now new_parent new_name.items child) }
+        ensures ok { OnOk result (self.new ≡ with_link_moved (without_link self.old new_parent new_name.now) parent name.now new_parent new_name.now child) }
         ensures err { OnErr result (self.new ≡ self.old) }
     {
         self.links.insert(self.alloc, new_parent, new_name, child)?;
@@ -70,7 +63,7 @@ impl Tree {
 }
 
 /// A node loses a link, and goes with its last.
-fn drop_inode_link(inodes: &mut BTreeMap<Ino, Inode>, ino: Ino)
+pub(crate) fn drop_inode_link(inodes: &mut BTreeMap<Ino, Inode>, ino: Ino)
     ensures { inodes.new.entries ≡ with_link_lost (get nat_cmp inodes.old ino) ino inodes.old.entries }
 {
     let last = match inodes.get(&ino) {

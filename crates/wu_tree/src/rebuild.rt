@@ -235,8 +235,7 @@ fn links_of(alloc: Global, links: &[LinkRec]) -> Result<Links, NoMemory>
 {
     let mut kept = Links::new(alloc);
     for link in links {
-        let name = Vec::from_slice(alloc, link.name.as_slice())?;
-        kept.insert(alloc, link.parent, name, link.child)?;
+        kept.insert(alloc, link.parent, link.name.as_slice(), link.child)?;
     }
     Ok(kept)
 }

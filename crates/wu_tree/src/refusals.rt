@@ -1,6 +1,8 @@
 //! Why an event is refused: the first rule of its list that applies.
-ghost use Rattle.std.specs.Prelude.{◌≡◌, true, IfNone, Some};
+ghost use Rattle.std.specs.Prelude.{◌≡◌, true, IfNone, Some, [], ◌∷◌, nat_le};
 ghost use Rattle.wu_tree.specs.Steps.{is_link_to as link_test};
+ghost use Rattle.wu_tree.specs.declared.events.Refusal.TheVariants.{Kind as OfWrongKind};
+ghost use Rattle.wu_base.specs.declared.limits.TheConstants.{DEPTH_MAX as Deepest};
 
 use crate::events::{Event, Kind, Refusal};
 use crate::names::is_name;
@@ -8,7 +10,7 @@ use crate::trees::Tree;
 use wu_base::{DEPTH_MAX, Ino};
 
 impl Tree {
-    ghost use Rattle.wu_tree.specs.FileSystems.{is_directory, is_file, is_name as name_test, is_there, is_used};
+    ghost use Rattle.wu_tree.specs.FileSystems.{depth as depth_of, is_directory, is_file, is_name as name_test, is_there, is_used};
     ghost use Rattle.wu_tree.specs.Steps.{absent_rules, create_rules, first_of, is_full, is_of_other_kind, link_rules, mkdir_rules, move_rules, place_rules, refusal_of, rename_rules, rmdir_rules, text_rules, unlink_rules};
 
     /// Why an event is refused, or None where it is accepted.
@@ -91,6 +93,25 @@ impl Tree {
         self.child(directory, name).is_some()
     }
 
+    /// Whether a directory lies so deep that none may stand in it.
+    fn is_deepest(&self, directory: Ino) -> bool
+        requires { is_directory self.now directory ≡ true }
+        ensures { result ≡ nat_le Deepest (depth_of self.now.links directory) }
+    {
+        self.depth(directory) >= DEPTH_MAX
+    }
+
+    /// Of a node that has to be a file.
+    fn refuse_directory(&self, ino: Ino) -> Option<Refusal>
+        ensures { result ≡ first_of ((is_directory self.now ino, OfWrongKind) ∷ []) }
+    {
+        if self.is_directory(ino) {
+            Some(Refusal::Kind)
+        } else {
+            None
+        }
+    }
+
     fn refuse_mkdir(&self, ino: Ino, parent: Ino, name: &[u8]) -> Option<Refusal>
         ensures { result ≡ first_of (mkdir_rules self.now ino parent name.now) }
     {
@@ -99,7 +120,7 @@ impl Tree {
         }
         if self.is_there(ino) || self.is_used(parent, name) {
             Some(Refusal::Exists)
-        } else if self.depth(parent) >= DEPTH_MAX {
+        } else if self.is_deepest(parent) {
             Some(Refusal::Deep)
         } else {
             None
@@ -122,12 +143,10 @@ impl Tree {
     fn refuse_text(&self, ino: Ino) -> Option<Refusal>
         ensures { result ≡ first_of (text_rules self.now ino) }
     {
-        if !self.is_there(ino) {
-            Some(Refusal::NoSuch)
-        } else if self.is_directory(ino) {
-            Some(Refusal::Kind)
+        if self.is_there(ino) {
+            self.refuse_directory(ino)
         } else {
-            None
+            Some(Refusal::NoSuch)
         }
     }
 
@@ -154,13 +173,7 @@ impl Tree {
             return Some(refusal);
         }
         match self.child(parent, name) {
-            Some(child) => {
-                if self.is_directory(child) {
-                    Some(Refusal::Kind)
-                } else {
-                    None
-                }
-            }
+            Some(child) => self.refuse_directory(child),
             None => Some(Refusal::NoSuch),
         }
     }

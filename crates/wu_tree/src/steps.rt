@@ -4,7 +4,6 @@ ghost use Rattle.wu_tree.specs.Effects.{EffectsTellFiles};
 
 use crate::events::{Effect, Event, Kind, Node, Refusal};
 use crate::trees::Tree;
-use std::alloc::AllocError;
 use wu_access::Perm;
 use wu_base::{Gid, Ino, NoMemory, Uid};
 
@@ -93,7 +92,6 @@ impl Tree {
         ensures next { OnOk result (self.new ≡ with_node self.old ino parent name.now (record { kind = Kind.Directory; perm = perm })) }
         ensures err { OnErr result (self.new ≡ self.old) }
     {
-        let name = self.copy(name)?;
         let kind = Kind::Directory;
         self.add_node(ino, parent, name, Node { kind, perm })?;
         Ok(NO_EFFECT)
@@ -107,7 +105,6 @@ impl Tree {
         ensures next { OnOk result (self.new ≡ with_node self.old ino parent name.now (record { kind = Kind.File; perm = perm })) }
         ensures err { OnErr result (self.new ≡ self.old) }
     {
-        let name = self.copy(name)?;
         let kind = Kind::File;
         self.add_node(ino, parent, name, Node { kind, perm })?;
         Ok(Effect {
@@ -122,7 +119,6 @@ impl Tree {
         ensures next { OnOk result (self.new ≡ with_link self.old ino parent name.now) }
         ensures err { OnErr result (self.new ≡ self.old) }
     {
-        let name = self.copy(name)?;
         self.add_link(ino, parent, name)?;
         Ok(NO_EFFECT)
     }
@@ -186,7 +182,6 @@ impl Tree {
                     return Ok(NO_EFFECT);
                 }
                 let dropped = self.dropped_at(new_parent, new_name);
-                let new_name = self.copy(new_name)?;
                 self.move_onto(parent, name, new_parent, new_name, child, target)?;
                 Ok(Effect {
                     dropped,
@@ -194,7 +189,6 @@ impl Tree {
                 })
             }
             None => {
-                let new_name = self.copy(new_name)?;
                 self.move_to_free(parent, name, new_parent, new_name, child)?;
                 Ok(NO_EFFECT)
             }
@@ -238,13 +232,6 @@ impl Tree {
             None => None,
         }
     }
-
-    /// A name to keep.
-    fn copy(&self, name: &[u8]) -> Result<Vec<u8>, AllocError>
-        ensures { IfOk result (λ copy. copy.items ≡ name.now) }
-    {
-        Vec::from_slice(self.alloc, name)
-    }
 }
 
 /// The effect of a text: the tree stays as it is.
@@ -259,7 +246,8 @@ fn texted(ino: Ino) -> Effect
 
 /// A law: of an event that is accepted, the effect tells which files there are afterwards. A node is a regular
 /// file exactly where it isn't the file that was dropped, and is the one that was made or was a file before;
-/// and a text was given to a file that is there. So who keeps a text for each file need only follow the effects.
+/// no file is both made and dropped; and a text was given to a file that is there. So who keeps a text for
+/// each file need only follow the effects.
 pub fn effects_tell_files(tree: &Tree)
     ensures { EffectsTellFiles tree.now }
 {

@@ -1,58 +1,22 @@
 -- The way from a directory up to the root.
-use Rattle.std.proofs.Common.{◌≡◌, ◌≢◌, ℕ, zero, suc, ◌+◌, ◌≤◌, List, [], ◌∷◌, length, refl, ap, sym, ◌∙◌, subst, Bool, true, false, cond, not, ◌||◌, ◌&&◌, arith, inl, inr, ⊎_elim}
+use Rattle.std.proofs.Common.{◌≡◌, ◌≢◌, ℕ, zero, suc, ◌≤◌, List, [], ◌∷◌, length, refl, ap, sym, ◌∙◌, subst, Bool, true, false, cond, ◌||◌, ◌&&◌, arith, inl, inr}
 use Rattle.std.specs.Prelude.{None, Some, ◌==◌}
-use Rattle.std.specs.Ordering.{nat_cmp}
-use Rattle.std.specs.List.{AllByRecursion, list_all}
-use Rattle.std.specs.BTreeMap.{is_at}
-use Rattle.std.proofs.lemmas.List.Sums.{sum_by-cons}
-use borrow.Author.Tests.{eqb-true, eq-eqb, ne_eqb}
+use Rattle.std.specs.List.{list_all}
+use borrow.Author.Tests.{eqb-true, ne_eqb}
 use Rattle.std.proofs.lemmas.Bool.{and_parts}
 use Rattle.wu_access.specs.declared.UserRec.{UserRec}
 use Rattle.wu_access.specs.declared.Want.TheVariants.{Execute}
-use Rattle.wu_tree.specs.declared.events.Kind.{Kind}
-use Rattle.wu_tree.specs.declared.events.Kind.TheVariants.{Directory, File}
-use Rattle.wu_tree.specs.FileSystems.{FileSystem, Link, is_directory, is_kind_file, node_of, link_count, parent_of, ancestors, above, path_up, depth}
-use Rattle.wu_tree.specs.Rules.{IsLink, Hangs, IsTree}
-use Rattle.wu_base.proofs.MapEntries.{All-found}
-use Rattle.wu_tree.proofs.ParentPaths.{same_number, directory_found, reached, has_root, path_is, path_below, path_of_root}
+use Rattle.wu_tree.specs.FileSystems.{FileSystem, Link, is_directory, link_count, parent_of, ancestors, above, path_up, depth}
+use Rattle.wu_tree.specs.Rules.{IsLink, IsTree}
+use Rattle.wu_tree.proofs.ParentPaths.{reached, has_root, path_is, path_below, path_of_root}
 use Rattle.wu_view.specs.Views.{name_of, directory_path, path_of, may, is_open}
 use Rattle.wu_base.proofs.Members.{Has, all_has}
-use Rattle.wu_tree.proofs.PathsDown.{linked_once as once}
+use Rattle.wu_tree.proofs.PathsDown.{count-cons, only_link_by, only_link, linked_once as once}
 
 -- ---- one link
-count-cons : (link : Link) (links : List Link) (ino : ℕ) → link_count (link ∷ links) ino ≡ cond (link.1 == ino) 1 0 + link_count links ino
-count-cons link links ino = sum_by-cons (λ (l : Link). cond {A = ℕ} (l.1 == ino) 1 0) link links
-
-counted : (link : Link) (links : List Link) → Has link links → 1 ≤ link_count links link.1
-counted link [] h = absurd h
-counted link (l ∷ links) h =
-    ⊎_elim
-    (λ e. let q : l.1 ≡ link.1 = ap (λ (k : Link). k.1) e in let c : cond {A = ℕ} (l.1 == link.1) 1 0
-    ≡ 1 = rw (eq-eqb l.1 link.1 q) refl in omega (arith, count-cons l links link.1))
-    (λ i. omega (arith, count-cons l links link.1, counted link links i))
-    h
-
--- a link to a node that has no other
-pub only_link : (link : Link) (links : List Link) → Has link links → link_count links link.1 ≡ 1
-    → (parent_of links link.1 ≡ Some link.0.0) × (name_of links link.1 ≡ link.0.1)
-only_link link [] h c = absurd h
-only_link link (l ∷ links) h c =
-    elim (l.1 == link.1) as
-    (λ b. (l.1 == link.1) ≡ b
-    → (cond b (Some l.0.0) (parent_of links link.1) ≡ Some link.0.0) × (cond b l.0.1 (name_of links link.1) ≡ link.0.1)) [
-      | true ↦ λ p.
-          ⊎_elim
-          (λ e. (ap (λ (k : Link). Some k.0.0) e, ap (λ (k : Link). k.0.1) e))
-          (λ i. let d : cond {A = ℕ} (l.1 == link.1) 1 0
-          ≡ 1 = rw p refl in absurd (omega (arith, count-cons l links link.1, counted link links i)))
-          h
-      | false ↦ λ p.
-          ⊎_elim
-          (λ e. let n : l.1 ≡ link.1 = ap (λ (k : Link). k.1) e in let q : (l.1 == link.1) ≡ true = eq-eqb l.1 link.1 n in absurd cc)
-          (λ i. let d : cond {A = ℕ} (l.1 == link.1) 1 0
-          ≡ 0 = rw p refl in only_link link links i (omega (arith, count-cons l links link.1)))
-          h
-    ] refl
+-- a link to a node that has no other gives its name
+only_name : (link : Link) (links : List Link) → Has link links → link_count links link.1 ≡ 1 → name_of links link.1 ≡ link.0.1
+only_name link = only_link_by (λ links. name_of links link.1 ≡ link.0.1) link (λ rest e. rw e refl) (λ l rest e r. rw e r)
 
 pub some_link : (ino : ℕ) (links : List Link) → 1 ≤ link_count links ino → (link : Link) × (Has link links × (link.1 ≡ ino))
 some_link ino [] h = absurd (omega arith)
@@ -132,7 +96,7 @@ module _ (fs : FileSystem) (t : IsTree fs) where
   way_up link h d =
       let n = (link_facts link h).no_root in
       let o = only_link link fs.links h (linked_once link.1 d n) in
-      let e = path_below fs.links link.1 link.0.0 n o.0 in
+      let e = path_below fs.links link.1 link.0.0 n o in
       let r : has_root (ancestors fs.links 254 link.0.0)
       ≡ true = below_root link.1 (ancestors fs.links 254 link.0.0) n
       (subst (λ (l : List ℕ). has_root l ≡ true) e (reached fs t link.1 d)) in
@@ -146,8 +110,7 @@ module _ (fs : FileSystem) (t : IsTree fs) where
       → directory_path fs.links link.1 ≡ path_of fs.links link.0
   path_below_is link h d =
       let n = (link_facts link h).no_root in
-      let o = only_link link fs.links h (linked_once link.1 d n) in
-      rw (way_up link h d, ne_eqb link.1 1 n, o.1) refl
+      rw (way_up link h d, ne_eqb link.1 1 n, only_name link fs.links h (linked_once link.1 d n)) refl
 
   pub open_below : (user : UserRec) (link : Link) → Has link fs.links → is_directory fs link.1 ≡ true
       → is_open fs user link.1 ≡ (may fs user Execute link.1 && is_open fs user link.0.0)

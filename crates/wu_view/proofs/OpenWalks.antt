@@ -1,5 +1,5 @@
 -- What a walk from the root finds: the files that grant the user read, by the paths that are open for her.
-use Rattle.std.proofs.Common.{◌≡◌, ◌≢◌, ℕ, zero, suc, ◌+◌, ◌-◌, ◌<◌, ◌≤◌, List, [], ◌∷◌, ◌++◌, refl, ap, sym, ◌∙◌, subst, Bool, true, false, cond, not, ◌&&◌, arith, inl, ⊎_elim}
+use Rattle.std.proofs.Common.{◌≡◌, ◌≢◌, ℕ, zero, suc, ◌+◌, ◌-◌, ◌<◌, ◌≤◌, List, [], ◌∷◌, ◌++◌, refl, ap, sym, ◌∙◌, subst, true, false, cond, not, ◌&&◌, arith, inl, ⊎_elim}
 use Rattle.std.specs.Prelude.{Option, None, Some, ◌==◌, filter}
 use borrow.Author.Tests.{eqb-true, eq-eqb}
 use Rattle.std.proofs.lemmas.Bool.{and_parts, and_from}

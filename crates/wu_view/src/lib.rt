@@ -4,9 +4,10 @@
 ghost use Rattle.std.specs.Prelude.{◌≡◌, ◌↔◌, ℕ, true, IfOk, IsTrue, List, map};
 ghost use Rattle.std.specs.List.{Contains};
 ghost use Rattle.std.specs.List.Sorted.{IsStrictlySortedBy};
-ghost use Rattle.wu_view.specs.Views.{Grants, IsOpenPath, is_readable, least_path, open_paths, path_cmp, view_of};
+ghost use Rattle.std.specs.Ordering.{nat_cmp};
+ghost use Rattle.wu_view.specs.Views.{Grants, IsOpenPath, is_readable, least_path, open_paths, path_cmp, user_with, view_of};
 ghost use Rattle.wu_access.specs.declared.UserRec.{UserRec};
-ghost use Rattle.wu_tree.specs.FileSystems.{is_file};
+ghost use Rattle.wu_tree.specs.FileSystems.{groups_of, is_file};
 
 mod groups;
 mod walks;
@@ -39,16 +40,21 @@ pub fn searchable(alloc: Global, tree: &Tree, uid: Uid) -> Result<Vec<Seen>, NoM
     ensures by_least_path { IfOk result (λ view. IsStrictlySortedBy path_cmp (map least_path view.items)) }
 {
     tree.keeps_the_rules();
-    let groups = Vec::from_slice(alloc, tree.groups_of(uid))?;
-    let user = UserRec {
-        uid,
-        groups: Sequence::from(groups),
-    };
+    let user = user_of(alloc, tree, uid)?;
     let found = walks::open_links(alloc, tree, &user)?;
     let files = groups::by_file(alloc, found)?;
     let seen = groups::seen(alloc, files)?;
     let view = sorted_once(seen);
     Ok(view)
+}
+
+/// The user of that number with her groups; one who was never given has none.
+fn user_of(alloc: Global, tree: &Tree, uid: Uid) -> Result<UserRec, NoMemory>
+    ensures user { IfOk result (λ user. user ≡ user_with uid (groups_of tree.now uid)) }
+    ensures ascend { IfOk result (λ user. IsStrictlySortedBy nat_cmp user.groups) }
+{
+    let groups = Sequence::from(Vec::from_slice(alloc, tree.groups_of(uid))?);
+    Ok(UserRec { uid, groups })
 }
 
 /// A law: the open paths of a file are those that lead to it from the root by names of links, through

@@ -9,8 +9,6 @@ pub mod StateLemmas
 pub mod FramesOfFiles
 pub mod UnitsOfFrames
 pub mod ScannedFrames
-pub mod TreeLemmas
-pub mod EventLemmas
 pub mod TextLemmas
 pub mod UnitLemmas
 pub mod RankLemmas

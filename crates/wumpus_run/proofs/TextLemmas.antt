@@ -1,7 +1,7 @@
 -- The texts of a state are those of its regular files: at first, after each event, and throughout a script.
-use Rattle.std.proofs.Common.{◌≡◌, ◌≢◌, ℕ, List, [], ◌∷◌, map, Bool, true, false, cond, Ok, Err, refl, ap, sym, ◌∙◌, subst}
+use Rattle.std.proofs.Common.{◌≡◌, ℕ, List, [], ◌∷◌, map, Bool, true, false, cond, Ok, Err, refl, ap, sym, ◌∙◌, subst}
 use Rattle.std.proofs.Common.{inl, inr, ⊎_elim}
-use Rattle.std.specs.Prelude.{◌⊎◌, Option, Some, None, Result, is_some}
+use Rattle.std.specs.Prelude.{Option, Some, None, is_some}
 use Rattle.std.specs.Result.{result_unwrap_or}
 use Rattle.std.specs.Ordering.{is_eq, nat_cmp}
 use Rattle.std.specs.Cmp.{nat_cmp_total}
@@ -12,30 +12,28 @@ use Rattle.std.specs.BTreeMap.{is_at}
 use Rattle.std.proofs.lemmas.List.Elements.{All-from_recursion}
 use Rattle.std.proofs.lemmas.Map.{lookup-none}
 use Rattle.wu_tree.specs.declared.events.Event.{Event}
-use Rattle.wu_tree.specs.declared.events.Event.TheVariants.{User, Mkdir, Create, Text, Link, Unlink, Rmdir, Rename, Chmod, Chown}
 use Rattle.wu_tree.specs.declared.events.Effect.{Effect}
 use Rattle.wu_tree.specs.declared.events.Kind.TheVariants.{Directory}
 use Rattle.wu_tree.specs.declared.events.Node.{Node}
-use Rattle.wu_tree.specs.declared.events.Refusal.{Refusal}
 use Rattle.wu_tree.specs.FileSystems.{FileSystem, is_file, is_file_node}
 use Rattle.wu_tree.specs.Rules.{IsTree}
-use Rattle.wu_tree.specs.Steps.{refusal_of, next, effect_of, no_effect, dropped_at, is_same_node, unless_refused}
 use Rattle.wu_tree.specs.Steps.{IsEvent}
 use Rattle.wu_tree.specs.Steps.{step as tree_step}
 use Rattle.wu_tree.specs.Effects.{TellsFiles}
 use Rattle.wu_base.proofs.MapEntries.{ascend-insert_entry, ascend-remove_entry, lookup-insert_entry, lookup-remove_other}
-use Rattle.wu_base.proofs.MapEntries.{none_left, number_itself}
+use Rattle.wu_base.proofs.MapEntries.{none_left}
 use Rattle.wu_tree.proofs.ParentPaths.{same_number}
 use Rattle.wu_tree.proofs.LinkRemovals.{apart_from}
 use Rattle.wu_tree.proofs.EffectLemmas.{effects_tell_files}
-use Rattle.wu_tree.proofs.TreeInvariant.{root_sound}
+use Rattle.wu_tree.proofs.EventRules.{none_some, same_some}
+use Rattle.wu_tree.proofs.KeptTrees.{step_keeps}
+use Rattle.wu_tree.proofs.TreeInvariant.{not_passed, root_sound}
 use Rattle.wu_script.specs.Said.{Reading, Said, Happens, Asks, IsRefused, SaysNothing, said_of}
 use Rattle.wu_script.specs.Items.{items_of}
+use Rattle.wu_script.proofs.EventLemmas.{TellsEvent, script_tells}
 use Rattle.wumpus_run.specs.Replies.{after, met, last_state}
 use Rattle.wumpus_run.specs.States.{State, Texts, HasTheTexts, first_state, has_text, without_text, with_text, texts_after, after_event}
 use Rattle.wumpus_run.proofs.StateLemmas.{step-accepted, step-refused}
-use Rattle.wumpus_run.proofs.TreeLemmas.{step_keeps}
-use Rattle.wumpus_run.proofs.EventLemmas.{TellsEvent, script_tells}
 
 -- ---- numbers that there may be
 
@@ -43,17 +41,8 @@ abbrev is_that : Option ℕ → ℕ → Bool
 is_that None q = false
 is_that (Some ino) q = is_eq (nat_cmp q ino)
 
-none_some : (q : ℕ) → None ≡ Some q → ⊥
-none_some q h = cc
-
-some_same : (ino q : ℕ) → Some ino ≡ Some q → ino ≡ q
-some_same ino q h = cc
-
 true_false : true ≡ false → ⊥
 true_false h = cc
-
-apart : (q ino : ℕ) → is_eq (nat_cmp q ino) ≡ false → q ≢ ino
-apart q ino h e = true_false (sym (subst (λ x. is_eq (nat_cmp q x) ≡ true) e (number_itself q)) ∙ h)
 
 that_is : (o : Option ℕ) (q : ℕ) → is_that o q ≡ true → o ≡ Some q
 that_is None q h = absurd cc
@@ -61,7 +50,7 @@ that_is (Some ino) q h = ap Some (sym (same_number q ino h))
 
 that_is_not : (o : Option ℕ) (q : ℕ) → is_that o q ≡ false → o ≡ Some q → ⊥
 that_is_not None q h e = none_some q e
-that_is_not (Some ino) q h e = apart q ino h (sym (some_same ino q e))
+that_is_not (Some ino) q h e = not_passed q ino h (same_some ino q e)
 
 -- ---- which texts there are after a change
 
@@ -85,7 +74,7 @@ has_without (Some ino) texts q s =
           subst (λ x. has_text (remove_entry (is_at (nat_cmp ino)) texts) x ≡ false) (sym (same_number q ino e))
           (ap is_some (lookup-none (is_at (nat_cmp ino)) (remove_entry (is_at (nat_cmp ino)) texts) (none_left ino texts s)))
       | false ↦ λ e.
-          ap is_some (lookup-remove_other (is_at (nat_cmp q)) (is_at (nat_cmp ino)) (λ k p. apart_from ino q k (apart q ino e) p) texts)
+          ap is_some (lookup-remove_other (is_at (nat_cmp q)) (is_at (nat_cmp ino)) (λ k p. apart_from ino q k (λ same. not_passed q ino e (sym same)) p) texts)
     ] refl
 
 ascend_with : (o : Option ℕ) (text : List ℕ) (texts : Texts) → IsStrictlySortedBy nat_cmp (keys_of texts)
@@ -98,34 +87,6 @@ ascend_without : (o : Option ℕ) (texts : Texts) → IsStrictlySortedBy nat_cmp
 ascend_without None texts s = s
 ascend_without (Some ino) texts s = ascend-remove_entry nat_cmp (is_at (nat_cmp ino)) texts s
 
--- ---- no event both makes a file and drops one
-
-abbrev MakesOrDrops : Effect → Type 0
-MakesOrDrops effect = (effect.made ≡ None) ⊎ (effect.dropped ≡ None)
-
-makes_or_drops : (fs : FileSystem) (event : Event) → MakesOrDrops (effect_of fs event)
-makes_or_drops fs (User uid groups) = inl refl
-makes_or_drops fs (Mkdir ino parent name perm) = inl refl
-makes_or_drops fs (Create ino parent name perm) = inr refl
-makes_or_drops fs (Text ino) = inl refl
-makes_or_drops fs (Link ino parent name) = inl refl
-makes_or_drops fs (Unlink parent name) = inl refl
-makes_or_drops fs (Rmdir parent name) = inl refl
-makes_or_drops fs (Rename parent name new_parent new_name) =
-    elim (is_same_node fs parent name new_parent new_name) as
-    (λ b. MakesOrDrops (cond b no_effect (record no_effect { dropped = dropped_at fs new_parent new_name }))) [
-      | true ↦ inl refl
-      | false ↦ inl refl
-    ]
-makes_or_drops fs (Chmod ino mode) = inl refl
-makes_or_drops fs (Chown ino uid gid) = inl refl
-
-accepted_effect : (o : Option Refusal) (then after : FileSystem) (told effect : Effect) → unless_refused o then told ≡ Ok (after, effect)
-    → told ≡ effect
-accepted_effect None then after told effect h = ap
-    (λ (r : Result (FileSystem × Effect) Refusal). (result_unwrap_or r (then, told)).1) h
-accepted_effect (Some refusal) then after told effect h = absurd cc
-
 -- ---- an accepted event
 
 not_true : (b : Bool) → (b ≡ true → ⊥) → false ≡ b
@@ -136,24 +97,23 @@ same_truth : (b c : Bool) → (b ≡ true → c ≡ true) → (c ≡ true → b 
 same_truth true c f g = sym (f refl)
 same_truth false c f g = not_true c (λ h. true_false (sym (g h)))
 
-module _ (before after : FileSystem) (effect : Effect) (tells : TellsFiles before effect after) (one : MakesOrDrops effect) (q : ℕ) where
+module _ (before after : FileSystem) (effect : Effect) (tells : TellsFiles before effect after) (q : ℕ) where
   by_cases : (texted made dropped : Bool) → is_that effect.texted q ≡ texted → is_that effect.made q ≡ made
       → is_that effect.dropped q ≡ dropped
       → cond texted true (cond made true (cond dropped false (is_file before q))) ≡ is_file after q
   by_cases true made dropped t m d = sym (tells.text q (that_is effect.texted q t))
   by_cases false true dropped t m d =
       let made : effect.made ≡ Some q = that_is effect.made q m in
-      sym ((tells.files q).1
-      (⊎_elim (λ n. absurd (none_some q (sym n ∙ made))) (λ n e. none_some q (sym n ∙ e)) one, inl made))
+      sym ((tells.files q).1 (tells.apart q made, inl made))
   by_cases false false true t m d = not_true (is_file after q) (λ h. ((tells.files q).0 h).0 (that_is effect.dropped q d))
   by_cases false false false t m d =
       same_truth (is_file before q) (is_file after q) (λ h. (tells.files q).1 (that_is_not effect.dropped q d, inr h))
       (λ h. ⊎_elim (λ e. absurd (that_is_not effect.made q m e)) (λ e. e) ((tells.files q).0 h).1)
 
 module _ (s : State) (has : HasTheTexts s) where
-  accepted : (after : FileSystem) (effect : Effect) (text : List ℕ) → TellsFiles s.tree effect after → MakesOrDrops effect
+  accepted : (after : FileSystem) (effect : Effect) (text : List ℕ) → TellsFiles s.tree effect after
       → HasTheTexts (record { tree = after; texts = texts_after effect text s.texts })
-  accepted after effect text tells one =
+  accepted after effect text tells =
       let left : Texts = without_text effect.dropped s.texts in
       let made : Texts = with_text effect.made [] left in
       record {
@@ -163,7 +123,7 @@ module _ (s : State) (has : HasTheTexts s) where
             ∙ ap (cond (is_that effect.texted q) true) (has_with effect.made [] left q
             ∙ ap (cond (is_that effect.made q) true) (has_without effect.dropped s.texts q has.ascend
             ∙ ap (cond (is_that effect.dropped q) false) (has.files q)))
-            ∙ by_cases s.tree after effect tells one q (is_that effect.texted q) (is_that effect.made q) (is_that effect.dropped q)
+            ∙ by_cases s.tree after effect tells q (is_that effect.texted q) (is_that effect.made q) (is_that effect.dropped q)
             refl refl refl;
       }
 
@@ -173,12 +133,9 @@ pub texts_stay : (s : State) (event : Event) (text : List ℕ) → IsTree s.tree
 texts_stay s event text t has =
     elim (tree_step s.tree event) as (λ r. tree_step s.tree event ≡ r → HasTheTexts (after_event s event text)) [
       | Ok p ↦ λ e.
-          let one : MakesOrDrops p.1 = subst MakesOrDrops
-          (accepted_effect (refusal_of s.tree event) (next s.tree event) p.0 (effect_of s.tree event) p.1 e)
-          (makes_or_drops s.tree event) in
           subst HasTheTexts
           (sym (ap (λ r. result_unwrap_or r s) (step-accepted s event text p.0 p.1 (texts_after p.1 text s.texts) e refl)))
-          (accepted s has p.0 p.1 text (effects_tell_files s.tree t event p.0 p.1 e) one)
+          (accepted s has p.0 p.1 text (effects_tell_files s.tree t event p.0 p.1 e))
       | Err refusal ↦ λ e. subst HasTheTexts (sym (ap (λ r. result_unwrap_or r s) (step-refused s event text refusal e))) has
     ] refl
 

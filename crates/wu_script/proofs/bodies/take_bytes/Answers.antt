@@ -1,10 +1,12 @@
-use Rattle.std.proofs.Common.{◌≡◌, ◌++◌, ◌<◌, [], refl, Ok, length, take, ap, ◌∙◌, append_assoc, append-nil, length-append, sym, arith}
+use Rattle.std.proofs.Common.{◌++◌, ◌<◌, [], refl, Ok, length, take, ap, ◌∙◌, append_assoc, append-nil, length-append, sym, arith}
 use Rattle.std.proofs.lemmas.List.{length-take}
-use Rattle.wu_script.specs.Holding.{Held, EndsEarly}
+use Rattle.wu_script.specs.Holding.{Held}
 use Rattle.wu_script.specs.declared.ends.ReadEnd.TheVariants.{NoMemory}
 use Rattle.wu_script.proofs.InputLemmas.{Uses-none, Uses-filled, part_taken, part_follows}
-use Rattle.wu_script.proofs.EarlyEndLemmas.{EndsEarly-memory, EndsEarly-after, IsCounted-after, cause_of, if_end}
+use Rattle.wu_script.proofs.EarlyEndLemmas.{UsesShort, EndsEarly-filling, EndsEarly-filled, IsCounted-after, cause_of}
+use Rattle.wu_script.proofs.bodies.take_bytes.Given as given
 use Rattle.wu_script.proofs.bodies.take_bytes.Goals as goal
+use Rattle.wu_script.proofs.bodies.take_bytes.Goals.{After-fill}
 
 pub returns-in-Ok-false-clause-taken : goal.returns-in-Ok-false-clause-taken
 returns-in-Ok-false-clause-taken g c =
@@ -57,30 +59,28 @@ parts-preserved g c =
           (filled.2 ∙ still.0, omega (arith, c.in_ok-part.ensures.count, still.1, same));
     }
 
+-- the parts so far are fewer bytes than are to be taken
+short : (g : given.Over) (c : After-fill g) → UsesShort (λ bs. length bs < c.args.count) (g.I.Source.left c.args.source.now)
+    (g.I.Source.left c.parts.source) c.args.input.now c.parts.input c.parts.invariant.so_far.0
+short g c = record {
+  uses = c.parts.invariant.so_far.1;
+  front = λ n. omega (arith, length-take n c.parts.invariant.so_far.0, c.parts.invariant.so_far.2);
+}
+
 pub returns-in-Err-clause-early : goal.returns-in-Err-clause-early
 returns-in-Err-clause-early g c =
     let left = g.I.Source.left in
-    let bytes = c.parts.invariant.so_far.0 in
-    EndsEarly-after (λ bs. length bs < c.args.count) (λ bs. bs ≡ []) (left c.args.source.now) (left c.parts.source) (left c.fill.new.source)
-    (g.I.Source.last_read c.fill.new.source) c.args.input.now c.parts.input c.in-Err.end bytes c.parts.invariant.so_far.1
-    (λ n. omega (arith, length-take n bytes, c.parts.invariant.so_far.2))
-    (λ more _ none. omega (arith, length-append bytes more, ap length none, c.parts.invariant.so_far.2))
-    c.in-Err.ensures.early
+    EndsEarly-filling (λ bs. length bs < c.args.count) (left c.args.source.now) (left c.parts.source) (left c.fill.new.source)
+    (g.I.Source.last_read c.fill.new.source) c.args.input.now c.parts.input c.in-Err.end c.parts.invariant.so_far.0
+    (short g (goal.at.returns-in-Err-clause-early g c).After-fill) c.in-Err.ensures.early
 
 pub returns-in_err-part-clause-early : goal.returns-in_err-part-clause-early
 returns-in_err-part-clause-early g c =
     let left = g.I.Source.left in
-    let bytes = c.parts.invariant.so_far.0 in
-    let filled = Uses-filled (left c.args.source.now) (left c.parts.source)
-    (left c.fill.new.source) c.args.input.now c.parts.input c.fill.new.self bytes c.parts.invariant.so_far.1 c.in-Ok-true.ensures.given in
-    if_end (EndsEarly (λ bs. length bs < c.args.count) (left c.args.source.now) (left c.fill.new.source)
-    (g.I.Source.last_read c.fill.new.source) c.args.input.now) NoMemory c.from_residual.result c.from_residual.ensures.1
-    (EndsEarly-after (λ bs. length bs < c.args.count) (λ bs. bs ≡ []) (left c.args.source.now) (left c.fill.new.source)
-    (left c.fill.new.source) (g.I.Source.last_read c.fill.new.source) c.args.input.now c.fill.new.self NoMemory bytes filled
-    (λ n. omega (arith, length-take n bytes, c.parts.invariant.so_far.2))
-    (λ more _ none. omega (arith, length-append bytes more, ap length none, c.parts.invariant.so_far.2))
-    (EndsEarly-memory (left c.fill.new.source)
-    (g.I.Source.last_read c.fill.new.source) c.fill.new.self c.in-Ok-true.ensures.follows.recent))
+    EndsEarly-filled (λ bs. length bs < c.args.count) (left c.args.source.now) (left c.parts.source) (left c.fill.new.source)
+    (g.I.Source.last_read c.fill.new.source) c.args.input.now c.parts.input c.fill.new.self c.parts.invariant.so_far.0
+    (short g (goal.at.returns-in_err-part-clause-early g c).After-fill) c.in-Ok-true.ensures.given c.in-Ok-true.ensures.follows.recent
+    c.from_residual.result c.from_residual.ensures.1
 
 pub returns-in-Ok-false-clause-cause : goal.returns-in-Ok-false-clause-cause
 returns-in-Ok-false-clause-cause g c = c.in-Ok-false.ensures.cause ∙ c.parts.invariant.steady

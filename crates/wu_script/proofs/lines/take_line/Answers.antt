@@ -1,12 +1,12 @@
-use Rattle.std.proofs.Common.{◌≡◌, ◌++◌, [], refl, sym, subst, ◌∙◌}
-use Rattle.wu_script.specs.Holding.{EndsEarly}
+use Rattle.std.proofs.Common.{◌++◌, refl, ◌∙◌}
 use Rattle.wu_script.specs.Taking.{IsOneLine}
 use Rattle.wu_script.specs.declared.ends.ReadEnd.TheVariants.{NoMemory}
-use Rattle.wu_script.proofs.InputLemmas.{Uses-filled}
-use Rattle.wu_script.proofs.EarlyEndLemmas.{EndsEarly-memory, EndsEarly-after, IsCounted-after, cause_of, if_end}
+use Rattle.wu_script.proofs.EarlyEndLemmas.{UsesShort, EndsEarly-filling, EndsEarly-filled, IsCounted-after, cause_of}
 use Rattle.wu_script.proofs.UnclosedLemmas.{one_line-take}
 use Rattle.wu_script.proofs.LineLemmas.{one_line, piece_taken, piece_follows, piece_ends, piece_open, feed_held, no_feed_held}
+use Rattle.wu_script.proofs.lines.take_line.Given as given
 use Rattle.wu_script.proofs.lines.take_line.Goals as goal
+use Rattle.wu_script.proofs.lines.take_line.Goals.{After-fill}
 
 pub returns-in_err-piece-clause-still : goal.returns-in_err-piece-clause-still
 returns-in_err-piece-clause-still g c = λ feed.
@@ -70,32 +70,28 @@ returns-in-Err-clause-still g c = λ feed.
     let still = c.pieces.invariant.still feed in
     (c.in-Err.ensures.still (feed_held c.pieces.input c.args.input.now still.0 feed)).2 ∙ still.1
 
+-- the pieces so far are one line
+short : (g : given.Over) (c : After-fill g) → UsesShort IsOneLine (g.I.Source.left c.args.source.now)
+    (g.I.Source.left c.pieces.source) c.args.input.now c.pieces.input c.pieces.invariant.so_far.0
+short g c = record {
+  uses = c.pieces.invariant.so_far.1;
+  front = λ n. one_line-take n c.pieces.invariant.so_far.0 c.pieces.invariant.so_far.2;
+}
+
 pub returns-in-Err-clause-early : goal.returns-in-Err-clause-early
 returns-in-Err-clause-early g c =
     let left = g.I.Source.left in
-    let text = c.pieces.invariant.so_far.0 in
-    let one = c.pieces.invariant.so_far.2 in
-    EndsEarly-after IsOneLine (λ bs. bs ≡ []) (left c.args.source.now) (left c.pieces.source) (left c.fill.new.source)
-    (g.I.Source.last_read c.fill.new.source) c.args.input.now c.pieces.input c.in-Err.end text c.pieces.invariant.so_far.1
-    (λ n. one_line-take n text one)
-    (λ more _ none. one_line text more one (subst IsOneLine (sym none) refl))
-    c.in-Err.ensures.early
+    EndsEarly-filling IsOneLine (left c.args.source.now) (left c.pieces.source) (left c.fill.new.source)
+    (g.I.Source.last_read c.fill.new.source) c.args.input.now c.pieces.input c.in-Err.end c.pieces.invariant.so_far.0
+    (short g (goal.at.returns-in-Err-clause-early g c).After-fill) c.in-Err.ensures.early
 
 pub returns-in_err-piece-clause-early : goal.returns-in_err-piece-clause-early
 returns-in_err-piece-clause-early g c =
     let left = g.I.Source.left in
-    let text = c.pieces.invariant.so_far.0 in
-    let one = c.pieces.invariant.so_far.2 in
-    let filled = Uses-filled (left c.args.source.now) (left c.pieces.source)
-    (left c.fill.new.source) c.args.input.now c.pieces.input c.fill.new.self text c.pieces.invariant.so_far.1 c.in-Ok-true.ensures.given in
-    if_end (EndsEarly IsOneLine (left c.args.source.now) (left c.fill.new.source)
-    (g.I.Source.last_read c.fill.new.source) c.args.input.now) NoMemory c.from_residual.result c.from_residual.ensures.1
-    (EndsEarly-after IsOneLine (λ bs. bs ≡ []) (left c.args.source.now) (left c.fill.new.source) (left c.fill.new.source)
-    (g.I.Source.last_read c.fill.new.source) c.args.input.now c.fill.new.self NoMemory text filled
-    (λ n. one_line-take n text one)
-    (λ more _ none. one_line text more one (subst IsOneLine (sym none) refl))
-    (EndsEarly-memory (left c.fill.new.source)
-    (g.I.Source.last_read c.fill.new.source) c.fill.new.self c.in-Ok-true.ensures.follows.recent))
+    EndsEarly-filled IsOneLine (left c.args.source.now) (left c.pieces.source) (left c.fill.new.source)
+    (g.I.Source.last_read c.fill.new.source) c.args.input.now c.pieces.input c.fill.new.self c.pieces.invariant.so_far.0
+    (short g (goal.at.returns-in_err-piece-clause-early g c).After-fill) c.in-Ok-true.ensures.given c.in-Ok-true.ensures.follows.recent
+    c.from_residual.result c.from_residual.ensures.1
 
 pub returns-in-Ok-false-clause-cause : goal.returns-in-Ok-false-clause-cause
 returns-in-Ok-false-clause-cause g c = c.in-Ok-false.ensures.cause ∙ c.pieces.invariant.steady

@@ -1,8 +1,7 @@
 -- without entries
-use Rattle.std.proofs.Common.{◌≡◌, ◌≤◌, ◌∙◌, ℕ, List, [], refl, sym, ap, subst, inl, inr, ⊎_elim, arith, rules}
+use Rattle.std.proofs.Common.{◌≡◌, ◌≤◌, ◌∙◌, ℕ, List, [], refl, sym, ap, subst, inl, inr, ⊎_elim, arith}
 use Rattle.std.specs.Prelude.{map}
 use Rattle.wu_base.proofs.Members.{Has}
-use Rattle.wu_tree.specs.FileSystems.{entries_of}
 use Rattle.wu_tree.specs.Paths.{children_of}
 use Rattle.wu_tree.specs.Inodes.{height_over_at}
 use Rattle.wu_tree.proofs.PathsDown.{children_named}

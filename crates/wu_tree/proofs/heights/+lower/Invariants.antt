@@ -1,4 +1,4 @@
-use Rattle.std.proofs.Common.{◌≡◌, ◌≤◌, ℕ}
+use Rattle.std.proofs.Common.{◌≤◌, ℕ}
 use Rattle.std.specs.Prelude.{◌⊎◌}
 use Rattle.wu_base.proofs.Members.{Has}
 use Rattle.wu_tree.specs.Paths.{children_of}

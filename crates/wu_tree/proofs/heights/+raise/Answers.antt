@@ -1,10 +1,9 @@
-use Rattle.std.proofs.Common.{◌≡◌, ◌<◌, ◌≤◌, ◌+◌, ◌∙◌, ℕ, List, sym, refl, ap, subst, min, arith, rules}
-use Rattle.std.specs.Prelude.{None, Some}
+use Rattle.std.proofs.Common.{◌≡◌, ◌≤◌, ◌+◌, ◌∙◌, ℕ, sym, refl, ap, min, arith, rules}
+use Rattle.std.specs.Prelude.{Some}
 use Rattle.std.specs.Ordering.{nat_cmp}
 use Rattle.std.specs.Map.{lookup}
-use Rattle.std.specs.BTreeMap.{get, is_at}
-use Rattle.wu_tree.specs.declared.inodes.Inode.{Inode}
-use Rattle.wu_tree.specs.Inodes.{height_at, height_in, higher_of, with_height}
+use Rattle.std.specs.BTreeMap.{is_at}
+use Rattle.wu_tree.specs.Inodes.{height_at, height_in}
 use Rattle.wu_tree.proofs.DirectoryHeights.{IsRaised, higher_parent, high_there, raise_below, raise_top}
 use Rattle.wu_tree.proofs.heights.+raise.Goals as goal
 

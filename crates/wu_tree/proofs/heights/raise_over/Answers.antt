@@ -1,4 +1,4 @@
-use Rattle.std.proofs.Common.{◌≡◌, ◌∙◌, refl, true, arith, rules}
+use Rattle.std.proofs.Common.{◌∙◌, refl, arith}
 use Rattle.wu_tree.proofs.DirectoryHeights.{there_again}
 use Rattle.wu_tree.proofs.heights.raise_over.Goals as goal
 

@@ -1,7 +1,4 @@
-use Rattle.std.proofs.Common.{◌≡◌, ◌-◌, true, is_some}
-use Rattle.std.specs.Ordering.{nat_cmp}
-use Rattle.std.specs.Map.{lookup}
-use Rattle.std.specs.BTreeMap.{is_at}
+use Rattle.std.proofs.Common.{◌≡◌, ◌-◌}
 use Rattle.wu_tree.specs.Inodes.{AreHeights, height_at, without_heights}
 use Rattle.wu_tree.proofs.heights.raise_over.Given as goal
 

@@ -11,7 +11,7 @@ pub loop-link-preserved : goal.loop-link-preserved
 loop-link-preserved c =
     let link = c.link-item.result in
     c.in_ok-insert.ensures.ok
-    ∙ ap (λ (l : List Link). insert_entry place_cmp l (link.parent, c.in_ok-name.name.items) link.child) c.loop-link.invariant
+    ∙ ap (λ (l : List Link). insert_entry place_cmp l (link.parent, c.as_slice.result.now) link.child) c.loop-link.invariant
     ∙ ap (λ (n : List ℕ). insert_entry place_cmp (map link_of (take c.loop-link.link-index c.args.links.now)) (link.parent, n) link.child)
-    (c.in_ok-name.ensures.items ∙ c.as_slice.ensures)
+    c.as_slice.ensures
     ∙ grown place_total link_of c.args.links.now c.loop-link.link-index link c.loop-link-test.true (sym c.link-item.is) c.requires

@@ -43,7 +43,7 @@ returns-in-Err-clause-err c =
     )
     (same_system _ _ c.self.inside.links c.self.inside.users.entries c.raise.ensures.nodes ∙ c.self.view_is)
 
-abbrev asked : (c : goal.In_default) → IsNewNode c.args.self.now c.args.ino c.args.parent c.args.name.items c.args.node
+abbrev asked : (c : goal.In_default) → IsNewNode c.args.self.now c.args.ino c.args.parent c.args.name.now c.args.node
 asked c = record {
   low = c.requires.low;
   mode = c.requires.mode;
@@ -67,9 +67,9 @@ room c =
 pub invariant_of-self-in_default : goal.invariant_of-self-in_default
 invariant_of-self-in_default c =
     rw (c.in_ok-insert.ensures.entries, c.in_default.ensures.ok, c.first.ensures)
-    (node_added _ _ _ _ c.self.invariant c.raise.ensures.nodes c.raise.ensures.heights _ c.self.view_is c.args.ino c.args.parent c.args.node c.args.name.items (asked c) (room c)).0
+    (node_added _ _ _ _ c.self.invariant c.raise.ensures.nodes c.raise.ensures.heights _ c.self.view_is c.args.ino c.args.parent c.args.node c.args.name.now (asked c) (room c)).0
 
 pub returns-clause-ok : goal.returns-clause-ok
 returns-clause-ok c =
     rw (c.in_ok-insert.ensures.entries, c.in_default.ensures.ok, c.first.ensures)
-    (node_added _ _ _ _ c.self.invariant c.raise.ensures.nodes c.raise.ensures.heights _ c.self.view_is c.args.ino c.args.parent c.args.node c.args.name.items (asked c) (room c)).1
+    (node_added _ _ _ _ c.self.invariant c.raise.ensures.nodes c.raise.ensures.heights _ c.self.view_is c.args.ino c.args.parent c.args.node c.args.name.now (asked c) (room c)).1

@@ -1,9 +1,13 @@
 use Rattle.std.proofs.Common.{sym}
-use Rattle.std.specs.BTreeMap.{is_at}
-use Rattle.wu_tree.specs.FileSystems.{place_cmp}
-use Rattle.wu_tree.proofs.TreeInvariant.{found_counted}
+use Rattle.wu_tree.proofs.Renames.{link_lost}
 use Rattle.wu_tree.proofs.trees.Tree.drop_link.Goals as goal
 
-pub has_one_link-requires : goal.has_one_link-requires
-has_one_link-requires c = found_counted c.args.self.now.links (is_at (place_cmp (c.args.parent, c.args.name.now))) c.in-Some.child
-    (sym c.in-Some.ensures)
+pub invariant_of-self : goal.invariant_of-self
+invariant_of-self c =
+    rw (c.drop_inode_link.ensures, c.remove.ensures)
+    (link_lost _ _ _ c.self.invariant _ c.self.view_is _ _ _ (sym c.in-Some.ensures) c.requires.leaf).0
+
+pub returns-in-Some : goal.returns-in-Some
+returns-in-Some c =
+    rw (c.drop_inode_link.ensures, c.remove.ensures)
+    (link_lost _ _ _ c.self.invariant _ c.self.view_is _ _ _ (sym c.in-Some.ensures) c.requires.leaf).1

@@ -1,0 +1,5 @@
+use Rattle.wu_frames.proofs.Keeping.{right-found}
+use Rattle.wu_frames.proofs.caches.FrameCache.frames_of.Goals as goal
+
+pub returns-in-Some : goal.returns-in-Some
+returns-in-Some c = right-found _ _ c.args.uid c.prepare.new.self c.in-Some.frames.now c.prepare.ensures.right c.in-Some.ensures

@@ -1,0 +1,8 @@
+use Rattle.std.proofs.Common.{rules}
+use Rattle.std.proofs.lemmas.List.Sorted.{IsNonDecreasingBy-from_sort_by_key}
+use Rattle.wu_frames.specs.declared.Frame.{Frame}
+use Rattle.wu_frames.proofs.making.by_address.Goals as goal
+
+pub returns-clause-order : goal.returns-clause-order
+returns-clause-order c =
+    IsNonDecreasingBy-from_sort_by_key (λ (x : Frame). x.range.start) _ c.sort_unstable_by_key.ensures.sorted (λ a r q k. search rules)

@@ -1,0 +1,6 @@
+-- ---- What a reader of the contracts trusts
+
+pub mod UserFrames
+-- ---- What only private functions and proofs need
+
+pub mod Making

@@ -1,0 +1,46 @@
+-- A user's frames: the live ranges of the files of her view, each with the file's number and its place in the view.
+use Rattle.std.specs.Prelude.{◌≡◌, ℕ, Option, List, map, sum_by, option_map, nat_eq, IsPermutation, filter_map}
+use Rattle.std.specs.List.{AllByRecursion, enumerate_from}
+use Rattle.std.specs.Map.{lookup}
+use Rattle.wu_base.specs.declared.addresses.Range.{Range}
+use Rattle.wu_tree.specs.FileSystems.{FileSystem}
+use Rattle.wu_view.specs.declared.Seen.{Seen}
+use Rattle.wu_view.specs.Views.{view_of}
+use Rattle.wu_space.specs.Addresses.{Ranges, AreApart, range_of}
+use Rattle.wu_frames.specs.declared.Frame.{Frame}
+use Rattle.wu_frames.specs.declared.Frames.{Frames}
+
+abbrev pub frame_with : ℕ → ℕ → Range → Frame
+frame_with place ino range = record { range = range; ino = ino; place = place }
+
+-- the frame of a file of the view, with its place there; none where the file has no live range
+abbrev pub frame_of : Ranges → ℕ × Seen → Option Frame
+frame_of ranges file = option_map (frame_with file.0 file.1.ino) (range_of ranges file.1.ino)
+
+-- a frame for each file of the view that has a live range, in the order of the view
+abbrev pub frames_in : Ranges → List Seen → List Frame
+frames_in ranges view = filter_map (frame_of ranges) (enumerate_from 0 view)
+
+abbrev pub length_of : List Range → ℕ
+length_of ranges = sum_by (λ range. range.len) ranges
+
+-- the frames of the user of that number, for that tree and those live ranges
+pub record AreFrames (fs : FileSystem) (live : Ranges) (uid : ℕ) (frames : Frames) : Type 0 where
+  pub view : frames.seen ≡ view_of fs uid
+  -- one frame for each file of the view, and no other
+  pub of_view : IsPermutation (frames_in live (view_of fs uid)) frames.by_address
+  pub ascending : AreApart frames.ranges
+  pub ranges_alone : frames.ranges ≡ map (λ frame. frame.range) frames.by_address
+  pub sum : frames.total ≡ length_of frames.ranges
+
+-- users, the one who asked last first, each with frames
+abbrev pub Kept : Type 0
+Kept = List (ℕ × Frames)
+
+-- the frames that are kept of the user
+abbrev pub frames_for : Kept → ℕ → Option Frames
+frames_for kept uid = lookup (nat_eq uid) kept
+
+-- what is kept was made for that tree and those live ranges
+abbrev pub AreFor : FileSystem → Ranges → Kept → Type 0
+AreFor fs live kept = AllByRecursion (λ entry. AreFrames fs live entry.0 entry.1) kept

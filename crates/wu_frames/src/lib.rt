@@ -1,0 +1,31 @@
+//! A user's frames: where the tokens of the files that she may search stand in the space of addresses.
+#![tactic(auto)]
+
+mod caches;
+mod making;
+
+pub use caches::{FrameCache, USERS_KEPT};
+use wu_base::{Ino, Range, Sequence};
+use wu_view::Seen;
+
+/// The live range of a file that a user may search.
+#[derive(Clone, Copy, Debug, PartialEq, Eq)]
+pub struct Frame {
+    pub range: Range,
+    pub ino: Ino,
+    /// Which file of her view it is, counted from 0.
+    pub place: u32,
+}
+
+/// The frames of a user, with her view.
+#[derive(Debug, Drop)]
+pub struct Frames {
+    /// Ascending by address.
+    pub by_address: Sequence<Frame>,
+    /// Her view: the files that she may search, by their least open paths.
+    pub seen: Sequence<Seen>,
+    /// The ranges of the frames, ascending.
+    pub ranges: Sequence<Range>,
+    /// How many addresses the ranges have together.
+    pub total: u64,
+}

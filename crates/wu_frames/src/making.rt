@@ -1,0 +1,86 @@
+//! Frames, made of a view and the live ranges.
+ghost use Rattle.std.specs.Prelude.{◌≡◌, ◌≤◌, ◌<◌, ◌^◌, ◌==◌, ℕ, IfOk, IsPermutation, count_by, map, sum_by, length};
+ghost use Rattle.std.specs.List.Sorted.{IsNonDecreasingBy};
+ghost use Rattle.wu_frames.specs.UserFrames.{AreFrames, frame_with, frames_in, length_of};
+
+use crate::{Frame, Frames};
+use std::alloc::Global;
+use wu_base::{Ino, NoMemory, Range, Sequence, Uid};
+use wu_space::Space;
+use wu_tree::Tree;
+use wu_view::{Seen, searchable};
+
+/// The frames of the user, made anew.
+pub(crate) fn made(alloc: Global, tree: &Tree, space: &Space, uid: Uid) -> Result<Frames, NoMemory>
+    ensures { IfOk result (λ frames. AreFrames tree.now space.now.ranges uid frames) }
+{
+    space.keeps_the_rules();
+    let seen = searchable(alloc, tree, uid)?;
+    let by_address = by_address(alloc, space, seen.as_slice())?;
+    let ranges = ranges_of(alloc, by_address.as_slice())?;
+    let total = length(ranges.as_slice());
+    Ok(Frames {
+        by_address: Sequence::from(by_address),
+        seen: Sequence::from(seen),
+        ranges: Sequence::from(ranges),
+        total,
+    })
+}
+
+/// The frames of the files, in the order of their first addresses.
+fn by_address(alloc: Global, space: &Space, seen: &[Seen]) -> Result<Vec<Frame>, NoMemory>
+    requires { (ino : ℕ) → count_by (λ file. file.ino == ino) seen.now ≤ 1 }
+    ensures frames { IfOk result (λ frames. IsPermutation (frames_in space.now.ranges seen.now) frames.items) }
+    ensures order { IfOk result (λ frames. IsNonDecreasingBy (λ frame. frame.range.start) frames.items) }
+{
+    let mut frames = in_view_order(alloc, space, seen)?;
+    frames.sort_unstable_by_key(|frame| frame.range.start);
+    Ok(frames)
+}
+
+/// The frames of the files, in the order of the files. A file's number has 32 bits and no file is there
+/// twice, so its place has 32 bits too.
+fn in_view_order(alloc: Global, space: &Space, seen: &[Seen]) -> Result<Vec<Frame>, NoMemory>
+    requires { (ino : ℕ) → count_by (λ file. file.ino == ino) seen.now ≤ 1 }
+    ensures { IfOk result (λ frames. frames.items ≡ frames_in space.now.ranges seen.now) }
+{
+    let mut frames = Vec::new(alloc);
+    for (place, file) in seen.iter().enumerate() {
+        match space.range_of(file.ino) {
+            Some(range) => frames.push(frame_at(place, file.ino, range))?,
+            None => {}
+        }
+    }
+    Ok(frames)
+}
+
+/// The frame of the file at that place of the view.
+fn frame_at(place: usize, ino: Ino, range: Range) -> Frame
+    requires { place < 2 ^ 32 }
+    ensures { result ≡ frame_with place ino range }
+{
+    Frame {
+        range,
+        ino,
+        place: place as u32,
+    }
+}
+
+/// The ranges of the frames.
+fn ranges_of(alloc: Global, frames: &[Frame]) -> Result<Vec<Range>, NoMemory>
+    ensures { IfOk result (λ ranges. ranges.items ≡ map (λ frame. frame.range) frames.now) }
+{
+    let mut ranges = Vec::with_capacity(alloc, frames.len())?;
+    for frame in frames {
+        ranges.push(frame.range)?;
+    }
+    Ok(ranges)
+}
+
+/// How many addresses the ranges have together.
+fn length(ranges: &[Range]) -> u64
+    requires { length_of ranges.now < 2 ^ 64 }
+    ensures { result ≡ length_of ranges.now }
+{
+    ranges.iter().map(|range| range.len).sum()
+}

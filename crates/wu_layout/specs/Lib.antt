@@ -1,0 +1,5 @@
+pub mod Postings
+pub mod Layouts
+pub mod Invariants
+pub mod Steps
+pub mod Changes

@@ -1,0 +1,9 @@
+pub mod BoundLemmas
+pub mod DirectoryLemmas
+pub mod HeaderLemmas
+pub mod LawLemmas
+pub mod PartLemmas
+pub mod ReadingLemmas
+pub mod SpellingLemmas
+pub mod TermLemmas
+pub mod WritingLemmas

@@ -1,0 +1,50 @@
+-- What is read of a directory, a piece at a time.
+use Rattle.std.specs.Prelude.{ℕ, List, [], ◌∷◌, ◌+◌, ◌-◌, ◌<◌, ◌≤◌, ◌≡◌, length}
+use Rattle.std.specs.List.{AllByRecursion, flat_map}
+use Rattle.wu_base.specs.declared.limits.TheConstants.{ADDRESSES_MAX, GENERATION_MAX}
+use Rattle.wu_part.specs.declared.entries.BlockEntry.{BlockEntry}
+use Rattle.wu_part.specs.declared.entries.TermEntry.{TermEntry}
+use Rattle.wu_part.specs.declared.reading.Head.{Head}
+use Rattle.wu_part.specs.Directories.{IsBlock, AreBlocks, IsEntry, StandFrom, all_blocks}
+use Rattle.wu_part.specs.Directories.{StartsWithNumbers, StartsWithEntry, SpellsEntries, block_numbers}
+
+-- the bytes start with a directory's numbers, and then come the entries
+pub record StartsWithHead (bytes : List ℕ) (head : Head) (entries : List ℕ) : Type 0 where
+  pub numbers : StartsWithNumbers bytes
+      (head.generation ∷ head.low ∷ (head.high - head.low) ∷ head.stored ∷ head.terms ∷ []) entries
+  pub generation : head.generation ≤ GENERATION_MAX
+  pub span : head.low ≤ head.high
+  pub below : head.high < ADDRESSES_MAX
+  pub some : 0 < head.stored
+  pub room : head.stored ≤ head.high - head.low + 1
+
+-- the bytes start with the numbers of this block, which begins at the place and ends at the part's end at the latest
+pub record IsNextBlock (head : Head) (size from count : ℕ) (bytes : List ℕ) (place : ℕ) (block : BlockEntry) (rest : List ℕ)
+    : Type 0 where
+  pub numbers : StartsWithNumbers bytes (block_numbers head.low block) rest
+  pub holds : IsBlock from head.high count block
+  pub begin : block.at ≡ place
+  pub within : place + block.len ≤ size
+
+-- the same of all blocks of so many addresses, none of them below from
+pub record AreNextBlocks (head : Head) (size from count : ℕ) (bytes : List ℕ) (place : ℕ) (blocks : List BlockEntry) (rest : List ℕ)
+    (end : ℕ) : Type 0 where
+  pub numbers : StartsWithNumbers bytes (flat_map (block_numbers head.low) blocks) rest
+  pub hold : AreBlocks from head.high count blocks
+  pub places : StandFrom place end blocks
+  pub within : end ≤ size
+
+-- the bytes start with this entry
+pub record IsNextEntry (head : Head) (size : ℕ) (bytes : List ℕ) (place : ℕ) (entry : TermEntry) (rest : List ℕ) (end : ℕ)
+    : Type 0 where
+  pub spelled : StartsWithEntry head.low bytes entry rest
+  pub holds : IsEntry head.low head.high entry
+  pub places : StandFrom place end entry.blocks
+  pub within : end ≤ size
+
+-- the bytes are those of so many entries
+pub record AreEntries (head : Head) (size count : ℕ) (bytes : List ℕ) (place : ℕ) (terms : List TermEntry) : Type 0 where
+  pub number : length terms ≡ count
+  pub spelled : SpellsEntries head.low terms bytes
+  pub hold : AllByRecursion (IsEntry head.low head.high) terms
+  pub places : StandFrom place size (all_blocks terms)
