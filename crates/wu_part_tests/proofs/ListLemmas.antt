@@ -66,7 +66,7 @@ pub addresses_more : (lists : List TermList) (place : ℕ) (list : TermList) (al
     → more ++ flat_map (λ l. l.at) (drop (place + 1) lists) ≡ whole
 addresses_more lists place list all more whole inside is e m =
     let next : drop place lists ≡ list ∷ drop (place + 1) lists =
-        drop_more lists place list inside ∙ ap (λ (x : TermList). x ∷ drop (place + 1) lists) (sym is) in
+    drop_more lists place list inside ∙ ap (λ (x : TermList). x ∷ drop (place + 1) lists) (sym is) in
     let later = flat_map (λ (l : TermList). l.at) (drop (place + 1) lists) in
     ap (λ x. x ++ later) m ∙ (append_assoc all list.at later
     ∙ (sym (ap (λ (x : List TermList). all ++ flat_map (λ l. l.at) x) next) ∙ e))

@@ -1,5 +1,5 @@
 -- Lists that make a part.
-use Rattle.std.specs.Prelude.{ℕ, List, ◌<◌, eqb, length, map}
+use Rattle.std.specs.Prelude.{List, ◌<◌, eqb, length, map}
 use Rattle.std.specs.List.{AllByRecursion, IsDistinct, flat_map}
 use Rattle.std.specs.List.Sorted.{IsStrictlySortedBy}
 use Rattle.std.specs.Cmp.Lexicographic.{slice_cmp}

@@ -31,7 +31,9 @@ pub fn compare_changes(rt: &(impl Print + AllocGlobal)) -> io::Result<()> {
     let counts = changed(rt.alloc())?;
     let (nothing, header) = (counts.nothing, counts.header);
     let (directory, blocks) = (counts.directory, counts.blocks);
-    println!(rt; "parts with a bit changed: {nothing} have no header, {header} no directory, {directory} a block that is no spelling, {blocks} are parts")
+    println!(rt;
+        "parts with a bit changed: {nothing} have no header, {header} no directory, {directory} a block that is no spelling, {blocks} are parts"
+    )
 }
 
 fn changed(alloc: Global) -> Result<Counts, NoAnswer> {

@@ -1,4 +1,4 @@
-use Rattle.std.proofs.Common.{◌≡◌, List, map, take}
+use Rattle.std.proofs.Common.{◌≡◌, map, take}
 use Rattle.std.specs.List.{AllByRecursion}
 use Rattle.wu_part.specs.Parts.{IsList}
 use Rattle.wu_part_tests.proofs.lists.term_lists.Given as goal
