@@ -1,0 +1,155 @@
+//! What a tree tells.
+use crate::events::name_of_word;
+use crate::nodes;
+use std::alloc::{AllocError, Global};
+use wu_access::UserRec;
+use wu_base::{Ino, Uid};
+use wu_rows::{NoAnswer, flag_text, number, number_text, optional_text, plain_text, shown, small_number};
+use wu_tree::{Node, Tree};
+use wu_view::searchable;
+
+/// What the tree tells at the call.
+pub fn answered(
+    alloc: Global,
+    tree: &Tree,
+    call: &str,
+    arguments: &[&str],
+) -> Result<String, NoAnswer> {
+    match (call, arguments) {
+        ("node" | "node_at" | "nodes" | "file_count", _) => {
+            of_nodes(alloc, tree, call, arguments)
+        }
+        ("names" | "entry" | "entries" | "child", _) => of_names(alloc, tree, call, arguments),
+        ("users" | "user_at" | "groups_of", _) => of_users(alloc, tree, call, arguments),
+        ("searchable", [uid]) => paths(alloc, tree, small_number(uid)?),
+        _ => Err(NoAnswer::BadRow),
+    }
+}
+
+fn of_nodes(
+    alloc: Global,
+    tree: &Tree,
+    call: &str,
+    arguments: &[&str],
+) -> Result<String, NoAnswer> {
+    match (call, arguments) {
+        ("node", [ino]) => {
+            let ino = small_number(ino)?;
+            node_text(alloc, tree.node(ino).map(|node| (ino, node)))
+        }
+        ("node_at", [place]) => node_text(alloc, tree.node_at(number(place)? as usize)),
+        ("nodes", []) => all_nodes(alloc, tree),
+        ("file_count", []) => Ok(number_text(alloc, tree.file_count())?),
+        _ => Err(NoAnswer::BadRow),
+    }
+}
+
+fn node_text(alloc: Global, found: Option<(Ino, Node)>) -> Result<String, NoAnswer> {
+    match found {
+        Some((ino, node)) => Ok(nodes::text(alloc, ino, &node)?),
+        None => Ok(plain_text(alloc, "none")?),
+    }
+}
+
+fn all_nodes(alloc: Global, tree: &Tree) -> Result<String, NoAnswer> {
+    let mut text = String::new(alloc);
+    for (ino, node) in tree.nodes() {
+        put_item(&mut text, nodes::text(alloc, ino, &node)?.as_str())?;
+    }
+    Ok(text)
+}
+
+/// Appends an item, with a comma before it where it is not the first.
+fn put_item(text: &mut String, item: &str) -> Result<(), AllocError> {
+    if !text.is_empty() {
+        text.push_str(", ")?;
+    }
+    text.push_str(item)
+}
+
+fn of_names(
+    alloc: Global,
+    tree: &Tree,
+    call: &str,
+    arguments: &[&str],
+) -> Result<String, NoAnswer> {
+    match (call, arguments) {
+        ("names", [dir]) => all_names(alloc, tree, small_number(dir)?),
+        ("entry", [dir, place]) => entry(alloc, tree, small_number(dir)?, number(place)?),
+        ("entries", [dir]) => Ok(flag_text(alloc, tree.entries(small_number(dir)?).is_some())?),
+        ("child", [dir, name]) => {
+            let name = name_of_word(alloc, name)?;
+            let child = tree.child(small_number(dir)?, name.as_slice());
+            Ok(optional_text(alloc, child.map(u64::from))?)
+        }
+        _ => Err(NoAnswer::BadRow),
+    }
+}
+
+fn all_names(alloc: Global, tree: &Tree, dir: Ino) -> Result<String, NoAnswer> {
+    let mut text = String::new(alloc);
+    for (name, child) in tree.names(dir) {
+        put_item(&mut text, name_text(alloc, name, child)?.as_str())?;
+    }
+    Ok(text)
+}
+
+fn entry(alloc: Global, tree: &Tree, dir: Ino, place: u64) -> Result<String, NoAnswer> {
+    match tree.entry(dir, place as usize) {
+        Some((name, child)) => name_text(alloc, name, child),
+        None => Ok(plain_text(alloc, "none")?),
+    }
+}
+
+fn name_text(alloc: Global, name: &[u8], child: Ino) -> Result<String, NoAnswer> {
+    let mut line = Vec::from_slice(alloc, name)?;
+    line.push(b'\n')?;
+    let name = shown(alloc, line.as_slice())?;
+    Ok(format!(in alloc; "{name} {child}")?)
+}
+
+fn of_users(
+    alloc: Global,
+    tree: &Tree,
+    call: &str,
+    arguments: &[&str],
+) -> Result<String, NoAnswer> {
+    match (call, arguments) {
+        ("users", []) => all_users(alloc, tree),
+        ("user_at", [place]) => match tree.user_at(number(place)? as usize) {
+            Some(user) => user_text(alloc, user),
+            None => Ok(plain_text(alloc, "none")?),
+        },
+        ("groups_of", [uid]) => groups_text(alloc, tree.groups_of(small_number(uid)?)),
+        _ => Err(NoAnswer::BadRow),
+    }
+}
+
+fn all_users(alloc: Global, tree: &Tree) -> Result<String, NoAnswer> {
+    let mut text = String::new(alloc);
+    for user in tree.users() {
+        put_item(&mut text, user_text(alloc, user)?.as_str())?;
+    }
+    Ok(text)
+}
+
+fn user_text(alloc: Global, user: &UserRec) -> Result<String, NoAnswer> {
+    let groups = groups_text(alloc, user.groups.as_slice())?;
+    Ok(format!(in alloc; "{} {groups}", user.uid)?)
+}
+
+fn groups_text(alloc: Global, groups: &[u32]) -> Result<String, NoAnswer> {
+    Ok(format!(in alloc; "{groups:?}")?)
+}
+
+/// The paths that the user sees, in the order of her view.
+fn paths(alloc: Global, tree: &Tree, uid: Uid) -> Result<String, NoAnswer> {
+    let mut out = Vec::new(alloc);
+    for seen in &searchable(alloc, tree, uid)? {
+        for path in seen.paths.as_slice() {
+            out.extend_from_slice(path.as_slice())?;
+            out.push(b'\n')?;
+        }
+    }
+    Ok(shown(alloc, out.as_slice())?)
+}
