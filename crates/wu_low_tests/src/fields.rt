@@ -1,95 +1,53 @@
-use std::test::Fail;
+//! Written fields, numbers and modes.
+use std::alloc::Global;
 use wu_fields::{put_decimal, put_field, read_decimal, read_octal_mode, split_fields};
+use wu_rows::{
+    NoAnswer, bytes, bytes_text, list_text, number, number_text, optional_text, plain_text,
+};
 
-#[test]
-fn a_line_is_split_at_tabs_and_unescaped(rt: HostRuntime) -> Result<(), Fail> {
-    let rows: [(&[u8], &[&[u8]]); 4] = [
-        (b"a\\tb\tc", &[b"a\tb", b"c"]),
-        (b"", &[b""]),
-        (b"\t\\\\n\\n", &[b"", b"\\n\n"]),
-        (b"a b\r", &[b"a b\r"]),
-    ];
-    for (line, wanted) in rows {
-        match split_fields(rt.alloc(), line)? {
-            Some(fields) => {
-                assert_eq!(rt; fields.len(), wanted.len());
-                for (field, bytes) in fields.iter().zip(wanted) {
-                    assert_eq!(rt; field.as_slice(), *bytes);
-                }
-            }
-            None => assert!(rt; false, "no fields"),
-        }
-    }
-    Ok(())
-}
-
-#[test]
-fn a_backslash_without_its_letter_is_a_fault(rt: HostRuntime) -> Result<(), Fail> {
-    let rows: [&[u8]; 4] = [b"a\\x", b"a\\", b"a\\\tb", b"ok\t\\T"];
-    for line in rows {
-        assert!(rt; split_fields(rt.alloc(), line)?.is_none());
-    }
-    Ok(())
-}
-
-#[test]
-fn fields_are_written_escaped(rt: HostRuntime) -> Result<(), Fail> {
-    let rows: [(&[u8], &[u8]); 3] = [
-        (b"a\t\\\n", b"a\\t\\\\\\n"),
-        (b"plain", b"plain"),
-        (b"", b""),
-    ];
-    for (field, written) in rows {
-        let mut out = Vec::new(rt.alloc());
-        put_field(&mut out, field)?;
-        assert_eq!(rt; out.as_slice(), written);
-    }
-    Ok(())
-}
-
-#[test]
-fn numbers_are_written_in_decimal(rt: HostRuntime) -> Result<(), Fail> {
-    let rows: [(u64, &[u8]); 3] = [
-        (0, b"0"),
-        (1024, b"1024"),
-        (u64::MAX, b"18446744073709551615"),
-    ];
-    for (number, written) in rows {
-        let mut out = Vec::new(rt.alloc());
-        put_decimal(&mut out, number)?;
-        assert_eq!(rt; out.as_slice(), written);
-    }
-    Ok(())
-}
-
-#[test]
-fn decimal_numbers_are_read_up_to_a_limit(rt: HostRuntime) {
-    let rows: [(&[u8], u64, Option<u64>); 8] = [
-        (b"007", 9, None),
-        (b"", 9, None),
-        (b"9", 8, None),
-        (b"+8", 8, None),
-        (b"0", 8, Some(0)),
-        (b"8", 8, Some(8)),
-        (b"18446744073709551615", u64::MAX, Some(u64::MAX)),
-        (b"18446744073709551616", u64::MAX, None),
-    ];
-    for (field, max, wanted) in rows {
-        assert_eq!(rt; read_decimal(field, max), wanted);
+/// The answer of the call to the arguments.
+pub fn answer(alloc: Global, call: &str, arguments: &[&str]) -> Result<String, NoAnswer> {
+    match (call, arguments) {
+        ("split_fields", [line]) => split(alloc, line),
+        ("put_field", [field]) => written_field(alloc, field),
+        ("put_decimal", [number]) => written_number(alloc, number),
+        ("read_decimal", [field, max]) => number_read(alloc, field, max),
+        ("read_octal_mode", [field]) => mode_read(alloc, field),
+        _ => Err(NoAnswer::BadRow),
     }
 }
 
-#[test]
-fn modes_are_read_in_octal(rt: HostRuntime) {
-    let rows: [(&[u8], Option<u16>); 6] = [
-        (b"0755", Some(493)),
-        (b"755", Some(493)),
-        (b"7777", Some(0o7777)),
-        (b"75", None),
-        (b"798", None),
-        (b"00755", None),
-    ];
-    for (field, wanted) in rows {
-        assert_eq!(rt; read_octal_mode(field), wanted);
+fn split(alloc: Global, line: &str) -> Result<String, NoAnswer> {
+    let line = bytes(alloc, line)?;
+    match split_fields(alloc, &line)? {
+        Some(fields) => list_text(alloc, &fields),
+        None => plain_text(alloc, "none"),
+    }
+}
+
+fn written_field(alloc: Global, field: &str) -> Result<String, NoAnswer> {
+    let field = bytes(alloc, field)?;
+    let mut out = Vec::new(alloc);
+    put_field(&mut out, &field)?;
+    bytes_text(alloc, &out)
+}
+
+fn written_number(alloc: Global, field: &str) -> Result<String, NoAnswer> {
+    let mut out = Vec::new(alloc);
+    put_decimal(&mut out, number(field)?)?;
+    bytes_text(alloc, &out)
+}
+
+fn number_read(alloc: Global, field: &str, max: &str) -> Result<String, NoAnswer> {
+    let max = number(max)?;
+    let field = bytes(alloc, field)?;
+    optional_text(alloc, read_decimal(&field, max))
+}
+
+fn mode_read(alloc: Global, field: &str) -> Result<String, NoAnswer> {
+    let field = bytes(alloc, field)?;
+    match read_octal_mode(&field) {
+        Some(mode) => number_text(alloc, u64::from(mode)),
+        None => plain_text(alloc, "none"),
     }
 }

@@ -1,73 +1,94 @@
-use std::cmp::Ordering;
-use std::test::Fail;
-use wu_base::{Bytes, NoMemory, Sequence, is_among, sorted_once};
+//! Byte strings and lists.
+use std::alloc::Global;
+use wu_base::{Bytes, NoMemory, Sequence, is_among};
+use wu_rows::{
+    NoAnswer, ascending_numbers, bytes, bytes_text, flag_text, number_text, numbers, numbers_text,
+    order_text, plain_text,
+};
 
-#[test]
-fn bytes_are_ordered_as_words_in_a_dictionary(rt: HostRuntime) -> Result<(), Fail> {
-    let rows: [(&[u8], &[u8], Ordering); 5] = [
-        (b"", b"", Ordering::Equal),
-        (b"", b"a", Ordering::Less),
-        (b"apple", b"pear", Ordering::Less),
-        (b"b", b"aa", Ordering::Greater),
-        (b"\xff", b"a", Ordering::Greater),
-    ];
-    for (left, right, order) in rows {
-        let left = Bytes::from_slice(rt.alloc(), left)?;
-        let right = Bytes::from(Vec::from_slice(rt.alloc(), right)?);
-        assert!(rt; left.cmp(&right) == order);
-        assert_eq!(rt; left == right, order == Ordering::Equal);
+/// The answer of the call to the arguments.
+pub fn answer(alloc: Global, call: &str, arguments: &[&str]) -> Result<String, NoAnswer> {
+    match (call, arguments) {
+        ("Bytes::cmp", [left, right]) => order_of_bytes(alloc, left, right),
+        ("Bytes::eq", [left, right]) => equality_of_bytes(alloc, left, right),
+        ("Bytes::as_slice", [field]) => bytes_seen(alloc, field),
+        ("Bytes::into_vec", [field]) => bytes_given_back(alloc, field),
+        ("Sequence::is_empty", [items]) => emptiness(alloc, items),
+        ("Sequence::len", [items]) => length(alloc, items),
+        ("Sequence::push", [items]) => items_pushed(alloc, items),
+        ("Sequence::cmp", [left, right]) => order_of_sequences(alloc, left, right),
+        ("sorted_once", [items]) => ascending(alloc, items),
+        ("is_among", [items]) => digits_among(alloc, items),
+        ("NoMemory", []) => Ok(format!(in alloc; "{NoMemory}")?),
+        _ => Err(NoAnswer::BadRow),
     }
-    Ok(())
 }
 
-#[test]
-fn bytes_are_given_back(rt: HostRuntime) -> Result<(), Fail> {
-    let apple = Bytes::from_slice(rt.alloc(), b"apple")?.clone()?;
-    assert_eq!(rt; apple.as_slice(), b"apple".as_slice());
-    assert_eq!(rt; apple.into_vec().as_slice(), b"apple".as_slice());
-    Ok(())
+fn order_of_bytes(alloc: Global, left: &str, right: &str) -> Result<String, NoAnswer> {
+    let left = Bytes::from(bytes(alloc, left)?);
+    let right = Bytes::from(bytes(alloc, right)?);
+    order_text(alloc, left.cmp(&right))
 }
 
-#[test]
-fn a_sequence_keeps_its_items_in_order(rt: HostRuntime) -> Result<(), Fail> {
-    let mut numbers = Sequence::new(rt.alloc());
-    assert!(rt; numbers.is_empty());
-    numbers.push(7u64)?;
-    numbers.push(3)?;
-    assert_eq!(rt; numbers.len(), 2);
-    assert_eq!(rt; numbers.clone()?.into_vec().as_slice(), [7, 3].as_slice());
-    let rows: [(&[u64], Ordering); 3] = [
-        (&[7, 4], Ordering::Less),
-        (&[7, 3], Ordering::Equal),
-        (&[7], Ordering::Greater),
-    ];
-    for (items, order) in rows {
-        let other = Sequence::from(Vec::from_slice(rt.alloc(), items)?);
-        assert!(rt; numbers.cmp(&other) == order);
+fn equality_of_bytes(alloc: Global, left: &str, right: &str) -> Result<String, NoAnswer> {
+    let left = Bytes::from(bytes(alloc, left)?);
+    let right = Bytes::from(bytes(alloc, right)?);
+    flag_text(alloc, left == right)
+}
+
+/// A clone of a copy of the bytes.
+fn copy_of(alloc: Global, field: &str) -> Result<Bytes, NoAnswer> {
+    let bytes = bytes(alloc, field)?;
+    Ok(Bytes::from_slice(alloc, &bytes)?.clone()?)
+}
+
+fn bytes_seen(alloc: Global, field: &str) -> Result<String, NoAnswer> {
+    bytes_text(alloc, copy_of(alloc, field)?.as_slice())
+}
+
+fn bytes_given_back(alloc: Global, field: &str) -> Result<String, NoAnswer> {
+    bytes_text(alloc, &copy_of(alloc, field)?.into_vec())
+}
+
+/// A sequence of the items, pushed one by one.
+fn pushed(alloc: Global, items: &str) -> Result<Sequence<u64>, NoAnswer> {
+    let mut sequence = Sequence::new(alloc);
+    for item in numbers(alloc, items)? {
+        sequence.push(item)?;
     }
-    Ok(())
+    Ok(sequence)
 }
 
-#[test]
-#[tactic(auto, using(std::proofs::lemmas::Map::Lookups::exact_unsigned))]
-fn repeats_go_and_the_rest_ascends(rt: HostRuntime) -> Result<(), Fail> {
-    let rows: [(&[u64], &[u64]); 3] = [(&[], &[]), (&[3, 1, 3, 2, 1], &[1, 2, 3]), (&[9, 9], &[9])];
-    for (items, ascending) in rows {
-        let ascending_items = sorted_once(Vec::from_slice(rt.alloc(), items)?);
-        assert_eq!(rt; ascending_items.as_slice(), ascending);
-        for item in 0..10u64 {
-            assert_eq!(rt;
-                is_among(&item, ascending_items.as_slice()),
-                items.contains(&item)
-            );
+fn emptiness(alloc: Global, items: &str) -> Result<String, NoAnswer> {
+    flag_text(alloc, pushed(alloc, items)?.is_empty())
+}
+
+fn length(alloc: Global, items: &str) -> Result<String, NoAnswer> {
+    number_text(alloc, pushed(alloc, items)?.len() as u64)
+}
+
+fn items_pushed(alloc: Global, items: &str) -> Result<String, NoAnswer> {
+    let copy = pushed(alloc, items)?.clone()?;
+    numbers_text(alloc, &copy.into_vec())
+}
+
+fn order_of_sequences(alloc: Global, left: &str, right: &str) -> Result<String, NoAnswer> {
+    let left = pushed(alloc, left)?;
+    let right = Sequence::from(numbers(alloc, right)?);
+    order_text(alloc, left.cmp(&right))
+}
+
+fn ascending(alloc: Global, items: &str) -> Result<String, NoAnswer> {
+    numbers_text(alloc, &ascending_numbers(alloc, items)?)
+}
+
+fn digits_among(alloc: Global, items: &str) -> Result<String, NoAnswer> {
+    let items = ascending_numbers(alloc, items)?;
+    let mut found = Vec::new(alloc);
+    for digit in 0..10u64 {
+        if is_among(&digit, &items) {
+            found.push(digit)?;
         }
     }
-    Ok(())
-}
-
-#[test]
-fn out_of_memory_has_a_text(rt: HostRuntime) -> Result<(), Fail> {
-    let text = format!(in rt.alloc(); "{NoMemory}")?;
-    assert_eq!(rt; text.as_str(), "no memory");
-    Ok(())
+    numbers_text(alloc, &found)
 }

@@ -1,16 +1,19 @@
+//! Logarithms.
+use std::alloc::Global;
 use wu_log2::lg;
+use wu_rows::{NoAnswer, number, number_text};
 
-#[test]
-fn known_logarithms(rt: HostRuntime) {
-    let rows = [
-        (1, 0),
-        (2, 65_536),
-        (3, 103_872),
-        (5, 152_169),
-        (6, 169_408),
-        (1 << 63, 4_128_768),
-    ];
-    for (n, want) in rows {
-        assert_eq!(rt; lg(n), want, "of {n}");
+/// The answer of the call to the arguments.
+pub fn answer(alloc: Global, call: &str, arguments: &[&str]) -> Result<String, NoAnswer> {
+    match (call, arguments) {
+        ("lg", [n]) => logarithm(alloc, number(n)?),
+        _ => Err(NoAnswer::BadRow),
     }
+}
+
+fn logarithm(alloc: Global, n: u64) -> Result<String, NoAnswer> {
+    if n < 1 {
+        return Err(NoAnswer::BadRow);
+    }
+    number_text(alloc, u64::from(lg(n)))
 }

@@ -1,125 +1,97 @@
-use std::test::Fail;
-use wu_vbyte::{put_block, put_number, take_block, take_number};
+//! Numbers and blocks in bytes.
+use std::alloc::Global;
+use std::io;
+use wu_rows::{NoAnswer, ascending_numbers, bytes, bytes_text, number, numbers_text, plain_text};
+use wu_vbyte::{BLOCK_LEN, put_block, put_number, take_block, take_number};
 
-#[test]
-fn numbers_are_spelled_in_seven_bits(rt: HostRuntime) -> Result<(), Fail> {
-    let rows: [(u64, &[u8]); 6] = [
-        (0, b"\x00"),
-        (127, b"\x7f"),
-        (128, b"\x80\x01"),
-        (300, b"\xac\x02"),
-        (16_384, b"\x80\x80\x01"),
-        (u64::MAX, b"\xff\xff\xff\xff\xff\xff\xff\xff\xff\x01"),
-    ];
-    for (number, code) in rows {
-        let mut out = Vec::new(rt.alloc());
-        put_number(&mut out, number)?;
-        assert_eq!(rt; out.as_slice(), code);
-    }
-    Ok(())
-}
-
-#[test]
-fn numbers_are_read_at_a_place(rt: HostRuntime) {
-    let rows: [(&[u8], usize, Option<(u64, usize)>); 14] = [
-        (b"\x00", 0, Some((0, 1))),
-        (b"\x7f\x7f", 0, Some((127, 1))),
-        (b"\x80\x80\x01\x05", 1, Some((128, 3))),
-        (b"\xac\x02\xff", 0, Some((300, 2))),
-        (
-            b"\xff\xff\xff\xff\xff\xff\xff\xff\xff\x01",
-            0,
-            Some((u64::MAX, 10)),
-        ),
-        (b"", 0, None),
-        (b"\x00", 1, None),
-        (b"\x80", 0, None),
-        (b"\x80\x00", 0, None),
-        (b"\xff\x80\x00", 0, None),
-        (b"\xff\xff\xff\xff\xff\xff\xff\xff\xff\x02", 0, None),
-        (b"\xff\xff\xff\xff\xff\xff\xff\xff\xff\x00", 0, None),
-        (b"\xff\xff\xff\xff\xff\xff\xff\xff\xff\x81\x00", 0, None),
-        (b"\xff\xff\xff\xff\xff\xff\xff\xff\xff\x81\x01", 0, None),
-    ];
-    for (bytes, place, wanted) in rows {
-        assert_eq!(rt; take_number(bytes, place), wanted);
+/// The answer of the call to the arguments.
+pub fn answer(alloc: Global, call: &str, arguments: &[&str]) -> Result<String, NoAnswer> {
+    match (call, arguments) {
+        ("put_number", [number]) => written_number(alloc, number),
+        ("take_number", [bytes, place]) => number_read(alloc, bytes, place),
+        ("put_block", [low, addresses]) => written_block(alloc, low, addresses),
+        ("take_block", [bytes, low, count, first, last]) => {
+            block_read(
+                alloc,
+                bytes,
+                number(low)?,
+                number(count)?,
+                number(first)?,
+                number(last)?,
+            )
+        }
+        _ => Err(NoAnswer::BadRow),
     }
 }
 
-#[test]
-fn numbers_beside_powers_of_two_are_read_back(rt: HostRuntime) -> Result<(), Fail> {
+fn written_number(alloc: Global, field: &str) -> Result<String, NoAnswer> {
+    let mut out = Vec::new(alloc);
+    put_number(&mut out, number(field)?)?;
+    bytes_text(alloc, &out)
+}
+
+fn number_read(alloc: Global, field: &str, place: &str) -> Result<String, NoAnswer> {
+    let place = number(place)? as usize;
+    let bytes = bytes(alloc, field)?;
+    if place > bytes.len() {
+        return Err(NoAnswer::BadRow);
+    }
+    match take_number(&bytes, place) {
+        Some((number, after)) => numbers_text(alloc, &[number, after as u64]),
+        None => plain_text(alloc, "none"),
+    }
+}
+
+fn written_block(alloc: Global, low: &str, addresses: &str) -> Result<String, NoAnswer> {
+    let low = number(low)?;
+    let addresses = ascending_numbers(alloc, addresses)?;
+    if addresses.is_empty() || addresses.len() > BLOCK_LEN || low > addresses[0] {
+        return Err(NoAnswer::BadRow);
+    }
+    let mut out = Vec::new(alloc);
+    put_block(&mut out, low, &addresses)?;
+    bytes_text(alloc, &out)
+}
+
+fn block_read(
+    alloc: Global,
+    field: &str,
+    low: u64,
+    count: u64,
+    first: u64,
+    last: u64,
+) -> Result<String, NoAnswer> {
+    let bytes = bytes(alloc, field)?;
+    match take_block(alloc, &bytes, low, count as usize, first, last)? {
+        Some(addresses) => numbers_text(alloc, &addresses),
+        None => plain_text(alloc, "none"),
+    }
+}
+
+/// Writes numbers beside each power of two and reads them back, and prints how many are the same.
+pub fn compare_powers(rt: &(impl Print + AllocGlobal)) -> io::Result<()> {
+    let mut numbers = 0u64;
+    let mut same = 0u64;
     for place in 0..64u32 {
         let power = 1u64 << place;
         for number in [power - 1, power, power | 1] {
-            let mut out = Vec::new(rt.alloc());
-            put_number(&mut out, number)?;
-            assert_eq!(rt; take_number(out.as_slice(), 0), Some((number, out.len())));
+            numbers = numbers.saturating_add(1);
+            same = same.saturating_add(u64::from(is_read_back(rt.alloc(), number)?));
         }
     }
-    Ok(())
+    println!(rt; "numbers beside powers of two: {same} of {numbers} are read back")
 }
 
-#[test]
-fn blocks_are_spelled_by_differences(rt: HostRuntime) -> Result<(), Fail> {
-    let rows: [(u64, &[u64], &[u8]); 3] = [
-        (2, &[6], b"\x04"),
-        (100, &[100, 101, 300], b"\x00\x01\xc7\x01"),
-        (0, &[u64::MAX], b"\xff\xff\xff\xff\xff\xff\xff\xff\xff\x01"),
-    ];
-    for (low, addresses, code) in rows {
-        let mut out = Vec::new(rt.alloc());
-        put_block(&mut out, low, addresses)?;
-        assert_eq!(rt; out.as_slice(), code);
-    }
-    Ok(())
+fn is_read_back(alloc: Global, number: u64) -> Result<bool, NoAnswer> {
+    let mut out = Vec::new(alloc);
+    put_number(&mut out, number)?;
+    Ok(is_whole(&out, number))
 }
 
-#[test]
-fn blocks_are_read_whole(rt: HostRuntime) -> Result<(), Fail> {
-    let rows: [(&[u8], u64, u64, u64, &[u64]); 3] = [
-        (b"\x04", 2, 6, 6, &[6]),
-        (b"\x00\x01\xc7\x01", 100, 100, 300, &[100, 101, 300]),
-        (
-            b"\x00\xff\xff\xff\xff\xff\xff\xff\xff\xff\x01",
-            0,
-            0,
-            u64::MAX,
-            &[0, u64::MAX],
-        ),
-    ];
-    for (bytes, low, first, last, wanted) in rows {
-        match take_block(rt.alloc(), bytes, low, wanted.len(), first, last)? {
-            Some(addresses) => assert_eq!(rt; addresses.as_slice(), wanted),
-            None => assert!(rt; false, "no block"),
-        }
+/// Whether the bytes are read as this number, all of them.
+fn is_whole(bytes: &[u8], number: u64) -> bool {
+    match take_number(bytes, 0) {
+        Some((found, after)) => found == number && after == bytes.len(),
+        None => false,
     }
-    Ok(())
-}
-
-#[test]
-fn other_bytes_are_no_block(rt: HostRuntime) -> Result<(), Fail> {
-    let rows: [(&[u8], u64, usize, u64, u64); 12] = [
-        (b"\x00\x00", 0, 2, 0, 0),
-        (b"\x00\x01\xc7\x01", 100, 2, 100, 101),
-        (b"\x00\x01\xc7\x01", 100, 4, 100, 300),
-        (b"\x00\x01\xc7\x01", 100, 3, 100, 301),
-        (b"\x00\x01\xc7\x01", 100, 3, 100, 299),
-        (b"\x00\x01\xc7\x01", 99, 3, 100, 300),
-        (b"\x00\x01\xc7\x01\x00", 100, 3, 100, 300),
-        (b"\x00\x01\xc7", 100, 3, 100, 300),
-        (b"\x04", 7, 1, 6, 6),
-        (b"", 0, 0, 0, 0),
-        (b"\x04", 2, usize::MAX, 6, 6),
-        (
-            b"\x01\xff\xff\xff\xff\xff\xff\xff\xff\xff\x01",
-            0,
-            2,
-            1,
-            u64::MAX,
-        ),
-    ];
-    for (bytes, low, count, first, last) in rows {
-        assert!(rt; take_block(rt.alloc(), bytes, low, count, first, last)?.is_none());
-    }
-    Ok(())
 }

@@ -6,10 +6,10 @@ ghost use Rattle.std.specs.Ordering.{nat_cmp};
 ghost use Rattle.wu_solve.specs.Addresses.{AreLists};
 ghost use Rattle.wu_solve.specs.Solving.{IsFrame};
 
-use crate::plain::solve_plainly;
 use std::alloc::Global;
 use wu_base::{Bytes, Extent, NoMemory, Range, Sequence, TEXT_MAX, TermList};
-use wu_gcl::{parse, terms_of};
+use wu_gcl::{Expr, terms_of};
+use wu_rows::{NoAnswer, byte_strings, numbers};
 use wu_solve::solve;
 use wu_token::tokens;
 
@@ -20,13 +20,13 @@ pub struct Corpus {
     pub frames: Vec<Range>,
 }
 
-/// The corpus of the texts.
-pub fn corpus_of(alloc: Global, texts: &[&[u8]]) -> Result<Corpus, NoMemory> {
+/// The corpus of the field's texts.
+pub fn corpus_of(alloc: Global, field: &str) -> Result<Corpus, NoAnswer> {
     let mut terms = Vec::new(alloc);
     let mut frames = Vec::new(alloc);
-    for text in texts {
+    for text in &byte_strings(alloc, field)? {
         let start = terms.len() as u64;
-        put_terms(alloc, &mut terms, text)?;
+        put_terms(alloc, &mut terms, text.as_slice())?;
         let len = (terms.len() as u64).saturating_sub(start);
         frames.push(Range { start, len })?;
     }
@@ -76,16 +76,18 @@ pub fn lists_of(alloc: Global, words: &[Bytes], terms: &[Bytes]) -> Result<Vec<T
 /// The lists of any words over the terms.
 pub fn word_lists(
     alloc: Global,
-    words: &[&[u8]],
+    words: &[Bytes],
     terms: &[Bytes],
 ) -> Result<Vec<TermList>, NoMemory>
     ensures { IfOk result (λ lists. All (λ word. IsStrictlyIncreasing word.at) lists.items) }
 {
     let mut lists = Vec::new(alloc);
     for word in words {
-        let term = Bytes::from_slice(alloc, word)?;
-        let at = Sequence::from(places_of(alloc, word, terms)?);
-        lists.push(TermList { term, at })?;
+        let at = Sequence::from(places_of(alloc, word.as_slice(), terms)?);
+        lists.push(TermList {
+            term: word.clone()?,
+            at,
+        })?;
     }
     Ok(lists)
 }
@@ -100,40 +102,39 @@ pub fn frame_of(corpus: &Corpus, number: usize) -> Range
     }
 }
 
-/// What the expression means over the terms, frame by frame; nothing, where the text spells none.
+/// The whole corpus as one frame; an empty one where it is too long.
+pub fn joined_frame(corpus: &Corpus) -> Range
+    ensures { IsFrame result }
+{
+    let len = corpus.terms.len() as u64;
+    if len < 1 << 46 {
+        Range { start: 0, len }
+    } else {
+        Range { start: 0, len: 0 }
+    }
+}
+
+/// The frames of the texts with the field's numbers.
+pub fn frames_of(alloc: Global, corpus: &Corpus, field: &str) -> Result<Vec<Range>, NoAnswer>
+    ensures { IfOk result (λ frames. All IsFrame frames.items) }
+{
+    let mut frames = Vec::new(alloc);
+    for number in &numbers(alloc, field)? {
+        frames.push(frame_of(corpus, *number as usize))?;
+    }
+    Ok(frames)
+}
+
+/// What the expression means over the terms, frame by frame.
 pub fn solved(
     alloc: Global,
-    text: &[u8],
+    expr: &Expr,
     terms: &[Bytes],
     frames: &[Range],
 ) -> Result<Vec<Extent>, NoMemory>
     requires { All IsFrame frames.now }
 {
-    match parse(alloc, text)? {
-        Ok(expr) => {
-            let words = terms_of(alloc, &expr)?;
-            let lists = lists_of(alloc, &words, terms)?;
-            solve(alloc, &expr, frames, &lists)
-        }
-        Err(_) => Ok(Vec::new(alloc)),
-    }
-}
-
-/// What the expression means in the frame, each extent of an operator found by trying all.
-pub fn solved_plainly(
-    alloc: Global,
-    text: &[u8],
-    terms: &[Bytes],
-    frame: Range,
-) -> Result<Vec<Extent>, NoMemory>
-    requires { IsFrame frame }
-{
-    match parse(alloc, text)? {
-        Ok(expr) => {
-            let words = terms_of(alloc, &expr)?;
-            let lists = lists_of(alloc, &words, terms)?;
-            solve_plainly(alloc, &expr, frame, &lists)
-        }
-        Err(_) => Ok(Vec::new(alloc)),
-    }
+    let words = terms_of(alloc, expr)?;
+    let lists = lists_of(alloc, &words, terms)?;
+    solve(alloc, expr, frames, &lists)
 }

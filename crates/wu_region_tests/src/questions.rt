@@ -1,55 +1,72 @@
 //! Comparing questions and answers.
-use std::test::Fail;
+use crate::expressions::expression;
+use std::alloc::Global;
 use wu_ask::{Answered, Ask, Query, RankLine};
-use wu_base::{Bytes, Sequence};
-use wu_gcl::{Expr, parse};
+use wu_base::{Bytes, NoMemory, Sequence};
+use wu_gcl::Expr;
+use wu_rows::{NoAnswer, flag_text};
 
-#[test]
-fn questions_are_compared(rt: HostRuntime) -> Result<(), Fail> {
-    let Ok(expr) = parse(rt.alloc(), b"file")? else {
-        return Err(Fail::from("not read"));
-    };
-    let count = Query {
-        uid: 5,
-        ask: Ask::Count { expr },
-    };
-    let same = Query {
-        uid: 5,
-        ask: Ask::Count { expr: Expr::File },
-    };
-    assert!(rt; count == same);
-    let paths = Query {
-        uid: 5,
-        ask: Ask::Paths,
-    };
-    assert!(rt; count != paths);
-    let ranking = |k: u32| Query {
-        uid: 5,
-        ask: Ask::Rank {
-            k,
-            unit: Expr::Line,
-            words: Sequence::new(rt.alloc()),
-        },
-    };
-    assert!(rt; ranking(9) == ranking(9));
-    assert!(rt; ranking(9) != ranking(8));
-    Ok(())
+/// The answer of the call to the arguments.
+pub fn answer(alloc: Global, call: &str, arguments: &[&str]) -> Result<String, NoAnswer> {
+    match (call, arguments) {
+        ("Query::eq", [left, right]) => {
+            let equal = query_named(alloc, left)? == query_named(alloc, right)?;
+            flag_text(alloc, equal)
+        }
+        ("Answered::eq", [left, right]) => {
+            let equal = answered_named(alloc, left)? == answered_named(alloc, right)?;
+            flag_text(alloc, equal)
+        }
+        _ => Err(NoAnswer::BadRow),
+    }
 }
 
-#[test]
-fn answers_are_compared(rt: HostRuntime) -> Result<(), Fail> {
-    let mut paths = Sequence::new(rt.alloc());
-    paths.push(Bytes::from_slice(rt.alloc(), b"/a")?)?;
-    let answered = Answered::Paths { paths };
-    assert!(rt; answered != Answered::Count { hits: 1, files: 1 });
-    let mut shown = Sequence::new(rt.alloc());
+/// A question of user 5.
+fn query_named(alloc: Global, name: &str) -> Result<Query, NoAnswer> {
+    let ask = match name {
+        "count, read" => Ask::Count {
+            expr: expression(alloc, "file")?,
+        },
+        "count" => Ask::Count { expr: Expr::File },
+        "paths" => Ask::Paths,
+        "rank 8" => ranking(alloc, 8),
+        "rank 9" => ranking(alloc, 9),
+        _ => return Err(NoAnswer::BadRow),
+    };
+    Ok(Query { uid: 5, ask })
+}
+
+fn ranking(alloc: Global, k: u32) -> Ask {
+    Ask::Rank {
+        k,
+        unit: Expr::Line,
+        words: Sequence::new(alloc),
+    }
+}
+
+fn answered_named(alloc: Global, name: &str) -> Result<Answered, NoAnswer> {
+    match name {
+        "count 1" => Ok(Answered::Count { hits: 1, files: 1 }),
+        "count 2" => Ok(Answered::Count { hits: 2, files: 1 }),
+        "paths" => Ok(one_path(alloc)?),
+        "rank" => Ok(one_line(alloc)?),
+        _ => Err(NoAnswer::BadRow),
+    }
+}
+
+fn one_path(alloc: Global) -> Result<Answered, NoMemory> {
+    let mut paths = Sequence::new(alloc);
+    paths.push(Bytes::from_slice(alloc, b"/a")?)?;
+    Ok(Answered::Paths { paths })
+}
+
+fn one_line(alloc: Global) -> Result<Answered, NoMemory> {
+    let mut shown = Sequence::new(alloc);
     shown.push(RankLine {
         score: 3,
-        path: Bytes::from_slice(rt.alloc(), b"/a")?,
+        path: Bytes::from_slice(alloc, b"/a")?,
         start: 0,
         end: 4,
     })?;
-    assert!(rt; Answered::Rank { listed: 1, shown } != answered);
-    assert!(rt; Answered::Count { hits: 2, files: 1 } == Answered::Count { hits: 2, files: 1 });
-    Ok(())
+    Ok(Answered::Rank { listed: 1, shown })
 }

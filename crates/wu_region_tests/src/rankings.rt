@@ -4,13 +4,52 @@ ghost use Rattle.std.specs.List.{All};
 ghost use Rattle.std.specs.List.Sorted.{IsStrictlyIncreasing};
 ghost use Rattle.wu_rank.specs.Scores.{length_of};
 
+use crate::expressions::expression;
 use crate::fixtures::{Corpus, corpus_of, frame_of, solved, word_lists};
 use std::alloc::Global;
-use std::test::Fail;
 use wu_base::{NoMemory, TermList};
+use wu_gcl::Expr;
 use wu_rank::{
     Ranked, Ranker, Ranking, Unit, any_order_of_units, bm25_weigh, one_order, rank, summed_length,
 };
+use wu_rows::{
+    NoAnswer, byte_strings, number, number_text, numbers_text, optional_numbers, plain_text,
+    small_number,
+};
+
+/// The answer of the call to the arguments.
+pub fn answer(alloc: Global, call: &str, arguments: &[&str]) -> Result<String, NoAnswer> {
+    match (call, arguments) {
+        ("bm25_weigh", [idf, f, l, n, t]) => weight(
+            alloc,
+            small_number(idf)?,
+            number(f)?,
+            number(l)?,
+            number(n)?,
+            number(t)?,
+        ),
+        ("rank", [texts, places, k, unit, words]) => {
+            ranked(alloc, texts, places, small_number(k)?, unit, words)
+        }
+        ("one_order", []) => {
+            one_order();
+            plain_text(alloc, "a law")
+        }
+        ("any_order_of_units", []) => {
+            any_order_of_units();
+            plain_text(alloc, "a law")
+        }
+        _ => Err(NoAnswer::BadRow),
+    }
+}
+
+fn weight(alloc: Global, idf: u32, f: u64, l: u64, n: u64, t: u64) -> Result<String, NoAnswer> {
+    let in_range = idf <= 1 << 22 && f <= l && l < 1 << 26;
+    if !in_range || n < 1 || n > 1 << 47 || t < 1 {
+        return Err(NoAnswer::BadRow);
+    }
+    number_text(alloc, bm25_weigh(idf, f, l, n, u128::from(t)))
+}
 
 /// Whether each unit is short enough to be ranked.
 fn are_short(units: &[Unit]) -> bool
@@ -29,13 +68,13 @@ fn units_of(
     alloc: Global,
     corpus: &Corpus,
     places: &[Option<u32>],
-    text: &[u8],
+    unit: &Expr,
 ) -> Result<Vec<Unit>, NoMemory> {
     let mut units = Vec::new(alloc);
     for number in 0..places.len() {
         if let Some(place) = places[number] {
             let frame = frame_of(corpus, number);
-            for extent in &solved(alloc, text, &corpus.terms, &[frame])? {
+            for extent in &solved(alloc, unit, &corpus.terms, &[frame])? {
                 units.push(Unit {
                     extent: *extent,
                     place,
@@ -67,213 +106,53 @@ fn ranking_of(
     Ok(Some(rank(alloc, units, lists, k, &ranker)?))
 }
 
-/// A unit as it is shown: its score, its text's place, and its first and last place in the text.
-type Line = (u64, u32, u64, u64);
-
 /// The address of the first term of the text at the place.
 fn start_of(corpus: &Corpus, places: &[Option<u32>], place: u32) -> u64 {
     let number = places.iter().position(|other| *other == Some(place));
     frame_of(corpus, number.unwrap_or(0)).start
 }
 
-fn line_of(corpus: &Corpus, places: &[Option<u32>], ranked: &Ranked) -> Line {
+/// A unit as it is shown: its score, its text's place, and its first and last place in the text.
+fn line_of(corpus: &Corpus, places: &[Option<u32>], ranked: &Ranked) -> [u64; 4] {
     let place = ranked.unit.place;
     let start = start_of(corpus, places, place);
-    (
+    [
         ranked.score,
-        place,
+        u64::from(place),
         ranked.unit.extent.start.saturating_sub(start),
         ranked.unit.extent.end.saturating_sub(start),
-    )
+    ]
 }
 
-/// A question for a ranking, and what it lists and shows.
-#[derive(Drop)]
-struct Row<'a> {
-    places: &'a [Option<u32>],
+/// How many units are listed, and then each unit that is shown.
+fn ranked(
+    alloc: Global,
+    texts: &str,
+    places: &str,
     k: u32,
-    unit: &'a [u8],
-    words: &'a [&'a [u8]],
-    listed: u64,
-    shown: &'a [Line],
-}
-
-/// Whether the ranking of the texts is the expected one.
-fn is_ranked(alloc: Global, corpus: &Corpus, row: &Row<'_>) -> Result<bool, NoMemory> {
-    let units = units_of(alloc, corpus, row.places, row.unit)?;
-    let lists = word_lists(alloc, row.words, &corpus.terms)?;
-    let Some(ranking) = ranking_of(alloc, &units, &lists, row.k)? else {
-        return Ok(false);
+    unit: &str,
+    words: &str,
+) -> Result<String, NoAnswer> {
+    let corpus = corpus_of(alloc, texts)?;
+    let places = optional_numbers(alloc, places)?;
+    let units = units_of(alloc, &corpus, &places, &expression(alloc, unit)?)?;
+    let lists = word_lists(alloc, &byte_strings(alloc, words)?, &corpus.terms)?;
+    let Some(ranking) = ranking_of(alloc, &units, &lists, k)? else {
+        return Err(NoAnswer::BadRow);
     };
-    let top = ranking.top.as_slice();
-    for (ranked, line) in top.iter().zip(row.shown) {
-        if line_of(corpus, row.places, ranked) != *line {
-            return Ok(false);
-        }
-    }
-    Ok(ranking.listed == row.listed && top.len() == row.shown.len())
+    numbers_text(alloc, &shown(alloc, &corpus, &places, &ranking)?)
 }
 
-#[test]
-fn weights_are_rounded_down(rt: HostRuntime) {
-    for (idf, f, want) in [(65_536, 1, 68_067), (0, 1, 0), (65_536, 0, 0)] {
-        assert_eq!(rt; bm25_weigh(idf, f, 5, 2, 11), want);
+fn shown(
+    alloc: Global,
+    corpus: &Corpus,
+    places: &[Option<u32>],
+    ranking: &Ranking,
+) -> Result<Vec<u64>, NoMemory> {
+    let mut numbers = Vec::new(alloc);
+    numbers.push(ranking.listed)?;
+    for ranked in ranking.top.as_slice() {
+        numbers.extend_from_slice(&line_of(corpus, places, ranked))?;
     }
-}
-
-#[test]
-fn a_word_in_one_of_two_files(rt: HostRuntime) -> Result<(), Fail> {
-    let corpus = corpus_of(rt.alloc(), &[b"apple", b"apple", b"pear plum", b"apple"])?;
-    let apple: &[&[u8]] = &[b"apple"];
-    let expected: &[Line] = &[(68_067, 0, 0, 4)];
-    let rows = [
-        Row {
-            places: &[Some(0), None, Some(1), None],
-            k: 10,
-            unit: b"file",
-            words: apple,
-            listed: 1,
-            shown: expected,
-        },
-        Row {
-            places: &[None, Some(0), Some(1)],
-            k: 5,
-            unit: b"file",
-            words: apple,
-            listed: 1,
-            shown: expected,
-        },
-        Row {
-            places: &[],
-            k: 5,
-            unit: b"file",
-            words: apple,
-            listed: 0,
-            shown: &[],
-        },
-        Row {
-            places: &[None, Some(0), Some(1)],
-            k: 5,
-            unit: b"file",
-            words: &[],
-            listed: 0,
-            shown: &[],
-        },
-    ];
-    for row in &rows {
-        assert!(rt; is_ranked(rt.alloc(), &corpus, row)?);
-    }
-    one_order();
-    any_order_of_units();
-    Ok(())
-}
-
-#[test]
-fn equal_scores_stand_by_place(rt: HostRuntime) -> Result<(), Fail> {
-    let corpus = corpus_of(rt.alloc(), &[b"apple", b"apple", b"pear"])?;
-    let places: &[Option<u32>] = &[Some(1), Some(0), Some(2)];
-    let once: &[&[u8]] = &[b"apple"];
-    let twice: &[&[u8]] = &[b"apple", b"apple"];
-    let rows = [
-        Row {
-            places,
-            k: 9,
-            unit: b"file",
-            words: once,
-            listed: 2,
-            shown: &[(38_336, 0, 0, 4), (38_336, 1, 0, 4)],
-        },
-        Row {
-            places,
-            k: 9,
-            unit: b"file",
-            words: twice,
-            listed: 2,
-            shown: &[(76_672, 0, 0, 4), (76_672, 1, 0, 4)],
-        },
-        Row {
-            places,
-            k: 1,
-            unit: b"file",
-            words: twice,
-            listed: 2,
-            shown: &[(76_672, 0, 0, 4)],
-        },
-        Row {
-            places,
-            k: 0,
-            unit: b"file",
-            words: once,
-            listed: 2,
-            shown: &[],
-        },
-    ];
-    for row in &rows {
-        assert!(rt; is_ranked(rt.alloc(), &corpus, row)?);
-    }
-    Ok(())
-}
-
-/// Mail, notes and plans of three users.
-const HOME: [&[u8]; 5] = [
-    b"From bob\nlunch at noon\n",
-    b"budget draft\ncall bob about budget\n",
-    b"send budget to ann\n",
-    b"Budget plan 2005\nlunch budget\n",
-    b"see plan\n",
-];
-
-#[test]
-fn three_users_rank_what_they_see(rt: HostRuntime) -> Result<(), Fail> {
-    let corpus = corpus_of(rt.alloc(), &HOME)?;
-    let first: &[Option<u32>] = &[Some(0), Some(1), None, Some(2), Some(3)];
-    let second: &[Option<u32>] = &[None, Some(0), Some(2), Some(1), Some(3)];
-    let third: &[Option<u32>] = &[None, Some(0)];
-    let budget: &[&[u8]] = &[b"budget"];
-    let rows = [
-        Row {
-            places: first,
-            k: 3,
-            unit: b"file",
-            words: budget,
-            listed: 2,
-            shown: &[(87_646, 2, 0, 10), (85_313, 1, 0, 11)],
-        },
-        Row {
-            places: second,
-            k: 3,
-            unit: b"file",
-            words: budget,
-            listed: 3,
-            shown: &[(35_510, 1, 0, 10), (34_514, 0, 0, 11), (28_791, 2, 0, 7)],
-        },
-        Row {
-            places: third,
-            k: 1,
-            unit: b"file",
-            words: budget,
-            listed: 1,
-            shown: &[(0, 0, 0, 11)],
-        },
-        Row {
-            places: third,
-            k: 10,
-            unit: b"line",
-            words: &[b"budget", b"bob"],
-            listed: 2,
-            shown: &[(60_579, 0, 5, 10), (0, 0, 1, 4)],
-        },
-        Row {
-            places: second,
-            k: 1,
-            unit: b"line",
-            words: &[b"lunch", b"budget"],
-            listed: 5,
-            shown: &[(200_810, 1, 6, 9)],
-        },
-    ];
-    for row in &rows {
-        assert!(rt; is_ranked(rt.alloc(), &corpus, row)?);
-    }
-    Ok(())
+    Ok(numbers)
 }

@@ -1,6 +1,7 @@
 //! Comparing the answers of calls with those of a table.
 use std::alloc::{AllocError, AllocFailed, Global};
 use std::io;
+use std::io::ErrorKind;
 use wu_base::NoMemory;
 
 /// Why a row has no answer.
@@ -26,6 +27,15 @@ impl From<AllocError> for NoAnswer {
 impl<T: Drop> From<AllocFailed<T>> for NoAnswer {
     fn from(_error: AllocFailed<T>) -> NoAnswer {
         NoAnswer::NoMemory
+    }
+}
+
+impl From<NoAnswer> for io::Error {
+    fn from(no_answer: NoAnswer) -> io::Error {
+        match no_answer {
+            NoAnswer::BadRow => io::Error::from(ErrorKind::InvalidInput),
+            NoAnswer::NoMemory => io::Error::from(AllocError),
+        }
     }
 }
 
@@ -124,7 +134,7 @@ pub fn is_expected<R: Print + AllocGlobal>(
             println!(rt; "{row}: got {text}")?;
         }
         Err(NoAnswer::BadRow) => println!(rt; "{row}: bad row")?,
-        Err(NoAnswer::NoMemory) => return Err(io::Error::from(AllocError)),
+        Err(NoAnswer::NoMemory) => return Err(io::Error::from(NoAnswer::NoMemory)),
     }
     Ok(false)
 }
@@ -146,7 +156,7 @@ where
 }
 
 /// The fields of the row.
-pub fn fields_of(alloc: Global, row: &str) -> Result<Vec<&str>, AllocError> {
+pub fn fields_of(alloc: Global, row: &str) -> Result<Vec<&str>, NoAnswer> {
     let mut fields = Vec::new(alloc);
     for field in row.split('\t') {
         fields.push(field)?;

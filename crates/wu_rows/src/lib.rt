@@ -14,7 +14,8 @@ pub use answers::{
     order_text, plain_text, put_extent,
 };
 pub use arguments::{
-    ascending_numbers, byte_strings, bytes, number, numbers, optional_numbers, small_number,
+    ascending_numbers, byte_strings, bytes, first_word, number, numbers, optional_numbers, pieces,
+    small_number, small_numbers,
 };
 pub use comparing::{NoAnswer, compare};
 pub use tables::{Subject, compare_tables};

@@ -1,9 +1,8 @@
 //! Scripts, outputs and command lines as they are written in a row.
-use crate::answers::bytes_text;
+use crate::answers::{bytes_text, put_byte};
 use crate::arguments::{bytes, number};
 use crate::comparing::NoAnswer;
-use bstr::ByteSlice;
-use std::alloc::{AllocError, Global};
+use std::alloc::Global;
 
 /// The bytes that the field is written for, where `~` stands for TAB and `{64*a }` for 64 times `a `.
 pub fn script(alloc: Global, field: &str) -> Result<Vec<u8>, NoAnswer> {
@@ -34,7 +33,7 @@ fn put_repeated(alloc: Global, script: &mut Vec<u8>, repeated: &str) -> Result<(
 }
 
 /// Appends the bytes that the text is written for.
-fn put_tabbed(alloc: Global, script: &mut Vec<u8>, text: &str) -> Result<(), AllocError> {
+fn put_tabbed(alloc: Global, script: &mut Vec<u8>, text: &str) -> Result<(), NoAnswer> {
     for byte in &bytes(alloc, text)? {
         script.push(if *byte == b'~' { b'\t' } else { *byte })?;
     }
@@ -42,22 +41,22 @@ fn put_tabbed(alloc: Global, script: &mut Vec<u8>, text: &str) -> Result<(), All
 }
 
 /// An output as a script is written, without the line feed at its end. One that has none there is written in brackets.
-pub fn shown(alloc: Global, output: &[u8]) -> Result<String, AllocError> {
+pub fn shown(alloc: Global, output: &[u8]) -> Result<String, NoAnswer> {
     match output {
         [] => Ok(String::new(alloc)),
         [lines @ .., b'\n'] if !lines.is_empty() => {
-            let mut tilded = Vec::new(alloc);
+            let mut text = String::new(alloc);
             for byte in lines {
-                tilded.push(if *byte == b'\t' { b'~' } else { *byte })?;
+                put_byte(&mut text, if *byte == b'\t' { b'~' } else { *byte })?;
             }
-            format!(in alloc; "{}", tilded.as_slice().escape_bytes())
+            Ok(text)
         }
         _ => bytes_text(alloc, output),
     }
 }
 
 /// The words of the field, with a space between each two; `''` is the empty word.
-pub fn words(alloc: Global, field: &str) -> Result<Vec<&str>, AllocError> {
+pub fn words(alloc: Global, field: &str) -> Result<Vec<&str>, NoAnswer> {
     let mut words = Vec::new(alloc);
     for word in field.split_whitespace() {
         words.push(if word == "''" { "" } else { word })?;

@@ -19,7 +19,7 @@ pub fn said(alloc: Global, field: &str) -> Result<String, NoAnswer> {
         Line::Command(Command::Update(event)) => event_text(alloc, &event),
         Line::Command(Command::Ask(query)) => query_text(alloc, &query),
         Line::TextHead { ino, len } => Ok(format!(in alloc; "text {ino} {len}")?),
-        Line::Blank => Ok(plain_text(alloc, "blank")?),
+        Line::Blank => plain_text(alloc, "blank"),
     }
 }
 
@@ -29,7 +29,7 @@ fn event_text(alloc: Global, event: &Event) -> Result<String, NoAnswer> {
             let name = bytes_text(alloc, name.as_slice())?;
             Ok(format!(in alloc; "create {name}")?)
         }
-        _ => Ok(plain_text(alloc, "update")?),
+        _ => plain_text(alloc, "update"),
     }
 }
 
@@ -38,7 +38,7 @@ fn query_text(alloc: Global, query: &Query) -> Result<String, NoAnswer> {
         Ask::Rank { k, unit, words } => {
             ranking_text(alloc, query.uid, *k, unit, words.as_slice())
         }
-        _ => Ok(plain_text(alloc, "ask")?),
+        _ => plain_text(alloc, "ask"),
     }
 }
 

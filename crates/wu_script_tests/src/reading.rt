@@ -26,7 +26,7 @@ pub fn asked(alloc: Global, max_input: &str, field: &str) -> Result<String, NoAn
         reads: 0,
     };
     words_of_items(alloc, &mut source, number(max_input)?)?;
-    Ok(numbers_text(alloc, &source.asked[..source.reads.min(4)])?)
+    numbers_text(alloc, &source.asked[..source.reads.min(4)])
 }
 
 /// The text of the end of this name.

@@ -11,7 +11,7 @@ pub fn written(alloc: Global, fields: &[&str]) -> Result<String, NoAnswer> {
     let reply = reply(alloc, fields)?;
     let mut out = Vec::new(alloc);
     put_reply(&mut out, &reply)?;
-    Ok(shown(alloc, out.as_slice())?)
+    shown(alloc, out.as_slice())
 }
 
 fn reply(alloc: Global, fields: &[&str]) -> Result<Reply, NoAnswer> {

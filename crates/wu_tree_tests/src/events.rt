@@ -26,7 +26,7 @@ fn make_chain(alloc: Global, tree: &mut Tree, depth: Ino) -> Result<String, NoAn
             return answer_text(alloc, Err(refusal));
         }
     }
-    Ok(plain_text(alloc, "done")?)
+    plain_text(alloc, "done")
 }
 
 /// The event that makes the directory `d` in the one of this number, with the number after it.
@@ -53,11 +53,11 @@ fn answer_text(alloc: Global, answer: Result<Effect, Refusal>) -> Result<String,
 
 fn effect_text(alloc: Global, effect: &Effect) -> Result<String, NoAnswer> {
     match (effect.made, effect.dropped, effect.texted) {
-        (None, None, None) => Ok(plain_text(alloc, "done")?),
+        (None, None, None) => plain_text(alloc, "done"),
         (Some(ino), None, None) => Ok(format!(in alloc; "made {ino}")?),
         (None, Some(ino), None) => Ok(format!(in alloc; "dropped {ino}")?),
         (None, None, Some(ino)) => Ok(format!(in alloc; "texted {ino}")?),
-        _ => Ok(plain_text(alloc, "more than one")?),
+        _ => plain_text(alloc, "more than one"),
     }
 }
 

@@ -1,5 +1,5 @@
 //! Nodes as rows write them.
-use std::alloc::{AllocError, Global};
+use std::alloc::Global;
 use wu_access::Perm;
 use wu_base::Ino;
 use wu_rows::{NoAnswer, small_number};
@@ -32,11 +32,11 @@ pub fn mode_of(field: &str) -> Result<u16, NoAnswer> {
 }
 
 /// A node as the words of a row.
-pub fn text(alloc: Global, ino: Ino, node: &Node) -> Result<String, AllocError> {
+pub fn text(alloc: Global, ino: Ino, node: &Node) -> Result<String, NoAnswer> {
     let kind = match node.kind {
         Kind::Directory => "directory",
         Kind::File => "file",
     };
     let perm = &node.perm;
-    format!(in alloc; "{kind} {ino} {} {} {:o}", perm.uid, perm.gid, perm.mode)
+    Ok(format!(in alloc; "{kind} {ino} {} {} {:o}", perm.uid, perm.gid, perm.mode)?)
 }

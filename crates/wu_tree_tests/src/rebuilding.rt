@@ -13,7 +13,7 @@ pub fn made(alloc: Global, nodes: &str, links: &str, users: &str) -> Result<Stri
     let links = links_of(alloc, links)?;
     let users = users_of(alloc, users)?;
     let tree = Tree::rebuild(alloc, nodes.as_slice(), links.as_slice(), users.as_slice())?;
-    Ok(flag_text(alloc, tree.is_some())?)
+    flag_text(alloc, tree.is_some())
 }
 
 fn nodes_of(alloc: Global, field: &str) -> Result<Vec<(Ino, Node)>, NoAnswer> {
@@ -81,7 +81,7 @@ pub fn chain_made(alloc: Global, depth: &str, letters: &str) -> Result<String, N
     }
     nodes.push(directory(depth))?;
     let tree = Tree::rebuild(alloc, nodes.as_slice(), links.as_slice(), &[])?;
-    Ok(flag_text(alloc, tree.is_some())?)
+    flag_text(alloc, tree.is_some())
 }
 
 fn directory(ino: Ino) -> (Ino, Node) {

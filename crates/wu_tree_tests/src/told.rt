@@ -39,15 +39,15 @@ fn of_nodes(
         }
         ("node_at", [place]) => node_text(alloc, tree.node_at(number(place)? as usize)),
         ("nodes", []) => all_nodes(alloc, tree),
-        ("file_count", []) => Ok(number_text(alloc, tree.file_count())?),
+        ("file_count", []) => number_text(alloc, tree.file_count()),
         _ => Err(NoAnswer::BadRow),
     }
 }
 
 fn node_text(alloc: Global, found: Option<(Ino, Node)>) -> Result<String, NoAnswer> {
     match found {
-        Some((ino, node)) => Ok(nodes::text(alloc, ino, &node)?),
-        None => Ok(plain_text(alloc, "none")?),
+        Some((ino, node)) => nodes::text(alloc, ino, &node),
+        None => plain_text(alloc, "none"),
     }
 }
 
@@ -76,11 +76,11 @@ fn of_names(
     match (call, arguments) {
         ("names", [dir]) => all_names(alloc, tree, small_number(dir)?),
         ("entry", [dir, place]) => entry(alloc, tree, small_number(dir)?, number(place)?),
-        ("entries", [dir]) => Ok(flag_text(alloc, tree.entries(small_number(dir)?).is_some())?),
+        ("entries", [dir]) => flag_text(alloc, tree.entries(small_number(dir)?).is_some()),
         ("child", [dir, name]) => {
             let name = name_of_word(alloc, name)?;
             let child = tree.child(small_number(dir)?, name.as_slice());
-            Ok(optional_text(alloc, child.map(u64::from))?)
+            optional_text(alloc, child.map(u64::from))
         }
         _ => Err(NoAnswer::BadRow),
     }
@@ -97,7 +97,7 @@ fn all_names(alloc: Global, tree: &Tree, dir: Ino) -> Result<String, NoAnswer> {
 fn entry(alloc: Global, tree: &Tree, dir: Ino, place: u64) -> Result<String, NoAnswer> {
     match tree.entry(dir, place as usize) {
         Some((name, child)) => name_text(alloc, name, child),
-        None => Ok(plain_text(alloc, "none")?),
+        None => plain_text(alloc, "none"),
     }
 }
 
@@ -118,7 +118,7 @@ fn of_users(
         ("users", []) => all_users(alloc, tree),
         ("user_at", [place]) => match tree.user_at(number(place)? as usize) {
             Some(user) => user_text(alloc, user),
-            None => Ok(plain_text(alloc, "none")?),
+            None => plain_text(alloc, "none"),
         },
         ("groups_of", [uid]) => groups_text(alloc, tree.groups_of(small_number(uid)?)),
         _ => Err(NoAnswer::BadRow),
@@ -151,5 +151,5 @@ fn paths(alloc: Global, tree: &Tree, uid: Uid) -> Result<String, NoAnswer> {
             out.push(b'\n')?;
         }
     }
-    Ok(shown(alloc, out.as_slice())?)
+    shown(alloc, out.as_slice())
 }

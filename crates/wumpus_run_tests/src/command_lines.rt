@@ -1,5 +1,5 @@
 //! What command lines ask for.
-use std::alloc::{AllocError, Global};
+use std::alloc::Global;
 use wu_options::{CommandLine, read_command_line};
 use wu_rows::{NoAnswer, plain_text, words};
 
@@ -7,15 +7,15 @@ use wu_rows::{NoAnswer, plain_text, words};
 pub fn asked_for(alloc: Global, field: &str) -> Result<String, NoAnswer> {
     let words = words(alloc, field)?;
     let line = read_command_line(alloc, words.as_slice())?;
-    Ok(text_of(alloc, line)?)
+    text_of(alloc, line)
 }
 
-fn text_of(alloc: Global, line: Option<CommandLine>) -> Result<String, AllocError> {
+fn text_of(alloc: Global, line: Option<CommandLine>) -> Result<String, NoAnswer> {
     match line {
         Some(CommandLine::Run(settings)) => {
-            format!(in alloc; "run {} {}", settings.max_input, settings.flush_at)
+            Ok(format!(in alloc; "run {} {}", settings.max_input, settings.flush_at)?)
         }
-        Some(CommandLine::Demo(number)) => format!(in alloc; "demo {number}"),
+        Some(CommandLine::Demo(number)) => Ok(format!(in alloc; "demo {number}")?),
         None => plain_text(alloc, "none"),
     }
 }

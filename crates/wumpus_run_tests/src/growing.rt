@@ -1,6 +1,6 @@
 //! Sessions over scripts that are made.
 use crate::sessions::whole_output;
-use std::alloc::{AllocError, Global};
+use std::alloc::Global;
 use std::io;
 use wu_rows::{NoAnswer, script};
 
@@ -11,16 +11,11 @@ fn agrees(alloc: Global, commands: &str, replies: &str) -> Result<bool, NoAnswer
 }
 
 /// Prints whether what was compared agrees.
-fn report(
-    rt: &(impl Print + AllocGlobal),
-    title: &str,
-    agrees: Result<bool, NoAnswer>,
-) -> io::Result<()> {
-    match agrees {
-        Ok(true) => println!(rt; "{title}: agrees"),
-        Ok(false) => println!(rt; "{title}: differs"),
-        Err(NoAnswer::BadRow) => println!(rt; "{title}: no answer"),
-        Err(NoAnswer::NoMemory) => Err(io::Error::from(AllocError)),
+fn report(rt: &impl Print, title: &str, agrees: bool) -> io::Result<()> {
+    if agrees {
+        println!(rt; "{title}: agrees")
+    } else {
+        println!(rt; "{title}: differs")
     }
 }
 
@@ -30,7 +25,7 @@ pub fn compare_depths(rt: &(impl Print + AllocGlobal)) -> io::Result<()> {
     report(
         rt,
         "255 directories in one another, and one too many",
-        depths_agree(alloc),
+        depths_agree(alloc)?,
     )
 }
 
@@ -47,11 +42,11 @@ fn depths_agree(alloc: Global) -> Result<bool, NoAnswer> {
 /// A ranking beside files of other users, which it does not depend on.
 pub fn compare_strangers(rt: &(impl Print + AllocGlobal)) -> io::Result<()> {
     let alloc = rt.alloc();
-    report(rt, "a ranking alone", ranking_agrees(alloc, 0))?;
+    report(rt, "a ranking alone", ranking_agrees(alloc, 0)?)?;
     report(
         rt,
         "a ranking beside 100 files of another user",
-        ranking_agrees(alloc, 100),
+        ranking_agrees(alloc, 100)?,
     )
 }
 

@@ -41,5 +41,5 @@ pub fn output(alloc: Global, most: &str, field: &str) -> Result<String, NoAnswer
     if status.code() != 0 {
         return Err(NoAnswer::BadRow);
     }
-    Ok(shown(alloc, sink.gained())?)
+    shown(alloc, sink.gained())
 }

@@ -68,7 +68,7 @@ impl Session {
 /// What a session over the script writes.
 pub fn output(alloc: Global, field: &str) -> Result<String, NoAnswer> {
     let output = whole_output(alloc, script(alloc, field)?)?;
-    Ok(shown(alloc, output.as_slice())?)
+    shown(alloc, output.as_slice())
 }
 
 /// What a session over the script writes, which ends as it should.

@@ -6,7 +6,7 @@ use wumpus_run::Status;
 /// The code of the status of this name.
 pub fn code(alloc: Global, name: &str) -> Result<String, NoAnswer> {
     let status = named(name)?;
-    Ok(number_text(alloc, u64::from(status.code()))?)
+    number_text(alloc, u64::from(status.code()))
 }
 
 fn named(name: &str) -> Result<Status, NoAnswer> {
