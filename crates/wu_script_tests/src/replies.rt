@@ -23,15 +23,7 @@ fn reply(alloc: Global, fields: &[&str]) -> Result<Reply, NoAnswer> {
         },
         ["count", hits, files] => count(hits, files),
         ["paths", path] => one_path(alloc, path),
-        ["rank", listed, score, path, start, end] => {
-            let shown = RankLine {
-                score: number(score)?,
-                path: Bytes::from(bytes(alloc, path)?),
-                start: number(start)?,
-                end: number(end)?,
-            };
-            one_region(alloc, number(listed)?, shown)
-        }
+        ["rank", fields @ ..] => one_region(alloc, fields),
         _ => Err(NoAnswer::BadRow),
     }
 }
@@ -50,9 +42,22 @@ fn one_path(alloc: Global, path: &str) -> Result<Reply, NoAnswer> {
     Ok(Reply::Answered(Answered::Paths { paths }))
 }
 
-/// The reply that shows one region.
-fn one_region(alloc: Global, listed: u64, line: RankLine) -> Result<Reply, NoAnswer> {
+/// The reply that shows one region: how many are listed, its score, its path, its start and its end.
+fn one_region(alloc: Global, fields: &[&str]) -> Result<Reply, NoAnswer> {
+    let [listed, score, path, start, end] = fields else {
+        return Err(NoAnswer::BadRow);
+    };
+    let listed = number(listed)?;
+    let score = number(score)?;
+    let start = number(start)?;
+    let end = number(end)?;
+    let path = Bytes::from(bytes(alloc, path)?);
     let mut shown = Sequence::new(alloc);
-    shown.push(line)?;
+    shown.push(RankLine {
+        score,
+        path,
+        start,
+        end,
+    })?;
     Ok(Reply::Answered(Answered::Rank { listed, shown }))
 }

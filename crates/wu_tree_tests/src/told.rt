@@ -4,8 +4,8 @@ use crate::nodes;
 use std::alloc::{AllocError, Global};
 use wu_access::UserRec;
 use wu_base::{Ino, Uid};
-use wu_rows::{NoAnswer, flag_text, number, number_text, optional_text, plain_text, shown, small_number};
-use wu_tree::{Node, Tree};
+use wu_rows::{NoAnswer, flag_text, number, number_text, plain_text, shown, small_number};
+use wu_tree::Tree;
 use wu_view::searchable;
 
 /// What the tree tells at the call.
@@ -33,19 +33,23 @@ fn of_nodes(
     arguments: &[&str],
 ) -> Result<String, NoAnswer> {
     match (call, arguments) {
-        ("node", [ino]) => {
-            let ino = small_number(ino)?;
-            node_text(alloc, tree.node(ino).map(|node| (ino, node)))
-        }
-        ("node_at", [place]) => node_text(alloc, tree.node_at(number(place)? as usize)),
+        ("node", [ino]) => node(alloc, tree, small_number(ino)?),
+        ("node_at", [place]) => node_at(alloc, tree, number(place)?),
         ("nodes", []) => all_nodes(alloc, tree),
         ("file_count", []) => number_text(alloc, tree.file_count()),
         _ => Err(NoAnswer::BadRow),
     }
 }
 
-fn node_text(alloc: Global, found: Option<(Ino, Node)>) -> Result<String, NoAnswer> {
-    match found {
+fn node(alloc: Global, tree: &Tree, ino: Ino) -> Result<String, NoAnswer> {
+    match tree.node(ino) {
+        Some(node) => nodes::text(alloc, ino, &node),
+        None => plain_text(alloc, "none"),
+    }
+}
+
+fn node_at(alloc: Global, tree: &Tree, place: u64) -> Result<String, NoAnswer> {
+    match tree.node_at(place as usize) {
         Some((ino, node)) => nodes::text(alloc, ino, &node),
         None => plain_text(alloc, "none"),
     }
@@ -77,11 +81,7 @@ fn of_names(
         ("names", [dir]) => all_names(alloc, tree, small_number(dir)?),
         ("entry", [dir, place]) => entry(alloc, tree, small_number(dir)?, number(place)?),
         ("entries", [dir]) => flag_text(alloc, tree.entries(small_number(dir)?).is_some()),
-        ("child", [dir, name]) => {
-            let name = name_of_word(alloc, name)?;
-            let child = tree.child(small_number(dir)?, name.as_slice());
-            optional_text(alloc, child.map(u64::from))
-        }
+        ("child", [dir, name]) => child(alloc, tree, small_number(dir)?, name),
         _ => Err(NoAnswer::BadRow),
     }
 }
@@ -97,6 +97,14 @@ fn all_names(alloc: Global, tree: &Tree, dir: Ino) -> Result<String, NoAnswer> {
 fn entry(alloc: Global, tree: &Tree, dir: Ino, place: u64) -> Result<String, NoAnswer> {
     match tree.entry(dir, place as usize) {
         Some((name, child)) => name_text(alloc, name, child),
+        None => plain_text(alloc, "none"),
+    }
+}
+
+fn child(alloc: Global, tree: &Tree, dir: Ino, name: &str) -> Result<String, NoAnswer> {
+    let name = name_of_word(alloc, name)?;
+    match tree.child(dir, name.as_slice()) {
+        Some(child) => number_text(alloc, u64::from(child)),
         None => plain_text(alloc, "none"),
     }
 }
