@@ -90,3 +90,6 @@ fn message(status: Status) -> Option<&'static str>
         Status::InputTooLong => Some("input too long"),
     }
 }
+
+#[cfg(test)]
+mod tests;
