@@ -137,6 +137,7 @@ fn place_of(terms: &[TermEntry], term: &[u8]) -> Option<usize>
 
 /// The entry of a term, and how far its blocks have been gone through: contracts see the entry of
 /// the blocks that are left and the addresses in them.
+#[derive(Drop)]
 pub struct Entry<'a> {
     term: &'a [u8],
     count: u64,
