@@ -1,6 +1,7 @@
 -- The snippet of an extent of a text: the first line that shares an address with it. Addresses are counted from 0 at `<file>`,
 -- and the tags `<line>` and `</line>` of a line are at the first and the last of its addresses.
-use Rattle.std.specs.Prelude.{ℕ, ◌+◌, ◌-◌, ◌<◌, ◌≤◌, Bool, ◌&&◌, nat_le, List, [], ◌∷◌, filter, take, length}
+use Rattle.std.specs.Prelude.{⊤, ℕ, ◌+◌, ◌-◌, ◌<◌, ◌≤◌, Bool, ◌&&◌, nat_le, List, [], ◌∷◌, filter, take, length}
+use Rattle.std.specs.List.{AllByRecursion}
 use Rattle.wu_base.specs.declared.addresses.Extent.{Extent}
 use Rattle.wu_base.specs.declared.limits.TheConstants.{SNIPPET_MAX}
 use Rattle.wu_token.specs.Tokens.{lines_of, line_tokens_of, tokens_of}
@@ -40,3 +41,13 @@ first_shown (line ∷ more) = record { line = line.number; bytes = take SNIPPET_
 -- the snippet of an extent
 unfoldable pub snippet_of : List ℕ → Extent → Snip
 snippet_of text extent = first_shown (filter (meets extent) (numbered_lines_of text))
+
+-- starts and ends before the other one does
+pub record IsBefore (extent other : Extent) : Type 0 where
+  pub starts : extent.start < other.start
+  pub ends : extent.end < other.end
+
+-- starts and ends both ascend strictly
+abbrev pub IsAscending : List Extent → Type 0
+IsAscending [] = ⊤
+IsAscending (extent ∷ more) = AllByRecursion (IsBefore extent) more × IsAscending more

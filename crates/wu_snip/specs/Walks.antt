@@ -1,6 +1,6 @@
 -- What is left of a walk over the lines of a text.
 use Rattle.std.specs.Prelude.{⊤, ◌≡◌, ℕ, ◌+◌, ◌<◌, ◌≤◌, ◌^◌, nat_le, List, [], ◌∷◌, filter, map, take, length, Option, Some, None, if◌then◌else◌}
-use Rattle.std.specs.List.{flat_map}
+use Rattle.std.specs.List.{AllByRecursion, flat_map}
 use Rattle.wu_base.specs.declared.addresses.Extent.{Extent}
 use Rattle.wu_base.specs.declared.limits.TheConstants.{SNIPPET_MAX}
 use Rattle.wu_token.specs.Tokens.{line_tokens_of}
@@ -41,6 +41,10 @@ held (Some line) left = line_of line ∷ lines_left left
 abbrev pub AgreeFrom : ℕ → List Line → List Line → Type 0
 AgreeFrom address lines others =
     (extent : Extent) → address ≤ extent.start → filter (meets extent) lines ≡ filter (meets extent) others
+
+-- each of the extents shares an address with the same lines of both
+abbrev pub Agree : List Line → List Line → List Extent → Type 0
+Agree lines others extents = AllByRecursion (λ extent. filter (meets extent) lines ≡ filter (meets extent) others) extents
 
 -- the line, if any, ends at that address or after, and before the lines that are left
 abbrev pub Reaches : ℕ → Option NumberedLine → Left → Type 0

@@ -4,4 +4,4 @@
 mod numbered;
 mod snips;
 
-pub use snips::{Snip, snippet};
+pub use snips::{Snip, snippet, snippets};

@@ -80,6 +80,23 @@ impl<'a> NumberedLines<'a> {
         }
         None
     }
+
+    /// The line, if there is one and it ends at this address or after, else the next line that does.
+    pub(crate) fn reaching(
+        &mut self,
+        line: Option<NumberedLine<'a>>,
+        address: u64,
+    ) -> Option<NumberedLine<'a>>
+        requires { Reaches 0 line self.old }
+        ensures lines { AgreeFrom address (held line.entry self.old) (held result self.new) }
+        ensures reaches { Reaches address result self.new }
+    {
+        match line {
+            Some(line) if line.last >= address => Some(line),
+            Some(_) => self.next_reaching(address),
+            None => None,
+        }
+    }
 }
 
 /// How many tokens a line has.

@@ -1,6 +1,6 @@
 //! The snippets of extents.
-ghost use Rattle.std.specs.Prelude.{◌≡◌, ◌≤◌, IfOk, nat_le, take, length};
-ghost use Rattle.wu_snip.specs.Snippets.{IsWithin, snippet_of};
+ghost use Rattle.std.specs.Prelude.{◌≡◌, ◌≤◌, All, IfOk, nat_le, map, take, length};
+ghost use Rattle.wu_snip.specs.Snippets.{IsAscending, IsWithin, snippet_of};
 ghost use Rattle.wu_snip.specs.Walks.{shown};
 
 use crate::numbered::{NumberedLine, NumberedLines};
@@ -57,4 +57,22 @@ pub fn snippet(alloc: Global, text: &[u8], extent: Extent) -> Result<Snip, NoMem
 {
     let line = NumberedLines::of_text(text).next_reaching(extent.start);
     show(alloc, line, extent)
+}
+
+/// The snippets of several extents of one text, as [`snippet`] gives each of them, in one walk over
+/// the text's lines, of which each is read once. Starts and ends of the extents both ascend strictly.
+pub fn snippets(alloc: Global, text: &[u8], extents: &[Extent]) -> Result<Vec<Snip>, NoMemory>
+    requires text { length text.now ≤ TEXT_MAX }
+    requires extents { All (IsWithin text.now) extents.now }
+    requires ascending { IsAscending extents.now }
+    ensures { IfOk result (λ snips. snips.items ≡ map (snippet_of text.now) extents.now) }
+{
+    let mut lines = NumberedLines::of_text(text);
+    let mut line = lines.next_reaching(0);
+    let mut snips = Vec::new(alloc);
+    for extent in extents {
+        line = lines.reaching(line, extent.start);
+        snips.push(show(alloc, line, *extent)?)?;
+    }
+    Ok(snips)
 }
