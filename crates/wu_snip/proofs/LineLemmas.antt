@@ -21,7 +21,9 @@ pub length-line_tokens_of : (line : Piece) → 2 + length (runs_at line) ≡ len
 unfolding line_tokens_of words_of
 length-line_tokens_of line =
     let words = map word_of (runs_of line.bytes) in
-    omega (arith, length-append words (line_end ∷ []), length-map (runs_of line.bytes) word_of, ap length (bytes-runs_at line), length-map (runs_at line) (λ run. run.bytes))
+    let runs = length-map (runs_of line.bytes) word_of in
+    let same = ap length (bytes-runs_at line) in
+    omega (arith, length-append words (line_end ∷ []), runs, same, length-map (runs_at line) (λ run. run.bytes))
 
 pub bytes-placed : (start : ℕ) (lines : List (List ℕ)) → bytes_of (placed start lines) ≡ lines
 bytes-placed start [] = refl
@@ -38,7 +40,8 @@ fits-text text le =
     }
 
 -- the first line has an address, and those after it fit too
-pub fits-next : (number first : ℕ) (lines : List Piece) (line : Piece) (more : List Piece) → lines ≡ line ∷ more → Fits number first (bytes_of lines)
+pub fits-next : (number first : ℕ) (lines : List Piece) (line : Piece) (more : List Piece)
+    → lines ≡ line ∷ more → Fits number first (bytes_of lines)
     → Fits (number + 1) (first + length (line_tokens_of line.bytes)) (bytes_of more) × (first + length (line_tokens_of line.bytes) < 2 ^ 64)
 unfolding line_tokens_of
 fits-next number first lines line more steps fits =
@@ -49,7 +52,8 @@ fits-next number first lines line more steps fits =
     )
 
 -- a line that starts after the end of an extent isn't met, nor is any after it
-late : (number first : ℕ) (lines : List (List ℕ)) (extent : Extent) → extent.end < first → filter (meets extent) (numbered number first lines) ≡ []
+late : (number first : ℕ) (lines : List (List ℕ)) (extent : Extent) → extent.end < first
+    → filter (meets extent) (numbered number first lines) ≡ []
 late number first [] extent after = refl
 late number first (line ∷ more) extent after =
     let no' : nat_le first extent.end ≡ false = grind (arith, nat_tests) in
@@ -59,7 +63,8 @@ late number first (line ∷ more) extent after =
 pub passed : (address : ℕ) (line : Line) (more : List Line) → line.last < address → AgreeFrom address (line ∷ more) more
 passed address line more before extent from =
     let no' : nat_le extent.start line.last ≡ false = grind (arith, nat_tests) in
-    let none : meets extent line ≡ false = elim (nat_le line.first extent.end) as (λ b. (b && nat_le extent.start line.last) ≡ false) [ true ↦ no' | false ↦ refl ] in
+    let none : meets extent line ≡ false =
+    elim (nat_le line.first extent.end) as (λ b. (b && nat_le extent.start line.last) ≡ false) [ true ↦ no' | false ↦ refl ] in
     cond-false (meets extent line) (line ∷ filter (meets extent) more) (filter (meets extent) more) none
 
 -- of the lines from the first one on that ends where an extent starts or after, the first that it meets is that one or none

@@ -9,7 +9,8 @@ use Rattle.wu_snip.specs.Walks.{Left, lines_left, held, AgreeFrom, Agree, Reache
 use Rattle.wu_snip.proofs.LineLemmas.{shown-held}
 
 -- what holds where the snippets of the first extents are there, and those of the others are left to be found
-pub record Walked (text : List ℕ) (extents others : List Extent) (snips : List Snip) (line : Option NumberedLine) (left : Left) : Type 0 where
+pub record Walked (text : List ℕ) (extents others : List Extent) (snips : List Snip) (line : Option NumberedLine) (left : Left)
+    : Type 0 where
   pub so_far : snips ++ map (snippet_of text) others ≡ map (snippet_of text) extents
   pub agree : Agree (numbered_lines_of text) (held line left) others
   pub ascending : IsAscending others
@@ -30,11 +31,13 @@ reaches-any address None left reaches = tt
 reaches-any address (Some line) left reaches = (omega arith, reaches.1)
 
 pub walked-none : (text : List ℕ) (extents : List Extent) (snips : List Snip) (whole : Left) (line : Option NumberedLine) (left : Left)
-    → lines_left whole ≡ numbered_lines_of text → AgreeFrom 0 (lines_left whole) (held line left) → Reaches 0 line left → IsAscending extents → snips ≡ []
+    → lines_left whole ≡ numbered_lines_of text → AgreeFrom 0 (lines_left whole) (held line left) → Reaches 0 line left
+    → IsAscending extents → snips ≡ []
     → Walked text extents extents snips line left
 walked-none text extents snips whole line left same from reaches ascending none = record {
   so_far = ap (λ s. s ++ map (snippet_of text) extents) none;
-  agree = agree-all (numbered_lines_of text) (held line left) extents (λ extent low. ap (filter (meets extent)) (sym same) ∙ from extent low);
+  agree = agree-all (numbered_lines_of text) (held line left) extents
+      (λ extent low. ap (filter (meets extent)) (sym same) ∙ from extent low);
   ascending = ascending;
   reaches = reaches;
 }

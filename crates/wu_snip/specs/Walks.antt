@@ -1,5 +1,6 @@
 -- What is left of a walk over the lines of a text.
-use Rattle.std.specs.Prelude.{⊤, ◌≡◌, ℕ, ◌+◌, ◌<◌, ◌≤◌, ◌^◌, nat_le, List, [], ◌∷◌, filter, map, take, length, Option, Some, None, if◌then◌else◌}
+use Rattle.std.specs.Prelude.{⊤, ◌≡◌, ℕ, ◌+◌, ◌<◌, ◌≤◌, ◌^◌, nat_le, List, [], ◌∷◌, filter, map, take, length}
+use Rattle.std.specs.Prelude.{Option, Some, None, if◌then◌else◌}
 use Rattle.std.specs.List.{AllByRecursion, flat_map}
 use Rattle.wu_base.specs.declared.addresses.Extent.{Extent}
 use Rattle.wu_base.specs.declared.limits.TheConstants.{SNIPPET_MAX}
@@ -55,4 +56,5 @@ Reaches address (Some line) left = (address ≤ line.last) × (line.first ≤ le
 abbrev pub shown : Option NumberedLine → Extent → Snip
 shown None extent = record { line = 0; bytes = [] }
 shown (Some line) extent =
-    if nat_le line.first extent.end then record { line = line.number; bytes = take SNIPPET_MAX line.bytes.now } else record { line = 0; bytes = [] }
+    if nat_le line.first extent.end then record { line = line.number; bytes = take SNIPPET_MAX line.bytes.now }
+    else record { line = 0; bytes = [] }

@@ -6,14 +6,17 @@ use Rattle.wu_snip.proofs.snips.snippets.Goals as goal
 
 pub loop-extent-init : goal.loop-extent-init
 loop-extent-init c =
-    walked-none _ _ _ _ _ _ c.of_text-lines.ensures c.next_reaching-line.ensures.lines c.next_reaching-line.ensures.reaches c.requires.ascending c.new-snips.ensures.items
+    let first = c.next_reaching-line.ensures in
+    walked-none _ _ _ _ _ _ c.of_text-lines.ensures first.lines first.reaches c.requires.ascending c.new-snips.ensures.items
 
 pub loop-extent-preserved : goal.loop-extent-preserved
 loop-extent-preserved c =
     let extents = c.args.extents.now in
     let place = c.loop-extent.extent-index in
     let next = drop_more extents place record { start = 0; end = 0 } c.loop-extent-test.true in
-    walked-next _ _ _ _ _ _ _ _ _ _ _ (rw next at c.loop-extent.invariant) c.reaching-line.ensures.lines c.reaching-line.ensures.reaches c.in_ok-show.ensures c.in_ok-push.ensures.items
+    let step = c.reaching-line.ensures in
+    walked-next _ _ _ _ _ _ _ _ _ _ _ (rw next at c.loop-extent.invariant) step.lines step.reaches c.in_ok-show.ensures
+    c.in_ok-push.ensures.items
 
 pub returns : goal.returns
 returns c =
