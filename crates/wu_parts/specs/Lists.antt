@@ -2,14 +2,19 @@
 use Rattle.std.specs.Prelude.{ℕ, ◌+◌, ◌<◌, ◌≤◌, if◌then◌else◌, List, [], ◌∷◌, ◌++◌, length, map, nat_eq}
 use Rattle.std.specs.List.{AllByRecursion}
 use Rattle.std.specs.Cmp.Lexicographic.{pointwise}
+use Rattle.std.specs.declared.vec.Vec.{Vec}
+use Rattle.std.specs.declared.alloc.Global.{Global}
 use Rattle.wu_base.specs.declared.addresses.Range.{Range}
 use Rattle.wu_base.specs.declared.limits.TheConstants.{ADDRESSES_MAX}
 use Rattle.wu_token.specs.Words.{IsTerm}
 use Rattle.wu_parts.specs.Memory.{Lists, Memory}
 
--- the entries of a map, where `bytes` are those of a key and `addresses` those of a value
-abbrev pub lists_in : {K V : Type 0} → (K → List ℕ) → (V → List ℕ) → List (K × V) → Lists
-lists_in bytes addresses entries = map (λ e. (bytes e.0, addresses e.1)) entries
+-- what a map's entries say, without what vectors have besides their items
+abbrev pub list_of : Vec ℕ Global × Vec ℕ Global → List ℕ × List ℕ
+list_of entry = (entry.0.items, entry.1.items)
+
+abbrev pub lists_of : List (Vec ℕ Global × Vec ℕ Global) → Lists
+lists_of entries = map list_of entries
 
 -- the lists, where the term stands at one more address
 abbrev pub with_address : List ℕ → ℕ → Lists → Lists
@@ -45,6 +50,10 @@ pub record IsMemory (memory : Memory) : Type 0 where
   pub lists : AllByRecursion (IsList memory.end) memory.lists
   pub few : memory.stored ≤ memory.end
   pub bounded : memory.end ≤ ADDRESSES_MAX
+
+-- at most as many postings are new as there are addresses from the old end up to the new one
+abbrev pub KeepsRoom : Memory → Memory → Type 0
+KeepsRoom old new = new.stored + old.end ≤ old.stored + new.end
 
 -- from low on, each frame ends before the next one starts, and the last one by high
 abbrev pub AreInOrder : ℕ → ℕ → List Range → Type 0

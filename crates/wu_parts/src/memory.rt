@@ -7,7 +7,7 @@ ghost use Rattle.wu_token.specs.Words.{IsTerm};
 ghost use Rattle.wu_token.specs.Tokens.{tokens_of};
 ghost use Rattle.wu_token.specs.Pieces.{line_terms, piece_of};
 ghost use Rattle.wu_parts.specs.Memory.{held, no_postings};
-ghost use Rattle.wu_parts.specs.Lists.{IsMemory, lists_in, with_address, with_posting, with_terms};
+ghost use Rattle.wu_parts.specs.Lists.{IsMemory, KeepsRoom, lists_of, with_address, with_posting, with_terms};
 
 use crate::galloping::within_frames;
 use indexmap::IndexMap;
@@ -27,16 +27,15 @@ pub(crate) struct MemoryPostings {
 }
 
 impl Model for MemoryPostings {
-    ghost use Rattle.std.specs.Prelude.{map};
     ghost use Rattle.wu_parts.specs.Memory.{Memory};
 
     ghost Value = { Memory };
 
-    ghost use Rattle.wu_parts.specs.Lists.{IsMemory};
+    ghost use Rattle.wu_parts.specs.Lists.{IsMemory, lists_of};
 
-    ghost view = { λ m. record { lists = map (λ e. (e.0.items, e.1.items)) m.lists.entries; stored = m.stored; end = m.end } };
+    ghost view = { λ m. record { lists = lists_of m.lists.entries; stored = m.stored; end = m.end } };
 
-    ghost invariant = { λ m. IsMemory (record { lists = map (λ e. (e.0.items, e.1.items)) m.lists.entries; stored = m.stored; end = m.end }) };
+    ghost invariant = { λ m. IsMemory (record { lists = lists_of m.lists.entries; stored = m.stored; end = m.end }) };
 }
 
 impl MemoryPostings {
@@ -81,7 +80,8 @@ impl MemoryPostings {
         requires terms { All (λ token. IsTerm token.term) tokens.now }
         requires after { self.old.end ≤ start }
         requires bounded { start + length tokens.now ≤ ADDRESSES_MAX }
-        ensures { OnOk result (self.new ≡ with_terms self.old start (map (λ token. token.term) tokens.now)) }
+        ensures terms { OnOk result (self.new ≡ with_terms self.old start (map (λ token. token.term) tokens.now)) }
+        ensures room { KeepsRoom self.old self.new }
     {
         for (place, token) in tokens.iter().enumerate() {
             self.push(token.term.as_slice(), start + place as u64)?;
@@ -97,6 +97,7 @@ impl MemoryPostings {
         requires bounded { start + length (tokens_of text.now) ≤ ADDRESSES_MAX }
         ensures count { IfOk result (λ count. count ≡ length (tokens_of text.now)) }
         ensures terms { OnOk result (self.new ≡ with_terms self.old start (tokens_of text.now)) }
+        ensures room { KeepsRoom self.old self.new }
     {
         self.push(FILE_START, start)?;
         let mut next = start + 1;
@@ -113,6 +114,7 @@ impl MemoryPostings {
         requires bounded { start + length (line_terms (piece_of line)) ≤ ADDRESSES_MAX }
         ensures next { IfOk result (λ next. next ≡ start + length (line_terms (piece_of line.entry))) }
         ensures terms { OnOk result (self.new ≡ with_terms self.old start (line_terms (piece_of line.entry))) }
+        ensures room { KeepsRoom self.old self.new }
     {
         self.push(LINE_START, start)?;
         let mut next = start + 1;
@@ -146,8 +148,8 @@ fn put(
     term: &[u8],
     address: u64,
 ) -> Result<(), NoMemory>
-    ensures ok { OnOk result (map (λ e. (e.0.items, e.1.items)) lists.new.entries ≡ with_address term.now address (map (λ e. (e.0.items, e.1.items)) lists.old.entries)) }
-    ensures err { OnErr result (map (λ e. (e.0.items, e.1.items)) lists.new.entries ≡ map (λ e. (e.0.items, e.1.items)) lists.old.entries) }
+    ensures ok { OnOk result (lists_of lists.new.entries ≡ with_address term.now address (lists_of lists.old.entries)) }
+    ensures err { OnErr result (lists_of lists.new.entries ≡ lists_of lists.old.entries) }
 {
     match lists.get_mut(term) {
         Some(addresses) => {
