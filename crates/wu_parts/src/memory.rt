@@ -157,9 +157,9 @@ fn put(
             Ok(())
         }
         None => {
-            let mut addresses = Vec::new(alloc);
-            addresses.push(address)?;
-            lists.insert(Vec::from_slice(alloc, term)?, addresses)?;
+            let mut list = Vec::new(alloc);
+            list.push(address)?;
+            lists.insert(Vec::from_slice(alloc, term)?, list)?;
             Ok(())
         }
     }

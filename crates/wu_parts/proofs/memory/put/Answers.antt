@@ -22,4 +22,4 @@ returns-in_ok-insert-in-None-clause-ok c =
     rw (c.in_ok-insert-in-None.ensures.entries, c.get_mut.follows.holds-at-none)
     (new-lists_of c.args.term.now c.args.address c.args.lists.now.entries c.in_ok-from_slice-in-None.field-0 c.push-in-None.new.self
     (sym c.in-None.ensures.value) c.in_ok-from_slice-in-None.ensures.items
-    (c.in_ok-push-in-None.ensures.items ∙ ap (λ (l : List ℕ). l ++ c.args.address ∷ []) c.new-addresses.ensures.items))
+    (c.in_ok-push-in-None.ensures.items ∙ ap (λ (l : List ℕ). l ++ c.args.address ∷ []) c.new-list.ensures.items))
