@@ -1,82 +1,92 @@
-//! Each call of a store failing in turn.
+//! Each call of a store failing in turn, and all from one on.
 use crate::calls::Call::{Put, Read, Remove, Root, SetRoot, Size, Sync};
 use crate::calls::{Call, answer};
-use std::test::Fail;
-use wu_outside::{MemStore, PlainStore, ReadRange, Store};
+use std::alloc::Global;
+use std::io;
+use wu_outside::{MemStore, PlainStore};
+use wu_rows::NoAnswer;
 
-/// Calls that touch all methods, and what they answer where none fails.
-const CALLS: &[(Call<'static>, &str)] = &[
-    (Root(8), "none"),
-    (Size(1), "none"),
-    (Read(1, 0, 8), "none"),
-    (Put(1, b"apple"), "ok"),
-    (Size(1), "5"),
-    (Read(1, 0, 8), "5 apple"),
-    (Read(1, 3, 8), "2 le"),
-    (Read(1, 5, 8), "0 "),
-    (Read(1, 2, 1), "1 p"),
-    (SetRoot(b"root"), "ok"),
-    (Root(2), "4 ro"),
-    (Sync, "ok"),
-    (Remove(1), "ok"),
-    (Size(1), "none"),
+/// Calls that touch all methods.
+const CALLS: &[Call<'static>] = &[
+    Root(8),
+    Size(1),
+    Read(1, 0, 8),
+    Put(1, b"apple"),
+    Size(1),
+    Read(1, 0, 8),
+    Read(1, 3, 8),
+    Read(1, 5, 8),
+    Read(1, 2, 1),
+    SetRoot(b"root"),
+    Root(2),
+    Sync,
+    Remove(1),
+    Size(1),
 ];
 
-#[test]
-fn a_plain_store_answers_each_call(rt: HostRuntime) -> Result<(), Fail> {
-    let mut store = PlainStore::new(rt.alloc());
-    for (call, wanted) in CALLS {
-        assert_eq!(rt;
-            answer(rt.alloc(), &mut store, *call)?.as_str(),
-            *wanted,
-            "at {call:?}"
-        );
+/// Prints in how many runs with a fault all other calls answer as without it.
+pub fn compare_failing(rt: &(impl Print + AllocGlobal)) -> io::Result<()> {
+    let mut single = 0u64;
+    let mut stopped = 0u64;
+    for number in 0..CALLS.len() {
+        single = single.saturating_add(u64::from(fails_alone(rt.alloc(), number)?));
     }
-    let wanted = [(0, 8), (0, 8), (3, 8), (5, 8), (2, 1)].map(|(at, len)| ReadRange {
-        blob: 1,
-        at,
-        len,
-    });
-    assert!(rt; store.reads() == wanted.as_slice());
-    Ok(())
-}
-
-#[test]
-fn each_call_fails_in_turn(rt: HostRuntime) -> Result<(), Fail> {
-    for failing in 0..CALLS.len() {
-        let fails = Vec::from_slice(rt.alloc(), &[failing as u64])?;
-        let mut store = MemStore::new(rt.alloc(), fails, u64::MAX);
-        let mut plain = PlainStore::new(rt.alloc());
-        for (number, (call, _)) in CALLS.iter().enumerate() {
-            // the plain store makes the other calls alone
-            let wanted = if number == failing {
-                String::from_str(rt.alloc(), "failed")?
-            } else {
-                answer(rt.alloc(), &mut plain, *call)?
-            };
-            let given = answer(rt.alloc(), &mut store, *call)?;
-            assert_eq!(rt; given.as_str(), wanted.as_str(), "at {call:?}");
-        }
-        assert_eq!(rt; store.calls(), CALLS.len() as u64);
-        assert_eq!(rt; store.faults(), 1);
-        assert!(rt; store.reads() == plain.reads());
-    }
-    Ok(())
-}
-
-#[test]
-fn all_calls_fail_from_a_stop_on(rt: HostRuntime) -> Result<(), Fail> {
     for stop in 0..=CALLS.len() {
-        let mut store = MemStore::new(rt.alloc(), Vec::new(rt.alloc()), stop as u64);
-        for (number, (call, wanted)) in CALLS.iter().enumerate() {
-            let wanted = if number < stop { *wanted } else { "failed" };
-            assert_eq!(rt;
-                answer(rt.alloc(), &mut store, *call)?.as_str(),
-                wanted,
-                "at {call:?}"
-            );
-        }
-        assert_eq!(rt; store.faults(), CALLS.len().saturating_sub(stop) as u64);
+        stopped = stopped.saturating_add(u64::from(fails_from(rt.alloc(), stop)?));
     }
-    Ok(())
+    println!(rt;
+        "one call failing: {single} of {} runs answer the others as a plain store",
+        CALLS.len()
+    )?;
+    println!(rt;
+        "all calls failing from one on: {stopped} of {} runs answer those before it as a plain store",
+        CALLS.len() + 1
+    )
+}
+
+/// Whether the call with this number fails alone, and the others answer as a plain store to which it isn't made.
+fn fails_alone(alloc: Global, failing: usize) -> Result<bool, NoAnswer> {
+    let mut fails = Vec::new(alloc);
+    fails.push(failing as u64)?;
+    let mut store = MemStore::new(alloc, fails, u64::MAX);
+    let mut plain = PlainStore::new(alloc);
+    let mut same = true;
+    for (number, call) in CALLS.iter().enumerate() {
+        let given = answer(alloc, &mut store, *call)?;
+        let is_wanted = if number == failing {
+            given.as_str() == "failed"
+        } else {
+            is_answer(alloc, &mut plain, *call, given.as_str())?
+        };
+        same = same && is_wanted;
+    }
+    let counted = store.calls() == CALLS.len() as u64 && store.faults() == 1;
+    Ok(same && counted && store.reads() == plain.reads())
+}
+
+/// Whether the plain store answers the call so.
+fn is_answer(
+    alloc: Global,
+    plain: &mut PlainStore,
+    call: Call,
+    given: &str,
+) -> Result<bool, NoAnswer> {
+    Ok(answer(alloc, plain, call)?.as_str() == given)
+}
+
+/// Whether the calls from the stop on fail, and the others answer as a plain store.
+fn fails_from(alloc: Global, stop: usize) -> Result<bool, NoAnswer> {
+    let mut store = MemStore::new(alloc, Vec::new(alloc), stop as u64);
+    let mut plain = PlainStore::new(alloc);
+    let mut same = true;
+    for (number, call) in CALLS.iter().enumerate() {
+        let given = answer(alloc, &mut store, *call)?;
+        let is_wanted = if number >= stop {
+            given.as_str() == "failed"
+        } else {
+            is_answer(alloc, &mut plain, *call, given.as_str())?
+        };
+        same = same && is_wanted;
+    }
+    Ok(same && store.faults() == CALLS.len().saturating_sub(stop) as u64)
 }

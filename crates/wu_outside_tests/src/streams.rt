@@ -1,14 +1,34 @@
 //! Sources, sinks and whole writes.
 ghost use Rattle.std.specs.Prelude.{◌≡◌, Some, false};
 
+use crate::stores::put_counts;
 use std::alloc::Global;
-use std::test::Fail;
+use wu_base::Bytes;
 use wu_outside::{
     Failed, Fault, MemSink, MemSource, PlainSink, PlainSource, Sink, Source, write_all,
 };
+use wu_rows::{NoAnswer, byte_strings, bytes, bytes_text, number, numbers};
+
+/// The answer of the call to the arguments.
+pub fn answer(alloc: Global, call: &str, arguments: &[&str]) -> Result<String, NoAnswer> {
+    match (call, arguments) {
+        ("PlainSource", [text]) => {
+            let mut source = PlainSource::new(bytes(alloc, text)?);
+            bytes_text(alloc, &read_all(alloc, &mut source)?)
+        }
+        ("MemSource", [text, fails]) => bytes_given(alloc, text, fails),
+        ("PlainSink", [pieces, last]) => bytes_gained(alloc, pieces, last),
+        ("MemSink", [pieces, fails]) => bytes_gained_with_faults(alloc, pieces, fails),
+        ("write_all", [pieces, writes]) => byte_by_byte(alloc, pieces, number(writes)?),
+        ("Failed", []) => Ok(format!(in alloc; "{Failed}")?),
+        ("Fault::Failed", []) => Ok(format!(in alloc; "{}", Fault::Failed)?),
+        ("Fault::NoMemory", []) => Ok(format!(in alloc; "{}", Fault::NoMemory)?),
+        _ => Err(NoAnswer::BadRow),
+    }
+}
 
 /// The bytes that a source gives up to its end, read three at a time, `!` for each read that failed.
-fn read_all<I: Source>(alloc: Global, source: &mut I) -> Result<Vec<u8>, Fail>
+fn read_all<I: Source>(alloc: Global, source: &mut I) -> Result<Vec<u8>, NoAnswer>
     requires { I.ended source.old ≡ false }
 {
     let mut given = Vec::new(alloc);
@@ -23,65 +43,34 @@ fn read_all<I: Source>(alloc: Global, source: &mut I) -> Result<Vec<u8>, Fail>
     Ok(given)
 }
 
-#[test]
-fn a_source_gives_its_bytes_and_then_its_end(rt: HostRuntime) -> Result<(), Fail> {
-    for text in [b"".as_slice(), b"a", b"apple", b"apples"] {
-        let mut plain = PlainSource::new(Vec::from_slice(rt.alloc(), text)?);
-        assert_eq!(rt; read_all(rt.alloc(), &mut plain)?.as_slice(), text);
-    }
-    Ok(())
+/// The bytes given, how many calls there were and how many of them failed.
+fn bytes_given(alloc: Global, text: &str, fails: &str) -> Result<String, NoAnswer> {
+    let mut source = MemSource::new(bytes(alloc, text)?, numbers(alloc, fails)?);
+    let mut text = bytes_text(alloc, &read_all(alloc, &mut source)?)?;
+    put_counts(&mut text, source.calls(), source.faults())?;
+    Ok(text)
 }
 
-#[test]
-fn a_source_fails_where_it_is_told_to(rt: HostRuntime) -> Result<(), Fail> {
-    // the calls that fail, what is given, how many calls there were and how many failed
-    let rows: [(&[u64], &[u8], u64, u64); 5] = [
-        (&[], b"apple", 3, 0),
-        (&[0], b"!apple", 4, 1),
-        (&[1, 2], b"app!!le", 5, 2),
-        (&[2], b"apple!", 4, 1),
-        (&[3, 9], b"apple", 3, 0),
-    ];
-    for (fails, wanted, calls, faults) in rows {
-        let bytes = Vec::from_slice(rt.alloc(), b"apple")?;
-        let mut source = MemSource::new(bytes, Vec::from_slice(rt.alloc(), fails)?);
-        assert_eq!(rt; read_all(rt.alloc(), &mut source)?.as_slice(), wanted);
-        assert_eq!(rt; source.calls(), calls);
-        assert_eq!(rt; source.faults(), faults);
+/// What a sink gained of the pieces, written whole, and of one write; how much of that it took.
+fn bytes_gained(alloc: Global, pieces: &str, last: &str) -> Result<String, NoAnswer> {
+    let mut sink = PlainSink::new(alloc);
+    for piece in &byte_strings(alloc, pieces)? {
+        let _ = write_all(&mut sink, piece.as_slice());
     }
-    Ok(())
+    let count = sink.write(last.as_bytes()).unwrap_or(0);
+    let gained = bytes_text(alloc, sink.gained())?;
+    Ok(format!(in alloc; "{gained} {count}")?)
 }
 
-#[test]
-fn a_sink_gains_what_is_written(rt: HostRuntime) -> Result<(), Fail> {
-    let mut plain = PlainSink::new(rt.alloc());
-    write_all(&mut plain, b"ok\n")?;
-    write_all(&mut plain, b"")?;
-    assert_eq!(rt; plain.write(b"x")?, 1);
-    assert_eq!(rt; plain.gained(), b"ok\nx".as_slice());
-    Ok(())
-}
-
-#[test]
-fn a_sink_fails_where_it_is_told_to(rt: HostRuntime) -> Result<(), Fail> {
-    // the calls that fail, what three writes gain, how many failed
-    let rows: [(&[u64], &[u8], u64); 5] = [
-        (&[], b"abc", 0),
-        (&[0], b"bc", 1),
-        (&[1], b"ac", 1),
-        (&[2, 7], b"ab", 1),
-        (&[0, 1, 2], b"", 3),
-    ];
-    for (fails, wanted, faults) in rows {
-        let mut sink = MemSink::new(rt.alloc(), Vec::from_slice(rt.alloc(), fails)?);
-        let _ = write_all(&mut sink, b"a");
-        let _ = write_all(&mut sink, b"b");
-        let _ = write_all(&mut sink, b"c");
-        assert_eq!(rt; sink.gained(), wanted);
-        assert_eq!(rt; sink.calls(), 3);
-        assert_eq!(rt; sink.faults(), faults);
+/// The same of the pieces, where the named calls fail; how many calls there were and how many failed.
+fn bytes_gained_with_faults(alloc: Global, pieces: &str, fails: &str) -> Result<String, NoAnswer> {
+    let mut sink = MemSink::new(alloc, numbers(alloc, fails)?);
+    for piece in &byte_strings(alloc, pieces)? {
+        let _ = write_all(&mut sink, piece.as_slice());
     }
-    Ok(())
+    let mut text = bytes_text(alloc, sink.gained())?;
+    put_counts(&mut text, sink.calls(), sink.faults())?;
+    Ok(text)
 }
 
 /// A sink that takes one byte at a time, and from one write on nothing.
@@ -110,36 +99,26 @@ impl Sink for OneByte {
     }
 }
 
-#[test]
-fn a_piece_is_written_whole_byte_by_byte(rt: HostRuntime) -> Result<(), Fail> {
-    // how many bytes the sink takes, what it gains of two pieces
-    let rows: [(u64, &[u8]); 5] = [
-        (9, b"replies\n"),
-        (8, b"replies\n"),
-        (5, b"repli"),
-        (3, b"rep"),
-        (0, b""),
-    ];
-    for (writes, wanted) in rows {
-        let plain = PlainSink::new(rt.alloc());
-        let mut sink = OneByte {
-            plain,
-            writes,
-            faults: 0,
-        };
-        let first = write_all(&mut sink, b"rep");
-        let done = first.is_ok() && write_all(&mut sink, b"lies\n").is_ok();
-        assert_eq!(rt; sink.plain.gained(), wanted);
-        assert_eq!(rt; done, wanted.len() == 8);
-        assert_eq!(rt; sink.faults, if done { 0 } else { 1 });
-    }
-    Ok(())
+/// What a sink that takes so many bytes, one by one, gained of the pieces up to the first fault, whether all were written, and how many
+/// writes failed.
+fn byte_by_byte(alloc: Global, pieces: &str, writes: u64) -> Result<String, NoAnswer> {
+    let mut sink = OneByte {
+        plain: PlainSink::new(alloc),
+        writes,
+        faults: 0,
+    };
+    let done = are_written(&mut sink, &byte_strings(alloc, pieces)?);
+    let faults = sink.faults;
+    let gained = bytes_text(alloc, sink.plain.gained())?;
+    Ok(format!(in alloc; "{gained} {done} {faults}")?)
 }
 
-#[test]
-fn faults_have_texts(rt: HostRuntime) -> Result<(), Fail> {
-    let text = format!(in rt.alloc(); "{}, {}, {}", Failed, Fault::Failed, Fault::NoMemory)?;
-    let wanted = "a call of the outside failed, a call of the outside failed, no memory";
-    assert_eq!(rt; text.as_str(), wanted);
-    Ok(())
+/// Whether the pieces were written, each after the one before it.
+fn are_written(sink: &mut OneByte, pieces: &[Bytes]) -> bool {
+    for piece in pieces {
+        if write_all(sink, piece.as_slice()).is_err() {
+            return false;
+        }
+    }
+    true
 }

@@ -55,7 +55,8 @@ least_more f lists n value new item l inside is e = record {
   one =
       ⊎_elim
       (λ (s : value < f item). let is_old : value ≡ new = omega arith in subst (λ x. IsOneOf f lists x) is_old l.one)
-      (λ (s : f item ≤ value). let is_new : f item ≡ new = omega arith in subst (λ x. IsOneOf f lists x) is_new (one_at f lists n item inside is))
+      (λ (s : f item ≤ value). let is_new : f item ≡ new = omega arith in subst (λ x. IsOneOf f lists x) is_new
+      (one_at f lists n item inside is))
       (cases_lt value (f item));
 }
 
@@ -82,7 +83,8 @@ greatest_more f lists n value new item l inside is e = record {
       (cases_lt k n);
   one =
       ⊎_elim
-      (λ (s : value < f item). let is_new : f item ≡ new = omega arith in subst (λ x. IsOneOf f lists x) is_new (one_at f lists n item inside is))
+      (λ (s : value < f item). let is_new : f item ≡ new = omega arith in subst (λ x. IsOneOf f lists x) is_new
+      (one_at f lists n item inside is))
       (λ (s : f item ≤ value). let is_old : value ≡ new = omega arith in subst (λ x. IsOneOf f lists x) is_old l.one)
       (cases_lt value (f item));
 }

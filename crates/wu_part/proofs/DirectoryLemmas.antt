@@ -89,7 +89,8 @@ directory_of_entries bytes head entries place size terms h e a w = record {
 }
 
 -- a directory's entries keep what the head says
-pub whole_of_directory : (d : PartDirectory) (bytes : List ℕ) (head : Head) (entries : List ℕ) (terms : List TermEntry) → SpellsDirectory d bytes
+pub whole_of_directory : (d : PartDirectory) (bytes : List ℕ) (head : Head) (entries : List ℕ) (terms : List TermEntry)
+    → SpellsDirectory d bytes
     → StartsWithHead bytes head entries → d.terms ≡ terms → HasWhole head terms
 whole_of_directory d bytes head entries terms s h same =
     let is = head_of_directory d bytes head entries s h in

@@ -27,7 +27,8 @@ last_eight bytes e =
 
 pub header_read : (bytes : List ℕ) (n : ℕ) → length bytes ≡ 16 → ((i : ℕ) → get_or bytes i 0 < 256)
     → true ≡ starts_with nat_eq bytes (codes "WUMPUSP1")
-    → n ≡ from_be_bytes w64 (get_or bytes 8 0 ∷ get_or bytes 9 0 ∷ get_or bytes 10 0 ∷ get_or bytes 11 0 ∷ get_or bytes 12 0 ∷ get_or bytes 13 0
+    → n ≡ from_be_bytes w64 (get_or bytes 8 0 ∷ get_or bytes 9 0 ∷ get_or bytes 10 0 ∷ get_or bytes 11 0 ∷ get_or bytes 12 0 ∷ get_or
+    bytes 13 0
     ∷ get_or bytes 14 0 ∷ get_or bytes 15 0 ∷ [])
     → n < 2 ^ 64 → SpellsHeader n bytes
 header_read bytes n e small mark is fits =

@@ -32,7 +32,8 @@ pub numbers_code : (a b ns rest left : List ℕ) → StartsWithNumbers a ns rest
 numbers_code a b [] rest left s t e = s ∙ (e ∙ sym t)
 numbers_code a b (n ∷ ns) rest left s t e = number_code a b n s.0 t.0 s.1 t.1 (numbers_code s.0 t.0 ns rest left s.2 t.2 e)
 
-entry_code : (low : ℕ) (a b : List ℕ) (entry : TermEntry) (rest left : List ℕ) → StartsWithEntry low a entry rest → StartsWithEntry low b entry left
+entry_code : (low : ℕ) (a b : List ℕ) (entry : TermEntry) (rest left : List ℕ) → StartsWithEntry low a entry rest
+    → StartsWithEntry low b entry left
     → rest ≡ left → a ≡ b
 entry_code low a b entry rest left s t e =
     number_code a b (length entry.term) (entry.term ++ s.0) (entry.term ++ t.0) s.1 t.1
@@ -44,7 +45,8 @@ entries_code low (entry ∷ later) a b s t = entry_code low a b entry s.0 t.0 s.
 
 pub directory_code : (d : PartDirectory) (code other : List ℕ) → SpellsDirectory d code → SpellsDirectory d other → code ≡ other
 directory_code d code other s t =
-    numbers_code code other (d.generation ∷ d.low ∷ (d.high - d.low) ∷ d.stored ∷ length d.terms ∷ []) s.entries t.entries s.numbers t.numbers
+    numbers_code code other (d.generation ∷ d.low ∷ (d.high - d.low) ∷ d.stored ∷ length d.terms ∷ []) s.entries t.entries s.numbers
+    t.numbers
     (entries_code d.low d.terms s.entries t.entries s.terms t.terms)
 
 directory_is : (d e : PartDirectory) → d.generation ≡ e.generation → d.low ≡ e.low → d.high ≡ e.high → d.stored ≡ e.stored → d.size ≡ e.size
@@ -54,7 +56,8 @@ directory_is d e generation low high stored size terms =
     λ g l h s n t. record { generation = g; low = l; high = h; stored = s; size = n; terms = t } in
     ap (λ x. make x d.low d.high d.stored d.size d.terms) generation ∙ (ap (λ x. make e.generation x d.high d.stored d.size d.terms) low
     ∙ (ap (λ x. make e.generation e.low x d.stored d.size d.terms) high ∙ (ap (λ x. make e.generation e.low e.high x d.size d.terms) stored
-    ∙ (ap (λ x. make e.generation e.low e.high e.stored x d.terms) size ∙ ap (λ x. make e.generation e.low e.high e.stored e.size x) terms))))
+    ∙ (ap (λ x. make e.generation e.low e.high e.stored x d.terms) size ∙ ap
+    (λ x. make e.generation e.low e.high e.stored e.size x) terms))))
 
 head_of : PartDirectory → Head
 head_of d = record { generation = d.generation; low = d.low; high = d.high; stored = d.stored; terms = length d.terms }

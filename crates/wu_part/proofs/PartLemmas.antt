@@ -54,7 +54,8 @@ lists_within low high (list ∷ lists) are begin end =
     all_joined (λ address. (low ≤ address) × (address ≤ high)) list.at (flat_map (λ l. l.at) lists)
     (list_within low high list.at are.0.ascending begin.0 end.0) (lists_within low high lists are.1 begin.1 end.1)
 
-lowered_apart : (low x : ℕ) (xs : List ℕ) → low ≤ x → AllByRecursion (λ a. (low ≤ a) × (a ≤ a)) xs → AllByRecursion (λ y. eqb x y ≡ false) xs
+lowered_apart : (low x : ℕ) (xs : List ℕ) → low ≤ x → AllByRecursion (λ a. (low ≤ a) × (a ≤ a)) xs
+    → AllByRecursion (λ y. eqb x y ≡ false) xs
     → AllByRecursion (λ y. eqb (x - low) y ≡ false) (map (λ a. a - low) xs)
 lowered_apart low x [] l all apart = tt
 lowered_apart low x (y ∷ xs) l all apart = (
@@ -134,10 +135,12 @@ module _ (low : ℕ) (blob : List ℕ) where
   first_is : (x a : ℕ) (addresses : List ℕ) → slice_get (x ∷ addresses) 0 ≡ Some a → x ≡ a
   first_is x a addresses e = cc
 
-  begins_with : (block : BlockEntry) (x : ℕ) (addresses : List ℕ) → HoldsBlock low blob block (take BLOCK_LEN (x ∷ addresses)) → x ≡ block.first
+  begins_with : (block : BlockEntry) (x : ℕ) (addresses : List ℕ) → HoldsBlock low blob block (take BLOCK_LEN (x ∷ addresses))
+      → x ≡ block.first
   begins_with block x addresses h = first_is x block.first (take 127 addresses) h.span.begin
 
-  pub some_begins : (blocks : List BlockEntry) (addresses : List ℕ) (value : ℕ) → HoldBlocks low blob blocks addresses → 0 < length addresses
+  pub some_begins : (blocks : List BlockEntry) (addresses : List ℕ) (value : ℕ) → HoldBlocks low blob blocks addresses
+      → 0 < length addresses
       → (first_of addresses == value) ≡ true → list_any (λ block. block.first == value) blocks ≡ true
   some_begins [] addresses value h some e = absurd (let none = ap length h in omega arith)
   some_begins (block ∷ later) [] value h some e = absurd (omega arith)
@@ -205,7 +208,8 @@ some_stored [] some are = absurd (omega arith)
 some_stored (list ∷ lists) some are = let count = are.0.count in omega (arith, sum_by-cons (λ (l : TermList). length l.at) list lists)
 
 -- the highest address of the lists is below the limit, and not below the lowest
-pub high_below : (low high : ℕ) (lists : List TermList) → AllByRecursion IsList lists → AllByRecursion (λ list. low ≤ first_of list.at) lists
+pub high_below : (low high : ℕ) (lists : List TermList) → AllByRecursion IsList lists
+    → AllByRecursion (λ list. low ≤ first_of list.at) lists
     → list_any (λ list. last_of list.at == high) lists ≡ true → (low ≤ high) × (high < ADDRESSES_MAX)
 high_below low high [] are begin any = absurd cc
 high_below low high (list ∷ lists) are begin any =
@@ -237,7 +241,8 @@ pub part_of_lists : (lists : List TermList) (generation low high : ℕ) (header 
     → AppendsNumbers [] (generation ∷ low ∷ (high - low) ∷ sum_by (λ list. length list.at) lists ∷ length lists ∷ []) head
     → SpellsHeader (length head + length entries) header → blob ≡ header ++ (head ++ (entries ++ blocks))
     → (directory : PartDirectory) × (directory.generation ≡ generation) × SpellsPart directory lists blob
-part_of_lists lists generation low high header head entries blocks blob some are ascending distinct young least first most last written numbers
+part_of_lists lists generation low high header head entries blocks blob some are ascending distinct young least first most last written
+    numbers
     spelled whole =
     let front = header ++ (head ++ entries) in
     let a = written front in
@@ -279,7 +284,8 @@ part_of_lists lists generation low high header head entries blocks blob some are
               some = some_stored lists some are;
               room = stored_within low high lists are distinct least most;
               sum = sum;
-              ascending = subst (λ (x : List (List ℕ)). IsStrictlySortedBy (slice_cmp nat_cmp) x) (sym (held_terms low blob a.terms lists held)) ascending;
+              ascending = subst (λ (x : List (List ℕ)). IsStrictlySortedBy (slice_cmp nat_cmp) x)
+                  (sym (held_terms low blob a.terms lists held)) ascending;
               entries = a.hold high most;
               begin = held_any low blob (λ block. block.first == low) (λ list. first_of list.at == low) a.terms lists held are
                   (λ entry list h is e. some_begins low blob entry.blocks list.at low h.blocks is.count e) first;
@@ -292,7 +298,8 @@ part_of_lists lists generation low high header head entries blocks blob some are
             numbers = subst (λ (n : ℕ). StartsWithNumbers code
                 (generation ∷ low ∷ (high - low) ∷ sum_by (λ (list : TermList). length list.at) lists ∷ n ∷ []) entries) count
                 (subst (λ (x : List ℕ). StartsWithNumbers x
-                (generation ∷ low ∷ (high - low) ∷ sum_by (λ (list : TermList). length list.at) lists ∷ length lists ∷ []) entries) (sym code_is)
+                (generation ∷ low ∷ (high - low) ∷ sum_by (λ (list : TermList). length list.at) lists ∷ length lists ∷ []) entries)
+                (sym code_is)
                 (numbers_longer numbers.0 [] entries
                 (generation ∷ low ∷ (high - low) ∷ sum_by (λ (list : TermList). length list.at) lists ∷ length lists ∷ []) numbers.1));
             terms = subst (λ (x : List ℕ). SpellsEntries low a.terms x) (sym a.written) a.spelled;

@@ -190,7 +190,8 @@ pub same_blocks : (head : Head) (size from count : ℕ) (bytes : List ℕ) (plac
     (end stop : ℕ) → head.low ≤ from → AreNextBlocks head size from count bytes place blocks rest end
     → AreNextBlocks head size from count bytes place others other stop → (blocks ≡ others) × (rest ≡ other) × (end ≡ stop)
 same_blocks head size from count bytes place [] [] rest other end stop low b m = (refl, sym b.numbers ∙ m.numbers, sym b.places ∙ m.places)
-same_blocks head size from count bytes place [] (x ∷ others) rest other end stop low b m = absurd (let none = b.hold in let some = m.hold.0 in omega arith)
+same_blocks head size from count bytes place [] (x ∷ others) rest other end stop low b m = absurd
+    (let none = b.hold in let some = m.hold.0 in omega arith)
 same_blocks head size from count bytes place (block ∷ later) others rest other end stop low b m =
     let within = stand_within (place + block.len) end later b.places.1 in
     let last = b.within in
@@ -204,7 +205,8 @@ same_blocks head size from count bytes place (block ∷ later) others rest other
       within = omega arith;
     } in
     let u = blocks_uncons head size from count bytes place block others b.numbers.2.2.0 other stop some low one m in
-    let more = same_blocks head size (block.last + 1) (count - BLOCK_LEN) b.numbers.2.2.0 (place + block.len) later u.0 rest other end stop (omega arith)
+    let more = same_blocks head size (block.last + 1) (count - BLOCK_LEN) b.numbers.2.2.0
+    (place + block.len) later u.0 rest other end stop (omega arith)
     (record { numbers = b.numbers.2.2.2; hold = b.hold.2; places = b.places.1; within = b.within }) u.2 in
     (ap (λ (x : List BlockEntry). block ∷ x) more.0 ∙ sym u.1, more.1, more.2)
 
@@ -400,7 +402,8 @@ entries_taken head size count bytes place taken new left fewer rest after end st
     rw (is, f) (record {
       within = e.within;
       on = λ later a.
-          rw (append_assoc taken (entry ∷ []) later) (t.on (entry ∷ later) (entries_cons head size left rest end entry later after stop some e a));
+          rw (append_assoc taken (entry ∷ []) later) (t.on (entry ∷ later)
+          (entries_cons head size left rest end entry later after stop some e a));
       back = λ all a.
           let h = t.back all a in
           let u = entries_uncons head size left rest end entry h.0 after stop some e h.2 in
@@ -444,7 +447,8 @@ after_term head size bytes place term left entry rest end s e =
     (is.1, subst (λ x. StartsWithNumber x entry.count is.1) (sym front.1) is.3, is.4)
 
 -- what follows the term and the count
-pub after_count : (head : Head) (size : ℕ) (bytes : List ℕ) (place : ℕ) (term left : List ℕ) (count : ℕ) (numbers : List ℕ) (entry : TermEntry)
+pub after_count : (head : Head) (size : ℕ) (bytes : List ℕ) (place : ℕ) (term left : List ℕ) (count : ℕ) (numbers : List ℕ)
+    (entry : TermEntry)
     (rest : List ℕ) (end : ℕ) → StartsWithNumber bytes (length term) (term ++ left) → StartsWithNumber left count numbers
     → IsNextEntry head size bytes place entry rest end
     → AreNextBlocks head size head.low count numbers place entry.blocks rest end

@@ -22,7 +22,8 @@ use Rattle.wu_part.proofs.ReadingLemmas.{stand_within}
 use Rattle.wu_part.proofs.PartLemmas.{held_number, held_sum}
 use Rattle.wu_part.proofs.LawLemmas.{numbers_code, number_code}
 
-zip_join : {X Y : Type 0} (R : X → Y → Type 0) (xs us : List X) (ys vs : List Y) → AllZip R xs ys → AllZip R us vs → AllZip R (xs ++ us) (ys ++ vs)
+zip_join : {X Y : Type 0} (R : X → Y → Type 0) (xs us : List X) (ys vs : List Y) → AllZip R xs ys → AllZip R us vs
+    → AllZip R (xs ++ us) (ys ++ vs)
 zip_join R [] us [] vs a b = b
 zip_join R [] us (y ∷ ys) vs a b = absurd a
 zip_join R (x ∷ xs) us [] vs a b = absurd a
@@ -44,7 +45,8 @@ nothing_held low bytes addresses none s =
     let length_none = ap length none in
     omega (arith, length-take BLOCK_LEN addresses)
 
-same_spans : (low other : ℕ) (blob another : List ℕ) (blocks others : List BlockEntry) (addresses : List ℕ) → HoldBlocks low blob blocks addresses
+same_spans : (low other : ℕ) (blob another : List ℕ) (blocks others : List BlockEntry) (addresses : List ℕ)
+    → HoldBlocks low blob blocks addresses
     → HoldBlocks other another others addresses → AllZip IsSameSpan blocks others
 same_spans low other blob another [] [] addresses a b = tt
 same_spans low other blob another [] (y ∷ others) addresses a b = nothing_held other _ addresses a b.0.spelled
@@ -74,7 +76,8 @@ spans_of_lists low other blob another (x ∷ terms) (y ∷ others) (list ∷ lis
 abbrev LieWithin : ℕ → ℕ → List BlockEntry → Type 0
 LieWithin low high blocks = AllByRecursion (λ block. (low ≤ block.first) × (block.last ≤ high)) blocks
 
-blocks_lie : (low from high count : ℕ) (blocks : List BlockEntry) → low ≤ from → AreBlocks from high count blocks → LieWithin low high blocks
+blocks_lie : (low from high count : ℕ) (blocks : List BlockEntry) → low ≤ from → AreBlocks from high count blocks
+    → LieWithin low high blocks
 blocks_lie low from high count [] l a = tt
 blocks_lie low from high count (block ∷ later) l a =
     let some = a.0 in
@@ -114,7 +117,8 @@ high_of_spans low high other (x ∷ blocks) (y ∷ others) z any l =
       | false ↦ λ p t. high_of_spans low high other blocks others z.1 t l.1
     ] refl any
 
-pub same_bounds : (d e : PartDirectory) (lists : List TermList) (blob another : List ℕ) → SpellsPart d lists blob → SpellsPart e lists another
+pub same_bounds : (d e : PartDirectory) (lists : List TermList) (blob another : List ℕ) → SpellsPart d lists blob
+    → SpellsPart e lists another
     → (d.low ≡ e.low) × (d.high ≡ e.high)
 same_bounds d e lists blob another s t =
     let its = s.own.code_spelled.holds in
@@ -202,7 +206,8 @@ pub record AreSame (low : ℕ) (blob another : List ℕ) (terms others : List Te
   pub blocks : AllZip (IsSameBlock low blob another) (all_blocks terms) (all_blocks others)
 
 entry_bytes : (low : ℕ) (a b : List ℕ) (x y : TermEntry) (rest left : List ℕ) → StartsWithEntry low a x rest → StartsWithEntry low b y left
-    → x.term ≡ y.term → x.count ≡ y.count → flat_map (block_numbers low) x.blocks ≡ flat_map (block_numbers low) y.blocks → rest ≡ left → a ≡ b
+    → x.term ≡ y.term → x.count ≡ y.count → flat_map (block_numbers low) x.blocks ≡ flat_map (block_numbers low) y.blocks → rest ≡ left
+    → a ≡ b
 entry_bytes low a b x y rest left s t term count numbers e =
     let all : x.count ∷ flat_map (block_numbers low) x.blocks ≡ y.count ∷ flat_map (block_numbers low) y.blocks =
     ap (λ n. n ∷ flat_map (block_numbers low) x.blocks) count ∙ ap (λ (l : List ℕ). y.count ∷ l) numbers in
@@ -248,7 +253,8 @@ rest_of_blob d blob o =
     length-append o.header o.code ∙ ap (λ n. n + length o.code) (ap length o.header_spelled.spelled) in
     let whole : blob ≡ (o.header ++ o.code) ++ o.blocks = o.whole ∙ sym (append_assoc o.header o.code o.blocks) in
     let tail : drop (HEADER_LEN + length o.code) blob ≡ o.blocks =
-    ap (λ n. drop n blob) (sym long) ∙ (ap (λ x. drop (length (o.header ++ o.code)) x) whole ∙ drop-append_seam (o.header ++ o.code) o.blocks) in
+    ap (λ n. drop n blob) (sym long) ∙ (ap (λ x. drop (length (o.header ++ o.code)) x) whole ∙ drop-append_seam
+    (o.header ++ o.code) o.blocks) in
     sym tail ∙ behind blob (HEADER_LEN + length o.code) d.size (all_blocks d.terms) o.code_spelled.holds.places (sym o.size)
 
 pub part_code : (d e : PartDirectory) (lists : List TermList) (blob another : List ℕ) → SpellsPart d lists blob → SpellsPart e lists another
@@ -277,7 +283,8 @@ part_code d e lists blob another s t generation =
     numbers_code s.own.code t.own.code (make d.generation d.low d.high d.stored (length d.terms)) its.entries others.entries its.numbers
     (subst (λ (l : List ℕ). StartsWithNumbers t.own.code l others.entries) (sym numbers) others.numbers) same.spelling in
     let header : s.own.header ≡ t.own.header =
-    s.own.header_spelled.spelled ∙ (ap (λ (c : List ℕ). codes "WUMPUSP1" ++ to_be_bytes w64 (length c)) code ∙ sym t.own.header_spelled.spelled) in
+    s.own.header_spelled.spelled ∙ (ap (λ (c : List ℕ). codes "WUMPUSP1" ++ to_be_bytes w64 (length c)) code
+    ∙ sym t.own.header_spelled.spelled) in
     let blocks : s.own.blocks ≡ t.own.blocks =
     rest_of_blob d blob s.own ∙ (bytes_of_same d.low blob another (all_blocks d.terms) (all_blocks e.terms) same.blocks
     ∙ sym (rest_of_blob e another t.own)) in

@@ -111,7 +111,8 @@ pub not_found : (entries : List TermEntry) (term : List ℕ) (place : ℕ) → I
     → (entry : TermEntry) → Contains entries entry → entry.term ≡ term → ⊥
 not_found entries term place up is entry has same =
     let split = is (never_falls entries term up) in
-    let here : text_cmp entry.term term ≡ Equal = subst (λ x. text_cmp entry.term x ≡ Equal) same (tied_itself nat_list_cmp_total entry.term) in
+    let here : text_cmp entry.term term ≡ Equal = subst (λ x. text_cmp entry.term x ≡ Equal) same
+    (tied_itself nat_list_cmp_total entry.term) in
     let cases : (has.0 < place) ⊎ (place ≤ has.0) = grind arith in
     elim cases [
       | inl front ↦ let less = split.0 has.0 entry (omega arith) front in let l : text_cmp entry.term term ≡ Less = rw has.2 at less in cc

@@ -30,7 +30,8 @@ pub number_first : (old mid new : List ℕ) (n : ℕ) (ns : List ℕ) → Append
 number_first old mid new n ns a b =
     (a.0 ++ b.0, (b.0, (a.0, a.1, refl), b.1), b.2 ∙ (ap (λ x. x ++ b.0) a.2 ∙ append_assoc old a.0 b.0))
 
-pub three_numbers_appended : (old a b new : List ℕ) (x y z other : ℕ) → AppendsNumber old x a → AppendsNumber a y b → AppendsNumber b other new
+pub three_numbers_appended : (old a b new : List ℕ) (x y z other : ℕ) → AppendsNumber old x a → AppendsNumber a y b
+    → AppendsNumber b other new
     → other ≡ z → AppendsNumbers old (x ∷ y ∷ z ∷ []) new
 three_numbers_appended old a b new x y z other p q r e =
     number_first old a new x (y ∷ z ∷ []) p
@@ -259,7 +260,8 @@ pub record LeftToAppend (low : ℕ) (addresses rest old now before middle : List
   pub whole : (front new after : List ℕ) → AppendsBlocks low rest now new middle after front
       → AppendsBlocks low addresses old new before after front
 
-pub all_left : (low : ℕ) (addresses old before : List ℕ) → IsStrictlyIncreasing addresses → (0 < length addresses → low ≤ first_of addresses)
+pub all_left : (low : ℕ) (addresses old before : List ℕ) → IsStrictlyIncreasing addresses
+    → (0 < length addresses → low ≤ first_of addresses)
     → LeftToAppend low addresses addresses old old before before
 all_left low addresses old before s l = record { ascending = s; begin = l; whole = λ front new after a. a }
 
@@ -272,7 +274,8 @@ pub chunk_appended : (low : ℕ) (addresses rest old now mid before middle furth
 chunk_appended low addresses rest old now mid before middle further chunk later n t some e p q b m =
     let is = taken_up_to rest BLOCK_LEN n e in
     let block = subst (λ x. AppendsBlock middle low x further) (p ∙ is.0) b in
-    let numbers = subst (λ x. AppendsNumbers now ((first_of x - low) ∷ (last_of x - first_of x) ∷ (length further - length middle) ∷ []) mid)
+    let numbers = subst (λ x. AppendsNumbers now ((first_of x - low) ∷ (last_of x - first_of x) ∷
+    (length further - length middle) ∷ []) mid)
     (p ∙ is.0) m in
     subst (λ x. LeftToAppend low addresses x old mid before further) (sym (q ∙ is.1)) (record {
       ascending = increasing_dropped rest BLOCK_LEN t.ascending;
@@ -287,7 +290,8 @@ chunk_appended low addresses rest old now mid before middle further chunk later 
           block numbers a);
     })
 
-pub none_left : (low : ℕ) (addresses rest old now before middle : List ℕ) → LeftToAppend low addresses rest old now before middle → rest ≡ []
+pub none_left : (low : ℕ) (addresses rest old now before middle : List ℕ) → LeftToAppend low addresses rest old now before middle
+    → rest ≡ []
     → (front : List ℕ) → AppendsBlocks low addresses old now before middle front
 none_left low addresses rest old now before middle t none front =
     t.whole front now middle (subst (λ x. AppendsBlocks low x now now middle middle front) (sym none) (blocks_none low now middle front))
@@ -370,7 +374,8 @@ lists_first low list lists old mid new before middle after front a m = record {
       term = a.held.term;
       count = a.held.count;
       blocks = subst (λ x. HoldBlocks low x a.entry.blocks list.at) (append_assoc front middle m.more ∙ sym (ap (λ x. front ++ x) m.grown))
-          (holds_more low (front ++ middle) m.more (length front + length before) (length front + length middle) a.entry.blocks list.at a.places
+          (holds_more low (front ++ middle) m.more (length front + length before)
+          (length front + length middle) a.entry.blocks list.at a.places
           (omega (arith, length-append front middle)) a.held.blocks);
     },
     m.held,
@@ -389,7 +394,8 @@ pub all_lists_left : (low : ℕ) (lists : List TermList) (old before : List ℕ)
     → AllByRecursion (λ list. low ≤ first_of list.at) lists → ListsLeft low lists lists old old before before
 all_lists_left low lists old before s l = record { are = s; begin = l; whole = λ front new after a. a }
 
-pub one_list_appended : (low : ℕ) (lists : List TermList) (list : TermList) (rest : List TermList) (old now mid before middle further : List ℕ)
+pub one_list_appended : (low : ℕ) (lists : List TermList) (list : TermList) (rest : List TermList)
+    (old now mid before middle further : List ℕ)
     → ListsLeft low lists (list ∷ rest) old now before middle → ((front : List ℕ) → AppendsList low list now mid middle further front)
     → ListsLeft low lists rest old mid before further
 one_list_appended low lists list rest old now mid before middle further t a = record {

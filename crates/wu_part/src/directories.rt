@@ -81,7 +81,8 @@ impl Directory {
     /// The entry of the term at this place of the directory, counted from 0. `None` exactly where
     /// there are no more than so many terms.
     pub fn term_at(&self, place: usize) -> Option<Entry<'_>>
-        ensures { MatchOption result (length self.now.terms ≤ place) (λ entry. (place < length self.now.terms) × (entry ≡ get_or self.now.terms place entry)) }
+        ensures { MatchOption result (length self.now.terms ≤ place) (λ entry. (place < length self.now.terms) ×
+            (entry ≡ get_or self.now.terms place entry)) }
     {
         if place < self.terms.len() {
             Some(entry_at(&self.terms, place))
@@ -137,6 +138,7 @@ fn place_of(terms: &[TermEntry], term: &[u8]) -> Option<usize>
 
 /// The entry of a term, and how far its blocks have been gone through: contracts see the entry of
 /// the blocks that are left and the addresses in them.
+#[derive(Drop)]
 pub struct Entry<'a> {
     term: &'a [u8],
     count: u64,

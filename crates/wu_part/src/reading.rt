@@ -23,7 +23,8 @@ use wu_vbyte::{take_block, take_number};
 /// no such spelling. Takes memory only for entries that the bytes were found to hold.
 pub fn read_directory(alloc: Global, bytes: &[u8], size: u64) -> Result<Option<Directory>, NoMemory>
     ensures found { IfOk result (λ read. IfSome read (λ directory. SpellsDirectory directory bytes.now × (directory.size ≡ size))) }
-    ensures none { IfOk result (λ read. IfNone read ((directory : PartDirectory) → SpellsDirectory directory bytes.now → directory.size ≡ size → ⊥)) }
+    ensures none { IfOk result (λ read. IfNone read ((directory : PartDirectory) → SpellsDirectory directory bytes.now
+        → directory.size ≡ size → ⊥)) }
 {
     let (head, rest) = match take_head(bytes) {
         Some(taken) => taken,
@@ -160,7 +161,8 @@ fn take_entries(
     requires high { head.now.high < ADDRESSES_MAX }
     requires place { place ≤ size }
     ensures found { IfOk result (λ read. IfSome read (λ terms. AreEntries head.now size head.now.terms bytes.now place terms.items)) }
-    ensures none { IfOk result (λ read. IfNone read ((terms : List TermEntry) → AreEntries head.now size head.now.terms bytes.now place terms → ⊥)) }
+    ensures none { IfOk result (λ read. IfNone read ((terms : List TermEntry)
+        → AreEntries head.now size head.now.terms bytes.now place terms → ⊥)) }
 {
     let mut terms = Vec::new(alloc);
     let mut rest = bytes;
@@ -251,7 +253,8 @@ fn is_term_length(length: u64, left: usize) -> bool
 /// The number of addresses that the bytes start with, at least 1, and the rest.
 fn take_count(bytes: &[u8]) -> Option<(u64, &[u8])>
     ensures found { IfSome result (λ next. StartsWithNumber bytes.now next.0 next.1.now × (0 < next.0)) }
-    ensures none { IfNone result ((number : ℕ) (rest : List ℕ) → 0 < number → number < 2 ^ 64 → StartsWithNumber bytes.now number rest → ⊥) }
+    ensures none { IfNone result ((number : ℕ) (rest : List ℕ) → 0 < number → number < 2 ^ 64 → StartsWithNumber bytes.now number rest
+        → ⊥) }
 {
     let Some((count, rest)) = next_number(bytes) else {
         return None;
@@ -271,7 +274,8 @@ fn take_blocks<'a>(
 ) -> Result<Option<(Vec<BlockEntry>, &'a [u8], u64)>, NoMemory>
     requires high { head.now.high < ADDRESSES_MAX }
     requires place { place ≤ size }
-    ensures found { IfOk result (λ read. IfSome read (λ next. AreNextBlocks head.now size head.now.low count bytes.now place next.0.items next.1.now next.2)) }
+    ensures found { IfOk result (λ read. IfSome read (λ next. AreNextBlocks head.now size head.now.low count bytes.now place
+        next.0.items next.1.now next.2)) }
     ensures none { IfOk result (λ read. IfNone read ((blocks : List BlockEntry) (rest : List ℕ) (end : ℕ)
         → AreNextBlocks head.now size head.now.low count bytes.now place blocks rest end → ⊥)) }
 {
@@ -309,7 +313,8 @@ fn take_block_entry<'a>(
     requires from { head.now.low ≤ from }
     requires place { place ≤ size }
     ensures found { IfSome result (λ next. IsNextBlock head.now size from count bytes.now place next.0 next.1.now) }
-    ensures none { IfNone result ((block : BlockEntry) (rest : List ℕ) → IsNextBlock head.now size from count bytes.now place block rest → ⊥) }
+    ensures none { IfNone result ((block : BlockEntry) (rest : List ℕ)
+        → IsNextBlock head.now size from count bytes.now place block rest → ⊥) }
 {
     let Some((above, span, len, rest)) = three_numbers(bytes) else {
         return None;
@@ -359,10 +364,12 @@ fn is_room(len: u64, place: u64, size: u64) -> bool
 /// the number of addresses, and some block begins at the lowest address and some ends at the highest.
 fn is_whole(head: &Head, terms: &[TermEntry]) -> bool
     ensures { MatchBool result
-        (IsStrictlySortedBy (slice_cmp nat_cmp) (map (λ entry. entry.term) terms.now) × (sum_by (λ entry. entry.count) terms.now ≡ head.now.stored)
+        (IsStrictlySortedBy (slice_cmp nat_cmp) (map (λ entry. entry.term) terms.now) ×
+        (sum_by (λ entry. entry.count) terms.now ≡ head.now.stored)
         × (list_any (λ entry. list_any (λ block. block.first == head.now.low) entry.blocks) terms.now ≡ true)
         × (list_any (λ entry. list_any (λ block. block.last == head.now.high) entry.blocks) terms.now ≡ true))
-        (IsStrictlySortedBy (slice_cmp nat_cmp) (map (λ entry. entry.term) terms.now) → sum_by (λ entry. entry.count) terms.now ≡ head.now.stored
+        (IsStrictlySortedBy (slice_cmp nat_cmp) (map (λ entry. entry.term) terms.now)
+        → sum_by (λ entry. entry.count) terms.now ≡ head.now.stored
         → list_any (λ entry. list_any (λ block. block.first == head.now.low) entry.blocks) terms.now ≡ true
         → list_any (λ entry. list_any (λ block. block.last == head.now.high) entry.blocks) terms.now ≡ true → ⊥) }
 {

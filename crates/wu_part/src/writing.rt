@@ -25,7 +25,8 @@ pub fn encode(alloc: Global, lists: &[TermList], generation: u32) -> Result<Vec<
     requires ascending { IsStrictlySortedBy (slice_cmp nat_cmp) (map (λ list. list.term) lists.now) }
     requires distinct { IsDistinct eqb (flat_map (λ list. list.at) lists.now) }
     requires generation { generation ≤ GENERATION_MAX }
-    ensures { IfOk result (λ blob. (directory : PartDirectory) × (directory.generation ≡ generation) × SpellsPart directory lists.now blob.items) }
+    ensures { IfOk result (λ blob. (directory : PartDirectory) × (directory.generation ≡ generation)
+        × SpellsPart directory lists.now blob.items) }
 {
     let low = lowest(lists);
     let mut entries = Vec::new(alloc);
@@ -54,7 +55,8 @@ fn put_head(
     requires fits { sum_by (λ list. length list.at) lists.now < 2 ^ 64 }
     ensures { OnOk result ((high : ℕ) × AllByRecursion (λ list. last_of list.at ≤ high) lists.now
         × (list_any (λ list. last_of list.at == high) lists.now ≡ true)
-        × AppendsNumbers out.old.items (generation ∷ low ∷ (high - low) ∷ sum_by (λ list. length list.at) lists.now ∷ length lists.now ∷ []) out.new.items) }
+        × AppendsNumbers out.old.items (generation ∷ low ∷ (high - low) ∷ sum_by
+        (λ list. length list.at) lists.now ∷ length lists.now ∷ []) out.new.items) }
 {
     put_number(out, u64::from(generation))?;
     put_number(out, low)?;
@@ -125,7 +127,8 @@ fn put_lists(
 ) -> Result<(), NoMemory>
     requires lists { AllByRecursion IsList lists.now }
     requires low { AllByRecursion (λ list. low ≤ first_of list.at) lists.now }
-    ensures { OnOk result ((front : List ℕ) → AppendsLists low lists.now entries.old.items entries.new.items blocks.old.items blocks.new.items front) }
+    ensures { OnOk result ((front : List ℕ) → AppendsLists low lists.now entries.old.items entries.new.items blocks.old.items
+        blocks.new.items front) }
 {
     for list in lists {
         put_list(entries, blocks, low, list)?;
@@ -142,7 +145,8 @@ fn put_list(
 ) -> Result<(), NoMemory>
     requires list { IsList list.now }
     requires low { low ≤ first_of list.now.at }
-    ensures { OnOk result ((front : List ℕ) → AppendsList low list.now entries.old.items entries.new.items blocks.old.items blocks.new.items front) }
+    ensures { OnOk result ((front : List ℕ) → AppendsList low list.now entries.old.items entries.new.items blocks.old.items
+        blocks.new.items front) }
 {
     let term = list.term.as_slice();
     let at = list.at.as_slice();
@@ -163,7 +167,8 @@ fn put_blocks(
 ) -> Result<(), NoMemory>
     requires ascending { IsStrictlyIncreasing at.now }
     requires low { 0 < length at.now → low ≤ first_of at.now }
-    ensures { OnOk result ((front : List ℕ) → AppendsBlocks low at.now entries.old.items entries.new.items blocks.old.items blocks.new.items front) }
+    ensures { OnOk result ((front : List ℕ) → AppendsBlocks low at.now entries.old.items entries.new.items blocks.old.items
+        blocks.new.items front) }
 {
     let mut rest = at;
     while !rest.is_empty() {

@@ -51,7 +51,8 @@ pub fn bytes_text(alloc: Global, bytes: &[u8]) -> Result<String, NoAnswer> {
     Ok(text)
 }
 
-fn put_byte(text: &mut String, byte: u8) -> Result<(), AllocError> {
+/// Appends a byte as it is written in a row.
+pub fn put_byte(text: &mut String, byte: u8) -> Result<(), AllocError> {
     match byte {
         b'\\' => text.push_str("\\\\"),
         b'\t' => text.push_str("\\t"),

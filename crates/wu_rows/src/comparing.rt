@@ -41,14 +41,14 @@ impl From<NoAnswer> for io::Error {
 
 /// How many rows with the same call stand together, and how many of them agree.
 #[derive(Drop)]
-struct Tally {
+pub struct Tally {
     call: String,
     rows: u64,
     agreed: u64,
 }
 
 impl Tally {
-    fn of_call(alloc: Global, call: &str) -> Result<Tally, AllocError> {
+    pub fn of_call(alloc: Global, call: &str) -> Result<Tally, AllocError> {
         Ok(Tally {
             call: String::from_str(alloc, call)?,
             rows: 0,
@@ -56,12 +56,12 @@ impl Tally {
         })
     }
 
-    fn add(&mut self, agrees: bool) {
+    pub fn add(&mut self, agrees: bool) {
         self.rows = self.rows.saturating_add(1);
         self.agreed = self.agreed.saturating_add(u64::from(agrees));
     }
 
-    fn print(&self, rt: &impl Print) -> io::Result<()> {
+    pub fn print(&self, rt: &impl Print) -> io::Result<()> {
         let call = self.call.as_str();
         let rows = self.rows;
         let agreed = self.agreed;
@@ -113,11 +113,20 @@ where
     F: Fn(Global, &str, &str, &[&str]) -> Result<String, NoAnswer>,
     requires { F.IsAlwaysCallable answer.now }
 {
+    is_expected(rt, row, given(rt.alloc(), row, answer))
+}
+
+/// Whether what is given for the row is its expected answer. Prints it where it is not.
+pub fn is_expected<R: Print + AllocGlobal>(
+    rt: &R,
+    row: &str,
+    given: Result<String, NoAnswer>,
+) -> io::Result<bool> {
     let expected = match row.rsplit_once('\t') {
         Some((_, expected)) => expected,
         None => "",
     };
-    match given(rt.alloc(), row, answer) {
+    match given {
         Ok(text) => {
             if text.as_str() == expected {
                 return Ok(true);
@@ -136,10 +145,7 @@ where
     F: Fn(Global, &str, &str, &[&str]) -> Result<String, NoAnswer>,
     requires { F.IsAlwaysCallable answer.now }
 {
-    let mut fields = Vec::new(alloc);
-    for field in row.split('\t') {
-        fields.push(field)?;
-    }
+    let fields = fields_of(alloc, row)?;
     let [path, arguments @ .., _] = fields.as_slice() else {
         return Err(NoAnswer::BadRow);
     };
@@ -147,4 +153,13 @@ where
         Some((library, call)) => answer(alloc, library, call, arguments),
         None => Err(NoAnswer::BadRow),
     }
+}
+
+/// The fields of the row.
+pub fn fields_of(alloc: Global, row: &str) -> Result<Vec<&str>, NoAnswer> {
+    let mut fields = Vec::new(alloc);
+    for field in row.split('\t') {
+        fields.push(field)?;
+    }
+    Ok(fields)
 }

@@ -6,6 +6,8 @@
 mod answers;
 mod arguments;
 mod comparing;
+mod tables;
+mod texts;
 
 pub use answers::{
     bytes_text, extents_text, flag_text, list_text, number_text, numbers_text, optional_text,
@@ -16,3 +18,5 @@ pub use arguments::{
     small_number, small_numbers,
 };
 pub use comparing::{NoAnswer, compare};
+pub use tables::{Subject, compare_tables};
+pub use texts::{script, shown, words};

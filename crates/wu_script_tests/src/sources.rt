@@ -2,8 +2,8 @@
 ghost use Rattle.std.specs.Prelude.{◌≡◌, Some, false};
 
 use std::alloc::Global;
-use std::test::Fail;
 use wu_outside::{Failed, PlainSource, Source};
+use wu_rows::NoAnswer;
 use wu_script::{Command, Item, ReadEnd, Reader, Why};
 
 /// A source that gives at most so many bytes at once.
@@ -32,7 +32,7 @@ impl Source for Trickle {
 #[derive(Drop)]
 pub struct Noting {
     pub plain: PlainSource,
-    pub asked: [usize; 4],
+    pub asked: [u64; 4],
     pub reads: usize,
 }
 
@@ -47,7 +47,7 @@ impl Source for Noting {
 
     fn read(&mut self, buf: &mut [u8]) -> Result<usize, Failed> {
         if self.reads < 4 {
-            self.asked[self.reads] = buf.len();
+            self.asked[self.reads] = buf.len() as u64;
             self.reads += 1;
         }
         self.plain.read(buf)
@@ -79,7 +79,7 @@ pub fn words_of_items<I: Source>(
     alloc: Global,
     source: &mut I,
     max_input: u64,
-) -> Result<String, Fail>
+) -> Result<String, NoAnswer>
     requires { I.ended source.old ≡ false }
 {
     let mut reader = Reader::new(alloc, max_input)?;

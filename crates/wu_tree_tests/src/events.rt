@@ -1,152 +1,175 @@
-use crate::steps::{DONE, SMALL, Step, dropped, first_wrong, made, texted, tree_after};
-use std::test::Fail;
-use wu_tree::{Refusal, Tree};
+//! Events as rows write them, and what a tree answers.
+ghost use Rattle.std.specs.Prelude.{◌≤◌, IfOk};
+ghost use Rattle.wu_tree.specs.Steps.{IsEvent};
 
-const LONGEST: [u8; 255] = [b'x'; 255];
+use crate::nodes::mode_of;
+use crate::refusals::name_of;
+use std::alloc::Global;
+use wu_access::Perm;
+use wu_base::{Bytes, Ino, Sequence};
+use wu_rows::{NoAnswer, plain_text, script, small_number};
+use wu_tree::{Effect, Event, Refusal, Tree};
 
-const TOO_LONG: [u8; 256] = [b'x'; 256];
-
-#[test]
-fn nodes_are_made_under_a_free_number_and_name(rt: HostRuntime) -> Result<(), Fail> {
-    let mut tree = tree_after(rt.alloc(), &SMALL)?;
-    for (ino, parent, name, refusal) in [
-        (3, 1, b"x".as_slice(), Refusal::Exists),
-        (9, 1, b"d".as_slice(), Refusal::Exists),
-        (9, 7, b"x".as_slice(), Refusal::NoSuch),
-        (9, 3, b"x".as_slice(), Refusal::Kind),
-    ] {
-        let table = [
-            (Step::Create(ino, parent, name, 0o644), Err(refusal)),
-            (Step::Mkdir(ino, parent, name, 0o755), Err(refusal)),
-        ];
-        assert_eq!(rt; first_wrong(rt.alloc(), &mut tree, &table)?, None);
+/// What the tree answers to the event of these words. `chain` makes directories as deep as the number says, each in the one before.
+pub fn answered(alloc: Global, tree: &mut Tree, words: &[&str]) -> Result<String, NoAnswer> {
+    if let ["chain", depth] = words {
+        return make_chain(alloc, tree, small_number(depth)?);
     }
-    Ok(())
+    let event = event(alloc, words)?;
+    answer_text(alloc, tree.apply(&event)?)
 }
 
-#[test]
-fn names_have_1_to_255_bytes_and_no_slash(rt: HostRuntime) -> Result<(), Fail> {
-    let mut tree = Tree::new(rt.alloc())?;
-    let table = [
-        (Step::Create(2, 1, b"...", 0o644), made(2)),
-        (Step::Create(3, 1, &LONGEST, 0o644), made(3)),
-        (Step::Create(9, 1, &TOO_LONG, 0o644), Err(Refusal::BadName)),
-        (Step::Create(9, 1, b"", 0o644), Err(Refusal::BadName)),
-        (Step::Mkdir(9, 1, b"", 0o755), Err(Refusal::BadName)),
-        (Step::Mkdir(9, 1, b".", 0o755), Err(Refusal::BadName)),
-        (Step::Mkdir(9, 1, b"..", 0o755), Err(Refusal::BadName)),
-        (Step::Create(9, 1, b"..", 0o644), Err(Refusal::BadName)),
-        (Step::Mkdir(9, 1, b"a/b", 0o755), Err(Refusal::BadName)),
-        (Step::Create(9, 1, b"a/b", 0o644), Err(Refusal::BadName)),
-        (Step::Create(9, 1, b"a\0b", 0o644), Err(Refusal::BadName)),
-        (Step::Mkdir(9, 1, b"a\0b", 0o755), Err(Refusal::BadName)),
-        (Step::Link(2, 1, b"/"), Err(Refusal::BadName)),
-        (Step::Rename(1, b"...", 1, b"."), Err(Refusal::BadName)),
-    ];
-    assert_eq!(rt; first_wrong(rt.alloc(), &mut tree, &table)?, None);
-    Ok(())
-}
-
-#[test]
-fn texts_links_and_removals(rt: HostRuntime) -> Result<(), Fail> {
-    let mut tree = tree_after(rt.alloc(), &SMALL)?;
-    let table = [
-        (Step::Text(2), Err(Refusal::Kind)),
-        (Step::Text(9), Err(Refusal::NoSuch)),
-        (Step::Link(2, 1, b"h"), Err(Refusal::Kind)),
-        (Step::Link(9, 1, b"h"), Err(Refusal::NoSuch)),
-        (Step::Link(3, 1, b"g"), Err(Refusal::Exists)),
-        (Step::Unlink(1, b"zz"), Err(Refusal::NoSuch)),
-        (Step::Unlink(1, b"d"), Err(Refusal::Kind)),
-        (Step::Rmdir(1, b"zz"), Err(Refusal::NoSuch)),
-        (Step::Rmdir(1, b"g"), Err(Refusal::Kind)),
-        (Step::Rmdir(1, b"d"), Err(Refusal::NotEmpty)),
-        (Step::Rmdir(2, b"e"), DONE),
-        (Step::Chmod(99, 0o755), Err(Refusal::NoSuch)),
-        (Step::Chown(99, 0, 0), Err(Refusal::NoSuch)),
-        (Step::Chmod(3, 0o700), DONE),
-        (Step::Chown(3, 1, 1), DONE),
-        (Step::Chown(1, 0, 0), DONE),
-        (Step::User(5, &[7]), DONE),
-    ];
-    assert_eq!(rt; first_wrong(rt.alloc(), &mut tree, &table)?, None);
-    Ok(())
-}
-
-#[test]
-fn renamings_that_are_refused(rt: HostRuntime) -> Result<(), Fail> {
-    let mut tree = tree_after(rt.alloc(), &SMALL)?;
-    let table = [
-        (Step::Rename(1, b"zz", 1, b"y"), Err(Refusal::NoSuch)),
-        (Step::Rename(1, b"d", 9, b"y"), Err(Refusal::NoSuch)),
-        (Step::Rename(1, b"d", 5, b"y"), Err(Refusal::Kind)),
-        (Step::Rename(1, b"d", 4, b"q"), Err(Refusal::Loop)),
-        (Step::Rename(1, b"d", 2, b"x"), Err(Refusal::Loop)),
-        // That `/d/f` is a file counts less than that `/d` would come to stand in itself.
-        (Step::Rename(1, b"d", 2, b"f"), Err(Refusal::Loop)),
-        (Step::Rename(1, b"g", 1, b"d"), Err(Refusal::Kind)),
-        (Step::Rename(2, b"e", 1, b"d"), Err(Refusal::NotEmpty)),
-        (Step::Rename(1, b"d", 1, b"g"), Err(Refusal::Kind)),
-    ];
-    assert_eq!(rt; first_wrong(rt.alloc(), &mut tree, &table)?, None);
-    Ok(())
-}
-
-#[test]
-fn renamings_that_are_accepted(rt: HostRuntime) -> Result<(), Fail> {
-    let mut tree = tree_after(rt.alloc(), &SMALL)?;
-    let table = [
-        // The new place is the old one.
-        (Step::Rename(1, b"d", 1, b"d"), DONE),
-        (Step::Rename(2, b"e", 1, b"e"), DONE),
-        // An empty directory is replaced.
-        (Step::Mkdir(6, 1, b"h", 0o755), DONE),
-        (Step::Rename(1, b"e", 1, b"h"), DONE),
-        (Step::Rmdir(1, b"e"), Err(Refusal::NoSuch)),
-        (Step::Rmdir(1, b"h"), DONE),
-        (Step::Rename(2, b"f", 1, b"g"), dropped(5)),
-        (Step::Rmdir(1, b"d"), DONE),
-    ];
-    assert_eq!(rt; first_wrong(rt.alloc(), &mut tree, &table)?, None);
-    Ok(())
-}
-
-#[test]
-fn a_file_goes_with_its_last_link(rt: HostRuntime) -> Result<(), Fail> {
-    let mut tree = Tree::new(rt.alloc())?;
-    let table = [
-        (Step::Create(2, 1, b"a", 0o644), made(2)),
-        (Step::Text(2), texted(2)),
-        (Step::Create(3, 1, b"b", 0o644), made(3)),
-        (Step::Link(2, 1, b"c"), DONE),
-        // Both names are the same file's.
-        (Step::Rename(1, b"a", 1, b"c"), DONE),
-        (Step::Rename(1, b"b", 1, b"a"), DONE),
-        (Step::Rename(1, b"a", 1, b"c"), dropped(2)),
-        (Step::Unlink(1, b"c"), dropped(3)),
-        // The number is free again.
-        (Step::Create(3, 1, b"c", 0o644), made(3)),
-    ];
-    assert_eq!(rt; first_wrong(rt.alloc(), &mut tree, &table)?, None);
-    assert_eq!(rt; tree.file_count(), 1);
-    Ok(())
-}
-
-#[test]
-fn refusals_are_told_in_words(rt: HostRuntime) -> Result<(), Fail> {
-    for (refusal, text) in [
-        (Refusal::BadName, "not a file name"),
-        (Refusal::NoSuch, "no such file or directory"),
-        (
-            Refusal::Kind,
-            "a file where a directory is needed, or a directory where a file is",
-        ),
-        (Refusal::Exists, "the number or the name is in use"),
-        (Refusal::NotEmpty, "the directory is not empty"),
-        (Refusal::Loop, "a directory can't be moved into itself"),
-        (Refusal::Deep, "a directory would lie deeper than 255"),
-    ] {
-        assert_eq!(rt; format!(in rt.alloc(); "{refusal}")?.as_str(), text);
+fn make_chain(alloc: Global, tree: &mut Tree, depth: Ino) -> Result<String, NoAnswer> {
+    for parent in 1..depth {
+        let event = directory(alloc, parent)?;
+        if let Err(refusal) = tree.apply(&event)? {
+            return answer_text(alloc, Err(refusal));
+        }
     }
-    Ok(())
+    plain_text(alloc, "done")
+}
+
+/// The event that makes the directory `d` in the one of this number, with the number after it.
+fn directory(alloc: Global, parent: Ino) -> Result<Event, NoAnswer>
+    ensures { IfOk result (λ event. IsEvent event) }
+{
+    Ok(Event::Mkdir {
+        ino: parent.saturating_add(1),
+        parent,
+        name: Bytes::from_slice(alloc, b"d")?,
+        perm: perm("755")?,
+    })
+}
+
+fn answer_text(alloc: Global, answer: Result<Effect, Refusal>) -> Result<String, NoAnswer> {
+    match answer {
+        Ok(effect) => effect_text(alloc, &effect),
+        Err(refusal) => {
+            let name = name_of(refusal);
+            Ok(format!(in alloc; "refused {name}")?)
+        }
+    }
+}
+
+fn effect_text(alloc: Global, effect: &Effect) -> Result<String, NoAnswer> {
+    match (effect.made, effect.dropped, effect.texted) {
+        (None, None, None) => plain_text(alloc, "done"),
+        (Some(ino), None, None) => Ok(format!(in alloc; "made {ino}")?),
+        (None, Some(ino), None) => Ok(format!(in alloc; "dropped {ino}")?),
+        (None, None, Some(ino)) => Ok(format!(in alloc; "texted {ino}")?),
+        _ => plain_text(alloc, "more than one"),
+    }
+}
+
+/// The event that the words spell. What is made is user 0's and group 0's.
+fn event(alloc: Global, words: &[&str]) -> Result<Event, NoAnswer>
+    ensures { IfOk result (λ event. IsEvent event) }
+{
+    match words {
+        ["mkdir" | "create", ..] => made(alloc, words),
+        ["link" | "unlink" | "rmdir" | "rename", ..] => linked(alloc, words),
+        _ => changed(alloc, words),
+    }
+}
+
+fn made(alloc: Global, words: &[&str]) -> Result<Event, NoAnswer>
+    ensures { IfOk result (λ event. IsEvent event) }
+{
+    let [call, ino, parent, name, mode] = words else {
+        return Err(NoAnswer::BadRow);
+    };
+    let ino = small_number(ino)?.max(1);
+    let parent = small_number(parent)?;
+    let name = name_of_word(alloc, name)?;
+    let perm = perm(mode)?;
+    if *call == "mkdir" {
+        Ok(Event::Mkdir {
+            ino,
+            parent,
+            name,
+            perm,
+        })
+    } else {
+        Ok(Event::Create {
+            ino,
+            parent,
+            name,
+            perm,
+        })
+    }
+}
+
+fn linked(alloc: Global, words: &[&str]) -> Result<Event, NoAnswer>
+    ensures { IfOk result (λ event. IsEvent event) }
+{
+    match words {
+        ["link", ino, parent, name] => Ok(Event::Link {
+            ino: small_number(ino)?,
+            parent: small_number(parent)?,
+            name: name_of_word(alloc, name)?,
+        }),
+        ["unlink", parent, name] => Ok(Event::Unlink {
+            parent: small_number(parent)?,
+            name: name_of_word(alloc, name)?,
+        }),
+        ["rmdir", parent, name] => Ok(Event::Rmdir {
+            parent: small_number(parent)?,
+            name: name_of_word(alloc, name)?,
+        }),
+        ["rename", parent, name, new_parent, new_name] => Ok(Event::Rename {
+            parent: small_number(parent)?,
+            name: name_of_word(alloc, name)?,
+            new_parent: small_number(new_parent)?,
+            new_name: name_of_word(alloc, new_name)?,
+        }),
+        _ => Err(NoAnswer::BadRow),
+    }
+}
+
+fn changed(alloc: Global, words: &[&str]) -> Result<Event, NoAnswer>
+    ensures { IfOk result (λ event. IsEvent event) }
+{
+    match words {
+        ["text", ino] => Ok(Event::Text {
+            ino: small_number(ino)?,
+        }),
+        ["chmod", ino, mode] => Ok(Event::Chmod {
+            ino: small_number(ino)?,
+            mode: mode_of(mode)?.min(0o7777),
+        }),
+        ["chown", ino, uid, gid] => Ok(Event::Chown {
+            ino: small_number(ino)?,
+            uid: small_number(uid)?,
+            gid: small_number(gid)?,
+        }),
+        ["user", uid, groups @ ..] => Ok(Event::User {
+            uid: small_number(uid)?,
+            groups: numbers_of(alloc, groups)?,
+        }),
+        _ => Err(NoAnswer::BadRow),
+    }
+}
+
+fn perm(mode: &str) -> Result<Perm, NoAnswer>
+    ensures { IfOk result (λ perm. perm.mode ≤ 0xFFF) }
+{
+    Ok(Perm {
+        uid: 0,
+        gid: 0,
+        mode: mode_of(mode)?.min(0o7777),
+    })
+}
+
+/// The name that the word is written for.
+pub fn name_of_word(alloc: Global, word: &str) -> Result<Bytes, NoAnswer> {
+    Ok(Bytes::from(script(alloc, word)?))
+}
+
+/// The numbers that the words spell.
+pub fn numbers_of(alloc: Global, words: &[&str]) -> Result<Sequence<u32>, NoAnswer> {
+    let mut numbers = Vec::new(alloc);
+    for word in words {
+        numbers.push(small_number(word)?)?;
+    }
+    Ok(Sequence::from(numbers))
 }

@@ -1,8 +1,9 @@
 //! The program `wumpus`: a session over standard input and output.
 #![tactic(auto)]
 
-ghost use Rattle.std.specs.Prelude.{◌≡◌};
+ghost use Rattle.std.specs.Prelude.{◌≡◌, option_map};
 ghost use Rattle.std.specs.Process.{exit_status};
+ghost use Rattle.wumpus.specs.Messages.{message_of};
 ghost use Rattle.wumpus_run.specs.Session.{code_of};
 
 use std::alloc::AllocError;
@@ -77,7 +78,9 @@ fn session_of(rt: &HostRuntime, arguments: &[String]) -> Result<Status, AllocErr
 }
 
 /// What is printed to standard error at a status.
-fn message(status: Status) -> Option<&'static str> {
+fn message(status: Status) -> Option<&'static str>
+    ensures { option_map (λ message. message.now) result ≡ message_of status }
+{
     match status {
         Status::Done => None,
         Status::Usage => Some("usage: wumpus run [--max-input=N] [--flush=N] | wumpus demo N"),

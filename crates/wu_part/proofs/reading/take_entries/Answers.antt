@@ -10,11 +10,13 @@ take_entry-requires-clause-place c = c.loop.invariant.within
 
 pub returns-in-None-clause-none : goal.returns-in-None-clause-none
 returns-in-None-clause-none c terms a =
-    entries_not_taken _ _ _ _ _ _ _ _ _ c.loop.invariant (omega (arith, c.loop-test.true)) (rw c.in-None.is at c.in_ok-taken.ensures.none) terms a
+    entries_not_taken _ _ _ _ _ _ _ _ _ c.loop.invariant (omega (arith, c.loop-test.true))
+    (rw c.in-None.is at c.in_ok-taken.ensures.none) terms a
 
 pub loop-preserved : goal.loop-preserved
 loop-preserved c =
-    entries_taken _ _ _ _ _ _ _ _ _ _ _ _ _ _ c.loop.invariant (omega (arith, c.loop-test.true)) (rw c.in-Some.is at c.in_ok-taken.ensures.found)
+    entries_taken _ _ _ _ _ _ _ _ _ _ _ _ _ _ c.loop.invariant (omega (arith, c.loop-test.true))
+    (rw c.in-Some.is at c.in_ok-taken.ensures.found)
     c.in_ok-push.ensures.items (omega (arith, c.loop-test.true))
 
 pub returns-then-is_end-clause-found : goal.returns-then-is_end-clause-found

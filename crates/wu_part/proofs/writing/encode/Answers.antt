@@ -11,7 +11,8 @@ returns c =
     let head = rw c.new-head.ensures.items at c.in_ok-put_head.ensures in
     let header = c.in_ok-put_header.ensures in
     let long : c.len.result + c.len-2.result ≡ length c.put_head.new.out.items + length c.put_lists.new.entries.items = omega arith in
-    part_of_lists _ _ _ head.0 header.0 c.put_head.new.out.items c.put_lists.new.entries.items c.put_lists.new.blocks.items _ c.requires.some
+    part_of_lists _ _ _ head.0 header.0 c.put_head.new.out.items c.put_lists.new.entries.items c.put_lists.new.blocks.items _
+    c.requires.some
     c.requires.lists c.requires.ascending c.requires.distinct c.requires.generation c.lowest-low.ensures.least c.lowest-low.ensures.first
     head.1 head.2 (rw (c.new-entries.ensures.items, c.new-blocks.ensures.items) at c.in_ok-put_lists.ensures) head.3
     (subst (λ (n : ℕ). SpellsHeader n header.0) long header.1)

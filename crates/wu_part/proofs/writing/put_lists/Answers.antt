@@ -9,7 +9,8 @@ loop-list-preserved c =
     let lists = c.args.lists.now in
     let place = c.loop-list.list-index in
     let next : drop place lists ≡ c.list-item.result ∷ drop (place + 1) lists =
-    drop_more lists place c.list-item.result c.loop-list-test.true ∙ ap (λ (x : TermList). x ∷ drop (place + 1) lists) (sym c.list-item.is) in
+    drop_more lists place c.list-item.result c.loop-list-test.true ∙ ap (λ (x : TermList). x ∷ drop (place + 1) lists)
+    (sym c.list-item.is) in
     one_list_appended _ _ _ _ _ _ _ _ _ _ (rw next at c.loop-list.invariant) c.in_ok-put_list.ensures
 
 pub returns : goal.returns

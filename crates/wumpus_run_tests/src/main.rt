@@ -1,0 +1,48 @@
+//! Compares what sessions write, how they end, and what command lines ask for with the tables on standard input.
+#![tactic(auto)]
+
+mod command_lines;
+mod growing;
+mod pieces;
+mod sessions;
+mod statuses;
+
+use crate::sessions::Session;
+use std::alloc::Global;
+use std::io;
+use wu_rows::{NoAnswer, Subject, compare_tables};
+
+fn main(rt: HostRuntime) -> io::Result<()> {
+    let mut tables = Tables {
+        session: Session::new(rt.alloc()),
+    };
+    compare_tables(&rt, &mut tables)?;
+    growing::compare_depths(&rt)?;
+    growing::compare_strangers(&rt)
+}
+
+/// The tables of this program.
+#[derive(Drop)]
+struct Tables {
+    session: Session,
+}
+
+impl Subject for Tables {
+    fn begin(&mut self, alloc: Global) -> Result<(), NoAnswer> {
+        self.session = Session::new(alloc);
+        Ok(())
+    }
+
+    fn answer(&mut self, alloc: Global, kind: &str, fields: &[&str]) -> Result<String, NoAnswer> {
+        match (kind, fields) {
+            ("session", [command]) => self.session.reply(alloc, command),
+            ("output", [script]) => sessions::output(alloc, script),
+            ("calls", [words, script]) => sessions::calls(alloc, words, script),
+            ("faults", [reads, writes, script]) => sessions::faulty(alloc, reads, writes, script),
+            ("pieces", [most, script]) => pieces::output(alloc, most, script),
+            ("code", [status]) => statuses::code(alloc, status),
+            ("command line", [words]) => command_lines::asked_for(alloc, words),
+            _ => Err(NoAnswer::BadRow),
+        }
+    }
+}

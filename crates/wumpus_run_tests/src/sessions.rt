@@ -1,0 +1,111 @@
+//! Sessions over scripts.
+use crate::statuses::name_of;
+use std::alloc::{AllocError, Global};
+use wu_outside::{MemSink, MemSource, PlainStore};
+use wu_rows::{NoAnswer, numbers, script, shown, words};
+use wumpus_run::{Status, run};
+
+/// How a session ended, what it wrote, and how often it read and wrote.
+#[derive(Drop)]
+struct Ending {
+    status: Status,
+    output: Vec<u8>,
+    reads: u64,
+    writes: u64,
+}
+
+/// The session that the words ask for over the script. The named reads and writes fail.
+fn run_session(
+    alloc: Global,
+    words: &[&str],
+    script: Vec<u8>,
+    reads: Vec<u64>,
+    writes: Vec<u64>,
+) -> Result<Ending, AllocError> {
+    let mut source = MemSource::new(script, reads);
+    let mut sink = MemSink::new(alloc, writes);
+    let mut store = PlainStore::new(alloc);
+    let status = run(alloc, words, &mut source, &mut sink, &mut store);
+    Ok(Ending {
+        status,
+        output: Vec::from_slice(alloc, sink.gained())?,
+        reads: source.calls(),
+        writes: sink.calls(),
+    })
+}
+
+/// The commands of a session so far, and the replies to them.
+#[derive(Drop)]
+pub struct Session {
+    script: Vec<u8>,
+    replies: Vec<u8>,
+}
+
+impl Session {
+    pub fn new(alloc: Global) -> Session {
+        Session {
+            script: Vec::new(alloc),
+            replies: Vec::new(alloc),
+        }
+    }
+
+    /// What a session over the commands so far and this one writes more than one over those before.
+    pub fn reply(&mut self, alloc: Global, command: &str) -> Result<String, NoAnswer> {
+        self.script
+            .extend_from_slice(script(alloc, command)?.as_slice())?;
+        self.script.push(b'\n')?;
+        let script = Vec::from_slice(alloc, self.script.as_slice())?;
+        let output = whole_output(alloc, script)?;
+        if !output.as_slice().starts_with(self.replies.as_slice()) {
+            return Err(NoAnswer::BadRow);
+        }
+        let reply = shown(alloc, &output[self.replies.len()..])?;
+        self.replies = output;
+        Ok(reply)
+    }
+}
+
+/// What a session over the script writes.
+pub fn output(alloc: Global, field: &str) -> Result<String, NoAnswer> {
+    let output = whole_output(alloc, script(alloc, field)?)?;
+    shown(alloc, output.as_slice())
+}
+
+/// What a session over the script writes, which ends as it should.
+pub fn whole_output(alloc: Global, script: Vec<u8>) -> Result<Vec<u8>, NoAnswer> {
+    let ending = run_session(alloc, &["run"], script, Vec::new(alloc), Vec::new(alloc))?;
+    match ending.status {
+        Status::Done => Ok(ending.output),
+        _ => Err(NoAnswer::BadRow),
+    }
+}
+
+/// How the session that the words ask for ends, and how often it reads and writes.
+pub fn calls(alloc: Global, field: &str, script_field: &str) -> Result<String, NoAnswer> {
+    let words = words(alloc, field)?;
+    let script = script(alloc, script_field)?;
+    let ending = run_session(
+        alloc,
+        words.as_slice(),
+        script,
+        Vec::new(alloc),
+        Vec::new(alloc),
+    )?;
+    let name = name_of(ending.status);
+    Ok(format!(in alloc; "{name} {} {}", ending.reads, ending.writes)?)
+}
+
+/// How a session ends where these reads and writes fail, and what it has written then.
+pub fn faulty(alloc: Global, reads: &str, writes: &str, field: &str) -> Result<String, NoAnswer> {
+    let script = script(alloc, field)?;
+    let ending = run_session(
+        alloc,
+        &["run"],
+        script,
+        numbers(alloc, reads)?,
+        numbers(alloc, writes)?,
+    )?;
+    let name = name_of(ending.status);
+    let output = shown(alloc, ending.output.as_slice())?;
+    Ok(format!(in alloc; "{name}: {output}")?)
+}
