@@ -1,0 +1,5 @@
+pub mod Ascending
+pub mod Parting
+pub mod Cutting
+pub mod Putting
+pub mod Gaining

@@ -1,0 +1,16 @@
+use Rattle.std.proofs.Common.{◌≡◌, ◌+◌, ◌≤◌, ◌∷◌, ◌++◌, [], map, length, All}
+use Rattle.wu_token.specs.Tokens.{line_end}
+use Rattle.wu_token.specs.Words.{IsTerm, word_of}
+use Rattle.wu_token.specs.Pieces.{line_terms, piece_of}
+use Rattle.wu_parts.specs.Lists.{KeepsRoom, with_terms}
+use Rattle.wu_parts.proofs.memory.MemoryPostings.add_line.Given as goal
+
+abbrev pub invariant-loop-run : goal.invariant-loop-run
+invariant-loop-run l = record {
+  made : with_terms l.self l.next (map (λ run. word_of run.bytes) l.run-iterator ++ line_end ∷ [])
+      ≡ with_terms l.fn.self l.start (line_terms (piece_of l.line));
+  count : l.next + length (map (λ run. word_of run.bytes) l.run-iterator) + 1 ≡ l.start + length (line_terms (piece_of l.line));
+  terms : All IsTerm (map (λ run. word_of run.bytes) l.run-iterator);
+  end : l.self.end ≤ l.next;
+  room : KeepsRoom l.fn.self l.self;
+}

@@ -1,0 +1,7 @@
+-- ---- What a reader of the contracts trusts
+
+pub mod Memory
+pub mod Contents
+-- ---- What only private functions and proofs need
+
+pub mod Lists

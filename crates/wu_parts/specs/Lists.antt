@@ -1,0 +1,61 @@
+-- Lists of addresses by term, and what puts a posting into them.
+use Rattle.std.specs.Prelude.{ℕ, ◌+◌, ◌<◌, ◌≤◌, if◌then◌else◌, List, [], ◌∷◌, ◌++◌, length, map, nat_eq}
+use Rattle.std.specs.List.{AllByRecursion}
+use Rattle.std.specs.Cmp.Lexicographic.{pointwise}
+use Rattle.std.specs.declared.vec.Vec.{Vec}
+use Rattle.std.specs.declared.alloc.Global.{Global}
+use Rattle.wu_base.specs.declared.addresses.Range.{Range}
+use Rattle.wu_base.specs.declared.limits.TheConstants.{ADDRESSES_MAX}
+use Rattle.wu_token.specs.Words.{IsTerm}
+use Rattle.wu_parts.specs.Memory.{Lists, Memory}
+
+-- what a map's entries say, without what vectors have besides their items
+abbrev pub list_of : Vec ℕ Global × Vec ℕ Global → List ℕ × List ℕ
+list_of entry = (entry.0.items, entry.1.items)
+
+abbrev pub lists_of : List (Vec ℕ Global × Vec ℕ Global) → Lists
+lists_of entries = map list_of entries
+
+-- the lists, where the term stands at one more address
+abbrev pub with_address : List ℕ → ℕ → Lists → Lists
+with_address term address [] = (term, address ∷ []) ∷ []
+with_address term address (list ∷ lists) =
+    if pointwise nat_eq term list.0 then (list.0, list.1 ++ address ∷ []) ∷ lists else list ∷ with_address term address lists
+
+abbrev pub with_posting : Memory → ℕ → List ℕ → Memory
+with_posting memory address term = record {
+  lists = with_address term address memory.lists;
+  stored = memory.stored + 1;
+  end = address + 1;
+}
+
+-- the terms stand at the addresses from start on besides, one address each
+abbrev pub with_terms : Memory → ℕ → List (List ℕ) → Memory
+with_terms memory start [] = memory
+with_terms memory start (term ∷ terms) = with_terms (with_posting memory start term) (start + 1) terms
+
+-- the addresses ascend strictly, none below the low one, and all below the high one
+abbrev pub AscendBetween : ℕ → ℕ → List ℕ → Type 0
+AscendBetween low high [] = low ≤ high
+AscendBetween low high (address ∷ addresses) = (low ≤ address) × AscendBetween (address + 1) high addresses
+
+-- a term, and the addresses at which it stands, one or more
+pub record IsList (end : ℕ) (list : List ℕ × List ℕ) : Type 0 where
+  pub term : IsTerm list.0
+  pub filled : 0 < length list.1
+  pub ascend : AscendBetween 0 end list.1
+
+-- what memory keeps at every moment
+pub record IsMemory (memory : Memory) : Type 0 where
+  pub lists : AllByRecursion (IsList memory.end) memory.lists
+  pub few : memory.stored ≤ memory.end
+  pub bounded : memory.end ≤ ADDRESSES_MAX
+
+-- at most as many postings are new as there are addresses from the old end up to the new one
+abbrev pub KeepsRoom : Memory → Memory → Type 0
+KeepsRoom old new = new.stored + old.end ≤ old.stored + new.end
+
+-- from low on, each frame ends before the next one starts, and the last one by high
+abbrev pub AreInOrder : ℕ → ℕ → List Range → Type 0
+AreInOrder low high [] = low ≤ high
+AreInOrder low high (frame ∷ frames) = (low ≤ frame.start) × AreInOrder (frame.start + frame.len) high frames

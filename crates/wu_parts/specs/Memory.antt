@@ -1,0 +1,29 @@
+-- The postings in memory: for each term the addresses at which it stands, ascending. It is the in-memory index of an indexer
+-- that writes parts; see Büttcher, Clarke and Cormack, Information Retrieval, chapter 4.
+use Rattle.std.specs.Prelude.{◌≡◌, ℕ, ◌+◌, ◌==◌, if◌then◌else◌, List, [], ◌++◌, length, nat_eq, unwrap_or}
+use Rattle.std.specs.Map.{lookup}
+use Rattle.std.specs.Cmp.Lexicographic.{pointwise}
+use Rattle.wu_layout.specs.Postings.{addresses_of, placed_from}
+
+-- terms, each once, with the addresses at which it stands
+abbrev pub Lists : Type 0
+Lists = List (List ℕ × List ℕ)
+
+-- the lists, how many postings they have, and an address that is above theirs
+pub record Memory : Type 0 where
+  pub lists : Lists
+  pub stored : ℕ
+  pub end : ℕ
+
+abbrev pub no_postings : Memory
+no_postings = record { lists = []; stored = 0; end = 0 }
+
+-- the addresses at which memory has the term
+abbrev pub held : Memory → List ℕ → List ℕ
+held memory term = unwrap_or (lookup (pointwise nat_eq term) memory.lists) []
+
+-- what there was stays, and the terms stand at the addresses from start on besides, one address each
+pub record Gains (start : ℕ) (terms : List (List ℕ)) (old new : Memory) : Type 0 where
+  pub addresses : (term : List ℕ) → held new term ≡ held old term ++ addresses_of term (placed_from start terms)
+  pub stored : new.stored ≡ old.stored + length terms
+  pub end : new.end ≡ (if length terms == 0 then old.end else start + length terms)

@@ -1,0 +1,122 @@
+//! Ascending addresses, cut to frames, both walked side by side by galloping: J. L. Bentley and A. C. Yao, An almost
+//! optimal algorithm for unbounded searching, 1976.
+ghost use Rattle.std.specs.Prelude.{◌≡◌, ◌+◌, ◌<◌, ◌≤◌, ◌++◌, filter, length, take, drop, nat_le, IfOk};
+ghost use Rattle.std.specs.List.{AllByRecursion};
+ghost use Rattle.wu_layout.specs.Postings.{is_live};
+ghost use Rattle.wu_parts.specs.Lists.{AscendBetween, AreInOrder};
+
+use std::alloc::Global;
+use wu_base::{ADDRESSES_MAX, NoMemory, Range, Sequence};
+
+/// The addresses that lie in one of the frames. Takes a number of steps that is at most that of the
+/// addresses, and at most that of the frames, each of time logarithmic in what it passes over, and time
+/// for the result.
+pub(crate) fn within_frames(
+    alloc: Global,
+    addresses: &[u64],
+    frames: &[Range],
+) -> Result<Sequence<u64>, NoMemory>
+    requires ascend { AscendBetween 0 ADDRESSES_MAX addresses.now }
+    requires order { AreInOrder 0 ADDRESSES_MAX frames.now }
+    ensures { IfOk result (λ found. found ≡ filter (is_live frames.now) addresses.now) }
+{
+    let mut found = Vec::new(alloc);
+    let mut rest = addresses;
+    let mut left = frames;
+    while let [frame, later @ ..] = left {
+        let (_, from_start) = split_below(rest, frame.start);
+        let (inside, after) = split_below(from_start, frame.start + frame.len);
+        found.extend_from_slice(inside)?;
+        rest = after;
+        left = frames_for(later, after);
+    }
+    Ok(Sequence::from(found))
+}
+
+/// The addresses below the limit, and the others. Takes time logarithmic in the number of those below.
+fn split_below(addresses: &[u64], limit: u64) -> (&[u64], &[u64])
+    requires ascend { AscendBetween 0 ADDRESSES_MAX addresses.now }
+    requires limit { limit ≤ ADDRESSES_MAX }
+    ensures whole { result.0.now ++ result.1.now ≡ addresses.now }
+    ensures below { AllByRecursion (λ address. address < limit) result.0.now }
+    ensures others { AscendBetween limit ADDRESSES_MAX result.1.now }
+{
+    addresses.split_at(count_below(addresses, limit))
+}
+
+/// How many of the addresses are below the limit.
+fn count_below(addresses: &[u64], limit: u64) -> usize
+    requires { AscendBetween 0 ADDRESSES_MAX addresses.now }
+    ensures within { result ≤ length addresses.now }
+    ensures below { AllByRecursion (λ address. address < limit) (take result addresses.now) }
+    ensures others { AllByRecursion (λ address. limit ≤ address) (drop result addresses.now) }
+{
+    let end = reach_of_limit(addresses, limit);
+    addresses[..end].partition_point(|address| *address < limit)
+}
+
+/// At most twice as many of the first addresses as are below the limit, or one: none of the others is.
+fn reach_of_limit(addresses: &[u64], limit: u64) -> usize
+    requires { AscendBetween 0 ADDRESSES_MAX addresses.now }
+    ensures within { result ≤ length addresses.now }
+    ensures others { AllByRecursion (λ address. limit ≤ address) (drop result addresses.now) }
+{
+    let mut end = 1;
+    while end < addresses.len() {
+        if addresses[end] >= limit {
+            return end;
+        }
+        end *= 2;
+    }
+    addresses.len()
+}
+
+/// The frames without those first ones that end before the first of the addresses. Takes time logarithmic
+/// in the number of these.
+fn frames_for<'a>(frames: &'a [Range], addresses: &[u64]) -> &'a [Range]
+    requires order { AreInOrder 0 ADDRESSES_MAX frames.now }
+    requires ascend { AscendBetween 0 ADDRESSES_MAX addresses.now }
+    ensures within { length result.now ≤ length frames.now }
+    ensures order { AreInOrder 0 ADDRESSES_MAX result.now }
+    ensures same { filter (is_live result.now) addresses.now ≡ filter (is_live frames.now) addresses.now }
+{
+    match addresses {
+        [first, ..] => frames.split_at(count_ended(frames, *first)).1,
+        [] => frames,
+    }
+}
+
+/// How many of the frames end before the address or at it.
+fn count_ended(frames: &[Range], address: u64) -> usize
+    requires { AreInOrder 0 ADDRESSES_MAX frames.now }
+    ensures within { result ≤ length frames.now }
+    ensures ended { AllByRecursion (λ frame. frame.start + frame.len ≤ address) (take result frames.now) }
+    ensures others { AllByRecursion (λ frame. address < frame.start + frame.len) (drop result frames.now) }
+{
+    let end = reach_of_ended(frames, address);
+    frames[..end].partition_point(|frame| has_ended(frame, address))
+}
+
+/// At most twice as many of the first frames as end before the address or at it, or one: none of the
+/// others does.
+fn reach_of_ended(frames: &[Range], address: u64) -> usize
+    requires { AreInOrder 0 ADDRESSES_MAX frames.now }
+    ensures within { result ≤ length frames.now }
+    ensures others { AllByRecursion (λ frame. address < frame.start + frame.len) (drop result frames.now) }
+{
+    let mut end = 1;
+    while end < frames.len() {
+        if !has_ended(&frames[end], address) {
+            return end;
+        }
+        end *= 2;
+    }
+    frames.len()
+}
+
+/// Whether the address is after all of the frame's.
+fn has_ended(frame: &Range, address: u64) -> bool
+    ensures { result ≡ nat_le (frame.now.start + frame.now.len) address }
+{
+    frame.start <= address && frame.len <= address - frame.start
+}

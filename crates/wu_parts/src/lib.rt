@@ -1,0 +1,8 @@
+//! The postings of the index: those in memory, and in time those of the parts in the store.
+#![tactic(auto)]
+
+mod galloping;
+mod memory;
+mod parts;
+
+pub use parts::Parts;
