@@ -82,7 +82,7 @@ fn frames_for<'a>(frames: &'a [Range], addresses: &[u64]) -> &'a [Range]
 {
     match addresses {
         [first, ..] => frames.split_at(count_ended(frames, *first)).1,
-        [] => frames,
+        [] => &frames[frames.len()..],
     }
 }
 
