@@ -61,12 +61,7 @@ pub fn put_text(
 }
 
 /// Puts the tokens of the text into memory, at the addresses of the range.
-fn put_tokens(
-    alloc: Global,
-    parts: &mut Parts,
-    range: Range,
-    text: &[u8],
-) -> Result<(), NoAnswer>
+fn put_tokens(alloc: Global, parts: &mut Parts, range: Range, text: &[u8]) -> Result<(), NoAnswer>
     requires short { length text.now ≤ TEXT_MAX }
     requires count { range.len ≡ length (tokens_of text.now) }
     requires bounded { range.start + range.len ≤ ADDRESSES_MAX }

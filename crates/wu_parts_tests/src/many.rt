@@ -13,6 +13,7 @@ const FILES: u32 = 10_000;
 
 /// A text that has a common term ten times, and one that has a rare term too.
 const COMMON_TEXT: &[u8] = b"w w w w w\nw w w w w\n";
+
 const RARE_TEXT: &[u8] = b"w w w w w\nw w w rare w w\n";
 
 /// Compares what is fetched over 10,000, 10 and 1 frames with a plain filter of all addresses.
@@ -67,9 +68,13 @@ fn compare_term(
     let count = found.len();
     let of = all.len();
     if agrees(space, all.as_slice(), found.as_slice()) {
-        println!(rt; "{term} over {frames} frames: {count} of {of} addresses, those of a plain filter")
+        println!(rt;
+            "{term} over {frames} frames: {count} of {of} addresses, those of a plain filter"
+        )
     } else {
-        println!(rt; "{term} over {frames} frames: {count} of {of} addresses, other ones than those of a plain filter")
+        println!(rt;
+            "{term} over {frames} frames: {count} of {of} addresses, other ones than those of a plain filter"
+        )
     }
 }
 

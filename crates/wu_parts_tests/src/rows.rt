@@ -33,13 +33,7 @@ pub fn answer(
 }
 
 /// The addresses of the term in the seen ones of the texts' files.
-fn fetched(
-    alloc: Global,
-    by: By,
-    texts: &str,
-    seen: &str,
-    term: &str,
-) -> Result<String, NoAnswer> {
+fn fetched(alloc: Global, by: By, texts: &str, seen: &str, term: &str) -> Result<String, NoAnswer> {
     let texts = byte_strings(alloc, texts)?;
     let seen = small_numbers(alloc, seen)?;
     let term = bytes(alloc, term)?;
