@@ -66,7 +66,8 @@ all_from_place limit low high (suc k) (x ∷ xs) d a l h = all_from_place limit 
 at_least : (low high : ℕ) (xs : List ℕ) (j d : ℕ) → AscendBetween low high xs → j < length xs → low ≤ get_or xs j d
 at_least low high [] j d a l = absurd (omega arith)
 at_least low high (x ∷ xs) zero d a l = a.0
-at_least low high (x ∷ xs) (suc j) d a l = let r : x + 1 ≤ get_or xs j d = at_least (x + 1) high xs j d a.1 (omega arith) in omega (arith, a.0)
+at_least low high (x ∷ xs) (suc j) d a l =
+    let r : x + 1 ≤ get_or xs j d = at_least (x + 1) high xs j d a.1 (omega arith) in omega (arith, a.0)
 
 pub addresses-rise : (low high : ℕ) (xs : List ℕ) → AscendBetween low high xs → IsNonDecreasingBy (λ (x : ℕ). x) xs
 addresses-rise low high [] a i j d l h = absurd (omega arith)

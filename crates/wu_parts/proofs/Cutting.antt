@@ -25,7 +25,8 @@ module _ {X : Type 0} where
   all_weaker P Q [] h a = tt
   all_weaker P Q (x ∷ xs) h a = (h x a.0, all_weaker P Q xs h a.1)
 
-  all_both : (P Q R : X → Type 0) (xs : List X) → ((x : X) → P x → Q x → R x) → AllByRecursion P xs → AllByRecursion Q xs → AllByRecursion R xs
+  all_both : (P Q R : X → Type 0) (xs : List X) → ((x : X) → P x → Q x → R x) → AllByRecursion P xs → AllByRecursion Q xs
+      → AllByRecursion R xs
   all_both P Q R [] h a b = tt
   all_both P Q R (x ∷ xs) h a b = (h x a.0 b.0, all_both P Q R xs h a.1 b.1)
 
@@ -67,7 +68,8 @@ cut_frame high f later before inside after o below from within rest =
     all_front (λ x. f.start ≤ x) inside after (all_from f.start high (inside ++ after) from) in
     let all : filter live inside ≡ inside =
     filter-all live inside
-    (all_both (λ x. f.start ≤ x) (λ x. x < f.start + f.len) (λ x. live x ≡ true) inside (λ x a b. inside_is_live f later x a b) starts within) in
+    (all_both (λ x. f.start ≤ x) (λ x. x < f.start + f.len) (λ x. live x ≡ true) inside
+    (λ x a b. inside_is_live f later x a b) starts within) in
     let others : filter live after ≡ filter (is_live later) after =
     filter-same live (is_live later) after
     (all_weaker (λ x. f.start + f.len ≤ x) (λ x. live x ≡ is_live later x) after (λ x l. after_first f later x l)

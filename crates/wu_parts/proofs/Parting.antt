@@ -3,7 +3,8 @@ use Rattle.std.proofs.Common.{◌≡◌, ℕ, zero, suc, ◌≤◌, Bool, true, 
 use Rattle.std.specs.List.{AllByRecursion}
 use Rattle.std.specs.List.Sorted.{IsPartitionPoint}
 
-module _ {X : Type 0} (test : X → Bool) (P Q : X → Type 0) (passes : (x : X) → test x ≡ true → P x) (fails : (x : X) → test x ≡ false → Q x) where
+module _ {X : Type 0} (test : X → Bool) (P Q : X → Type 0)
+    (passes : (x : X) → test x ≡ true → P x) (fails : (x : X) → test x ≡ false → Q x) where
   abbrev pub IsPoint : List X → ℕ → Type 0
   IsPoint xs i = IsPartitionPoint (λ x. test x ≡ true) (λ x. test x ≡ false) xs i
 

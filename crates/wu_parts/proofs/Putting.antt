@@ -156,7 +156,8 @@ held-with_terms [] memory start term = sym (append-nil (held memory term))
 held-with_terms (first ∷ terms) memory start term =
     held-with_terms terms (with_posting memory start first) (start + 1) term
     ∙ ap (λ (l : List ℕ). l ++ addresses_of term (placed_from (start + 1) terms)) (found-with_address first term start memory.lists)
-    ∙ append_assoc (held memory term) (cond (pointwise nat_eq first term) (start ∷ []) []) (addresses_of term (placed_from (start + 1) terms))
+    ∙ append_assoc (held memory term) (cond (pointwise nat_eq first term) (start ∷ []) [])
+    (addresses_of term (placed_from (start + 1) terms))
     ∙ ap (λ (l : List ℕ). held memory term ++ l) (sym (first_address first term start terms))
 
 pub stored-with_terms : (terms : List (List ℕ)) (memory : Memory) (start : ℕ)
@@ -221,9 +222,11 @@ lists-with_address : (term : List ℕ) (address end : ℕ) (lists : Lists) → I
 lists-with_address term address end [] t l a =
     (record { term = t; filled = omega arith; ascend = (omega arith, omega arith) }, tt)
 lists-with_address term address end (list ∷ lists) t l a =
-    let higher : (xs : Lists) → AllByRecursion (IsList end) xs → AllByRecursion (IsList (address + 1)) xs = raised end (address + 1) (omega arith) in
+    let higher : (xs : Lists) → AllByRecursion (IsList end) xs → AllByRecursion (IsList (address + 1)) xs =
+    raised end (address + 1) (omega arith) in
     elim (pointwise nat_eq term list.0) as
-    (λ b. AllByRecursion (IsList (address + 1)) (cond b ((list.0, list.1 ++ address ∷ []) ∷ lists) (list ∷ with_address term address lists))) [
+    (λ b. AllByRecursion (IsList (address + 1)) (cond b ((list.0, list.1 ++ address ∷ []) ∷ lists)
+    (list ∷ with_address term address lists))) [
       | true ↦ (
         record { term = a.0.term; filled = length_push address list.1; ascend = ascend-push 0 end address list.1 l a.0.ascend },
         higher lists a.1,

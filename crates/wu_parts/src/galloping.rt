@@ -71,8 +71,8 @@ fn reach_of_limit(addresses: &[u64], limit: u64) -> usize
     addresses.len()
 }
 
-/// The frames without those first ones that end before the first of the addresses. Takes time logarithmic
-/// in the number of these.
+/// The frames without those first ones that end before the first of the addresses; none where no address
+/// is left. Takes time logarithmic in the number of those that it leaves out.
 fn frames_for<'a>(frames: &'a [Range], addresses: &[u64]) -> &'a [Range]
     requires order { AreInOrder 0 ADDRESSES_MAX frames.now }
     requires ascend { AscendBetween 0 ADDRESSES_MAX addresses.now }
@@ -82,7 +82,7 @@ fn frames_for<'a>(frames: &'a [Range], addresses: &[u64]) -> &'a [Range]
 {
     match addresses {
         [first, ..] => frames.split_at(count_ended(frames, *first)).1,
-        [] => &frames[frames.len()..],
+        [] => &[],
     }
 }
 

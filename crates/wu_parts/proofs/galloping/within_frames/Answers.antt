@@ -18,7 +18,8 @@ overflow_add-frame c =
 
 pub split_below-requires-in-len1-up-clause-ascend : goal.split_below-requires-in-len1-up-clause-ascend
 split_below-requires-in-len1-up-clause-ascend c =
-    ascend-lower 0 (get_or c.loop-left.left.now 0 (record { start = 0; len = 0 })).start ADDRESSES_MAX c.split_below.result.1.now (omega arith)
+    ascend-lower 0 (get_or c.loop-left.left.now 0 (record { start = 0; len = 0 })).start ADDRESSES_MAX c.split_below.result.1.now
+    (omega arith)
     c.split_below.ensures.others
 
 pub split_below-requires-in-len1-up-clause-limit : goal.split_below-requires-in-len1-up-clause-limit
@@ -28,7 +29,8 @@ split_below-requires-in-len1-up-clause-limit c =
 pub frames_for-left-requires-clause-ascend : goal.frames_for-left-requires-clause-ascend
 frames_for-left-requires-clause-ascend c =
     let f : Range = get_or c.loop-left.left.now 0 (record { start = 0; len = 0 }) in
-    ascend-lower 0 (f.start + f.len) ADDRESSES_MAX c.split_below-in-len1-up.result.1.now (omega arith) c.split_below-in-len1-up.ensures.others
+    ascend-lower 0 (f.start + f.len) ADDRESSES_MAX c.split_below-in-len1-up.result.1.now (omega arith)
+    c.split_below-in-len1-up.ensures.others
 
 pub loop-left-preserved : goal.loop-left-preserved
 loop-left-preserved c =
@@ -40,7 +42,8 @@ loop-left-preserved c =
     let step : filter (is_live left) c.loop-left.rest.now ≡ inside ++ filter (is_live (drop 1 left)) after =
     cut_first ADDRESSES_MAX left (drop 1 left) d c.loop-left.rest.now c.split_below.result.0.now c.split_below.result.1.now inside after
     (omega arith) refl c.loop-left.invariant.order c.split_below.ensures.whole c.split_below-in-len1-up.ensures.whole
-    c.split_below.ensures.below c.split_below.ensures.others c.split_below-in-len1-up.ensures.below c.split_below-in-len1-up.ensures.others in
+    c.split_below.ensures.below c.split_below.ensures.others
+    c.split_below-in-len1-up.ensures.below c.split_below-in-len1-up.ensures.others in
     let same : filter (is_live c.frames_for-left.result.now) after ≡ filter (is_live (drop 1 left)) after =
     c.frames_for-left.ensures.same ∙ ap (λ (l : List Range). filter (is_live l) after) (take_rest left 1) in
     record {

@@ -16,8 +16,10 @@ loop-place-preserved c =
 pub returns-in_err-push-clause-room : goal.returns-in_err-push-clause-room
 returns-in_err-push-clause-room c =
     subst (KeepsRoom c.args.self.now) (sym c.in_err-push.ensures.err)
-    (room_of_front c.args.tokens.now c.loop-place.place c.args.self.now c.loop-place.self c.args.start c.requires.after c.loop-place.invariant)
+    (room_of_front c.args.tokens.now c.loop-place.place c.args.self.now c.loop-place.self c.args.start c.requires.after
+    c.loop-place.invariant)
 
 pub returns-clause-room : goal.returns-clause-room
 returns-clause-room c =
-    room_of_front c.args.tokens.now c.loop-place.place c.args.self.now c.loop-place.self c.args.start c.requires.after c.loop-place.invariant
+    room_of_front c.args.tokens.now c.loop-place.place c.args.self.now c.loop-place.self c.args.start c.requires.after
+    c.loop-place.invariant

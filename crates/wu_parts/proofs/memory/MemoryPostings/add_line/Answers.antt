@@ -23,7 +23,8 @@ loop-run-init c =
     record {
       made =
           ap (λ (m : Memory). with_terms m (c.args.start + 1) (words c.into_iter-run-iterator.result ++ line_end ∷ [])) first
-          ∙ ap (λ (rs : List Piece). with_terms (with_posting c.args.self.now c.args.start line_start) (c.args.start + 1) (words rs ++ line_end ∷ []))
+          ∙ ap (λ (rs : List Piece). with_terms (with_posting c.args.self.now c.args.start line_start) (c.args.start + 1)
+          (words rs ++ line_end ∷ []))
           runs;
       count = omega (
         arith,

@@ -1,0 +1,15 @@
+//! Compares the answers of public calls of `wu_parts` with those of the table on standard input, and what
+//! is fetched of many postings over many frames with a plain filter.
+#![tactic(auto)]
+
+mod fixtures;
+mod many;
+mod rows;
+
+use std::io;
+use wu_rows::compare;
+
+fn main(rt: HostRuntime) -> io::Result<()> {
+    compare(&rt, rows::answer)?;
+    many::compare_fetches(&rt)
+}
