@@ -1,0 +1,9 @@
+-- ---- What a reader of the contracts trusts: the state, what a user sees of it, the answer to her, and the engine
+
+pub mod States
+pub mod View
+pub mod Hits
+pub mod Rankings
+pub mod Answer
+pub mod Soundness
+pub mod Stands

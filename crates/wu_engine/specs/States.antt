@@ -1,0 +1,111 @@
+-- The state: a file tree, the texts of its files, and the layout of the index over them.
+use Rattle.std.specs.Prelude.{◌≡◌, ℕ, ◌≤◌, Bool, List, [], length, Option, Some, None, Result, Ok, Err, is_some, unwrap_or}
+use Rattle.std.specs.Result.{result_unwrap_or}
+use Rattle.std.specs.Ordering.{nat_cmp}
+use Rattle.std.specs.List.Sorted.{IsStrictlySortedBy}
+use Rattle.std.specs.Map.{keys_of, lookup, remove_entry}
+use Rattle.std.specs.BTreeMap.{is_at, insert_entry}
+use Rattle.wu_base.specs.declared.limits.TheConstants.{TEXT_MAX}
+use Rattle.wu_layout.specs.Layouts.{Text, Layout, first_layout}
+use Rattle.wu_layout.specs.Invariants.{IsLayoutOf}
+use Rattle.wu_layout.specs.Steps.{release, place}
+use Rattle.wu_token.specs.Words.{has_bytes}
+use Rattle.wu_token.specs.Tokens.{tokens_of}
+use Rattle.wu_tree.specs.Rules.{IsTree}
+use Rattle.wu_tree.specs.FileSystems.{FileSystem, root_alone, is_file}
+use Rattle.wu_tree.specs.Steps.{step as tree_step}
+use Rattle.wu_tree.specs.declared.events.Event.{Event}
+use Rattle.wu_tree.specs.declared.events.Effect.{Effect}
+use Rattle.wu_tree.specs.declared.events.Refusal.{Refusal}
+
+-- texts by the number of their file, in the order of the numbers
+abbrev pub Texts : Type 0
+Texts = List (ℕ × List ℕ)
+
+-- a file system, the texts of exactly its files, and how these are indexed
+pub record State : Type 0 where
+  pub tree : FileSystem
+  pub texts : Texts
+  pub layout : Layout
+
+-- the root directory alone
+abbrev pub first_state : State
+first_state = record { tree = root_alone; texts = []; layout = first_layout }
+
+-- the text of a file, and no text of what is no file
+abbrev pub text_in : Texts → ℕ → List ℕ
+text_in texts ino = unwrap_or (lookup (is_at (nat_cmp ino)) texts) []
+
+-- a file without a text
+abbrev pub without_text : Option ℕ → Texts → Texts
+without_text None texts = texts
+without_text (Some ino) texts = remove_entry (is_at (nat_cmp ino)) texts
+
+-- a file with a text in place of the one before
+abbrev pub with_text : Option ℕ → List ℕ → Texts → Texts
+with_text None text texts = texts
+with_text (Some ino) text texts = insert_entry nat_cmp texts ino text
+
+-- a file that is made has the empty text, and the text of one that is gone goes with it
+abbrev pub texts_after : Effect → List ℕ → Texts → Texts
+texts_after effect text texts = with_text effect.texted text (with_text effect.made [] (without_text effect.dropped texts))
+
+-- ---- the index
+
+-- what the index is given of a text: its tokens
+abbrev pub indexed : List ℕ → Text
+indexed text = record { terms = tokens_of text; has_bytes = has_bytes text }
+
+abbrev pub layout_without : Option ℕ → Layout → Layout
+layout_without None layout = layout
+layout_without (Some ino) layout = release ino layout
+
+abbrev pub layout_with : Option ℕ → List ℕ → Layout → Layout
+layout_with None text layout = layout
+layout_with (Some ino) text layout = place ino (indexed text) layout
+
+-- the range of a file that is gone is released, a file that is made is indexed with the empty text, and one that is given a text
+-- is indexed anew
+abbrev pub layout_after : Effect → List ℕ → Layout → Layout
+layout_after effect text layout = layout_with effect.texted text
+    (layout_without effect.texted (layout_with effect.made [] (layout_without effect.dropped layout)))
+
+-- ---- a step
+
+abbrev pub stepped : List ℕ → State → Result (FileSystem × Effect) Refusal → Result State Refusal
+stepped text s (Ok (tree, effect)) = Ok (record {
+  tree = tree;
+  texts = texts_after effect text s.texts;
+  layout = layout_after effect text s.layout;
+})
+stepped text s (Err refusal) = Err refusal
+
+-- what an event makes of a state, where `text` is the text that it gives, or why it is refused
+unfoldable pub step : State → Event → List ℕ → Result State Refusal
+step s event text = stepped text s (tree_step s.tree event)
+
+-- the state after an event, which is the one before where it is refused
+abbrev pub after_event : State → Event → List ℕ → State
+after_event s event text = result_unwrap_or (step s event text) s
+
+-- no text is longer than a text may be
+abbrev pub AreShort : Texts → Type 0
+AreShort texts = (ino : ℕ) → length (text_in texts ino) ≤ TEXT_MAX
+
+-- whether there is a text of that number
+abbrev pub has_text : Texts → ℕ → Bool
+has_text texts ino = is_some (lookup (is_at (nat_cmp ino)) texts)
+
+-- the texts of a state are those of its regular files
+pub record HasTheTexts (s : State) : Type 0 where
+  -- their numbers ascend, without repeats
+  pub ascend : IsStrictlySortedBy nat_cmp (keys_of s.texts)
+  -- there is a text of a number exactly where that is the number of a regular file
+  pub files : (ino : ℕ) → has_text s.texts ino ≡ is_file s.tree ino
+
+-- what is true of a state at each moment: the rules of the tree, texts of exactly its files, none too long, and all of them indexed
+pub record IsState (s : State) : Type 0 where
+  pub tree : IsTree s.tree
+  pub texts : HasTheTexts s
+  pub short : AreShort s.texts
+  pub layout : IsLayoutOf (is_file s.tree) (λ ino. indexed (text_in s.texts ino)) s.layout

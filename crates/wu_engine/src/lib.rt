@@ -1,0 +1,8 @@
+//! The engine: the file tree and one index of all files, from which each user is answered as if there were her files alone.
+#![tactic(auto)]
+
+mod engines;
+mod verdicts;
+
+pub use engines::Engine;
+pub use verdicts::Verdict;
