@@ -1,3 +1,4 @@
 pub mod Views
 pub mod ViewFrames
 pub mod Keeping
+pub mod FrameFacts

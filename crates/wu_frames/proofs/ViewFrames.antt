@@ -216,7 +216,7 @@ frames-from_parts fs space uid seen frames ranges total s v m up r t =
     apart-from_frames space.ranges space.next s.live frames up have (each-once space.ranges seen frames m once) in
     record {
       view = v;
-      of_view = subst (λ (l : List Seen). IsPermutation (frames_in space.ranges l) frames) v m;
+      of_view = ∣ subst (λ (l : List Seen). IsPermutation (frames_in space.ranges l) frames) v m ∣₁;
       ascending = subst AreApart (sym r) apart;
       ranges_alone = r;
       sum = t;
