@@ -5,7 +5,8 @@ ghost use Rattle.wu_base.specs.declared.troubles.Trouble.TheVariants.{NoMemory a
 ghost use Rattle.wu_ask.specs.Questions.{question_of, IsSoundAsk};
 ghost use Rattle.wu_tree.specs.Steps.{IsEvent};
 ghost use Rattle.wu_base.specs.declared.troubles.Trouble.{Trouble};
-ghost use Rattle.wu_engine.specs.Soundness.{IsSound};
+ghost use Rattle.std.specs.Coded.{→_prop};
+ghost use Rattle.wu_engine.specs.Soundness.{IsSound, IsSound-prop};
 
 use crate::verdicts::Verdict;
 use std::alloc::Global;
@@ -28,7 +29,7 @@ pub struct Engine {
     /// The trouble that ended it.
     pub ended: Option<Trouble>,
     pub(crate) alloc: Global,
-    ghost sound: { ended ≡ None → IsSound tree space parts frames },
+    ghost sound: { ended ≡ None → IsSound tree space parts frames } by { →_prop (IsSound-prop tree space parts frames) },
 }
 
 impl Engine {
@@ -82,7 +83,7 @@ impl Engine {
         ensures cause { IfErr result (λ trouble. (trouble ≡ RanOutOfMemory) ⊎ (self.old.ended ≡ Some trouble)) }
         ensures store { store.new ≡ store.old }
     {
-        let _untouched = (&*store, event, body);
+        let _untouched = &*store;
         if let Some(trouble) = self.ended {
             return Err(trouble);
         }
@@ -109,7 +110,7 @@ impl Engine {
         ensures cause { IfErr result (λ trouble. (trouble ≡ RanOutOfMemory) ⊎ (self.old.ended ≡ Some trouble)) }
         ensures store { store.new ≡ store.old }
     {
-        let _untouched = (&*store, query);
+        let _untouched = &*store;
         if let Some(trouble) = self.ended {
             return Err(trouble);
         }
