@@ -1,0 +1,3 @@
+pub mod NumberedEntries
+pub mod FileChanges
+pub mod StateTexts
