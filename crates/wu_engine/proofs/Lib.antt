@@ -1,3 +1,5 @@
 pub mod NumberedEntries
 pub mod FileChanges
 pub mod StateTexts
+pub mod StateLayouts
+pub mod KeptStates

@@ -2,7 +2,9 @@
 #![tactic(auto)]
 
 mod engines;
+mod laws;
 mod verdicts;
 
 pub use engines::Engine;
+pub use laws::each_event_keeps_a_state;
 pub use verdicts::Verdict;
