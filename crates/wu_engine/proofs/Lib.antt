@@ -3,3 +3,4 @@ pub mod FileChanges
 pub mod StateTexts
 pub mod StateLayouts
 pub mod KeptStates
+pub mod IndexLemmas

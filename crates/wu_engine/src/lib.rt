@@ -3,6 +3,7 @@
 
 mod engines;
 mod laws;
+mod updating;
 mod verdicts;
 
 pub use engines::Engine;
