@@ -4,3 +4,5 @@ pub mod StateTexts
 pub mod StateLayouts
 pub mod KeptStates
 pub mod IndexLemmas
+pub mod SoundLemmas
+pub mod StandLemmas

@@ -70,7 +70,7 @@ layout_texted (Some ino) text files texts layout there d =
 -- ---- an accepted event
 
 -- a number that was no file, or was dropped, is none
-not_there : (dropped : Option ℕ) (files : ℕ → Bool) (q : ℕ) → files q ≡ false → files_without dropped files q ≡ false
+pub not_there : (dropped : Option ℕ) (files : ℕ → Bool) (q : ℕ) → files q ≡ false → files_without dropped files q ≡ false
 not_there dropped files q f = elim (is_that dropped q) as (λ b. cond b false (files q) ≡ false) [ true ↦ refl | false ↦ f ]
 
 module _ (s : State) (after : FileSystem) (effect : Effect) (tells : TellsFiles s.tree effect after) (changes : ChangesFiles s.tree effect)

@@ -8,6 +8,7 @@ ghost use Rattle.wu_base.specs.declared.troubles.Trouble.{Trouble};
 ghost use Rattle.std.specs.Coded.{→_prop};
 ghost use Rattle.wu_engine.specs.Soundness.{IsSound, IsSound-prop};
 
+use crate::updating::index;
 use crate::verdicts::Verdict;
 use std::alloc::Global;
 use wu_ask::{Answered, Query};
@@ -16,7 +17,7 @@ use wu_frames::FrameCache;
 use wu_outside::Store;
 use wu_parts::Parts;
 use wu_space::Space;
-use wu_tree::{Event, Tree};
+use wu_tree::{Event, Tree, effects_tell_files};
 
 /// The file tree, the index of all files' texts, and the frames of the users who asked last. It keeps no text.
 /// A call that answers a trouble ends it: each later call answers that trouble and changes nothing.
@@ -76,7 +77,7 @@ impl Engine {
         ensures step { (s : State) → Stands self.old s → IfOk result (λ verdict.
             (verdict ≡ verdict_of (step s event.now body.now)) × Stands self.new (after_event s event.now body.now)) }
         ensures taken { OnOk result (self.new.space.next ≤ self.old.space.next + taken_by event.now body.now) }
-        ensures flush_at { self.new.parts.flush_at ≡ self.old.parts.flush_at }
+        ensures flush_at { OnOk result (self.new.parts.flush_at ≡ self.old.parts.flush_at) }
         ensures goes_on { OnOk result (self.new.ended ≡ None) }
         ensures ends { IfErr result (λ trouble. self.new.ended ≡ Some trouble) }
         ensures again { (trouble : Trouble) → self.old.ended ≡ Some trouble → (result ≡ Err trouble) × (self.new ≡ self.old) }
@@ -88,7 +89,20 @@ impl Engine {
             return Err(trouble);
         }
         self.ended = Some(Trouble::NoMemory);
-        Err(Trouble::NoMemory)
+        effects_tell_files(&self.tree);
+        self.space.keeps_the_rules();
+        match self.tree.apply(event)? {
+            Ok(effect) => {
+                self.frames.clear();
+                index(&mut self.space, &mut self.parts, effect, body)?;
+                self.ended = None;
+                Ok(Verdict::Made)
+            }
+            Err(refusal) => {
+                self.ended = None;
+                Ok(Verdict::Refused(refusal))
+            }
+        }
     }
 
     /// Answers a user's query from the index: over her view alone, whatever other files there are. Makes no
