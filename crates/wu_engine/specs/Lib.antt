@@ -7,3 +7,6 @@ pub mod Rankings
 pub mod Answer
 pub mod Soundness
 pub mod Stands
+-- ---- What only private functions and proofs need
+
+pub mod Units

@@ -7,6 +7,7 @@ ghost use Rattle.wu_tree.specs.Steps.{IsEvent};
 ghost use Rattle.wu_base.specs.declared.troubles.Trouble.{Trouble};
 ghost use Rattle.wu_engine.specs.Soundness.{IsSound};
 
+use crate::querying::answered;
 use crate::verdicts::Verdict;
 use std::alloc::Global;
 use wu_ask::{Answered, Query};
@@ -82,7 +83,7 @@ impl Engine {
         ensures cause { IfErr result (λ trouble. (trouble ≡ RanOutOfMemory) ⊎ (self.old.ended ≡ Some trouble)) }
         ensures store { store.new ≡ store.old }
     {
-        let _untouched = (&*store, event, body);
+        let _untouched = &*store;
         if let Some(trouble) = self.ended {
             return Err(trouble);
         }
@@ -109,11 +110,20 @@ impl Engine {
         ensures cause { IfErr result (λ trouble. (trouble ≡ RanOutOfMemory) ⊎ (self.old.ended ≡ Some trouble)) }
         ensures store { store.new ≡ store.old }
     {
-        let _untouched = (&*store, query);
+        let _untouched = &*store;
         if let Some(trouble) = self.ended {
             return Err(trouble);
         }
         self.ended = Some(Trouble::NoMemory);
-        Err(Trouble::NoMemory)
+        let answered = answered(
+            self.alloc,
+            &self.tree,
+            &self.space,
+            &self.parts,
+            &mut self.frames,
+            query,
+        )?;
+        self.ended = None;
+        Ok(answered)
     }
 }

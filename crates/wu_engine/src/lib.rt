@@ -1,7 +1,12 @@
 //! The engine: the file tree and one index of all files, from which each user is answered as if there were her files alone.
 #![tactic(auto)]
 
+mod counting;
 mod engines;
+mod fetching;
+mod listing;
+mod querying;
+mod ranking;
 mod verdicts;
 
 pub use engines::Engine;
