@@ -1,3 +1,8 @@
+pub mod NumberedEntries
+pub mod FileChanges
+pub mod StateTexts
+pub mod StateLayouts
+pub mod KeptStates
 pub mod FramesOfFiles
 pub mod UnitsOfFrames
 pub mod Places

@@ -9,4 +9,5 @@ pub mod Soundness
 pub mod Stands
 -- ---- What only private functions and proofs need
 
+pub mod Indexing
 pub mod Units

@@ -5,7 +5,8 @@ ghost use Rattle.wu_base.specs.declared.troubles.Trouble.TheVariants.{NoMemory a
 ghost use Rattle.wu_ask.specs.Questions.{question_of, IsSoundAsk};
 ghost use Rattle.wu_tree.specs.Steps.{IsEvent};
 ghost use Rattle.wu_base.specs.declared.troubles.Trouble.{Trouble};
-ghost use Rattle.wu_engine.specs.Soundness.{IsSound};
+ghost use Rattle.std.specs.Coded.{→_prop};
+ghost use Rattle.wu_engine.specs.Soundness.{IsSound, IsSound-prop};
 
 use crate::querying::answered;
 use crate::verdicts::Verdict;
@@ -29,7 +30,7 @@ pub struct Engine {
     /// The trouble that ended it.
     pub ended: Option<Trouble>,
     pub(crate) alloc: Global,
-    ghost sound: { ended ≡ None → IsSound tree space parts frames },
+    ghost sound: { ended ≡ None → IsSound tree space parts frames } by { →_prop (IsSound-prop tree space parts frames) },
 }
 
 impl Engine {

@@ -4,10 +4,12 @@
 mod counting;
 mod engines;
 mod fetching;
+mod laws;
 mod listing;
 mod querying;
 mod ranking;
 mod verdicts;
 
 pub use engines::Engine;
+pub use laws::each_event_keeps_a_state;
 pub use verdicts::Verdict;
