@@ -1,5 +1,5 @@
 -- Answers over the files of a view.
-use Rattle.std.proofs.Common.{◌≡◌, ℕ, ◌+◌, ◌<◌, ◌≤◌, List, length, map, take, take_all, get_or, [], ◌∷◌, ◌++◌, refl, ap, sym, ◌∙◌}
+use Rattle.std.proofs.Common.{◌≡◌, ℕ, ◌+◌, ◌<◌, ◌≤◌, List, length, map, take, take_all, get_or, [], ◌∷◌, ◌++◌, Ok, Err, Result, IfOk, refl, ap, sym, ◌∙◌}
 use Rattle.std.proofs.lemmas.List.{take_more}
 use Rattle.std.specs.List.{flat_map}
 use Rattle.wu_ask.specs.declared.Answered.{Answered}
@@ -41,3 +41,8 @@ lines_more line_for lines now top i d line within before pushed is =
 pub lines_all : (line_for : Ranked → RankLine) (lines : List RankLine) (top : List Ranked) (i : ℕ) → length top ≤ i
     → lines ≡ map line_for (take i top) → lines ≡ map line_for top
 lines_all line_for lines top i all is = is ∙ ap (map line_for) (take_all i top all)
+
+-- what follows for each value holds of the value of a result
+pub if_ok : {T E : Type 0} (P Q : T → Type 0) (r : Result T E) → ((value : T) → P value → Q value) → IfOk r P → IfOk r Q
+if_ok P Q (Ok value) step h = step value h
+if_ok P Q (Err error) step h = h

@@ -4,6 +4,7 @@ use Rattle.std.proofs.Math.Logic.{∥∥₁_elim}
 use Rattle.std.proofs.lemmas.Grind.{flat_map-append}
 use Rattle.std.proofs.lemmas.List.{take_more}
 use Rattle.std.proofs.lemmas.List.Concat.{length-flat_map}
+use Rattle.std.specs.Coded.{Coded-set, coded_ℕ}
 use Rattle.std.specs.Prelude.{nat_lt, count_by}
 use Rattle.std.specs.List.{flat_map}
 use Rattle.wu_base.specs.declared.addresses.Range.{Range}
@@ -47,7 +48,7 @@ module _ (frames : Frames) (live : Ranges) (memory : Memory) (s : State) (uid : 
       ≡ length (flat_map (hits_in region) (view_of s uid))
   unfolding hits_in
   hits_counted =
-      ∥∥₁_elim is.hers.of_view (ℕ_set _ _)
+      ∥∥₁_elim is.hers.of_view (Coded-set coded_ℕ _ _)
       (λ moved.
       let v = are_of_view frames live memory s uid is moved in
       let view = view_of s uid in
@@ -63,7 +64,7 @@ module _ (frames : Frames) (live : Ranges) (memory : Memory) (s : State) (uid : 
       ≡ count_by (has_hit region) (view_of s uid)
   unfolding hits_in
   files_counted =
-      ∥∥₁_elim is.hers.of_view (ℕ_set _ _)
+      ∥∥₁_elim is.hers.of_view (Coded-set coded_ℕ _ _)
       (λ moved.
       let v = are_of_view frames live memory s uid is moved in
       let view = view_of s uid in

@@ -11,3 +11,4 @@ pub mod UnitLemmas
 pub mod CountLemmas
 pub mod RankLemmas
 pub mod AnswerLemmas
+pub mod Searching

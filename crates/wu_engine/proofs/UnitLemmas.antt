@@ -1,8 +1,8 @@
 -- The units of frames, at addresses: which there are, by the places of their frames, and how long they are.
-use Rattle.std.proofs.Common.{◌≡◌, ◌==◌, ℕ, zero, suc, ◌+◌, ◌-◌, ◌*◌, ◌≤◌, ◌<◌, ◌^◌, Bool, true, false, cond, List, [], ◌∷◌, ◌++◌, length, take, drop, map, refl, sym, ap, ap₂, ◌∙◌, arith, length-append}
+use Rattle.std.proofs.Common.{◌≡◌, ◌==◌, ℕ, zero, suc, ◌+◌, ◌-◌, ◌*◌, ◌≤◌, ◌<◌, ◌^◌, Bool, true, false, cond, List, [], ◌∷◌, ◌++◌, length, take, drop, map, refl, sym, ap, ap₂, ◌∙◌, subst, arith, length-append}
 use Rattle.std.proofs.lemmas.Bool.{lt-ltb, le-ltb}
 use Rattle.std.proofs.lemmas.List.{length-map}
-use Rattle.std.proofs.lemmas.List.Elements.{All-head, All-tail}
+use Rattle.std.proofs.lemmas.List.Elements.{All-head, All-tail, All-from_recursion}
 use Rattle.std.proofs.lemmas.List.Sorted.{IsPermutation-refl}
 use Rattle.std.proofs.lemmas.List.Sums.{sum_by-cons}
 use Rattle.std.specs.Prelude.{All, nat_lt}
@@ -10,8 +10,10 @@ use Rattle.std.specs.List.{AllByRecursion}
 use Rattle.wu_base.specs.declared.addresses.Extent.{Extent}
 use Rattle.wu_base.specs.declared.addresses.Range.{Range}
 use Rattle.wu_base.specs.declared.addresses.TermList.{TermList}
+use Rattle.wu_base.specs.declared.limits.TheConstants.{ADDRESSES_MAX}
 use Rattle.wu_gcl.specs.Extents.{hits}
 use Rattle.wu_gcl.specs.Regions.{Region}
+use Rattle.wu_gcl.specs.Terms.{AreTerms}
 use Rattle.wu_rank.specs.declared.results.Unit.{Unit as RankedUnit}
 use Rattle.wu_rank.specs.Scores.{length_of, total_length}
 use Rattle.wu_solve.specs.Addresses.{stands_by}
@@ -20,10 +22,11 @@ use Rattle.wu_solve.specs.Solving.{moved, frame_hits, frames_hits, IsFrame, AreA
 use Rattle.wu_solve.proofs.Results.{hits_in as inside_text}
 use Rattle.wu_solve.proofs.Sets.{all_from}
 use Rattle.wu_space.specs.Addresses.{AreApart as LieApart}
+use Rattle.wu_parts.specs.Memory.{Memory}
 use Rattle.wu_frames.specs.declared.Frame.{Frame}
 use Rattle.wu_frames.specs.declared.Frames.{Frames}
 use Rattle.wu_engine.specs.Rankings.{unit_at}
-use Rattle.wu_engine.specs.Units.{CanBeSearched, count_before, end_of, placed, units_in}
+use Rattle.wu_engine.specs.Units.{AreUnits, CanBeSearched, count_before, end_of, found_in, list_at, placed, units_in}
 use Rattle.wu_engine.proofs.FramesOfFiles.{frames_few}
 use Rattle.wu_engine.proofs.UnitsOfFrames.{both_all}
 
@@ -170,3 +173,52 @@ total_short (unit ∷ units) short =
       total_short units
           (All-tail (λ (u : RankedUnit). length_of u.extent < 2 ^ 26) unit units short),
     )
+
+-- ---- the units of a search
+
+-- the addresses after the frames fit
+pub ends_fit : (frames : Frames) → CanBeSearched frames → All (λ frame. frame.range.start + frame.range.len < 2 ^ 64) frames.by_address
+ends_fit frames can =
+    All-from_recursion (λ (frame : Frame). frame.range.start + frame.range.len < 2 ^ 64) frames.by_address
+    (all frames.by_address (subst (AllByRecursion (λ (range : Range). range.start + range.len ≤ ADDRESSES_MAX)) can.of_frames can.bounded)) where
+      all : (fs : List Frame) → AllByRecursion (λ (range : Range). range.start + range.len ≤ ADDRESSES_MAX) (map (λ (f : Frame). f.range) fs)
+          → AllByRecursion (λ (frame : Frame). frame.range.start + frame.range.len < 2 ^ 64) fs
+      all [] below = tt
+      all (f ∷ fs) below = (omega (arith, below.0), all fs below.1)
+
+module _ (region : Region) (frames : Frames) (can : CanBeSearched frames) (memory : Memory) (terms : List (List ℕ)) (lists : List TermList)
+    (extents : List Extent) (units : List RankedUnit) (named : AreTerms region terms)
+    (listed : lists ≡ map (list_at (found_in frames.ranges memory)) terms) (found : extents ≡ frames_hits region lists frames.ranges)
+    (put : units ≡ placed frames.by_address extents) where
+  in_frames : units ≡ units_in region lists frames.by_address
+  in_frames =
+      put ∙ ap (placed frames.by_address) (found ∙ ap (frames_hits region lists) can.of_frames)
+      ∙ placed_by_frame region lists frames.by_address (subst AreApart can.of_frames (apart frames.ranges can.apart))
+
+  pub units_searched : AreUnits region frames memory units
+  units_searched = record {
+    terms = terms;
+    all = named.all;
+    are = in_frames ∙ ap (λ (ls : List TermList). units_in region ls frames.by_address) listed;
+  }
+
+  fit : Fit units
+  fit =
+      subst Fit (sym in_frames)
+      (units_fit region lists frames.by_address (subst (AllByRecursion (λ (range : Range). range.len < 2 ^ 26)) can.of_frames can.short))
+
+  pub units_some : All (λ unit. 1 ≤ length_of unit.extent) units
+  units_some = All-from_recursion (λ (unit : RankedUnit). 1 ≤ length_of unit.extent) units fit.0
+
+  pub units_short : All (λ unit. length_of unit.extent < 2 ^ 26) units
+  units_short = All-from_recursion (λ (unit : RankedUnit). length_of unit.extent < 2 ^ 26) units fit.1
+
+  pub units_few : length units ≤ 2 ^ 47
+  units_few =
+      omega (
+        arith,
+        ap length in_frames,
+        length-units_in region lists frames.by_address,
+        ap (λ (rs : List Range). length (frames_hits region lists rs)) can.of_frames,
+        searched_few region lists frames can,
+      )
