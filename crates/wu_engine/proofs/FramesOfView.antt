@@ -1,10 +1,9 @@
 -- A user's frames, in a state whose index the engine keeps, are frames of the files of her view, one for each, in the order of their
 -- addresses.
-use Rattle.std.proofs.Common.{◌≡◌, ℕ, zero, suc, ◌+◌, ◌<◌, ◌≤◌, Bool, true, false, List, [], ◌∷◌, ◌++◌, length, map, filter, refl, sym, ap, ap₂, ◌∙◌, subst, arith, inl, inr, append-nil, Option, None, Some}
+use Rattle.std.proofs.Common.{◌≡◌, ℕ, zero, suc, ◌+◌, true, List, [], ◌∷◌, ◌++◌, length, map, filter, refl, sym, ap, ap₂, ◌∙◌, subst, arith, inl, inr, append-nil, Option, None, Some}
 use Rattle.std.specs.Prelude.{◌==◌, is_some, slice_get, option_and_then, option_map, unwrap_or, IfSome, filter_map, not, IsPermutation}
 use Rattle.std.specs.List.{AllByRecursion, cons_option, enumerate_from, list_any, range_with_len}
 use Rattle.std.specs.List.Sorted.{IsStrictlyIncreasing}
-use Rattle.std.specs.Cmp.Lexicographic.{pointwise}
 use Rattle.std.proofs.lemmas.Bool.{and_parts}
 use Rattle.std.proofs.lemmas.List.{length-map}
 use Rattle.std.proofs.lemmas.List.Kept.{IsStrictlyIncreasing-filter}
@@ -14,8 +13,8 @@ use Rattle.wu_base.specs.SortedOnce.{sorted_once}
 use Rattle.wu_base.proofs.Members.{Has, Has-from_Contains, Contains-from_Has, Has-map, all_has, all_from_has, filter_has, map_has}
 use Rattle.wu_base.proofs.SortedLists.{sorted_once_has}
 use Rattle.wu_gcl.specs.Extents.{is_token_at}
-use Rattle.wu_layout.specs.Invariants.{IsIndexed, IsAmong, SomeOf, HasText}
-use Rattle.wu_layout.specs.Layouts.{Text, FileEntry, Part, entry_of, homes_of, postings_of, ranges_by_number}
+use Rattle.wu_layout.specs.Invariants.{IsIndexed, IsAmong, HasText}
+use Rattle.wu_layout.specs.Layouts.{FileEntry, Part, entry_of, homes_of, postings_of}
 use Rattle.wu_layout.specs.Postings.{addresses_of, is_live, fetched}
 use Rattle.wu_layout.proofs.Fetches.{is_term_at, fetched_at}
 use Rattle.wu_layout.proofs.NumberedRanges.{lookup-ranges_by_number}
@@ -31,13 +30,13 @@ use Rattle.wu_view.proofs.ShownFiles.{seen_exact, seen_total}
 use Rattle.wu_access.specs.declared.Want.TheVariants.{Read}
 use Rattle.wu_frames.specs.declared.Frame.{Frame}
 use Rattle.wu_frames.specs.declared.Frames.{Frames}
-use Rattle.wu_frames.specs.UserFrames.{AreFrames, frame_of, frame_with, frames_in}
+use Rattle.wu_frames.specs.UserFrames.{frame_of, frame_with, frames_in}
 use Rattle.wu_gcl.specs.Regions.{Region}
 use Rattle.wu_base.specs.declared.addresses.TermList.{TermList}
 use Rattle.wu_rank.specs.declared.results.Unit.{Unit as RankedUnit}
 use Rattle.wu_solve.specs.Solving.{frame_hits}
 use Rattle.wu_engine.specs.Rankings.{tokens_at, unit_at}
-use Rattle.wu_engine.specs.States.{State, Texts, IsState, indexed, text_in}
+use Rattle.wu_engine.specs.States.{State, indexed, text_in}
 use Rattle.wu_engine.specs.Units.{found_in, range_at, no_range, units_in, IsIndexOf, Indexes}
 use Rattle.wu_engine.specs.View.{shown_of, view_of}
 use Rattle.wu_engine.proofs.FramesOfFiles.{IsFrameOf, FramesOf}

@@ -1,11 +1,11 @@
 -- The units of frames, at addresses: which there are, by the places of their frames, and how long they are.
-use Rattle.std.proofs.Common.{◌≡◌, ◌==◌, ℕ, zero, suc, ◌+◌, ◌-◌, ◌*◌, ◌≤◌, ◌<◌, ◌^◌, Bool, true, false, cond, List, [], ◌∷◌, ◌++◌, length, take, drop, map, refl, sym, ap, ap₂, ◌∙◌, subst, arith, length-append}
+use Rattle.std.proofs.Common.{◌≡◌, ◌==◌, ℕ, suc, ◌+◌, ◌-◌, ◌*◌, ◌≤◌, ◌<◌, ◌^◌, Bool, false, List, [], ◌∷◌, ◌++◌, length, take, drop, map, refl, sym, ap, ap₂, ◌∙◌, subst, arith, length-append}
 use Rattle.std.proofs.lemmas.Bool.{lt-ltb, le-ltb}
 use Rattle.std.proofs.lemmas.List.{length-map}
 use Rattle.std.proofs.lemmas.List.Elements.{All-head, All-tail, All-from_recursion}
 use Rattle.std.proofs.lemmas.List.Sorted.{IsPermutation-refl}
 use Rattle.std.proofs.lemmas.List.Sums.{sum_by-cons}
-use Rattle.std.specs.Prelude.{All, nat_lt}
+use Rattle.std.specs.Prelude.{All}
 use Rattle.std.specs.List.{AllByRecursion}
 use Rattle.wu_base.specs.declared.addresses.Extent.{Extent}
 use Rattle.wu_base.specs.declared.addresses.Range.{Range}
@@ -18,7 +18,7 @@ use Rattle.wu_rank.specs.declared.results.Unit.{Unit as RankedUnit}
 use Rattle.wu_rank.specs.Scores.{length_of, total_length}
 use Rattle.wu_solve.specs.Addresses.{stands_by}
 use Rattle.wu_solve.specs.Listing.{IsExtentIn}
-use Rattle.wu_solve.specs.Solving.{moved, frame_hits, frames_hits, IsFrame, AreApart}
+use Rattle.wu_solve.specs.Solving.{moved, frame_hits, frames_hits, AreApart}
 use Rattle.wu_solve.proofs.Results.{hits_in as inside_text}
 use Rattle.wu_solve.proofs.Sets.{all_from}
 use Rattle.wu_space.specs.Addresses.{AreApart as LieApart}
@@ -196,29 +196,22 @@ module _ (region : Region) (frames : Frames) (can : CanBeSearched frames) (memor
       ∙ placed_by_frame region lists frames.by_address (subst AreApart can.of_frames (apart frames.ranges can.apart))
 
   pub units_searched : AreUnits region frames memory units
-  units_searched = record {
-    terms = terms;
-    all = named.all;
-    are = in_frames ∙ ap (λ (ls : List TermList). units_in region ls frames.by_address) listed;
-  }
-
-  fit : Fit units
-  fit =
+  units_searched =
+      let fits : Fit units =
       subst Fit (sym in_frames)
-      (units_fit region lists frames.by_address (subst (AllByRecursion (λ (range : Range). range.len < 2 ^ 26)) can.of_frames can.short))
-
-  pub units_some : All (λ unit. 1 ≤ length_of unit.extent) units
-  units_some = All-from_recursion (λ (unit : RankedUnit). 1 ≤ length_of unit.extent) units fit.0
-
-  pub units_short : All (λ unit. length_of unit.extent < 2 ^ 26) units
-  units_short = All-from_recursion (λ (unit : RankedUnit). length_of unit.extent < 2 ^ 26) units fit.1
-
-  pub units_few : length units ≤ 2 ^ 47
-  units_few =
-      omega (
-        arith,
-        ap length in_frames,
-        length-units_in region lists frames.by_address,
-        ap (λ (rs : List Range). length (frames_hits region lists rs)) can.of_frames,
-        searched_few region lists frames can,
-      )
+      (units_fit region lists frames.by_address (subst (AllByRecursion (λ (range : Range). range.len < 2 ^ 26)) can.of_frames can.short)) in
+      record {
+        terms = terms;
+        all = named.all;
+        are = in_frames ∙ ap (λ (ls : List TermList). units_in region ls frames.by_address) listed;
+        some = All-from_recursion (λ (unit : RankedUnit). 1 ≤ length_of unit.extent) units fits.0;
+        short = All-from_recursion (λ (unit : RankedUnit). length_of unit.extent < 2 ^ 26) units fits.1;
+        few =
+            omega (
+              arith,
+              ap length in_frames,
+              length-units_in region lists frames.by_address,
+              ap (λ (rs : List Range). length (frames_hits region lists rs)) can.of_frames,
+              searched_few region lists frames can,
+            );
+      }

@@ -1,7 +1,7 @@
 -- A search over a user's frames: where terms stand in them, the extents of an expression with the places of their files, and how
 -- frames and postings stand for the user's view.
 use Rattle.std.specs.Prelude.{◌≡◌, ℕ, suc, ◌+◌, ◌-◌, ◌<◌, ◌≤◌, ◌^◌, List, [], ◌∷◌, ◌++◌, length, map, filter, take, drop, nat_lt, Contains, if◌then◌else◌, slice_get, option_and_then, unwrap_or}
-use Rattle.std.specs.List.{AllByRecursion, flat_map}
+use Rattle.std.specs.List.{All, AllByRecursion, flat_map}
 use Rattle.wu_base.specs.declared.addresses.Extent.{Extent}
 use Rattle.wu_base.specs.declared.addresses.Range.{Range}
 use Rattle.wu_base.specs.declared.addresses.TermList.{TermList}
@@ -13,6 +13,7 @@ use Rattle.wu_gcl.specs.Terms.{terms_in}
 use Rattle.wu_view.specs.declared.Seen.{Seen}
 use Rattle.wu_rank.specs.declared.results.Unit.{Unit as RankedUnit}
 use Rattle.wu_rank.specs.declared.results.Ranked.{Ranked}
+use Rattle.wu_rank.specs.Scores.{length_of}
 use Rattle.wu_solve.specs.Solving.{frame_hits}
 use Rattle.wu_space.specs.Addresses.{Ranges, AreApart, range_of}
 use Rattle.wu_parts.specs.Memory.{Memory, held}
@@ -66,6 +67,10 @@ pub record AreUnits (region : Region) (frames : Frames) (memory : Memory) (units
   pub terms : List (List ℕ)
   pub all : (term : List ℕ) → Contains (terms_in region) term → Contains terms term
   pub are : units ≡ units_in region (map (list_at (found_in frames.ranges memory)) terms) frames.by_address
+  -- they can be ranked
+  pub some : All (λ unit. 1 ≤ length_of unit.extent) units
+  pub short : All (λ unit. length_of unit.extent < 2 ^ 26) units
+  pub few : length units ≤ 2 ^ 47
 
 -- ---- back to the files
 

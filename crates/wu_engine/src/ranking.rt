@@ -59,10 +59,7 @@ fn units_of(
     unit: &Expr,
 ) -> Result<Vec<Unit>, NoMemory>
     requires { CanBeSearched frames.now }
-    ensures units { IfOk result (λ units. AreUnits (region_of unit.now) frames.now parts.now.memory units.items) }
-    ensures some { IfOk result (λ units. All (λ unit. 1 ≤ length_of unit.extent) units.items) }
-    ensures short { IfOk result (λ units. All (λ unit. length_of unit.extent < 2 ^ 26) units.items) }
-    ensures few { IfOk result (λ units. length units.items ≤ 2 ^ 47) }
+    ensures { IfOk result (λ units. AreUnits (region_of unit.now) frames.now parts.now.memory units.items) }
 {
     let terms = terms_of(alloc, unit)?;
     let lists = lists_of(alloc, &terms, frames, parts)?;

@@ -1,4 +1,4 @@
-use Rattle.std.proofs.Common.{◌≡◌, ◌∙◌, ℕ, subst}
+use Rattle.std.proofs.Common.{◌≡◌, ℕ, subst}
 use Rattle.wu_ask.specs.declared.Answered.{Answered}
 use Rattle.wu_ask.specs.Questions.{question_of}
 use Rattle.wu_frames.specs.UserFrames.{AreFrames}
