@@ -6,3 +6,12 @@ pub mod KeptStates
 pub mod IndexLemmas
 pub mod SoundLemmas
 pub mod StandLemmas
+pub mod FramesOfFiles
+pub mod UnitsOfFrames
+pub mod Places
+pub mod FramesOfView
+pub mod UnitLemmas
+pub mod CountLemmas
+pub mod RankLemmas
+pub mod AnswerLemmas
+pub mod Searching

@@ -10,3 +10,4 @@ pub mod Stands
 -- ---- What only private functions and proofs need
 
 pub mod Indexing
+pub mod Units

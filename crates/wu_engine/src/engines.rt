@@ -8,6 +8,7 @@ ghost use Rattle.wu_base.specs.declared.troubles.Trouble.{Trouble};
 ghost use Rattle.std.specs.Coded.{→_prop};
 ghost use Rattle.wu_engine.specs.Soundness.{IsSound, IsSound-prop};
 
+use crate::querying::answered;
 use crate::updating::index;
 use crate::verdicts::Verdict;
 use std::alloc::Global;
@@ -129,6 +130,15 @@ impl Engine {
             return Err(trouble);
         }
         self.ended = Some(Trouble::NoMemory);
-        Err(Trouble::NoMemory)
+        let answered = answered(
+            self.alloc,
+            &self.tree,
+            &self.space,
+            &self.parts,
+            &mut self.frames,
+            query,
+        )?;
+        self.ended = None;
+        Ok(answered)
     }
 }

@@ -1,8 +1,13 @@
 //! The engine: the file tree and one index of all files, from which each user is answered as if there were her files alone.
 #![tactic(auto)]
 
+mod counting;
 mod engines;
+mod fetching;
 mod laws;
+mod listing;
+mod querying;
+mod ranking;
 mod updating;
 mod verdicts;
 

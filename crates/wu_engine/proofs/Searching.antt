@@ -1,0 +1,50 @@
+-- A user's frames can be searched, whatever state the engine stands for.
+use Rattle.std.proofs.Common.{ℕ, ◌+◌, ◌≤◌, ◌<◌, ◌^◌, List, [], ◌∷◌, map, sym, subst, arith}
+use Rattle.std.proofs.Math.Logic.{∥∥₁_elim}
+use Rattle.std.specs.Coded.{le_prop}
+use Rattle.std.specs.List.{AllByRecursion, AllByRecursion-prop}
+use Rattle.std.specs.BTreeMap.{is_at}
+use Rattle.std.specs.Ordering.{nat_cmp}
+use Rattle.wu_base.specs.declared.addresses.Range.{Range}
+use Rattle.wu_base.specs.declared.limits.TheConstants.{ADDRESSES_MAX}
+use Rattle.wu_base.proofs.MapEntries.{All-found}
+use Rattle.wu_tree.specs.FileSystems.{FileSystem}
+use Rattle.wu_space.specs.Addresses.{Addresses, IsSpace}
+use Rattle.wu_space.proofs.Apart.{given-from_live}
+use Rattle.wu_parts.specs.Contents.{Contents}
+use Rattle.wu_view.specs.Views.{view_of as files_of}
+use Rattle.wu_frames.specs.declared.Frame.{Frame}
+use Rattle.wu_frames.specs.declared.Frames.{Frames}
+use Rattle.wu_frames.specs.UserFrames.{AreFrames, Kept}
+use Rattle.wu_frames.proofs.ViewFrames.{HasRange, all-have}
+use Rattle.wu_engine.specs.Soundness.{IsSound, addresses_most}
+use Rattle.wu_engine.specs.Units.{CanBeSearched}
+
+module _ (fs : FileSystem) (space : Addresses) (parts : Contents) (kept : Kept) (rules : IsSpace space) (sound : IsSound fs space parts kept) where
+  bounded : (frames : List Frame) → AllByRecursion (HasRange space.ranges) frames
+      → AllByRecursion (λ (range : Range). range.start + range.len ≤ ADDRESSES_MAX) (map (λ frame. frame.range) frames)
+  bounded [] have = tt
+  bounded (frame ∷ frames) have =
+      let given = given-from_live space.next space.ranges rules.live frame.ino frame.range have.0 in
+      (omega (arith, given, sound.few), bounded frames have.1)
+
+  short : (frames : List Frame) → AllByRecursion (HasRange space.ranges) frames
+      → AllByRecursion (λ (range : Range). range.len < 2 ^ 26) (map (λ frame. frame.range) frames)
+  short [] have = tt
+  short (frame ∷ frames) have =
+      let found = All-found (λ (file : ℕ × Range). file.1.len ≤ addresses_most) (is_at (nat_cmp frame.ino)) space.ranges frame.range sound.short have.0 in
+      (omega (arith, found.2), short frames have.1)
+
+  pub can_be_searched : (uid : ℕ) (frames : Frames) → AreFrames fs space.ranges uid frames → CanBeSearched frames
+  can_be_searched uid frames hers = record {
+    apart = hers.ascending;
+    bounded =
+        subst (AllByRecursion (λ (range : Range). range.start + range.len ≤ ADDRESSES_MAX)) (sym hers.ranges_alone)
+        (∥∥₁_elim hers.of_view (AllByRecursion-prop _ (λ _. le_prop) (map (λ (frame : Frame). frame.range) frames.by_address))
+        (λ moved. bounded frames.by_address (all-have space.ranges (files_of fs uid) frames.by_address moved)));
+    short =
+        subst (AllByRecursion (λ (range : Range). range.len < 2 ^ 26)) (sym hers.ranges_alone)
+        (∥∥₁_elim hers.of_view (AllByRecursion-prop _ (λ _. le_prop) (map (λ (frame : Frame). frame.range) frames.by_address))
+        (λ moved. short frames.by_address (all-have space.ranges (files_of fs uid) frames.by_address moved)));
+    of_frames = hers.ranges_alone;
+  }
