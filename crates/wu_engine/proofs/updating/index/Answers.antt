@@ -1,8 +1,8 @@
-use Rattle.std.proofs.Common.{◌≡◌, ℕ, ◌+◌, [], length, sym, ◌∙◌, ap, subst, arith}
+use Rattle.std.proofs.Common.{◌≡◌, ℕ, ◌+◌, [], length, ◌∙◌, ap, subst, arith}
 use Rattle.std.proofs.lemmas.Result.{on_ok_weaker}
 use Rattle.wu_space.specs.Addresses.{Addresses}
-use Rattle.wu_parts.specs.Contents.{Contents, GainsTerms}
-use Rattle.wu_engine.specs.Indexing.{terms_given, with_file}
+use Rattle.wu_parts.specs.Contents.{GainsTerms}
+use Rattle.wu_engine.specs.Indexing.{terms_given}
 use Rattle.wu_engine.proofs.IndexLemmas.{gains_both, next-with_file, next-without_file}
 use Rattle.wu_engine.proofs.updating.index.Goals as goal
 
@@ -23,6 +23,7 @@ returns-clause-parts c =
     (λ (h : GainsTerms c.release-2.new.space.next (terms_given effect.texted text) c.place_text.new.parts c.place_text-2.new.parts).
     gains_both old.next (terms_given effect.made []) (terms_given effect.texted text) c.args.parts.now c.place_text.new.parts
     c.place_text-2.new.parts
-    (subst (λ (n : ℕ). GainsTerms n (terms_given effect.made []) c.args.parts.now c.place_text.new.parts) a c.in_ok-place_text.ensures.parts)
+    (subst (λ (n : ℕ). GainsTerms n (terms_given effect.made []) c.args.parts.now c.place_text.new.parts) a
+    c.in_ok-place_text.ensures.parts)
     (subst (λ (n : ℕ). GainsTerms n (terms_given effect.texted text) c.place_text.new.parts c.place_text-2.new.parts) e h))
     c.place_text-2.ensures.parts
