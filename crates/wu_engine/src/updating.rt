@@ -38,6 +38,7 @@ fn release(space: &mut Space, file: Option<Ino>)
     requires { IfSome file (λ ino. IsSome (range_of space.old.ranges ino)) }
     ensures released { space.new ≡ without_file file space.old }
     ensures none { IfSome file (λ ino. range_of space.new.ranges ino ≡ None) }
+    ensures next { space.new.next ≡ space.old.next }
 {
     space.keeps_the_rules();
     match file {
