@@ -1,9 +1,10 @@
 -- What an event makes of the space of addresses and of the postings.
-use Rattle.std.proofs.Common.{◌≡◌, ℕ, zero, suc, ◌+◌, ◌<◌, ◌==◌, Bool, true, false, cond, List, [], ◌∷◌, ◌++◌, length, refl, ap, sym, ◌∙◌, subst, arith, append_assoc, append-nil, length-append}
-use Rattle.std.specs.Prelude.{Option, Some, None, IfSome, IsSome, is_some}
+use Rattle.std.proofs.Common.{◌≡◌, ℕ, zero, suc, ◌+◌, ◌<◌, ◌==◌, Bool, cond, List, [], ◌++◌, length}
+use Rattle.std.proofs.Common.{refl, ap, sym, ◌∙◌, subst, arith, append_assoc, append-nil, length-append}
+use Rattle.std.specs.Prelude.{Option, Some, None}
 use Rattle.std.proofs.lemmas.Bool.{ne_eqb}
 use Rattle.wu_token.specs.Tokens.{tokens_of}
-use Rattle.wu_layout.specs.Postings.{Posting, addresses_of, placed_from}
+use Rattle.wu_layout.specs.Postings.{addresses_of, placed_from}
 use Rattle.wu_layout.proofs.Fetches.{placed-append}
 use Rattle.wu_layout.proofs.TermLemmas.{addresses_of-append}
 use Rattle.wu_space.specs.Addresses.{Addresses}
@@ -51,7 +52,8 @@ module _ (start : ℕ) (first second : List (List ℕ)) where
     addresses = λ term.
         h.addresses term
         ∙ ap (λ (l : List ℕ). l ++ addresses_of term (placed_from (start + length first) second)) (g.addresses term)
-        ∙ append_assoc (held old term) (addresses_of term (placed_from start first)) (addresses_of term (placed_from (start + length first) second))
+        ∙ append_assoc (held old term) (addresses_of term (placed_from start first))
+        (addresses_of term (placed_from (start + length first) second))
         ∙ ap (λ (l : List ℕ). held old term ++ l)
         (sym (ap (addresses_of term) (placed-append start first second)
         ∙ addresses_of-append term (placed_from start first) (placed_from (start + length first) second)));

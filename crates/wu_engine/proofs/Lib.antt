@@ -2,6 +2,8 @@ pub mod NumberedEntries
 pub mod FileChanges
 pub mod StateTexts
 pub mod StateLayouts
+pub mod LayoutSteps
+pub mod TakenAddresses
 pub mod KeptStates
 pub mod IndexLemmas
 pub mod SoundLemmas

@@ -1,6 +1,6 @@
 -- What an engine keeps, whatever is asked of it, it keeps with each accepted event.
-use Rattle.std.proofs.Common.{◌≡◌, ℕ, ◌+◌, ◌≤◌, List, [], ◌++◌, length, Bool, true, false, cond, refl, ap, sym, ◌∙◌, subst, arith, length-append}
-use Rattle.std.specs.Prelude.{Option, Some, None, Ok, IfSome, IsSome, is_some}
+use Rattle.std.proofs.Common.{◌≡◌, ℕ, ◌+◌, ◌≤◌, List, [], length, Bool, true, false, cond, refl, ap, ◌∙◌, arith, length-append}
+use Rattle.std.specs.Prelude.{Option, Some, None, IfSome}
 use Rattle.std.specs.Ordering.{nat_cmp}
 use Rattle.std.specs.Cmp.{nat_cmp_total}
 use Rattle.std.specs.List.{AllByRecursion}
@@ -12,23 +12,18 @@ use Rattle.wu_base.specs.declared.limits.TheConstants.{ADDRESSES_MAX, TEXT_MAX}
 use Rattle.wu_base.proofs.MapEntries.{All-insert_entry, All-remove_entry, ascend-insert_entry, ascend-remove_entry}
 use Rattle.wu_token.specs.Tokens.{tokens_of}
 use Rattle.wu_token.proofs.LengthLemmas.{length-tokens_of}
-use Rattle.wu_tree.specs.declared.events.Event.{Event}
 use Rattle.wu_tree.specs.declared.events.Effect.{Effect}
 use Rattle.wu_tree.specs.FileSystems.{FileSystem, is_file}
-use Rattle.wu_tree.specs.Steps.{step as tree_step}
 use Rattle.wu_tree.specs.Effects.{TellsFiles}
 use Rattle.wu_tree.proofs.EventRules.{absent}
-use Rattle.wu_space.specs.Addresses.{Addresses, Ranges, range_of}
+use Rattle.wu_space.specs.Addresses.{Addresses, range_of}
 use Rattle.wu_parts.specs.Contents.{Contents, GainsTerms}
 use Rattle.wu_parts.proofs.Gaining.{end_within}
 use Rattle.wu_frames.specs.UserFrames.{Kept}
 use Rattle.wu_engine.specs.Soundness.{IsSound, addresses_most}
-use Rattle.wu_engine.specs.Stands.{taken_by}
 use Rattle.wu_engine.specs.Indexing.{IsIndexable, terms_given, terms_after, with_file, without_file, space_made, space_after}
 use Rattle.wu_engine.proofs.NumberedEntries.{is_that, has, has-put, has-removed}
-use Rattle.wu_engine.proofs.KeptStates.{taken_with, taken-effect}
-use Rattle.wu_engine.proofs.FileChanges.{ChangesFiles, changes, files_without, files-after, files-texted}
-use Rattle.wu_engine.proofs.StateLayouts.{not_there}
+use Rattle.wu_engine.proofs.FileChanges.{ChangesFiles, not_there, files_without, files-after, files-texted}
 use Rattle.wu_engine.proofs.IndexLemmas.{next-with_file, next-without_file}
 
 some_if : (o : Option ℕ) (P : ℕ → Type 0) → ((ino : ℕ) → o ≡ Some ino → P ino) → IfSome o P
@@ -44,7 +39,6 @@ AreShortRanges space = AllByRecursion (λ (file : ℕ × Range). file.1.len ≤ 
 -- ---- one change
 
 module _ (o : Option ℕ) (space : Addresses) where
-  -- each proof by cases of `o` goes through `at`, since `o` is fixed here
   ascend_left : Ascend space → Ascend (without_file o space)
   ascend_left s = elim o as (λ p. Ascend (without_file p space)) [
     | None ↦ s
@@ -104,15 +98,6 @@ next-after effect text space =
     next-with_file effect.texted text again in
     omega (arith, length-append (terms_given effect.made []) (terms_given effect.texted text))
 
--- as many terms are given as the event takes addresses
-pub length-terms_after : (fs : FileSystem) (event : Event) (text : List ℕ) (after : FileSystem) (effect : Effect)
-    → tree_step fs event ≡ Ok (after, effect) → length (terms_after effect text) ≡ taken_by event text
-length-terms_after fs event text after effect e =
-    let taken : taken_with effect.made [] + taken_with effect.texted text ≡ taken_by event text =
-    subst (λ (f : Effect). taken_with f.made [] + taken_with f.texted text ≡ taken_by event text) (changes fs event after effect e).0
-    (taken-effect fs event text) in
-    length-append (terms_given effect.made []) (terms_given effect.texted text) ∙ taken
-
 module _ (before after : FileSystem) (effect : Effect) (tells : TellsFiles before effect after) (changed : ChangesFiles before effect)
     (space : Addresses) (parts : Contents) (kept : Kept) (sound : IsSound before space parts kept) (sorted : Ascend space) where
   left_files : (q : ℕ) → has (without_file effect.dropped space).ranges q ≡ files_without effect.dropped (is_file before) q
@@ -154,8 +139,11 @@ module _ (before after : FileSystem) (effect : Effect) (tells : TellsFiles befor
           (short_given effect.made (without_file effect.dropped space) [] (omega arith) (short_left effect.dropped space sound.short)));
       few = omega (arith, next-after effect text space);
       below =
-          omega (arith, next-after effect text space,
-          end_within space.next (terms_after effect text) parts.memory gained.memory g.memory sound.below);
+          omega (
+            arith,
+            next-after effect text space,
+            end_within space.next (terms_after effect text) parts.memory gained.memory g.memory sound.below,
+          );
       blobs = omega (arith, sound.blobs, ap (λ (c : Contents). c.next_blob) g.others);
       frames = tt;
     }

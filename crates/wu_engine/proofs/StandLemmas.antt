@@ -1,11 +1,10 @@
 -- The engine stands for the state after an event.
-use Rattle.std.proofs.Common.{◌≡◌, ℕ, ◌+◌, ◌≤◌, List, [], ◌++◌, length, Ok, Err, refl, ap, sym, ◌∙◌, subst, arith, append_assoc, append-nil, length-append}
+use Rattle.std.proofs.Common.{◌≡◌, ℕ, ◌+◌, ◌≤◌, List, [], ◌++◌, length, Ok, Err, refl, ap, sym, ◌∙◌, subst, arith, length-append}
 use Rattle.std.specs.Prelude.{Option, Some, None}
 use Rattle.std.specs.Result.{result_unwrap_or}
 use Rattle.std.specs.Ordering.{nat_cmp}
 use Rattle.std.specs.Map.{remove_entry}
 use Rattle.std.specs.BTreeMap.{is_at, insert_entry}
-use Rattle.wu_base.specs.declared.addresses.Range.{Range}
 use Rattle.wu_base.specs.declared.limits.TheConstants.{TEXT_MAX}
 use Rattle.wu_token.specs.Tokens.{tokens_of}
 use Rattle.wu_tree.specs.declared.events.Event.{Event}
@@ -14,20 +13,20 @@ use Rattle.wu_tree.specs.declared.events.Refusal.{Refusal}
 use Rattle.wu_tree.specs.FileSystems.{FileSystem}
 use Rattle.wu_tree.specs.Steps.{IsEvent}
 use Rattle.wu_tree.specs.Steps.{step as tree_step}
-use Rattle.wu_layout.specs.Postings.{Posting, addresses_of, placed_from}
-use Rattle.wu_layout.specs.Layouts.{FileEntry, Layout, Part, Job, ranges_by_number}
+use Rattle.wu_layout.specs.Postings.{addresses_of, placed_from}
+use Rattle.wu_layout.specs.Layouts.{Layout, ranges_by_number}
 use Rattle.wu_layout.proofs.PostingLemmas.{length-placed}
 use Rattle.wu_layout.proofs.NumberedRanges.{ranges_by_number-put, ranges_by_number-removal}
-use Rattle.wu_layout.proofs.Fetches.{placed-append}
 use Rattle.wu_space.specs.Addresses.{Addresses, Ranges}
 use Rattle.wu_parts.specs.Memory.{held}
 use Rattle.wu_parts.specs.Contents.{Contents, GainsTerms}
 use Rattle.wu_parts.proofs.Gaining.{holds_more}
 use Rattle.wu_engine.specs.declared.engines.Engine.{Engine}
 use Rattle.wu_engine.specs.declared.verdicts.Verdict.TheVariants.{Made, Refused}
-use Rattle.wu_engine.specs.States.{State, IsState, step, after_event, layout_without, layout_with, layout_after, indexed}
+use Rattle.wu_engine.specs.States.{State, IsState, step, after_event, layout_without, layout_with, layout_after}
 use Rattle.wu_engine.specs.Stands.{Stands, verdict_of}
-use Rattle.wu_engine.specs.Indexing.{terms_given, terms_after, with_file, without_file, space_made, space_after}
+use Rattle.wu_engine.specs.Indexing.{terms_after, with_file, without_file, space_after}
+use Rattle.wu_engine.proofs.LayoutSteps.{memory_after, same_after}
 use Rattle.wu_engine.proofs.KeptStates.{after_effect, state_kept, step-accepted, step-refused}
 
 -- ---- addresses
@@ -63,55 +62,6 @@ tells_after : (effect : Effect) (text : List ℕ) (space : Addresses) (layout : 
 tells_after effect text space layout t =
     tells_with effect.texted text _ _ (tells_without effect.texted _ _ (tells_with effect.made [] _ _ (tells_without effect.dropped _ _ t)))
 
--- ---- postings in memory
-
-memory_with : (o : Option ℕ) (text : List ℕ) (layout : Layout)
-    → (layout_with o text layout).memory ≡ layout.memory ++ placed_from layout.next (terms_given o text)
-memory_with None text layout = sym (append-nil layout.memory)
-memory_with (Some ino) text layout = refl
-
-next_with : (o : Option ℕ) (text : List ℕ) (layout : Layout) → (layout_with o text layout).next ≡ layout.next + length (terms_given o text)
-next_with None text layout = omega arith
-next_with (Some ino) text layout = refl
-
--- what isn't changed by a text that goes, nor by one that comes, isn't changed by an event
-module _ {X : Type 0} (f : Layout → X) (without : (ino : ℕ) (layout : Layout) → f (layout_without (Some ino) layout) ≡ f layout) where
-  same_without : (o : Option ℕ) (layout : Layout) → f (layout_without o layout) ≡ f layout
-  same_without None layout = refl
-  same_without (Some ino) layout = without ino layout
-
-  module _ (with_text : (ino : ℕ) (text : List ℕ) (layout : Layout) → f (layout_with (Some ino) text layout) ≡ f layout) where
-    same_with : (o : Option ℕ) (text : List ℕ) (layout : Layout) → f (layout_with o text layout) ≡ f layout
-    same_with None text layout = refl
-    same_with (Some ino) text layout = with_text ino text layout
-
-    same_after : (effect : Effect) (text : List ℕ) (layout : Layout) → f (layout_after effect text layout) ≡ f layout
-    same_after effect text layout =
-        same_with effect.texted text _ ∙ same_without effect.texted _ ∙ same_with effect.made [] _ ∙ same_without effect.dropped layout
-
-memory_after : (effect : Effect) (text : List ℕ) (layout : Layout)
-    → (layout_after effect text layout).memory ≡ layout.memory ++ placed_from layout.next (terms_after effect text)
-memory_after effect text layout =
-    let first : List (List ℕ) = terms_given effect.made [] in
-    let second : List (List ℕ) = terms_given effect.texted text in
-    let left : Layout = layout_without effect.dropped layout in
-    let made : Layout = layout_with effect.made [] left in
-    let again : Layout = layout_without effect.texted made in
-    let left_next : left.next ≡ layout.next = same_without (λ l. l.next) (λ ino l. refl) effect.dropped layout in
-    let left_memory : left.memory ≡ layout.memory = same_without (λ l. l.memory) (λ ino l. refl) effect.dropped layout in
-    let again_next : again.next ≡ layout.next + length first =
-    same_without (λ l. l.next) (λ ino l. refl) effect.texted made ∙ next_with effect.made [] left
-    ∙ ap (λ (n : ℕ). n + length first) left_next in
-    let again_memory : again.memory ≡ layout.memory ++ placed_from layout.next first =
-    same_without (λ l. l.memory) (λ ino l. refl) effect.texted made ∙ memory_with effect.made [] left
-    ∙ ap (λ (n : ℕ). left.memory ++ placed_from n first) left_next
-    ∙ ap (λ (ps : List Posting). ps ++ placed_from layout.next first) left_memory in
-    memory_with effect.texted text again
-    ∙ ap (λ (n : ℕ). again.memory ++ placed_from n second) again_next
-    ∙ ap (λ (ps : List Posting). ps ++ placed_from (layout.next + length first) second) again_memory
-    ∙ append_assoc layout.memory (placed_from layout.next first) (placed_from (layout.next + length first) second)
-    ∙ ap (λ (ps : List Posting). layout.memory ++ ps) (sym (placed-append layout.next first second))
-
 -- ---- an event
 
 module _ (old new : Engine) (s : State) (event : Event) (text : List ℕ) (stands : Stands old s) (ended : new.ended ≡ None) where
@@ -144,8 +94,14 @@ module _ (old new : Engine) (s : State) (event : Event) (text : List ℕ) (stand
               holds_more old.space.next terms old.parts.memory new.parts.memory layout.memory parts.memory stands.memory term
               ∙ ap (addresses_of term) (sym more);
           stored =
-              omega (arith, parts.memory.stored, stands.stored, ap length more, length-append layout.memory (placed_from old.space.next terms),
-              length-placed old.space.next terms);
+              omega (
+                arith,
+                parts.memory.stored,
+                stands.stored,
+                ap length more,
+                length-append layout.memory (placed_from old.space.next terms),
+                length-placed old.space.next terms,
+              );
           flushes = ap (λ (c : Contents). c.flushes) parts.others ∙ stands.flushes ∙ sym flushes;
           parts = ap (λ (c : Contents). c.parts) parts.others ∙ stands.parts;
           no_parts = stored_parts ∙ stands.no_parts;

@@ -42,11 +42,7 @@ impl Engine {
 
     /// An engine for the root directory alone, in which memory is full at `flush_at` postings. It makes no call
     /// of the store. The engine keeps the allocator. The only error is out of memory.
-    pub fn begin<D: Store>(
-        alloc: Global,
-        store: &mut D,
-        flush_at: u64,
-    ) -> Result<Engine, NoMemory>
+    pub fn begin<D: Store>(alloc: Global, store: &mut D, flush_at: u64) -> Result<Engine, NoMemory>
         ensures stands { IfOk result (λ engine. Stands engine first_state) }
         ensures flush_at { IfOk result (λ engine. engine.parts.flush_at ≡ flush_at) }
         ensures store { store.new ≡ store.old }
@@ -94,8 +90,13 @@ impl Engine {
         self.space.keeps_the_rules();
         match self.tree.apply(event)? {
             Ok(effect) => {
-                self.frames.clear();
-                index(&mut self.space, &mut self.parts, effect, body)?;
+                index(
+                    &mut self.space,
+                    &mut self.parts,
+                    &mut self.frames,
+                    effect,
+                    body,
+                )?;
                 self.ended = None;
                 Ok(Verdict::Made)
             }
@@ -108,11 +109,7 @@ impl Engine {
 
     /// Answers a user's query from the index: over her view alone, whatever other files there are. Makes no
     /// call of the store; the only trouble is out of memory.
-    pub fn query<D: Store>(
-        &mut self,
-        store: &mut D,
-        query: &Query,
-    ) -> Result<Answered, Trouble>
+    pub fn query<D: Store>(&mut self, store: &mut D, query: &Query) -> Result<Answered, Trouble>
         requires { IsSoundAsk query.now.ask }
         // The answer is the written one over her view, and the engine stands for the same state.
         ensures answer { (s : State) → Stands self.old s → IfOk result (λ answered.

@@ -1,10 +1,10 @@
-use Rattle.std.proofs.Common.{◌≡◌, [], length, refl, ap, sym, ◌∙◌, subst, arith}
+use Rattle.std.proofs.Common.{◌≡◌, length, refl, ap, arith}
 use Rattle.wu_space.specs.Addresses.{Addresses}
-use Rattle.wu_engine.specs.Soundness.{IsSound}
 use Rattle.wu_engine.specs.Stands.{taken_by}
 use Rattle.wu_engine.specs.Indexing.{terms_after}
 use Rattle.wu_engine.proofs.FileChanges.{changes}
-use Rattle.wu_engine.proofs.SoundLemmas.{indexable, length-terms_after, next-after, sound_after}
+use Rattle.wu_engine.proofs.SoundLemmas.{indexable, next-after, sound_after}
+use Rattle.wu_engine.proofs.TakenAddresses.{length-terms_after}
 use Rattle.wu_engine.proofs.StandLemmas.{accepted, refused}
 use Rattle.wu_engine.proofs.engines.Engine.update.Goals as goal
 
@@ -15,7 +15,8 @@ index-requires g c =
     let text = c.args.body.now in
     let effect = c.in-Ok.effect in
     let step = rw c.in-Ok.is at c.in_ok-effect.ensures.step in
-    let taken : length (terms_after effect text) ≡ taken_by event text = length-terms_after old.tree event text c.apply.new.self effect step in
+    let taken : length (terms_after effect text) ≡ taken_by event text =
+    length-terms_after old.tree event text c.apply.new.self effect step in
     indexable old.tree c.apply.new.self effect (c.effects_tell_files.ensures event c.apply.new.self effect step)
     (changes old.tree event c.apply.new.self effect step).1 old.space old.parts old.frames (old.sound c.in_default.is)
     c.keeps_the_rules.ensures.by_number text c.requires.short (omega arith)
@@ -27,10 +28,11 @@ invariant_of-self-in-Ok g c =
     let text = c.args.body.now in
     let effect = c.in-Ok.effect in
     let step = rw c.in-Ok.is at c.in_ok-effect.ensures.step in
-    let taken : length (terms_after effect text) ≡ taken_by event text = length-terms_after old.tree event text c.apply.new.self effect step in
+    let taken : length (terms_after effect text) ≡ taken_by event text =
+    length-terms_after old.tree event text c.apply.new.self effect step in
     record {
       sound = λ _.
-          rw (c.in_ok-index-in-Ok.ensures.space, c.clear.ensures)
+          rw (c.in_ok-index-in-Ok.ensures.space, c.in_ok-index-in-Ok.ensures.frames)
           (sound_after old.tree c.apply.new.self effect (c.effects_tell_files.ensures event c.apply.new.self effect step)
           (changes old.tree event c.apply.new.self effect step).1 old.space old.parts old.frames (old.sound c.in_default.is)
           c.keeps_the_rules.ensures.by_number text c.requires.short (omega arith) c.index.new.parts c.in_ok-index-in-Ok.ensures.parts);
@@ -47,8 +49,12 @@ returns-in_ok-index-in-Ok-clause-taken g c =
     let effect = c.in-Ok.effect in
     let text = c.args.body.now in
     let step = rw c.in-Ok.is at c.in_ok-effect.ensures.step in
-    omega (arith, ap (λ (s : Addresses). s.next) c.in_ok-index-in-Ok.ensures.space, next-after effect text old.space,
-    length-terms_after old.tree c.args.event.now text c.apply.new.self effect step)
+    omega (
+      arith,
+      ap (λ (s : Addresses). s.next) c.in_ok-index-in-Ok.ensures.space,
+      next-after effect text old.space,
+      length-terms_after old.tree c.args.event.now text c.apply.new.self effect step,
+    )
 
 pub returns-in-Err-clause-step : goal.returns-in-Err-clause-step
 returns-in-Err-clause-step g c = λ s stands.
