@@ -1,21 +1,21 @@
 -- The layout of a state is one of its files and texts after each event.
-use Rattle.std.proofs.Common.{◌≡◌, ◌≢◌, ℕ, List, [], Bool, true, false, cond, refl, ap, sym, ◌∙◌, subst, inl}
+use Rattle.std.proofs.Common.{◌≡◌, ℕ, List, [], Bool, true, false, cond, refl, ap, sym}
 use Rattle.std.specs.Prelude.{Option, Some, None}
-use Rattle.std.specs.Ordering.{is_eq, nat_cmp}
+use Rattle.std.specs.Ordering.{nat_cmp}
 use Rattle.std.specs.Map.{remove_entry}
 use Rattle.std.specs.BTreeMap.{is_at, insert_entry}
 use Rattle.wu_base.proofs.MapEntries.{number_itself}
 use Rattle.wu_tree.specs.declared.events.Effect.{Effect}
 use Rattle.wu_tree.specs.FileSystems.{FileSystem, is_file}
 use Rattle.wu_tree.specs.Effects.{TellsFiles}
-use Rattle.wu_tree.proofs.ParentPaths.{other_number, same_number}
+use Rattle.wu_tree.proofs.ParentPaths.{other_number}
 use Rattle.wu_layout.specs.Layouts.{Text, Layout}
-use Rattle.wu_layout.specs.Changes.{DiffersAt, IsWithout, IsWith}
+use Rattle.wu_layout.specs.Changes.{DiffersAt}
 use Rattle.wu_layout.specs.Invariants.{IsLayoutOf}
 use Rattle.wu_layout.proofs.Updates.{layout_after_release, layout_after_place, layout_after_text, layout_after_other}
-use Rattle.wu_engine.specs.States.{State, Texts, text_in, without_text, with_text, texts_after, indexed, layout_without, layout_with, layout_after}
-use Rattle.wu_engine.proofs.NumberedEntries.{is_that}
-use Rattle.wu_engine.proofs.FileChanges.{ChangesFiles, files_without, files_with, files-after, files-texted}
+use Rattle.wu_engine.specs.States.{State, Texts, text_in, without_text, with_text, texts_after}
+use Rattle.wu_engine.specs.States.{indexed, layout_without, layout_with, layout_after}
+use Rattle.wu_engine.proofs.FileChanges.{ChangesFiles, not_there, files_without, files_with, files-after}
 use Rattle.wu_engine.proofs.StateTexts.{text-there, text-elsewhere, text-left}
 
 -- what the index is given of the file of that number
@@ -48,16 +48,16 @@ layout_dropped : (o : Option ℕ) (files : ℕ → Bool) (texts : Texts) (layout
     → IsLayoutOf (files_without o files) (text_at (without_text o texts)) (layout_without o layout)
 layout_dropped None files texts layout d = d
 layout_dropped (Some ino) files texts layout d =
-    layout_after_release files (files_without (Some ino) files) (text_at texts) (text_at (remove_entry (is_at (nat_cmp ino)) texts)) layout ino
-    (record { files = without_differs files ino; texts = λ q h. ap indexed (text-left texts ino q h) }) d
+    layout_after_release files (files_without (Some ino) files) (text_at texts) (text_at (remove_entry (is_at (nat_cmp ino)) texts)) layout
+    ino (record { files = without_differs files ino; texts = λ q h. ap indexed (text-left texts ino q h) }) d
 
 layout_made : (o : Option ℕ) (text : List ℕ) (files : ℕ → Bool) (texts : Texts) (layout : Layout)
     → ((ino : ℕ) → o ≡ Some ino → files ino ≡ false) → IsLayoutOf files (text_at texts) layout
     → IsLayoutOf (files_with o files) (text_at (with_text o text texts)) (layout_with o text layout)
 layout_made None text files texts layout new d = d
 layout_made (Some ino) text files texts layout new d =
-    layout_after_place files (files_with (Some ino) files) (text_at texts) (text_at (insert_entry nat_cmp texts ino text)) layout ino (indexed text)
-    (record { absent = new ino refl; files = with_differs files ino; texts = put_differs texts ino text }) d
+    layout_after_place files (files_with (Some ino) files) (text_at texts) (text_at (insert_entry nat_cmp texts ino text)) layout ino
+    (indexed text) (record { absent = new ino refl; files = with_differs files ino; texts = put_differs texts ino text }) d
 
 layout_texted : (o : Option ℕ) (text : List ℕ) (files : ℕ → Bool) (texts : Texts) (layout : Layout)
     → ((ino : ℕ) → o ≡ Some ino → files ino ≡ true) → IsLayoutOf files (text_at texts) layout
@@ -68,10 +68,6 @@ layout_texted (Some ino) text files texts layout there d =
     (put_differs texts ino text) d
 
 -- ---- an accepted event
-
--- a number that was no file, or was dropped, is none
-not_there : (dropped : Option ℕ) (files : ℕ → Bool) (q : ℕ) → files q ≡ false → files_without dropped files q ≡ false
-not_there dropped files q f = elim (is_that dropped q) as (λ b. cond b false (files q) ≡ false) [ true ↦ refl | false ↦ f ]
 
 module _ (s : State) (after : FileSystem) (effect : Effect) (tells : TellsFiles s.tree effect after) (changes : ChangesFiles s.tree effect)
     (text : List ℕ) where

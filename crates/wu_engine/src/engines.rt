@@ -9,6 +9,7 @@ ghost use Rattle.std.specs.Coded.{→_prop};
 ghost use Rattle.wu_engine.specs.Soundness.{IsSound, IsSound-prop};
 
 use crate::querying::answered;
+use crate::updating::index;
 use crate::verdicts::Verdict;
 use std::alloc::Global;
 use wu_ask::{Answered, Query};
@@ -17,7 +18,7 @@ use wu_frames::FrameCache;
 use wu_outside::Store;
 use wu_parts::Parts;
 use wu_space::Space;
-use wu_tree::{Event, Tree};
+use wu_tree::{Event, Tree, effects_tell_files};
 
 /// The file tree, the index of all files' texts, and the frames of the users who asked last. It keeps no text.
 /// A call that answers a trouble ends it: each later call answers that trouble and changes nothing.
@@ -41,11 +42,7 @@ impl Engine {
 
     /// An engine for the root directory alone, in which memory is full at `flush_at` postings. It makes no call
     /// of the store. The engine keeps the allocator. The only error is out of memory.
-    pub fn begin<D: Store>(
-        alloc: Global,
-        store: &mut D,
-        flush_at: u64,
-    ) -> Result<Engine, NoMemory>
+    pub fn begin<D: Store>(alloc: Global, store: &mut D, flush_at: u64) -> Result<Engine, NoMemory>
         ensures stands { IfOk result (λ engine. Stands engine first_state) }
         ensures flush_at { IfOk result (λ engine. engine.parts.flush_at ≡ flush_at) }
         ensures store { store.new ≡ store.old }
@@ -77,7 +74,7 @@ impl Engine {
         ensures step { (s : State) → Stands self.old s → IfOk result (λ verdict.
             (verdict ≡ verdict_of (step s event.now body.now)) × Stands self.new (after_event s event.now body.now)) }
         ensures taken { OnOk result (self.new.space.next ≤ self.old.space.next + taken_by event.now body.now) }
-        ensures flush_at { self.new.parts.flush_at ≡ self.old.parts.flush_at }
+        ensures flush_at { OnOk result (self.new.parts.flush_at ≡ self.old.parts.flush_at) }
         ensures goes_on { OnOk result (self.new.ended ≡ None) }
         ensures ends { IfErr result (λ trouble. self.new.ended ≡ Some trouble) }
         ensures again { (trouble : Trouble) → self.old.ended ≡ Some trouble → (result ≡ Err trouble) × (self.new ≡ self.old) }
@@ -89,16 +86,30 @@ impl Engine {
             return Err(trouble);
         }
         self.ended = Some(Trouble::NoMemory);
-        Err(Trouble::NoMemory)
+        effects_tell_files(&self.tree);
+        self.space.keeps_the_rules();
+        match self.tree.apply(event)? {
+            Ok(effect) => {
+                index(
+                    &mut self.space,
+                    &mut self.parts,
+                    &mut self.frames,
+                    effect,
+                    body,
+                )?;
+                self.ended = None;
+                Ok(Verdict::Made)
+            }
+            Err(refusal) => {
+                self.ended = None;
+                Ok(Verdict::Refused(refusal))
+            }
+        }
     }
 
     /// Answers a user's query from the index: over her view alone, whatever other files there are. Makes no
     /// call of the store; the only trouble is out of memory.
-    pub fn query<D: Store>(
-        &mut self,
-        store: &mut D,
-        query: &Query,
-    ) -> Result<Answered, Trouble>
+    pub fn query<D: Store>(&mut self, store: &mut D, query: &Query) -> Result<Answered, Trouble>
         requires { IsSoundAsk query.now.ask }
         // The answer is the written one over her view, and the engine stands for the same state.
         ensures answer { (s : State) → Stands self.old s → IfOk result (λ answered.

@@ -11,6 +11,8 @@ ghost use Rattle.wu_engine.specs.States.{State, IsState, after_event, first_stat
 /// next address rises by no more than the event takes.
 pub fn each_event_keeps_a_state()
     ensures first { IsState first_state }
-    ensures step { (s : State) (event : Event) (text : List ℕ) → IsState s → IsEvent event → length text ≤ TEXT_MAX → IsState (after_event s event text) }
-    ensures next { (s : State) (event : Event) (text : List ℕ) → (after_event s event text).layout.next ≤ s.layout.next + taken_by event text }
+    ensures step { (s : State) (event : Event) (text : List ℕ) → IsState s → IsEvent event → length text ≤ TEXT_MAX
+        → IsState (after_event s event text) }
+    ensures next { (s : State) (event : Event) (text : List ℕ)
+        → (after_event s event text).layout.next ≤ s.layout.next + taken_by event text }
 {}
