@@ -17,3 +17,4 @@ pub mod CountLemmas
 pub mod RankLemmas
 pub mod AnswerLemmas
 pub mod Searching
+pub mod WordCounts

@@ -112,11 +112,11 @@ length-units_at extents (place ∷ places) =
 -- ---- how often a word is in a unit
 
 -- from the bound on, each above the one before it
-abbrev Climbs : ℕ → List ℕ → Type 0
+abbrev pub Climbs : ℕ → List ℕ → Type 0
 Climbs low [] = Unit {0}
 Climbs low (x ∷ xs) = (low ≤ x) × Climbs (suc x) xs
 
-climbs : (low : ℕ) (xs : List ℕ) → IsStrictlyIncreasing xs → (0 < length xs → low ≤ get_or xs 0 0) → Climbs low xs
+pub climbs : (low : ℕ) (xs : List ℕ) → IsStrictlyIncreasing xs → (0 < length xs → low ≤ get_or xs 0 0) → Climbs low xs
 climbs low [] up from = tt
 climbs low (x ∷ xs) up from =
     (from (omega arith), climbs (suc x) xs (increasing_rest x xs up) (λ some. let next = up 0 (omega (arith, some)) in omega (arith, next)))
