@@ -69,6 +69,10 @@ one_item last_read new (items.Refused why) used other is = is
 one_item last_read new items.Blank used other is = is
 one_item last_read new items.End used other is = absurd other
 
+-- what was appended to no bytes
+pub appended : (out before reply : List ℕ) → out ≡ before ++ reply → before ≡ [] → out ≡ reply
+appended out before reply is none = is ∙ ap (λ bs. bs ++ reply) none
+
 module _ (told : Settings) (start : State) where
   -- what was sent, and the output for the items of the bytes that are left, are the whole output
   abbrev pub IsOnTheWay : Rules → Option (List ℕ) → Option (List ℕ) → Option (List ℕ) → Option (List ℕ) → State → Type 0

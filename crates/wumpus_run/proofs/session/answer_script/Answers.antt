@@ -1,4 +1,4 @@
-use Rattle.std.proofs.Common.{[], ◌+◌, ◌++◌, refl, ap, ◌∙◌, subst}
+use Rattle.std.proofs.Common.{[], ◌+◌, refl, ◌∙◌, subst}
 use Rattle.std.specs.Io.KnownBytes.{prepend_known}
 use Rattle.std.proofs.KnownBytes.{Appends-nil}
 use Rattle.wu_script.specs.Items.{IsNext, IsItem}
@@ -7,7 +7,7 @@ use Rattle.wumpus_run.specs.Replies.{after, said_bytes}
 use Rattle.wumpus_run.specs.Session.{moment}
 use Rattle.wu_engine.specs.States.{first_state}
 use Rattle.wumpus_run.specs.declared.statuses.Status.TheVariants.{Done, NoMemory}
-use Rattle.wumpus_run.proofs.SessionLemmas.{HasAnswered-turn, HasTaken-more, IsPrefix-sent, IsPrefix-part, takes_one}
+use Rattle.wumpus_run.proofs.SessionLemmas.{appended, HasAnswered-turn, HasTaken-more, IsPrefix-sent, IsPrefix-part, takes_one}
 use Rattle.wumpus_run.proofs.PromptLemmas.{HasReplied-turn, AnswersAllButOneRead-none, AnswersAllButOneRead-taken, HoldsNothingBack-stopped}
 use Rattle.wumpus_run.proofs.AddressRoom.{HasRoom-item, HasRoom-few, HasRoom-fewer}
 use Rattle.wumpus_run.proofs.EndLemmas.{Ends-short, Ends-stopped, Ends-unwritten, IsCounted-written, TakesAtMost-none, TakesAtMost-taken, AnswersPrefix-none, AnswersAll-end}
@@ -127,7 +127,7 @@ items-preserved g c =
     let s = i.state in
     let t = after s (said_by item) in
     let answered = c.in-Ok-answer.ensures.answer s i.stands in
-    let reply = answered.0 ∙ ap (λ xs. xs ++ said_bytes s (said_by item)) c.clear.ensures.items in
+    let reply = appended c.answer.new.out.items c.clear.new.self.items (said_bytes s (said_by item)) answered.0 c.clear.ensures.items in
     record {
       state = t;
       stands = answered.1;
@@ -168,7 +168,8 @@ returns-in-Err-write_reply-clause-ends g c =
     (g.I.Source.left c.items.source) now.left now.last_read c.items.reader c.next.new.self item told.max_input i.taken took in
     let few = TakesAtMost-taken before.left now.left c.next.new.self.spare told.max_input taken in
     let s = i.state in
-    let reply = (c.in-Ok-answer.ensures.answer s i.stands).0 ∙ ap (λ xs. xs ++ said_bytes s (said_by item)) c.clear.ensures.items in
+    let reply = appended c.answer.new.out.items c.clear.new.self.items (said_bytes s (said_by item))
+    (c.in-Ok-answer.ensures.answer s i.stands).0 c.clear.ensures.items in
     let part = c.in-Err-write_reply.ensures.err in
     rw c.status_of_fault.ensures
     (Ends-unwritten told first_state c.in-Err-write_reply.fault before now few
