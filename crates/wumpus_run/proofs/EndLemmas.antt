@@ -1,8 +1,8 @@
 -- How a session ends.
-use Rattle.std.proofs.Common.{◌≡◌, ℕ, ◌+◌, ◌≤◌, List, [], ◌++◌, length, Option, None, Some, refl, ap, ◌∙◌, subst, inl, inr, arith, length-append}
+use Rattle.std.proofs.Common.{◌≡◌, ℕ, ◌+◌, ◌≤◌, List, [], ◌++◌, length, Option, None, Some, Err, refl, ap, ◌∙◌, subst, inl, inr, arith, length-append}
 use Rattle.std.specs.Io.KnownBytes.{Appends, IsAtEnd}
 use Rattle.std.proofs.KnownBytes.{Appends-nil, Consumes-nil, Consumes-trans}
-use Rattle.wu_outside.specs.Faults.{Rose}
+use Rattle.wu_outside.specs.Faults.{HasFaultCause, Rose}
 use Rattle.wu_outside.specs.declared.traits.Fault.{Fault}
 use Rattle.wu_outside.specs.declared.traits.Fault.TheVariants.{Failed}
 use Rattle.wu_outside.specs.declared.traits.Fault.TheVariants as faults
@@ -15,7 +15,7 @@ use Rattle.wu_script.proofs.ItemListLemmas.{items_of-none}
 use Rattle.wu_options.specs.declared.command_lines.Settings.{Settings}
 use Rattle.wumpus_run.specs.declared.statuses.Status.{Status}
 use Rattle.wumpus_run.specs.declared.statuses.Status.TheVariants.{Done, Usage, ReadFault, WriteFault, NoMemory, InputTooLong}
-use Rattle.wumpus_run.specs.States.{State}
+use Rattle.wu_engine.specs.States.{State}
 use Rattle.wumpus_run.specs.Replies.{Rules, output_of}
 use Rattle.wumpus_run.specs.Taking.{TakesAtMost, TakesExactly}
 use Rattle.wumpus_run.specs.Session.{Moment, AnswersAll, AnswersAllButOneRead, AnswersPrefix, IsTooLong, HoldsNothingBack, Ends, Completes, IsCounted, status_of, status_of_fault}
@@ -206,3 +206,11 @@ IsCounted-read ends.ReadFault before between now same counted =
     record { rose = λ e. Rose-since before between now same counted.1; calm = λ other. absurd (other refl) }
 IsCounted-read ends.InputTooLong before between now same counted = record { rose = λ e. (cc); calm = λ other. counted ∙ same }
 IsCounted-read ends.NoMemory before between now same counted = record { rose = λ e. (cc); calm = λ other. counted ∙ same }
+
+-- where a reply wasn't written whole
+pub IsCounted-written : (fault : Fault) (before between now : ℕ) → between ≡ before
+    → HasFaultCause {T = Unit {0}} between now (Err fault) → IsCounted WriteFault (status_of_fault fault) before now
+IsCounted-written Failed before between now same counted =
+    record { rose = λ e. Rose-since before between now same (counted.rose refl); calm = λ other. absurd (other refl) }
+IsCounted-written faults.NoMemory before between now same counted =
+    record { rose = λ e. (cc); calm = λ other. counted.out_of_memory refl ∙ same }

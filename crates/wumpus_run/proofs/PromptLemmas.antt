@@ -7,18 +7,18 @@ use Rattle.std.proofs.KnownBytes.{Appends-trans, Appends-nil, Consumes-nil, Cons
 use Rattle.wu_script.specs.declared.ends.ReadEnd.{ReadEnd}
 use Rattle.wu_script.specs.declared.ends.ReadEnd.TheVariants as ends
 use Rattle.wu_script.specs.declared.types.Item.{Item}
-use Rattle.wu_script.specs.declared.types.Item.TheVariants as items
 use Rattle.wu_script.specs.Commands.{Entry}
 use Rattle.wu_script.specs.Holding.{Held, Uses, but_last, settled}
 use Rattle.wu_script.specs.Said.{said_of, said_by}
-use Rattle.wu_script.specs.Items.{First, first_of, whole_items_of, IsBeforeEnd, IsItem, IsOneItem, TakesItem, EndsBeforeItem}
+use Rattle.wu_script.specs.Items.{First, first_of, whole_items_of, IsBeforeEnd, IsOneItem, TakesItem, EndsBeforeItem}
 use Rattle.wu_script.proofs.ItemListLemmas.{first_more, whole_items_of-none, whole_items_of-closed, whole_items_more}
 use Rattle.wu_script.proofs.UnclosedLemmas.{open_none}
 use Rattle.wu_options.specs.declared.command_lines.Settings.{Settings}
-use Rattle.wumpus_run.specs.States.{State}
+use Rattle.wu_engine.specs.States.{State}
 use Rattle.wumpus_run.specs.Replies.{Rules, AreRules, after, said_bytes, output_of}
 use Rattle.wumpus_run.specs.Session.{Moment, AnswersWholeItems, AnswersAllButOneRead, HoldsNothingBack, status_of}
 use Rattle.wumpus_run.specs.Taking.{GainsAtLeast}
+use Rattle.wumpus_run.proofs.SessionLemmas.{one_item}
 
 -- no item is whole in a prefix of one item
 none_whole : (last_read : ℕ) (new : Held) (item : Item) (used : List ℕ) (n : ℕ) → IsOneItem last_read new item used → n < length used
@@ -111,14 +111,6 @@ module _ (told : Settings) (start : State) where
   }
 
   -- ---- a turn
-
-  one_item : (last_read : ℕ) (new : Held) (item : Item) (used : List ℕ) → IsBeforeEnd item → IsItem last_read new item used
-      → IsOneItem last_read new item used
-  one_item last_read new (items.Command command) used other is = is
-  one_item last_read new (items.Text ino body) used other is = is
-  one_item last_read new (items.Refused why) used other is = is
-  one_item last_read new items.Blank used other is = is
-  one_item last_read new items.End used other is = absurd other
 
   -- bytes that begin with a closed item are answered by its reply, and from the state that it leaves
   closed-first : (rules : Rules) → AreRules told rules → (s : State) (last_read : ℕ) (new : Held) (item : Item) (used more : List ℕ)

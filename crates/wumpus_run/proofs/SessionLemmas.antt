@@ -7,10 +7,10 @@ use Rattle.wu_script.specs.declared.types.Item.{Item}
 use Rattle.wu_script.specs.declared.types.Item.TheVariants as items
 use Rattle.wu_script.specs.Holding.{Held}
 use Rattle.wu_script.specs.Said.{said_of, said_by, IsReadAs}
-use Rattle.wu_script.specs.Items.{first_of, items_of, IsBeforeEnd, IsItem, TakesItem, IsFirstItem, IsNext}
+use Rattle.wu_script.specs.Items.{first_of, items_of, IsBeforeEnd, IsItem, IsOneItem, TakesItem, IsFirstItem, IsNext}
 use Rattle.wu_script.proofs.ItemListLemmas.{items_of-some}
 use Rattle.wu_options.specs.declared.command_lines.Settings.{Settings}
-use Rattle.wumpus_run.specs.States.{State}
+use Rattle.wu_engine.specs.States.{State}
 use Rattle.wumpus_run.specs.Replies.{Rules, AreRules, after, said_bytes, output_of}
 
 -- a prefix of the output was gained, and the rest is still to come
@@ -60,13 +60,18 @@ first_item bytes rest (items.Refused why) other is = is
 first_item bytes rest items.Blank other is = is
 first_item bytes rest items.End other is = absurd other
 
--- and takes a byte or more
-some_used : (last_read : ℕ) (new : Held) (item : Item) (used : List ℕ) → IsBeforeEnd item → IsItem last_read new item used → 0 < length used
-some_used last_read new (items.Command command) used other is = is.some
-some_used last_read new (items.Text ino body) used other is = is.some
-some_used last_read new (items.Refused why) used other is = is.some
-some_used last_read new items.Blank used other is = is.some
-some_used last_read new items.End used other is = absurd other
+-- and exactly one of the bytes that it used
+pub one_item : (last_read : ℕ) (new : Held) (item : Item) (used : List ℕ) → IsBeforeEnd item → IsItem last_read new item used
+    → IsOneItem last_read new item used
+one_item last_read new (items.Command command) used other is = is
+one_item last_read new (items.Text ino body) used other is = is
+one_item last_read new (items.Refused why) used other is = is
+one_item last_read new items.Blank used other is = is
+one_item last_read new items.End used other is = absurd other
+
+-- what was appended to no bytes
+pub appended : (out before reply : List ℕ) → out ≡ before ++ reply → before ≡ [] → out ≡ reply
+appended out before reply is none = is ∙ ap (λ bs. bs ++ reply) none
 
 module _ (told : Settings) (start : State) where
   -- what was sent, and the output for the items of the bytes that are left, are the whole output
@@ -177,4 +182,4 @@ pub takes_one : (left left' : Option (List ℕ)) (last_read : ℕ) (old new : He
     → TakesItem left left' last_read old new item → length new.bytes + new.spare < length old.bytes + old.spare
 takes_one left left' last_read old new item other taken =
     let uses = taken.1 in
-    omega (arith, some_used last_read new item taken.0 other taken.2, ap length uses.joined, length-append old.bytes uses.given, length-append taken.0 new.bytes, uses.counted)
+    omega (arith, (one_item last_read new item taken.0 other taken.2).some, ap length uses.joined, length-append old.bytes uses.given, length-append taken.0 new.bytes, uses.counted)

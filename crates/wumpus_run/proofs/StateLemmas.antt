@@ -1,52 +1,38 @@
--- Events, the state and the machine that stands for it.
-use Rattle.std.proofs.Common.{◌≡◌, ℕ, List, Ok, Err, refl, ap, ◌∙◌, sym, subst}
-use Rattle.std.specs.Result.{result_unwrap_or}
-use Rattle.wu_tree.specs.FileSystems.{FileSystem}
-use Rattle.wu_tree.specs.Steps.{step as tree_step}
-use Rattle.wu_tree.specs.declared.events.Event.{Event}
-use Rattle.wu_tree.specs.declared.events.Effect.{Effect}
-use Rattle.wu_tree.specs.declared.events.Refusal.{Refusal}
-use Rattle.wumpus_run.specs.declared.machine.Machine.{Machine}
-use Rattle.wumpus_run.specs.Machines.{Stands, judged}
-use Rattle.wumpus_run.specs.States.{State, Texts, AreShort, after_event, step, stepped, texts_after}
+-- What the items of a script meet are states.
+use Rattle.std.proofs.Common.{ℕ, List, [], ◌∷◌, map}
+use Rattle.std.specs.List.{All, AllByRecursion}
+use Rattle.std.proofs.lemmas.List.Elements.{All-from_recursion}
+use Rattle.wu_script.specs.Said.{Reading, Said, Happens, Asks, IsRefused, SaysNothing, said_of}
+use Rattle.wu_script.specs.Items.{items_of}
+use Rattle.wu_script.proofs.EventLemmas.{TellsEvent, script_tells}
+use Rattle.wu_engine.specs.States.{State, IsState, first_state}
+use Rattle.wu_engine.proofs.KeptStates.{first_is_state, state_kept}
+use Rattle.wumpus_run.specs.Replies.{after, met, last_state}
+use Rattle.wumpus_run.proofs.ShortTexts.{IsShort, script_short}
 
--- what an accepted event makes of a state
-pub step-accepted : (s : State) (event : Event) (text : List ℕ) (tree : FileSystem) (effect : Effect) (texts : Texts)
-    → tree_step s.tree event ≡ Ok (tree, effect) → texts ≡ texts_after effect text s.texts
-    → step s event text ≡ Ok (record { tree = tree; texts = texts })
-unfolding step
-step-accepted s event text tree effect texts is kept =
-    ap (stepped text s.texts) is ∙ ap (λ t. Ok (record { tree = tree; texts = t })) (sym kept)
+stays : (s : State) (said : Said) → TellsEvent said → IsShort said → IsState s → IsState (after s said)
+stays s (Happens event text) event_is short is = state_kept s event text is event_is short
+stays s (Asks uid question) event_is short is = is
+stays s (IsRefused why) event_is short is = is
+stays s SaysNothing event_is short is = is
 
--- a refused event
-pub step-refused : (s : State) (event : Event) (text : List ℕ) (refusal : Refusal) → tree_step s.tree event ≡ Err refusal
-    → step s event text ≡ Err refusal
-unfolding step
-step-refused s event text refusal is = ap (stepped text s.texts) is
+all_met : (s : State) (saids : List Said) → AllByRecursion TellsEvent saids → AllByRecursion IsShort saids → IsState s
+    → AllByRecursion (λ m. IsState m.0) (met s saids)
+all_met s [] tell short is = tt
+all_met s (said ∷ saids) tell short is =
+    (is, all_met (after s said) saids tell.1 short.1 (stays s said tell.0 short.0 is))
 
--- the machine stands for the state after an event, and tells whether it was refused
-pub accepted : (old now : Machine) (event : Event) (text : List ℕ) (effect : Effect) (s : State)
-    → tree_step old.tree event ≡ Ok (now.tree, effect)
-    → now.texts.entries ≡ texts_after effect text old.texts.entries → (AreShort old.texts.entries → AreShort now.texts.entries)
-    → Stands old s
-    → (Ok tt ≡ judged (step s event text)) × Stands now (after_event s event text)
-accepted old now event text effect s is kept short stands =
-    let after : step s event text ≡ Ok (record { tree = now.tree; texts = now.texts.entries }) =
-    step-accepted s event text now.tree effect now.texts.entries (ap (λ (t : FileSystem). tree_step t event) (sym stands.tree) ∙ is)
-    (kept ∙ ap (texts_after effect text) stands.texts) in (
-      sym (ap judged after),
-      subst (Stands now) (sym (ap (λ r. result_unwrap_or r s) after))
-          (record { tree = refl; texts = refl; short = short stands.short }),
-    )
+left : (s : State) (saids : List Said) → AllByRecursion TellsEvent saids → AllByRecursion IsShort saids → IsState s
+    → IsState (last_state s saids)
+left s [] tell short is = is
+left s (said ∷ saids) tell short is = left (after s said) saids tell.1 short.1 (stays s said tell.0 short.0 is)
 
-pub refused : (old : Machine) (tree : FileSystem) (event : Event) (text : List ℕ) (refusal : Refusal) (s : State)
-    → tree_step old.tree event ≡ Err refusal
-    → tree ≡ old.tree → Stands old s
-    → (Err refusal ≡ judged (step s event text)) × Stands (record { tree = tree; texts = old.texts }) (after_event s event text)
-refused old tree event text refusal s is same stands =
-    let after : step s event text ≡ Err refusal =
-    step-refused s event text refusal (ap (λ (t : FileSystem). tree_step t event) (sym stands.tree) ∙ is) in (
-      sym (ap judged after),
-      subst (Stands (record { tree = tree; texts = old.texts })) (sym (ap (λ r. result_unwrap_or r s) after))
-          (record { tree = same ∙ stands.tree; texts = stands.texts; short = stands.short }),
-    )
+-- every state that the items of a script meet, and the one that they leave
+pub met_states : (read : Reading) (bytes : List ℕ) → All (λ m. IsState m.0) (met first_state (map (said_of read) (items_of bytes)))
+met_states read bytes =
+    All-from_recursion (λ m. IsState m.0) (met first_state (map (said_of read) (items_of bytes)))
+    (all_met first_state (map (said_of read) (items_of bytes)) (script_tells read bytes) (script_short read bytes) first_is_state)
+
+pub left_state : (read : Reading) (bytes : List ℕ) → IsState (last_state first_state (map (said_of read) (items_of bytes)))
+left_state read bytes =
+    left first_state (map (said_of read) (items_of bytes)) (script_tells read bytes) (script_short read bytes) first_is_state

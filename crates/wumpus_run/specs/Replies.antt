@@ -1,7 +1,6 @@
 -- The replies to a script, and the state that it leaves.
-use Rattle.std.specs.Prelude.{◌≡◌, ℕ, List, [], ◌∷◌, map, Option, Some, None, Result, Ok, Err}
+use Rattle.std.specs.Prelude.{◌≡◌, ℕ, List, [], ◌∷◌, map, Option, Some, None}
 use Rattle.std.specs.List.{flat_map}
-use Rattle.wu_tree.specs.declared.events.Refusal.{Refusal}
 use Rattle.wu_script.specs.declared.types.Why.TheVariants.{Tree}
 use Rattle.wu_script.specs.declared.types.Reply.{Reply}
 use Rattle.wu_script.specs.declared.types.Reply.TheVariants.{Ok as Accepted, Answered, Refused}
@@ -9,20 +8,23 @@ use Rattle.wu_script.specs.Commands.{Entry}
 use Rattle.wu_script.specs.Said.{Reading, IsReading, Said, Happens, Asks, IsRefused, SaysNothing, said_of}
 use Rattle.wu_script.specs.Replies.{reply_bytes}
 use Rattle.wu_options.specs.declared.command_lines.Settings.{Settings}
-use Rattle.wumpus_run.specs.States.{State, step, after_event}
-use Rattle.wumpus_run.specs.View.{view_of}
-use Rattle.wumpus_run.specs.Answer.{answer}
+use Rattle.wu_engine.specs.States.{State, step, after_event}
+use Rattle.wu_engine.specs.Stands.{verdict_of}
+use Rattle.wu_engine.specs.View.{view_of}
+use Rattle.wu_engine.specs.Answer.{answer}
+use Rattle.wu_engine.specs.declared.verdicts.Verdict.{Verdict}
+use Rattle.wu_engine.specs.declared.verdicts.Verdict.TheVariants as verdicts
 
 -- ---- of one item
 
 -- the reply to an event
-abbrev pub verdict_of : Result State Refusal → Reply
-verdict_of (Ok s) = Accepted
-verdict_of (Err refusal) = Refused (Tree refusal)
+abbrev pub verdict_reply : Verdict → Reply
+verdict_reply verdicts.Made = Accepted
+verdict_reply (verdicts.Refused refusal) = Refused (Tree refusal)
 
 -- the reply to what an item says in a state; an empty line and a comment have none
 abbrev pub reply_to : State → Said → Option Reply
-reply_to s (Happens event text) = Some (verdict_of (step s event text))
+reply_to s (Happens event text) = Some (verdict_reply (verdict_of (step s event text)))
 reply_to s (Asks uid question) = Some (Answered (answer (view_of s uid) question))
 reply_to s (IsRefused why) = Some (Refused why)
 reply_to s SaysNothing = None
@@ -66,7 +68,7 @@ abbrev pub last_state : State → List Said → State
 last_state s saids = left_by s (met s saids)
 
 -- What items and states leave open: what each text says as an expression, and from how many postings in memory on they are
--- flushed, which no reply depends on as long as there is no index.
+-- flushed, which no reply depends on as long as nothing is flushed.
 pub record Rules : Type 0 where
   pub read : Reading
   pub flush_at : ℕ

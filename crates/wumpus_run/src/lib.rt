@@ -3,12 +3,9 @@
 
 mod answering;
 mod laws;
-mod machine;
-mod ranking;
-mod scanning;
 mod session;
 mod statuses;
 
-pub use laws::{equal_views_are_answered_alike, states_have_the_texts_of_their_files};
+pub use laws::{a_script_keeps_a_state, equal_views_are_answered_alike};
 pub use session::run;
 pub use statuses::Status;

@@ -1,24 +1,24 @@
 //! A session: the script is read as it comes, and each item is answered in turn.
-ghost use Rattle.std.specs.Prelude.{◌≡◌, ◌++◌, [], None, Some, false, IfOk, OnErr, OnOk, MatchBool};
+ghost use Rattle.std.specs.Prelude.{◌≡◌, ◌≤◌, [], None, Some, false, IfOk, OnErr, OnOk, MatchBool};
 ghost use Rattle.std.specs.Io.KnownBytes.{Appends};
+ghost use Rattle.wu_base.specs.declared.limits.TheConstants.{INPUT_MAX};
+ghost use Rattle.wu_base.specs.declared.troubles.Trouble.TheVariants.{NoMemory as RanOutOfMemory};
 ghost use Rattle.wu_outside.specs.Faults.{HasFaultCause, Rose};
 ghost use Rattle.wu_outside.specs.Gains.{GainsPrefix};
 ghost use Rattle.wu_script.specs.Items.{IsBeforeEnd};
-ghost use Rattle.wu_script.specs.Said.{IsSoundItem, said_by};
 ghost use Rattle.wu_options.specs.CommandLines.{texts_of};
-ghost use Rattle.wumpus_run.specs.Machines.{Stands, StandsForSome, verdict_bytes};
-ghost use Rattle.wumpus_run.specs.Replies.{said_bytes, after};
-ghost use Rattle.wumpus_run.specs.States.{State, first_state};
+ghost use Rattle.wu_engine.specs.Stands.{Stands};
+ghost use Rattle.wu_engine.specs.States.{first_state};
 ghost use Rattle.wumpus_run.specs.Session.{settings_of, moment, status_of, status_of_fault, IsUsage, IsCounted, AnswersAll, AnswersPrefix, StaysWithin, IsTooLong, HoldsNothingBack, Ends, Completes};
 
-use crate::machine::Machine;
+use crate::answering::answer;
 use crate::statuses::Status;
 use std::alloc::Global;
-use wu_base::NoMemory;
+use wu_base::{NoMemory, Trouble};
+use wu_engine::Engine;
 use wu_options::{CommandLine, Settings, read_command_line};
 use wu_outside::{Fault, Sink, Source, Store, write_all};
-use wu_script::{Command, Item, ReadEnd, Reader, Reply, Why, put_reply};
-use wu_tree::Refusal;
+use wu_script::{Item, ReadEnd, Reader};
 
 /// Runs a session: reads the script from the source as it comes, and writes the reply to each of its
 /// items to the sink before it reads the next. `words` are the command-line arguments, those after
@@ -71,21 +71,24 @@ pub fn run<I: Source, O: Sink, D: Store>(
         (moment (I.left source.old) (I.last_read source.old) (I.faults source.old) (O.gained sink.old) (O.faults sink.old)) }
 {
     match read_command_line(alloc, words) {
-        Ok(Some(CommandLine::Run(settings))) => answer_script(alloc, settings, source, sink),
+        Ok(Some(CommandLine::Run(settings))) => answer_script(alloc, settings, source, sink, store),
         Ok(Some(CommandLine::Demo(_)) | None) => Status::Usage,
         Err(NoMemory) => Status::NoMemory,
     }
 }
 
 /// Answers the items of the script in turn, from the root directory alone.
-fn answer_script<I: Source, O: Sink>(
+fn answer_script<I: Source, O: Sink, D: Store>(
     alloc: Global,
     settings: Settings,
     source: &mut I,
     sink: &mut O,
+    store: &mut D,
 ) -> Status
-    requires { I.ended source.old ≡ false }
+    requires goes_on { I.ended source.old ≡ false }
+    requires within { settings.max_input ≤ INPUT_MAX }
     ensures usage { result ≡ Status.Usage → ⊥ }
+    ensures store { store.new ≡ store.old }
     ensures done { result ≡ Status.Done → AnswersAll first_state (Some settings)
         (moment (I.left source.old) (I.last_read source.old) (I.faults source.old) (O.gained sink.old) (O.faults sink.old))
         (moment (I.left source.new) (I.last_read source.new) (I.faults source.new) (O.gained sink.new) (O.faults sink.new)) }
@@ -95,7 +98,7 @@ fn answer_script<I: Source, O: Sink>(
         (moment (I.left source.old) (I.last_read source.old) (I.faults source.old) (O.gained sink.old) (O.faults sink.old))
         (moment (I.left source.new) (I.last_read source.new) (I.faults source.new) (O.gained sink.new) (O.faults sink.new)) }
 {
-    let (mut reader, mut machine) = match start(alloc, settings) {
+    let (mut reader, mut engine) = match start(alloc, settings, store) {
         Ok(start) => start,
         Err(NoMemory) => return Status::NoMemory,
     };
@@ -109,9 +112,9 @@ fn answer_script<I: Source, O: Sink>(
             return Status::Done;
         }
         reply.clear();
-        match answer(alloc, &mut machine, item, &mut reply) {
+        match answer(&mut engine, store, item, &mut reply) {
             Ok(()) => {}
-            Err(NoMemory) => return Status::NoMemory,
+            Err(trouble) => return status_of_trouble(trouble),
         }
         match write_reply(sink, reply.as_slice()) {
             Ok(()) => {}
@@ -120,14 +123,19 @@ fn answer_script<I: Source, O: Sink>(
     }
 }
 
-/// A reader of the script, and the root directory alone.
-fn start(alloc: Global, settings: Settings) -> Result<(Reader, Machine), NoMemory>
+/// A reader of the script, and an engine for the root directory alone.
+fn start<D: Store>(
+    alloc: Global,
+    settings: Settings,
+    store: &mut D,
+) -> Result<(Reader, Engine), NoMemory>
     ensures reader { IfOk result (λ start. start.0 ≡ record { bytes = []; spare = settings.max_input; ended = false }) }
-    ensures machine { IfOk result (λ start. Stands start.1 first_state) }
+    ensures engine { IfOk result (λ start. Stands start.1 first_state) }
+    ensures store { store.new ≡ store.old }
 {
     Ok((
         Reader::new(alloc, settings.max_input)?,
-        Machine::new(alloc)?,
+        Engine::begin(alloc, store, u64::from(settings.flush_at))?,
     ))
 }
 
@@ -139,6 +147,18 @@ fn status_of(end: ReadEnd) -> Status
         ReadEnd::ReadFault => Status::ReadFault,
         ReadEnd::InputTooLong => Status::InputTooLong,
         ReadEnd::NoMemory => Status::NoMemory,
+    }
+}
+
+/// How a session ends where the engine couldn't answer: it keeps nothing in the store yet, and so only runs
+/// out of memory.
+fn status_of_trouble(trouble: Trouble) -> Status
+    requires { trouble ≡ RanOutOfMemory }
+    ensures { result ≡ Status.NoMemory }
+{
+    match trouble {
+        Trouble::NoMemory => Status::NoMemory,
+        Trouble::StoreFault | Trouble::Damaged { .. } => unreachable!(),
     }
 }
 
@@ -168,38 +188,5 @@ fn is_end(item: &Item) -> bool
     match item {
         Item::End => true,
         _ => false,
-    }
-}
-
-/// Appends the bytes that answer the item, after which the state is the one that it leaves.
-fn answer(
-    alloc: Global,
-    machine: &mut Machine,
-    item: Item,
-    out: &mut Vec<u8>,
-) -> Result<(), NoMemory>
-    requires sound { IsSoundItem item }
-    requires stands { StandsForSome machine.old }
-    ensures { (s : State) → Stands machine.old s → OnOk result
-        ((out.new.items ≡ out.old.items ++ said_bytes s (said_by item)) × Stands machine.new (after s (said_by item))) }
-{
-    match item {
-        Item::Command(Command::Update(event)) => put_verdict(out, machine.update(alloc, &event)?),
-        Item::Command(Command::Ask(query)) => {
-            let answered = machine.answer(alloc, &query)?;
-            put_reply(out, &Reply::Answered(answered))
-        }
-        Item::Text { ino, body } => put_verdict(out, machine.give_text(alloc, ino, body)?),
-        Item::Refused(why) => put_reply(out, &Reply::Refused(why)),
-        Item::Blank | Item::End => Ok(()),
-    }
-}
-
-fn put_verdict(out: &mut Vec<u8>, verdict: Result<(), Refusal>) -> Result<(), NoMemory>
-    ensures { OnOk result (out.new.items ≡ out.old.items ++ verdict_bytes verdict) }
-{
-    match verdict {
-        Ok(()) => put_reply(out, &Reply::Ok),
-        Err(refusal) => put_reply(out, &Reply::Refused(Why::Tree(refusal))),
     }
 }

@@ -1,15 +1,16 @@
-use Rattle.std.proofs.Common.{[], ◌++◌, refl, ap, ◌∙◌, subst}
+use Rattle.std.proofs.Common.{[], ◌+◌, refl, ◌∙◌, subst}
 use Rattle.std.specs.Io.KnownBytes.{prepend_known}
 use Rattle.std.proofs.KnownBytes.{Appends-nil}
 use Rattle.wu_script.specs.Items.{IsNext, IsItem}
-use Rattle.wu_script.specs.Said.{said_by}
+use Rattle.wu_script.specs.Said.{said_by, tokens_given}
 use Rattle.wumpus_run.specs.Replies.{after, said_bytes}
 use Rattle.wumpus_run.specs.Session.{moment}
-use Rattle.wumpus_run.specs.States.{first_state}
+use Rattle.wu_engine.specs.States.{first_state}
 use Rattle.wumpus_run.specs.declared.statuses.Status.TheVariants.{Done, NoMemory}
-use Rattle.wumpus_run.proofs.SessionLemmas.{HasAnswered-turn, HasTaken-more, IsPrefix-sent, IsPrefix-part, takes_one}
+use Rattle.wumpus_run.proofs.SessionLemmas.{appended, HasAnswered-turn, HasTaken-more, IsPrefix-sent, IsPrefix-part, takes_one}
 use Rattle.wumpus_run.proofs.PromptLemmas.{HasReplied-turn, AnswersAllButOneRead-none, AnswersAllButOneRead-taken, HoldsNothingBack-stopped}
-use Rattle.wumpus_run.proofs.EndLemmas.{Ends-short, Ends-stopped, Ends-unwritten, TakesAtMost-none, TakesAtMost-taken, AnswersPrefix-none, AnswersAll-end}
+use Rattle.wumpus_run.proofs.AddressRoom.{HasRoom-item, HasRoom-few, HasRoom-fewer}
+use Rattle.wumpus_run.proofs.EndLemmas.{Ends-short, Ends-stopped, Ends-unwritten, IsCounted-written, TakesAtMost-none, TakesAtMost-taken, AnswersPrefix-none, AnswersAll-end}
 use Rattle.wumpus_run.proofs.session.answer_script.Goals as goal
 
 pub returns-in-Err-clause-ends : goal.returns-in-Err-clause-ends
@@ -86,10 +87,21 @@ returns-in-Err-answer-clause-ends g c =
     (g.I.Source.left c.items.source) now.left now.last_read c.items.reader c.next.new.self item told.max_input i.taken took in
     let few = TakesAtMost-taken before.left now.left c.next.new.self.spare told.max_input taken in
     let prefix = IsPrefix-sent told first_state before.gained now.gained before.left known i.state i.answered in
-    Ends-short told first_state NoMemory before now (λ e. (cc)) few prefix
+    rw c.status_of_trouble.ensures
+    (Ends-short told first_state NoMemory before now (λ e. (cc)) few prefix
     (AnswersAllButOneRead-taken told first_state before now
     (g.I.Source.left c.items.source) now.gained c.items.reader c.next.new.self i.state item []
-    c.if-is_end.ensures took i.replied (Appends-nil now.gained))
+    c.if-is_end.ensures took i.replied (Appends-nil now.gained)))
+
+pub answer-requires-clause-room : goal.answer-requires-clause-room
+answer-requires-clause-room g c =
+    let item = c.in-Ok-next.item in
+    let most = c.args.settings.max_input in
+    let next = c.items.engine.space.next + tokens_given (said_by item) in
+    HasRoom-few next most c.next.new.self
+    (HasRoom-item (g.I.Source.left c.items.source) (g.I.Source.left c.next.new.source) (g.I.Source.last_read c.next.new.source)
+    c.items.reader c.next.new.self item c.items.engine.space.next most c.if-is_end.ensures c.in-Ok-next.ensures.taken c.items.invariant.room)
+    c.requires.within
 
 pub items-smaller : goal.items-smaller
 items-smaller g c =
@@ -114,11 +126,17 @@ items-preserved g c =
     let few = TakesAtMost-taken before.left now.left c.next.new.self.spare told.max_input taken in
     let s = i.state in
     let t = after s (said_by item) in
-    let answered = c.in-Ok-answer.ensures s i.stands in
-    let reply = answered.0 ∙ ap (λ xs. xs ++ said_bytes s (said_by item)) c.clear.ensures.items in
+    let answered = c.in-Ok-answer.ensures.answer s i.stands in
+    let reply = appended c.answer.new.out.items c.clear.new.self.items (said_bytes s (said_by item)) answered.0 c.clear.ensures.items in
     record {
       state = t;
       stands = answered.1;
+      room = HasRoom-fewer c.answer.new.engine.space.next (c.items.engine.space.next + tokens_given (said_by item)) told.max_input
+          c.next.new.self
+          (HasRoom-item (g.I.Source.left c.items.source) now.left now.last_read c.items.reader c.next.new.self item c.items.engine.space.next told.max_input
+          c.if-is_end.ensures took i.room)
+          c.in-Ok-answer.ensures.taken;
+      store = c.in-Ok-answer.ensures.store ∙ i.store;
       answered = HasAnswered-turn told first_state before.gained (g.O.Sink.gained c.items.sink) now.gained before.left known rest s t item
           c.answer.new.out.items c.as_slice.result.now c.if-is_end.ensures
           (c.in-Ok-next.ensures.first i.at_end) i.answered reply refl c.as_slice.ensures.value
@@ -150,7 +168,8 @@ returns-in-Err-write_reply-clause-ends g c =
     (g.I.Source.left c.items.source) now.left now.last_read c.items.reader c.next.new.self item told.max_input i.taken took in
     let few = TakesAtMost-taken before.left now.left c.next.new.self.spare told.max_input taken in
     let s = i.state in
-    let reply = (c.in-Ok-answer.ensures s i.stands).0 ∙ ap (λ xs. xs ++ said_bytes s (said_by item)) c.clear.ensures.items in
+    let reply = appended c.answer.new.out.items c.clear.new.self.items (said_bytes s (said_by item))
+    (c.in-Ok-answer.ensures.answer s i.stands).0 c.clear.ensures.items in
     let part = c.in-Err-write_reply.ensures.err in
     rw c.status_of_fault.ensures
     (Ends-unwritten told first_state c.in-Err-write_reply.fault before now few
@@ -160,3 +179,9 @@ returns-in-Err-write_reply-clause-ends g c =
     (AnswersAllButOneRead-taken told first_state before now (g.I.Source.left c.items.source)
     (g.O.Sink.gained c.items.sink) c.items.reader c.next.new.self s
     item part.0 c.if-is_end.ensures took i.replied part.3))
+
+pub returns-in-Err-write_reply-clause-write_fault : goal.returns-in-Err-write_reply-clause-write_fault
+returns-in-Err-write_reply-clause-write_fault g c =
+    rw c.status_of_fault.ensures
+    (IsCounted-written c.in-Err-write_reply.fault (g.O.Sink.faults c.args.sink.now) (g.O.Sink.faults c.items.sink)
+    (g.O.Sink.faults c.write_reply.new.sink) c.items.invariant.write_calm c.in-Err-write_reply.ensures.cause)

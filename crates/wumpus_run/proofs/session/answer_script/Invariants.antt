@@ -1,17 +1,21 @@
 use Rattle.std.proofs.Common.{◌≡◌, ◌+◌, length, true}
 use Rattle.std.specs.Io.KnownBytes.{IsAtEnd, prepend_known}
 use Rattle.wu_script.specs.Holding.{Follows}
-use Rattle.wumpus_run.specs.States.{State, first_state}
-use Rattle.wumpus_run.specs.Machines.{Stands}
+use Rattle.wu_engine.specs.States.{State, first_state}
+use Rattle.wu_engine.specs.Stands.{Stands}
 use Rattle.wumpus_run.proofs.SessionLemmas.{HasAnswered, HasTaken}
+use Rattle.wumpus_run.proofs.AddressRoom.{HasRoom}
 use Rattle.wumpus_run.proofs.PromptLemmas.{HasReplied}
 use Rattle.wumpus_run.proofs.session.answer_script.Given as goal
 
--- the machine stands for a state; what was sent, and what answers the rest of the input from it, are the whole output
+-- the engine stands for a state, with room for the rest of the input; what was sent, and what answers that rest from the state,
+-- are the whole output
 abbrev pub invariant-items : goal.invariant-items
 invariant-items g l = record {
   state : State;
-  stands : Stands l.machine state;
+  stands : Stands l.engine state;
+  room : HasRoom l.engine.space.next l.reader l.fn.settings.max_input;
+  store : l.store ≡ l.fn.store;
   answered : HasAnswered l.fn.settings first_state (g.O.Sink.gained l.fn.sink) (g.O.Sink.gained l.sink) (g.I.Source.left l.fn.source)
       (prepend_known l.reader.bytes (g.I.Source.left l.source)) state;
   replied : HasReplied l.fn.settings first_state (g.I.Source.left l.fn.source) (g.I.Source.left l.source) (g.O.Sink.gained l.fn.sink)
