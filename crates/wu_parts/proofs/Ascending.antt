@@ -1,5 +1,5 @@
 -- Addresses that ascend, and frames in order.
-use Rattle.std.proofs.Common.{◌≡◌, ℕ, zero, suc, ◌+◌, ◌<◌, ◌≤◌, List, [], ◌∷◌, ◌++◌, length, get_or, take, drop, refl, arith, All, Less}
+use Rattle.std.proofs.Common.{◌≡◌, ℕ, zero, suc, ◌+◌, ◌<◌, ◌≤◌, Bool, true, false, cond, List, [], ◌∷◌, ◌++◌, length, get_or, take, drop, filter, refl, subst, arith, All, Less}
 use Rattle.std.specs.Ordering.{nat_cmp}
 use Rattle.std.specs.List.{AllByRecursion}
 use Rattle.std.specs.List.Sorted.{IsNonDecreasingBy, IsStrictlySortedBy, IsStrictlyIncreasing}
@@ -8,10 +8,11 @@ use Rattle.std.proofs.lemmas.Map.Keys.{IsStrictlyIncreasing-from_sorted}
 use Rattle.wu_base.specs.declared.addresses.Range.{Range}
 use Rattle.wu_space.specs.Addresses.{AreApart}
 use Rattle.wu_parts.specs.Lists.{AscendBetween, AreInOrder}
+use Rattle.wu_parts.specs.Chains.{moved}
 
 -- ---- addresses
 
-ascend-bounds : (low high : ℕ) (xs : List ℕ) → AscendBetween low high xs → low ≤ high
+pub ascend-bounds : (low high : ℕ) (xs : List ℕ) → AscendBetween low high xs → low ≤ high
 ascend-bounds low high [] a = a
 ascend-bounds low high (x ∷ xs) a = let r : x + 1 ≤ high = ascend-bounds (x + 1) high xs a.1 in omega (arith, a.0)
 
@@ -27,6 +28,32 @@ ascend-higher low high most (x ∷ xs) l a = (a.0, ascend-higher (x + 1) high mo
 pub ascend-push : (low high x : ℕ) (xs : List ℕ) → high ≤ x → AscendBetween low high xs → AscendBetween low (x + 1) (xs ++ x ∷ [])
 ascend-push low high x [] l a = (omega arith, omega arith)
 ascend-push low high x (y ∷ xs) l a = (a.0, ascend-push (y + 1) high x xs l a.1)
+
+-- the last one, and those before it
+pub ascend-last : (low high x : ℕ) (xs : List ℕ) → AscendBetween low high (xs ++ x ∷ []) → AscendBetween low x xs × (x < high)
+ascend-last low high x [] a = (a.0, omega (arith, a.1))
+ascend-last low high x (y ∷ xs) a = let r = ascend-last (y + 1) high x xs a.1 in ((a.0, r.0), r.1)
+
+-- there are at most as many as there are numbers between the bounds
+pub ascend-length : (low high : ℕ) (xs : List ℕ) → AscendBetween low high xs → low + length xs ≤ high
+ascend-length low high [] a = omega (arith, a)
+ascend-length low high (x ∷ xs) a = let r : x + 1 + length xs ≤ high = ascend-length (x + 1) high xs a.1 in omega (arith, a.0)
+
+pub ascend-filter : (p : ℕ → Bool) (low high : ℕ) (xs : List ℕ) → AscendBetween low high xs → AscendBetween low high (filter p xs)
+ascend-filter p low high [] a = a
+ascend-filter p low high (x ∷ xs) a =
+    let rest : AscendBetween (x + 1) high (filter p xs) = ascend-filter p (x + 1) high xs a.1 in
+    elim (p x) as (λ b. AscendBetween low high (cond b (x ∷ filter p xs) (filter p xs))) [
+      | true ↦ (a.0, rest)
+      | false ↦ ascend-lower low (x + 1) high (filter p xs) (omega (arith, a.0)) rest
+    ]
+
+pub ascend-moved : (start low high : ℕ) (xs : List ℕ) → AscendBetween low high xs
+    → AscendBetween (start + low) (start + high) (moved start xs)
+ascend-moved start low high [] a = omega (arith, a)
+ascend-moved start low high (x ∷ xs) a =
+    let next : start + (x + 1) ≡ start + x + 1 = omega arith in
+    (omega (arith, a.0), subst (λ n. AscendBetween n (start + high) (moved start xs)) next (ascend-moved start (x + 1) high xs a.1))
 
 pub ascend-take : (n low high : ℕ) (xs : List ℕ) → AscendBetween low high xs → AscendBetween low high (take n xs)
 ascend-take zero low high xs a = ascend-bounds low high xs a

@@ -1,7 +1,7 @@
 -- Ascending addresses, cut to frames in order.
-use Rattle.std.proofs.Common.{◌≡◌, ℕ, ◌+◌, ◌<◌, ◌≤◌, Bool, true, false, cond, List, [], ◌∷◌, ◌++◌, filter, length, get_or, drop, refl, ap, ap₂, sym, ◌∙◌, subst, arith}
+use Rattle.std.proofs.Common.{◌≡◌, ℕ, ◌+◌, ◌<◌, ◌≤◌, nat_le, Bool, true, false, cond, List, [], ◌∷◌, ◌++◌, filter, length, get_or, drop, refl, ap, ap₂, sym, ◌∙◌, subst, arith, ⊎_elim}
 use Rattle.std.specs.List.{AllByRecursion}
-use Rattle.std.proofs.lemmas.Bool.{le-leb, lt-leb, lt-ltb, le-ltb, and_left, and_right, and_from}
+use Rattle.std.proofs.lemmas.Bool.{cases_lt, le-leb, lt-leb, lt-ltb, le-ltb, and_left, and_right, and_from}
 use Rattle.std.proofs.lemmas.List.Elements.{filter-append}
 use Rattle.wu_base.specs.declared.addresses.Range.{Range}
 use Rattle.wu_layout.specs.Postings.{is_in, is_live}
@@ -116,3 +116,15 @@ no_frames (x ∷ xs) = no_frames xs
 pub none_left : (frames : List Range) (addresses : List ℕ) → length frames < 1 → filter (is_live frames) addresses ≡ []
 none_left [] addresses l = no_frames addresses
 none_left (f ∷ fs) addresses l = absurd (omega arith)
+
+-- no frame has an address below the low one
+pub filter-from : (low high : ℕ) (frames : List Range) → AreInOrder low high frames → (addresses : List ℕ)
+    → filter (is_live frames) (filter (nat_le low) addresses) ≡ filter (is_live frames) addresses
+filter-from low high frames o [] = refl
+filter-from low high frames o (x ∷ xs) =
+    ⊎_elim
+    (λ (below : x < low).
+    rw (lt-leb low x below, dead_below low high x frames below o) (filter-from low high frames o xs))
+    (λ (from : low ≤ x).
+    rw (le-leb low x from) (ap (λ (l : List ℕ). cond (is_live frames x) (x ∷ l) l) (filter-from low high frames o xs)))
+    (cases_lt x low)

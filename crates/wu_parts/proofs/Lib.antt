@@ -3,3 +3,4 @@ pub mod Parting
 pub mod Cutting
 pub mod Putting
 pub mod Gaining
+pub mod Chaining

@@ -1,105 +1,21 @@
 -- Postings put into lists by term.
-use Rattle.std.proofs.Common.{◌≡◌, ℕ, ◌+◌, ◌<◌, ◌≤◌, ◌==◌, Bool, true, false, cond, List, [], ◌∷◌, ◌++◌, length, length-take, get_or, take, map, filter, refl, ap, sym, ◌∙◌, subst, arith, nat_eq, unwrap_or, Option, None, Some, Vec, Global, append-nil, append_assoc, ⊎_elim}
+use Rattle.std.proofs.Common.{◌≡◌, ℕ, ◌+◌, ◌<◌, ◌≤◌, ◌==◌, true, false, cond, List, [], ◌∷◌, ◌++◌, length, length-take, get_or, take, map, filter, refl, ap, sym, ◌∙◌, subst, arith, nat_eq, unwrap_or, None, Some, append-nil, append_assoc, ⊎_elim}
 use Rattle.std.specs.List.{AllByRecursion}
-use Rattle.std.specs.Map.{lookup, set_value}
-use Rattle.indexmap.specs.IndexMap.{insert_entry}
+use Rattle.std.specs.Map.{lookup}
 use Rattle.std.specs.Cmp.{IsEquivalence}
 use Rattle.std.specs.Cmp.Lexicographic.{pointwise}
 use Rattle.std.proofs.lemmas.Cmp.{nat_list_eq_equiv}
 use Rattle.std.proofs.lemmas.Bool.{cases_Bool, ne_eqb}
-use Rattle.wu_base.specs.declared.limits.TheConstants.{ADDRESSES_MAX}
 use Rattle.std.proofs.lemmas.List.{length-map, map-append, take_more}
 use Rattle.wu_token.specs.declared.spans.Token.{Token}
 use Rattle.wu_token.specs.Words.{IsTerm}
 use Rattle.wu_layout.specs.Postings.{Posting, placed_from, is_of, addresses_of}
 use Rattle.wu_parts.specs.Memory.{Lists, Memory, held, Gains}
-use Rattle.wu_parts.specs.Lists.{list_of, lists_of, with_address, with_posting, with_terms, AscendBetween, IsList, IsMemory, KeepsRoom}
+use Rattle.wu_parts.specs.Lists.{with_address, with_posting, with_terms, IsList, KeepsRoom}
 use Rattle.wu_parts.proofs.Ascending.{ascend-higher, ascend-push}
-
--- the test of a key of the map
-abbrev pub is_key : List ℕ → Vec ℕ Global → Bool
-is_key term key = pointwise nat_eq term key.items
 
 abbrev pub found_in : List ℕ → Lists → List ℕ
 found_in term lists = unwrap_or (lookup (pointwise nat_eq term) lists) []
-
--- ---- what the entries of the map say
-
-pub found-lists_of : (term : List ℕ) (es : List (Vec ℕ Global × Vec ℕ Global)) (v : Vec ℕ Global) → lookup (is_key term) es ≡ Some v
-    → lookup (pointwise nat_eq term) (lists_of es) ≡ Some v.items
-found-lists_of term [] v h = absurd cc
-found-lists_of term (e ∷ es) v h =
-    elim (pointwise nat_eq term e.0.items) as
-    (λ b. cond b (Some e.1) (lookup (is_key term) es) ≡ Some v
-    → cond b (Some e.1.items) (lookup (pointwise nat_eq term) (lists_of es)) ≡ Some v.items) [
-      | true ↦ λ q. let same : e.1 ≡ v = cc in ap (λ (w : Vec ℕ Global). Some w.items) same
-      | false ↦ λ q. found-lists_of term es v q
-    ] h
-
-pub absent-lists_of : (term : List ℕ) (es : List (Vec ℕ Global × Vec ℕ Global)) → lookup (is_key term) es ≡ None
-    → lookup (pointwise nat_eq term) (lists_of es) ≡ None
-absent-lists_of term [] h = refl
-absent-lists_of term (e ∷ es) h =
-    elim (pointwise nat_eq term e.0.items) as
-    (λ b. cond b (Some e.1) (lookup (is_key term) es) ≡ None
-    → cond b (Some e.1.items) (lookup (pointwise nat_eq term) (lists_of es)) ≡ None) [
-      | true ↦ λ q. absurd cc
-      | false ↦ λ q. absent-lists_of term es q
-    ] h
-
--- the vector of the term, once it has one more address
-pub pushed-lists_of : (term : List ℕ) (address : ℕ) (es : List (Vec ℕ Global × Vec ℕ Global)) (v w : Vec ℕ Global)
-    → lookup (is_key term) es ≡ Some v → w.items ≡ v.items ++ address ∷ []
-    → lists_of (set_value (is_key term) es w) ≡ with_address term address (lists_of es)
-pushed-lists_of term address [] v w h s = absurd cc
-pushed-lists_of term address (e ∷ es) v w h s =
-    elim (pointwise nat_eq term e.0.items) as
-    (λ b. cond b (Some e.1) (lookup (is_key term) es) ≡ Some v
-    → lists_of (cond b ((e.0, w) ∷ es) (e ∷ set_value (is_key term) es w))
-    ≡ cond b ((e.0.items, e.1.items ++ address ∷ []) ∷ lists_of es) (list_of e ∷ with_address term address (lists_of es))) [
-      | true ↦ λ q.
-          let same : e.1 ≡ v = cc in
-          let items : w.items ≡ e.1.items ++ address ∷ [] = s ∙ ap (λ (u : Vec ℕ Global). u.items ++ address ∷ []) (sym same) in
-          ap (λ (l : List ℕ). (e.0.items, l) ∷ lists_of es) items
-      | false ↦ λ q. ap (λ (l : Lists). list_of e ∷ l) (pushed-lists_of term address es v w q s)
-    ] h
-
--- the vector of the term, as it was
-pub same-lists_of : (term : List ℕ) (es : List (Vec ℕ Global × Vec ℕ Global)) (v w : Vec ℕ Global)
-    → lookup (is_key term) es ≡ Some v → w.items ≡ v.items → lists_of (set_value (is_key term) es w) ≡ lists_of es
-same-lists_of term [] v w h s = refl
-same-lists_of term (e ∷ es) v w h s =
-    elim (pointwise nat_eq term e.0.items) as
-    (λ b. cond b (Some e.1) (lookup (is_key term) es) ≡ Some v
-    → lists_of (cond b ((e.0, w) ∷ es) (e ∷ set_value (is_key term) es w)) ≡ lists_of (e ∷ es)) [
-      | true ↦ λ q.
-          let same : e.1 ≡ v = cc in
-          ap (λ (l : List ℕ). (e.0.items, l) ∷ lists_of es) (s ∙ ap (λ (u : Vec ℕ Global). u.items) (sym same))
-      | false ↦ λ q. ap (λ (l : Lists). list_of e ∷ l) (same-lists_of term es v w q s)
-    ] h
-
--- the test of keys, as the map has it
-abbrev pub same_key : Vec ℕ Global → Vec ℕ Global → Bool
-same_key k other = pointwise nat_eq k.items other.items
-
-new_key : (k v : Vec ℕ Global) (address : ℕ) (es : List (Vec ℕ Global × Vec ℕ Global)) → lookup (is_key k.items) es ≡ None
-    → v.items ≡ address ∷ [] → lists_of (insert_entry same_key es k v) ≡ with_address k.items address (lists_of es)
-new_key k v address [] h t = ap (λ (l : List ℕ). (k.items, l) ∷ []) t
-new_key k v address (e ∷ es) h t =
-    elim (pointwise nat_eq k.items e.0.items) as
-    (λ b. cond b (Some e.1) (lookup (is_key k.items) es) ≡ None
-    → lists_of (cond b ((e.0, v) ∷ es) (e ∷ insert_entry same_key es k v))
-    ≡ cond b ((e.0.items, e.1.items ++ address ∷ []) ∷ lists_of es) (list_of e ∷ with_address k.items address (lists_of es))) [
-      | true ↦ λ q. absurd cc
-      | false ↦ λ q. ap (λ (l : Lists). list_of e ∷ l) (new_key k v address es q t)
-    ] h
-
--- a new term goes last
-pub new-lists_of : (term : List ℕ) (address : ℕ) (es : List (Vec ℕ Global × Vec ℕ Global)) (k v : Vec ℕ Global)
-    → lookup (is_key term) es ≡ None → k.items ≡ term → v.items ≡ address ∷ []
-    → lists_of (insert_entry same_key es k v) ≡ with_address term address (lists_of es)
-new-lists_of term address es k v h s t =
-    new_key k v address es (ap (λ (l : List ℕ). lookup (is_key l) es) s ∙ h) t ∙ ap (λ (l : List ℕ). with_address l address (lists_of es)) s
 
 -- ---- what a posting changes
 
@@ -165,7 +81,7 @@ pub stored-with_terms : (terms : List (List ℕ)) (memory : Memory) (start : ℕ
 stored-with_terms [] memory start = omega arith
 stored-with_terms (first ∷ terms) memory start = stored-with_terms terms (with_posting memory start first) (start + 1) ∙ omega arith
 
-end_of_some : (terms : List (List ℕ)) (memory : Memory) (start : ℕ) → memory.end ≡ start
+pub end_of_some : (terms : List (List ℕ)) (memory : Memory) (start : ℕ) → memory.end ≡ start
     → (with_terms memory start terms).end ≡ start + length terms
 end_of_some [] memory start e = omega arith
 end_of_some (first ∷ terms) memory start e = end_of_some terms (with_posting memory start first) (start + 1) refl ∙ omega arith
@@ -212,12 +128,12 @@ length_push : (x : ℕ) (xs : List ℕ) → 0 < length (xs ++ x ∷ [])
 length_push x [] = omega arith
 length_push x (y ∷ xs) = omega arith
 
-raised : (end most : ℕ) → end ≤ most → (lists : Lists) → AllByRecursion (IsList end) lists → AllByRecursion (IsList most) lists
+pub raised : (end most : ℕ) → end ≤ most → (lists : Lists) → AllByRecursion (IsList end) lists → AllByRecursion (IsList most) lists
 raised end most l [] a = tt
 raised end most l (list ∷ lists) a =
     (record { term = a.0.term; filled = a.0.filled; ascend = ascend-higher 0 end most list.1 l a.0.ascend }, raised end most l lists a.1)
 
-lists-with_address : (term : List ℕ) (address end : ℕ) (lists : Lists) → IsTerm term → end ≤ address → AllByRecursion (IsList end) lists
+pub lists-with_address : (term : List ℕ) (address end : ℕ) (lists : Lists) → IsTerm term → end ≤ address → AllByRecursion (IsList end) lists
     → AllByRecursion (IsList (address + 1)) (with_address term address lists)
 lists-with_address term address end [] t l a =
     (record { term = t; filled = omega arith; ascend = (omega arith, omega arith) }, tt)
@@ -237,39 +153,6 @@ lists-with_address term address end (list ∷ lists) t l a =
       )
     ]
 
-pub memory-with_posting : (memory : Memory) (address : ℕ) (term : List ℕ) → IsMemory memory → IsTerm term → memory.end ≤ address
-    → address < ADDRESSES_MAX → IsMemory (with_posting memory address term)
-memory-with_posting memory address term m t l b = record {
-  lists = lists-with_address term address memory.end memory.lists t l m.lists;
-  few = omega (arith, m.few);
-  bounded = omega arith;
-}
-
--- the list that a look-up finds
-pub found_list : (end : ℕ) (term : List ℕ) (lists : Lists) (addresses : List ℕ) → AllByRecursion (IsList end) lists
-    → lookup (pointwise nat_eq term) lists ≡ Some addresses → AscendBetween 0 end addresses
-found_list end term [] addresses a h = absurd cc
-found_list end term (list ∷ lists) addresses a h =
-    elim (pointwise nat_eq term list.0) as
-    (λ b. cond b (Some list.1) (lookup (pointwise nat_eq term) lists) ≡ Some addresses → AscendBetween 0 end addresses) [
-      | true ↦ λ q. let same : list.1 ≡ addresses = cc in subst (AscendBetween 0 end) same a.0.ascend
-      | false ↦ λ q. found_list end term lists addresses a.1 q
-    ] h
-
--- the vector that a look-up finds
-pub found_ascends : (end : ℕ) (term : List ℕ) (es : List (Vec ℕ Global × Vec ℕ Global)) (v : Vec ℕ Global)
-    → AllByRecursion (IsList end) (lists_of es) → end ≤ ADDRESSES_MAX → lookup (is_key term) es ≡ Some v
-    → AscendBetween 0 ADDRESSES_MAX v.items
-found_ascends end term es v a l h =
-    ascend-higher 0 end ADDRESSES_MAX v.items l (found_list end term (lists_of es) v.items a (found-lists_of term es v h))
-
-pub held-found : (memory : Memory) (term : List ℕ) (addresses : List ℕ) → lookup (pointwise nat_eq term) memory.lists ≡ Some addresses
-    → held memory term ≡ addresses
-held-found memory term addresses h = ap (λ (o : Option (List ℕ)). unwrap_or o []) h
-
-pub held-absent : (memory : Memory) (term : List ℕ) → lookup (pointwise nat_eq term) memory.lists ≡ None → held memory term ≡ []
-held-absent memory term h = ap (λ (o : Option (List ℕ)). unwrap_or o []) h
-
 pub room-with_terms : (terms : List (List ℕ)) (memory : Memory) (start : ℕ) → memory.end ≤ start
     → KeepsRoom memory (with_terms memory start terms)
 room-with_terms [] memory start l = omega arith
@@ -278,9 +161,9 @@ room-with_terms (first ∷ terms) memory start l =
     room-with_terms terms (with_posting memory start first) (start + 1) (omega arith) in
     omega arith
 
-pub room-with_posting : (first old new : Memory) (address : ℕ) (term : List ℕ) → KeepsRoom first old → old.end ≤ address
-    → new ≡ with_posting old address term → KeepsRoom first new
-room-with_posting first old new address term r l e = omega (arith, ap (λ (m : Memory). m.end) e, ap (λ (m : Memory). m.stored) e)
+pub room-with_posting : (first old new : Memory) (term : List ℕ) → KeepsRoom first old → new ≡ with_posting old old.end term
+    → KeepsRoom first new
+room-with_posting first old new term r e = omega (arith, ap (λ (m : Memory). m.end) e, ap (λ (m : Memory). m.stored) e)
 
 -- one more token of several
 pub add_more : (tokens : List Token) (place : ℕ) (token : Token) (memory before : Memory) (start : ℕ) (term : List ℕ)
@@ -301,13 +184,13 @@ add_more tokens place token memory before start term h is t b =
     ∙ ap (with_terms memory start) (sym whole)
 
 -- the end after some tokens
-pub end_of_front : (tokens : List Token) (place : ℕ) (memory before : Memory) (start : ℕ) → memory.end ≤ start
-    → before ≡ with_terms memory start (map (λ (t : Token). t.term) (take place tokens)) → before.end ≤ start + place
-end_of_front tokens place memory before start l b =
+pub end_of_front : (tokens : List Token) (place : ℕ) (memory before : Memory) (start : ℕ) → place ≤ length tokens → memory.end ≡ start
+    → before ≡ with_terms memory start (map (λ (t : Token). t.term) (take place tokens)) → before.end ≡ start + place
+end_of_front tokens place memory before start l e b =
     omega (
       arith,
       ap (λ (m : Memory). m.end) b,
-      end_by (map (λ (t : Token). t.term) (take place tokens)) memory start l,
+      end_of_some (map (λ (t : Token). t.term) (take place tokens)) memory start e,
       length-map (take place tokens) (λ (t : Token). t.term),
       length-take place tokens,
     )
@@ -316,3 +199,9 @@ pub room_of_front : (tokens : List Token) (place : ℕ) (memory before : Memory)
     → before ≡ with_terms memory start (map (λ (t : Token). t.term) (take place tokens)) → KeepsRoom memory before
 room_of_front tokens place memory before start l b =
     subst (KeepsRoom memory) (sym b) (room-with_terms (map (λ (t : Token). t.term) (take place tokens)) memory start l)
+
+-- where a posting follows, it decides the end
+pub with_terms-passed : (terms : List (List ℕ)) (memory : Memory) (start : ℕ) → 0 < length terms
+    → with_terms (record memory { end = start }) start terms ≡ with_terms memory start terms
+with_terms-passed [] memory start l = absurd (omega arith)
+with_terms-passed (first ∷ terms) memory start l = refl

@@ -5,3 +5,6 @@ pub mod Contents
 -- ---- What only private functions and proofs need
 
 pub mod Lists
+pub mod Chains
+pub mod ViewOfMemory
+pub mod ViewOfParts

@@ -1,20 +1,9 @@
 -- Lists of addresses by term, and what puts a posting into them.
-use Rattle.std.specs.Prelude.{ℕ, ◌+◌, ◌<◌, ◌≤◌, if◌then◌else◌, List, [], ◌∷◌, ◌++◌, length, map, nat_eq}
-use Rattle.std.specs.List.{AllByRecursion}
+use Rattle.std.specs.Prelude.{ℕ, ◌+◌, ◌<◌, ◌≤◌, if◌then◌else◌, List, [], ◌∷◌, ◌++◌, length, nat_eq}
 use Rattle.std.specs.Cmp.Lexicographic.{pointwise}
-use Rattle.std.specs.declared.vec.Vec.{Vec}
-use Rattle.std.specs.declared.alloc.Global.{Global}
 use Rattle.wu_base.specs.declared.addresses.Range.{Range}
-use Rattle.wu_base.specs.declared.limits.TheConstants.{ADDRESSES_MAX}
 use Rattle.wu_token.specs.Words.{IsTerm}
 use Rattle.wu_parts.specs.Memory.{Lists, Memory}
-
--- what a map's entries say, without what vectors have besides their items
-abbrev pub list_of : Vec ℕ Global × Vec ℕ Global → List ℕ × List ℕ
-list_of entry = (entry.0.items, entry.1.items)
-
-abbrev pub lists_of : List (Vec ℕ Global × Vec ℕ Global) → Lists
-lists_of entries = map list_of entries
 
 -- the lists, where the term stands at one more address
 abbrev pub with_address : List ℕ → ℕ → Lists → Lists
@@ -44,12 +33,6 @@ pub record IsList (end : ℕ) (list : List ℕ × List ℕ) : Type 0 where
   pub term : IsTerm list.0
   pub filled : 0 < length list.1
   pub ascend : AscendBetween 0 end list.1
-
--- what memory keeps at every moment
-pub record IsMemory (memory : Memory) : Type 0 where
-  pub lists : AllByRecursion (IsList memory.end) memory.lists
-  pub few : memory.stored ≤ memory.end
-  pub bounded : memory.end ≤ ADDRESSES_MAX
 
 -- at most as many postings are new as there are addresses from the old end up to the new one
 abbrev pub KeepsRoom : Memory → Memory → Type 0

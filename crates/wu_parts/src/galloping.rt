@@ -33,6 +33,17 @@ pub(crate) fn within_frames(
     Ok(Sequence::from(found))
 }
 
+/// An address such that none below it lies in a frame: where the first one starts.
+pub(crate) fn first_start(frames: &[Range]) -> u64
+    requires { AreInOrder 0 ADDRESSES_MAX frames.now }
+    ensures { AreInOrder result ADDRESSES_MAX frames.now }
+{
+    match frames {
+        [first, ..] => first.start,
+        [] => 0,
+    }
+}
+
 /// The addresses below the limit, and the others. Takes time logarithmic in the number of those below.
 fn split_below(addresses: &[u64], limit: u64) -> (&[u64], &[u64])
     requires ascend { AscendBetween 0 ADDRESSES_MAX addresses.now }

@@ -1,5 +1,5 @@
 //! Postings in memory.
-ghost use Rattle.std.specs.Prelude.{◌≡◌, ℕ, List, ◌+◌, ◌<◌, ◌≤◌, ◌∷◌, ◌++◌, All, length, map, filter, OnOk, OnErr, IfOk};
+ghost use Rattle.std.specs.Prelude.{◌≡◌, ◌+◌, ◌^◌, ◌<◌, ◌≤◌, All, length, map, filter, OnOk, OnErr, IfOk};
 ghost use Rattle.std.specs.List.Sorted.{IsStrictlyIncreasing};
 ghost use Rattle.wu_layout.specs.Postings.{is_live};
 ghost use Rattle.wu_space.specs.Addresses.{AreApart};
@@ -7,23 +7,26 @@ ghost use Rattle.wu_token.specs.Words.{IsTerm};
 ghost use Rattle.wu_token.specs.Tokens.{tokens_of};
 ghost use Rattle.wu_token.specs.Pieces.{line_terms, piece_of};
 ghost use Rattle.wu_parts.specs.Memory.{held, no_postings};
-ghost use Rattle.wu_parts.specs.Lists.{IsMemory, KeepsRoom, lists_of, with_address, with_posting, with_terms};
+ghost use Rattle.wu_parts.specs.Lists.{KeepsRoom, with_posting, with_terms};
 
-use crate::galloping::within_frames;
+use crate::chains::{Chain, addresses_from, put};
+use crate::galloping::{first_start, within_frames};
 use indexmap::IndexMap;
 use std::alloc::Global;
 use std::marker::Model;
 use wu_base::{ADDRESSES_MAX, NoMemory, Range, Sequence, TEXT_MAX};
 use wu_token::{FILE_END, FILE_START, LINE_END, LINE_START, Lines, Piece, Token, Word};
 
-/// The addresses of each term that is in memory. Contracts see the lists by term, the number of postings,
-/// and the first address above all of them.
+/// The postings that are in memory, as chains of the addresses from `start` on: an address that no posting
+/// has, between two texts, has a link that is never followed. Contracts see the addresses of each term, the
+/// number of postings, and the first address above all of them.
 #[derive(Drop)]
 pub(crate) struct MemoryPostings {
     alloc: Global,
-    lists: IndexMap<Vec<u8>, Vec<u64>>,
+    chains: IndexMap<Vec<u8>, Chain>,
+    before: Vec<u32>,
+    start: u64,
     stored: u64,
-    end: u64,
 }
 
 impl Model for MemoryPostings {
@@ -31,11 +34,11 @@ impl Model for MemoryPostings {
 
     ghost Value = { Memory };
 
-    ghost use Rattle.wu_parts.specs.Lists.{IsMemory, lists_of};
+    ghost use Rattle.wu_parts.specs.ViewOfMemory.{memory_of, IsKept};
 
-    ghost view = { λ m. record { lists = lists_of m.lists.entries; stored = m.stored; end = m.end } };
+    ghost view = { memory_of };
 
-    ghost invariant = { λ m. IsMemory (record { lists = lists_of m.lists.entries; stored = m.stored; end = m.end }) };
+    ghost invariant = { IsKept };
 }
 
 impl MemoryPostings {
@@ -45,32 +48,53 @@ impl MemoryPostings {
     {
         MemoryPostings {
             alloc,
-            lists: IndexMap::new(alloc),
+            chains: IndexMap::new(alloc),
+            before: Vec::new(alloc),
+            start: 0,
             stored: 0,
-            end: 0,
         }
     }
 
     /// How many postings there are.
     pub(crate) fn stored(&self) -> u64
         ensures stored { result ≡ self.now.stored }
-        ensures kept { IsMemory self.now }
+        ensures bounded { self.now.end ≤ ADDRESSES_MAX }
     {
         self.stored
     }
 
-    /// Notes that the term stands at the address. A term that is there is not copied, and is hashed once;
-    /// a new one is hashed once more as it is put in. Out of memory, all is as it was.
-    fn push(&mut self, term: &[u8], address: u64) -> Result<(), NoMemory>
-        requires term { IsTerm term.now }
+    /// The first address above all postings.
+    fn end(&self) -> u64
+        ensures { result ≡ self.now.end }
+    {
+        self.start + self.before.len() as u64
+    }
+
+    /// Makes the address the one of the next posting. Out of memory, all is as it was.
+    fn pass_to(&mut self, address: u64) -> Result<(), NoMemory>
         requires after { self.old.end ≤ address }
-        requires bounded { address < ADDRESSES_MAX }
-        ensures ok { OnOk result (self.new ≡ with_posting self.old address term.now) }
+        requires bounded { address ≤ ADDRESSES_MAX }
+        ensures ok { OnOk result (self.new ≡ record self.old { end = address }) }
         ensures err { OnErr result (self.new ≡ self.old) }
     {
-        put(self.alloc, &mut self.lists, term, address)?;
+        if self.before.is_empty() {
+            self.start = address;
+            return Ok(());
+        }
+        let places = places_between(self.start, address)?;
+        self.before.resize(places, 0)?;
+        Ok(())
+    }
+
+    /// Notes that the term stands at the end. Out of memory, all is as it was.
+    fn push(&mut self, term: &[u8]) -> Result<(), NoMemory>
+        requires term { IsTerm term.now }
+        requires bounded { self.old.end < ADDRESSES_MAX }
+        ensures ok { OnOk result (self.new ≡ with_posting self.old self.old.end term.now) }
+        ensures err { OnErr result (self.new ≡ self.old) }
+    {
+        put(self.alloc, &mut self.chains, &mut self.before, term)?;
         self.stored += 1;
-        self.end = address + 1;
         Ok(())
     }
 
@@ -83,8 +107,12 @@ impl MemoryPostings {
         ensures terms { OnOk result (self.new ≡ with_terms self.old start (map (λ token. token.term) tokens.now)) }
         ensures room { KeepsRoom self.old self.new }
     {
-        for (place, token) in tokens.iter().enumerate() {
-            self.push(token.term.as_slice(), start + place as u64)?;
+        if tokens.is_empty() {
+            return Ok(());
+        }
+        self.pass_to(start)?;
+        for token in tokens {
+            self.push(token.term.as_slice())?;
         }
         Ok(())
     }
@@ -99,68 +127,56 @@ impl MemoryPostings {
         ensures terms { OnOk result (self.new ≡ with_terms self.old start (tokens_of text.now)) }
         ensures room { KeepsRoom self.old self.new }
     {
-        self.push(FILE_START, start)?;
-        let mut next = start + 1;
+        self.pass_to(start)?;
+        self.push(FILE_START)?;
         for line in Lines::of_text(text) {
-            next = self.add_line(line, next)?;
+            self.add_line(line)?;
         }
-        self.push(FILE_END, next)?;
-        Ok(next + 1 - start)
+        self.push(FILE_END)?;
+        Ok(self.end() - start)
     }
 
-    /// Notes the terms of a line, and gives the address after them.
-    fn add_line(&mut self, line: Piece, start: u64) -> Result<u64, NoMemory>
-        requires after { self.old.end ≤ start }
-        requires bounded { start + length (line_terms (piece_of line)) ≤ ADDRESSES_MAX }
-        ensures next { IfOk result (λ next. next ≡ start + length (line_terms (piece_of line.entry))) }
-        ensures terms { OnOk result (self.new ≡ with_terms self.old start (line_terms (piece_of line.entry))) }
+    /// Notes the terms of a line from the end on.
+    fn add_line(&mut self, line: Piece) -> Result<(), NoMemory>
+        requires { self.old.end + length (line_terms (piece_of line)) ≤ ADDRESSES_MAX }
+        ensures terms { OnOk result (self.new ≡ with_terms self.old self.old.end (line_terms (piece_of line.entry))) }
         ensures room { KeepsRoom self.old self.new }
     {
-        self.push(LINE_START, start)?;
-        let mut next = start + 1;
+        self.push(LINE_START)?;
         for run in line.runs() {
-            self.push(Word::of_run(run.bytes).as_slice(), next)?;
-            next += 1;
+            self.push(Word::of_run(run.bytes).as_slice())?;
         }
-        self.push(LINE_END, next)?;
-        Ok(next + 1)
+        self.push(LINE_END)?;
+        Ok(())
     }
 
-    /// The addresses of the term that lie in the frames, ascending. The only error is out of memory.
+    /// The addresses of the term that lie in the frames, ascending. Takes no time for those below the first
+    /// frame. The only error is out of memory.
     pub(crate) fn fetch(&self, term: &[u8], frames: &[Range]) -> Result<Sequence<u64>, NoMemory>
         requires apart { AreApart frames.now }
         requires bounded { All (λ frame. frame.start + frame.len ≤ ADDRESSES_MAX) frames.now }
         ensures addresses { IfOk result (λ found. found ≡ filter (is_live frames.now) (held self.now term.now)) }
         ensures ascending { IfOk result IsStrictlyIncreasing }
     {
-        match self.lists.get(term) {
-            Some(addresses) => within_frames(self.alloc, addresses.as_slice(), frames),
+        match self.chains.get(term) {
+            Some(chain) => {
+                let low = first_start(frames);
+                let found = addresses_from(self.alloc, *chain, &self.before, self.start, low)?;
+                within_frames(self.alloc, &found, frames)
+            }
             None => Ok(Sequence::new(self.alloc)),
         }
     }
 }
 
-/// Puts the address at the end of the term's list, or makes its list. Out of memory, the lists are as they
-/// were.
-fn put(
-    alloc: Global,
-    lists: &mut IndexMap<Vec<u8>, Vec<u64>>,
-    term: &[u8],
-    address: u64,
-) -> Result<(), NoMemory>
-    ensures ok { OnOk result (lists_of lists.new.entries ≡ with_address term.now address (lists_of lists.old.entries)) }
-    ensures err { OnErr result (lists_of lists.new.entries ≡ lists_of lists.old.entries) }
+/// How many places there are from the first address up to the other one.
+fn places_between(start: u64, end: u64) -> Result<usize, NoMemory>
+    requires { start ≤ end }
+    ensures places { IfOk result (λ places. start + places ≡ end) }
+    ensures bounded { IfOk result (λ places. places < 2 ^ 32) }
 {
-    match lists.get_mut(term) {
-        Some(addresses) => {
-            addresses.push(address)?;
-            Ok(())
-        }
-        None => {
-            let mut list = Vec::new(alloc);
-            list.push(address)?;
-            lists.insert(Vec::from_slice(alloc, term)?, list)?;
-            Ok(())
-        }
+    match u32::try_from(end - start) {
+        Ok(places) => Ok(places as usize),
+        Err(_) => Err(NoMemory),
     }
 }

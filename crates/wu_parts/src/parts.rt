@@ -32,7 +32,9 @@ impl Model for Parts {
 
     ghost Value = { Contents };
 
-    ghost view = { λ p. record { memory = p.memory; parts = p.parts.items; flush_at = p.flush_at; next_blob = p.next_blob; flushes = p.flushes; stale = p.stale.items } };
+    ghost use Rattle.wu_parts.specs.ViewOfParts.{contents_of};
+
+    ghost view = { contents_of };
 
     // Each posting has an address of its own, and they are below the end.
     ghost invariant = { λ p. p.memory.stored + stored_in_parts p.parts.items ≤ p.memory.end };

@@ -60,6 +60,17 @@ pub fn put_text(
     Ok(())
 }
 
+/// Gives the file the addresses of its text alone.
+fn skip_text(space: &mut Space, ino: Ino, text: &[u8]) -> Result<(), NoAnswer>
+    ensures { OnOk result (space.old.next ≤ space.new.next) }
+{
+    if text.len() > TEXT_MAX {
+        return Err(NoAnswer::BadRow);
+    }
+    place(space, ino, text)?;
+    Ok(())
+}
+
 /// Puts the tokens of the text into memory, at the addresses of the range.
 fn put_tokens(alloc: Global, parts: &mut Parts, range: Range, text: &[u8]) -> Result<(), NoAnswer>
     requires short { length text.now ≤ TEXT_MAX }
@@ -73,13 +84,15 @@ fn put_tokens(alloc: Global, parts: &mut Parts, range: Range, text: &[u8]) -> Re
     Ok(())
 }
 
-/// Puts the postings of the texts into memory, whose files are numbered from 1 on.
+/// Puts the postings of the texts into memory, whose files are numbered from 1 on. Those of the skipped
+/// files are left out, so that their addresses have none.
 pub fn put_texts(
     alloc: Global,
     by: By,
     parts: &mut Parts,
     space: &mut Space,
     texts: &[Bytes],
+    skipped: &[u32],
 ) -> Result<(), NoAnswer>
     requires { parts.old.memory.end ≤ space.old.next }
     ensures { OnOk result (parts.new.memory.end ≤ space.new.next) }
@@ -87,7 +100,11 @@ pub fn put_texts(
     let mut ino = 0;
     for text in texts {
         ino = next_number(ino)?;
-        put_text(alloc, by, parts, space, ino, text.as_slice())?;
+        if skipped.contains(&ino) {
+            skip_text(space, ino, text.as_slice())?;
+        } else {
+            put_text(alloc, by, parts, space, ino, text.as_slice())?;
+        }
     }
     Ok(())
 }

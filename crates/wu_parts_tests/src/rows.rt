@@ -20,8 +20,12 @@ pub fn answer(
         return Err(NoAnswer::BadRow);
     }
     match (call, arguments) {
-        ("Parts::add", [texts, seen, term]) => fetched(alloc, By::Tokens, texts, seen, term),
-        ("Parts::add_text", [texts, seen, term]) => fetched(alloc, By::Text, texts, seen, term),
+        ("Parts::add", [texts, skipped, seen, term]) => {
+            fetched(alloc, By::Tokens, texts, skipped, seen, term)
+        }
+        ("Parts::add_text", [texts, skipped, seen, term]) => {
+            fetched(alloc, By::Text, texts, skipped, seen, term)
+        }
         ("Parts::stored", [texts]) => stored(alloc, texts),
         ("Parts::full", [flush_at, texts]) => fullness(alloc, flush_at, texts),
         ("Parts::draw_blob", [next_blob]) => drawn(alloc, next_blob),
@@ -32,14 +36,23 @@ pub fn answer(
     }
 }
 
-/// The addresses of the term in the seen ones of the texts' files.
-fn fetched(alloc: Global, by: By, texts: &str, seen: &str, term: &str) -> Result<String, NoAnswer> {
+/// The addresses of the term in the seen ones of the texts' files, where memory has no postings of the
+/// skipped ones.
+fn fetched(
+    alloc: Global,
+    by: By,
+    texts: &str,
+    skipped: &str,
+    seen: &str,
+    term: &str,
+) -> Result<String, NoAnswer> {
     let texts = byte_strings(alloc, texts)?;
+    let skipped = small_numbers(alloc, skipped)?;
     let seen = small_numbers(alloc, seen)?;
     let term = bytes(alloc, term)?;
     let mut parts = Parts::new(alloc, 1, 1)?;
     let mut space = Space::new(alloc, 0);
-    put_texts(alloc, by, &mut parts, &mut space, &texts)?;
+    put_texts(alloc, by, &mut parts, &mut space, &texts, &skipped)?;
     release_others(&mut space, 100, &seen);
     let found = fetch_live(&parts, &space, &term)?;
     numbers_text(alloc, found.as_slice())
@@ -50,7 +63,7 @@ fn with_texts(alloc: Global, flush_at: u64, texts: &str) -> Result<Parts, NoAnsw
     let texts = byte_strings(alloc, texts)?;
     let mut parts = Parts::new(alloc, flush_at, 1)?;
     let mut space = Space::new(alloc, 0);
-    put_texts(alloc, By::Text, &mut parts, &mut space, &texts)?;
+    put_texts(alloc, By::Text, &mut parts, &mut space, &texts, &[])?;
     Ok(parts)
 }
 

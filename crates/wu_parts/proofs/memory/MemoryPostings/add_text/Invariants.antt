@@ -1,4 +1,4 @@
-use Rattle.std.proofs.Common.{◌≡◌, ◌+◌, ◌≤◌, ◌∷◌, ◌++◌, [], length}
+use Rattle.std.proofs.Common.{◌≡◌, ◌+◌, ◌∷◌, ◌++◌, [], length}
 use Rattle.std.specs.List.{flat_map}
 use Rattle.wu_token.specs.Tokens.{file_end, tokens_of}
 use Rattle.wu_token.specs.Pieces.{line_terms}
@@ -7,9 +7,8 @@ use Rattle.wu_parts.proofs.memory.MemoryPostings.add_text.Given as goal
 
 abbrev pub invariant-loop-line : goal.invariant-loop-line
 invariant-loop-line l = record {
-  made : with_terms l.self l.next (flat_map line_terms l.line-iterator ++ file_end ∷ [])
+  made : with_terms l.self l.self.end (flat_map line_terms l.line-iterator ++ file_end ∷ [])
       ≡ with_terms l.fn.self l.start (tokens_of l.text);
-  count : l.next + length (flat_map line_terms l.line-iterator) + 1 ≡ l.start + length (tokens_of l.text);
-  end : l.self.end ≤ l.next;
+  count : l.self.end + length (flat_map line_terms l.line-iterator) + 1 ≡ l.start + length (tokens_of l.text);
   room : KeepsRoom l.fn.self l.self;
 }

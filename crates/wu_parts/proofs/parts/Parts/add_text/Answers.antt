@@ -1,19 +1,11 @@
 use Rattle.std.proofs.lemmas.Result.{on_ok_weaker}
 use Rattle.wu_token.specs.Tokens.{tokens_of}
-use Rattle.wu_parts.specs.Contents.{Contents}
+use Rattle.wu_parts.specs.ViewOfParts.{contents_of}
 use Rattle.wu_parts.proofs.Gaining.{gained}
 use Rattle.wu_parts.proofs.parts.Parts.add_text.Goals as goal
 
 pub returns-clause-terms : goal.returns-clause-terms
 returns-clause-terms c =
-    let fields : Contents = record {
-      memory = c.self.inside.memory;
-      parts = c.self.inside.parts.items;
-      flush_at = c.self.inside.flush_at;
-      next_blob = c.self.inside.next_blob;
-      flushes = c.self.inside.flushes;
-      stale = c.self.inside.stale.items;
-    } in
     on_ok_weaker c.add_text.result
-    (gained c.args.self.now fields c.add_text.new.self c.args.start (tokens_of c.args.text.now) c.self.view_is)
+    (gained c.args.self.now (contents_of c.self.inside) c.add_text.new.self c.args.start (tokens_of c.args.text.now) c.self.view_is)
     c.add_text.ensures.terms

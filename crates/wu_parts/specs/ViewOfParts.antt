@@ -1,0 +1,13 @@
+-- What contracts see of a Parts.
+use Rattle.wu_parts.specs.declared.parts.Parts.TheInside as inside
+use Rattle.wu_parts.specs.Contents.{Contents}
+
+abbrev pub contents_of : inside.Inside → Contents
+contents_of fields = record {
+  memory = fields.memory;
+  parts = fields.parts.items;
+  flush_at = fields.flush_at;
+  next_blob = fields.next_blob;
+  flushes = fields.flushes;
+  stale = fields.stale.items;
+}
