@@ -26,9 +26,10 @@ use Rattle.wu_engine.proofs.NumberedEntries.{is_that, has, has-put, has-removed}
 use Rattle.wu_engine.proofs.FileChanges.{ChangesFiles, not_there, files_without, files-after, files-texted}
 use Rattle.wu_engine.proofs.IndexLemmas.{next-with_file, next-without_file}
 
-some_if : (o : Option ℕ) (P : ℕ → Type 0) → ((ino : ℕ) → o ≡ Some ino → P ino) → IfSome o P
-some_if None P f = tt
-some_if (Some ino) P f = f ino refl
+-- what holds of each number that there may be holds of the one that there is
+IfSome-from : (o : Option ℕ) (P : ℕ → Type 0) → ((ino : ℕ) → o ≡ Some ino → P ino) → IfSome o P
+IfSome-from None P f = tt
+IfSome-from (Some ino) P f = f ino refl
 
 abbrev Ascend : Addresses → Type 0
 Ascend space = IsStrictlySortedBy nat_cmp (keys_of space.ranges)
@@ -114,11 +115,11 @@ module _ (before after : FileSystem) (effect : Effect) (tells : TellsFiles befor
   module _ (text : List ℕ) (short : length text ≤ TEXT_MAX) (room : space.next + length (terms_after effect text) ≤ ADDRESSES_MAX) where
     pub indexable : IsIndexable effect text space parts
     indexable = record {
-      dropped = some_if effect.dropped _ (λ q h. sound.of_files q ∙ changed.dropped q h);
-      made = some_if effect.made _ (λ q h.
+      dropped = IfSome-from effect.dropped _ (λ q h. sound.of_files q ∙ changed.dropped q h);
+      made = IfSome-from effect.made _ (λ q h.
           absent (range_of (without_file effect.dropped space).ranges q)
           (left_files q ∙ not_there effect.dropped (is_file before) q (changed.made q h)));
-      texted = some_if effect.texted _ (λ q h. made_files q ∙ tells.text q h);
+      texted = IfSome-from effect.texted _ (λ q h. made_files q ∙ tells.text q h);
       short = short;
       below = sound.below;
       room = room;
