@@ -60,7 +60,8 @@ module _ (frames : Frames) (live : Ranges) (memory : Memory) (s : State) (uid : 
       ∙ sym (length-flat_map (hits_in region) view))
 
   -- in as many files
-  files_counted : count_by (λ frame. nat_lt 0 (length (frame_hits region (map (list_at (found_in frames.ranges memory)) terms) frame))) frames.ranges
+  files_counted : count_by (λ frame. nat_lt 0 (length (frame_hits region (map (list_at (found_in frames.ranges memory)) terms) frame)))
+      frames.ranges
       ≡ count_by (has_hit region) (view_of s uid)
   unfolding hits_in
   files_counted =

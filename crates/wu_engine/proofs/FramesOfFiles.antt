@@ -83,7 +83,8 @@ terms_of_lists addresses (term ∷ terms) = ap (λ ts. term ∷ ts) (terms_of_li
 pub are_lists : (addresses : List ℕ → List ℕ) (terms : List (List ℕ)) (lists : List TermList) → lists ≡ map (list_at addresses) terms
     → All (λ list. IsStrictlyIncreasing list.at) lists → IsStrictlySortedBy (slice_cmp nat_cmp) terms → AreLists lists
 are_lists addresses terms lists is up sorted = record {
-  terms = subst (IsStrictlySortedBy (slice_cmp nat_cmp)) (sym (ap (map (λ (list : TermList). list.term)) is ∙ terms_of_lists addresses terms)) sorted;
+  terms = subst (IsStrictlySortedBy (slice_cmp nat_cmp))
+      (sym (ap (map (λ (list : TermList). list.term)) is ∙ terms_of_lists addresses terms)) sorted;
   addresses = recursion_from_All (λ (list : TermList). IsStrictlyIncreasing list.at) lists up;
 }
 

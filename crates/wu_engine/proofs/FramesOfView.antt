@@ -160,7 +160,8 @@ module _ (live : Ranges) (memory : Memory) (s : State) (is : IsIndexOf live memo
   held_all : (term : List ℕ) → held memory term ≡ addresses_of term (postings_of s.layout.parts s.layout.memory)
   held_all term =
       is.postings term
-      ∙ ap (addresses_of term) (sym (append-nil s.layout.memory) ∙ ap (λ (ps : List Part). postings_of ps s.layout.memory) (sym is.no_parts))
+      ∙ ap (addresses_of term)
+      (sym (append-nil s.layout.memory) ∙ ap (λ (ps : List Part). postings_of ps s.layout.memory) (sym is.no_parts))
 
   range_in : (ino : ℕ) → range_of live ino ≡ option_map (λ entry. entry.range) (entry_of s.layout.files ino)
   range_in ino = ap (λ (l : Ranges). range_of l ino) is.ranges ∙ lookup-ranges_by_number s.layout.files ino
@@ -174,7 +175,9 @@ module _ (live : Ranges) (memory : Memory) (s : State) (is : IsIndexOf live memo
   pub view_has_ranges : (uid : ℕ) → AllByRecursion (λ file. is_some (range_of live file.ino) ≡ true) (files_of s.tree uid)
   view_has_ranges uid =
       all_from_has (λ (file : Seen). is_some (range_of live file.ino) ≡ true) (files_of s.tree uid)
-      (λ file has. has_range file.ino (all_has (λ (f : Seen). is_file s.tree f.ino ≡ true) file (files_of s.tree uid) (view_of_files s.tree uid) has))
+      (λ file has.
+      has_range file.ino
+      (all_has (λ (f : Seen). is_file s.tree f.ino ≡ true) file (files_of s.tree uid) (view_of_files s.tree uid) has))
 
   -- the file's text is indexed at its live range
   indexed_at : (ino : ℕ) (range : Range) → range_of live ino ≡ Some range
@@ -229,7 +232,8 @@ module _ (live : Ranges) (memory : Memory) (s : State) (is : IsIndexOf live memo
 
       framed_all : (frames : List Frame) → AllByRecursion (IsOfFile live view) frames
           → AllByRecursion (λ frame. IsAmong ranges frame.range) frames
-          → AllByRecursion (λ place. IsFrameOf (found_in ranges memory) (tokens_at (map (shown_of s.texts) view) place) (range_at live view place))
+          → AllByRecursion
+          (λ place. IsFrameOf (found_in ranges memory) (tokens_at (map (shown_of s.texts) view) place) (range_at live view place))
           (map (λ frame. frame.place) frames)
       framed_all [] are all = tt
       framed_all (frame ∷ frames) are all = (framed_here frame are.0 all.0, framed_all frames are.1 all.1)

@@ -28,7 +28,8 @@ tokens_after file files place =
 pub tokens_of_file : (texts : Texts) (view : List Seen) (place : ℕ) (file : Seen) → slice_get view place ≡ Some file
     → tokens_at (map (shown_of texts) view) place ≡ tokens_of (text_in texts file.ino)
 tokens_of_file texts [] place file there = absurd (cc)
-tokens_of_file texts (first ∷ view) zero file there = let same : first ≡ file = cc in ap (λ (s : Seen). tokens_of (text_in texts s.ino)) same
+tokens_of_file texts (first ∷ view) zero file there =
+    let same : first ≡ file = cc in ap (λ (s : Seen). tokens_of (text_in texts s.ino)) same
 tokens_of_file texts (first ∷ view) (suc place) file there =
     tokens_after (shown_of texts first) (map (shown_of texts) view) place ∙ tokens_of_file texts view place file there
 
@@ -61,6 +62,7 @@ units_from-places region view first (file ∷ files) same =
     (λ i. let e : (first + 1) + i ≡ first + suc i = omega arith in ap (tokens_at view) e ∙ same (suc i) ∙ tokens_after file files i))
 
 -- the units of a view, place by place
-pub units_of-places : (region : Region) (view : List Shown) → units_of region view ≡ units_in_files region (tokens_at view) (all_places view)
+pub units_of-places : (region : Region) (view : List Shown)
+    → units_of region view ≡ units_in_files region (tokens_at view) (all_places view)
 unfolding units_of
 units_of-places region view = units_from-places region view 0 view (λ i. let e : 0 + i ≡ i = omega arith in ap (tokens_at view) e)

@@ -20,7 +20,8 @@ use Rattle.wu_frames.proofs.ViewFrames.{HasRange, all-have}
 use Rattle.wu_engine.specs.Soundness.{IsSound, addresses_most}
 use Rattle.wu_engine.specs.Units.{CanBeSearched}
 
-module _ (fs : FileSystem) (space : Addresses) (parts : Contents) (kept : Kept) (rules : IsSpace space) (sound : IsSound fs space parts kept) where
+module _ (fs : FileSystem) (space : Addresses) (parts : Contents) (kept : Kept) (rules : IsSpace space)
+    (sound : IsSound fs space parts kept) where
   bounded : (frames : List Frame) → AllByRecursion (HasRange space.ranges) frames
       → AllByRecursion (λ (range : Range). range.start + range.len ≤ ADDRESSES_MAX) (map (λ frame. frame.range) frames)
   bounded [] have = tt
@@ -32,7 +33,8 @@ module _ (fs : FileSystem) (space : Addresses) (parts : Contents) (kept : Kept) 
       → AllByRecursion (λ (range : Range). range.len < 2 ^ 26) (map (λ frame. frame.range) frames)
   short [] have = tt
   short (frame ∷ frames) have =
-      let found = All-found (λ (file : ℕ × Range). file.1.len ≤ addresses_most) (is_at (nat_cmp frame.ino)) space.ranges frame.range sound.short have.0 in
+      let found =
+      All-found (λ (file : ℕ × Range). file.1.len ≤ addresses_most) (is_at (nat_cmp frame.ino)) space.ranges frame.range sound.short have.0 in
       (omega (arith, found.2), short frames have.1)
 
   pub can_be_searched : (uid : ℕ) (frames : Frames) → AreFrames fs space.ranges uid frames → CanBeSearched frames

@@ -103,7 +103,8 @@ module _ (word : List ℕ) (lists : List TermList) (xs : List ℕ) (up : Climbs 
     hits_all [] stand = tt
     hits_all (z ∷ zs) stand =
         elim (is_in frame z) as
-        (λ b. is_in frame z ≡ b → AllByRecursion IsHit (map (single frame.start) (cond b (z ∷ filter (is_in frame) zs) (filter (is_in frame) zs)))) [
+        (λ b. is_in frame z ≡ b
+        → AllByRecursion IsHit (map (single frame.start) (cond b (z ∷ filter (is_in frame) zs) (filter (is_in frame) zs)))) [
           | true ↦ λ e. (hit z e stand.0, hits_all zs stand.1)
           | false ↦ λ e. hits_all zs stand.1
         ] refl
@@ -173,21 +174,21 @@ split limit low (x ∷ xs) up =
     elim (nat_lt x limit) as
     (λ b. nat_lt x limit ≡ b → (front : List ℕ) × (back : List ℕ) × IsSplit limit (x ∷ xs) front back) [
       | true ↦ λ e. (
-          x ∷ more.0,
-          more.1,
-          record {
-            whole = ap (λ (zs : List ℕ). x ∷ zs) more.2.whole;
-            number = rw e (ap suc more.2.number);
-            rest = rw e more.2.rest;
-            below = (ltb-true x limit e, more.2.below);
-            above = more.2.above;
-          },
-        )
+        x ∷ more.0,
+        more.1,
+        record {
+          whole = ap (λ (zs : List ℕ). x ∷ zs) more.2.whole;
+          number = rw e (ap suc more.2.number);
+          rest = rw e more.2.rest;
+          below = (ltb-true x limit e, more.2.below);
+          above = more.2.above;
+        },
+      )
       | false ↦ λ e. (
-          [],
-          x ∷ xs,
-          record { whole = refl; number = rw e refl; rest = rw e refl; below = tt; above = (grind (arith, nat_tests, e), up.1) },
-        )
+        [],
+        x ∷ xs,
+        record { whole = refl; number = rw e refl; rest = rw e refl; below = tt; above = (grind (arith, nat_tests, e), up.1) },
+      )
     ] refl
 
 filter_all : (range : Range) (front : List ℕ) → AllByRecursion (λ a. is_in range a ≡ true) front → filter (is_in range) front ≡ front
@@ -219,8 +220,8 @@ all_above range low (a ∷ back) past up =
     (not_in range a (λ r. omega (arith, r.high, up.0)), all_above range (suc a) back (omega (arith, up.0)) up.1)
 
 -- of frames that start from a limit on, none has an address below it
-later_frames : (g : List ℕ → ℕ) (limit : ℕ) (front back : List ℕ) (frames : List Range) → AllByRecursion (λ frame. limit ≤ frame.start) frames
-    → AllByRecursion (λ a. a < limit) front
+later_frames : (g : List ℕ → ℕ) (limit : ℕ) (front back : List ℕ) (frames : List Range)
+    → AllByRecursion (λ frame. limit ≤ frame.start) frames → AllByRecursion (λ a. a < limit) front
     → sum_by (λ frame. g (filter (is_in frame) (front ++ back))) frames ≡ sum_by (λ frame. g (filter (is_in frame) back)) frames
 later_frames g limit front back [] from below = refl
 later_frames g limit front back (frame ∷ frames) from below =
@@ -237,18 +238,17 @@ module _ (frame : Range) (frames : List Range) (from : AllByRecursion (λ next. 
   all_here : (front : List ℕ) → AllByRecursion IsLive front → AllByRecursion (λ a. a < frame.start + frame.len) front
       → AllByRecursion (λ a. is_in frame a ≡ true) front
   all_here [] live below = tt
-  all_here (a ∷ front) live below =
-      (
-        ⊎_elim (λ t. t)
-            (λ (f : is_in frame a ≡ false).
-            let more : is_live frames a ≡ true = rw f at live.0 in
-            let found = any_has (λ (next : Range). is_in next a) frames more in
-            let start = all_has (λ (next : Range). frame.start + frame.len ≤ next.start) found.0 frames from found.1.0 in
-            let low = (in_range found.0 a found.1.1).low in
-            absurd (omega (arith, start, low, below.0)))
-            (cases_Bool (is_in frame a)),
-        all_here front live.1 below.1,
-      )
+  all_here (a ∷ front) live below = (
+    ⊎_elim (λ t. t)
+        (λ (f : is_in frame a ≡ false).
+        let more : is_live frames a ≡ true = rw f at live.0 in
+        let found = any_has (λ (next : Range). is_in next a) frames more in
+        let start = all_has (λ (next : Range). frame.start + frame.len ≤ next.start) found.0 frames from found.1.0 in
+        let low = (in_range found.0 a found.1.1).low in
+        absurd (omega (arith, start, low, below.0)))
+        (cases_Bool (is_in frame a)),
+    all_here front live.1 below.1,
+  )
 
   -- and one after it is a later frame's
   all_later : (low : ℕ) (back : List ℕ) → frame.start + frame.len ≤ low → Climbs low back → AllByRecursion IsLive back
@@ -286,7 +286,8 @@ are_met low (frame ∷ frames) xs up apart live =
     let rest = are_met end frames back is.above apart.1 (all_later frame frames apart.0 end back (omega arith) is.above lives.1) in
     let later : (g : List ℕ → ℕ) → sum_by (λ (f : Range). g (filter (is_in f) xs)) frames
     ≡ sum_by (λ (f : Range). g (filter (is_in f) back)) frames = λ g.
-    ap (λ (zs : List ℕ). sum_by (λ (f : Range). g (filter (is_in f) zs)) frames) is.whole ∙ later_frames g end front back frames apart.0 is.below in
+    ap (λ (zs : List ℕ). sum_by (λ (f : Range). g (filter (is_in f) zs)) frames) is.whole
+    ∙ later_frames g end front back frames apart.0 is.below in
     record {
       addresses =
           omega (

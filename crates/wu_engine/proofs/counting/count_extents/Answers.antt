@@ -11,7 +11,8 @@ count_in-requires-clause-lists c =
     let found = found_in c.args.frames.now.ranges c.args.parts.now.memory in
     rw c.deref-2.ensures.value
     (are_lists found c.in_ok-terms.terms.items c.in_ok-lists.lists.items
-    (c.in_ok-lists.ensures.lists ∙ ap (map (list_at found)) c.deref.ensures.value) c.in_ok-lists.ensures.ascending c.in_ok-terms.ensures.ascending)
+    (c.in_ok-lists.ensures.lists ∙ ap (map (list_at found)) c.deref.ensures.value) c.in_ok-lists.ensures.ascending
+    c.in_ok-terms.ensures.ascending)
 
 pub count_in-requires-clause-few : goal.count_in-requires-clause-few
 count_in-requires-clause-few c =
@@ -20,7 +21,8 @@ count_in-requires-clause-few c =
 pub returns : goal.returns
 returns c = λ live s uid is.
     let found = found_in c.args.frames.now.ranges c.args.parts.now.memory in
-    counted c.args.frames.now live c.args.parts.now.memory s uid is (region_of c.args.expr.now) c.in_ok-terms.terms.items c.in_ok-terms.ensures
+    counted c.args.frames.now live c.args.parts.now.memory s uid is (region_of c.args.expr.now) c.in_ok-terms.terms.items
+    c.in_ok-terms.ensures
     c.in_ok-lists.lists.items c.in_ok-hits.hits c.in_ok-hits.files
     (c.in_ok-lists.ensures.lists ∙ ap (map (list_at found)) c.deref.ensures.value)
     (rw (c.deref-2.ensures.value, c.as_slice.ensures) at c.in_ok-hits.ensures.hits)

@@ -9,7 +9,8 @@ use Rattle.wu_engine.proofs.listing.lines_of.Goals as goal
 pub loop-i-preserved : goal.loop-i-preserved
 loop-i-preserved c = λ texts.
     lines_more (λ (r : Ranked). line_of (map (shown_of texts) c.args.view.now) (in_its_file c.args.space.now.ranges c.args.view.now r))
-    c.loop-i.lines.items c.push.new.self.items c.args.top.now c.loop-i.i _ c.in_ok-line_of.field-0 c.loop-i-test.true (c.loop-i.invariant texts)
+    c.loop-i.lines.items c.push.new.self.items c.args.top.now c.loop-i.i _ c.in_ok-line_of.field-0 c.loop-i-test.true
+    (c.loop-i.invariant texts)
     c.in_ok-push.ensures.items (c.in_ok-line_of.ensures texts)
 
 pub returns : goal.returns
