@@ -12,7 +12,7 @@ use Rattle.wu_parts.specs.declared.chains.Chain.{Chain}
 use Rattle.wu_token.specs.Words.{IsTerm}
 use Rattle.wu_parts.specs.Memory.{Lists, Memory}
 use Rattle.wu_parts.specs.Lists.{AscendBetween, IsList, with_address, with_posting}
-use Rattle.wu_parts.specs.Chains.{places_from, places_of, list_of, lists_of, AreChains, moved, all_moved}
+use Rattle.wu_parts.specs.Chains.{places_from, places_of, list_of, lists_of, AreChains, moved, all_moved, memory_of}
 use Rattle.wu_parts.proofs.Ascending.{ascend-bounds, ascend-filter, ascend-higher, ascend-last, ascend-length, ascend-lower, ascend-moved, ascend-push}
 use Rattle.wu_parts.proofs.Putting.{found_in, raised, lists-with_address}
 
@@ -82,7 +82,8 @@ held-found start links term [] chain h = absurd cc
 held-found start links term (e ∷ es) chain h =
     elim (is_key term e.0) as
     (λ b. cond b (Some e.1) (lookup (is_key term) es) ≡ Some chain
-    → unwrap_or (cond b (Some (moved start (places_of links e.1))) (lookup (pointwise nat_eq term) (all_moved start (lists_of links es)))) []
+    → unwrap_or (cond b (Some (moved start (places_of links e.1))) (lookup (pointwise nat_eq term) (all_moved start (lists_of links es))))
+    []
     ≡ moved start (places_of links chain)) [
       | true ↦ λ q. let same : e.1 ≡ chain = cc in ap (λ (c : Chain). moved start (places_of links c)) same
       | false ↦ λ q. held-found start links term es chain q
@@ -94,7 +95,8 @@ held-absent start links term [] h = refl
 held-absent start links term (e ∷ es) h =
     elim (is_key term e.0) as
     (λ b. cond b (Some e.1) (lookup (is_key term) es) ≡ None
-    → unwrap_or (cond b (Some (moved start (places_of links e.1))) (lookup (pointwise nat_eq term) (all_moved start (lists_of links es)))) []
+    → unwrap_or (cond b (Some (moved start (places_of links e.1))) (lookup (pointwise nat_eq term) (all_moved start (lists_of links es))))
+    []
     ≡ []) [
       | true ↦ λ q. absurd cc
       | false ↦ λ q. held-absent start links term es q
@@ -137,7 +139,8 @@ same-lists_of links term (e ∷ es) chain h =
 
 -- a chain of a new term goes last
 new-lists_of : (links : List ℕ) (place : ℕ) (es : Entries) (k : Vec ℕ Global) (chain : Chain) → lookup (is_key k.items) es ≡ None
-    → places_of links chain ≡ place ∷ [] → lists_of links (insert_entry same_key es k chain) ≡ with_address k.items place (lists_of links es)
+    → places_of links chain ≡ place ∷ []
+    → lists_of links (insert_entry same_key es k chain) ≡ with_address k.items place (lists_of links es)
 new-lists_of links place [] k chain h t = ap (λ (l : List ℕ). (k.items, l) ∷ []) t
 new-lists_of links place (e ∷ es) k chain h t =
     elim (same_key k e.0) as
@@ -288,12 +291,9 @@ chains-given links longer term es more t a n h =
     (lists-with_address term (length links) (length links) (lists_of links es) t (omega arith) a) in
     subst (λ (end : ℕ). AllByRecursion (IsList end) (lists_of longer more)) (sym n) given
 
-abbrev pub made_memory : ℕ → ℕ → List ℕ → Entries → Memory
-made_memory start stored links es = record { lists = all_moved start (lists_of links es); stored = stored; end = start + length links }
-
 pub memory-given : (start stored : ℕ) (links longer : List ℕ) (term : List ℕ) (es more : Entries)
     → length longer ≡ length links + 1 → lists_of longer more ≡ with_address term (length links) (lists_of links es)
-    → made_memory start (stored + 1) longer more ≡ with_posting (made_memory start stored links es) (start + length links) term
+    → memory_of start (stored + 1) longer more ≡ with_posting (memory_of start stored links es) (start + length links) term
 memory-given start stored links longer term es more n h =
     let make : Lists → ℕ → Memory = λ lists end. record { lists = lists; stored = stored + 1; end = end } in
     let end : start + length longer ≡ start + length links + 1 = omega arith in
@@ -301,7 +301,7 @@ memory-given start stored links longer term es more n h =
 
 -- without links there are no postings, and the first address may be any
 pub memory-empty : (start address stored : ℕ) (links : List ℕ) (es : Entries) → length links ≡ 0 → AreChains links es
-    → made_memory address stored links es ≡ record (made_memory start stored links es) { end = address }
+    → memory_of address stored links es ≡ record (memory_of start stored links es) { end = address }
 memory-empty start address stored [] es n a =
     let make : Lists → ℕ → Memory = λ lists end. record { lists = lists; stored = stored; end = end } in
     let none : es ≡ [] = no_chains es a in
@@ -312,7 +312,7 @@ memory-empty start address stored (link ∷ links) es n a = absurd (omega arith)
 
 -- more links, and as many postings
 pub memory-append : (start stored : ℕ) (links more : List ℕ) (es : Entries) → AreChains links es
-    → made_memory start stored (links ++ more) es ≡ record (made_memory start stored links es) { end = start + length (links ++ more) }
+    → memory_of start stored (links ++ more) es ≡ record (memory_of start stored links es) { end = start + length (links ++ more) }
 memory-append start stored links more es a =
     let make : Lists → Memory = λ lists. record { lists = lists; stored = stored; end = start + length (links ++ more) } in
     ap make (ap (all_moved start) (lists_of-append links more es a))

@@ -1,12 +1,13 @@
 -- Chains of places, as in a hash table with chains whose links lie in one vector: each posting has a place, all terms share one list
 -- of links, and a place's link is the place before it of the same term. A new posting adds one link at the end, and changes none.
 -- They are the linked lists of postings of an in-memory index; see Büttcher, Clarke and Cormack, Information Retrieval, chapter 4.
-use Rattle.std.specs.Prelude.{ℕ, zero, suc, ◌+◌, List, [], ◌∷◌, ◌++◌, length, map, slice_index}
+use Rattle.std.specs.Prelude.{ℕ, zero, suc, ◌+◌, ◌^◌, ◌<◌, ◌≤◌, List, [], ◌∷◌, ◌++◌, length, map, slice_index}
 use Rattle.std.specs.List.{AllByRecursion}
 use Rattle.std.specs.declared.vec.Vec.{Vec}
 use Rattle.std.specs.declared.alloc.Global.{Global}
+use Rattle.wu_base.specs.declared.limits.TheConstants.{ADDRESSES_MAX}
 use Rattle.wu_parts.specs.declared.chains.Chain.{Chain}
-use Rattle.wu_parts.specs.Memory.{Lists}
+use Rattle.wu_parts.specs.Memory.{Lists, Memory}
 use Rattle.wu_parts.specs.Lists.{IsList}
 
 -- so many places, ascending: the newest last, and before it those from the place on that its link names; the first one's link names
@@ -35,3 +36,18 @@ moved start places = map (λ place. start + place) places
 
 abbrev pub all_moved : ℕ → Lists → Lists
 all_moved start lists = map (λ list. (list.0, moved start list.1)) lists
+
+-- what contracts see of so many postings in chains, where the first place has the address `start`
+abbrev pub memory_of : ℕ → ℕ → List ℕ → List (Vec ℕ Global × Chain) → Memory
+memory_of start stored links entries = record {
+  lists = all_moved start (lists_of links entries);
+  stored = stored;
+  end = start + length links;
+}
+
+-- what memory keeps at every moment
+pub record IsKept (start stored : ℕ) (links : List ℕ) (entries : List (Vec ℕ Global × Chain)) : Type 0 where
+  pub chains : AreChains links entries
+  pub few : stored ≤ length links
+  pub places : length links < 2 ^ 32
+  pub bounded : start + length links ≤ ADDRESSES_MAX

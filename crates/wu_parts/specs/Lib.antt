@@ -6,5 +6,4 @@ pub mod Contents
 
 pub mod Lists
 pub mod Chains
-pub mod ViewOfMemory
 pub mod ViewOfParts

@@ -34,11 +34,11 @@ impl Model for MemoryPostings {
 
     ghost Value = { Memory };
 
-    ghost use Rattle.wu_parts.specs.ViewOfMemory.{memory_of, IsKept};
+    ghost use Rattle.wu_parts.specs.Chains.{memory_of, IsKept};
 
-    ghost view = { memory_of };
+    ghost view = { λ m. memory_of m.start m.stored m.before.items m.chains.entries };
 
-    ghost invariant = { IsKept };
+    ghost invariant = { λ m. IsKept m.start m.stored m.before.items m.chains.entries };
 }
 
 impl MemoryPostings {

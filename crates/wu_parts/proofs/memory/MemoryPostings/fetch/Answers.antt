@@ -61,5 +61,6 @@ pub returns-in-None-clause-addresses : goal.returns-in-None-clause-addresses
 returns-in-None-clause-addresses c =
     let none : held c.args.self.now c.args.term.now ≡ [] =
     ap (λ (m : Memory). held m c.args.term.now) (sym c.self.view_is)
-    ∙ held-absent c.self.inside.start c.self.inside.before.items c.args.term.now c.self.inside.chains.entries (sym c.in-None.ensures.value) in
+    ∙ held-absent c.self.inside.start c.self.inside.before.items c.args.term.now c.self.inside.chains.entries
+    (sym c.in-None.ensures.value) in
     rw (none, c.new.ensures) refl

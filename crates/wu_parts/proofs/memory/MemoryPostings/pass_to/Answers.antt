@@ -1,8 +1,8 @@
 use Rattle.std.proofs.Common.{◌≡◌, ◌≤◌, ℕ, ◌+◌, ◌-◌, List, ◌++◌, length, length-append, replicate, ap, ap₂, sym, subst, ◌∙◌, arith, rules, vec_len}
 use Rattle.std.proofs.lemmas.List.{take_all}
 use Rattle.wu_parts.specs.Memory.{Memory}
-use Rattle.wu_parts.specs.Chains.{AreChains}
-use Rattle.wu_parts.proofs.Chaining.{chains-append, made_memory, memory-append, memory-empty}
+use Rattle.wu_parts.specs.Chains.{AreChains, memory_of}
+use Rattle.wu_parts.proofs.Chaining.{chains-append, memory-append, memory-empty}
 use Rattle.wu_parts.proofs.memory.MemoryPostings.pass_to.Goals as goal
 use Rattle.wu_parts.proofs.memory.MemoryPostings.pass_to.Goals.{In_ok-resize}
 
@@ -45,6 +45,6 @@ returns-clause-ok c =
     let start : ℕ = c.self.inside.start in
     let end : start + length (links ++ more c) ≡ c.args.address =
     omega (arith, ap length (filled c), count c, c.in_ok-places.ensures.places) in
-    ap (λ (l : List ℕ). made_memory start c.self.inside.stored l c.self.inside.chains.entries) (filled c)
+    ap (λ (l : List ℕ). memory_of start c.self.inside.stored l c.self.inside.chains.entries) (filled c)
     ∙ memory-append start c.self.inside.stored links (more c) c.self.inside.chains.entries c.self.invariant.chains
     ∙ ap₂ (λ (m : Memory) (n : ℕ). record m { end = n }) c.self.view_is end
