@@ -6,7 +6,6 @@ pub mod Skipping
 pub mod Walking
 pub mod Numbers
 pub mod TermLists
-pub mod Frames
 pub mod Phrases
 pub mod Carrying
 pub mod Unions
@@ -15,3 +14,14 @@ pub mod Covers
 pub mod Spans
 pub mod Combining
 pub mod Results
+pub mod WindowLengths
+pub mod OneFrame
+pub mod Moving
+pub mod Whole
+pub mod SameRegions
+pub mod PhrasesInFrames
+pub mod FramePlaces
+pub mod Needing
+pub mod LeavingOut
+pub mod FramesMet
+pub mod FrameCounts

@@ -104,12 +104,12 @@ ascending_append (x ∷ xs) ys xup yup apart = (
   ascending_append xs ys xup.1 yup (λ v w hv hw. apart v w (inr hv) hw),
 )
 
-from_moved : (start : ℕ) (xs : List Extent) (x : Extent) → Has (map (moved start) xs) x → (y : Extent) × Has xs y × (moved start y ≡ x)
+pub from_moved : (start : ℕ) (xs : List Extent) (x : Extent) → Has (map (moved start) xs) x → (y : Extent) × Has xs y × (moved start y ≡ x)
 from_moved start [] x has = absurd has
 from_moved start (y ∷ ys) x (inl here) = (y, inl refl, here)
 from_moved start (y ∷ ys) x (inr more) = let m = from_moved start ys x more in (m.0, inr m.1, m.2)
 
-moved_ascend : (start : ℕ) (xs : List Extent) → IsAscending xs → IsAscending (map (moved start) xs)
+pub moved_ascend : (start : ℕ) (xs : List Extent) → IsAscending xs → IsAscending (map (moved start) xs)
 moved_ascend start [] up = tt
 moved_ascend start (x ∷ xs) up = (
   all_from (IsBefore (moved start x)) (map (moved start) xs) (λ z has.
@@ -121,25 +121,25 @@ moved_ascend start (x ∷ xs) up = (
   moved_ascend start xs up.1,
 )
 
-record LiesIn (frame : Range) (x : Extent) : Type 0 where
-  low : frame.start ≤ x.start
-  ordered : x.start ≤ x.end
-  high : x.end < frame.start + frame.len
+pub record LiesIn (frame : Range) (x : Extent) : Type 0 where
+  pub low : frame.start ≤ x.start
+  pub ordered : x.start ≤ x.end
+  pub high : x.end < frame.start + frame.len
 
-lies_in : (region : Region) (lists : List TermList) (frame : Range) (x : Extent) → Has (frame_hits region lists frame) x → LiesIn frame x
-lies_in region lists frame x has =
+pub extent_lies : (region : Region) (lists : List TermList) (frame : Range) (x : Extent) → Has (frame_hits region lists frame) x → LiesIn frame x
+extent_lies region lists frame x has =
     let m = from_moved frame.start (hits region (stands_by lists frame.start) frame.len) x has in
     let is = hits_in region (stands_by lists frame.start) frame.len m.0 m.1 in
     let ordered : m.0.start ≤ m.0.end = is.ordered in
     let within : m.0.end < frame.len = is.within in
     subst (λ (e : Extent). LiesIn frame e) m.2 (record { low = omega arith; ordered = omega arith; high = omega arith })
 
-lies_behind : (region : Region) (lists : List TermList) (frames : List Range) (place : ℕ) (x : Extent)
+pub lies_behind : (region : Region) (lists : List TermList) (frames : List Range) (place : ℕ) (x : Extent)
     → AllByRecursion (λ next. place ≤ next.start) frames → Has (frames_hits region lists frames) x → (place ≤ x.start) × (x.start ≤ x.end)
 lies_behind region lists [] place x after has = absurd has
 lies_behind region lists (frame ∷ frames) place x after has =
     elim (has_either (frame_hits region lists frame) (frames_hits region lists frames) x has) [
-      | inl here ↦ let l = lies_in region lists frame x here in let first : place ≤ frame.start = after.0 in
+      | inl here ↦ let l = extent_lies region lists frame x here in let first : place ≤ frame.start = after.0 in
           (omega (arith, l.low), l.ordered)
       | inr more ↦ lies_behind region lists frames place x after.1 more
     ]
@@ -152,7 +152,7 @@ frames_ascend region lists (frame ∷ frames) apart =
     (moved_ascend frame.start _ (hits_ascend region (stands_by lists frame.start) frame.len))
     (frames_ascend region lists frames apart.1)
     (λ x y hx hy.
-    let l = lies_in region lists frame x hx in
+    let l = extent_lies region lists frame x hx in
     let b = lies_behind region lists frames (frame.start + frame.len) y apart.0 hy in
     record { starts = omega (arith, l.ordered, l.high, b.0); ends = omega (arith, l.high, b.0, b.1) })
 

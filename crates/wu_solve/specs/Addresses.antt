@@ -1,5 +1,5 @@
 -- Where terms stand, by the lists of their addresses.
-use Rattle.std.specs.Prelude.{◌≡◌, ℕ, suc, ◌+◌, ◌<◌, ◌==◌, ◌&&◌, Bool, true, false, List, map, length, take, drop, nat_eq, slice_index_or}
+use Rattle.std.specs.Prelude.{◌≡◌, ℕ, suc, ◌+◌, ◌<◌, ◌≤◌, ◌==◌, ◌&&◌, Bool, true, false, List, map, length, take, drop, nat_eq, slice_index, slice_index_or}
 use Rattle.std.specs.List.{list_any, AllByRecursion}
 use Rattle.std.specs.List.Sorted.{IsStrictlySortedBy, IsStrictlyIncreasing}
 use Rattle.std.specs.Cmp.Lexicographic.{pointwise, slice_cmp}
@@ -33,3 +33,9 @@ pub record IsListOf (term : List ℕ) (lists : List TermList) (place : ℕ) : Ty
   pub same : (d : TermList) → pointwise nat_eq term (slice_index_or lists place d).term ≡ true
   pub before : AllByRecursion (IsOther term) (take place lists)
   pub after : AllByRecursion (IsOther term) (drop (suc place) lists)
+
+-- where the addresses below the bound end
+pub record EndsBelow (addresses : List ℕ) (bound place : ℕ) : Type 0 where
+  pub within : place ≤ length addresses
+  pub front : (k : ℕ) → k < place → slice_index addresses k < bound
+  pub rest : (k : ℕ) → place ≤ k → k < length addresses → bound ≤ slice_index addresses k

@@ -9,3 +9,6 @@ pub mod Operands
 pub mod Prefixes
 pub mod Merging
 pub mod FirstExtents
+pub mod Windows
+pub mod Frames
+pub mod Needed

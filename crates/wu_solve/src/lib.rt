@@ -5,14 +5,18 @@
 #![tactic(auto)]
 
 mod containment;
+mod counting;
 mod first_extents;
+mod framing;
 mod laws;
 mod lookup;
 mod merging;
 mod operands;
 mod overlaps;
 mod solving;
+mod windows;
 
+pub use counting::{Counts, count};
 pub use laws::{extents_ascend, frames_of_texts};
 pub use lookup::find_term;
 pub use solving::solve;

@@ -1,33 +1,35 @@
 //! Looking up terms and addresses.
-ghost use Rattle.std.specs.Prelude.{◌≡◌, ℕ, ◌+◌, ◌^◌, ◌<◌, ◌≤◌, ◌&&◌, filter, length, map, nat_le, nat_lt, slice_index, MatchOption};
+ghost use Rattle.std.specs.Prelude.{◌≡◌, ℕ, filter, map, nat_le, MatchOption};
 ghost use Rattle.std.specs.List.{AllByRecursion};
 ghost use Rattle.std.specs.List.Sorted.{IsStrictlySortedBy, IsStrictlyIncreasing};
 ghost use Rattle.std.specs.Cmp.Lexicographic.{slice_cmp};
 ghost use Rattle.std.specs.Ordering.{nat_cmp};
-ghost use Rattle.wu_solve.specs.Addresses.{is_among, has_address, AreLists, IsOther, IsListOf};
+ghost use Rattle.wu_solve.specs.Addresses.{is_among, has_address, AreLists, EndsBelow, IsOther, IsListOf};
 
-use wu_base::{Range, TermList, is_among};
+use wu_base::{TermList, is_among};
+
+/// How many addresses in front are below the bound, found by steps that double.
+fn below(addresses: &[u64], bound: u64) -> usize
+    requires { IsStrictlyIncreasing addresses.now }
+    ensures { EndsBelow addresses.now bound result }
+{
+    let mut passed = 0;
+    let mut step = 1;
+    while step <= addresses.len() - passed && addresses[passed + (step - 1)] < bound {
+        passed += step;
+        step = step.saturating_mul(2);
+    }
+    let reach = (step - 1).min(addresses.len() - passed);
+    let near = &addresses[passed..passed + reach];
+    passed + near.partition_point(|address| *address < bound)
+}
 
 /// The addresses from the bound on.
 pub fn addresses_from(addresses: &[u64], bound: u64) -> &[u64]
     requires { IsStrictlyIncreasing addresses.now }
     ensures { result.now ≡ filter (λ a. nat_le bound a) addresses.now }
 {
-    match addresses.binary_search(&bound) {
-        Ok(i) => &addresses[i..],
-        Err(i) => &addresses[i..],
-    }
-}
-
-/// The addresses below the bound.
-pub fn addresses_below(addresses: &[u64], bound: u64) -> &[u64]
-    requires { IsStrictlyIncreasing addresses.now }
-    ensures { result.now ≡ filter (λ a. nat_lt a bound) addresses.now }
-{
-    match addresses.binary_search(&bound) {
-        Ok(i) => &addresses[..i],
-        Err(i) => &addresses[..i],
-    }
+    &addresses[below(addresses, bound)..]
 }
 
 /// The place of the term's list, in lists that ascend by their terms' bytes; None exactly where the
@@ -60,17 +62,4 @@ pub fn has_address(lists: &[TermList], term: &[u8], address: u64) -> bool
     ensures { result ≡ has_address lists.now term.now address }
 {
     is_among(&address, addresses_of(lists, term))
-}
-
-/// The term's addresses in the frame.
-pub fn addresses_in<'a>(lists: &'a [TermList], term: &[u8], frame: Range) -> &'a [u64]
-    requires lists { AreLists lists.now }
-    requires frame { frame.start + frame.len ≤ 2 ^ 47 }
-    ensures ascending { IsStrictlyIncreasing result.now }
-    ensures within { (k : ℕ) → k < length result.now → (frame.start ≤ slice_index result.now k) × (slice_index result.now k < frame.start + frame.len) }
-    ensures same { (address : ℕ) → is_among result.now address
-        ≡ (has_address lists.now term.now address && (nat_le frame.start address && nat_lt address (frame.start + frame.len))) }
-{
-    let addresses = addresses_from(addresses_of(lists, term), frame.start);
-    addresses_below(addresses, frame.start + frame.len)
 }

@@ -1,19 +1,178 @@
-//! The extents of an expression that has no operator, at places counted from the frame's start.
-ghost use Rattle.std.specs.Prelude.{◌≡◌, ℕ, ◌+◌, ◌^◌, ◌<◌, ◌≤◌, List, ◌∷◌, length, slice_index, filter, map, nat_le, nat_lt, nat_eq, IfOk, true};
+//! The extents of an expression that has no operator, over frames that lie apart.
+ghost use Rattle.std.specs.Prelude.{◌≡◌, ℕ, ◌+◌, ◌-◌, ◌^◌, ◌<◌, ◌≤◌, List, [], ◌∷◌, ◌++◌, All, length, drop, filter, map, nat_eq, nat_lt, IfOk, OnOk, if◌then◌else◌};
 ghost use Rattle.std.specs.List.{range_with_len};
 ghost use Rattle.std.specs.List.Sorted.{IsStrictlyIncreasing};
-ghost use Rattle.wu_gcl.specs.Extents.{words_stand, is_in};
+ghost use Rattle.wu_gcl.specs.Extents.{words_stand};
 ghost use Rattle.wu_gcl.specs.Regions.{Phrase, Window};
-ghost use Rattle.wu_solve.specs.Addresses.{is_among, has_address, stands_by, AreLists};
+ghost use Rattle.wu_solve.specs.Addresses.{has_address, AreLists};
 ghost use Rattle.wu_base.specs.declared.addresses.TermList.{TermList};
-ghost use Rattle.wu_solve.specs.Listing.{Lists};
-ghost use Rattle.wu_solve.specs.Operands.{run_from};
+ghost use Rattle.wu_solve.specs.Frames.{lies_in_one};
+ghost use Rattle.wu_solve.specs.Operands.{run_from, runs_around};
 ghost use Rattle.wu_solve.specs.Prefixes.{PrefixStands};
+ghost use Rattle.wu_solve.specs.Solving.{moved, frame_hits, frames_hits, IsFrame, AreApart};
 
-use crate::lookup::{addresses_in, has_address};
+use crate::framing::frame_at;
+use crate::lookup::{addresses_from, addresses_of, has_address};
 use crate::overlaps::{Stretch, farther, known_words, overlaps};
 use std::alloc::Global;
 use wu_base::{Bytes, Extent, NoMemory, Range, TermList};
+
+/// The extents with so many places before and after one of the addresses that lie in one frame.
+fn runs_in(
+    alloc: Global,
+    addresses: &[u64],
+    before: u64,
+    after: u64,
+    frames: &[Range],
+) -> Result<Vec<Extent>, NoMemory>
+    requires ascending { IsStrictlyIncreasing addresses.now }
+    requires frames { All IsFrame frames.now }
+    requires apart { AreApart frames.now }
+    requires fits { before + after < 2 ^ 63 }
+    ensures { IfOk result (λ v. v.items ≡ filter (lies_in_one frames.now) (runs_around before after addresses.now)) }
+{
+    let mut found = Vec::new(alloc);
+    let mut rest = addresses_from(addresses, before);
+    let mut place = 0;
+    while let Some(address) = rest.first() {
+        let start = *address - before;
+        place = frame_at(frames, place, start);
+        if place == frames.len() {
+            return Ok(found);
+        }
+        let frame = frames[place];
+        if start < frame.start {
+            rest = addresses_from(rest, frame.start + before);
+        } else {
+            let end = *address + after;
+            put_before(&mut found, Extent { start, end }, frame.start + frame.len)?;
+            rest = behind_first(rest);
+        }
+    }
+    Ok(found)
+}
+
+/// What is left behind the first.
+fn behind_first(addresses: &[u64]) -> &[u64]
+    requires { 0 < length addresses.now }
+    ensures { result.now ≡ drop 1 addresses.now }
+{
+    &addresses[1..]
+}
+
+/// Puts the extent, if it ends before the end of its frame.
+fn put_before(found: &mut Vec<Extent>, extent: Extent, end: u64) -> Result<(), NoMemory>
+    ensures { OnOk result (found.new.items ≡ found.old.items ++ (if nat_lt extent.end end then extent ∷ [] else [])) }
+{
+    if extent.end < end {
+        found.push(extent)?;
+    }
+    Ok(())
+}
+
+/// The places of the term.
+pub fn term(
+    alloc: Global,
+    term: &[u8],
+    frames: &[Range],
+    lists: &[TermList],
+) -> Result<Vec<Extent>, NoMemory>
+    requires lists { AreLists lists.now }
+    requires frames { All IsFrame frames.now }
+    requires apart { AreApart frames.now }
+    ensures { IfOk result (λ v. v.items ≡ frames_hits (Phrase (term.now ∷ [])) lists.now frames.now) }
+{
+    runs_in(alloc, addresses_of(lists, term), 0, 0, frames)
+}
+
+/// The extents at which the words stand one after the other.
+pub fn phrase(
+    alloc: Global,
+    words: &[Bytes],
+    frames: &[Range],
+    lists: &[TermList],
+) -> Result<Vec<Extent>, NoMemory>
+    requires lists { AreLists lists.now }
+    requires frames { All IsFrame frames.now }
+    requires apart { AreApart frames.now }
+    ensures { IfOk result (λ v. v.items ≡ frames_hits (Phrase words.now) lists.now frames.now) }
+{
+    match words {
+        [] => Ok(Vec::new(alloc)),
+        [word] => term(alloc, word.as_slice(), frames, lists),
+        _ => words_together(alloc, words, frames, lists),
+    }
+}
+
+/// The extents of a phrase, found from the addresses of its rarest word.
+fn words_together(
+    alloc: Global,
+    words: &[Bytes],
+    frames: &[Range],
+    lists: &[TermList],
+) -> Result<Vec<Extent>, NoMemory>
+    requires some { 0 < length words.now }
+    requires lists { AreLists lists.now }
+    requires frames { All IsFrame frames.now }
+    requires apart { AreApart frames.now }
+    ensures { IfOk result (λ v. v.items ≡ frames_hits (Phrase words.now) lists.now frames.now) }
+{
+    let rarest = rarest(words, lists);
+    let addresses = addresses_of(lists, words[rarest].as_slice());
+    let after = words.len() - rarest - 1;
+    let runs = runs_in(alloc, addresses, rarest as u64, after as u64, frames)?;
+    standing(alloc, words, &runs, lists)
+}
+
+/// The place of a word with the fewest addresses.
+fn rarest(words: &[Bytes], lists: &[TermList]) -> usize
+    requires some { 0 < length words.now }
+    requires lists { AreLists lists.now }
+    ensures { result < length words.now }
+{
+    let mut rarest = 0;
+    let mut fewest = usize::MAX;
+    for i in 0..words.len() {
+        let count = addresses_of(lists, words[i].as_slice()).len();
+        if count < fewest {
+            rarest = i;
+            fewest = count;
+        }
+    }
+    rarest
+}
+
+/// Those of the extents at whose start the words stand one after the other. Where no address has two
+/// terms, words are looked up at most twice as often as there are extents and addresses under them,
+/// however often the phrase repeats itself: what an earlier match tells of a later one isn't looked
+/// up again.
+fn standing(
+    alloc: Global,
+    words: &[Bytes],
+    extents: &[Extent],
+    lists: &[TermList],
+) -> Result<Vec<Extent>, NoMemory>
+    requires lists { AreLists lists.now }
+    requires low { All (λ x. x.start < 2 ^ 47) extents.now }
+    ensures { IfOk result (λ v. v.items ≡ filter (λ x. words_stand (has_address lists.now) words.now x.start) extents.now) }
+{
+    let overlaps = overlaps(alloc, words)?;
+    let mut stretch = Stretch { start: 0, count: 0 };
+    let mut found = Vec::new(alloc);
+    for extent in extents {
+        let known = known_words(stretch, &overlaps, extent.start);
+        let count = words_from(lists, words, extent.start, known);
+        let here = Stretch {
+            start: extent.start,
+            count,
+        };
+        stretch = farther(stretch, here);
+        if count == words.len() {
+            found.push(*extent)?;
+        }
+    }
+    Ok(found)
+}
 
 /// How many of the words, the first ones, stand one after the other from the address on, where so
 /// many are known to.
@@ -34,73 +193,39 @@ fn words_from(lists: &[TermList], words: &[Bytes], address: u64, known: usize) -
     words.len()
 }
 
-/// The extents at which the words stand one after the other. Where no address has two terms, words
-/// are looked up at most three times as often as the frame has addresses, however often the phrase
-/// repeats itself: what an earlier match tells of a later one isn't looked up again.
-pub fn phrase(
-    alloc: Global,
-    first: &[u8],
-    more: &[Bytes],
-    frame: Range,
-    lists: &[TermList],
-) -> Result<Vec<Extent>, NoMemory>
-    requires lists { AreLists lists.now }
-    requires frame { frame.start + frame.len ≤ 2 ^ 47 }
-    ensures { IfOk result (λ v. Lists frame.len (is_in (Phrase (first.now ∷ more.now)) (stands_by lists.now frame.start) frame.len) v.items) }
+/// Each extent of so many addresses, frame by frame.
+pub fn windows(alloc: Global, size: u16, frames: &[Range]) -> Result<Vec<Extent>, NoMemory>
+    requires { All IsFrame frames.now }
+    ensures { (lists : List TermList) → IfOk result (λ v. v.items ≡ frames_hits (Window size) lists frames.now) }
 {
-    let after = more.len() as u64;
-    if after >= frame.len {
-        return Ok(Vec::new(alloc));
-    }
-    let overlaps = overlaps(alloc, more)?;
-    let addresses = addresses_in(lists, first, frame);
-    let mut stretch = Stretch { start: 0, count: 0 };
     let mut found = Vec::new(alloc);
-    for address in addresses {
-        let start = *address - frame.start;
-        let known = known_words(stretch, &overlaps, *address + 1);
-        let count = words_from(lists, more, *address + 1, known);
-        let here = Stretch {
-            start: *address + 1,
-            count,
-        };
-        stretch = farther(stretch, here);
-        if after < frame.len - start && count == more.len() {
-            found.push(Extent {
-                start,
-                end: start + after,
-            })?;
-        }
+    for frame in frames {
+        put_windows(&mut found, u64::from(size), *frame)?;
     }
     Ok(found)
 }
 
-/// Each extent of so many addresses.
-pub fn windows(alloc: Global, size: u16, frame: Range) -> Result<Vec<Extent>, NoMemory>
-    requires { frame.len ≤ 2 ^ 47 }
-    ensures { (lists : List TermList) → IfOk result (λ v. Lists frame.len (is_in (Window size) (stands_by lists frame.start) frame.len) v.items) }
+/// Puts each extent of so many addresses of the frame.
+fn put_windows(found: &mut Vec<Extent>, size: u64, frame: Range) -> Result<(), NoMemory>
+    requires { IsFrame frame }
+    ensures { (lists : List TermList) → OnOk result (found.new.items ≡ found.old.items ++ frame_hits (Window size) lists frame) }
 {
-    let places = u64::from(size);
-    if places == 0 {
-        return Ok(Vec::new(alloc));
+    if size == 0 || frame.len < size {
+        return Ok(());
     }
-    if places > frame.len {
-        return Ok(Vec::new(alloc));
-    }
-    Ok(runs(alloc, places - 1, frame.len - places + 1)?)
+    put_runs(found, size - 1, frame.start, frame.len - size + 1)
 }
 
-/// The first so many extents that have so many addresses after the first.
-fn runs(alloc: Global, after: u64, count: u64) -> Result<Vec<Extent>, NoMemory>
-    requires { count + after < 2 ^ 63 }
-    ensures { IfOk result (λ v. v.items ≡ map (run_from after) (range_with_len 0 count)) }
+/// Puts so many extents, from the start on, each with so many addresses after its first.
+fn put_runs(found: &mut Vec<Extent>, after: u64, start: u64, count: u64) -> Result<(), NoMemory>
+    requires { start + count + after < 2 ^ 63 }
+    ensures { OnOk result (found.new.items ≡ found.old.items ++ map (moved start) (map (run_from after) (range_with_len 0 count))) }
 {
-    let mut found = Vec::new(alloc);
-    for start in 0..count {
+    for i in 0..count {
         found.push(Extent {
-            start,
-            end: start + after,
+            start: start + i,
+            end: start + (i + after),
         })?;
     }
-    Ok(found)
+    Ok(())
 }

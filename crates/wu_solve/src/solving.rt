@@ -1,17 +1,17 @@
 //! The extents of a whole expression.
-ghost use Rattle.std.specs.Prelude.{◌≡◌, ℕ, ◌+◌, ◌^◌, ◌<◌, ◌≤◌, ◌++◌, Bool, All, map, IfOk, OnOk};
-ghost use Rattle.wu_base.specs.declared.addresses.Extent.{Extent};
+ghost use Rattle.std.specs.Prelude.{◌≡◌, ◌+◌, ◌^◌, ◌<◌, ◌≤◌, List, [], ◌∷◌, All, IfOk, IfSome};
+ghost use Rattle.wu_base.specs.declared.addresses.TermList.{TermList};
 ghost use Rattle.wu_gcl.specs.declared.expressions.Op.TheVariants.{FollowedBy};
-ghost use Rattle.wu_gcl.specs.Extents.{combined, is_in, is_term_at};
-ghost use Rattle.wu_gcl.specs.Reading.{tag_text};
-ghost use Rattle.wu_gcl.specs.Regions.{region_of};
-ghost use Rattle.wu_solve.specs.Addresses.{stands_by, AreLists};
-ghost use Rattle.wu_solve.specs.Listing.{IsAscending, Lists};
-ghost use Rattle.wu_solve.specs.Solving.{moved, frames_hits, IsFrame, AreApart};
+ghost use Rattle.wu_gcl.specs.Regions.{Region, region_of, Mark, Window, Both};
+ghost use Rattle.wu_solve.specs.Addresses.{AreLists};
+ghost use Rattle.wu_solve.specs.Listing.{IsAscending};
+ghost use Rattle.wu_solve.specs.Solving.{frames_hits, IsFrame, AreApart};
 
 use crate::containment::{held, holding};
+use crate::framing::{are_apart, lying_in};
 use crate::merging::{both_of, followed_by, one_of};
-use crate::operands::{phrase, windows};
+use crate::operands::{phrase, term, windows};
+use crate::windows::{held_by_windows, holding_windows};
 use std::alloc::Global;
 use wu_base::{Extent, NoMemory, Range, TermList};
 use wu_gcl::{Expr, Op, Tag, tag_bytes};
@@ -22,11 +22,14 @@ fn combine(
     op: Op,
     left: &[Extent],
     right: &[Extent],
+    frames: &[Range],
 ) -> Result<Vec<Extent>, NoMemory>
+    requires frames { All IsFrame frames.now }
+    requires apart { AreApart frames.now }
     requires left_ascends { IsAscending left.now }
     requires right_ascends { IsAscending right.now }
-    ensures { (len : ℕ) → (one other : Extent → Bool) → Lists len one left.now → Lists len other right.now
-        → IfOk result (λ v. Lists len (combined op len one other) v.items) }
+    ensures { (one other : Region) → (lists : List TermList) → left.now ≡ frames_hits one lists frames.now
+        → right.now ≡ frames_hits other lists frames.now → IfOk result (λ v. v.items ≡ frames_hits (Both op one other) lists frames.now) }
 {
     match op {
         Op::Containing => holding(alloc, true, left, right),
@@ -34,18 +37,60 @@ fn combine(
         Op::NotContaining => holding(alloc, false, left, right),
         Op::NotContainedIn => held(alloc, false, left, right),
         Op::OneOf => one_of(alloc, left, right),
-        Op::BothOf => both_of(alloc, left, right),
-        Op::FollowedBy => followed_by(alloc, left, right),
+        Op::BothOf => lying_in(alloc, &both_of(alloc, left, right)?, frames),
+        Op::FollowedBy => lying_in(alloc, &followed_by(alloc, left, right)?, frames),
+    }
+}
+
+/// The size of windows, if the expression is no more than these.
+fn window_size(expr: &Expr) -> Option<u16>
+    ensures { IfSome result (λ size. region_of expr.now ≡ Window size) }
+{
+    match expr {
+        Expr::Window(size) => Some(*size),
+        _ => None,
+    }
+}
+
+/// What the operator makes of extents and the windows of that size.
+fn combine_with_windows(
+    alloc: Global,
+    op: Op,
+    left: &[Extent],
+    size: u16,
+    frames: &[Range],
+) -> Result<Vec<Extent>, NoMemory>
+    requires frames { All IsFrame frames.now }
+    requires apart { AreApart frames.now }
+    requires ascend { IsAscending left.now }
+    ensures { (one : Region) → (lists : List TermList) → left.now ≡ frames_hits one lists frames.now
+        → IfOk result (λ v. v.items ≡ frames_hits (Both op one (Window size)) lists frames.now) }
+{
+    match op {
+        Op::Containing => holding_windows(alloc, true, left, size),
+        Op::ContainedIn => held_by_windows(alloc, true, left, size, frames),
+        Op::NotContaining => holding_windows(alloc, false, left, size),
+        Op::NotContainedIn => held_by_windows(alloc, false, left, size, frames),
+        Op::OneOf | Op::BothOf | Op::FollowedBy => {
+            let right = windows(alloc, size, frames)?;
+            combine(alloc, op, left, &right, frames)
+        }
     }
 }
 
 /// The places of the tag.
-fn tags(alloc: Global, tag: Tag, frame: Range, lists: &[TermList]) -> Result<Vec<Extent>, NoMemory>
+fn tags(
+    alloc: Global,
+    tag: Tag,
+    frames: &[Range],
+    lists: &[TermList],
+) -> Result<Vec<Extent>, NoMemory>
     requires lists { AreLists lists.now }
-    requires frame { IsFrame frame }
-    ensures { IfOk result (λ v. Lists frame.len (is_term_at (stands_by lists.now frame.start) (tag_text tag)) v.items) }
+    requires frames { All IsFrame frames.now }
+    requires apart { AreApart frames.now }
+    ensures { IfOk result (λ v. v.items ≡ frames_hits (Mark tag) lists.now frames.now) }
 {
-    phrase(alloc, tag_bytes(tag), &[], frame, lists)
+    term(alloc, tag_bytes(tag), frames, lists)
 }
 
 /// The innermost extents from the one tag to the other.
@@ -53,60 +98,47 @@ fn between(
     alloc: Global,
     first: Tag,
     last: Tag,
-    frame: Range,
+    frames: &[Range],
     lists: &[TermList],
 ) -> Result<Vec<Extent>, NoMemory>
     requires lists { AreLists lists.now }
-    requires frame { IsFrame frame }
-    ensures { IfOk result (λ v. Lists frame.len (combined FollowedBy frame.len
-        (is_term_at (stands_by lists.now frame.start) (tag_text first))
-        (is_term_at (stands_by lists.now frame.start) (tag_text last))) v.items) }
+    requires frames { All IsFrame frames.now }
+    requires apart { AreApart frames.now }
+    ensures { IfOk result (λ v. v.items ≡ frames_hits (Both FollowedBy (Mark first) (Mark last)) lists.now frames.now) }
 {
-    let left = tags(alloc, first, frame, lists)?;
-    let right = tags(alloc, last, frame, lists)?;
-    combine(alloc, Op::FollowedBy, &left, &right)
+    let left = tags(alloc, first, frames, lists)?;
+    let right = tags(alloc, last, frames, lists)?;
+    combine(alloc, Op::FollowedBy, &left, &right, frames)
 }
 
-/// The extents of the expression in one frame, at places counted from the frame's start.
-pub fn solve_frame(
+/// The extents of the expression in frames that lie apart, in one walk over all of them: of each
+/// operand and operator one list, whatever the number of frames.
+pub fn solve_apart(
     alloc: Global,
     expr: &Expr,
-    frame: Range,
+    frames: &[Range],
     lists: &[TermList],
 ) -> Result<Vec<Extent>, NoMemory>
     requires lists { AreLists lists.now }
-    requires frame { IsFrame frame }
-    ensures { IfOk result (λ v. Lists frame.len (is_in (region_of expr.now) (stands_by lists.now frame.start) frame.len) v.items) }
+    requires frames { All IsFrame frames.now }
+    requires apart { AreApart frames.now }
+    ensures { IfOk result (λ v. v.items ≡ frames_hits (region_of expr.now) lists.now frames.now) }
 {
     match expr {
-        Expr::Phrase(words) => match words.as_slice() {
-            [] => Ok(Vec::new(alloc)),
-            [first, more @ ..] => phrase(alloc, first.as_slice(), more, frame, lists),
-        },
-        Expr::Tag(tag) => tags(alloc, *tag, frame, lists),
-        Expr::File => between(alloc, Tag::FileStart, Tag::FileEnd, frame, lists),
-        Expr::Line => between(alloc, Tag::LineStart, Tag::LineEnd, frame, lists),
-        Expr::Window(size) => windows(alloc, *size, frame),
+        Expr::Phrase(words) => phrase(alloc, words.as_slice(), frames, lists),
+        Expr::Tag(tag) => tags(alloc, *tag, frames, lists),
+        Expr::File => between(alloc, Tag::FileStart, Tag::FileEnd, frames, lists),
+        Expr::Line => between(alloc, Tag::LineStart, Tag::LineEnd, frames, lists),
+        Expr::Window(size) => windows(alloc, *size, frames),
         Expr::Both(op, left, right) => {
-            let left = solve_frame(alloc, left, frame, lists)?;
-            let right = solve_frame(alloc, right, frame, lists)?;
-            combine(alloc, *op, &left, &right)
+            let left = solve_apart(alloc, left, frames, lists)?;
+            if let Some(size) = window_size(right) {
+                return combine_with_windows(alloc, *op, &left, size, frames);
+            }
+            let right = solve_apart(alloc, right, frames, lists)?;
+            combine(alloc, *op, &left, &right, frames)
         }
     }
-}
-
-/// Puts the extents, at addresses, after those that were found.
-fn put_moved(found: &mut Vec<Extent>, start: u64, extents: &[Extent]) -> Result<(), NoMemory>
-    requires { All (λ x. (start + x.start < 2 ^ 64) × (start + x.end < 2 ^ 64)) extents.now }
-    ensures { OnOk result (found.new.items ≡ found.old.items ++ map (moved start) extents.now) }
-{
-    for extent in extents {
-        found.push(Extent {
-            start: start + extent.start,
-            end: start + extent.end,
-        })?;
-    }
-    Ok(())
 }
 
 /// The extents that the expression means, frame by frame in the order of the frames, each from its
@@ -127,10 +159,13 @@ pub fn solve(
     // Over frames that lie apart, starts and ends both ascend strictly.
     ensures ascending { AreApart frames.now → IfOk result (λ v. IsAscending v.items) }
 {
+    if are_apart(frames) {
+        return solve_apart(alloc, expr, frames, lists);
+    }
     let mut found = Vec::new(alloc);
     for frame in frames {
-        let extents = solve_frame(alloc, expr, *frame, lists)?;
-        put_moved(&mut found, frame.start, &extents)?;
+        let extents = solve_apart(alloc, expr, &[*frame], lists)?;
+        found.extend_from_slice(&extents)?;
     }
     Ok(found)
 }

@@ -1,25 +1,9 @@
-use Rattle.std.proofs.Common.{◌≡◌, arith}
-use Rattle.std.proofs.lemmas.Grind.{common_steps}
-use Rattle.wu_solve.specs.Addresses.{has_address, stands_by}
-use Rattle.wu_solve.specs.Operands.{phrase_extents}
-use Rattle.wu_solve.proofs.Phrases.{phrase_listed, no_room}
+use Rattle.std.proofs.Common.{◌≡◌, [], sym, arith}
+use Rattle.std.proofs.lemmas.List.{nil_from_length}
+use Rattle.wu_solve.proofs.SameRegions.{no_words_whole}
 use Rattle.wu_solve.proofs.operands.phrase.Goals as goal
 
-pub returns-then-after-frame : goal.returns-then-after-frame
-returns-then-after-frame c =
-    rw c.new.ensures.items
-    (no_room c.args.frame.len (stands_by c.args.lists.now c.args.frame.start) c.args.first.now c.args.more.now (omega arith))
-
-pub words_from-count-requires-clause-known : goal.words_from-count-requires-clause-known
-words_from-count-requires-clause-known c =
-    c.known_words-known.ensures.stand (has_address c.args.lists.now) c.args.more.now
-    (rw c.deref.ensures.value c.in_ok-overlaps.ensures) c.loop-address.invariant.stretch
-
-pub returns : goal.returns
-returns c =
-    let start = c.args.frame.start in
-    let len = c.args.frame.len in
-    let whole : c.loop-address.found.items
-    ≡ phrase_extents c.args.lists.now start len c.args.more.now c.addresses_in-addresses.result.now = grind (arith, common_steps) in
-    rw whole (phrase_listed c.args.lists.now start len c.args.first.now c.args.more.now c.addresses_in-addresses.result.now
-    (record { ascending = c.addresses_in-addresses.ensures.ascending; same = c.addresses_in-addresses.ensures.same }))
+pub returns-in-empty : goal.returns-in-empty
+returns-in-empty c =
+    let none : c.args.words.now ≡ [] = nil_from_length c.args.words.now (omega (arith, c.in-empty.len_below)) in
+    rw (none, c.new.ensures.items) (sym (no_words_whole c.args.lists.now c.args.frames.now))

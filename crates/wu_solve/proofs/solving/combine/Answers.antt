@@ -1,57 +1,69 @@
-use Rattle.std.proofs.Common.{◌≡◌, true, false}
+use Rattle.std.proofs.Common.{◌≡◌, true, false, ◌∙◌}
+use Rattle.std.specs.Prelude.{filter}
 use Rattle.std.proofs.lemmas.Result.{IfOk-weaker}
 use Rattle.wu_gcl.specs.declared.expressions.Op.TheVariants.{Containing, ContainedIn, NotContaining, NotContainedIn, OneOf, BothOf, FollowedBy}
-use Rattle.wu_gcl.specs.Extents.{combined}
-use Rattle.wu_solve.specs.Listing.{Lists}
+use Rattle.wu_gcl.specs.Regions.{Both}
+use Rattle.wu_solve.specs.Frames.{lies_in_one}
 use Rattle.wu_solve.specs.Merging.{holding, held, IsOneOf, IsCover, IsSpan, AreInnermost}
-use Rattle.wu_solve.proofs.Combining.{containing_combined, not_containing_combined, contained_in_combined, not_contained_in_combined, one_of_combined, both_of_combined, followed_by_combined}
+use Rattle.wu_solve.specs.Solving.{frames_hits}
+use Rattle.wu_solve.proofs.Whole.{containing_whole, not_containing_whole, contained_in_whole, not_contained_in_whole, one_of_whole, both_of_whole, followed_by_whole}
 use Rattle.wu_solve.proofs.solving.combine.Goals as goal
 
 pub returns-in-Containing : goal.returns-in-Containing
-returns-in-Containing c = λ len one other ly lz.
+returns-in-Containing c = λ one other lists is_left is_right.
     rw c.in-Containing.is
     (IfOk-weaker c.holding.result (λ v. v.items ≡ holding true c.args.left.now c.args.right.now)
-    (λ v. Lists len (combined Containing len one other) v.items)
-    (λ v same. rw same (containing_combined len one other c.args.left.now c.args.right.now ly lz)) c.holding.ensures)
+    (λ v. v.items ≡ frames_hits (Both Containing one other) lists c.args.frames.now)
+    (λ v same. same ∙ rw (is_left, is_right) (containing_whole one other lists c.args.frames.now c.requires.apart)) c.holding.ensures)
 
 pub returns-in-ContainedIn : goal.returns-in-ContainedIn
-returns-in-ContainedIn c = λ len one other ly lz.
+returns-in-ContainedIn c = λ one other lists is_left is_right.
     rw c.in-ContainedIn.is
     (IfOk-weaker c.held.result (λ v. v.items ≡ held true c.args.left.now c.args.right.now)
-    (λ v. Lists len (combined ContainedIn len one other) v.items)
-    (λ v same. rw same (contained_in_combined len one other c.args.left.now c.args.right.now ly lz)) c.held.ensures)
+    (λ v. v.items ≡ frames_hits (Both ContainedIn one other) lists c.args.frames.now)
+    (λ v same. same ∙ rw (is_left, is_right) (contained_in_whole one other lists c.args.frames.now c.requires.apart)) c.held.ensures)
 
 pub returns-in-NotContaining : goal.returns-in-NotContaining
-returns-in-NotContaining c = λ len one other ly lz.
+returns-in-NotContaining c = λ one other lists is_left is_right.
     rw c.in-NotContaining.is
     (IfOk-weaker c.holding-in-NotContaining.result (λ v. v.items ≡ holding false c.args.left.now c.args.right.now)
-    (λ v. Lists len (combined NotContaining len one other) v.items)
-    (λ v same. rw same (not_containing_combined len one other c.args.left.now c.args.right.now ly lz)) c.holding-in-NotContaining.ensures)
+    (λ v. v.items ≡ frames_hits (Both NotContaining one other) lists c.args.frames.now)
+    (λ v same. same ∙ rw (is_left, is_right) (not_containing_whole one other lists c.args.frames.now c.requires.apart))
+    c.holding-in-NotContaining.ensures)
 
 pub returns-in-NotContainedIn : goal.returns-in-NotContainedIn
-returns-in-NotContainedIn c = λ len one other ly lz.
+returns-in-NotContainedIn c = λ one other lists is_left is_right.
     rw c.in-NotContainedIn.is
     (IfOk-weaker c.held-in-NotContainedIn.result (λ v. v.items ≡ held false c.args.left.now c.args.right.now)
-    (λ v. Lists len (combined NotContainedIn len one other) v.items)
-    (λ v same. rw same (not_contained_in_combined len one other c.args.left.now c.args.right.now ly lz)) c.held-in-NotContainedIn.ensures)
+    (λ v. v.items ≡ frames_hits (Both NotContainedIn one other) lists c.args.frames.now)
+    (λ v same. same ∙ rw (is_left, is_right) (not_contained_in_whole one other lists c.args.frames.now c.requires.apart))
+    c.held-in-NotContainedIn.ensures)
 
 pub returns-in-OneOf : goal.returns-in-OneOf
-returns-in-OneOf c = λ len one other ly lz.
+returns-in-OneOf c = λ one other lists is_left is_right.
     rw c.in-OneOf.is
     (IfOk-weaker c.one_of.result (λ v. AreInnermost (IsOneOf c.args.left.now c.args.right.now) v.items)
-    (λ v. Lists len (combined OneOf len one other) v.items)
-    (λ v inner. one_of_combined len one other c.args.left.now c.args.right.now ly lz v.items inner) c.one_of.ensures)
+    (λ v. v.items ≡ frames_hits (Both OneOf one other) lists c.args.frames.now)
+    (λ v inner. one_of_whole one other lists c.args.frames.now c.requires.apart v.items (rw (is_left, is_right) at inner)) c.one_of.ensures)
 
-pub returns-in-BothOf : goal.returns-in-BothOf
-returns-in-BothOf c = λ len one other ly lz.
+pub returns-in_ok-both_of-in-BothOf : goal.returns-in_ok-both_of-in-BothOf
+returns-in_ok-both_of-in-BothOf c = λ one other lists is_left is_right.
+    let frames = c.args.frames.now in
+    let found = c.in_ok-both_of-in-BothOf.field-0.items in
+    let inner : AreInnermost (IsCover c.args.left.now c.args.right.now) found = c.in_ok-both_of-in-BothOf.ensures in
     rw c.in-BothOf.is
-    (IfOk-weaker c.both_of.result (λ v. AreInnermost (IsCover c.args.left.now c.args.right.now) v.items)
-    (λ v. Lists len (combined BothOf len one other) v.items)
-    (λ v inner. both_of_combined len one other c.args.left.now c.args.right.now ly lz v.items inner) c.both_of.ensures)
+    (IfOk-weaker c.lying_in.result (λ v. v.items ≡ filter (lies_in_one frames) c.deref.result.now)
+    (λ v. v.items ≡ frames_hits (Both BothOf one other) lists frames)
+    (λ v same. same ∙ rw c.deref.ensures.value (both_of_whole one other lists frames c.requires.apart found (rw (is_left, is_right) at inner)))
+    c.lying_in.ensures)
 
-pub returns-in-FollowedBy : goal.returns-in-FollowedBy
-returns-in-FollowedBy c = λ len one other ly lz.
+pub returns-in_ok-followed_by-in-FollowedBy : goal.returns-in_ok-followed_by-in-FollowedBy
+returns-in_ok-followed_by-in-FollowedBy c = λ one other lists is_left is_right.
+    let frames = c.args.frames.now in
+    let found = c.in_ok-followed_by-in-FollowedBy.field-0.items in
+    let inner : AreInnermost (IsSpan c.args.left.now c.args.right.now) found = c.in_ok-followed_by-in-FollowedBy.ensures in
     rw c.in-FollowedBy.is
-    (IfOk-weaker c.followed_by.result (λ v. AreInnermost (IsSpan c.args.left.now c.args.right.now) v.items)
-    (λ v. Lists len (combined FollowedBy len one other) v.items)
-    (λ v inner. followed_by_combined len one other c.args.left.now c.args.right.now ly lz v.items inner) c.followed_by.ensures)
+    (IfOk-weaker c.lying_in-in-FollowedBy.result (λ v. v.items ≡ filter (lies_in_one frames) c.deref-in-FollowedBy.result.now)
+    (λ v. v.items ≡ frames_hits (Both FollowedBy one other) lists frames)
+    (λ v same. same ∙ rw c.deref-in-FollowedBy.ensures.value (followed_by_whole one other lists frames c.requires.apart found (rw (is_left, is_right) at inner)))
+    c.lying_in-in-FollowedBy.ensures)
