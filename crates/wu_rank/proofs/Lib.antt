@@ -1,5 +1,9 @@
 pub mod Weights
+pub mod Ascending
+pub mod Parting
 pub mod Counts
+pub mod Sparse
+pub mod Sums
 pub mod Parts
 pub mod Sorting
 pub mod Orders

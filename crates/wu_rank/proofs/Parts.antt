@@ -1,41 +1,53 @@
--- How many units hold a word, and what a word adds to a score.
-use Rattle.std.proofs.Common.{◌≡◌, ◌==◌, ℕ, zero, suc, ◌+◌, ◌-◌, ◌*◌, ◌^◌, ◌<◌, ◌≤◌, Bool, true, false, cond, ◌||◌, Some, None, List, [], ◌∷◌, length, get_or, take, map, ◌++◌, if◌then◌else◌, refl, sym, ap, ap₂, ◌∙◌, inr, ⊎_elim, arith}
-use Rattle.std.specs.List.{All, sum_by, list_any, filter}
-use Rattle.std.proofs.lemmas.Bool.{cases_lt, lt-ltb, le-ltb}
-use Rattle.std.proofs.lemmas.List.Sums.{count_by_more_yes, count_by_more_no, get_or-le-sum_by, sum_by_more}
-use Rattle.std.proofs.lemmas.List.{take_all, get_or-map, map-append, append-nil, length-map}
-use Rattle.std.proofs.lemmas.List.Folds.{list_any_more}
-use Rattle.std.proofs.lemmas.List.Elements.{filter_more}
+-- What a word adds to a unit's score, and the scores for some words and for others.
+use Rattle.std.proofs.Common.{◌≡◌, ◌==◌, ℕ, zero, suc, ◌+◌, ◌-◌, ◌*◌, ◌^◌, ◌<◌, ◌≤◌, Bool, true, false, cond, eqb, ltb, ◌||◌, Option, Some, None, List, [], ◌∷◌, length, get_or, take, map, ◌++◌, refl, sym, subst, ap, ap₂, ◌∙◌, inr, ⊎_elim, arith}
+use Rattle.std.specs.List.{AllByRecursion, list_any, filter}
+use Rattle.std.proofs.lemmas.Bool.{cases_lt, lt-ltb, ltb-false, or_parts}
+use Rattle.std.proofs.lemmas.List.Sums.{get_or-le-sum_by, count_by-le-length, sum_by_more, sum_by-cons, sum_by-append}
+use Rattle.std.proofs.lemmas.List.{take_at}
+use Rattle.std.proofs.lemmas.List.Folds.{list_any-append}
 use Rattle.std.proofs.Math.Nat.{add-zero}
-use Rattle.std.proofs.Math.Bool.{or-true, or-false}
 use Rattle.std.proofs.Math.Dec.{eqb-suc-zero}
 use Rattle.wu_base.specs.declared.addresses.TermList.{TermList}
 use Rattle.wu_log2.specs.Logarithm.{lg}
+use Rattle.wu_rank.specs.declared.entries.Entry.{Entry}
 use Rattle.wu_rank.specs.declared.results.Unit.{Unit as RankedUnit}
 use Rattle.wu_rank.specs.declared.results.Ranked.{Ranked}
 use Rattle.wu_rank.specs.Bm25.{weigh}
-use Rattle.wu_rank.specs.Scores.{has, count_at, holders, idf_of, length_of, total_length, part, score, holds, scored, score_if_listed, all_listed}
-use Rattle.wu_rank.proofs.Weights.{weigh-zero}
-
-pub holders-more_yes : (word : TermList) (units : List RankedUnit) (i : ℕ) (d : RankedUnit) (c n m : ℕ) → i < length units
-    → c ≡ count_at word (get_or units i d) → 0 < c → n ≡ holders count_at (take i units) word → m ≡ n + 1
-    → m ≡ holders count_at (take (i + 1) units) word
-unfolding holders
-holders-more_yes word units i d c n m l e h f g =
-    let p : 0 < count_at word (get_or units i d) = omega arith in
-    g ∙ ap (λ (k : ℕ). k + 1) f ∙ sym (count_by_more_yes (has count_at word) units i d l (lt-ltb _ _ p))
-
-pub holders-more_no : (word : TermList) (units : List RankedUnit) (i : ℕ) (d : RankedUnit) (c n m : ℕ) → i < length units
-    → c ≡ count_at word (get_or units i d) → c ≤ 0 → n ≡ holders count_at (take i units) word → m ≡ n
-    → m ≡ holders count_at (take (i + 1) units) word
-unfolding holders
-holders-more_no word units i d c n m l e h f g =
-    let p : count_at word (get_or units i d) ≤ 0 = omega arith in
-    g ∙ f ∙ sym (count_by_more_no (has count_at word) units i d l (le-ltb _ _ p))
+use Rattle.wu_rank.specs.Entries.{with_entry, entries, times_in, unit_at, IsWithin, weighed, ranked_at, sparse_sum}
+use Rattle.wu_rank.specs.Scores.{has, count_at, frequency, holders, idf_of, length_of, total_length, part, score, holds, scored, score_if_listed, all_listed}
+use Rattle.wu_rank.specs.Sweeps.{AscendFrom}
+use Rattle.wu_rank.proofs.Counts.{frequency-le, times-some, times-none}
+use Rattle.wu_rank.proofs.Sparse.{all_hold, all_mapped, all_listed_by, entries-agree}
+use Rattle.wu_rank.proofs.Sums.{sum_of, sum-entries, sum-small}
+use Rattle.wu_rank.proofs.Weights.{weigh-zero, weigh-lt}
 
 positive-eqb : (n : ℕ) → 0 < n → (n == 0) ≡ false
 positive-eqb zero h = absurd (omega arith)
 positive-eqb (suc n) h = eqb-suc-zero n
+
+-- ---- how many units hold a word
+
+pub length-times : (list : TermList) (end : ℕ) (us : List RankedUnit) → length (entries (times_in list.at) end us) ≡ holders count_at us list
+unfolding holders
+length-times list end [] = refl
+length-times list end (u ∷ us) =
+    one_more (ltb 0 (frequency u.extent list.at)) (end - length (u ∷ us)) (frequency u.extent list.at) (entries (times_in list.at) end us)
+    ∙ ap (λ (n : ℕ). cond (ltb 0 (frequency u.extent list.at)) 1 0 + n) (length-times list end us)
+    ∙ sym (sum_by-cons (λ v. cond (has count_at list v) 1 0) u us)
+  where
+    one_more : (b : Bool) (place n : ℕ) (rest : List Entry)
+        → length (with_entry place (cond b (Some n) None) rest) ≡ cond b 1 0 + length rest
+    one_more true place n rest = omega arith
+    one_more false place n rest = omega arith
+
+pub holders-le : (list : TermList) (units : List RankedUnit) → holders count_at units list ≤ length units
+unfolding holders
+holders-le list units = count_by-le-length (has count_at list) units
+
+pub idf-is : (units : List RankedUnit) (list : TermList) (held all idf : ℕ) → held ≡ holders count_at units list → all ≡ length units
+    → idf ≡ cond (eqb held 0) 0 (lg all - lg held) → idf ≡ idf_of count_at units list
+unfolding idf_of
+idf-is units list held all idf e f g = g ∙ ap₂ (λ (h a : ℕ). cond (eqb h 0) 0 (lg a - lg h)) e f
 
 -- ---- a word's part of a score
 
@@ -48,29 +60,12 @@ holders-positive word units i d l h =
     get_or-le-sum_by (λ u. cond (has count_at word u) 1 0) units i d l in
     omega (arith, one, within)
 
-pub idf_of-none : (units : List RankedUnit) (word : TermList) → holders count_at units word ≡ 0 → idf_of count_at units word ≡ 0
-unfolding idf_of
-idf_of-none units word h = rw h refl
-
-pub idf_of-some : (units : List RankedUnit) (word : TermList) → 0 < holders count_at units word
-    → idf_of count_at units word ≡ lg (length units) - lg (holders count_at units word)
-unfolding idf_of
-idf_of-some units word h = rw (positive-eqb (holders count_at units word) h) refl
-
--- what the code computes: the difference of two logarithms
-pub difference : (units : List RankedUnit) (word : TermList) (held a b : ℕ) → held ≡ holders count_at units word
-    → a ≡ lg (length units) → b ≡ lg held → 0 < held → a - b ≡ idf_of count_at units word
-difference units word held a b e f g h =
-    let p : 0 < holders count_at units word = omega arith in
-    let s : a - b ≡ lg (length units) - lg (holders count_at units word) = rw (f, g, e) refl in
-    s ∙ sym (idf_of-some units word p)
-
 -- a word that the unit holds adds its weight
-part-some : (units : List RankedUnit) (unit : RankedUnit) (word : TermList) (w : ℕ) → 0 < holders count_at units word
-    → w ≡ weigh (idf_of count_at units word) (count_at word unit) (length_of unit.extent) (length units) (total_length units)
-    → w ≡ part count_at units unit word
+part-some : (units : List RankedUnit) (unit : RankedUnit) (word : TermList) → 0 < holders count_at units word
+    → weigh (idf_of count_at units word) (count_at word unit) (length_of unit.extent) (length units) (total_length units)
+    ≡ part count_at units unit word
 unfolding part
-part-some units unit word w h e = rw (positive-eqb (holders count_at units word) h) e
+part-some units unit word h = rw (positive-eqb (holders count_at units word) h) refl
 
 -- a word that it does not hold adds nothing
 part-nothing : (units : List RankedUnit) (unit : RankedUnit) (word : TermList) → count_at word unit ≡ 0
@@ -82,144 +77,166 @@ part-nothing units unit word e =
     (λ (h : holders count_at units word ≤ 0). let none : holders count_at units word ≡ 0 = omega arith in rw none refl)
     (cases_lt 0 (holders count_at units word))
 
--- ---- the score of a unit, over the first i words
+score-one : (units : List RankedUnit) (unit : RankedUnit) (word : TermList) → score count_at units (word ∷ []) unit ≡ part count_at units unit word
+unfolding score
+score-one units unit word = sum_by-cons (part count_at units unit) word [] ∙ add-zero (part count_at units unit word)
 
-pub record ScoreSoFar (units : List RankedUnit) (unit : RankedUnit) (lists : List TermList) (i total : ℕ) (held : Bool) : Type 0 where
-  pub so_far : total ≡ sum_by (part count_at units unit) (take i lists)
-  pub seen : held ≡ list_any (λ word. has count_at word unit) (take i lists)
-  pub small : total ≤ i * 2 ^ 24
+listed-one : (units : List RankedUnit) (unit : RankedUnit) (word : TermList) → 0 < count_at word unit
+    → score_if_listed count_at units (word ∷ []) unit ≡ Some (part count_at units unit word)
+unfolding holds
+listed-one units unit word h = rw (lt-ltb 0 (count_at word unit) h) (ap Some (score-one units unit word))
 
-pub score_none : (units : List RankedUnit) (unit : RankedUnit) (lists : List TermList) → ScoreSoFar units unit lists 0 0 false
-score_none units unit lists = record { so_far = refl; seen = refl; small = omega arith }
+unlisted-one : (units : List RankedUnit) (unit : RankedUnit) (word : TermList) → count_at word unit ≡ 0
+    → score_if_listed count_at units (word ∷ []) unit ≡ None
+unfolding holds
+unlisted-one units unit word e = rw e refl
 
--- how often the word at place i is in the unit
-pub record Found (unit : RankedUnit) (lists : List TermList) (i f : ℕ) (e : TermList) : Type 0 where
-  pub inside : i < length lists
-  pub times : f ≡ count_at (get_or lists i e) unit
+-- the weights in place of the counts are what the word adds
+pub weights_are : (units : List RankedUnit) (list : TermList) (idf n t : ℕ) → idf ≡ idf_of count_at units list
+    → (0 < length units → (n ≡ length units) × (t ≡ total_length units))
+    → map (weighed units idf n t) (entries (times_in list.at) (length units) units)
+    ≡ entries (score_if_listed count_at units (list ∷ [])) (length units) units
+weights_are units list idf n t e s =
+    all_mapped units (times_in list.at) (weighed units idf n t) (score_if_listed count_at units (list ∷ [])) (λ place l. at_place place l)
+  where
+    at_place : (place : ℕ) → place < length units → map (weighed units idf n t) (with_entry place (times_in list.at (unit_at units place)) [])
+        ≡ with_entry place (score_if_listed count_at units (list ∷ []) (unit_at units place)) []
+    at_place place l =
+        let d : RankedUnit = record { extent = record { start = 0; end = 0 }; place = 0 } in
+        let unit : RankedUnit = unit_at units place in
+        let stat = s (omega arith) in
+        ⊎_elim
+        (λ (h : 0 < count_at list unit).
+        let weight : weigh idf (count_at list unit) (length_of unit.extent) n t ≡ part count_at units unit list =
+        rw (e, stat.0, stat.1) (part-some units unit list (holders-positive list units place d l h)) in
+        ap (λ (o : Option ℕ). map (weighed units idf n t) (with_entry place o [])) (times-some list.at unit (count_at list unit) refl h)
+        ∙ ap (λ (v : ℕ). with_entry place (Some v) []) weight
+        ∙ sym (ap (λ (o : Option ℕ). with_entry place o []) (listed-one units unit list h)))
+        (λ (h : count_at list unit ≤ 0).
+        ap (λ (o : Option ℕ). map (weighed units idf n t) (with_entry place o [])) (times-none list.at unit (omega arith))
+        ∙ sym (ap (λ (o : Option ℕ). with_entry place o []) (unlisted-one units unit list (omega arith))))
+        (cases_lt 0 (count_at list unit))
 
-pub score_turn_yes : (units : List RankedUnit) (place : ℕ) (d : RankedUnit) (lists : List TermList) (i f : ℕ) (e : TermList)
-    (total w more : ℕ) (held seen : Bool) → place < length units → ScoreSoFar units (get_or units place d) lists i total held
-    → Found (get_or units place d) lists i f e → 0 < f → w < 2 ^ 24
-    → w ≡ weigh (idf_of count_at units (get_or lists i e)) f (length_of (get_or units place d).extent) (length units) (total_length units)
-    → more ≡ total + w → seen ≡ true → ScoreSoFar units (get_or units place d) lists (i + 1) more seen
-score_turn_yes units place d lists i f e total w more held seen l s k h b x y z =
-    let unit : RankedUnit = get_or units place d in
-    let word : TermList = get_or lists i e in
-    let held_here : 0 < count_at word unit = omega (arith, k.times) in
-    let adds : w ≡ part count_at units unit word =
-    part-some units unit word w (holders-positive word units place d l held_here)
-    (x ∙ ap (λ (n : ℕ). weigh (idf_of count_at units word) n (length_of unit.extent) (length units) (total_length units)) k.times) in
-    record {
-      so_far = y ∙ ap₂ (λ (m n : ℕ). m + n) s.so_far adds ∙ sym (sum_by_more (part count_at units unit) lists i e k.inside);
-      seen =
-          z
-          ∙ sym (list_any_more (λ word. has count_at word unit) lists i e k.inside
-          ∙ ap (λ (b : Bool). list_any (λ word. has count_at word unit) (take i lists) || b) (lt-ltb _ _ held_here)
-          ∙ or-true _);
-      small = omega (arith, s.small);
-    }
+-- the same of a vector that is written over
+pub weights_kept : (units : List RankedUnit) (idf n t kept : ℕ) (weights rest counts : List Entry) (xs : List ℕ) → length weights ≡ kept
+    → weights ≡ map (weighed units idf n t) counts → counts ≡ entries (times_in xs) (length units) units
+    → take kept (weights ++ rest) ≡ map (weighed units idf n t) (entries (times_in xs) (length units) units)
+weights_kept units idf n t kept weights rest counts xs l e f =
+    take_at weights rest kept l ∙ e ∙ ap (λ (es : List Entry). map (weighed units idf n t) es) f
 
-pub score_turn_no : (units : List RankedUnit) (unit : RankedUnit) (lists : List TermList) (i f : ℕ) (e : TermList)
-    (total more : ℕ) (held seen : Bool) → ScoreSoFar units unit lists i total held → Found unit lists i f e → f ≤ 0
-    → more ≡ total → seen ≡ held → ScoreSoFar units unit lists (i + 1) more seen
-score_turn_no units unit lists i f e total more held seen s k h y z =
-    let word : TermList = get_or lists i e in
-    let none : count_at word unit ≡ 0 = omega (arith, k.times) in
-    let none_le : count_at word unit ≤ 0 = omega (arith, k.times) in
-    let adds : part count_at units unit word ≡ 0 = part-nothing units unit word none in
-    record {
-      so_far =
-          y
-          ∙ s.so_far
-          ∙ sym (sum_by_more (part count_at units unit) lists i e k.inside
-          ∙ ap (λ (n : ℕ). sum_by (part count_at units unit) (take i lists) + n) adds
-          ∙ add-zero _);
-      seen =
-          z
-          ∙ s.seen
-          ∙ sym (list_any_more (λ word. has count_at word unit) lists i e k.inside
-          ∙ ap (λ (b : Bool). list_any (λ word. has count_at word unit) (take i lists) || b) (le-ltb _ _ none_le)
-          ∙ or-false _);
-      small = omega (arith, s.small);
-    }
+pub weights-small : (units : List RankedUnit) (idf n t : ℕ) (counts : List Entry) → idf ≤ 2 ^ 22
+    → AllByRecursion (λ e. e.value ≤ 2 ^ 24) (map (weighed units idf n t) counts)
+weights-small units idf n t [] l = tt
+weights-small units idf n t (c ∷ cs) l =
+    let w : weigh idf c.value (length_of (unit_at units c.unit).extent) n t < 2 ^ 24 = weigh-lt idf c.value _ n t l in
+    (omega arith, weights-small units idf n t cs l)
 
-pub score_all_yes : (units : List RankedUnit) (unit : RankedUnit) (lists : List TermList) (i total : ℕ) (held : Bool) → length lists ≤ i
-    → ScoreSoFar units unit lists i total held → held ≡ true → Some total ≡ score_if_listed count_at units lists unit
+-- each count is of addresses of a unit
+pub counts_within : (units : List RankedUnit) (xs : List ℕ) → AscendFrom 0 xs
+    → AllByRecursion (IsWithin units) (entries (times_in xs) (length units) units)
+counts_within units xs a =
+    all_hold units (times_in xs) (IsWithin units)
+    (λ place v l s.
+    let count : v ≡ frequency (unit_at units place).extent xs = counted_as (ltb 0 (frequency (unit_at units place).extent xs)) _ v s in
+    (l, omega (arith, count, frequency-le (unit_at units place).extent xs a)))
+  where
+    counted_as : (b : Bool) (n v : ℕ) → cond b (Some n) None ≡ Some v → v ≡ n
+    counted_as true n v s = cc
+    counted_as false n v s = cc
+
+-- ---- the scores for some words, and for others
+
+score-nothing : (units : List RankedUnit) (unit : RankedUnit) (words : List TermList) → holds count_at words unit ≡ false
+    → score count_at units words unit ≡ 0
 unfolding score holds
-score_all_yes units unit lists i total held l s h =
-    let e : take i lists ≡ lists = take_all i lists l in
-    let listed : list_any (λ word. has count_at word unit) lists ≡ true =
-    ap (λ (xs : List TermList). list_any (λ word. has count_at word unit) xs) (sym e) ∙ sym s.seen ∙ h in
-    let same : total ≡ sum_by (part count_at units unit) lists =
-    s.so_far ∙ ap (λ (xs : List TermList). sum_by (part count_at units unit) xs) e in
-    rw (listed, same) refl
+score-nothing units unit [] h = refl
+score-nothing units unit (word ∷ words) h =
+    let parts = or_parts (ltb 0 (count_at word unit)) (list_any (λ w. has count_at w unit) words) h in
+    let none : count_at word unit ≤ 0 = ltb-false 0 (count_at word unit) parts.0 in
+    sum_by-cons (part count_at units unit) word words
+    ∙ ap₂ (λ (m n : ℕ). m + n) (part-nothing units unit word (omega arith)) (score-nothing units unit words parts.1)
 
-pub score_all_no : (units : List RankedUnit) (unit : RankedUnit) (lists : List TermList) (i total : ℕ) (held : Bool) → length lists ≤ i
-    → ScoreSoFar units unit lists i total held → held ≡ false → None ≡ score_if_listed count_at units lists unit
-unfolding score holds
-score_all_no units unit lists i total held l s h =
-    let e : take i lists ≡ lists = take_all i lists l in
-    let listed : list_any (λ word. has count_at word unit) lists ≡ false =
-    ap (λ (xs : List TermList). list_any (λ word. has count_at word unit) xs) (sym e) ∙ sym s.seen ∙ h in
-    rw listed refl
+score-append : (units : List RankedUnit) (unit : RankedUnit) (some others : List TermList)
+    → score count_at units (some ++ others) unit ≡ score count_at units some unit + score count_at units others unit
+unfolding score
+score-append units unit some others = sum_by-append (part count_at units unit) some others
 
-pub idf_at : (units : List RankedUnit) (lists : List TermList) (idfs : List ℕ) (i : ℕ) (e : TermList)
-    → idfs ≡ map (idf_of count_at units) lists → i < length lists → get_or idfs i 0 ≡ idf_of count_at units (get_or lists i e)
-idf_at units lists idfs i e h l =
-    ap (λ (xs : List ℕ). get_or xs i 0) h ∙ get_or-map (idf_of count_at units) lists i e 0 l
+holds-append : (unit : RankedUnit) (some others : List TermList)
+    → holds count_at (some ++ others) unit ≡ (holds count_at some unit || holds count_at others unit)
+unfolding holds
+holds-append unit some others = list_any-append (λ word. has count_at word unit) some others
 
-pub weighed : (idf f l n t jdf m k u : ℕ) → idf ≡ jdf → l ≡ m → n ≡ k → t ≡ u → weigh idf f l n t ≡ weigh jdf f m k u
-weighed idf f l n t jdf m k u a b c d = rw (a, b, c, d) refl
+pub sum_of-scores : (units : List RankedUnit) (some others : List TermList) (unit : RankedUnit)
+    → sum_of (score_if_listed count_at units some unit) (score_if_listed count_at units others unit)
+    ≡ score_if_listed count_at units (some ++ others) unit
+sum_of-scores units some others unit =
+    by (holds count_at some unit) (holds count_at others unit) _ _ (score-nothing units unit some) (score-nothing units unit others)
+    ∙ sym (ap₂ (λ (b : Bool) (n : ℕ). cond b (Some n) None) (holds-append unit some others) (score-append units unit some others))
+  where
+    by : (b c : Bool) (m n : ℕ) → (b ≡ false → m ≡ 0) → (c ≡ false → n ≡ 0)
+        → sum_of (cond b (Some m) None) (cond c (Some n) None) ≡ cond (b || c) (Some (m + n)) None
+    by true true m n h k = refl
+    by true false m n h k = ap Some (omega (arith, k refl))
+    by false true m n h k = ap Some (omega (arith, h refl))
+    by false false m n h k = refl
 
--- ---- the listed units, of the first i
+pub no_words : (units : List RankedUnit) (lists : List TermList) (end : ℕ) (us : List RankedUnit) → length lists < 1
+    → [] ≡ entries (score_if_listed count_at units lists) end us
+unfolding holds
+no_words units [] end [] l = refl
+no_words units [] end (u ∷ us) l = no_words units [] end us l
+no_words units (list ∷ lists) end us l = absurd (omega arith)
 
-listed_from : (b : Bool) (s t : ℕ) → Some s ≡ (if b then Some t else None) → (b ≡ true) × (s ≡ t)
-listed_from true s t h = (refl, cc)
-listed_from false s t h = cc
+pub summed_scores : (units : List RankedUnit) (lists some others : List TermList) (one other sum : List Entry)
+    → one ≡ entries (score_if_listed count_at units some) (length units) units
+    → other ≡ entries (score_if_listed count_at units others) (length units) units → some ++ others ≡ lists → sum ≡ sparse_sum one other
+    → sum ≡ entries (score_if_listed count_at units lists) (length units) units
+summed_scores units lists some others one other sum a b w e =
+    e
+    ∙ ap₂ sparse_sum a b
+    ∙ sum-entries (score_if_listed count_at units some) (score_if_listed count_at units others) (length units) units (omega arith)
+    ∙ entries-agree (λ u. sum_of (score_if_listed count_at units some u) (score_if_listed count_at units others u))
+    (score_if_listed count_at units (some ++ others)) (sum_of-scores units some others) (length units) units
+    ∙ ap (λ (ls : List TermList). entries (score_if_listed count_at units ls) (length units) units) w
 
-unlisted_from : (b : Bool) (t : ℕ) → None ≡ (if b then Some t else None) → b ≡ false
-unlisted_from true t h = cc
-unlisted_from false t h = refl
+-- ---- how large scores are
 
--- the first i of the units that are listed, with their scores
-abbrev pub listed_in : List RankedUnit → List TermList → ℕ → List Ranked
-listed_in units lists i = map (scored count_at units lists) (filter (holds count_at lists) (take i units))
+pub summed_small : (i j n : ℕ) (one other sum : List Entry) → i + j ≡ n → sum ≡ sparse_sum one other
+    → AllByRecursion (λ e. e.value ≤ i * 2 ^ 24) one → AllByRecursion (λ e. e.value ≤ j * 2 ^ 24) other
+    → AllByRecursion (λ e. e.value ≤ n * 2 ^ 24) sum
+summed_small i j n one other sum t e a b =
+    let both : i * 2 ^ 24 + j * 2 ^ 24 ≡ n * 2 ^ 24 = omega (arith, t) in
+    rw e
+    (subst (λ (m : ℕ). AllByRecursion (λ (r : Entry). r.value ≤ m) (sparse_sum one other)) both
+    (sum-small (i * 2 ^ 24) (j * 2 ^ 24) one other a b))
 
--- the first i + 1 units, where the one at i is in the list or not
-listed_more : (units : List RankedUnit) (lists : List TermList) (i : ℕ) (d : RankedUnit) (b : Bool) → i < length units
-    → holds count_at lists (get_or units i d) ≡ b
-    → listed_in units lists (i + 1) ≡ listed_in units lists i ++ map (scored count_at units lists) (cond b (get_or units i d ∷ []) [])
-listed_more units lists i d b l e =
-    ap (map (scored count_at units lists))
-    (filter_more (holds count_at lists) units i d l
-    ∙ ap (λ (v : Bool). filter (holds count_at lists) (take i units) ++ cond v (get_or units i d ∷ []) []) e)
-    ∙ map-append (scored count_at units lists) (filter (holds count_at lists) (take i units)) (cond b (get_or units i d ∷ []) [])
+pub far_below : (n : ℕ) (xs : List Entry) → n ≤ 64 → AllByRecursion (λ e. e.value ≤ n * 2 ^ 24) xs
+    → AllByRecursion (λ e. e.value < 2 ^ 63) xs
+far_below n [] l a = tt
+far_below n (x ∷ xs) l a = (omega (arith, a.0), far_below n xs l a.1)
 
-pub listed_turn_yes : (units : List RankedUnit) (lists : List TermList) (i s : ℕ) (d : RankedUnit) (xs ys : List Ranked) → i < length units
-    → xs ≡ listed_in units lists i → Some s ≡ score_if_listed count_at units lists (get_or units i d)
-    → ys ≡ xs ++ record { score = s; unit = get_or units i d } ∷ [] → ys ≡ listed_in units lists (i + 1)
-listed_turn_yes units lists i s d xs ys l h e f =
-    let p = listed_from (holds count_at lists (get_or units i d)) s (score count_at units lists (get_or units i d)) e in
-    f
-    ∙ ap₂ (λ (zs : List Ranked) (n : ℕ). zs ++ record { score = n; unit = get_or units i d } ∷ []) h p.1
-    ∙ sym (listed_more units lists i d true l p.0)
+-- ---- the listed units
 
-pub listed_turn_no : (units : List RankedUnit) (lists : List TermList) (i : ℕ) (d : RankedUnit) (xs ys : List Ranked) → i < length units
-    → xs ≡ listed_in units lists i → None ≡ score_if_listed count_at units lists (get_or units i d) → ys ≡ xs
-    → ys ≡ listed_in units lists (i + 1)
-listed_turn_no units lists i d xs ys l h e f =
-    let unlisted = unlisted_from (holds count_at lists (get_or units i d)) (score count_at units lists (get_or units i d)) e in
-    f ∙ h ∙ sym (listed_more units lists i d false l unlisted ∙ append-nil _)
-
-pub listed_all : (units : List RankedUnit) (lists : List TermList) (i : ℕ) (xs : List Ranked) → length units ≤ i
-    → xs ≡ listed_in units lists i → xs ≡ all_listed count_at units lists
+pub ranked_are : (units : List RankedUnit) (lists : List TermList)
+    → map (ranked_at units) (entries (score_if_listed count_at units lists) (length units) units) ≡ all_listed count_at units lists
 unfolding all_listed
-listed_all units lists i xs l h =
-    h ∙ ap (λ (us : List RankedUnit). map (scored count_at units lists) (filter (holds count_at lists) us)) (take_all i units l)
+ranked_are units lists =
+    all_listed_by units (score_if_listed count_at units lists) (ranked_at units)
+    (λ us. map (scored count_at units lists) (filter (holds count_at lists) us)) refl
+    (λ place rest l. by (holds count_at lists (unit_at units place)) place (unit_at units place) (score count_at units lists (unit_at units place)) rest refl refl)
+  where
+    by : (b : Bool) (place : ℕ) (unit : RankedUnit) (points : ℕ) (rest : List RankedUnit) → unit ≡ unit_at units place
+        → points ≡ score count_at units lists unit
+        → map (ranked_at units) (with_entry place (cond b (Some points) None) []) ++ map (scored count_at units lists) (filter (holds count_at lists) rest)
+        ≡ map (scored count_at units lists) (cond b (unit ∷ filter (holds count_at lists) rest) (filter (holds count_at lists) rest))
+    by true place unit points rest e f =
+        ap₂ (λ (n : ℕ) (u : RankedUnit). let r : Ranked = record { score = n; unit = u } in
+        r ∷ map (scored count_at units lists) (filter (holds count_at lists) rest)) f (sym e)
+    by false place unit points rest e f = refl
 
-pub idf_small : (units : List RankedUnit) (lists : List TermList) (idfs : List ℕ) (i : ℕ) → idfs ≡ map (idf_of count_at units) lists
-    → All (λ idf. idf ≤ 2 ^ 22) idfs → i < length lists → get_or idfs i 0 ≤ 2 ^ 22
-idf_small units lists idfs i h s l = s i 0 (omega (arith, ap length h, length-map lists (idf_of count_at units)))
+pub listed_within : (units : List RankedUnit) (f : RankedUnit → Option ℕ)
+    → AllByRecursion (λ e. e.unit < length units) (entries f (length units) units)
+listed_within units f = all_hold units f (λ e. e.unit < length units) (λ place v l s. l)
 
 -- ---- the summed length, of the first i units
 

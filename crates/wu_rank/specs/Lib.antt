@@ -1,3 +1,5 @@
 pub mod Bm25
 pub mod Scores
+pub mod Entries
+pub mod Sweeps
 pub mod Order

@@ -3,10 +3,14 @@
 
 mod bm25;
 mod counting;
+mod entries;
+mod galloping;
 mod laws;
+mod merging;
 mod ordering;
 mod results;
 mod scoring;
+mod sweeping;
 
 pub use bm25::{Ranker, bm25_weigh};
 pub use counting::summed_length;

@@ -1,86 +1,105 @@
 //! The scores of units, and the first of them.
-ghost use Rattle.std.specs.Prelude.{◌≡◌, ℕ, ◌+◌, ◌<◌, ◌≤◌, ◌^◌, length, map, take, slice_index_or, IfOk};
-ghost use Rattle.std.specs.List.{All};
-ghost use Rattle.std.specs.List.Sorted.{IsStrictlyIncreasing};
-ghost use Rattle.wu_rank.specs.declared.results.Unit.{Unit as RankedUnit};
+ghost use Rattle.std.specs.Prelude.{◌≡◌, ℕ, ◌+◌, ◌*◌, ◌<◌, ◌≤◌, ◌^◌, [], ◌∷◌, length, map, take, IfOk};
+ghost use Rattle.std.specs.List.{All, AllByRecursion};
 ghost use Rattle.wu_rank.specs.Bm25.{IsWeigher};
-ghost use Rattle.wu_rank.specs.Scores.{CanRank, count_at, idf_of, score_if_listed, all_listed};
+ghost use Rattle.wu_rank.specs.Entries.{entries, weighed, ranked_at, IsWithin};
+ghost use Rattle.wu_rank.specs.Scores.{CanRank, count_at, score_if_listed, length_of};
 ghost use Rattle.wu_rank.specs.Order.{listed};
+ghost use Rattle.wu_rank.specs.Sweeps.{AreRuns};
 
 use crate::bm25::Ranker;
-use crate::counting::{count_in, extent_length, inverse_frequency};
+use crate::counting::{extent_length, inverse_frequency};
+use crate::entries::Entry;
+use crate::merging::merged;
 use crate::ordering::first;
 use crate::results::{Ranked, Ranking, Unit};
+use crate::sweeping::{counts_of, runs_of};
 use std::alloc::Global;
 use wu_base::{NoMemory, Sequence, TermList};
 
-/// The inverse document frequency of each list's word.
-fn inverse_frequencies(
-    alloc: Global,
+/// Puts the weights of a word with this inverse document frequency in place of its counts.
+fn weigh_counts<F: Fn(u32, u64, u64) -> u64>(
+    counts: &mut [Entry],
     units: &[Unit],
-    lists: &[TermList],
-) -> Result<Vec<u32>, NoMemory>
-    requires { All (λ word. IsStrictlyIncreasing word.at) lists.now }
-    ensures value { IfOk result
-        (λ idfs. idfs.items ≡ map (idf_of count_at units.now) lists.now) }
-    ensures small { IfOk result (λ idfs. All (λ idf. idf ≤ 2 ^ 22) idfs.items) }
+    idf: u32,
+    ranker: &Ranker<F>,
+)
+    requires weigher { IsWeigher (F.pre ranker.now.weigh) (F.post ranker.now.weigh) ranker.now.n ranker.now.t }
+    requires rarity { idf ≤ 2 ^ 22 }
+    requires short { All (λ unit. length_of unit.extent < 2 ^ 26) units.now }
+    requires within { All (IsWithin units.now) counts.old }
+    ensures { counts.new ≡ map (weighed units.now idf ranker.now.n ranker.now.t) counts.old }
 {
-    let mut idfs = Vec::with_capacity(alloc, lists.len())?;
-    for list in lists {
-        idfs.push(inverse_frequency(units, list))?;
+    for i in 0..counts.len() {
+        let Entry { unit, value } = counts[i];
+        let length = extent_length(units[unit].extent);
+        counts[i] = Entry {
+            unit,
+            value: ranker.weigh(idf, value, length),
+        };
     }
-    Ok(idfs)
 }
 
-/// The score of the unit at `place`, where it holds a query word.
-fn score_at<F: Fn(u32, u64, u64) -> u64>(
-    units: &[Unit],
-    place: usize,
-    lists: &[TermList],
-    idfs: &[u32],
-    ranker: &Ranker<F>,
-) -> Option<u64>
-    requires weigher { IsWeigher (F.pre ranker.now.weigh) (F.post ranker.now.weigh) ranker.now.n ranker.now.t }
-    requires rankable { CanRank units.now lists.now ranker.now.n ranker.now.t }
-    requires inside { place < length units.now }
-    requires rarities { idfs.now ≡ map (idf_of count_at units.now) lists.now }
-    requires small { All (λ idf. idf ≤ 2 ^ 22) idfs.now }
-    ensures { (d : RankedUnit) → result ≡ score_if_listed count_at units.now lists.now (slice_index_or units.now place d) }
-{
-    let unit = units[place];
-    let length = extent_length(unit.extent);
-    let mut held = false;
-    let mut total = 0;
-    for i in 0..lists.len() {
-        let frequency = count_in(unit, &lists[i]);
-        if frequency > 0 {
-            held = true;
-            total += ranker.weigh(idfs[i], frequency, length);
-        }
-    }
-    if held { Some(total) } else { None }
-}
-
-/// The units that hold a query word, with their scores, in the order of the units.
-fn score_all<F: Fn(u32, u64, u64) -> u64>(
+/// What the word of the list adds to the scores of the units that hold it.
+fn parts_of<F: Fn(u32, u64, u64) -> u64>(
     alloc: Global,
     units: &[Unit],
+    runs: &[usize],
+    list: &TermList,
+    ranker: &Ranker<F>,
+) -> Result<Vec<Entry>, NoMemory>
+    requires weigher { IsWeigher (F.pre ranker.now.weigh) (F.post ranker.now.weigh) ranker.now.n ranker.now.t }
+    requires rankable { CanRank units.now (list.now ∷ []) ranker.now.n ranker.now.t }
+    requires runs { AreRuns units.now runs.now }
+    ensures value { IfOk result (λ parts. parts.items ≡ entries (score_if_listed count_at units.now (list.now ∷ [])) (length units.now) units.now) }
+    ensures small { IfOk result (λ parts. AllByRecursion (λ part. part.value ≤ 2 ^ 24) parts.items) }
+{
+    let mut parts = counts_of(alloc, units, runs, list)?;
+    let idf = inverse_frequency(units.len() as u64, parts.len() as u64);
+    weigh_counts(parts.as_mut_slice(), units, idf, ranker);
+    Ok(parts)
+}
+
+/// The scores of the units that hold a word of the lists. The words are halved, and the scores for both
+/// halves added, so that each entry takes part in no more sums than the logarithm of the number of words.
+fn scores_of<F: Fn(u32, u64, u64) -> u64>(
+    alloc: Global,
+    units: &[Unit],
+    runs: &[usize],
     lists: &[TermList],
     ranker: &Ranker<F>,
-) -> Result<Vec<Ranked>, NoMemory>
+) -> Result<Vec<Entry>, NoMemory>
     requires weigher { IsWeigher (F.pre ranker.now.weigh) (F.post ranker.now.weigh) ranker.now.n ranker.now.t }
     requires rankable { CanRank units.now lists.now ranker.now.n ranker.now.t }
-    ensures { IfOk result (λ all. all.items ≡ all_listed count_at units.now lists.now) }
+    requires runs { AreRuns units.now runs.now }
+    ensures value { IfOk result (λ scores. scores.items ≡ entries (score_if_listed count_at units.now lists.now) (length units.now) units.now) }
+    ensures small { IfOk result (λ scores. AllByRecursion (λ entry. entry.value ≤ length lists.now * 2 ^ 24) scores.items) }
 {
-    let idfs = inverse_frequencies(alloc, units, lists)?;
-    let mut all = Vec::new(alloc);
-    for place in 0..units.len() {
-        if let Some(score) = score_at(units, place, lists, idfs.as_slice(), ranker) {
-            let unit = units[place];
-            all.push(Ranked { score, unit })?;
+    match lists {
+        [] => Ok(Vec::new(alloc)),
+        [list] => parts_of(alloc, units, runs, list, ranker),
+        _ => {
+            let (some, others) = lists.split_at(lists.len() / 2);
+            let one = scores_of(alloc, units, runs, some, ranker)?;
+            let other = scores_of(alloc, units, runs, others, ranker)?;
+            merged(alloc, &one, &other)
         }
     }
-    Ok(all)
+}
+
+/// The units of the entries, with the entries' values as their scores.
+fn ranked_of(alloc: Global, units: &[Unit], scores: &[Entry]) -> Result<Vec<Ranked>, NoMemory>
+    requires { All (λ entry. entry.unit < length units.now) scores.now }
+    ensures { IfOk result (λ ranked. ranked.items ≡ map (ranked_at units.now) scores.now) }
+{
+    let mut ranked = Vec::with_capacity(alloc, scores.len())?;
+    for entry in scores {
+        ranked.push(Ranked {
+            score: entry.value,
+            unit: units[entry.unit],
+        })?;
+    }
+    Ok(ranked)
 }
 
 /// The number of units that hold a query word, and the first `k` of them: by score, falling, then
@@ -89,9 +108,9 @@ fn score_all<F: Fn(u32, u64, u64) -> u64>(
 /// RANK_WORDS_MAX, have the ascending addresses of each of the words, of a repeated one as often as the query
 /// has it. Each unit is shorter than 2^26. Over no units nothing is listed.
 ///
-/// It takes four binary searches for each unit and word, two to tell which units hold the word and
-/// two to weigh it there. Selecting the first `k` takes linear time on average, and only they are
-/// sorted.
+/// Each word's addresses are swept once over each part of the units that ascends. Nothing is made but for
+/// these parts and for a word and a unit that holds it. Selecting the first `k` takes linear time on
+/// average, and only they are sorted.
 pub fn rank<F: Fn(u32, u64, u64) -> u64>(
     alloc: Global,
     units: &[Unit],
@@ -104,7 +123,9 @@ pub fn rank<F: Fn(u32, u64, u64) -> u64>(
     ensures listed { IfOk result (λ ranking. ranking.listed ≡ length (listed count_at units.now lists.now)) }
     ensures top { IfOk result (λ ranking. ranking.top ≡ take k (listed count_at units.now lists.now)) }
 {
-    let all = score_all(alloc, units, lists, ranker)?;
+    let runs = runs_of(alloc, units)?;
+    let scores = scores_of(alloc, units, &runs, lists, ranker)?;
+    let all = ranked_of(alloc, units, &scores)?;
     let listed = all.len() as u64;
     let top = Sequence::from(first(alloc, all, k as usize)?);
     Ok(Ranking { listed, top })
