@@ -1,9 +1,7 @@
 //! How many extents an expression has over a user's frames.
-ghost use Rattle.std.specs.Prelude.{◌≡◌, ◌≤◌, ◌<◌, ◌+◌, ◌^◌, ℕ, [], ◌∷◌, All, length, count_by, nat_lt, IfOk, IfSome};
+ghost use Rattle.std.specs.Prelude.{◌≡◌, ◌≤◌, ◌<◌, ◌+◌, ◌^◌, ℕ, [], ◌∷◌, All, length, IfOk, IfSome};
 ghost use Rattle.wu_ask.specs.Questions.{Counting};
 ghost use Rattle.wu_gcl.specs.Regions.{Phrase, region_of};
-ghost use Rattle.wu_solve.specs.Addresses.{AreLists};
-ghost use Rattle.wu_solve.specs.Solving.{frame_hits, frames_hits, IsFrame};
 ghost use Rattle.wu_space.specs.Addresses.{Ranges};
 ghost use Rattle.wu_engine.specs.Answer.{answer};
 ghost use Rattle.wu_engine.specs.States.{State};
@@ -13,11 +11,11 @@ ghost use Rattle.wu_engine.specs.View.{view_of};
 use crate::fetching::lists_of;
 use std::alloc::Global;
 use wu_ask::Answered;
-use wu_base::{Bytes, Extent, NoMemory, Range, TermList};
+use wu_base::{Bytes, NoMemory, Range};
 use wu_frames::Frames;
 use wu_gcl::{Expr, terms_of};
 use wu_parts::Parts;
-use wu_solve::solve;
+use wu_solve::count as count_in;
 
 /// How many extents the expression has over the user's view, and in how many of its files.
 pub fn count(
@@ -90,6 +88,7 @@ fn count_below(addresses: &[u64], limit: u64) -> usize
     count
 }
 
+/// How many extents the expression has in the user's files, and in how many of them.
 fn count_extents(
     alloc: Global,
     frames: &Frames,
@@ -102,44 +101,9 @@ fn count_extents(
 {
     let terms = terms_of(alloc, expr)?;
     let lists = lists_of(alloc, &terms, frames, parts)?;
-    let (hits, files) = count_in(alloc, expr, frames.ranges.as_slice(), &lists)?;
-    Ok(Answered::Count { hits, files })
-}
-
-/// How many extents the expression has in the frames, and in how many of them.
-fn count_in(
-    alloc: Global,
-    expr: &Expr,
-    frames: &[Range],
-    lists: &[TermList],
-) -> Result<(u64, u64), NoMemory>
-    requires lists { AreLists lists.now }
-    requires frames { All IsFrame frames.now }
-    requires few { length (frames_hits (region_of expr.now) lists.now frames.now) ≤ 2 ^ 47 }
-    ensures hits { IfOk result (λ counts. counts.0 ≡ length (frames_hits (region_of expr.now) lists.now frames.now)) }
-    ensures files { IfOk result (λ counts. counts.1 ≡ count_by (λ frame. nat_lt 0 (length (frame_hits (region_of expr.now) lists.now frame))) frames.now) }
-{
-    let mut hits = 0;
-    let mut files = 0;
-    for frame in frames {
-        let extents = extents_in(alloc, expr, *frame, lists)?;
-        let count = extents.len() as u64;
-        hits += count;
-        files += u64::from(count > 0);
-    }
-    Ok((hits, files))
-}
-
-/// The extents of the expression in one frame.
-fn extents_in(
-    alloc: Global,
-    expr: &Expr,
-    frame: Range,
-    lists: &[TermList],
-) -> Result<Vec<Extent>, NoMemory>
-    requires lists { AreLists lists.now }
-    requires frame { IsFrame frame }
-    ensures { IfOk result (λ v. v.items ≡ frame_hits (region_of expr.now) lists.now frame) }
-{
-    solve(alloc, expr, &[frame], lists)
+    let counts = count_in(alloc, expr, frames.ranges.as_slice(), &lists)?;
+    Ok(Answered::Count {
+        hits: counts.hits,
+        files: counts.files,
+    })
 }

@@ -23,7 +23,7 @@ returns c = λ live s uid is.
     let found = found_in c.args.frames.now.ranges c.args.parts.now.memory in
     counted c.args.frames.now live c.args.parts.now.memory s uid is (region_of c.args.expr.now) c.in_ok-terms.terms.items
     c.in_ok-terms.ensures
-    c.in_ok-lists.lists.items c.in_ok-hits.hits c.in_ok-hits.files
+    c.in_ok-lists.lists.items c.in_ok-counts.counts.hits c.in_ok-counts.counts.files
     (c.in_ok-lists.ensures.lists ∙ ap (map (list_at found)) c.deref.ensures.value)
-    (rw (c.deref-2.ensures.value, c.as_slice.ensures) at c.in_ok-hits.ensures.hits)
-    (rw (c.deref-2.ensures.value, c.as_slice.ensures) at c.in_ok-hits.ensures.files)
+    (rw (c.deref-2.ensures.value, c.as_slice.ensures) at c.in_ok-counts.ensures.hits)
+    (rw (c.deref-2.ensures.value, c.as_slice.ensures) at c.in_ok-counts.ensures.files)
