@@ -6,16 +6,16 @@ use Rattle.wu_engine.proofs.FramesOfFiles.{are_lists}
 use Rattle.wu_engine.proofs.UnitLemmas.{searched_few}
 use Rattle.wu_engine.proofs.counting.count_extents.Goals as goal
 
-pub count_in-requires-clause-lists : goal.count_in-requires-clause-lists
-count_in-requires-clause-lists c =
+pub count-requires-clause-lists : goal.count-requires-clause-lists
+count-requires-clause-lists c =
     let found = found_in c.args.frames.now.ranges c.args.parts.now.memory in
     rw c.deref-2.ensures.value
     (are_lists found c.in_ok-terms.terms.items c.in_ok-lists.lists.items
     (c.in_ok-lists.ensures.lists ∙ ap (map (list_at found)) c.deref.ensures.value) c.in_ok-lists.ensures.ascending
     c.in_ok-terms.ensures.ascending)
 
-pub count_in-requires-clause-few : goal.count_in-requires-clause-few
-count_in-requires-clause-few c =
+pub count-requires-clause-few : goal.count-requires-clause-few
+count-requires-clause-few c =
     rw c.as_slice.ensures (searched_few (region_of c.args.expr.now) c.deref-2.result.now c.args.frames.now c.requires)
 
 pub returns : goal.returns
