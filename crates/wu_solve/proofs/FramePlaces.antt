@@ -384,3 +384,22 @@ module _ (frames : List Range) (before after : ℕ) (apart : AreApart frames) wh
   none_left rest place up ends over from =
       none_kept (lies_in_one frames) (run_around before after) rest (λ k within.
       lies_nowhere frames (get_or rest 0 0 - before) place (run_around before after (get_or rest k 0)) ends over (later_start rest k up within))
+
+-- the same of single addresses
+
+pub address_gap_passed : (frames : List Range) (rest : List ℕ) (place : ℕ) (d : Range) → AreApart frames → IsStrictlyIncreasing rest
+    → EndsAfter frames (get_or rest 0 0) place
+    → filter (lies_in_one frames) (map (run_around 0 0) (filter (λ a. nat_le (get_or frames place d).start a) rest))
+    ≡ filter (lies_in_one frames) (map (run_around 0 0) rest)
+address_gap_passed frames rest place d apart up ends =
+    let bound : (get_or frames place d).start + 0 ≡ (get_or frames place d).start = omega arith in
+    let first : get_or rest 0 0 ≡ get_or rest 0 0 - 0 = omega arith in
+    subst (λ (b : ℕ). filter (lies_in_one frames) (map (run_around 0 0) (filter (λ a. nat_le b a) rest))
+    ≡ filter (lies_in_one frames) (map (run_around 0 0) rest)) bound
+    (gap_passed frames 0 0 apart rest place d up (λ k within. omega arith) (subst (λ (a : ℕ). EndsAfter frames a place) first ends))
+
+pub no_address_left : (frames : List Range) (rest : List ℕ) (place : ℕ) → AreApart frames → IsStrictlyIncreasing rest
+    → EndsAfter frames (get_or rest 0 0) place → length frames ≤ place → filter (lies_in_one frames) (map (run_around 0 0) rest) ≡ []
+no_address_left frames rest place apart up ends over =
+    let first : get_or rest 0 0 ≡ get_or rest 0 0 - 0 = omega arith in
+    none_left frames 0 0 apart rest place up (subst (λ (a : ℕ). EndsAfter frames a place) first ends) over (λ k within. omega arith)

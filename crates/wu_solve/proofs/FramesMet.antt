@@ -7,7 +7,8 @@ use Rattle.std.proofs.lemmas.List.Elements.{All-from_recursion}
 use Rattle.wu_base.specs.declared.addresses.Range.{Range}
 use Rattle.wu_solve.specs.Frames.{is_place_of, has_one_of, EndsAfter}
 use Rattle.wu_solve.specs.Solving.{AreApart}
-use Rattle.wu_solve.proofs.Numbers.{kept_from}
+use Rattle.std.specs.List.Sorted.{IsStrictlyIncreasing}
+use Rattle.wu_solve.proofs.Numbers.{kept_from, increasing_not_below}
 
 -- a test that all addresses fail
 any_none : (p : ℕ → Bool) (xs : List ℕ) → ((k : ℕ) → k < length xs → p (get_or xs k 0) ≡ false) → list_any p xs ≡ false
@@ -125,3 +126,33 @@ met_gap x xs (f ∷ frames) (suc p) d apart ends from within =
     none_behind f (filter (λ a. nat_le g.start a) (x ∷ xs))
     (λ k inside. let least = kept_from g.start (x ∷ xs) k inside in omega (arith, least)) in
     rw (here, there) (met_gap x xs frames p d apart.1 (fewer_frames f frames x p ends) from (omega arith))
+
+-- ---- the same of what is left of ascending addresses
+
+pub all_from_first : (rest : List ℕ) → IsStrictlyIncreasing rest → AllFrom (get_or rest 0 0) rest
+all_from_first rest up k within = increasing_not_below rest up 0 k (omega arith) within
+
+pub met_here : (rest : List ℕ) (frames : List Range) (place : ℕ) (d : Range) → AreApart frames → IsStrictlyIncreasing rest → 0 < length rest
+    → EndsAfter frames (get_or rest 0 0) place → place < length frames → (get_or frames place d).start ≤ get_or rest 0 0
+    → filter (has_one_of rest) frames ≡ get_or frames place d
+    ∷ filter (has_one_of (filter (λ a. nat_le ((get_or frames place d).start + (get_or frames place d).len) a) rest)) frames
+met_here [] frames place d apart up some ends within low = absurd (omega arith)
+met_here (x ∷ xs) frames place d apart up some ends within low =
+    met_next x xs frames place d apart ends (all_from_first (x ∷ xs) up) within low
+
+pub met_later : (rest : List ℕ) (frames : List Range) (place : ℕ) (d : Range) → AreApart frames → IsStrictlyIncreasing rest → 0 < length rest
+    → EndsAfter frames (get_or rest 0 0) place → place < length frames
+    → filter (has_one_of (filter (λ a. nat_le (get_or frames place d).start a) rest)) frames ≡ filter (has_one_of rest) frames
+met_later [] frames place d apart up some ends within = absurd (omega arith)
+met_later (x ∷ xs) frames place d apart up some ends within =
+    met_gap x xs frames place d apart ends (all_from_first (x ∷ xs) up) within
+
+pub met_no_more : (rest : List ℕ) (frames : List Range) (place : ℕ) → IsStrictlyIncreasing rest
+    → EndsAfter frames (get_or rest 0 0) place → length frames ≤ place → filter (has_one_of rest) frames ≡ []
+met_no_more rest frames place up ends over =
+    none_met rest frames (get_or rest 0 0) (all_from_first rest up) (λ k d within. ends.before k d (omega arith))
+
+pub met_by_none : (rest : List ℕ) (frames : List Range) → length rest ≡ 0 → filter (has_one_of rest) frames ≡ []
+met_by_none [] [] none = refl
+met_by_none [] (f ∷ frames) none = met_by_none [] frames none
+met_by_none (x ∷ xs) frames none = absurd (omega arith)

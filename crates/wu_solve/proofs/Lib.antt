@@ -25,3 +25,5 @@ pub mod Needing
 pub mod LeavingOut
 pub mod FramesMet
 pub mod FrameCounts
+pub mod OneTerm
+pub mod NeededTerms

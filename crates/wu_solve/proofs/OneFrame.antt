@@ -1,5 +1,5 @@
 -- The extents of frames that lie apart, and the frames that they lie in.
-use Rattle.std.proofs.Common.{◌≡◌, ◌+◌, ◌<◌, ◌≤◌, true, ◌⊎◌, List, [], ◌∷◌, refl, sym, ◌∙◌, subst, inl, inr, arith, leb, ltb, leb-true, le-leb, ltb-true, lt-ltb}
+use Rattle.std.proofs.Common.{◌≡◌, ◌+◌, ◌<◌, ◌≤◌, true, ◌⊎◌, List, [], ◌∷◌, refl, sym, ap, ◌∙◌, subst, inl, inr, arith, leb, ltb, leb-true, le-leb, ltb-true, lt-ltb}
 use Rattle.std.specs.Prelude.{filter}
 use Rattle.std.specs.List.{AllByRecursion}
 use Rattle.std.proofs.lemmas.Bool.{false≢true, and_parts, and_from, or_cases, or_left, or_right}
@@ -132,8 +132,9 @@ module _ (region : Region) (lists : List TermList) (frames : List Range) (apart 
       let one = holds_means x d.0 d.2 in
       let other = holds_means d.0 e.0 e.2 in
       let same : x ≡ e.0 = no_other xs x e.0 all.ascending k.0 e.1 (holds_through x d.0 e.0 one other) in
-      let back : Holds d.0 x = subst (λ (w : Extent). Holds d.0 w) (sym same) other in
-      let is : d.0 ≡ x = same_ends d.0 x (omega (arith, one.start, back.start)) (omega (arith, one.last, back.last)) in
+      let starts : x.start ≡ e.0.start = ap (λ (w : Extent). w.start) same in
+      let ends : x.end ≡ e.0.end = ap (λ (w : Extent). w.end) same in
+      let is : d.0 ≡ x = same_ends d.0 x (omega (arith, one.start, other.start)) (omega (arith, one.last, other.last)) in
       from_frame region lists frames f x o.1 (subst (λ (w : Extent). Has (frame_hits region lists f) w) is d.1)
 
   found : (x : Extent) → Has (frames_hits region lists frames) x → Has (filter (lies_in_one frames) xs) x
@@ -149,8 +150,9 @@ module _ (region : Region) (lists : List TermList) (frames : List Range) (apart 
       let other = holds_means d.0 e.0 e.2 in
       let same : x ≡ e.0 =
       no_other (frame_hits region lists f) x e.0 inner.ascending s.2 e.1 (holds_through x d.0 e.0 one other) in
-      let back : Holds d.0 x = subst (λ (w : Extent). Holds d.0 w) (sym same) other in
-      let is : d.0 ≡ x = same_ends d.0 x (omega (arith, one.start, back.start)) (omega (arith, one.last, back.last)) in
+      let starts : x.start ≡ e.0.start = ap (λ (w : Extent). w.start) same in
+      let ends : x.end ≡ e.0.end = ap (λ (w : Extent). w.end) same in
+      let is : d.0 ≡ x = same_ends d.0 x (omega (arith, one.start, other.start)) (omega (arith, one.last, other.last)) in
       to_filter (lies_in_one frames) xs x (subst (λ (w : Extent). Has xs w) is d.1) (lies_one frames f x s.1 lies)
 
   pub framed : filter (lies_in_one frames) xs ≡ frames_hits region lists frames

@@ -1,14 +1,13 @@
 -- A phrase's extents over frames that lie apart, from the addresses of one of its words.
 use Rattle.std.proofs.Common.{◌≡◌, ℕ, zero, suc, ◌+◌, ◌-◌, ◌<◌, ◌≤◌, Bool, true, List, [], ◌∷◌, length, get_or, refl, sym, ap, ◌∙◌, subst, arith, eqb, eqb-true, eq-eqb, leb-true, le-leb, nat_le}
 use Rattle.std.specs.Prelude.{filter}
-use Rattle.std.specs.List.Sorted.{IsStrictlyIncreasing}
 use Rattle.std.proofs.lemmas.Bool.{and_parts, and_from}
 use Rattle.wu_base.specs.declared.addresses.Extent.{Extent}
 use Rattle.wu_base.specs.declared.addresses.Range.{Range}
 use Rattle.wu_base.specs.declared.addresses.TermList.{TermList}
 use Rattle.wu_gcl.specs.Regions.{Phrase}
 use Rattle.wu_gcl.specs.Extents.{words_stand, is_in, hits}
-use Rattle.wu_solve.specs.Addresses.{is_among, has_address, stands_by}
+use Rattle.wu_solve.specs.Addresses.{is_among, has_address, stands_by, AreAddressesOf}
 use Rattle.wu_solve.specs.Frames.{lies_in_one}
 use Rattle.wu_solve.specs.Listing.{Has}
 use Rattle.wu_solve.specs.Operands.{run_around, runs_around}
@@ -27,11 +26,11 @@ extent_from start x = record { start = x.start - start; end = x.end - start }
 
 -- a phrase in a frame, by its places
 
-record StandsAt (lists : List TermList) (words : List (List ℕ)) (x : Extent) : Type 0 where
-  long : x.start + length words ≡ x.end + 1
-  stand : words_stand (has_address lists) words x.start ≡ true
+pub record StandsAt (lists : List TermList) (words : List (List ℕ)) (x : Extent) : Type 0 where
+  pub long : x.start + length words ≡ x.end + 1
+  pub stand : words_stand (has_address lists) words x.start ≡ true
 
-phrase_at : (lists : List TermList) (words : List (List ℕ)) (f : Range) (x : Extent) → Has (frame_hits (Phrase words) lists f) x
+pub phrase_at : (lists : List TermList) (words : List (List ℕ)) (f : Range) (x : Extent) → Has (frame_hits (Phrase words) lists f) x
     → StandsAt lists words x
 unfolding is_in
 phrase_at lists words f x has =
@@ -44,7 +43,7 @@ phrase_at lists words f x has =
     subst (λ (e : Extent). StandsAt lists words e) m.2
     (record { long = omega arith; stand = sym (words_moved lists f.start words y.start) ∙ b.1 })
 
-at_phrase : (lists : List TermList) (words : List (List ℕ)) (f : Range) (x : Extent) → LiesIn f x → StandsAt lists words x
+pub at_phrase : (lists : List TermList) (words : List (List ℕ)) (f : Range) (x : Extent) → LiesIn f x → StandsAt lists words x
     → Has (frame_hits (Phrase words) lists f) x
 unfolding is_in
 at_phrase lists words f x lies is =
@@ -74,11 +73,6 @@ word_stands stands (word ∷ words) place (suc k) is within =
     let b = and_parts (stands word place) (words_stand stands words (place + 1)) is in
     let next : place + 1 + k ≡ place + suc k = omega arith in
     subst (λ (p : ℕ). stands (get_or words k []) p ≡ true) next (word_stands stands words (place + 1) k b.1 (omega arith))
-
--- A word's addresses.
-pub record AreAddressesOf (lists : List TermList) (term addresses : List ℕ) : Type 0 where
-  pub ascending : IsStrictlyIncreasing addresses
-  pub same : (address : ℕ) → is_among addresses address ≡ has_address lists term address
 
 module _ (lists : List TermList) (frames : List Range) (apart : AreApart frames) (words : List (List ℕ)) (r after : ℕ)
     (within : r + after + 1 ≡ length words) (addresses : List ℕ) (are : AreAddressesOf lists (get_or words r []) addresses) where

@@ -15,14 +15,14 @@ use Rattle.wu_solve.proofs.Combining.{no_phrase, word_listed, mark_listed, file_
 use Rattle.wu_solve.proofs.Results.{hits_listed}
 use Rattle.wu_solve.proofs.Whole.{hits_are}
 
-alike_everywhere : (region other : Region) → ((stands : List ℕ → ℕ → Bool) (n : ℕ) → hits region stands n ≡ hits other stands n)
+pub alike_everywhere : (region other : Region) → ((stands : List ℕ → ℕ → Bool) (n : ℕ) → hits region stands n ≡ hits other stands n)
     → (lists : List TermList) (frames : List Range) → frames_hits region lists frames ≡ frames_hits other lists frames
 alike_everywhere region other same lists [] = refl
 alike_everywhere region other same lists (f ∷ frames) =
     ap (λ (xs : List Extent). map (moved f.start) xs ++ frames_hits region lists frames) (same (stands_by lists f.start) f.len)
     ∙ ap (λ (xs : List Extent). frame_hits other lists f ++ xs) (alike_everywhere region other same lists frames)
 
-tag_is_word : (tag : Tag) (stands : List ℕ → ℕ → Bool) (n : ℕ) → hits (Phrase (tag_text tag ∷ [])) stands n ≡ hits (Mark tag) stands n
+pub tag_is_word : (tag : Tag) (stands : List ℕ → ℕ → Bool) (n : ℕ) → hits (Phrase (tag_text tag ∷ [])) stands n ≡ hits (Mark tag) stands n
 tag_is_word tag stands n = hits_are (Mark tag) stands n (hits (Phrase (tag_text tag ∷ [])) stands n)
     (mark_listed n stands _ tag (word_listed n stands (tag_text tag) _ (hits_listed (Phrase (tag_text tag ∷ [])) stands n)))
 

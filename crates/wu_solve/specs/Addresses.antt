@@ -39,3 +39,8 @@ pub record EndsBelow (addresses : List ℕ) (bound place : ℕ) : Type 0 where
   pub within : place ≤ length addresses
   pub front : (k : ℕ) → k < place → slice_index addresses k < bound
   pub rest : (k : ℕ) → place ≤ k → k < length addresses → bound ≤ slice_index addresses k
+
+-- ascending, and the addresses that the lists have of the term
+pub record AreAddressesOf (lists : List TermList) (term addresses : List ℕ) : Type 0 where
+  pub ascending : IsStrictlyIncreasing addresses
+  pub same : (address : ℕ) → is_among addresses address ≡ has_address lists term address

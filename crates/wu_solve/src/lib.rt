@@ -1,7 +1,8 @@
 //! The extents that a region expression means, found by merging the lists of its terms' addresses.
 //!
 //! In the list of every expression starts and ends both ascend strictly, so that each operator walks
-//! the lists of its operands once, side by side.
+//! the lists of its operands once, side by side. A list is that of all frames, one behind the other;
+//! frames without an address of a needed term are left out before.
 #![tactic(auto)]
 
 mod containment;
@@ -10,13 +11,16 @@ mod first_extents;
 mod framing;
 mod laws;
 mod lookup;
+mod meeting;
 mod merging;
+mod needed;
 mod operands;
 mod overlaps;
 mod solving;
 mod windows;
 
 pub use counting::{Counts, count};
-pub use laws::{extents_ascend, frames_of_texts};
+pub use laws::{extents_ascend, frames_of_texts, needed_terms_stand};
 pub use lookup::find_term;
+pub use needed::needed_terms;
 pub use solving::solve;

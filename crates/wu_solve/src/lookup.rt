@@ -1,12 +1,12 @@
 //! Looking up terms and addresses.
-ghost use Rattle.std.specs.Prelude.{◌≡◌, ℕ, filter, map, nat_le, MatchOption};
+ghost use Rattle.std.specs.Prelude.{◌≡◌, ◌<◌, length, ℕ, filter, map, nat_le, MatchOption};
 ghost use Rattle.std.specs.List.{AllByRecursion};
 ghost use Rattle.std.specs.List.Sorted.{IsStrictlySortedBy, IsStrictlyIncreasing};
 ghost use Rattle.std.specs.Cmp.Lexicographic.{slice_cmp};
 ghost use Rattle.std.specs.Ordering.{nat_cmp};
 ghost use Rattle.wu_solve.specs.Addresses.{is_among, has_address, AreLists, EndsBelow, IsOther, IsListOf};
 
-use wu_base::{TermList, is_among};
+use wu_base::{Bytes, TermList, is_among};
 
 /// How many addresses in front are below the bound, found by steps that double.
 fn below(addresses: &[u64], bound: u64) -> usize
@@ -62,4 +62,22 @@ pub fn has_address(lists: &[TermList], term: &[u8], address: u64) -> bool
     ensures { result ≡ has_address lists.now term.now address }
 {
     is_among(&address, addresses_of(lists, term))
+}
+
+/// The place of a term with the fewest addresses.
+pub fn rarest(terms: &[Bytes], lists: &[TermList]) -> usize
+    requires some { 0 < length terms.now }
+    requires lists { AreLists lists.now }
+    ensures { result < length terms.now }
+{
+    let mut rarest = 0;
+    let mut fewest = usize::MAX;
+    for i in 0..terms.len() {
+        let count = addresses_of(lists, terms[i].as_slice()).len();
+        if count < fewest {
+            rarest = i;
+            fewest = count;
+        }
+    }
+    rarest
 }

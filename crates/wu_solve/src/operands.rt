@@ -12,7 +12,7 @@ ghost use Rattle.wu_solve.specs.Prefixes.{PrefixStands};
 ghost use Rattle.wu_solve.specs.Solving.{moved, frame_hits, frames_hits, IsFrame, AreApart};
 
 use crate::framing::frame_at;
-use crate::lookup::{addresses_from, addresses_of, has_address};
+use crate::lookup::{addresses_from, addresses_of, has_address, rarest};
 use crate::overlaps::{Stretch, farther, known_words, overlaps};
 use std::alloc::Global;
 use wu_base::{Bytes, Extent, NoMemory, Range, TermList};
@@ -122,24 +122,6 @@ fn words_together(
     let after = words.len() - rarest - 1;
     let runs = runs_in(alloc, addresses, rarest as u64, after as u64, frames)?;
     standing(alloc, words, &runs, lists)
-}
-
-/// The place of a word with the fewest addresses.
-fn rarest(words: &[Bytes], lists: &[TermList]) -> usize
-    requires some { 0 < length words.now }
-    requires lists { AreLists lists.now }
-    ensures { result < length words.now }
-{
-    let mut rarest = 0;
-    let mut fewest = usize::MAX;
-    for i in 0..words.len() {
-        let count = addresses_of(lists, words[i].as_slice()).len();
-        if count < fewest {
-            rarest = i;
-            fewest = count;
-        }
-    }
-    rarest
 }
 
 /// Those of the extents at whose start the words stand one after the other. Where no address has two

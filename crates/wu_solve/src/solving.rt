@@ -9,6 +9,7 @@ ghost use Rattle.wu_solve.specs.Solving.{frames_hits, IsFrame, AreApart};
 
 use crate::containment::{held, holding};
 use crate::framing::{are_apart, lying_in};
+use crate::meeting::frames_with_needed;
 use crate::merging::{both_of, followed_by, one_of};
 use crate::operands::{phrase, term, windows};
 use crate::windows::{held_by_windows, holding_windows};
@@ -160,7 +161,8 @@ pub fn solve(
     ensures ascending { AreApart frames.now → IfOk result (λ v. IsAscending v.items) }
 {
     if are_apart(frames) {
-        return solve_apart(alloc, expr, frames, lists);
+        let met = frames_with_needed(alloc, expr, frames, lists)?;
+        return solve_apart(alloc, expr, &met, lists);
     }
     let mut found = Vec::new(alloc);
     for frame in frames {

@@ -9,5 +9,6 @@ use Rattle.wu_solve.proofs.solving.solve.Goals as goal
 pub returns-then-are_apart-clause-ascending : goal.returns-then-are_apart-clause-ascending
 returns-then-are_apart-clause-ascending c = λ apart.
     let region = region_of c.args.expr.now in
-    IfOk-weaker c.solve_apart.result (λ v. v.items ≡ frames_hits region c.args.lists.now c.args.frames.now) (λ v. IsAscending v.items)
-    (λ v same. rw same (frames_ascend region c.args.lists.now c.args.frames.now apart)) c.solve_apart.ensures
+    let met = c.deref.result.now in
+    IfOk-weaker c.solve_apart.result (λ v. v.items ≡ frames_hits region c.args.lists.now met) (λ v. IsAscending v.items)
+    (λ v same. rw same (frames_ascend region c.args.lists.now met (rw c.deref.ensures.value c.in_ok-met.ensures.apart))) c.solve_apart.ensures

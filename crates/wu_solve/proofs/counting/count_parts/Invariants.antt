@@ -2,7 +2,7 @@ use Rattle.std.proofs.Common.{◌≡◌, ◌-◌, ◌≤◌, take, length}
 use Rattle.std.specs.Prelude.{count_by, nat_lt}
 use Rattle.wu_gcl.specs.Regions.{region_of}
 use Rattle.wu_solve.specs.Solving.{frame_hits, frames_hits}
-use Rattle.wu_solve.proofs.counting.count_apart.Given as goal
+use Rattle.wu_solve.proofs.counting.count_parts.Given as goal
 
 abbrev pub invariant-loop-from : goal.invariant-loop-from
 invariant-loop-from l = record {
