@@ -7,5 +7,6 @@ pub mod Sums
 pub mod Parts
 pub mod Sorting
 pub mod Orders
+pub mod FirstUnits
 pub mod Shifting
 pub mod Reordering

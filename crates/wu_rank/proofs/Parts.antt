@@ -3,7 +3,7 @@ use Rattle.std.proofs.Common.{◌≡◌, ◌==◌, ℕ, zero, suc, ◌+◌, ◌-
 use Rattle.std.specs.List.{AllByRecursion, list_any, filter}
 use Rattle.std.proofs.lemmas.Bool.{cases_lt, lt-ltb, ltb-false, or_parts}
 use Rattle.std.proofs.lemmas.List.Sums.{get_or-le-sum_by, count_by-le-length, sum_by_more, sum_by-cons, sum_by-append}
-use Rattle.std.proofs.lemmas.List.{take_at}
+use Rattle.std.proofs.lemmas.List.{length-map, take_at}
 use Rattle.std.proofs.lemmas.List.Folds.{list_any-append}
 use Rattle.std.proofs.Math.Nat.{add-zero}
 use Rattle.std.proofs.Math.Dec.{eqb-suc-zero}
@@ -233,6 +233,11 @@ ranked_are units lists =
         ap₂ (λ (n : ℕ) (u : RankedUnit). let r : Ranked = record { score = n; unit = u } in
         r ∷ map (scored count_at units lists) (filter (holds count_at lists) rest)) f (sym e)
     by false place unit points rest e f = refl
+
+pub length-listed : (units : List RankedUnit) (lists : List TermList)
+    → length (entries (score_if_listed count_at units lists) (length units) units) ≡ length (all_listed count_at units lists)
+length-listed units lists =
+    sym (length-map (entries (score_if_listed count_at units lists) (length units) units) (ranked_at units)) ∙ ap length (ranked_are units lists)
 
 pub listed_within : (units : List RankedUnit) (f : RankedUnit → Option ℕ)
     → AllByRecursion (λ e. e.unit < length units) (entries f (length units) units)

@@ -114,7 +114,7 @@ sorted-from_Ascends (x ∷ y ∷ ys) h (suc k) d low high =
 
 -- ---- there is such a list: each unit is put before the first that it comes before
 
-abbrev put_in : List Ranked → Ranked → List Ranked
+abbrev pub put_in : List Ranked → Ranked → List Ranked
 put_in ys x = insert_key kept_apart ys x
 
 NoneBefore-put_in : (x y : Ranked) (ys : List Ranked) → comes_before y x ≡ false → NoneBefore x ys → NoneBefore x (put_in ys y)

@@ -3,3 +3,4 @@ pub mod Scores
 pub mod Entries
 pub mod Sweeps
 pub mod Order
+pub mod Choices

@@ -2,6 +2,7 @@
 #![tactic(auto)]
 
 mod bm25;
+mod choosing;
 mod counting;
 mod entries;
 mod galloping;

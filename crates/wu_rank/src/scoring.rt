@@ -2,17 +2,17 @@
 ghost use Rattle.std.specs.Prelude.{◌≡◌, ℕ, ◌+◌, ◌*◌, ◌<◌, ◌≤◌, ◌^◌, [], ◌∷◌, length, map, take, IfOk};
 ghost use Rattle.std.specs.List.{All, AllByRecursion};
 ghost use Rattle.wu_rank.specs.Bm25.{IsWeigher};
-ghost use Rattle.wu_rank.specs.Entries.{entries, weighed, ranked_at, IsWithin};
+ghost use Rattle.wu_rank.specs.Entries.{entries, weighed, IsWithin};
 ghost use Rattle.wu_rank.specs.Scores.{CanRank, count_at, score_if_listed, length_of};
 ghost use Rattle.wu_rank.specs.Order.{listed};
 ghost use Rattle.wu_rank.specs.Sweeps.{AreRuns};
 
 use crate::bm25::Ranker;
+use crate::choosing::choose;
 use crate::counting::{extent_length, inverse_frequency};
 use crate::entries::Entry;
 use crate::merging::merged;
-use crate::ordering::first;
-use crate::results::{Ranked, Ranking, Unit};
+use crate::results::{Ranking, Unit};
 use crate::sweeping::{counts_of, runs_of};
 use std::alloc::Global;
 use wu_base::{NoMemory, Sequence, TermList};
@@ -87,21 +87,6 @@ fn scores_of<F: Fn(u32, u64, u64) -> u64>(
     }
 }
 
-/// The units of the entries, with the entries' values as their scores.
-fn ranked_of(alloc: Global, units: &[Unit], scores: &[Entry]) -> Result<Vec<Ranked>, NoMemory>
-    requires { All (λ entry. entry.unit < length units.now) scores.now }
-    ensures { IfOk result (λ ranked. ranked.items ≡ map (ranked_at units.now) scores.now) }
-{
-    let mut ranked = Vec::with_capacity(alloc, scores.len())?;
-    for entry in scores {
-        ranked.push(Ranked {
-            score: entry.value,
-            unit: units[entry.unit],
-        })?;
-    }
-    Ok(ranked)
-}
-
 /// The number of units that hold a query word, and the first `k` of them: by score, falling, then
 /// by place, then by start. A score is the sum of the BM25 weights of the query's words, each in
 /// units of 1/65536 and rounded down, and a word that no unit holds adds nothing. The lists, at most
@@ -109,7 +94,7 @@ fn ranked_of(alloc: Global, units: &[Unit], scores: &[Entry]) -> Result<Vec<Rank
 /// has it. Each unit is shorter than 2^26. Over no units nothing is listed.
 ///
 /// Each word's addresses are swept once over each part of the units that ascends. Nothing is made but for
-/// these parts and for a word and a unit that holds it. Selecting the first `k` takes linear time on
+/// these parts and for a word and a unit that holds it. The first `k` are chosen in linear time on
 /// average, and only they are sorted.
 pub fn rank<F: Fn(u32, u64, u64) -> u64>(
     alloc: Global,
@@ -125,8 +110,7 @@ pub fn rank<F: Fn(u32, u64, u64) -> u64>(
 {
     let runs = runs_of(alloc, units)?;
     let scores = scores_of(alloc, units, &runs, lists, ranker)?;
-    let all = ranked_of(alloc, units, &scores)?;
-    let listed = all.len() as u64;
-    let top = Sequence::from(first(alloc, all, k as usize)?);
+    let listed = scores.len() as u64;
+    let top = Sequence::from(choose(alloc, units, &scores, k as usize)?);
     Ok(Ranking { listed, top })
 }
