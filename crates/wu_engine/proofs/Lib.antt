@@ -3,9 +3,8 @@ pub mod FileChanges
 pub mod StateTexts
 pub mod StateLayouts
 pub mod KeptStates
-pub mod IndexLemmas
-pub mod SoundLemmas
-pub mod StandLemmas
+pub mod RecordLemmas
+pub mod StoredTexts
 pub mod FramesOfFiles
 pub mod UnitsOfFrames
 pub mod Places

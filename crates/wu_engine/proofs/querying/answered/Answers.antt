@@ -14,7 +14,7 @@ use Rattle.wu_engine.proofs.querying.answered.Goals as goal
 
 pub answer-requires-clause-fit : goal.answer-requires-clause-fit
 answer-requires-clause-fit c =
-    can_be_searched c.args.tree.now c.args.space.now c.args.parts.now c.args.kept.now c.keeps_the_rules.ensures c.requires.sound
+    can_be_searched c.args.tree.now c.args.space.now c.args.parts.now c.args.files.now.entries c.args.kept.now c.keeps_the_rules.ensures c.requires.sound
     c.args.query.now.uid c.in-Some.frames.now
     (right-found c.args.tree.now c.args.space.now.ranges c.args.query.now.uid c.prepare.new.self c.in-Some.frames.now c.prepare.ensures.right
     c.in-Some.ensures)
