@@ -5,9 +5,8 @@ pub mod StateLayouts
 pub mod LayoutSteps
 pub mod TakenAddresses
 pub mod KeptStates
-pub mod IndexLemmas
-pub mod SoundLemmas
-pub mod StandLemmas
+pub mod RecordLemmas
+pub mod StoredTexts
 pub mod FramesOfFiles
 pub mod UnitsOfFrames
 pub mod Places

@@ -1,10 +1,19 @@
--- What an event that is accepted makes of the addresses and the postings.
-use Rattle.std.specs.Prelude.{◌≡◌, ℕ, ◌+◌, ◌≤◌, List, [], ◌++◌, length, Option, None, Some, IfSome, IsSome}
+-- What an event that is accepted makes of addresses, postings, records and blobs.
+use Rattle.std.specs.Prelude.{◌≡◌, ℕ, ◌+◌, ◌≤◌, ◌<◌, ◌^◌, ◌==◌, Bool, false, if◌then◌else◌, List, [], ◌∷◌, ◌++◌, length, Option, None, Some, IfSome, IsSome}
+use Rattle.std.specs.Ordering.{nat_cmp}
+use Rattle.std.specs.Map.{lookup, remove_entry}
+use Rattle.std.specs.BTreeMap.{is_at, insert_entry}
 use Rattle.wu_base.specs.declared.limits.TheConstants.{ADDRESSES_MAX, TEXT_MAX}
+use Rattle.wu_outside.specs.Content.{Content, with_blob}
+use Rattle.wu_token.specs.Words.{has_bytes}
 use Rattle.wu_token.specs.Tokens.{tokens_of}
 use Rattle.wu_tree.specs.declared.events.Effect.{Effect}
 use Rattle.wu_space.specs.Addresses.{Addresses, placed, range_of, released}
 use Rattle.wu_parts.specs.Contents.{Contents}
+use Rattle.wu_image.specs.declared.records.FileRec.{FileRec}
+use Rattle.wu_engine.specs.Records.{Records}
+
+-- ---- addresses
 
 -- the file's range, if there is such a file, is live no more
 abbrev pub without_file : Option ℕ → Addresses → Addresses
@@ -33,6 +42,87 @@ space_after effect text space = with_file effect.texted text (without_file effec
 abbrev pub terms_after : Effect → List ℕ → List (List ℕ)
 terms_after effect text = terms_given effect.made [] ++ terms_given effect.texted text
 
+-- ---- records and blobs
+
+-- the blob of a record's text, if it has one
+abbrev pub blob_of : Option FileRec → List ℕ
+blob_of None = []
+blob_of (Some file) = if file.blob == 0 then [] else file.blob ∷ []
+
+-- the blob of the file's text, if there is such a file and its text has one
+abbrev pub blob_left : Option ℕ → Records → List ℕ
+blob_left None files = []
+blob_left (Some ino) files = blob_of (lookup (is_at (nat_cmp ino)) files)
+
+-- the file, if there is one, has no record
+abbrev pub records_without : Option ℕ → Records → Records
+records_without None files = files
+records_without (Some ino) files = remove_entry (is_at (nat_cmp ino)) files
+
+-- what is recorded of a file that is given the text, where these are the next address and the next blob
+abbrev pub record_for : ℕ → List ℕ → ℕ → ℕ → FileRec
+record_for ino text address blob = record {
+  ino = ino;
+  len = length text;
+  blob = if has_bytes text then blob else 0;
+  range = record { start = address; len = length (tokens_of text) };
+}
+
+-- the file, if there is one, has that record
+abbrev pub records_with : Option ℕ → List ℕ → ℕ → ℕ → Records → Records
+records_with None text address blob files = files
+records_with (Some ino) text address blob files = insert_entry nat_cmp files ino (record_for ino text address blob)
+
+-- whether a file is given a text that isn't empty: one that is put into the store
+abbrev pub is_stored : Option ℕ → List ℕ → Bool
+is_stored None text = false
+is_stored (Some ino) text = has_bytes text
+
+-- the text, if it is stored, is held by that blob
+abbrev pub stored_with : Option ℕ → List ℕ → ℕ → Content → Content
+stored_with file text blob content = if is_stored file text then with_blob blob (Some text) content else content
+
+-- ---- the catalog: what an engine keeps of files besides the tree and the postings
+
+pub record Catalog : Type 0 where
+  pub space : Addresses
+  pub files : Records
+  pub next_blob : ℕ
+  pub stale : List ℕ
+
+abbrev pub catalog_of : Addresses → Contents → Records → Catalog
+catalog_of space parts files = record { space = space; files = files; next_blob = parts.next_blob; stale = parts.stale }
+
+-- the file's range, record and blob, if there is such a file, are given up
+abbrev pub catalog_without : Option ℕ → Catalog → Catalog
+catalog_without file catalog = record {
+  space = without_file file catalog.space;
+  files = records_without file catalog.files;
+  next_blob = catalog.next_blob;
+  stale = catalog.stale ++ blob_left file catalog.files;
+}
+
+-- the file, if there is one, has the text: the next addresses, a record, and the next blob where the text has bytes
+abbrev pub catalog_with : Option ℕ → List ℕ → Catalog → Catalog
+catalog_with file text catalog = record {
+  space = with_file file text catalog.space;
+  files = records_with file text catalog.space.next catalog.next_blob catalog.files;
+  next_blob = catalog.next_blob + (if is_stored file text then 1 else 0);
+  stale = catalog.stale;
+}
+
+abbrev pub catalog_made : Effect → Catalog → Catalog
+catalog_made effect catalog = catalog_with effect.made [] (catalog_without effect.dropped catalog)
+
+abbrev pub catalog_after : Effect → List ℕ → Catalog → Catalog
+catalog_after effect text catalog = catalog_with effect.texted text (catalog_without effect.texted (catalog_made effect catalog))
+
+-- but for memory and blobs, the parts are as they were
+abbrev pub KeepsParts : Contents → Contents → Type 0
+KeepsParts old new = new ≡ record old { memory = new.memory; next_blob = new.next_blob; stale = new.stale }
+
+-- ---- what an event needs
+
 -- A file that is dropped or given a text has a live range, one that is made has none, and there is room for the texts.
 pub record IsIndexable (effect : Effect) (text : List ℕ) (space : Addresses) (parts : Contents) : Type 0 where
   pub dropped : IfSome effect.dropped (λ ino. IsSome (range_of space.ranges ino))
@@ -41,3 +131,4 @@ pub record IsIndexable (effect : Effect) (text : List ℕ) (space : Addresses) (
   pub short : length text ≤ TEXT_MAX
   pub below : parts.memory.end ≤ space.next
   pub room : space.next + length (terms_after effect text) ≤ ADDRESSES_MAX
+  pub blobs : parts.next_blob < 2 ^ 63

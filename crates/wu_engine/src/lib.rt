@@ -8,7 +8,6 @@ mod laws;
 mod listing;
 mod querying;
 mod ranking;
-mod updating;
 mod verdicts;
 
 pub use engines::Engine;
