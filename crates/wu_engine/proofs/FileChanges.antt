@@ -1,13 +1,12 @@
 -- Which files there are after an event, by its effect.
-use Rattle.std.proofs.Common.{◌≡◌, ◌≢◌, ℕ, List, Bool, true, false, cond, refl, ap, sym, ◌∙◌, subst, inl, inr, ⊎_elim}
-use Rattle.std.specs.Prelude.{Option, Some, None, Ok, is_some, ◌&&◌}
-use Rattle.std.specs.Ordering.{nat_cmp}
+use Rattle.std.proofs.Common.{◌≡◌, ℕ, List, Bool, true, false, cond, refl, ap, sym, ◌∙◌, subst, inl, inr, ⊎_elim}
+use Rattle.std.specs.Prelude.{Option, Some, None, Ok, ◌&&◌}
 use Rattle.std.proofs.lemmas.Bool.{or_parts}
 use Rattle.wu_tree.specs.declared.events.Event.{Event}
 use Rattle.wu_tree.specs.declared.events.Event.TheVariants.{User, Mkdir, Create, Text, Link, Unlink, Rmdir, Rename, Chmod, Chown}
 use Rattle.wu_tree.specs.declared.events.Effect.{Effect}
 use Rattle.wu_tree.specs.FileSystems.{FileSystem, is_file, is_file_node, is_there, is_used, node_of, child_of}
-use Rattle.wu_tree.specs.Steps.{create_rules, named, named_by, no_effect, dropped_at, rename_effect, is_last_link, is_same_node, refusal_of, next, effect_of}
+use Rattle.wu_tree.specs.Steps.{create_rules, named, no_effect, dropped_at, is_last_link, is_same_node, refusal_of, next, effect_of}
 use Rattle.wu_tree.specs.Steps.{step as tree_step}
 use Rattle.wu_tree.specs.Effects.{TellsFiles}
 use Rattle.wu_tree.proofs.ParentPaths.{same_number}

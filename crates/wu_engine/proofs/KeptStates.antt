@@ -3,7 +3,6 @@ use Rattle.std.proofs.Common.{◌≡◌, ℕ, ◌+◌, ◌≤◌, List, [], leng
 use Rattle.std.specs.Prelude.{Option, Some, None}
 use Rattle.std.specs.Result.{result_unwrap_or}
 use Rattle.wu_base.specs.declared.limits.TheConstants.{TEXT_MAX}
-use Rattle.wu_token.specs.Tokens.{tokens_of}
 use Rattle.wu_tree.specs.declared.events.Event.{Event}
 use Rattle.wu_tree.specs.declared.events.Event.TheVariants.{User, Mkdir, Create, Text, Link, Unlink, Rmdir, Rename, Chmod, Chown}
 use Rattle.wu_tree.specs.declared.events.Effect.{Effect}
@@ -17,10 +16,10 @@ use Rattle.wu_tree.proofs.KeptTrees.{step_keeps}
 use Rattle.wu_tree.proofs.TreeInvariant.{root_sound}
 use Rattle.wu_layout.specs.Layouts.{Layout}
 use Rattle.wu_layout.proofs.Updates.{first_is_layout, layout_after_other}
-use Rattle.wu_engine.specs.States.{State, IsState, first_state, step, stepped, after_event, texts_after, layout_without, layout_with, layout_after, indexed}
+use Rattle.wu_engine.specs.States.{State, IsState, first_state, step, stepped, after_event, texts_after, layout_without, layout_with, layout_after}
 use Rattle.wu_engine.specs.Stands.{taken_by}
-use Rattle.wu_engine.specs.Indexing.{terms_given}
-use Rattle.wu_engine.proofs.FileChanges.{ChangesFiles, changes}
+use Rattle.wu_engine.specs.Indexing.{is_stored, terms_given}
+use Rattle.wu_engine.proofs.FileChanges.{changes}
 use Rattle.wu_engine.proofs.StateTexts.{texts_kept, short_kept, first_texts, root_files}
 use Rattle.wu_engine.proofs.StateLayouts.{layout_kept, text_at}
 
@@ -120,3 +119,45 @@ next_rises s event text =
     let d : (layout_after effect text s.layout).next ≡ (layout_without effect.texted made).next + taken_with effect.texted text =
     next-with effect.texted text (layout_without effect.texted made) in
     omega arith)
+
+-- ---- how far the next blob rises
+
+drawn-with : (o : Option ℕ) (text : List ℕ) (layout : Layout) → (layout_with o text layout).blob ≡ layout.blob + cond (is_stored o text) 1 0
+drawn-with None text layout = omega arith
+drawn-with (Some ino) text layout = refl
+
+drawn-without : (o : Option ℕ) (layout : Layout) → (layout_without o layout).blob ≡ layout.blob
+drawn-without None layout = refl
+drawn-without (Some ino) layout = refl
+
+none-stored : (o : Option ℕ) → is_stored o [] ≡ false
+none-stored None = refl
+none-stored (Some ino) = refl
+
+at_most_one : (b : Bool) → cond {A = ℕ} b 1 0 ≤ 1
+at_most_one true = omega arith
+at_most_one false = omega arith
+
+module _ (effect : Effect) (layout : Layout) where
+  -- a file that is made has no blob
+  pub drawn-made : (layout_without effect.texted (layout_with effect.made [] (layout_without effect.dropped layout))).blob ≡ layout.blob
+  drawn-made =
+      let left : Layout = layout_without effect.dropped layout in
+      let none : cond {A = ℕ} (is_stored effect.made []) 1 0 ≡ 0 = ap (λ (b : Bool). cond {A = ℕ} b 1 0) (none-stored effect.made) in
+      omega (
+        arith,
+        drawn-without effect.texted (layout_with effect.made [] left),
+        drawn-with effect.made [] left,
+        none,
+        drawn-without effect.dropped layout,
+      )
+
+  pub drawn-after : (text : List ℕ) → (layout_after effect text layout).blob ≡ layout.blob + cond (is_stored effect.texted text) 1 0
+  drawn-after text =
+      drawn-with effect.texted text (layout_without effect.texted (layout_with effect.made [] (layout_without effect.dropped layout)))
+      ∙ ap (λ (n : ℕ). n + cond (is_stored effect.texted text) 1 0) drawn-made
+
+pub blob_rises : (s : State) (event : Event) (text : List ℕ) → (after_event s event text).layout.blob ≤ s.layout.blob + 1
+blob_rises s event text =
+    after_cases s event text (λ t. t.layout.blob ≤ s.layout.blob + 1) (omega arith)
+    (λ tree effect e. omega (arith, drawn-after effect s.layout text, at_most_one (is_stored effect.texted text)))

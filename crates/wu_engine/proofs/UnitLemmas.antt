@@ -133,8 +133,7 @@ units_fit region lists (frame ∷ frames) short =
     let here = map (unit_at frame.place) (frame_hits region lists frame.range) in
     let one = fit_here frame.place frame.range.start frame.range.len (hits region (stands_by lists frame.range.start) frame.range.len)
     short.0 (inside_frame region lists frame.range) in
-    let more = units_fit region lists frames short.1 in
-    (
+    let more = units_fit region lists frames short.1 in (
       both_all (λ (u : RankedUnit). 1 ≤ length_of u.extent) here (units_in region lists frames) one.0 more.0,
       both_all (λ (u : RankedUnit). length_of u.extent < 2 ^ 26) here (units_in region lists frames) one.1 more.1,
     )

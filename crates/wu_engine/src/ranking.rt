@@ -138,4 +138,3 @@ fn statistics(units: &[Unit]) -> (u64, u128)
     }
     (units.len() as u64, summed_length(units))
 }
-
