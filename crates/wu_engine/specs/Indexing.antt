@@ -1,5 +1,5 @@
 -- What an event that is accepted makes of addresses, postings, records and blobs.
-use Rattle.std.specs.Prelude.{◌≡◌, ℕ, ◌+◌, ◌≤◌, ◌<◌, ◌^◌, ◌==◌, Bool, false, if◌then◌else◌, List, [], ◌∷◌, ◌++◌, length, Option, None, Some, IfSome, IsSome}
+use Rattle.std.specs.Prelude.{◌≡◌, ℕ, ◌+◌, ◌≤◌, ◌==◌, Bool, false, if◌then◌else◌, List, [], ◌∷◌, ◌++◌, length, Option, None, Some, IfSome, IsSome}
 use Rattle.std.specs.Ordering.{nat_cmp}
 use Rattle.std.specs.Map.{lookup, remove_entry}
 use Rattle.std.specs.BTreeMap.{is_at, insert_entry}
@@ -42,7 +42,35 @@ space_after effect text space = with_file effect.texted text (without_file effec
 abbrev pub terms_after : Effect → List ℕ → List (List ℕ)
 terms_after effect text = terms_given effect.made [] ++ terms_given effect.texted text
 
--- ---- records and blobs
+-- ---- the text's blob
+
+-- whether a file is given a text that isn't empty: one that is put into the store
+abbrev pub is_stored : Option ℕ → List ℕ → Bool
+is_stored None text = false
+is_stored (Some ino) text = has_bytes text
+
+-- the blob that holds the text, where this is the next one; 0 where none does
+abbrev pub blob_for : Option ℕ → List ℕ → ℕ → ℕ
+blob_for file text next = if is_stored file text then next else 0
+
+-- a blob is drawn for a text that is stored
+abbrev pub drawn_for : Option ℕ → List ℕ → Contents → Contents
+drawn_for file text parts = record parts { next_blob = parts.next_blob + (if is_stored file text then 1 else 0) }
+
+-- a text that is stored is held by that blob
+abbrev pub stored_at : ℕ → Option ℕ → List ℕ → Content → Content
+stored_at blob file text content = if is_stored file text then with_blob blob (Some text) content else content
+
+-- ---- the catalog: what an engine keeps of files besides the tree and the postings
+
+-- live ranges, records, and the blobs that are no longer needed
+pub record Catalog : Type 0 where
+  pub space : Addresses
+  pub files : Records
+  pub stale : List ℕ
+
+abbrev pub catalog_of : Addresses → Records → Contents → Catalog
+catalog_of space files parts = record { space = space; files = files; stale = parts.stale }
 
 -- the blob of a record's text, if it has one
 abbrev pub blob_of : Option FileRec → List ℕ
@@ -59,67 +87,46 @@ abbrev pub records_without : Option ℕ → Records → Records
 records_without None files = files
 records_without (Some ino) files = remove_entry (is_at (nat_cmp ino)) files
 
--- what is recorded of a file that is given the text, where these are the next address and the next blob
+-- what is recorded of a file that has the text in that blob, and these addresses
 abbrev pub record_for : ℕ → List ℕ → ℕ → ℕ → FileRec
-record_for ino text address blob = record {
+record_for ino text blob address = record {
   ino = ino;
   len = length text;
-  blob = if has_bytes text then blob else 0;
+  blob = blob;
   range = record { start = address; len = length (tokens_of text) };
 }
 
 -- the file, if there is one, has that record
 abbrev pub records_with : Option ℕ → List ℕ → ℕ → ℕ → Records → Records
-records_with None text address blob files = files
-records_with (Some ino) text address blob files = insert_entry nat_cmp files ino (record_for ino text address blob)
-
--- whether a file is given a text that isn't empty: one that is put into the store
-abbrev pub is_stored : Option ℕ → List ℕ → Bool
-is_stored None text = false
-is_stored (Some ino) text = has_bytes text
-
--- the text, if it is stored, is held by that blob
-abbrev pub stored_with : Option ℕ → List ℕ → ℕ → Content → Content
-stored_with file text blob content = if is_stored file text then with_blob blob (Some text) content else content
-
--- ---- the catalog: what an engine keeps of files besides the tree and the postings
-
-pub record Catalog : Type 0 where
-  pub space : Addresses
-  pub files : Records
-  pub next_blob : ℕ
-  pub stale : List ℕ
-
-abbrev pub catalog_of : Addresses → Contents → Records → Catalog
-catalog_of space parts files = record { space = space; files = files; next_blob = parts.next_blob; stale = parts.stale }
+records_with None text blob address files = files
+records_with (Some ino) text blob address files = insert_entry nat_cmp files ino (record_for ino text blob address)
 
 -- the file's range, record and blob, if there is such a file, are given up
 abbrev pub catalog_without : Option ℕ → Catalog → Catalog
 catalog_without file catalog = record {
   space = without_file file catalog.space;
   files = records_without file catalog.files;
-  next_blob = catalog.next_blob;
   stale = catalog.stale ++ blob_left file catalog.files;
 }
 
--- the file, if there is one, has the text: the next addresses, a record, and the next blob where the text has bytes
-abbrev pub catalog_with : Option ℕ → List ℕ → Catalog → Catalog
-catalog_with file text catalog = record {
+-- the file, if there is one, has the text, in that blob: the next addresses, and a record
+abbrev pub catalog_with : Option ℕ → List ℕ → ℕ → Catalog → Catalog
+catalog_with file text blob catalog = record {
   space = with_file file text catalog.space;
-  files = records_with file text catalog.space.next catalog.next_blob catalog.files;
-  next_blob = catalog.next_blob + (if is_stored file text then 1 else 0);
+  files = records_with file text blob catalog.space.next catalog.files;
   stale = catalog.stale;
 }
 
 abbrev pub catalog_made : Effect → Catalog → Catalog
-catalog_made effect catalog = catalog_with effect.made [] (catalog_without effect.dropped catalog)
+catalog_made effect catalog = catalog_with effect.made [] 0 (catalog_without effect.dropped catalog)
 
-abbrev pub catalog_after : Effect → List ℕ → Catalog → Catalog
-catalog_after effect text catalog = catalog_with effect.texted text (catalog_without effect.texted (catalog_made effect catalog))
+-- the same as of the addresses, where the text that a file is given is in that blob
+abbrev pub catalog_after : Effect → List ℕ → ℕ → Catalog → Catalog
+catalog_after effect text blob catalog = catalog_with effect.texted text blob (catalog_without effect.texted (catalog_made effect catalog))
 
--- but for memory and blobs, the parts are as they were
+-- but for the postings in memory and the stale blobs, the parts are as they were
 abbrev pub KeepsParts : Contents → Contents → Type 0
-KeepsParts old new = new ≡ record old { memory = new.memory; next_blob = new.next_blob; stale = new.stale }
+KeepsParts old new = new ≡ record old { memory = new.memory; stale = new.stale }
 
 -- ---- what an event needs
 
@@ -131,4 +138,3 @@ pub record IsIndexable (effect : Effect) (text : List ℕ) (space : Addresses) (
   pub short : length text ≤ TEXT_MAX
   pub below : parts.memory.end ≤ space.next
   pub room : space.next + length (terms_after effect text) ≤ ADDRESSES_MAX
-  pub blobs : parts.next_blob < 2 ^ 63

@@ -10,6 +10,7 @@ ghost use Rattle.std.specs.Coded.{→_prop};
 ghost use Rattle.wu_engine.specs.Soundness.{IsSound, IsSound-prop};
 
 use crate::querying::answered;
+use crate::updating::{index, store_text};
 use crate::verdicts::Verdict;
 use std::alloc::Global;
 use std::collections::BTreeMap;
@@ -20,7 +21,7 @@ use wu_image::FileRec;
 use wu_outside::Store;
 use wu_parts::Parts;
 use wu_space::Space;
-use wu_tree::{Event, Tree};
+use wu_tree::{Event, Tree, effects_tell_files};
 
 /// The file tree, the index of all files' texts, where each text is in the store, and the frames of the users
 /// who asked last. It keeps no text. A call that answers a trouble ends it: each later call answers that
@@ -49,11 +50,7 @@ impl Engine {
     /// An engine for the root directory alone, in which memory is full at `flush_at` postings. It makes no call
     /// of the store: whatever that holds, the session begins anew, and puts its blobs from number 1 on. The
     /// engine keeps the allocator. The only error is out of memory.
-    pub fn begin<D: Store>(
-        alloc: Global,
-        store: &mut D,
-        flush_at: u64,
-    ) -> Result<Engine, NoMemory>
+    pub fn begin<D: Store>(alloc: Global, store: &mut D, flush_at: u64) -> Result<Engine, NoMemory>
         ensures stands { IfOk result (λ engine. IsSome (D.holds store.old) → Stands engine (D.holds store.new) first_state) }
         ensures next { IfOk result (λ engine. engine.space.next ≡ 0) }
         ensures next_blob { IfOk result (λ engine. engine.parts.next_blob ≡ 1) }
@@ -114,16 +111,45 @@ impl Engine {
             return Err(trouble);
         }
         self.ended = Some(Trouble::NoMemory);
-        Err(Trouble::NoMemory)
+        effects_tell_files(&self.tree);
+        self.space.keeps_the_rules();
+        match self.tree.apply(event)? {
+            Ok(effect) => {
+                self.frames.clear();
+                let blob = match store_text(&mut self.parts, store, effect.texted, body) {
+                    Ok(blob) => blob,
+                    Err(fault) => return Err(self.end_with(Trouble::from(fault))),
+                };
+                index(
+                    &mut self.space,
+                    &mut self.parts,
+                    &mut self.files,
+                    effect,
+                    body,
+                    blob,
+                )?;
+                self.ended = None;
+                Ok(Verdict::Made)
+            }
+            Err(refusal) => {
+                self.ended = None;
+                Ok(Verdict::Refused(refusal))
+            }
+        }
+    }
+
+    /// Notes the trouble that ended it, and gives it back.
+    fn end_with(&mut self, trouble: Trouble) -> Trouble
+        ensures trouble { result ≡ trouble }
+        ensures ended { self.new.ended ≡ Some trouble }
+    {
+        self.ended = Some(trouble);
+        trouble
     }
 
     /// Answers a user's query from the index: over her view alone, whatever other files there are. The store
     /// is only read.
-    pub fn query<D: Store>(
-        &mut self,
-        store: &mut D,
-        query: &Query,
-    ) -> Result<Answered, Trouble>
+    pub fn query<D: Store>(&mut self, store: &mut D, query: &Query) -> Result<Answered, Trouble>
         requires { IsSoundAsk query.now.ask }
         // The answer is the written one over her view, and engine and store stand for the same state.
         ensures answer { (s : State) → Stands self.old (D.holds store.old) s → IfOk result (λ answered.

@@ -8,6 +8,7 @@ mod laws;
 mod listing;
 mod querying;
 mod ranking;
+mod updating;
 mod verdicts;
 
 pub use engines::Engine;

@@ -1,4 +1,4 @@
-use Rattle.std.proofs.Common.{◌≡◌, refl, rules}
+use Rattle.std.proofs.Common.{refl, rules}
 use Rattle.wu_engine.proofs.KeptStates.{first_is_state}
 use Rattle.wu_engine.proofs.StoredTexts.{none_yet}
 use Rattle.wu_engine.proofs.engines.Engine.begin.Goals as goal
