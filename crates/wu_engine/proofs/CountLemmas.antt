@@ -44,7 +44,7 @@ module _ (frames : Frames) (live : Ranges) (memory : Memory) (s : State) (uid : 
   first i = let e : 0 + i ≡ i = omega arith in ap (tokens_at (view_of s uid)) e
 
   -- as many extents
-  hits_counted : length (frames_hits region (map (list_at (found_in frames.ranges memory)) terms) frames.ranges)
+  pub hits_counted : length (frames_hits region (map (list_at (found_in frames.ranges memory)) terms) frames.ranges)
       ≡ length (flat_map (hits_in region) (view_of s uid))
   unfolding hits_in
   hits_counted =
@@ -60,7 +60,7 @@ module _ (frames : Frames) (live : Ranges) (memory : Memory) (s : State) (uid : 
       ∙ sym (length-flat_map (hits_in region) view))
 
   -- in as many files
-  files_counted : count_by (λ frame. nat_lt 0 (length (frame_hits region (map (list_at (found_in frames.ranges memory)) terms) frame)))
+  pub files_counted : count_by (λ frame. nat_lt 0 (length (frame_hits region (map (list_at (found_in frames.ranges memory)) terms) frame)))
       frames.ranges
       ≡ count_by (has_hit region) (view_of s uid)
   unfolding hits_in
