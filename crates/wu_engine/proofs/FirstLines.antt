@@ -2,11 +2,18 @@
 use Rattle.std.proofs.Common.{◌≡◌, ℕ, zero, suc, ◌+◌, ◌-◌, ◌≤◌, ◌<◌, Bool, cond, List, [], ◌∷◌, ◌++◌, length, take, drop, min, get_or, refl, sym, ap, ap₂, ◌∙◌, ◌⊎◌, inl, inr, arith, append_assoc, append-nil, length-append}
 use Rattle.std.specs.Prelude.{Option, Some, None, IfSome, nat_lt, option_map}
 use Rattle.std.specs.List.{flat_map}
-use Rattle.std.proofs.lemmas.List.{length-take, drop_more}
+use Rattle.std.proofs.lemmas.List.{length-take, drop_more, take-map}
 use Rattle.wu_outside.specs.Content.{Content}
 use Rattle.wu_outside.specs.declared.ranges.ReadRange.{ReadRange}
 use Rattle.wu_ask.specs.declared.FindLine.{FindLine}
+use Rattle.wu_base.specs.declared.addresses.Extent.{Extent}
+use Rattle.wu_base.specs.declared.addresses.TermList.{TermList}
+use Rattle.wu_gcl.specs.Regions.{Region}
+use Rattle.wu_image.specs.declared.records.FileRec.{FileRec}
 use Rattle.wu_view.specs.declared.Seen.{Seen}
+use Rattle.wu_engine.specs.Answer.{found_line}
+use Rattle.wu_engine.specs.Finding.{extents_of, lines_at, lines_of_record, lines_recorded, record_at, text_held}
+use Rattle.wu_engine.specs.Records.{Records}
 use Rattle.wu_engine.specs.Reads.{texts_shown}
 
 none_of : (n : ℕ) → take {A = FindLine} n [] ≡ []
@@ -60,6 +67,18 @@ module _ (k i : ℕ) (view : List Seen) (file : Seen) (within : i < length view)
         ∙ ap (λ (n : ℕ). Some ((ranges ++ here) ++ texts_shown hits text n (drop (i + 1) view))) fewer
         ∙ ap (λ (rs : List ReadRange). Some rs) (append_assoc ranges here (texts_shown hits text (left - hits file) (drop (i + 1) view)))
         ∙ ap (λ (files : List Seen). Some (ranges ++ texts_shown hits text left files)) (sym (at_place view i file within is))
+
+-- ---- one file
+
+-- the first lines of a file are those of its first extents
+pub lines_of_file : (content : Content) (files : Records) (region : Region) (lists : List TermList) (seen : Seen) (file : FileRec) (left : ℕ)
+    (paths : List (List ℕ)) (extents : List Extent) → record_at files seen.ino ≡ Some file → paths ≡ seen.paths
+    → extents ≡ take left (extents_of region lists file)
+    → lines_of_record content paths extents file ≡ take left (lines_at content files region lists seen)
+lines_of_file content files region lists seen file left paths extents there paths_are extents_are =
+    ap₂ (λ (ps : List (List ℕ)) (xs : List Extent). lines_of_record content ps xs file) paths_are extents_are
+    ∙ sym (take-map (found_line (record { paths = seen.paths; text = text_held content file })) left (extents_of region lists file))
+    ∙ sym (ap (λ (o : Option FileRec). take left (lines_recorded content region lists seen.paths o)) there)
 
 -- ---- at the end
 

@@ -1,56 +1,25 @@
 -- Why a call that reads texts answers a trouble.
-use Rattle.std.proofs.Common.{◌≡◌, ◌≤◌, ℕ, List, [], ◌∷◌, Bool, true, false, cond, refl, sym, subst, inl, inr, arith}
-use Rattle.std.specs.Prelude.{Option, Some, None, Result, Err}
+use Rattle.std.proofs.Common.{◌≡◌, ◌≢◌, ◌≤◌, ℕ, List, [], ◌∷◌, Bool, true, false, cond, refl, ap, sym, subst, inl, inr, arith}
+use Rattle.std.specs.Prelude.{Option, Some, None, Result, Ok, Err, IfErr, OnOk}
 use Rattle.std.specs.Ordering.{nat_cmp}
 use Rattle.std.specs.BTreeMap.{is_at}
 use Rattle.std.specs.Map.{lookup}
+use Rattle.wu_base.proofs.MapEntries.{All-found}
 use Rattle.wu_base.specs.declared.troubles.Trouble.{Trouble}
-use Rattle.wu_base.specs.declared.troubles.Trouble.TheVariants.{NoMemory as RanOutOfMemory, StoreFault, Damaged}
+use Rattle.wu_base.specs.declared.troubles.Trouble.TheVariants.{StoreFault, Damaged}
+use Rattle.std.specs.List.{AllByRecursion}
 use Rattle.wu_outside.specs.Content.{Content}
-use Rattle.wu_outside.specs.Faults.{HasFaultCause, trouble_of}
-use Rattle.wu_outside.specs.declared.traits.Fault.{Fault}
-use Rattle.wu_outside.specs.declared.traits.Fault.TheVariants.{Failed, NoMemory}
 use Rattle.wu_image.specs.declared.records.FileRec.{FileRec}
-use Rattle.wu_engine.specs.Causes.{IsDamagedAt}
+use Rattle.wu_engine.specs.Causes.{HasTroubleCause, IsDamagedAt}
 use Rattle.wu_engine.specs.Records.{Records}
-use Rattle.wu_engine.specs.Finding.{IsBrokenIn, IsCause, record_at}
+use Rattle.wu_engine.specs.Finding.{CanBeRead, IsBrokenIn, IsCause, record_at}
 
-module _ (Broken : ℕ → Type 0) (count : ℕ) where
-  -- out of memory may be answered at any time
-  pub no_memory : (trouble : Trouble) → trouble ≡ RanOutOfMemory → IsCause Broken count count trouble
-  no_memory trouble is = record {
-    kept = omega arith;
-    store_fault = λ h. absurd (cc);
-    calm = λ h. refl;
-    damaged = λ blob h. absurd (cc);
-  }
+-- what follows for each error holds of the error of a result
+pub if_err : {T E : Type 0} (P Q : E → Type 0) (r : Result T E) → ((error : E) → P error → Q error) → IfErr r P → IfErr r Q
+if_err P Q (Ok value) step h = h
+if_err P Q (Err error) step h = step error h
 
-  -- a broken blob is a cause
-  pub broken : (blob : ℕ) → Broken blob → IsCause Broken count count (Damaged blob)
-  broken blob is = record {
-    kept = omega arith;
-    store_fault = λ h. absurd (cc);
-    calm = λ h. refl;
-    damaged = λ other h. let same : blob ≡ other = cc in subst Broken same is;
-  }
-
--- a failed call of the store is one where its count of faults rose
-pub store_failed : {T : Type 0} (Broken : ℕ → Type 0) (before now : ℕ) (fault : Fault) (trouble : Trouble) → trouble ≡ trouble_of fault
-    → HasFaultCause {T = T} before now (Err fault) → IsCause Broken before now trouble
-store_failed Broken before now Failed trouble is cause = record {
-  kept = cause.kept;
-  store_fault = λ h. cause.rose refl;
-  calm = λ h. absurd (h is);
-  damaged = λ blob h. absurd (cc);
-}
-store_failed Broken before now NoMemory trouble is cause = record {
-  kept = cause.kept;
-  store_fault = λ h. absurd (cc);
-  calm = λ h. cause.out_of_memory refl;
-  damaged = λ blob h. absurd (cc);
-}
-
--- the calls before it changed nothing that it speaks of
+-- a broken text is damage of another kind too, and the calls before it left the count of faults as it was
 pub cause_after : (Broken Other : ℕ → Type 0) (before middle now : ℕ) (trouble : Trouble) → middle ≡ before
     → ((blob : ℕ) → Broken blob → Other blob) → IsCause Broken middle now trouble → IsCause Other before now trouble
 cause_after Broken Other before middle now trouble same step cause =
@@ -61,6 +30,14 @@ cause_after Broken Other before middle now trouble same step cause =
       calm = cause.calm;
       damaged = λ blob h. step blob (cause.damaged blob h);
     })
+
+-- ---- the record of a file
+
+module _ (files : Records) (ino : ℕ) (file : FileRec) (there : record_at files ino ≡ Some file) where
+  pub recorded : AllByRecursion CanBeRead files → CanBeRead (file.ino, file)
+  recorded all =
+      let found = All-found CanBeRead (is_at (nat_cmp ino)) files file all there in
+      subst (λ (n : ℕ). CanBeRead (n, file)) (sym found.2.recorded.number) found.2
 
 -- a recorded text that is broken is one of the records' texts
 pub broken_file : (holds : Option Content) (ino : ℕ) (file : FileRec) (files : Records) → record_at files ino ≡ Some file
