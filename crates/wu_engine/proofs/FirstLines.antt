@@ -1,5 +1,5 @@
 -- The first lines of files, and the texts that are read for them, file by file.
-use Rattle.std.proofs.Common.{◌≡◌, ℕ, zero, suc, ◌+◌, ◌-◌, ◌≤◌, ◌<◌, Bool, cond, List, [], ◌∷◌, ◌++◌, length, take, drop, min, get_or, refl, sym, ap, ap₂, ◌∙◌, ◌⊎◌, inl, inr, arith, append_assoc, append-nil, length-append}
+use Rattle.std.proofs.Common.{◌≡◌, ℕ, zero, suc, ◌+◌, ◌-◌, ◌≤◌, ◌<◌, Bool, cond, List, [], ◌∷◌, ◌++◌, length, take, drop, min, get_or, refl, sym, ap, ap₂, ◌∙◌, ◌⊎◌, inl, inr, subst, arith, append_assoc, append-nil, length-append}
 use Rattle.std.specs.Prelude.{Option, Some, None, IfSome, nat_lt, option_map}
 use Rattle.std.specs.List.{flat_map}
 use Rattle.std.proofs.lemmas.List.{length-take, drop_more, take-map}
@@ -9,6 +9,7 @@ use Rattle.wu_ask.specs.declared.FindLine.{FindLine}
 use Rattle.wu_base.specs.declared.addresses.Extent.{Extent}
 use Rattle.wu_base.specs.declared.addresses.TermList.{TermList}
 use Rattle.wu_gcl.specs.Regions.{Region}
+use Rattle.wu_layout.proofs.EntryLemmas.{IfSome-map2}
 use Rattle.wu_image.specs.declared.records.FileRec.{FileRec}
 use Rattle.wu_view.specs.declared.Seen.{Seen}
 use Rattle.wu_engine.specs.Answer.{found_line}
@@ -67,6 +68,29 @@ module _ (k i : ℕ) (view : List Seen) (file : Seen) (within : i < length view)
         ∙ ap (λ (n : ℕ). Some ((ranges ++ here) ++ texts_shown hits text n (drop (i + 1) view))) fewer
         ∙ ap (λ (rs : List ReadRange). Some rs) (append_assoc ranges here (texts_shown hits text (left - hits file) (drop (i + 1) view)))
         ∙ ap (λ (files : List Seen). Some (ranges ++ texts_shown hits text left files)) (sym (at_place view i file within is))
+
+  -- what is read of the store is as it was, and so many lines there were
+  pub lines_kept : (holds here : Option Content) (lines : Content → Seen → List FindLine) (all : Content → List FindLine) (count : ℕ)
+      → count ≡ length before → here ≡ holds → IfSome here (λ content. after ≡ before ++ take (k - count) (lines content file))
+      → IfSome holds (λ content. before ++ take (k - length before) (flat_map (lines content) (drop i view)) ≡ all content)
+      → IfSome holds (λ content. after ++ take (k - length after) (flat_map (lines content) (drop (i + 1) view)) ≡ all content)
+  lines_kept holds here lines all count counted same put kept =
+      IfSome-map2 (λ content. after ≡ before ++ take (k - count) (lines content file))
+      (λ content. before ++ take (k - length before) (flat_map (lines content) (drop i view)) ≡ all content)
+      (λ content. after ++ take (k - length after) (flat_map (lines content) (drop (i + 1) view)) ≡ all content) holds
+      (λ content p q. lines_on (lines content) (subst (λ (n : ℕ). after ≡ before ++ take (k - n) (lines content file)) counted p) ∙ q)
+      (subst (λ (h : Option Content). IfSome h (λ content. after ≡ before ++ take (k - count) (lines content file))) same put) kept
+
+  pub texts_kept : (hits : Seen → ℕ) (text : Seen → List ReadRange) (old now all : Option (List ReadRange)) (count : ℕ)
+      → count ≡ length before → length after ≡ length before + min (k - count) (hits file)
+      → now ≡ option_map (λ ranges. ranges ++ cond (nat_lt 0 (min (k - count) (hits file))) (text file) []) old
+      → option_map (λ ranges. ranges ++ texts_shown hits text (k - length before) (drop i view)) old ≡ all
+      → option_map (λ ranges. ranges ++ texts_shown hits text (k - length after) (drop (i + 1) view)) now ≡ all
+  texts_kept hits text old now all count counted more is_read kept =
+      texts_on hits text old now (subst (λ (n : ℕ). length after ≡ length before + min (k - n) (hits file)) counted more)
+      (subst (λ (n : ℕ). now ≡ option_map (λ (ranges : List ReadRange). ranges ++ cond (nat_lt 0 (min (k - n) (hits file))) (text file) []) old)
+      counted is_read)
+      ∙ kept
 
 -- ---- one file
 

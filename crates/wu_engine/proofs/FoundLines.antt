@@ -1,5 +1,6 @@
 -- The lines that are shown of a user's files, by what is recorded and held of their texts, are those of her view.
 use Rattle.std.proofs.Common.{◌≡◌, ◌≢◌, ◌==◌, ℕ, zero, suc, ◌+◌, ◌-◌, ◌≤◌, ◌<◌, Bool, true, false, not, cond, List, [], ◌∷◌, ◌++◌, length, take, drop, map, min, refl, sym, ap, ap₂, ◌∙◌, subst, arith}
+use Rattle.std.proofs.Math.Dec.{eqb-suc-zero}
 use Rattle.std.proofs.Math.Logic.{∥∥₁_elim}
 use Rattle.std.specs.Coded.{Coded-set, coded_bool, coded_ℕ, Π_prop, →_prop}
 use Rattle.std.specs.Prelude.{Option, Some, None, IfSome, is_some, slice_get, option_and_then, option_map, unwrap_or, nat_lt, count_by, IsPermutation}
@@ -134,7 +135,8 @@ pub record IsShownAlike (content : Content) (files : Records) (region : Region) 
 
 no_bytes : (text : List ℕ) → true ≡ not (has_bytes text) → [] ≡ text
 no_bytes [] h = refl
-no_bytes (b ∷ text) h = absurd (cc)
+no_bytes (b ∷ text) h =
+    let none : true ≡ false = h ∙ ap (λ (e : Bool). not (not e)) (eqb-suc-zero (length text)) in absurd (cc)
 
 module _ (content : Content) (live : Ranges) (s : State) (region : Region) (addresses : List ℕ → List ℕ) (terms : List (List ℕ))
     (are : AreTerms region terms) (file : Seen) where
