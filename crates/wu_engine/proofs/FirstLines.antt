@@ -6,6 +6,7 @@ use Rattle.std.proofs.lemmas.List.{length-take, drop_more, take-map}
 use Rattle.wu_outside.specs.Content.{Content}
 use Rattle.wu_outside.specs.declared.ranges.ReadRange.{ReadRange}
 use Rattle.wu_ask.specs.declared.FindLine.{FindLine}
+use Rattle.wu_ask.specs.Questions.{Question, Counting, Ranking, ListingPaths}
 use Rattle.wu_base.specs.declared.addresses.Extent.{Extent}
 use Rattle.wu_base.specs.declared.addresses.TermList.{TermList}
 use Rattle.wu_gcl.specs.Regions.{Region}
@@ -15,7 +16,8 @@ use Rattle.wu_view.specs.declared.Seen.{Seen}
 use Rattle.wu_engine.specs.Answer.{found_line}
 use Rattle.wu_engine.specs.Finding.{extents_of, lines_at, lines_of_record, lines_recorded, record_at, text_held}
 use Rattle.wu_engine.specs.Records.{Records}
-use Rattle.wu_engine.specs.Reads.{texts_shown}
+use Rattle.wu_engine.specs.Reads.{texts_read, texts_shown}
+use Rattle.wu_engine.specs.States.{State}
 
 none_of : (n : ℕ) → take {A = FindLine} n [] ≡ []
 none_of zero = refl
@@ -116,6 +118,24 @@ no_texts hits text (file ∷ files) =
 nothing_added : (old : Option (List ReadRange)) → option_map (λ ranges. ranges ++ []) old ≡ old
 nothing_added None = refl
 nothing_added (Some ranges) = ap (λ (rs : List ReadRange). Some rs) (append-nil ranges)
+
+-- what reads nothing leaves what was read
+pub none_read : (s : State) (uid : ℕ) (question : Question) (old : Option (List ReadRange)) → texts_read s uid question ≡ []
+    → old ≡ option_map (λ ranges. ranges ++ texts_read s uid question) old
+none_read s uid question old none =
+    sym (ap (λ (texts : List ReadRange). option_map (λ (ranges : List ReadRange). ranges ++ texts) old) none ∙ nothing_added old)
+
+pub none_counted : (s : State) (uid : ℕ) (region : Region) → texts_read s uid (Counting region) ≡ []
+unfolding texts_read
+none_counted s uid region = refl
+
+pub none_ranked : (s : State) (uid k : ℕ) (unit : Region) (words : List (List ℕ)) → texts_read s uid (Ranking k unit words) ≡ []
+unfolding texts_read
+none_ranked s uid k unit words = refl
+
+pub none_listed : (s : State) (uid : ℕ) → texts_read s uid ListingPaths ≡ []
+unfolding texts_read
+none_listed s uid = refl
 
 -- where there are as many lines as are asked for, or no file is left
 abbrev pub IsEnough : ℕ → List FindLine → List Seen → Type 0

@@ -1,5 +1,5 @@
-use Rattle.std.proofs.Common.{◌≡◌, ℕ, subst}
-use Rattle.std.specs.Prelude.{OnOk}
+use Rattle.std.proofs.Common.{◌≡◌, ◌++◌, ℕ, subst}
+use Rattle.std.specs.Prelude.{option_map}
 use Rattle.wu_ask.specs.declared.Answered.{Answered}
 use Rattle.wu_ask.specs.Questions.{question_of}
 use Rattle.wu_frames.specs.UserFrames.{AreFrames}
@@ -7,6 +7,7 @@ use Rattle.wu_frames.proofs.Keeping.{right-found}
 use Rattle.wu_tree.specs.FileSystems.{FileSystem}
 use Rattle.wu_engine.specs.Answer.{answer}
 use Rattle.wu_engine.specs.Finding.{KeepsTexts}
+use Rattle.wu_engine.specs.Reads.{texts_read}
 use Rattle.wu_engine.specs.States.{State}
 use Rattle.wu_engine.specs.Units.{Indexes, IsIndexOf}
 use Rattle.wu_engine.specs.View.{view_of}
@@ -49,7 +50,14 @@ pub returns-in-Some-clause-reads : goal.returns-in-Some-clause-reads
 returns-in-Some-clause-reads g c =
     let hers = right-found c.args.tree.now c.args.space.now.ranges c.args.query.now.uid c.prepare.new.self c.in-Some.frames.now
     c.prepare.ensures.right c.in-Some.ensures in
-    if_ok _ _ c.answer.result
+    let old = g.D.Store.reads c.args.store.now in
+    let new = g.D.Store.reads c.answer.new.store in
+    if_ok (λ (_ : Answered). (s : State) (uid : ℕ) → Indexes c.in-Some.frames.now c.args.space.now.ranges c.args.parts.now.memory s uid
+    → KeepsTexts c.args.files.now.entries (g.D.Store.holds c.args.store.now) s
+    → new ≡ option_map (λ ranges. ranges ++ texts_read s uid (question_of c.args.query.now.ask)) old)
+    (λ (_ : Answered). (s : State) → c.args.tree.now ≡ s.tree → IsIndexOf c.args.space.now.ranges c.args.parts.now.memory s
+    → KeepsTexts c.args.files.now.entries (g.D.Store.holds c.args.store.now) s
+    → new ≡ option_map (λ ranges. ranges ++ texts_read s c.args.query.now.uid (question_of c.args.query.now.ask)) old) c.answer.result
     (λ answered for_all s tree index texts.
     for_all s c.args.query.now.uid
     (record {
