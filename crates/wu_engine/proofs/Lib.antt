@@ -2,11 +2,11 @@ pub mod NumberedEntries
 pub mod FileChanges
 pub mod StateTexts
 pub mod StateLayouts
-pub mod LayoutSteps
-pub mod TakenAddresses
 pub mod KeptStates
 pub mod IndexLemmas
+pub mod RecordLemmas
 pub mod SoundLemmas
+pub mod StoredTexts
 pub mod StandLemmas
 pub mod FramesOfFiles
 pub mod UnitsOfFrames

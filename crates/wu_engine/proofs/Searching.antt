@@ -17,11 +17,13 @@ use Rattle.wu_frames.specs.declared.Frame.{Frame}
 use Rattle.wu_frames.specs.declared.Frames.{Frames}
 use Rattle.wu_frames.specs.UserFrames.{AreFrames, Kept}
 use Rattle.wu_frames.proofs.ViewFrames.{HasRange, all-have}
-use Rattle.wu_engine.specs.Soundness.{IsSound, addresses_most}
+use Rattle.wu_engine.specs.Records.{Records}
+use Rattle.wu_engine.specs.Soundness.{IsSound}
 use Rattle.wu_engine.specs.Units.{CanBeSearched}
+use Rattle.wu_engine.proofs.RecordLemmas.{ranges-short}
 
-module _ (fs : FileSystem) (space : Addresses) (parts : Contents) (kept : Kept) (rules : IsSpace space)
-    (sound : IsSound fs space parts kept) where
+module _ (fs : FileSystem) (space : Addresses) (parts : Contents) (files : Records) (kept : Kept) (rules : IsSpace space)
+    (sound : IsSound fs space parts files kept) where
   bounded : (frames : List Frame) → AllByRecursion (HasRange space.ranges) frames
       → AllByRecursion (λ (range : Range). range.start + range.len ≤ ADDRESSES_MAX) (map (λ frame. frame.range) frames)
   bounded [] have = tt
@@ -33,9 +35,9 @@ module _ (fs : FileSystem) (space : Addresses) (parts : Contents) (kept : Kept) 
       → AllByRecursion (λ (range : Range). range.len < 2 ^ 26) (map (λ frame. frame.range) frames)
   short [] have = tt
   short (frame ∷ frames) have =
-      let found =
-      All-found (λ (file : ℕ × Range). file.1.len ≤ addresses_most) (is_at (nat_cmp frame.ino)) space.ranges frame.range sound.short have.0 in
-      (omega (arith, found.2), short frames have.1)
+      let all = ranges-short files space.ranges sound.ranges sound.records in
+      let found = All-found (λ (file : ℕ × Range). file.1.len < 2 ^ 26) (is_at (nat_cmp frame.ino)) space.ranges frame.range all have.0 in
+      (found.2, short frames have.1)
 
   pub can_be_searched : (uid : ℕ) (frames : Frames) → AreFrames fs space.ranges uid frames → CanBeSearched frames
   can_be_searched uid frames hers = record {

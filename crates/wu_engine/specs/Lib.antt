@@ -5,8 +5,10 @@ pub mod View
 pub mod Hits
 pub mod Rankings
 pub mod Answer
+pub mod Records
 pub mod Soundness
 pub mod Stands
+pub mod Causes
 -- ---- What only private functions and proofs need
 
 pub mod Indexing

@@ -11,9 +11,11 @@ use crate::counting::count;
 use crate::listing::paths;
 use crate::ranking::ranked;
 use std::alloc::Global;
+use std::collections::BTreeMap;
 use wu_ask::{Answered, Ask, Query};
-use wu_base::NoMemory;
+use wu_base::{Ino, NoMemory};
 use wu_frames::{FrameCache, Frames};
+use wu_image::FileRec;
 use wu_parts::Parts;
 use wu_space::Space;
 use wu_tree::Tree;
@@ -24,15 +26,17 @@ pub fn answered(
     tree: &Tree,
     space: &Space,
     parts: &Parts,
+    files: &BTreeMap<Ino, FileRec>,
     kept: &mut FrameCache,
     query: &Query,
 ) -> Result<Answered, NoMemory>
-    requires sound { IsSound tree.now space.now parts.now kept.old }
+    requires sound { IsSound tree.now space.now parts.now files.now.entries kept.old }
     requires ask { IsSoundAsk query.now.ask }
     ensures answer { IfOk result (λ answered. (s : State) → tree.now ≡ s.tree → IsIndexOf space.now.ranges parts.now.memory s
         → answered ≡ answer (view_of s query.now.uid) (question_of query.now.ask)) }
-    ensures sound { IsSound tree.now space.now parts.now kept.new }
+    ensures sound { IsSound tree.now space.now parts.now files.now.entries kept.new }
 {
+    let _recorded = files;
     space.keeps_the_rules();
     kept.prepare(tree, space, query.uid)?;
     match kept.kept(query.uid) {

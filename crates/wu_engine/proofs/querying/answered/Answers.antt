@@ -14,14 +14,15 @@ use Rattle.wu_engine.proofs.querying.answered.Goals as goal
 
 pub answer-requires-clause-fit : goal.answer-requires-clause-fit
 answer-requires-clause-fit c =
-    can_be_searched c.args.tree.now c.args.space.now c.args.parts.now c.args.kept.now c.keeps_the_rules.ensures c.requires.sound
-    _ c.in-Some.frames.now
-    (right-found c.args.tree.now c.args.space.now.ranges _ c.prepare.new.self c.in-Some.frames.now c.prepare.ensures.right c.in-Some.ensures)
+    can_be_searched c.args.tree.now c.args.space.now c.args.parts.now c.args.files.now.entries c.args.kept.now c.keeps_the_rules.ensures c.requires.sound
+    c.args.query.now.uid c.in-Some.frames.now
+    (right-found c.args.tree.now c.args.space.now.ranges c.args.query.now.uid c.prepare.new.self c.in-Some.frames.now c.prepare.ensures.right
+    c.in-Some.ensures)
 
 pub returns-in-Some-clause-answer : goal.returns-in-Some-clause-answer
 returns-in-Some-clause-answer c =
-    let hers =
-    right-found c.args.tree.now c.args.space.now.ranges _ c.prepare.new.self c.in-Some.frames.now c.prepare.ensures.right c.in-Some.ensures in
+    let hers = right-found c.args.tree.now c.args.space.now.ranges c.args.query.now.uid c.prepare.new.self c.in-Some.frames.now
+    c.prepare.ensures.right c.in-Some.ensures in
     if_ok (λ (answered : Answered). (s : State) (uid : ℕ)
     → Indexes c.in-Some.frames.now c.args.space.now.ranges c.args.parts.now.memory s uid
     → answered ≡ answer (view_of s uid) (question_of c.args.query.now.ask))
