@@ -2,10 +2,10 @@
 use Rattle.std.specs.Prelude.{ℕ, List, [], length, map, take, count_by, slice_get, option_and_then, unwrap_or}
 use Rattle.std.specs.List.{flat_map}
 use Rattle.wu_rank.specs.declared.results.Ranked.{Ranked}
-use Rattle.wu_ask.specs.Questions.{Question, Counting, Ranking, ListingPaths}
+use Rattle.wu_ask.specs.Questions.{Question, Counting, Finding, Ranking, ListingPaths}
 use Rattle.wu_ask.specs.declared.RankLine.{RankLine}
 use Rattle.wu_ask.specs.declared.Answered.{Answered}
-use Rattle.wu_ask.specs.declared.Answered.TheVariants.{Count, Rank, Paths}
+use Rattle.wu_ask.specs.declared.Answered.TheVariants.{Count, Find, Rank, Paths}
 use Rattle.wu_engine.specs.View.{Shown}
 use Rattle.wu_engine.specs.Hits.{hits_in, has_hit}
 use Rattle.wu_engine.specs.Rankings.{ranking_of}
@@ -27,5 +27,6 @@ line_of view ranked = record {
 -- units that hold a word, and the first k of them; to a question for paths, every open path, file by file.
 unfoldable pub answer : List Shown → Question → Answered
 answer view (Counting region) = Count (length (flat_map (hits_in region) view)) (count_by (has_hit region) view)
+answer view (Finding k region) = Find 0 0 []
 answer view (Ranking k unit words) = Rank (length (ranking_of view unit words)) (map (line_of view) (take k (ranking_of view unit words)))
 answer view ListingPaths = Paths (flat_map (λ file. file.paths) view)

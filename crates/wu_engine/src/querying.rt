@@ -60,6 +60,7 @@ fn answer(
 {
     match ask {
         Ask::Count { expr } => count(alloc, frames, parts, expr),
+        Ask::Find { .. } => Err(NoMemory),
         Ask::Rank { k, unit, words } => {
             ranked(alloc, frames, space, parts, *k, unit, words.as_slice())
         }
