@@ -1,5 +1,5 @@
 -- The first lines of files, and the texts that are read for them, file by file.
-use Rattle.std.proofs.Common.{◌≡◌, ℕ, zero, suc, ◌+◌, ◌-◌, ◌≤◌, ◌<◌, Bool, cond, List, [], ◌∷◌, ◌++◌, length, take, drop, min, get_or, refl, sym, ap, ap₂, ◌∙◌, ◌⊎◌, inl, inr, subst, arith, append_assoc, append-nil, length-append}
+use Rattle.std.proofs.Common.{◌≡◌, ℕ, zero, suc, ◌+◌, ◌-◌, ◌<◌, cond, List, [], ◌∷◌, ◌++◌, length, take, drop, min, get_or, refl, sym, ap, ap₂, ◌∙◌, ◌⊎◌, inl, inr, subst, arith, append_assoc, append-nil, length-append}
 use Rattle.std.specs.Prelude.{Option, Some, None, IfSome, nat_lt, option_map}
 use Rattle.std.specs.List.{flat_map}
 use Rattle.std.proofs.lemmas.List.{length-take, drop_more, take-map}
@@ -41,7 +41,8 @@ module _ (k i : ℕ) (view : List Seen) (file : Seen) (within : i < length view)
   module _ (lines : Seen → List FindLine) where
     -- the lines so far, with the first of those to come, stay the same
     pub lines_on : after ≡ before ++ take (k - length before) (lines file)
-        → after ++ take (k - length after) (flat_map lines (drop (i + 1) view)) ≡ before ++ take (k - length before) (flat_map lines (drop i view))
+        → after ++ take (k - length after) (flat_map lines (drop (i + 1) view))
+        ≡ before ++ take (k - length before) (flat_map lines (drop i view))
     lines_on put =
         let left = k - length before in
         let count : length after ≡ length before + min left (length (lines file)) =
@@ -90,14 +91,16 @@ module _ (k i : ℕ) (view : List Seen) (file : Seen) (within : i < length view)
       → option_map (λ ranges. ranges ++ texts_shown hits text (k - length after) (drop (i + 1) view)) now ≡ all
   texts_kept hits text old now all count counted more is_read kept =
       texts_on hits text old now (subst (λ (n : ℕ). length after ≡ length before + min (k - n) (hits file)) counted more)
-      (subst (λ (n : ℕ). now ≡ option_map (λ (ranges : List ReadRange). ranges ++ cond (nat_lt 0 (min (k - n) (hits file))) (text file) []) old)
+      (subst (λ (n : ℕ). now ≡ option_map (λ (ranges : List ReadRange).
+      ranges ++ cond (nat_lt 0 (min (k - n) (hits file))) (text file) []) old)
       counted is_read)
       ∙ kept
 
 -- ---- one file
 
 -- the first lines of a file are those of its first extents
-pub lines_of_file : (content : Content) (files : Records) (region : Region) (lists : List TermList) (seen : Seen) (file : FileRec) (left : ℕ)
+pub lines_of_file : (content : Content) (files : Records) (region : Region) (lists : List TermList) (seen : Seen)
+    (file : FileRec) (left : ℕ)
     (paths : List (List ℕ)) (extents : List Extent) → record_at files seen.ino ≡ Some file → paths ≡ seen.paths
     → extents ≡ take left (extents_of region lists file)
     → lines_of_record content paths extents file ≡ take left (lines_at content files region lists seen)

@@ -1,5 +1,5 @@
 -- The extents in a file's range, counted from its first address.
-use Rattle.std.proofs.Common.{◌≡◌, ℕ, zero, suc, ◌+◌, ◌-◌, ◌≤◌, ◌<◌, List, [], ◌∷◌, ◌++◌, length, take, map, min, refl, sym, ap, ap₂, ◌∙◌, subst, arith, append-nil}
+use Rattle.std.proofs.Common.{◌≡◌, ℕ, zero, suc, ◌+◌, ◌-◌, ◌≤◌, List, [], ◌∷◌, length, take, map, min, refl, sym, ap, ap₂, ◌∙◌, subst, arith, append-nil}
 use Rattle.std.specs.Prelude.{All}
 use Rattle.std.specs.List.{AllByRecursion}
 use Rattle.std.proofs.lemmas.List.{take-map, take_min}
@@ -11,7 +11,7 @@ use Rattle.wu_gcl.specs.Regions.{Region}
 use Rattle.wu_image.specs.declared.records.FileRec.{FileRec}
 use Rattle.wu_snip.specs.Snippets.{IsAscending, IsBefore, IsWithin}
 use Rattle.wu_solve.specs.Addresses.{stands_by}
-use Rattle.wu_solve.specs.Listing.{IsExtentIn, IsAscending as Ascend, IsBefore as Before}
+use Rattle.wu_solve.specs.Listing.{IsAscending as Ascend, IsBefore as Before}
 use Rattle.wu_solve.specs.Solving.{frame_hits, frames_hits, moved}
 use Rattle.wu_solve.proofs.Results.{hits_ascend, hits_in}
 use Rattle.wu_solve.proofs.Sets.{all_from}
@@ -82,7 +82,8 @@ module _ (region : Region) (lists : List TermList) (file : FileRec) (left count 
   first_rise = subst IsAscending (sym first_are) (first_ascend left (extents_of region lists file) (all_ascend region lists file))
 
 -- they are extents of a text that has so many tokens, or more
-pub within_text : (text : List ℕ) (len : ℕ) (xs : List Extent) → len ≤ length (tokens_of text) → All (IsBelow len) xs → All (IsWithin text) xs
+pub within_text : (text : List ℕ) (len : ℕ) (xs : List Extent) → len ≤ length (tokens_of text)
+    → All (IsBelow len) xs → All (IsWithin text) xs
 within_text text len xs long all =
     All-from_recursion (IsWithin text) xs (each xs (recursion_from_All (IsBelow len) xs all)) where
       each : (ys : List Extent) → AllByRecursion (IsBelow len) ys → AllByRecursion (IsWithin text) ys

@@ -1,23 +1,21 @@
 -- The lines that are shown of a user's files, by what is recorded and held of their texts, are those of her view.
-use Rattle.std.proofs.Common.{◌≡◌, ◌≢◌, ◌==◌, ℕ, zero, suc, ◌+◌, ◌-◌, ◌≤◌, ◌<◌, Bool, true, false, not, cond, List, [], ◌∷◌, ◌++◌, length, take, drop, map, min, refl, sym, ap, ap₂, ◌∙◌, subst, arith}
+use Rattle.std.proofs.Common.{◌≡◌, ◌==◌, ℕ, suc, ◌+◌, ◌-◌, ◌<◌, Bool, true, false, not, cond, List, [], ◌∷◌, ◌++◌, length, take, map, min, refl, sym, ap, ap₂, ◌∙◌, subst, arith}
 use Rattle.std.proofs.Math.Dec.{eqb-suc-zero}
 use Rattle.std.proofs.Math.Logic.{∥∥₁_elim}
 use Rattle.std.specs.Coded.{Coded-set, coded_bool, coded_ℕ, Π_prop, →_prop}
-use Rattle.std.specs.Prelude.{Option, Some, None, IfSome, is_some, slice_get, option_and_then, option_map, unwrap_or, nat_lt, count_by, IsPermutation}
-use Rattle.std.specs.Ordering.{is_eq, nat_cmp}
+use Rattle.std.specs.Prelude.{Option, Some, None, IfSome, is_some, slice_get, option_and_then, option_map, unwrap_or, nat_lt, count_by}
+use Rattle.std.specs.Ordering.{nat_cmp}
 use Rattle.std.specs.Map.{lookup}
 use Rattle.std.specs.BTreeMap.{is_at}
 use Rattle.std.specs.List.{AllByRecursion, AllByRecursion-prop, flat_map, range_with_len}
-use Rattle.std.proofs.lemmas.Bool.{eqb-true, ne_eqb, cases_eq}
 use Rattle.std.proofs.lemmas.List.{length-map}
-use Rattle.std.proofs.lemmas.List.Folds.{flat_map-map}
-use Rattle.std.proofs.lemmas.List.Sorted.{Contains-permutation, IsPermutation-sym}
+use Rattle.std.proofs.lemmas.List.Sorted.{Contains-permutation}
 use Rattle.std.proofs.lemmas.Map.Lookups.{exact_unsigned}
 use Rattle.wu_base.specs.declared.addresses.Extent.{Extent}
 use Rattle.wu_base.specs.declared.addresses.Range.{Range}
 use Rattle.wu_base.specs.declared.addresses.TermList.{TermList}
 use Rattle.wu_base.proofs.MapEntries.{is_equal}
-use Rattle.wu_base.proofs.Members.{Has, Has-from_Contains, Contains-from_Has, all_has, all_from_has}
+use Rattle.wu_base.proofs.Members.{Has-from_Contains, Contains-from_Has, all_has, all_from_has}
 use Rattle.wu_outside.specs.Content.{Content}
 use Rattle.wu_outside.specs.declared.ranges.ReadRange.{ReadRange}
 use Rattle.wu_ask.specs.declared.FindLine.{FindLine}
@@ -38,21 +36,20 @@ use Rattle.wu_view.specs.declared.Seen.{Seen}
 use Rattle.wu_view.specs.Views.{view_of as files_of}
 use Rattle.wu_frames.specs.declared.Frame.{Frame}
 use Rattle.wu_frames.specs.declared.Frames.{Frames}
-use Rattle.wu_solve.specs.Solving.{frame_hits, frames_hits, moved}
+use Rattle.wu_solve.specs.Solving.{frame_hits, frames_hits}
 use Rattle.wu_engine.specs.Answer.{answer, found_line, lines_in}
 use Rattle.wu_engine.specs.Finding.{KeepsTexts, counted_from, extents_of, hits_at, lines_at, lines_recorded, hits_recorded, text_recorded, record_at, text_at, text_held}
 use Rattle.wu_engine.specs.Hits.{hits_in, has_hit}
 use Rattle.wu_engine.specs.Rankings.{tokens_at}
-use Rattle.wu_engine.specs.Reads.{text_of_file, text_at_entry, texts_read, texts_shown, whole_text}
+use Rattle.wu_engine.specs.Reads.{text_of_file, text_at_entry, texts_read, texts_shown}
 use Rattle.wu_engine.specs.Records.{Records, record_of, records_of}
-use Rattle.wu_engine.specs.Stands.{HoldsTexts}
 use Rattle.wu_engine.specs.States.{State, Texts, indexed, text_in}
 use Rattle.wu_engine.specs.Units.{Indexes, found_in, list_at, no_range, range_at}
-use Rattle.wu_engine.specs.View.{Shown, shown_of, view_of}
+use Rattle.wu_engine.specs.View.{shown_of, view_of}
 use Rattle.wu_engine.proofs.CountLemmas.{hits_counted, files_counted}
 use Rattle.wu_engine.proofs.FoundExtents.{counted_back}
 use Rattle.wu_engine.proofs.FramesOfFiles.{IsFrameOf, frame_of_file}
-use Rattle.wu_engine.proofs.FramesOfView.{AreOfView, are_of_view, view_has_ranges}
+use Rattle.wu_engine.proofs.FramesOfView.{are_of_view, view_has_ranges}
 use Rattle.wu_engine.proofs.Places.{all_places, tokens_of_file}
 
 -- ---- records
@@ -95,7 +92,8 @@ by_place addresses live texts view first (file ∷ files) same all =
     let there : range_at live view first ≡ unwrap_or (range_of live file.ino) no_range =
     ap (λ (o : Option Seen). unwrap_or (option_and_then (λ (x : Seen). range_of live x.ino) o) no_range) here in (
       subst (λ (r : Range). IsFrameOf addresses (tokens_of (text_in texts file.ino)) r) there
-          (subst (λ (ts : List (List ℕ)). IsFrameOf addresses ts (range_at live view first)) (tokens_of_file texts view first file here) all.0),
+          (subst (λ (ts : List (List ℕ)). IsFrameOf addresses ts (range_at live view first))
+          (tokens_of_file texts view first file here) all.0),
       by_place addresses live texts view (first + 1) files
           (λ i. let e : (first + 1) + i ≡ first + suc i = omega arith in ap (slice_get view) e ∙ same (suc i)) all.1,
     )
@@ -121,14 +119,16 @@ module _ (frames : Frames) (live : Ranges) (memory : Memory) (s : State) (uid : 
       (λ place has.
       all_has framed_at place places v.framed.each
       (Has-from_Contains place places
-      (Contains-permutation (all_places (view_of s uid)) places place v.order (Contains-from_Has place (all_places (view_of s uid)) has)))) in
+      (Contains-permutation (all_places (view_of s uid)) places place v.order
+      (Contains-from_Has place (all_places (view_of s uid)) has)))) in
       by_place found live s.texts view 0 view (λ i. let e : 0 + i ≡ i = omega arith in ap (slice_get view) e)
       (subst (λ (n : ℕ). AllByRecursion framed_at (range_with_len 0 n)) (length-map view (shown_of s.texts)) every))
 
 -- ---- one file
 
 -- what is recorded of a file is what it is in the view
-pub record IsShownAlike (content : Content) (files : Records) (region : Region) (lists : List TermList) (s : State) (file : Seen) : Type 0 where
+pub record IsShownAlike (content : Content) (files : Records) (region : Region) (lists : List TermList)
+    (s : State) (file : Seen) : Type 0 where
   pub lines : lines_at content files region lists file ≡ lines_in region (shown_of s.texts file)
   pub hits : hits_at files region lists file ≡ length (hits_in region (shown_of s.texts file))
   pub text : text_at files file ≡ text_of_file s file
@@ -213,11 +213,13 @@ module _ (frames : Frames) (live : Ranges) (memory : Memory) (s : State) (uid : 
       all_from_has IsAlike (files_of s.tree uid)
       (λ file has.
       one_alike file
-      (all_has (λ (x : Seen). is_some (range_of live x.ino) ≡ true) file (files_of s.tree uid) (view_has_ranges live memory s is.index uid) has)
+      (all_has (λ (x : Seen). is_some (range_of live x.ino) ≡ true) file (files_of s.tree uid)
+      (view_has_ranges live memory s is.index uid) has)
       (all_has (IsFramed addresses live s.texts) file (files_of s.tree uid) (all_framed frames live memory s uid is) has))
 
   lines_alike : (view : List Seen) → AllByRecursion IsAlike view
-      → flat_map (lines_at content files region (map (list_at addresses) terms)) view ≡ flat_map (lines_in region) (map (shown_of s.texts) view)
+      → flat_map (lines_at content files region (map (list_at addresses) terms)) view
+      ≡ flat_map (lines_in region) (map (shown_of s.texts) view)
   lines_alike [] all = refl
   lines_alike (file ∷ view) all = ap₂ (λ (xs ys : List FindLine). xs ++ ys) all.0.lines (lines_alike view all.1)
 
@@ -239,7 +241,8 @@ module _ (frames : Frames) (live : Ranges) (memory : Memory) (s : State) (uid : 
       ≡ take k (flat_map (lines_in region) (view_of s uid))
   unfolding view_of
   lines_found k seen same =
-      ap (λ (view : List Seen). take k (flat_map (lines_at content files region (map (list_at addresses) terms)) view)) (same ∙ is.hers.view)
+      ap (λ (view : List Seen). take k (flat_map (lines_at content files region (map (list_at addresses) terms)) view))
+      (same ∙ is.hers.view)
       ∙ ap (take k) (lines_alike (files_of s.tree uid) all_alike)
 
   -- and the texts that are read for them
@@ -269,7 +272,8 @@ module _ (frames : Frames) (live : Ranges) (memory : Memory) (s : State) (uid : 
       (number_is
       ∙ ap (λ (ls : List TermList). count_by (λ frame. nat_lt 0 (length (frame_hits region ls frame))) frames.ranges) lists_are
       ∙ files_counted frames live memory s uid is region terms are)
-      ∙ ap (λ (lines : List FindLine). Find (length (flat_map (hits_in region) (view_of s uid))) (count_by (has_hit region) (view_of s uid)) lines)
+      ∙ ap (λ (lines : List FindLine).
+      Find (length (flat_map (hits_in region) (view_of s uid))) (count_by (has_hit region) (view_of s uid)) lines)
       (shown_is ∙ ap (λ (ls : List TermList). take k (flat_map (lines_at content files region ls) seen)) lists_are
       ∙ lines_found frames live memory s uid is region terms are files content keeps k seen same)
 

@@ -1,16 +1,15 @@
 -- Why a call that reads texts answers a trouble.
-use Rattle.std.proofs.Common.{◌≡◌, ◌≢◌, ◌≤◌, ℕ, List, [], ◌∷◌, Bool, true, false, cond, refl, ap, sym, subst, inl, inr, arith}
-use Rattle.std.specs.Prelude.{Option, Some, None, Result, Ok, Err, IfErr, OnOk}
+use Rattle.std.proofs.Common.{◌≡◌, ℕ, [], ◌∷◌, true, false, cond, sym, subst, inl, inr}
+use Rattle.std.specs.Prelude.{Option, Some, Result, Ok, Err, IfErr}
 use Rattle.std.specs.Ordering.{nat_cmp}
 use Rattle.std.specs.BTreeMap.{is_at}
 use Rattle.std.specs.Map.{lookup}
 use Rattle.wu_base.proofs.MapEntries.{All-found}
 use Rattle.wu_base.specs.declared.troubles.Trouble.{Trouble}
-use Rattle.wu_base.specs.declared.troubles.Trouble.TheVariants.{StoreFault, Damaged}
 use Rattle.std.specs.List.{AllByRecursion}
 use Rattle.wu_outside.specs.Content.{Content}
 use Rattle.wu_image.specs.declared.records.FileRec.{FileRec}
-use Rattle.wu_engine.specs.Causes.{HasTroubleCause, IsDamagedAt}
+use Rattle.wu_engine.specs.Causes.{IsDamagedAt}
 use Rattle.wu_engine.specs.Records.{Records}
 use Rattle.wu_engine.specs.Finding.{CanBeRead, IsBrokenIn, IsCause, record_at}
 

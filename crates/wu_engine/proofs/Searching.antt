@@ -60,7 +60,8 @@ module _ (fs : FileSystem) (space : Addresses) (parts : Contents) (files : Recor
       each files sound.records
       (subst (AllByRecursion (λ (file : ℕ × Range). file.1.start + file.1.len ≤ space.next)) (sym sound.ranges) rules.live.given) where
         each : (fs' : Records) → AllByRecursion IsRecord fs'
-            → AllByRecursion (λ (file : ℕ × Range). file.1.start + file.1.len ≤ space.next) (recorded_ranges fs') → AllByRecursion CanBeRead fs'
+            → AllByRecursion (λ (file : ℕ × Range). file.1.start + file.1.len ≤ space.next) (recorded_ranges fs')
+            → AllByRecursion CanBeRead fs'
         each [] kept given = tt
         each (file ∷ files') kept given =
             (record { recorded = kept.0; bounded = omega (arith, given.0, sound.few) }, each files' kept.1 given.1)

@@ -57,7 +57,15 @@ pub fn find<D: Store>(
     let terms = terms_of(alloc, expr)?;
     let lists = lists_of(alloc, &terms, frames, parts)?;
     let counts = count(alloc, expr, frames.ranges.as_slice(), &lists)?;
-    let shown = first_lines(alloc, store, frames.seen.as_slice(), files, expr, &lists, k as usize)?;
+    let shown = first_lines(
+        alloc,
+        store,
+        frames.seen.as_slice(),
+        files,
+        expr,
+        &lists,
+        k as usize,
+    )?;
     Ok(Answered::Find {
         hits: counts.hits,
         files: counts.files,
@@ -82,7 +90,8 @@ fn first_lines<D: Store>(
         lines.items ≡ take k (flat_map (lines_at content files.now.entries (region_of expr.now) lists.now) view.now))) }
     ensures holds { D.holds store.new ≡ D.holds store.old }
     ensures reads { OnOk result (D.reads store.new ≡ option_map (λ ranges. ranges
-        ++ texts_shown (hits_at files.now.entries (region_of expr.now) lists.now) (text_at files.now.entries) k view.now) (D.reads store.old)) }
+        ++ texts_shown (hits_at files.now.entries (region_of expr.now) lists.now)
+        (text_at files.now.entries) k view.now) (D.reads store.old)) }
     ensures none { k ≡ 0 → store.new ≡ store.old }
     ensures calm { OnOk result (D.faults store.new ≡ D.faults store.old) }
     ensures cause { IfErr result (IsCause (IsDamagedAt files.now.entries (D.holds store.old)) (D.faults store.old) (D.faults store.new)) }
@@ -117,7 +126,8 @@ fn put_file<D: Store>(
         ≡ length shown.old.items + min left (hits_at files.now.entries (region_of expr.now) lists.now seen.now)) }
     ensures holds { D.holds store.new ≡ D.holds store.old }
     ensures reads { OnOk result (D.reads store.new ≡ option_map (λ ranges. ranges
-        ++ (if nat_lt 0 (min left (hits_at files.now.entries (region_of expr.now) lists.now seen.now)) then text_at files.now.entries seen.now else []))
+        ++ (if nat_lt 0 (min left (hits_at files.now.entries (region_of expr.now) lists.now seen.now))
+        then text_at files.now.entries seen.now else []))
         (D.reads store.old)) }
     ensures calm { OnOk result (D.faults store.new ≡ D.faults store.old) }
     ensures cause { IfErr result (IsCause (IsDamagedAt files.now.entries (D.holds store.old)) (D.faults store.old) (D.faults store.new)) }
@@ -203,7 +213,8 @@ fn put_snippets(
     requires short { length text.now ≤ TEXT_MAX }
     requires within { All (IsWithin text.now) extents.now }
     requires ascending { IsAscending extents.now }
-    ensures { OnOk result (shown.new.items ≡ shown.old.items ++ map (found_line (record { paths = paths.now; text = text.now })) extents.now) }
+    ensures { OnOk result (shown.new.items
+        ≡ shown.old.items ++ map (found_line (record { paths = paths.now; text = text.now })) extents.now) }
 {
     let snips = snippets(alloc, text, extents)?;
     for i in 0..extents.len() {

@@ -15,17 +15,14 @@ use wu_token::token_count;
 /// The text that is recorded there, read whole in one read; the empty text is not read. A text that the
 /// store doesn't have as it was recorded, in its length and in the number of its tokens, is answered by its
 /// blob.
-pub fn read_text<D: Store>(
-    alloc: Global,
-    store: &mut D,
-    file: &FileRec,
-) -> Result<Vec<u8>, Trouble>
+pub fn read_text<D: Store>(alloc: Global, store: &mut D, file: &FileRec) -> Result<Vec<u8>, Trouble>
     requires { IsRecord (file.now.ino, file.now) }
     ensures text { IfOk result (λ text. IfSome (D.holds store.old) (λ content. text.items ≡ text_held content file.now)) }
     ensures short { IfOk result (λ text. length text.items ≤ TEXT_MAX) }
     ensures tokens { IfOk result (λ text. file.now.range.len ≤ length (tokens_of text.items)) }
     ensures holds { D.holds store.new ≡ D.holds store.old }
-    ensures reads { OnOk result (D.reads store.new ≡ option_map (λ ranges. ranges ++ whole_text file.now.blob file.now.len) (D.reads store.old)) }
+    ensures reads { OnOk result (D.reads store.new
+        ≡ option_map (λ ranges. ranges ++ whole_text file.now.blob file.now.len) (D.reads store.old)) }
     ensures calm { OnOk result (D.faults store.new ≡ D.faults store.old) }
     ensures cause { IfErr result (IsCause (IsBrokenIn (D.holds store.old) file.now) (D.faults store.old) (D.faults store.new)) }
 {
@@ -41,11 +38,7 @@ pub fn read_text<D: Store>(
 }
 
 /// The blob of the recorded text, which has the recorded length.
-fn read_blob<D: Store>(
-    alloc: Global,
-    store: &mut D,
-    file: &FileRec,
-) -> Result<Vec<u8>, Trouble>
+fn read_blob<D: Store>(alloc: Global, store: &mut D, file: &FileRec) -> Result<Vec<u8>, Trouble>
     ensures text { IfOk result (λ text. IfSome (D.holds store.old) (λ content. content.blobs file.now.blob ≡ Some text.items)) }
     ensures len { IfOk result (λ text. length text.items ≡ file.now.len) }
     ensures holds { D.holds store.new ≡ D.holds store.old }

@@ -36,6 +36,7 @@ loop-seen-preserved g c =
           c.loop-seen.invariant.holds c.in_ok-put_file.ensures.lines c.loop-seen.invariant.lines;
       reads =
           texts_kept c.args.k c.loop-seen.seen-index view c.seen-item.result within c.seen-item.is before after
-          (hits_at files region lists) (text_at files) (reads c.loop-seen.store) (reads c.put_file.new.store) _ c.len-in-loop-seen.result long
+          (hits_at files region lists) (text_at files) (reads c.loop-seen.store) (reads c.put_file.new.store)
+          _ c.len-in-loop-seen.result long
           c.in_ok-put_file.ensures.count c.in_ok-put_file.ensures.reads c.loop-seen.invariant.reads;
     }

@@ -13,10 +13,12 @@ invariant-loop-seen g l = record {
   calm : g.D.Store.faults l.store ≡ g.D.Store.faults l.fn.store;
   none : l.k ≡ 0 → l.store ≡ l.fn.store;
   lines : IfSome (g.D.Store.holds l.fn.store) (λ content. l.shown.items
-      ++ take (l.k - length l.shown.items) (flat_map (lines_at content l.files.entries (region_of l.expr) l.lists) (drop l.seen-index l.view))
+      ++ take (l.k - length l.shown.items) (flat_map (lines_at content l.files.entries (region_of l.expr) l.lists)
+      (drop l.seen-index l.view))
       ≡ take l.k (flat_map (lines_at content l.files.entries (region_of l.expr) l.lists) l.view));
   reads : option_map (λ ranges. ranges ++ texts_shown (hits_at l.files.entries (region_of l.expr) l.lists) (text_at l.files.entries)
       (l.k - length l.shown.items) (drop l.seen-index l.view)) (g.D.Store.reads l.store)
-      ≡ option_map (λ ranges. ranges ++ texts_shown (hits_at l.files.entries (region_of l.expr) l.lists) (text_at l.files.entries) l.k l.view)
+      ≡ option_map (λ ranges. ranges ++ texts_shown (hits_at l.files.entries (region_of l.expr) l.lists)
+      (text_at l.files.entries) l.k l.view)
       (g.D.Store.reads l.fn.store);
 }

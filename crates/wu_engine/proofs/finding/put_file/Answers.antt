@@ -1,11 +1,11 @@
-use Rattle.std.proofs.Common.{◌≡◌, ◌++◌, ◌∙◌, ap, take, refl, sym, rules}
-use Rattle.std.specs.Prelude.{Some, IfSome}
+use Rattle.std.proofs.Common.{◌≡◌, ◌++◌, ◌∙◌, ap, take, refl, sym}
+use Rattle.std.specs.Prelude.{IfSome}
 use Rattle.wu_ask.specs.declared.FindLine.{FindLine}
 use Rattle.std.specs.Prelude.{List}
 use Rattle.wu_gcl.specs.Regions.{region_of}
 use Rattle.wu_layout.proofs.EntryLemmas.{IfSome-map}
 use Rattle.wu_engine.specs.Causes.{IsDamagedAt}
-use Rattle.wu_engine.specs.Finding.{IsBrokenIn, IsCause, lines_at, lines_of_record, record_at}
+use Rattle.wu_engine.specs.Finding.{IsBrokenIn, IsCause, lines_at, lines_of_record}
 use Rattle.wu_engine.proofs.AnswerLemmas.{if_ok}
 use Rattle.wu_engine.proofs.FirstLines.{lines_of_file}
 use Rattle.wu_engine.proofs.ReadCauses.{broken_file, cause_after, if_err, recorded}

@@ -1,4 +1,4 @@
-use Rattle.std.proofs.Common.{◌≡◌, ◌∙◌, ap, sym}
+use Rattle.std.proofs.Common.{◌∙◌, ap, sym}
 use Rattle.wu_ask.specs.declared.Ask.{Ask}
 use Rattle.wu_ask.specs.Questions.{question_of}
 use Rattle.wu_engine.specs.Answer.{answer}

@@ -19,7 +19,8 @@ pub answer-requires-clause-fit : goal.answer-requires-clause-fit
 answer-requires-clause-fit g c =
     can_be_searched c.args.tree.now c.args.space.now c.args.parts.now c.args.files.now.entries c.args.kept.now c.keeps_the_rules.ensures
     c.requires.sound c.args.query.now.uid c.in-Some.frames.now
-    (right-found c.args.tree.now c.args.space.now.ranges c.args.query.now.uid c.prepare.new.self c.in-Some.frames.now c.prepare.ensures.right
+    (right-found c.args.tree.now c.args.space.now.ranges c.args.query.now.uid c.prepare.new.self c.in-Some.frames.now
+    c.prepare.ensures.right
     c.in-Some.ensures)
 
 pub answer-requires-clause-records : goal.answer-requires-clause-records

@@ -1,6 +1,5 @@
 use Rattle.wu_engine.proofs.ReadTexts.{empty_long}
 use Rattle.std.proofs.Common.{rules}
-use Rattle.std.proofs.lemmas.Bool.{eqb-true}
 use Rattle.wu_engine.proofs.reading.read_text.Goals as goal
 
 pub returns-then-file-eq0-clause-tokens : goal.returns-then-file-eq0-clause-tokens
