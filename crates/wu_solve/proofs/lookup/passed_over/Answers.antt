@@ -1,4 +1,4 @@
-use Rattle.std.proofs.Common.{◌+◌, ◌-◌, ◌<◌, arith}
+use Rattle.std.proofs.Common.{◌-◌, arith}
 use Rattle.wu_solve.proofs.Numbers.{increasing_not_below}
 use Rattle.wu_solve.proofs.lookup.passed_over.Goals as goal
 
