@@ -94,7 +94,8 @@ module _ (told : Settings) (start : State) where
     pub whole : whole_output rules start given ≡ sent
 
   -- the source gave some bytes, and each item that was made of them is answered
-  pub record HasReplied (holds : Option Content) (before left gained now : Option (List ℕ)) (held : Held) (s : State) (most : ℕ) : Type 0 where
+  pub record HasReplied (holds : Option Content) (before left gained now : Option (List ℕ)) (held : Held) (s : State) (most : ℕ)
+      : Type 0 where
     pub given : List ℕ
     pub consumed : Consumes before left given
     pub counted : held.spare + length given ≡ most
@@ -177,11 +178,12 @@ module _ (told : Settings) (start : State) where
           })
 
   -- a turn of the loop: an item was rules, and what answers it was written
-  pub HasReplied-turn : (holds : Option Content) (before between left gained mid now : Option (List ℕ)) (last_read : ℕ) (old new : Held) (s t : State) (item : Item)
-      (reply written : List ℕ) (most : ℕ) → IsBeforeEnd item → TakesItem between left last_read old new item
+  pub HasReplied-turn : (holds : Option Content) (before between left gained mid now : Option (List ℕ)) (last_read : ℕ) (old new : Held)
+      (s t : State) (item : Item) (reply written : List ℕ) (most : ℕ) → IsBeforeEnd item → TakesItem between left last_read old new item
       → HasReplied holds before between gained mid old s most → (IsSome holds → reply ≡ said_bytes s (said_by item))
       → t ≡ after s (said_by item) → written ≡ reply → Appends mid now written → HasReplied holds before left gained now new t most
-  HasReplied-turn holds before between left gained mid now last_read old new s t item reply written most other taken replied replies state same sent =
+  HasReplied-turn holds before between left gained mid now last_read old new s t item reply written most other taken replied replies state same
+      sent =
       let uses = taken.1 in
       let one = one_item last_read new item taken.0 other taken.2 in
       subst (λ u. HasReplied holds before left gained now new u most) (sym state) (record {
@@ -286,7 +288,8 @@ module _ (told : Settings) (start : State) where
   -- the source failed, or gave a byte too many
   AnswersWholeItems-stopped : (end : ReadEnd) (before now : Moment) (between : Option (List ℕ)) (old : Held) (s : State)
       → (end ≡ ends.NoMemory → ⊥)
-      → HasReplied before.holds before.left between before.gained now.gained old s told.max_input → EndsBeforeItem between now.left now.last_read old end
+      → HasReplied before.holds before.left between before.gained now.gained old s told.max_input
+      → EndsBeforeItem between now.left now.last_read old end
       → AnswersWholeItems start (Some told) before now
   AnswersWholeItems-stopped end before now between old s other replied stops = (
     replied.given ++ stops.given,
@@ -428,7 +431,8 @@ module _ (told : Settings) (start : State) where
 
   -- reading stopped
   pub HoldsNothingBack-stopped : (end : ReadEnd) (before now : Moment) (between : Option (List ℕ)) (old : Held) (s : State)
-      → HasReplied before.holds before.left between before.gained now.gained old s told.max_input → EndsBeforeItem between now.left now.last_read old end
+      → HasReplied before.holds before.left between before.gained now.gained old s told.max_input
+      → EndsBeforeItem between now.left now.last_read old end
       → HoldsNothingBack start (status_of end) (Some told) before now
   HoldsNothingBack-stopped ends.ReadFault before now between old s replied stops =
       AnswersWholeItems-stopped ends.ReadFault before now between old s (λ e. (cc)) replied stops

@@ -91,7 +91,8 @@ module _ (told : Settings) (start : State) where
   at_start rules before (Some input) = HasSent-none before (output_of rules start (items_of input))
 
   -- at the start nothing was sent
-  pub HasAnswered-none : (holds : Option Content) (before input : Option (List ℕ)) → HasAnswered holds before before input (prepend_known [] input) start
+  pub HasAnswered-none : (holds : Option Content) (before input : Option (List ℕ))
+      → HasAnswered holds before before input (prepend_known [] input) start
   HasAnswered-none holds before input = λ rules are. at_start rules before input
 
   -- the output for some bytes is what answers the first item, and the output for what comes after it
@@ -119,11 +120,12 @@ module _ (told : Settings) (start : State) where
       (output-first rules are s left rest item other next) sent) gained
 
   -- a turn of the loop: an item was rules, and what answers it was written
-  pub HasAnswered-turn : (holds : Option Content) (before between now input left rest : Option (List ℕ)) (s new : State) (item : Item) (reply written : List ℕ)
-      → IsBeforeEnd item → IsNext left rest item
+  pub HasAnswered-turn : (holds : Option Content) (before between now input left rest : Option (List ℕ)) (s new : State) (item : Item)
+      (reply written : List ℕ) → IsBeforeEnd item → IsNext left rest item
       → HasAnswered holds before between input left s → (IsSome holds → reply ≡ said_bytes s (said_by item)) → new ≡ after s (said_by item)
       → written ≡ reply → Appends between now written → HasAnswered holds before now input rest new
-  HasAnswered-turn holds before between now input left rest s new item reply written other next sent replies state same gained = λ rules are.
+  HasAnswered-turn holds before between now input left rest s new item reply written other next sent replies state same gained =
+      λ rules are.
       subst (IsOnTheWay rules before now input rest) (sym state)
       (turn rules are.0 before between now input left rest s item other next (sent rules are)
       (subst (Appends between now) (same ∙ replies are.2) gained))
@@ -133,11 +135,13 @@ module _ (told : Settings) (start : State) where
   IsPrefix holds before now input = IfSome input
       (λ bytes. (rules : Rules) → AreRules holds told rules → GainsPrefix before now (output_of rules start (items_of bytes)))
 
-  pub IsPrefix-sent : (holds : Option Content) (before now input left : Option (List ℕ)) (s : State) → HasAnswered holds before now input left s
+  pub IsPrefix-sent : (holds : Option Content) (before now input left : Option (List ℕ)) (s : State)
+      → HasAnswered holds before now input left s
       → IsPrefix holds before now input
   IsPrefix-sent holds before now None left s sent = tt
   IsPrefix-sent holds before now (Some input) None s sent = λ rules are. absurd (sent rules are)
-  IsPrefix-sent holds before now (Some input) (Some left) s sent = λ rules are. HasSent-prefix before now (output_of rules start (items_of input))
+  IsPrefix-sent holds before now (Some input) (Some left) s sent = λ rules are.
+      HasSent-prefix before now (output_of rules start (items_of input))
       (output_of rules s (items_of left)) (sent rules are)
 
   part : (rules : Rules) → IsReading rules.read
@@ -154,8 +158,8 @@ module _ (told : Settings) (start : State) where
       (output-first rules are s left rest item other next) sent) gained
 
   -- a turn that a fault ended: a prefix of what answers the item was written
-  pub IsPrefix-part : (holds : Option Content) (before between now input left rest : Option (List ℕ)) (s : State) (item : Item) (reply written : List ℕ)
-      → IsBeforeEnd item → IsNext left rest item
+  pub IsPrefix-part : (holds : Option Content) (before between now input left rest : Option (List ℕ)) (s : State) (item : Item)
+      (reply written : List ℕ) → IsBeforeEnd item → IsNext left rest item
       → HasAnswered holds before between input left s → (IsSome holds → reply ≡ said_bytes s (said_by item)) → written ≡ reply
       → GainsPrefix between now written → IsPrefix holds before now input
   IsPrefix-part holds before between now None left rest s item reply written other next sent replies same gained = tt

@@ -1,5 +1,5 @@
 -- Where engine and store stand for a state, the store has each text as it was recorded.
-use Rattle.std.proofs.Common.{◌≡◌, ◌⊎◌, ℕ, ◌<◌, List, [], ◌∷◌, length, map, Option, Some, None, Result, Ok, Err, IsErrAnd, refl, sym, ap, ◌∙◌, subst, ⊎_elim, IfSome}
+use Rattle.std.proofs.Common.{◌≡◌, ◌⊎◌, ℕ, ◌<◌, List, [], ◌∷◌, length, Option, Some, None, Result, Ok, Err, IsErrAnd, refl, sym, ap, ◌∙◌, subst, ⊎_elim, IfSome}
 use Rattle.std.specs.Prelude.{option_map}
 use Rattle.std.specs.Ordering.{nat_cmp}
 use Rattle.std.specs.List.{AllByRecursion}
@@ -10,14 +10,13 @@ use Rattle.wu_base.specs.declared.troubles.Trouble.{Trouble}
 use Rattle.wu_outside.specs.Content.{Content, MayDo, with_blob}
 use Rattle.wu_token.specs.Tokens.{tokens_of}
 use Rattle.wu_layout.specs.Layouts.{FileEntry, entry_of, homes_of, postings_of}
-use Rattle.wu_layout.specs.Invariants.{IsIndexed, SomeOf}
+use Rattle.wu_layout.specs.Invariants.{IsIndexed}
 use Rattle.wu_layout.proofs.EntryLemmas.{IfSome-found, IfSome-map}
-use Rattle.wu_image.specs.declared.records.FileRec.{FileRec}
 use Rattle.wu_image.specs.Texts.{IsBrokenText}
 use Rattle.wu_engine.specs.declared.engines.Engine.{Engine}
 use Rattle.wu_engine.specs.Causes.{IsDamagedAt}
 use Rattle.wu_engine.specs.Records.{record_of, records_of}
-use Rattle.wu_engine.specs.Stands.{HoldsTexts, Stands}
+use Rattle.wu_engine.specs.Stands.{Stands}
 use Rattle.wu_engine.specs.States.{State, Texts, indexed, text_in}
 use Rattle.wumpus_run.specs.Session.{KeepsRoot}
 

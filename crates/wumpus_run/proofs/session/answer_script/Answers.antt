@@ -191,7 +191,8 @@ items-preserved g c =
           c.items.engine.parts.next_blob c.answer.new.engine.parts.next_blob told.max_input
           c.if-is_end.ensures took i.blobs c.in-Ok-answer.ensures.drawn;
       root = c.in-Ok-answer.ensures.root ∙ i.root;
-      answered = HasAnswered-turn told first_state before.holds before.gained (g.O.Sink.gained c.items.sink) now.gained before.left known rest s t item
+      answered = HasAnswered-turn told first_state before.holds before.gained
+          (g.O.Sink.gained c.items.sink) now.gained before.left known rest s t item
           c.answer.new.out.items c.as_slice.result.now c.if-is_end.ensures
           (c.in-Ok-next.ensures.first i.at_end) i.answered reply refl c.as_slice.ensures.value
           c.in-Ok-write_reply.ensures.ok;

@@ -19,9 +19,11 @@ invariant-items g l = record {
   room : HasRoom l.engine.space.next l.reader l.fn.settings.max_input;
   blobs : HasBlobs l.engine.parts.next_blob l.reader l.fn.settings.max_input;
   root : KeepsRoot (g.D.Store.holds l.fn.store) (g.D.Store.holds l.store);
-  answered : HasAnswered l.fn.settings first_state (g.D.Store.holds l.fn.store) (g.O.Sink.gained l.fn.sink) (g.O.Sink.gained l.sink) (g.I.Source.left l.fn.source)
+  answered : HasAnswered l.fn.settings first_state (g.D.Store.holds l.fn.store)
+      (g.O.Sink.gained l.fn.sink) (g.O.Sink.gained l.sink) (g.I.Source.left l.fn.source)
       (prepend_known l.reader.bytes (g.I.Source.left l.source)) state;
-  replied : HasReplied l.fn.settings first_state (g.D.Store.holds l.fn.store) (g.I.Source.left l.fn.source) (g.I.Source.left l.source) (g.O.Sink.gained l.fn.sink)
+  replied : HasReplied l.fn.settings first_state (g.D.Store.holds l.fn.store)
+      (g.I.Source.left l.fn.source) (g.I.Source.left l.source) (g.O.Sink.gained l.fn.sink)
       (g.O.Sink.gained l.sink)
       l.reader state l.fn.settings.max_input;
   taken : HasTaken (g.I.Source.left l.fn.source) (g.I.Source.left l.source) l.reader.spare l.fn.settings.max_input;
