@@ -18,3 +18,8 @@ pub mod RankLemmas
 pub mod AnswerLemmas
 pub mod Searching
 pub mod WordCounts
+pub mod ReadCauses
+pub mod ReadTexts
+pub mod FoundExtents
+pub mod FoundLines
+pub mod FirstLines

@@ -17,8 +17,9 @@ use Rattle.wu_frames.specs.declared.Frame.{Frame}
 use Rattle.wu_frames.specs.declared.Frames.{Frames}
 use Rattle.wu_frames.specs.UserFrames.{AreFrames, Kept}
 use Rattle.wu_frames.proofs.ViewFrames.{HasRange, all-have}
-use Rattle.wu_engine.specs.Records.{Records}
-use Rattle.wu_engine.specs.Soundness.{IsSound}
+use Rattle.wu_engine.specs.Records.{Records, recorded_ranges}
+use Rattle.wu_engine.specs.Soundness.{IsRecord, IsSound}
+use Rattle.wu_engine.specs.Finding.{CanBeRead}
 use Rattle.wu_engine.specs.Units.{CanBeSearched}
 use Rattle.wu_engine.proofs.RecordLemmas.{ranges-short}
 
@@ -52,3 +53,15 @@ module _ (fs : FileSystem) (space : Addresses) (parts : Contents) (files : Recor
         (λ moved. short frames.by_address (all-have space.ranges (files_of fs uid) frames.by_address moved)));
     of_frames = hers.ranges_alone;
   }
+
+  -- and so can be read what is recorded of files
+  pub can_be_read : AllByRecursion CanBeRead files
+  can_be_read =
+      each files sound.records
+      (subst (AllByRecursion (λ (file : ℕ × Range). file.1.start + file.1.len ≤ space.next)) (sym sound.ranges) rules.live.given) where
+        each : (fs' : Records) → AllByRecursion IsRecord fs'
+            → AllByRecursion (λ (file : ℕ × Range). file.1.start + file.1.len ≤ space.next) (recorded_ranges fs')
+            → AllByRecursion CanBeRead fs'
+        each [] kept given = tt
+        each (file ∷ files') kept given =
+            (record { recorded = kept.0; bounded = omega (arith, given.0, sound.few) }, each files' kept.1 given.1)

@@ -5,6 +5,7 @@ pub mod View
 pub mod Hits
 pub mod Rankings
 pub mod Answer
+pub mod Reads
 pub mod Records
 pub mod Soundness
 pub mod Stands
@@ -13,3 +14,4 @@ pub mod Causes
 
 pub mod Indexing
 pub mod Units
+pub mod Finding

@@ -1,5 +1,5 @@
 //! The engine, and how it begins.
-ghost use Rattle.std.specs.Prelude.{◌≡◌, ◌⊎◌, ℕ, List, ◌+◌, ◌<◌, ◌≤◌, ◌^◌, Option, None, Some, Err, false, length, IsSome, IfOk, IfErr, OnOk};
+ghost use Rattle.std.specs.Prelude.{◌≡◌, ◌⊎◌, ℕ, List, ◌+◌, ◌++◌, option_map, ◌<◌, ◌≤◌, ◌^◌, Option, None, Some, Err, false, length, IsSome, IfOk, IfErr, OnOk};
 ghost use Rattle.wu_base.specs.declared.limits.TheConstants.{ADDRESSES_MAX, TEXT_MAX};
 ghost use Rattle.wu_base.specs.declared.troubles.Trouble.TheVariants.{Damaged};
 ghost use Rattle.wu_outside.specs.Content.{MayDo, with_blob};
@@ -46,6 +46,7 @@ impl Engine {
     ghost use Rattle.wu_engine.specs.Causes.{HasTroubleCause, IsDamagedAt};
     ghost use Rattle.wu_engine.specs.View.{view_of};
     ghost use Rattle.wu_engine.specs.Answer.{answer};
+    ghost use Rattle.wu_engine.specs.Reads.{ShowsNoText, texts_read};
 
     /// An engine for the root directory alone, in which memory is full at `flush_at` postings. It makes no call
     /// of the store: whatever that holds, the session begins anew, and puts its blobs from number 1 on. The
@@ -142,6 +143,8 @@ impl Engine {
     fn end_with(&mut self, trouble: Trouble) -> Trouble
         ensures trouble { result ≡ trouble }
         ensures ended { self.new.ended ≡ Some trouble }
+        ensures space { self.new.space ≡ self.old.space }
+        ensures parts { self.new.parts ≡ self.old.parts }
     {
         self.ended = Some(trouble);
         trouble
@@ -159,7 +162,11 @@ impl Engine {
         ensures next_blob { self.new.parts.next_blob ≡ self.old.parts.next_blob }
 
         ensures holds { D.holds store.new ≡ D.holds store.old }
-        ensures reads { D.reads store.new ≡ D.reads store.old }
+        // Where a find shows lines, the texts of the files of which it shows one are read, each whole and once;
+        // nothing else is, and the other questions make no call of the store.
+        ensures reads { (s : State) → Stands self.old (D.holds store.old) s → OnOk result (D.reads store.new
+            ≡ option_map (λ ranges. ranges ++ texts_read s query.now.uid (question_of query.now.ask)) (D.reads store.old)) }
+        ensures unread { ShowsNoText (question_of query.now.ask) → store.new ≡ store.old }
 
         ensures goes_on { OnOk result (self.new.ended ≡ None) }
         ensures ends { IfErr result (λ trouble. self.new.ended ≡ Some trouble) }
@@ -174,16 +181,21 @@ impl Engine {
             return Err(trouble);
         }
         self.ended = Some(Trouble::NoMemory);
-        let answered = answered(
+        match answered(
             self.alloc,
+            store,
             &self.tree,
             &self.space,
             &self.parts,
             &self.files,
             &mut self.frames,
             query,
-        )?;
-        self.ended = None;
-        Ok(answered)
+        ) {
+            Ok(answered) => {
+                self.ended = None;
+                Ok(answered)
+            }
+            Err(trouble) => Err(self.end_with(trouble)),
+        }
     }
 }
