@@ -8,11 +8,13 @@ use Rattle.wu_ask.specs.declared.Ask.TheVariants as asks
 -- what a query asks; an expression stands as what it says
 pub data Question : Type 0 where
   Counting : (region : Region) → Question
+  Finding : (k : ℕ) (region : Region) → Question
   Ranking : (k : ℕ) (unit : Region) (words : List (List ℕ)) → Question
   ListingPaths : Question
 
 abbrev pub question_of : Ask → Question
 question_of (asks.Count expr) = Counting (region_of expr)
+question_of (asks.Find k expr) = Finding k (region_of expr)
 question_of (asks.Rank k unit words) = Ranking k (region_of unit) words
 question_of asks.Paths = ListingPaths
 
@@ -21,9 +23,10 @@ abbrev pub IsWordCount : ℕ → Type 0
 IsWordCount count = (1 ≤ count) × (count ≤ RANK_WORDS_MAX)
 
 -- a question that can be answered: each phrase of its expression has a word, and each window an address;
--- a ranking shows at most K_MAX regions, by 1 to RANK_WORDS_MAX words
+-- K_MAX regions at most are shown; a ranking is by 1 to RANK_WORDS_MAX words
 abbrev pub IsSound : Question → Type 0
 IsSound (Counting region) = IsProper region
+IsSound (Finding k region) = (k ≤ K_MAX) × IsProper region
 IsSound (Ranking k unit words) = (k ≤ K_MAX) × IsProper unit × IsWordCount (length words)
 IsSound ListingPaths = Unit {0}
 

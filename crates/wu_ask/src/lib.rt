@@ -20,6 +20,12 @@ pub enum Ask {
     Count {
         expr: Expr,
     },
+    /// Where the regions of the expression are, how many there are, and in how many files.
+    Find {
+        /// How many regions to show at most, from 0 to K_MAX.
+        k: u32,
+        expr: Expr,
+    },
     /// Which regions of the unit hold one of the words, the best by these words first.
     Rank {
         /// How many regions to show at most, from 0 to K_MAX.
@@ -31,6 +37,23 @@ pub enum Ask {
     },
     /// The paths of the user's files.
     Paths,
+}
+
+/// One region that was found, with the first line of its file that shares a place with it. A line's
+/// places are those of its tags and of its words.
+#[derive(Debug, PartialEq, Eq, Drop)]
+pub struct FindLine {
+    /// The least open path of its file.
+    pub path: Bytes,
+    /// Its first place, counted from the file's first token, which has place 0.
+    pub start: u64,
+    /// Its last place, at least `start` and counted like it.
+    pub end: u64,
+    /// The line's number, counted from 1; 0 where there is no such line.
+    pub line: u64,
+    /// The line's first bytes, at most SNIPPET_MAX of them and without its LF; empty where there is no
+    /// such line.
+    pub bytes: Bytes,
 }
 
 /// One region of a ranking.
@@ -56,6 +79,16 @@ pub enum Answered {
         hits: u64,
         /// How many files have one or more of the regions.
         files: u64,
+    },
+    /// `hits` regions, in `files` files; the first of them are shown.
+    Find {
+        /// How many regions there are, over all files.
+        hits: u64,
+        /// How many files have one or more of the regions.
+        files: u64,
+        /// At most `k` of the question, file by file in the order of the user's view, those of one file
+        /// ascending by their starts.
+        shown: Sequence<FindLine>,
     },
     /// `listed` regions hold one of the words; the best of them are shown.
     Rank {

@@ -1,8 +1,6 @@
 -- Counting the extents of an expression over a user's frames is counting them over the files of her view.
-use Rattle.std.proofs.Common.{◌≡◌, ℕ, zero, suc, ◌+◌, ◌≤◌, ◌<◌, cond, List, [], ◌∷◌, ◌++◌, length, map, take, get_or, sym, ap, ap₂, ◌∙◌, arith, append-nil, length-append}
+use Rattle.std.proofs.Common.{◌≡◌, ℕ, ◌+◌, cond, List, length, map, sym, ap, ap₂, ◌∙◌, arith}
 use Rattle.std.proofs.Math.Logic.{∥∥₁_elim}
-use Rattle.std.proofs.lemmas.Grind.{flat_map-append}
-use Rattle.std.proofs.lemmas.List.{take_more}
 use Rattle.std.proofs.lemmas.List.Concat.{length-flat_map}
 use Rattle.std.specs.Coded.{Coded-set, coded_ℕ}
 use Rattle.std.specs.Prelude.{nat_lt, count_by}
@@ -44,7 +42,7 @@ module _ (frames : Frames) (live : Ranges) (memory : Memory) (s : State) (uid : 
   first i = let e : 0 + i ≡ i = omega arith in ap (tokens_at (view_of s uid)) e
 
   -- as many extents
-  hits_counted : length (frames_hits region (map (list_at (found_in frames.ranges memory)) terms) frames.ranges)
+  pub hits_counted : length (frames_hits region (map (list_at (found_in frames.ranges memory)) terms) frames.ranges)
       ≡ length (flat_map (hits_in region) (view_of s uid))
   unfolding hits_in
   hits_counted =
@@ -60,7 +58,7 @@ module _ (frames : Frames) (live : Ranges) (memory : Memory) (s : State) (uid : 
       ∙ sym (length-flat_map (hits_in region) view))
 
   -- in as many files
-  files_counted : count_by (λ frame. nat_lt 0 (length (frame_hits region (map (list_at (found_in frames.ranges memory)) terms) frame)))
+  pub files_counted : count_by (λ frame. nat_lt 0 (length (frame_hits region (map (list_at (found_in frames.ranges memory)) terms) frame)))
       frames.ranges
       ≡ count_by (has_hit region) (view_of s uid)
   unfolding hits_in

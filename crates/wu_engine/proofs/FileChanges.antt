@@ -32,10 +32,6 @@ files_without o files q = cond (is_that o q) false (files q)
 abbrev pub files_with : Option ℕ → (ℕ → Bool) → ℕ → Bool
 files_with o files q = cond (is_that o q) true (files q)
 
--- a number that was no file, or was dropped, is none
-pub not_there : (dropped : Option ℕ) (files : ℕ → Bool) (q : ℕ) → files q ≡ false → files_without dropped files q ≡ false
-not_there dropped files q f = elim (is_that dropped q) as (λ b. cond b false (files q) ≡ false) [ true ↦ refl | false ↦ f ]
-
 not_true : (b : Bool) → (b ≡ true → ⊥) → false ≡ b
 not_true true h = absurd (h refl)
 not_true false h = refl
@@ -72,8 +68,8 @@ pub record ChangesFiles (before : FileSystem) (effect : Effect) : Type 0 where
   pub made : (ino : ℕ) → effect.made ≡ Some ino → is_file before ino ≡ false
 
 module _ (fs : FileSystem) where
-  none_changed : ChangesFiles fs no_effect
-  none_changed = record { dropped = λ q h. absurd (none_some q h); made = λ q h. absurd (none_some q h) }
+  nothing : ChangesFiles fs no_effect
+  nothing = record { dropped = λ q h. absurd (none_some q h); made = λ q h. absurd (none_some q h) }
 
   dropped_file : (q c : ℕ) (file last : Bool) → is_file fs c ≡ file → cond (file && last) (Some c) None ≡ Some q → is_file fs q ≡ true
   dropped_file q c true true f h = subst (λ x. is_file fs x ≡ true) (same_some c q h) f
@@ -88,38 +84,38 @@ module _ (fs : FileSystem) where
   dropped_child q last None h = absurd (none_some q (sym (cond_none (is_file fs 0 && last)) ∙ h))
   dropped_child q last (Some c) h = dropped_file q c (is_file fs c) last refl h
 
-  one_dropped : (parent : ℕ) (name : List ℕ) → ChangesFiles fs (record no_effect { dropped = dropped_at fs parent name })
-  one_dropped parent name = record {
+  dropped : (parent : ℕ) (name : List ℕ) → ChangesFiles fs (record no_effect { dropped = dropped_at fs parent name })
+  dropped parent name = record {
     dropped = λ q h. dropped_child q (is_last_link fs parent name) (child_of fs parent name) h;
     made = λ q h. absurd (none_some q h);
   }
 
-  changes_of : (event : Event) → refusal_of fs event ≡ None → ChangesFiles fs (effect_of fs event)
-  changes_of (User uid groups) h = none_changed
-  changes_of (Mkdir ino parent name perm) h = none_changed
-  changes_of (Create ino parent name perm) h =
+  made : (event : Event) → refusal_of fs event ≡ None → ChangesFiles fs (effect_of fs event)
+  made (User uid groups) h = nothing
+  made (Mkdir ino parent name perm) h = nothing
+  made (Create ino parent name perm) h =
       let a = (none_applies (create_rules fs ino parent name) h).1.1.1 in
       let new : is_there fs ino ≡ false = (or_parts (is_there fs ino) (is_used fs parent name) a.0).0 in
       record {
         dropped = λ q h. absurd (none_some q h);
         made = λ q h. subst (λ x. is_file fs x ≡ false) (same_some ino q h) (ap is_file_node (absent (node_of fs ino) new));
       }
-  changes_of (Text ino) h = record { dropped = λ q h. absurd (none_some q h); made = λ q h. absurd (none_some q h) }
-  changes_of (Link ino parent name) h = none_changed
-  changes_of (Unlink parent name) h = one_dropped parent name
-  changes_of (Rmdir parent name) h = none_changed
-  changes_of (Rename parent name new_parent new_name) h =
+  made (Text ino) h = record { dropped = λ q h. absurd (none_some q h); made = λ q h. absurd (none_some q h) }
+  made (Link ino parent name) h = nothing
+  made (Unlink parent name) h = dropped parent name
+  made (Rmdir parent name) h = nothing
+  made (Rename parent name new_parent new_name) h =
       elim (is_same_node fs parent name new_parent new_name) as
       (λ b. ChangesFiles fs (cond b no_effect (record no_effect { dropped = dropped_at fs new_parent new_name }))) [
-        | true ↦ none_changed
-        | false ↦ one_dropped new_parent new_name
+        | true ↦ nothing
+        | false ↦ dropped new_parent new_name
       ]
-  changes_of (Chmod ino mode) h = none_changed
-  changes_of (Chown ino uid gid) h = none_changed
+  made (Chmod ino mode) h = nothing
+  made (Chown ino uid gid) h = nothing
 
   -- what an accepted event's effect is
   pub changes : (event : Event) (after : FileSystem) (effect : Effect) → tree_step fs event ≡ Ok (after, effect)
       → (effect_of fs event ≡ effect) × ChangesFiles fs effect
   changes event after effect h =
       let a = accepted (refusal_of fs event) (next fs event) after (effect_of fs event) effect h in
-      (a.1.1, subst (ChangesFiles fs) a.1.1 (changes_of event a.0))
+      (a.1.1, subst (ChangesFiles fs) a.1.1 (made event a.0))

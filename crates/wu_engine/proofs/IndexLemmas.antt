@@ -1,6 +1,5 @@
 -- What an event makes of the space of addresses and of the postings.
-use Rattle.std.proofs.Common.{◌≡◌, ℕ, zero, suc, ◌+◌, ◌<◌, ◌==◌, Bool, cond, List, [], ◌++◌, length}
-use Rattle.std.proofs.Common.{refl, ap, sym, ◌∙◌, subst, arith, append_assoc, append-nil, length-append}
+use Rattle.std.proofs.Common.{◌≡◌, ℕ, zero, suc, ◌+◌, ◌<◌, ◌==◌, Bool, cond, List, ◌++◌, length, refl, ap, sym, ◌∙◌, subst, arith, append_assoc, length-append}
 use Rattle.std.specs.Prelude.{Option, Some, None}
 use Rattle.std.proofs.lemmas.Bool.{ne_eqb}
 use Rattle.wu_token.specs.Tokens.{tokens_of}
@@ -9,7 +8,6 @@ use Rattle.wu_layout.proofs.Fetches.{placed-append}
 use Rattle.wu_layout.proofs.TermLemmas.{addresses_of-append}
 use Rattle.wu_space.specs.Addresses.{Addresses}
 use Rattle.wu_parts.specs.Memory.{Memory, held, Gains}
-use Rattle.wu_parts.specs.Contents.{Contents, GainsTerms}
 use Rattle.wu_engine.specs.Indexing.{terms_given, with_file, without_file}
 
 -- a text has a token or more
@@ -18,16 +16,6 @@ unfolding tokens_of
 some_tokens text = omega arith
 
 -- ---- terms that are gained
-
-pub gains_none : (start : ℕ) (parts : Contents) → GainsTerms start [] parts parts
-gains_none start parts = record {
-  memory = record {
-    addresses = λ term. sym (append-nil (held parts.memory term));
-    stored = omega arith;
-    end = refl;
-  };
-  others = refl;
-}
 
 some_end : (n x y : ℕ) → 0 < n → cond (n == 0) x y ≡ y
 some_end n x y l = ap (λ (b : Bool). cond b x y) (ne_eqb n 0 (λ e. omega arith))
@@ -46,14 +34,13 @@ module _ (start : ℕ) (first second : List (List ℕ)) where
       n ∙ some_end (suc s) mid (start + f + suc s) (omega arith) ∙ same
       ∙ sym (some_end (f + suc s) old (start + (f + suc s)) (omega arith))
 
-  gains_twice : (old mid new : Memory) → Gains start first old mid → Gains (start + length first) second mid new
+  pub gains_twice : (old mid new : Memory) → Gains start first old mid → Gains (start + length first) second mid new
       → Gains start (first ++ second) old new
   gains_twice old mid new g h = record {
     addresses = λ term.
         h.addresses term
         ∙ ap (λ (l : List ℕ). l ++ addresses_of term (placed_from (start + length first) second)) (g.addresses term)
-        ∙ append_assoc (held old term) (addresses_of term (placed_from start first))
-        (addresses_of term (placed_from (start + length first) second))
+        ∙ append_assoc (held old term) (addresses_of term (placed_from start first)) (addresses_of term (placed_from (start + length first) second))
         ∙ ap (λ (l : List ℕ). held old term ++ l)
         (sym (ap (addresses_of term) (placed-append start first second)
         ∙ addresses_of-append term (placed_from start first) (placed_from (start + length first) second)));
@@ -61,13 +48,6 @@ module _ (start : ℕ) (first second : List (List ℕ)) where
     end =
         subst (λ (n : ℕ). new.end ≡ cond (n == 0) old.end (start + n)) (sym (length-append first second))
         (end_twice old.end mid.end new.end (length first) (length second) g.end h.end);
-  }
-
-  pub gains_both : (old mid new : Contents) → GainsTerms start first old mid → GainsTerms (start + length first) second mid new
-      → GainsTerms start (first ++ second) old new
-  gains_both old mid new g h = record {
-    memory = gains_twice old.memory mid.memory new.memory g.memory h.memory;
-    others = h.others ∙ ap (λ (c : Contents). record c { memory = new.memory }) g.others;
   }
 
 -- ---- the next address

@@ -1,25 +1,27 @@
 -- What is true of a state at first, and stays true with each event.
-use Rattle.std.proofs.Common.{◌≡◌, ℕ, ◌+◌, ◌≤◌, List, [], length, false, Ok, Err, refl, ap, sym, subst, arith}
+use Rattle.std.proofs.Common.{◌≡◌, ℕ, ◌+◌, ◌≤◌, List, [], length, Bool, true, false, cond, Ok, Err, refl, ap, sym, ◌∙◌, subst, arith}
+use Rattle.std.specs.Prelude.{Option, Some, None}
 use Rattle.std.specs.Result.{result_unwrap_or}
 use Rattle.wu_base.specs.declared.limits.TheConstants.{TEXT_MAX}
 use Rattle.wu_tree.specs.declared.events.Event.{Event}
+use Rattle.wu_tree.specs.declared.events.Event.TheVariants.{User, Mkdir, Create, Text, Link, Unlink, Rmdir, Rename, Chmod, Chown}
 use Rattle.wu_tree.specs.declared.events.Effect.{Effect}
 use Rattle.wu_tree.specs.declared.events.Refusal.{Refusal}
 use Rattle.wu_tree.specs.FileSystems.{FileSystem}
-use Rattle.wu_tree.specs.Steps.{IsEvent}
+use Rattle.wu_tree.specs.Steps.{IsEvent, effect_of, no_effect, dropped_at, is_same_node}
 use Rattle.wu_tree.specs.Steps.{step as tree_step}
 use Rattle.wu_tree.specs.Effects.{TellsFiles}
 use Rattle.wu_tree.proofs.EffectLemmas.{effects_tell_files}
 use Rattle.wu_tree.proofs.KeptTrees.{step_keeps}
 use Rattle.wu_tree.proofs.TreeInvariant.{root_sound}
+use Rattle.wu_layout.specs.Layouts.{Layout}
 use Rattle.wu_layout.proofs.Updates.{first_is_layout, layout_after_other}
-use Rattle.wu_engine.specs.States.{State, IsState, first_state, step, stepped, after_event, texts_after, layout_after}
+use Rattle.wu_engine.specs.States.{State, IsState, first_state, step, stepped, after_event, texts_after, layout_without, layout_with, layout_after}
 use Rattle.wu_engine.specs.Stands.{taken_by}
+use Rattle.wu_engine.specs.Indexing.{is_stored, terms_given}
 use Rattle.wu_engine.proofs.FileChanges.{changes}
 use Rattle.wu_engine.proofs.StateTexts.{texts_kept, short_kept, first_texts, root_files}
 use Rattle.wu_engine.proofs.StateLayouts.{layout_kept, text_at}
-use Rattle.wu_engine.proofs.LayoutSteps.{next_after}
-use Rattle.wu_engine.proofs.TakenAddresses.{length-terms_after}
 
 -- ---- at first
 
@@ -70,9 +72,92 @@ module _ (s : State) (event : Event) (text : List ℕ) where
         layout = layout_kept s tree effect tells (changes s.tree event tree effect e).1 text is.layout;
       })
 
--- how far the next address rises
+-- ---- how far the next address rises
+
+abbrev pub taken_with : Option ℕ → List ℕ → ℕ
+taken_with o text = length (terms_given o text)
+
+pub taken-effect : (fs : FileSystem) (event : Event) (text : List ℕ)
+    → taken_with (effect_of fs event).made [] + taken_with (effect_of fs event).texted text ≡ taken_by event text
+taken-effect fs (User uid groups) text = refl
+taken-effect fs (Mkdir ino parent name perm) text = refl
+taken-effect fs (Create ino parent name perm) text = omega arith
+taken-effect fs (Text ino) text = omega arith
+taken-effect fs (Link ino parent name) text = refl
+taken-effect fs (Unlink parent name) text = refl
+taken-effect fs (Rmdir parent name) text = refl
+taken-effect fs (Rename parent name new_parent new_name) text =
+    elim (is_same_node fs parent name new_parent new_name) as
+    (λ b. taken_with (cond b no_effect (record no_effect { dropped = dropped_at fs new_parent new_name })).made []
+    + taken_with (cond b no_effect (record no_effect { dropped = dropped_at fs new_parent new_name })).texted text ≡ 0) [
+      | true ↦ refl
+      | false ↦ refl
+    ]
+taken-effect fs (Chmod ino mode) text = refl
+taken-effect fs (Chown ino uid gid) text = refl
+
+next-with : (o : Option ℕ) (text : List ℕ) (layout : Layout) → (layout_with o text layout).next ≡ layout.next + taken_with o text
+next-with None text layout = omega arith
+next-with (Some ino) text layout = refl
+
+next-without : (o : Option ℕ) (layout : Layout) → (layout_without o layout).next ≡ layout.next
+next-without None layout = refl
+next-without (Some ino) layout = refl
+
 pub next_rises : (s : State) (event : Event) (text : List ℕ)
     → (after_event s event text).layout.next ≤ s.layout.next + taken_by event text
 next_rises s event text =
     after_cases s event text (λ t. t.layout.next ≤ s.layout.next + taken_by event text) (omega arith) (λ tree effect e.
-    omega (arith, next_after effect text s.layout, length-terms_after s.tree event text tree effect e))
+    let left : Layout = layout_without effect.dropped s.layout in
+    let made : Layout = layout_with effect.made [] left in
+    let same : effect_of s.tree event ≡ effect = (changes s.tree event tree effect e).0 in
+    let taken : taken_with effect.made [] + taken_with effect.texted text ≡ taken_by event text =
+    subst (λ (f : Effect). taken_with f.made [] + taken_with f.texted text ≡ taken_by event text) same (taken-effect s.tree event text) in
+    let a : left.next ≡ s.layout.next = next-without effect.dropped s.layout in
+    let b : made.next ≡ left.next + taken_with effect.made [] = next-with effect.made [] left in
+    let c : (layout_without effect.texted made).next ≡ made.next = next-without effect.texted made in
+    let d : (layout_after effect text s.layout).next ≡ (layout_without effect.texted made).next + taken_with effect.texted text =
+    next-with effect.texted text (layout_without effect.texted made) in
+    omega arith)
+
+-- ---- how far the next blob rises
+
+drawn-with : (o : Option ℕ) (text : List ℕ) (layout : Layout) → (layout_with o text layout).blob ≡ layout.blob + cond (is_stored o text) 1 0
+drawn-with None text layout = omega arith
+drawn-with (Some ino) text layout = refl
+
+drawn-without : (o : Option ℕ) (layout : Layout) → (layout_without o layout).blob ≡ layout.blob
+drawn-without None layout = refl
+drawn-without (Some ino) layout = refl
+
+none-stored : (o : Option ℕ) → is_stored o [] ≡ false
+none-stored None = refl
+none-stored (Some ino) = refl
+
+at_most_one : (b : Bool) → cond {A = ℕ} b 1 0 ≤ 1
+at_most_one true = omega arith
+at_most_one false = omega arith
+
+module _ (effect : Effect) (layout : Layout) where
+  -- a file that is made has no blob
+  pub drawn-made : (layout_without effect.texted (layout_with effect.made [] (layout_without effect.dropped layout))).blob ≡ layout.blob
+  drawn-made =
+      let left : Layout = layout_without effect.dropped layout in
+      let none : cond {A = ℕ} (is_stored effect.made []) 1 0 ≡ 0 = ap (λ (b : Bool). cond {A = ℕ} b 1 0) (none-stored effect.made) in
+      omega (
+        arith,
+        drawn-without effect.texted (layout_with effect.made [] left),
+        drawn-with effect.made [] left,
+        none,
+        drawn-without effect.dropped layout,
+      )
+
+  pub drawn-after : (text : List ℕ) → (layout_after effect text layout).blob ≡ layout.blob + cond (is_stored effect.texted text) 1 0
+  drawn-after text =
+      drawn-with effect.texted text (layout_without effect.texted (layout_with effect.made [] (layout_without effect.dropped layout)))
+      ∙ ap (λ (n : ℕ). n + cond (is_stored effect.texted text) 1 0) drawn-made
+
+pub blob_rises : (s : State) (event : Event) (text : List ℕ) → (after_event s event text).layout.blob ≤ s.layout.blob + 1
+blob_rises s event text =
+    after_cases s event text (λ t. t.layout.blob ≤ s.layout.blob + 1) (omega arith)
+    (λ tree effect e. omega (arith, drawn-after effect s.layout text, at_most_one (is_stored effect.texted text)))

@@ -2,11 +2,11 @@ pub mod NumberedEntries
 pub mod FileChanges
 pub mod StateTexts
 pub mod StateLayouts
-pub mod LayoutSteps
-pub mod TakenAddresses
 pub mod KeptStates
 pub mod IndexLemmas
+pub mod RecordLemmas
 pub mod SoundLemmas
+pub mod StoredTexts
 pub mod StandLemmas
 pub mod FramesOfFiles
 pub mod UnitsOfFrames
@@ -18,3 +18,8 @@ pub mod RankLemmas
 pub mod AnswerLemmas
 pub mod Searching
 pub mod WordCounts
+pub mod ReadCauses
+pub mod ReadTexts
+pub mod FoundExtents
+pub mod FoundLines
+pub mod FirstLines

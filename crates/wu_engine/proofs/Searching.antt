@@ -17,11 +17,14 @@ use Rattle.wu_frames.specs.declared.Frame.{Frame}
 use Rattle.wu_frames.specs.declared.Frames.{Frames}
 use Rattle.wu_frames.specs.UserFrames.{AreFrames, Kept}
 use Rattle.wu_frames.proofs.ViewFrames.{HasRange, all-have}
-use Rattle.wu_engine.specs.Soundness.{IsSound, addresses_most}
+use Rattle.wu_engine.specs.Records.{Records, recorded_ranges}
+use Rattle.wu_engine.specs.Soundness.{IsRecord, IsSound}
+use Rattle.wu_engine.specs.Finding.{CanBeRead}
 use Rattle.wu_engine.specs.Units.{CanBeSearched}
+use Rattle.wu_engine.proofs.RecordLemmas.{ranges-short}
 
-module _ (fs : FileSystem) (space : Addresses) (parts : Contents) (kept : Kept) (rules : IsSpace space)
-    (sound : IsSound fs space parts kept) where
+module _ (fs : FileSystem) (space : Addresses) (parts : Contents) (files : Records) (kept : Kept) (rules : IsSpace space)
+    (sound : IsSound fs space parts files kept) where
   bounded : (frames : List Frame) → AllByRecursion (HasRange space.ranges) frames
       → AllByRecursion (λ (range : Range). range.start + range.len ≤ ADDRESSES_MAX) (map (λ frame. frame.range) frames)
   bounded [] have = tt
@@ -33,9 +36,9 @@ module _ (fs : FileSystem) (space : Addresses) (parts : Contents) (kept : Kept) 
       → AllByRecursion (λ (range : Range). range.len < 2 ^ 26) (map (λ frame. frame.range) frames)
   short [] have = tt
   short (frame ∷ frames) have =
-      let found =
-      All-found (λ (file : ℕ × Range). file.1.len ≤ addresses_most) (is_at (nat_cmp frame.ino)) space.ranges frame.range sound.short have.0 in
-      (omega (arith, found.2), short frames have.1)
+      let all = ranges-short files space.ranges sound.ranges sound.records in
+      let found = All-found (λ (file : ℕ × Range). file.1.len < 2 ^ 26) (is_at (nat_cmp frame.ino)) space.ranges frame.range all have.0 in
+      (found.2, short frames have.1)
 
   pub can_be_searched : (uid : ℕ) (frames : Frames) → AreFrames fs space.ranges uid frames → CanBeSearched frames
   can_be_searched uid frames hers = record {
@@ -50,3 +53,15 @@ module _ (fs : FileSystem) (space : Addresses) (parts : Contents) (kept : Kept) 
         (λ moved. short frames.by_address (all-have space.ranges (files_of fs uid) frames.by_address moved)));
     of_frames = hers.ranges_alone;
   }
+
+  -- and so can be read what is recorded of files
+  pub can_be_read : AllByRecursion CanBeRead files
+  can_be_read =
+      each files sound.records
+      (subst (AllByRecursion (λ (file : ℕ × Range). file.1.start + file.1.len ≤ space.next)) (sym sound.ranges) rules.live.given) where
+        each : (fs' : Records) → AllByRecursion IsRecord fs'
+            → AllByRecursion (λ (file : ℕ × Range). file.1.start + file.1.len ≤ space.next) (recorded_ranges fs')
+            → AllByRecursion CanBeRead fs'
+        each [] kept given = tt
+        each (file ∷ files') kept given =
+            (record { recorded = kept.0; bounded = omega (arith, given.0, sound.few) }, each files' kept.1 given.1)

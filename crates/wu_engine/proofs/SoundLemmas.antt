@@ -1,45 +1,48 @@
 -- What an engine keeps, whatever is asked of it, it keeps with each accepted event.
-use Rattle.std.proofs.Common.{◌≡◌, ℕ, ◌+◌, ◌≤◌, List, [], length, Bool, true, false, cond, refl, ap, ◌∙◌, arith, length-append}
-use Rattle.std.specs.Prelude.{Option, Some, None, IfSome}
+use Rattle.std.proofs.Common.{◌≡◌, ℕ, ◌+◌, ◌≤◌, ◌==◌, List, [], length, Bool, true, false, cond, refl, ap, sym, ◌∙◌, subst, arith, length-append}
+use Rattle.std.specs.Prelude.{Option, Some, None, Ok, IfSome}
 use Rattle.std.specs.Ordering.{nat_cmp}
 use Rattle.std.specs.Cmp.{nat_cmp_total}
 use Rattle.std.specs.List.{AllByRecursion}
 use Rattle.std.specs.List.Sorted.{IsStrictlySortedBy}
 use Rattle.std.specs.Map.{keys_of}
 use Rattle.std.specs.BTreeMap.{is_at}
-use Rattle.wu_base.specs.declared.addresses.Range.{Range}
 use Rattle.wu_base.specs.declared.limits.TheConstants.{ADDRESSES_MAX, TEXT_MAX}
-use Rattle.wu_base.proofs.MapEntries.{All-insert_entry, All-remove_entry, ascend-insert_entry, ascend-remove_entry}
+use Rattle.wu_base.proofs.MapEntries.{ascend-insert_entry, ascend-remove_entry}
 use Rattle.wu_token.specs.Tokens.{tokens_of}
-use Rattle.wu_token.proofs.LengthLemmas.{length-tokens_of}
+use Rattle.wu_tree.specs.declared.events.Event.{Event}
 use Rattle.wu_tree.specs.declared.events.Effect.{Effect}
 use Rattle.wu_tree.specs.FileSystems.{FileSystem, is_file}
+use Rattle.wu_tree.specs.Steps.{step as tree_step}
 use Rattle.wu_tree.specs.Effects.{TellsFiles}
 use Rattle.wu_tree.proofs.EventRules.{absent}
 use Rattle.wu_space.specs.Addresses.{Addresses, range_of}
-use Rattle.wu_parts.specs.Contents.{Contents, GainsTerms}
+use Rattle.wu_parts.specs.Memory.{Gains}
+use Rattle.wu_parts.specs.Contents.{Contents}
 use Rattle.wu_parts.proofs.Gaining.{end_within}
 use Rattle.wu_frames.specs.UserFrames.{Kept}
-use Rattle.wu_engine.specs.Soundness.{IsSound, addresses_most}
-use Rattle.wu_engine.specs.Indexing.{IsIndexable, terms_given, terms_after, with_file, without_file, space_made, space_after}
+use Rattle.wu_engine.specs.Records.{Records, recorded_ranges}
+use Rattle.wu_engine.specs.Soundness.{IsSound, IsRecord}
+use Rattle.wu_engine.specs.Stands.{taken_by}
+use Rattle.wu_engine.specs.Indexing.{IsIndexable, Catalog, KeepsParts, blob_for, drawn_for, catalog_of, catalog_made, catalog_after, catalog_without, terms_given, terms_after, with_file, without_file, space_made, space_after}
 use Rattle.wu_engine.proofs.NumberedEntries.{is_that, has, has-put, has-removed}
-use Rattle.wu_engine.proofs.FileChanges.{ChangesFiles, not_there, files_without, files-after, files-texted}
+use Rattle.wu_engine.proofs.KeptStates.{taken_with, taken-effect}
+use Rattle.wu_engine.proofs.FileChanges.{ChangesFiles, changes, files_without, files-after, files-texted}
+use Rattle.wu_engine.proofs.StateLayouts.{not_there}
 use Rattle.wu_engine.proofs.IndexLemmas.{next-with_file, next-without_file}
+use Rattle.wu_engine.proofs.RecordLemmas.{ranges-with, ranges-without, records-with, records-without, stored-with_bytes}
 
--- what holds of each number that there may be holds of the one that there is
-IfSome-from : (o : Option ℕ) (P : ℕ → Type 0) → ((ino : ℕ) → o ≡ Some ino → P ino) → IfSome o P
-IfSome-from None P f = tt
-IfSome-from (Some ino) P f = f ino refl
+some_if : (o : Option ℕ) (P : ℕ → Type 0) → ((ino : ℕ) → o ≡ Some ino → P ino) → IfSome o P
+some_if None P f = tt
+some_if (Some ino) P f = f ino refl
 
 abbrev Ascend : Addresses → Type 0
 Ascend space = IsStrictlySortedBy nat_cmp (keys_of space.ranges)
 
-abbrev AreShortRanges : Addresses → Type 0
-AreShortRanges space = AllByRecursion (λ (file : ℕ × Range). file.1.len ≤ addresses_most) space.ranges
-
 -- ---- one change
 
 module _ (o : Option ℕ) (space : Addresses) where
+  -- each proof by cases of `o` goes through `at`, since `o` is fixed here
   ascend_left : Ascend space → Ascend (without_file o space)
   ascend_left s = elim o as (λ p. Ascend (without_file p space)) [
     | None ↦ s
@@ -50,12 +53,6 @@ module _ (o : Option ℕ) (space : Addresses) where
   has_left s q = elim o as (λ p. has (without_file p space).ranges q ≡ cond (is_that p q) false (has space.ranges q)) [
     | None ↦ refl
     | Some ino ↦ has-removed space.ranges ino s q
-  ]
-
-  short_left : AreShortRanges space → AreShortRanges (without_file o space)
-  short_left a = elim o as (λ p. AreShortRanges (without_file p space)) [
-    | None ↦ a
-    | Some ino ↦ All-remove_entry (λ (file : ℕ × Range). file.1.len ≤ addresses_most) (is_at (nat_cmp ino)) space.ranges a
   ]
 
   module _ (text : List ℕ) where
@@ -70,15 +67,6 @@ module _ (o : Option ℕ) (space : Addresses) where
       | None ↦ refl
       | Some ino ↦ has-put space.ranges ino (record { start = space.next; len = length (tokens_of text) }) q
     ]
-
-    short_given : length text ≤ TEXT_MAX → AreShortRanges space → AreShortRanges (with_file o text space)
-    short_given l a =
-        let fits : length (tokens_of text) ≤ addresses_most = omega (arith, length-tokens_of text) in
-        elim o as (λ p. AreShortRanges (with_file p text space)) [
-          | None ↦ a
-          | Some ino ↦ All-insert_entry (λ (file : ℕ × Range). file.1.len ≤ addresses_most) nat_cmp space.ranges ino
-              (record { start = space.next; len = length (tokens_of text) }) a (λ q e. fits) fits
-        ]
 
 put_again : (b c : Bool) → cond b true (cond b false c) ≡ cond b true c
 put_again true c = refl
@@ -99,8 +87,18 @@ next-after effect text space =
     next-with_file effect.texted text again in
     omega (arith, length-append (terms_given effect.made []) (terms_given effect.texted text))
 
+-- as many terms are given as the event takes addresses
+pub length-terms_after : (fs : FileSystem) (event : Event) (text : List ℕ) (after : FileSystem) (effect : Effect)
+    → tree_step fs event ≡ Ok (after, effect) → length (terms_after effect text) ≡ taken_by event text
+length-terms_after fs event text after effect e =
+    let taken : taken_with effect.made [] + taken_with effect.texted text ≡ taken_by event text =
+    subst (λ (f : Effect). taken_with f.made [] + taken_with f.texted text ≡ taken_by event text) (changes fs event after effect e).0
+    (taken-effect fs event text) in
+    length-append (terms_given effect.made []) (terms_given effect.texted text) ∙ taken
+
 module _ (before after : FileSystem) (effect : Effect) (tells : TellsFiles before effect after) (changed : ChangesFiles before effect)
-    (space : Addresses) (parts : Contents) (kept : Kept) (sound : IsSound before space parts kept) (sorted : Ascend space) where
+    (space : Addresses) (parts : Contents) (files : Records) (kept : Kept) (sound : IsSound before space parts files kept)
+    (sorted : Ascend space) where
   left_files : (q : ℕ) → has (without_file effect.dropped space).ranges q ≡ files_without effect.dropped (is_file before) q
   left_files q = has_left effect.dropped space sorted q ∙ ap (cond (is_that effect.dropped q) false) (sound.of_files q)
 
@@ -113,38 +111,67 @@ module _ (before after : FileSystem) (effect : Effect) (tells : TellsFiles befor
   made_sorted = ascend_given effect.made (without_file effect.dropped space) [] (ascend_left effect.dropped space sorted)
 
   module _ (text : List ℕ) (short : length text ≤ TEXT_MAX) (room : space.next + length (terms_after effect text) ≤ ADDRESSES_MAX) where
-    pub indexable : IsIndexable effect text space parts
+    pub indexable : IsIndexable effect text space (drawn_for effect.texted text parts)
     indexable = record {
-      dropped = IfSome-from effect.dropped _ (λ q h. sound.of_files q ∙ changed.dropped q h);
-      made = IfSome-from effect.made _ (λ q h.
+      dropped = some_if effect.dropped _ (λ q h. sound.of_files q ∙ changed.dropped q h);
+      made = some_if effect.made _ (λ q h.
           absent (range_of (without_file effect.dropped space).ranges q)
           (left_files q ∙ not_there effect.dropped (is_file before) q (changed.made q h)));
-      texted = IfSome-from effect.texted _ (λ q h. made_files q ∙ tells.text q h);
+      texted = some_if effect.texted _ (λ q h. made_files q ∙ tells.text q h);
       short = short;
       below = sound.below;
       room = room;
     }
 
-    pub sound_after : (gained : Contents) → GainsTerms space.next (terms_after effect text) parts gained
-        → IsSound after (space_after effect text space) gained []
-    sound_after gained g = record {
-      of_files = λ q.
-          has_given effect.texted (without_file effect.texted (space_made effect space)) text q
-          ∙ ap (cond (is_that effect.texted q) true) (has_left effect.texted (space_made effect space) made_sorted q)
-          ∙ put_again (is_that effect.texted q) (has (space_made effect space).ranges q)
-          ∙ ap (cond (is_that effect.texted q) true) (made_files q)
-          ∙ files-texted before after effect tells q;
-      short =
-          short_given effect.texted (without_file effect.texted (space_made effect space)) text short
-          (short_left effect.texted (space_made effect space)
-          (short_given effect.made (without_file effect.dropped space) [] (omega arith) (short_left effect.dropped space sound.short)));
-      few = omega (arith, next-after effect text space);
-      below =
-          omega (
-            arith,
-            next-after effect text space,
-            end_within space.next (terms_after effect text) parts.memory gained.memory g.memory sound.below,
-          );
-      blobs = omega (arith, sound.blobs, ap (λ (c : Contents). c.next_blob) g.others);
-      frames = tt;
-    }
+    files_kept : (q : ℕ) → has (space_after effect text space).ranges q ≡ is_file after q
+    files_kept q =
+        has_given effect.texted (without_file effect.texted (space_made effect space)) text q
+        ∙ ap (cond (is_that effect.texted q) true) (has_left effect.texted (space_made effect space) made_sorted q)
+        ∙ put_again (is_that effect.texted q) (has (space_made effect space).ranges q)
+        ∙ ap (cond (is_that effect.texted q) true) (made_files q)
+        ∙ files-texted before after effect tells q
+
+    module _ (blob : ℕ) (catalog : Catalog) (same : recorded_ranges catalog.files ≡ catalog.space.ranges) where
+      ranges_kept : recorded_ranges (catalog_after effect text blob catalog).files ≡ (catalog_after effect text blob catalog).space.ranges
+      ranges_kept =
+          let made : Catalog = catalog_made effect catalog in
+          let of_made : recorded_ranges made.files ≡ made.space.ranges =
+          ranges-with (catalog_without effect.dropped catalog) (ranges-without catalog same effect.dropped) effect.made [] 0 in
+          ranges-with (catalog_without effect.texted made) (ranges-without made of_made effect.texted) effect.texted text blob
+
+      records_kept : ((ino : ℕ) → effect.texted ≡ Some ino → (blob == 0) ≡ (length text == 0)) → AllByRecursion IsRecord catalog.files
+          → AllByRecursion IsRecord (catalog_after effect text blob catalog).files
+      records_kept stored all =
+          records-with effect.texted text blob _ _ short stored
+          (records-without effect.texted _
+          (records-with effect.made [] 0 _ _ (omega arith) (λ ino h. refl) (records-without effect.dropped catalog.files all)))
+
+    -- what was drawn, stored and indexed
+    module _ (blob : ℕ) (space_now : Addresses) (files_now : Records) (parts_now : Contents)
+        (drawn : blob ≡ blob_for effect.texted text parts.next_blob)
+        (indexed : catalog_of space_now files_now parts_now
+        ≡ catalog_after effect text blob (catalog_of space files (drawn_for effect.texted text parts)))
+        (gained : Gains space.next (terms_after effect text) parts.memory parts_now.memory)
+        (others : KeepsParts (drawn_for effect.texted text parts) parts_now) where
+      pub sound_after : IsSound after space_now parts_now files_now []
+      sound_after =
+          let catalog : Catalog = catalog_of space files (drawn_for effect.texted text parts) in
+          let of_space : space_now ≡ space_after effect text space = ap (λ (k : Catalog). k.space) indexed in
+          let of_files : files_now ≡ (catalog_after effect text blob catalog).files = ap (λ (k : Catalog). k.files) indexed in
+          let stored : (ino : ℕ) → effect.texted ≡ Some ino → (blob == 0) ≡ (length text == 0) =
+          λ ino h. ap (λ (n : ℕ). n == 0) drawn ∙ stored-with_bytes effect.texted text parts.next_blob sound.blobs ino h in
+          record {
+            of_files = λ q. ap (λ (a : Addresses). has a.ranges q) of_space ∙ files_kept q;
+            ranges = ap recorded_ranges of_files ∙ ranges_kept blob catalog sound.ranges ∙ sym (ap (λ (a : Addresses). a.ranges) of_space);
+            records = subst (AllByRecursion IsRecord) (sym of_files) (records_kept blob catalog sound.ranges stored sound.records);
+            few = omega (arith, ap (λ (a : Addresses). a.next) of_space, next-after effect text space);
+            below =
+                omega (
+                  arith,
+                  ap (λ (a : Addresses). a.next) of_space,
+                  next-after effect text space,
+                  end_within space.next (terms_after effect text) parts.memory parts_now.memory gained sound.below,
+                );
+            blobs = omega (arith, sound.blobs, ap (λ (c : Contents). c.next_blob) others);
+            frames = tt;
+          }

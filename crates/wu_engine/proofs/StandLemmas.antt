@@ -1,133 +1,349 @@
 -- The engine stands for the state after an event.
-use Rattle.std.proofs.Common.{◌≡◌, ℕ, ◌+◌, ◌≤◌, List, [], ◌++◌, length, Ok, Err, refl, ap, sym, ◌∙◌, subst, arith, length-append}
-use Rattle.std.specs.Prelude.{Option, Some, None}
+use Rattle.std.proofs.Common.{◌≡◌, ℕ, ◌+◌, ◌≤◌, cond, List, [], ◌++◌, length, Ok, Err, refl, ap, sym, ◌∙◌, subst, arith, append_assoc, append-nil, length-append}
+use Rattle.std.specs.Prelude.{Option, Some, None, option_map}
 use Rattle.std.specs.Result.{result_unwrap_or}
 use Rattle.std.specs.Ordering.{nat_cmp}
 use Rattle.std.specs.Map.{remove_entry}
 use Rattle.std.specs.BTreeMap.{is_at, insert_entry}
+use Rattle.std.proofs.lemmas.Map.{NonePasses, none_passes_from_lookup}
 use Rattle.wu_base.specs.declared.limits.TheConstants.{TEXT_MAX}
+use Rattle.wu_outside.specs.Content.{Content}
 use Rattle.wu_token.specs.Tokens.{tokens_of}
 use Rattle.wu_tree.specs.declared.events.Event.{Event}
 use Rattle.wu_tree.specs.declared.events.Effect.{Effect}
 use Rattle.wu_tree.specs.declared.events.Refusal.{Refusal}
 use Rattle.wu_tree.specs.FileSystems.{FileSystem}
+use Rattle.wu_tree.specs.Effects.{TellsFiles}
 use Rattle.wu_tree.specs.Steps.{IsEvent}
 use Rattle.wu_tree.specs.Steps.{step as tree_step}
-use Rattle.wu_layout.specs.Postings.{addresses_of, placed_from}
-use Rattle.wu_layout.specs.Layouts.{Layout, ranges_by_number}
+use Rattle.wu_tree.proofs.EventRules.{absent}
+use Rattle.wu_layout.specs.Postings.{Posting, addresses_of, placed_from}
+use Rattle.wu_layout.specs.Layouts.{FileEntry, Layout, entry_of, ranges_by_number}
+use Rattle.wu_layout.specs.Invariants.{IsLayoutOf}
 use Rattle.wu_layout.proofs.PostingLemmas.{length-placed}
+use Rattle.wu_layout.proofs.EntryLemmas.{none_after_removal}
 use Rattle.wu_layout.proofs.NumberedRanges.{ranges_by_number-put, ranges_by_number-removal}
+use Rattle.wu_layout.proofs.Fetches.{placed-append}
 use Rattle.wu_space.specs.Addresses.{Addresses, Ranges}
-use Rattle.wu_parts.specs.Memory.{held}
-use Rattle.wu_parts.specs.Contents.{Contents, GainsTerms}
+use Rattle.wu_parts.specs.Memory.{held, Gains}
+use Rattle.wu_parts.specs.Contents.{Contents}
 use Rattle.wu_parts.proofs.Gaining.{holds_more}
 use Rattle.wu_engine.specs.declared.engines.Engine.{Engine}
 use Rattle.wu_engine.specs.declared.verdicts.Verdict.TheVariants.{Made, Refused}
-use Rattle.wu_engine.specs.States.{State, IsState, step, after_event, layout_without, layout_with, layout_after}
-use Rattle.wu_engine.specs.Stands.{Stands, verdict_of}
-use Rattle.wu_engine.specs.Indexing.{terms_after, with_file, without_file, space_after}
-use Rattle.wu_engine.proofs.LayoutSteps.{memory_after, same_after}
-use Rattle.wu_engine.proofs.KeptStates.{after_effect, state_kept, step-accepted, step-refused}
+use Rattle.wu_engine.specs.States.{State, Texts, IsState, step, after_event, texts_after, without_text, with_text, layout_without, layout_with, layout_after}
+use Rattle.wu_engine.specs.Records.{Records, records_of}
+use Rattle.wu_engine.specs.Stands.{HoldsTexts, IsEngineOf, Stands, verdict_of}
+use Rattle.wu_engine.specs.Indexing.{Catalog, KeepsParts, blob_for, blob_left, catalog_after, catalog_made, catalog_of, catalog_with, catalog_without, drawn_for, is_stored, record_for, stored_at, terms_after, terms_given}
+use Rattle.wu_engine.proofs.FileChanges.{ChangesFiles}
+use Rattle.wu_engine.proofs.StateTexts.{text-left}
+use Rattle.wu_engine.proofs.StateLayouts.{layout_dropped, left_kept, made_absent, made_kept}
+use Rattle.wu_engine.proofs.KeptStates.{after_effect, drawn-after, drawn-made, state_kept, step-accepted, step-refused}
+use Rattle.wu_engine.proofs.RecordLemmas.{blob-recorded, records-elsewhere, records-put, records-removal}
+use Rattle.wu_engine.proofs.StoredTexts.{IsAbsent, blobs_below, held_forgotten, held_placed, held_released, stored_none}
 
--- ---- addresses
+-- ---- the catalog
 
--- the space has the layout's next address and live ranges
-record Tells (space : Addresses) (layout : Layout) : Type 0 where
-  next : space.next ≡ layout.next
-  live : space.ranges ≡ ranges_by_number layout.files
+-- the catalog has the layout's next address, live ranges and stale blobs, and the records of its files with these texts
+record Tells (catalog : Catalog) (texts : Texts) (layout : Layout) : Type 0 where
+  next : catalog.space.next ≡ layout.next
+  live : catalog.space.ranges ≡ ranges_by_number layout.files
+  files : catalog.files ≡ records_of texts layout.files
+  stale : catalog.stale ≡ layout.stale
 
-tells_without : (o : Option ℕ) (space : Addresses) (layout : Layout) → Tells space layout
-    → Tells (without_file o space) (layout_without o layout)
-tells_without None space layout t = t
-tells_without (Some ino) space layout t = record {
+none_at : (layout : Layout) (ino : ℕ) → entry_of layout.files ino ≡ None → NonePasses (is_at (nat_cmp ino)) layout.files
+none_at layout ino absent = none_passes_from_lookup (is_at (nat_cmp ino)) layout.files absent
+
+tells_without : (o : Option ℕ) (catalog : Catalog) (texts : Texts) (layout : Layout) → Tells catalog texts layout
+    → Tells (catalog_without o catalog) texts (layout_without o layout)
+tells_without None catalog texts layout t = record {
+  next = t.next;
+  live = t.live;
+  files = t.files;
+  stale = append-nil catalog.stale ∙ t.stale;
+}
+tells_without (Some ino) catalog texts layout t = record {
   next = t.next;
   live = ap (remove_entry (is_at (nat_cmp ino))) t.live ∙ ranges_by_number-removal layout.files ino;
+  files = ap (remove_entry (is_at (nat_cmp ino))) t.files ∙ records-removal texts (is_at (nat_cmp ino)) layout.files;
+  stale =
+      ap (λ (l : List ℕ). l ++ blob_left (Some ino) catalog.files) t.stale
+      ∙ ap (λ (files : Records). layout.stale ++ blob_left (Some ino) files) t.files
+      ∙ ap (λ (l : List ℕ). layout.stale ++ l) (blob-recorded texts ino layout.files);
 }
 
-tells_with : (o : Option ℕ) (text : List ℕ) (space : Addresses) (layout : Layout) → Tells space layout
-    → Tells (with_file o text space) (layout_with o text layout)
-tells_with None text space layout t = t
-tells_with (Some ino) text space layout t =
+-- the text of what is no file doesn't matter
+tells_forgotten : (o : Option ℕ) (catalog : Catalog) (texts : Texts) (layout : Layout) → IsAbsent o layout → Tells catalog texts layout
+    → Tells catalog (without_text o texts) layout
+tells_forgotten None catalog texts layout absent t = t
+tells_forgotten (Some ino) catalog texts layout absent t = record {
+  next = t.next;
+  live = t.live;
+  files =
+      t.files
+      ∙ records-elsewhere texts (remove_entry (is_at (nat_cmp ino)) texts) ino (text-left texts ino) layout.files
+      (none_at layout ino (absent ino refl));
+  stale = t.stale;
+}
+
+tells_with : (o : Option ℕ) (text : List ℕ) (blob : ℕ) (catalog : Catalog) (texts : Texts) (layout : Layout) → IsAbsent o layout
+    → blob ≡ blob_for o text layout.blob → Tells catalog texts layout
+    → Tells (catalog_with o text blob catalog) (with_text o text texts) (layout_with o text layout)
+tells_with None text blob catalog texts layout absent drawn t = t
+tells_with (Some ino) text blob catalog texts layout absent drawn t =
     let len : ℕ = length (tokens_of text) in
+    let entry : FileEntry = record { blob = blob_for (Some ino) text layout.blob; range = record { start = layout.next; len = len } } in
     record {
       next = ap (λ (n : ℕ). n + len) t.next;
       live =
-          ap (λ (n : ℕ). insert_entry nat_cmp space.ranges ino (record { start = n; len = len })) t.next
+          ap (λ (n : ℕ). insert_entry nat_cmp catalog.space.ranges ino (record { start = n; len = len })) t.next
           ∙ ap (λ (ranges : Ranges). insert_entry nat_cmp ranges ino (record { start = layout.next; len = len })) t.live
           ∙ ranges_by_number-put layout.files ino _;
+      files =
+          ap (λ (n : ℕ). insert_entry nat_cmp catalog.files ino (record_for ino text blob n)) t.next
+          ∙ ap (λ (b : ℕ). insert_entry nat_cmp catalog.files ino (record_for ino text b layout.next)) drawn
+          ∙ ap (λ (files : Records). insert_entry nat_cmp files ino (record_for ino text (blob_for (Some ino) text layout.blob) layout.next))
+          t.files
+          ∙ records-put texts ino text entry layout.files (none_at layout ino (absent ino refl));
+      stale = t.stale;
     }
 
-tells_after : (effect : Effect) (text : List ℕ) (space : Addresses) (layout : Layout) → Tells space layout
-    → Tells (space_after effect text space) (layout_after effect text layout)
-tells_after effect text space layout t =
-    tells_with effect.texted text _ _ (tells_without effect.texted _ _ (tells_with effect.made [] _ _ (tells_without effect.dropped _ _ t)))
+-- ---- postings in memory
 
--- ---- an event
+memory_with : (o : Option ℕ) (text : List ℕ) (layout : Layout)
+    → (layout_with o text layout).memory ≡ layout.memory ++ placed_from layout.next (terms_given o text)
+memory_with None text layout = sym (append-nil layout.memory)
+memory_with (Some ino) text layout = refl
 
-module _ (old new : Engine) (s : State) (event : Event) (text : List ℕ) (stands : Stands old s) (ended : new.ended ≡ None) where
-  -- the event was accepted
-  pub accepted : (effect : Effect) → tree_step old.tree event ≡ Ok (new.tree, effect) → IsEvent event → length text ≤ TEXT_MAX
-      → new.space ≡ space_after effect text old.space
-      → GainsTerms old.space.next (terms_after effect text) old.parts new.parts
-      → (Made ≡ verdict_of (step s event text)) × Stands new (after_event s event text)
-  accepted effect is valid short space parts =
-      let layout : Layout = s.layout in
-      let next : Layout = layout_after effect text layout in
-      let terms : List (List ℕ) = terms_after effect text in
-      let after : step s event text ≡ Ok (after_effect s new.tree effect text) =
-      step-accepted s event text new.tree effect (ap (λ (t : FileSystem). tree_step t event) (sym stands.tree) ∙ is) in
-      let same : after_event s event text ≡ after_effect s new.tree effect text = ap (λ r. result_unwrap_or r s) after in
-      let told = tells_after effect text old.space layout (record { next = stands.next; live = stands.live }) in
-      let more : next.memory ≡ layout.memory ++ placed_from old.space.next terms =
-      memory_after effect text layout ∙ ap (λ (n : ℕ). layout.memory ++ placed_from n terms) (sym stands.next) in
-      let flushes : next.flushes ≡ layout.flushes = same_after (λ l. l.flushes) (λ ino l. refl) (λ ino t l. refl) effect text layout in
-      let stored_parts : next.parts ≡ layout.parts = same_after (λ l. l.parts) (λ ino l. refl) (λ ino t l. refl) effect text layout in
-      let job : next.job ≡ layout.job = same_after (λ l. l.job) (λ ino l. refl) (λ ino t l. refl) effect text layout in (
-        sym (ap verdict_of after),
-        subst (Stands new) (sym same) (record {
-          is_state = subst IsState same (state_kept s event text stands.is_state valid short);
-          goes_on = ended;
-          tree = refl;
-          next = ap (λ (a : Addresses). a.next) space ∙ told.next;
-          live = ap (λ (a : Addresses). a.ranges) space ∙ told.live;
-          memory = λ term.
-              holds_more old.space.next terms old.parts.memory new.parts.memory layout.memory parts.memory stands.memory term
-              ∙ ap (addresses_of term) (sym more);
-          stored =
-              omega (
-                arith,
-                parts.memory.stored,
-                stands.stored,
-                ap length more,
-                length-append layout.memory (placed_from old.space.next terms),
-                length-placed old.space.next terms,
-              );
-          flushes = ap (λ (c : Contents). c.flushes) parts.others ∙ stands.flushes ∙ sym flushes;
-          parts = ap (λ (c : Contents). c.parts) parts.others ∙ stands.parts;
-          no_parts = stored_parts ∙ stands.no_parts;
-          no_job = job ∙ stands.no_job;
-        }),
-      )
+next_with : (o : Option ℕ) (text : List ℕ) (layout : Layout) → (layout_with o text layout).next ≡ layout.next + length (terms_given o text)
+next_with None text layout = omega arith
+next_with (Some ino) text layout = refl
+
+-- what isn't changed by a text that goes, nor by one that comes, isn't changed by an event
+module _ {X : Type 0} (f : Layout → X) (without : (ino : ℕ) (layout : Layout) → f (layout_without (Some ino) layout) ≡ f layout) where
+  same_without : (o : Option ℕ) (layout : Layout) → f (layout_without o layout) ≡ f layout
+  same_without None layout = refl
+  same_without (Some ino) layout = without ino layout
+
+  module _ (with_text : (ino : ℕ) (text : List ℕ) (layout : Layout) → f (layout_with (Some ino) text layout) ≡ f layout) where
+    same_with : (o : Option ℕ) (text : List ℕ) (layout : Layout) → f (layout_with o text layout) ≡ f layout
+    same_with None text layout = refl
+    same_with (Some ino) text layout = with_text ino text layout
+
+    same_after : (effect : Effect) (text : List ℕ) (layout : Layout) → f (layout_after effect text layout) ≡ f layout
+    same_after effect text layout =
+        same_with effect.texted text _ ∙ same_without effect.texted _ ∙ same_with effect.made [] _ ∙ same_without effect.dropped layout
+
+memory_after : (effect : Effect) (text : List ℕ) (layout : Layout)
+    → (layout_after effect text layout).memory ≡ layout.memory ++ placed_from layout.next (terms_after effect text)
+memory_after effect text layout =
+    let first : List (List ℕ) = terms_given effect.made [] in
+    let second : List (List ℕ) = terms_given effect.texted text in
+    let left : Layout = layout_without effect.dropped layout in
+    let made : Layout = layout_with effect.made [] left in
+    let again : Layout = layout_without effect.texted made in
+    let left_next : left.next ≡ layout.next = same_without (λ l. l.next) (λ ino l. refl) effect.dropped layout in
+    let left_memory : left.memory ≡ layout.memory = same_without (λ l. l.memory) (λ ino l. refl) effect.dropped layout in
+    let again_next : again.next ≡ layout.next + length first =
+    same_without (λ l. l.next) (λ ino l. refl) effect.texted made ∙ next_with effect.made [] left
+    ∙ ap (λ (n : ℕ). n + length first) left_next in
+    let again_memory : again.memory ≡ layout.memory ++ placed_from layout.next first =
+    same_without (λ l. l.memory) (λ ino l. refl) effect.texted made ∙ memory_with effect.made [] left
+    ∙ ap (λ (n : ℕ). left.memory ++ placed_from n first) left_next
+    ∙ ap (λ (ps : List Posting). ps ++ placed_from layout.next first) left_memory in
+    memory_with effect.texted text again
+    ∙ ap (λ (n : ℕ). again.memory ++ placed_from n second) again_next
+    ∙ ap (λ (ps : List Posting). ps ++ placed_from (layout.next + length first) second) again_memory
+    ∙ append_assoc layout.memory (placed_from layout.next first) (placed_from (layout.next + length first) second)
+    ∙ ap (λ (ps : List Posting). layout.memory ++ ps) (sym (placed-append layout.next first second))
+
+none_for : (o : Option ℕ) (next : ℕ) → 0 ≡ blob_for o [] next
+none_for None next = refl
+none_for (Some ino) next = refl
+
+-- ---- an accepted event
+
+module _ (s : State) (is : IsState s) (after : FileSystem) (effect : Effect) (tells : TellsFiles s.tree effect after)
+    (changes : ChangesFiles s.tree effect) (text : List ℕ) where
+  abbrev left : Layout
+  left = layout_without effect.dropped s.layout
+
+  abbrev made : Layout
+  made = layout_with effect.made [] left
+
+  abbrev again : Layout
+  again = layout_without effect.texted made
+
+  abbrev left_texts : Texts
+  left_texts = without_text effect.dropped s.texts
+
+  abbrev made_texts : Texts
+  made_texts = with_text effect.made [] left_texts
+
+  dropped_absent : IsAbsent effect.dropped left
+  dropped_absent ino h =
+      subst (λ (o : Option ℕ). entry_of (layout_without o s.layout).files ino ≡ None) (sym h)
+      (none_after_removal s.layout.files ino is.layout.ranges.by_number)
+
+  made_is_absent : IsAbsent effect.made left
+  made_is_absent ino h =
+      absent (entry_of left.files ino)
+      ((left_kept s after effect tells changes text is.layout).ranges.of_files ino ∙ made_absent s after effect tells changes text is.layout ino h)
+
+  texted_absent : IsAbsent effect.texted again
+  texted_absent ino h =
+      subst (λ (o : Option ℕ). entry_of (layout_without o made).files ino ≡ None) (sym h)
+      (none_after_removal made.files ino (made_kept s after effect tells changes text is.layout).ranges.by_number)
+
+  blob_again : again.blob ≡ s.layout.blob
+  blob_again = drawn-made effect s.layout
+
+  tells_after : (blob : ℕ) (catalog : Catalog) → blob ≡ blob_for effect.texted text s.layout.blob → Tells catalog s.texts s.layout
+      → Tells (catalog_after effect text blob catalog) (texts_after effect text s.texts) (layout_after effect text s.layout)
+  tells_after blob catalog drawn t =
+      let a : Tells (catalog_without effect.dropped catalog) left_texts left =
+      tells_forgotten effect.dropped _ s.texts left dropped_absent (tells_without effect.dropped catalog s.texts s.layout t) in
+      let b : Tells (catalog_made effect catalog) made_texts made =
+      tells_with effect.made [] 0 _ left_texts left made_is_absent (none_for effect.made left.blob) a in
+      tells_with effect.texted text blob _ made_texts again texted_absent
+      (drawn ∙ ap (blob_for effect.texted text) (sym blob_again))
+      (tells_without effect.texted (catalog_made effect catalog) made_texts made b)
+
+  held_after : (content : Content) → HoldsTexts (Some content) s.texts s.layout.files
+      → HoldsTexts (Some (stored_at s.layout.blob effect.texted text content)) (texts_after effect text s.texts)
+      (layout_after effect text s.layout).files
+  held_after content held =
+      let left_is : IsLayoutOf _ _ left = left_kept s after effect tells changes text is.layout in
+      let made_is : IsLayoutOf _ _ made = made_kept s after effect tells changes text is.layout in
+      let again_is : IsLayoutOf _ _ again = layout_dropped effect.texted _ made_texts made made_is in
+      let a : HoldsTexts (Some content) left_texts left.files =
+      held_forgotten content s.texts left effect.dropped dropped_absent
+      (held_released content s.texts s.layout effect.dropped is.layout.ranges.by_number held) in
+      let b : HoldsTexts (Some content) made_texts made.files =
+      subst (λ (c : Content). HoldsTexts (Some c) made_texts made.files) (stored_none left.blob effect.made content)
+      (held_placed content left_texts left effect.made []
+      (blobs_below left.blob left.files left.parts left.check left.stale left_is.blobs) a) in
+      subst (λ (n : ℕ). HoldsTexts (Some (stored_at n effect.texted text content)) (texts_after effect text s.texts)
+      (layout_after effect text s.layout).files) blob_again
+      (held_placed content made_texts again effect.texted text
+      (blobs_below again.blob again.files again.parts again.check again.stale again_is.blobs)
+      (held_released content made_texts made effect.texted made_is.ranges.by_number b))
+
+-- ---- what the engine answers
+
+module _ (old new : Engine) (s : State) (event : Event) (text : List ℕ) (ended : new.ended ≡ None) where
+  -- what was drawn, stored and indexed of an accepted event
+  module _ (before after : Option Content) (stands : Stands old before s) (effect : Effect)
+      (step_is : tree_step old.tree event ≡ Ok (new.tree, effect)) (valid : IsEvent event) (short : length text ≤ TEXT_MAX)
+      (tells : TellsFiles old.tree effect new.tree) (changes : ChangesFiles old.tree effect) (blob : ℕ)
+      (drawn : blob ≡ blob_for effect.texted text old.parts.next_blob)
+      (stored : after ≡ option_map (stored_at old.parts.next_blob effect.texted text) before)
+      (indexed : catalog_of new.space new.files.entries new.parts
+      ≡ catalog_after effect text blob (catalog_of old.space old.files.entries (drawn_for effect.texted text old.parts)))
+      (gained : Gains old.space.next (terms_after effect text) old.parts.memory new.parts.memory)
+      (others : KeepsParts (drawn_for effect.texted text old.parts) new.parts) where
+    abbrev index : IsEngineOf old s
+    index = stands.index
+
+    abbrev next : State
+    next = after_effect s new.tree effect text
+
+    abbrev terms : List (List ℕ)
+    terms = terms_after effect text
+
+    tells_here : TellsFiles s.tree effect new.tree
+    tells_here = subst (λ (t : FileSystem). TellsFiles t effect new.tree) index.tree tells
+
+    changes_here : ChangesFiles s.tree effect
+    changes_here = subst (λ (t : FileSystem). ChangesFiles t effect) index.tree changes
+
+    stepped : step s event text ≡ Ok next
+    stepped = step-accepted s event text new.tree effect (ap (λ (t : FileSystem). tree_step t event) (sym index.tree) ∙ step_is)
+
+    told : Tells (catalog_of new.space new.files.entries new.parts) next.texts next.layout
+    told =
+        subst (λ (k : Catalog). Tells k next.texts next.layout) (sym indexed)
+        (tells_after s index.is_state new.tree effect tells_here changes_here text blob _
+        (drawn ∙ ap (blob_for effect.texted text) index.next_blob)
+        (record { next = index.next; live = index.live; files = index.files; stale = index.stale }))
+
+    more : next.layout.memory ≡ s.layout.memory ++ placed_from old.space.next terms
+    more = memory_after effect text s.layout ∙ ap (λ (n : ℕ). s.layout.memory ++ placed_from n terms) (sym index.next)
+
+    index_after : IsState next → IsEngineOf new next
+    index_after is = record {
+      is_state = is;
+      goes_on = ended;
+      tree = refl;
+      next = told.next;
+      live = told.live;
+      files = told.files;
+      next_blob =
+          ap (λ (c : Contents). c.next_blob) others ∙ ap (λ (n : ℕ). n + cond (is_stored effect.texted text) 1 0) index.next_blob
+          ∙ sym (drawn-after effect s.layout text);
+      stale = told.stale;
+      memory = λ term.
+          holds_more old.space.next terms old.parts.memory new.parts.memory s.layout.memory gained index.memory term
+          ∙ ap (addresses_of term) (sym more);
+      stored =
+          omega (
+            arith,
+            gained.stored,
+            index.stored,
+            ap length more,
+            length-append s.layout.memory (placed_from old.space.next terms),
+            length-placed old.space.next terms,
+          );
+      flushes =
+          ap (λ (c : Contents). c.flushes) others ∙ index.flushes
+          ∙ sym (same_after (λ l. l.flushes) (λ ino l. refl) (λ ino t l. refl) effect text s.layout);
+      parts = ap (λ (c : Contents). c.parts) others ∙ index.parts;
+      no_parts = same_after (λ l. l.parts) (λ ino l. refl) (λ ino t l. refl) effect text s.layout ∙ index.no_parts;
+      no_job = same_after (λ l. l.job) (λ ino l. refl) (λ ino t l. refl) effect text s.layout ∙ index.no_job;
+    }
+
+    texts_of : (o : Option Content) → HoldsTexts o s.texts s.layout.files
+        → HoldsTexts (option_map (stored_at s.layout.blob effect.texted text) o) next.texts next.layout.files
+    texts_of None held = held
+    texts_of (Some content) held = held_after s index.is_state new.tree effect tells_here changes_here text content held
+
+    pub accepted : (Made ≡ verdict_of (step s event text)) × Stands new after (after_event s event text)
+    accepted =
+        let same : after_event s event text ≡ next = ap (λ r. result_unwrap_or r s) stepped in (
+          sym (ap verdict_of stepped),
+          subst (Stands new after) (sym same) (record {
+            index = index_after (subst IsState same (state_kept s event text index.is_state valid short));
+            texts =
+                subst (λ (o : Option Content). HoldsTexts o next.texts next.layout.files)
+                (sym (stored ∙ ap (λ (n : ℕ). option_map (stored_at n effect.texted text) before) index.next_blob)) (texts_of before stands.texts);
+          }),
+        )
 
   -- the event was refused
-  pub refused : (refusal : Refusal) → tree_step old.tree event ≡ Err refusal → new.tree ≡ old.tree → new.space ≡ old.space
-      → new.parts ≡ old.parts
-      → (Refused refusal ≡ verdict_of (step s event text)) × Stands new (after_event s event text)
-  refused refusal is tree space parts =
+  pub refused : (holds : Option Content) → Stands old holds s → (refusal : Refusal) → tree_step old.tree event ≡ Err refusal
+      → new.tree ≡ old.tree → new.space ≡ old.space → new.parts ≡ old.parts → new.files.entries ≡ old.files.entries
+      → (Refused refusal ≡ verdict_of (step s event text)) × Stands new holds (after_event s event text)
+  refused holds stands refusal is tree space parts files =
+      let index : IsEngineOf old s = stands.index in
       let after : step s event text ≡ Err refusal =
-      step-refused s event text refusal (ap (λ (t : FileSystem). tree_step t event) (sym stands.tree) ∙ is) in (
+      step-refused s event text refusal (ap (λ (t : FileSystem). tree_step t event) (sym index.tree) ∙ is) in (
         sym (ap verdict_of after),
-        subst (Stands new) (sym (ap (λ r. result_unwrap_or r s) after)) (record {
-          is_state = stands.is_state;
-          goes_on = ended;
-          tree = tree ∙ stands.tree;
-          next = ap (λ (a : Addresses). a.next) space ∙ stands.next;
-          live = ap (λ (a : Addresses). a.ranges) space ∙ stands.live;
-          memory = λ term. ap (λ (c : Contents). held c.memory term) parts ∙ stands.memory term;
-          stored = ap (λ (c : Contents). c.memory.stored) parts ∙ stands.stored;
-          flushes = ap (λ (c : Contents). c.flushes) parts ∙ stands.flushes;
-          parts = ap (λ (c : Contents). c.parts) parts ∙ stands.parts;
-          no_parts = stands.no_parts;
-          no_job = stands.no_job;
+        subst (Stands new holds) (sym (ap (λ r. result_unwrap_or r s) after)) (record {
+          index = record {
+            is_state = index.is_state;
+            goes_on = ended;
+            tree = tree ∙ index.tree;
+            next = ap (λ (a : Addresses). a.next) space ∙ index.next;
+            live = ap (λ (a : Addresses). a.ranges) space ∙ index.live;
+            files = files ∙ index.files;
+            next_blob = ap (λ (c : Contents). c.next_blob) parts ∙ index.next_blob;
+            stale = ap (λ (c : Contents). c.stale) parts ∙ index.stale;
+            memory = λ term. ap (λ (c : Contents). held c.memory term) parts ∙ index.memory term;
+            stored = ap (λ (c : Contents). c.memory.stored) parts ∙ index.stored;
+            flushes = ap (λ (c : Contents). c.flushes) parts ∙ index.flushes;
+            parts = ap (λ (c : Contents). c.parts) parts ∙ index.parts;
+            no_parts = index.no_parts;
+            no_job = index.no_job;
+          };
+          texts = stands.texts;
         }),
       )

@@ -17,8 +17,7 @@ use Rattle.wu_tree.proofs.ParentPaths.{other_number, same_number}
 use Rattle.wu_tree.proofs.TreeInvariant.{not_passed}
 use Rattle.wu_tree.proofs.LinkRemovals.{apart_from}
 use Rattle.wu_layout.specs.Layouts.{Layout}
-use Rattle.wu_engine.specs.States.{State, Texts, AreShort, HasTheTexts, first_state, has_text}
-use Rattle.wu_engine.specs.States.{text_in, without_text, with_text, texts_after}
+use Rattle.wu_engine.specs.States.{State, Texts, AreShort, HasTheTexts, first_state, has_text, text_in, without_text, with_text, texts_after}
 use Rattle.wu_engine.proofs.NumberedEntries.{is_that, has-put, has-removed, none-removed}
 use Rattle.wu_engine.proofs.FileChanges.{files-after, files-texted}
 

@@ -1,11 +1,15 @@
 -- The written answer to a query, over a user's view alone.
 use Rattle.std.specs.Prelude.{ℕ, List, [], length, map, take, count_by, slice_get, option_and_then, unwrap_or}
 use Rattle.std.specs.List.{flat_map}
+use Rattle.wu_base.specs.declared.addresses.Extent.{Extent}
 use Rattle.wu_rank.specs.declared.results.Ranked.{Ranked}
-use Rattle.wu_ask.specs.Questions.{Question, Counting, Ranking, ListingPaths}
+use Rattle.wu_snip.specs.Snippets.{snippet_of}
+use Rattle.wu_gcl.specs.Regions.{Region}
+use Rattle.wu_ask.specs.Questions.{Question, Counting, Finding, Ranking, ListingPaths}
+use Rattle.wu_ask.specs.declared.FindLine.{FindLine}
 use Rattle.wu_ask.specs.declared.RankLine.{RankLine}
 use Rattle.wu_ask.specs.declared.Answered.{Answered}
-use Rattle.wu_ask.specs.declared.Answered.TheVariants.{Count, Rank, Paths}
+use Rattle.wu_ask.specs.declared.Answered.TheVariants.{Count, Find, Rank, Paths}
 use Rattle.wu_engine.specs.View.{Shown}
 use Rattle.wu_engine.specs.Hits.{hits_in, has_hit}
 use Rattle.wu_engine.specs.Rankings.{ranking_of}
@@ -23,9 +27,26 @@ line_of view ranked = record {
   end = ranked.unit.extent.end;
 }
 
--- The answer: to a count, the number of extents over the view, and of its files with one or more; to a ranking, the number of
--- units that hold a word, and the first k of them; to a question for paths, every open path, file by file.
+-- an extent of a file as it is shown: with the least open path, and the first line that shares an address with the extent
+abbrev pub found_line : Shown → Extent → FindLine
+found_line file extent = record {
+  path = unwrap_or (slice_get file.paths 0) [];
+  start = extent.start;
+  end = extent.end;
+  line = (snippet_of file.text extent).line;
+  bytes = (snippet_of file.text extent).bytes;
+}
+
+-- the extents of an expression in a file, as they are shown
+abbrev pub lines_in : Region → Shown → List FindLine
+lines_in region file = map (found_line file) (hits_in region file)
+
+-- The answer: to a count, the number of extents over the view, and of its files with one or more; to a search, these two and the
+-- first k of the extents, file by file; to a ranking, the number of units that hold a word, and the first k of them; to a question
+-- for paths, every open path, file by file.
 unfoldable pub answer : List Shown → Question → Answered
 answer view (Counting region) = Count (length (flat_map (hits_in region) view)) (count_by (has_hit region) view)
+answer view (Finding k region) =
+    Find (length (flat_map (hits_in region) view)) (count_by (has_hit region) view) (take k (flat_map (lines_in region) view))
 answer view (Ranking k unit words) = Rank (length (ranking_of view unit words)) (map (line_of view) (take k (ranking_of view unit words)))
 answer view ListingPaths = Paths (flat_map (λ file. file.paths) view)

@@ -5,9 +5,13 @@ pub mod View
 pub mod Hits
 pub mod Rankings
 pub mod Answer
+pub mod Reads
+pub mod Records
 pub mod Soundness
 pub mod Stands
+pub mod Causes
 -- ---- What only private functions and proofs need
 
 pub mod Indexing
 pub mod Units
+pub mod Finding

@@ -4,10 +4,12 @@
 mod counting;
 mod engines;
 mod fetching;
+mod finding;
 mod laws;
 mod listing;
 mod querying;
 mod ranking;
+mod reading;
 mod updating;
 mod verdicts;
 

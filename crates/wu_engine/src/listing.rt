@@ -69,7 +69,7 @@ fn path_at(alloc: Global, view: &[Seen], place: u32) -> Result<Bytes, NoMemory>
     }
 }
 
-fn first_path(alloc: Global, paths: &[Bytes]) -> Result<Bytes, NoMemory>
+pub fn first_path(alloc: Global, paths: &[Bytes]) -> Result<Bytes, NoMemory>
     ensures { IfOk result (λ path. path ≡ unwrap_or (slice_get paths.now 0) []) }
 {
     match paths.first() {

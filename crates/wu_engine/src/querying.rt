@@ -1,64 +1,93 @@
 //! The answer to a query, over the frames of the user who asks.
-ghost use Rattle.std.specs.Prelude.{◌≡◌, ℕ, IfOk};
+ghost use Rattle.std.specs.Prelude.{◌≡◌, ◌++◌, ℕ, option_map, IfOk, IfErr, OnOk};
+ghost use Rattle.std.specs.List.{AllByRecursion};
 ghost use Rattle.wu_ask.specs.Questions.{question_of, IsSoundAsk};
 ghost use Rattle.wu_engine.specs.Answer.{answer};
+ghost use Rattle.wu_engine.specs.Causes.{IsDamagedAt};
+ghost use Rattle.wu_engine.specs.Finding.{CanBeRead, IsCause, KeepsTexts};
+ghost use Rattle.wu_engine.specs.Reads.{ShowsNoText, texts_read};
 ghost use Rattle.wu_engine.specs.Soundness.{IsSound};
 ghost use Rattle.wu_engine.specs.States.{State};
 ghost use Rattle.wu_engine.specs.Units.{CanBeSearched, Indexes, IsIndexOf};
 ghost use Rattle.wu_engine.specs.View.{view_of};
 
 use crate::counting::count;
+use crate::finding::find;
 use crate::listing::paths;
 use crate::ranking::ranked;
 use std::alloc::Global;
+use std::collections::BTreeMap;
 use wu_ask::{Answered, Ask, Query};
-use wu_base::NoMemory;
+use wu_base::{Ino, Trouble};
 use wu_frames::{FrameCache, Frames};
+use wu_image::FileRec;
+use wu_outside::Store;
 use wu_parts::Parts;
 use wu_space::Space;
 use wu_tree::Tree;
 
 /// The answer to the query. The user's frames are kept for her next one.
-pub fn answered(
+pub fn answered<D: Store>(
     alloc: Global,
+    store: &mut D,
     tree: &Tree,
     space: &Space,
     parts: &Parts,
+    files: &BTreeMap<Ino, FileRec>,
     kept: &mut FrameCache,
     query: &Query,
-) -> Result<Answered, NoMemory>
-    requires sound { IsSound tree.now space.now parts.now kept.old }
+) -> Result<Answered, Trouble>
+    requires sound { IsSound tree.now space.now parts.now files.now.entries kept.old }
     requires ask { IsSoundAsk query.now.ask }
     ensures answer { IfOk result (λ answered. (s : State) → tree.now ≡ s.tree → IsIndexOf space.now.ranges parts.now.memory s
-        → answered ≡ answer (view_of s query.now.uid) (question_of query.now.ask)) }
-    ensures sound { IsSound tree.now space.now parts.now kept.new }
+        → KeepsTexts files.now.entries (D.holds store.old) s → answered ≡ answer (view_of s query.now.uid) (question_of query.now.ask)) }
+    ensures sound { IsSound tree.now space.now parts.now files.now.entries kept.new }
+    ensures holds { D.holds store.new ≡ D.holds store.old }
+    ensures reads { OnOk result ((s : State) → tree.now ≡ s.tree → IsIndexOf space.now.ranges parts.now.memory s
+        → KeepsTexts files.now.entries (D.holds store.old) s
+        → D.reads store.new ≡ option_map (λ ranges. ranges ++ texts_read s query.now.uid (question_of query.now.ask)) (D.reads store.old)) }
+    ensures unread { ShowsNoText (question_of query.now.ask) → store.new ≡ store.old }
+    ensures calm { OnOk result (D.faults store.new ≡ D.faults store.old) }
+    ensures cause { IfErr result (IsCause (IsDamagedAt files.now.entries (D.holds store.old)) (D.faults store.old) (D.faults store.new)) }
 {
     space.keeps_the_rules();
     kept.prepare(tree, space, query.uid)?;
     match kept.kept(query.uid) {
-        Some(frames) => answer(alloc, frames, space, parts, &query.ask),
-        None => Err(NoMemory),
+        Some(frames) => answer(alloc, store, frames, space, parts, files, &query.ask),
+        None => Err(Trouble::NoMemory),
     }
 }
 
 /// The answer to the question, over a user's frames.
-fn answer(
+fn answer<D: Store>(
     alloc: Global,
+    store: &mut D,
     frames: &Frames,
     space: &Space,
     parts: &Parts,
+    files: &BTreeMap<Ino, FileRec>,
     ask: &Ask,
-) -> Result<Answered, NoMemory>
+) -> Result<Answered, Trouble>
     requires fit { CanBeSearched frames.now }
     requires sound { IsSoundAsk ask.now }
-    ensures { IfOk result (λ answered. (s : State) (uid : ℕ) → Indexes frames.now space.now.ranges parts.now.memory s uid
-        → answered ≡ answer (view_of s uid) (question_of ask.now)) }
+    requires records { AllByRecursion CanBeRead files.now.entries }
+    ensures answer { IfOk result (λ answered. (s : State) (uid : ℕ) → Indexes frames.now space.now.ranges parts.now.memory s uid
+        → KeepsTexts files.now.entries (D.holds store.old) s → answered ≡ answer (view_of s uid) (question_of ask.now)) }
+    ensures holds { D.holds store.new ≡ D.holds store.old }
+    ensures reads { OnOk result ((s : State) (uid : ℕ) → Indexes frames.now space.now.ranges parts.now.memory s uid
+        → KeepsTexts files.now.entries (D.holds store.old) s
+        → D.reads store.new ≡ option_map (λ ranges. ranges ++ texts_read s uid (question_of ask.now)) (D.reads store.old)) }
+    ensures unread { ShowsNoText (question_of ask.now) → store.new ≡ store.old }
+    ensures calm { OnOk result (D.faults store.new ≡ D.faults store.old) }
+    ensures cause { IfErr result (IsCause (IsDamagedAt files.now.entries (D.holds store.old)) (D.faults store.old) (D.faults store.new)) }
 {
+    let _untouched = &*store;
     match ask {
-        Ask::Count { expr } => count(alloc, frames, parts, expr),
+        Ask::Count { expr } => Ok(count(alloc, frames, parts, expr)?),
+        Ask::Find { k, expr } => find(alloc, store, frames, parts, files, *k, expr),
         Ask::Rank { k, unit, words } => {
-            ranked(alloc, frames, space, parts, *k, unit, words.as_slice())
+            Ok(ranked(alloc, frames, space, parts, *k, unit, words.as_slice())?)
         }
-        Ask::Paths => paths(alloc, frames.seen.as_slice()),
+        Ask::Paths => Ok(paths(alloc, frames.seen.as_slice())?),
     }
 }

@@ -10,7 +10,7 @@ use std::alloc::Global;
 use wu_base::{Bytes, Extent, NoMemory, Range, Sequence, TEXT_MAX, TermList};
 use wu_gcl::{Expr, terms_of};
 use wu_rows::{NoAnswer, byte_strings, numbers};
-use wu_solve::solve;
+use wu_solve::{Counts, count, solve};
 use wu_token::tokens;
 
 /// The terms of texts, one text after the other, and the frame of each text.
@@ -137,4 +137,24 @@ pub fn solved(
     let words = terms_of(alloc, expr)?;
     let lists = lists_of(alloc, &words, terms)?;
     solve(alloc, expr, frames, &lists)
+}
+
+/// What the expression means over the terms, frame by frame, and how often and in how many frames it
+/// has an extent.
+pub fn solved_and_counted(
+    alloc: Global,
+    expr: &Expr,
+    terms: &[Bytes],
+    frames: &[Range],
+) -> Result<(Vec<Extent>, Counts), NoMemory>
+    requires { All IsFrame frames.now }
+{
+    let words = terms_of(alloc, expr)?;
+    let lists = lists_of(alloc, &words, terms)?;
+    let found = solve(alloc, expr, frames, &lists)?;
+    if found.len() as u64 > 1 << 47 {
+        return Err(NoMemory);
+    }
+    let counts = count(alloc, expr, frames, &lists)?;
+    Ok((found, counts))
 }

@@ -124,7 +124,13 @@ fn line_of(corpus: &Corpus, places: &[Option<u32>], ranked: &Ranked) -> [u64; 4]
     ]
 }
 
-/// How many units are listed, and then each unit that is shown.
+fn reversed(alloc: Global, units: &[Unit]) -> Result<Vec<Unit>, NoMemory> {
+    let mut reversed = Vec::from_slice(alloc, units)?;
+    reversed.reverse();
+    Ok(reversed)
+}
+
+/// How many units are listed, and then each unit that is shown. The units are ranked in both directions.
 fn ranked(
     alloc: Global,
     texts: &str,
@@ -140,6 +146,12 @@ fn ranked(
     let Some(ranking) = ranking_of(alloc, &units, &lists, k)? else {
         return Err(NoAnswer::BadRow);
     };
+    let Some(backwards) = ranking_of(alloc, &reversed(alloc, &units)?, &lists, k)? else {
+        return Err(NoAnswer::BadRow);
+    };
+    if backwards != ranking {
+        return plain_text(alloc, "another ranking of the units backwards");
+    }
     numbers_text(alloc, &shown(alloc, &corpus, &places, &ranking)?)
 }
 

@@ -1,11 +1,15 @@
 //! The extents that expressions mean.
 use crate::expressions::expression;
-use crate::fixtures::{corpus_of, frames_of, joined_frame, lists_of, solved};
+use crate::fixtures::{corpus_of, frames_of, joined_frame, lists_of, solved, solved_and_counted};
 use crate::plain::solve_plainly;
 use std::alloc::Global;
 use wu_gcl::terms_of;
-use wu_rows::{NoAnswer, bytes, extents_text, flag_text, number_text, numbers_text, plain_text};
-use wu_solve::{extents_ascend, find_term, frames_of_texts};
+use wu_rows::{
+    NoAnswer, bytes, extents_text, flag_text, list_text, number_text, numbers_text, plain_text,
+};
+use wu_solve::{
+    Counts, extents_ascend, find_term, frames_of_texts, needed_terms, needed_terms_stand,
+};
 
 /// The answer of the call to the arguments.
 pub fn answer(alloc: Global, call: &str, arguments: &[&str]) -> Result<String, NoAnswer> {
@@ -13,7 +17,8 @@ pub fn answer(alloc: Global, call: &str, arguments: &[&str]) -> Result<String, N
         ("solve", [texts, "joined", expr]) => extents_in_all(alloc, texts, expr),
         ("solve", [texts, numbers, expr]) => extents(alloc, texts, numbers, expr),
         ("solve, counted", [texts, numbers, expr]) => counts(alloc, texts, numbers, expr),
-        ("solve, plainly", [text, expr]) => agreement(alloc, text, expr),
+        ("solve, plainly", [texts, numbers, expr]) => agreement(alloc, texts, numbers, expr),
+        ("needed_terms", [expr]) => needed(alloc, expr),
         ("find_term", [expr, term]) => list_place(alloc, expr, term),
         ("extents_ascend", []) => {
             extents_ascend();
@@ -21,6 +26,10 @@ pub fn answer(alloc: Global, call: &str, arguments: &[&str]) -> Result<String, N
         }
         ("frames_of_texts", []) => {
             frames_of_texts();
+            plain_text(alloc, "a law")
+        }
+        ("needed_terms_stand", []) => {
+            needed_terms_stand();
             plain_text(alloc, "a law")
         }
         _ => Err(NoAnswer::BadRow),
@@ -47,26 +56,34 @@ fn counts(alloc: Global, texts: &str, numbers: &str, expr: &str) -> Result<Strin
     let corpus = corpus_of(alloc, texts)?;
     let frames = frames_of(alloc, &corpus, numbers)?;
     let expr = expression(alloc, expr)?;
-    let mut hits = 0u64;
-    let mut files = 0u64;
-    for frame in &frames {
-        let found = solved(alloc, &expr, &corpus.terms, &[*frame])?.len() as u64;
-        hits = hits.saturating_add(found);
-        files = files.saturating_add(found.min(1));
-    }
-    numbers_text(alloc, &[hits, files])
+    let (_, counts) = solved_and_counted(alloc, &expr, &corpus.terms, &frames)?;
+    numbers_text(alloc, &[counts.hits, counts.files])
 }
 
-/// Whether trying every extent gives the same.
-fn agreement(alloc: Global, text: &str, expr: &str) -> Result<String, NoAnswer> {
-    let corpus = corpus_of(alloc, text)?;
-    let frame = joined_frame(&corpus);
+/// Whether trying every extent of each text gives the same extents, and as many.
+fn agreement(alloc: Global, texts: &str, numbers: &str, expr: &str) -> Result<String, NoAnswer> {
+    let corpus = corpus_of(alloc, texts)?;
+    let frames = frames_of(alloc, &corpus, numbers)?;
     let expr = expression(alloc, expr)?;
-    let words = terms_of(alloc, &expr)?;
-    let lists = lists_of(alloc, &words, &corpus.terms)?;
-    let plain = solve_plainly(alloc, &expr, frame, &lists)?;
-    let found = solved(alloc, &expr, &corpus.terms, &[frame])?;
-    flag_text(alloc, found.as_slice() == plain.as_slice())
+    let mut plain = Vec::new(alloc);
+    let mut files = 0u64;
+    for frame in &frames {
+        let found = solve_plainly(alloc, &expr, *frame, &corpus.terms)?;
+        files = files.saturating_add(found.len().min(1) as u64);
+        plain.extend_from_slice(&found)?;
+    }
+    let hits = plain.len() as u64;
+    let (found, counts) = solved_and_counted(alloc, &expr, &corpus.terms, &frames)?;
+    flag_text(
+        alloc,
+        found.as_slice() == plain.as_slice() && counts == Counts { hits, files },
+    )
+}
+
+/// The terms that the expression needs.
+fn needed(alloc: Global, expr: &str) -> Result<String, NoAnswer> {
+    let expr = expression(alloc, expr)?;
+    list_text(alloc, &needed_terms(alloc, &expr)?)
 }
 
 /// The place of the term's list among those of the terms of the expression.

@@ -26,7 +26,7 @@ use Rattle.wu_script.specs.Words.{word_of}
 use Rattle.wu_script.specs.Commands.{Wish, Entry, Happening, Asking, Refusing, Blank, LineSays, Whole, TextHead}
 use Rattle.wu_script.specs.Commands.{event_line, query_line, text_line}
 use Rattle.wu_script.specs.Commands.{user_of, new_node_of, mkdir_event, create_event, link_of, place_of, unlink_event, rmdir_event}
-use Rattle.wu_script.specs.Commands.{rename_of, chmod_of, chown_of, text_head_of, count_of, rank_of, paths_of, command_of}
+use Rattle.wu_script.specs.Commands.{rename_of, chmod_of, chown_of, text_head_of, count_of, find_of, rank_of, paths_of, command_of}
 use Rattle.wu_script.specs.Commands.{fields_say, is_blank, line_says}
 use Rattle.wu_script.specs.Commands.{id_of, ids_of, node_of, nonzero, perm_of}
 use Rattle.wu_script.specs.Said.{Reading, Said, Happens, said_of, question_in, asked}
@@ -184,6 +184,7 @@ command_says words.Rename fields = event_says (rename_of fields) (rename_given f
 command_says words.Chmod fields = event_says (chmod_of fields) (chmod_given fields)
 command_says words.Chown fields = event_says (chown_of fields) (chown_given fields)
 command_says words.Count fields = query_says (count_of fields)
+command_says words.Find fields = query_says (find_of fields)
 command_says words.Rank fields = query_says (rank_of fields)
 command_says words.Paths fields = query_says (paths_of fields)
 command_says words.Unbuilt fields = tt

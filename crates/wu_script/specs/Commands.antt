@@ -122,6 +122,7 @@ chown_of _ = None
 -- a query as its line has it: an expression stands as its text, and so do words
 pub data Wish : Type 0 where
   CountOf : (text : List ℕ) → Wish
+  FindOf : (k : ℕ) (text : List ℕ) → Wish
   RankOf : (k : ℕ) (unit words : List ℕ) → Wish
   PathsOf : Wish
 
@@ -165,7 +166,14 @@ count_of (uid ∷ text ∷ []) = do
   Some (u, CountOf text)
 count_of _ = None
 
--- a ranking shows at most K_MAX regions
+-- at most K_MAX regions are shown
+unfoldable pub find_of : List (List ℕ) → Option (ℕ × Wish)
+find_of (uid ∷ k ∷ text ∷ []) = do
+  u ← id_of uid
+  n ← number_of k K_MAX
+  Some (u, FindOf n text)
+find_of _ = None
+
 unfoldable pub rank_of : List (List ℕ) → Option (ℕ × Wish)
 rank_of (uid ∷ k ∷ unit ∷ words ∷ []) = do
   u ← id_of uid
@@ -191,6 +199,7 @@ command_of words.Rename fields = event_line (rename_of fields)
 command_of words.Chmod fields = event_line (chmod_of fields)
 command_of words.Chown fields = event_line (chown_of fields)
 command_of words.Count fields = query_line (count_of fields)
+command_of words.Find fields = query_line (find_of fields)
 command_of words.Rank fields = query_line (rank_of fields)
 command_of words.Paths fields = query_line (paths_of fields)
 command_of words.Unbuilt fields = Whole (Refusing Unbuilt)

@@ -5,6 +5,7 @@ use Rattle.wu_tree.specs.declared.events.Refusal.{Refusal}
 use Rattle.wu_tree.specs.declared.events.Refusal.TheVariants as refusals
 use Rattle.wu_gcl.specs.declared.expressions.ExprFault.{ExprFault}
 use Rattle.wu_gcl.specs.declared.expressions.ExprFault.TheVariants as faults
+use Rattle.wu_ask.specs.declared.FindLine.{FindLine}
 use Rattle.wu_ask.specs.declared.RankLine.{RankLine}
 use Rattle.wu_ask.specs.declared.Answered.{Answered}
 use Rattle.wu_ask.specs.declared.Answered.TheVariants as answers
@@ -45,6 +46,11 @@ why_word why.Unbuilt = codes "unbuilt"
 abbrev pub path_line : List ℕ → List ℕ
 path_line path = escaped path ++ 10 ∷ []
 
+-- the path of a region's file, its first and its last place, and the number of a line and its first bytes, on a line of their own
+abbrev pub find_line : FindLine → List ℕ
+find_line line = escaped line.path ++ 9 ∷ [] ++ decimal line.start ++ 9 ∷ [] ++ decimal line.end ++ 9 ∷ [] ++ decimal line.line ++ 9 ∷ []
+    ++ escaped line.bytes ++ 10 ∷ []
+
 -- a region's score, the path of its file, and its first and its last place, on a line of their own
 abbrev pub rank_line : RankLine → List ℕ
 rank_line line = decimal line.score ++ 9 ∷ [] ++ escaped line.path ++ 9 ∷ [] ++ decimal line.start ++ 9 ∷ [] ++ decimal line.end ++ 10 ∷ []
@@ -52,6 +58,8 @@ rank_line line = decimal line.score ++ 9 ∷ [] ++ escaped line.path ++ 9 ∷ []
 -- its fields have a TAB between each two
 unfoldable pub answer_bytes : Answered → List ℕ
 answer_bytes (answers.Count hits files) = codes "count\t" ++ decimal hits ++ 9 ∷ [] ++ decimal files ++ 10 ∷ []
+answer_bytes (answers.Find hits files shown) = codes "find\t" ++ decimal hits ++ 9 ∷ [] ++ decimal files ++ 9 ∷ []
+    ++ decimal (length shown) ++ 10 ∷ [] ++ flat_map find_line shown
 answer_bytes (answers.Rank listed shown) = codes "rank\t" ++ decimal listed ++ 9 ∷ [] ++ decimal (length shown) ++ 10 ∷ []
     ++ flat_map rank_line shown
 answer_bytes (answers.Paths paths) = codes "paths\t" ++ decimal (length paths) ++ 10 ∷ [] ++ flat_map path_line paths

@@ -7,7 +7,7 @@ use Rattle.wu_gcl.specs.Reading.{Value, Reads}
 use Rattle.wu_tree.specs.declared.events.Event.{Event}
 use Rattle.wu_tree.specs.declared.events.Event.TheVariants as events
 use Rattle.wu_tree.specs.Steps.{IsEvent}
-use Rattle.wu_ask.specs.Questions.{Question, Counting, Ranking, ListingPaths, question_of, IsSoundAsk}
+use Rattle.wu_ask.specs.Questions.{Question, Counting, Finding, Ranking, ListingPaths, question_of, IsSoundAsk}
 use Rattle.wu_script.specs.declared.types.Why.{Why}
 use Rattle.wu_script.specs.declared.types.Why.TheVariants.{Expr, NoWord, ManyWords}
 use Rattle.wu_script.specs.declared.types.Command.{Command}
@@ -16,7 +16,7 @@ use Rattle.wu_script.specs.declared.types.Line.{Line}
 use Rattle.wu_script.specs.declared.types.Line.TheVariants as lines
 use Rattle.wu_script.specs.declared.types.Item.{Item}
 use Rattle.wu_script.specs.declared.types.Item.TheVariants as items
-use Rattle.wu_script.specs.Commands.{Wish, CountOf, RankOf, PathsOf, Entry, Happening, Asking, Refusing, Blank, LineSays, Whole, TextHead}
+use Rattle.wu_script.specs.Commands.{Wish, CountOf, FindOf, RankOf, PathsOf, Entry, Happening, Asking, Refusing, Blank, LineSays, Whole, TextHead}
 
 -- what each text says as a region expression; there is one such function, since each text has one reading
 abbrev pub Reading : Type 0
@@ -38,6 +38,10 @@ abbrev pub count_question : Value → Result Question Why
 count_question (Ok region) = Ok (Counting region)
 count_question (Err fault) = Err (Expr fault)
 
+abbrev pub find_question : ℕ → Value → Result Question Why
+find_question k (Ok region) = Ok (Finding k region)
+find_question k (Err fault) = Err (Expr fault)
+
 -- a ranking takes from 1 to RANK_WORDS_MAX words; its unit is looked at before its words
 abbrev pub rank_question : ℕ → Value → List (List ℕ) → Result Question Why
 rank_question k (Ok unit) words =
@@ -49,6 +53,7 @@ rank_question k (Err fault) words = Err (Expr fault)
 -- the question that a query is, or why it is none
 abbrev pub question_in : Reading → Wish → Result Question Why
 question_in read (CountOf text) = count_question (read text)
+question_in read (FindOf k text) = find_question k (read text)
 question_in read (RankOf k unit words) = rank_question k (read unit) (words_of words)
 question_in read PathsOf = Ok ListingPaths
 

@@ -4,7 +4,7 @@ ghost use Rattle.wu_tree.specs.Steps.{IsEvent};
 ghost use Rattle.wu_gcl.specs.Reading.{seen};
 ghost use Rattle.wu_gcl.specs.Regions.{IsProper, region_of};
 ghost use Rattle.wu_base.specs.declared.limits.TheConstants.{K_MAX as MostRegions};
-ghost use Rattle.wu_script.specs.Commands.{command_of, event_line, fields_say, is_blank, line_says, query_line, text_line, count_of, rank_of, paths_of, text_head_of, Whole, Asking, CountOf, RankOf};
+ghost use Rattle.wu_script.specs.Commands.{command_of, event_line, fields_say, is_blank, line_says, query_line, text_line, count_of, find_of, rank_of, paths_of, text_head_of, Whole, Asking, CountOf, FindOf, RankOf};
 ghost use Rattle.wu_script.specs.Said.{IsReading, Reading, IsLine, IsSoundLine};
 ghost use Rattle.wu_script.specs.declared.types.Line.TheVariants.{Command as ACommand};
 ghost use Rattle.wu_script.specs.declared.types.Command.TheVariants.{Ask as AQuestion};
@@ -25,9 +25,9 @@ use wu_tree::Event;
 /// What the line says, without its LF. The first rule that applies decides: `LongLine`, more than
 /// LINE_MAX bytes; blank, no byte or `#` at its front; `Syntax` for an escape fault; `Unbuilt` for a
 /// command that isn't built yet; `Syntax` for an unknown command, a wrong number of fields or a field
-/// out of form or range; the faults of a `count`'s expression, or of a `rank`'s unit; `NoWord` and
-/// `ManyWords` for a `rank` by no word, or by more than RANK_WORDS_MAX. The one error is `NoMemory`:
-/// out of memory.
+/// out of form or range; the faults of the expression of a `count` or a `find`, or of a `rank`'s unit;
+/// `NoWord` and `ManyWords` for a `rank` by no word, or by more than RANK_WORDS_MAX. The one error is
+/// `NoMemory`: out of memory.
 #[tactic(auto, unfolding(crate::specs::Commands::line_says, crate::specs::Commands::fields_say))]
 pub fn read_command(alloc: Global, line: &[u8]) -> Result<Line, NoMemory>
     ensures says { IfOk result (IsLine (line_says line.now)) }
@@ -85,6 +85,7 @@ fn read_by_word(alloc: Global, word: Word, fields: &[Bytes]) -> Result<Line, NoM
         Word::Chmod => Ok(update(chmod(fields))),
         Word::Chown => Ok(update(chown(fields))),
         Word::Count => count(alloc, fields),
+        Word::Find => find(alloc, fields),
         Word::Rank => rank(alloc, fields),
         Word::Paths => Ok(paths(fields)),
         Word::Unbuilt => Ok(Line::Refused(Why::Unbuilt)),
@@ -165,6 +166,38 @@ fn read_expression(alloc: Global, text: &[u8]) -> Result<Result<Expr, ExprFault>
     ensures proper { IfOk result (λ r. IfOk r (λ expr. IsProper (region_of expr))) }
 {
     parse(alloc, text)
+}
+
+/// `find`, a user, how many regions to show, and an expression.
+#[tactic(auto, unfolding(crate::specs::Commands::find_of))]
+fn find(alloc: Global, fields: &[Bytes]) -> Result<Line, NoMemory>
+    ensures says { IfOk result (IsLine (query_line (find_of fields.now))) }
+    ensures sound { IfOk result IsSoundLine }
+{
+    match fields {
+        [uid, k, text] => {
+            let Some(uid) = id_of(uid) else {
+                return Ok(Line::Refused(Why::Syntax));
+            };
+            match read_decimal(k.as_slice(), K_MAX as u64) {
+                Some(k) => finding(alloc, uid, k as u32, text.as_slice()),
+                None => Ok(Line::Refused(Why::Syntax)),
+            }
+        }
+        _ => Ok(Line::Refused(Why::Syntax)),
+    }
+}
+
+/// The regions of the expression, of which so many are shown at most.
+fn finding(alloc: Global, uid: u32, k: u32, text: &[u8]) -> Result<Line, NoMemory>
+    requires { k ≤ MostRegions }
+    ensures says { IfOk result (IsLine (Whole (Asking uid (FindOf k text.now)))) }
+    ensures sound { IfOk result IsSoundLine }
+{
+    match read_expression(alloc, text)? {
+        Ok(expr) => Ok(asking(uid, Ask::Find { k, expr })),
+        Err(fault) => Ok(Line::Refused(Why::Expr(fault))),
+    }
 }
 
 /// `rank`, a user, how many regions to show, a unit and the words to rank by.

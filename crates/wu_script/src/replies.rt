@@ -1,18 +1,18 @@
 //! Writing a reply.
 ghost use Rattle.std.specs.Prelude.{◌≡◌, ◌++◌, ◌∷◌, [], List, ℕ, codes, decimal, length, OnOk, OnErr};
 ghost use Rattle.std.specs.List.{flat_map};
-ghost use Rattle.wu_script.specs.Replies.{reply_bytes, answer_bytes, refusal_word, fault_word, why_word, path_line, rank_line};
+ghost use Rattle.wu_script.specs.Replies.{reply_bytes, answer_bytes, refusal_word, fault_word, why_word, path_line, find_line, rank_line};
 
 use crate::types::{Reply, Why};
-use wu_ask::{Answered, RankLine};
+use wu_ask::{Answered, FindLine, RankLine};
 use wu_base::{Bytes, NoMemory};
 use wu_fields::{put_decimal, put_field};
 use wu_gcl::ExprFault;
 use wu_tree::Refusal;
 
 /// Appends the lines of the reply: the fields of a line have a TAB between each two, numbers are
-/// decimal, paths are escaped, and each line ends with LF. The one error is `NoMemory`; `out` is
-/// then as it was.
+/// decimal, paths and bytes of texts are escaped, and each line ends with LF. The one error is
+/// `NoMemory`; `out` is then as it was.
 pub fn put_reply(out: &mut Vec<u8>, reply: &Reply) -> Result<(), NoMemory>
     ensures ok { OnOk result (out.new.items ≡ out.old.items ++ reply_bytes reply.now) }
     ensures err { OnErr result (out.new.items ≡ out.old.items) }
@@ -61,6 +61,7 @@ fn append_answer(out: &mut Vec<u8>, answered: &Answered) -> Result<(), NoMemory>
 {
     match answered {
         Answered::Count { hits, files } => append_counts(out, b"count\t", *hits, *files),
+        Answered::Find { hits, files, shown } => append_found(out, *hits, *files, shown.as_slice()),
         Answered::Rank { listed, shown } => append_ranking(out, *listed, shown.as_slice()),
         Answered::Paths { paths } => append_paths(out, paths.as_slice()),
     }
@@ -107,6 +108,65 @@ fn append_line(out: &mut Vec<u8>, path: &[u8]) -> Result<(), NoMemory>
     ensures err { OnErr result ((more : List ℕ) × (out.new.items ≡ out.old.items ++ more)) }
 {
     put_field(out, path)?;
+    out.push(b'\n')?;
+    Ok(())
+}
+
+/// Appends the lines of what was found: how many regions there are, in how many files, how many are
+/// shown, and each of these.
+fn append_found(
+    out: &mut Vec<u8>,
+    hits: u64,
+    files: u64,
+    shown: &[FindLine],
+) -> Result<(), NoMemory>
+    ensures ok { OnOk result (out.new.items ≡ out.old.items ++ (codes "find\t" ++ decimal hits ++ 9 ∷ [] ++ decimal files ++ 9 ∷ [] ++ decimal (length shown.now) ++ 10 ∷ [] ++ flat_map find_line shown.now)) }
+    ensures err { OnErr result ((more : List ℕ) × (out.new.items ≡ out.old.items ++ more)) }
+{
+    append_found_counts(out, hits, files, shown.len() as u64)?;
+    append_find_lines(out, shown)
+}
+
+/// Appends the line of how many regions were found, in how many files, and how many are shown.
+fn append_found_counts(out: &mut Vec<u8>, hits: u64, files: u64, shown: u64) -> Result<(), NoMemory>
+    ensures ok { OnOk result (out.new.items ≡ out.old.items ++ (codes "find\t" ++ decimal hits ++ 9 ∷ [] ++ decimal files ++ 9 ∷ [] ++ decimal shown ++ 10 ∷ [])) }
+    ensures err { OnErr result ((more : List ℕ) × (out.new.items ≡ out.old.items ++ more)) }
+{
+    out.extend_from_slice(b"find\t")?;
+    put_decimal(out, hits)?;
+    out.push(b'\t')?;
+    put_decimal(out, files)?;
+    out.push(b'\t')?;
+    put_decimal(out, shown)?;
+    out.push(b'\n')?;
+    Ok(())
+}
+
+/// Appends each region that was found on a line of its own.
+fn append_find_lines(out: &mut Vec<u8>, shown: &[FindLine]) -> Result<(), NoMemory>
+    ensures ok { OnOk result (out.new.items ≡ out.old.items ++ flat_map find_line shown.now) }
+    ensures err { OnErr result ((more : List ℕ) × (out.new.items ≡ out.old.items ++ more)) }
+{
+    for line in shown {
+        append_find_line(out, line)?;
+    }
+    Ok(())
+}
+
+/// Appends a region that was found on a line of its own.
+fn append_find_line(out: &mut Vec<u8>, line: &FindLine) -> Result<(), NoMemory>
+    ensures ok { OnOk result (out.new.items ≡ out.old.items ++ find_line line.now) }
+    ensures err { OnErr result ((more : List ℕ) × (out.new.items ≡ out.old.items ++ more)) }
+{
+    put_field(out, line.path.as_slice())?;
+    out.push(b'\t')?;
+    put_decimal(out, line.start)?;
+    out.push(b'\t')?;
+    put_decimal(out, line.end)?;
+    out.push(b'\t')?;
+    put_decimal(out, line.line)?;
+    out.push(b'\t')?;
+    put_field(out, line.bytes.as_slice())?;
     out.push(b'\n')?;
     Ok(())
 }

@@ -16,6 +16,7 @@ pub enum Word {
     Chmod,
     Chown,
     Count,
+    Find,
     Rank,
     Paths,
     /// A command that will be built later.
@@ -52,6 +53,8 @@ pub fn word_of(field: &[u8]) -> Word
         Word::Chown
     } else if field == b"count".as_slice() {
         Word::Count
+    } else if field == b"find".as_slice() {
+        Word::Find
     } else if field == b"rank".as_slice() {
         Word::Rank
     } else if field == b"paths".as_slice() {
@@ -65,8 +68,7 @@ pub fn word_of(field: &[u8]) -> Word
 fn is_unbuilt(field: &[u8]) -> bool
     ensures { result ≡ is_unbuilt field.now }
 {
-    field == b"find".as_slice()
-        || field == b"flush".as_slice()
+    field == b"flush".as_slice()
         || field == b"work".as_slice()
         || field == b"stat".as_slice()
         || field == b"save".as_slice()

@@ -8,7 +8,7 @@ use wu_rows::{NoAnswer, bytes_text, list_text, plain_text, script};
 use wu_script::{Command, Line, read_command};
 use wu_tree::Event;
 
-/// What the line says: why it is refused, the name of the file that it makes, or how it ranks.
+/// What the line says: why it is refused, the name of the file that it makes, what it finds, or how it ranks.
 pub fn said(alloc: Global, field: &str) -> Result<String, NoAnswer> {
     let line = script(alloc, field)?;
     match read_command(alloc, line.as_slice())? {
@@ -35,11 +35,17 @@ fn event_text(alloc: Global, event: &Event) -> Result<String, NoAnswer> {
 
 fn query_text(alloc: Global, query: &Query) -> Result<String, NoAnswer> {
     match &query.ask {
+        Ask::Find { k, expr } => finding_text(alloc, query.uid, *k, expr),
         Ask::Rank { k, unit, words } => {
             ranking_text(alloc, query.uid, *k, unit, words.as_slice())
         }
         _ => plain_text(alloc, "ask"),
     }
+}
+
+fn finding_text(alloc: Global, uid: u32, k: u32, expr: &Expr) -> Result<String, NoAnswer> {
+    let expr = expr_name(expr);
+    Ok(format!(in alloc; "find {uid} {k} {expr}")?)
 }
 
 fn ranking_text(
@@ -49,10 +55,15 @@ fn ranking_text(
     unit: &Expr,
     words: &[Bytes],
 ) -> Result<String, NoAnswer> {
-    let unit = match unit {
-        Expr::Line => "line",
-        _ => "other",
-    };
+    let unit = expr_name(unit);
     let words = list_text(alloc, words)?;
     Ok(format!(in alloc; "rank {uid} {k} {unit} {words}")?)
+}
+
+/// A name for the expression.
+fn expr_name(expr: &Expr) -> &'static str {
+    match expr {
+        Expr::Line => "line",
+        _ => "other",
+    }
 }

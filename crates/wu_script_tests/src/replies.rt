@@ -1,7 +1,7 @@
 //! The bytes of replies.
 use crate::reasons::named;
 use std::alloc::Global;
-use wu_ask::{Answered, RankLine};
+use wu_ask::{Answered, FindLine, RankLine};
 use wu_base::{Bytes, Sequence};
 use wu_rows::{NoAnswer, bytes, number, shown};
 use wu_script::{Reply, put_reply};
@@ -23,6 +23,7 @@ fn reply(alloc: Global, fields: &[&str]) -> Result<Reply, NoAnswer> {
         },
         ["count", hits, files] => count(hits, files),
         ["paths", path] => one_path(alloc, path),
+        ["find", hits, files, lines @ ..] => found(alloc, hits, files, lines),
         ["rank", fields @ ..] => one_region(alloc, fields),
         _ => Err(NoAnswer::BadRow),
     }
@@ -40,6 +41,31 @@ fn one_path(alloc: Global, path: &str) -> Result<Reply, NoAnswer> {
     let mut paths = Sequence::new(alloc);
     paths.push(Bytes::from(bytes(alloc, path)?))?;
     Ok(Reply::Answered(Answered::Paths { paths }))
+}
+
+/// The reply that finds so many regions in so many files. Five fields tell a region that it shows: its path, its start and its
+/// end, and the number and the bytes of a line.
+fn found(alloc: Global, hits: &str, files: &str, lines: &[&str]) -> Result<Reply, NoAnswer> {
+    let hits = number(hits)?;
+    let files = number(files)?;
+    let mut shown = Sequence::new(alloc);
+    for line in lines.chunks(5) {
+        shown.push(find_line(alloc, line)?)?;
+    }
+    Ok(Reply::Answered(Answered::Find { hits, files, shown }))
+}
+
+fn find_line(alloc: Global, fields: &[&str]) -> Result<FindLine, NoAnswer> {
+    let [path, start, end, line, text] = fields else {
+        return Err(NoAnswer::BadRow);
+    };
+    Ok(FindLine {
+        path: Bytes::from(bytes(alloc, path)?),
+        start: number(start)?,
+        end: number(end)?,
+        line: number(line)?,
+        bytes: Bytes::from(bytes(alloc, text)?),
+    })
 }
 
 /// The reply that shows one region: how many are listed, its score, its path, its start and its end.

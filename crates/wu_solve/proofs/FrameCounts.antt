@@ -65,6 +65,11 @@ module _ (region : Region) (lists : List TermList) (frames : List Range) (from s
   part_taken : take (from + some) frames ≡ take from frames ++ take m (drop from frames)
   part_taken = taken_on from some frames ∙ ap (λ (i : ℕ). take from frames ++ take i (drop from frames)) (sym same)
 
+  pub joined_part : frames_hits region lists (take (from + some) frames)
+      ≡ frames_hits region lists (take from frames) ++ frames_hits region lists (take m (drop from frames))
+  joined_part = ap (λ (fs : List Range). frames_hits region lists fs) part_taken
+      ∙ flat_map-append (frame_hits region lists) (take from frames) (take m (drop from frames))
+
   -- one part more
   pub hits_of_part : length (frames_hits region lists (take (from + some) frames))
       ≡ length (frames_hits region lists (take from frames)) + length (frames_hits region lists (take m (drop from frames)))

@@ -1,5 +1,6 @@
 -- Ascending numbers, and where a binary search ends in them.
 use Rattle.std.proofs.Common.{◌≡◌, ◌⊎◌, ℕ, zero, suc, ◌+◌, ◌-◌, ◌<◌, ◌≤◌, Bool, true, false, cond, ◌&&◌, ◌||◌, List, [], ◌∷◌, length, take, drop, get_or, filter, nat_lt, nat_le, refl, sym, ap, ◌∙◌, subst, inl, inr, arith, ltb-true, ltb-false, le-leb, leb-true, eq-eqb, eqb-true, eqb}
+use Rattle.std.specs.Cmp.{both_ways}
 use Rattle.std.proofs.Math.Bool.{and-false}
 use Rattle.std.specs.List.Sorted.{IsStrictlyIncreasing, IsNonDecreasingBy, IsPartitionPoint}
 use Rattle.std.proofs.lemmas.List.Elements.{All-filter, All-from_get_or}
@@ -8,7 +9,7 @@ use Rattle.std.proofs.lemmas.List.Sorted.{IsNonDecreasingBy-take, IsNonDecreasin
 use Rattle.std.specs.Ordering.{nat_cmp}
 use Rattle.std.proofs.lemmas.List.{get_or-drop, get_or-take, length-take-le, length-drop}
 use Rattle.std.proofs.lemmas.Map.Keys.{below_from_sorted, non_decreasing_from_sorted, sorted_from_strictly_increasing, sorted_tail, IsStrictlyIncreasing-from_sorted}
-use Rattle.std.proofs.lemmas.Bool.{false≢true, or_cases, or_left, or_right}
+use Rattle.std.proofs.lemmas.Bool.{false≢true, false_from_ne_true, or_cases, or_left, or_right}
 use Rattle.std.proofs.lemmas.Bool.Decides.{nat_tests}
 use Rattle.wu_solve.specs.Addresses.{is_among, EndsBelow}
 
@@ -189,3 +190,58 @@ kept_among p x a xs false is more = here (eqb x a) refl
 pub among_filter : (p : ℕ → Bool) (xs : List ℕ) (a : ℕ) → is_among (filter p xs) a ≡ (is_among xs a && p a)
 among_filter p [] a = refl
 among_filter p (x ∷ xs) a = kept_among p x a xs (p x) refl (among_filter p xs a)
+
+-- what is left behind numbers that are all below
+pub ends_in_rest : (xs : List ℕ) (bound passed n : ℕ) → passed ≤ length xs → ((k : ℕ) → k < passed → get_or xs k 0 < bound)
+    → EndsBelow (drop passed xs) bound n → EndsBelow xs bound (passed + n)
+ends_in_rest xs bound passed n within front ends =
+    let long = length-drop passed xs in record {
+      within = omega (arith, ends.within, long);
+      front = λ k less. before k less;
+      rest = λ k low high.
+          let there : passed + (k - passed) ≡ k = omega arith in
+          let same : get_or (drop passed xs) (k - passed) 0 ≡ get_or xs k 0 =
+          get_or-drop passed xs (k - passed) 0 ∙ ap (λ (i : ℕ). get_or xs i 0) there in
+          subst (λ (a : ℕ). bound ≤ a) same (ends.rest (k - passed) (omega arith) (omega (arith, long)));
+    }
+  where
+    before : (k : ℕ) → k < passed + n → get_or xs k 0 < bound
+    before k less =
+        let cases : (k < passed) ⊎ (passed ≤ k) = grind arith in
+        elim cases [
+          | inl low ↦ front k low
+          | inr high ↦
+              let there : passed + (k - passed) ≡ k = omega arith in
+              let same : get_or (drop passed xs) (k - passed) 0 ≡ get_or xs k 0 =
+              get_or-drop passed xs (k - passed) 0 ∙ ap (λ (i : ℕ). get_or xs i 0) there in
+              subst (λ (a : ℕ). a < bound) same (ends.front (k - passed) (omega arith))
+        ]
+
+pub increasing_dropped : (n : ℕ) (xs : List ℕ) → IsStrictlyIncreasing xs → IsStrictlyIncreasing (drop n xs)
+increasing_dropped zero xs up = up
+increasing_dropped (suc n) [] up = up
+increasing_dropped (suc n) (x ∷ xs) up = increasing_dropped n xs (increasing_rest x xs up)
+
+-- a number is among them where it stands at the place at which those below it end
+
+pub not_at_end : (xs : List ℕ) (a place : ℕ) → EndsBelow xs a place → length xs ≤ place → is_among xs a ≡ false
+not_at_end xs a place ends over = false_from_ne_true _ (λ is.
+    let p = among_place xs a is in
+    let low = ends.front p.0 (omega (arith, p.1)) in
+    omega (arith, p.2))
+
+pub there_at_end : (xs : List ℕ) (a place : ℕ) → IsStrictlyIncreasing xs → EndsBelow xs a place → place < length xs
+    → eqb (get_or xs place 0) a ≡ is_among xs a
+there_at_end xs a place up ends within = both_ways _ _
+    (λ is. place_among xs a place within (eqb-true (get_or xs place 0) a is))
+    (λ is.
+    let p = among_place xs a is in
+    let k = p.0 in
+    let cases : (k < place) ⊎ (place ≤ k) = grind arith in
+    elim cases [
+      | inl less ↦ let low = ends.front k less in absurd (omega (arith, p.2))
+      | inr more ↦
+          let far = increasing_not_below xs up place k more p.1 in
+          let low = ends.rest place (omega arith) within in
+          eq-eqb (get_or xs place 0) a (omega (arith, p.2, far))
+    ])

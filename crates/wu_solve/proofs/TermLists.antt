@@ -1,6 +1,8 @@
 -- Looking for a term in lists that ascend by their terms.
-use Rattle.std.proofs.Common.{◌≡◌, ℕ, zero, suc, ◌<◌, ◌≤◌, Bool, true, false, ◌⊎◌, List, [], ◌∷◌, length, take, drop, get_or, map, refl, sym, ap, ◌∙◌, inl, inr, arith, Ordering, Less, Equal, Greater, is_eq}
+use Rattle.std.proofs.Common.{◌≡◌, ℕ, zero, suc, ◌<◌, ◌≤◌, Bool, true, false, ◌⊎◌, List, [], ◌∷◌, length, take, drop, get_or, map, refl, sym, ap, ◌∙◌, subst, inl, inr, arith, Ordering, Less, Equal, Greater, is_eq}
+use Rattle.std.proofs.lemmas.Bool.{false≢true}
 use Rattle.std.proofs.Math.Bool.{or-false}
+use Rattle.std.proofs.lemmas.List.{get_or_default}
 use Rattle.std.specs.Prelude.{nat_eq, Ok, Err, ◌&&◌, ◌||◌}
 use Rattle.std.specs.List.{AllByRecursion}
 use Rattle.std.specs.List.Sorted.{IsStrictlySortedBy, IsBinarySearchResult}
@@ -112,6 +114,20 @@ found lists term place up within is = record {
       ∙ ascends lists place k d up (omega arith) inside in
       differs term (get_or lists k d) Greater (reversed term (get_or lists k d).term Less less) refl);
 }
+
+-- the same where the list's term is the one sought
+pub found_again : (lists : List TermList) (term : List ℕ) (place : ℕ) (e : TermList) → IsSortedByTerm lists → place < length lists
+    → pointwise nat_eq (get_or lists place e).term term ≡ true → IsListOf term lists place
+found_again lists term place e up within same =
+    found lists term place up within (λ d.
+    let there : get_or lists place e ≡ get_or lists place d = get_or_default lists place e d within in
+    subst (λ (list : TermList). text_cmp list.term term ≡ Equal) there
+    (equal_is (text_cmp (get_or lists place e).term term) (sym (texts_ties (get_or lists place e).term term) ∙ same)))
+  where
+    equal_is : (o : Ordering) → is_eq o ≡ true → o ≡ Equal
+    equal_is Less is = absurd (false≢true is)
+    equal_is Equal is = refl
+    equal_is Greater is = absurd (false≢true is)
 
 -- the addresses of the term
 

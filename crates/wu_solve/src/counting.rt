@@ -13,13 +13,10 @@ use crate::first_extents::starting_from;
 use crate::framing::{are_apart, end_of, frame_at};
 use crate::lookup::{addresses_from, addresses_of};
 use crate::meeting::frames_with_needed;
-use crate::solving::solve_apart;
+use crate::solving::{FRAMES_AT_ONCE, solve_apart};
 use std::alloc::Global;
 use wu_base::{Extent, NoMemory, Range, TermList};
 use wu_gcl::{Expr, tag_bytes};
-
-/// How many frames are solved at a time.
-const FRAMES_AT_ONCE: usize = 1024;
 
 /// How many extents an expression has in all frames together, and in how many of the frames it has
 /// any.

@@ -1,12 +1,12 @@
 //! Looking up terms and addresses.
-ghost use Rattle.std.specs.Prelude.{◌≡◌, ◌<◌, length, ℕ, filter, map, nat_le, MatchOption};
+ghost use Rattle.std.specs.Prelude.{◌≡◌, ◌<◌, length, slice_index, ◌≤◌, ℕ, filter, map, nat_le, MatchOption};
 ghost use Rattle.std.specs.List.{AllByRecursion};
 ghost use Rattle.std.specs.List.Sorted.{IsStrictlySortedBy, IsStrictlyIncreasing};
 ghost use Rattle.std.specs.Cmp.Lexicographic.{slice_cmp};
 ghost use Rattle.std.specs.Ordering.{nat_cmp};
 ghost use Rattle.wu_solve.specs.Addresses.{is_among, has_address, AreLists, EndsBelow, IsOther, IsListOf};
 
-use wu_base::{Bytes, TermList, is_among};
+use wu_base::{Bytes, TermList};
 
 /// How many addresses in front are below the bound, found by steps that double.
 fn below(addresses: &[u64], bound: u64) -> usize
@@ -56,12 +56,78 @@ pub fn addresses_of<'a>(lists: &'a [TermList], term: &[u8]) -> &'a [u64]
     }
 }
 
-/// Whether the term has the address.
-pub fn has_address(lists: &[TermList], term: &[u8], address: u64) -> bool
+/// Where a term's list was found, and where in it an address was sought last. What is found never
+/// depends on it.
+#[derive(Clone, Copy)]
+pub struct Remembered {
+    pub list: usize,
+    pub place: usize,
+}
+
+/// Whether the term has the address, sought from the remembered place on.
+pub fn has_address(
+    lists: &[TermList],
+    term: &[u8],
+    remembered: &mut Remembered,
+    address: u64,
+) -> bool
     requires { AreLists lists.now }
     ensures { result ≡ has_address lists.now term.now address }
 {
-    is_among(&address, addresses_of(lists, term))
+    match list_of(lists, term, remembered.list) {
+        Some(list) => {
+            let addresses = lists[list].at.as_slice();
+            let place = address_at(addresses, remembered.place, address);
+            *remembered = Remembered { list, place };
+            is_at(addresses, place, address)
+        }
+        None => false,
+    }
+}
+
+/// The place of the term's list, which may be the remembered one.
+fn list_of(lists: &[TermList], term: &[u8], remembered: usize) -> Option<usize>
+    requires { IsStrictlySortedBy (slice_cmp nat_cmp) (map (λ list. list.term) lists.now) }
+    ensures { MatchOption result (AllByRecursion (IsOther term.now) lists.now) (IsListOf term.now lists.now) }
+{
+    if remembered < lists.len() && lists[remembered].term.as_slice() == term {
+        return Some(remembered);
+    }
+    find_term(lists, term)
+}
+
+/// Whether the address stands at the place where those below it end.
+fn is_at(addresses: &[u64], place: usize, address: u64) -> bool
+    requires ascending { IsStrictlyIncreasing addresses.now }
+    requires ends { EndsBelow addresses.now address place }
+    ensures { result ≡ is_among addresses.now address }
+{
+    place < addresses.len() && addresses[place] == address
+}
+
+/// Where the addresses below the bound end, sought from the remembered place on, if all before it are
+/// below.
+fn address_at(addresses: &[u64], remembered: usize, bound: u64) -> usize
+    requires { IsStrictlyIncreasing addresses.now }
+    ensures { EndsBelow addresses.now bound result }
+{
+    let passed = passed_over(addresses, remembered, bound);
+    passed + below(&addresses[passed..], bound)
+}
+
+/// The remembered place, if all addresses before it are below the bound; otherwise 0.
+fn passed_over(addresses: &[u64], remembered: usize, bound: u64) -> usize
+    requires { IsStrictlyIncreasing addresses.now }
+    ensures within { result ≤ length addresses.now }
+    ensures front { (k : ℕ) → k < result → slice_index addresses.now k < bound }
+{
+    if remembered == 0 || addresses.len() < remembered {
+        return 0;
+    }
+    if bound <= addresses[remembered - 1] {
+        return 0;
+    }
+    remembered
 }
 
 /// The place of a term with the fewest addresses.

@@ -12,7 +12,7 @@ ghost use Rattle.wu_solve.specs.Prefixes.{PrefixStands};
 ghost use Rattle.wu_solve.specs.Solving.{moved, frame_hits, frames_hits, IsFrame, AreApart};
 
 use crate::framing::frame_at;
-use crate::lookup::{addresses_from, addresses_of, has_address, rarest};
+use crate::lookup::{Remembered, addresses_from, addresses_of, has_address, rarest};
 use crate::overlaps::{Stretch, farther, known_words, overlaps};
 use std::alloc::Global;
 use wu_base::{Bytes, Extent, NoMemory, Range, TermList};
@@ -139,11 +139,13 @@ fn standing(
     ensures { IfOk result (λ v. v.items ≡ filter (λ x. words_stand (has_address lists.now) words.now x.start) extents.now) }
 {
     let overlaps = overlaps(alloc, words)?;
+    let start = Remembered { list: 0, place: 0 };
+    let mut remembered = vec![in alloc; start; words.len()]?;
     let mut stretch = Stretch { start: 0, count: 0 };
     let mut found = Vec::new(alloc);
     for extent in extents {
         let known = known_words(stretch, &overlaps, extent.start);
-        let count = words_from(lists, words, extent.start, known);
+        let count = words_from(lists, words, &mut remembered, extent.start, known);
         let here = Stretch {
             start: extent.start,
             count,
@@ -157,9 +159,16 @@ fn standing(
 }
 
 /// How many of the words, the first ones, stand one after the other from the address on, where so
-/// many are known to.
-fn words_from(lists: &[TermList], words: &[Bytes], address: u64, known: usize) -> usize
+/// many are known to. For each word it is remembered where it was sought.
+fn words_from(
+    lists: &[TermList],
+    words: &[Bytes],
+    remembered: &mut [Remembered],
+    address: u64,
+    known: usize,
+) -> usize
     requires lists { AreLists lists.now }
+    requires each { length words.now ≤ length remembered.old }
     requires fits { address + length words.now < 2 ^ 64 }
     requires within { known ≤ length words.now }
     requires known { PrefixStands (has_address lists.now) words.now address known }
@@ -168,7 +177,8 @@ fn words_from(lists: &[TermList], words: &[Bytes], address: u64, known: usize) -
     ensures whole { words_stand (has_address lists.now) words.now address ≡ nat_eq result (length words.now) }
 {
     for count in known..words.len() {
-        if !has_address(lists, words[count].as_slice(), address + count as u64) {
+        let word = words[count].as_slice();
+        if !has_address(lists, word, &mut remembered[count], address + count as u64) {
             return count;
         }
     }

@@ -17,6 +17,9 @@ use std::alloc::Global;
 use wu_base::{Extent, NoMemory, Range, TermList};
 use wu_gcl::{Expr, Op, Tag, tag_bytes};
 
+/// How many frames are solved at a time.
+pub const FRAMES_AT_ONCE: usize = 256;
+
 /// What the operator makes of the extents of its operands.
 fn combine(
     alloc: Global,
@@ -142,6 +145,29 @@ pub fn solve_apart(
     }
 }
 
+/// The same, so many frames at a time, so that the lists of operands stay small.
+fn solve_parts(
+    alloc: Global,
+    expr: &Expr,
+    frames: &[Range],
+    lists: &[TermList],
+) -> Result<Vec<Extent>, NoMemory>
+    requires lists { AreLists lists.now }
+    requires frames { All IsFrame frames.now }
+    requires apart { AreApart frames.now }
+    ensures { IfOk result (λ v. v.items ≡ frames_hits (region_of expr.now) lists.now frames.now) }
+{
+    let mut found = Vec::new(alloc);
+    let mut from = 0;
+    while from < frames.len() {
+        let some = FRAMES_AT_ONCE.min(frames.len() - from);
+        let extents = solve_apart(alloc, expr, &frames[from..from + some], lists)?;
+        found.extend_from_slice(&extents)?;
+        from += some;
+    }
+    Ok(found)
+}
+
 /// The extents that the expression means, frame by frame in the order of the frames, each from its
 /// first address to its last. Every frame ends at or before address 2^47. The lists ascend by their
 /// terms' bytes, and the addresses of each ascend. An address counts as a term where the term's list
@@ -162,7 +188,7 @@ pub fn solve(
 {
     if are_apart(frames) {
         let met = frames_with_needed(alloc, expr, frames, lists)?;
-        return solve_apart(alloc, expr, &met, lists);
+        return solve_parts(alloc, expr, &met, lists);
     }
     let mut found = Vec::new(alloc);
     for frame in frames {

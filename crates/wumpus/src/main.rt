@@ -1,11 +1,13 @@
 //! The program `wumpus`: a session over standard input and output.
 #![tactic(auto)]
 
-ghost use Rattle.std.specs.Prelude.{◌≡◌, option_map};
+ghost use Rattle.std.specs.Prelude.{◌≡◌};
 ghost use Rattle.std.specs.Process.{exit_status};
-ghost use Rattle.wumpus.specs.Messages.{message_of};
 ghost use Rattle.wumpus_run.specs.Session.{code_of};
 
+mod messages;
+
+use crate::messages::Message;
 use std::alloc::AllocError;
 use std::env;
 use std::io::ErrorKind;
@@ -21,7 +23,8 @@ fn main(rt: HostRuntime) -> ExitCode {
 /// Runs a session, prints what ended it, and tells how the process ends.
 fn run_to_end(rt: &HostRuntime) -> ExitCode {
     let status = session(rt);
-    if let Some(message) = message(status) {
+    if status != Status::Done {
+        let message = Message { status };
         // The exit status tells the same where this line can't be written.
         let _ = eprintln!(rt; "wumpus: {message}");
     }
@@ -75,20 +78,6 @@ fn session_of(rt: &HostRuntime, arguments: &[String]) -> Result<Status, AllocErr
         &mut sink,
         &mut store,
     ))
-}
-
-/// What is printed to standard error at a status.
-fn message(status: Status) -> Option<&'static str>
-    ensures { option_map (λ message. message.now) result ≡ message_of status }
-{
-    match status {
-        Status::Done => None,
-        Status::Usage => Some("usage: wumpus run [--max-input=N] [--flush=N] | wumpus demo N"),
-        Status::ReadFault => Some("cannot read the input"),
-        Status::WriteFault => Some("cannot write the output"),
-        Status::NoMemory => Some("no memory"),
-        Status::InputTooLong => Some("input too long"),
-    }
 }
 
 #[cfg(test)]

@@ -1,5 +1,5 @@
--- The addresses that a session takes: at most three for each byte of its input.
-use Rattle.std.proofs.Common.{◌≡◌, ℕ, ◌+◌, ◌*◌, ◌≤◌, false, Option, List, [], length, refl, ap, arith, length-append}
+-- The addresses and the blobs that a session takes: at most three addresses and one blob for each byte of its input.
+use Rattle.std.proofs.Common.{◌≡◌, ℕ, ◌+◌, ◌*◌, ◌<◌, ◌≤◌, ◌^◌, false, Option, List, [], length, refl, ap, arith, length-append}
 use Rattle.wu_base.specs.declared.limits.TheConstants.{INPUT_MAX, ADDRESSES_MAX}
 use Rattle.wu_gcl.proofs.Existence.{each_text_is_read}
 use Rattle.wu_tree.specs.declared.events.Event.{Event}
@@ -10,7 +10,7 @@ use Rattle.wu_script.specs.Items.{first_of, IsBeforeEnd, IsItem, TakesItem}
 use Rattle.wu_script.specs.Said.{Reading, IsReading, said_by, said_of, event_tokens, tokens_given}
 use Rattle.wu_script.proofs.TokenLemmas.{first_tokens}
 use Rattle.wu_engine.specs.Stands.{taken_by}
-use Rattle.wumpus_run.proofs.SessionLemmas.{one_item}
+use Rattle.wumpus_run.proofs.SessionLemmas.{one_item, takes_one}
 
 -- an event takes an address for each token of the text that it gives
 pub tokens_taken : (event : Event) (text : List ℕ) → taken_by event text ≡ event_tokens event text
@@ -63,3 +63,23 @@ HasRoom-few next most held room within = omega arith
 
 pub HasRoom-fewer : (next taken most : ℕ) (held : Held) → HasRoom taken held most → next ≤ taken → HasRoom next held most
 HasRoom-fewer next taken most held room fewer = omega arith
+
+-- ---- blobs
+
+-- the next blob and one for each byte that is held or may still be given are no more than one for each byte of the input, and one
+abbrev pub HasBlobs : ℕ → Held → ℕ → Type 0
+HasBlobs blob held most = blob + length held.bytes + held.spare ≤ most + 1
+
+-- at the start there is one for each byte of the input
+pub HasBlobs-none : (blob most : ℕ) → blob ≡ 1 → HasBlobs blob (record { bytes = []; spare = most; ended = false }) most
+HasBlobs-none blob most one = omega arith
+
+-- an item may draw one
+pub HasBlobs-item : (left left' : Option (List ℕ)) (last_read : ℕ) (old new : Held) (item : Item) (blob drawn most : ℕ) → IsBeforeEnd item
+    → TakesItem left left' last_read old new item → HasBlobs blob old most → drawn ≤ blob + 1 → HasBlobs drawn new most
+HasBlobs-item left left' last_read old new item blob drawn most other taken room few =
+    omega (arith, takes_one left left' last_read old new item other taken, room, few)
+
+-- and it is one that there is
+pub HasBlobs-few : (blob most : ℕ) (held : Held) → HasBlobs blob held most → most ≤ INPUT_MAX → blob < 2 ^ 63
+HasBlobs-few blob most held room within = omega arith

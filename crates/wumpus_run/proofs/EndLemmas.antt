@@ -1,7 +1,9 @@
 -- How a session ends.
-use Rattle.std.proofs.Common.{◌≡◌, ℕ, ◌+◌, ◌≤◌, List, [], ◌++◌, length, Option, None, Some, Err, refl, ap, ◌∙◌, subst, inl, inr, arith, length-append}
+use Rattle.std.proofs.Common.{◌≡◌, ℕ, ◌+◌, ◌≤◌, List, [], ◌++◌, length, Option, None, Some, Err, refl, ap, ◌∙◌, subst, inl, inr, ⊎_elim, arith, length-append, IsSome}
 use Rattle.std.specs.Io.KnownBytes.{Appends, IsAtEnd}
 use Rattle.std.proofs.KnownBytes.{Appends-nil, Consumes-nil, Consumes-trans}
+use Rattle.wu_base.specs.declared.troubles.Trouble.{Trouble}
+use Rattle.wu_base.specs.declared.troubles.Trouble.TheVariants as troubles
 use Rattle.wu_outside.specs.Faults.{HasFaultCause, Rose}
 use Rattle.wu_outside.specs.declared.traits.Fault.{Fault}
 use Rattle.wu_outside.specs.declared.traits.Fault.TheVariants.{Failed}
@@ -14,11 +16,12 @@ use Rattle.wu_script.specs.Items.{items_of, IsNext, EndsBeforeItem}
 use Rattle.wu_script.proofs.ItemListLemmas.{items_of-none}
 use Rattle.wu_options.specs.declared.command_lines.Settings.{Settings}
 use Rattle.wumpus_run.specs.declared.statuses.Status.{Status}
-use Rattle.wumpus_run.specs.declared.statuses.Status.TheVariants.{Done, Usage, ReadFault, WriteFault, NoMemory, InputTooLong}
+use Rattle.wumpus_run.specs.declared.statuses.Status.TheVariants.{Done, Usage, ReadFault, WriteFault, NoMemory, InputTooLong, StoreFault, Damaged}
+use Rattle.wu_engine.specs.Causes.{HasTroubleCause}
 use Rattle.wu_engine.specs.States.{State}
 use Rattle.wumpus_run.specs.Replies.{Rules, output_of}
 use Rattle.wumpus_run.specs.Taking.{TakesAtMost, TakesExactly}
-use Rattle.wumpus_run.specs.Session.{Moment, AnswersAll, AnswersAllButOneRead, AnswersPrefix, IsTooLong, HoldsNothingBack, Ends, Completes, IsCounted, status_of, status_of_fault}
+use Rattle.wumpus_run.specs.Session.{Moment, AnswersAll, AnswersAllButOneRead, AnswersItems, AnswersPrefix, IsTooLong, HoldsNothingBack, Ends, Completes, IsCounted, status_of, status_of_fault, status_of_trouble}
 use Rattle.wumpus_run.proofs.SessionLemmas.{HasSent, HasSent-all, IsOnTheWay, HasAnswered, HasTaken}
 
 taken_twice : (input : List ℕ) (left : Option (List ℕ)) (most : ℕ) → TakesAtMost most (Some input) left
@@ -119,6 +122,16 @@ module _ (told : Settings) (start : State) where
   Ends-unwritten Failed before now few prefix prompt = Ends-short WriteFault before now (λ e. (cc)) few prefix prompt
   Ends-unwritten faults.NoMemory before now few prefix prompt = Ends-short NoMemory before now (λ e. (cc)) few prefix prompt
 
+  -- an item wasn't answered
+  pub Ends-unanswered : (trouble : Trouble) (before now : Moment) → TakesAtMost told.max_input before.left now.left
+      → AnswersPrefix start (Some told) before now → AnswersAllButOneRead start (Some told) before now
+      → AnswersItems start (Some told) before now → Ends start (status_of_trouble trouble) told before now
+  Ends-unanswered troubles.NoMemory before now few prefix prompt items = Ends-short NoMemory before now (λ e. (cc)) few prefix prompt
+  Ends-unanswered troubles.StoreFault before now few prefix prompt items =
+      Ends-short StoreFault before now (λ e. (cc)) few prefix (prompt, items)
+  Ends-unanswered (troubles.Damaged blob) before now few prefix prompt items =
+      Ends-short (Damaged blob) before now (λ e. (cc)) few prefix (prompt, items)
+
   -- ---- the end of the script
 
   finished : (rules : Rules) (gained now : Option (List ℕ)) (input rest : List ℕ) (s : State) → rest ≡ []
@@ -144,11 +157,11 @@ module _ (told : Settings) (start : State) where
 
   -- the input was read to its end, and everything was answered
   pub AnswersAll-end : (before now : Moment) (s : State) (known rest : Option (List ℕ)) → IsAtEnd now.left
-      → HasAnswered told start before.gained now.gained before.left known s → IsNext known rest items.End
+      → HasAnswered told start before.holds before.gained now.gained before.left known s → IsNext known rest items.End
       → TakesAtMost told.max_input before.left now.left → AnswersAll start (Some told) before now
   AnswersAll-end before now s known rest ended answered next few = by_case before.left answered few
     where
-      by_case : (left : Option (List ℕ)) → HasAnswered told start before.gained now.gained left known s
+      by_case : (left : Option (List ℕ)) → HasAnswered told start before.holds before.gained now.gained left known s
           → TakesAtMost told.max_input left now.left
           → AnswersAll start (Some told) (record before { left = left }) now
       by_case None answered few = tt
@@ -158,21 +171,25 @@ module _ (told : Settings) (start : State) where
 
   -- a session that no fault ended is done, or has too long an input, unless there was no memory
   pub Completes-all : (status : Status) (before now : Moment) → (status ≡ Usage → ⊥) → (status ≡ ReadFault → ⊥) → (status ≡ WriteFault → ⊥)
+      → (status ≡ StoreFault → ⊥) → (IsSome before.holds → (blob : ℕ) → status ≡ Damaged blob → ⊥)
       → (status ≡ Done → AnswersAll start (Some told) before now) → IsTooLong status (Some told) before now
       → Completes status (Some told) before
-  Completes-all status before now form read write all over = by_case status before.left form read write all over
+  Completes-all status before now form read write store damaged all over = by_case status before.left form read write store damaged all over
     where
       by_case : (status : Status) (left : Option (List ℕ)) → (status ≡ Usage → ⊥) → (status ≡ ReadFault → ⊥) → (status ≡ WriteFault → ⊥)
+          → (status ≡ StoreFault → ⊥) → (IsSome before.holds → (blob : ℕ) → status ≡ Damaged blob → ⊥)
           → (status ≡ Done → AnswersAll start (Some told) (record before { left = left }) now)
           → IsTooLong status (Some told) (record before { left = left }) now → Completes status (Some told) (record before { left = left })
-      by_case status None form read write all over = tt
-      by_case Done (Some input) form read write all over =
+      by_case status None form read write store damaged all over = tt
+      by_case Done (Some input) form read write store damaged all over = λ tells.
           (λ within. inl refl, λ beyond. let done = all refl in absurd (omega (arith, done.0)))
-      by_case Usage (Some input) form read write all over = absurd (form refl)
-      by_case ReadFault (Some input) form read write all over = absurd (read refl)
-      by_case WriteFault (Some input) form read write all over = absurd (write refl)
-      by_case NoMemory (Some input) form read write all over = (λ within. inr refl, λ beyond. inr refl)
-      by_case InputTooLong (Some input) form read write all over =
+      by_case Usage (Some input) form read write store damaged all over = λ tells. absurd (form refl)
+      by_case ReadFault (Some input) form read write store damaged all over = λ tells. absurd (read refl)
+      by_case WriteFault (Some input) form read write store damaged all over = λ tells. absurd (write refl)
+      by_case StoreFault (Some input) form read write store damaged all over = λ tells. absurd (store refl)
+      by_case (Damaged blob) (Some input) form read write store damaged all over = λ tells. absurd (damaged tells blob refl)
+      by_case NoMemory (Some input) form read write store damaged all over = λ tells. (λ within. inr refl, λ beyond. inr refl)
+      by_case InputTooLong (Some input) form read write store damaged all over = λ tells.
           (λ within. absurd (too_much input now.left told.max_input (over.0 refl) within), λ beyond. inl refl)
 
 -- nothing was taken where the arguments weren't read
@@ -214,3 +231,65 @@ IsCounted-written Failed before between now same counted =
     record { rose = λ e. Rose-since before between now same (counted.rose refl); calm = λ other. absurd (other refl) }
 IsCounted-written faults.NoMemory before between now same counted =
     record { rose = λ e. (cc); calm = λ other. counted.out_of_memory refl ∙ same }
+
+-- where an item wasn't answered
+pub IsCounted-answered : (trouble : Trouble) (ended : Option Trouble) (before between now : ℕ) → ended ≡ None → between ≡ before
+    → HasTroubleCause {T = Unit {0}} ended between now (Err trouble) → IsCounted StoreFault (status_of_trouble trouble) before now
+IsCounted-answered troubles.NoMemory ended before between now goes_on same counted =
+    record { rose = λ e. (cc); calm = λ other. counted.calm (λ e. (cc)) ∙ same }
+IsCounted-answered troubles.StoreFault ended before between now goes_on same counted = record {
+  rose = λ e. Rose-since before between now same (⊎_elim (λ rose. rose) (λ had. absurd (cc (had, goes_on))) (counted.store_fault refl));
+  calm = λ other. absurd (other refl);
+}
+IsCounted-answered (troubles.Damaged blob) ended before between now goes_on same counted =
+    record { rose = λ e. (cc); calm = λ other. counted.calm (λ e. (cc)) ∙ same }
+
+-- a fault of another kind leaves the count
+pub IsCounted-other : (fault status : Status) (before now : ℕ) → (status ≡ fault → ⊥) → now ≡ before → IsCounted fault status before now
+IsCounted-other fault status before now other same = record { rose = λ e. absurd (other e); calm = λ _. same }
+
+-- ---- which statuses come where
+
+-- where an item couldn't be answered
+pub record IsAnswering (status : Status) : Type 0 where
+  pub usage : status ≡ Usage → ⊥
+  pub done : status ≡ Done → ⊥
+  pub read_fault : status ≡ ReadFault → ⊥
+  pub write_fault : status ≡ WriteFault → ⊥
+
+pub answering : (trouble : Trouble) → IsAnswering (status_of_trouble trouble)
+answering troubles.NoMemory =
+    record { usage = λ e. (cc); done = λ e. (cc); read_fault = λ e. (cc); write_fault = λ e. (cc) }
+answering troubles.StoreFault =
+    record { usage = λ e. (cc); done = λ e. (cc); read_fault = λ e. (cc); write_fault = λ e. (cc) }
+answering (troubles.Damaged blob) =
+    record { usage = λ e. (cc); done = λ e. (cc); read_fault = λ e. (cc); write_fault = λ e. (cc) }
+
+pub damaged_so : (trouble : Trouble) (blob : ℕ) → status_of_trouble trouble ≡ Damaged blob → trouble ≡ troubles.Damaged blob
+damaged_so troubles.NoMemory blob e = absurd (cc)
+damaged_so troubles.StoreFault blob e = absurd (cc)
+damaged_so (troubles.Damaged other) blob e = cc
+
+-- where a reply couldn't be written
+pub record IsWriting (status : Status) : Type 0 where
+  pub usage : status ≡ Usage → ⊥
+  pub done : status ≡ Done → ⊥
+  pub read_fault : status ≡ ReadFault → ⊥
+  pub store_fault : status ≡ StoreFault → ⊥
+  pub damaged : (blob : ℕ) → status ≡ Damaged blob → ⊥
+
+pub writing : (fault : Fault) → IsWriting (status_of_fault fault)
+writing Failed = record {
+  usage = λ e. (cc);
+  done = λ e. (cc);
+  read_fault = λ e. (cc);
+  store_fault = λ e. (cc);
+  damaged = λ blob e. (cc);
+}
+writing faults.NoMemory = record {
+  usage = λ e. (cc);
+  done = λ e. (cc);
+  read_fault = λ e. (cc);
+  store_fault = λ e. (cc);
+  damaged = λ blob e. (cc);
+}

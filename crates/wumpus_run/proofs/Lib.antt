@@ -1,6 +1,7 @@
 pub mod ReplyLemmas
 pub mod SettingLimits
 pub mod SessionLemmas
+pub mod SoundTexts
 pub mod AddressRoom
 pub mod PromptLemmas
 pub mod EndLemmas

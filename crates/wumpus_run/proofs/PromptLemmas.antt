@@ -1,22 +1,23 @@
 -- A session holds no reply back: at each moment the items of the bytes that were used are answered.
-use Rattle.std.proofs.Common.{◌≡◌, ℕ, zero, suc, ◌+◌, ◌-◌, ◌<◌, Bool, true, false, List, [], ◌∷◌, ◌++◌, length, take, drop, take_all, Option, None, Some, refl, sym, ap, ◌∙◌, subst, ◌⊎◌, inl, inr, arith, append_assoc, append-nil, length-append}
+use Rattle.std.proofs.Common.{◌≡◌, ℕ, zero, suc, ◌+◌, ◌-◌, ◌<◌, Bool, true, false, List, [], ◌∷◌, ◌++◌, length, take, drop, take_all, Option, None, Some, refl, sym, ap, ◌∙◌, subst, ◌⊎◌, inl, inr, arith, append_assoc, append-nil, length-append, IsSome}
 use Rattle.std.proofs.Math.Seq.{take-append-add}
 use Rattle.std.proofs.lemmas.List.{take-append-drop, take-append-le, length-take-le}
 use Rattle.std.specs.Io.KnownBytes.{Appends, Consumes}
 use Rattle.std.proofs.KnownBytes.{Appends-trans, Appends-nil, Consumes-nil, Consumes-trans}
+use Rattle.wu_outside.specs.Content.{Content}
 use Rattle.wu_script.specs.declared.ends.ReadEnd.{ReadEnd}
 use Rattle.wu_script.specs.declared.ends.ReadEnd.TheVariants as ends
 use Rattle.wu_script.specs.declared.types.Item.{Item}
 use Rattle.wu_script.specs.Commands.{Entry}
 use Rattle.wu_script.specs.Holding.{Held, Uses, but_last, settled}
-use Rattle.wu_script.specs.Said.{said_of, said_by}
+use Rattle.wu_script.specs.Said.{said_of, said_by, IsReading}
 use Rattle.wu_script.specs.Items.{First, first_of, whole_items_of, IsBeforeEnd, IsOneItem, TakesItem, EndsBeforeItem}
 use Rattle.wu_script.proofs.ItemListLemmas.{first_more, whole_items_of-none, whole_items_of-closed, whole_items_more}
 use Rattle.wu_script.proofs.UnclosedLemmas.{open_none}
 use Rattle.wu_options.specs.declared.command_lines.Settings.{Settings}
 use Rattle.wu_engine.specs.States.{State}
 use Rattle.wumpus_run.specs.Replies.{Rules, AreRules, after, said_bytes, output_of}
-use Rattle.wumpus_run.specs.Session.{Moment, AnswersWholeItems, AnswersAllButOneRead, HoldsNothingBack, status_of}
+use Rattle.wumpus_run.specs.Session.{Moment, AnswersWholeItems, AnswersAllButOneRead, AnswersItems, HoldsNothingBack, status_of}
 use Rattle.wumpus_run.specs.Taking.{GainsAtLeast}
 use Rattle.wumpus_run.proofs.SessionLemmas.{one_item}
 
@@ -93,17 +94,18 @@ module _ (told : Settings) (start : State) where
     pub whole : whole_output rules start given ≡ sent
 
   -- the source gave some bytes, and each item that was made of them is answered
-  pub record HasReplied (before left gained now : Option (List ℕ)) (held : Held) (s : State) (most : ℕ) : Type 0 where
+  pub record HasReplied (holds : Option Content) (before left gained now : Option (List ℕ)) (held : Held) (s : State) (most : ℕ)
+      : Type 0 where
     pub given : List ℕ
     pub consumed : Consumes before left given
     pub counted : held.spare + length given ≡ most
-    pub replied : (rules : Rules) → AreRules told rules
+    pub replied : (rules : Rules) → AreRules holds told rules
         → HasSentUsed rules gained now given held.bytes s ⊎ HasSentLast rules gained now given held
 
   -- at the start nothing was given
-  pub HasReplied-none : (before gained : Option (List ℕ)) (most : ℕ)
-      → HasReplied before before gained gained (record { bytes = []; spare = most; ended = false }) start most
-  HasReplied-none before gained most = record {
+  pub HasReplied-none : (holds : Option Content) (before gained : Option (List ℕ)) (most : ℕ)
+      → HasReplied holds before before gained gained (record { bytes = []; spare = most; ended = false }) start most
+  HasReplied-none holds before gained most = record {
     given = [];
     consumed = Consumes-nil before;
     counted = omega arith;
@@ -113,12 +115,12 @@ module _ (told : Settings) (start : State) where
   -- ---- a turn
 
   -- bytes that begin with a closed item are answered by its reply, and from the state that it leaves
-  closed-first : (rules : Rules) → AreRules told rules → (s : State) (last_read : ℕ) (new : Held) (item : Item) (used more : List ℕ)
+  closed-first : (rules : Rules) → IsReading rules.read → (s : State) (last_read : ℕ) (new : Held) (item : Item) (used more : List ℕ)
       → IsOneItem last_read new item used → (first_of used).closed ≡ true
       → whole_output rules s (used ++ more) ≡ said_bytes s (said_by item) ++ whole_output rules (after s (said_by item)) more
   closed-first rules are s last_read new item used more one closed =
       let first = first_more used more closed in
-      let says : said_by item ≡ said_of rules.read (first_of used).entry = one.entry rules.read are.0 in
+      let says : said_by item ≡ said_of rules.read (first_of used).entry = one.entry rules.read are in
       ap (output_of rules s)
       (whole_items_of-closed (used ++ more) (ap (λ (f : First). f.closed) first)
       ∙ ap (λ (f : First). f.entry ∷ whole_items_of f.rest) first)
@@ -136,7 +138,7 @@ module _ (told : Settings) (start : State) where
   joined_more given more used held piece behind joined next = ap (λ bs. bs ++ more) joined ∙ append_assoc used held more
       ∙ ap (λ bs. used ++ bs) next
 
-  sent_turn : (rules : Rules) → AreRules told rules
+  sent_turn : (rules : Rules) → IsReading rules.read
       → (left left' before between now : Option (List ℕ)) (given piece : List ℕ) (last_read : ℕ) (old new : Held) (s : State) (item : Item)
       → (uses : Uses left left' old new piece) → IsOneItem last_read new item piece → Appends between now (said_bytes s (said_by item))
       → HasSentUsed rules before between given old.bytes s
@@ -176,22 +178,23 @@ module _ (told : Settings) (start : State) where
           })
 
   -- a turn of the loop: an item was rules, and what answers it was written
-  pub HasReplied-turn : (before between left gained mid now : Option (List ℕ)) (last_read : ℕ) (old new : Held) (s t : State) (item : Item)
-      (reply written : List ℕ) (most : ℕ) → IsBeforeEnd item → TakesItem between left last_read old new item
-      → HasReplied before between gained mid old s most → reply ≡ said_bytes s (said_by item) → t ≡ after s (said_by item) → written ≡ reply
-      → Appends mid now written → HasReplied before left gained now new t most
-  HasReplied-turn before between left gained mid now last_read old new s t item reply written most other taken replied replies state same sent =
+  pub HasReplied-turn : (holds : Option Content) (before between left gained mid now : Option (List ℕ)) (last_read : ℕ) (old new : Held)
+      (s t : State) (item : Item) (reply written : List ℕ) (most : ℕ) → IsBeforeEnd item → TakesItem between left last_read old new item
+      → HasReplied holds before between gained mid old s most → (IsSome holds → reply ≡ said_bytes s (said_by item))
+      → t ≡ after s (said_by item) → written ≡ reply → Appends mid now written → HasReplied holds before left gained now new t most
+  HasReplied-turn holds before between left gained mid now last_read old new s t item reply written most other taken replied replies state same
+      sent =
       let uses = taken.1 in
       let one = one_item last_read new item taken.0 other taken.2 in
-      let wrote : Appends mid now (said_bytes s (said_by item)) = subst (Appends mid now) (same ∙ replies) sent in
-      subst (λ u. HasReplied before left gained now new u most) (sym state) (record {
+      subst (λ u. HasReplied holds before left gained now new u most) (sym state) (record {
         given = replied.given ++ uses.given;
         consumed = Consumes-trans before between left replied.given uses.given replied.consumed uses.consumed;
         counted = omega (arith, length-append replied.given uses.given, replied.counted, uses.counted);
-        replied = λ rules are. turn_case rules are uses one wrote (replied.replied rules are);
+        replied = λ rules are. turn_case rules are.0 uses one (subst (Appends mid now) (same ∙ replies are.2) sent)
+            (replied.replied rules are);
       })
     where
-      turn_case : (rules : Rules) → AreRules told rules → (uses : Uses between left old new taken.0) → IsOneItem last_read new item taken.0
+      turn_case : (rules : Rules) → IsReading rules.read → (uses : Uses between left old new taken.0) → IsOneItem last_read new item taken.0
           → Appends mid now (said_bytes s (said_by item))
           → HasSentUsed rules gained mid replied.given old.bytes s ⊎ HasSentLast rules gained mid replied.given old
           → HasSentUsed rules gained now (replied.given ++ uses.given) new.bytes (after s (said_by item)) ⊎ HasSentLast rules gained now
@@ -285,7 +288,8 @@ module _ (told : Settings) (start : State) where
   -- the source failed, or gave a byte too many
   AnswersWholeItems-stopped : (end : ReadEnd) (before now : Moment) (between : Option (List ℕ)) (old : Held) (s : State)
       → (end ≡ ends.NoMemory → ⊥)
-      → HasReplied before.left between before.gained now.gained old s told.max_input → EndsBeforeItem between now.left now.last_read old end
+      → HasReplied before.holds before.left between before.gained now.gained old s told.max_input
+      → EndsBeforeItem between now.left now.last_read old end
       → AnswersWholeItems start (Some told) before now
   AnswersWholeItems-stopped end before now between old s other replied stops = (
     replied.given ++ stops.given,
@@ -316,7 +320,7 @@ module _ (told : Settings) (start : State) where
 
   -- there was no memory to read an item
   AnswersAllButOneRead-stopped : (before now : Moment) (between : Option (List ℕ)) (old : Held) (s : State)
-      → HasReplied before.left between before.gained now.gained old s told.max_input
+      → HasReplied before.holds before.left between before.gained now.gained old s told.max_input
       → EndsBeforeItem between now.left now.last_read old ends.NoMemory
       → AnswersAllButOneRead start (Some told) before now
   AnswersAllButOneRead-stopped before now between old s replied stops = (
@@ -354,7 +358,7 @@ module _ (told : Settings) (start : State) where
   pub AnswersAllButOneRead-taken : (before now : Moment) (between mid : Option (List ℕ)) (old new : Held) (s : State) (item : Item)
       (piece : List ℕ)
       → IsBeforeEnd item → TakesItem between now.left now.last_read old new item
-      → HasReplied before.left between before.gained mid old s told.max_input → Appends mid now.gained piece
+      → HasReplied before.holds before.left between before.gained mid old s told.max_input → Appends mid now.gained piece
       → AnswersAllButOneRead start (Some told) before now
   AnswersAllButOneRead-taken before now between mid old new s item piece other taken replied wrote = (
     replied.given ++ taken.1.given,
@@ -384,6 +388,34 @@ module _ (told : Settings) (start : State) where
           sent.gained wrote
       by_case rules (inr sent) = absurd (none_left between now.left last old new item used taken.1 one sent.ended sent.none)
 
+  -- an item was taken, and nothing of its reply was written
+  pub AnswersItems-taken : (before now : Moment) (between : Option (List ℕ)) (old new : Held) (s : State) (item : Item)
+      → IsBeforeEnd item → TakesItem between now.left now.last_read old new item
+      → HasReplied before.holds before.left between before.gained now.gained old s told.max_input
+      → AnswersItems start (Some told) before now
+  AnswersItems-taken before now between old new s item other taken replied = (
+    replied.given ++ taken.1.given,
+    Consumes-trans before.left between now.left replied.given taken.1.given replied.consumed taken.1.consumed,
+    λ rules are. by_case rules (replied.replied rules are),
+  )
+    where
+      by_case : (rules : Rules)
+          → HasSentUsed rules before.gained now.gained replied.given old.bytes s ⊎ HasSentLast rules before.gained now.gained replied.given old
+          → (used : List ℕ) × (more : List ℕ) × (replied.given ++ taken.1.given ≡ used ++ more)
+          × Appends before.gained now.gained (whole_output rules start used)
+      by_case rules (inl sent) =
+          let exactly : whole_output rules start sent.used ≡ sent.sent =
+          ap (whole_output rules start) (sym (append-nil sent.used))
+          ∙ sent_exactly rules before.gained now.gained replied.given old.bytes [] s sent whole_items_of-none in (
+            sent.used,
+            old.bytes ++ taken.1.given,
+            ap (λ bs. bs ++ taken.1.given) sent.joined ∙ append_assoc sent.used old.bytes taken.1.given,
+            subst (Appends before.gained now.gained) (sym exactly) sent.gained,
+          )
+      by_case rules (inr sent) =
+          absurd (none_left between now.left now.last_read old new item taken.0 taken.1
+          (one_item now.last_read new item taken.0 other taken.2) sent.ended sent.none)
+
   -- nothing was given
   pub AnswersAllButOneRead-none : (before : Moment) → AnswersAllButOneRead start (Some told) before before
   AnswersAllButOneRead-none before = (
@@ -399,7 +431,8 @@ module _ (told : Settings) (start : State) where
 
   -- reading stopped
   pub HoldsNothingBack-stopped : (end : ReadEnd) (before now : Moment) (between : Option (List ℕ)) (old : Held) (s : State)
-      → HasReplied before.left between before.gained now.gained old s told.max_input → EndsBeforeItem between now.left now.last_read old end
+      → HasReplied before.holds before.left between before.gained now.gained old s told.max_input
+      → EndsBeforeItem between now.left now.last_read old end
       → HoldsNothingBack start (status_of end) (Some told) before now
   HoldsNothingBack-stopped ends.ReadFault before now between old s replied stops =
       AnswersWholeItems-stopped ends.ReadFault before now between old s (λ e. (cc)) replied stops

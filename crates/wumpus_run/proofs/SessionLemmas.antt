@@ -1,12 +1,13 @@
 -- A session, item by item.
-use Rattle.std.proofs.Common.{◌≡◌, ℕ, ◌+◌, ◌<◌, List, [], ◌++◌, length, Option, None, Some, refl, sym, ap, ◌∙◌, subst, arith, append_assoc, append-nil, length-append, IfSome}
+use Rattle.std.proofs.Common.{◌≡◌, ℕ, ◌+◌, ◌<◌, List, [], ◌++◌, length, Option, None, Some, refl, sym, ap, ◌∙◌, subst, arith, append_assoc, append-nil, length-append, IfSome, IsSome}
 use Rattle.std.specs.Io.KnownBytes.{Appends, Consumes, prepend_known}
 use Rattle.std.proofs.KnownBytes.{Appends-trans, Appends-nil, Consumes-trans}
+use Rattle.wu_outside.specs.Content.{Content}
 use Rattle.wu_outside.specs.Gains.{GainsPrefix}
 use Rattle.wu_script.specs.declared.types.Item.{Item}
 use Rattle.wu_script.specs.declared.types.Item.TheVariants as items
 use Rattle.wu_script.specs.Holding.{Held}
-use Rattle.wu_script.specs.Said.{said_of, said_by, IsReadAs}
+use Rattle.wu_script.specs.Said.{said_of, said_by, IsReadAs, IsReading}
 use Rattle.wu_script.specs.Items.{first_of, items_of, IsBeforeEnd, IsItem, IsOneItem, TakesItem, IsFirstItem, IsNext}
 use Rattle.wu_script.proofs.ItemListLemmas.{items_of-some}
 use Rattle.wu_options.specs.declared.command_lines.Settings.{Settings}
@@ -82,29 +83,30 @@ module _ (told : Settings) (start : State) where
       (output_of rules s (items_of left))
 
   -- the same, whatever reads the texts of expressions
-  abbrev pub HasAnswered : Option (List ℕ) → Option (List ℕ) → Option (List ℕ) → Option (List ℕ) → State → Type 0
-  HasAnswered before now input left s = (rules : Rules) → AreRules told rules → IsOnTheWay rules before now input left s
+  abbrev pub HasAnswered : Option Content → Option (List ℕ) → Option (List ℕ) → Option (List ℕ) → Option (List ℕ) → State → Type 0
+  HasAnswered holds before now input left s = (rules : Rules) → AreRules holds told rules → IsOnTheWay rules before now input left s
 
   at_start : (rules : Rules) (before input : Option (List ℕ)) → IsOnTheWay rules before before input (prepend_known [] input) start
   at_start rules before None = tt
   at_start rules before (Some input) = HasSent-none before (output_of rules start (items_of input))
 
   -- at the start nothing was sent
-  pub HasAnswered-none : (before input : Option (List ℕ)) → HasAnswered before before input (prepend_known [] input) start
-  HasAnswered-none before input = λ rules are. at_start rules before input
+  pub HasAnswered-none : (holds : Option Content) (before input : Option (List ℕ))
+      → HasAnswered holds before before input (prepend_known [] input) start
+  HasAnswered-none holds before input = λ rules are. at_start rules before input
 
   -- the output for some bytes is what answers the first item, and the output for what comes after it
-  output-first : (rules : Rules) → AreRules told rules → (s : State) (bytes rest : List ℕ) (item : Item) → IsBeforeEnd item
+  output-first : (rules : Rules) → IsReading rules.read → (s : State) (bytes rest : List ℕ) (item : Item) → IsBeforeEnd item
       → IsFirstItem bytes rest item
       → output_of rules s (items_of bytes) ≡ said_bytes s (said_by item) ++ output_of rules (after s (said_by item)) (items_of rest)
   output-first rules are s bytes rest item other is =
       let first = first_item bytes rest item other is in
-      let says : said_by item ≡ said_of rules.read (first_of bytes).entry = first.1 rules.read are.0 in
+      let says : said_by item ≡ said_of rules.read (first_of bytes).entry = first.1 rules.read are in
       ap (output_of rules s) (items_of-some bytes first.0)
       ∙ ap (λ said. said_bytes s said ++ output_of rules (after s said) (items_of (first_of bytes).rest)) (sym says)
       ∙ ap (λ bs. said_bytes s (said_by item) ++ output_of rules (after s (said_by item)) (items_of bs)) (sym first.2)
 
-  turn : (rules : Rules) → AreRules told rules → (before between now input left rest : Option (List ℕ)) (s : State) (item : Item)
+  turn : (rules : Rules) → IsReading rules.read → (before between now input left rest : Option (List ℕ)) (s : State) (item : Item)
       → IsBeforeEnd item → IsNext left rest item
       → IsOnTheWay rules before between input left s → Appends between now (said_bytes s (said_by item))
       → IsOnTheWay rules before now input rest (after s (said_by item))
@@ -118,28 +120,31 @@ module _ (told : Settings) (start : State) where
       (output-first rules are s left rest item other next) sent) gained
 
   -- a turn of the loop: an item was rules, and what answers it was written
-  pub HasAnswered-turn : (before between now input left rest : Option (List ℕ)) (s new : State) (item : Item) (reply written : List ℕ)
-      → IsBeforeEnd item → IsNext left rest item
-      → HasAnswered before between input left s → reply ≡ said_bytes s (said_by item) → new ≡ after s (said_by item) → written ≡ reply
-      → Appends between now written → HasAnswered before now input rest new
-  HasAnswered-turn before between now input left rest s new item reply written other next sent replies state same gained = λ rules are.
+  pub HasAnswered-turn : (holds : Option Content) (before between now input left rest : Option (List ℕ)) (s new : State) (item : Item)
+      (reply written : List ℕ) → IsBeforeEnd item → IsNext left rest item
+      → HasAnswered holds before between input left s → (IsSome holds → reply ≡ said_bytes s (said_by item)) → new ≡ after s (said_by item)
+      → written ≡ reply → Appends between now written → HasAnswered holds before now input rest new
+  HasAnswered-turn holds before between now input left rest s new item reply written other next sent replies state same gained =
+      λ rules are.
       subst (IsOnTheWay rules before now input rest) (sym state)
-      (turn rules are before between now input left rest s item other next (sent rules are)
-      (subst (Appends between now) (same ∙ replies) gained))
+      (turn rules are.0 before between now input left rest s item other next (sent rules are)
+      (subst (Appends between now) (same ∙ replies are.2) gained))
 
   -- what was sent so far is a prefix of the output
-  abbrev pub IsPrefix : Option (List ℕ) → Option (List ℕ) → Option (List ℕ) → Type 0
-  IsPrefix before now input = IfSome input
-      (λ bytes. (rules : Rules) → AreRules told rules → GainsPrefix before now (output_of rules start (items_of bytes)))
+  abbrev pub IsPrefix : Option Content → Option (List ℕ) → Option (List ℕ) → Option (List ℕ) → Type 0
+  IsPrefix holds before now input = IfSome input
+      (λ bytes. (rules : Rules) → AreRules holds told rules → GainsPrefix before now (output_of rules start (items_of bytes)))
 
-  pub IsPrefix-sent : (before now input left : Option (List ℕ)) (s : State) → HasAnswered before now input left s
-      → IsPrefix before now input
-  IsPrefix-sent before now None left s sent = tt
-  IsPrefix-sent before now (Some input) None s sent = λ rules are. absurd (sent rules are)
-  IsPrefix-sent before now (Some input) (Some left) s sent = λ rules are. HasSent-prefix before now (output_of rules start (items_of input))
+  pub IsPrefix-sent : (holds : Option Content) (before now input left : Option (List ℕ)) (s : State)
+      → HasAnswered holds before now input left s
+      → IsPrefix holds before now input
+  IsPrefix-sent holds before now None left s sent = tt
+  IsPrefix-sent holds before now (Some input) None s sent = λ rules are. absurd (sent rules are)
+  IsPrefix-sent holds before now (Some input) (Some left) s sent = λ rules are.
+      HasSent-prefix before now (output_of rules start (items_of input))
       (output_of rules s (items_of left)) (sent rules are)
 
-  part : (rules : Rules) → AreRules told rules
+  part : (rules : Rules) → IsReading rules.read
       → (before between now : Option (List ℕ)) (input : List ℕ) (left rest : Option (List ℕ)) (s : State) (item : Item) → IsBeforeEnd item
       → IsNext left rest item
       → IsOnTheWay rules before between (Some input) left s → GainsPrefix between now (said_bytes s (said_by item))
@@ -153,14 +158,14 @@ module _ (told : Settings) (start : State) where
       (output-first rules are s left rest item other next) sent) gained
 
   -- a turn that a fault ended: a prefix of what answers the item was written
-  pub IsPrefix-part : (before between now input left rest : Option (List ℕ)) (s : State) (item : Item) (reply written : List ℕ)
-      → IsBeforeEnd item → IsNext left rest item
-      → HasAnswered before between input left s → reply ≡ said_bytes s (said_by item) → written ≡ reply → GainsPrefix between now written
-      → IsPrefix before now input
-  IsPrefix-part before between now None left rest s item reply written other next sent replies same gained = tt
-  IsPrefix-part before between now (Some input) left rest s item reply written other next sent replies same gained = λ rules are.
-      part rules are before between now input left rest s item other next (sent rules are)
-      (subst (GainsPrefix between now) (same ∙ replies) gained)
+  pub IsPrefix-part : (holds : Option Content) (before between now input left rest : Option (List ℕ)) (s : State) (item : Item)
+      (reply written : List ℕ) → IsBeforeEnd item → IsNext left rest item
+      → HasAnswered holds before between input left s → (IsSome holds → reply ≡ said_bytes s (said_by item)) → written ≡ reply
+      → GainsPrefix between now written → IsPrefix holds before now input
+  IsPrefix-part holds before between now None left rest s item reply written other next sent replies same gained = tt
+  IsPrefix-part holds before between now (Some input) left rest s item reply written other next sent replies same gained = λ rules are.
+      part rules are.0 before between now input left rest s item other next (sent rules are)
+      (subst (GainsPrefix between now) (same ∙ replies are.2) gained)
 
 -- so many bytes were given, and so many more may be
 abbrev pub HasTaken : Option (List ℕ) → Option (List ℕ) → ℕ → ℕ → Type 0

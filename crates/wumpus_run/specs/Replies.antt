@@ -1,6 +1,7 @@
 -- The replies to a script, and the state that it leaves.
-use Rattle.std.specs.Prelude.{◌≡◌, ℕ, List, [], ◌∷◌, map, Option, Some, None}
+use Rattle.std.specs.Prelude.{◌≡◌, ℕ, List, [], ◌∷◌, map, Option, Some, None, IsSome}
 use Rattle.std.specs.List.{flat_map}
+use Rattle.wu_outside.specs.Content.{Content}
 use Rattle.wu_script.specs.declared.types.Why.TheVariants.{Tree}
 use Rattle.wu_script.specs.declared.types.Reply.{Reply}
 use Rattle.wu_script.specs.declared.types.Reply.TheVariants.{Ok as Accepted, Answered, Refused}
@@ -73,9 +74,10 @@ pub record Rules : Type 0 where
   pub read : Reading
   pub flush_at : ℕ
 
--- the rules of a session; there is one such reading, since each text has one
-abbrev pub AreRules : Settings → Rules → Type 0
-AreRules told rules = IsReading rules.read × (rules.flush_at ≡ told.flush_at)
+-- The rules of a session over a store that tells what it holds; there is one such reading, since each text has one. Of the output over
+-- any other store nothing is said.
+abbrev pub AreRules : Option Content → Settings → Rules → Type 0
+AreRules holds told rules = IsReading rules.read × (rules.flush_at ≡ told.flush_at) × IsSome holds
 
 -- the output for the items of a script
 abbrev pub output_of : Rules → State → List Entry → List ℕ

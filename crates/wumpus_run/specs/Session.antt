@@ -1,6 +1,9 @@
--- What a session did, by what source and sink told before and after it.
-use Rattle.std.specs.Prelude.{◌≡◌, ℕ, ◌+◌, ◌≤◌, ◌<◌, ◌⊎◌, ◌↔◌, List, [], length, take, Option, Some, None, IfSome, option_and_then}
+-- What a session did, by what source, sink and store told before and after it.
+use Rattle.std.specs.Prelude.{◌≡◌, ℕ, ◌+◌, ◌≤◌, ◌<◌, ◌⊎◌, ◌↔◌, List, [], ◌++◌, length, take, Option, Some, None, IfSome, IsSome, option_and_then, option_map}
 use Rattle.std.specs.Io.KnownBytes.{Appends, Consumes}
+use Rattle.wu_base.specs.declared.troubles.Trouble.{Trouble}
+use Rattle.wu_base.specs.declared.troubles.Trouble.TheVariants as troubles
+use Rattle.wu_outside.specs.Content.{Content}
 use Rattle.wu_outside.specs.Faults.{Rose}
 use Rattle.wu_outside.specs.declared.traits.Fault.{Fault}
 use Rattle.wu_outside.specs.declared.traits.Fault.TheVariants.{Failed}
@@ -15,27 +18,31 @@ use Rattle.wu_options.specs.declared.command_lines.CommandLine.{CommandLine}
 use Rattle.wu_options.specs.declared.command_lines.CommandLine.TheVariants.{Run, Demo}
 use Rattle.wu_options.specs.declared.command_lines.Settings.{Settings}
 use Rattle.wumpus_run.specs.declared.statuses.Status.{Status}
-use Rattle.wumpus_run.specs.declared.statuses.Status.TheVariants.{Done, Usage, ReadFault, WriteFault, NoMemory, InputTooLong}
+use Rattle.wumpus_run.specs.declared.statuses.Status.TheVariants.{Done, Usage, ReadFault, WriteFault, NoMemory, InputTooLong, StoreFault, Damaged}
 use Rattle.wu_engine.specs.States.{State}
 use Rattle.wumpus_run.specs.Replies.{Rules, AreRules, output_of}
 use Rattle.wumpus_run.specs.Taking.{TakesExactly, TakesAtMost, GainsAtLeast}
 
--- what source and sink tell at a moment: the bytes that the source has left and those that the sink gained, where they tell
--- them; how many bytes the source's last read gave; and how many calls of each failed
+-- what source, sink and store tell at a moment: the bytes that the source has left, those that the sink gained and what the store
+-- holds, where they tell it; how many bytes the source's last read gave; and how many calls of each failed
 pub record Moment : Type 0 where
   pub left : Option (List ℕ)
   pub last_read : ℕ
   pub read_faults : ℕ
   pub gained : Option (List ℕ)
   pub write_faults : ℕ
+  pub holds : Option Content
+  pub store_faults : ℕ
 
-abbrev pub moment : Option (List ℕ) → ℕ → ℕ → Option (List ℕ) → ℕ → Moment
-moment left last_read read_faults gained write_faults = record {
+abbrev pub moment : Option (List ℕ) → ℕ → ℕ → Option (List ℕ) → ℕ → Option Content → ℕ → Moment
+moment left last_read read_faults gained write_faults holds store_faults = record {
   left = left;
   last_read = last_read;
   read_faults = read_faults;
   gained = gained;
   write_faults = write_faults;
+  holds = holds;
+  store_faults = store_faults;
 }
 
 -- ---- which session
@@ -61,6 +68,10 @@ pub record IsCounted (fault status : Status) (before now : ℕ) : Type 0 where
   pub rose : status ≡ fault → Rose before now
   pub calm : (status ≡ fault → ⊥) → now ≡ before
 
+-- what the store tells of its root is as it was
+abbrev pub KeepsRoot : Option Content → Option Content → Type 0
+KeepsRoot before now = option_map (λ content. content.root) now ≡ option_map (λ content. content.root) before
+
 -- The source gave at most one byte past the limit.
 abbrev pub StaysWithin : Option Settings → Moment → Moment → Type 0
 StaysWithin settings before now = IfSome settings (λ told. TakesAtMost (told.max_input + 1) before.left now.left)
@@ -76,24 +87,30 @@ IsTooLong status settings before now = IfSome settings (λ told. IfSome before.l
 abbrev pub AnswersAll : State → Option Settings → Moment → Moment → Type 0
 AnswersAll start settings before now = IfSome settings (λ told. IfSome before.left (λ input.
     (length input ≤ told.max_input) × (now.left ≡ Some [])
-    × ((rules : Rules) → AreRules told rules → Appends before.gained now.gained (output_of rules start (items_of input)))))
+    × ((rules : Rules) → AreRules before.holds told rules → Appends before.gained now.gained (output_of rules start (items_of input)))))
 
 -- The sink gained a prefix of the output for the items of the input.
 abbrev pub AnswersPrefix : State → Option Settings → Moment → Moment → Type 0
 AnswersPrefix start settings before now = IfSome settings (λ told. IfSome before.left (λ input.
-    (rules : Rules) → AreRules told rules → GainsPrefix before.gained now.gained (output_of rules start (items_of input))))
+    (rules : Rules) → AreRules before.holds told rules → GainsPrefix before.gained now.gained (output_of rules start (items_of input))))
 
 -- The sink gained exactly the output for the whole items of the bytes that the source gave, without the one byte too many.
 abbrev pub AnswersWholeItems : State → Option Settings → Moment → Moment → Type 0
 AnswersWholeItems start settings before now = IfSome settings (λ told. (given : List ℕ) × Consumes before.left now.left given
-    × ((rules : Rules) → AreRules told rules
+    × ((rules : Rules) → AreRules before.holds told rules
     → Appends before.gained now.gained (output_of rules start (whole_items_of (take told.max_input given)))))
 
 -- The sink gained at least the output for the whole items of the bytes that the source gave, without those of its last read.
 abbrev pub AnswersAllButOneRead : State → Option Settings → Moment → Moment → Type 0
 AnswersAllButOneRead start settings before now = IfSome settings (λ told. (given : List ℕ) × Consumes before.left now.left given
-    × ((rules : Rules) → AreRules told rules
+    × ((rules : Rules) → AreRules before.holds told rules
     → GainsAtLeast before.gained now.gained (output_of rules start (whole_items_of (but_last now.last_read given)))))
+
+-- The sink gained exactly the output for the whole items of some bytes with which those that the source gave begin: no reply was cut.
+abbrev pub AnswersItems : State → Option Settings → Moment → Moment → Type 0
+AnswersItems start settings before now = IfSome settings (λ told. (given : List ℕ) × Consumes before.left now.left given
+    × ((rules : Rules) → AreRules before.holds told rules → (used : List ℕ) × (more : List ℕ) × (given ≡ used ++ more)
+    × Appends before.gained now.gained (output_of rules start (whole_items_of used))))
 
 -- No reply was held back where a session ended early.
 abbrev pub HoldsNothingBack : State → Status → Option Settings → Moment → Moment → Type 0
@@ -103,10 +120,15 @@ HoldsNothingBack start ReadFault settings before now = AnswersWholeItems start s
 HoldsNothingBack start InputTooLong settings before now = AnswersWholeItems start settings before now
 HoldsNothingBack start WriteFault settings before now = AnswersAllButOneRead start settings before now
 HoldsNothingBack start NoMemory settings before now = AnswersAllButOneRead start settings before now
+HoldsNothingBack start StoreFault settings before now =
+    AnswersAllButOneRead start settings before now × AnswersItems start settings before now
+HoldsNothingBack start (Damaged blob) settings before now =
+    AnswersAllButOneRead start settings before now × AnswersItems start settings before now
 
--- An input within the limit is answered, and a longer one called too long, unless there was no memory.
+-- Over a store that tells what it holds, an input within the limit is answered, and a longer one called too long, unless there was no
+-- memory.
 abbrev pub Completes : Status → Option Settings → Moment → Type 0
-Completes status settings before = IfSome settings (λ told. IfSome before.left (λ input.
+Completes status settings before = IfSome settings (λ told. IfSome before.left (λ input. IsSome before.holds →
     (length input ≤ told.max_input → (status ≡ Done) ⊎ (status ≡ NoMemory))
     × (told.max_input < length input → (status ≡ InputTooLong) ⊎ (status ≡ NoMemory))))
 
@@ -120,12 +142,20 @@ code_of ReadFault = 2
 code_of WriteFault = 3
 code_of NoMemory = 4
 code_of InputTooLong = 5
+code_of StoreFault = 6
+code_of (Damaged blob) = 7
 
 -- how a session ends where no item could be read
 abbrev pub status_of : ReadEnd → Status
 status_of ends.ReadFault = ReadFault
 status_of ends.InputTooLong = InputTooLong
 status_of ends.NoMemory = NoMemory
+
+-- how it ends where an item couldn't be answered
+abbrev pub status_of_trouble : Trouble → Status
+status_of_trouble troubles.NoMemory = NoMemory
+status_of_trouble troubles.StoreFault = StoreFault
+status_of_trouble (troubles.Damaged blob) = Damaged blob
 
 -- how it ends where a reply couldn't be written
 abbrev pub status_of_fault : Fault → Status

@@ -1,14 +1,16 @@
 //! An item of the script is answered by the engine.
-ghost use Rattle.std.specs.Prelude.{◌≡◌, ◌+◌, ◌≤◌, ◌++◌, None, length, IfErr, OnOk};
+ghost use Rattle.std.specs.Prelude.{◌≡◌, ℕ, ◌+◌, ◌<◌, ◌≤◌, ◌^◌, ◌++◌, None, Err, length, OnOk};
 ghost use Rattle.wu_base.specs.declared.limits.TheConstants.{ADDRESSES_MAX, TEXT_MAX};
-ghost use Rattle.wu_base.specs.declared.troubles.Trouble.TheVariants.{NoMemory as RanOutOfMemory};
+ghost use Rattle.wu_base.specs.declared.troubles.Trouble.TheVariants.{Damaged};
 ghost use Rattle.wu_ask.specs.Questions.{question_of, IsSoundAsk};
 ghost use Rattle.wu_tree.specs.Steps.{IsEvent};
 ghost use Rattle.wu_script.specs.Replies.{reply_bytes};
 ghost use Rattle.wu_script.specs.Said.{Asks, Happens, IsSoundItem, said_by, tokens_given};
+ghost use Rattle.wu_engine.specs.Causes.{HasTroubleCause};
 ghost use Rattle.wu_engine.specs.Stands.{Stands};
 ghost use Rattle.wu_engine.specs.States.{State};
 ghost use Rattle.wumpus_run.specs.Replies.{after, said_bytes, verdict_reply};
+ghost use Rattle.wumpus_run.specs.Session.{KeepsRoot};
 
 use wu_ask::Query;
 use wu_base::{NoMemory, Trouble};
@@ -18,7 +20,8 @@ use wu_script::{Command, Item, Reply, Why, put_reply};
 use wu_tree::Event;
 
 /// Appends the bytes that answer the item, after which the state is the one that it leaves. The engine is one
-/// that goes on, with addresses left for the item's text; the only trouble is out of memory.
+/// that goes on, with addresses left for the item's text and a blob. Over an engine and a store that stand for
+/// a state, no blob is called damaged.
 pub fn answer<D: Store>(
     engine: &mut Engine,
     store: &mut D,
@@ -28,11 +31,15 @@ pub fn answer<D: Store>(
     requires sound { IsSoundItem item }
     requires goes_on { engine.old.ended ≡ None }
     requires room { engine.old.space.next + tokens_given (said_by item) ≤ ADDRESSES_MAX }
-    ensures answer { (s : State) → Stands engine.old s → OnOk result
-        ((out.new.items ≡ out.old.items ++ said_bytes s (said_by item)) × Stands engine.new (after s (said_by item))) }
+    requires blobs { engine.old.parts.next_blob < 2 ^ 63 }
+    ensures answer { (s : State) → Stands engine.old (D.holds store.old) s → OnOk result
+        ((out.new.items ≡ out.old.items ++ said_bytes s (said_by item)) × Stands engine.new (D.holds store.new) (after s (said_by item))) }
     ensures taken { OnOk result (engine.new.space.next ≤ engine.old.space.next + tokens_given (said_by item)) }
-    ensures cause { IfErr result (λ trouble. trouble ≡ RanOutOfMemory) }
-    ensures store { store.new ≡ store.old }
+    ensures drawn { OnOk result (engine.new.parts.next_blob ≤ engine.old.parts.next_blob + 1) }
+    ensures root { KeepsRoot (D.holds store.old) (D.holds store.new) }
+    ensures goes_on { OnOk result (engine.new.ended ≡ None) }
+    ensures cause { HasTroubleCause engine.old.ended (D.faults store.old) (D.faults store.new) result }
+    ensures damaged { (s : State) → Stands engine.old (D.holds store.old) s → (blob : ℕ) → result ≡ Err (Damaged blob) → ⊥ }
 {
     match item {
         Item::Command(Command::Update(event)) => answer_event(engine, store, &event, b"", out),
@@ -57,11 +64,15 @@ fn answer_event<D: Store>(
     requires short { length body.now ≤ TEXT_MAX }
     requires goes_on { engine.old.ended ≡ None }
     requires room { engine.old.space.next + tokens_given (Happens event.now body.now) ≤ ADDRESSES_MAX }
-    ensures answer { (s : State) → Stands engine.old s → OnOk result
-        ((out.new.items ≡ out.old.items ++ said_bytes s (Happens event.now body.now)) × Stands engine.new (after s (Happens event.now body.now))) }
+    requires blobs { engine.old.parts.next_blob < 2 ^ 63 }
+    ensures answer { (s : State) → Stands engine.old (D.holds store.old) s → OnOk result
+        ((out.new.items ≡ out.old.items ++ said_bytes s (Happens event.now body.now)) × Stands engine.new (D.holds store.new) (after s (Happens event.now body.now))) }
     ensures taken { OnOk result (engine.new.space.next ≤ engine.old.space.next + tokens_given (Happens event.now body.now)) }
-    ensures cause { IfErr result (λ trouble. trouble ≡ RanOutOfMemory) }
-    ensures store { store.new ≡ store.old }
+    ensures drawn { OnOk result (engine.new.parts.next_blob ≤ engine.old.parts.next_blob + 1) }
+    ensures root { KeepsRoot (D.holds store.old) (D.holds store.new) }
+    ensures goes_on { OnOk result (engine.new.ended ≡ None) }
+    ensures cause { HasTroubleCause engine.old.ended (D.faults store.old) (D.faults store.new) result }
+    ensures damaged { (s : State) → Stands engine.old (D.holds store.old) s → (blob : ℕ) → result ≡ Err (Damaged blob) → ⊥ }
 {
     let verdict = engine.update(store, event, body)?;
     put_verdict(out, verdict)?;
@@ -77,11 +88,14 @@ fn answer_query<D: Store>(
 ) -> Result<(), Trouble>
     requires sound { IsSoundAsk query.now.ask }
     requires goes_on { engine.old.ended ≡ None }
-    ensures answer { (s : State) → Stands engine.old s → OnOk result
-        ((out.new.items ≡ out.old.items ++ said_bytes s (Asks query.now.uid (question_of query.now.ask))) × Stands engine.new s) }
+    ensures answer { (s : State) → Stands engine.old (D.holds store.old) s → OnOk result
+        ((out.new.items ≡ out.old.items ++ said_bytes s (Asks query.now.uid (question_of query.now.ask))) × Stands engine.new (D.holds store.new) s) }
     ensures space { engine.new.space ≡ engine.old.space }
-    ensures cause { IfErr result (λ trouble. trouble ≡ RanOutOfMemory) }
-    ensures store { store.new ≡ store.old }
+    ensures next_blob { engine.new.parts.next_blob ≡ engine.old.parts.next_blob }
+    ensures root { KeepsRoot (D.holds store.old) (D.holds store.new) }
+    ensures goes_on { OnOk result (engine.new.ended ≡ None) }
+    ensures cause { HasTroubleCause engine.old.ended (D.faults store.old) (D.faults store.new) result }
+    ensures damaged { (s : State) → Stands engine.old (D.holds store.old) s → (blob : ℕ) → result ≡ Err (Damaged blob) → ⊥ }
 {
     let answered = engine.query(store, query)?;
     put_reply(out, &Reply::Answered(answered))?;

@@ -1,15 +1,14 @@
 //! A session: the script is read as it comes, and each item is answered in turn.
-ghost use Rattle.std.specs.Prelude.{◌≡◌, ◌≤◌, [], None, Some, false, IfOk, OnErr, OnOk, MatchBool};
+ghost use Rattle.std.specs.Prelude.{◌≡◌, ℕ, ◌≤◌, [], None, Some, false, IfOk, IsSome, OnErr, OnOk, MatchBool};
 ghost use Rattle.std.specs.Io.KnownBytes.{Appends};
 ghost use Rattle.wu_base.specs.declared.limits.TheConstants.{INPUT_MAX};
-ghost use Rattle.wu_base.specs.declared.troubles.Trouble.TheVariants.{NoMemory as RanOutOfMemory};
 ghost use Rattle.wu_outside.specs.Faults.{HasFaultCause, Rose};
 ghost use Rattle.wu_outside.specs.Gains.{GainsPrefix};
 ghost use Rattle.wu_script.specs.Items.{IsBeforeEnd};
 ghost use Rattle.wu_options.specs.CommandLines.{texts_of};
 ghost use Rattle.wu_engine.specs.Stands.{Stands};
 ghost use Rattle.wu_engine.specs.States.{first_state};
-ghost use Rattle.wumpus_run.specs.Session.{settings_of, moment, status_of, status_of_fault, IsUsage, IsCounted, AnswersAll, AnswersPrefix, StaysWithin, IsTooLong, HoldsNothingBack, Ends, Completes};
+ghost use Rattle.wumpus_run.specs.Session.{settings_of, moment, status_of, status_of_fault, status_of_trouble, IsUsage, IsCounted, AnswersAll, AnswersPrefix, StaysWithin, IsTooLong, HoldsNothingBack, KeepsRoot, Ends, Completes};
 
 use crate::answering::answer;
 use crate::statuses::Status;
@@ -23,7 +22,9 @@ use wu_script::{Item, ReadEnd, Reader};
 /// Runs a session: reads the script from the source as it comes, and writes the reply to each of its
 /// items to the sink before it reads the next. `words` are the command-line arguments, those after
 /// the program's name; they say how many bytes the input may have. The source is one that has not
-/// given its end.
+/// given its end. The session begins with the root directory alone, whatever the store holds; it puts its
+/// texts there under blobs from number 1 on, and saves nothing. What is said of the output is said where
+/// source, sink and store tell what they have.
 pub fn run<I: Source, O: Sink, D: Store>(
     alloc: Global,
     words: &[&str],
@@ -34,41 +35,58 @@ pub fn run<I: Source, O: Sink, D: Store>(
     requires { I.ended source.old ≡ false }
     // Usage comes exactly where the arguments ask for no session, and then nothing is touched.
     ensures usage { IsUsage result (settings_of (texts_of words.now)) }
-    ensures untouched { (settings_of (texts_of words.now)) ≡ None → (source.new ≡ source.old) × (sink.new ≡ sink.old) }
-    ensures store { store.new ≡ store.old }
+    ensures untouched { (settings_of (texts_of words.now)) ≡ None → (source.new ≡ source.old) × (sink.new ≡ sink.old) × (store.new ≡ store.old) }
 
     // The input was read to its end, and the sink gained the replies to its items, and nothing else.
     ensures done { result ≡ Status.Done → AnswersAll first_state (settings_of (texts_of words.now))
-        (moment (I.left source.old) (I.last_read source.old) (I.faults source.old) (O.gained sink.old) (O.faults sink.old))
-        (moment (I.left source.new) (I.last_read source.new) (I.faults source.new) (O.gained sink.new) (O.faults sink.new)) }
+        (moment (I.left source.old) (I.last_read source.old) (I.faults source.old)
+        (O.gained sink.old) (O.faults sink.old) (D.holds store.old) (D.faults store.old))
+        (moment (I.left source.new) (I.last_read source.new) (I.faults source.new)
+        (O.gained sink.new) (O.faults sink.new) (D.holds store.new) (D.faults store.new)) }
 
-    // A fault of the source or the sink ends the session, exactly where its count of faults rose.
+    // A fault of the source, the sink or the store ends the session, exactly where its count of faults rose.
     ensures read_fault { IsCounted Status.ReadFault result (I.faults source.old) (I.faults source.new) }
     ensures write_fault { IsCounted Status.WriteFault result (O.faults sink.old) (O.faults sink.new) }
+    ensures store_fault { IsCounted Status.StoreFault result (D.faults store.old) (D.faults store.new) }
     ensures too_long { IsTooLong result (settings_of (texts_of words.now))
-        (moment (I.left source.old) (I.last_read source.old) (I.faults source.old) (O.gained sink.old) (O.faults sink.old))
-        (moment (I.left source.new) (I.last_read source.new) (I.faults source.new) (O.gained sink.new) (O.faults sink.new)) }
+        (moment (I.left source.old) (I.last_read source.old) (I.faults source.old)
+        (O.gained sink.old) (O.faults sink.old) (D.holds store.old) (D.faults store.old))
+        (moment (I.left source.new) (I.last_read source.new) (I.faults source.new)
+        (O.gained sink.new) (O.faults sink.new) (D.holds store.new) (D.faults store.new)) }
+
+    // A store that tells what it holds is never called damaged, and its root stays.
+    ensures damaged { IsSome (D.holds store.old) → (blob : ℕ) → result ≡ Status.Damaged blob → ⊥ }
+    ensures root { KeepsRoot (D.holds store.old) (D.holds store.new) }
 
     // Whatever the status, no byte after the one past the limit was taken, and the sink gained a
     // prefix of the output.
     ensures taken { StaysWithin (settings_of (texts_of words.now))
-        (moment (I.left source.old) (I.last_read source.old) (I.faults source.old) (O.gained sink.old) (O.faults sink.old))
-        (moment (I.left source.new) (I.last_read source.new) (I.faults source.new) (O.gained sink.new) (O.faults sink.new)) }
+        (moment (I.left source.old) (I.last_read source.old) (I.faults source.old)
+        (O.gained sink.old) (O.faults sink.old) (D.holds store.old) (D.faults store.old))
+        (moment (I.left source.new) (I.last_read source.new) (I.faults source.new)
+        (O.gained sink.new) (O.faults sink.new) (D.holds store.new) (D.faults store.new)) }
     ensures prefix { AnswersPrefix first_state (settings_of (texts_of words.now))
-        (moment (I.left source.old) (I.last_read source.old) (I.faults source.old) (O.gained sink.old) (O.faults sink.old))
-        (moment (I.left source.new) (I.last_read source.new) (I.faults source.new) (O.gained sink.new) (O.faults sink.new)) }
+        (moment (I.left source.old) (I.last_read source.old) (I.faults source.old)
+        (O.gained sink.old) (O.faults sink.old) (D.holds store.old) (D.faults store.old))
+        (moment (I.left source.new) (I.last_read source.new) (I.faults source.new)
+        (O.gained sink.new) (O.faults sink.new) (D.holds store.new) (D.faults store.new)) }
 
     // No reply was held back: where the source failed or gave too much, the sink gained exactly the
-    // replies to the whole items that the source gave; where the sink failed or there was no memory,
-    // at least those to the whole items before the bytes of the source's last read.
+    // replies to the whole items that the source gave; where sink or store failed or there was no memory,
+    // at least those to the whole items before the bytes of the source's last read. Where the store
+    // failed, or is damaged, no reply was cut.
     ensures prompt { HoldsNothingBack first_state result (settings_of (texts_of words.now))
-        (moment (I.left source.old) (I.last_read source.old) (I.faults source.old) (O.gained sink.old) (O.faults sink.old))
-        (moment (I.left source.new) (I.last_read source.new) (I.faults source.new) (O.gained sink.new) (O.faults sink.new)) }
+        (moment (I.left source.old) (I.last_read source.old) (I.faults source.old)
+        (O.gained sink.old) (O.faults sink.old) (D.holds store.old) (D.faults store.old))
+        (moment (I.left source.new) (I.last_read source.new) (I.faults source.new)
+        (O.gained sink.new) (O.faults sink.new) (D.holds store.new) (D.faults store.new)) }
 
     // Without a fault the session is done, unless there was no memory or the input is too long.
     ensures complete { ¬ Rose (I.faults source.old) (I.faults source.new) → ¬ Rose (O.faults sink.old) (O.faults sink.new)
+        → ¬ Rose (D.faults store.old) (D.faults store.new)
         → Completes result (settings_of (texts_of words.now))
-        (moment (I.left source.old) (I.last_read source.old) (I.faults source.old) (O.gained sink.old) (O.faults sink.old)) }
+        (moment (I.left source.old) (I.last_read source.old) (I.faults source.old)
+        (O.gained sink.old) (O.faults sink.old) (D.holds store.old) (D.faults store.old)) }
 {
     match read_command_line(alloc, words) {
         Ok(Some(CommandLine::Run(settings))) => answer_script(alloc, settings, source, sink, store),
@@ -88,15 +106,21 @@ fn answer_script<I: Source, O: Sink, D: Store>(
     requires goes_on { I.ended source.old ≡ false }
     requires within { settings.max_input ≤ INPUT_MAX }
     ensures usage { result ≡ Status.Usage → ⊥ }
-    ensures store { store.new ≡ store.old }
     ensures done { result ≡ Status.Done → AnswersAll first_state (Some settings)
-        (moment (I.left source.old) (I.last_read source.old) (I.faults source.old) (O.gained sink.old) (O.faults sink.old))
-        (moment (I.left source.new) (I.last_read source.new) (I.faults source.new) (O.gained sink.new) (O.faults sink.new)) }
+        (moment (I.left source.old) (I.last_read source.old) (I.faults source.old)
+        (O.gained sink.old) (O.faults sink.old) (D.holds store.old) (D.faults store.old))
+        (moment (I.left source.new) (I.last_read source.new) (I.faults source.new)
+        (O.gained sink.new) (O.faults sink.new) (D.holds store.new) (D.faults store.new)) }
     ensures read_fault { IsCounted Status.ReadFault result (I.faults source.old) (I.faults source.new) }
     ensures write_fault { IsCounted Status.WriteFault result (O.faults sink.old) (O.faults sink.new) }
+    ensures store_fault { IsCounted Status.StoreFault result (D.faults store.old) (D.faults store.new) }
+    ensures damaged { IsSome (D.holds store.old) → (blob : ℕ) → result ≡ Status.Damaged blob → ⊥ }
+    ensures root { KeepsRoot (D.holds store.old) (D.holds store.new) }
     ensures ends { Ends first_state result settings
-        (moment (I.left source.old) (I.last_read source.old) (I.faults source.old) (O.gained sink.old) (O.faults sink.old))
-        (moment (I.left source.new) (I.last_read source.new) (I.faults source.new) (O.gained sink.new) (O.faults sink.new)) }
+        (moment (I.left source.old) (I.last_read source.old) (I.faults source.old)
+        (O.gained sink.old) (O.faults sink.old) (D.holds store.old) (D.faults store.old))
+        (moment (I.left source.new) (I.last_read source.new) (I.faults source.new)
+        (O.gained sink.new) (O.faults sink.new) (D.holds store.new) (D.faults store.new)) }
 {
     let (mut reader, mut engine) = match start(alloc, settings, store) {
         Ok(start) => start,
@@ -130,7 +154,10 @@ fn start<D: Store>(
     store: &mut D,
 ) -> Result<(Reader, Engine), NoMemory>
     ensures reader { IfOk result (λ start. start.0 ≡ record { bytes = []; spare = settings.max_input; ended = false }) }
-    ensures engine { IfOk result (λ start. Stands start.1 first_state) }
+    ensures engine { IfOk result (λ start. IsSome (D.holds store.old) → Stands start.1 (D.holds store.new) first_state) }
+    ensures next { IfOk result (λ start. start.1.space.next ≡ 0) }
+    ensures next_blob { IfOk result (λ start. start.1.parts.next_blob ≡ 1) }
+    ensures goes_on { IfOk result (λ start. start.1.ended ≡ None) }
     ensures store { store.new ≡ store.old }
 {
     Ok((
@@ -150,15 +177,14 @@ fn status_of(end: ReadEnd) -> Status
     }
 }
 
-/// How a session ends where the engine couldn't answer: it keeps nothing in the store yet, and so only runs
-/// out of memory.
+/// How a session ends where an item couldn't be answered.
 fn status_of_trouble(trouble: Trouble) -> Status
-    requires { trouble ≡ RanOutOfMemory }
-    ensures { result ≡ Status.NoMemory }
+    ensures { result ≡ status_of_trouble trouble }
 {
     match trouble {
         Trouble::NoMemory => Status::NoMemory,
-        Trouble::StoreFault | Trouble::Damaged { .. } => unreachable!(),
+        Trouble::StoreFault => Status::StoreFault,
+        Trouble::Damaged { blob } => Status::Damaged { blob },
     }
 }
 

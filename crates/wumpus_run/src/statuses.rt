@@ -17,6 +17,10 @@ pub enum Status {
     NoMemory,
     /// The input has more bytes than its limit.
     InputTooLong,
+    /// The store failed.
+    StoreFault,
+    /// What the store has of this blob isn't what was put there.
+    Damaged { blob: u64 },
 }
 
 impl Status {
@@ -31,6 +35,8 @@ impl Status {
             Status::WriteFault => 3,
             Status::NoMemory => 4,
             Status::InputTooLong => 5,
+            Status::StoreFault => 6,
+            Status::Damaged { .. } => 7,
         }
     }
 }

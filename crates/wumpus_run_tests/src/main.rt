@@ -6,6 +6,7 @@ mod growing;
 mod pieces;
 mod sessions;
 mod statuses;
+mod stores;
 
 use crate::sessions::Session;
 use std::alloc::Global;
@@ -39,6 +40,8 @@ impl Subject for Tables {
             ("output", [script]) => sessions::output(alloc, script),
             ("calls", [words, script]) => sessions::calls(alloc, words, script),
             ("faults", [reads, writes, script]) => sessions::faulty(alloc, reads, writes, script),
+            ("store faults", [calls, script]) => stores::failing(alloc, calls, script),
+            ("lost blobs", [script]) => stores::losing(alloc, script),
             ("pieces", [most, script]) => pieces::output(alloc, most, script),
             ("code", [status]) => statuses::code(alloc, status),
             ("command line", [words]) => command_lines::asked_for(alloc, words),

@@ -91,7 +91,7 @@ pub fn calls(alloc: Global, field: &str, script_field: &str) -> Result<String, N
         Vec::new(alloc),
         Vec::new(alloc),
     )?;
-    let name = name_of(ending.status);
+    let name = name_of(alloc, ending.status)?;
     Ok(format!(in alloc; "{name} {} {}", ending.reads, ending.writes)?)
 }
 
@@ -105,7 +105,7 @@ pub fn faulty(alloc: Global, reads: &str, writes: &str, field: &str) -> Result<S
         numbers(alloc, reads)?,
         numbers(alloc, writes)?,
     )?;
-    let name = name_of(ending.status);
+    let name = name_of(alloc, ending.status)?;
     let output = shown(alloc, ending.output.as_slice())?;
     Ok(format!(in alloc; "{name}: {output}")?)
 }

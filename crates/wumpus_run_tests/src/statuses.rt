@@ -1,6 +1,6 @@
 //! How sessions end.
 use std::alloc::Global;
-use wu_rows::{NoAnswer, number_text};
+use wu_rows::{NoAnswer, number_text, plain_text};
 use wumpus_run::Status;
 
 /// The code of the status of this name.
@@ -17,18 +17,22 @@ fn named(name: &str) -> Result<Status, NoAnswer> {
         "write fault" => Ok(Status::WriteFault),
         "no memory" => Ok(Status::NoMemory),
         "input too long" => Ok(Status::InputTooLong),
+        "store fault" => Ok(Status::StoreFault),
+        "damaged at blob 1" => Ok(Status::Damaged { blob: 1 }),
         _ => Err(NoAnswer::BadRow),
     }
 }
 
 /// The name of the status.
-pub fn name_of(status: Status) -> &'static str {
+pub fn name_of(alloc: Global, status: Status) -> Result<String, NoAnswer> {
     match status {
-        Status::Done => "done",
-        Status::Usage => "usage",
-        Status::ReadFault => "read fault",
-        Status::WriteFault => "write fault",
-        Status::NoMemory => "no memory",
-        Status::InputTooLong => "input too long",
+        Status::Done => plain_text(alloc, "done"),
+        Status::Usage => plain_text(alloc, "usage"),
+        Status::ReadFault => plain_text(alloc, "read fault"),
+        Status::WriteFault => plain_text(alloc, "write fault"),
+        Status::NoMemory => plain_text(alloc, "no memory"),
+        Status::InputTooLong => plain_text(alloc, "input too long"),
+        Status::StoreFault => plain_text(alloc, "store fault"),
+        Status::Damaged { blob } => Ok(format!(in alloc; "damaged at blob {blob}")?),
     }
 }

@@ -10,5 +10,5 @@ pub returns-then-are_apart-clause-ascending : goal.returns-then-are_apart-clause
 returns-then-are_apart-clause-ascending c = λ apart.
     let region = region_of c.args.expr.now in
     let met = c.deref.result.now in
-    IfOk-weaker c.solve_apart.result (λ v. v.items ≡ frames_hits region c.args.lists.now met) (λ v. IsAscending v.items)
-    (λ v same. rw same (frames_ascend region c.args.lists.now met (rw c.deref.ensures.value c.in_ok-met.ensures.apart))) c.solve_apart.ensures
+    IfOk-weaker c.solve_parts.result (λ v. v.items ≡ frames_hits region c.args.lists.now met) (λ v. IsAscending v.items)
+    (λ v same. rw same (frames_ascend region c.args.lists.now met (rw c.deref.ensures.value c.in_ok-met.ensures.apart))) c.solve_parts.ensures

@@ -11,12 +11,14 @@ use Rattle.wumpus_run.proofs.session.run.Goals as goal
 pub returns-in-Err-clause-too_long : goal.returns-in-Err-clause-too_long
 returns-in-Err-clause-too_long g c = IsTooLong-none NoMemory (settings_of (texts_of c.args.words.now))
     (moment (g.I.Source.left c.args.source.now) (g.I.Source.last_read c.args.source.now) (g.I.Source.faults c.args.source.now)
-    (g.O.Sink.gained c.args.sink.now) (g.O.Sink.faults c.args.sink.now)) (λ e. (cc))
+    (g.O.Sink.gained c.args.sink.now) (g.O.Sink.faults c.args.sink.now)
+    (g.D.Store.holds c.args.store.now) (g.D.Store.faults c.args.store.now)) (λ e. (cc))
 
 pub returns-in-Err-clause-prompt : goal.returns-in-Err-clause-prompt
 returns-in-Err-clause-prompt g c = AnswersAllButOneRead-untouched first_state (settings_of (texts_of c.args.words.now))
     (moment (g.I.Source.left c.args.source.now) (g.I.Source.last_read c.args.source.now) (g.I.Source.faults c.args.source.now)
-    (g.O.Sink.gained c.args.sink.now) (g.O.Sink.faults c.args.sink.now))
+    (g.O.Sink.gained c.args.sink.now) (g.O.Sink.faults c.args.sink.now)
+    (g.D.Store.holds c.args.store.now) (g.D.Store.faults c.args.store.now))
 
 pub answer_script-requires-clause-within : goal.answer_script-requires-clause-within
 answer_script-requires-clause-within g c =

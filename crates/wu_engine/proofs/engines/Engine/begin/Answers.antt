@@ -1,18 +1,25 @@
-use Rattle.std.proofs.Common.{◌≡◌, refl, rules}
+use Rattle.std.proofs.Common.{refl, rules}
 use Rattle.wu_engine.proofs.KeptStates.{first_is_state}
+use Rattle.wu_engine.proofs.StoredTexts.{none_yet}
 use Rattle.wu_engine.proofs.engines.Engine.begin.Goals as goal
 
 pub returns-clause-stands : goal.returns-clause-stands
-returns-clause-stands g c = record {
-  is_state = first_is_state;
-  goes_on = refl;
-  tree = search rules;
-  next = search rules;
-  live = search rules;
-  memory = λ term. search rules;
-  stored = search rules;
-  flushes = search rules;
-  parts = search rules;
-  no_parts = refl;
-  no_job = refl;
+returns-clause-stands g c = λ told. record {
+  index = record {
+    is_state = first_is_state;
+    goes_on = refl;
+    tree = search rules;
+    next = search rules;
+    live = search rules;
+    files = search rules;
+    next_blob = search rules;
+    stale = search rules;
+    memory = λ term. search rules;
+    stored = search rules;
+    flushes = search rules;
+    parts = search rules;
+    no_parts = refl;
+    no_job = refl;
+  };
+  texts = none_yet (g.D.Store.holds c.args.store.now) told;
 }

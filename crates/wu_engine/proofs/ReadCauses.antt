@@ -1,0 +1,50 @@
+-- Why a call that reads texts answers a trouble.
+use Rattle.std.proofs.Common.{◌≡◌, ℕ, [], ◌∷◌, true, false, cond, sym, subst, inl, inr}
+use Rattle.std.specs.Prelude.{Option, Some, Result, Ok, Err, IfErr}
+use Rattle.std.specs.Ordering.{nat_cmp}
+use Rattle.std.specs.BTreeMap.{is_at}
+use Rattle.std.specs.Map.{lookup}
+use Rattle.wu_base.proofs.MapEntries.{All-found}
+use Rattle.wu_base.specs.declared.troubles.Trouble.{Trouble}
+use Rattle.std.specs.List.{AllByRecursion}
+use Rattle.wu_outside.specs.Content.{Content}
+use Rattle.wu_image.specs.declared.records.FileRec.{FileRec}
+use Rattle.wu_engine.specs.Causes.{IsDamagedAt}
+use Rattle.wu_engine.specs.Records.{Records}
+use Rattle.wu_engine.specs.Finding.{CanBeRead, IsBrokenIn, IsCause, record_at}
+
+-- what follows for each error holds of the error of a result
+pub if_err : {T E : Type 0} (P Q : E → Type 0) (r : Result T E) → ((error : E) → P error → Q error) → IfErr r P → IfErr r Q
+if_err P Q (Ok value) step h = h
+if_err P Q (Err error) step h = step error h
+
+-- a broken text is damage of another kind too, and the calls before it left the count of faults as it was
+pub cause_after : (Broken Other : ℕ → Type 0) (before middle now : ℕ) (trouble : Trouble) → middle ≡ before
+    → ((blob : ℕ) → Broken blob → Other blob) → IsCause Broken middle now trouble → IsCause Other before now trouble
+cause_after Broken Other before middle now trouble same step cause =
+    subst (λ (n : ℕ). IsCause Other n now trouble) same
+    (record {
+      kept = cause.kept;
+      store_fault = cause.store_fault;
+      calm = cause.calm;
+      damaged = λ blob h. step blob (cause.damaged blob h);
+    })
+
+-- ---- the record of a file
+
+module _ (files : Records) (ino : ℕ) (file : FileRec) (there : record_at files ino ≡ Some file) where
+  pub recorded : AllByRecursion CanBeRead files → CanBeRead (file.ino, file)
+  recorded all =
+      let found = All-found CanBeRead (is_at (nat_cmp ino)) files file all there in
+      subst (λ (n : ℕ). CanBeRead (n, file)) (sym found.2.recorded.number) found.2
+
+-- a recorded text that is broken is one of the records' texts
+pub broken_file : (holds : Option Content) (ino : ℕ) (file : FileRec) (files : Records) → record_at files ino ≡ Some file
+    → (blob : ℕ) → IsBrokenIn holds file blob → IsDamagedAt files holds blob
+broken_file holds ino file [] there blob is = absurd (cc)
+broken_file holds ino file (first ∷ files) there blob is =
+    elim (is_at (nat_cmp ino) first.0) as
+    (λ b. cond b (Some first.1) (lookup (is_at (nat_cmp ino)) files) ≡ Some file → IsDamagedAt (first ∷ files) holds blob) [
+      | true ↦ λ e. let same : file ≡ first.1 = cc in inl (subst (λ (f : FileRec). IsBrokenIn holds f blob) same is)
+      | false ↦ λ e. inr (broken_file holds ino file files e blob is)
+    ] there

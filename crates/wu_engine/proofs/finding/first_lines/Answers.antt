@@ -1,0 +1,42 @@
+use Rattle.std.proofs.Common.{◌≡◌, ◌-◌, ◌<◌, ◌∙◌, length, take, inl, arith, rules}
+use Rattle.std.specs.List.{flat_map}
+use Rattle.wu_gcl.specs.Regions.{region_of}
+use Rattle.wu_engine.specs.Finding.{hits_at, lines_at, text_at}
+use Rattle.wu_engine.proofs.FirstLines.{lines_kept, texts_done, texts_kept}
+use Rattle.wu_engine.proofs.finding.first_lines.Goals as goal
+
+pub returns-then-len-k-clause-reads : goal.returns-then-len-k-clause-reads
+returns-then-len-k-clause-reads g c =
+    let files = c.args.files.now.entries in
+    let long : c.len.result ≡ length c.loop-seen.shown.items = search rules in
+    let full : c.args.k - length c.loop-seen.shown.items ≡ 0 = omega (arith, c.if-len-k.true) in
+    texts_done c.args.k c.loop-seen.shown.items _ (hits_at files (region_of c.args.expr.now) c.args.lists.now) (text_at files)
+    (g.D.Store.reads c.loop-seen.store) _ (inl full) c.loop-seen.invariant.reads
+
+pub loop-seen-preserved : goal.loop-seen-preserved
+loop-seen-preserved g c =
+    let files = c.args.files.now.entries in
+    let region = region_of c.args.expr.now in
+    let lists = c.args.lists.now in
+    let view = c.args.view.now in
+    let before = c.loop-seen.shown.items in
+    let after = c.put_file.new.shown.items in
+    let holds = g.D.Store.holds in
+    let reads = g.D.Store.reads in
+    let within : c.loop-seen.seen-index < length view = search rules in
+    let long : c.len-in-loop-seen.result ≡ length before = search rules in
+    record {
+      holds = c.in_ok-put_file.ensures.holds ∙ c.loop-seen.invariant.holds;
+      calm = c.in_ok-put_file.ensures.calm ∙ c.loop-seen.invariant.calm;
+      none = λ h. absurd (omega (arith, c.if-len-k.false));
+      lines =
+          lines_kept c.args.k c.loop-seen.seen-index view c.seen-item.result within c.seen-item.is before after
+          (holds c.args.store.now) (holds c.loop-seen.store) (λ content. lines_at content files region lists)
+          (λ content. take c.args.k (flat_map (lines_at content files region lists) view)) c.len-in-loop-seen.result long
+          c.loop-seen.invariant.holds c.in_ok-put_file.ensures.lines c.loop-seen.invariant.lines;
+      reads =
+          texts_kept c.args.k c.loop-seen.seen-index view c.seen-item.result within c.seen-item.is before after
+          (hits_at files region lists) (text_at files) (reads c.loop-seen.store) (reads c.put_file.new.store)
+          _ c.len-in-loop-seen.result long
+          c.in_ok-put_file.ensures.count c.in_ok-put_file.ensures.reads c.loop-seen.invariant.reads;
+    }

@@ -1,0 +1,51 @@
+use Rattle.std.proofs.Common.{◌≡◌, ◌++◌, ◌∙◌, ap, take, refl, sym}
+use Rattle.std.specs.Prelude.{IfSome}
+use Rattle.wu_ask.specs.declared.FindLine.{FindLine}
+use Rattle.std.specs.Prelude.{List}
+use Rattle.wu_gcl.specs.Regions.{region_of}
+use Rattle.wu_layout.proofs.EntryLemmas.{IfSome-map}
+use Rattle.wu_engine.specs.Causes.{IsDamagedAt}
+use Rattle.wu_engine.specs.Finding.{IsBrokenIn, IsCause, lines_at, lines_of_record}
+use Rattle.wu_engine.proofs.AnswerLemmas.{if_ok}
+use Rattle.wu_engine.proofs.FirstLines.{lines_of_file}
+use Rattle.wu_engine.proofs.ReadCauses.{broken_file, cause_after, if_err, recorded}
+use Rattle.wu_engine.proofs.finding.put_file.Goals as goal
+
+pub first_extents-requires-clause-record : goal.first_extents-requires-clause-record
+first_extents-requires-clause-record g c =
+    recorded c.args.files.now.entries c.args.seen.now.ino c.in-Some.file.now (sym c.in-Some.ensures.value) c.requires.records
+
+pub put_lines-requires-clause-record : goal.put_lines-requires-clause-record
+put_lines-requires-clause-record g c =
+    recorded c.args.files.now.entries c.args.seen.now.ino c.in-Some.file.now (sym c.in-Some.ensures.value) c.requires.records
+
+pub returns-in_ok-extents-in-Some-clause-lines : goal.returns-in_ok-extents-in-Some-clause-lines
+returns-in_ok-extents-in-Some-clause-lines g c =
+    let files = c.args.files.now.entries in
+    let region = region_of c.args.expr.now in
+    let lists = c.args.lists.now in
+    let old = c.args.shown.now.items in
+    let new = c.put_lines.new.shown.items in
+    let holds = g.D.Store.holds c.args.store.now in
+    if_ok (λ _. IfSome holds (λ content. new ≡ old ++ lines_of_record content c.as_slice.result.now c.deref.result.now c.in-Some.file.now))
+    (λ _. IfSome holds (λ content. new ≡ old ++ take c.args.left (lines_at content files region lists c.args.seen.now))) c.put_lines.result
+    (λ _. IfSome-map (λ content. new ≡ old ++ lines_of_record content c.as_slice.result.now c.deref.result.now c.in-Some.file.now)
+    (λ content. new ≡ old ++ take c.args.left (lines_at content files region lists c.args.seen.now)) holds
+    (λ content put.
+    put
+    ∙ ap (λ (lines : List FindLine). old ++ lines)
+    (lines_of_file content files region lists c.args.seen.now c.in-Some.file.now c.args.left c.as_slice.result.now c.deref.result.now
+    (sym c.in-Some.ensures.value) c.as_slice.ensures (c.deref.ensures.value ∙ c.in_ok-extents-in-Some.ensures.extents))))
+    c.put_lines.ensures.lines
+
+pub returns-in_ok-extents-in-Some-clause-cause : goal.returns-in_ok-extents-in-Some-clause-cause
+returns-in_ok-extents-in-Some-clause-cause g c =
+    let files = c.args.files.now.entries in
+    let file = c.in-Some.file.now in
+    let holds = g.D.Store.holds c.args.store.now in
+    let before = g.D.Store.faults c.args.store.now in
+    let now = g.D.Store.faults c.put_lines.new.store in
+    if_err (IsCause (IsBrokenIn holds file) before now) (IsCause (IsDamagedAt files holds) before now) c.put_lines.result
+    (λ trouble. cause_after (IsBrokenIn holds file) (IsDamagedAt files holds) before before now trouble refl
+    (broken_file holds c.args.seen.now.ino file files (sym c.in-Some.ensures.value)))
+    c.put_lines.ensures.cause

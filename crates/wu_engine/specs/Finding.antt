@@ -1,0 +1,101 @@
+-- The lines that are shown of extents, by what is recorded of files and what the store holds of their texts.
+use Rattle.std.specs.Prelude.{◌≡◌, ◌≢◌, ℕ, ◌+◌, ◌-◌, ◌<◌, ◌≤◌, ◌==◌, List, [], length, map, Option, None, Some, IfSome, unwrap_or, if◌then◌else◌}
+use Rattle.std.specs.Ordering.{nat_cmp}
+use Rattle.std.specs.Map.{lookup}
+use Rattle.std.specs.BTreeMap.{is_at}
+use Rattle.wu_base.specs.declared.addresses.Extent.{Extent}
+use Rattle.wu_base.specs.declared.addresses.TermList.{TermList}
+use Rattle.wu_base.specs.declared.limits.TheConstants.{ADDRESSES_MAX}
+use Rattle.wu_base.specs.declared.troubles.Trouble.{Trouble}
+use Rattle.wu_base.specs.declared.troubles.Trouble.TheVariants.{StoreFault, Damaged}
+use Rattle.wu_outside.specs.Content.{Content}
+use Rattle.wu_outside.specs.Faults.{Rose}
+use Rattle.wu_outside.specs.declared.ranges.ReadRange.{ReadRange}
+use Rattle.wu_ask.specs.declared.FindLine.{FindLine}
+use Rattle.wu_gcl.specs.Regions.{Region}
+use Rattle.wu_image.specs.declared.records.FileRec.{FileRec}
+use Rattle.wu_image.specs.Texts.{IsBrokenText}
+use Rattle.wu_solve.specs.Solving.{frame_hits}
+use Rattle.wu_view.specs.declared.Seen.{Seen}
+use Rattle.wu_engine.specs.Answer.{found_line}
+use Rattle.wu_engine.specs.Reads.{whole_text}
+use Rattle.wu_engine.specs.Records.{Records, records_of}
+use Rattle.wu_engine.specs.Soundness.{IsRecord}
+use Rattle.wu_engine.specs.Stands.{HoldsTexts}
+use Rattle.wu_engine.specs.States.{State}
+
+-- a record as it is kept, whose range ends below the greatest address
+pub record CanBeRead (file : ℕ × FileRec) : Type 0 where
+  pub recorded : IsRecord file
+  pub bounded : file.1.range.start + file.1.range.len ≤ ADDRESSES_MAX
+
+-- the record of the file of that number
+abbrev pub record_at : Records → ℕ → Option FileRec
+record_at files ino = lookup (is_at (nat_cmp ino)) files
+
+-- ---- extents
+
+-- the extent, counted from an address
+abbrev pub counted_from : ℕ → Extent → Extent
+counted_from start x = record { start = x.start - start; end = x.end - start }
+
+-- the extents in the range of the file, counted from its first address
+abbrev pub extents_of : Region → List TermList → FileRec → List Extent
+extents_of region lists file = map (counted_from file.range.start) (frame_hits region lists file.range)
+
+-- it has an address, and ends before there are so many
+abbrev pub IsBelow : ℕ → Extent → Type 0
+IsBelow len x = (x.start ≤ x.end) × (x.end < len)
+
+-- ---- lines
+
+-- what a store with that content has of a text
+abbrev pub text_held : Content → FileRec → List ℕ
+text_held content file = if file.blob == 0 then [] else unwrap_or (content.blobs file.blob) []
+
+-- the extents of a file with those paths, as they are shown
+abbrev pub lines_of_record : Content → List (List ℕ) → List Extent → FileRec → List FindLine
+lines_of_record content paths extents file = map (found_line (record { paths = paths; text = text_held content file })) extents
+
+abbrev pub lines_recorded : Content → Region → List TermList → List (List ℕ) → Option FileRec → List FindLine
+lines_recorded content region lists paths None = []
+lines_recorded content region lists paths (Some file) = lines_of_record content paths (extents_of region lists file) file
+
+abbrev pub hits_recorded : Region → List TermList → Option FileRec → ℕ
+hits_recorded region lists None = 0
+hits_recorded region lists (Some file) = length (extents_of region lists file)
+
+abbrev pub text_recorded : Option FileRec → List ReadRange
+text_recorded None = []
+text_recorded (Some file) = whole_text file.blob file.len
+
+-- of a file of a view
+abbrev pub lines_at : Content → Records → Region → List TermList → Seen → List FindLine
+lines_at content files region lists seen = lines_recorded content region lists seen.paths (record_at files seen.ino)
+
+abbrev pub hits_at : Records → Region → List TermList → Seen → ℕ
+hits_at files region lists seen = hits_recorded region lists (record_at files seen.ino)
+
+abbrev pub text_at : Records → Seen → List ReadRange
+text_at files seen = text_recorded (record_at files seen.ino)
+
+-- ---- troubles
+
+-- what the store tells of a text isn't what was recorded
+abbrev pub IsBrokenIn : Option Content → FileRec → ℕ → Type 0
+IsBrokenIn holds file blob = (file.blob ≡ blob) × (0 < blob) × IfSome holds (λ content. IsBrokenText file (content.blobs blob))
+
+-- Why a call that reads texts answers a trouble: a store fault only where the count of faults rose, which else is as it was, and a
+-- damaged blob only where that blob is broken.
+pub record IsCause (Broken : ℕ → Type 0) (before now : ℕ) (trouble : Trouble) : Type 0 where
+  pub kept : before ≤ now
+  pub store_fault : trouble ≡ StoreFault → Rose before now
+  pub calm : trouble ≢ StoreFault → now ≡ before
+  pub damaged : (blob : ℕ) → trouble ≡ Damaged blob → Broken blob
+
+-- ---- the state
+
+-- The records are those of the state's texts, and the store holds them.
+pub record KeepsTexts (files : Records) (holds : Option Content) (s : State) : Type 0 where
+  pub records : files ≡ records_of s.texts s.layout.files
+  pub texts : HoldsTexts holds s.texts s.layout.files

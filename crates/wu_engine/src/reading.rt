@@ -1,0 +1,60 @@
+//! A file's text, from the store.
+ghost use Rattle.std.specs.Prelude.{◌≡◌, ◌<◌, ◌≤◌, ◌++◌, [], ◌∷◌, Some, length, option_map, IfOk, IfErr, IfSome, OnOk};
+ghost use Rattle.wu_base.specs.declared.limits.TheConstants.{TEXT_MAX};
+ghost use Rattle.wu_token.specs.Tokens.{tokens_of};
+ghost use Rattle.wu_engine.specs.Finding.{IsBrokenIn, IsCause, text_held};
+ghost use Rattle.wu_engine.specs.Reads.{whole_text};
+ghost use Rattle.wu_engine.specs.Soundness.{IsRecord};
+
+use std::alloc::Global;
+use wu_base::Trouble;
+use wu_image::FileRec;
+use wu_outside::Store;
+use wu_token::token_count;
+
+/// The text that is recorded there, read whole in one read; the empty text is not read. A text that the
+/// store doesn't have as it was recorded, in its length and in the number of its tokens, is answered by its
+/// blob.
+pub fn read_text<D: Store>(alloc: Global, store: &mut D, file: &FileRec) -> Result<Vec<u8>, Trouble>
+    requires { IsRecord (file.now.ino, file.now) }
+    ensures text { IfOk result (λ text. IfSome (D.holds store.old) (λ content. text.items ≡ text_held content file.now)) }
+    ensures short { IfOk result (λ text. length text.items ≤ TEXT_MAX) }
+    ensures tokens { IfOk result (λ text. file.now.range.len ≤ length (tokens_of text.items)) }
+    ensures holds { D.holds store.new ≡ D.holds store.old }
+    ensures reads { OnOk result (D.reads store.new
+        ≡ option_map (λ ranges. ranges ++ whole_text file.now.blob file.now.len) (D.reads store.old)) }
+    ensures calm { OnOk result (D.faults store.new ≡ D.faults store.old) }
+    ensures cause { IfErr result (IsCause (IsBrokenIn (D.holds store.old) file.now) (D.faults store.old) (D.faults store.new)) }
+{
+    if file.blob == 0 {
+        return Ok(Vec::new(alloc));
+    }
+    let text = read_blob(alloc, store, file)?;
+    if token_count(&text) == file.range.len {
+        Ok(text)
+    } else {
+        Err(Trouble::Damaged { blob: file.blob })
+    }
+}
+
+/// The blob of the recorded text, which has the recorded length.
+fn read_blob<D: Store>(alloc: Global, store: &mut D, file: &FileRec) -> Result<Vec<u8>, Trouble>
+    requires { 0 < file.now.blob }
+    ensures text { IfOk result (λ text. IfSome (D.holds store.old) (λ content. content.blobs file.now.blob ≡ Some text.items)) }
+    ensures len { IfOk result (λ text. length text.items ≡ file.now.len) }
+    ensures holds { D.holds store.new ≡ D.holds store.old }
+    ensures reads { OnOk result (D.reads store.new
+        ≡ option_map (λ ranges. ranges ++ record { blob = file.now.blob; at = 0; len = file.now.len } ∷ []) (D.reads store.old)) }
+    ensures calm { OnOk result (D.faults store.new ≡ D.faults store.old) }
+    ensures cause { IfErr result (IsCause (IsBrokenIn (D.holds store.old) file.now) (D.faults store.old) (D.faults store.new)) }
+{
+    match store.size(file.blob)? {
+        Some(size) if size == u64::from(file.len) => {}
+        _ => return Err(Trouble::Damaged { blob: file.blob }),
+    }
+    let mut text = vec![in alloc; 0u8; file.len as usize]?;
+    match store.read(file.blob, 0, &mut text)? {
+        Some(count) if count == text.len() => Ok(text),
+        _ => Err(Trouble::Damaged { blob: file.blob }),
+    }
+}

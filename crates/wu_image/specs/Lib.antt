@@ -1,0 +1,3 @@
+-- ---- What a reader of the contracts trusts
+
+pub mod Texts

@@ -1,0 +1,75 @@
+//! Sessions over stores that fail or lose what they are given.
+use crate::statuses::name_of;
+use std::alloc::Global;
+use wu_outside::{Fault, MemSink, MemStore, PlainSource, Store};
+use wu_rows::{NoAnswer, numbers, script, shown};
+use wumpus_run::run;
+
+/// A store that loses each blob, and tells nothing.
+#[derive(Drop)]
+struct LosingStore {}
+
+impl Store for LosingStore {
+    ghost use Rattle.std.specs.Prelude.{None};
+
+    ghost holds = { λ _. None };
+
+    ghost reads = { λ _. None };
+
+    ghost moments = { λ _. None };
+
+    ghost faults = { λ _. 0 };
+
+    fn size(&mut self, _blob: u64) -> Result<Option<u64>, Fault> {
+        Ok(None)
+    }
+
+    fn read(&mut self, _blob: u64, _at: u64, _buf: &mut [u8]) -> Result<Option<usize>, Fault> {
+        Ok(None)
+    }
+
+    fn put(&mut self, _blob: u64, _bytes: &[u8]) -> Result<(), Fault> {
+        Ok(())
+    }
+
+    fn remove(&mut self, _blob: u64) -> Result<(), Fault> {
+        Ok(())
+    }
+
+    fn root(&mut self, _buf: &mut [u8]) -> Result<Option<usize>, Fault> {
+        Ok(None)
+    }
+
+    fn set_root(&mut self, _bytes: &[u8]) -> Result<(), Fault> {
+        Ok(())
+    }
+
+    fn sync(&mut self) -> Result<(), Fault> {
+        Ok(())
+    }
+
+    ghost told_alike = { λ _. Prim.tt };
+}
+
+/// How a session ends over a store of which these calls fail, how often it calls it, and what it has written then.
+pub fn failing(alloc: Global, fails: &str, field: &str) -> Result<String, NoAnswer> {
+    let mut store = MemStore::new(alloc, numbers(alloc, fails)?, u64::MAX);
+    let ending = ending(alloc, &mut store, field)?;
+    let calls = store.calls();
+    Ok(format!(in alloc; "{calls} {ending}")?)
+}
+
+/// How a session ends over a store that loses each blob, and what it has written then.
+pub fn losing(alloc: Global, field: &str) -> Result<String, NoAnswer> {
+    ending(alloc, &mut LosingStore {}, field)
+}
+
+/// How a session over the store ends, and what it has written then.
+fn ending<D: Store>(alloc: Global, store: &mut D, field: &str) -> Result<String, NoAnswer> {
+    let mut source = PlainSource::new(script(alloc, field)?);
+    let mut sink = MemSink::new(alloc, Vec::new(alloc));
+    let status = run(alloc, &["run"], &mut source, &mut sink, store);
+    let name = name_of(alloc, status)?;
+    let output = shown(alloc, sink.gained())?;
+    Ok(format!(in alloc; "{name}: {output}")?)
+}
