@@ -17,7 +17,6 @@ pub mod CountLemmas
 pub mod RankLemmas
 pub mod AnswerLemmas
 pub mod Searching
-pub mod WordCounts
 pub mod ReadCauses
 pub mod ReadTexts
 pub mod FoundExtents

@@ -41,19 +41,6 @@ found_in ranges memory term = filter (is_live ranges) (held memory term)
 abbrev pub list_at : (List ℕ → List ℕ) → List ℕ → TermList
 list_at addresses term = record { term = term; at = addresses term }
 
--- ---- one word
-
--- how many of the first addresses are below the limit
-abbrev pub count_below : ℕ → List ℕ → ℕ
-count_below limit [] = 0
-count_below limit (address ∷ addresses) = if nat_lt address limit then suc (count_below limit addresses) else 0
-
--- in how many of the frames some of the addresses are, where those of each frame come before those of the next
-abbrev pub frames_met : List Range → List ℕ → ℕ
-frames_met [] addresses = 0
-frames_met (frame ∷ frames) addresses = (if nat_lt 0 (count_below (frame.start + frame.len) addresses) then 1 else 0)
-    + frames_met frames (drop (count_below (frame.start + frame.len) addresses) addresses)
-
 -- ---- units
 
 -- the address after the frame's last

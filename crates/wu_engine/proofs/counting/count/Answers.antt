@@ -4,7 +4,7 @@ use Rattle.wu_engine.specs.Units.{found_in, list_at}
 use Rattle.wu_engine.proofs.CountLemmas.{counted}
 use Rattle.wu_engine.proofs.FramesOfFiles.{are_lists}
 use Rattle.wu_engine.proofs.UnitLemmas.{searched_few}
-use Rattle.wu_engine.proofs.counting.count_extents.Goals as goal
+use Rattle.wu_engine.proofs.counting.count.Goals as goal
 
 pub count-requires-clause-lists : goal.count-requires-clause-lists
 count-requires-clause-lists c =
