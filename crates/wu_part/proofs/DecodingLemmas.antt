@@ -114,7 +114,8 @@ entry_is head size bytes place entry rest end e =
     let passed : after_numbers (3 * length entry.blocks) s.2.0 ≡ rest =
     ap (λ n. after_numbers n s.2.0) (sym (numbers_count head.low entry.blocks))
     ∙ numbers_passed s.2.0 (flat_map (block_numbers head.low) entry.blocks) rest s.2.2 in
-    (entry_same (entry_in head.low place bytes) entry term count blocks, ap (λ x. after_numbers (3 * length entry.blocks) x) numbers ∙ passed)
+    let rest_is = ap (λ x. after_numbers (3 * length entry.blocks) x) numbers ∙ passed in
+    (entry_same (entry_in head.low place bytes) entry term count blocks, rest_is)
 
 -- entries that the bytes spell are those that they are read as
 pub entries_are : (head : Head) (size count : ℕ) (bytes : List ℕ) (place : ℕ) (terms : List TermEntry)

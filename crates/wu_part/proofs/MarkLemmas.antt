@@ -129,8 +129,8 @@ marks_stand head size bytes taken left rest end marks none empty full m mark has
     record {
       inside = t.inside;
       number = t.number;
-      entries = entries_all_taken head size (head.terms - mark.number) (drop mark.offset bytes) mark.place (drop mark.number taken) left rest
-          end t.entries none empty full;
+      entries = entries_all_taken head size (head.terms - mark.number) (drop mark.offset bytes) mark.place (drop mark.number taken)
+          left rest end t.entries none empty full;
     }
 
 -- ---- searches among the marks

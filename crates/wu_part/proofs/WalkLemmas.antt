@@ -24,7 +24,8 @@ use Rattle.wu_part.proofs.TermLemmas.{terms}
 pub own_blocks : (head : Head) (size : ℕ) (bytes : List ℕ) (place count : ℕ) (blocks : List BlockEntry) (after : List ℕ) (end : ℕ)
     → AreNextBlocks head size head.low count bytes place blocks after end → blocks_in count head.low count place bytes ≡ blocks
 own_blocks head size bytes place count blocks after end b =
-    blocks_are count head size head.low count bytes place blocks after end (blocks_few head.low head.high count blocks b.hold) (omega arith) b
+    let few = blocks_few head.low head.high count blocks b.hold in
+    blocks_are count head size head.low count bytes place blocks after end few (omega arith) b
 
 -- a block was read, and so many addresses are left
 pub record ReadsBlock (head : Head) (size low fewer place : ℕ) (blocks : List BlockEntry) (after : List ℕ) (end : ℕ)

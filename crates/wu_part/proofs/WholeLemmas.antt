@@ -156,8 +156,8 @@ pub one_more_taken : (head : Head) (size : ℕ) (bytes : List ℕ) (place : ℕ)
 one_more_taken head size bytes place taken left fewer rest after end stop before stored less_stored begun ended begun_now ended_now entry
     term t some is f less last count first_is last_is =
     rw (last, first_is, last_is) (record {
-      entries = entries_taken head size head.terms bytes place taken (taken ++ entry ∷ []) left fewer rest after end stop entry t.entries some
-          is refl f;
+      entries = entries_taken head size head.terms bytes place taken (taken ++ entry ∷ []) left fewer rest after end stop entry
+          t.entries some is refl f;
       on = λ later w.
           rw (append_assoc taken (entry ∷ []) later)
           (t.on (entry ∷ later) (whole_cons head before stored less_stored begun ended entry later less count w));

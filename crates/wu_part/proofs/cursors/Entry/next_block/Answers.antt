@@ -40,7 +40,8 @@ overflow_add-self c =
 pub invariant_of-self : goal.invariant_of-self
 invariant_of-self c =
     let h = c.self.invariant in
-    let r = block_read _ _ _ _ _ (c.self.inside.count - c.first_count-count.result) _ _ _ _ _ _ _ _ _ h.blocks h.above (omega arith) h.lowest
+    let fewer = c.self.inside.count - c.first_count-count.result in
+    let r = block_read _ _ _ _ _ fewer _ _ _ _ _ _ _ _ _ h.blocks h.above (omega arith) h.lowest
     (omega (arith, c.first_count-count.ensures)) c.in-Some.ensures.found in
     record {
       head = h.head;
@@ -58,6 +59,7 @@ invariant_of-self c =
 pub returns : goal.returns
 returns c =
     let h = c.self.invariant in
-    let r = block_read _ _ _ _ _ (c.self.inside.count - c.first_count-count.result) _ _ _ _ _ _ _ _ _ h.blocks h.above (omega arith) h.lowest
+    let fewer = c.self.inside.count - c.first_count-count.result in
+    let r = block_read _ _ _ _ _ fewer _ _ _ _ _ _ _ _ _ h.blocks h.above (omega arith) h.lowest
     (omega (arith, c.first_count-count.ensures)) c.in-Some.ensures.found in
     rw (← c.self.view_is) (r.is, omega (arith, c.first_count-count.ensures), omega (arith, c.first_count-count.ensures), refl)
