@@ -106,7 +106,7 @@ impl Lists {
         frames: &[Range],
     ) -> Result<Vec<u64>, Trouble>
         requires order { AreInOrder 0 ADDRESSES_MAX frames.now }
-        requires blocks { AreBlocks dir.now.low dir.now.high entry.count entry.blocks }
+        requires cut { AreBlocks dir.now.low dir.now.high entry.count entry.blocks }
         requires bounded { dir.now.high < ADDRESSES_MAX }
         requires span { dir.now.low ≤ dir.now.high }
         ensures addresses { IfOk result (λ found. AreFetched (HasBlocks dir.now.low entry.entry.count entry.entry.blocks) frames.now blob

@@ -19,8 +19,8 @@ pub fetch_blocks-requires-clause-order : goal.fetch_blocks-requires-clause-order
 fetch_blocks-requires-clause-order g c =
     order-from_apart 0 ADDRESSES_MAX c.args.frames.now (omega arith) (all_from_zero c.args.frames.now) c.requires.apart c.requires.bounded
 
-pub fetch_blocks-requires-clause-blocks : goal.fetch_blocks-requires-clause-blocks
-fetch_blocks-requires-clause-blocks g c =
+pub fetch_blocks-requires-clause-cut : goal.fetch_blocks-requires-clause-cut
+fetch_blocks-requires-clause-cut g c =
     entry-blocks c.args.dir.now c.is_spelled.ensures.0 c.in-Some.entry c.is_spelled.ensures.1 c.in-Some.ensures.0
 
 pub returns-in_err-found-in-Some-clause-cause : goal.returns-in_err-found-in-Some-clause-cause

@@ -24,7 +24,7 @@ loop-block-init g c = record {
       c.args.entry (g.D.Store.holds c.args.store.now) c.args.self.now c.args.self.now (g.D.Store.reads c.args.store.now)
       (g.D.Store.reads c.args.store.now) found) (sym c.new-found.ensures.items)
       (walked-none c.args.frames.now c.args.blob c.args.dir.now.low c.args.dir.now.high c.args.entry (g.D.Store.holds c.args.store.now)
-      c.args.self.now (g.D.Store.reads c.args.store.now) c.requires.blocks c.requires.span c.requires.order);
+      c.args.self.now (g.D.Store.reads c.args.store.now) c.requires.cut c.requires.span c.requires.order);
 }
 
 pub loop-block-preserved : goal.loop-block-preserved
