@@ -1,11 +1,11 @@
 -- Blocks that are asked for one after another.
-use Rattle.std.proofs.Common.{◌≡◌, ℕ, ◌+◌, ◌<◌, ◌≤◌, List, [], ◌∷◌, ◌++◌, length, map, refl, ap, ap₂, sym, ◌∙◌, subst, arith, append-nil, append_assoc, length-append}
+use Rattle.std.proofs.Common.{◌≡◌, ℕ, ◌+◌, List, [], ◌∷◌, ◌++◌, map, refl, ap, sym, ◌∙◌, subst, arith, append-nil, append_assoc, length-append}
 use Rattle.std.specs.Prelude.{Option, None, Some, IfSome, option_map}
 use Rattle.std.specs.List.{AllByRecursion}
 use Rattle.std.specs.Map.{keys_of}
 use Rattle.std.proofs.lemmas.List.{map-append}
 use Rattle.wu_base.specs.declared.troubles.Trouble.{Trouble}
-use Rattle.wu_base.specs.declared.troubles.Trouble.TheVariants.{NoMemory, StoreFault, Damaged}
+use Rattle.wu_base.specs.declared.troubles.Trouble.TheVariants.{NoMemory}
 use Rattle.wu_outside.specs.Content.{Content}
 use Rattle.wu_outside.specs.declared.ranges.ReadRange.{ReadRange}
 use Rattle.wu_lists.specs.declared.blocks.Block.{Block}
@@ -44,7 +44,8 @@ pub ranges-none : (ranges : Option (List ReadRange)) → ranges ≡ with_ranges 
 ranges-none None = refl
 ranges-none (Some earlier) = ap Some (sym (append-nil earlier))
 
-pub ranges-join : (ranges : Option (List ReadRange)) (xs ys : List Block) → with_ranges (with_ranges ranges xs) ys ≡ with_ranges ranges (xs ++ ys)
+pub ranges-join : (ranges : Option (List ReadRange)) (xs ys : List Block)
+    → with_ranges (with_ranges ranges xs) ys ≡ with_ranges ranges (xs ++ ys)
 ranges-join None xs ys = refl
 ranges-join (Some earlier) xs ys =
     ap Some (append_assoc earlier (map range_of xs) (map range_of ys)
@@ -103,9 +104,12 @@ module _ (holds : Option Content) (old mid new : Kept) (ranges between ranges_no
       both (Some content) ms ns all e p q = subst (AllByRecursion (IsSpelledIn content)) e (all-append (IsSpelledIn content) ms ns p q)
 
       through : (holds : Option Content)
-          → IfSome holds (λ content. (blob : ℕ) (bytes : List ℕ) → content.blobs blob ≡ Some bytes → AreHeld blob bytes old → AreHeld blob bytes mid)
-          → IfSome holds (λ content. (blob : ℕ) (bytes : List ℕ) → content.blobs blob ≡ Some bytes → AreHeld blob bytes mid → AreHeld blob bytes new)
-          → IfSome holds (λ content. (blob : ℕ) (bytes : List ℕ) → content.blobs blob ≡ Some bytes → AreHeld blob bytes old → AreHeld blob bytes new)
+          → IfSome holds (λ content. (blob : ℕ) (bytes : List ℕ) → content.blobs blob ≡ Some bytes
+          → AreHeld blob bytes old → AreHeld blob bytes mid)
+          → IfSome holds (λ content. (blob : ℕ) (bytes : List ℕ) → content.blobs blob ≡ Some bytes
+          → AreHeld blob bytes mid → AreHeld blob bytes new)
+          → IfSome holds (λ content. (blob : ℕ) (bytes : List ℕ) → content.blobs blob ≡ Some bytes
+          → AreHeld blob bytes old → AreHeld blob bytes new)
       through None p q = tt
       through (Some content) p q = λ blob bytes there held. q blob bytes there (p blob bytes there held)
 
@@ -159,8 +163,8 @@ cause-after first missed blob Broken before now ranges between ranges_now troubl
 }
 
 -- a call that asked for some blocks, asked for others, of which there may be more, and got a trouble
-pub cause-join : (holds : Option Content) (old mid : Kept) (xs ys zs : List Block) (blob : ℕ) (Broken Other : Type 0) (before middle now : ℕ)
-    (ranges between ranges_now : Option (List ReadRange)) (trouble : Trouble) → (Broken → Other) → middle ≡ before
+pub cause-join : (holds : Option Content) (old mid : Kept) (xs ys zs : List Block) (blob : ℕ) (Broken Other : Type 0)
+    (before middle now : ℕ) (ranges between ranges_now : Option (List ReadRange)) (trouble : Trouble) → (Broken → Other) → middle ≡ before
     → Asks xs holds old mid ranges between
     → IsCause (all_missing mid.cap (keys_of mid.entries) ys) blob Broken middle now between ranges_now trouble
     → IsCause (all_missing old.cap (keys_of old.entries) (xs ++ (ys ++ zs))) blob Other before now ranges ranges_now trouble
@@ -171,7 +175,8 @@ cause-join holds old mid xs ys zs blob Broken Other before middle now ranges bet
     ap (λ (n : ℕ). all_missing n (keys_of mid.entries) ys) a.capacity
     ∙ ap (λ (ks : List Block). all_missing old.cap ks ys) a.kept in
     let third : List Block = all_missing old.cap (all_asked old.cap kept ys) zs in
-    let joined : first ++ (all_missing mid.cap (keys_of mid.entries) ys ++ third) ≡ all_missing old.cap (keys_of old.entries) (xs ++ (ys ++ zs)) =
+    let joined : first ++ (all_missing mid.cap (keys_of mid.entries) ys ++ third)
+    ≡ all_missing old.cap (keys_of old.entries) (xs ++ (ys ++ zs)) =
     ap (λ (bs : List Block). first ++ (bs ++ third)) second
     ∙ ap (λ (bs : List Block). first ++ bs) (sym (all_missing-append old.cap kept ys zs))
     ∙ sym (all_missing-append old.cap (keys_of old.entries) xs (ys ++ zs)) in

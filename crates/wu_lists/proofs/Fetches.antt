@@ -1,5 +1,5 @@
 -- One block that is asked for: what is found, kept and read.
-use Rattle.std.proofs.Common.{◌≡◌, ℕ, ◌+◌, ◌<◌, ◌≤◌, Bool, true, false, cond, List, [], ◌∷◌, ◌++◌, filter, length, refl, ap, sym, ◌∙◌, subst, arith, append-nil}
+use Rattle.std.proofs.Common.{◌≡◌, ℕ, ◌+◌, ◌≤◌, Bool, true, false, cond, List, [], ◌∷◌, ◌++◌, filter, refl, ap, sym, ◌∙◌, subst, arith, append-nil}
 use Rattle.std.specs.Prelude.{Option, None, Some, Result, Ok, Err, IfSome, IfOk, IfErr, OnOk}
 use Rattle.std.specs.List.{AllByRecursion, list_any}
 use Rattle.std.specs.Map.{keys_of, lookup}
@@ -12,7 +12,7 @@ use Rattle.wu_lists.specs.declared.blocks.Block.{Block}
 use Rattle.wu_lists.specs.Ascending.{AscendBetween}
 use Rattle.wu_lists.specs.Blocks.{HasBytes, IsSpelledIn, IsSpelling, bytes_of, meets}
 use Rattle.wu_lists.specs.Fetching.{AreFetched, HasBlock, Puts}
-use Rattle.wu_lists.specs.Keeping.{AreHeld, Asks, Kept, all_missing, asked, is_same, missing}
+use Rattle.wu_lists.specs.Keeping.{AreHeld, Asks, Kept, all_missing, asked, is_same}
 use Rattle.wu_lists.proofs.Ascending.{ascend-filter}
 use Rattle.wu_lists.proofs.Asking.{with_ranges}
 use Rattle.wu_lists.proofs.Caching.{held-found, missing-none, missing-one}
@@ -36,7 +36,8 @@ module _ (block : Block) (frames : List Range) (holds : Option Content) (kept : 
           → AreHeld block.blob bytes kept → HasBlock block bytes addresses → [] ≡ filter (is_live frames) addresses)
       nothing None = tt
       nothing (Some content) = λ bytes addresses there held has.
-          sym (none_live frames block block.first addresses missed (omega arith) (spelled_ascend block addresses (bytes_of block bytes) has))
+          sym (none_live frames block block.first addresses missed (omega arith)
+          (spelled_ascend block addresses (bytes_of block bytes) has))
 
   all-filter : (p : ℕ → Bool) (xs : List ℕ) → AllByRecursion (λ x. p x ≡ true) (filter p xs)
   all-filter p [] = tt
@@ -108,7 +109,8 @@ module _ (block : Block) (holds : Option Content) (old new : Kept) (ranges range
       nothing-read None = refl
       nothing-read (Some earlier) = ap Some (sym (append-nil earlier))
 
-      nothing-spelled : (holds : Option Content) (bs : List Block) → bs ≡ [] → IfSome holds (λ content. AllByRecursion (IsSpelledIn content) bs)
+      nothing-spelled : (holds : Option Content) (bs : List Block) → bs ≡ []
+          → IfSome holds (λ content. AllByRecursion (IsSpelledIn content) bs)
       nothing-spelled None bs e = tt
       nothing-spelled (Some content) bs e = subst (AllByRecursion (IsSpelledIn content)) (sym e) tt
 
@@ -121,7 +123,8 @@ module _ (block : Block) (holds : Option Content) (old new : Kept) (ranges range
   pub asks-read : (bytes addresses : List ℕ) → list_any (is_same block) (keys_of old.entries) ≡ false
       → ranges_now ≡ with_ranges ranges (block ∷ [])
       → IfSome holds (λ content. HasBytes content block bytes) → IsSpelling block addresses bytes
-      → ((blob : ℕ) (others : List ℕ) → (block.blob ≡ blob → bytes ≡ bytes_of block others) → AreHeld blob others old → AreHeld blob others new)
+      → ((blob : ℕ) (others : List ℕ) → (block.blob ≡ blob → bytes ≡ bytes_of block others) → AreHeld blob others old
+      → AreHeld blob others new)
       → Asks (block ∷ []) holds old new ranges ranges_now
   asks-read bytes addresses absent read has spelled held = record {
     capacity = capacity;

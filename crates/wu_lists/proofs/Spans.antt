@@ -1,6 +1,6 @@
 -- Spans of blocks beside frames, and the addresses of a block.
-use Rattle.std.proofs.Common.{◌≡◌, ℕ, ◌+◌, ◌<◌, ◌≤◌, nat_le, Bool, true, false, cond, List, [], ◌∷◌, ◌++◌, filter, length, get_or, take, drop, refl, ap, ap₂, sym, ◌∙◌, subst, arith, ⊎_elim}
-use Rattle.std.specs.Prelude.{Option, None, Some, slice_get}
+use Rattle.std.proofs.Common.{◌≡◌, ℕ, ◌+◌, ◌<◌, ◌≤◌, nat_le, Bool, true, false, cond, List, [], ◌∷◌, ◌++◌, filter, length, get_or, take, drop, refl, ap, ap₂, sym, ◌∙◌, arith, ⊎_elim}
+use Rattle.std.specs.Prelude.{Some}
 use Rattle.std.specs.List.{AllByRecursion, last_or}
 use Rattle.std.proofs.lemmas.Bool.{cases_lt, le-leb, lt-leb, lt-ltb, le-ltb, and_left, and_right, and_from}
 use Rattle.std.proofs.lemmas.List.{take-append-drop}
@@ -26,8 +26,8 @@ missed_first f fs block l =
     let away : overlaps block f ≡ false = and_right _ _ (le-ltb block.first (f.start + f.len) l) in
     rw away refl
 
-missed_in_ended : (ended left : List Range) (low : ℕ) (block : Block) → AllByRecursion (λ f. f.start + f.len ≤ low) ended → low ≤ block.first
-    → meets left block ≡ meets (ended ++ left) block
+missed_in_ended : (ended left : List Range) (low : ℕ) (block : Block) → AllByRecursion (λ f. f.start + f.len ≤ low) ended
+    → low ≤ block.first → meets left block ≡ meets (ended ++ left) block
 missed_in_ended [] left low block e l = refl
 missed_in_ended (f ∷ fs) left low block e l =
     missed_in_ended fs left low block e.1 l ∙ sym (missed_first f (fs ++ left) block (omega (arith, e.0)))
@@ -50,7 +50,8 @@ meets-drop n low frames e block l =
 starts_later : (f : Range) (block : Block) → block.last < f.start → overlaps block f ≡ false
 starts_later f block l = and_left _ _ (lt-leb f.start block.last l)
 
-none_from : (low high : ℕ) (frames : List Range) (block : Block) → block.last < low → AreInOrder low high frames → meets frames block ≡ false
+none_from : (low high : ℕ) (frames : List Range) (block : Block) → block.last < low → AreInOrder low high frames
+    → meets frames block ≡ false
 none_from low high [] block l o = refl
 none_from low high (f ∷ fs) block l o =
     rw (starts_later f block (omega (arith, o.0))) (none_from (f.start + f.len) high fs block (omega (arith, o.0)) o.1)

@@ -1,7 +1,7 @@
 -- The entry of a term in a directory, and what a part has of its blocks.
-use Rattle.std.proofs.Common.{◌≡◌, ℕ, ◌+◌, ◌-◌, ◌<◌, ◌≤◌, Bool, true, false, cond, List, [], ◌∷◌, ◌++◌, filter, length, take, drop, map, min, refl, ap, sym, ◌∙◌, subst, arith, inl, inr}
-use Rattle.std.specs.Prelude.{Option, None, Some, IfSome, nat_eq, slice_range}
-use Rattle.std.specs.List.{AllByRecursion, AllZip, Contains, find, flat_map}
+use Rattle.std.proofs.Common.{◌≡◌, ℕ, ◌+◌, ◌-◌, ◌≤◌, true, false, cond, List, [], ◌∷◌, filter, length, take, drop, map, min, refl, ap, sym, ◌∙◌, subst, arith, inl, inr}
+use Rattle.std.specs.Prelude.{Option, None, Some, IfSome, nat_eq}
+use Rattle.std.specs.List.{AllByRecursion, AllZip, Contains}
 use Rattle.std.specs.List.Sorted.{IsStrictlySortedBy}
 use Rattle.std.specs.Cmp.Lexicographic.{pointwise, slice_cmp, nat_list_cmp_total, nat_list_eq_equiv, same_text}
 use Rattle.std.specs.Ordering.{nat_cmp}
@@ -15,7 +15,7 @@ use Rattle.wu_vbyte.specs.declared.blocks.TheConstants.{BLOCK_LEN}
 use Rattle.wu_part.specs.declared.entries.BlockEntry.{BlockEntry}
 use Rattle.wu_part.specs.declared.entries.TermEntry.{TermEntry}
 use Rattle.wu_part.specs.Directories.{AreBlocks, IsEntry, PartDirectory, SpellsDirectory, StandFrom, all_blocks}
-use Rattle.wu_part.specs.Parts.{HoldBlocks, HoldsBlock, HoldsList, SpellsPart}
+use Rattle.wu_part.specs.Parts.{HoldBlocks, HoldsList, SpellsPart}
 use Rattle.wu_part.proofs.ReadingLemmas.{stand_within}
 use Rattle.wu_lists.specs.declared.blocks.Block.{Block}
 use Rattle.wu_lists.specs.Blocks.{IsSpelledIn, blocks_from, blocks_in, bytes_of, entry_of, meets, needed}
@@ -37,7 +37,8 @@ is_term a = nat_list_eq_equiv.refl a
 less_itself : (a : List ℕ) → slice_cmp nat_cmp a a ≡ Less → ⊥
 less_itself a less = let equal : slice_cmp nat_cmp a a ≡ Equal = tied_itself nat_list_cmp_total a in cc
 
-name_has : (entry : TermEntry) (terms : List TermEntry) (P : List ℕ → Type 0) → AllByRecursion P (names terms) → Has entry terms → P entry.term
+name_has : (entry : TermEntry) (terms : List TermEntry) (P : List ℕ → Type 0) → AllByRecursion P (names terms) → Has entry terms
+    → P entry.term
 name_has entry [] P a h = absurd h
 name_has entry (x ∷ terms) P a (inl e) = subst (λ (y : TermEntry). P y.term) e a.0
 name_has entry (x ∷ terms) P a (inr h) = name_has entry terms P a.1 h
@@ -137,7 +138,8 @@ part-spelled content blob directory lists bytes entry there s c =
     let h = Has-from_Contains entry directory.terms c in
     let list = list-held directory.low bytes directory.terms lists entry s.lists_held h in
     let ends : AllByRecursion (λ (b : BlockEntry). b.at + b.len ≤ directory.size) entry.blocks =
-    blocks-end directory.size directory.terms entry h (all-end _ directory.size (all_blocks directory.terms) s.own.code_spelled.holds.places) in
+    blocks-end directory.size directory.terms entry h
+    (all-end _ directory.size (all_blocks directory.terms) s.own.code_spelled.holds.places) in
     held-spelled content blob directory.low bytes entry.count entry.blocks list.0.at there list.1.count list.1.blocks
     (subst (λ (n : ℕ). AllByRecursion (λ (b : BlockEntry). b.at + b.len ≤ n) entry.blocks) (sym s.own.size) ends)
 
@@ -174,9 +176,9 @@ module _ (directory : PartDirectory) (term : List ℕ) (frames : List Range) (bl
             → HasTerm directory term bytes addresses → found ≡ filter (is_live frames) addresses)
         through None t = tt
         through (Some content) t = λ bytes addresses there held has.
-          let h : HasEntry directory.low bytes term (Some entry) addresses =
-          subst (λ (o : Option TermEntry). HasEntry directory.low bytes term o addresses) e has in
-          t bytes addresses there held (record { number = h.count; held = h.blocks })
+            let h : HasEntry directory.low bytes term (Some entry) addresses =
+            subst (λ (o : Option TermEntry). HasEntry directory.low bytes term o addresses) e has in
+            t bytes addresses there held (record { number = h.count; held = h.blocks })
 
     pub fetched-absent : entry_of directory.terms term ≡ None → low ≤ high
         → AreFetched (HasTerm directory term) frames blob low high holds kept []
@@ -187,6 +189,6 @@ module _ (directory : PartDirectory) (term : List ℕ) (frames : List Range) (bl
             → HasTerm directory term bytes addresses → [] ≡ filter (is_live frames) addresses)
         nothing None = tt
         nothing (Some content) = λ bytes addresses there held has.
-          let h : HasEntry directory.low bytes term None addresses =
-          subst (λ (o : Option TermEntry). HasEntry directory.low bytes term o addresses) e has in
-          sym (ap (filter (is_live frames)) h)
+            let h : HasEntry directory.low bytes term None addresses =
+            subst (λ (o : Option TermEntry). HasEntry directory.low bytes term o addresses) e has in
+            sym (ap (filter (is_live frames)) h)

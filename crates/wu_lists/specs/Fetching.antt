@@ -2,7 +2,6 @@
 use Rattle.std.specs.Prelude.{ℕ, ◌≡◌, List, [], ◌++◌, Option, None, Some, IfSome, true, filter, length}
 use Rattle.std.specs.List.{AllByRecursion}
 use Rattle.wu_base.specs.declared.addresses.Range.{Range}
-use Rattle.wu_base.specs.declared.addresses.TermList.{TermList}
 use Rattle.wu_layout.specs.Postings.{is_live}
 use Rattle.wu_outside.specs.Content.{Content}
 use Rattle.wu_part.specs.declared.entries.BlockEntry.{BlockEntry}

@@ -1,4 +1,3 @@
-use Rattle.std.proofs.Common.{drop, length}
 use Rattle.wu_base.specs.declared.limits.TheConstants.{ADDRESSES_MAX}
 use Rattle.wu_lists.proofs.Ascending.{order-drop}
 use Rattle.wu_lists.proofs.Spans.{live-drop, meets-drop}

@@ -35,15 +35,16 @@ returns-in_err-found-in-Some-clause-cause g c =
     let reads = g.D.Store.reads in
     let there = entry-found directory.terms entry c.args.term.now c.is_spelled.ensures.1.holds.ascending c.in-Some.ensures.0
     c.in-Some.ensures.1 in
-    let Broken = IfSome holds (λ content. AllByRecursion (IsSpelledIn content) (blocks_from blob directory.low entry.count entry.blocks) → ⊥) in
+    let Broken = IfSome holds
+    (λ content. AllByRecursion (IsSpelledIn content) (blocks_from blob directory.low entry.count entry.blocks) → ⊥) in
     let Other = IfSome holds (λ content. IsNoPart directory (content.blobs blob)) in
     let told : IfErr c.from_residual.result (IsCause (all_missing old.cap (keys_of old.entries)
-        (filter (meets frames) (blocks_from blob directory.low entry.count entry.blocks))) blob Broken
-        (faults c.args.store.now) (faults c.fetch_blocks.new.store) (reads c.args.store.now) (reads c.fetch_blocks.new.store)) =
+    (filter (meets frames) (blocks_from blob directory.low entry.count entry.blocks))) blob Broken
+    (faults c.args.store.now) (faults c.fetch_blocks.new.store) (reads c.args.store.now) (reads c.fetch_blocks.new.store)) =
     search rules in
     let Goal : Trouble → Type 0 = λ trouble. IsCause (all_missing old.cap (keys_of old.entries)
-        (needed blob directory c.args.term.now frames)) blob Other
-        (faults c.args.store.now) (faults c.fetch_blocks.new.store) (reads c.args.store.now) (reads c.fetch_blocks.new.store) trouble in
+    (needed blob directory c.args.term.now frames)) blob Other
+    (faults c.args.store.now) (faults c.fetch_blocks.new.store) (reads c.args.store.now) (reads c.fetch_blocks.new.store) trouble in
     if_err _ Goal c.from_residual.result
     (λ trouble is.
     subst (λ (bs : List Block). IsCause (all_missing old.cap (keys_of old.entries) bs) blob Other

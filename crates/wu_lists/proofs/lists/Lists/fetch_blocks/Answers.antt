@@ -1,5 +1,5 @@
-use Rattle.std.proofs.Common.{◌≡◌, ◌+◌, ℕ, List, [], ◌∷◌, ◌++◌, filter, refl, sym, ◌∙◌, ap, subst, rules}
-use Rattle.std.specs.Prelude.{Option, IfErr, IfSome}
+use Rattle.std.proofs.Common.{◌+◌, ℕ, List, [], ◌∷◌, filter, refl, sym, ◌∙◌, subst, rules}
+use Rattle.std.specs.Prelude.{IfErr, IfSome}
 use Rattle.std.specs.List.{AllByRecursion}
 use Rattle.std.specs.Map.{keys_of}
 use Rattle.wu_base.specs.declared.troubles.Trouble.{Trouble}
@@ -20,8 +20,9 @@ loop-block-init g c = record {
   moments = refl;
   calm = refl;
   walked =
-      subst (λ (found : List ℕ). IsWalked c.args.frames.now c.args.frames.now c.args.blob c.args.dir.now.low c.args.dir.now.high c.args.entry
-      c.args.entry (g.D.Store.holds c.args.store.now) c.args.self.now c.args.self.now (g.D.Store.reads c.args.store.now)
+      subst (λ (found : List ℕ). IsWalked c.args.frames.now c.args.frames.now c.args.blob c.args.dir.now.low
+      c.args.dir.now.high c.args.entry c.args.entry (g.D.Store.holds c.args.store.now) c.args.self.now c.args.self.now
+      (g.D.Store.reads c.args.store.now)
       (g.D.Store.reads c.args.store.now) found) (sym c.new-found.ensures.items)
       (walked-none c.args.frames.now c.args.blob c.args.dir.now.low c.args.dir.now.high c.args.entry (g.D.Store.holds c.args.store.now)
       c.args.self.now (g.D.Store.reads c.args.store.now) c.requires.cut c.requires.span c.requires.order);
@@ -37,10 +38,10 @@ loop-block-preserved g c =
     let holds = g.D.Store.holds c.args.store.now in
     let block : Block = block_with blob low c.in-Some.count entry in
     let asks : Asks (filter (meets nearer) (block ∷ [])) holds c.loop-block.self c.put_block.new.self (g.D.Store.reads c.loop-block.store)
-        (g.D.Store.reads c.put_block.new.store) =
+    (g.D.Store.reads c.put_block.new.store) =
     rw (c.low.ensures, c.loop-block.invariant.holds) at c.in_ok-put_block.ensures.blocks in
     let puts : Puts (AreFetched (HasBlock block) nearer blob entry.first (entry.last + 1) holds c.loop-block.self) c.loop-block.found.items
-        c.put_block.new.found.items =
+    c.put_block.new.found.items =
     rw (c.low.ensures, c.loop-block.invariant.holds) at c.in_ok-put_block.ensures.addresses in
     record {
       holds = c.in_ok-put_block.ensures.holds ∙ c.loop-block.invariant.holds;
@@ -72,18 +73,19 @@ returns-in_err-put_block-clause-cause g c =
     let Broken = IfSome holds (λ content. IsSpelledIn content block → ⊥) in
     let Other = IfSome holds (λ content. AllByRecursion (IsSpelledIn content) (blocks_from blob low all.count all.blocks) → ⊥) in
     let told : IfErr c.from_residual.result (IsCause
-        (all_missing now.cap (keys_of now.entries) (filter (meets nearer)
-        (block_with blob c.low.result c.in-Some.count entry ∷ []))) blob
-        (IfSome (g.D.Store.holds c.loop-block.store) (λ content. IsSpelledIn content (block_with blob c.low.result c.in-Some.count entry) → ⊥))
-        (faults c.loop-block.store) (faults c.put_block.new.store) (reads c.loop-block.store) (reads c.put_block.new.store)) =
+    (all_missing now.cap (keys_of now.entries) (filter (meets nearer)
+    (block_with blob c.low.result c.in-Some.count entry ∷ []))) blob
+    (IfSome (g.D.Store.holds c.loop-block.store) (λ content.
+    IsSpelledIn content (block_with blob c.low.result c.in-Some.count entry) → ⊥))
+    (faults c.loop-block.store) (faults c.put_block.new.store) (reads c.loop-block.store) (reads c.put_block.new.store)) =
     search rules in
     let cause : IfErr c.from_residual.result (IsCause
-        (all_missing now.cap (keys_of now.entries) (filter (meets nearer) (block ∷ []))) blob Broken
-        (faults c.loop-block.store) (faults c.put_block.new.store) (reads c.loop-block.store) (reads c.put_block.new.store)) =
+    (all_missing now.cap (keys_of now.entries) (filter (meets nearer) (block ∷ []))) blob Broken
+    (faults c.loop-block.store) (faults c.put_block.new.store) (reads c.loop-block.store) (reads c.put_block.new.store)) =
     rw (c.low.ensures, c.loop-block.invariant.holds) at told in
     let Goal : Trouble → Type 0 = λ trouble. IsCause (all_missing c.args.self.now.cap (keys_of c.args.self.now.entries)
-        (filter (meets frames) (blocks_from blob low all.count all.blocks))) blob Other
-        (faults c.args.store.now) (faults c.put_block.new.store) (reads c.args.store.now) (reads c.put_block.new.store) trouble in
+    (filter (meets frames) (blocks_from blob low all.count all.blocks))) blob Other
+    (faults c.args.store.now) (faults c.put_block.new.store) (reads c.args.store.now) (reads c.put_block.new.store) trouble in
     if_err _ Goal c.from_residual.result
     (λ trouble is.
     subst (λ (bs : List Block). IsCause (all_missing c.args.self.now.cap (keys_of c.args.self.now.entries) bs) blob Other

@@ -1,5 +1,4 @@
-use Rattle.std.proofs.Common.{sym, ◌∙◌, subst}
-use Rattle.wu_lists.specs.Blocks.{IsSpelling}
+use Rattle.std.proofs.Common.{sym}
 use Rattle.wu_lists.proofs.Caching.{checked-found, never-absent}
 use Rattle.wu_lists.proofs.lists.Lists.kept_addresses.Goals as goal
 

@@ -1,10 +1,9 @@
-use Rattle.std.proofs.Common.{◌≡◌, ℕ, List, [], ◌∷◌, refl, sym, ◌∙◌, ap, subst, rules}
-use Rattle.std.specs.Prelude.{Err, IfErr, IfSome}
+use Rattle.std.proofs.Common.{◌≡◌, ℕ, List, [], ◌∷◌, rules}
+use Rattle.std.specs.Prelude.{Err, IfSome}
 use Rattle.wu_layout.proofs.EntryLemmas.{IfSome-map}
 use Rattle.wu_base.specs.declared.troubles.Trouble.TheVariants.{NoMemory}
 use Rattle.wu_lists.specs.Blocks.{HasBytes, IsSpelledIn, IsSpelling}
 use Rattle.wu_lists.specs.declared.blocks.Block.{Block}
-use Rattle.wu_lists.specs.Causes.{IsCause}
 use Rattle.wu_lists.proofs.Fetches.{asks-read}
 use Rattle.wu_lists.proofs.Readings.{cause-damaged, cause-memory, unspelled}
 use Rattle.wu_lists.proofs.lists.Lists.read.Goals as goal
