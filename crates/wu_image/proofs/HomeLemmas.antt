@@ -39,7 +39,8 @@ pub spans_rise : (parts : List PartRec) (next : ℕ) → SpansAscend 0 parts nex
 spans_rise parts next s i j d up inside =
     ⊎_elim
     (λ (less : i < j). omega (arith, spans_apart 0 parts next i j d s less inside, (low_from 0 parts next j d s inside).1))
-    (λ (same : j ≤ i). let is : i ≡ j = omega arith in subst (λ (k : ℕ). (get_or parts i d).high ≤ (get_or parts k d).high) is (omega arith))
+    (λ (same : j ≤ i). let is : i ≡ j = omega arith in
+    subst (λ (k : ℕ). (get_or parts i d).high ≤ (get_or parts k d).high) is (omega arith))
     (cases_lt i j)
 
 lies : (range : Range) (part : PartRec) → lies_in range part ≡ true → (part.low ≤ range.start) × (range.start + range.len ≤ part.high + 1)
@@ -125,7 +126,8 @@ in_part range part t = ap (λ (b : Bool). cond {A = ℕ} b range.len 0) t
 not_in_part : (range : Range) (part : PartRec) → lies_in range part ≡ false → cond {A = ℕ} (lies_in range part) range.len 0 ≡ 0
 not_in_part range part t = ap (λ (b : Bool). cond {A = ℕ} b range.len 0) t
 
-pub one_file_asked : (files : List FileRec) (parts : List PartRec) (asked next place : ℕ) (file e : FileRec) (d : PartRec) (room new : List ℕ)
+pub one_file_asked : (files : List FileRec) (parts : List PartRec) (asked next place : ℕ) (file e : FileRec) (d : PartRec)
+    (room new : List ℕ)
     → RoomLeft files parts asked room → SpansAscend 0 parts next → asked < length files → file ≡ get_or files asked e
     → 0 < file.range.len → place < length parts → lies_in file.range (get_or parts place d) ≡ true
     → file.range.len ≤ get_or room place 0 → new ≡ set room place (get_or room place 0 - file.range.len)
@@ -194,7 +196,8 @@ homeless files parts asked file e more is none h =
 pub all_files_asked : (files : List FileRec) (parts : List PartRec) (asked : ℕ) (room : List ℕ) → RoomLeft files parts asked room
     → length files ≤ asked → HaveHomes files parts
 all_files_asked files [] asked room r long = record {
-  homes = subst (λ (l : List FileRec). AllByRecursion (λ f. list_any (λ p. lies_in f.range p) [] ≡ true) l) (take_all asked files long) r.homes;
+  homes = subst (λ (l : List FileRec). AllByRecursion (λ f. list_any (λ p. lies_in f.range p) [] ≡ true) l) (take_all asked files long)
+      r.homes;
   stored = tt;
 }
 all_files_asked files (part ∷ parts) asked room r long = record {
@@ -219,7 +222,8 @@ stored_at files parts room e =
     long_of [] = refl
     long_of (p ∷ ps) = omega (arith, long_of ps)
 
-    stored_of : (k : ℕ) (ps : List PartRec) (d : PartRec) → k < length ps → get_or (map (λ part. part.stored) ps) k 0 ≡ (get_or ps k d).stored
+    stored_of : (k : ℕ) (ps : List PartRec) (d : PartRec) → k < length ps
+        → get_or (map (λ part. part.stored) ps) k 0 ≡ (get_or ps k d).stored
     stored_of k [] d l = absurd (omega arith)
     stored_of zero (p ∷ ps) d l = refl
     stored_of (suc k) (p ∷ ps) d l = stored_of k ps d (omega arith)

@@ -115,5 +115,6 @@ image_kept a b tree texts layout i root same = record {
   memory = i.memory;
   stale = i.stale;
   job = i.job;
-  saved = subst (λ (r : Option (List ℕ)). IsSaved b r tree texts layout) (sym root) (saved_by_root a b a.root tree texts layout same i.saved);
+  saved = subst (λ (r : Option (List ℕ)). IsSaved b r tree texts layout) (sym root)
+      (saved_by_root a b a.root tree texts layout same i.saved);
 }

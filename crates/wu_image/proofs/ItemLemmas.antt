@@ -238,6 +238,10 @@ appended old mid new xs ys a b = (
 pub number_appended : (old new : List ℕ) (n : ℕ) → n < 2 ^ 64 → AppendsNumber old n new → Appends old (Number n ∷ []) new
 number_appended old new n small a = (a.0, (small, [], (a.0, a.1, sym (append-nil a.0)), refl), a.2)
 
+-- a number that equals another
+pub renumbered : (old new : List ℕ) (n m : ℕ) → m ≡ n → Appends old (Number m ∷ []) new → Appends old (Number n ∷ []) new
+renumbered old new n m e a = subst (λ (k : ℕ). Appends old (Number k ∷ []) new) e a
+
 pub id_appended : (old new : List ℕ) (n : ℕ) → n < 2 ^ 32 → AppendsNumber old n new → Appends old (Id n ∷ []) new
 id_appended old new n small a = (a.0, (small, [], (a.0, a.1, sym (append-nil a.0)), refl), a.2)
 

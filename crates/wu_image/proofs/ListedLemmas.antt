@@ -30,7 +30,8 @@ lengths_fit : (next : ℕ) (files : List FileRec) → AllByRecursion (IsText nex
 lengths_fit next [] a = tt
 lengths_fit next (file ∷ files) a = let short = a.0.short in (omega arith, lengths_fit next files a.1)
 
-parts_fit : (from limit next : ℕ) (parts : List PartRec) → limit < 2 ^ 32 → next < 2 ^ 64 → SpansAscend from parts next → NeverRise limit parts
+parts_fit : (from limit next : ℕ) (parts : List PartRec) → limit < 2 ^ 32 → next < 2 ^ 64 → SpansAscend from parts next
+    → NeverRise limit parts
     → AllByRecursion FitsPart parts × (from ≤ next)
 parts_fit from limit next [] few small s g = (tt, s)
 parts_fit from limit next (part ∷ parts) few small s g =
@@ -105,7 +106,8 @@ sections_of c bytes s =
       nodes_are = a.nodes_are;
       files_are = a.files_are;
       parts_fit = s.parts_fit;
-      items = subst (λ (i : List Item). StartsWith s.spelled.code i []) (all_items c a.entries a.valid a.nodes_are a.files_are) s.spelled.items;
+      items = subst (λ (i : List Item). StartsWith s.spelled.code i []) (all_items c a.entries a.valid a.nodes_are a.files_are)
+          s.spelled.items;
     }
 
 -- ---- one section after another
@@ -113,7 +115,8 @@ sections_of c bytes s =
 pub after_numbers : (code rest last : List ℕ) (ns ms : List ℕ) (ys : List Item) → length ns ≡ length ms
     → StartsWith code (map Number ns) rest → StartsWith code (map Number ms ++ ys) last → (ns ≡ ms) × StartsWith rest ys last
 after_numbers code rest last ns ms ys l s t =
-    let h = same_numbers ns ms [] ys code rest last l (subst (λ (i : List Item). StartsWith code i rest) (sym (append-nil (map Number ns))) s) t in
+    let h = same_numbers ns ms [] ys code rest last l
+    (subst (λ (i : List Item). StartsWith code i rest) (sym (append-nil (map Number ns))) s) t in
     (h.0, subst (λ (b : List ℕ). StartsWith b ys last) h.2 h.3)
 
 pub after_section : {X : Type 0} (items : X → List Item) (P : X → Type 0) → IsUnique items P → (x y : X) (ys : List Item)
@@ -192,7 +195,8 @@ one_listed c d bytes s t =
     let l = parted e.0 [] (list_items link_items c.tree.links) (list_items part_items c.parts) e.2 in
     let k = after_links c.tree.links d.tree.links (list_items part_items d.parts) e.0 l.0 [] l.1 f.1 in
     let p = same_parts c.parts d.parts l.0 [] [] a.parts_fit b.parts_fit l.2 k.1 in
-    checkpoint_is c d m.0 v.0 (a.nodes_are ∙ (ap nodes_of f.0 ∙ sym b.nodes_are)) k.0 (a.files_are ∙ (ap files_of f.0 ∙ sym b.files_are)) p.0
+    checkpoint_is c d m.0 v.0 (a.nodes_are ∙ (ap nodes_of f.0 ∙ sym b.nodes_are)) k.0
+    (a.files_are ∙ (ap files_of f.0 ∙ sym b.files_are)) p.0
 
 pub same_checkpoint : (c d : Checkpoint) (bytes : List ℕ) → SpellsCheckpoint c bytes → SpellsCheckpoint d bytes → c ≡ d
 same_checkpoint c d bytes s t = one_listed c d bytes (listed_of_spelled c bytes s) (listed_of_spelled d bytes t)
@@ -261,7 +265,8 @@ listed_of_read bytes code numbers users nodes files links parts a b d e rest mar
       };
       files = ap (λ (f : List FileRec). map (λ (x : FileRec). x.ino) f) t.files_listed
           ∙ (numbers_of_entries t.entries t.valid ∙ ap (λ (n : List (ℕ × Node)). file_numbers n) (sym t.nodes_listed));
-      modes = subst (λ (n : List (ℕ × Node)). AllByRecursion (λ x. x.1.perm.mode < 2 ^ 16) n) (sym t.nodes_listed) (modes_of t.entries t.valid);
+      modes = subst (λ (n : List (ℕ × Node)). AllByRecursion (λ x. x.1.perm.mode < 2 ^ 16) n) (sym t.nodes_listed)
+          (modes_of t.entries t.valid);
       lengths = subst (λ (f : List FileRec). AllByRecursion (λ x. x.len < 2 ^ 32) f) (sym t.files_listed) (lengths_of t.entries t.valid);
       parts_fit = fit;
     }
@@ -277,7 +282,8 @@ pub users_left : (c : Checkpoint) (code rest : List ℕ) (ns : List ℕ) (h : Ha
 users_left c code rest ns h l s =
     (after_numbers code rest [] ns (numbers_of c) (users_and_later c.tree.users h.entries c.tree.links c.parts) l s h.items).1
 
-pub entries_left : (users others : List (ℕ × List ℕ)) (entries : List Entry) (links : List Link) (parts : List PartRec) (rest after : List ℕ)
+pub entries_left : (users others : List (ℕ × List ℕ)) (entries : List Entry) (links : List Link) (parts : List PartRec)
+    (rest after : List ℕ)
     → StartsWith rest (users_and_later users entries links parts) [] → StartsWith rest (list_items user_items others) after
     → StartsWith after (entries_and_later entries links parts) []
 entries_left users others entries links parts rest after h s =
@@ -286,7 +292,8 @@ entries_left users others entries links parts rest after h s =
 pub links_left : (entries : List Entry) (links : List Link) (parts : List PartRec) (nodes : List (ℕ × Node)) (files : List FileRec)
     (rest after : List ℕ) → AllByRecursion IsEntry entries → StartsWith rest (entries_and_later entries links parts) []
     → StartsWithTree rest nodes files after → StartsWith after (links_and_parts links parts) []
-links_left entries links parts nodes files rest after valid h s = (after_entries s.entries entries (links_and_parts links parts) rest after [] s.valid valid s.spelled h).1
+links_left entries links parts nodes files rest after valid h s =
+    (after_entries s.entries entries (links_and_parts links parts) rest after [] s.valid valid s.spelled h).1
 
 pub parts_left : (links others : List Link) (parts : List PartRec) (rest after : List ℕ) → StartsWith rest (links_and_parts links parts) []
     → StartsWith rest (list_items link_items others) after → StartsWith after (list_items part_items parts) []

@@ -60,11 +60,16 @@ root_read bytes root long mark a b c d some drawn size address blob =
       address_fits = address;
       blob_fits = blob;
       spelled = four_eights bytes long
-          ∙ (ap (λ (m : List ℕ). join m (take 8 (drop 8 bytes)) (take 8 (drop 16 bytes)) (take 8 (drop 24 bytes)) (take 8 (drop 32 bytes))) (sym front)
-          ∙ (ap (λ (x : List ℕ). join (codes "WUMPUSR1") x (take 8 (drop 16 bytes)) (take 8 (drop 24 bytes)) (take 8 (drop 32 bytes))) (sym a)
-          ∙ (ap (λ (y : List ℕ). join (codes "WUMPUSR1") (eight_bytes root.checkpoint) y (take 8 (drop 24 bytes)) (take 8 (drop 32 bytes))) (sym b)
-          ∙ (ap (λ (z : List ℕ). join (codes "WUMPUSR1") (eight_bytes root.checkpoint) (eight_bytes root.size) z (take 8 (drop 32 bytes))) (sym c)
-          ∙ ap (λ (w : List ℕ). join (codes "WUMPUSR1") (eight_bytes root.checkpoint) (eight_bytes root.size) (eight_bytes root.next_address) w)
+          ∙ (ap (λ (m : List ℕ). join m (take 8 (drop 8 bytes)) (take 8 (drop 16 bytes)) (take 8 (drop 24 bytes)) (take 8 (drop 32 bytes)))
+          (sym front)
+          ∙ (ap (λ (x : List ℕ). join (codes "WUMPUSR1") x (take 8 (drop 16 bytes)) (take 8 (drop 24 bytes)) (take 8 (drop 32 bytes)))
+          (sym a)
+          ∙ (ap (λ (y : List ℕ). join (codes "WUMPUSR1") (eight_bytes root.checkpoint) y (take 8 (drop 24 bytes)) (take 8 (drop 32 bytes)))
+          (sym b)
+          ∙ (ap (λ (z : List ℕ). join (codes "WUMPUSR1") (eight_bytes root.checkpoint) (eight_bytes root.size) z (take 8 (drop 32 bytes)))
+          (sym c)
+          ∙ ap
+          (λ (w : List ℕ). join (codes "WUMPUSR1") (eight_bytes root.checkpoint) (eight_bytes root.size) (eight_bytes root.next_address) w)
           (sym d)))));
     }
 
@@ -91,9 +96,11 @@ same_root root other bytes s t =
     let its_fits : other.checkpoint < 2 ^ 64 = let d = t.drawn in let f = t.blob_fits in omega arith in
     let checkpoint = eight_bytes_of_one root.checkpoint other.checkpoint checkpoint_fits its_fits (sym a.checkpoint ∙ b.checkpoint) in
     let size = eight_bytes_of_one root.size other.size s.size_fits t.size_fits (sym a.size ∙ b.size) in
-    let address = eight_bytes_of_one root.next_address other.next_address s.address_fits t.address_fits (sym a.next_address ∙ b.next_address) in
+    let address = eight_bytes_of_one root.next_address other.next_address s.address_fits t.address_fits
+    (sym a.next_address ∙ b.next_address) in
     let blob = eight_bytes_of_one root.next_blob other.next_blob s.blob_fits t.blob_fits (sym a.next_blob ∙ b.next_blob) in
     let make : ℕ → ℕ → ℕ → ℕ → Root = λ c n a b. record { checkpoint = c; size = n; next_address = a; next_blob = b } in
     ap (λ x. make x root.size root.next_address root.next_blob) checkpoint
     ∙ (ap (λ x. make other.checkpoint x root.next_address root.next_blob) size
-    ∙ (ap (λ x. make other.checkpoint other.size x root.next_blob) address ∙ ap (λ x. make other.checkpoint other.size other.next_address x) blob))
+    ∙ (ap (λ x. make other.checkpoint other.size x root.next_blob) address
+    ∙ ap (λ x. make other.checkpoint other.size other.next_address x) blob))

@@ -1,5 +1,5 @@
 -- Lemmas on the rules of the layout: what is asked is what the rules say.
-use Rattle.std.proofs.Common.{◌≡◌, ℕ, zero, suc, ◌+◌, ◌-◌, ◌^◌, ◌<◌, ◌≤◌, Bool, true, false, cond, eqb, List, [], ◌∷◌, ◌++◌, length, get_or, drop, take, refl, ap, sym, subst, ◌∙◌, ◌⊎◌, inl, inr, ⊎_elim, arith}
+use Rattle.std.proofs.Common.{◌≡◌, ℕ, zero, suc, ◌+◌, ◌-◌, ◌*◌, ◌%◌, ◌^◌, ◌<◌, ◌≤◌, Bool, true, false, cond, eqb, List, [], ◌∷◌, ◌++◌, length, get_or, drop, take, refl, ap, sym, subst, ◌∙◌, ◌⊎◌, inl, inr, ⊎_elim, arith}
 use Rattle.std.specs.Prelude.{◌≢◌, IsPermutation, MatchBool, count_by, map, sum_by}
 use Rattle.std.specs.List.{AllByRecursion, IsDistinct}
 use Rattle.std.specs.List.Sorted.{IsNonDecreasingBy}
@@ -116,8 +116,13 @@ one_part_less parts rest later part from limit left new_from new_limit fewer flu
     rw (f, g, h) (record {
       small = omega arith;
       on = λ a. l.on (rw e (p, a));
-      back = λ a. let b : ArePartsFrom from limit left next (part ∷ later) = subst (λ r. ArePartsFrom from limit left next r) e (l.back a) in b.1;
+      back = λ a. let b : ArePartsFrom from limit left next (part ∷ later) =
+          subst (λ r. ArePartsFrom from limit left next r) e (l.back a) in b.1;
     })
+
+-- the flushes that are left after a part, where its flushes are a shift
+pub fewer_left : (left power : ℕ) → power ≤ left → left < 2 ^ 64 → left - 1 * power % 2 ^ 64 ≡ left - power
+fewer_left left power enough small = omega arith
 
 pub no_next_part : (parts rest later : List PartRec) (part : PartRec) (from limit left flushes next : ℕ)
     → PartsLeft parts rest from limit left flushes next → rest ≡ part ∷ later → (IsNextPart from limit left next part → ⊥)
@@ -349,7 +354,8 @@ texts_end next (file ∷ files) small a =
     let within = a.0.within in
     ((omega arith, omega arith), texts_end next files small a.1)
 
-pub texts_filled : (next : ℕ) (files : List FileRec) → AllByRecursion (IsText next) files → AllByRecursion (λ file. 0 < file.range.len) files
+pub texts_filled : (next : ℕ) (files : List FileRec) → AllByRecursion (IsText next) files
+    → AllByRecursion (λ file. 0 < file.range.len) files
 texts_filled next [] a = tt
 texts_filled next (file ∷ files) a = let some = a.0.some in (omega arith, texts_filled next files a.1)
 
@@ -445,7 +451,8 @@ pub drawn_fit : (next : ℕ) (blobs : List ℕ) → next < 2 ^ 64 → AllByRecur
 drawn_fit next [] small a = tt
 drawn_fit next (blob ∷ blobs) small a = let below = a.0.1 in (omega arith, drawn_fit next blobs small a.1)
 
-pub drawn_moved : (next : ℕ) (blobs sorted : List ℕ) → IsPermutation blobs sorted → AllByRecursion (λ blob. (0 < blob) × (blob < next)) blobs
+pub drawn_moved : (next : ℕ) (blobs sorted : List ℕ) → IsPermutation blobs sorted
+    → AllByRecursion (λ blob. (0 < blob) × (blob < next)) blobs
     → AllByRecursion (λ blob. (0 < blob) × (blob < next)) sorted
 drawn_moved next blobs sorted p a = all_moved (λ (b : ℕ). (0 < b) × (b < next)) blobs sorted p a
 

@@ -227,7 +227,8 @@ items_of_entries (entry ∷ entries) a =
     let later = files_of entries in
     let first = first_record entry.node.kind entry.ino entry.file later a.0.recorded in
     let own = node_items (entry.ino, entry.node) in
-    let more : tree_items (nodes_of entries) (later_files entry.node.kind (record_list entry.file ++ later)) ≡ flat_map entry_items entries =
+    let more : tree_items (nodes_of entries) (later_files entry.node.kind (record_list entry.file ++ later))
+    ≡ flat_map entry_items entries =
     ap (λ (l : List FileRec). tree_items (nodes_of entries) l) first.1 ∙ items_of_entries entries a.1 in
     ap (λ (i : List Item). own ++ i)
     (ap (λ (i : List Item). i ++ tree_items (nodes_of entries) (later_files entry.node.kind (record_list entry.file ++ later))) first.0
@@ -304,7 +305,8 @@ past_name bytes name other left last ys s t =
 
 -- six numbers, and four
 pub six : (numbers : List ℕ) → length numbers ≡ 6
-    → numbers ≡ get_or numbers 0 0 ∷ get_or numbers 1 0 ∷ get_or numbers 2 0 ∷ get_or numbers 3 0 ∷ get_or numbers 4 0 ∷ get_or numbers 5 0 ∷ []
+    → numbers ≡ get_or numbers 0 0 ∷ get_or numbers 1 0 ∷ get_or numbers 2 0 ∷ get_or numbers 3 0 ∷ get_or numbers 4 0
+    ∷ get_or numbers 5 0 ∷ []
 six [] l = absurd (omega arith)
 six (a ∷ []) l = absurd (omega arith)
 six (a ∷ b ∷ []) l = absurd (omega arith)
@@ -378,7 +380,8 @@ length_of_text bytes rest last numbers file long s t =
     ap (λ (l : List ℕ). get_or l 0 0) (sym h.0)
 
 -- what follows a kind, and what follows permissions
-pub past_kind : (bytes : List ℕ) (kind other : Kind) (left last : List ℕ) (ys : List Item) → StartsWith bytes (Number (kind_number kind) ∷ []) left
+pub past_kind : (bytes : List ℕ) (kind other : Kind) (left last : List ℕ) (ys : List Item)
+    → StartsWith bytes (Number (kind_number kind) ∷ []) left
     → StartsWith bytes (Number (kind_number other) ∷ ys) last → (other ≡ kind) × StartsWith left ys last
 past_kind bytes kind other left last ys s t =
     let h = past_number bytes (kind_number kind) (kind_number other) left last ys s t in (same_kind other kind h.0, h.1)
@@ -392,8 +395,8 @@ past_perm bytes perm other left last ys s t =
     (past_number b.left perm.mode other.mode left last ys b.mine b.its).1
 
 -- all the numbers
-pub all_numbers : (bytes rest numbers : List ℕ) (place : ℕ) → length numbers ≤ place → StartsWith bytes (map Number (take place numbers)) rest
-    → StartsWith bytes (map Number numbers) rest
+pub all_numbers : (bytes rest numbers : List ℕ) (place : ℕ) → length numbers ≤ place
+    → StartsWith bytes (map Number (take place numbers)) rest → StartsWith bytes (map Number numbers) rest
 all_numbers bytes rest numbers place long s =
     subst (λ (l : List ℕ). StartsWith bytes (map Number l) rest) (take_all place numbers long) s
 

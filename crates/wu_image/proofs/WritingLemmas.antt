@@ -2,14 +2,15 @@
 use Rattle.std.proofs.Common.{◌≡◌, ℕ, ◌+◌, List, [], ◌∷◌, ◌++◌, length, map, refl, ap, sym, subst, ◌∙◌, append-nil, length-append, arith}
 use Rattle.std.specs.Prelude.{codes}
 use Rattle.std.specs.List.{flat_map}
+use Rattle.std.proofs.lemmas.List.Concat.{flat_map_single}
 use Rattle.wu_base.specs.declared.addresses.PartRec.{PartRec}
 use Rattle.wu_tree.specs.declared.events.Node.{Node}
 use Rattle.wu_tree.specs.FileSystems.{FileSystem}
 use Rattle.wu_tree.specs.Rules.{IsTree}
 use Rattle.wu_image.specs.declared.checkpoints.Checkpoint.{Checkpoint}
 use Rattle.wu_image.specs.declared.records.FileRec.{FileRec}
-use Rattle.wu_image.specs.Items.{Item, Number, StartsWith, Appends, list_items}
-use Rattle.wu_image.specs.Checkpoints.{HasItems, checkpoint_items, first_text, later_files, link_items, node_items, part_items, tree_items, user_items}
+use Rattle.wu_image.specs.Items.{Item, Id, Number, StartsWith, Appends, list_items}
+use Rattle.wu_image.specs.Checkpoints.{HasItems, checkpoint_items, first_text, group_items, later_files, link_items, node_items, part_items, tree_items, user_items}
 use Rattle.wu_image.proofs.ItemLemmas.{LeftToPut, all_left, all_put, appended, some_put}
 
 -- what is still to be written of the nodes
@@ -49,6 +50,11 @@ no_node_left all files rest files_left count now l e =
     let done = all_put [] now (tree_items all files)
     (subst (λ (r : List (ℕ × Node)). LeftToPut [] now (tree_items all files) (tree_items r files_left)) e l.put) in
     (omega arith, subst (λ (c : List ℕ). StartsWith c (tree_items all files) []) (sym done.2) done.1)
+
+-- ---- users
+
+pub groups_put : (old new groups : List ℕ) → Appends old (map Id groups) new → Appends old (flat_map group_items groups) new
+groups_put old new groups a = subst (λ (i : List Item). Appends old i new) (sym (flat_map_single Id groups)) a
 
 -- ---- the whole
 

@@ -8,7 +8,8 @@ use wu_vbyte::{put_number, take_number};
 /// The number that the bytes start with, and the rest. `None` exactly where they start with no number.
 pub(crate) fn next_number(bytes: &[u8]) -> Option<(u64, &[u8])>
     ensures found { IfSome result (λ next. StartsWith bytes.now (Number next.0 ∷ []) next.1.now) }
-    ensures none { IfNone result ((number : ℕ) (items : List Item) (rest : List ℕ) → StartsWith bytes.now (Number number ∷ items) rest → ⊥) }
+    ensures none { IfNone result ((number : ℕ) (items : List Item) (rest : List ℕ)
+        → StartsWith bytes.now (Number number ∷ items) rest → ⊥) }
 {
     match take_number(bytes, 0) {
         Some((number, place)) => Some((number, &bytes[place..])),

@@ -35,7 +35,8 @@ pub(crate) struct Entry {
 /// nodes, and the rest. `None` exactly where they start with none such. Takes memory only for nodes that
 /// the bytes were found to hold.
 pub(crate) fn take_nodes(alloc: Global, bytes: &[u8]) -> Result<Option<(Inodes, &[u8])>, NoMemory>
-    ensures found { IfOk result (λ taken. IfSome taken (λ next. StartsWithTree bytes.now next.0.nodes.items next.0.files.items next.1.now)) }
+    ensures found { IfOk result (λ taken. IfSome taken (λ next.
+        StartsWithTree bytes.now next.0.nodes.items next.0.files.items next.1.now)) }
     ensures none { IfOk result (λ taken. IfNone taken ((entries : List Entry) (rest : List ℕ) → AllByRecursion IsEntry entries
         → StartsWith bytes.now (list_items entry_items entries) rest → ⊥)) }
 {
@@ -162,7 +163,8 @@ fn take_record(bytes: &[u8], kind: Kind, ino: Ino) -> Option<(Option<FileRec>, &
 
 /// The record of a file that the bytes start with, and the rest.
 fn take_text(bytes: &[u8], ino: Ino) -> Option<(FileRec, &[u8])>
-    ensures found { IfSome result (λ next. (next.0.ino ≡ ino) × (next.0.len < 2 ^ 32) × StartsWith bytes.now (text_items next.0) next.1.now) }
+    ensures found { IfSome result (λ next. (next.0.ino ≡ ino) × (next.0.len < 2 ^ 32)
+        × StartsWith bytes.now (text_items next.0) next.1.now) }
     ensures none { IfNone result ((file : FileRec) (rest : List ℕ) → file.len < 2 ^ 32
         → StartsWith bytes.now (text_items file) rest → ⊥) }
 {

@@ -1,8 +1,7 @@
 //! The root of a store: the few bytes that name its checkpoint.
-ghost use Rattle.std.specs.Prelude.{◌≡◌, ◌+◌, ◌<◌, ◌≤◌, IfSome, IfNone, MatchBool, length, take, drop};
-ghost use Rattle.std.specs.Int.{w64, to_be_bytes};
+ghost use Rattle.std.specs.Prelude.{◌≡◌, ◌+◌, ◌^◌, ◌<◌, ◌≤◌, IfSome, IfNone, MatchBool, length, take, drop};
 ghost use Rattle.wu_image.specs.declared.roots.Root.{Root};
-ghost use Rattle.wu_image.specs.Roots.{SpellsRoot};
+ghost use Rattle.wu_image.specs.Roots.{SpellsRoot, eight_bytes};
 
 /// The first bytes of a root.
 const MARK: [u8; 8] = *b"WUMPUSR1";
@@ -28,11 +27,19 @@ pub fn write_root(root: &Root) -> [u8; 40]
 {
     let mut bytes = [0; ROOT_LEN];
     bytes[..8].copy_from_slice(&MARK);
-    bytes[8..16].copy_from_slice(&root.checkpoint.to_be_bytes());
-    bytes[16..24].copy_from_slice(&root.size.to_be_bytes());
-    bytes[24..32].copy_from_slice(&root.next_address.to_be_bytes());
-    bytes[32..].copy_from_slice(&root.next_blob.to_be_bytes());
+    bytes[8..16].copy_from_slice(&bytes_of(root.checkpoint));
+    bytes[16..24].copy_from_slice(&bytes_of(root.size));
+    bytes[24..32].copy_from_slice(&bytes_of(root.next_address));
+    bytes[32..].copy_from_slice(&bytes_of(root.next_blob));
     bytes
+}
+
+/// The number in eight bytes, the highest first.
+fn bytes_of(number: u64) -> [u8; 8]
+    ensures bytes { result ≡ eight_bytes number }
+    ensures fits { number < 2 ^ 64 }
+{
+    number.to_be_bytes()
 }
 
 /// The root whose bytes these are. `None` exactly where they are no root's: they aren't 40, or begin
@@ -70,7 +77,7 @@ fn may_name(checkpoint: u64, next_blob: u64) -> bool
 /// The number whose eight bytes stand at the place, the highest first.
 fn number_at(bytes: &[u8], place: usize) -> u64
     requires { place + 8 ≤ length bytes.now }
-    ensures { to_be_bytes w64 result ≡ take 8 (drop place bytes.now) }
+    ensures { eight_bytes result ≡ take 8 (drop place bytes.now) }
 {
     u64::from_be_bytes([
         bytes[place],

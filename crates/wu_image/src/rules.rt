@@ -216,7 +216,8 @@ fn stored_of(alloc: Global, parts: &[PartRec]) -> Result<Vec<u64>, NoMemory>
 fn home_of(parts: &[PartRec], range: &Range) -> Option<usize>
     requires filled { 0 < range.now.len }
     requires spans { (next : ℕ) × SpansAscend 0 parts.now next }
-    ensures found { IfSome result (λ place. (place < length parts.now) × ((d : PartRec) → lies_in range.now (get_or parts.now place d) ≡ true)) }
+    ensures found { IfSome result (λ place. (place < length parts.now)
+        × ((d : PartRec) → lies_in range.now (get_or parts.now place d) ≡ true)) }
     ensures none { IfNone result (list_any (λ part. lies_in range.now part) parts.now ≡ false) }
 {
     let place = parts.partition_point(|part| part.high < range.start);

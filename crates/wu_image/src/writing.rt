@@ -74,7 +74,8 @@ fn one_more(count: u64) -> Result<u64, NoMemory>
 
 /// Appends how many items a list has, and its bytes.
 fn put_list(out: &mut Vec<u8>, count: u64, body: &[u8]) -> Result<(), NoMemory>
-    ensures { OnOk result ((items : List Item) → StartsWith body.now items [] → Appends out.old.items (Number count ∷ items) out.new.items) }
+    ensures { OnOk result ((items : List Item) → StartsWith body.now items []
+        → Appends out.old.items (Number count ∷ items) out.new.items) }
 {
     put_numbers(out, &[count])?;
     out.extend_from_slice(body)?;

@@ -13,7 +13,8 @@ loop-id-preserved c =
     let place = c.loop-id.id-index in
     let next : drop place ids ≡ get_or ids place 0 ∷ drop (place + 1) ids = drop_more ids place 0 c.loop-id-test.true in
     some_put _ _ _ (map Id ids) (Id (get_or ids place 0) ∷ []) (map Id (drop (place + 1) ids)) (rw next at c.loop-id.invariant)
-    (same_id_appended _ _ (get_or ids place 0) c.from.result (omega arith) (omega (arith, c.type_inv.ids place)) c.in_ok-put_number.ensures.ok)
+    (same_id_appended _ _ (get_or ids place 0) c.from.result (omega arith) (omega (arith, c.type_inv.ids place))
+    c.in_ok-put_number.ensures.ok)
 
 pub returns : goal.returns
 returns c =

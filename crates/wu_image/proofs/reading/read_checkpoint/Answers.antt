@@ -26,4 +26,4 @@ returns-clause-found c =
     let l = rw c.in-Some.is at c.in_ok-lists.ensures.found in
     let t = rw (c.deref.ensures.value, c.deref-2.ensures.value, c.deref-3.ensures.value) at (rw c.in-Some-2.is at c.in_ok-tree.ensures) in
     let keep = rw (c.deref-4.ensures.value, c.deref-5.ensures.value) at (rw c.if-not-keep.false at c.in_ok-keep.ensures) in
-    made_checkpoint _ _ _ _ _ l t.0 keep t.1 c.from.ensures.from_gives c.from-2.ensures.from_gives
+    made_checkpoint _ _ _ _ _ l t.0 keep t.1 c.from.ensures c.from-2.ensures

@@ -3,7 +3,7 @@ use Rattle.wu_image.specs.Items.{Number, list_items}
 use Rattle.wu_image.specs.Checkpoints.{link_items, user_items}
 use Rattle.wu_image.specs.Reading.{entry_items}
 use Rattle.wu_image.proofs.ItemLemmas.{parted}
-use Rattle.wu_image.proofs.ListedLemmas.{entries_left, links_left, listed_of_read, numbers_of, parts_left, same_parts, sections_at, users_left}
+use Rattle.wu_image.proofs.ListedLemmas.{entries_left, links_left, listed_of_read, numbers_of, parts_left, same_parts, sections_at, users_and_later, users_left}
 use Rattle.wu_image.proofs.reading.take_lists.Goals as goal
 
 pub returns-in_default-clause-none : goal.returns-in_default-clause-none
@@ -12,7 +12,8 @@ returns-in_default-clause-none c checkpoint s = c.in_default.ensures.none s.spel
 pub returns-in_default-next_numbers-clause-none : goal.returns-in_default-next_numbers-clause-none
 returns-in_default-next_numbers-clause-none c checkpoint s =
     let h = sections_at checkpoint _ _ c.in-Some.ensures.found s in
-    let n = parted _ [] (map Number (numbers_of checkpoint)) _ h.items in
+    let n = parted _ [] (map Number (numbers_of checkpoint))
+    (users_and_later checkpoint.tree.users h.entries checkpoint.tree.links checkpoint.parts) h.items in
     c.in_default-next_numbers.ensures.none (numbers_of checkpoint) n.0 refl n.1
 
 pub returns-in-None-clause-none : goal.returns-in-None-clause-none

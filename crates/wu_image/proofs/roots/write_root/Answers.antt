@@ -1,4 +1,4 @@
-use Rattle.std.proofs.Common.{◌≡◌, refl, arith}
+use Rattle.std.proofs.Common.{◌≡◌, refl}
 use Rattle.std.specs.Prelude.{codes}
 use Rattle.wu_image.specs.Roots.{eight_bytes}
 use Rattle.wu_image.proofs.roots.write_root.Goals as goal
@@ -14,8 +14,8 @@ returns c =
     record {
       some = c.requires.some;
       drawn = c.requires.drawn;
-      size_fits = omega arith;
-      address_fits = omega arith;
-      blob_fits = omega arith;
+      size_fits = c.bytes_of-2.ensures.fits;
+      address_fits = c.bytes_of-3.ensures.fits;
+      blob_fits = c.bytes_of-4.ensures.fits;
       spelled = rw (mark, checkpoint, size, address, blob) refl;
     }

@@ -7,7 +7,8 @@ use Rattle.wu_image.proofs.rules.are_drawn.Goals as goal
 
 pub returns-then-not-is_drawn : goal.returns-then-not-is_drawn
 returns-then-not-is_drawn c = λ all.
-    let its = all_has_at (λ (b : ℕ). (0 < b) × (b < c.args.next_blob)) c.args.blobs.now c.loop-blob.blob-index 0 all c.loop-blob-test.true in
+    let its = all_has_at (λ (b : ℕ). (0 < b) × (b < c.args.next_blob)) c.args.blobs.now c.loop-blob.blob-index 0 all
+    c.loop-blob-test.true in
     c.if-not-is_drawn.ensures its.0 its.1
 
 pub loop-blob-preserved : goal.loop-blob-preserved

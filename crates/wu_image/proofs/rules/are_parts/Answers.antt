@@ -1,7 +1,7 @@
 use Rattle.std.proofs.Common.{◌≡◌, ◌+◌, List, ◌∷◌, drop, get_or, arith}
 use Rattle.std.proofs.lemmas.List.{at_drop_all, drop_more}
 use Rattle.wu_base.specs.declared.addresses.PartRec.{PartRec}
-use Rattle.wu_image.proofs.RuleLemmas.{all_parts_left, no_next_part, no_part, no_part_left, one_part_less}
+use Rattle.wu_image.proofs.RuleLemmas.{all_parts_left, fewer_left, no_next_part, no_part, no_part_left, one_part_less}
 use Rattle.wu_image.proofs.rules.are_parts.Goals as goal
 
 pub loop-part-init : goal.loop-part-init
@@ -19,7 +19,7 @@ pub loop-part-preserved : goal.loop-part-preserved
 loop-part-preserved c =
     one_part_less _ _ _ (get_or c.args.parts.now c.loop-part.part-index no_part) _ _ _ _ _ _ _ _ c.loop-part.invariant
     (drop_more c.args.parts.now c.loop-part.part-index no_part c.loop-part-test.true) c.if-not-is_next_part.ensures
-    (omega arith) (omega arith) (omega arith)
+    (omega arith) (omega arith) (fewer_left _ _ c.if-not-is_next_part.ensures.flushed (omega arith))
 
 pub returns : goal.returns
 returns c = (

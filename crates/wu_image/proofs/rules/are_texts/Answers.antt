@@ -9,7 +9,8 @@ use Rattle.wu_image.proofs.rules.are_texts.Goals as goal
 
 pub returns-then-not-is_text : goal.returns-then-not-is_text
 returns-then-not-is_text c = λ all.
-    c.if-not-is_text.ensures (all_has_at (IsText c.args.next_address) c.args.files.now c.loop-file.file-index no_file all c.loop-file-test.true)
+    c.if-not-is_text.ensures
+    (all_has_at (IsText c.args.next_address) c.args.files.now c.loop-file.file-index no_file all c.loop-file-test.true)
 
 pub loop-file-preserved : goal.loop-file-preserved
 loop-file-preserved c =

@@ -35,7 +35,8 @@ loop-file-preserved c =
     let filled = all_has_at (λ (f : FileRec). 0 < f.range.len) c.args.files.now c.loop-file.file-index no_file c.requires.filled
     c.loop-file-test.true in
     one_file_asked c.args.files.now c.args.parts.now c.loop-file.file-index c.requires.spans.0 c.in-Some.place file no_file no_part
-    c.loop-file.room.items _ c.loop-file.invariant c.requires.spans.1 c.loop-file-test.true refl filled inside (c.in-Some.ensures.found.1 no_part)
+    c.loop-file.room.items _ c.loop-file.invariant c.requires.spans.1 c.loop-file-test.true refl filled inside
+    (c.in-Some.ensures.found.1 no_part)
     (omega arith) (ap (λ (n : ℕ). set c.loop-file.room.items c.in-Some.place (n - file.range.len)) same)
 
 pub returns : goal.returns

@@ -6,8 +6,8 @@ use Rattle.wu_image.proofs.RuleLemmas.{no_part}
 use Rattle.wu_image.proofs.HomeLemmas.{no_home, spans_rise}
 use Rattle.wu_image.proofs.rules.home_of.Goals as goal
 
-pub returns-then-place-len-clause-none : goal.returns-then-place-len-clause-none
-returns-then-place-len-clause-none c =
+pub returns-then-place-parts-clause-none : goal.returns-then-place-parts-clause-none
+returns-then-place-parts-clause-none c =
     let parts = c.args.parts.now in
     let range = c.args.range.now in
     let spans = c.requires.spans in

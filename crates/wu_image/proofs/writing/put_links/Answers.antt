@@ -33,5 +33,8 @@ returns c =
     let done = all_written link_items _ _ _ _ c.loop-ino.invariant
     (ap (λ (l : List (ℕ × Node)). links_by_directory l links) c.in-None.ensures.steps.0) in
     let all = links_of_tree c.args.tree.now c.keeps_the_rules.ensures in
-    subst (λ (l : List Link). Appends _ (list_items link_items l) _) all (rw done.0 at (c.in_ok-put_list.ensures (flat_map link_items (links_by_directory c.args.tree.now.nodes c.args.tree.now.links))
-    (subst (λ (b : List ℕ). StartsWith b (flat_map link_items (links_by_directory c.args.tree.now.nodes c.args.tree.now.links)) []) (sym c.deref.ensures.value) done.1)))
+    subst (λ (l : List Link). Appends c.args.out.now.items (list_items link_items l) c.put_list.new.out.items) all
+    (rw done.0 at (c.in_ok-put_list.ensures
+    (flat_map link_items (links_by_directory c.args.tree.now.nodes c.args.tree.now.links))
+    (subst (λ (b : List ℕ). StartsWith b (flat_map link_items (links_by_directory c.args.tree.now.nodes c.args.tree.now.links)) [])
+    (sym c.deref.ensures.value) done.1)))

@@ -18,7 +18,8 @@ pub loop-part-preserved : goal.loop-part-preserved
 loop-part-preserved c =
     let parts = c.args.parts.now in
     let place = c.loop-part.part-index in
-    let next : drop place parts ≡ get_or parts place no_part ∷ drop (place + 1) parts = drop_more parts place no_part c.loop-part-test.true in
+    let next : drop place parts ≡ get_or parts place no_part ∷ drop (place + 1) parts =
+    drop_more parts place no_part c.loop-part-test.true in
     some_put _ _ _ (list_items part_items parts) (part_items (get_or parts place no_part)) (flat_map part_items (drop (place + 1) parts))
     (rw next at c.loop-part.invariant) c.in_ok-put_part.ensures
 
