@@ -1,14 +1,15 @@
 -- How long the script is at most.
-use Rattle.std.proofs.Common.{◌≡◌, ℕ, zero, suc, ◌+◌, ◌-◌, ◌*◌, ◌/◌, ◌%◌, ◌^◌, ◌<◌, ◌≤◌, Bool, true, false, List, [], ◌∷◌, ◌++◌, length, map, length-append, refl, ap, arith, lit≤}
+use Rattle.std.proofs.Common.{◌≡◌, ℕ, zero, suc, ◌+◌, ◌-◌, ◌*◌, ◌/◌, ◌%◌, ◌^◌, ◌<◌, ◌≤◌, Bool, true, false, List, [], ◌∷◌}
+use Rattle.std.proofs.Common.{◌++◌, length, map, length-append, refl, ap, arith, lit≤}
 use Rattle.std.specs.Prelude.{codes, decimal, ◌==◌, if◌then◌else◌}
 use Rattle.std.specs.List.{AllByRecursion, concat, flat_map, join_with_byte, range_with_len}
 use Rattle.std.proofs.lemmas.Fmt.{length-decimal-le}
 use Rattle.std.proofs.lemmas.Nat.{mul-lt}
 use Rattle.std.proofs.Math.Nat.{mod-le, mod-lt}
 use Rattle.wu_demo.specs.Draws.{Draws, draw, next_state, in_turn}
-use Rattle.wu_demo.specs.Script.{line, user_command, directory_mode, directory_command, word_number, word, text_line, text_command, file_mode}
-use Rattle.wu_demo.specs.Script.{create_command, work_command, work_after, flush_after, file_commands, chmod_command, change_command}
-use Rattle.wu_demo.specs.Script.{count_command, rank_command, question_commands, round_commands, last_commands, script, demo_script}
+use Rattle.wu_demo.specs.Script.{line, user_command, directory_mode, directory_command, word_number, word, text_line, text_command}
+use Rattle.wu_demo.specs.Script.{file_mode, create_command, work_command, work_after, flush_after, file_commands, chmod_command}
+use Rattle.wu_demo.specs.Script.{change_command, count_command, rank_command, question_commands, round_commands, last_commands, script, demo_script}
 use Rattle.wu_demo.proofs.TurnLemmas.{turns-none, turns-some}
 
 -- ---- draws
@@ -203,8 +204,8 @@ directory_command-short d small state =
     let parent = draw (d - 1) state in
     let owner = draw 8 parent.1 in
     let group = draw 3 owner.1 in
-    node-short (codes "mkdir") 100 d (1 + parent.0) (1 + owner.0) (100 + group.0) (directory_mode (draw 4 group.1).0) (lit≤ tt) (omega arith)
-    (omega (arith, draw-small (d - 1) state)) (omega (arith, draw-small 8 parent.1)) (omega (arith, draw-small 3 owner.1))
+    node-short (codes "mkdir") 100 d (1 + parent.0) (1 + owner.0) (100 + group.0) (directory_mode (draw 4 group.1).0) (lit≤ tt)
+    (omega arith) (omega (arith, draw-small (d - 1) state)) (omega (arith, draw-small 8 parent.1)) (omega (arith, draw-small 3 owner.1))
     (directory_mode-short (draw 4 group.1).0)
 
 user_command-short : (user : ℕ) → user < 2 ^ 63 → length (user_command user) ≤ 184

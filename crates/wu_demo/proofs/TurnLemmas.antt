@@ -1,5 +1,6 @@
 -- Draws in turn, as a loop makes them.
-use Rattle.std.proofs.Common.{◌≡◌, ℕ, suc, ◌+◌, ◌-◌, ◌<◌, ◌≤◌, List, [], ◌∷◌, ◌++◌, map, refl, ap, ap₂, sym, ◌∙◌, append_assoc, append-nil, arith}
+use Rattle.std.proofs.Common.{◌≡◌, ℕ, suc, ◌+◌, ◌-◌, ◌<◌, ◌≤◌, List, [], ◌∷◌, ◌++◌, map, append_assoc, append-nil}
+use Rattle.std.proofs.Common.{refl, ap, ap₂, sym, ◌∙◌, arith}
 use Rattle.std.specs.List.{concat, flat_map, join_with_byte}
 use Rattle.std.proofs.lemmas.List.Concat.{concat_is}
 use Rattle.wu_demo.specs.Draws.{Draws, in_turn}
@@ -30,8 +31,8 @@ pub record Goes {A : Type 0} (spell : A → List ℕ) (draws : ℕ → Draws A) 
   pub bytes : out ++ flat_map spell (in_turn draws n (end - n) state).0 ≡ before ++ flat_map spell (in_turn draws first all start).0
   pub last : (in_turn draws n (end - n) state).1 ≡ (in_turn draws first all start).1
 
-pub goes-on : {A : Type 0} (spell : A → List ℕ) (draws : ℕ → Draws A) (first all start : ℕ) (before : List ℕ) (n end state : ℕ) (out : List ℕ)
-    (state' : ℕ) (out' : List ℕ)
+pub goes-on : {A : Type 0} (spell : A → List ℕ) (draws : ℕ → Draws A) (first all start : ℕ) (before : List ℕ) (n end state : ℕ)
+    (out : List ℕ) (state' : ℕ) (out' : List ℕ)
     → n < end → Goes spell draws first all start before n end state out
     → out' ≡ out ++ spell (draws n state).0 → state' ≡ (draws n state).1
     → Goes spell draws first all start before (n + 1) end state' out'
@@ -50,8 +51,8 @@ goes-on spell draws first all start before n end state out state' out' within go
           ∙ goes.last);
     }
 
-pub goes-written : {A : Type 0} (spell : A → List ℕ) (draws : ℕ → Draws A) (first all start : ℕ) (before : List ℕ) (n end state : ℕ) (out : List ℕ)
-    → end ≤ n → Goes spell draws first all start before n end state out
+pub goes-written : {A : Type 0} (spell : A → List ℕ) (draws : ℕ → Draws A) (first all start : ℕ) (before : List ℕ) (n end state : ℕ)
+    (out : List ℕ) → end ≤ n → Goes spell draws first all start before n end state out
     → out ≡ before ++ flat_map spell (in_turn draws first all start).0
 goes-written spell draws first all start before n end state out done goes =
     let none : end - n ≡ 0 = omega arith in
@@ -60,8 +61,8 @@ goes-written spell draws first all start before n end state out done goes =
     ∙ ap (λ k. out ++ flat_map spell (in_turn draws n k state).0) (sym none)
     ∙ goes.bytes
 
-pub goes-last : {A : Type 0} (spell : A → List ℕ) (draws : ℕ → Draws A) (first all start : ℕ) (before : List ℕ) (n end state : ℕ) (out : List ℕ)
-    → end ≤ n → Goes spell draws first all start before n end state out
+pub goes-last : {A : Type 0} (spell : A → List ℕ) (draws : ℕ → Draws A) (first all start : ℕ) (before : List ℕ) (n end state : ℕ)
+    (out : List ℕ) → end ≤ n → Goes spell draws first all start before n end state out
     → state ≡ (in_turn draws first all start).1
 goes-last spell draws first all start before n end state out done goes =
     let none : end - n ≡ 0 = omega arith in
@@ -74,8 +75,8 @@ goes-last spell draws first all start before n end state out done goes =
 abbrev pub Joins : (ℕ → Draws (List ℕ)) → ℕ → ℕ → ℕ → List ℕ → ℕ → ℕ → ℕ → List ℕ → Type 0
 Joins draws first all start before n end state out = Goes (λ bytes. bytes) draws first all start before n end state out
 
-pub joined : (draws : ℕ → Draws (List ℕ)) (first all start : ℕ) (before : List ℕ) (n end state : ℕ) (out : List ℕ)
-    → end ≤ n → Joins draws first all start before n end state out
+pub joined : (draws : ℕ → Draws (List ℕ)) (first all start : ℕ) (before : List ℕ) (n end state : ℕ)
+    (out : List ℕ) → end ≤ n → Joins draws first all start before n end state out
     → out ≡ before ++ concat (in_turn draws first all start).0
 joined draws first all start before n end state out done goes =
     goes-written (λ bytes. bytes) draws first all start before n end state out done goes

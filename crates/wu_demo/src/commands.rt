@@ -1,6 +1,8 @@
 //! The commands of the script.
 ghost use Rattle.std.specs.Prelude.{◌≡◌, ◌++◌, ◌∷◌, ◌≤◌, ◌<◌, [], decimal, codes, OnOk};
-ghost use Rattle.wu_demo.specs.Script.{line, user_command, directory_mode, directory_command, file_mode, create_command, work_command, work_after, flush_after, file_commands, chmod_command, change_command, count_command, rank_command, question_commands, round_commands, word};
+ghost use Rattle.wu_demo.specs.Script.{line, word, user_command, directory_mode, directory_command, file_mode, create_command};
+ghost use Rattle.wu_demo.specs.Script.{work_command, work_after, flush_after, file_commands, chmod_command, change_command};
+ghost use Rattle.wu_demo.specs.Script.{count_command, rank_command, question_commands, round_commands};
 
 use crate::generator::Generator;
 use crate::texts::{draw_word, put_number, put_text, put_word};
@@ -31,7 +33,9 @@ struct NewNode {
 
 /// Appends the command that makes the node. Its name is the letter and its number.
 fn put_new_node(out: &mut Vec<u8>, word: &[u8], letter: u8, node: &NewNode) -> Result<(), NoMemory>
-    ensures { OnOk result (out.new.items ≡ out.old.items ++ line (word.now ∷ decimal node.now.number ∷ decimal node.now.parent ∷ (letter ∷ decimal node.now.number) ∷ decimal node.now.owner ∷ decimal node.now.group ∷ node.now.mode.now ∷ [])) }
+    ensures { OnOk result (out.new.items ≡ out.old.items ++ line
+        (word.now ∷ decimal node.now.number ∷ decimal node.now.parent ∷ (letter ∷ decimal node.now.number)
+        ∷ decimal node.now.owner ∷ decimal node.now.group ∷ node.now.mode.now ∷ [])) }
 {
     out.extend_from_slice(word)?;
     put_place(out, node.number, node.parent, letter)?;
