@@ -9,7 +9,8 @@ use Rattle.std.proofs.Math.Nat.{mod-le, mod-lt}
 use Rattle.wu_demo.specs.Draws.{Draws, draw, next_state, in_turn}
 use Rattle.wu_demo.specs.Script.{line, user_command, directory_mode, directory_command, word_number, word, text_line, text_command}
 use Rattle.wu_demo.specs.Script.{file_mode, create_command, work_command, work_after, flush_after, file_commands, chmod_command}
-use Rattle.wu_demo.specs.Script.{change_command, count_command, rank_command, question_commands, round_commands, last_commands, script, demo_script}
+use Rattle.wu_demo.specs.Script.{change_command, count_command, rank_command, question_commands}
+use Rattle.wu_demo.specs.Script.{round_commands, last_commands, script, demo_script}
 use Rattle.wu_demo.proofs.TurnLemmas.{turns-none, turns-some}
 
 -- ---- draws
