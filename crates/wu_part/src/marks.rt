@@ -73,6 +73,7 @@ pub(crate) fn mark_before(bytes: &[u8], marks: &[Mark], start: Mark, term: &[u8]
     best
 }
 
+/// The mark at the place.
 fn mark_at(marks: &[Mark], place: usize) -> Mark
     requires { place < length marks.now }
     ensures { result ≡ get_or marks.now place result }

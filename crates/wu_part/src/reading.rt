@@ -160,8 +160,8 @@ struct Reached<'a> {
     ended: bool,
 }
 
-/// Marks in the entries that the bytes spell, all of the bytes, where their blocks stand from `place` to
-/// `size`. `None` exactly where the bytes spell no such entries.
+/// Marks in the bytes, which spell the entries of a directory with this head, all of the bytes, where
+/// the blocks stand from `place` to `size`. `None` exactly where they spell no such entries.
 fn take_entries(
     alloc: Global,
     bytes: &[u8],
