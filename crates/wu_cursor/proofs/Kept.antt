@@ -1,5 +1,6 @@
 -- What a containment keeps, by going over the extents of its left operand.
 use Rattle.std.proofs.Common.{◌≡◌, ℕ, ◌+◌, ◌-◌, ◌<◌, ◌≤◌, Bool, true, false, not, ◌&&◌, ◌⊎◌, List, refl, sym, ap, ◌∙◌, subst, inl, inr, arith, leb, leb-true, le-leb}
+use Rattle.std.specs.Prelude.{Option, Some, None, MatchOption}
 use Rattle.std.specs.Cmp.{both_ways}
 use Rattle.std.proofs.lemmas.Bool.{and_parts, and_from, false≢true, false_from_ne_true}
 use Rattle.wu_base.specs.declared.addresses.Extent.{Extent}
@@ -10,7 +11,7 @@ use Rattle.wu_gcl.specs.Extents.{holds, some_extent, combined, containing, conta
 use Rattle.wu_solve.specs.Listing.{IsExtentIn}
 use Rattle.wu_solve.proofs.Sets.{Holds, holds_means, holds_from}
 use Rattle.wu_solve.proofs.Order.{some_found, some_from}
-use Rattle.wu_cursor.specs.Within.{IsMember, IsFirst, NoneStarts, IsLast, NoneEnds, IsFirstEnd, IsLastStart, IsFirstEnding, NoneEndsFrom, IsContainment, keeps}
+use Rattle.wu_cursor.specs.Within.{IsMember, IsFirst, NoneStarts, IsLast, NoneEnds, IsFirstEnd, IsLastStart, IsFirstEnding, NoneEndsFrom, IsContainment, AreKept, keeps}
 use Rattle.wu_cursor.proofs.Flat.{IsFlat, starts_before}
 
 pub kept_set : (op : Op) (left right : Region) (stands : List ℕ → ℕ → Bool) (n : ℕ) (x : Extent) → IsContainment op
@@ -31,6 +32,13 @@ pub record IsKeptOf (left keep kept : Extent → Bool) : Type 0 where
 pub region_kept : (op : Op) (left right : Region) (stands : List ℕ → ℕ → Bool) (n : ℕ) → IsContainment op
     → IsKeptOf (is_in left stands n) (keeps op n (is_in right stands n)) (is_in (Both op left right) stands n)
 region_kept op left right stands n is = record { same = λ x. kept_set op left right stands n x is }
+
+pub kept_of : (whole left right : Region) (op : Op) (stands : List ℕ → ℕ → Bool) (n : ℕ) → whole ≡ Both op left right → AreKept whole
+    → IsKeptOf (is_in left stands n) (keeps op n (is_in right stands n)) (is_in whole stands n)
+kept_of whole left right op stands n same are =
+    let there : AreKept (Both op left right) = subst (λ (r : Region). AreKept r) same are in
+    subst (λ (r : Region). IsKeptOf (is_in left stands n) (keeps op n (is_in right stands n)) (is_in r stands n)) (sym same)
+    (region_kept op left right stands n there)
 
 -- no extent of the set from the first place on starts before the other place
 pub record ArePassed (n : ℕ) (set : Extent → Bool) (from place : ℕ) : Type 0 where
@@ -226,3 +234,8 @@ module _ (n : ℕ) (set : Extent → Bool) (from start : ℕ) (flat : IsFlat n s
               absurd (omega (arith, none.none y my, l.same))
         ];
   }
+
+  pub ending_from : (r : Option Extent) → MatchOption r (NoneStarts n set (start + 1)) (IsFirst n set (start + 1))
+      → MatchOption r (NoneEndsFrom n set from) (IsFirstEnding n set from)
+  ending_from None none = none_ending_behind none
+  ending_from (Some x) f = ending_behind x f

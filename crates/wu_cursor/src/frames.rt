@@ -27,7 +27,8 @@ fn ended(frames: &[Range], place: u64) -> usize
     requires frames { All IsFrame frames.now }
     requires apart { AreApart frames.now }
     ensures within { result ≤ length frames.now }
-    ensures before { (k : ℕ) (d : Range) → k < result → (slice_index_or frames.now k d).start + (slice_index_or frames.now k d).len ≤ place }
+    ensures before { (k : ℕ) (d : Range) → k < result
+        → (slice_index_or frames.now k d).start + (slice_index_or frames.now k d).len ≤ place }
 {
     frames.partition_point(|frame| frame.start.saturating_add(frame.len) <= place)
 }

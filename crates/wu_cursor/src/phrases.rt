@@ -14,7 +14,8 @@ fn leap(words: &[Bytes], lists: &[TermList], frame: Range, from: u64) -> Option<
     requires lists { AreLists lists.now }
     requires frame { IsFrame frame }
     requires words { 0 < length words.now }
-    ensures { MatchOption result (HasNoneFrom (frame.len + 1 - length words.now) (words_stand (stands_by lists.now frame.start) words.now) from)
+    ensures { MatchOption result
+        (HasNoneFrom (frame.len + 1 - length words.now) (words_stand (stands_by lists.now frame.start) words.now) from)
         (IsLeap (frame.len + 1 - length words.now) (words_stand (stands_by lists.now frame.start) words.now) from) }
 {
     let mut place = from;
@@ -31,7 +32,8 @@ fn leap_back(words: &[Bytes], lists: &[TermList], frame: Range, to: u64) -> Opti
     requires lists { AreLists lists.now }
     requires frame { IsFrame frame }
     requires words { 0 < length words.now }
-    ensures { MatchOption result (HasNoneTo (frame.len + 1 - length words.now) (words_stand (stands_by lists.now frame.start) words.now) to)
+    ensures { MatchOption result
+        (HasNoneTo (frame.len + 1 - length words.now) (words_stand (stands_by lists.now frame.start) words.now) to)
         (IsLeapBack (frame.len + 1 - length words.now) (words_stand (stands_by lists.now frame.start) words.now) to) }
 {
     let mut place = to;
@@ -50,7 +52,8 @@ pub fn first_standing(words: &[Bytes], lists: &[TermList], frame: Range, from: u
     requires lists { AreLists lists.now }
     requires frame { IsFrame frame }
     requires words { 0 < length words.now }
-    ensures { MatchOption result (HasNoneFrom (frame.len + 1 - length words.now) (words_stand (stands_by lists.now frame.start) words.now) from)
+    ensures { MatchOption result
+        (HasNoneFrom (frame.len + 1 - length words.now) (words_stand (stands_by lists.now frame.start) words.now) from)
         (IsFirstPlace (frame.len + 1 - length words.now) (words_stand (stands_by lists.now frame.start) words.now) from) }
 {
     let mut place = from;
@@ -68,7 +71,8 @@ pub fn last_standing(words: &[Bytes], lists: &[TermList], frame: Range, to: u64)
     requires lists { AreLists lists.now }
     requires frame { IsFrame frame }
     requires words { 0 < length words.now }
-    ensures { MatchOption result (HasNoneTo (frame.len + 1 - length words.now) (words_stand (stands_by lists.now frame.start) words.now) to)
+    ensures { MatchOption result
+        (HasNoneTo (frame.len + 1 - length words.now) (words_stand (stands_by lists.now frame.start) words.now) to)
         (IsLastPlace (frame.len + 1 - length words.now) (words_stand (stands_by lists.now frame.start) words.now) to) }
 {
     let mut place = to;

@@ -13,10 +13,16 @@ moved-requires-clause-ordered c = c.in_ok-extent.ensures.member.extent.ordered
 
 pub returns-in_err-extent : goal.returns-in_err-extent
 returns-in_err-extent c =
+    let same : c.saturating_sub-from.result ≡ c.args.address - c.args.frame.start = omega arith in
+    let set = set_in (region_of c.args.expr.now) c.args.lists.now c.args.frame in
     rw c.from_residual.ensures
-    (none_moved (region_of c.args.expr.now) c.args.lists.now c.args.frame c.args.address c.in_err-extent.ensures)
+    (none_moved (region_of c.args.expr.now) c.args.lists.now c.args.frame c.args.address
+    (subst (λ (from : ℕ). NoneStarts c.args.frame.len set from) same c.in_err-extent.ensures))
 
 pub returns : goal.returns
 returns c =
+    let same : c.saturating_sub-from.result ≡ c.args.address - c.args.frame.start = omega arith in
+    let set = set_in (region_of c.args.expr.now) c.args.lists.now c.args.frame in
     ap Some c.moved.ensures
-    ∙ first_moved (region_of c.args.expr.now) c.args.lists.now c.args.frame c.args.address c.in_ok-extent.extent c.in_ok-extent.ensures
+    ∙ first_moved (region_of c.args.expr.now) c.args.lists.now c.args.frame c.args.address c.in_ok-extent.extent
+    (subst (λ (from : ℕ). IsFirst c.args.frame.len set from c.in_ok-extent.extent) same c.in_ok-extent.ensures)

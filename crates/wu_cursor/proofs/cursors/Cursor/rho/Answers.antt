@@ -15,8 +15,8 @@ returns-then-k-eq0 c =
     c.tau.ensures ∙ ending_from_zero (frames_hits region lists frames) c.args.k (frames_ascend region lists frames c.requires.apart)
     (omega arith)
 
-pub overflow_add-tau : goal.overflow_add-tau
-overflow_add-tau c =
+pub overflow_add-before : goal.overflow_add-before
+overflow_add-before c =
     let region = region_of c.args.self.now.expr.now in
     let lists = c.args.self.now.lists.now in
     let frames = c.args.self.now.frames.now in

@@ -7,8 +7,8 @@ use Rattle.wu_cursor.proofs.InFrames.{hits_low, found_low}
 use Rattle.wu_cursor.proofs.InLists.{starting_to_last, starting_before_none, starting_before}
 use Rattle.wu_cursor.proofs.cursors.Cursor.rho_back.Goals as goal
 
-pub returns-then-k-MAX : goal.returns-then-k-MAX
-returns-then-k-MAX c =
+pub returns-then-k-eq18446744073709551615 : goal.returns-then-k-eq18446744073709551615
+returns-then-k-eq18446744073709551615 c =
     let region = region_of c.args.self.now.expr.now in
     let lists = c.args.self.now.lists.now in
     let frames = c.args.self.now.frames.now in
@@ -16,8 +16,8 @@ returns-then-k-MAX c =
     ∙ starting_to_last (frames_hits region lists frames) c.args.k (frames_ascend region lists frames c.requires.apart) (2 ^ 64 - 1)
     (λ y has. let low = hits_low region lists frames y c.requires.frames has in (omega (arith, low.0, low.1), omega (arith, low.1)))
 
-pub overflow_sub-tau_back : goal.overflow_sub-tau_back
-overflow_sub-tau_back c =
+pub overflow_sub-behind : goal.overflow_sub-behind
+overflow_sub-behind c =
     let region = region_of c.args.self.now.expr.now in
     let lists = c.args.self.now.lists.now in
     let frames = c.args.self.now.frames.now in
