@@ -1,10 +1,9 @@
 -- Where the first extent ends of what an operator makes, before it is seen which are innermost.
-use Rattle.std.proofs.Common.{◌≡◌, ℕ, ◌+◌, ◌<◌, ◌≤◌, Bool, true, ◌&&◌, ◌||◌, ◌⊎◌, max, min, refl, sym, inl, inr, arith, lt-ltb, ltb-true}
+use Rattle.std.proofs.Common.{◌≡◌, ℕ, ◌+◌, ◌<◌, ◌≤◌, Bool, ◌&&◌, ◌⊎◌, max, min, inl, inr, arith, lt-ltb, ltb-true}
 use Rattle.std.specs.Prelude.{nat_lt, Option, Some, None, MatchOption}
 use Rattle.std.proofs.lemmas.Bool.{and_parts, and_from, or_cases, or_left, or_right}
 use Rattle.wu_base.specs.declared.addresses.Extent.{Extent}
 use Rattle.wu_gcl.specs.Extents.{holds, some_extent, in_either, holds_both, holds_in_order}
-use Rattle.wu_solve.specs.Listing.{IsExtentIn}
 use Rattle.wu_solve.specs.Merging.{cover, span}
 use Rattle.wu_solve.proofs.Sets.{Holds, holds_means, holds_from}
 use Rattle.wu_solve.proofs.Order.{some_found, some_from}

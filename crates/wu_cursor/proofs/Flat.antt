@@ -1,5 +1,5 @@
 -- Sets of extents of which none holds another: those that expressions mean.
-use Rattle.std.proofs.Common.{◌≡◌, ℕ, ◌+◌, ◌<◌, ◌≤◌, Bool, true, ◌⊎◌, List, refl, sym, ap, ◌∙◌, subst, inl, inr, arith}
+use Rattle.std.proofs.Common.{◌≡◌, ℕ, ◌<◌, ◌≤◌, Bool, ◌⊎◌, List, refl, ap, ◌∙◌, subst, inl, inr, arith}
 use Rattle.wu_base.specs.declared.addresses.Extent.{Extent}
 use Rattle.wu_gcl.specs.Regions.{Region}
 use Rattle.wu_gcl.specs.Extents.{is_in, hits}

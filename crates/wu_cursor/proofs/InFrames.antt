@@ -1,11 +1,11 @@
 -- The access functions over frames, from those in each frame.
-use Rattle.std.proofs.Common.{◌≡◌, ℕ, zero, suc, ◌+◌, ◌-◌, ◌^◌, ◌<◌, ◌≤◌, Bool, true, false, ◌⊎◌, List, [], ◌∷◌, ◌++◌, length, get_or, take, drop, reverse, map, refl, sym, ap, ◌∙◌, subst, inl, inr, arith, leb, leb-true, leb-false, le-leb, drop-cons}
+use Rattle.std.proofs.Common.{◌≡◌, ℕ, zero, suc, ◌+◌, ◌-◌, ◌^◌, ◌<◌, ◌≤◌, Bool, true, ◌⊎◌, List, [], ◌∷◌, ◌++◌, length, get_or, take, drop, reverse, refl, sym, ap, ◌∙◌, inl, inr, arith, leb-true, le-leb, drop-cons}
 use Rattle.std.proofs.Math.Seq.{take-suc}
 use Rattle.std.specs.Prelude.{Option, Some, None, nat_le, All}
-use Rattle.std.specs.List.{find, flat_map, AllByRecursion}
+use Rattle.std.specs.List.{find}
 use Rattle.std.specs.List.Sorted.{IsNonDecreasingBy}
 use Rattle.std.specs.Option.{option_or}
-use Rattle.std.proofs.lemmas.Bool.{false≢true, false_from_ne_true}
+use Rattle.std.proofs.lemmas.Bool.{false_from_ne_true}
 use Rattle.std.proofs.lemmas.List.{reverse-append, take-append-drop}
 use Rattle.std.proofs.lemmas.List.Folds.{find-append}
 use Rattle.std.proofs.lemmas.List.Elements.{recursion_from_All}
@@ -14,11 +14,11 @@ use Rattle.wu_base.specs.declared.addresses.Extent.{Extent}
 use Rattle.wu_base.specs.declared.addresses.Range.{Range}
 use Rattle.wu_base.specs.declared.addresses.TermList.{TermList}
 use Rattle.wu_gcl.specs.Regions.{Region}
-use Rattle.wu_gcl.specs.Extents.{is_in, hits}
+use Rattle.wu_gcl.specs.Extents.{hits}
 use Rattle.wu_solve.specs.Addresses.{stands_by}
 use Rattle.wu_solve.specs.Listing.{IsAscending, Has}
 use Rattle.wu_solve.specs.Solving.{moved, frame_hits, frames_hits, AreApart, IsFrame}
-use Rattle.wu_solve.proofs.Results.{hits_listed, hits_ascend, from_moved, moved_ascend, LiesIn, extent_lies}
+use Rattle.wu_solve.proofs.Results.{hits_listed, hits_ascend, from_moved, moved_ascend, extent_lies}
 use Rattle.wu_solve.proofs.Moving.{moved_has}
 use Rattle.wu_solve.proofs.FramePlaces.{apart_at}
 use Rattle.wu_solve.proofs.OneFrame.{HasFrame, frame_all, in_some_frame}

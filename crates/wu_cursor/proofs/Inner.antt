@@ -3,7 +3,6 @@ use Rattle.std.proofs.Common.{◌≡◌, ℕ, zero, suc, ◌-◌, ◌<◌, ◌�
 use Rattle.std.proofs.lemmas.Bool.{and_parts, and_from, not_from_false, false≢true}
 use Rattle.wu_base.specs.declared.addresses.Extent.{Extent}
 use Rattle.wu_gcl.specs.Extents.{holds, same_extent, some_extent, innermost}
-use Rattle.wu_solve.specs.Listing.{IsExtentIn}
 use Rattle.wu_solve.proofs.Sets.{Holds, holds_means, same_ends, same_from}
 use Rattle.wu_solve.proofs.Order.{some_found}
 use Rattle.wu_solve.proofs.Operators.{holds_through}

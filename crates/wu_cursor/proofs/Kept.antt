@@ -1,5 +1,5 @@
 -- What a containment keeps, by going over the extents of its left operand.
-use Rattle.std.proofs.Common.{◌≡◌, ℕ, ◌+◌, ◌-◌, ◌<◌, ◌≤◌, Bool, true, false, not, ◌&&◌, ◌⊎◌, List, refl, sym, ap, ◌∙◌, subst, inl, inr, arith, leb, leb-true, le-leb}
+use Rattle.std.proofs.Common.{◌≡◌, ℕ, ◌+◌, ◌-◌, ◌<◌, ◌≤◌, Bool, true, false, ◌&&◌, ◌⊎◌, List, refl, sym, ◌∙◌, subst, inl, inr, arith, leb, leb-true, le-leb}
 use Rattle.std.specs.Prelude.{Option, Some, None, MatchOption}
 use Rattle.std.specs.Cmp.{both_ways}
 use Rattle.std.proofs.lemmas.Bool.{and_parts, and_from, false≢true, false_from_ne_true}
@@ -8,7 +8,6 @@ use Rattle.wu_gcl.specs.declared.expressions.Op.{Op}
 use Rattle.wu_gcl.specs.declared.expressions.Op.TheVariants.{Containing, ContainedIn, NotContaining, NotContainedIn, OneOf, BothOf, FollowedBy}
 use Rattle.wu_gcl.specs.Regions.{Region, Both}
 use Rattle.wu_gcl.specs.Extents.{holds, some_extent, combined, containing, contained_in, not_containing, not_contained_in, is_in}
-use Rattle.wu_solve.specs.Listing.{IsExtentIn}
 use Rattle.wu_solve.proofs.Sets.{Holds, holds_means, holds_from}
 use Rattle.wu_solve.proofs.Order.{some_found, some_from}
 use Rattle.wu_cursor.specs.Within.{IsMember, IsFirst, NoneStarts, IsLast, NoneEnds, IsFirstEnd, IsLastStart, IsFirstEnding, NoneEndsFrom, IsContainment, AreKept, keeps}

@@ -1,13 +1,12 @@
 -- The first and the last extent of an expression that has no operator.
-use Rattle.std.proofs.Common.{◌≡◌, ℕ, ◌+◌, ◌-◌, ◌<◌, ◌≤◌, Bool, true, false, ◌&&◌, ◌⊎◌, List, [], ◌∷◌, length, refl, sym, ap, ◌∙◌, subst, inl, inr, arith, eqb, eqb-true, eq-eqb}
+use Rattle.std.proofs.Common.{◌≡◌, ℕ, ◌+◌, ◌-◌, ◌<◌, ◌≤◌, Bool, true, ◌⊎◌, List, [], ◌∷◌, length, sym, ◌∙◌, subst, inl, inr, arith, eqb, eqb-true, eq-eqb}
 use Rattle.std.specs.Prelude.{Option, Some, None, MatchOption}
 use Rattle.std.proofs.lemmas.Bool.{and_parts, and_from, false≢true}
 use Rattle.wu_base.specs.declared.addresses.Extent.{Extent}
 use Rattle.wu_gcl.specs.declared.expressions.Tag.{Tag}
-use Rattle.wu_gcl.specs.Regions.{Region, Phrase, Mark, Window}
+use Rattle.wu_gcl.specs.Regions.{Phrase, Mark, Window}
 use Rattle.wu_gcl.specs.Extents.{words_stand, is_in}
 use Rattle.wu_gcl.specs.Reading.{tag_text}
-use Rattle.wu_solve.specs.Listing.{IsExtentIn}
 use Rattle.wu_cursor.specs.Places.{IsFirstPlace, HasNoneFrom, IsLastPlace, HasNoneTo}
 use Rattle.wu_cursor.specs.Within.{IsMember, IsFirst, NoneStarts, IsLast, NoneEnds, IsFirstEnd, IsLastStart}
 use Rattle.wu_cursor.proofs.Flat.{end_of_first, start_of_last}

@@ -1,13 +1,13 @@
 -- What an operator makes needs extents of its operands in the same frame.
-use Rattle.std.proofs.Common.{◌≡◌, ℕ, Bool, true, ◌&&◌, ◌⊎◌, List, inl, inr}
+use Rattle.std.proofs.Common.{ℕ, Bool, ◌&&◌, List, inl, inr}
 use Rattle.std.proofs.lemmas.Bool.{and_parts}
 use Rattle.wu_base.specs.declared.addresses.Extent.{Extent}
 use Rattle.wu_gcl.specs.declared.expressions.Op.{Op}
 use Rattle.wu_gcl.specs.declared.expressions.Op.TheVariants.{Containing, ContainedIn, NotContaining, NotContainedIn, OneOf, BothOf, FollowedBy}
 use Rattle.wu_gcl.specs.Regions.{Region, Both}
-use Rattle.wu_gcl.specs.Extents.{holds, some_extent, in_either, holds_both, holds_in_order, combined, is_in}
+use Rattle.wu_gcl.specs.Extents.{holds, in_either, holds_both, holds_in_order, combined, is_in}
 use Rattle.wu_solve.proofs.Order.{some_found}
-use Rattle.wu_cursor.specs.Within.{IsMember, IsEmpty}
+use Rattle.wu_cursor.specs.Within.{IsEmpty}
 use Rattle.wu_cursor.proofs.Inner.{inner_of}
 use Rattle.wu_cursor.proofs.Ends.{either_cases, both_parts, order_parts}
 use Rattle.wu_cursor.proofs.Kept.{region_kept, kept_parts}

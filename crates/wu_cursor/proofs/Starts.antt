@@ -4,7 +4,6 @@ use Rattle.std.specs.Prelude.{Option, Some, None, MatchOption}
 use Rattle.wu_base.specs.declared.addresses.Extent.{Extent}
 use Rattle.wu_gcl.specs.Extents.{in_either, holds_both, holds_in_order}
 use Rattle.wu_solve.specs.Merging.{cover, span}
-use Rattle.wu_solve.proofs.Sets.{Holds}
 use Rattle.wu_cursor.specs.Within.{IsMember, NoneEnds, IsLastStart, greatest_of}
 use Rattle.wu_cursor.proofs.Ends.{either_left, either_right, either_cases, both_parts, both_from, order_parts, order_from}
 

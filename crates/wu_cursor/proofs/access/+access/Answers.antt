@@ -1,5 +1,5 @@
-use Rattle.std.proofs.Common.{◌≡◌, ◌+◌, ◌-◌, ◌∙◌, refl, sym, arith}
-use Rattle.wu_gcl.specs.Regions.{region_of, Both}
+use Rattle.std.proofs.Common.{◌≡◌, ◌∙◌, refl, sym, arith}
+use Rattle.wu_gcl.specs.Regions.{region_of}
 use Rattle.wu_solve.specs.Addresses.{stands_by}
 use Rattle.wu_cursor.specs.Within.{set_in, keeps}
 use Rattle.wu_cursor.proofs.Flat.{region_flat, first_whole, last_whole}
@@ -103,9 +103,9 @@ pub last_start-returns-else-start-eq0 : goal.last_start-returns-else-start-eq0
 last_start-returns-else-start-eq0 t c =
     rw (c.in-Both.is, c.in-FollowedBy.is)
     (followed_by_start _ _ (stands_by c.args.lists.now c.args.frame.start) c.args.frame.len c.args.to
-    c.in_ok-start-in-FollowedBy.start c.last_start-else-start-eq0.result
+    c.in_ok-start-in-FollowedBy.start c.last_start-in-FollowedBy-2.result
     (rw c.deref-in-FollowedBy.ensures at c.in_ok-start-in-FollowedBy.ensures) (omega arith)
-    (rw c.deref-else-start-eq0.ensures at c.last_start-else-start-eq0.ensures))
+    (rw c.deref-in-FollowedBy-2.ensures at c.last_start-in-FollowedBy-2.ensures))
 
 pub holds_one-returns-in-Some : goal.holds_one-returns-in-Some
 holds_one-returns-in-Some t c =

@@ -1,4 +1,4 @@
-use Rattle.std.proofs.Common.{◌≡◌, ℕ, ◌+◌, ◌-◌, ◌^◌, ◌≤◌, get_or, min, nat_le, arith, rules, leb-true}
+use Rattle.std.proofs.Common.{◌+◌, ◌-◌, ◌^◌, ◌≤◌, get_or, min, nat_le, arith, rules, leb-true}
 use Rattle.std.proofs.lemmas.List.Sorted.{IsPartitionedBy-leb, IsPartitionPoint-from_clause}
 use Rattle.wu_base.specs.declared.addresses.Range.{Range}
 use Rattle.wu_solve.proofs.FramePlaces.{ends_rise}

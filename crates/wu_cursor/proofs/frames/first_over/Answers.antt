@@ -1,4 +1,4 @@
-use Rattle.std.proofs.Common.{◌≡◌, ℕ, ◌+◌, ◌≤◌, ◌∙◌, length, get_or, drop, sym, ap, subst, arith, drop_of_length-le}
+use Rattle.std.proofs.Common.{◌+◌, ◌≤◌, ◌∙◌, length, sym, ap, subst, arith, drop_of_length-le}
 use Rattle.std.specs.Prelude.{Some, None}
 use Rattle.wu_base.specs.declared.addresses.Range.{Range}
 use Rattle.wu_gcl.specs.Regions.{region_of}

@@ -1,4 +1,4 @@
-use Rattle.std.proofs.Common.{◌≡◌, ◌-◌, ◌∙◌, ap, arith}
+use Rattle.std.proofs.Common.{◌∙◌, ap, arith}
 use Rattle.std.specs.Prelude.{Some}
 use Rattle.wu_gcl.specs.Regions.{region_of}
 use Rattle.wu_cursor.proofs.InFrames.{last_moved, none_moved_back, frame_behind}

@@ -1,4 +1,4 @@
-use Rattle.std.proofs.Common.{get_or, nat_le, arith, rules, leb-false}
+use Rattle.std.proofs.Common.{get_or, nat_le, rules, leb-false}
 use Rattle.std.proofs.lemmas.List.Sorted.{IsPartitionedBy-leb, IsPartitionPoint-from_clause}
 use Rattle.wu_base.specs.declared.addresses.Range.{Range}
 use Rattle.wu_cursor.proofs.InFrames.{starts_rise}

@@ -1,6 +1,5 @@
-use Rattle.std.proofs.Common.{◌≡◌, ◌+◌, ◌∙◌, ◌++◌, ap, arith, leb-true}
+use Rattle.std.proofs.Common.{◌+◌, ◌∙◌, ◌++◌, ap, arith, leb-true}
 use Rattle.std.specs.Prelude.{nat_le}
-use Rattle.wu_base.specs.declared.addresses.Extent.{Extent}
 use Rattle.wu_gcl.specs.Regions.{region_of}
 use Rattle.wu_solve.specs.FirstExtents.{from_start}
 use Rattle.wu_solve.specs.Solving.{frames_hits}
@@ -10,7 +9,8 @@ use Rattle.wu_cursor.proofs.InLists.{put_first, put_none, put_start}
 use Rattle.wu_cursor.proofs.lazily.put_extents.Goals as goal
 
 pub loop-extent-init : goal.loop-extent-init
-loop-extent-init c = put_start _ _
+loop-extent-init c =
+    put_start c.args.found.now.items (frames_hits (region_of c.args.expr.now) c.args.lists.now c.args.frames.now)
 
 pub overflow_add-place : goal.overflow_add-place
 overflow_add-place c =
@@ -36,7 +36,7 @@ loop-extent-preserved c =
     let hits = frames_hits region c.args.lists.now c.args.frames.now in
     let up = frames_ascend region c.args.lists.now c.args.frames.now c.requires.apart in
     let found = rw (c.new-cursor.ensures.expr, c.new-cursor.ensures.lists, c.new-cursor.ensures.frames) at c.in-Some.ensures in
-    ap (λ items. items ++ from_start (c.in-Some.extent.start + 1) hits) c.in_ok-push.ensures.items
+    ap (λ items. items ++ from_start (c.in-Some.extent.start + 1) hits) c.in_ok-push-in-Some.ensures.items
     ∙ put_first c.loop-extent.found.items hits _ c.loop-extent.place c.in-Some.extent up found c.loop-extent.invariant
 
 pub returns-in-None : goal.returns-in-None

@@ -1,4 +1,4 @@
-use Rattle.std.proofs.Common.{◌≡◌, ◌-◌, ◌<◌, length, arith}
+use Rattle.std.proofs.Common.{◌≡◌, ◌<◌, length, arith}
 use Rattle.std.proofs.lemmas.Bool.Decides.{nat_tests}
 use Rattle.wu_solve.specs.Addresses.{stands_by}
 use Rattle.wu_cursor.proofs.Leaves.{first_phrase, no_phrase, no_words_first}

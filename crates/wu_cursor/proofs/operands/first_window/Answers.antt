@@ -1,4 +1,4 @@
-use Rattle.std.proofs.Common.{◌≡◌, ◌<◌, ◌⊎◌, inl, inr, arith}
+use Rattle.std.proofs.Common.{◌≡◌, inl, inr, arith}
 use Rattle.wu_solve.specs.Addresses.{stands_by}
 use Rattle.wu_cursor.proofs.Leaves.{first_window, no_window}
 use Rattle.wu_cursor.proofs.operands.first_window.Goals as goal

@@ -1,4 +1,4 @@
-use Rattle.std.proofs.Common.{◌≡◌, ◌+◌, ◌<◌, ◌⊎◌, inl, inr, arith}
+use Rattle.std.proofs.Common.{◌≡◌, ◌+◌, ◌⊎◌, inl, inr, arith}
 use Rattle.wu_solve.specs.Addresses.{stands_by}
 use Rattle.wu_cursor.proofs.Leaves.{last_window, no_last_window, no_window_at_all}
 use Rattle.wu_cursor.proofs.operands.last_window.Goals as goal

@@ -1,4 +1,4 @@
-use Rattle.std.proofs.Common.{◌≡◌, ◌+◌, ◌-◌, ◌^◌, ◌∙◌, arith, leb-true}
+use Rattle.std.proofs.Common.{◌+◌, ◌-◌, ◌^◌, ◌∙◌, arith, leb-true}
 use Rattle.std.specs.Prelude.{nat_le}
 use Rattle.wu_gcl.specs.Regions.{region_of}
 use Rattle.wu_solve.specs.Solving.{frames_hits}
