@@ -53,10 +53,7 @@ fn put_checkpoint(
     for file in checkpoint.files.as_slice() {
         let (ino, len, blob) = (file.ino, file.len, file.blob);
         let (start, addresses) = (file.range.start, file.range.len);
-        write!(
-            text,
-            " text {ino} {len} in {blob} at {start}+{addresses}"
-        )?;
+        write!(text, " text {ino} {len} in {blob} at {start}+{addresses}")?;
     }
     for part in checkpoint.parts.as_slice() {
         let (blob, size, generation) = (part.blob, part.size, part.generation);
