@@ -10,4 +10,3 @@ pub mod InFrames
 pub mod InLists
 pub mod Leaps
 pub mod Searching
-pub mod Parts

@@ -19,10 +19,6 @@ pub record IsMember (n : ℕ) (set : Extent → Bool) (x : Extent) : Type 0 wher
   pub extent : IsExtentIn n x
   pub passes : set x ≡ true
 
--- no extent is of the set
-pub record IsEmpty (n : ℕ) (set : Extent → Bool) : Type 0 where
-  pub none : (y : Extent) → IsMember n set y → ⊥
-
 -- the first extent that starts at the place or after it
 pub record IsFirst (n : ℕ) (set : Extent → Bool) (from : ℕ) (x : Extent) : Type 0 where
   pub member : IsMember n set x
