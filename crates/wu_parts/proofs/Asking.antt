@@ -1,5 +1,5 @@
 -- What is fetched of several parts, one after another.
-use Rattle.std.proofs.Common.{◌≡◌, ◌⊎◌, ℕ, ◌+◌, ◌-◌, ◌<◌, ◌≤◌, true, false, cond, Bool, nat_eq, List, [], ◌∷◌, ◌++◌, length, drop, get_or, zero, suc, map, filter, Option, None, Some, option_map, refl, ap, ap₂, sym, ◌∙◌, subst, arith, append-nil, append_assoc, inl, inr, ⊎_elim}
+use Rattle.std.proofs.Common.{◌≡◌, ◌⊎◌, ℕ, ◌+◌, ◌-◌, ◌<◌, true, false, cond, Bool, nat_eq, List, [], ◌∷◌, ◌++◌, length, drop, get_or, zero, suc, map, filter, Option, None, Some, option_map, refl, ap, ap₂, sym, ◌∙◌, subst, arith, append-nil, append_assoc, inl, inr, ⊎_elim}
 use Rattle.std.specs.Prelude.{IfErr, IfSome, IsErrAnd, Result, Ok, Err, zip}
 use Rattle.std.specs.List.{AllByRecursion, AllZip, list_any}
 use Rattle.std.specs.Map.{keys_of}
@@ -34,7 +34,7 @@ use Rattle.wu_lists.specs.Keeping.{AreHeld, Asks, Kept, all_asked, all_missing, 
 use Rattle.wu_parts.specs.Causes.{IsFetchCause}
 use Rattle.wu_parts.specs.Holdings.{AreKept, HoldParts, all_needed}
 use Rattle.wu_parts.specs.Lists.{AscendBetween}
-use Rattle.wu_parts.specs.StoredParts.{AreFetchedFrom, SpansAscend, directories_of, pairs_of, records_of}
+use Rattle.wu_parts.specs.StoredParts.{AreFetchedFrom, directories_of, pairs_of, records_of}
 use Rattle.wu_parts.specs.declared.writing.StoredPart.{StoredPart}
 use Rattle.wu_parts.proofs.Ascending.{ascend-lower}
 
