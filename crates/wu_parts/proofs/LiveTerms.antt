@@ -94,7 +94,8 @@ map-same : (live : List Range) (ps : List Posting) (lists : Lists) → AllByRecu
     → map (live_list live) lists ≡ map (list_of ps) (keys_of lists)
 map-same live ps [] a = refl
 map-same live ps (list ∷ lists) a =
-    ap (λ (l : TermList). l ∷ map (live_list live) lists) a.0 ∙ ap (λ (ls : List TermList). list_of ps list.0 ∷ ls) (map-same live ps lists a.1)
+    ap (λ (l : TermList). l ∷ map (live_list live) lists) a.0
+    ∙ ap (λ (ls : List TermList). list_of ps list.0 ∷ ls) (map-same live ps lists a.1)
 
 -- ---- memory's lists
 
