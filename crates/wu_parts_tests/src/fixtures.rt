@@ -127,7 +127,9 @@ pub fn release_others(space: &mut Space, last: u32, seen: &[u32]) {
 }
 
 /// Gives up the file, if it has addresses.
-pub fn release(space: &mut Space, ino: Ino) {
+pub fn release(space: &mut Space, ino: Ino)
+    ensures { space.new.next ≡ space.old.next }
+{
     if space.range_of(ino).is_some() {
         space.release(ino);
     }
