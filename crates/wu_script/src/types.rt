@@ -36,6 +36,8 @@ pub enum Command {
     Update(Event),
     /// A user asks.
     Ask(Query),
+    /// The postings in memory are to become a part of the index.
+    Flush,
 }
 
 /// What one line says.

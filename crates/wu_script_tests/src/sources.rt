@@ -59,6 +59,7 @@ fn word_of(item: &Item) -> &'static str {
     match item {
         Item::Command(Command::Update(_)) => "update ",
         Item::Command(Command::Ask(_)) => "ask ",
+        Item::Command(Command::Flush) => "flush ",
         Item::Text { .. } => "text ",
         Item::Blank => "blank ",
         Item::End => "end",
