@@ -126,9 +126,10 @@ pub data Wish : Type 0 where
   RankOf : (k : ℕ) (unit words : List ℕ) → Wish
   PathsOf : Wish
 
--- what the operator of the index asks for: a flush
+-- what the operator of the index asks for: a flush, or the size of the index
 pub data Operation : Type 0 where
   Flush : Operation
+  Stat : Operation
 
 -- an item as its bytes have it: an event with the text that it gives, which is empty for all but a text; a query of a user; an
 -- operation; a refusal; nothing
@@ -200,6 +201,10 @@ unfoldable pub flush_of : List (List ℕ) → Option Operation
 flush_of [] = Some Flush
 flush_of _ = None
 
+unfoldable pub stat_of : List (List ℕ) → Option Operation
+stat_of [] = Some Stat
+stat_of _ = None
+
 unfoldable pub command_of : Word → List (List ℕ) → LineSays Entry
 command_of words.User fields = event_line (user_of fields)
 command_of words.Mkdir fields = event_line (option_map mkdir_event (new_node_of fields))
@@ -216,6 +221,7 @@ command_of words.Find fields = query_line (find_of fields)
 command_of words.Rank fields = query_line (rank_of fields)
 command_of words.Paths fields = query_line (paths_of fields)
 command_of words.Flush fields = operation_line (flush_of fields)
+command_of words.Stat fields = operation_line (stat_of fields)
 command_of words.Unbuilt fields = Whole (Refusing Unbuilt)
 command_of words.Unknown fields = Whole (Refusing Syntax)
 

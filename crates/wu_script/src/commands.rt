@@ -4,7 +4,7 @@ ghost use Rattle.wu_tree.specs.Steps.{IsEvent};
 ghost use Rattle.wu_gcl.specs.Reading.{seen};
 ghost use Rattle.wu_gcl.specs.Regions.{IsProper, region_of};
 ghost use Rattle.wu_base.specs.declared.limits.TheConstants.{K_MAX as MostRegions};
-ghost use Rattle.wu_script.specs.Commands.{command_of, event_line, fields_say, is_blank, line_says, query_line, operation_line, text_line, count_of, find_of, rank_of, paths_of, flush_of, text_head_of, Whole, Asking, CountOf, FindOf, RankOf};
+ghost use Rattle.wu_script.specs.Commands.{command_of, event_line, fields_say, is_blank, line_says, query_line, operation_line, text_line, count_of, find_of, rank_of, paths_of, flush_of, stat_of, text_head_of, Whole, Asking, CountOf, FindOf, RankOf};
 ghost use Rattle.wu_script.specs.Said.{IsReading, Reading, IsLine, IsSoundLine};
 ghost use Rattle.wu_script.specs.declared.types.Line.TheVariants.{Command as ACommand};
 ghost use Rattle.wu_script.specs.declared.types.Command.TheVariants.{Ask as AQuestion};
@@ -89,6 +89,7 @@ fn read_by_word(alloc: Global, word: Word, fields: &[Bytes]) -> Result<Line, NoM
         Word::Rank => rank(alloc, fields),
         Word::Paths => Ok(paths(fields)),
         Word::Flush => Ok(flush(fields)),
+        Word::Stat => Ok(stat(fields)),
         Word::Unbuilt => Ok(Line::Refused(Why::Unbuilt)),
         Word::Unknown => Ok(Line::Refused(Why::Syntax)),
     }
@@ -266,6 +267,18 @@ fn flush(fields: &[Bytes]) -> Line
 {
     match fields {
         [] => Line::Command(Command::Flush),
+        _ => Line::Refused(Why::Syntax),
+    }
+}
+
+/// `stat`, without a further field.
+#[tactic(auto, unfolding(crate::specs::Commands::stat_of))]
+fn stat(fields: &[Bytes]) -> Line
+    ensures says { IsLine (operation_line (stat_of fields.now)) result }
+    ensures sound { IsSoundLine result }
+{
+    match fields {
+        [] => Line::Command(Command::Stat),
         _ => Line::Refused(Why::Syntax),
     }
 }

@@ -1,6 +1,6 @@
 //! What a script is made of, and what is replied.
 use wu_ask::{Answered, Query};
-use wu_base::{Bytes, Ino};
+use wu_base::{Bytes, Ino, Stat};
 use wu_gcl::ExprFault;
 use wu_tree::{Event, Refusal};
 
@@ -38,6 +38,8 @@ pub enum Command {
     Ask(Query),
     /// The postings in memory are to become a part of the index.
     Flush,
+    /// The size of the index is asked for.
+    Stat,
 }
 
 /// What one line says.
@@ -85,6 +87,8 @@ pub enum Reply {
     Ok,
     /// The command was refused.
     Refused(Why),
+    /// The size of the index.
+    Stat(Stat),
     /// The question was answered.
     Answered(Answered),
 }
