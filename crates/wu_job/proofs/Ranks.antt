@@ -12,7 +12,7 @@ use Rattle.wu_space.specs.Addresses.{AreApart}
 use Rattle.wu_job.specs.declared.live.LiveRange.{LiveRange}
 use Rattle.wu_job.specs.Live.{AscendBetween, AreInOrder, AreRanked, FirstEndsAfter, find_place, live_below, ranges_alone, ranked_from, total_of, with_place, place_alone}
 
-abbrev len_of : Range → ℕ
+abbrev pub len_of : Range → ℕ
 len_of range = range.len
 
 abbrev below : ℕ → Range → ℕ

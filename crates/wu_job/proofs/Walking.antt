@@ -8,12 +8,14 @@ use Rattle.std.specs.List.Sorted.{IsStrictlySortedBy}
 use Rattle.std.specs.Cmp.Lexicographic.{pointwise, slice_cmp, same_text}
 use Rattle.std.proofs.lemmas.Cmp.{nat_list_cmp_total}
 use Rattle.std.proofs.lemmas.List.{length-map}
-use Rattle.wu_base.proofs.Members.{Has, Has-from_Contains, Has-map, Has-append_left, Has-append_right, all_has}
-use Rattle.wu_base.proofs.SortedLists.{has-sorted_once}
+use Rattle.std.proofs.lemmas.List.Sums.{sum_by-cons}
+use Rattle.wu_base.proofs.Members.{Has, Has-from_Contains, Has-map, Has-append_left, Has-append_right, Has-append_cases, all_has}
+use Rattle.wu_base.proofs.SortedLists.{has-sorted_once, sorted_once_has}
 use Rattle.std.proofs.lemmas.Map.Lookups.{exact_bytes}
+use Rattle.wu_base.specs.declared.limits.TheConstants.{ADDRESSES_MAX, WORD_MAX}
 use Rattle.wu_part.specs.declared.entries.TermEntry.{TermEntry}
 use Rattle.wu_part.specs.Directories.{PartDirectory, IsDirectory, IsEntry}
-use Rattle.wu_job.specs.Sources.{merged, lesser_of, passed, ArePassed}
+use Rattle.wu_job.specs.Sources.{AreTerms, ArePassed, merged, lesser_of, passed}
 use Rattle.wu_job.proofs.Merging.{text_cmp, IsUp, less_itself, less_both, not_equal, without, merged_first, merged_after, merged_up, length_merged}
 
 -- ---- the place after a term
@@ -100,14 +102,17 @@ terms entries = map (λ (entry : TermEntry). entry.term) entries
 abbrev IsFrom : List ℕ → List ℕ → Type 0
 IsFrom t q = (t ≡ q) ⊎ (text_cmp t q ≡ Less)
 
+abbrev pub Stands : List TermEntry → ℕ → TermEntry → Type 0
+Stands entries place entry = (place < length entries) × (get_or entries place entry ≡ entry)
+
 entry_stands : (t : List ℕ) (left : List (List ℕ)) (place : ℕ) (entries : List TermEntry) (entry : TermEntry) → IsUp (terms entries)
     → ArePassed (terms entries) place (t ∷ left) → ((q : List ℕ) → Has q (drop place (terms entries)) → IsFrom t q)
-    → Has entry entries → entry.term ≡ t → get_or entries place entry ≡ entry
+    → Has entry entries → entry.term ≡ t → Stands entries place entry
 unfolding IsStrictlySortedBy
 entry_stands t left place [] entry s a f h e = absurd h
 entry_stands t left zero (x ∷ xs) entry s a f h e =
     ⊎_elim
-    (λ (is : x ≡ entry). is)
+    (λ (is : x ≡ entry). (omega arith, is))
     (λ (i : Has entry xs).
     let up : text_cmp x.term t ≡ Less =
     subst (λ y. text_cmp x.term y ≡ Less) e
@@ -120,7 +125,7 @@ entry_stands t left zero (x ∷ xs) entry s a f h e =
 entry_stands t left (suc place) (x ∷ xs) entry s a f h e =
     ⊎_elim
     (λ (is : x ≡ entry). absurd (less_itself x.term t a.0.0 (ap (λ (z : TermEntry). z.term) is ∙ e)))
-    (λ (i : Has entry xs). entry_stands t left place xs entry s.1 a.1 f i e)
+    (λ (i : Has entry xs). let r = entry_stands t left place xs entry s.1 a.1 f i e in (omega (arith, r.0), r.1))
     h
 
 from_first : (t q : List ℕ) (all left : List (List ℕ)) → IsUp all → all ≡ t ∷ left → Has q all → IsFrom t q
@@ -143,7 +148,7 @@ module _ (t : List ℕ) (xs ys left : List (List ℕ)) (i j : ℕ) (is : merged 
 pub stands_left : (t : List ℕ) (left ys : List (List ℕ)) (i j : ℕ) (entries : List TermEntry) → IsUp (terms entries)
     → merged (drop i (terms entries)) (drop j ys) ≡ t ∷ left
     → ArePassed (terms entries) i (merged (drop i (terms entries)) (drop j ys))
-    → (entry : TermEntry) → Contains entries entry → entry.term ≡ t → get_or entries i entry ≡ entry
+    → (entry : TermEntry) → Contains entries entry → entry.term ≡ t → Stands entries i entry
 stands_left t left ys i j entries s is a entry h e =
     entry_stands t left i entries entry s (subst (ArePassed (terms entries) i) is a) (from_left t (terms entries) ys left i j is)
     (Has-from_Contains entry entries h) e
@@ -151,7 +156,7 @@ stands_left t left ys i j entries s is a entry h e =
 pub stands_right : (t : List ℕ) (left xs : List (List ℕ)) (i j : ℕ) (entries : List TermEntry) → IsUp (terms entries)
     → merged (drop i xs) (drop j (terms entries)) ≡ t ∷ left
     → ArePassed (terms entries) j (merged (drop i xs) (drop j (terms entries)))
-    → (entry : TermEntry) → Contains entries entry → entry.term ≡ t → get_or entries j entry ≡ entry
+    → (entry : TermEntry) → Contains entries entry → entry.term ≡ t → Stands entries j entry
 stands_right t left xs i j entries s is a entry h e =
     entry_stands t left j entries entry s (subst (ArePassed (terms entries) j) is a) (from_right t xs (terms entries) left i j is)
     (Has-from_Contains entry entries h) e
@@ -161,8 +166,62 @@ stands_right t left xs i j entries s is a entry h e =
 few_terms : (low high : ℕ) (entries : List TermEntry) → AllByRecursion (IsEntry low high) entries
     → length entries ≤ sum_by (λ entry. entry.count) entries
 few_terms low high [] a = omega arith
-few_terms low high (x ∷ xs) a = omega (arith, a.0.count, few_terms low high xs a.1)
+few_terms low high (x ∷ xs) a =
+    omega (arith, a.0.count, few_terms low high xs a.1, sum_by-cons (λ (entry : TermEntry). entry.count) x xs)
 
-pub directory_few : (d : PartDirectory) (code_length : ℕ) → IsDirectory d code_length → length (terms d.terms) ≤ d.stored
-directory_few d n is =
-    omega (arith, few_terms d.low d.high d.terms is.entries, is.sum, length-map d.terms (λ (entry : TermEntry). entry.term))
+bounded_terms : (low high : ℕ) (entries : List TermEntry) → AllByRecursion (IsEntry low high) entries
+    → AllByRecursion (λ term. (0 < length term) × (length term ≤ WORD_MAX)) (terms entries)
+bounded_terms low high [] a = tt
+bounded_terms low high (x ∷ xs) a = ((a.0.some, a.0.short), bounded_terms low high xs a.1)
+
+pub directory_terms : (d : PartDirectory) (code_length : ℕ) → IsDirectory d code_length → AreTerms (terms d.terms)
+directory_terms d n is = record {
+  ascending = is.ascending;
+  bounded = bounded_terms d.low d.high d.terms is.entries;
+  few =
+      omega (
+        arith,
+        few_terms d.low d.high d.terms is.entries,
+        is.sum,
+        is.room,
+        is.below,
+        length-map d.terms (λ (entry : TermEntry). entry.term),
+      );
+}
+
+some_terms : (entries : List TermEntry) → 0 < sum_by (λ entry. entry.count) entries → 0 < length (terms entries)
+some_terms [] l = absurd (omega arith)
+some_terms (x ∷ xs) l = omega arith
+
+pub directory_some : (d : PartDirectory) (code_length : ℕ) → IsDirectory d code_length → 0 < length (terms d.terms)
+directory_some d n is = some_terms d.terms (omega (arith, is.sum, is.some))
+
+-- ---- bounds of the first term
+
+has_dropped : (q : List ℕ) (n : ℕ) (xs : List (List ℕ)) → Has q (drop n xs) → Has q xs
+has_dropped q zero xs h = h
+has_dropped q (suc n) [] h = h
+has_dropped q (suc n) (x ∷ xs) h = inr (has_dropped q n xs h)
+
+pub bounded_first : (t : List ℕ) (xs ys left : List (List ℕ)) (i j : ℕ) → AreTerms xs → AreTerms ys
+    → merged (drop i xs) (drop j ys) ≡ t ∷ left → (0 < length t) × (length t ≤ WORD_MAX)
+bounded_first t xs ys left i j a b is =
+    let there : Has t (drop i xs ++ drop j ys) =
+    sorted_once_has nat_list_cmp_total exact_bytes t (drop i xs ++ drop j ys) (subst (Has t) (sym is) (inl refl)) in
+    ⊎_elim
+    (λ h. all_has (λ term. (0 < length term) × (length term ≤ WORD_MAX)) t xs a.bounded (has_dropped t i xs h))
+    (λ h. all_has (λ term. (0 < length term) × (length term ≤ WORD_MAX)) t ys b.bounded (has_dropped t j ys h))
+    (Has-append_cases t (drop i xs) (drop j ys) there)
+
+pub some_merged : (xs ys : List (List ℕ)) → 0 < length xs → 0 < length (merged xs ys)
+some_merged [] ys l = absurd (omega arith)
+some_merged (x ∷ xs) ys l =
+    some_has x (merged (x ∷ xs) ys) (has-sorted_once nat_list_cmp_total exact_bytes x (x ∷ (xs ++ ys)) (inl refl))
+  where
+    some_has : (q : List ℕ) (zs : List (List ℕ)) → Has q zs → 0 < length zs
+    some_has q [] h = absurd h
+    some_has q (z ∷ zs) h = omega arith
+
+pub no_terms : AreTerms []
+unfolding IsStrictlySortedBy
+no_terms = record { ascending = tt; bounded = tt; few = omega arith }

@@ -29,10 +29,10 @@ pub record AreMarks (live : List Range) (marks : List Bool) (lists : List TermLi
 
 -- The lists that were made can be written as a part, and their terms are before those that are left.
 pub record AreWritable (live : List Range) (lists : List TermList) (left : List (List ℕ)) : Type 0 where
-  pub lists : AllByRecursion IsList lists
+  pub each : AllByRecursion IsList lists
   pub ascending : IsStrictlySortedBy (slice_cmp nat_cmp) (map (λ list. list.term) lists ++ left)
   pub distinct : IsDistinct eqb (addresses_in lists)
-  pub live : AllByRecursion (λ address. is_live live address ≡ true) (addresses_in lists)
+  pub alive : AllByRecursion (λ address. is_live live address ≡ true) (addresses_in lists)
 
 -- what the fields of a job keep
 pub record IsSound (fields : inside.Inside) : Type 0 where

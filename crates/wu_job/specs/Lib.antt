@@ -4,6 +4,8 @@
 pub mod Jobs
 -- which ranges a step reads, and why it answers a trouble
 pub mod Steps
+-- the postings of its parts
+pub mod Postings
 -- ---- What only private functions and proofs need
 
 pub mod Live

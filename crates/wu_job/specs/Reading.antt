@@ -1,5 +1,5 @@
 -- What is read of the blocks of a term.
-use Rattle.std.specs.Prelude.{◌≡◌, ◌⊎◌, ℕ, ◌+◌, ◌≤◌, Bool, true, false, List, length, map, filter, get_or, slice_range, Contains, Option, None, Some, IfSome}
+use Rattle.std.specs.Prelude.{◌≡◌, ◌⊎◌, ℕ, ◌+◌, ◌<◌, ◌≤◌, Bool, true, false, List, length, map, filter, get_or, slice_range, Contains, Option, None, Some, IfSome}
 use Rattle.std.specs.List.{AllByRecursion, list_any}
 use Rattle.wu_base.specs.declared.addresses.Range.{Range}
 use Rattle.wu_outside.specs.Content.{Content}
@@ -50,7 +50,7 @@ AreNoBlocks (Some blob) low entry =
 -- The entry of the term stands at the place, where the list has one.
 abbrev pub StandsAt : List TermEntry → ℕ → List ℕ → Type 0
 StandsAt entries place term =
-    (entry : TermEntry) → Contains entries entry → entry.term ≡ term → get_or entries place entry ≡ entry
+    (entry : TermEntry) → Contains entries entry → entry.term ≡ term → (place < length entries) × (get_or entries place entry ≡ entry)
 
 -- ---- live addresses of a term
 
@@ -61,7 +61,7 @@ is_some_marked live marks addresses = list_any (λ place. get_or marks place fal
 -- Live addresses of a part, with their places, of which none stands in a list that was made.
 pub record IsNew (live : List Range) (marks : List Bool) (low high : ℕ) (cut : Cut) : Type 0 where
   pub ascend : AscendBetween low (high + 1) cut.addresses.items
-  pub live : AllByRecursion (λ address. is_live live address ≡ true) cut.addresses.items
+  pub alive : AllByRecursion (λ address. is_live live address ≡ true) cut.addresses.items
   pub places : cut.places.items ≡ map (live_below live) cut.addresses.items
   pub unmarked : is_some_marked live marks cut.addresses.items ≡ false
 

@@ -1,10 +1,13 @@
 -- How far a job has gone through the terms of its parts.
-use Rattle.std.specs.Prelude.{◌≡◌, ℕ, ◌+◌, ◌<◌, nat_eq, if◌then◌else◌, Option, None, Some, List, [], ◌∷◌, ◌++◌, map, take, drop, slice_get}
+use Rattle.std.specs.Prelude.{◌≡◌, ℕ, ◌+◌, ◌<◌, ◌≤◌, nat_eq, if◌then◌else◌, Option, None, Some, List, [], ◌∷◌, ◌++◌, length, map, take, drop}
 use Rattle.std.specs.Ordering.{nat_cmp, is_lt}
 use Rattle.std.specs.Cmp.Lexicographic.{slice_cmp, pointwise}
 use Rattle.std.specs.List.{AllByRecursion}
+use Rattle.std.specs.List.Sorted.{IsStrictlySortedBy}
 use Rattle.std.specs.declared.cmp.Ordering.TheVariants.{Less}
 use Rattle.wu_base.specs.SortedOnce.{sorted_once}
+use Rattle.wu_base.specs.declared.limits.TheConstants.{ADDRESSES_MAX, WORD_MAX}
+use Rattle.wu_part.specs.Directories.{IsEntry}
 use Rattle.wu_part.specs.Parts.{IsRecorded}
 use Rattle.wu_job.specs.declared.sources.Places.{Places}
 use Rattle.wu_job.specs.declared.sources.Source.{Source}
@@ -24,6 +27,23 @@ terms_of source = map (λ entry. entry.term) source.directory.terms
 abbrev pub terms_of_other : Option Source → List (List ℕ)
 terms_of_other None = []
 terms_of_other (Some source) = terms_of source
+
+-- terms of a directory: they ascend, have 1 to WORD_MAX bytes, and there are fewer than addresses
+pub record AreTerms (terms : List (List ℕ)) : Type 0 where
+  pub ascending : IsStrictlySortedBy (slice_cmp nat_cmp) terms
+  pub bounded : AllByRecursion (λ term. (0 < length term) × (length term ≤ WORD_MAX)) terms
+  pub few : length terms ≤ ADDRESSES_MAX
+
+-- the entries of a part's directory lie within its span, which is below the limit
+pub record HasEntries (part : JobPart) : Type 0 where
+  pub entries : AllByRecursion (IsEntry part.directory.low part.directory.high) part.directory.terms
+  pub below : part.directory.high < ADDRESSES_MAX
+
+-- what holds of the directories
+pub record AreWhole (left : Source) (right : Option Source) : Type 0 where
+  pub terms : AreTerms (terms_of left)
+  pub others : AreTerms (terms_of_other right)
+  pub entries : AllByRecursion HasEntries (parts_of left right)
 
 -- the terms of two lists, each of them once
 abbrev pub merged : List (List ℕ) → List (List ℕ) → List (List ℕ)

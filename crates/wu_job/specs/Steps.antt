@@ -1,5 +1,5 @@
 -- What a step reads of the store, and why it answers a trouble.
-use Rattle.std.specs.Prelude.{◌≡◌, ◌≢◌, ◌⊎◌, ℕ, ◌≤◌, ◌==◌, true, List, [], ◌∷◌, ◌++◌, map, take, nat_eq, Contains, Option, None, Some, IfSome, option_map, if◌then◌else◌}
+use Rattle.std.specs.Prelude.{◌≡◌, ◌≢◌, ◌⊎◌, ℕ, ◌≤◌, ◌==◌, true, List, [], ◌∷◌, ◌++◌, length, map, take, nat_eq, Contains, Option, None, Some, IfSome, option_map, if◌then◌else◌}
 use Rattle.std.specs.Cmp.Lexicographic.{pointwise}
 use Rattle.std.specs.List.{flat_map, list_any}
 use Rattle.wu_base.specs.declared.addresses.TermList.{TermList}
@@ -42,6 +42,7 @@ adds ranges reads = option_map (λ before. before ++ ranges) reads
 -- Of these ranges the first so many were read before the trouble. A blob that is damaged was read.
 pub record ReadsFront (ranges : List ReadRange) (old new : Option (List ReadRange)) (trouble : Trouble) : Type 0 where
   pub count : ℕ
+  pub within : count ≤ length ranges
   pub front : new ≡ adds (take count ranges) old
   pub damaged : (blob : ℕ) → trouble ≡ Damaged blob → list_any (λ range. range.blob == blob) (take count ranges) ≡ true
 

@@ -10,7 +10,7 @@ ghost use Rattle.wu_job.specs.Steps.{IsCause, IsDamaged, ReadsFront, adds, step_
 use crate::lists::live_addresses;
 use crate::live::{Cut, LiveRange, ranked, total};
 use crate::marks::mark_all;
-use crate::sources::{Places, Source, count_terms, first_term, places_after};
+use crate::sources::{Places, Source, are_whole, count_terms, first_term, places_after};
 use std::alloc::Global;
 use std::marker::Model;
 use wu_base::{
@@ -59,7 +59,7 @@ impl Model for Job {
 
 impl Job {
     ghost use Rattle.std.specs.Prelude.{IfSome};
-    ghost use Rattle.wu_job.specs.Jobs.{AreKept, MakesList};
+    ghost use Rattle.wu_job.specs.Jobs.{AreKept, IsRight, MakesList};
     ghost use Rattle.wu_job.specs.Keeping.{IsFirst, IsNewCut};
 
     /// The merge of two neighbours of a generation below `GENERATION_MAX`, to the next generation. `live` are
@@ -127,9 +127,11 @@ impl Job {
     /// Does the first term that is left: reads its blocks in the parts, each once, and keeps of its addresses those
     /// that were live when the job began. With the last term it answers the new part. An address that stands in
     /// two lists of a part is damage of that part; so is a block that isn't as the directory says.
+    #[tactic(none)]
     pub fn step<D: Store>(&mut self, store: &mut D) -> Result<Progress, Trouble>
         requires { 0 < length self.old.terms_left }
         ensures term { OnOk result (DoesTerm (D.holds store.old) self.old self.new) }
+        ensures right { OnOk result (IfSome (D.holds store.old) (λ content. IsRight content self.old → IsRight content self.new)) }
         ensures answer { IfOk result (Answers self.new) }
         ensures holds { D.holds store.new ≡ D.holds store.old }
         ensures still { D.moments store.new ≡ D.moments store.old }
@@ -157,6 +159,7 @@ impl Job {
     }
 
     /// The live addresses of the term in the parts, of which none stands in a list that was made.
+    #[tactic(none)]
     fn read_live<D: Store>(&self, store: &mut D, term: &[u8]) -> Result<Cut, Trouble>
         requires { IsFirst term.now self.now }
         ensures new { IfOk result (IsNewCut self.now) }
@@ -170,6 +173,7 @@ impl Job {
         ensures calm { OnOk result (D.faults store.new ≡ D.faults store.old) }
         ensures cause { IfErr result (IsCause (IsDamaged (D.holds store.old) self.now) (D.faults store.old) (D.faults store.new)) }
     {
+        are_whole(&self.left, &self.right);
         let alloc = self.alloc;
         let mut cut = live_addresses(
             alloc,
@@ -199,6 +203,7 @@ impl Job {
     }
 
     /// Keeps the term's list, where it has an address, and goes on to the next term.
+    #[tactic(none)]
     fn put(&mut self, term: Bytes, cut: Cut) -> Result<(), NoMemory>
         requires first { IsFirst term self.old }
         requires new { IsNewCut self.old cut }

@@ -3,9 +3,11 @@
 #![tactic(auto)]
 
 mod jobs;
+mod laws;
 mod lists;
 mod live;
 mod marks;
 mod sources;
 
 pub use jobs::{Job, Progress};
+pub use laws::a_job_makes_the_live_postings;

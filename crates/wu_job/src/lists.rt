@@ -20,6 +20,7 @@ use wu_part::{BlockEntry, Entry, read_block};
 
 /// The live addresses of the term in the part, of which none is marked. A part with a marked one is damaged:
 /// the address stands in another list of it too.
+#[tactic(none)]
 pub(crate) fn live_addresses<D: Store>(
     alloc: Global,
     store: &mut D,
@@ -100,6 +101,7 @@ fn entry_at<'a>(source: &'a Source, place: usize, term: &[u8]) -> Option<Entry<'
 }
 
 /// The addresses in the entry's blocks, each of which is read once, whole.
+#[tactic(none)]
 fn read_list<D: Store>(
     alloc: Global,
     store: &mut D,

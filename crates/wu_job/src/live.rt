@@ -47,11 +47,14 @@ impl Cut {
         ensures addresses { OnOk result (self.new.addresses.items ≡ self.old.addresses.items ++ with_place address place) }
         ensures places { OnOk result (self.new.places.items ≡ self.old.places.items ++ place_alone place) }
     {
-        if let Some(place) = place {
-            self.addresses.push(address)?;
-            self.places.push(place)?;
+        match place {
+            Some(place) => {
+                self.addresses.push(address)?;
+                self.places.push(place)?;
+                Ok(())
+            }
+            None => Ok(()),
         }
-        Ok(())
     }
 
     /// Puts those of the other at the end.

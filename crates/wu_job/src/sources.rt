@@ -1,7 +1,8 @@
 //! The parts of a job, and how far it has gone through their terms.
-ghost use Rattle.std.specs.Prelude.{◌≡◌, ◌∷◌, Some, length, slice_get};
+ghost use Rattle.std.specs.Prelude.{◌≡◌, ◌<◌, ◌≤◌, ◌∷◌, Some, length, slice_get};
 ghost use Rattle.std.specs.Option.{option_copied};
-ghost use Rattle.wu_job.specs.Sources.{AreAllPassed, lesser_of, passed, terms_from, terms_of, terms_of_other};
+ghost use Rattle.wu_base.specs.declared.limits.TheConstants.{WORD_MAX};
+ghost use Rattle.wu_job.specs.Sources.{AreAllPassed, AreWhole, lesser_of, passed, terms_from, terms_of, terms_of_other};
 
 use wu_base::PartRec;
 use wu_part::Directory;
@@ -39,10 +40,23 @@ impl Source {
     fn place_after(&self, place: usize, term: &[u8]) -> usize
         ensures { result ≡ passed (slice_get (terms_of self.now) place) term.now place }
     {
+        self.directory.is_spelled();
         match self.term_at(place) {
             Some(head) if head == term => place + 1,
             _ => place,
         }
+    }
+}
+
+/// A law: what holds of the directories, and that the left one has a term.
+pub(crate) fn are_whole(left: &Source, right: &Option<Source>)
+    ensures whole { AreWhole left.now right.now }
+    ensures some { 0 < length (terms_of left.now) }
+{
+    left.directory.is_spelled();
+    match right {
+        Some(source) => source.directory.is_spelled(),
+        None => {}
     }
 }
 
@@ -68,7 +82,7 @@ fn place_of_other(source: &Option<Source>, place: usize, term: &[u8]) -> usize
 
 /// The lesser of two terms.
 fn lesser<'a>(first: Option<&'a [u8]>, second: Option<&'a [u8]>) -> Option<&'a [u8]>
-    ensures { option_copied result ≡ lesser_of (option_copied first) (option_copied second) }
+    ensures { option_copied result ≡ lesser_of (option_copied first.entry) (option_copied second.entry) }
 {
     match (first, second) {
         (Some(a), Some(b)) => {
@@ -91,7 +105,7 @@ pub(crate) fn first_term<'a>(
 ) -> Option<&'a [u8]>
     ensures { option_copied result ≡ slice_get (terms_from left.now right.now places) 0 }
 {
-    left.directory.is_spelled();
+    are_whole(left, right);
     lesser(
         left.term_at(places.left),
         term_of_other(right, places.right),
@@ -108,7 +122,9 @@ pub(crate) fn places_after(
     requires first { slice_get (terms_from left.now right.now places) 0 ≡ Some term.now }
     ensures left { terms_from left.now right.now places ≡ term.now ∷ terms_from left.now right.now result }
     ensures passed { AreAllPassed left.now right.now places → AreAllPassed left.now right.now result }
+    ensures bounded { (0 < length term.now) × (length term.now ≤ WORD_MAX) }
 {
+    are_whole(left, right);
     Places {
         left: left.place_after(places.left, term),
         right: place_of_other(right, places.right, term),
@@ -117,8 +133,10 @@ pub(crate) fn places_after(
 
 /// How many terms the parts have, where each counts once. Walks through both side by side.
 pub(crate) fn count_terms(left: &Source, right: &Option<Source>) -> u64
-    ensures { result ≡ length (terms_from left.now right.now Places.START) }
+    ensures count { result ≡ length (terms_from left.now right.now Places.START) }
+    ensures some { 0 < result }
 {
+    are_whole(left, right);
     let mut places = Places::START;
     let mut count = 0;
     while let Some(term) = first_term(left, right, places) {
