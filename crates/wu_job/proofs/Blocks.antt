@@ -1,7 +1,8 @@
 -- The blocks of an entry, read one after another.
-use Rattle.std.proofs.Common.{◌≡◌, ℕ, zero, suc, ◌+◌, ◌-◌, ◌<◌, ◌≤◌, min, List, [], ◌∷◌, ◌++◌, length, take, drop, refl, ap, sym, ◌∙◌, subst, arith, append_assoc, append-nil, length-append, length-drop}
+use Rattle.std.proofs.Common.{◌≡◌, ℕ, zero, suc, ◌+◌, ◌-◌, ◌<◌, ◌≤◌, ◌==◌, true, min, List, [], ◌∷◌, ◌++◌, length, take, drop, refl, ap, sym, ◌∙◌, subst, arith, append_assoc, append-nil, length-append, length-drop}
 use Rattle.std.specs.Prelude.{Option, None, Some, IfSome}
-use Rattle.std.specs.List.{AllByRecursion}
+use Rattle.std.specs.List.{AllByRecursion, list_any}
+use Rattle.std.proofs.lemmas.Bool.{eq-eqb}
 use Rattle.std.proofs.lemmas.List.{length-take}
 use Rattle.wu_outside.specs.declared.ranges.ReadRange.{ReadRange}
 use Rattle.wu_vbyte.specs.declared.blocks.TheConstants.{BLOCK_LEN}
@@ -115,8 +116,10 @@ pub record AreRangesRead (blob : ℕ) (first left : TermEntry) (old now : Option
   pub whole : before ++ block_ranges blob left.blocks ≡ block_ranges blob first.blocks
   pub reads : now ≡ adds before old
 
-pub read_none : (o : Option (List ℕ)) (low : ℕ) (first : TermEntry) → AreRead o low first first []
-read_none o low first = record { held = λ rest h. h; there = λ l. absurd (omega arith); broken = λ b. b }
+pub read_none : (o : Option (List ℕ)) (low : ℕ) (first : TermEntry) (found : List ℕ) → found ≡ [] → AreRead o low first first found
+read_none o low first found e =
+    subst (AreRead o low first first) (sym e)
+    (record { held = λ rest h. h; there = λ l. absurd (omega arith); broken = λ b. b })
 
 is_there : (o : Option (List ℕ)) (low : ℕ) (block : BlockEntry) (addresses : List ℕ) → HoldsInBlock o low block addresses
     → (blob : List ℕ) × (o ≡ Some blob)
@@ -150,14 +153,16 @@ read_all o low high first left found r to none some =
     (record { term = refl; count = nothing; blocks = subst (λ bs. HoldBlocks low there.0 bs []) (sym none) refl }) in
     subst (HoldsEntry o low first) (append-nil found) (r.held [] last)
 
-pub to_none : (low high : ℕ) (first : TermEntry) → IsEntry low high first → IsReadTo low high first first []
-to_none low high first is = record {
-  from = low;
-  ascend = omega arith;
-  within = omega (arith, count_within low high first.count first.blocks is.count is.cut);
-  blocks = is.cut;
-  long = omega arith;
-}
+pub to_none : (low high : ℕ) (first : TermEntry) (found : List ℕ) → found ≡ [] → IsEntry low high first → IsReadTo low high first first found
+to_none low high first found e is =
+    subst (IsReadTo low high first first) (sym e)
+    (record {
+      from = low;
+      ascend = omega arith;
+      within = omega (arith, count_within low high first.count first.blocks is.count is.cut, is.count);
+      blocks = is.cut;
+      long = omega arith;
+    })
 
 pub to_more : (low high : ℕ) (first entry left : TermEntry) (block : BlockEntry) (found addresses : List ℕ)
     → IsReadTo low high first entry found → IsAfter entry left block → length addresses ≡ min entry.count BLOCK_LEN
@@ -224,3 +229,13 @@ pub ranges_stopped : (blob : ℕ) (first left : TermEntry) (old now : Option (Li
 ranges_stopped blob first left old now t r n =
     subst (λ rs. ReadsFront rs old now t) r.whole
     (front_then r.before (block_ranges blob left.blocks) old now now t r.reads (front_none (block_ranges blob left.blocks) now now t refl n))
+
+-- an entry has a block, so its part's blob is read
+pub blocks_read : (blob low high : ℕ) (entry : TermEntry) → IsEntry low high entry
+    → list_any (λ range. range.blob == blob) (block_ranges blob entry.blocks) ≡ true
+blocks_read blob low high entry is = any_of entry.count entry.blocks is.count is.cut
+  where
+    any_of : (count : ℕ) (blocks : List BlockEntry) → 0 < count → AreBlocks low high count blocks
+        → list_any (λ range. range.blob == blob) (block_ranges blob blocks) ≡ true
+    any_of count [] l a = absurd (omega (arith, a))
+    any_of count (block ∷ later) l a = let same : (blob == blob) ≡ true = eq-eqb blob blob refl in rw same refl

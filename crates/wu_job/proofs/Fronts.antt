@@ -1,6 +1,6 @@
 -- Ranges that are read one after another, up to a trouble, and why it came.
 use Rattle.std.proofs.Common.{◌≡◌, ◌≢◌, ℕ, ◌+◌, ◌≤◌, ◌==◌, ◌||◌, Bool, true, false, List, [], ◌∷◌, ◌++◌, length, take, refl, ap, sym, ◌∙◌, subst, arith, append_assoc, append-nil, length-append}
-use Rattle.std.specs.Prelude.{Option, None, Some}
+use Rattle.std.specs.Prelude.{Option, None, Some, IfSome, Result, Ok, Err, IfErr}
 use Rattle.std.specs.List.{list_any}
 use Rattle.std.proofs.lemmas.Bool.{eq-eqb, or_right}
 use Rattle.std.proofs.lemmas.List.{take-append-le}
@@ -76,7 +76,7 @@ front_all ranges old new t e d =
       damaged = λ blob is. rw same (d blob is);
     }
 
-same_blob : (blob other : ℕ) → Damaged blob ≡ Damaged other → blob ≡ other
+pub same_blob : (blob other : ℕ) → Damaged blob ≡ Damaged other → blob ≡ other
 same_blob blob other e = cc
 
 -- the blob is damaged of which ranges were read
@@ -113,3 +113,24 @@ cause_calm P before now t e n d = record {
   calm = λ _. e;
   damaged = d;
 }
+
+-- ---- what holds of each content that is told
+
+pub if_some : {X : Type 0} (P : X → Type 0) (o : Option X) → ((x : X) → P x) → IfSome o P
+if_some P None f = tt
+if_some P (Some x) f = f x
+
+-- two facts of what is told at equal moments
+pub if_both : {X : Type 0} (P Q R : X → Type 0) (o p : Option X) → p ≡ o → IfSome o P → IfSome p Q → ((x : X) → P x → Q x → R x) → IfSome o R
+if_both P Q R None p e a b f = tt
+if_both P Q R (Some x) p e a b f = f x a (subst (λ q. IfSome q Q) e b)
+
+pub if_err : {T E : Type 0} (P Q : E → Type 0) (r : Result T E) → ((e : E) → P e → Q e) → IfErr r P → IfErr r Q
+if_err P Q (Ok x) f h = tt
+if_err P Q (Err e) f h = f e h
+
+pub no_memory : (blob : ℕ) → NoMemory ≡ Damaged blob → ⊥
+no_memory blob e = absurd cc
+
+pub no_fault : (blob : ℕ) → Damaged blob ≢ StoreFault
+no_fault blob = λ e. absurd cc

@@ -11,3 +11,4 @@ pub mod Made
 pub mod Doubles
 pub mod Parting
 pub mod Joining
+pub mod Whole

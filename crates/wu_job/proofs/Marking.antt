@@ -111,6 +111,17 @@ marked_twice live marks lists all m u =
     let f = filter_has (is_live live) r.0 all r.1.0 in
     (r.0, (f.0, has_list (addresses_in lists) r.0 (sym (m.exact r.0 f.1) ∙ r.1.1)))
 
+some_of : (a : ℕ) (xs : List ℕ) → Has a xs → 0 < length xs
+some_of a [] h = absurd h
+some_of a (x ∷ xs) h = omega arith
+
+-- a list with a marked address has an address
+pub marked_some : (live : List Range) (marks : List Bool) (all : List ℕ) → is_some_marked live marks (filter (is_live live) all) ≡ true
+    → 0 < length all
+marked_some live marks all u =
+    let r = some_marked_has live marks (filter (is_live live) all) u in
+    some_of r.0 all (filter_has (is_live live) r.0 all r.1.0).0
+
 -- ---- distinct addresses
 
 distinct_from : (x : ℕ) (xs ys : List ℕ) → AllByRecursion (λ y. eqb x y ≡ false) xs

@@ -1,10 +1,12 @@
 -- Live ranges in order, and how many live addresses are below one.
-use Rattle.std.proofs.Common.{◌≡◌, ℕ, zero, suc, ◌+◌, ◌-◌, ◌<◌, ◌≤◌, ◌==◌, ◌||◌, min, nat_le, nat_lt, Bool, true, false, cond, List, [], ◌∷◌, ◌++◌, length, map, take, drop, get_or, filter, sum_by, All, refl, ap, ap₂, sym, ◌∙◌, subst, arith, ⊎_elim, inl, inr}
+use Rattle.std.proofs.Common.{◌≡◌, ℕ, zero, suc, ◌+◌, ◌-◌, ◌<◌, ◌≤◌, ◌==◌, ◌||◌, min, nat_le, nat_lt, Bool, true, false, cond, List, [], ◌∷◌, ◌++◌, length, map, take, drop, get_or, filter, sum_by, All, refl, ap, ap₂, sym, ◌∙◌, subst, arith, ⊎_elim, inl, inr, append_assoc}
 use Rattle.std.specs.Prelude.{◌⊎◌, Option, None, Some}
 use Rattle.std.specs.List.{AllByRecursion, list_any}
 use Rattle.std.specs.List.Sorted.{IsNonDecreasingBy}
 use Rattle.std.proofs.lemmas.Bool.{cases_lt, cases_Bool, le-leb, lt-leb, lt-ltb, le-ltb, and_left, and_right, and_from, or_cases, eq-eqb, ne_eqb, eqb-true}
+use Rattle.std.proofs.Math.Seq.{drop-cons}
 use Rattle.std.proofs.lemmas.List.{map-append}
+use Rattle.std.proofs.lemmas.List.Elements.{filter_more}
 use Rattle.std.proofs.lemmas.List.Sums.{sum_by-cons}
 use Rattle.wu_base.specs.declared.addresses.Range.{Range}
 use Rattle.wu_layout.specs.Postings.{is_in, is_live}
@@ -109,14 +111,21 @@ total_bound low high before (r ∷ rs) o =
 pub total_within : (high : ℕ) (rs : List Range) → AreApart rs → All (λ r. r.start + r.len ≤ high) rs → total_of rs ≤ high
 total_within high rs a b = omega (arith, total_bound 0 high 0 rs (ranked_order high rs a b))
 
+drop_next : {X : Type 0} (xs : List X) (i : ℕ) (d : X) → i < length xs → drop i xs ≡ get_or xs i d ∷ drop (i + 1) xs
+drop_next xs i d l =
+    let next : suc i ≡ i + 1 = omega arith in drop-cons xs i d l ∙ ap (λ (n : ℕ). get_or xs i d ∷ drop n xs) next
+
 -- what was put of them so far, and what is to come
 pub ranked_more : (before : ℕ) (ranges : List Range) (i : ℕ) (d : Range) (so_far all : List LiveRange) → i < length ranges
     → so_far ++ ranked_from before (drop i ranges) ≡ all
     → (so_far ++ record { start = (get_or ranges i d).start; len = (get_or ranges i d).len; before = before } ∷ [])
     ++ ranked_from (before + (get_or ranges i d).len) (drop (i + 1) ranges) ≡ all
-ranked_more before [] i d so_far all l e = absurd (omega arith)
-ranked_more before (r ∷ rs) zero d so_far all l e = grind (arith)
-ranked_more before (r ∷ rs) (suc i) d so_far all l e = ranked_more before rs i d so_far all (omega arith) e
+ranked_more before ranges i d so_far all l e =
+    append_assoc so_far
+    (record { start = (get_or ranges i d).start; len = (get_or ranges i d).len; before = before } ∷ [])
+    (ranked_from (before + (get_or ranges i d).len) (drop (i + 1) ranges))
+    ∙ ap (λ (rs : List Range). so_far ++ ranked_from before rs) (sym (drop_next ranges i d l))
+    ∙ e
 
 pub is_ranked : (high : ℕ) (ranges : List Range) (ranked : List LiveRange) → AreApart ranges → All (λ r. r.start + r.len ≤ high) ranges
     → ranked ≡ ranked_from 0 ranges → AreRanked ranked high
@@ -155,19 +164,27 @@ place_from low high before a (r ∷ rs) o =
     (λ (m : a < r.start).
     let start : nat_le r.start a ≡ false = lt-leb r.start a m in
     let away : is_in r a ≡ false = and_left _ _ start in
-    rw (ends, start, later.0) refl)
+    let dead : is_live (r ∷ rs) a ≡ false = rw away later.0 in
+    let none : find_place (ranked_from before (r ∷ rs)) a ≡ None = rw (ends, start) refl in
+    none ∙ ap (λ (b : Bool). cond b (Some (before + live_below (r ∷ rs) a)) None) (sym dead))
     (λ (m : r.start ≤ a).
     let start : nat_le r.start a ≡ true = le-leb r.start a m in
+    let inside : is_in r a ≡ true = and_from _ _ start ends in
+    let alive : is_live (r ∷ rs) a ≡ true = rw inside refl in
+    let found : find_place (ranked_from before (r ∷ rs)) a ≡ Some (before + (a - r.start)) = rw (ends, start) refl in
     let same : before + (a - r.start) ≡ before + live_below (r ∷ rs) a = omega (arith, cons, later.1) in
-    rw (ends, start) (ap Some same))
+    found ∙ ap Some same ∙ ap (λ (b : Bool). cond b (Some (before + live_below (r ∷ rs) a)) None) (sym alive))
     (cases_lt a r.start))
     (λ (l : r.start + r.len ≤ a).
     let ends : nat_lt a (r.start + r.len) ≡ false = le-ltb a (r.start + r.len) l in
     let away : is_in r a ≡ false = and_right _ _ ends in
+    let skip : is_live (r ∷ rs) a ≡ is_live rs a = rw away refl in
+    let more : find_place (ranked_from before (r ∷ rs)) a ≡ find_place (ranked_from (before + r.len) rs) a = rw ends refl in
     let same : before + r.len + live_below rs a ≡ before + live_below (r ∷ rs) a = omega (arith, cons) in
-    rw (ends, away)
-    (place_from (r.start + r.len) high (before + r.len) a rs o.2
-    ∙ ap (λ (n : ℕ). cond (is_live rs a) (Some n) None) same))
+    more
+    ∙ place_from (r.start + r.len) high (before + r.len) a rs o.2
+    ∙ ap (λ (n : ℕ). cond (is_live rs a) (Some n) None) same
+    ∙ ap (λ (b : Bool). cond b (Some (before + live_below (r ∷ rs) a)) None) (sym skip))
     (cases_lt a (r.start + r.len))
 
 pub place_is : (high a : ℕ) (ranges : List LiveRange) → AreRanked ranges high
@@ -206,6 +223,51 @@ put_place high a ranges r =
       | true ↦ (refl, refl)
       | false ↦ (refl, refl)
     ])
+
+ascend-dropped : (n low high : ℕ) (xs : List ℕ) → AscendBetween low high xs → AscendBetween 0 high (drop n xs)
+ascend-dropped zero low high [] a = omega (arith, a)
+ascend-dropped zero low high (x ∷ xs) a = (omega arith, a.1)
+ascend-dropped (suc n) low high [] a = omega (arith, a)
+ascend-dropped (suc n) low high (x ∷ xs) a = ascend-dropped n (x + 1) high xs a.1
+
+-- what some ranges tell of later addresses they tell still without those that ended
+same_later : (x low high : ℕ) (rest : List ℕ) (live left new : List LiveRange) → x < low → AscendBetween low high rest
+    → ((a : ℕ) → x ≤ a → find_place new a ≡ find_place left a)
+    → AllByRecursion (λ a. find_place left a ≡ find_place live a) rest → AllByRecursion (λ a. find_place new a ≡ find_place live a) rest
+same_later x low high [] live left new l a n s = tt
+same_later x low high (y ∷ rest) live left new l a n s =
+    (n y (omega (arith, a.0)) ∙ s.0, same_later x (y + 1) high rest live left new (omega (arith, a.0)) a.1 n s.1)
+
+-- What is cut of the first addresses, and the ranges that are left.
+pub record IsCutTo (high : ℕ) (live left : List LiveRange) (all : List ℕ) (i : ℕ) (addresses places : List ℕ) : Type 0 where
+  pub cut : addresses ≡ filter (is_live (ranges_alone live)) (take i all)
+  pub ranks : places ≡ map (live_below (ranges_alone live)) addresses
+  pub same : AllByRecursion (λ a. find_place left a ≡ find_place live a) (drop i all)
+
+pub cut_step : (high : ℕ) (live left new : List LiveRange) (all : List ℕ) (i : ℕ) (addresses places put ranks : List ℕ) (place : Option ℕ)
+    → AreRanked live high → i < length all → AscendBetween 0 high all → IsCutTo high live left all i addresses places
+    → ((a : ℕ) → get_or all i 0 ≤ a → find_place new a ≡ find_place left a) → place ≡ find_place new (get_or all i 0)
+    → put ≡ addresses ++ with_place (get_or all i 0) place → ranks ≡ places ++ place_alone place
+    → IsCutTo high live new all (i + 1) put ranks
+cut_step high live left new all i addresses places put ranks place r l a c n e p q =
+    let x : ℕ = get_or all i 0 in
+    let rs : List Range = ranges_alone live in
+    let one : List ℕ = cond (is_live rs x) (x ∷ []) [] in
+    let next : drop i all ≡ x ∷ drop (i + 1) all = drop_next all i 0 l in
+    let same : AllByRecursion (λ z. find_place left z ≡ find_place live z) (x ∷ drop (i + 1) all) =
+    subst (AllByRecursion (λ z. find_place left z ≡ find_place live z)) next c.same in
+    let up : AscendBetween 0 high (x ∷ drop (i + 1) all) = subst (AscendBetween 0 high) next (ascend-dropped i 0 high all a) in
+    let is : place ≡ find_place live x = e ∙ n x (omega arith) ∙ same.0 in
+    let found = put_place high x live r in
+    let first : with_place x place ≡ one = ap (with_place x) is ∙ found.0 in
+    let second : place_alone place ≡ map (live_below rs) one = ap place_alone is ∙ found.1 in
+    let all_put : put ≡ addresses ++ one = p ∙ ap (λ (ys : List ℕ). addresses ++ ys) first in
+    record {
+      cut = all_put ∙ ap (λ (ys : List ℕ). ys ++ one) c.cut ∙ sym (filter_more (is_live rs) all i 0 l);
+      ranks =
+          q ∙ ap₂ ◌++◌ c.ranks second ∙ sym (map-append (live_below rs) addresses one) ∙ ap (map (live_below rs)) (sym all_put);
+      same = same_later x (x + 1) high (drop (i + 1) all) live left new (omega arith) up.1 n same.1;
+    }
 
 -- ---- places are those of one address each
 
@@ -259,3 +321,7 @@ same_place rs a b h g e =
     (λ (m : a ≤ b). omega arith)
     (cases_lt b a))
     (cases_lt a b)
+
+pub all_same : (live : List LiveRange) (xs : List ℕ) → AllByRecursion (λ a. find_place live a ≡ find_place live a) xs
+all_same live [] = tt
+all_same live (x ∷ xs) = (refl, all_same live xs)

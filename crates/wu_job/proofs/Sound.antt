@@ -36,7 +36,7 @@ bounds low high (x ∷ xs) a = let r : x + 1 ≤ high = bounds (x + 1) high xs a
 
 all_below : (low high : ℕ) (xs : List ℕ) → AscendBetween low high xs → AllByRecursion (λ x. x < high) xs
 all_below low high [] a = tt
-all_below low high (x ∷ xs) a = (bounds (x + 1) high xs a.1, all_below (x + 1) high xs a.1)
+all_below low high (x ∷ xs) a = (omega (arith, bounds (x + 1) high xs a.1), all_below (x + 1) high xs a.1)
 
 lists_for : (term kept : List ℕ) → 0 < length term → length term ≤ WORD_MAX → AscendBetween 0 ADDRESSES_MAX kept
     → AllByRecursion IsList (list_for term kept)

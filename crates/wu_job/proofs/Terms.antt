@@ -12,13 +12,13 @@ use Rattle.wu_outside.specs.Content.{Content}
 use Rattle.wu_outside.specs.declared.ranges.ReadRange.{ReadRange}
 use Rattle.wu_part.specs.declared.entries.BlockEntry.{BlockEntry}
 use Rattle.wu_part.specs.declared.entries.TermEntry.{TermEntry}
-use Rattle.wu_part.specs.Directories.{PartDirectory, StandFrom, all_blocks}
+use Rattle.wu_part.specs.Directories.{PartDirectory, IsDirectory, IsEntry, StandFrom, all_blocks}
 use Rattle.wu_part.specs.Parts.{SpellsPart}
 use Rattle.wu_part.proofs.ReadingLemmas.{stand_within}
 use Rattle.wu_job.specs.Jobs.{JobPart, HoldsEntry, HoldsTerm}
 use Rattle.wu_job.specs.Live.{AscendBetween}
 use Rattle.wu_job.specs.Reading.{AreNoBlocks, LieIn, StandsAt}
-use Rattle.wu_job.specs.Steps.{IsNoPart, block_ranges, ranges_of_entries}
+use Rattle.wu_job.specs.Steps.{IsNoPart, block_ranges, ranges_of, ranges_of_entries}
 use Rattle.wu_job.proofs.Blocks.{ascend-lower}
 use Rattle.wu_job.proofs.Made.{list_at_entry}
 use Rattle.wu_job.proofs.Merging.{text_cmp, IsUp, less_itself, not_equal}
@@ -186,3 +186,21 @@ pub at_place : (entries : List TermEntry) (place : ℕ) (term : List ℕ) (found
 at_place entries place term found entry s is h e =
     let r = s entry h e in
     ap (λ (z : TermEntry). z.term) (is ∙ same_within entries place found entry r.0 ∙ r.1) ∙ e
+
+-- ---- of a directory
+
+pub entry_of_directory : (directory : PartDirectory) (n : ℕ) (entry : TermEntry) → IsDirectory directory n → Contains directory.terms entry
+    → IsEntry directory.low directory.high entry
+entry_of_directory directory n entry is h =
+    all_has (IsEntry directory.low directory.high) entry directory.terms is.entries (Has-from_Contains entry directory.terms h)
+
+pub ranges_at : (part : JobPart) (term : List ℕ) (entry : TermEntry) → IsUp (terms part.directory.terms) → Contains part.directory.terms entry
+    → entry.term ≡ term → ranges_of term part ≡ block_ranges part.recorded.blob entry.blocks
+ranges_at part term entry s h e =
+    ap (λ (t : List ℕ). ranges_of_entries part.recorded.blob t part.directory.terms) (sym e)
+    ∙ ranges_one part.recorded.blob entry part.directory.terms s (Has-from_Contains entry part.directory.terms h)
+
+pub ranges_nowhere : (part : JobPart) (term : List ℕ)
+    → ((entry : TermEntry) → Contains part.directory.terms entry → entry.term ≡ term → ⊥) → ranges_of term part ≡ []
+ranges_nowhere part term n =
+    ranges_of_none part.recorded.blob term part.directory.terms (λ entry h e. n entry (Contains-from_Has entry part.directory.terms h) e)

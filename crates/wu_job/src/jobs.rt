@@ -127,7 +127,6 @@ impl Job {
     /// Does the first term that is left: reads its blocks in the parts, each once, and keeps of its addresses those
     /// that were live when the job began. With the last term it answers the new part. An address that stands in
     /// two lists of a part is damage of that part; so is a block that isn't as the directory says.
-    #[tactic(none)]
     pub fn step<D: Store>(&mut self, store: &mut D) -> Result<Progress, Trouble>
         requires { 0 < length self.old.terms_left }
         ensures term { OnOk result (DoesTerm (D.holds store.old) self.old self.new) }
@@ -159,7 +158,6 @@ impl Job {
     }
 
     /// The live addresses of the term in the parts, of which none stands in a list that was made.
-    #[tactic(none)]
     fn read_live<D: Store>(&self, store: &mut D, term: &[u8]) -> Result<Cut, Trouble>
         requires { IsFirst term.now self.now }
         ensures new { IfOk result (IsNewCut self.now) }
@@ -203,7 +201,6 @@ impl Job {
     }
 
     /// Keeps the term's list, where it has an address, and goes on to the next term.
-    #[tactic(none)]
     fn put(&mut self, term: Bytes, cut: Cut) -> Result<(), NoMemory>
         requires first { IsFirst term self.old }
         requires new { IsNewCut self.old cut }

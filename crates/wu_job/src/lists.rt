@@ -1,9 +1,9 @@
 //! A term's addresses in a part, from the store.
-ghost use Rattle.std.specs.Prelude.{◌≡◌, ◌+◌, ◌<◌, [], ◌∷◌, length, MatchOption, Contains, IfOk, IfErr, IfSome, OnOk};
+ghost use Rattle.std.specs.Prelude.{◌≡◌, ◌==◌, ◌+◌, ◌<◌, [], ◌∷◌, true, length, MatchOption, Contains, IfOk, IfErr, IfSome, OnOk};
+ghost use Rattle.std.specs.List.{list_any};
 ghost use Rattle.wu_base.specs.declared.limits.TheConstants.{ADDRESSES_MAX};
 ghost use Rattle.wu_part.specs.Directories.{IsEntry};
 ghost use Rattle.wu_part.specs.declared.entries.TermEntry.{TermEntry};
-ghost use Rattle.wu_vbyte.specs.Blocks.{AreFromTo};
 ghost use Rattle.wu_job.specs.Jobs.{HoldsEntry, HoldsTerm};
 ghost use Rattle.wu_job.specs.Live.{AreRanked, AscendBetween, ranges_alone, total_of};
 ghost use Rattle.wu_job.specs.Reading.{AreNoBlocks, EndsBefore, HasBytes, HoldsInBlock, IsCutOf, IsNew, IsNoBlock, IsRefused, StandsAt};
@@ -20,7 +20,6 @@ use wu_part::{BlockEntry, Entry, read_block};
 
 /// The live addresses of the term in the part, of which none is marked. A part with a marked one is damaged:
 /// the address stands in another list of it too.
-#[tactic(none)]
 pub(crate) fn live_addresses<D: Store>(
     alloc: Global,
     store: &mut D,
@@ -65,6 +64,8 @@ fn read_term<D: Store>(
     requires { StandsAt source.now.directory.terms place term.now }
     ensures ascend { IfOk result (λ found. AscendBetween source.now.directory.low (source.now.directory.high + 1) found.items) }
     ensures bounded { source.now.directory.high < ADDRESSES_MAX }
+    ensures some { IfOk result (λ found. 0 < length found.items
+        → list_any (λ range. range.blob == source.now.recorded.blob) (ranges_of term.now (part_of source.now)) ≡ true) }
     ensures held { IfOk result (λ found. IfSome (D.holds store.old) (λ content.
         HoldsTerm content term.now (part_of source.now) found.items)) }
     ensures holds { D.holds store.new ≡ D.holds store.old }
@@ -101,7 +102,6 @@ fn entry_at<'a>(source: &'a Source, place: usize, term: &[u8]) -> Option<Entry<'
 }
 
 /// The addresses in the entry's blocks, each of which is read once, whole.
-#[tactic(none)]
 fn read_list<D: Store>(
     alloc: Global,
     store: &mut D,

@@ -1,15 +1,11 @@
-use Rattle.std.proofs.Common.{◌≡◌, drop, filter, map, take}
-use Rattle.std.specs.List.{AllByRecursion}
 use Rattle.wu_base.specs.declared.limits.TheConstants.{ADDRESSES_MAX}
-use Rattle.wu_layout.specs.Postings.{is_live}
-use Rattle.wu_job.specs.Live.{AreInOrder, find_place, live_below, ranges_alone}
+use Rattle.wu_job.specs.Live.{AreInOrder}
+use Rattle.wu_job.proofs.Ranks.{IsCutTo}
 use Rattle.wu_job.proofs.live.cut_to_live.Given as goal
 
--- the addresses so far are cut, and the ranges that are left have all of the others' places
+-- the addresses so far are cut, and the ranges that are left have the places of the others
 abbrev pub invariant-loop-address : goal.invariant-loop-address
 invariant-loop-address l = record {
-  addresses : l.cut.addresses.items ≡ filter (is_live (ranges_alone l.live)) (take l.address-index l.addresses);
-  places : l.cut.places.items ≡ map (live_below (ranges_alone l.live)) l.cut.addresses.items;
+  cut : IsCutTo ADDRESSES_MAX l.live l.left l.addresses l.address-index l.cut.addresses.items l.cut.places.items;
   order : AreInOrder 0 ADDRESSES_MAX l.left;
-  same : AllByRecursion (λ a. find_place l.left a ≡ find_place l.live a) (drop l.address-index l.addresses);
 }

@@ -1,22 +1,14 @@
-use Rattle.wu_job.specs.Sources.{HasEntries}
-use Rattle.wu_job.proofs.Walking.{directory_terms, no_terms}
+use Rattle.std.proofs.Common.{◌≡◌, rules}
+use Rattle.std.specs.Prelude.{None, Some}
+use Rattle.wu_job.proofs.Whole.{whole_one, whole_both}
 use Rattle.wu_job.proofs.sources.are_whole.Goals as goal
 
 pub returns-in-Some-clause-whole : goal.returns-in-Some-clause-whole
 returns-in-Some-clause-whole c =
-    let left = c.is_spelled.ensures.1.holds in
-    let right = c.is_spelled-in-Some.ensures.1.holds in
-    record {
-      terms = directory_terms _ _ left;
-      others = directory_terms _ _ right;
-      entries = (record { entries = left.entries; below = left.below }, record { entries = right.entries; below = right.below }, tt);
-    }
+    let is : c.args.right.now ≡ Some c.in-Some.source = search rules in
+    whole_both c.args.left.now c.args.right.now c.in-Some.source _ _ is c.is_spelled.ensures.1.holds c.is_spelled-in-Some.ensures.1.holds
 
 pub returns-in-None-clause-whole : goal.returns-in-None-clause-whole
 returns-in-None-clause-whole c =
-    let left = c.is_spelled.ensures.1.holds in
-    record {
-      terms = directory_terms _ _ left;
-      others = no_terms;
-      entries = (record { entries = left.entries; below = left.below }, tt);
-    }
+    let is : c.args.right.now ≡ None = search rules in
+    whole_one c.args.left.now c.args.right.now _ is c.is_spelled.ensures.1.holds
