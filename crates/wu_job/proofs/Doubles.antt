@@ -231,13 +231,10 @@ refused holds job left right marks part term later is s es m there first blob b 
   b.1,
 )
 
--- of the parts, the left one or the right one
+-- the left one of the parts
 pub left_of : (P : JobPart → Type 0) (left : Source) (right : Option Source) → P (part_of left) → SomeOf P (parts_of left right)
 left_of P left None p = inl p
 left_of P left (Some right) p = inl p
-
-pub right_of : (P : JobPart → Type 0) (left : Source) (right : Source) → P (part_of right) → SomeOf P (parts_of left (Some right))
-right_of P left right p = inr (inl p)
 
 pub has_left : (left : Source) (right : Option Source) → Has (part_of left) (parts_of left right)
 has_left left None = inl refl

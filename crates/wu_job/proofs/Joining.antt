@@ -9,6 +9,8 @@ use Rattle.wu_base.specs.declared.limits.TheConstants.{ADDRESSES_MAX}
 use Rattle.wu_base.specs.declared.troubles.Trouble.{Trouble}
 use Rattle.wu_outside.specs.Content.{Content}
 use Rattle.wu_outside.specs.declared.ranges.ReadRange.{ReadRange}
+use Rattle.wu_base.proofs.Members.{Has}
+use Rattle.wu_layout.specs.Invariants.{SomeOf}
 use Rattle.wu_layout.specs.Postings.{is_live}
 use Rattle.wu_layout.proofs.EachLemmas.{each-append}
 use Rattle.wu_job.specs.declared.live.Cut.{Cut}
@@ -17,7 +19,7 @@ use Rattle.wu_job.specs.Jobs.{JobPart, JobState, AreKept}
 use Rattle.wu_job.specs.Keeping.{AreMarks, IsNewCut, addresses_in, has}
 use Rattle.wu_job.specs.Live.{AscendBetween, live_below}
 use Rattle.wu_job.specs.Reading.{IsCutOf, IsNew}
-use Rattle.wu_job.specs.Sources.{HasEntries, part_of, parts_of}
+use Rattle.wu_job.specs.Sources.{AreSources, part_of, parts_of}
 use Rattle.wu_job.specs.Steps.{ReadsFront, adds, ranges_of, step_ranges}
 use Rattle.wu_job.proofs.Blocks.{ascend-higher, ascend-join, ascend-lower}
 use Rattle.wu_job.proofs.Fronts.{adds-more, front_first, front_then}
@@ -118,3 +120,48 @@ pub front_of_right : (terms : List (List ℕ)) (term : List ℕ) (later : List (
 front_of_right terms term later left right old mid new t e r f =
     subst (λ rs. ReadsFront rs old new t) (sym (ranges_both terms term later left right e))
     (front_then (ranges_of term (part_of left)) (ranges_of term (part_of right)) old mid new t r f)
+
+-- ---- where it is known whether there is a right part
+
+module _ (left : Source) (right : Option Source) where
+  pub kept_alone : (content : Content) (live : List Range) (term kept : List ℕ) → right ≡ None
+      → IsCutOf content live term (part_of left) kept → AreKept content (parts_of left right) live term kept
+  kept_alone content live term kept e c =
+      subst (λ r. AreKept content (parts_of left r) live term kept) (sym e) (kept_one content live term left kept c)
+
+  pub kept_with : (content : Content) (live : List Range) (term : List ℕ) (other : Source) (kept more both : List ℕ) → right ≡ Some other
+      → IsCutOf content live term (part_of left) kept → IsCutOf content live term (part_of other) more → both ≡ kept ++ more
+      → AreKept content (parts_of left right) live term both
+  kept_with content live term other kept more both e c d f =
+      subst (λ r. AreKept content (parts_of left r) live term both) (sym e) (kept_both content live term left other kept more both c d f)
+
+  pub reads_alone : (terms : List (List ℕ)) (term : List ℕ) (later : List (List ℕ)) (old new : Option (List ReadRange)) → right ≡ None
+      → terms ≡ term ∷ later → new ≡ adds (ranges_of term (part_of left)) old → new ≡ adds (step_ranges terms (parts_of left right)) old
+  reads_alone terms term later old new n e r =
+      subst (λ o. new ≡ adds (step_ranges terms (parts_of left o)) old) (sym n) (reads_one terms term later left old new e r)
+
+  pub reads_with : (terms : List (List ℕ)) (term : List ℕ) (later : List (List ℕ)) (other : Source) (old mid new : Option (List ReadRange))
+      → right ≡ Some other → terms ≡ term ∷ later → mid ≡ adds (ranges_of term (part_of left)) old
+      → new ≡ adds (ranges_of term (part_of other)) mid → new ≡ adds (step_ranges terms (parts_of left right)) old
+  reads_with terms term later other old mid new n e r s =
+      subst (λ o. new ≡ adds (step_ranges terms (parts_of left o)) old) (sym n) (reads_both terms term later left other old mid new e r s)
+
+  pub front_with : (terms : List (List ℕ)) (term : List ℕ) (later : List (List ℕ)) (other : Source)
+      (old mid new : Option (List ReadRange)) (t : Trouble) → right ≡ Some other → terms ≡ term ∷ later
+      → mid ≡ adds (ranges_of term (part_of left)) old → ReadsFront (ranges_of term (part_of other)) mid new t
+      → ReadsFront (step_ranges terms (parts_of left right)) old new t
+  front_with terms term later other old mid new t n e r f =
+      subst (λ o. ReadsFront (step_ranges terms (parts_of left o)) old new t) (sym n)
+      (front_of_right terms term later left other old mid new t e r f)
+
+  pub spans_apart : (other : Source) → right ≡ Some other → AreSources left right → left.directory.high < other.directory.low
+  spans_apart other n s = both (subst (AreSources left) n s)
+    where
+      both : AreSources left (Some other) → left.directory.high < other.directory.low
+      both t = t.2
+
+  pub has_with : (other : Source) → right ≡ Some other → Has (part_of other) (parts_of left right)
+  has_with other n = subst (λ o. Has (part_of other) (parts_of left o)) (sym n) (inr (inl refl))
+
+  pub some_with : (P : JobPart → Type 0) (other : Source) → right ≡ Some other → P (part_of other) → SomeOf P (parts_of left right)
+  some_with P other n p = subst (λ o. SomeOf P (parts_of left o)) (sym n) (inr (inl p))

@@ -3,8 +3,10 @@ use Rattle.std.proofs.Common.{◌≡◌, ℕ, List, [], ◌∷◌, refl, ap, sym
 use Rattle.std.specs.Prelude.{Option, None, Some, slice_get}
 use Rattle.wu_part.specs.Directories.{IsDirectory}
 use Rattle.wu_job.specs.declared.sources.Source.{Source}
-use Rattle.wu_job.specs.Sources.{AreWhole}
-use Rattle.wu_job.proofs.Walking.{directory_terms, no_terms}
+use Rattle.wu_job.specs.declared.sources.Places.{Places}
+use Rattle.wu_job.specs.Reading.{StandsAt}
+use Rattle.wu_job.specs.Sources.{AreAllPassed, AreTerms, AreWhole, terms_from, terms_of, terms_of_other}
+use Rattle.wu_job.proofs.Walking.{directory_terms, no_terms, stands_right}
 
 pub whole_one : (left : Source) (right : Option Source) (n : ℕ) → right ≡ None → IsDirectory left.directory n → AreWhole left right
 whole_one left right n e is =
@@ -36,3 +38,18 @@ none_some a e = cc
 pub first_and_later : (t : List ℕ) (terms : List (List ℕ)) → slice_get terms 0 ≡ Some t → (later : List (List ℕ)) × (terms ≡ t ∷ later)
 first_and_later t [] e = absurd (none_some t e)
 first_and_later t (x ∷ terms) e = (terms, ap (λ (y : List ℕ). y ∷ terms) (some_same x t e))
+
+same_source : (a b : Source) → Some a ≡ Some b → a ≡ b
+same_source a b e = cc
+
+none_source : (a : Source) → None ≡ Some a → ⊥
+none_source a e = cc
+
+-- the entry of the first term stands at the right part's place
+pub stands_other : (left : Source) (right : Option Source) (other : Source) (places : Places) (t : List ℕ) (later : List (List ℕ))
+    → right ≡ Some other → AreTerms (terms_of_other right) → terms_from left right places ≡ t ∷ later → AreAllPassed left right places
+    → StandsAt other.directory.terms places.right t
+stands_other left None other places t later n a is p = absurd (none_source other n)
+stands_other left (Some r) other places t later n a is p =
+    subst (λ (s : Source). StandsAt s.directory.terms places.right t) (same_source r other n)
+    (stands_right t later (terms_of left) places.left places.right r.directory.terms a.ascending is p.1)

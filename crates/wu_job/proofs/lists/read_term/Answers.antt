@@ -13,8 +13,8 @@ use Rattle.wu_job.proofs.Fronts.{adds-none, cause_after, if_err, if_some}
 use Rattle.wu_job.proofs.Terms.{entry_of_directory, held_nowhere, held_there, no_part, ranges_at, ranges_nowhere}
 use Rattle.wu_job.proofs.lists.read_term.Goals as goal
 
-pub read_list-requires-in-Some : goal.read_list-requires-in-Some
-read_list-requires-in-Some g c = entry_of_directory c.args.source.now.directory _ c.in-Some.entry c.is_spelled.ensures.1.holds c.in-Some.ensures.0
+pub read_list-requires : goal.read_list-requires
+read_list-requires g c = entry_of_directory c.args.source.now.directory _ c.in-Some.entry c.is_spelled.ensures.1.holds c.in-Some.ensures.0
 
 pub returns-in-Some-clause-held : goal.returns-in-Some-clause-held
 returns-in-Some-clause-held g c =

@@ -1,4 +1,5 @@
-use Rattle.std.proofs.Common.{◌≡◌, ◌<◌, filter, length, take, refl, ap, ◌∙◌, rules}
+use Rattle.std.proofs.Common.{◌≡◌, ◌<◌, ◌≤◌, filter, length, take, refl, ap, ◌∙◌, rules}
+use Rattle.std.proofs.lemmas.List.{take_all}
 use Rattle.wu_base.specs.declared.limits.TheConstants.{ADDRESSES_MAX}
 use Rattle.wu_layout.specs.Postings.{is_live}
 use Rattle.wu_job.specs.Live.{ranges_alone}
@@ -30,7 +31,9 @@ loop-address-preserved c =
 
 pub returns : goal.returns
 returns c =
-    let all : take c.loop-address.address-index c.args.addresses.now ≡ c.args.addresses.now = search rules in
+    let past : length c.args.addresses.now ≤ c.loop-address.address-index = search rules in
+    let all : take c.loop-address.address-index c.args.addresses.now ≡ c.args.addresses.now =
+    take_all c.loop-address.address-index c.args.addresses.now past in
     record {
       addresses = c.loop-address.invariant.cut.cut ∙ ap (filter (is_live (ranges_alone c.args.live.now))) all;
       places = c.loop-address.invariant.cut.ranks;
