@@ -1,6 +1,7 @@
-use Rattle.std.proofs.Common.{◌≡◌, ◌<◌, ◌≤◌, ◌∷◌, ◌++◌, ℕ, true, false, List, length, map, sym, ap, subst, ◌∙◌, arith, rules}
+use Rattle.std.proofs.Common.{◌≡◌, ◌<◌, ◌≤◌, ◌∷◌, ◌++◌, ℕ, Bool, true, false, List, length, take, drop, map, sym, ap, subst, ◌∙◌, arith, rules}
 use Rattle.std.specs.Prelude.{Some, slice_get}
 use Rattle.std.specs.List.{AllByRecursion}
+use Rattle.std.proofs.Math.Seq.{take-append_seam}
 use Rattle.wu_base.specs.declared.addresses.Range.{Range}
 use Rattle.wu_base.specs.declared.addresses.TermList.{TermList}
 use Rattle.wu_base.specs.declared.limits.TheConstants.{WORD_MAX}
@@ -71,14 +72,21 @@ invariant_of-self-2 c =
     let short : length term ≤ WORD_MAX =
     subst (λ (t : List ℕ). length t ≤ WORD_MAX) c.as_slice.ensures c.places_after-places.ensures.bounded.1 in
     let made = sym c.in_ok-put_list.ensures.ok in
+    let marks = c.mark_all.new.marks in
+    let long : length marks ≡ length i.marks.items = search rules in
+    let len : i.marks.len ≡ length marks =
+    sym c.deref_mut.ensures.len ∙ ap (λ (ms : List Bool). length ms) c.deref_mut.ensures.value ∙ sym long in
+    let all : take i.marks.len (marks ++ drop (length marks) i.marks.items) ≡ marks =
+    ap (λ (n : ℕ). take n (marks ++ drop (length marks) i.marks.items)) len ∙ take-append_seam marks (drop (length marks) i.marks.items) in
     record {
       sources = inv.sources;
       passed = c.places_after-places.ensures.passed inv.passed;
       live = inv.live;
       marks =
-          subst (AreMarks live c.mark_all.new.marks) made
-          (marks_more live i.marks.items c.mark_all.new.marks i.done.items term kept inv.marks is_alive (search rules)
-          (λ k. rw (c.deref_mut.ensures.value, places) at c.mark_all.ensures k));
+          subst (λ (ms : List Bool). AreMarks live ms c.put_list.new.lists.items) (sym all)
+          (subst (AreMarks live marks) made
+          (marks_more live i.marks.items marks i.done.items term kept inv.marks is_alive long
+          (λ k. rw (c.deref_mut.ensures.value, places) at c.mark_all.ensures k)));
       writable =
           subst (λ (ls : List TermList). AreWritable live ls later) made
           (writable_more live i.done.items term kept before later inv.writable first some short c.requires.new.ascend is_alive new);
