@@ -1,8 +1,9 @@
 -- Marks of the live addresses that stand in lists, and what a list more does to them.
-use Rattle.std.proofs.Common.{◌≡◌, ℕ, zero, suc, ◌+◌, ◌<◌, ◌≤◌, ◌==◌, ◌||◌, eqb, Bool, true, false, cond, List, [], ◌∷◌, ◌++◌, length, map, get_or, filter, refl, ap, ap₂, sym, ◌∙◌, subst, arith, ⊎_elim, inl, inr, append-nil}
+use Rattle.std.proofs.Common.{◌≡◌, ℕ, zero, suc, ◌+◌, ◌<◌, ◌≤◌, ◌==◌, ◌||◌, eqb, Bool, true, false, cond, List, [], ◌∷◌, ◌++◌, length, map, get_or, filter, replicate, refl, ap, ap₂, sym, ◌∙◌, subst, arith, ⊎_elim, inl, inr, append-nil}
 use Rattle.std.specs.Prelude.{◌⊎◌, Contains}
 use Rattle.std.specs.List.{AllByRecursion, IsDistinct, flat_map, list_any}
 use Rattle.std.proofs.lemmas.Bool.{cases_eq, eq-eqb, ne_eqb, eqb-true, or_cases, or_right}
+use Rattle.std.proofs.lemmas.List.{get_or-replicate, length-replicate}
 use Rattle.std.proofs.lemmas.List.Folds.{list_any-append}
 use Rattle.std.proofs.lemmas.Grind.{flat_map-append}
 use Rattle.wu_base.specs.declared.addresses.Range.{Range}
@@ -33,6 +34,16 @@ pub places_within : (live : List Range) (n : ℕ) (kept : List ℕ) → total_of
     → AllByRecursion (λ place. place < n) (map (live_below live) kept)
 places_within live n [] e a = tt
 places_within live n (x ∷ kept) e a = (omega (arith, below_total live x a.0), places_within live n kept e a.1)
+
+-- ---- no list
+
+pub no_marks : (live : List Range) (marks : List Bool) (n : ℕ) → marks ≡ replicate n false → n ≡ total_of live → AreMarks live marks []
+no_marks live marks n e m = record {
+  long = ap (λ (ms : List Bool). length ms) e ∙ length-replicate n false ∙ m;
+  exact = λ a l.
+      ap (λ (ms : List Bool). get_or ms (live_below live a) false) e
+      ∙ get_or-replicate n (live_below live a) false false (omega (arith, below_total live a l, m));
+}
 
 -- ---- one list more
 

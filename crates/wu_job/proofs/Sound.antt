@@ -99,3 +99,7 @@ writable_more live lists term kept left later w is some short a alive new =
           subst (AllByRecursion (λ address. is_live live address ≡ true)) (sym more)
           (each-append (λ address. is_live live address ≡ true) (addresses_in lists) kept w.alive alive);
     }
+
+pub writable_none : (live : List Range) (left : List (List ℕ)) → IsUp left → AreWritable live [] left
+unfolding IsDistinct
+writable_none live left s = record { each = tt; ascending = s; distinct = tt; alive = tt }

@@ -1,11 +1,12 @@
 -- What holds of the directories of one part or two, and the first of their terms.
-use Rattle.std.proofs.Common.{◌≡◌, ℕ, List, [], ◌∷◌, refl, ap, sym, ◌∙◌, subst}
+use Rattle.std.proofs.Common.{◌≡◌, ℕ, List, [], ◌∷◌, refl, ap, sym, ◌∙◌, subst, append-nil}
 use Rattle.std.specs.Prelude.{Option, None, Some, slice_get}
 use Rattle.wu_part.specs.Directories.{IsDirectory}
 use Rattle.wu_job.specs.declared.sources.Source.{Source}
 use Rattle.wu_job.specs.declared.sources.Places.{Places}
+use Rattle.wu_job.specs.Jobs.{terms_in}
 use Rattle.wu_job.specs.Reading.{StandsAt}
-use Rattle.wu_job.specs.Sources.{AreAllPassed, AreTerms, AreWhole, terms_from, terms_of, terms_of_other}
+use Rattle.wu_job.specs.Sources.{AreAllPassed, AreTerms, AreWhole, merged, parts_of, terms_from, terms_of, terms_of_other}
 use Rattle.wu_job.proofs.Walking.{directory_terms, no_terms, stands_right}
 
 pub whole_one : (left : Source) (right : Option Source) (n : ℕ) → right ≡ None → IsDirectory left.directory n → AreWhole left right
@@ -53,3 +54,14 @@ stands_other left None other places t later n a is p = absurd (none_source other
 stands_other left (Some r) other places t later n a is p =
     subst (λ (s : Source). StandsAt s.directory.terms places.right t) (same_source r other n)
     (stands_right t later (terms_of left) places.left places.right r.directory.terms a.ascending is p.1)
+
+pub none_left : (terms : List (List ℕ)) → slice_get terms 0 ≡ None → terms ≡ []
+none_left [] e = refl
+none_left (x ∷ terms) e = absurd (none_some x (sym e))
+
+-- the terms from the start on are all of the parts
+pub all_terms : (left : Source) (right : Option Source)
+    → terms_from left right (record { left = 0; right = 0 }) ≡ terms_in (parts_of left right)
+all_terms left None = refl
+all_terms left (Some right) =
+    ap (λ (ts : List (List ℕ)). merged (terms_of left) ts) (sym (append-nil (terms_of right)))
