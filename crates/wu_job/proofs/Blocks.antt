@@ -1,15 +1,15 @@
 -- The blocks of an entry, read one after another.
 use Rattle.std.proofs.Common.{◌≡◌, ℕ, zero, suc, ◌+◌, ◌-◌, ◌<◌, ◌≤◌, ◌==◌, true, min, List, [], ◌∷◌, ◌++◌, length, take, drop, refl, ap, sym, ◌∙◌, subst, arith, append_assoc, append-nil, length-append, length-drop}
-use Rattle.std.specs.Prelude.{Option, None, Some, IfSome}
-use Rattle.std.specs.List.{AllByRecursion, list_any}
+use Rattle.std.specs.Prelude.{Option, None, Some}
+use Rattle.std.specs.List.{list_any}
 use Rattle.std.proofs.lemmas.Bool.{eq-eqb}
 use Rattle.std.proofs.lemmas.List.{length-take}
 use Rattle.wu_outside.specs.declared.ranges.ReadRange.{ReadRange}
 use Rattle.wu_vbyte.specs.declared.blocks.TheConstants.{BLOCK_LEN}
 use Rattle.wu_part.specs.declared.entries.BlockEntry.{BlockEntry}
 use Rattle.wu_part.specs.declared.entries.TermEntry.{TermEntry}
-use Rattle.wu_part.specs.Directories.{IsBlock, AreBlocks, IsEntry}
-use Rattle.wu_part.specs.Parts.{HoldsBlock, HoldBlocks, HoldsList}
+use Rattle.wu_part.specs.Directories.{AreBlocks, IsEntry}
+use Rattle.wu_part.specs.Parts.{HoldsBlock, HoldBlocks}
 use Rattle.wu_part.proofs.ReadingLemmas.{count_within}
 use Rattle.wu_job.specs.Jobs.{HoldsEntry}
 use Rattle.wu_job.specs.Live.{AscendBetween}

@@ -1,9 +1,7 @@
 -- An address of a term that stands in a list that was made of another: its part has it in two lists.
-use Rattle.std.proofs.Common.{◌≡◌, ℕ, ◌+◌, ◌<◌, ◌≤◌, eqb, Bool, true, false, List, [], ◌∷◌, ◌++◌, filter, refl, ap, sym, ◌∙◌, subst, arith, ⊎_elim, inl, inr, append-nil}
-use Rattle.std.specs.Prelude.{◌⊎◌, Option, None, Some, IfSome, Contains}
+use Rattle.std.proofs.Common.{◌≡◌, ℕ, ◌≤◌, eqb, Bool, true, false, List, [], ◌∷◌, ◌++◌, filter, refl, ap, sym, ◌∙◌, subst, arith, ⊎_elim, inl, inr, append-nil}
+use Rattle.std.specs.Prelude.{◌⊎◌, Option, None, Some}
 use Rattle.std.specs.declared.cmp.Ordering.TheVariants.{Less}
-use Rattle.std.specs.Ordering.{nat_cmp}
-use Rattle.std.specs.Cmp.Lexicographic.{slice_cmp}
 use Rattle.std.specs.List.{AllByRecursion, IsDistinct}
 use Rattle.std.specs.List.Sorted.{IsStrictlySortedBy}
 use Rattle.std.proofs.lemmas.Bool.{eq-eqb}
@@ -17,9 +15,8 @@ use Rattle.wu_layout.specs.Postings.{is_live}
 use Rattle.wu_layout.proofs.EntryLemmas.{IfSome-map}
 use Rattle.wu_part.specs.declared.entries.TermEntry.{TermEntry}
 use Rattle.wu_part.specs.Directories.{PartDirectory}
-use Rattle.wu_part.specs.Parts.{HoldsList, SpellsPart}
 use Rattle.wu_job.specs.declared.sources.Source.{Source}
-use Rattle.wu_job.specs.Jobs.{JobPart, JobState, HoldsEntry, HoldsTerm, HoldTerm, AreMade, IsRight, list_for, terms_in}
+use Rattle.wu_job.specs.Jobs.{JobPart, JobState, HoldsEntry, HoldsTerm, HoldTerm, AreMade, IsRight, list_for}
 use Rattle.wu_job.specs.Keeping.{AreMarks, addresses_in}
 use Rattle.wu_job.specs.Reading.{IsRefused, IsSomeMarked}
 use Rattle.wu_job.specs.Sources.{AreSources, HasEntries, part_of, parts_of}
@@ -203,32 +200,32 @@ pub refused : (holds : Option Content) (job : JobState) (left : Source) (right :
 refused holds job left right marks part term later is s es m there first blob b = (
   b.0,
   IfSome-map
-  (λ content. IsNoPart part.directory (content.blobs blob)
-  ⊎ IsSomeMarked content job.live marks term part)
-  (λ content. IsNoPart part.directory (content.blobs blob) ⊎ SharesAddress content job part) holds
-  (λ content c.
-  ⊎_elim
-  (λ n. inl n)
-  (λ d.
-  let twice = marked_twice job.live marks job.done d.0 m d.2 in
-  inr
-  (record {
-    term = term;
-    later = later;
-    first = first;
-    addresses = d.0;
-    held = d.1;
-    address = twice.0;
-    has = Contains-from_Has twice.0 d.0 twice.1.0;
-    made = Contains-from_Has twice.0 (addresses_in job.done) twice.1.1;
-    broken = λ r.
-        double content job part term later d.0 twice.0
-        (λ p q h g x y.
-        same_part left right p q twice.0 s (subst (Has p) is h) (subst (Has q) is g) x y)
-        (subst (AllByRecursion HasEntries) (sym is) es) (subst (Has part) (sym is) there) first d.1 twice.1.0 twice.1.1 r;
-  }))
-  c)
-  b.1,
+      (λ content. IsNoPart part.directory (content.blobs blob)
+      ⊎ IsSomeMarked content job.live marks term part)
+      (λ content. IsNoPart part.directory (content.blobs blob) ⊎ SharesAddress content job part) holds
+      (λ content c.
+      ⊎_elim
+      (λ n. inl n)
+      (λ d.
+      let twice = marked_twice job.live marks job.done d.0 m d.2 in
+      inr
+      (record {
+        term = term;
+        later = later;
+        first = first;
+        addresses = d.0;
+        held = d.1;
+        address = twice.0;
+        has = Contains-from_Has twice.0 d.0 twice.1.0;
+        made = Contains-from_Has twice.0 (addresses_in job.done) twice.1.1;
+        broken = λ r.
+            double content job part term later d.0 twice.0
+            (λ p q h g x y.
+            same_part left right p q twice.0 s (subst (Has p) is h) (subst (Has q) is g) x y)
+            (subst (AllByRecursion HasEntries) (sym is) es) (subst (Has part) (sym is) there) first d.1 twice.1.0 twice.1.1 r;
+      }))
+      c)
+      b.1,
 )
 
 -- the left one of the parts

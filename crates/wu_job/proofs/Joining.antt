@@ -1,7 +1,7 @@
 -- What is read of a term in one part or two.
-use Rattle.std.proofs.Common.{◌≡◌, ℕ, ◌+◌, ◌<◌, ◌≤◌, Bool, true, false, List, [], ◌∷◌, ◌++◌, length, map, filter, refl, ap, ap₂, sym, ◌∙◌, subst, arith, append-nil, append_assoc, inl, inr}
-use Rattle.std.specs.Prelude.{Option, None, Some, IfSome}
-use Rattle.std.specs.List.{AllByRecursion, flat_map}
+use Rattle.std.proofs.Common.{◌≡◌, ℕ, ◌+◌, ◌<◌, Bool, true, false, List, [], ◌∷◌, ◌++◌, map, refl, ap, ap₂, sym, ◌∙◌, subst, arith, append-nil, inl, inr}
+use Rattle.std.specs.Prelude.{Option, None, Some}
+use Rattle.std.specs.List.{AllByRecursion}
 use Rattle.std.proofs.lemmas.List.{map-append}
 use Rattle.std.proofs.lemmas.List.Elements.{filter-append}
 use Rattle.wu_base.specs.declared.addresses.Range.{Range}
@@ -74,9 +74,11 @@ kept_one content live term left kept c =
 pub kept_both : (content : Content) (live : List Range) (term : List ℕ) (left right : Source) (kept more both : List ℕ)
     → IsCutOf content live term (part_of left) kept → IsCutOf content live term (part_of right) more → both ≡ kept ++ more
     → AreKept content (parts_of left (Some right)) live term both
-kept_both content live term left right kept more both c d e =
-    (c.0 ++ d.0, (c.0, d.0, c.1, (d.0, [], d.1, refl, sym (append-nil d.0)), refl),
-    e ∙ ap₂ ◌++◌ c.2 d.2 ∙ sym (filter-append (is_live live) c.0 d.0))
+kept_both content live term left right kept more both c d e = (
+  c.0 ++ d.0,
+  (c.0, d.0, c.1, (d.0, [], d.1, refl, sym (append-nil d.0)), refl),
+  e ∙ ap₂ ◌++◌ c.2 d.2 ∙ sym (filter-append (is_live live) c.0 d.0),
+)
 
 -- ---- ranges
 

@@ -1,6 +1,6 @@
 -- The lists that a job makes, term by term, and what they are of postings.
-use Rattle.std.proofs.Common.{◌≡◌, ℕ, ◌+◌, ◌<◌, nat_eq, nat_lt, Bool, true, false, cond, List, [], ◌∷◌, ◌++◌, length, map, filter, refl, ap, ap₂, sym, ◌∙◌, subst, arith, ⊎_elim, inl, inr, append_assoc, append-nil}
-use Rattle.std.specs.Prelude.{◌⊎◌, Option, None, Some, Contains}
+use Rattle.std.proofs.Common.{◌≡◌, ℕ, nat_eq, true, false, cond, List, [], ◌∷◌, ◌++◌, length, map, filter, refl, ap, ap₂, sym, ◌∙◌, subst, arith, ⊎_elim, inl, inr, append_assoc, append-nil}
+use Rattle.std.specs.Prelude.{◌⊎◌, Some}
 use Rattle.std.specs.Ordering.{nat_cmp}
 use Rattle.std.specs.Cmp.Lexicographic.{pointwise, slice_cmp, same_text, nat_list_eq_equiv}
 use Rattle.std.specs.List.{AllZip, flat_map}
@@ -12,7 +12,7 @@ use Rattle.std.proofs.lemmas.List.{map-append}
 use Rattle.std.proofs.lemmas.List.Elements.{filter-append}
 use Rattle.wu_base.specs.declared.addresses.Range.{Range}
 use Rattle.wu_base.specs.declared.addresses.TermList.{TermList}
-use Rattle.wu_base.proofs.Members.{Has, Has-from_Contains, Contains-from_Has, Has-map, map_has, Has-append_left, Has-append_right, Has-append_cases}
+use Rattle.wu_base.proofs.Members.{Has, Has-from_Contains, Contains-from_Has, map_has, Has-append_left, Has-append_right, Has-append_cases}
 use Rattle.wu_base.proofs.SortedLists.{same-sorted_once, sorted-sorted_once, has-sorted_once, sorted_once_has}
 use Rattle.wu_outside.specs.Content.{Content}
 use Rattle.wu_layout.specs.Postings.{Posting, is_of, addresses_of, is_live, live_of}
@@ -20,8 +20,8 @@ use Rattle.wu_layout.specs.Layouts.{terms_of, list_of, lists_of}
 use Rattle.wu_layout.proofs.ListLemmas.{all_terms, has_addresses, lists_of_live}
 use Rattle.wu_layout.proofs.TermLemmas.{addresses_of-append, addresses_of-live_of}
 use Rattle.wu_part.specs.declared.entries.TermEntry.{TermEntry}
-use Rattle.wu_part.specs.Parts.{HoldsList, SpellsPart}
-use Rattle.wu_job.specs.Jobs.{JobPart, JobState, HoldsEntry, HoldsTerm, HoldTerm, AreKept, AreMade, IsRight, DoesTerm, list_for, terms_in, terms_of_part}
+use Rattle.wu_part.specs.Parts.{HoldsList}
+use Rattle.wu_job.specs.Jobs.{JobPart, JobState, HoldsEntry, HoldsTerm, HoldTerm, AreKept, AreMade, IsRight, list_for, terms_in, terms_of_part}
 use Rattle.wu_job.specs.Postings.{HoldsPostings, HoldPostings}
 use Rattle.wu_job.proofs.Spans.{entry_same}
 

@@ -1,14 +1,13 @@
 -- Marks of the live addresses that stand in lists, and what a list more does to them.
-use Rattle.std.proofs.Common.{◌≡◌, ℕ, zero, suc, ◌+◌, ◌<◌, ◌≤◌, ◌==◌, ◌||◌, eqb, Bool, true, false, cond, List, [], ◌∷◌, ◌++◌, length, map, get_or, filter, replicate, refl, ap, ap₂, sym, ◌∙◌, subst, arith, ⊎_elim, inl, inr, append-nil}
-use Rattle.std.specs.Prelude.{◌⊎◌, Contains}
-use Rattle.std.specs.List.{AllByRecursion, IsDistinct, flat_map, list_any}
-use Rattle.std.proofs.lemmas.Bool.{cases_eq, eq-eqb, ne_eqb, eqb-true, or_cases, or_right}
+use Rattle.std.proofs.Common.{◌≡◌, ℕ, ◌+◌, ◌<◌, ◌==◌, ◌||◌, eqb, Bool, true, false, List, [], ◌∷◌, ◌++◌, length, map, get_or, filter, replicate, refl, ap, ap₂, sym, ◌∙◌, arith, ⊎_elim, inl, inr, append-nil}
+use Rattle.std.specs.List.{AllByRecursion, IsDistinct, list_any}
+use Rattle.std.proofs.lemmas.Bool.{cases_eq, eq-eqb, ne_eqb, eqb-true, or_cases}
 use Rattle.std.proofs.lemmas.List.{get_or-replicate, length-replicate}
 use Rattle.std.proofs.lemmas.List.Folds.{list_any-append}
 use Rattle.std.proofs.lemmas.Grind.{flat_map-append}
 use Rattle.wu_base.specs.declared.addresses.Range.{Range}
 use Rattle.wu_base.specs.declared.addresses.TermList.{TermList}
-use Rattle.wu_base.proofs.Members.{Has, any_has, has_any, Contains-from_Has, filter_has, Has-append_left}
+use Rattle.wu_base.proofs.Members.{Has, filter_has}
 use Rattle.wu_layout.specs.Postings.{is_live}
 use Rattle.wu_job.specs.Jobs.{list_for}
 use Rattle.wu_job.specs.Keeping.{AreMarks, addresses_in, has}

@@ -1,9 +1,9 @@
 -- Live ranges in order, and how many live addresses are below one.
-use Rattle.std.proofs.Common.{◌≡◌, ℕ, zero, suc, ◌+◌, ◌-◌, ◌<◌, ◌≤◌, ◌==◌, ◌||◌, min, nat_le, nat_lt, Bool, true, false, cond, List, [], ◌∷◌, ◌++◌, length, map, take, drop, get_or, filter, sum_by, All, refl, ap, ap₂, sym, ◌∙◌, subst, arith, ⊎_elim, inl, inr, append_assoc}
-use Rattle.std.specs.Prelude.{◌⊎◌, Option, None, Some}
-use Rattle.std.specs.List.{AllByRecursion, list_any}
+use Rattle.std.proofs.Common.{◌≡◌, ℕ, zero, suc, ◌+◌, ◌-◌, ◌<◌, ◌≤◌, min, nat_le, nat_lt, Bool, true, false, cond, List, [], ◌∷◌, ◌++◌, length, map, take, drop, get_or, filter, sum_by, All, refl, ap, ap₂, sym, ◌∙◌, subst, arith, ⊎_elim, append_assoc}
+use Rattle.std.specs.Prelude.{Option, None, Some}
+use Rattle.std.specs.List.{AllByRecursion}
 use Rattle.std.specs.List.Sorted.{IsNonDecreasingBy}
-use Rattle.std.proofs.lemmas.Bool.{cases_lt, cases_Bool, le-leb, lt-leb, lt-ltb, le-ltb, and_left, and_right, and_from, or_cases, eq-eqb, ne_eqb, eqb-true}
+use Rattle.std.proofs.lemmas.Bool.{cases_lt, le-leb, lt-leb, lt-ltb, le-ltb, and_left, and_right, and_from, or_cases}
 use Rattle.std.proofs.Math.Seq.{drop-cons}
 use Rattle.std.proofs.lemmas.List.{map-append}
 use Rattle.std.proofs.lemmas.List.Elements.{filter_more}
@@ -92,7 +92,7 @@ order_ranked low high before (r ∷ rs) l m s a b = (
   s.0,
   omega (arith, s.0),
   order_ranked (r.start + r.len) high (before + r.len) rs (b 0 r (omega arith)) (omega (arith, s.0)) a.0 a.1
-  (λ k d h. b (suc k) d (omega arith)),
+      (λ k d h. b (suc k) d (omega arith)),
 )
 
 all_from_zero : (rs : List Range) → AllByRecursion (λ r. 0 ≤ r.start) rs

@@ -1,7 +1,7 @@
 -- Addresses in blocks: they ascend within the block's span, and a blob holds one list of them.
-use Rattle.std.proofs.Common.{◌≡◌, ℕ, ◌+◌, ◌-◌, ◌<◌, ◌≤◌, min, List, [], ◌∷◌, ◌++◌, length, take, drop, refl, ap, ap₂, sym, ◌∙◌, subst, arith, ⊎_elim, inl, inr}
-use Rattle.std.specs.Prelude.{◌⊎◌, Option, None, Some, slice_get}
-use Rattle.std.specs.List.{AllByRecursion, last_or}
+use Rattle.std.proofs.Common.{◌≡◌, ℕ, ◌+◌, ◌-◌, ◌<◌, ◌≤◌, List, [], ◌∷◌, ◌++◌, length, take, drop, ap₂, sym, ◌∙◌, subst, arith, ⊎_elim}
+use Rattle.std.specs.Prelude.{Option, None, Some}
+use Rattle.std.specs.List.{last_or}
 use Rattle.std.proofs.lemmas.List.{take-append-drop}
 use Rattle.wu_base.proofs.Members.{Has}
 use Rattle.wu_vbyte.specs.Blocks.{SpellsGaps, SpellsBlock, AreFromTo}

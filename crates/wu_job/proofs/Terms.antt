@@ -2,18 +2,14 @@
 use Rattle.std.proofs.Common.{◌≡◌, ℕ, zero, suc, ◌+◌, ◌<◌, ◌≤◌, nat_eq, Bool, true, false, cond, List, [], ◌∷◌, ◌++◌, length, map, filter, get_or, refl, ap, sym, ◌∙◌, subst, arith, ⊎_elim, inl, inr, append-nil}
 use Rattle.std.specs.Prelude.{Option, None, Some, Contains}
 use Rattle.std.specs.declared.cmp.Ordering.TheVariants.{Less}
-use Rattle.std.specs.Ordering.{nat_cmp}
 use Rattle.std.specs.Cmp.Lexicographic.{pointwise, nat_list_eq_equiv, same_text}
 use Rattle.std.specs.List.{AllByRecursion}
 use Rattle.std.specs.List.Sorted.{IsStrictlySortedBy}
-use Rattle.wu_base.specs.declared.addresses.TermList.{TermList}
 use Rattle.wu_base.proofs.Members.{Has, Has-from_Contains, Contains-from_Has, Has-map, all_has}
 use Rattle.wu_outside.specs.Content.{Content}
-use Rattle.wu_outside.specs.declared.ranges.ReadRange.{ReadRange}
 use Rattle.wu_part.specs.declared.entries.BlockEntry.{BlockEntry}
 use Rattle.wu_part.specs.declared.entries.TermEntry.{TermEntry}
 use Rattle.wu_part.specs.Directories.{PartDirectory, IsDirectory, IsEntry, StandFrom, all_blocks}
-use Rattle.wu_part.specs.Parts.{SpellsPart}
 use Rattle.wu_part.proofs.ReadingLemmas.{stand_within}
 use Rattle.wu_job.specs.Jobs.{JobPart, HoldsEntry, HoldsTerm}
 use Rattle.wu_job.specs.Live.{AscendBetween}
@@ -21,7 +17,7 @@ use Rattle.wu_job.specs.Reading.{AreNoBlocks, LieIn, StandsAt}
 use Rattle.wu_job.specs.Steps.{IsNoPart, block_ranges, ranges_of, ranges_of_entries}
 use Rattle.wu_job.proofs.Blocks.{ascend-lower}
 use Rattle.wu_job.proofs.Made.{list_at_entry}
-use Rattle.wu_job.proofs.Merging.{text_cmp, IsUp, less_itself, not_equal}
+use Rattle.wu_job.proofs.Merging.{text_cmp, IsUp, less_itself}
 
 abbrev terms : List TermEntry → List (List ℕ)
 terms entries = map (λ (entry : TermEntry). entry.term) entries

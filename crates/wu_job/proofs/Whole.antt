@@ -1,5 +1,5 @@
 -- What holds of the directories of one part or two, and the first of their terms.
-use Rattle.std.proofs.Common.{◌≡◌, ℕ, List, [], ◌∷◌, refl, ap, sym, ◌∙◌, subst, append-nil}
+use Rattle.std.proofs.Common.{◌≡◌, ℕ, List, [], ◌∷◌, refl, ap, sym, subst, append-nil}
 use Rattle.std.specs.Prelude.{Option, None, Some, slice_get}
 use Rattle.wu_part.specs.Directories.{IsDirectory}
 use Rattle.wu_job.specs.declared.sources.Source.{Source}

@@ -1,5 +1,5 @@
 -- What a job keeps from step to step.
-use Rattle.std.specs.Prelude.{◌≡◌, ℕ, ◌==◌, ◌≤◌, Bool, true, false, Option, List, ◌∷◌, ◌++◌, eqb, length, map, get_or}
+use Rattle.std.specs.Prelude.{◌≡◌, ℕ, ◌==◌, ◌≤◌, Bool, true, false, List, ◌∷◌, ◌++◌, eqb, length, map, get_or}
 use Rattle.std.specs.Ordering.{nat_cmp}
 use Rattle.std.specs.Cmp.Lexicographic.{slice_cmp}
 use Rattle.std.specs.List.{AllByRecursion, IsDistinct, flat_map, list_any}

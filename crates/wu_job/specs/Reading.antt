@@ -8,7 +8,7 @@ use Rattle.wu_part.specs.declared.entries.BlockEntry.{BlockEntry}
 use Rattle.wu_part.specs.declared.entries.TermEntry.{TermEntry}
 use Rattle.wu_part.specs.Parts.{HoldsBlock}
 use Rattle.wu_job.specs.Jobs.{JobPart, HoldsEntry, HoldsTerm}
-use Rattle.wu_job.specs.Live.{AscendBetween, IsCut, live_below}
+use Rattle.wu_job.specs.Live.{AscendBetween, live_below}
 use Rattle.wu_job.specs.Steps.{IsNoPart}
 use Rattle.wu_job.specs.declared.live.Cut.{Cut}
 

@@ -261,11 +261,7 @@ fn started(
 }
 
 /// Puts the term's list at the end, where it has an address. Out of memory, the lists are as they were.
-fn put_list(
-    lists: &mut Vec<TermList>,
-    term: Bytes,
-    addresses: Vec<u64>,
-) -> Result<(), NoMemory>
+fn put_list(lists: &mut Vec<TermList>, term: Bytes, addresses: Vec<u64>) -> Result<(), NoMemory>
     ensures ok { OnOk result (lists.new.items ≡ lists.old.items ++ list_for term addresses.items) }
     ensures err { OnErr result (lists.new.items ≡ lists.old.items) }
 {

@@ -85,13 +85,7 @@ fn lesser<'a>(first: Option<&'a [u8]>, second: Option<&'a [u8]>) -> Option<&'a [
     ensures { option_copied result ≡ lesser_of (option_copied first.entry) (option_copied second.entry) }
 {
     match (first, second) {
-        (Some(a), Some(b)) => {
-            if b.cmp(&a).is_lt() {
-                Some(b)
-            } else {
-                Some(a)
-            }
-        }
+        (Some(a), Some(b)) => { if b.cmp(&a).is_lt() { Some(b) } else { Some(a) } }
         (Some(a), None) => Some(a),
         (None, other) => other,
     }

@@ -50,8 +50,8 @@ returns-in_err-found-clause-cause g c =
     (λ blob b. (
       b.0,
       IfSome-map (λ content. IsNoPart part.directory (content.blobs blob))
-      (λ content. IsNoPart part.directory (content.blobs blob) ⊎ IsSomeMarked content live c.args.marks.now c.args.term.now part) holds
-      (λ content n. inl n) b.1,
+          (λ content. IsNoPart part.directory (content.blobs blob) ⊎ IsSomeMarked content live c.args.marks.now c.args.term.now part) holds
+          (λ content n. inl n) b.1,
     ))
     c.in_err-found.ensures.cause)
 
@@ -96,9 +96,9 @@ returns-then-some_marked-clause-cause g c =
     (λ blob e. (
       same_blob part.recorded.blob blob e,
       IfSome-map (λ content. HoldsTerm content c.args.term.now part found)
-      (λ content. IsNoPart part.directory (content.blobs blob) ⊎ IsSomeMarked content live marks c.args.term.now part) holds
-      (λ content h. inr (found, h, subst (λ (xs : List ℕ). is_some_marked live marks xs ≡ true) cut marked))
-      c.in_ok-found.ensures.held,
+          (λ content. IsNoPart part.directory (content.blobs blob) ⊎ IsSomeMarked content live marks c.args.term.now part) holds
+          (λ content h. inr (found, h, subst (λ (xs : List ℕ). is_some_marked live marks xs ≡ true) cut marked))
+          c.in_ok-found.ensures.held,
     ))
 
 pub returns-clause-new : goal.returns-clause-new

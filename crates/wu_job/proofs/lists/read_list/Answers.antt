@@ -1,4 +1,4 @@
-use Rattle.std.proofs.Common.{◌≡◌, ◌-◌, ◌<◌, ℕ, List, [], ◌∷◌, ◌++◌, length, min, refl, sym, ap, subst, ◌∙◌, rules}
+use Rattle.std.proofs.Common.{◌≡◌, ◌<◌, ℕ, List, [], ◌++◌, length, min, refl, sym, ap, subst, ◌∙◌, rules}
 use Rattle.std.specs.Prelude.{IfSome}
 use Rattle.std.proofs.lemmas.Result.{err_from_is_err_and}
 use Rattle.wu_layout.proofs.EntryLemmas.{IfSome-map}
@@ -99,12 +99,12 @@ returns-in_err-addresses-clause-cause g c =
     (λ blob b. (
       b.0,
       if_both (λ content. AreRead (content.blobs source_blob) low first entry found)
-      (λ content. IsNoBlock (content.blobs source_blob) c.low-low.result c.in-Some.count block)
-      (λ content. AreNoBlocks (content.blobs blob) low first) holds now c.loop-block.invariant.holds c.loop-block.invariant.held b.1
-      (λ content r n.
-      subst (λ x. AreNoBlocks (content.blobs x) low first) b.0
-      (read_broken (content.blobs source_blob) low c.in-Some.count first entry left block found r is few
-      (subst (λ l. IsNoBlock (content.blobs source_blob) l c.in-Some.count block) c.low-low.ensures n))),
+          (λ content. IsNoBlock (content.blobs source_blob) c.low-low.result c.in-Some.count block)
+          (λ content. AreNoBlocks (content.blobs blob) low first) holds now c.loop-block.invariant.holds c.loop-block.invariant.held b.1
+          (λ content r n.
+          subst (λ x. AreNoBlocks (content.blobs x) low first) b.0
+          (read_broken (content.blobs source_blob) low c.in-Some.count first entry left block found r is few
+          (subst (λ l. IsNoBlock (content.blobs source_blob) l c.in-Some.count block) c.low-low.ensures n))),
     ))
     c.in_err-addresses.ensures.cause)
 

@@ -1,4 +1,4 @@
-use Rattle.std.proofs.Common.{◌≡◌, ◌<◌, ◌==◌, true, ℕ, List, [], length, refl, sym, ap, subst, ◌∙◌, arith}
+use Rattle.std.proofs.Common.{◌≡◌, ◌<◌, ◌==◌, true, ℕ, List, length, refl, sym, ap, subst, ◌∙◌}
 use Rattle.std.specs.Prelude.{IfSome}
 use Rattle.std.specs.List.{list_any}
 use Rattle.std.proofs.lemmas.Result.{IfOk-weaker, on_ok_weaker}
@@ -84,9 +84,9 @@ returns-in-Some-clause-cause g c =
     (λ blob p. (
       p.0,
       IfSome-map (λ content. AreNoBlocks (content.blobs blob) source.directory.low c.in-Some.entry)
-      (λ content. IsNoPart source.directory (content.blobs blob)) holds
-      (λ content n. no_part source.directory c.in-Some.entry (content.blobs blob) c.in-Some.ensures.0 n)
-      p.1,
+          (λ content. IsNoPart source.directory (content.blobs blob)) holds
+          (λ content n. no_part source.directory c.in-Some.entry (content.blobs blob) c.in-Some.ensures.0 n)
+          p.1,
     ))
     k)
     c.read_list.ensures.cause

@@ -1,4 +1,4 @@
-use Rattle.std.proofs.Common.{◌≡◌, List, ℕ, length, ap, ◌∙◌, arith, rules}
+use Rattle.std.proofs.Common.{◌≡◌, List, ℕ, length, ap, arith, rules}
 use Rattle.std.specs.Prelude.{None, slice_get}
 use Rattle.wu_job.specs.Sources.{terms_from, terms_of, terms_of_other}
 use Rattle.wu_job.proofs.Merging.{length_merged}

@@ -1,9 +1,7 @@
-use Rattle.std.proofs.Common.{◌≡◌, ◌∷◌, ◌++◌, ℕ, List, sym, ap, subst, ◌∙◌, refl, rules}
-use Rattle.std.specs.Prelude.{IfSome}
+use Rattle.std.proofs.Common.{refl}
 use Rattle.std.proofs.lemmas.Result.{err_from_is_err_and}
 use Rattle.wu_layout.proofs.EntryLemmas.{IfSome-map}
 use Rattle.wu_job.specs.Jobs.{AreKept, IsRight, MakesList}
-use Rattle.wu_job.specs.Keeping.{IsFirst}
 use Rattle.wu_job.specs.Steps.{step_ranges}
 use Rattle.wu_job.proofs.Fronts.{front_all, front_none, no_memory}
 use Rattle.wu_job.proofs.Made.{right_after}
