@@ -1,0 +1,14 @@
+pub mod Merging
+pub mod Walking
+pub mod Ranks
+pub mod Marking
+pub mod Fronts
+pub mod Blocks
+pub mod Terms
+pub mod Spans
+pub mod Sound
+pub mod Made
+pub mod Doubles
+pub mod Parting
+pub mod Joining
+pub mod Whole

@@ -1,0 +1,43 @@
+use Rattle.std.proofs.Common.{◌≡◌, ◌∙◌, false, List, replicate, sym, ap, subst, arith}
+use Rattle.wu_base.specs.declared.addresses.TermList.{TermList}
+use Rattle.wu_base.specs.declared.limits.TheConstants.{ADDRESSES_MAX}
+use Rattle.wu_job.specs.Keeping.{AreMarks, AreWritable}
+use Rattle.wu_job.specs.Live.{ranges_alone, total_of}
+use Rattle.wu_job.specs.Sources.{terms_from, terms_of, terms_of_other}
+use Rattle.wu_job.proofs.Marking.{no_marks}
+use Rattle.wu_job.proofs.Merging.{merged_up}
+use Rattle.wu_job.proofs.Ranks.{sum_alone, total_within}
+use Rattle.wu_job.proofs.Sound.{writable_none}
+use Rattle.wu_job.proofs.Walking.{none_passed}
+use Rattle.wu_job.proofs.jobs.started.Goals as goal
+
+pub total-requires : goal.total-requires
+total-requires c =
+    rw c.deref.ensures.value
+    (omega (
+      arith,
+      sum_alone c.in_ok-live.live.items,
+      ap total_of c.in_ok-live.ensures.ranges,
+      total_within ADDRESSES_MAX c.args.live.now c.requires.apart c.requires.bounded,
+    ))
+
+pub invariant_of-result : goal.invariant_of-result
+invariant_of-result c =
+    let live = ranges_alone c.in_ok-live.live.items in
+    let left = terms_from c.args.left c.args.right (record { left = 0; right = 0 }) in
+    let clear : c.in_ok-marks.marks.items ≡ replicate c.total.result false =
+    c.in_ok-marks.ensures.items_if_clones_equal (λ y h. h) in
+    let total : c.total.result ≡ total_of live =
+    (rw c.deref.ensures.value at c.total.ensures) ∙ sum_alone c.in_ok-live.live.items in
+    let none = sym c.new.ensures.items in
+    record {
+      sources = c.requires.sources;
+      passed = (none_passed (terms_of c.args.left) left, none_passed (terms_of_other c.args.right) left);
+      live = c.in_ok-live.ensures.ranked;
+      marks = subst (AreMarks live c.in_ok-marks.marks.items) none (no_marks live c.in_ok-marks.marks.items c.total.result clear total);
+      writable =
+          subst (λ (lists : List TermList). AreWritable live lists left) none
+          (writable_none live left (merged_up (terms_of c.args.left) (terms_of_other c.args.right)));
+      units = c.count_terms-units_left.ensures.count;
+      generation = c.requires.generation;
+    }

@@ -1,0 +1,66 @@
+-- What a job keeps from step to step.
+use Rattle.std.specs.Prelude.{◌≡◌, ℕ, ◌==◌, ◌≤◌, Bool, true, false, List, ◌∷◌, ◌++◌, eqb, length, map, get_or}
+use Rattle.std.specs.Ordering.{nat_cmp}
+use Rattle.std.specs.Cmp.Lexicographic.{slice_cmp}
+use Rattle.std.specs.List.{AllByRecursion, IsDistinct, flat_map, list_any}
+use Rattle.std.specs.List.Sorted.{IsStrictlySortedBy}
+use Rattle.wu_base.specs.declared.addresses.Range.{Range}
+use Rattle.wu_base.specs.declared.addresses.TermList.{TermList}
+use Rattle.wu_base.specs.declared.limits.TheConstants.{ADDRESSES_MAX, GENERATION_MAX}
+use Rattle.wu_layout.specs.Postings.{is_live}
+use Rattle.wu_part.specs.Parts.{IsList}
+use Rattle.wu_job.specs.Jobs.{JobState}
+use Rattle.wu_job.specs.Live.{AreRanked, AscendBetween, live_below, ranges_alone, total_of}
+use Rattle.wu_job.specs.Sources.{AreAllPassed, AreSources, parts_of, terms_from}
+use Rattle.wu_job.specs.declared.jobs.Job.TheInside as inside
+use Rattle.wu_job.specs.declared.live.Cut.{Cut}
+
+-- all addresses of the lists
+abbrev pub addresses_in : List TermList → List ℕ
+addresses_in lists = flat_map (λ list. list.at) lists
+
+abbrev pub has : List ℕ → ℕ → Bool
+has addresses address = list_any (λ other. other == address) addresses
+
+-- each live address is marked exactly where it stands in one of the lists
+pub record AreMarks (live : List Range) (marks : List Bool) (lists : List TermList) : Type 0 where
+  pub long : length marks ≡ total_of live
+  pub exact : (address : ℕ) → is_live live address ≡ true → get_or marks (live_below live address) false ≡ has (addresses_in lists) address
+
+-- The lists that were made can be written as a part, and their terms are before those that are left.
+pub record AreWritable (live : List Range) (lists : List TermList) (left : List (List ℕ)) : Type 0 where
+  pub each : AllByRecursion IsList lists
+  pub ascending : IsStrictlySortedBy (slice_cmp nat_cmp) (map (λ list. list.term) lists ++ left)
+  pub distinct : IsDistinct eqb (addresses_in lists)
+  pub alive : AllByRecursion (λ address. is_live live address ≡ true) (addresses_in lists)
+
+-- what the fields of a job keep
+pub record IsSound (fields : inside.Inside) : Type 0 where
+  pub sources : AreSources fields.left fields.right
+  pub passed : AreAllPassed fields.left fields.right fields.places
+  pub live : AreRanked fields.live.items ADDRESSES_MAX
+  pub marks : AreMarks (ranges_alone fields.live.items) fields.marks.items fields.done.items
+  pub writable : AreWritable (ranges_alone fields.live.items) fields.done.items (terms_from fields.left fields.right fields.places)
+  pub units : fields.units_left ≡ length (terms_from fields.left fields.right fields.places)
+  pub generation : fields.generation ≤ GENERATION_MAX
+
+-- what contracts see of a job
+abbrev pub state_of : inside.Inside → JobState
+state_of fields = record {
+  parts = parts_of fields.left fields.right;
+  live = ranges_alone fields.live.items;
+  generation = fields.generation;
+  done = fields.done.items;
+  terms_left = terms_from fields.left fields.right fields.places;
+}
+
+-- The term is the first that is left.
+abbrev pub IsFirst : List ℕ → JobState → Type 0
+IsFirst term job = (later : List (List ℕ)) × (job.terms_left ≡ term ∷ later)
+
+-- Live addresses, ascending, each with its place among the live ones, of which none stands in a list that was made.
+pub record IsNewCut (job : JobState) (cut : Cut) : Type 0 where
+  pub ascend : AscendBetween 0 ADDRESSES_MAX cut.addresses.items
+  pub live : AllByRecursion (λ address. is_live job.live address ≡ true) cut.addresses.items
+  pub places : cut.places.items ≡ map (live_below job.live) cut.addresses.items
+  pub new : AllByRecursion (λ address. has (addresses_in job.done) address ≡ false) cut.addresses.items

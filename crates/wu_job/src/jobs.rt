@@ -1,0 +1,276 @@
+//! Jobs.
+ghost use Rattle.std.specs.Prelude.{◌≡◌, ◌+◌, ◌<◌, ◌≤◌, ◌∷◌, ◌++◌, [], length, All, IfOk, IfErr, OnOk, OnErr};
+ghost use Rattle.wu_base.specs.declared.limits.TheConstants.{ADDRESSES_MAX, GENERATION_MAX};
+ghost use Rattle.wu_part.specs.Parts.{IsRecorded};
+ghost use Rattle.wu_space.specs.Addresses.{AreApart};
+ghost use Rattle.wu_job.specs.Jobs.{Answers, DoesTerm, list_for, started};
+ghost use Rattle.wu_job.specs.Sources.{AreSources, parts_of};
+ghost use Rattle.wu_job.specs.Steps.{IsCause, IsDamaged, ReadsFront, adds, step_ranges};
+
+use crate::lists::live_addresses;
+use crate::live::{Cut, LiveRange, ranked, total};
+use crate::marks::mark_all;
+use crate::sources::{Places, Source, are_whole, count_terms, first_term, places_after};
+use std::alloc::Global;
+use std::marker::Model;
+use wu_base::{
+    ADDRESSES_MAX, Bytes, GENERATION_MAX, NoMemory, PartRec, Range, Sequence, TermList, Trouble,
+};
+use wu_outside::Store;
+use wu_part::{Directory, encode};
+
+/// What a step of a job answers.
+#[derive(Debug, Drop)]
+pub enum Progress {
+    /// There are terms left.
+    More,
+    /// No term is left: the bytes of the new part, or None where no posting is left.
+    Done(Option<Vec<u8>>),
+}
+
+/// A job on one part or two, between two steps. It keeps the live ranges of its start and the lists that it
+/// has made, and goes through the terms of its parts, each once, in byte order. After a step that answered a
+/// trouble a job is only dropped.
+#[derive(Drop)]
+pub struct Job {
+    alloc: Global,
+    left: Source,
+    right: Option<Source>,
+    places: Places,
+    live: Vec<LiveRange>,
+    /// A mark for each live address: whether it stands in a list that was made.
+    marks: Vec<bool>,
+    generation: u32,
+    done: Vec<TermList>,
+    units_left: u64,
+}
+
+impl Model for Job {
+    ghost use Rattle.wu_job.specs.Jobs.{JobState};
+
+    ghost Value = { JobState };
+
+    ghost use Rattle.wu_job.specs.Keeping.{IsSound, state_of};
+
+    ghost view = { state_of };
+
+    ghost invariant = { IsSound };
+}
+
+impl Job {
+    ghost use Rattle.std.specs.Prelude.{IfSome};
+    ghost use Rattle.wu_job.specs.Jobs.{AreKept, IsRight, MakesList};
+    ghost use Rattle.wu_job.specs.Keeping.{IsFirst, IsNewCut};
+
+    /// The merge of two neighbours of a generation below `GENERATION_MAX`, to the next generation. `live` are
+    /// the live ranges now, ascending. Takes time near linear in the sizes of the directories. The only error
+    /// is out of memory.
+    pub fn start_merge(
+        alloc: Global,
+        left: &PartRec,
+        left_dir: &Directory,
+        right: &PartRec,
+        right_dir: &Directory,
+        live: &[Range],
+    ) -> Result<Job, NoMemory>
+        requires left { IsRecorded left.now left_dir.now }
+        requires right { IsRecorded right.now right_dir.now }
+        requires alike { left.now.generation ≡ right.now.generation }
+        requires generation { left.now.generation < GENERATION_MAX }
+        requires order { left.now.high < right.now.low }
+        requires apart { AreApart live.now }
+        requires bounded { All (λ range. range.start + range.len ≤ ADDRESSES_MAX) live.now }
+        ensures job { IfOk result (λ job. job ≡ started (record { recorded = left.now; directory = left_dir.now }
+            ∷ record { recorded = right.now; directory = right_dir.now } ∷ []) live.now (left.now.generation + 1)) }
+        ensures some { IfOk result (λ job. 0 < length job.terms_left) }
+    {
+        let first = Source {
+            recorded: *left,
+            directory: left_dir.copy(alloc)?,
+        };
+        let second = Source {
+            recorded: *right,
+            directory: right_dir.copy(alloc)?,
+        };
+        started(alloc, first, Some(second), live, left.generation + 1)
+    }
+
+    /// The rewriting of a part at its own generation. `live` are the live ranges now, ascending. Takes time near
+    /// linear in the size of the directory. The only error is out of memory.
+    pub fn start_collect(
+        alloc: Global,
+        part: &PartRec,
+        dir: &Directory,
+        live: &[Range],
+    ) -> Result<Job, NoMemory>
+        requires part { IsRecorded part.now dir.now }
+        requires apart { AreApart live.now }
+        requires bounded { All (λ range. range.start + range.len ≤ ADDRESSES_MAX) live.now }
+        ensures job { IfOk result (λ job. job ≡ started (record { recorded = part.now; directory = dir.now } ∷ []) live.now
+            part.now.generation) }
+        ensures some { IfOk result (λ job. 0 < length job.terms_left) }
+    {
+        let source = Source {
+            recorded: *part,
+            directory: dir.copy(alloc)?,
+        };
+        started(alloc, source, None, live, part.generation)
+    }
+
+    /// How many steps there are to do.
+    pub fn units_left(&self) -> u64
+        ensures { result ≡ length self.now.terms_left }
+    {
+        self.units_left
+    }
+
+    /// Does the first term that is left: reads its blocks in the parts, each once, and keeps of its addresses those
+    /// that were live when the job began. With the last term it answers the new part. An address that stands in
+    /// two lists of a part is damage of that part; so is a block that isn't as the directory says.
+    pub fn step<D: Store>(&mut self, store: &mut D) -> Result<Progress, Trouble>
+        requires { 0 < length self.old.terms_left }
+        ensures term { OnOk result (DoesTerm (D.holds store.old) self.old self.new) }
+        ensures right { OnOk result (IfSome (D.holds store.old) (λ content. IsRight content self.old → IsRight content self.new)) }
+        ensures answer { IfOk result (Answers self.new) }
+        ensures holds { D.holds store.new ≡ D.holds store.old }
+        ensures still { D.moments store.new ≡ D.moments store.old }
+        ensures reads { OnOk result (D.reads store.new ≡ adds (step_ranges self.old.terms_left self.old.parts) (D.reads store.old)) }
+        ensures front { IfErr result (ReadsFront (step_ranges self.old.terms_left self.old.parts) (D.reads store.old)
+            (D.reads store.new)) }
+        ensures calm { OnOk result (D.faults store.new ≡ D.faults store.old) }
+        ensures cause { IfErr result (IsCause (IsDamaged (D.holds store.old) self.old) (D.faults store.old) (D.faults store.new)) }
+    {
+        let term = self.first_term()?;
+        let cut = self.read_live(store, term.as_slice())?;
+        self.put(term, cut)?;
+        Ok(self.progress()?)
+    }
+
+    /// The first term that is left.
+    fn first_term(&self) -> Result<Bytes, NoMemory>
+        requires { 0 < length self.now.terms_left }
+        ensures { IfOk result (λ term. IsFirst term self.now) }
+    {
+        match first_term(&self.left, &self.right, self.places) {
+            Some(term) => Ok(Bytes::from_slice(self.alloc, term)?),
+            None => Err(NoMemory),
+        }
+    }
+
+    /// The live addresses of the term in the parts, of which none stands in a list that was made.
+    fn read_live<D: Store>(&self, store: &mut D, term: &[u8]) -> Result<Cut, Trouble>
+        requires { IsFirst term.now self.now }
+        ensures new { IfOk result (IsNewCut self.now) }
+        ensures held { IfOk result (λ cut. IfSome (D.holds store.old) (λ content.
+            AreKept content self.now.parts self.now.live term.now cut.addresses.items)) }
+        ensures holds { D.holds store.new ≡ D.holds store.old }
+        ensures still { D.moments store.new ≡ D.moments store.old }
+        ensures reads { OnOk result (D.reads store.new ≡ adds (step_ranges self.now.terms_left self.now.parts) (D.reads store.old)) }
+        ensures front { IfErr result (ReadsFront (step_ranges self.now.terms_left self.now.parts) (D.reads store.old)
+            (D.reads store.new)) }
+        ensures calm { OnOk result (D.faults store.new ≡ D.faults store.old) }
+        ensures cause { IfErr result (IsCause (IsDamaged (D.holds store.old) self.now) (D.faults store.old) (D.faults store.new)) }
+    {
+        are_whole(&self.left, &self.right);
+        let alloc = self.alloc;
+        let mut cut = live_addresses(
+            alloc,
+            store,
+            &self.left,
+            self.places.left,
+            term,
+            &self.live,
+            &self.marks,
+        )?;
+        match &self.right {
+            None => Ok(cut),
+            Some(right) => {
+                let more = live_addresses(
+                    alloc,
+                    store,
+                    right,
+                    self.places.right,
+                    term,
+                    &self.live,
+                    &self.marks,
+                )?;
+                cut.append(&more)?;
+                Ok(cut)
+            }
+        }
+    }
+
+    /// Keeps the term's list, where it has an address, and goes on to the next term.
+    fn put(&mut self, term: Bytes, cut: Cut) -> Result<(), NoMemory>
+        requires first { IsFirst term self.old }
+        requires new { IsNewCut self.old cut }
+        ensures { OnOk result (MakesList term cut.addresses.items self.old self.new) }
+    {
+        let places = places_after(&self.left, &self.right, self.places, term.as_slice());
+        put_list(&mut self.done, term, cut.addresses)?;
+        mark_all(&mut self.marks, &cut.places);
+        self.places = places;
+        self.units_left -= 1;
+        Ok(())
+    }
+
+    /// What the step answers that has left the job so.
+    fn progress(&self) -> Result<Progress, NoMemory>
+        ensures { IfOk result (Answers self.now) }
+    {
+        if self.units_left > 0 {
+            return Ok(Progress::More);
+        }
+        if self.done.is_empty() {
+            return Ok(Progress::Done(None));
+        }
+        let bytes = encode(self.alloc, &self.done, self.generation)?;
+        Ok(Progress::Done(Some(bytes)))
+    }
+}
+
+/// A job on these parts that has done no term.
+fn started(
+    alloc: Global,
+    left: Source,
+    right: Option<Source>,
+    live: &[Range],
+    generation: u32,
+) -> Result<Job, NoMemory>
+    requires sources { AreSources left right }
+    requires apart { AreApart live.now }
+    requires bounded { All (λ range. range.start + range.len ≤ ADDRESSES_MAX) live.now }
+    requires generation { generation ≤ GENERATION_MAX }
+    ensures job { IfOk result (λ job. job ≡ started (parts_of left right) live.now generation) }
+    ensures some { IfOk result (λ job. 0 < length job.terms_left) }
+{
+    let units_left = count_terms(&left, &right);
+    let live = ranked(alloc, live)?;
+    let marks = vec![in alloc; false; total(&live) as usize]?;
+    Ok(Job {
+        alloc,
+        left,
+        right,
+        places: Places::START,
+        live,
+        marks,
+        generation,
+        done: Vec::new(alloc),
+        units_left,
+    })
+}
+
+/// Puts the term's list at the end, where it has an address. Out of memory, the lists are as they were.
+fn put_list(lists: &mut Vec<TermList>, term: Bytes, addresses: Vec<u64>) -> Result<(), NoMemory>
+    ensures ok { OnOk result (lists.new.items ≡ lists.old.items ++ list_for term addresses.items) }
+    ensures err { OnErr result (lists.new.items ≡ lists.old.items) }
+{
+    if addresses.is_empty() {
+        return Ok(());
+    }
+    lists.push(TermList {
+        term,
+        at: Sequence::from(addresses),
+    })?;
+    Ok(())
+}

@@ -1,0 +1,182 @@
+//! A term's addresses in a part, from the store.
+ghost use Rattle.std.specs.Prelude.{◌≡◌, ◌==◌, ◌+◌, ◌<◌, [], ◌∷◌, true, length, MatchOption, Contains, IfOk, IfErr, IfSome, OnOk};
+ghost use Rattle.std.specs.List.{list_any};
+ghost use Rattle.wu_base.specs.declared.limits.TheConstants.{ADDRESSES_MAX};
+ghost use Rattle.wu_part.specs.Directories.{IsEntry};
+ghost use Rattle.wu_part.specs.declared.entries.TermEntry.{TermEntry};
+ghost use Rattle.wu_job.specs.Jobs.{HoldsEntry, HoldsTerm};
+ghost use Rattle.wu_job.specs.Live.{AreRanked, AscendBetween, ranges_alone, total_of};
+ghost use Rattle.wu_job.specs.Reading.{AreNoBlocks, EndsBefore, HasBytes, HoldsInBlock, IsCutOf, IsNew, IsNoBlock, IsRefused, StandsAt};
+ghost use Rattle.wu_job.specs.Sources.{part_of};
+ghost use Rattle.wu_job.specs.Steps.{IsCause, IsNoPart, ReadsFront, adds, block_range, block_ranges, ranges_of};
+
+use crate::live::{Cut, LiveRange, cut_to_live};
+use crate::marks::some_marked;
+use crate::sources::Source;
+use std::alloc::Global;
+use wu_base::{ADDRESSES_MAX, Trouble};
+use wu_outside::Store;
+use wu_part::{BlockEntry, Entry, read_block};
+
+/// The live addresses of the term in the part, of which none is marked. A part with a marked one is damaged:
+/// the address stands in another list of it too.
+pub(crate) fn live_addresses<D: Store>(
+    alloc: Global,
+    store: &mut D,
+    source: &Source,
+    place: usize,
+    term: &[u8],
+    live: &[LiveRange],
+    marks: &[bool],
+) -> Result<Cut, Trouble>
+    requires place { StandsAt source.now.directory.terms place term.now }
+    requires live { AreRanked live.now ADDRESSES_MAX }
+    requires marks { length marks.now ≡ total_of (ranges_alone live.now) }
+    ensures new { IfOk result (IsNew (ranges_alone live.now) marks.now source.now.directory.low source.now.directory.high) }
+    ensures held { IfOk result (λ cut. IfSome (D.holds store.old) (λ content.
+        IsCutOf content (ranges_alone live.now) term.now (part_of source.now) cut.addresses.items)) }
+    ensures holds { D.holds store.new ≡ D.holds store.old }
+    ensures still { D.moments store.new ≡ D.moments store.old }
+    ensures reads { OnOk result (D.reads store.new ≡ adds (ranges_of term.now (part_of source.now)) (D.reads store.old)) }
+    ensures front { IfErr result (ReadsFront (ranges_of term.now (part_of source.now)) (D.reads store.old) (D.reads store.new)) }
+    ensures calm { OnOk result (D.faults store.new ≡ D.faults store.old) }
+    ensures cause { IfErr result (IsCause (IsRefused (D.holds store.old) (ranges_alone live.now) marks.now term.now (part_of source.now))
+        (D.faults store.old) (D.faults store.new)) }
+{
+    let found = read_term(alloc, store, source, place, term)?;
+    let cut = cut_to_live(alloc, live, &found)?;
+    if some_marked(marks, &cut.places) {
+        return Err(Trouble::Damaged {
+            blob: source.recorded.blob,
+        });
+    }
+    Ok(cut)
+}
+
+/// The addresses of the term in the part: none where its directory doesn't have the term.
+fn read_term<D: Store>(
+    alloc: Global,
+    store: &mut D,
+    source: &Source,
+    place: usize,
+    term: &[u8],
+) -> Result<Vec<u64>, Trouble>
+    requires { StandsAt source.now.directory.terms place term.now }
+    ensures ascend { IfOk result (λ found. AscendBetween source.now.directory.low (source.now.directory.high + 1) found.items) }
+    ensures bounded { source.now.directory.high < ADDRESSES_MAX }
+    ensures some { IfOk result (λ found. 0 < length found.items
+        → list_any (λ range. range.blob == source.now.recorded.blob) (ranges_of term.now (part_of source.now)) ≡ true) }
+    ensures held { IfOk result (λ found. IfSome (D.holds store.old) (λ content.
+        HoldsTerm content term.now (part_of source.now) found.items)) }
+    ensures holds { D.holds store.new ≡ D.holds store.old }
+    ensures still { D.moments store.new ≡ D.moments store.old }
+    ensures reads { OnOk result (D.reads store.new ≡ adds (ranges_of term.now (part_of source.now)) (D.reads store.old)) }
+    ensures front { IfErr result (ReadsFront (ranges_of term.now (part_of source.now)) (D.reads store.old) (D.reads store.new)) }
+    ensures calm { OnOk result (D.faults store.new ≡ D.faults store.old) }
+    ensures cause { IfErr result (IsCause (λ blob. (source.now.recorded.blob ≡ blob) × IfSome (D.holds store.old) (λ content.
+        IsNoPart source.now.directory (content.blobs blob))) (D.faults store.old) (D.faults store.new)) }
+{
+    source.directory.is_spelled();
+    match entry_at(source, place, term) {
+        Some(mut entry) => read_list(alloc, store, source, &mut entry),
+        None => Ok(Vec::new(alloc)),
+    }
+}
+
+/// The entry of the term, which stands at the place or nowhere.
+fn entry_at<'a>(source: &'a Source, place: usize, term: &[u8]) -> Option<Entry<'a>>
+    requires { StandsAt source.now.directory.terms place term.now }
+    ensures { MatchOption result ((entry : TermEntry) → Contains source.now.directory.terms entry → entry.term ≡ term.now → ⊥)
+        (λ entry. Contains source.now.directory.terms entry × (entry.term ≡ term.now)) }
+{
+    match source.directory.term_at(place) {
+        Some(entry) => {
+            if entry.term() == term {
+                Some(entry)
+            } else {
+                None
+            }
+        }
+        None => None,
+    }
+}
+
+/// The addresses in the entry's blocks, each of which is read once, whole.
+fn read_list<D: Store>(
+    alloc: Global,
+    store: &mut D,
+    source: &Source,
+    entry: &mut Entry<'_>,
+) -> Result<Vec<u64>, Trouble>
+    requires { IsEntry source.now.directory.low source.now.directory.high entry.old }
+    ensures ascend { IfOk result (λ found. AscendBetween source.now.directory.low (source.now.directory.high + 1) found.items) }
+    ensures held { IfOk result (λ found. IfSome (D.holds store.old) (λ content.
+        HoldsEntry (content.blobs source.now.recorded.blob) source.now.directory.low entry.old found.items)) }
+    ensures holds { D.holds store.new ≡ D.holds store.old }
+    ensures still { D.moments store.new ≡ D.moments store.old }
+    ensures reads { OnOk result (D.reads store.new ≡ adds (block_ranges source.now.recorded.blob entry.old.blocks) (D.reads store.old)) }
+    ensures front { IfErr result (ReadsFront (block_ranges source.now.recorded.blob entry.old.blocks) (D.reads store.old) (D.reads store.new)) }
+    ensures calm { OnOk result (D.faults store.new ≡ D.faults store.old) }
+    ensures cause { IfErr result (IsCause (λ blob. (source.now.recorded.blob ≡ blob) × IfSome (D.holds store.old) (λ content.
+        AreNoBlocks (content.blobs blob) source.now.directory.low entry.old)) (D.faults store.old) (D.faults store.new)) }
+{
+    let blob = source.recorded.blob;
+    let low = source.directory.low();
+    let mut found = Vec::new(alloc);
+    while let Some((block, count)) = entry.next_block() {
+        let addresses = read_one(alloc, store, blob, low, &block, count)?;
+        found.extend_from_slice(&addresses)?;
+    }
+    Ok(found)
+}
+
+/// The block's addresses, so many.
+fn read_one<D: Store>(
+    alloc: Global,
+    store: &mut D,
+    blob: u64,
+    low: u64,
+    block: &BlockEntry,
+    count: usize,
+) -> Result<Vec<u64>, Trouble>
+    ensures number { IfOk result (λ found. length found.items ≡ count) }
+    ensures ascend { IfOk result (λ found. AscendBetween block.now.first (block.now.last + 1) found.items) }
+    ensures held { IfOk result (λ found. IfSome (D.holds store.old) (λ content.
+        HoldsInBlock (content.blobs blob) low block.now found.items)) }
+    ensures holds { D.holds store.new ≡ D.holds store.old }
+    ensures still { D.moments store.new ≡ D.moments store.old }
+    ensures reads { OnOk result (D.reads store.new ≡ adds (block_range blob block.now ∷ []) (D.reads store.old)) }
+    ensures front { IfErr result (ReadsFront (block_range blob block.now ∷ []) (D.reads store.old) (D.reads store.new)) }
+    ensures calm { OnOk result (D.faults store.new ≡ D.faults store.old) }
+    ensures cause { IfErr result (IsCause (λ broken. (blob ≡ broken) × IfSome (D.holds store.old) (λ content.
+        IsNoBlock (content.blobs blob) low count block.now)) (D.faults store.old) (D.faults store.new)) }
+{
+    let bytes = read_bytes(alloc, store, blob, block)?;
+    match read_block(alloc, &bytes, low, block, count)? {
+        Some(addresses) => Ok(addresses),
+        None => Err(Trouble::Damaged { blob }),
+    }
+}
+
+/// The block's bytes.
+fn read_bytes<D: Store>(
+    alloc: Global,
+    store: &mut D,
+    blob: u64,
+    block: &BlockEntry,
+) -> Result<Vec<u8>, Trouble>
+    ensures bytes { IfOk result (λ bytes. IfSome (D.holds store.old) (λ content. HasBytes (content.blobs blob) block.now bytes.items)) }
+    ensures holds { D.holds store.new ≡ D.holds store.old }
+    ensures still { D.moments store.new ≡ D.moments store.old }
+    ensures reads { OnOk result (D.reads store.new ≡ adds (block_range blob block.now ∷ []) (D.reads store.old)) }
+    ensures front { IfErr result (ReadsFront (block_range blob block.now ∷ []) (D.reads store.old) (D.reads store.new)) }
+    ensures calm { OnOk result (D.faults store.new ≡ D.faults store.old) }
+    ensures cause { IfErr result (IsCause (λ broken. (blob ≡ broken) × IfSome (D.holds store.old) (λ content.
+        EndsBefore (content.blobs blob) block.now)) (D.faults store.old) (D.faults store.new)) }
+{
+    let mut bytes = vec![in alloc; 0u8; block.len as usize]?;
+    match store.read(blob, block.at, &mut bytes)? {
+        Some(count) if count == bytes.len() => Ok(bytes),
+        _ => Err(Trouble::Damaged { blob }),
+    }
+}
