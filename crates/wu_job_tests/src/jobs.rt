@@ -45,12 +45,7 @@ fn put(alloc: Global, store: &mut MemStore, blob: u64, field: &str) -> Result<()
 fn collecting(alloc: Global, part: &str, live: &str) -> Result<Job, NoAnswer> {
     let part = part_of(alloc, 1, &bytes(alloc, part)?)?;
     let live = ranges_of(alloc, live)?;
-    Ok(Job::start_collect(
-        alloc,
-        &part.recorded,
-        &part.directory,
-        &live,
-    )?)
+    Ok(Job::start_collect(alloc, &part.recorded, &part.directory, &live)?)
 }
 
 fn merging(alloc: Global, left: &str, right: &str, live: &str) -> Result<Job, NoAnswer> {

@@ -49,7 +49,6 @@ fn range_of(word: &str) -> Result<Range, NoAnswer> {
 fn are_bounded(ranges: &[Range]) -> bool
     ensures { IsTrue result → All (λ range. range.start + range.len ≤ ADDRESSES_MAX) ranges.now }
 {
-    ranges
-        .iter()
-        .all(|range| range.start <= ADDRESSES_MAX && range.len <= ADDRESSES_MAX - range.start)
+    ranges.iter().all(|range| range.start <= ADDRESSES_MAX
+        && range.len <= ADDRESSES_MAX - range.start)
 }
