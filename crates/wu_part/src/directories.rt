@@ -1,5 +1,5 @@
 //! The directory of a part, as it was read.
-ghost use Rattle.std.specs.Prelude.{◌≡◌, ℕ, List, [], ◌∷◌, ◌-◌, Contains, MatchOption, get_or, length, map, min, ◌<◌, ◌≤◌};
+ghost use Rattle.std.specs.Prelude.{◌≡◌, ℕ, List, [], ◌∷◌, ◌-◌, Contains, IfOk, MatchOption, get_or, length, map, min, ◌<◌, ◌≤◌};
 ghost use Rattle.std.specs.List.Sorted.{IsStrictlySortedBy};
 ghost use Rattle.std.specs.Cmp.Lexicographic.{slice_cmp};
 ghost use Rattle.std.specs.Ordering.{nat_cmp};
@@ -8,7 +8,9 @@ ghost use Rattle.wu_part.specs.Directories.{PartDirectory, SpellsDirectory};
 ghost use Rattle.wu_part.specs.declared.entries.TermEntry.{TermEntry};
 
 use crate::entries::{BlockEntry, TermEntry, first_count};
+use std::alloc::Global;
 use std::marker::Model;
+use wu_base::{Bytes, NoMemory, Sequence};
 
 /// The directory of a part: its generation, its lowest and highest address, how many addresses it
 /// has, its size in bytes, and the entries of its terms, ascending. Each directory is one that some
@@ -103,12 +105,48 @@ impl Directory {
         }
     }
 
+    /// A copy of the directory.
+    pub fn copy(&self, alloc: Global) -> Result<Directory, NoMemory>
+        ensures { IfOk result (λ copy. copy ≡ self.now) }
+    {
+        Ok(Directory {
+            generation: self.generation,
+            low: self.low,
+            high: self.high,
+            stored: self.stored,
+            size: self.size,
+            terms: copy_entries(alloc, &self.terms)?,
+        })
+    }
+
     /// A law: what has to hold of a directory holds of this one.
     pub fn is_spelled(&self)
         ensures { (code : List ℕ) × SpellsDirectory self.now code }
     {
         let _ = &self.low;
     }
+}
+
+/// Copies of the entries.
+fn copy_entries(alloc: Global, terms: &[TermEntry]) -> Result<Vec<TermEntry>, NoMemory>
+    ensures { IfOk result (λ copies. copies.items ≡ terms.now) }
+{
+    let mut copies = Vec::with_capacity(alloc, terms.len())?;
+    for entry in terms {
+        copies.push(copy_entry(alloc, entry)?)?;
+    }
+    Ok(copies)
+}
+
+/// A copy of the entry.
+fn copy_entry(alloc: Global, entry: &TermEntry) -> Result<TermEntry, NoMemory>
+    ensures { IfOk result (λ copy. copy ≡ entry.now) }
+{
+    Ok(TermEntry {
+        term: Bytes::from_slice(alloc, entry.term.as_slice())?,
+        count: entry.count,
+        blocks: Sequence::from(Vec::from_slice(alloc, entry.blocks.as_slice())?),
+    })
 }
 
 /// The entry at the place.

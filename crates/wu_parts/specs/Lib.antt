@@ -2,6 +2,9 @@
 
 pub mod Memory
 pub mod Contents
+pub mod Holdings
+pub mod Flushing
+pub mod Causes
 -- ---- What only private functions and proofs need
 
 pub mod Lists

@@ -6,6 +6,8 @@ abbrev pub contents_of : inside.Inside → Contents
 contents_of fields = record {
   memory = fields.memory;
   parts = fields.parts.items;
+  directories = fields.directories.items;
+  kept = fields.lists;
   flush_at = fields.flush_at;
   next_blob = fields.next_blob;
   flushes = fields.flushes;

@@ -1,0 +1,9 @@
+-- ---- What a reader of the contracts trusts
+
+-- the blocks of a term, which of them frames need, what their bytes are
+pub mod Blocks
+-- which of them are kept and which are read
+pub mod Keeping
+pub mod Causes
+pub mod Ascending
+pub mod Fetching

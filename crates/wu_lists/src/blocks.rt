@@ -1,0 +1,66 @@
+//! Blocks, as they are read from the store.
+ghost use Rattle.std.specs.Prelude.{◌≡◌, ◌++◌, ℕ, List, [], ◌∷◌, ⊥, option_map, IfOk, IfErr, IfSome, IfNone, OnOk};
+ghost use Rattle.wu_lists.specs.Blocks.{HasBytes, IsSpelledIn, IsSpelling, range_of};
+ghost use Rattle.wu_lists.specs.Causes.{IsCause};
+
+use std::alloc::Global;
+use wu_base::{NoMemory, Trouble};
+use wu_outside::Store;
+use wu_vbyte::take_block;
+
+/// A block of a part, as the part's directory tells of it.
+#[derive(Clone, Copy, Debug, PartialEq, Eq, Hash)]
+pub struct Block {
+    /// The number of the part's blob.
+    pub blob: u64,
+    /// The part's lowest address, from which the first address of a block is counted.
+    pub low: u64,
+    /// How many addresses the block has.
+    pub count: usize,
+    /// The first of them.
+    pub first: u64,
+    /// The last of them.
+    pub last: u64,
+    /// Where the block's bytes begin in the blob.
+    pub at: u64,
+    /// How many bytes it has.
+    pub len: u64,
+}
+
+impl Block {
+    /// The block's addresses, of which the bytes are the spelling. `None` exactly where they are no such
+    /// spelling.
+    pub(crate) fn addresses(
+        &self,
+        alloc: Global,
+        bytes: &[u8],
+    ) -> Result<Option<Vec<u64>>, NoMemory>
+        ensures found { IfOk result (λ read. IfSome read (λ found. IsSpelling self.now found.items bytes.now)) }
+        ensures none { IfOk result (λ read. IfNone read ((addresses : List ℕ) → IsSpelling self.now addresses bytes.now → ⊥)) }
+    {
+        take_block(alloc, bytes, self.low, self.count, self.first, self.last)
+    }
+}
+
+/// The block's bytes, all of them, in one read of that range. Where the blob is absent or ends before, it is
+/// damaged.
+pub(crate) fn read_bytes<D: Store>(
+    alloc: Global,
+    store: &mut D,
+    block: &Block,
+) -> Result<Vec<u8>, Trouble>
+    ensures bytes { IfOk result (λ bytes. IfSome (D.holds store.old) (λ content. HasBytes content block.now bytes.items)) }
+    ensures holds { D.holds store.new ≡ D.holds store.old }
+    ensures moments { D.moments store.new ≡ D.moments store.old }
+    ensures reads { OnOk result (D.reads store.new ≡ option_map (λ ranges. ranges ++ range_of block.now ∷ []) (D.reads store.old)) }
+    ensures calm { OnOk result (D.faults store.new ≡ D.faults store.old) }
+    ensures cause { IfErr result (IsCause (block.now ∷ []) block.now.blob
+        (IfSome (D.holds store.old) (λ content. IsSpelledIn content block.now → ⊥))
+        (D.faults store.old) (D.faults store.new) (D.reads store.old) (D.reads store.new)) }
+{
+    let mut bytes = vec![in alloc; 0u8; block.len as usize]?;
+    match store.read(block.blob, block.at, &mut bytes)? {
+        Some(count) if count == bytes.len() => Ok(bytes),
+        _ => Err(Trouble::Damaged { blob: block.blob }),
+    }
+}

@@ -1,0 +1,148 @@
+//! Addresses and blocks beside frames, both walked by galloping: J. L. Bentley and A. C. Yao, An almost optimal
+//! algorithm for unbounded searching, 1976.
+ghost use Rattle.std.specs.Prelude.{◌≡◌, ◌+◌, ◌<◌, ◌≤◌, ◌++◌, ℕ, filter, length, take, drop, nat_le, OnOk, MatchBool};
+ghost use Rattle.std.specs.List.{AllByRecursion};
+ghost use Rattle.wu_layout.specs.Postings.{is_live};
+ghost use Rattle.wu_lists.specs.Ascending.{AscendBetween, AreInOrder};
+ghost use Rattle.wu_lists.specs.Blocks.{meets};
+ghost use Rattle.wu_lists.specs.declared.blocks.Block.{Block};
+
+use crate::blocks::Block;
+use wu_base::{ADDRESSES_MAX, NoMemory, Range};
+
+/// Appends the addresses that lie in one of the frames. Takes a number of steps that is at most that of the
+/// addresses, and at most that of the frames, each of time logarithmic in what it passes over, and time for
+/// what it appends. Out of memory, some may have been appended.
+pub(crate) fn put_within(
+    found: &mut Vec<u64>,
+    addresses: &[u64],
+    frames: &[Range],
+) -> Result<(), NoMemory>
+    requires ascend { AscendBetween 0 ADDRESSES_MAX addresses.now }
+    requires order { AreInOrder 0 ADDRESSES_MAX frames.now }
+    ensures { OnOk result (found.new.items ≡ found.old.items ++ filter (is_live frames.now) addresses.now) }
+{
+    let mut rest = addresses;
+    let mut left = frames;
+    while let [frame, later @ ..] = left {
+        let (_, from_start) = split_below(rest, frame.start);
+        let (inside, after) = split_below(from_start, frame.start + frame.len);
+        found.extend_from_slice(inside)?;
+        rest = after;
+        left = frames_for(later, after);
+    }
+    Ok(())
+}
+
+/// Whether one of the frames, none of which ends before the block, overlaps with the block's span.
+pub(crate) fn is_needed(block: &Block, frames: &[Range]) -> bool
+    requires order { AreInOrder 0 ADDRESSES_MAX frames.now }
+    requires after { AllByRecursion (λ frame. block.now.first < frame.start + frame.len) frames.now }
+    ensures { result ≡ meets frames.now block.now }
+{
+    match frames {
+        [first, ..] => first.start <= block.last,
+        [] => false,
+    }
+}
+
+/// The frames without those first ones that end before the address or at it. Takes time logarithmic in the
+/// number of those that it leaves out.
+pub(crate) fn frames_from(frames: &[Range], address: u64) -> &[Range]
+    requires { AreInOrder 0 ADDRESSES_MAX frames.now }
+    ensures within { length result.now ≤ length frames.now }
+    ensures order { AreInOrder 0 ADDRESSES_MAX result.now }
+    ensures after { AllByRecursion (λ frame. address < frame.start + frame.len) result.now }
+    ensures live { (other : ℕ) → address ≤ other → is_live result.now other ≡ is_live frames.now other }
+    ensures needed { (block : Block) → address ≤ block.first → meets result.now block ≡ meets frames.now block }
+{
+    frames.split_at(count_ended(frames, address)).1
+}
+
+/// The addresses below the limit, and the others. Takes time logarithmic in the number of those below.
+fn split_below(addresses: &[u64], limit: u64) -> (&[u64], &[u64])
+    requires ascend { AscendBetween 0 ADDRESSES_MAX addresses.now }
+    requires limit { limit ≤ ADDRESSES_MAX }
+    ensures whole { result.0.now ++ result.1.now ≡ addresses.now }
+    ensures below { AllByRecursion (λ address. address < limit) result.0.now }
+    ensures others { AscendBetween limit ADDRESSES_MAX result.1.now }
+{
+    addresses.split_at(count_below(addresses, limit))
+}
+
+/// How many of the addresses are below the limit.
+fn count_below(addresses: &[u64], limit: u64) -> usize
+    requires { AscendBetween 0 ADDRESSES_MAX addresses.now }
+    ensures within { result ≤ length addresses.now }
+    ensures below { AllByRecursion (λ address. address < limit) (take result addresses.now) }
+    ensures others { AllByRecursion (λ address. limit ≤ address) (drop result addresses.now) }
+{
+    let end = reach_of_limit(addresses, limit);
+    addresses[..end].partition_point(|address| *address < limit)
+}
+
+/// At most twice as many of the first addresses as are below the limit, or one: none of the others is.
+fn reach_of_limit(addresses: &[u64], limit: u64) -> usize
+    requires { AscendBetween 0 ADDRESSES_MAX addresses.now }
+    ensures within { result ≤ length addresses.now }
+    ensures others { AllByRecursion (λ address. limit ≤ address) (drop result addresses.now) }
+{
+    let mut end = 1;
+    while end < addresses.len() {
+        if addresses[end] >= limit {
+            return end;
+        }
+        end *= 2;
+    }
+    addresses.len()
+}
+
+/// The frames without those first ones that end before the first of the addresses; none where no address
+/// is left. Takes time logarithmic in the number of those that it leaves out.
+fn frames_for<'a>(frames: &'a [Range], addresses: &[u64]) -> &'a [Range]
+    requires order { AreInOrder 0 ADDRESSES_MAX frames.now }
+    requires ascend { AscendBetween 0 ADDRESSES_MAX addresses.now }
+    ensures within { length result.now ≤ length frames.now }
+    ensures order { AreInOrder 0 ADDRESSES_MAX result.now }
+    ensures same { filter (is_live result.now) addresses.now ≡ filter (is_live frames.now) addresses.now }
+{
+    match addresses {
+        [first, ..] => frames_from(frames, *first),
+        [] => &[],
+    }
+}
+
+/// How many of the frames end before the address or at it.
+fn count_ended(frames: &[Range], address: u64) -> usize
+    requires { AreInOrder 0 ADDRESSES_MAX frames.now }
+    ensures within { result ≤ length frames.now }
+    ensures ended { AllByRecursion (λ frame. frame.start + frame.len ≤ address) (take result frames.now) }
+    ensures others { AllByRecursion (λ frame. address < frame.start + frame.len) (drop result frames.now) }
+{
+    let end = reach_of_ended(frames, address);
+    frames[..end].partition_point(|frame| has_ended(frame, address))
+}
+
+/// At most twice as many of the first frames as end before the address or at it, or one: none of the
+/// others does.
+fn reach_of_ended(frames: &[Range], address: u64) -> usize
+    requires { AreInOrder 0 ADDRESSES_MAX frames.now }
+    ensures within { result ≤ length frames.now }
+    ensures others { AllByRecursion (λ frame. address < frame.start + frame.len) (drop result frames.now) }
+{
+    let mut end = 1;
+    while end < frames.len() {
+        if !has_ended(&frames[end], address) {
+            return end;
+        }
+        end *= 2;
+    }
+    frames.len()
+}
+
+/// Whether the address is after all of the frame's.
+fn has_ended(frame: &Range, address: u64) -> bool
+    ensures { result ≡ nat_le (frame.now.start + frame.now.len) address }
+{
+    frame.start <= address && frame.len <= address - frame.start
+}

@@ -1,0 +1,10 @@
+//! The addresses of a term in a part that the store holds, cut to frames. Of the part's blocks only those are
+//! read that the frames need, and the ones that were asked for last are kept.
+#![tactic(auto)]
+
+mod blocks;
+mod frames;
+mod lists;
+
+pub use blocks::Block;
+pub use lists::Lists;

@@ -1,0 +1,236 @@
+//! The lists of terms in parts, and the blocks that are kept of them.
+ghost use Rattle.std.specs.Prelude.{◌≡◌, ◌+◌, ◌<◌, ◌≤◌, ◌++◌, ℕ, List, [], ◌∷◌, ⊥, All, filter, length, list, option_map, true, IfOk, IfErr, IfSome, OnOk};
+ghost use Rattle.std.specs.List.{AllByRecursion, list_any};
+ghost use Rattle.std.specs.Map.{keys_of, lookup};
+ghost use Rattle.lru.specs.LruCache.{lru_cache};
+ghost use Rattle.wu_base.specs.declared.limits.TheConstants.{ADDRESSES_MAX};
+ghost use Rattle.wu_space.specs.Addresses.{AreApart};
+ghost use Rattle.wu_part.specs.Directories.{AreBlocks};
+ghost use Rattle.wu_lists.specs.Ascending.{AscendBetween, AreInOrder};
+ghost use Rattle.wu_lists.specs.Blocks.{IsSpelledIn, IsSpelling, blocks_from, bytes_of, meets, needed};
+ghost use Rattle.wu_lists.specs.Causes.{IsCause, IsNoPart};
+ghost use Rattle.wu_lists.specs.Fetching.{AreFetched, HasBlocks, HasTerm, Puts};
+ghost use Rattle.wu_lists.specs.Keeping.{AreHeld, Asks, all_missing, is_same, missing};
+
+use crate::blocks::{Block, read_bytes};
+use crate::frames::{frames_from, is_needed, put_within};
+use lru::LruCache;
+use std::alloc::Global;
+use std::marker::Model;
+use std::num::NonZeroUsize;
+use wu_base::{Bytes, NoMemory, Range, Sequence, Trouble};
+use wu_outside::Store;
+use wu_part::{Directory, Entry};
+
+/// Reads the lists of terms in parts, and keeps blocks of them. Contracts see the blocks that are kept, the one
+/// that was asked for last first, each with its bytes, and how many may be kept. A block that is kept was found
+/// to be the spelling of addresses as its directory tells.
+#[derive(Drop)]
+pub struct Lists {
+    alloc: Global,
+    kept: LruCache<Block, Bytes>,
+}
+
+impl Model for Lists {
+    ghost use Rattle.wu_lists.specs.Keeping.{Kept};
+
+    ghost Value = { Kept };
+
+    ghost use Rattle.std.specs.List.{AllByRecursion};
+    ghost use Rattle.wu_lists.specs.Keeping.{IsChecked};
+
+    ghost view = { λ l. l.kept };
+
+    ghost invariant = { λ l. AllByRecursion IsChecked l.kept.entries };
+}
+
+impl Lists {
+    /// Keeps no block yet, and at most `capacity` at once. The allocator is kept for what is read.
+    pub fn new(alloc: Global, capacity: usize) -> Result<Lists, NoMemory>
+        requires { 1 ≤ capacity }
+        ensures { IfOk result (λ lists. lists ≡ lru_cache [] capacity) }
+    {
+        let capacity = NonZeroUsize::new(capacity).unwrap();
+        Ok(Lists {
+            alloc,
+            kept: LruCache::new(alloc, capacity)?,
+        })
+    }
+
+    /// The addresses of the term in the part with that blob and that directory that lie in the frames,
+    /// ascending. Reads only those of the term's blocks whose span a frame overlaps with and that aren't kept,
+    /// each in one read, and checks them; they are kept, in the place of the ones that were asked for longest
+    /// ago where there are too many.
+    ///
+    /// The blob is damaged where it is absent, where it ends before a block that is to be read, or where that
+    /// block isn't the spelling of addresses as the directory tells.
+    pub fn fetch<D: Store>(
+        &mut self,
+        store: &mut D,
+        blob: u64,
+        dir: &Directory,
+        term: &[u8],
+        frames: &[Range],
+    ) -> Result<Sequence<u64>, Trouble>
+        requires apart { AreApart frames.now }
+        requires bounded { All (λ frame. frame.start + frame.len ≤ ADDRESSES_MAX) frames.now }
+        ensures addresses { IfOk result (AreFetched (HasTerm dir.now term.now) frames.now blob dir.now.low (dir.now.high + 1)
+            (D.holds store.old) self.old) }
+        ensures blocks { OnOk result (Asks (needed blob dir.now term.now frames.now) (D.holds store.old) self.old self.new
+            (D.reads store.old) (D.reads store.new)) }
+        ensures holds { D.holds store.new ≡ D.holds store.old }
+        ensures moments { D.moments store.new ≡ D.moments store.old }
+        ensures calm { OnOk result (D.faults store.new ≡ D.faults store.old) }
+        ensures cause { IfErr result (IsCause
+            (all_missing self.old.cap (keys_of self.old.entries) (needed blob dir.now term.now frames.now)) blob
+            (IfSome (D.holds store.old) (λ content. IsNoPart dir.now (content.blobs blob)))
+            (D.faults store.old) (D.faults store.new) (D.reads store.old) (D.reads store.new)) }
+    {
+        dir.is_spelled();
+        match dir.entry_of(term) {
+            Some(entry) => {
+                let found = self.fetch_blocks(store, blob, dir, entry, frames)?;
+                Ok(Sequence::from(found))
+            }
+            None => Ok(Sequence::new(self.alloc)),
+        }
+    }
+
+    /// The addresses of the entry's blocks that lie in the frames.
+    fn fetch_blocks<D: Store>(
+        &mut self,
+        store: &mut D,
+        blob: u64,
+        dir: &Directory,
+        mut entry: Entry,
+        frames: &[Range],
+    ) -> Result<Vec<u64>, Trouble>
+        requires order { AreInOrder 0 ADDRESSES_MAX frames.now }
+        requires blocks { AreBlocks dir.now.low dir.now.high entry.entry.count entry.entry.blocks }
+        requires bounded { dir.now.high < ADDRESSES_MAX }
+        requires span { dir.now.low ≤ dir.now.high }
+        ensures addresses { IfOk result (λ found. AreFetched (HasBlocks dir.now.low entry.entry.count entry.entry.blocks) frames.now blob
+            dir.now.low (dir.now.high + 1) (D.holds store.old) self.old found.items) }
+        ensures blocks { OnOk result (Asks
+            (filter (meets frames.now) (blocks_from blob dir.now.low entry.entry.count entry.entry.blocks))
+            (D.holds store.old) self.old self.new (D.reads store.old) (D.reads store.new)) }
+        ensures holds { D.holds store.new ≡ D.holds store.old }
+        ensures moments { D.moments store.new ≡ D.moments store.old }
+        ensures calm { OnOk result (D.faults store.new ≡ D.faults store.old) }
+        ensures cause { IfErr result (IsCause
+            (all_missing self.old.cap (keys_of self.old.entries)
+            (filter (meets frames.now) (blocks_from blob dir.now.low entry.entry.count entry.entry.blocks))) blob
+            (IfSome (D.holds store.old) (λ content.
+            AllByRecursion (IsSpelledIn content) (blocks_from blob dir.now.low entry.entry.count entry.entry.blocks) → ⊥))
+            (D.faults store.old) (D.faults store.new) (D.reads store.old) (D.reads store.new)) }
+    {
+        let mut found = Vec::new(self.alloc);
+        let mut left = frames;
+        while let Some((block, count)) = entry.next_block() {
+            left = frames_from(left, block.first);
+            let block = Block {
+                blob,
+                low: dir.low(),
+                count,
+                first: block.first,
+                last: block.last,
+                at: block.at,
+                len: block.len,
+            };
+            self.put_block(store, &block, left, &mut found)?;
+        }
+        Ok(found)
+    }
+
+    /// Appends the addresses of the block that lie in the frames. A block that no frame overlaps with isn't
+    /// asked for.
+    fn put_block<D: Store>(
+        &mut self,
+        store: &mut D,
+        block: &Block,
+        frames: &[Range],
+        found: &mut Vec<u64>,
+    ) -> Result<(), Trouble>
+        requires order { AreInOrder 0 ADDRESSES_MAX frames.now }
+        requires after { AllByRecursion (λ frame. block.now.first < frame.start + frame.len) frames.now }
+        requires bounded { block.now.last < ADDRESSES_MAX }
+        ensures addresses { OnOk result (Puts (AreFetched (IsSpelling block.now) frames.now block.now.blob
+            block.now.first (block.now.last + 1) (D.holds store.old) self.old) found.old.items found.new.items) }
+        ensures blocks { OnOk result (Asks (filter (meets frames.now) (block.now ∷ [])) (D.holds store.old) self.old self.new
+            (D.reads store.old) (D.reads store.new)) }
+        ensures holds { D.holds store.new ≡ D.holds store.old }
+        ensures moments { D.moments store.new ≡ D.moments store.old }
+        ensures calm { OnOk result (D.faults store.new ≡ D.faults store.old) }
+        ensures cause { IfErr result (IsCause
+            (all_missing self.old.cap (keys_of self.old.entries) (filter (meets frames.now) (block.now ∷ []))) block.now.blob
+            (IfSome (D.holds store.old) (λ content. IsSpelledIn content block.now → ⊥))
+            (D.faults store.old) (D.faults store.new) (D.reads store.old) (D.reads store.new)) }
+    {
+        if !is_needed(block, frames) {
+            return Ok(());
+        }
+        let addresses = self.addresses(store, block)?;
+        put_within(found, &addresses, frames)?;
+        Ok(())
+    }
+
+    /// The addresses of the block, which is read where it isn't kept.
+    fn addresses<D: Store>(&mut self, store: &mut D, block: &Block) -> Result<Vec<u64>, Trouble>
+        ensures ascend { IfOk result (λ found. AscendBetween block.now.first (block.now.last + 1) found.items) }
+        ensures told { IfOk result (λ found. IfSome (D.holds store.old) (λ content. (bytes : List ℕ)
+            → content.blobs block.now.blob ≡ Some bytes → AreHeld block.now.blob bytes self.old
+            → IsSpelling block.now found.items (bytes_of block.now bytes))) }
+        ensures blocks { OnOk result (Asks (block.now ∷ []) (D.holds store.old) self.old self.new
+            (D.reads store.old) (D.reads store.new)) }
+        ensures holds { D.holds store.new ≡ D.holds store.old }
+        ensures moments { D.moments store.new ≡ D.moments store.old }
+        ensures calm { OnOk result (D.faults store.new ≡ D.faults store.old) }
+        ensures cause { IfErr result (IsCause (missing (keys_of self.old.entries) block.now) block.now.blob
+            (IfSome (D.holds store.old) (λ content. IsSpelledIn content block.now → ⊥))
+            (D.faults store.old) (D.faults store.new) (D.reads store.old) (D.reads store.new)) }
+    {
+        if self.kept.promote(block) {
+            return Ok(self.kept_addresses(block)?);
+        }
+        self.read(store, block)
+    }
+
+    /// The addresses of a block that is kept.
+    fn kept_addresses(&self, block: &Block) -> Result<Vec<u64>, NoMemory>
+        requires { list_any (is_same block.now) (keys_of self.now.entries) ≡ true }
+        ensures { IfOk result (λ found. IfSome (lookup (is_same block.now) self.now.entries) (IsSpelling block.now found.items)) }
+    {
+        match self.kept.peek(block) {
+            Some(bytes) => match block.addresses(self.alloc, bytes.as_slice())? {
+                Some(addresses) => Ok(addresses),
+                None => unreachable!(),
+            },
+            None => unreachable!(),
+        }
+    }
+
+    /// The addresses of a block that isn't kept: it is read, checked and kept.
+    fn read<D: Store>(&mut self, store: &mut D, block: &Block) -> Result<Vec<u64>, Trouble>
+        requires { list_any (is_same block.now) (keys_of self.old.entries) ≡ false }
+        ensures spelled { IfOk result (λ found. IfSome (D.holds store.old) (λ content. (bytes : List ℕ)
+            → content.blobs block.now.blob ≡ Some bytes → IsSpelling block.now found.items (bytes_of block.now bytes))) }
+        ensures ascend { IfOk result (λ found. AscendBetween block.now.first (block.now.last + 1) found.items) }
+        ensures blocks { OnOk result (Asks (block.now ∷ []) (D.holds store.old) self.old self.new
+            (D.reads store.old) (D.reads store.new)) }
+        ensures holds { D.holds store.new ≡ D.holds store.old }
+        ensures moments { D.moments store.new ≡ D.moments store.old }
+        ensures calm { OnOk result (D.faults store.new ≡ D.faults store.old) }
+        ensures cause { IfErr result (IsCause (block.now ∷ []) block.now.blob
+            (IfSome (D.holds store.old) (λ content. IsSpelledIn content block.now → ⊥))
+            (D.faults store.old) (D.faults store.new) (D.reads store.old) (D.reads store.new)) }
+    {
+        let bytes = read_bytes(self.alloc, store, block)?;
+        match block.addresses(self.alloc, &bytes)? {
+            Some(addresses) => {
+                self.kept.put(*block, Bytes::from(bytes))?;
+                Ok(addresses)
+            }
+            None => Err(Trouble::Damaged { blob: block.blob }),
+        }
+    }
+}

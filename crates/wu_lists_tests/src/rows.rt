@@ -1,0 +1,120 @@
+//! The rows of a table: parts that are put into a store, and terms that are fetched.
+use crate::fixtures::{directory_of, frames_of};
+use std::alloc::Global;
+use std::collections::BTreeMap;
+use wu_base::Trouble;
+use wu_lists::Lists;
+use wu_outside::{MemStore, ReadRange, Store};
+use wu_part::Directory;
+use wu_rows::{NoAnswer, Subject, bytes, number, numbers, plain_text};
+
+/// How many blocks are kept at the begin of a table.
+const CAPACITY: usize = 16;
+
+/// What the rows of a table are put to: a store, the directories of its parts, and what is kept of these. A
+/// table begins with an empty store in which no call fails.
+#[derive(Drop)]
+pub struct Rows {
+    store: MemStore,
+    directories: BTreeMap<u64, Directory>,
+    lists: Lists,
+}
+
+impl Rows {
+    pub fn new(alloc: Global) -> Result<Rows, NoAnswer> {
+        Ok(Rows {
+            store: MemStore::new(alloc, Vec::new(alloc), u64::MAX),
+            directories: BTreeMap::new(alloc),
+            lists: Lists::new(alloc, CAPACITY)?,
+        })
+    }
+
+    /// What is fetched of the term in the frames, and the ranges that were read for it.
+    fn fetch(
+        &mut self,
+        alloc: Global,
+        blob: u64,
+        term: &[u8],
+        frames: &str,
+    ) -> Result<String, NoAnswer> {
+        let frames = frames_of(alloc, frames)?;
+        let before = self.store.reads().len();
+        let mut text = match self.directories.get(&blob) {
+            Some(directory) => {
+                match self
+                    .lists
+                    .fetch(&mut self.store, blob, directory, term, &frames)
+                {
+                    Ok(found) => {
+                        let found = found.as_slice();
+                        format!(in alloc; "{found:?}")?
+                    }
+                    Err(Trouble::Damaged { blob }) => format!(in alloc; "damaged {blob}")?,
+                    Err(Trouble::StoreFault) => String::from_str(alloc, "store fault")?,
+                    Err(Trouble::NoMemory) => return Err(NoAnswer::NoMemory),
+                }
+            }
+            None => return Err(NoAnswer::BadRow),
+        };
+        put_ranges(&mut text, self.store.reads(), before)?;
+        Ok(text)
+    }
+
+    fn put(&mut self, alloc: Global, blob: u64, part: &[u8]) -> Result<String, NoAnswer> {
+        match self.store.put(blob, part) {
+            Ok(()) => plain_text(alloc, "put"),
+            Err(_) => plain_text(alloc, "failed"),
+        }
+    }
+
+    fn remove(&mut self, alloc: Global, blob: u64) -> Result<String, NoAnswer> {
+        match self.store.remove(blob) {
+            Ok(()) => plain_text(alloc, "removed"),
+            Err(_) => plain_text(alloc, "failed"),
+        }
+    }
+}
+
+/// Appends the ranges that were read since, each as a blob, a place and a length.
+fn put_ranges(text: &mut String, ranges: &[ReadRange], before: usize) -> Result<(), NoAnswer> {
+    for range in ranges.iter().skip(before) {
+        let blob = range.blob;
+        let at = range.at;
+        let len = range.len;
+        write!(text, " {blob}:{at}+{len}")?;
+    }
+    Ok(())
+}
+
+impl Subject for Rows {
+    fn begin(&mut self, alloc: Global) -> Result<(), NoAnswer> {
+        *self = Rows::new(alloc)?;
+        Ok(())
+    }
+
+    fn answer(&mut self, alloc: Global, _kind: &str, fields: &[&str]) -> Result<String, NoAnswer> {
+        match fields {
+            ["keep", capacity] => {
+                let capacity = number(capacity)?.max(1);
+                self.lists = Lists::new(alloc, capacity as usize)?;
+                plain_text(alloc, "none kept")
+            }
+            ["fail", fails] => {
+                self.store = MemStore::new(alloc, numbers(alloc, fails)?, u64::MAX);
+                plain_text(alloc, "empty")
+            }
+            ["directory", blob, part] => {
+                let directory = directory_of(alloc, &bytes(alloc, part)?)?;
+                let count = directory.term_count();
+                self.directories.insert(number(blob)?, directory)?;
+                Ok(format!(in alloc; "{count}")?)
+            }
+            ["put", blob, part] => self.put(alloc, number(blob)?, &bytes(alloc, part)?),
+            ["remove", blob] => self.remove(alloc, number(blob)?),
+            ["fetch", blob, term, frames] => {
+                self.fetch(alloc, number(blob)?, &bytes(alloc, term)?, frames)
+            }
+            _ => Err(NoAnswer::BadRow),
+        }
+    }
+}
