@@ -15,6 +15,7 @@ use Rattle.wu_part.specs.Parts.{IsRecorded, SpellsPart}
 use Rattle.wu_space.specs.Addresses.{Addresses, Ranges}
 use Rattle.wu_lists.specs.declared.blocks.Block.{Block}
 use Rattle.wu_lists.specs.Blocks.{bytes_of}
+use Rattle.wu_lists.specs.Keeping.{Kept}
 use Rattle.std.specs.List.{AllByRecursion}
 use Rattle.wu_parts.specs.Contents.{Contents, with_part, without_postings}
 use Rattle.wu_parts.specs.Flushing.{Flushes, MakesPart, Told, put_into}
@@ -36,17 +37,16 @@ pub record IsStored (holds : Option Content) (contents : Contents) (s : State) :
 
 -- ---- at first
 
-pub nothing_held : (holds : Option Content) (contents : Contents) → contents.parts ≡ [] → contents.directories ≡ []
-    → IfSome holds (λ content. HoldParts content contents.parts contents.directories [])
-nothing_held None contents none no_directory = tt
-nothing_held (Some content) contents none no_directory =
-    subst (λ (rs : List PartRec). HoldParts content rs contents.directories []) (sym none)
+pub nothing_held : (holds : Option Content) (records : List PartRec) (directories : List PartDirectory) → records ≡ [] → directories ≡ []
+    → IfSome holds (λ content. HoldParts content records directories [])
+nothing_held None records directories none no_directory = tt
+nothing_held (Some content) records directories none no_directory =
+    subst (λ (rs : List PartRec). HoldParts content rs directories []) (sym none)
     (subst (λ (ds : List PartDirectory). HoldParts content [] ds []) (sym no_directory) tt)
 
-pub nothing_kept : (holds : Option Content) (contents : Contents) → contents.kept.entries ≡ []
-    → IfSome holds (λ content. KeepsBlocks content 1 contents.kept)
-nothing_kept None contents none = tt
-nothing_kept (Some content) contents none = record {
+pub nothing_kept : (holds : Option Content) (kept : Kept) → kept.entries ≡ [] → IfSome holds (λ content. KeepsBlocks content 1 kept)
+nothing_kept None kept none = tt
+nothing_kept (Some content) kept none = record {
   below = subst (AllByRecursion (λ (entry : Block × List ℕ). entry.0.blob < 1)) (sym none) tt;
   same = λ blob bytes there.
       subst (AllByRecursion (λ (entry : Block × List ℕ). entry.0.blob ≡ blob → entry.1 ≡ bytes_of entry.0 bytes)) (sym none) tt;

@@ -1,5 +1,5 @@
 -- The engine stands for the state after an event.
-use Rattle.std.proofs.Common.{◌≡◌, ℕ, ◌+◌, ◌≤◌, cond, List, [], ◌++◌, length, Ok, Err, refl, ap, sym, ◌∙◌, subst, arith, append_assoc, append-nil, length-append}
+use Rattle.std.proofs.Common.{◌≡◌, ℕ, ◌+◌, ◌≤◌, cond, List, [], ◌++◌, length, map, Ok, Err, refl, ap, sym, ◌∙◌, subst, arith, append_assoc, append-nil, length-append}
 use Rattle.std.specs.Prelude.{Option, Some, None, IfSome, option_map}
 use Rattle.std.specs.Ordering.{nat_cmp}
 use Rattle.std.specs.Map.{remove_entry}
@@ -16,7 +16,7 @@ use Rattle.wu_tree.specs.Effects.{TellsFiles}
 use Rattle.wu_tree.specs.Steps.{IsEvent}
 use Rattle.wu_tree.specs.Steps.{step as tree_step}
 use Rattle.wu_tree.proofs.EventRules.{absent}
-use Rattle.wu_layout.specs.Postings.{Posting, addresses_of, placed_from}
+use Rattle.wu_layout.specs.Postings.{Posting, addresses_of, live_of, placed_from}
 use Rattle.wu_base.specs.declared.addresses.PartRec.{PartRec}
 use Rattle.wu_part.specs.Directories.{PartDirectory}
 use Rattle.wu_layout.specs.Layouts.{FileEntry, Layout, Part, entry_of, ranges_by_number}
@@ -26,20 +26,21 @@ use Rattle.wu_layout.proofs.EntryLemmas.{none_after_removal}
 use Rattle.wu_layout.proofs.NumberedRanges.{ranges_by_number-put, ranges_by_number-removal}
 use Rattle.wu_layout.proofs.Fetches.{placed-append}
 use Rattle.wu_space.specs.Addresses.{Addresses, Ranges}
-use Rattle.wu_parts.specs.Flushing.{Told}
+use Rattle.wu_parts.specs.Flushing.{Flushes, Told}
+use Rattle.wu_parts.specs.Memory.{HasPostings}
 use Rattle.wu_parts.specs.Holdings.{HoldParts}
 use Rattle.wu_parts.specs.Contents.{Contents}
 use Rattle.wu_parts.proofs.Gaining.{holds_more}
 use Rattle.wu_engine.specs.declared.engines.Engine.{Engine}
 use Rattle.wu_engine.specs.declared.verdicts.Verdict.TheVariants.{Made, Refused}
-use Rattle.wu_engine.specs.States.{State, Texts, IsState, flushed_if_full, followed, step, after_event, texts_after, without_text, with_text, layout_without, layout_with, layout_after}
+use Rattle.wu_engine.specs.States.{State, Texts, IsState, flushed_if_full, flushed_state, followed, step, after_event, texts_after, without_text, with_text, layout_without, layout_with, layout_after}
 use Rattle.wu_engine.specs.Records.{Records, records_of}
 use Rattle.wu_engine.specs.Stands.{HoldsTexts, IsEngineOf, KeepsBlocks, Stands, verdict_of}
 use Rattle.wu_engine.specs.Indexing.{Catalog, Follows, blob_for, blob_left, catalog_after, catalog_made, catalog_of, catalog_with, catalog_without, is_stored, record_for, stored_at, terms_after, terms_given}
 use Rattle.wu_engine.proofs.FileChanges.{ChangesFiles}
 use Rattle.wu_engine.proofs.StateTexts.{text-left}
 use Rattle.wu_engine.proofs.StateLayouts.{layout_dropped, left_kept, made_absent, made_kept}
-use Rattle.wu_engine.proofs.FlushLemmas.{IsStored, full_stands}
+use Rattle.wu_engine.proofs.FlushLemmas.{IsStored, flush_stands, full_stands}
 use Rattle.wu_engine.proofs.HeldParts.{AgreesBut, blocks_stay, parts_below, parts_stay}
 use Rattle.wu_engine.proofs.KeptStates.{after_effect, drawn-after, drawn-made, effect_kept, flushes-after, step-accepted, step-refused}
 use Rattle.wu_engine.proofs.RecordLemmas.{blob-recorded, records-elsewhere, records-put, records-removal}
@@ -375,3 +376,23 @@ module _ (old new : Engine) (s : State) (event : Event) (text : List ℕ) (ended
         subst (Stands new holds) (sym (ap (followed old.parts.flush_at s) after))
             (stands_still old new s ended holds stands tree space parts files),
       )
+
+-- ---- a flush
+
+pub flushed_on : (old new : Engine) (s : State) → new.ended ≡ None → (before after : Told) → Stands old before.0 s
+    → new.tree ≡ old.tree → new.space ≡ old.space → new.files.entries ≡ old.files.entries
+    → ((low high : ℕ) (postings : List Posting) → HasPostings low high old.parts.memory postings
+    → Flushes (live_of (map (λ file. file.1) old.space.ranges) postings) old.parts new.parts before after)
+    → Stands new after.0 (flushed_state s)
+flushed_on old new s ended before after stands tree space files done =
+    let stored : IsStored before.0 old.parts s = record { texts = stands.texts; parts = stands.parts; kept = stands.kept } in
+    let both = flush_stands old.tree old.space old.parts old.files.entries s stands.index new.parts before after stored done in
+    record {
+      goes_on = ended;
+      index = subst (λ (t : FileSystem). IsEngineOf t new.space new.parts new.files.entries (flushed_state s)) (sym tree)
+          (subst (λ (a : Addresses). IsEngineOf old.tree a new.parts new.files.entries (flushed_state s)) (sym space)
+          (subst (λ (r : Records). IsEngineOf old.tree old.space new.parts r (flushed_state s)) (sym files) both.0));
+      texts = both.1.texts;
+      parts = both.1.parts;
+      kept = both.1.kept;
+    }

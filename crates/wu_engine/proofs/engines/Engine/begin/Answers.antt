@@ -21,6 +21,6 @@ returns-clause-stands g c = λ told. record {
     no_job = refl;
   };
   texts = none_yet (g.D.Store.holds c.args.store.now) told;
-  parts = nothing_held (g.D.Store.holds c.args.store.now) _ (search rules) (search rules);
+  parts = nothing_held (g.D.Store.holds c.args.store.now) _ _ (search rules) (search rules);
   kept = nothing_kept (g.D.Store.holds c.args.store.now) _ (search rules);
 }

@@ -1,0 +1,82 @@
+use Rattle.std.proofs.Common.{refl, arith}
+use Rattle.wu_engine.proofs.FileChanges.{changes}
+use Rattle.wu_engine.proofs.LeftStores.{left_alone}
+use Rattle.wu_engine.proofs.SoundLemmas.{indexable, length-terms_after, next_followed, sound_followed}
+use Rattle.wu_engine.proofs.StandLemmas.{accepted, refused}
+use Rattle.wu_engine.proofs.engines.Engine.update.Goals as goal
+
+pub follow-followed-requires-clause-indexable : goal.follow-followed-requires-clause-indexable
+follow-followed-requires-clause-indexable g c =
+    let old = c.args.self.now in
+    let event = c.args.event.now in
+    let text = c.args.body.now in
+    let effect = c.in-Ok.effect in
+    let step = rw c.in-Ok.is at c.in_ok-effect.ensures.step in
+    let taken = length-terms_after old.tree event text c.apply.new.self effect step in
+    indexable old.tree c.apply.new.self effect (c.effects_tell_files.ensures event c.apply.new.self effect step)
+    (changes old.tree event c.apply.new.self effect step).1 old.space old.parts old.files.entries old.frames (old.sound c.in_default.is)
+    c.keeps_the_rules.ensures.by_number text c.requires.short (omega (arith, taken))
+
+pub invariant_of-self-in-Ok-followed : goal.invariant_of-self-in-Ok-followed
+invariant_of-self-in-Ok-followed g c =
+    let old = c.args.self.now in
+    let event = c.args.event.now in
+    let text = c.args.body.now in
+    let effect = c.in-Ok.effect in
+    let holds = g.D.Store.holds in
+    let moments = g.D.Store.moments in
+    let step = rw c.in-Ok.is at c.in_ok-effect.ensures.step in
+    let taken = length-terms_after old.tree event text c.apply.new.self effect step in
+    record {
+      sound = λ _.
+          rw c.clear.ensures
+          (sound_followed effect text old.space c.follow.new.space old.files.entries c.follow.new.files.entries old.parts c.follow.new.parts
+          (holds c.args.store.now, moments c.args.store.now) (holds c.follow.new.store, moments c.follow.new.store)
+          c.in-Ok-followed.ensures.done old.tree c.apply.new.self
+          (c.effects_tell_files.ensures event c.apply.new.self effect step) (changes old.tree event c.apply.new.self effect step).1
+          old.frames (old.sound c.in_default.is) c.keeps_the_rules.ensures.by_number c.requires.short (omega (arith, taken)));
+    }
+
+pub returns-in-Ok-followed-clause-step : goal.returns-in-Ok-followed-clause-step
+returns-in-Ok-followed-clause-step g c = λ s stands.
+    let old = c.args.self.now in
+    let event = c.args.event.now in
+    let text = c.args.body.now in
+    let effect = c.in-Ok.effect in
+    let holds = g.D.Store.holds in
+    let moments = g.D.Store.moments in
+    let step = rw c.in-Ok.is at c.in_ok-effect.ensures.step in
+    accepted old _ s event text refl (holds c.args.store.now, moments c.args.store.now) (holds c.follow.new.store, moments c.follow.new.store)
+    stands effect step c.requires.event c.requires.short
+    (c.effects_tell_files.ensures event c.apply.new.self effect step) (changes old.tree event c.apply.new.self effect step).1
+    c.in-Ok-followed.ensures.done
+
+pub returns-in-Ok-followed-clause-taken : goal.returns-in-Ok-followed-clause-taken
+returns-in-Ok-followed-clause-taken g c =
+    let old = c.args.self.now in
+    let event = c.args.event.now in
+    let text = c.args.body.now in
+    let effect = c.in-Ok.effect in
+    let holds = g.D.Store.holds in
+    let moments = g.D.Store.moments in
+    let step = rw c.in-Ok.is at c.in_ok-effect.ensures.step in
+    omega (
+      arith,
+      next_followed effect text old.space c.follow.new.space old.files.entries c.follow.new.files.entries old.parts c.follow.new.parts
+          (holds c.args.store.now, moments c.args.store.now) (holds c.follow.new.store, moments c.follow.new.store)
+          c.in-Ok-followed.ensures.done,
+      length-terms_after old.tree event text c.apply.new.self effect step,
+    )
+
+pub returns-in-Ok-followed-clause-untouched : goal.returns-in-Ok-followed-clause-untouched
+returns-in-Ok-followed-clause-untouched g c = λ leaves.
+    let old = c.args.self.now in
+    let effect = c.in-Ok.effect in
+    let step = rw c.in-Ok.is at c.in_ok-effect.ensures.step in
+    let left = left_alone old.tree c.args.event.now c.args.body.now c.apply.new.self effect step old.parts leaves in
+    c.in-Ok-followed.ensures.untouched left.0 left.1
+
+pub returns-in-Err-clause-step : goal.returns-in-Err-clause-step
+returns-in-Err-clause-step g c = λ s stands.
+    let step = rw c.in-Err.is at c.in_ok-effect.ensures.step in
+    refused _ _ s c.args.event.now c.args.body.now refl (g.D.Store.holds c.args.store.now) stands c.in-Err.refusal step.0 step.1 refl refl refl

@@ -1,0 +1,81 @@
+use Rattle.std.proofs.Common.{◌≡◌, ◌++◌, ◌∙◌, List, ℕ, ap, map, refl, subst, sym, take}
+use Rattle.std.specs.Prelude.{IfSome, Option, option_map}
+use Rattle.std.specs.List.{flat_map}
+use Rattle.wu_base.specs.declared.addresses.TermList.{TermList}
+use Rattle.wu_ask.specs.declared.FindLine.{FindLine}
+use Rattle.wu_gcl.specs.Regions.{region_of}
+use Rattle.wu_lists.specs.Keeping.{Asks}
+use Rattle.wu_outside.specs.Content.{Content}
+use Rattle.wu_engine.specs.Asked.{blocks_for}
+use Rattle.wu_engine.specs.Finding.{hits_at, lines_at, text_at}
+use Rattle.wu_engine.specs.Reads.{texts_shown}
+use Rattle.wu_engine.specs.Units.{found_in, list_at}
+use Rattle.wu_engine.proofs.AskedTerms.{terms_named}
+use Rattle.wu_engine.proofs.FoundLines.{are_texts, found_answer, found_texts}
+use Rattle.wu_engine.proofs.FramesOfFiles.{are_lists}
+use Rattle.wu_engine.proofs.UnitLemmas.{searched_few}
+use Rattle.wu_engine.proofs.finding.find.Goals as goal
+
+pub count-requires-clause-lists : goal.count-requires-clause-lists
+count-requires-clause-lists g c =
+    rw c.deref-2.ensures.value
+    (are_lists c.in_ok-terms.terms.items c.in_ok-lists.lists.items (c.in_ok-lists.ensures.named ∙ c.deref.ensures.value)
+    c.in_ok-lists.ensures.ascending c.in_ok-terms.ensures.ascending)
+
+pub count-requires-clause-few : goal.count-requires-clause-few
+count-requires-clause-few g c =
+    rw c.as_slice.ensures (searched_few (region_of c.args.expr.now) c.deref-2.result.now c.args.frames.now c.requires.fit)
+
+pub first_lines-requires-clause-lists : goal.first_lines-requires-clause-lists
+first_lines-requires-clause-lists g c =
+    rw c.deref-3.ensures.value
+    (are_lists c.in_ok-terms.terms.items c.in_ok-lists.lists.items (c.in_ok-lists.ensures.named ∙ c.deref.ensures.value)
+    c.in_ok-lists.ensures.ascending c.in_ok-terms.ensures.ascending)
+
+pub returns-clause-answer : goal.returns-clause-answer
+returns-clause-answer g c = λ live s uid is tells keeps.
+    let found = found_in c.args.frames.now.ranges s in
+    let files = c.args.files.now.entries in
+    let region = region_of c.args.expr.now in
+    let lists = c.in_ok-lists.lists.items in
+    let holds = g.D.Store.holds c.args.store.now in
+    found_answer c.args.frames.now live s uid is region c.in_ok-terms.terms.items c.in_ok-terms.ensures files lists
+    (c.in_ok-lists.ensures.lists s tells ∙ ap (map (list_at found)) c.deref.ensures.value)
+    c.args.k c.as_slice-2.result.now c.as_slice-2.ensures holds
+    c.in_ok-counts.counts.hits c.in_ok-counts.counts.files _ keeps
+    (rw (c.deref-2.ensures.value, c.as_slice.ensures) at c.in_ok-counts.ensures.hits)
+    (rw (c.deref-2.ensures.value, c.as_slice.ensures) at c.in_ok-counts.ensures.files)
+    (subst (λ (lines : List FindLine). IfSome holds (λ content. lines
+    ≡ take c.args.k (flat_map (lines_at content files region lists) c.as_slice-2.result.now))) (sym c.from.ensures)
+    (subst (λ (ls : List TermList). IfSome holds (λ content. c.in_ok-shown.shown.items
+    ≡ take c.args.k (flat_map (lines_at content files region ls) c.as_slice-2.result.now)))
+    c.deref-3.ensures.value
+    (subst (λ (o : Option Content). IfSome o (λ content. c.in_ok-shown.shown.items
+    ≡ take c.args.k (flat_map (lines_at content files region c.deref-3.result.now) c.as_slice-2.result.now)))
+    c.lists_of.ensures.holds c.in_ok-shown.ensures.lines)))
+
+pub returns-clause-reads : goal.returns-clause-reads
+returns-clause-reads g c =
+    let files = c.args.files.now.entries in
+    let region = region_of c.args.expr.now in
+    let lists = c.in_ok-lists.lists.items in
+    let terms = c.in_ok-terms.terms.items in
+    let reads = g.D.Store.reads in
+    record {
+      between = reads c.lists_of.new.store;
+      asks = subst (λ (ts : List (List ℕ)). Asks (blocks_for c.args.parts.now c.args.frames.now.ranges ts)
+          (g.D.Store.holds c.args.store.now) c.args.parts.now.kept c.lists_of.new.parts.kept (reads c.args.store.now)
+          (reads c.lists_of.new.store))
+          (c.deref.ensures.value ∙ terms_named region terms c.in_ok-terms.ensures) c.in_ok-lists.ensures.blocks;
+      texts = texts_shown (hits_at files region lists) (text_at files) c.args.k c.as_slice-2.result.now;
+      are = record {
+        are = are_texts files region lists c.args.k c.as_slice-2.result.now;
+        shown = λ live s uid is tells keeps.
+            found_texts c.args.frames.now live s uid is region terms c.in_ok-terms.ensures files lists
+            (c.in_ok-lists.ensures.lists s tells ∙ ap (map (list_at (found_in c.args.frames.now.ranges s))) c.deref.ensures.value)
+            c.args.k c.as_slice-2.result.now c.as_slice-2.ensures (g.D.Store.holds c.args.store.now) _ keeps refl;
+      };
+      read = subst (λ (ls : List TermList). reads c.first_lines.new.store
+          ≡ option_map (λ ranges. ranges ++ texts_shown (hits_at files region ls) (text_at files) c.args.k c.as_slice-2.result.now)
+          (reads c.lists_of.new.store)) c.deref-3.ensures.value c.in_ok-shown.ensures.reads;
+    }

@@ -1,0 +1,60 @@
+use Rattle.std.proofs.Common.{◌≡◌, ℕ, List, ap, subst, arith}
+use Rattle.std.proofs.lemmas.Result.{on_ok_weaker}
+use Rattle.wu_ask.specs.declared.Answered.{Answered}
+use Rattle.wu_ask.specs.Questions.{question_of}
+use Rattle.wu_frames.specs.UserFrames.{AreFrames}
+use Rattle.wu_frames.proofs.Keeping.{right-found}
+use Rattle.wu_parts.specs.Contents.{Contents}
+use Rattle.wu_tree.specs.FileSystems.{FileSystem}
+use Rattle.wu_engine.specs.Answer.{answer}
+use Rattle.wu_engine.specs.Finding.{KeepsTexts}
+use Rattle.wu_engine.specs.States.{State}
+use Rattle.wu_engine.specs.Units.{Indexes, IsIndexOf, TellsPostings}
+use Rattle.wu_engine.specs.View.{view_of}
+use Rattle.wu_engine.proofs.AnswerLemmas.{if_ok}
+use Rattle.wu_engine.proofs.QueryReads.{reads_for}
+use Rattle.wu_engine.proofs.Searching.{can_be_searched, can_be_read}
+use Rattle.wu_engine.proofs.querying.answered.Goals as goal
+
+pub answer-requires-clause-fit : goal.answer-requires-clause-fit
+answer-requires-clause-fit g c =
+    can_be_searched c.args.tree.now c.args.space.now c.args.parts.now c.args.files.now.entries c.args.kept.now c.keeps_the_rules.ensures
+    c.requires.sound c.args.query.now.uid c.in-Some.frames.now
+    (right-found c.args.tree.now c.args.space.now.ranges c.args.query.now.uid c.prepare.new.self c.in-Some.frames.now
+    c.prepare.ensures.right
+    c.in-Some.ensures)
+
+pub answer-requires-clause-records : goal.answer-requires-clause-records
+answer-requires-clause-records g c =
+    can_be_read c.args.tree.now c.args.space.now c.args.parts.now c.args.files.now.entries c.args.kept.now c.keeps_the_rules.ensures
+    c.requires.sound
+
+pub returns-in-Some-clause-answer : goal.returns-in-Some-clause-answer
+returns-in-Some-clause-answer g c =
+    let hers = right-found c.args.tree.now c.args.space.now.ranges c.args.query.now.uid c.prepare.new.self c.in-Some.frames.now
+    c.prepare.ensures.right c.in-Some.ensures in
+    let holds = g.D.Store.holds c.args.store.now in
+    if_ok (λ (answered : Answered). (s : State) (uid : ℕ)
+    → Indexes c.in-Some.frames.now c.args.space.now.ranges s uid → TellsPostings c.args.parts.now holds s
+    → KeepsTexts c.args.files.now.entries holds s
+    → answered ≡ answer (view_of s uid) (question_of c.args.query.now.ask))
+    (λ (answered : Answered). (s : State) → c.args.tree.now ≡ s.tree → IsIndexOf c.args.space.now.ranges s
+    → TellsPostings c.args.parts.now holds s → KeepsTexts c.args.files.now.entries holds s
+    → answered ≡ answer (view_of s c.args.query.now.uid) (question_of c.args.query.now.ask)) c.answer.result
+    (λ answered for_all s tree index tells texts.
+    for_all s c.args.query.now.uid
+    (record {
+      index = index;
+      hers = subst (λ (fs : FileSystem). AreFrames fs c.args.space.now.ranges c.args.query.now.uid c.in-Some.frames.now) tree hers;
+    }) tells texts)
+    c.answer.ensures.answer
+
+pub returns-in-Some-clause-reads : goal.returns-in-Some-clause-reads
+returns-in-Some-clause-reads g c =
+    let hers = right-found c.args.tree.now c.args.space.now.ranges c.args.query.now.uid c.prepare.new.self c.in-Some.frames.now
+    c.prepare.ensures.right c.in-Some.ensures in
+    on_ok_weaker c.answer.result
+    (reads_for c.args.tree.now c.args.space.now.ranges c.args.query.now.uid (question_of c.args.query.now.ask) c.args.parts.now
+    c.answer.new.parts.kept c.args.files.now.entries (g.D.Store.holds c.args.store.now) (g.D.Store.reads c.args.store.now)
+    (g.D.Store.reads c.answer.new.store) c.in-Some.frames.now hers)
+    c.answer.ensures.reads
