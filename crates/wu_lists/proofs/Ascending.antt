@@ -1,5 +1,5 @@
 -- Addresses that ascend, and frames in order.
-use Rattle.std.proofs.Common.{◌≡◌, ℕ, zero, suc, ◌+◌, ◌<◌, ◌≤◌, Bool, true, false, cond, List, [], ◌∷◌, ◌++◌, length, get_or, take, drop, filter, refl, subst, arith, All, Less}
+use Rattle.std.proofs.Common.{◌≡◌, ℕ, zero, suc, ◌+◌, ◌<◌, ◌≤◌, Bool, true, false, cond, List, [], ◌∷◌, ◌++◌, length, get_or, take, drop, filter, refl, arith, All, Less}
 use Rattle.std.specs.Ordering.{nat_cmp}
 use Rattle.std.specs.List.{AllByRecursion}
 use Rattle.std.specs.List.Sorted.{IsNonDecreasingBy, IsStrictlySortedBy, IsStrictlyIncreasing}
@@ -8,7 +8,6 @@ use Rattle.std.proofs.lemmas.Map.Keys.{IsStrictlyIncreasing-from_sorted}
 use Rattle.wu_base.specs.declared.addresses.Range.{Range}
 use Rattle.wu_space.specs.Addresses.{AreApart}
 use Rattle.wu_lists.specs.Ascending.{AscendBetween, AreInOrder}
-use Rattle.wu_parts.specs.Chains.{moved}
 
 -- ---- addresses
 
@@ -47,13 +46,6 @@ ascend-filter p low high (x ∷ xs) a =
       | true ↦ (a.0, rest)
       | false ↦ ascend-lower low (x + 1) high (filter p xs) (omega (arith, a.0)) rest
     ]
-
-pub ascend-moved : (start low high : ℕ) (xs : List ℕ) → AscendBetween low high xs
-    → AscendBetween (start + low) (start + high) (moved start xs)
-ascend-moved start low high [] a = omega (arith, a)
-ascend-moved start low high (x ∷ xs) a =
-    let next : start + (x + 1) ≡ start + x + 1 = omega arith in
-    (omega (arith, a.0), subst (λ n. AscendBetween n (start + high) (moved start xs)) next (ascend-moved start (x + 1) high xs a.1))
 
 pub ascend-take : (n low high : ℕ) (xs : List ℕ) → AscendBetween low high xs → AscendBetween low high (take n xs)
 ascend-take zero low high xs a = ascend-bounds low high xs a

@@ -94,7 +94,7 @@ cut_first high (f ∷ fs) later d rest before from_start inside after l m o b i 
     ∙ cut_frame high f fs before inside after o p from r s
     ∙ ap (λ (l : List Range). inside ++ filter (is_live l) after) (sym m)
 
-dead_in_ended : (ended left : List Range) (low address : ℕ) → AllByRecursion (λ f. f.start + f.len ≤ low) ended → low ≤ address
+pub dead_in_ended : (ended left : List Range) (low address : ℕ) → AllByRecursion (λ f. f.start + f.len ≤ low) ended → low ≤ address
     → is_live left address ≡ is_live (ended ++ left) address
 dead_in_ended [] left low address e l = refl
 dead_in_ended (f ∷ fs) left low address e l =

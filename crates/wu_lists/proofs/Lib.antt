@@ -1,3 +1,10 @@
 pub mod Ascending
 pub mod Parting
 pub mod Cutting
+pub mod Spans
+pub mod Caching
+pub mod Asking
+pub mod Walks
+pub mod Terms
+pub mod Readings
+pub mod Fetches

@@ -1,5 +1,5 @@
 -- The blocks of a term in a part: which of them frames need, and what their bytes are.
-use Rattle.std.specs.Prelude.{ℕ, ◌+◌, ◌-◌, ◌≡◌, ◌≤◌, ◌&&◌, min, nat_eq, nat_lt, nat_le, Bool, List, [], ◌∷◌, Option, None, Some, filter, find, length, slice_range}
+use Rattle.std.specs.Prelude.{ℕ, ◌+◌, ◌-◌, ◌≡◌, ◌&&◌, min, nat_eq, nat_lt, nat_le, Bool, List, [], ◌∷◌, Option, None, Some, filter, find, length, slice_range}
 use Rattle.std.specs.List.{list_any}
 use Rattle.std.specs.Cmp.Lexicographic.{pointwise}
 use Rattle.wu_base.specs.declared.addresses.Range.{Range}
@@ -38,9 +38,12 @@ blocks_in blob low (Some entry) = blocks_from blob low entry.count entry.blocks
 abbrev pub blocks_of : ℕ → PartDirectory → List ℕ → List Block
 blocks_of blob directory term = blocks_in blob directory.low (entry_of directory.terms term)
 
--- a frame and the block's span, from its first address to its last, overlap
+-- the frame and the block's span, from its first address to its last, overlap
+abbrev pub overlaps : Block → Range → Bool
+overlaps block frame = nat_le frame.start block.last && nat_lt block.first (frame.start + frame.len)
+
 abbrev pub meets : List Range → Block → Bool
-meets frames block = list_any (λ frame. nat_le frame.start block.last && nat_lt block.first (frame.start + frame.len)) frames
+meets frames block = list_any (overlaps block) frames
 
 -- the blocks of the term that frames need
 abbrev pub needed : ℕ → PartDirectory → List ℕ → List Range → List Block
@@ -65,7 +68,7 @@ pub record IsSpelling (block : Block) (addresses bytes : List ℕ) : Type 0 wher
 pub record HasBytes (content : Content) (block : Block) (bytes : List ℕ) : Type 0 where
   pub blob : List ℕ
   pub there : content.blobs block.blob ≡ Some blob
-  pub whole : block.at + block.len ≤ length blob
+  pub whole : length bytes ≡ block.len
   pub same : bytes ≡ bytes_of block blob
 
 -- the same, and they spell some addresses as the directory tells

@@ -2,15 +2,15 @@
 use Rattle.std.specs.Prelude.{ℕ, ◌≡◌, List, [], ◌++◌, Option, None, Some, IfSome, true, filter, length}
 use Rattle.std.specs.List.{AllByRecursion}
 use Rattle.wu_base.specs.declared.addresses.Range.{Range}
-use Rattle.wu_base.specs.declared.addresses.TermList.{TermList}
 use Rattle.wu_layout.specs.Postings.{is_live}
 use Rattle.wu_outside.specs.Content.{Content}
 use Rattle.wu_part.specs.declared.entries.BlockEntry.{BlockEntry}
 use Rattle.wu_part.specs.declared.entries.TermEntry.{TermEntry}
 use Rattle.wu_part.specs.Directories.{PartDirectory}
 use Rattle.wu_part.specs.Parts.{HoldBlocks, HoldsList}
+use Rattle.wu_lists.specs.declared.blocks.Block.{Block}
 use Rattle.wu_lists.specs.Ascending.{AscendBetween}
-use Rattle.wu_lists.specs.Blocks.{entry_of}
+use Rattle.wu_lists.specs.Blocks.{IsSpelling, bytes_of, entry_of}
 use Rattle.wu_lists.specs.Keeping.{AreHeld, Kept}
 
 -- The addresses ascend from low up to, but without, high, and lie in the frames. Where the store tells that it has the blob, the blob has
@@ -41,3 +41,7 @@ HasTerm directory term bytes addresses = HasEntry directory.low bytes term (entr
 pub record HasBlocks (low count : ℕ) (blocks : List BlockEntry) (bytes addresses : List ℕ) : Type 0 where
   pub number : count ≡ length addresses
   pub held : HoldBlocks low bytes blocks addresses
+
+-- a blob with these bytes has the block with these addresses
+abbrev pub HasBlock : Block → List ℕ → List ℕ → Type 0
+HasBlock block bytes addresses = IsSpelling block addresses (bytes_of block bytes)

@@ -7,3 +7,6 @@ pub mod Keeping
 pub mod Causes
 pub mod Ascending
 pub mod Fetching
+-- ---- What only private functions and proofs need
+
+pub mod Walking

@@ -1,5 +1,5 @@
 //! Blocks, as they are read from the store.
-ghost use Rattle.std.specs.Prelude.{◌≡◌, ◌++◌, ℕ, List, [], ◌∷◌, ⊥, option_map, IfOk, IfErr, IfSome, IfNone, OnOk};
+ghost use Rattle.std.specs.Prelude.{◌≡◌, ◌++◌, ℕ, List, [], ◌∷◌, option_map, IfOk, IfErr, IfSome, IfNone, OnOk};
 ghost use Rattle.wu_lists.specs.Blocks.{HasBytes, IsSpelledIn, IsSpelling, range_of};
 ghost use Rattle.wu_lists.specs.Causes.{IsCause};
 

@@ -1,6 +1,6 @@
 //! Addresses and blocks beside frames, both walked by galloping: J. L. Bentley and A. C. Yao, An almost optimal
 //! algorithm for unbounded searching, 1976.
-ghost use Rattle.std.specs.Prelude.{◌≡◌, ◌+◌, ◌<◌, ◌≤◌, ◌++◌, ℕ, filter, length, take, drop, nat_le, OnOk, MatchBool};
+ghost use Rattle.std.specs.Prelude.{◌≡◌, ◌+◌, ◌<◌, ◌≤◌, ◌++◌, ℕ, filter, length, take, drop, nat_le, OnOk};
 ghost use Rattle.std.specs.List.{AllByRecursion};
 ghost use Rattle.wu_layout.specs.Postings.{is_live};
 ghost use Rattle.wu_lists.specs.Ascending.{AscendBetween, AreInOrder};

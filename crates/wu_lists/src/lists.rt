@@ -1,16 +1,16 @@
 //! The lists of terms in parts, and the blocks that are kept of them.
-ghost use Rattle.std.specs.Prelude.{◌≡◌, ◌+◌, ◌<◌, ◌≤◌, ◌++◌, ℕ, List, [], ◌∷◌, ⊥, All, filter, length, list, option_map, true, IfOk, IfErr, IfSome, OnOk};
+ghost use Rattle.std.specs.Prelude.{◌≡◌, ◌+◌, ◌<◌, ◌≤◌, ℕ, List, [], ◌∷◌, All, filter, true, false, IfOk, IfErr, IfSome, OnOk, Some};
 ghost use Rattle.std.specs.List.{AllByRecursion, list_any};
 ghost use Rattle.std.specs.Map.{keys_of, lookup};
-ghost use Rattle.lru.specs.LruCache.{lru_cache};
+ghost use Rattle.lru.specs.LruCache.{IsValid, lru_cache};
 ghost use Rattle.wu_base.specs.declared.limits.TheConstants.{ADDRESSES_MAX};
 ghost use Rattle.wu_space.specs.Addresses.{AreApart};
 ghost use Rattle.wu_part.specs.Directories.{AreBlocks};
 ghost use Rattle.wu_lists.specs.Ascending.{AscendBetween, AreInOrder};
-ghost use Rattle.wu_lists.specs.Blocks.{IsSpelledIn, IsSpelling, blocks_from, bytes_of, meets, needed};
+ghost use Rattle.wu_lists.specs.Blocks.{HasBytes, IsSpelledIn, IsSpelling, blocks_from, bytes_of, meets, needed};
 ghost use Rattle.wu_lists.specs.Causes.{IsCause, IsNoPart};
-ghost use Rattle.wu_lists.specs.Fetching.{AreFetched, HasBlocks, HasTerm, Puts};
-ghost use Rattle.wu_lists.specs.Keeping.{AreHeld, Asks, all_missing, is_same, missing};
+ghost use Rattle.wu_lists.specs.Fetching.{AreFetched, HasBlock, HasBlocks, HasTerm, Puts};
+ghost use Rattle.wu_lists.specs.Keeping.{AreHeld, Asks, IsChecked, all_missing, asked, is_same};
 
 use crate::blocks::{Block, read_bytes};
 use crate::frames::{frames_from, is_needed, put_within};
@@ -106,7 +106,7 @@ impl Lists {
         frames: &[Range],
     ) -> Result<Vec<u64>, Trouble>
         requires order { AreInOrder 0 ADDRESSES_MAX frames.now }
-        requires blocks { AreBlocks dir.now.low dir.now.high entry.entry.count entry.entry.blocks }
+        requires cut { AreBlocks dir.now.low dir.now.high entry.count entry.blocks }
         requires bounded { dir.now.high < ADDRESSES_MAX }
         requires span { dir.now.low ≤ dir.now.high }
         ensures addresses { IfOk result (λ found. AreFetched (HasBlocks dir.now.low entry.entry.count entry.entry.blocks) frames.now blob
@@ -153,8 +153,9 @@ impl Lists {
     ) -> Result<(), Trouble>
         requires order { AreInOrder 0 ADDRESSES_MAX frames.now }
         requires after { AllByRecursion (λ frame. block.now.first < frame.start + frame.len) frames.now }
+        requires span { block.now.first ≤ block.now.last }
         requires bounded { block.now.last < ADDRESSES_MAX }
-        ensures addresses { OnOk result (Puts (AreFetched (IsSpelling block.now) frames.now block.now.blob
+        ensures addresses { OnOk result (Puts (AreFetched (HasBlock block.now) frames.now block.now.blob
             block.now.first (block.now.last + 1) (D.holds store.old) self.old) found.old.items found.new.items) }
         ensures blocks { OnOk result (Asks (filter (meets frames.now) (block.now ∷ [])) (D.holds store.old) self.old self.new
             (D.reads store.old) (D.reads store.new)) }
@@ -185,20 +186,41 @@ impl Lists {
         ensures holds { D.holds store.new ≡ D.holds store.old }
         ensures moments { D.moments store.new ≡ D.moments store.old }
         ensures calm { OnOk result (D.faults store.new ≡ D.faults store.old) }
-        ensures cause { IfErr result (IsCause (missing (keys_of self.old.entries) block.now) block.now.blob
+        ensures cause { IfErr result (IsCause (all_missing self.old.cap (keys_of self.old.entries) (block.now ∷ [])) block.now.blob
             (IfSome (D.holds store.old) (λ content. IsSpelledIn content block.now → ⊥))
             (D.faults store.old) (D.faults store.new) (D.reads store.old) (D.reads store.new)) }
     {
-        if self.kept.promote(block) {
+        if self.is_kept(block) {
             return Ok(self.kept_addresses(block)?);
         }
         self.read(store, block)
     }
 
+    /// Whether the block is kept. It is then the one that was asked for last.
+    fn is_kept(&mut self, block: &Block) -> bool
+        ensures kept { result ≡ list_any (is_same block.now) (keys_of self.old.entries) }
+        ensures found { lookup (is_same block.now) self.new.entries ≡ lookup (is_same block.now) self.old.entries }
+        ensures asked { result ≡ true → keys_of self.new.entries ≡ asked self.old.cap (keys_of self.old.entries) block.now }
+        ensures absent { result ≡ false → self.new ≡ self.old }
+        ensures capacity { self.new.cap ≡ self.old.cap }
+        ensures held { (blob : ℕ) (bytes : List ℕ) → AreHeld blob bytes self.old → AreHeld blob bytes self.new }
+    {
+        self.is_valid();
+        self.kept.promote(block)
+    }
+
+    /// A law: no block is kept twice, and not more than there may be.
+    fn is_valid(&self)
+        ensures { IsValid is_same self.now }
+    {
+        let _count = self.kept.len();
+    }
+
     /// The addresses of a block that is kept.
     fn kept_addresses(&self, block: &Block) -> Result<Vec<u64>, NoMemory>
         requires { list_any (is_same block.now) (keys_of self.now.entries) ≡ true }
-        ensures { IfOk result (λ found. IfSome (lookup (is_same block.now) self.now.entries) (IsSpelling block.now found.items)) }
+        ensures { IfOk result (λ found. (bytes : List ℕ) × (lookup (is_same block.now) self.now.entries ≡ Some bytes)
+            × IsSpelling block.now found.items bytes) }
     {
         match self.kept.peek(block) {
             Some(bytes) => match block.addresses(self.alloc, bytes.as_slice())? {
@@ -212,9 +234,8 @@ impl Lists {
     /// The addresses of a block that isn't kept: it is read, checked and kept.
     fn read<D: Store>(&mut self, store: &mut D, block: &Block) -> Result<Vec<u64>, Trouble>
         requires { list_any (is_same block.now) (keys_of self.old.entries) ≡ false }
-        ensures spelled { IfOk result (λ found. IfSome (D.holds store.old) (λ content. (bytes : List ℕ)
-            → content.blobs block.now.blob ≡ Some bytes → IsSpelling block.now found.items (bytes_of block.now bytes))) }
-        ensures ascend { IfOk result (λ found. AscendBetween block.now.first (block.now.last + 1) found.items) }
+        ensures spelled { IfOk result (λ found. (bytes : List ℕ) × IsSpelling block.now found.items bytes
+            × IfSome (D.holds store.old) (λ content. HasBytes content block.now bytes)) }
         ensures blocks { OnOk result (Asks (block.now ∷ []) (D.holds store.old) self.old self.new
             (D.reads store.old) (D.reads store.new)) }
         ensures holds { D.holds store.new ≡ D.holds store.old }
@@ -227,10 +248,24 @@ impl Lists {
         let bytes = read_bytes(self.alloc, store, block)?;
         match block.addresses(self.alloc, &bytes)? {
             Some(addresses) => {
-                self.kept.put(*block, Bytes::from(bytes))?;
+                self.keep(block, bytes)?;
                 Ok(addresses)
             }
             None => Err(Trouble::Damaged { blob: block.blob }),
         }
+    }
+
+    /// Keeps a block that isn't kept yet, of which these are the bytes.
+    fn keep(&mut self, block: &Block, bytes: Vec<u8>) -> Result<(), NoMemory>
+        requires absent { list_any (is_same block.now) (keys_of self.old.entries) ≡ false }
+        requires checked { IsChecked (block.now, bytes.items) }
+        ensures asked { OnOk result (keys_of self.new.entries ≡ asked self.old.cap (keys_of self.old.entries) block.now) }
+        ensures capacity { OnOk result (self.new.cap ≡ self.old.cap) }
+        ensures held { OnOk result ((blob : ℕ) (others : List ℕ) → (block.now.blob ≡ blob → bytes.items ≡ bytes_of block.now others)
+            → AreHeld blob others self.old → AreHeld blob others self.new) }
+    {
+        self.is_valid();
+        self.kept.put(*block, Bytes::from(bytes))?;
+        Ok(())
     }
 }

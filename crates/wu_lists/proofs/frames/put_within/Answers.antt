@@ -59,6 +59,6 @@ loop-left-preserved c =
 
 pub returns : goal.returns
 returns c =
-    c.from.ensures ∙ sym (append-nil c.loop-left.found.items)
+    sym (append-nil c.loop-left.found.items)
     ∙ ap (λ (l : List ℕ). c.loop-left.found.items ++ l) (sym (none_left c.loop-left.left.now c.loop-left.rest.now (omega arith)))
     ∙ c.loop-left.invariant.made

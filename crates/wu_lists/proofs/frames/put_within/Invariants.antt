@@ -6,7 +6,7 @@ use Rattle.wu_lists.proofs.frames.put_within.Given as goal
 
 abbrev pub invariant-loop-left : goal.invariant-loop-left
 invariant-loop-left l = record {
-  made : l.found.items ++ filter (is_live l.left) l.rest ≡ filter (is_live l.frames) l.addresses;
+  made : l.found.items ++ filter (is_live l.left) l.rest ≡ l.fn.found.items ++ filter (is_live l.frames) l.addresses;
   ascend : AscendBetween 0 ADDRESSES_MAX l.rest;
   order : AreInOrder 0 ADDRESSES_MAX l.left;
 }

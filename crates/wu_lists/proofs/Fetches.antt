@@ -1,0 +1,193 @@
+-- One block that is asked for: what is found, kept and read.
+use Rattle.std.proofs.Common.{◌≡◌, ℕ, ◌+◌, ◌≤◌, Bool, true, false, cond, List, [], ◌∷◌, ◌++◌, filter, refl, ap, sym, ◌∙◌, subst, arith, append-nil}
+use Rattle.std.specs.Prelude.{Option, None, Some, Result, Ok, Err, IfSome, IfOk, IfErr, OnOk}
+use Rattle.std.specs.List.{AllByRecursion, list_any}
+use Rattle.std.specs.Map.{keys_of, lookup}
+use Rattle.wu_base.specs.declared.addresses.Range.{Range}
+use Rattle.wu_layout.specs.Postings.{is_live}
+use Rattle.wu_outside.specs.Content.{Content}
+use Rattle.wu_outside.specs.declared.ranges.ReadRange.{ReadRange}
+use Rattle.wu_vbyte.proofs.BlockLemmas.{block_same}
+use Rattle.wu_lists.specs.declared.blocks.Block.{Block}
+use Rattle.wu_lists.specs.Ascending.{AscendBetween}
+use Rattle.wu_lists.specs.Blocks.{HasBytes, IsSpelledIn, IsSpelling, bytes_of, meets}
+use Rattle.wu_lists.specs.Fetching.{AreFetched, HasBlock, Puts}
+use Rattle.wu_lists.specs.Keeping.{AreHeld, Asks, Kept, all_missing, asked, is_same}
+use Rattle.wu_lists.proofs.Ascending.{ascend-filter}
+use Rattle.wu_lists.proofs.Asking.{with_ranges}
+use Rattle.wu_lists.proofs.Caching.{held-found, missing-none, missing-one}
+use Rattle.wu_lists.proofs.Spans.{none_live, spelled_ascend}
+
+-- ---- what is found
+
+module _ (block : Block) (frames : List Range) (holds : Option Content) (kept : Kept) where
+  abbrev Found : List ℕ → Type 0
+  Found = AreFetched (HasBlock block) frames block.blob block.first (block.last + 1) holds kept
+
+  -- of a block that frames don't need
+  pub fetched-none : (found : List ℕ) → block.first ≤ block.last → meets frames block ≡ false → Puts Found found found
+  fetched-none found span missed = record {
+    more = [];
+    put = sym (append-nil found);
+    kind = record { ascend = omega arith; live = tt; told = nothing holds };
+  }
+    where
+      nothing : (holds : Option Content) → IfSome holds (λ content. (bytes addresses : List ℕ) → content.blobs block.blob ≡ Some bytes
+          → AreHeld block.blob bytes kept → HasBlock block bytes addresses → [] ≡ filter (is_live frames) addresses)
+      nothing None = tt
+      nothing (Some content) = λ bytes addresses there held has.
+          sym (none_live frames block block.first addresses missed (omega arith)
+          (spelled_ascend block addresses (bytes_of block bytes) has))
+
+  all-filter : (p : ℕ → Bool) (xs : List ℕ) → AllByRecursion (λ x. p x ≡ true) (filter p xs)
+  all-filter p [] = tt
+  all-filter p (x ∷ xs) =
+      elim (p x) as (λ b. p x ≡ b → AllByRecursion (λ y. p y ≡ true) (cond b (x ∷ filter p xs) (filter p xs))) [
+        | true ↦ λ e. (e, all-filter p xs)
+        | false ↦ λ e. all-filter p xs
+      ] refl
+
+  -- of one whose addresses these are
+  pub fetched-some : (found after addresses : List ℕ) → AscendBetween block.first (block.last + 1) addresses
+      → IfSome holds (λ content. (bytes : List ℕ) → content.blobs block.blob ≡ Some bytes → AreHeld block.blob bytes kept
+      → IsSpelling block addresses (bytes_of block bytes))
+      → after ≡ found ++ filter (is_live frames) addresses → Puts Found found after
+  fetched-some found after addresses up told put = record {
+    more = filter (is_live frames) addresses;
+    put = put;
+    kind = record {
+      ascend = ascend-filter (is_live frames) block.first (block.last + 1) addresses up;
+      live = all-filter (is_live frames) addresses;
+      told = same holds told;
+    };
+  }
+    where
+      same : (holds : Option Content)
+          → IfSome holds (λ content. (bytes : List ℕ) → content.blobs block.blob ≡ Some bytes → AreHeld block.blob bytes kept
+          → IsSpelling block addresses (bytes_of block bytes))
+          → IfSome holds (λ content. (bytes others : List ℕ) → content.blobs block.blob ≡ Some bytes
+          → AreHeld block.blob bytes kept → HasBlock block bytes others
+          → filter (is_live frames) addresses ≡ filter (is_live frames) others)
+      same None t = tt
+      same (Some content) t = λ bytes others there held has.
+          let s = t bytes there held in
+          ap (filter (is_live frames)) (block_same block.low addresses others (bytes_of block bytes) s.spelled has.spelled)
+
+-- ---- what is kept and read
+
+pub needed-one : (frames : List Range) (block : Block) → meets frames block ≡ true → filter (meets frames) (block ∷ []) ≡ block ∷ []
+needed-one frames block e = ap (λ (b : Bool). cond b (block ∷ []) []) e
+
+pub needed-nothing : (frames : List Range) (block : Block) → meets frames block ≡ false → filter (meets frames) (block ∷ []) ≡ []
+needed-nothing frames block e = ap (λ (b : Bool). cond b (block ∷ []) []) e
+
+module _ (block : Block) (old : Kept) where
+  pub missed-none : list_any (is_same block) (keys_of old.entries) ≡ true → all_missing old.cap (keys_of old.entries) (block ∷ []) ≡ []
+  missed-none there = ap (λ (bs : List Block). bs ++ []) (missing-none (keys_of old.entries) block there)
+
+  pub missed-one : list_any (is_same block) (keys_of old.entries) ≡ false
+      → all_missing old.cap (keys_of old.entries) (block ∷ []) ≡ block ∷ []
+  missed-one absent = ap (λ (bs : List Block). bs ++ []) (missing-one (keys_of old.entries) block absent)
+
+module _ (block : Block) (holds : Option Content) (old new : Kept) (ranges ranges_now : Option (List ReadRange))
+    (capacity : new.cap ≡ old.cap) (keys : keys_of new.entries ≡ asked old.cap (keys_of old.entries) block) where
+  -- a block that was kept
+  pub asks-kept : list_any (is_same block) (keys_of old.entries) ≡ true → ranges_now ≡ ranges
+      → ((blob : ℕ) (bytes : List ℕ) → AreHeld blob bytes old → AreHeld blob bytes new)
+      → Asks (block ∷ []) holds old new ranges ranges_now
+  asks-kept there same held = record {
+    capacity = capacity;
+    kept = keys;
+    read =
+        same ∙ nothing-read ranges
+        ∙ ap (λ (bs : List Block). with_ranges ranges bs) (sym (missed-none block old there));
+    spelled = nothing-spelled holds (all_missing old.cap (keys_of old.entries) (block ∷ [])) (missed-none block old there);
+    held = still holds;
+  }
+    where
+      nothing-read : (ranges : Option (List ReadRange)) → ranges ≡ with_ranges ranges []
+      nothing-read None = refl
+      nothing-read (Some earlier) = ap Some (sym (append-nil earlier))
+
+      nothing-spelled : (holds : Option Content) (bs : List Block) → bs ≡ []
+          → IfSome holds (λ content. AllByRecursion (IsSpelledIn content) bs)
+      nothing-spelled None bs e = tt
+      nothing-spelled (Some content) bs e = subst (AllByRecursion (IsSpelledIn content)) (sym e) tt
+
+      still : (holds : Option Content) → IfSome holds (λ content. (blob : ℕ) (bytes : List ℕ) → content.blobs blob ≡ Some bytes
+          → AreHeld blob bytes old → AreHeld blob bytes new)
+      still None = tt
+      still (Some content) = λ blob bytes there h. held blob bytes h
+
+  -- a block that was read
+  pub asks-read : (bytes addresses : List ℕ) → list_any (is_same block) (keys_of old.entries) ≡ false
+      → ranges_now ≡ with_ranges ranges (block ∷ [])
+      → IfSome holds (λ content. HasBytes content block bytes) → IsSpelling block addresses bytes
+      → ((blob : ℕ) (others : List ℕ) → (block.blob ≡ blob → bytes ≡ bytes_of block others) → AreHeld blob others old
+      → AreHeld blob others new)
+      → Asks (block ∷ []) holds old new ranges ranges_now
+  asks-read bytes addresses absent read has spelled held = record {
+    capacity = capacity;
+    kept = keys;
+    read = read ∙ ap (λ (bs : List Block). with_ranges ranges bs) (sym (missed-one block old absent));
+    spelled = one-spelled holds (all_missing old.cap (keys_of old.entries) (block ∷ [])) (missed-one block old absent) has;
+    held = still holds has;
+  }
+    where
+      one-spelled : (holds : Option Content) (bs : List Block) → bs ≡ block ∷ [] → IfSome holds (λ content. HasBytes content block bytes)
+          → IfSome holds (λ content. AllByRecursion (IsSpelledIn content) bs)
+      one-spelled None bs e h = tt
+      one-spelled (Some content) bs e h =
+          subst (AllByRecursion (IsSpelledIn content)) (sym e)
+          (record { bytes = bytes; has = h; addresses = addresses; spelled = spelled }, tt)
+
+      some_same : (a b : List ℕ) → Some a ≡ Some b → a ≡ b
+      some_same a b e = cc
+
+      still : (holds : Option Content) → IfSome holds (λ content. HasBytes content block bytes)
+          → IfSome holds (λ content. (blob : ℕ) (others : List ℕ) → content.blobs blob ≡ Some others
+          → AreHeld blob others old → AreHeld blob others new)
+      still None h = tt
+      still (Some content) h = λ blob others there before.
+          held blob others
+          (λ same.
+          let blobs : h.blob ≡ others =
+          some_same h.blob others (sym h.there ∙ ap content.blobs same ∙ there) in
+          h.same ∙ ap (λ (l : List ℕ). bytes_of block l) blobs)
+          before
+
+-- ---- of a result
+
+pub if_ok : {T E : Type 0} (P Q : T → Type 0) (r : Result T E) → ((value : T) → P value → Q value) → IfOk r P → IfOk r Q
+if_ok P Q (Ok value) step h = step value h
+if_ok P Q (Err error) step h = h
+
+pub if_err : {T E : Type 0} (P Q : E → Type 0) (r : Result T E) → ((error : E) → P error → Q error) → IfErr r P → IfErr r Q
+if_err P Q (Ok value) step h = h
+if_err P Q (Err error) step h = step error h
+
+pub on_ok : {T E : Type 0} (P Q : Type 0) (r : Result T E) → (P → Q) → OnOk r P → OnOk r Q
+on_ok P Q (Ok value) step h = step h
+on_ok P Q (Err error) step h = h
+
+-- what the addresses of a kept block are
+pub told-kept : (block : Block) (holds : Option Content) (kept : Kept) (bytes addresses : List ℕ)
+    → lookup (is_same block) kept.entries ≡ Some bytes → IsSpelling block addresses bytes
+    → IfSome holds (λ content. (blob : List ℕ) → content.blobs block.blob ≡ Some blob → AreHeld block.blob blob kept
+    → IsSpelling block addresses (bytes_of block blob))
+told-kept block None kept bytes addresses there spelled = tt
+told-kept block (Some content) kept bytes addresses there spelled = λ blob is held.
+    subst (IsSpelling block addresses) (held-found block.blob blob block kept bytes held refl there) spelled
+
+-- and those of one that was read
+pub told-read : (block : Block) (holds : Option Content) (kept : Kept) (bytes addresses : List ℕ)
+    → IfSome holds (λ content. HasBytes content block bytes) → IsSpelling block addresses bytes
+    → IfSome holds (λ content. (blob : List ℕ) → content.blobs block.blob ≡ Some blob → AreHeld block.blob blob kept
+    → IsSpelling block addresses (bytes_of block blob))
+told-read block None kept bytes addresses has spelled = tt
+told-read block (Some content) kept bytes addresses has spelled = λ blob is held.
+    let same : has.blob ≡ blob = found_same has.blob blob (sym has.there ∙ is) in
+    subst (IsSpelling block addresses) (has.same ∙ ap (λ (l : List ℕ). bytes_of block l) same) spelled
+  where
+    found_same : (a b : List ℕ) → Some a ≡ Some b → a ≡ b
+    found_same a b e = cc

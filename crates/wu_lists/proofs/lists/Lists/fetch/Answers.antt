@@ -1,0 +1,96 @@
+use Rattle.std.proofs.Common.{◌+◌, List, filter, subst, arith, rules}
+use Rattle.std.specs.Prelude.{IfErr, IfSome}
+use Rattle.std.specs.List.{AllByRecursion}
+use Rattle.std.specs.Map.{keys_of}
+use Rattle.wu_base.specs.declared.limits.TheConstants.{ADDRESSES_MAX}
+use Rattle.wu_base.specs.declared.troubles.Trouble.{Trouble}
+use Rattle.wu_layout.proofs.EntryLemmas.{IfSome-map}
+use Rattle.wu_lists.specs.Blocks.{IsSpelledIn, blocks_from, meets, needed}
+use Rattle.wu_lists.specs.declared.blocks.Block.{Block}
+use Rattle.wu_lists.specs.Causes.{IsCause, IsNoPart}
+use Rattle.wu_lists.specs.Keeping.{Asks, all_missing}
+use Rattle.wu_lists.proofs.Ascending.{order-from_apart, all_from_zero}
+use Rattle.wu_lists.proofs.Asking.{asks-none, cause-step}
+use Rattle.wu_lists.proofs.Fetches.{if_err}
+use Rattle.wu_lists.proofs.Terms.{entry-absent, entry-blocks, entry-found, fetched-absent, fetched-term, needed-absent, needed-found, no-part}
+use Rattle.wu_lists.proofs.lists.Lists.fetch.Goals as goal
+
+pub fetch_blocks-requires-clause-order : goal.fetch_blocks-requires-clause-order
+fetch_blocks-requires-clause-order g c =
+    order-from_apart 0 ADDRESSES_MAX c.args.frames.now (omega arith) (all_from_zero c.args.frames.now) c.requires.apart c.requires.bounded
+
+pub fetch_blocks-requires-clause-cut : goal.fetch_blocks-requires-clause-cut
+fetch_blocks-requires-clause-cut g c =
+    entry-blocks c.args.dir.now c.is_spelled.ensures.0 c.in-Some.entry c.is_spelled.ensures.1 c.in-Some.ensures.0
+
+pub returns-in_err-found-in-Some-clause-cause : goal.returns-in_err-found-in-Some-clause-cause
+returns-in_err-found-in-Some-clause-cause g c =
+    let directory = c.args.dir.now in
+    let blob = c.args.blob in
+    let entry = c.in-Some.entry in
+    let frames = c.args.frames.now in
+    let old = c.args.self.now in
+    let holds = g.D.Store.holds c.args.store.now in
+    let faults = g.D.Store.faults in
+    let reads = g.D.Store.reads in
+    let there = entry-found directory.terms entry c.args.term.now c.is_spelled.ensures.1.holds.ascending c.in-Some.ensures.0
+    c.in-Some.ensures.1 in
+    let Broken = IfSome holds
+    (λ content. AllByRecursion (IsSpelledIn content) (blocks_from blob directory.low entry.count entry.blocks) → ⊥) in
+    let Other = IfSome holds (λ content. IsNoPart directory (content.blobs blob)) in
+    let told : IfErr c.from_residual.result (IsCause (all_missing old.cap (keys_of old.entries)
+    (filter (meets frames) (blocks_from blob directory.low entry.count entry.blocks))) blob Broken
+    (faults c.args.store.now) (faults c.fetch_blocks.new.store) (reads c.args.store.now) (reads c.fetch_blocks.new.store)) =
+    search rules in
+    let Goal : Trouble → Type 0 = λ trouble. IsCause (all_missing old.cap (keys_of old.entries)
+    (needed blob directory c.args.term.now frames)) blob Other
+    (faults c.args.store.now) (faults c.fetch_blocks.new.store) (reads c.args.store.now) (reads c.fetch_blocks.new.store) trouble in
+    if_err _ Goal c.from_residual.result
+    (λ trouble is.
+    subst (λ (bs : List Block). IsCause (all_missing old.cap (keys_of old.entries) bs) blob Other
+    (faults c.args.store.now) (faults c.fetch_blocks.new.store) (reads c.args.store.now) (reads c.fetch_blocks.new.store) trouble)
+    (needed-found directory c.args.term.now frames blob entry there)
+    (cause-step (all_missing old.cap (keys_of old.entries)
+    (filter (meets frames) (blocks_from blob directory.low entry.count entry.blocks))) blob Broken Other
+    (faults c.args.store.now) (faults c.fetch_blocks.new.store) (reads c.args.store.now) (reads c.fetch_blocks.new.store) trouble
+    (IfSome-map (λ content. AllByRecursion (IsSpelledIn content) (blocks_from blob directory.low entry.count entry.blocks) → ⊥)
+    (λ content. IsNoPart directory (content.blobs blob)) holds
+    (λ content broken. no-part content blob directory entry c.in-Some.ensures.0 broken)) is))
+    told
+
+pub returns-in_ok-found-in-Some-clause-addresses : goal.returns-in_ok-found-in-Some-clause-addresses
+returns-in_ok-found-in-Some-clause-addresses g c =
+    let directory = c.args.dir.now in
+    let there = entry-found directory.terms c.in-Some.entry c.args.term.now c.is_spelled.ensures.1.holds.ascending c.in-Some.ensures.0
+    c.in-Some.ensures.1 in
+    rw c.from.ensures
+    (fetched-term directory c.args.term.now c.args.frames.now c.args.blob directory.low (directory.high + 1)
+    (g.D.Store.holds c.args.store.now) c.args.self.now c.in-Some.entry c.in_ok-found-in-Some.found.items there
+    c.in_ok-found-in-Some.ensures.addresses)
+
+pub returns-in_ok-found-in-Some-clause-blocks : goal.returns-in_ok-found-in-Some-clause-blocks
+returns-in_ok-found-in-Some-clause-blocks g c =
+    let directory = c.args.dir.now in
+    let there = entry-found directory.terms c.in-Some.entry c.args.term.now c.is_spelled.ensures.1.holds.ascending c.in-Some.ensures.0
+    c.in-Some.ensures.1 in
+    subst (λ (bs : List Block). Asks bs (g.D.Store.holds c.args.store.now) c.args.self.now c.fetch_blocks.new.self
+    (g.D.Store.reads c.args.store.now) (g.D.Store.reads c.fetch_blocks.new.store))
+    (needed-found directory c.args.term.now c.args.frames.now c.args.blob c.in-Some.entry there) c.in_ok-found-in-Some.ensures.blocks
+
+pub returns-in-None-clause-addresses : goal.returns-in-None-clause-addresses
+returns-in-None-clause-addresses g c =
+    let directory = c.args.dir.now in
+    let span = c.is_spelled.ensures.1.holds.span in
+    rw c.new.ensures
+    (fetched-absent directory c.args.term.now c.args.frames.now c.args.blob directory.low (directory.high + 1)
+    (g.D.Store.holds c.args.store.now) c.args.self.now (entry-absent directory.terms c.args.term.now c.in-None.ensures)
+    (omega (arith, span)))
+
+pub returns-in-None-clause-blocks : goal.returns-in-None-clause-blocks
+returns-in-None-clause-blocks g c =
+    let directory = c.args.dir.now in
+    subst (λ (bs : List Block). Asks bs (g.D.Store.holds c.args.store.now) c.args.self.now c.args.self.now
+    (g.D.Store.reads c.args.store.now) (g.D.Store.reads c.args.store.now))
+    (needed-absent directory c.args.term.now c.args.frames.now c.args.blob
+    (entry-absent directory.terms c.args.term.now c.in-None.ensures))
+    (asks-none (g.D.Store.holds c.args.store.now) c.args.self.now (g.D.Store.reads c.args.store.now))

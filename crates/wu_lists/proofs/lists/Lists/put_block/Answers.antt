@@ -1,0 +1,45 @@
+use Rattle.std.proofs.Common.{◌≡◌, ◌+◌, ℕ, List, ◌++◌, true, false, filter, sym, ◌∙◌, ap, subst, arith, rules}
+use Rattle.wu_base.specs.declared.limits.TheConstants.{ADDRESSES_MAX}
+use Rattle.wu_layout.specs.Postings.{is_live}
+use Rattle.wu_lists.specs.declared.blocks.Block.{Block}
+use Rattle.wu_lists.specs.Keeping.{Asks}
+use Rattle.wu_lists.proofs.Ascending.{ascend-higher, ascend-lower}
+use Rattle.wu_lists.proofs.Asking.{asks-none}
+use Rattle.wu_lists.proofs.Fetches.{fetched-none, fetched-some, needed-nothing, needed-one}
+use Rattle.wu_lists.proofs.lists.Lists.put_block.Goals as goal
+
+pub returns-then-not-is_needed-clause-addresses : goal.returns-then-not-is_needed-clause-addresses
+returns-then-not-is_needed-clause-addresses g c =
+    let missed : c.is_needed.result ≡ false = search rules in
+    fetched-none c.args.block.now c.args.frames.now (g.D.Store.holds c.args.store.now) c.args.self.now c.args.found.now.items
+    c.requires.span (sym c.is_needed.ensures ∙ missed)
+
+pub returns-then-not-is_needed-clause-blocks : goal.returns-then-not-is_needed-clause-blocks
+returns-then-not-is_needed-clause-blocks g c =
+    let missed : c.is_needed.result ≡ false = search rules in
+    subst (λ (bs : List Block). Asks bs (g.D.Store.holds c.args.store.now) c.args.self.now c.args.self.now
+    (g.D.Store.reads c.args.store.now) (g.D.Store.reads c.args.store.now))
+    (sym (needed-nothing c.args.frames.now c.args.block.now (sym c.is_needed.ensures ∙ missed)))
+    (asks-none (g.D.Store.holds c.args.store.now) c.args.self.now (g.D.Store.reads c.args.store.now))
+
+pub put_within-requires-clause-ascend : goal.put_within-requires-clause-ascend
+put_within-requires-clause-ascend g c =
+    rw c.deref.ensures.value
+    (ascend-lower 0 c.args.block.now.first ADDRESSES_MAX c.in_ok-addresses.addresses.items (omega arith)
+    (ascend-higher c.args.block.now.first (c.args.block.now.last + 1) ADDRESSES_MAX c.in_ok-addresses.addresses.items
+    (omega (arith, c.requires.bounded)) c.in_ok-addresses.ensures.ascend))
+
+pub returns-clause-addresses : goal.returns-clause-addresses
+returns-clause-addresses g c =
+    let frames = c.args.frames.now in
+    fetched-some c.args.block.now frames (g.D.Store.holds c.args.store.now) c.args.self.now c.args.found.now.items
+    c.put_within.new.found.items c.in_ok-addresses.addresses.items c.in_ok-addresses.ensures.ascend c.in_ok-addresses.ensures.told
+    (c.in_ok-put_within.ensures
+    ∙ ap (λ (l : List ℕ). c.args.found.now.items ++ filter (is_live frames) l) c.deref.ensures.value)
+
+pub returns-clause-blocks : goal.returns-clause-blocks
+returns-clause-blocks g c =
+    let needed : c.is_needed.result ≡ true = search rules in
+    subst (λ (bs : List Block). Asks bs (g.D.Store.holds c.args.store.now) c.args.self.now c.addresses.new.self
+    (g.D.Store.reads c.args.store.now) (g.D.Store.reads c.addresses.new.store))
+    (sym (needed-one c.args.frames.now c.args.block.now (sym c.is_needed.ensures ∙ needed))) c.in_ok-addresses.ensures.blocks

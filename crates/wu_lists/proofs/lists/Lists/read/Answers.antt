@@ -1,0 +1,58 @@
+use Rattle.std.proofs.Common.{◌≡◌, ℕ, List, [], ◌∷◌, rules}
+use Rattle.std.specs.Prelude.{Err, IfSome}
+use Rattle.wu_layout.proofs.EntryLemmas.{IfSome-map}
+use Rattle.wu_base.specs.declared.troubles.Trouble.TheVariants.{NoMemory}
+use Rattle.wu_lists.specs.Blocks.{HasBytes, IsSpelledIn, IsSpelling}
+use Rattle.wu_lists.specs.declared.blocks.Block.{Block}
+use Rattle.wu_lists.proofs.Fetches.{asks-read}
+use Rattle.wu_lists.proofs.Readings.{cause-damaged, cause-memory, unspelled}
+use Rattle.wu_lists.proofs.lists.Lists.read.Goals as goal
+
+pub returns-in_err-addresses-clause-cause : goal.returns-in_err-addresses-clause-cause
+returns-in_err-addresses-clause-cause g c =
+    let block : Block = c.args.block.now in
+    let Broken = IfSome (g.D.Store.holds c.args.store.now) (λ content. IsSpelledIn content block → ⊥) in
+    let memory : c.from_residual-in_err-addresses.result ≡ Err NoMemory = search rules in
+    rw memory
+    (cause-memory (block ∷ []) block.blob Broken (g.D.Store.faults c.args.store.now) (g.D.Store.faults c.read_bytes.new.store)
+    (g.D.Store.reads c.args.store.now) (g.D.Store.reads c.read_bytes.new.store) c.in_ok-bytes.ensures.calm c.in_ok-bytes.ensures.reads)
+
+pub returns-in_err-keep-in-Some-clause-cause : goal.returns-in_err-keep-in-Some-clause-cause
+returns-in_err-keep-in-Some-clause-cause g c =
+    let block : Block = c.args.block.now in
+    let Broken = IfSome (g.D.Store.holds c.args.store.now) (λ content. IsSpelledIn content block → ⊥) in
+    let memory : c.from_residual-in_err-keep-in-Some.result ≡ Err NoMemory = search rules in
+    rw memory
+    (cause-memory (block ∷ []) block.blob Broken (g.D.Store.faults c.args.store.now) (g.D.Store.faults c.read_bytes.new.store)
+    (g.D.Store.reads c.args.store.now) (g.D.Store.reads c.read_bytes.new.store) c.in_ok-bytes.ensures.calm c.in_ok-bytes.ensures.reads)
+
+pub keep-requires-clause-checked : goal.keep-requires-clause-checked
+keep-requires-clause-checked g c =
+    (c.in-Some.addresses.items, rw (c.in-Some.is, c.deref.ensures.value) at c.in_ok-addresses.ensures.found)
+
+pub returns-in_ok-keep-in-Some-clause-spelled : goal.returns-in_ok-keep-in-Some-clause-spelled
+returns-in_ok-keep-in-Some-clause-spelled g c =
+    let spelled : IsSpelling c.args.block.now c.in-Some.addresses.items c.in_ok-bytes.bytes.items =
+    rw (c.in-Some.is, c.deref.ensures.value) at c.in_ok-addresses.ensures.found in
+    (c.in_ok-bytes.bytes.items, spelled, c.in_ok-bytes.ensures.bytes)
+
+pub returns-in_ok-keep-in-Some-clause-blocks : goal.returns-in_ok-keep-in-Some-clause-blocks
+returns-in_ok-keep-in-Some-clause-blocks g c =
+    let spelled : IsSpelling c.args.block.now c.in-Some.addresses.items c.in_ok-bytes.bytes.items =
+    rw (c.in-Some.is, c.deref.ensures.value) at c.in_ok-addresses.ensures.found in
+    asks-read c.args.block.now (g.D.Store.holds c.args.store.now) c.args.self.now c.keep.new.self (g.D.Store.reads c.args.store.now)
+    (g.D.Store.reads c.read_bytes.new.store) c.in_ok-keep-in-Some.ensures.capacity c.in_ok-keep-in-Some.ensures.asked
+    c.in_ok-bytes.bytes.items c.in-Some.addresses.items c.requires c.in_ok-bytes.ensures.reads c.in_ok-bytes.ensures.bytes spelled
+    c.in_ok-keep-in-Some.ensures.held
+
+pub returns-in-None-clause-cause : goal.returns-in-None-clause-cause
+returns-in-None-clause-cause g c =
+    let block : Block = c.args.block.now in
+    let holds = g.D.Store.holds c.args.store.now in
+    let none : (addresses : List ℕ) → IsSpelling block addresses c.in_ok-bytes.bytes.items → ⊥ =
+    rw (c.in-None.is, c.deref.ensures.value) at c.in_ok-addresses.ensures.none in
+    cause-damaged block (IfSome holds (λ content. IsSpelledIn content block → ⊥)) (g.D.Store.faults c.args.store.now)
+    (g.D.Store.faults c.read_bytes.new.store) (g.D.Store.reads c.args.store.now) (g.D.Store.reads c.read_bytes.new.store)
+    c.in_ok-bytes.ensures.calm c.in_ok-bytes.ensures.reads
+    (IfSome-map (λ content. HasBytes content block c.in_ok-bytes.bytes.items) (λ content. IsSpelledIn content block → ⊥) holds
+    (λ content has. unspelled content block c.in_ok-bytes.bytes.items has none) c.in_ok-bytes.ensures.bytes)

@@ -1,0 +1,40 @@
+-- How far the blocks of a term were gone through.
+use Rattle.std.specs.Prelude.{ℕ, ◌≡◌, ◌≤◌, ◌+◌, ◌++◌, List, Option, Some, IfSome, true, filter}
+use Rattle.std.specs.List.{AllByRecursion}
+use Rattle.wu_base.specs.declared.addresses.Range.{Range}
+use Rattle.wu_base.specs.declared.limits.TheConstants.{ADDRESSES_MAX}
+use Rattle.wu_layout.specs.Postings.{is_live}
+use Rattle.wu_outside.specs.Content.{Content}
+use Rattle.wu_outside.specs.declared.ranges.ReadRange.{ReadRange}
+use Rattle.wu_part.specs.declared.entries.TermEntry.{TermEntry}
+use Rattle.wu_part.specs.Directories.{AreBlocks}
+use Rattle.wu_lists.specs.declared.blocks.Block.{Block}
+use Rattle.wu_lists.specs.Ascending.{AscendBetween, AreInOrder}
+use Rattle.wu_lists.specs.Blocks.{blocks_from, meets}
+use Rattle.wu_lists.specs.Fetching.{HasBlocks}
+use Rattle.wu_lists.specs.Keeping.{AreHeld, Asks, Kept}
+
+-- of all the addresses, those that were found and those of the rest of the blocks are in the frames
+pub record IsRest (frames : List Range) (low : ℕ) (rest : TermEntry) (bytes addresses found : List ℕ) : Type 0 where
+  pub later : List ℕ
+  pub has : HasBlocks low rest.count rest.blocks bytes later
+  pub made : found ++ filter (is_live frames) later ≡ filter (is_live frames) addresses
+
+-- The first blocks were asked for, as far as frames need them, and the addresses in frames found. The rest of the blocks begin at an
+-- address or after it, and the frames that are left are all that they need.
+pub record IsWalked (frames left : List Range) (blob low high : ℕ) (all rest : TermEntry) (holds : Option Content) (old now : Kept)
+    (ranges ranges_now : Option (List ReadRange)) (found : List ℕ) : Type 0 where
+  pub from : ℕ
+  pub above : low ≤ from
+  pub within : from ≤ high + 1
+  pub blocks : AreBlocks from high rest.count rest.blocks
+  pub order : AreInOrder 0 ADDRESSES_MAX left
+  pub live : (address : ℕ) → from ≤ address → is_live left address ≡ is_live frames address
+  pub needed : (block : Block) → from ≤ block.first → meets left block ≡ meets frames block
+  pub gone : List Block
+  pub split : gone ++ blocks_from blob low rest.count rest.blocks ≡ blocks_from blob low all.count all.blocks
+  pub asks : Asks (filter (meets frames) gone) holds old now ranges ranges_now
+  pub ascend : AscendBetween low from found
+  pub in_frames : AllByRecursion (λ address. is_live frames address ≡ true) found
+  pub told : IfSome holds (λ content. (bytes addresses : List ℕ) → content.blobs blob ≡ Some bytes → AreHeld blob bytes old
+      → HasBlocks low all.count all.blocks bytes addresses → IsRest frames low rest bytes addresses found)
