@@ -8,5 +8,7 @@ pub mod Causes
 -- ---- What only private functions and proofs need
 
 pub mod Lists
+pub mod LiveLists
+pub mod StoredParts
 pub mod Chains
 pub mod ViewOfParts

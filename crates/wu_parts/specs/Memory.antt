@@ -9,18 +9,19 @@ use Rattle.wu_layout.specs.Postings.{Posting, Ascend, addresses_of, placed_from}
 abbrev pub Lists : Type 0
 Lists = List (List ℕ × List ℕ)
 
--- the lists, how many postings they have, and an address that is above theirs
+-- the lists, how many postings they have, an address that isn't above theirs, where the last flush ended, and one that is
 pub record Memory : Type 0 where
   pub lists : Lists
   pub stored : ℕ
+  pub low : ℕ
   pub end : ℕ
 
 abbrev pub no_postings : Memory
-no_postings = record { lists = []; stored = 0; end = 0 }
+no_postings = record { lists = []; stored = 0; low = 0; end = 0 }
 
 -- without the postings: the end stays, since no address is used twice
 abbrev pub emptied : Memory → Memory
-emptied memory = record memory { lists = []; stored = 0 }
+emptied memory = record { lists = []; stored = 0; low = memory.end; end = memory.end }
 
 -- the addresses at which memory has the term
 abbrev pub held : Memory → List ℕ → List ℕ

@@ -1,5 +1,5 @@
 //! The parts of the index, and the postings in memory.
-ghost use Rattle.std.specs.Prelude.{◌≡◌, ℕ, ◌+◌, ◌<◌, ◌≤◌, ◌^◌, ◌∷◌, ◌++◌, ⊥, List, Option, [], true, Err, All, IsTrue, ◌↔◌, length, map, filter, slice_get, zip, IfOk, IfErr, IfSome, OnOk, OnErr};
+ghost use Rattle.std.specs.Prelude.{◌≡◌, ℕ, ◌+◌, ◌<◌, ◌≤◌, ◌^◌, ◌∷◌, ◌++◌, List, Option, [], true, Err, All, IsTrue, ◌↔◌, length, map, filter, slice_get, zip, IfOk, IfErr, IfSome, OnOk, OnErr};
 ghost use Rattle.std.specs.List.{AllByRecursion};
 ghost use Rattle.std.specs.List.Sorted.{IsStrictlyIncreasing};
 ghost use Rattle.std.specs.Map.{keys_of};
@@ -16,14 +16,16 @@ ghost use Rattle.wu_parts.specs.Causes.{IsFetchCause, IsStoreCause};
 ghost use Rattle.wu_parts.specs.Contents.{GainsTerms, no_contents, stored_in, stored_in_parts};
 ghost use Rattle.wu_parts.specs.Flushing.{EmptiesMemory, Flushes};
 ghost use Rattle.wu_parts.specs.Holdings.{AreKept, HoldParts, all_needed};
+ghost use Rattle.wu_parts.specs.StoredParts.{records_of};
 
 use crate::memory::MemoryPostings;
+use crate::reading::fetch_from_parts;
+use crate::writing::{StoredPart, put_part};
 use std::alloc::Global;
 use std::marker::Model;
 use wu_base::{ADDRESSES_MAX, NoMemory, PartRec, Range, Sequence, TEXT_MAX, Trouble};
 use wu_lists::Lists;
 use wu_outside::Store;
-use wu_part::Directory;
 use wu_space::Space;
 use wu_token::Token;
 
@@ -34,9 +36,9 @@ pub const BLOCKS_KEPT: usize = 1024;
 /// Parts is only dropped.
 #[derive(Drop)]
 pub struct Parts {
+    alloc: Global,
     memory: MemoryPostings,
-    parts: Vec<PartRec>,
-    directories: Vec<Directory>,
+    parts: Vec<StoredPart>,
     lists: Lists,
     flush_at: u64,
     next_blob: u64,
@@ -45,19 +47,16 @@ pub struct Parts {
 }
 
 impl Model for Parts {
-    ghost use Rattle.std.specs.Prelude.{◌+◌, ◌≤◌};
-    ghost use Rattle.wu_lists.specs.Keeping.{Asks, all_missing};
-    ghost use Rattle.wu_parts.specs.Causes.{IsFetchCause, IsStoreCause};
-    ghost use Rattle.wu_parts.specs.Contents.{Contents, stored_in_parts};
+    ghost use Rattle.wu_parts.specs.Contents.{Contents};
 
     ghost Value = { Contents };
 
+    ghost use Rattle.wu_parts.specs.StoredParts.{AreStored};
     ghost use Rattle.wu_parts.specs.ViewOfParts.{contents_of};
 
     ghost view = { contents_of };
 
-    // Each posting has an address of its own, and they are below the end.
-    ghost invariant = { λ p. p.memory.stored + stored_in_parts p.parts.items ≤ p.memory.end };
+    ghost invariant = { λ p. AreStored p.memory.low p.parts.items };
 }
 
 impl Parts {
@@ -67,9 +66,9 @@ impl Parts {
         ensures { IfOk result (λ parts. parts ≡ no_contents flush_at next_blob) }
     {
         Ok(Parts {
+            alloc,
             memory: MemoryPostings::new(alloc),
             parts: Vec::new(alloc),
-            directories: Vec::new(alloc),
             lists: Lists::new(alloc, BLOCKS_KEPT)?,
             flush_at,
             next_blob,
@@ -147,9 +146,17 @@ impl Parts {
             (all_needed (zip self.old.parts self.old.directories) term.now frames.now))
             (D.holds store.old) (D.faults store.old) (D.faults store.new) (D.reads store.old) (D.reads store.new)) }
     {
-        let _untouched = &*store;
-        let _next = self.next_blob;
-        Err(Trouble::NoMemory)
+        let mut found = fetch_from_parts(
+            self.alloc,
+            store,
+            &mut self.lists,
+            self.parts.as_slice(),
+            term,
+            frames,
+        )?;
+        let in_memory = self.memory.fetch(term, frames)?;
+        found.extend_from_slice(in_memory.as_slice())?;
+        Ok(Sequence::from(found))
     }
 
     /// Makes a part of the live postings in memory, right of all others, and forgets memory: the dead ones are
@@ -174,8 +181,19 @@ impl Parts {
         ensures cause { IfErr result (IsStoreCause (D.faults store.old) (D.faults store.new)) }
     {
         let _untouched = &*store;
-        let _next = self.next_blob;
-        Err(Trouble::NoMemory)
+        let lists = self.memory.live_lists(space)?;
+        if lists.is_empty() {
+            self.memory.clear();
+            return Ok(());
+        }
+        self.parts.reserve(1)?;
+        let blob = self.next_blob;
+        self.next_blob = blob + 1;
+        let part = put_part(self.alloc, store, blob, &lists)?;
+        self.parts.push(part)?;
+        self.flushes += 1;
+        self.memory.clear();
+        Ok(())
     }
 
     /// Whether memory has at least so many postings as make it full.
@@ -203,7 +221,10 @@ impl Parts {
     pub fn part(&self, i: usize) -> Option<PartRec>
         ensures { result ≡ slice_get self.now.parts i }
     {
-        self.parts.get(i).copied()
+        match self.parts.get(i) {
+            Some(part) => Some(part.recorded),
+            None => None,
+        }
     }
 
     /// How many flushes made a part.
@@ -256,9 +277,9 @@ impl Parts {
 }
 
 /// How many postings the parts have.
-fn stored_in_all(parts: &[PartRec]) -> u64
-    requires { stored_in_parts parts.now < 2 ^ 64 }
-    ensures { result ≡ stored_in_parts parts.now }
+fn stored_in_all(parts: &[StoredPart]) -> u64
+    requires { stored_in_parts (records_of parts.now) < 2 ^ 64 }
+    ensures { result ≡ stored_in_parts (records_of parts.now) }
 {
-    parts.iter().map(|part| part.stored).sum()
+    parts.iter().map(|part| part.recorded.stored).sum()
 }

@@ -152,7 +152,7 @@ pub fn fetch_all(parts: &Parts, term: &[u8]) -> Result<Sequence<u64>, NoAnswer> 
 }
 
 /// Whether all frames end by the greatest address.
-fn are_bounded(frames: &[Range]) -> bool
+pub fn are_bounded(frames: &[Range]) -> bool
     ensures { IsTrue result ↔ All (λ frame. frame.start + frame.len ≤ ADDRESSES_MAX) frames.now }
 {
     frames.iter().all(|frame| ends_in_time(frame))
