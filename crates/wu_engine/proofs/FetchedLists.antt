@@ -17,7 +17,8 @@ use Rattle.wu_parts.specs.Causes.{IsFetchCause}
 use Rattle.wu_parts.specs.Contents.{Contents}
 use Rattle.wu_engine.specs.Asked.{blocks_for}
 use Rattle.wu_engine.specs.Units.{IsCauseFor, list_at}
-use Rattle.wu_engine.proofs.Asking.{asks_then, fails_after, fails_then}
+use Rattle.wu_lists.proofs.Asking.{asks-join}
+use Rattle.wu_engine.proofs.Asking.{fails_after, fails_then}
 use Rattle.wu_engine.proofs.ToldPostings.{for-append}
 
 -- ---- one more list
@@ -57,8 +58,8 @@ module _ (terms : List (List ℕ)) (i : ℕ) (term : List ℕ) (within : i < len
     asked_next one =
         subst (λ (bs : List Block). Asks bs holds first.kept now.kept start end)
         (sym (for-append first frames (take i terms) (term ∷ [])) ∙ ap (blocks_for first frames) (sym taken))
-        (asks_then (blocks_for first frames (take i terms)) (blocks_for first frames (term ∷ [])) first.kept between.kept now.kept
-        start middle end holds asked
+        (asks-join holds first.kept between.kept now.kept start middle end (blocks_for first frames (take i terms))
+        (blocks_for first frames (term ∷ [])) asked
         (subst (λ (bs : List Block). Asks bs holds between.kept now.kept middle end) (same_blocks (term ∷ [])) one))
 
     all_terms : blocks_for first frames terms
@@ -77,9 +78,9 @@ module _ (terms : List (List ℕ)) (i : ℕ) (term : List ℕ) (within : i < len
     cause_next before calm now_faults trouble same cause =
         subst (λ (bs : List Block). IsFetchCause (zip first.parts first.directories)
         (all_missing first.kept.cap (keys_of first.kept.entries) bs) holds before now_faults start end trouble) (sym all_terms)
-        (fails_after (blocks_for first frames (take i terms)) (blocks_for first frames (term ∷ [])) first.kept between.kept now.kept
-        start middle end (blocks_for first frames (drop (i + 1) terms)) (zip first.parts first.directories) holds before calm now_faults
-        trouble asked same
+        (fails_after (blocks_for first frames (take i terms)) (blocks_for first frames (term ∷ []))
+        (blocks_for first frames (drop (i + 1) terms)) first.kept between.kept start middle end (zip first.parts first.directories) holds
+        before calm now_faults trouble asked same
         (subst (λ (bs : List Block). IsFetchCause (zip first.parts first.directories)
         (all_missing between.kept.cap (keys_of between.kept.entries) bs) holds calm now_faults middle end trouble) (same_blocks (term ∷ []))
         (subst (λ (ps : List (PartRec × PartDirectory)). IsFetchCause ps

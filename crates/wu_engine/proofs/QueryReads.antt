@@ -1,6 +1,6 @@
 -- What a query reads, and why it fails.
-use Rattle.std.proofs.Common.{◌≡◌, ℕ, List, [], ◌∷◌, ◌++◌, refl, sym, ap, subst, inl, inr}
-use Rattle.std.specs.Prelude.{Option, zip, Result, Ok, Err, IfErr, IsErrAnd}
+use Rattle.std.proofs.Common.{◌≡◌, ℕ, List, [], ◌∷◌, ◌++◌, refl, sym, ap, subst, inl, inr, append-nil}
+use Rattle.std.specs.Prelude.{Option, None, Some, option_map, zip, Result, Ok, Err, IfErr, IsErrAnd}
 use Rattle.std.specs.Map.{keys_of}
 use Rattle.wu_base.specs.declared.addresses.Range.{Range}
 use Rattle.wu_base.specs.declared.troubles.Trouble.{Trouble}
@@ -23,7 +23,7 @@ use Rattle.wu_engine.specs.Reads.{AreTexts, ReadsForQuery, ReadsInTurn, texts_re
 use Rattle.wu_engine.specs.Records.{Records}
 use Rattle.wu_engine.specs.States.{State}
 use Rattle.wu_engine.specs.Units.{IsCauseFor, IsIndexOf, TellsPostings}
-use Rattle.wu_engine.proofs.Asking.{fails_at_once, fails_last, reads-nothing}
+use Rattle.wu_engine.proofs.Asking.{fails_at_once, fails_last}
 
 -- a question that has no text shown reads blocks alone
 pub blocks_alone : (question : Question) (blocks : List Block) (frames : Frames) (contents : Contents) (files : Records)
@@ -38,8 +38,11 @@ blocks_alone question blocks frames contents files holds old new before after no
     are = record { of_files = tt; none = λ h. refl };
     shown = λ live s uid is tells keeps. sym (none s uid);
   };
-  read = reads-nothing after;
-}
+  read = nothing after;
+} where
+  nothing : (ranges : Option (List ReadRange)) → ranges ≡ option_map (λ earlier. earlier ++ []) ranges
+  nothing None = refl
+  nothing (Some earlier) = ap (λ (rs : List ReadRange). Some rs) (sym (append-nil earlier))
 
 -- what a fetch answers is damage that the engine may answer
 pub cause_fetched : (files : Records) (contents : Contents) (holds : Option Content) (missing : List Block) (before now : ℕ)
