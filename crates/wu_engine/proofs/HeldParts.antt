@@ -3,7 +3,7 @@ use Rattle.std.proofs.Common.{◌≡◌, ◌≢◌, ℕ, ◌+◌, ◌<◌, ◌�
 use Rattle.std.specs.Prelude.{Option, Some, None, IfSome, count_by}
 use Rattle.std.specs.List.{AllByRecursion}
 use Rattle.std.proofs.lemmas.Bool.{cases_eq, eq-eqb, ne_eqb}
-use Rattle.std.proofs.lemmas.List.Sums.{count_by-cons}
+use Rattle.std.proofs.lemmas.List.Sums.{sum_by-cons}
 use Rattle.wu_base.specs.declared.addresses.PartRec.{PartRec}
 use Rattle.wu_outside.specs.Content.{Content, with_blob}
 use Rattle.wu_layout.specs.Layouts.{FileEntry, Part, entry_of}
@@ -25,7 +25,7 @@ none_there : (next : ℕ) (parts : List Part) → ((number : ℕ) → next ≤ n
 none_there next [] none = tt
 none_there next (part ∷ parts) none =
     let here : (number : ℕ) → next ≤ number → cond {A = ℕ} (part.blob == number) 1 0 + count_by (λ (p : Part). p.blob == number) parts ≡ 0 =
-    λ number above. sym (count_by-cons (λ (p : Part). p.blob == number) part parts) ∙ none number above in (
+    λ number above. sym (sum_by-cons (λ (p : Part). cond {A = ℕ} (p.blob == number) 1 0) part parts) ∙ none number above in (
       (let own : cond {A = ℕ} (part.blob == part.blob) 1 0 ≡ 1 =
           ap (λ b. cond {A = ℕ} b 1 0) (eq-eqb part.blob part.blob refl) in
           let absent : next ≤ part.blob → cond {A = ℕ} (part.blob == part.blob) 1 0 + count_by (λ (p : Part). p.blob == part.blob) parts ≡ 0 =

@@ -207,7 +207,7 @@ numbers_left parts parts_now (inl e) =
     subst (LeavesNumbers parts) (sym e)
     (record { end = refl; least = omega arith; most = omega arith; counted = refl; flush_at = refl; kept = refl })
 numbers_left parts parts_now (inr made) =
-    subst (LeavesNumbers parts) (sym made.1.1)
+    subst (LeavesNumbers parts) (sym made.2)
     (record { end = refl; least = omega arith; most = omega arith; counted = omega arith; flush_at = refl; kept = refl })
 
 pub numbers_full : (parts parts_now : Contents) → (parts_now ≡ parts) ⊎ EmptiesMemory parts parts_now → LeavesNumbers parts parts_now
