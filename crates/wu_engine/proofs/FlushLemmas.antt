@@ -72,130 +72,130 @@ abbrev with_layout : State → Layout → State
 with_layout s layout = record s { layout = layout }
 
 module _ (fs : FileSystem) (space : Addresses) (parts : Contents) (files : Records) (s : State) (index : IsEngineOf fs space parts files s)
-    where
-  -- ---- a part that was made
+  where
+    -- ---- a part that was made
 
-  module _ (recorded : PartRec) (directory : PartDirectory) (bytes : List ℕ) (posting : Posting) (postings : List Posting) where
-    abbrev made : Part
-    made = record { blob = s.layout.blob; generation = 0; postings = posting ∷ postings }
+    module _ (recorded : PartRec) (directory : PartDirectory) (bytes : List ℕ) (posting : Posting) (postings : List Posting) where
+      abbrev made : Part
+      made = record { blob = s.layout.blob; generation = 0; postings = posting ∷ postings }
 
-    stored_with : (holds : Option Content) → IsRecordOf recorded made → IsRecorded recorded directory
-        → SpellsPart directory (lists_of (posting ∷ postings)) bytes → IsStored holds parts s
-        → IsStored (option_map (with_blob s.layout.blob (Some bytes)) holds) (with_part recorded directory parts)
-        (with_layout s (flushed (posting ∷ postings) s.layout))
-    stored_with None of told spelled stored = record { texts = stored.texts; parts = tt; kept = tt }
-    stored_with (Some content) of told spelled stored =
-        let next = s.layout.blob in
-        let after : Content = with_blob next (Some bytes) content in
-        let agrees = put_agrees next (Some bytes) content in
-        let blobs = index.is_state.layout.blobs in
-        let texts : HoldsTexts (Some after) s.texts s.layout.files =
-        texts_stay next content after agrees s.texts s.layout.files
-        (blobs_below next s.layout.files s.layout.parts s.layout.check s.layout.stale blobs) stored.texts in
-        let one : HoldsPart after recorded directory made =
-        record { record_of = of; told = told; bytes = bytes; held = put_there next bytes content; spelled = spelled } in
-        record {
-          texts = texts;
-          parts =
-              parts_pushed after parts.parts parts.directories s.layout.parts recorded directory made
-              (parts_stay next content after agrees parts.parts parts.directories s.layout.parts
-              (parts_below next s.layout.files s.layout.parts s.layout.check s.layout.stale blobs) stored.parts)
-              one;
-          kept = blocks_stay next content after agrees (next + 1) parts.kept (omega arith) stored.kept;
-        }
+      stored_with : (holds : Option Content) → IsRecordOf recorded made → IsRecorded recorded directory
+          → SpellsPart directory (lists_of (posting ∷ postings)) bytes → IsStored holds parts s
+          → IsStored (option_map (with_blob s.layout.blob (Some bytes)) holds) (with_part recorded directory parts)
+          (with_layout s (flushed (posting ∷ postings) s.layout))
+      stored_with None of told spelled stored = record { texts = stored.texts; parts = tt; kept = tt }
+      stored_with (Some content) of told spelled stored =
+          let next = s.layout.blob in
+          let after : Content = with_blob next (Some bytes) content in
+          let agrees = put_agrees next (Some bytes) content in
+          let blobs = index.is_state.layout.blobs in
+          let texts : HoldsTexts (Some after) s.texts s.layout.files =
+          texts_stay next content after agrees s.texts s.layout.files
+          (blobs_below next s.layout.files s.layout.parts s.layout.check s.layout.stale blobs) stored.texts in
+          let one : HoldsPart after recorded directory made =
+          record { record_of = of; told = told; bytes = bytes; held = put_there next bytes content; spelled = spelled } in
+          record {
+            texts = texts;
+            parts =
+                parts_pushed after parts.parts parts.directories s.layout.parts recorded directory made
+                (parts_stay next content after agrees parts.parts parts.directories s.layout.parts
+                (parts_below next s.layout.files s.layout.parts s.layout.check s.layout.stale blobs) stored.parts)
+                one;
+            kept = blocks_stay next content after agrees (next + 1) parts.kept (omega arith) stored.kept;
+          }
 
-    index_with : IsState (with_layout s (flushed (posting ∷ postings) s.layout))
-        → IsEngineOf fs space (with_part recorded directory parts) files (with_layout s (flushed (posting ∷ postings) s.layout))
-    index_with is = record {
+      index_with : IsState (with_layout s (flushed (posting ∷ postings) s.layout))
+          → IsEngineOf fs space (with_part recorded directory parts) files (with_layout s (flushed (posting ∷ postings) s.layout))
+      index_with is = record {
+        is_state = is;
+        tree = index.tree;
+        next = index.next;
+        live = index.live;
+        files = index.files;
+        next_blob = ap (λ (n : ℕ). n + 1) index.next_blob;
+        stale = index.stale;
+        memory = λ term. refl;
+        stored = refl;
+        flushes = ap (λ (n : ℕ). n + 1) index.flushes;
+        no_job = index.no_job;
+      }
+
+    -- ---- any flush
+
+    index_without : IsState (with_layout s (flushed [] s.layout))
+        → IsEngineOf fs space (without_postings parts) files (with_layout s (flushed [] s.layout))
+    index_without is = record {
       is_state = is;
       tree = index.tree;
       next = index.next;
       live = index.live;
       files = index.files;
-      next_blob = ap (λ (n : ℕ). n + 1) index.next_blob;
+      next_blob = index.next_blob;
       stale = index.stale;
       memory = λ term. refl;
       stored = refl;
-      flushes = ap (λ (n : ℕ). n + 1) index.flushes;
+      flushes = index.flushes;
       no_job = index.no_job;
     }
 
-  -- ---- any flush
+    module _ (parts_now : Contents) (before after : Told) (stored : IsStored before.0 parts s) where
+      flushed_by : (kept : List Posting) → IsState (with_layout s (flushed kept s.layout)) → Flushes kept parts parts_now before after
+          → IsEngineOf fs space parts_now files (with_layout s (flushed kept s.layout))
+          × IsStored after.0 parts_now (with_layout s (flushed kept s.layout))
+      flushed_by [] is done =
+          let next : State = with_layout s (flushed [] s.layout) in
+          let told : IsStored before.0 (without_postings parts) next =
+          record { texts = stored.texts; parts = stored.parts; kept = stored.kept } in (
+            subst (λ (p : Contents). IsEngineOf fs space p files next) (sym done.0) (index_without is),
+            subst (λ (t : Told). IsStored t.0 parts_now next) (sym done.1)
+                (subst (λ (p : Contents). IsStored before.0 p next) (sym done.0) told),
+          )
+      flushed_by (posting ∷ postings) is done =
+          let next : State = with_layout s (flushed (posting ∷ postings) s.layout) in
+          let of : IsRecordOf done.recorded (made done.recorded done.directory done.bytes posting postings) =
+          subst (λ (n : ℕ). IsRecordOf done.recorded (record { blob = n; generation = 0; postings = posting ∷ postings })) index.next_blob
+          done.record_of in
+          let holds : after.0 ≡ option_map (with_blob s.layout.blob (Some done.bytes)) before.0 =
+          ap (λ (t : Told). t.0) done.stored
+          ∙ ap (λ (n : ℕ). option_map (with_blob n (Some done.bytes)) before.0) index.next_blob in (
+            subst (λ (p : Contents). IsEngineOf fs space p files next) (sym done.contents)
+                (index_with done.recorded done.directory done.bytes posting postings is),
+            subst (λ (o : Option Content). IsStored o parts_now next) (sym holds)
+                (subst (λ (p : Contents). IsStored (option_map (with_blob s.layout.blob (Some done.bytes)) before.0) p next) (sym done.contents)
+                (stored_with done.recorded done.directory done.bytes posting postings before.0 of done.told done.spelled stored)),
+          )
 
-  index_without : IsState (with_layout s (flushed [] s.layout))
-      → IsEngineOf fs space (without_postings parts) files (with_layout s (flushed [] s.layout))
-  index_without is = record {
-    is_state = is;
-    tree = index.tree;
-    next = index.next;
-    live = index.live;
-    files = index.files;
-    next_blob = index.next_blob;
-    stale = index.stale;
-    memory = λ term. refl;
-    stored = refl;
-    flushes = index.flushes;
-    no_job = index.no_job;
-  }
+      -- the live postings are those of the state
+      live_there : live_of (map (λ file. file.1) space.ranges) s.layout.memory ≡ live_of (ranges_of s.layout.files) s.layout.memory
+      live_there =
+          ap (λ (rs : List Range). live_of rs s.layout.memory)
+          (ap (map (λ (file : ℕ × Range). file.1)) index.live ∙ ranges-alone s.layout.files)
 
-  module _ (parts_now : Contents) (before after : Told) (stored : IsStored before.0 parts s) where
-    flushed_by : (kept : List Posting) → IsState (with_layout s (flushed kept s.layout)) → Flushes kept parts parts_now before after
-        → IsEngineOf fs space parts_now files (with_layout s (flushed kept s.layout))
-        × IsStored after.0 parts_now (with_layout s (flushed kept s.layout))
-    flushed_by [] is done =
-        let next : State = with_layout s (flushed [] s.layout) in
-        let told : IsStored before.0 (without_postings parts) next =
-        record { texts = stored.texts; parts = stored.parts; kept = stored.kept } in (
-          subst (λ (p : Contents). IsEngineOf fs space p files next) (sym done.0) (index_without is),
-          subst (λ (t : Told). IsStored t.0 parts_now next) (sym done.1)
-              (subst (λ (p : Contents). IsStored before.0 p next) (sym done.0) told),
-        )
-    flushed_by (posting ∷ postings) is done =
-        let next : State = with_layout s (flushed (posting ∷ postings) s.layout) in
-        let of : IsRecordOf done.recorded (made done.recorded done.directory done.bytes posting postings) =
-        subst (λ (n : ℕ). IsRecordOf done.recorded (record { blob = n; generation = 0; postings = posting ∷ postings })) index.next_blob
-        done.record_of in
-        let holds : after.0 ≡ option_map (with_blob s.layout.blob (Some done.bytes)) before.0 =
-        ap (λ (t : Told). t.0) done.stored
-        ∙ ap (λ (n : ℕ). option_map (with_blob n (Some done.bytes)) before.0) index.next_blob in (
-          subst (λ (p : Contents). IsEngineOf fs space p files next) (sym done.contents)
-              (index_with done.recorded done.directory done.bytes posting postings is),
-          subst (λ (o : Option Content). IsStored o parts_now next) (sym holds)
-              (subst (λ (p : Contents). IsStored (option_map (with_blob s.layout.blob (Some done.bytes)) before.0) p next) (sym done.contents)
-              (stored_with done.recorded done.directory done.bytes posting postings before.0 of done.told done.spelled stored)),
-        )
+      pub flush_stands : ((low high : ℕ) (postings : List Posting) → HasPostings low high parts.memory postings
+          → Flushes (live_of (map (λ file. file.1) space.ranges) postings) parts parts_now before after)
+          → IsEngineOf fs space parts_now files (flushed_state s) × IsStored after.0 parts_now (flushed_state s)
+      flush_stands done =
+          let has = memory_held fs space parts files s index in
+          flushed_by (live_of (ranges_of s.layout.files) s.layout.memory) (flushed_kept s index.is_state)
+          (subst (λ (kept : List Posting). Flushes kept parts parts_now before after) live_there (done has.0 has.1.0 s.layout.memory has.1.1))
 
-    -- the live postings are those of the state
-    live_there : live_of (map (λ file. file.1) space.ranges) s.layout.memory ≡ live_of (ranges_of s.layout.files) s.layout.memory
-    live_there =
-        ap (λ (rs : List Range). live_of rs s.layout.memory)
-        (ap (map (λ (file : ℕ × Range). file.1)) index.live ∙ ranges-alone s.layout.files)
+      by_fullness : (full : Bool) → FlushesIfFull full (live_of (map (λ file. file.1) space.ranges) s.layout.memory) parts parts_now before after
+          → IsEngineOf fs space parts_now files (with_layout s (cond full (flush s.layout) s.layout))
+          × IsStored after.0 parts_now (with_layout s (cond full (flush s.layout) s.layout))
+      by_fullness true done =
+          flushed_by (live_of (ranges_of s.layout.files) s.layout.memory) (flushed_kept s index.is_state)
+          (subst (λ (kept : List Posting). Flushes kept parts parts_now before after) live_there done)
+      by_fullness false done = (
+        subst (λ (p : Contents). IsEngineOf fs space p files s) (sym done.0) index,
+        subst (λ (t : Told). IsStored t.0 parts_now s) (sym done.1) (subst (λ (p : Contents). IsStored before.0 p s) (sym done.0) stored),
+      )
 
-    pub flush_stands : ((low high : ℕ) (postings : List Posting) → HasPostings low high parts.memory postings
-        → Flushes (live_of (map (λ file. file.1) space.ranges) postings) parts parts_now before after)
-        → IsEngineOf fs space parts_now files (flushed_state s) × IsStored after.0 parts_now (flushed_state s)
-    flush_stands done =
-        let has = memory_held fs space parts files s index in
-        flushed_by (live_of (ranges_of s.layout.files) s.layout.memory) (flushed_kept s index.is_state)
-        (subst (λ (kept : List Posting). Flushes kept parts parts_now before after) live_there (done has.0 has.1.0 s.layout.memory has.1.1))
-
-    by_fullness : (full : Bool) → FlushesIfFull full (live_of (map (λ file. file.1) space.ranges) s.layout.memory) parts parts_now before after
-        → IsEngineOf fs space parts_now files (with_layout s (cond full (flush s.layout) s.layout))
-        × IsStored after.0 parts_now (with_layout s (cond full (flush s.layout) s.layout))
-    by_fullness true done =
-        flushed_by (live_of (ranges_of s.layout.files) s.layout.memory) (flushed_kept s index.is_state)
-        (subst (λ (kept : List Posting). Flushes kept parts parts_now before after) live_there done)
-    by_fullness false done = (
-      subst (λ (p : Contents). IsEngineOf fs space p files s) (sym done.0) index,
-      subst (λ (t : Told). IsStored t.0 parts_now s) (sym done.1) (subst (λ (p : Contents). IsStored before.0 p s) (sym done.0) stored),
-    )
-
-    -- a flush that follows where memory is full
-    pub full_stands : FlushesFull space.ranges parts parts_now before after
-        → IsEngineOf fs space parts_now files (flushed_if_full parts.flush_at s)
-        × IsStored after.0 parts_now (flushed_if_full parts.flush_at s)
-    full_stands done =
-        let has = memory_held fs space parts files s index in
-        by_fullness (nat_le parts.flush_at (length s.layout.memory))
-        (subst (λ (n : ℕ). FlushesIfFull (nat_le parts.flush_at n) (live_of (map (λ file. file.1) space.ranges) s.layout.memory)
-        parts parts_now before after) index.stored (done.postings has.0 has.1.0 s.layout.memory has.1.1))
+      -- a flush that follows where memory is full
+      pub full_stands : FlushesFull space.ranges parts parts_now before after
+          → IsEngineOf fs space parts_now files (flushed_if_full parts.flush_at s)
+          × IsStored after.0 parts_now (flushed_if_full parts.flush_at s)
+      full_stands done =
+          let has = memory_held fs space parts files s index in
+          by_fullness (nat_le parts.flush_at (length s.layout.memory))
+          (subst (λ (n : ℕ). FlushesIfFull (nat_le parts.flush_at n) (live_of (map (λ file. file.1) space.ranges) s.layout.memory)
+          parts parts_now before after) index.stored (done.postings has.0 has.1.0 s.layout.memory has.1.1))

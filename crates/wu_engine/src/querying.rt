@@ -95,7 +95,16 @@ fn answer<D: Store>(
         Ask::Count { expr } => count(alloc, store, frames, parts, expr),
         Ask::Find { k, expr } => find(alloc, store, frames, parts, files, *k, expr),
         Ask::Rank { k, unit, words } => {
-            ranked(alloc, store, frames, space, parts, *k, unit, words.as_slice())
+            ranked(
+                alloc,
+                store,
+                frames,
+                space,
+                parts,
+                *k,
+                unit,
+                words.as_slice(),
+            )
         }
         Ask::Paths => Ok(paths(alloc, frames.seen.as_slice())?),
     }
