@@ -1,5 +1,5 @@
 -- What is fetched of several parts, one after another.
-use Rattle.std.proofs.Common.{◌≡◌, ◌⊎◌, ℕ, ◌+◌, ◌-◌, ◌<◌, ◌≤◌, true, false, cond, Bool, nat_eq, List, [], ◌∷◌, ◌++◌, length, drop, get_or, zero, suc, map, filter, Option, None, Some, option_map, refl, ap, ap₂, sym, ◌∙◌, subst, arith, append-nil, append_assoc, inl, inr, ⊎_elim}
+use Rattle.std.proofs.Common.{◌≡◌, ◌⊎◌, ℕ, ◌+◌, ◌-◌, ◌<◌, true, false, cond, Bool, nat_eq, List, [], ◌∷◌, ◌++◌, length, drop, get_or, zero, suc, map, filter, Option, None, Some, option_map, refl, ap, ap₂, sym, ◌∙◌, subst, arith, append-nil, append_assoc, inl, inr, ⊎_elim}
 use Rattle.std.specs.Prelude.{IfErr, IfSome, IsErrAnd, Result, Ok, Err, zip}
 use Rattle.std.specs.List.{AllByRecursion, AllZip, list_any}
 use Rattle.std.specs.Map.{keys_of}
@@ -34,7 +34,7 @@ use Rattle.wu_lists.specs.Keeping.{AreHeld, Asks, Kept, all_asked, all_missing, 
 use Rattle.wu_parts.specs.Causes.{IsFetchCause}
 use Rattle.wu_parts.specs.Holdings.{AreKept, HoldParts, all_needed}
 use Rattle.wu_parts.specs.Lists.{AscendBetween}
-use Rattle.wu_parts.specs.StoredParts.{AreFetchedFrom, SpansAscend, directories_of, pairs_of, records_of}
+use Rattle.wu_parts.specs.StoredParts.{AreFetchedFrom, directories_of, pairs_of, records_of}
 use Rattle.wu_parts.specs.declared.writing.StoredPart.{StoredPart}
 use Rattle.wu_parts.proofs.Ascending.{ascend-lower}
 
@@ -410,7 +410,8 @@ pub record Leads (parts left : List StoredPart) (term : List ℕ) (frames : List
   pub cause : (before after : ℕ) (ranges_new : Option (List ReadRange)) (trouble : Trouble)
       → IsFetchCause (pairs_of left) (all_missing now.cap (keys_of now.entries) (all_needed (pairs_of left) term frames)) holds before after
       ranges_now ranges_new trouble
-      → IsFetchCause (pairs_of parts) (all_missing old.cap (keys_of old.entries) (all_needed (pairs_of parts) term frames)) holds before after
+      → IsFetchCause (pairs_of parts) (all_missing old.cap (keys_of old.entries) (all_needed (pairs_of parts) term frames)) holds before
+      after
       ranges ranges_new trouble
 
 pub leads-none : (parts : List StoredPart) (term : List ℕ) (frames : List Range) (holds : Option Content) (old : Kept)
@@ -427,7 +428,8 @@ module _ (parts left : List StoredPart) (part : StoredPart) (term : List ℕ) (f
   pub leads-fails : (before after : ℕ) (ranges_new : Option (List ReadRange)) (trouble : Trouble)
       → IsCause (all_missing now.cap (keys_of now.entries) (needed part.recorded.blob part.directory term frames)) part.recorded.blob
       (IfSome holds (λ content. IsNoPart part.directory (content.blobs part.recorded.blob))) before after ranges_now ranges_new trouble
-      → IsFetchCause (pairs_of parts) (all_missing old.cap (keys_of old.entries) (all_needed (pairs_of parts) term frames)) holds before after
+      → IsFetchCause (pairs_of parts) (all_missing old.cap (keys_of old.entries) (all_needed (pairs_of parts) term frames)) holds before
+      after
       ranges ranges_new trouble
   leads-fails before after ranges_new trouble c =
       l.cause before after ranges_new trouble
@@ -543,14 +545,18 @@ module _ (parts : List StoredPart) (place : ℕ) (part : StoredPart) (term : Lis
 
   pub turn-fails : (before before_now after : ℕ) (ranges_new : Option (List ReadRange)) (trouble : Trouble) → before_now ≡ before
       → IsCause (all_missing now.cap (keys_of now.entries) (needed part.recorded.blob part.directory term frames)) part.recorded.blob
-      (IfSome holds_now (λ content. IsNoPart part.directory (content.blobs part.recorded.blob))) before_now after ranges_now ranges_new trouble
-      → IsFetchCause (pairs_of parts) (all_missing old.cap (keys_of old.entries) (all_needed (pairs_of parts) term frames)) holds before after
+      (IfSome holds_now (λ content. IsNoPart part.directory (content.blobs part.recorded.blob))) before_now after ranges_now ranges_new
+      trouble
+      → IsFetchCause (pairs_of parts) (all_missing old.cap (keys_of old.entries) (all_needed (pairs_of parts) term frames)) holds before
+      after
       ranges ranges_new trouble
   turn-fails before before_now after ranges_new trouble e c =
-      leads-fails parts (drop (place + 1) parts) part term frames holds old now ranges ranges_now found split before after ranges_new trouble
+      leads-fails parts (drop (place + 1) parts) part term frames holds old now ranges ranges_now found split before after ranges_new
+      trouble
       (subst
       (λ (n : ℕ). IsCause (all_missing now.cap (keys_of now.entries) (needed part.recorded.blob part.directory term frames))
-      part.recorded.blob (IfSome holds (λ content. IsNoPart part.directory (content.blobs part.recorded.blob))) n after ranges_now ranges_new
+      part.recorded.blob (IfSome holds (λ content. IsNoPart part.directory (content.blobs part.recorded.blob))) n after ranges_now
+      ranges_new
       trouble)
       e
       (subst

@@ -1,8 +1,8 @@
 -- The lists of the live postings in memory: what is made of memory's lists is what a part of these postings has.
-use Rattle.std.proofs.Common.{◌≡◌, ℕ, ◌+◌, ◌-◌, ◌^◌, ◌<◌, ◌≤◌, ◌||◌, min, max, nat_eq, nat_lt, eqb, Bool, true, false, cond, List, [], ◌∷◌, ◌++◌, nat_le, length, map, filter, unwrap_or, None, Some, Option, refl, ap, sym, ◌∙◌, subst, arith, ⊎_elim, inl, inr}
+use Rattle.std.proofs.Common.{◌≡◌, ℕ, ◌+◌, ◌<◌, ◌≤◌, ◌||◌, nat_eq, nat_lt, eqb, Bool, true, false, cond, List, [], ◌∷◌, ◌++◌, nat_le, length, map, filter, unwrap_or, None, Some, Option, refl, ap, sym, ◌∙◌, subst, arith, ⊎_elim}
 use Rattle.std.specs.Prelude.{IsPermutation, IsSome}
-use Rattle.std.specs.List.{AllByRecursion, IsDistinct, flat_map, list_any}
-use Rattle.std.specs.List.Sorted.{IsStrictlySortedBy, IsStrictlyIncreasing}
+use Rattle.std.specs.List.{AllByRecursion, IsDistinct, flat_map}
+use Rattle.std.specs.List.Sorted.{IsStrictlySortedBy}
 use Rattle.std.specs.Map.{keys_of, lookup}
 use Rattle.std.specs.Ordering.{nat_cmp}
 use Rattle.std.specs.Cmp.Lexicographic.{pointwise, slice_cmp, same_text, nat_list_eq_equiv}
@@ -94,7 +94,8 @@ map-same : (live : List Range) (ps : List Posting) (lists : Lists) → AllByRecu
     → map (live_list live) lists ≡ map (list_of ps) (keys_of lists)
 map-same live ps [] a = refl
 map-same live ps (list ∷ lists) a =
-    ap (λ (l : TermList). l ∷ map (live_list live) lists) a.0 ∙ ap (λ (ls : List TermList). list_of ps list.0 ∷ ls) (map-same live ps lists a.1)
+    ap (λ (l : TermList). l ∷ map (live_list live) lists) a.0
+    ∙ ap (λ (ls : List TermList). list_of ps list.0 ∷ ls) (map-same live ps lists a.1)
 
 -- ---- memory's lists
 

@@ -13,11 +13,11 @@ use Rattle.wu_base.specs.declared.addresses.Range.{Range}
 use Rattle.wu_base.specs.declared.addresses.TermList.{TermList}
 use Rattle.wu_base.specs.declared.limits.TheConstants.{ADDRESSES_MAX}
 use Rattle.wu_base.proofs.Members.{Has-from_Contains, Contains-from_Has, all_from_has, all_has}
-use Rattle.wu_layout.specs.Postings.{Posting, Ascend, is_live, live_of}
+use Rattle.wu_layout.specs.Postings.{Posting, is_live, live_of}
 use Rattle.wu_layout.specs.Layouts.{lists_of as lists_of_postings}
 use Rattle.wu_space.specs.Addresses.{AreApart, Ranges, live_ranges, shared}
 use Rattle.wu_parts.specs.declared.chains.Chain.{Chain}
-use Rattle.wu_parts.specs.Memory.{HasPostings, Lists, Memory}
+use Rattle.wu_parts.specs.Memory.{HasPostings, Lists}
 use Rattle.wu_parts.specs.Lists.{AreInOrder, AscendBetween, IsList}
 use Rattle.wu_parts.specs.Chains.{AreChains, Chained, addressed, all_moved, chained, lent, lists_of, memory_of, moved, places_of}
 use Rattle.wu_parts.specs.LiveLists.{AreEncodable, live_lists}

@@ -34,7 +34,8 @@ sorted_strictly terms s d =
     subst (IsStrictlySortedBy (slice_cmp nat_cmp)) (distinct-dedup terms d) (IsStrictlySortedBy-dedup nat_list_cmp_total texts_ties terms s)
 
 -- what is sorted by its terms has its terms sorted
-pub sorted_map : {X : Type 0} (term_of : X → List ℕ) (xs : List X) → IsSortedBy (λ x y. is_lt (slice_cmp nat_cmp (term_of x) (term_of y))) xs
+pub sorted_map : {X : Type 0} (term_of : X → List ℕ) (xs : List X)
+    → IsSortedBy (λ x y. is_lt (slice_cmp nat_cmp (term_of x) (term_of y))) xs
     → IsSorted (slice_cmp nat_cmp) (map term_of xs)
 sorted_map term_of [] s k d a b = absurd (omega arith)
 sorted_map term_of (x ∷ xs) s k d a b =
@@ -42,7 +43,8 @@ sorted_map term_of (x ∷ xs) s k d a b =
     rw (get_or-map term_of (x ∷ xs) (k + 1) x d long, get_or-map term_of (x ∷ xs) k x d (omega arith)) (s k x a long)
 
 -- the keys of a map of chains are terms that differ
-all_differ : (key : Vec ℕ Global) (es : List (Vec ℕ Global × Chain)) → AllByRecursion (λ k. same_term key.items k.items ≡ false) (keys_of es)
+all_differ : (key : Vec ℕ Global) (es : List (Vec ℕ Global × Chain))
+    → AllByRecursion (λ k. same_term key.items k.items ≡ false) (keys_of es)
     → AllByRecursion (λ term. same_term key.items term ≡ false) (keys_of (map chained es))
 all_differ key [] a = tt
 all_differ key (e ∷ es) a = (a.0, all_differ key es a.1)

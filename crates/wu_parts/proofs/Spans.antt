@@ -6,7 +6,6 @@ use Rattle.std.proofs.lemmas.List.Sums.{sum_by-cons}
 use Rattle.wu_base.specs.declared.addresses.PartRec.{PartRec}
 use Rattle.wu_layout.specs.Layouts.{first_address, last_address, lists_of}
 use Rattle.wu_layout.specs.Postings.{Ascend, Posting}
-use Rattle.wu_layout.proofs.PostingLemmas.{Ascend-length}
 use Rattle.wu_part.specs.Parts.{IsRecorded, SpellsPart}
 use Rattle.wu_parts.specs.Contents.{stored_in_parts}
 use Rattle.wu_parts.specs.StoredParts.{AreStored, SpansAscend, directories_of, records_of}

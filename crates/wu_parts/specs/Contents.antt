@@ -7,8 +7,8 @@ use Rattle.wu_lists.specs.Keeping.{Kept}
 use Rattle.wu_parts.specs.declared.parts.TheConstants.{BLOCKS_KEPT}
 use Rattle.wu_parts.specs.Memory.{Memory, no_postings, emptied, Gains}
 
--- the postings in memory; the parts from left to right, and their directories; the blocks that are kept of them; how many postings memory is to have before a flush; the number of the
--- next blob; how many flushes made a part; the numbers of blobs that are no longer needed
+-- the postings in memory; the parts from left to right, and their directories; the blocks that are kept of them; how many postings memory
+-- is to have before a flush; the number of the next blob; how many flushes made a part; the numbers of blobs that are no longer needed
 pub record Contents : Type 0 where
   pub memory : Memory
   pub parts : List PartRec

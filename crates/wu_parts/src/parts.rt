@@ -173,9 +173,11 @@ impl Parts {
         ensures unchanged { OnErr result (self.new ≡ record self.old { next_blob = self.new.next_blob }) }
 
         // Whatever is answered, only the blob of the next number may differ.
-        ensures elsewhere { (written : Option (List ℕ)) × MayDo (with_blob self.old.next_blob written) (D.holds store.old) (D.holds store.new) }
+        ensures elsewhere { (written : Option (List ℕ))
+            × MayDo (with_blob self.old.next_blob written) (D.holds store.old) (D.holds store.new) }
         ensures tried { (written : Option (List ℕ))
-            × MayDo (try_change (Put self.old.next_blob) (with_blob self.old.next_blob written)) (D.moments store.old) (D.moments store.new) }
+            × MayDo (try_change (Put self.old.next_blob) (with_blob self.old.next_blob written))
+            (D.moments store.old) (D.moments store.new) }
         ensures unread { D.reads store.new ≡ D.reads store.old }
         ensures calm { OnOk result (D.faults store.new ≡ D.faults store.old) }
         ensures cause { IfErr result (IsStoreCause (D.faults store.old) (D.faults store.new)) }

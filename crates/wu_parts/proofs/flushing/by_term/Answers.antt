@@ -1,4 +1,4 @@
-use Rattle.std.proofs.Common.{◌≡◌, ℕ, nat_eq, List, map, subst, rules}
+use Rattle.std.proofs.Common.{ℕ, nat_eq, List, map, subst, rules}
 use Rattle.std.specs.Prelude.{IsPermutation}
 use Rattle.std.specs.List.{IsDistinct}
 use Rattle.std.specs.List.Sorted.{IsSorted}

@@ -1,9 +1,7 @@
-use Rattle.std.proofs.Common.{◌≡◌, ℕ, ◌≤◌, length, map, take, ap, ◌∙◌, arith, rules}
+use Rattle.std.proofs.Common.{map, ap, ◌∙◌, arith}
 use Rattle.std.proofs.lemmas.List.{take_all}
-use Rattle.wu_parts.specs.Chains.{addressed, lent, places_of}
-use Rattle.wu_parts.specs.Lists.{AscendBetween}
+use Rattle.wu_parts.specs.Chains.{addressed, lent}
 use Rattle.wu_parts.specs.LiveLists.{live_lists}
-use Rattle.wu_parts.proofs.MemoryLists.{all_at, more_live}
 use Rattle.wu_parts.proofs.flushing.cut_to_live.Goals as goal
 
 pub returns : goal.returns

@@ -1,9 +1,8 @@
-use Rattle.std.proofs.Common.{◌≡◌, ◌-◌, ◌^◌, ℕ, nat_le, List, [], ◌∷◌, ◌++◌, filter, append-nil, ap, sym, ◌∙◌, arith, rules}
+use Rattle.std.proofs.Common.{◌≡◌, ◌-◌, ◌^◌, ℕ, List, [], ◌∷◌, ◌++◌, filter, append-nil, ap, sym, ◌∙◌, arith, rules}
 use Rattle.wu_base.specs.declared.limits.TheConstants.{ADDRESSES_MAX}
 use Rattle.wu_base.specs.declared.addresses.TermList.{TermList}
 use Rattle.wu_layout.specs.Postings.{is_live}
 use Rattle.wu_parts.specs.Chains.{moved, places_of}
-use Rattle.wu_parts.specs.LiveLists.{live_lists}
 use Rattle.wu_parts.proofs.Ascending.{ascend-higher}
 use Rattle.wu_parts.proofs.LiveTerms.{dead_list, filter-zero, some_list}
 use Rattle.wu_parts.proofs.flushing.put_live.Goals as goal

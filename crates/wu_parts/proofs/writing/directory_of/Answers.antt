@@ -1,4 +1,4 @@
-use Rattle.std.proofs.Common.{◌≡◌, ℕ, List, Option, None, Some, length, take, refl, sym, subst, ◌∙◌, rules}
+use Rattle.std.proofs.Common.{◌≡◌, ℕ, List, Option, None, Some, length, take, refl, sym, subst}
 use Rattle.std.specs.Prelude.{IfNone, IfSome, IsSome}
 use Rattle.wu_part.specs.Directories.{PartDirectory, SpellsDirectory}
 use Rattle.wu_part.specs.Headers.{SpellsHeader}

@@ -10,7 +10,8 @@ use Rattle.wu_parts.proofs.memory.MemoryPostings.pass_to.Goals.{In_ok-resize}
 pub returns-then-is_empty-clause-ok : goal.returns-then-is_empty-clause-ok
 returns-then-is_empty-clause-ok c =
     let none : length c.self.inside.before.items ≡ 0 = search rules in
-    memory-empty c.self.inside.low c.self.inside.start c.args.address c.self.inside.stored c.self.inside.before.items c.self.inside.chains.entries none
+    memory-empty c.self.inside.low c.self.inside.start c.args.address c.self.inside.stored c.self.inside.before.items
+    c.self.inside.chains.entries none
     c.self.invariant.chains
     ∙ ap (λ (m : Memory). record m { end = c.args.address }) c.self.view_is
 
@@ -59,7 +60,8 @@ invariant_of-self-2 c =
       postings = c.self.invariant.postings;
       has = has-raised c.self.inside.low (c.self.inside.start + length links) (c.self.inside.start + length c.resize.new.self.items)
           (c.self.inside.start + length (links ++ more c)) _ _ c.self.invariant.postings
-          (ap (λ (l : List ℕ). memory_of c.self.inside.low c.self.inside.start c.self.inside.stored l c.self.inside.chains.entries) (filled c)
+          (ap (λ (l : List ℕ). memory_of c.self.inside.low c.self.inside.start c.self.inside.stored l c.self.inside.chains.entries)
+          (filled c)
           ∙ memory-append c.self.inside.low c.self.inside.start c.self.inside.stored links (more c) c.self.inside.chains.entries
           c.self.invariant.chains)
           (omega (arith, ap length (filled c), length-append links (more c))) c.self.invariant.has;

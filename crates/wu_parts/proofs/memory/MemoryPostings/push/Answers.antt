@@ -27,7 +27,8 @@ invariant_of-self-2 c =
       places = c.in_ok-put.ensures.bounded;
       postings = postings;
       has =
-          subst (λ (n : ℕ). HasPostings low n (memory_of low start (c.self.inside.stored + 1) c.put.new.links.items c.put.new.chains.entries)
+          subst (λ (n : ℕ). HasPostings low n (memory_of low start (c.self.inside.stored + 1) c.put.new.links.items
+          c.put.new.chains.entries)
           postings) end
           (subst (λ (m : Memory). HasPostings low (next + 1) m postings) (sym given)
           (has-with_posting low next before c.args.term.now c.self.invariant.postings refl c.self.invariant.has));

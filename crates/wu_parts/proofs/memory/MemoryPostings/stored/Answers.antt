@@ -1,4 +1,4 @@
-use Rattle.std.proofs.Common.{◌≡◌, ℕ, ◌+◌, ◌≤◌, ap, arith}
+use Rattle.std.proofs.Common.{ap, arith}
 use Rattle.wu_layout.proofs.PostingLemmas.{Ascend-length}
 use Rattle.wu_parts.specs.Memory.{Memory}
 use Rattle.wu_parts.proofs.memory.MemoryPostings.stored.Goals as goal

@@ -1,4 +1,4 @@
-use Rattle.std.proofs.Common.{◌≡◌, ℕ, ◌+◌, ◌<◌, List, [], ◌∷◌, ◌++◌, length, map, refl, ap, sym, subst, ◌∙◌, arith, rules}
+use Rattle.std.proofs.Common.{◌≡◌, ℕ, ◌+◌, ◌<◌, List, [], ◌∷◌, ◌++◌, length, map, refl, ap, sym, subst, ◌∙◌, rules}
 use Rattle.wu_base.specs.declared.addresses.PartRec.{PartRec}
 use Rattle.wu_base.specs.declared.addresses.Range.{Range}
 use Rattle.wu_base.specs.declared.addresses.TermList.{TermList}
@@ -49,7 +49,8 @@ invariant_of-self-2 g c =
     subst (λ (ls : List TermList). IsPut ls c.self.inside.next_blob c.in_ok-part.part.recorded c.in_ok-part.part.directory before after)
     c.deref.ensures.value c.in_ok-part.ensures.put in
     let more : AreStored memory.end (parts ++ c.in_ok-part.part ∷ []) =
-    stored_after memory.low memory.end c.self.inside.next_blob parts c.in_ok-part.part (live_of ranges has.0) c.in_ok-lists.lists.items before after
+    stored_after memory.low memory.end c.self.inside.next_blob parts c.in_ok-part.part (live_of ranges has.0) c.in_ok-lists.lists.items
+    before after
     c.self.invariant (Ascend-filter (λ (p : Posting). is_live ranges p.address) memory.low memory.end has.0 has.1.ascend)
     (c.in_ok-lists.ensures.lists memory.low memory.end has.0 has.1) some put in
     subst (λ (m : Memory). AreStored m.low c.push.new.self.items) (sym c.clear-2.ensures)

@@ -1,4 +1,4 @@
-use Rattle.std.proofs.Common.{◌≡◌, ℕ, ◌+◌, ◌<◌, ◌≤◌, ◌^◌, List, ap, arith}
+use Rattle.std.proofs.Common.{List, ap, arith}
 use Rattle.wu_parts.specs.Contents.{stored_in_parts}
 use Rattle.wu_parts.specs.StoredParts.{records_of}
 use Rattle.wu_parts.specs.declared.writing.StoredPart.{StoredPart}
