@@ -1,8 +1,10 @@
 -- The lists of terms, fetched one after the other.
 use Rattle.std.proofs.Common.{◌≡◌, ℕ, ◌+◌, ◌<◌, List, [], ◌∷◌, ◌++◌, length, map, take, drop, get_or, refl, ap, sym, ◌∙◌, subst}
-use Rattle.std.specs.Prelude.{Option, zip}
+use Rattle.std.specs.Prelude.{All, Option, zip}
+use Rattle.std.specs.List.Sorted.{IsStrictlyIncreasing}
 use Rattle.std.specs.Map.{keys_of}
 use Rattle.std.proofs.lemmas.List.{take_more, drop_more, take-append-drop, map-append}
+use Rattle.std.proofs.lemmas.List.Elements.{All-from_recursion, recursion_from_All}
 use Rattle.wu_base.specs.declared.addresses.PartRec.{PartRec}
 use Rattle.wu_base.specs.declared.addresses.Range.{Range}
 use Rattle.wu_base.specs.declared.addresses.TermList.{TermList}
@@ -17,11 +19,21 @@ use Rattle.wu_parts.specs.Causes.{IsFetchCause}
 use Rattle.wu_parts.specs.Contents.{Contents}
 use Rattle.wu_engine.specs.Asked.{blocks_for}
 use Rattle.wu_engine.specs.Units.{IsCauseFor, list_at}
-use Rattle.wu_lists.proofs.Asking.{asks-join}
+use Rattle.wu_lists.proofs.Asking.{all-append, asks-join}
 use Rattle.wu_engine.proofs.Asking.{fails_after, fails_then}
 use Rattle.wu_engine.proofs.ToldPostings.{for-append}
 
 -- ---- one more list
+
+abbrev Ascends : TermList → Type 0
+Ascends list = IsStrictlyIncreasing list.at
+
+pub ascending_next : (lists now : List TermList) (list : TermList) → All (λ list. IsStrictlyIncreasing list.at) lists
+    → now ≡ lists ++ list ∷ [] → IsStrictlyIncreasing list.at → All (λ list. IsStrictlyIncreasing list.at) now
+ascending_next lists now list up pushed one =
+    subst (All Ascends) (sym pushed)
+    (All-from_recursion Ascends (lists ++ list ∷ [])
+    (all-append Ascends lists (list ∷ []) (recursion_from_All Ascends lists up) (one, tt)))
 
 module _ (terms : List (List ℕ)) (i : ℕ) (term : List ℕ) (within : i < length terms) (is : term ≡ get_or terms i term) where
   taken : take (i + 1) terms ≡ take i terms ++ term ∷ []

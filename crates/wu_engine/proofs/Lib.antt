@@ -16,6 +16,7 @@ pub mod LeftStores
 pub mod Asking
 pub mod ToldPostings
 pub mod FetchedLists
+pub mod PassedCauses
 pub mod FramesOfFiles
 pub mod UnitsOfFrames
 pub mod AskedTerms

@@ -1,8 +1,6 @@
 -- What a query reads, and why it fails.
-use Rattle.std.proofs.Common.{◌≡◌, ℕ, List, [], ◌∷◌, ◌++◌, refl, sym, ap, subst, inl, inr, append-nil}
-use Rattle.std.specs.Prelude.{Option, None, Some, option_map, zip, Result, Ok, Err, IfErr, IsErrAnd}
-use Rattle.std.specs.Map.{keys_of}
-use Rattle.wu_base.specs.declared.addresses.Range.{Range}
+use Rattle.std.proofs.Common.{◌≡◌, ℕ, List, [], ◌∷◌, ◌++◌, refl, sym, ap, subst, inl, inr, append-nil, arith}
+use Rattle.std.specs.Prelude.{Option, None, Some, option_map, zip, Result, IfErr, IsErrAnd}
 use Rattle.wu_base.specs.declared.troubles.Trouble.{Trouble}
 use Rattle.wu_base.specs.declared.troubles.Trouble.TheVariants.{NoMemory}
 use Rattle.wu_outside.specs.Content.{Content}
@@ -13,17 +11,18 @@ use Rattle.wu_space.specs.Addresses.{Ranges}
 use Rattle.wu_frames.specs.declared.Frames.{Frames}
 use Rattle.wu_frames.specs.UserFrames.{AreFrames}
 use Rattle.wu_lists.specs.declared.blocks.Block.{Block}
-use Rattle.wu_lists.specs.Keeping.{Asks, Kept, all_missing}
+use Rattle.wu_lists.specs.Keeping.{Asks, Kept}
 use Rattle.wu_parts.specs.Causes.{IsFetchCause}
 use Rattle.wu_parts.specs.Contents.{Contents}
-use Rattle.wu_engine.specs.Causes.{IsDamagedIn}
+use Rattle.wu_engine.specs.Causes.{IsDamagedAt, IsDamagedIn}
 use Rattle.wu_engine.specs.Asked.{blocks_for, terms_asked}
 use Rattle.wu_engine.specs.Finding.{AreTextsOf, IsCause, KeepsTexts}
 use Rattle.wu_engine.specs.Reads.{AreTexts, ReadsForQuery, ReadsInTurn, texts_read}
 use Rattle.wu_engine.specs.Records.{Records}
 use Rattle.wu_engine.specs.States.{State}
-use Rattle.wu_engine.specs.Units.{IsCauseFor, IsIndexOf, TellsPostings}
-use Rattle.wu_engine.proofs.Asking.{fails_at_once, fails_last}
+use Rattle.wu_engine.specs.Units.{IsIndexOf, TellsPostings}
+use Rattle.wu_engine.proofs.PassedCauses.{err_from}
+use Rattle.wu_engine.proofs.ReadCauses.{cause_after}
 
 -- a question that has no text shown reads blocks alone
 pub blocks_alone : (question : Question) (blocks : List Block) (frames : Frames) (contents : Contents) (files : Records)
@@ -79,34 +78,36 @@ reads_for fs live uid question contents kept files holds before after frames her
   };
 }
 
--- ---- errors that are passed on
+-- ---- troubles of a query
 
-pub err_from : {T E : Type 0} (P : E → Type 0) (r : Result T E) (error : E) → IsErrAnd r (λ e. e ≡ error) → P error → IfErr r P
-err_from P (Ok value) error is p = absurd is
-err_from P (Err e) error is p = subst P (sym is) p
+-- want of memory, where no fault rose
+pub no_memory : (Broken : ℕ → Type 0) (faults : ℕ) → IsCause Broken faults faults NoMemory
+no_memory Broken faults = record {
+  kept = omega arith;
+  store_fault = λ h. absurd (cc);
+  calm = λ h. refl;
+  damaged = λ blob h. absurd (cc);
+}
 
-module _ {T : Type 0} (r : Result T Trouble) (contents : Contents) (frames : List Range) (terms : List (List ℕ)) (holds : Option Content) where
-  -- want of memory before any block was asked for
-  pub cause_at_once : (faults : ℕ) (ranges : Option (List ReadRange)) → IsErrAnd r (λ e. e ≡ NoMemory)
-      → IfErr r (IsCauseFor contents frames terms holds faults faults ranges ranges)
-  cause_at_once faults ranges is =
-      err_from (IsCauseFor contents frames terms holds faults faults ranges ranges) r NoMemory is
-      (fails_at_once (all_missing contents.kept.cap (keys_of contents.kept.entries) (blocks_for contents frames terms)) ranges
-      (zip contents.parts contents.directories) holds faults faults refl)
+module _ {T : Type 0} (r : Result T Trouble) (before now : ℕ) where
+  pub cause_of_memory : (Broken : ℕ → Type 0) → now ≡ before → IsErrAnd r (λ e. e ≡ NoMemory) → IfErr r (IsCause Broken before now)
+  cause_of_memory Broken calm is =
+      err_from (IsCause Broken before now) r NoMemory is
+      (subst (λ (n : ℕ). IsCause Broken before n NoMemory) (sym calm) (no_memory Broken before))
 
-  -- and after all of them
-  pub cause_at_last : (kept : Kept) (before now : ℕ) (ranges ranges_now : Option (List ReadRange)) → now ≡ before
-      → Asks (blocks_for contents frames terms) holds contents.kept kept ranges ranges_now → IsErrAnd r (λ e. e ≡ NoMemory)
-      → IfErr r (IsCauseFor contents frames terms holds before now ranges ranges_now)
-  cause_at_last kept before now ranges ranges_now calm asks is =
-      err_from (IsCauseFor contents frames terms holds before now ranges ranges_now) r NoMemory is
-      (fails_last (blocks_for contents frames terms) contents.kept kept ranges ranges_now (zip contents.parts contents.directories) holds
-      before now asks calm)
+  module _ (files : Records) (contents : Contents) (holds : Option Content) (trouble : Trouble) (is : IsErrAnd r (λ e. e ≡ trouble)) where
+    -- a trouble of the fetch
+    pub cause_of_fetch : (missing : List Block) (ranges ranges_now : Option (List ReadRange))
+        → IsFetchCause (zip contents.parts contents.directories) missing holds before now ranges ranges_now trouble
+        → IfErr r (IsCause (IsDamagedIn files contents holds) before now)
+    cause_of_fetch missing ranges ranges_now cause =
+        err_from (IsCause (IsDamagedIn files contents holds) before now) r trouble is
+        (cause_fetched files contents holds missing before now ranges ranges_now trouble cause)
 
-  -- a trouble of the fetch
-  pub cause_passed : (asked : List (List ℕ)) (before now : ℕ) (ranges ranges_now : Option (List ReadRange)) (trouble : Trouble)
-      → asked ≡ terms → IsCauseFor contents frames asked holds before now ranges ranges_now trouble → IsErrAnd r (λ e. e ≡ trouble)
-      → IfErr r (IsCauseFor contents frames terms holds before now ranges ranges_now)
-  cause_passed asked before now ranges ranges_now trouble same cause is =
-      err_from (IsCauseFor contents frames terms holds before now ranges ranges_now) r trouble is
-      (subst (λ (ts : List (List ℕ)). IsCauseFor contents frames ts holds before now ranges ranges_now trouble) same cause)
+    -- a trouble with a text, after calls that changed nothing of the store
+    pub cause_of_text : (holds_then : Option Content) (middle : ℕ) → holds_then ≡ holds → middle ≡ before
+        → IsCause (IsDamagedAt files holds_then) middle now trouble → IfErr r (IsCause (IsDamagedIn files contents holds) before now)
+    cause_of_text holds_then middle same calm cause =
+        err_from (IsCause (IsDamagedIn files contents holds) before now) r trouble is
+        (cause_after (IsDamagedAt files holds_then) (IsDamagedIn files contents holds) before middle now trouble calm
+        (λ blob damaged. inl (subst (λ (o : Option Content). IsDamagedAt files o blob) same damaged)) cause)

@@ -1,5 +1,5 @@
 -- What is fetched of parts and memory are the state's postings, and it stays so while blocks are kept.
-use Rattle.std.proofs.Common.{◌≡◌, ℕ, zero, suc, ◌<◌, ◌≤◌, Bool, true, false, cond, List, [], ◌∷◌, ◌++◌, map, take, filter, refl, ap, ap₂, sym, ◌∙◌, subst, arith, append_assoc}
+use Rattle.std.proofs.Common.{◌≡◌, ℕ, zero, suc, ◌<◌, ◌≤◌, Bool, true, false, cond, List, [], ◌∷◌, ◌++◌, map, take, filter, refl, ap, ap₂, sym, ◌∙◌, subst, arith, append_assoc, append-nil}
 use Rattle.std.specs.Prelude.{Option, Some, None, IfSome, not, zip}
 use Rattle.std.specs.List.{AllByRecursion, flat_map}
 use Rattle.std.specs.Map.{keys_of}
@@ -171,3 +171,8 @@ for-append contents frames (x ∷ xs) ys =
     ap (λ (bs : List Block). all_needed (zip contents.parts contents.directories) x frames ++ bs) (for-append contents frames xs ys)
     ∙ sym (append_assoc (all_needed (zip contents.parts contents.directories) x frames) (blocks_for contents frames xs)
     (blocks_for contents frames ys))
+
+-- of one term
+pub blocks_of_one : (contents : Contents) (frames : List Range) (term : List ℕ)
+    → all_needed (zip contents.parts contents.directories) term frames ≡ blocks_for contents frames (term ∷ [])
+blocks_of_one contents frames term = sym (append-nil (all_needed (zip contents.parts contents.directories) term frames))

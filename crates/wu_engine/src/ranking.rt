@@ -12,7 +12,7 @@ ghost use Rattle.wu_solve.specs.Addresses.{AreLists};
 ghost use Rattle.wu_rank.specs.Scores.{count_at, length_of, total_length};
 ghost use Rattle.wu_rank.specs.Order.{listed};
 ghost use Rattle.wu_engine.specs.Answer.{answer};
-ghost use Rattle.wu_engine.specs.Asked.{blocks_for, terms_of as named_in, with_words};
+ghost use Rattle.wu_engine.specs.Asked.{blocks_for, terms_of as named_in, with_word, with_words};
 ghost use Rattle.wu_engine.specs.Rankings.{unit_at};
 ghost use Rattle.wu_engine.specs.States.{State};
 ghost use Rattle.wu_engine.specs.Units.{AreUnits, CanBeSearched, Indexes, IsAmong, IsCauseFor, TellsPostings, count_before, found_in, list_at, list_in, placed};
@@ -103,11 +103,20 @@ fn with_words(terms: Vec<Bytes>, words: &[Bytes]) -> Result<Vec<Bytes>, NoMemory
 {
     let mut asked = terms;
     for word in words {
-        if !is_among(&asked, word) {
-            asked.push(word.clone()?)?;
-        }
+        put_word(&mut asked, word)?;
     }
     Ok(asked)
+}
+
+/// Puts the word at the end, where it isn't one of the terms.
+fn put_word(terms: &mut Vec<Bytes>, word: &Bytes) -> Result<(), NoMemory>
+    ensures { OnOk result (terms.new.items ≡ with_word terms.old.items word.now) }
+{
+    if is_among(terms, word) {
+        return Ok(());
+    }
+    terms.push(word.clone()?)?;
+    Ok(())
 }
 
 fn is_among(terms: &[Bytes], word: &Bytes) -> bool

@@ -6,7 +6,7 @@ use Rattle.wu_engine.specs.Units.{found_in, list_at}
 use Rattle.wu_engine.proofs.AskedTerms.{terms_named}
 use Rattle.wu_engine.proofs.CountLemmas.{counted}
 use Rattle.wu_engine.proofs.FramesOfFiles.{are_lists}
-use Rattle.wu_engine.proofs.QueryReads.{cause_at_last, cause_at_once, cause_passed}
+use Rattle.wu_engine.proofs.PassedCauses.{cause_at_last, cause_at_once, cause_passed}
 use Rattle.wu_engine.proofs.UnitLemmas.{searched_few}
 use Rattle.wu_engine.proofs.counting.count.Goals as goal
 
@@ -42,15 +42,15 @@ returns-in_err-terms-clause-cause g c =
 
 pub returns-in_err-lists-clause-cause : goal.returns-in_err-lists-clause-cause
 returns-in_err-lists-clause-cause g c =
-    cause_passed c.from_residual.result c.args.parts.now c.args.frames.now.ranges (terms_of (region_of c.args.expr.now))
+    cause_passed c.from_residual-in_err-lists.result c.args.parts.now c.args.frames.now.ranges (terms_of (region_of c.args.expr.now))
     (g.D.Store.holds c.args.store.now) c.deref.result.now (g.D.Store.faults c.args.store.now) (g.D.Store.faults c.lists_of.new.store)
     (g.D.Store.reads c.args.store.now) (g.D.Store.reads c.lists_of.new.store) c.in_err-lists.field-0.0
     (c.deref.ensures.value ∙ terms_named (region_of c.args.expr.now) c.in_ok-terms.terms.items c.in_ok-terms.ensures)
-    c.in_err-lists.ensures.cause c.from_residual.ensures.1
+    c.in_err-lists.ensures.cause c.from_residual-in_err-lists.ensures.1
 
 pub returns-in_err-counts-clause-cause : goal.returns-in_err-counts-clause-cause
 returns-in_err-counts-clause-cause g c =
-    cause_at_last c.from_residual.result c.args.parts.now c.args.frames.now.ranges (terms_of (region_of c.args.expr.now))
+    cause_at_last c.from_residual-in_err-counts.result c.args.parts.now c.args.frames.now.ranges (terms_of (region_of c.args.expr.now))
     (g.D.Store.holds c.args.store.now) c.lists_of.new.parts.kept (g.D.Store.faults c.args.store.now)
     (g.D.Store.faults c.lists_of.new.store) (g.D.Store.reads c.args.store.now) (g.D.Store.reads c.lists_of.new.store)
     c.in_ok-lists.ensures.calm
@@ -58,4 +58,4 @@ returns-in_err-counts-clause-cause g c =
     c.args.parts.now.kept c.lists_of.new.parts.kept (g.D.Store.reads c.args.store.now) (g.D.Store.reads c.lists_of.new.store))
     (c.deref.ensures.value ∙ terms_named (region_of c.args.expr.now) c.in_ok-terms.terms.items c.in_ok-terms.ensures)
     c.in_ok-lists.ensures.blocks)
-    c.from_residual.ensures.1
+    c.from_residual-in_err-counts.ensures.1

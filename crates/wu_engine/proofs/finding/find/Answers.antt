@@ -7,12 +7,14 @@ use Rattle.wu_gcl.specs.Regions.{region_of}
 use Rattle.wu_lists.specs.Keeping.{Asks}
 use Rattle.wu_outside.specs.Content.{Content}
 use Rattle.wu_engine.specs.Asked.{blocks_for}
+use Rattle.wu_engine.specs.Causes.{IsDamagedIn}
 use Rattle.wu_engine.specs.Finding.{hits_at, lines_at, text_at}
 use Rattle.wu_engine.specs.Reads.{texts_shown}
 use Rattle.wu_engine.specs.Units.{found_in, list_at}
 use Rattle.wu_engine.proofs.AskedTerms.{terms_named}
 use Rattle.wu_engine.proofs.FoundLines.{are_texts, found_answer, found_texts}
 use Rattle.wu_engine.proofs.FramesOfFiles.{are_lists}
+use Rattle.wu_engine.proofs.QueryReads.{cause_of_fetch, cause_of_memory, cause_of_text}
 use Rattle.wu_engine.proofs.UnitLemmas.{searched_few}
 use Rattle.wu_engine.proofs.finding.find.Goals as goal
 
@@ -79,3 +81,28 @@ returns-clause-reads g c =
           ≡ option_map (λ ranges. ranges ++ texts_shown (hits_at files region ls) (text_at files) c.args.k c.as_slice-2.result.now)
           (reads c.lists_of.new.store)) c.deref-3.ensures.value c.in_ok-shown.ensures.reads;
     }
+
+pub returns-in_err-terms-clause-cause : goal.returns-in_err-terms-clause-cause
+returns-in_err-terms-clause-cause g c =
+    let faults = g.D.Store.faults c.args.store.now in
+    cause_of_memory c.from_residual.result faults faults
+    (IsDamagedIn c.args.files.now.entries c.args.parts.now (g.D.Store.holds c.args.store.now)) refl c.from_residual.ensures.1
+
+pub returns-in_err-lists-clause-cause : goal.returns-in_err-lists-clause-cause
+returns-in_err-lists-clause-cause g c =
+    cause_of_fetch c.from_residual-in_err-lists.result (g.D.Store.faults c.args.store.now) (g.D.Store.faults c.lists_of.new.store)
+    c.args.files.now.entries c.args.parts.now (g.D.Store.holds c.args.store.now) c.in_err-lists.field-0.0 c.from_residual-in_err-lists.ensures.1
+    _ _ _ c.in_err-lists.ensures.cause
+
+pub returns-in_err-counts-clause-cause : goal.returns-in_err-counts-clause-cause
+returns-in_err-counts-clause-cause g c =
+    cause_of_memory c.from_residual-in_err-counts.result (g.D.Store.faults c.args.store.now) (g.D.Store.faults c.lists_of.new.store)
+    (IsDamagedIn c.args.files.now.entries c.args.parts.now (g.D.Store.holds c.args.store.now)) c.in_ok-lists.ensures.calm
+    c.from_residual-in_err-counts.ensures.1
+
+pub returns-in_err-shown-clause-cause : goal.returns-in_err-shown-clause-cause
+returns-in_err-shown-clause-cause g c =
+    cause_of_text c.from_residual-in_err-shown.result (g.D.Store.faults c.args.store.now) (g.D.Store.faults c.first_lines.new.store)
+    c.args.files.now.entries c.args.parts.now (g.D.Store.holds c.args.store.now) c.in_err-shown.field-0.0 c.from_residual-in_err-shown.ensures.1
+    (g.D.Store.holds c.lists_of.new.store) (g.D.Store.faults c.lists_of.new.store) c.lists_of.ensures.holds c.in_ok-lists.ensures.calm
+    c.in_err-shown.ensures.cause

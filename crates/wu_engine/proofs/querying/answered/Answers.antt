@@ -1,19 +1,19 @@
-use Rattle.std.proofs.Common.{◌≡◌, ℕ, List, ap, subst, arith}
+use Rattle.std.proofs.Common.{◌≡◌, ℕ, refl, subst}
 use Rattle.std.proofs.lemmas.Result.{on_ok_weaker}
 use Rattle.wu_ask.specs.declared.Answered.{Answered}
 use Rattle.wu_ask.specs.Questions.{question_of}
 use Rattle.wu_frames.specs.UserFrames.{AreFrames}
 use Rattle.wu_frames.proofs.Keeping.{right-found}
-use Rattle.wu_parts.specs.Contents.{Contents}
 use Rattle.wu_tree.specs.FileSystems.{FileSystem}
 use Rattle.wu_engine.specs.Answer.{answer}
+use Rattle.wu_engine.specs.Causes.{IsDamagedIn}
 use Rattle.wu_engine.specs.Finding.{KeepsTexts}
 use Rattle.wu_engine.specs.States.{State}
 use Rattle.wu_engine.specs.Units.{Indexes, IsIndexOf, TellsPostings}
 use Rattle.wu_engine.specs.View.{view_of}
 use Rattle.wu_engine.proofs.AnswerLemmas.{if_ok}
-use Rattle.wu_engine.proofs.QueryReads.{reads_for}
-use Rattle.wu_engine.proofs.Searching.{can_be_searched, can_be_read}
+use Rattle.wu_engine.proofs.QueryReads.{cause_of_memory, no_memory, reads_for}
+use Rattle.wu_engine.proofs.Searching.{can_be_read, can_be_searched, sound_prepared}
 use Rattle.wu_engine.proofs.querying.answered.Goals as goal
 
 pub answer-requires-clause-fit : goal.answer-requires-clause-fit
@@ -58,3 +58,29 @@ returns-in-Some-clause-reads g c =
     c.answer.new.parts.kept c.args.files.now.entries (g.D.Store.holds c.args.store.now) (g.D.Store.reads c.args.store.now)
     (g.D.Store.reads c.answer.new.store) c.in-Some.frames.now hers)
     c.answer.ensures.reads
+
+pub returns-in-Some-clause-sound : goal.returns-in-Some-clause-sound
+returns-in-Some-clause-sound g c =
+    sound_prepared c.args.tree.now c.args.space.now c.args.parts.now c.answer.new.parts c.args.files.now.entries c.args.kept.now
+    c.prepare.new.self c.answer.ensures.others c.prepare.ensures.right c.requires.sound
+
+pub returns-in_err-prepare-clause-sound : goal.returns-in_err-prepare-clause-sound
+returns-in_err-prepare-clause-sound g c =
+    sound_prepared c.args.tree.now c.args.space.now c.args.parts.now c.args.parts.now c.args.files.now.entries c.args.kept.now
+    c.prepare.new.self refl c.prepare.ensures.right c.requires.sound
+
+pub returns-in-None-clause-sound : goal.returns-in-None-clause-sound
+returns-in-None-clause-sound g c =
+    sound_prepared c.args.tree.now c.args.space.now c.args.parts.now c.args.parts.now c.args.files.now.entries c.args.kept.now
+    c.prepare.new.self refl c.prepare.ensures.right c.requires.sound
+
+pub returns-in_err-prepare-clause-cause : goal.returns-in_err-prepare-clause-cause
+returns-in_err-prepare-clause-cause g c =
+    let faults = g.D.Store.faults c.args.store.now in
+    cause_of_memory c.from_residual.result faults faults
+    (IsDamagedIn c.args.files.now.entries c.args.parts.now (g.D.Store.holds c.args.store.now)) refl c.from_residual.ensures.1
+
+pub returns-in-None-clause-cause : goal.returns-in-None-clause-cause
+returns-in-None-clause-cause g c =
+    no_memory (IsDamagedIn c.args.files.now.entries c.args.parts.now (g.D.Store.holds c.args.store.now))
+    (g.D.Store.faults c.args.store.now)
