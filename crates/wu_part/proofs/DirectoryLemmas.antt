@@ -1,14 +1,11 @@
 -- Lemmas on the spelling of a directory.
-use Rattle.std.proofs.Common.{◌≡◌, ℕ, ◌+◌, ◌-◌, List, [], ◌∷◌, length, map, refl, sym, subst, ◌∙◌, true, ◌==◌, arith}
-use Rattle.std.specs.List.{AllByRecursion, list_any, sum_by}
-use Rattle.std.specs.List.Sorted.{IsStrictlySortedBy}
-use Rattle.std.specs.Cmp.Lexicographic.{slice_cmp}
-use Rattle.std.specs.Ordering.{nat_cmp}
+use Rattle.std.proofs.Common.{◌≡◌, ℕ, ◌+◌, ◌-◌, List, [], ◌∷◌, length, refl, sym, subst, ◌∙◌, true, ◌==◌, arith}
+use Rattle.std.specs.List.{AllByRecursion, list_any}
 use Rattle.wu_part.specs.declared.entries.TermEntry.{TermEntry}
 use Rattle.wu_part.specs.declared.headers.TheConstants.{HEADER_LEN}
 use Rattle.wu_part.specs.declared.reading.Head.{Head}
 use Rattle.wu_part.specs.Directories.{PartDirectory, SpellsDirectory, IsEntry, StandFrom, StartsWithNumbers, SpellsEntries, all_blocks}
-use Rattle.wu_part.specs.Entries.{StartsWithHead, AreEntries}
+use Rattle.wu_part.specs.Entries.{StartsWithHead, AreEntries, IsWhole}
 use Rattle.wu_part.proofs.ReadingLemmas.{after_first, after_three}
 use Rattle.wu_part.proofs.TermLemmas.{any_block}
 
@@ -56,16 +53,10 @@ entries_of_directory d bytes head entries place size s h e f =
           (subst (λ x. StandFrom (HEADER_LEN + length bytes) x (all_blocks d.terms)) f s.holds.places);
     }
 
-pub record HasWhole (head : Head) (terms : List TermEntry) : Type 0 where
-  pub ascending : IsStrictlySortedBy (slice_cmp nat_cmp) (map (λ entry. entry.term) terms)
-  pub sum : sum_by (λ entry. entry.count) terms ≡ head.stored
-  pub begin : list_any (λ entry. list_any (λ block. block.first == head.low) entry.blocks) terms ≡ true
-  pub end : list_any (λ entry. list_any (λ block. block.last == head.high) entry.blocks) terms ≡ true
-
 -- the head and the entries make a directory
 pub directory_of_entries : (bytes : List ℕ) (head : Head) (entries : List ℕ) (place size : ℕ) (terms : List TermEntry)
     → StartsWithHead bytes head entries → place ≡ HEADER_LEN + length bytes → AreEntries head size head.terms entries place terms
-    → HasWhole head terms
+    → IsWhole head terms
     → SpellsDirectory
     (record { generation = head.generation; low = head.low; high = head.high; stored = head.stored; size = size; terms = terms }) bytes
 directory_of_entries bytes head entries place size terms h e a w = record {
@@ -91,10 +82,10 @@ directory_of_entries bytes head entries place size terms h e a w = record {
 -- a directory's entries keep what the head says
 pub whole_of_directory : (d : PartDirectory) (bytes : List ℕ) (head : Head) (entries : List ℕ) (terms : List TermEntry)
     → SpellsDirectory d bytes
-    → StartsWithHead bytes head entries → d.terms ≡ terms → HasWhole head terms
+    → StartsWithHead bytes head entries → d.terms ≡ terms → IsWhole head terms
 whole_of_directory d bytes head entries terms s h same =
     let is = head_of_directory d bytes head entries s h in
-    subst (λ (x : List TermEntry). HasWhole head x) same (record {
+    subst (λ (x : List TermEntry). IsWhole head x) same (record {
       ascending = s.holds.ascending;
       sum = s.holds.sum ∙ is.0.stored;
       begin = subst (λ x. list_any (λ entry. list_any (λ block. block.first == x) entry.blocks) d.terms ≡ true) is.0.low

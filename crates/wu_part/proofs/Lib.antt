@@ -1,9 +1,13 @@
 pub mod BoundLemmas
+pub mod DecodingLemmas
 pub mod DirectoryLemmas
 pub mod HeaderLemmas
 pub mod LawLemmas
+pub mod MarkLemmas
 pub mod PartLemmas
 pub mod ReadingLemmas
 pub mod SpellingLemmas
 pub mod TermLemmas
+pub mod WalkLemmas
+pub mod WholeLemmas
 pub mod WritingLemmas

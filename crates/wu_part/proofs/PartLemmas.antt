@@ -1,5 +1,6 @@
 -- Lemmas on a part's lists and its directory.
 use Rattle.std.proofs.Common.{◌≡◌, ℕ, zero, suc, ◌+◌, ◌-◌, ◌^◌, ◌<◌, ◌≤◌, ⊎_elim, List, [], ◌∷◌, ◌++◌, length, get_or, map, take, drop, eqb, refl, ap, sym, subst, ◌∙◌, Bool, true, false, ◌||◌, ◌==◌, append_assoc, length-append, arith}
+use Rattle.std.proofs.Math.Seq.{take-append_seam, drop-append_seam}
 use Rattle.std.specs.Prelude.{Some, None, slice_get}
 use Rattle.std.specs.List.{AllByRecursion, AllZip, IsDistinct, flat_map, list_any, sum_by, last_or}
 use Rattle.std.specs.List.Sorted.{IsStrictlyIncreasing, IsStrictlySortedBy}
@@ -327,9 +328,15 @@ stored_fits lists are d =
         all_joined (λ a. (0 ≤ a) × (a ≤ ADDRESSES_MAX - 1)) list.at (flat_map (λ l. l.at) lists) (all_small list.at are.0.below)
         (all_lists lists are.1)
 
-pub blob_joined : (b0 b1 b2 b3 b4 header head entries blocks h e k : List ℕ) → b0 ≡ [] → b1 ≡ b0 ++ header → b2 ≡ b1 ++ h → h ≡ head
-    → b3 ≡ b2 ++ e → e ≡ entries → b4 ≡ b3 ++ k → k ≡ blocks → b4 ≡ header ++ (head ++ (entries ++ blocks))
-blob_joined b0 b1 b2 b3 b4 header head entries blocks h e k p0 p1 p2 ph p3 pe p4 pk =
-    p4 ∙ (ap (λ x. b3 ++ x) pk ∙ (ap (λ x. x ++ blocks) (p3 ∙ (ap (λ x. b2 ++ x) pe ∙ ap (λ x. x ++ entries)
-    (p2 ∙ (ap (λ x. b1 ++ x) ph ∙ ap (λ x. x ++ head) (p1 ∙ ap (λ x. x ++ header) p0)))))
-    ∙ (append_assoc (header ++ head) entries blocks ∙ append_assoc header head (entries ++ blocks))))
+pub blob_turned : (blocks b1 b2 b3 b4 header head entries h e : List ℕ) (count : ℕ) → count ≡ length blocks → b1 ≡ blocks ++ header
+    → b2 ≡ b1 ++ h → h ≡ head → b3 ≡ b2 ++ e → e ≡ entries → b4 ≡ drop count b3 ++ take count b3
+    → b4 ≡ header ++ (head ++ (entries ++ blocks))
+blob_turned blocks b1 b2 b3 b4 header head entries h e count long p1 p2 ph p3 pe p4 =
+    let front = header ++ (head ++ entries) in
+    let all : b3 ≡ blocks ++ front =
+    p3 ∙ (ap (λ x. b2 ++ x) pe ∙ (ap (λ x. x ++ entries) (p2 ∙ (ap (λ x. b1 ++ x) ph ∙ ap (λ x. x ++ head) p1))
+    ∙ (append_assoc (blocks ++ header) head entries ∙ append_assoc blocks header (head ++ entries)))) in
+    let later : drop count b3 ≡ front = ap (λ n. drop n b3) long ∙ (ap (λ x. drop (length blocks) x) all ∙ drop-append_seam blocks front) in
+    let first : take count b3 ≡ blocks = ap (λ n. take n b3) long ∙ (ap (λ x. take (length blocks) x) all ∙ take-append_seam blocks front) in
+    p4 ∙ (ap (λ x. x ++ take count b3) later ∙ (ap (λ x. front ++ x) first
+    ∙ (append_assoc header (head ++ entries) blocks ∙ ap (λ x. header ++ x) (append_assoc head entries blocks))))

@@ -63,7 +63,7 @@ stand_join place mid end (block ∷ later) more s t = (s.0, stand_join (place + 
 
 -- ---- blocks
 
-block_same : (a b : BlockEntry) → a.first ≡ b.first → a.last ≡ b.last → a.at ≡ b.at → a.len ≡ b.len → a ≡ b
+pub block_same : (a b : BlockEntry) → a.first ≡ b.first → a.last ≡ b.last → a.at ≡ b.at → a.len ≡ b.len → a ≡ b
 block_same a b first last place len =
     let make : ℕ → ℕ → ℕ → ℕ → BlockEntry = λ f l p n. record { first = f; last = l; at = p; len = n } in
     ap (λ x. make x a.last a.at a.len) first ∙ (ap (λ x. make b.first x a.at a.len) last
@@ -310,7 +310,7 @@ blocks_moved : (head : Head) (size from n m : ℕ) (bytes others : List ℕ) (pl
     → AreNextBlocks head size from m others place blocks rest end
 blocks_moved head size from n m bytes others place blocks rest end e is b = rw (e, is) at b
 
-entry_same : (a b : TermEntry) → a.term ≡ b.term → a.count ≡ b.count → a.blocks ≡ b.blocks → a ≡ b
+pub entry_same : (a b : TermEntry) → a.term ≡ b.term → a.count ≡ b.count → a.blocks ≡ b.blocks → a ≡ b
 entry_same a b term count blocks =
     let make : List ℕ → ℕ → List BlockEntry → TermEntry = λ t n l. record { term = t; count = n; blocks = l } in
     ap (λ x. make x a.count a.blocks) term ∙ (ap (λ x. make b.term x a.blocks) count ∙ ap (λ x. make b.term b.count x) blocks)
@@ -425,15 +425,6 @@ entries_not_all head size count bytes place taken left rest end t none more all 
     no_later : (later : List TermEntry) → AreEntries head size left rest end later → ⊥
     no_later [] l = more l.spelled l.places
     no_later (entry ∷ later) l = absurd (let number = l.number in omega arith)
-
-pub entries_not_taken : (head : Head) (size count : ℕ) (bytes : List ℕ) (place : ℕ) (taken : List TermEntry) (left : ℕ) (rest : List ℕ)
-    (end : ℕ) → TakenEntries head size count bytes place taken left rest end → 0 < left
-    → ((entry : TermEntry) (after : List ℕ) (stop : ℕ) → IsNextEntry head size rest end entry after stop → ⊥)
-    → (all : List TermEntry) → AreEntries head size count bytes place all → ⊥
-entries_not_taken head size count bytes place taken left rest end t some none all a =
-    let h = t.back all a in
-    let n = next_of_entries head size left rest end h.0 h.2 some in
-    none n.0 n.1 n.2 n.3
 
 -- what follows the term
 pub after_term : (head : Head) (size : ℕ) (bytes : List ℕ) (place : ℕ) (term left : List ℕ) (entry : TermEntry) (rest : List ℕ) (end : ℕ)

@@ -1,10 +1,16 @@
 -- What is read of a directory, a piece at a time.
-use Rattle.std.specs.Prelude.{ℕ, List, [], ◌∷◌, ◌+◌, ◌-◌, ◌<◌, ◌≤◌, ◌≡◌, length}
-use Rattle.std.specs.List.{AllByRecursion, flat_map}
+use Rattle.std.specs.Prelude.{ℕ, List, [], ◌∷◌, ◌+◌, ◌-◌, ◌<◌, ◌≤◌, ◌≡◌, ◌==◌, ◌||◌, true, length, map}
+use Rattle.std.specs.declared.cmp.Ordering.TheVariants.{Less}
+use Rattle.std.specs.List.{AllByRecursion, flat_map, list_any, sum_by}
+use Rattle.std.specs.List.Sorted.{IsStrictlySortedBy}
+use Rattle.std.specs.Cmp.Lexicographic.{slice_cmp}
+use Rattle.std.specs.Ordering.{nat_cmp}
 use Rattle.wu_base.specs.declared.limits.TheConstants.{ADDRESSES_MAX, GENERATION_MAX}
 use Rattle.wu_part.specs.declared.entries.BlockEntry.{BlockEntry}
 use Rattle.wu_part.specs.declared.entries.TermEntry.{TermEntry}
+use Rattle.wu_part.specs.declared.reading.AfterBlocks.{AfterBlocks}
 use Rattle.wu_part.specs.declared.reading.Head.{Head}
+use Rattle.wu_part.specs.declared.reading.Reached.{Reached}
 use Rattle.wu_part.specs.Directories.{IsBlock, AreBlocks, IsEntry, StandFrom, all_blocks}
 use Rattle.wu_part.specs.Directories.{StartsWithNumbers, StartsWithEntry, SpellsEntries, block_numbers}
 
@@ -48,3 +54,28 @@ pub record AreEntries (head : Head) (size count : ℕ) (bytes : List ℕ) (place
   pub spelled : SpellsEntries head.low terms bytes
   pub hold : AllByRecursion (IsEntry head.low head.high) terms
   pub places : StandFrom place size (all_blocks terms)
+
+-- the bytes start with blocks, and this comes after them
+pub record HasBlocks (head : Head) (size count : ℕ) (bytes : List ℕ) (place : ℕ) (after : AfterBlocks) : Type 0 where
+  pub blocks : List BlockEntry
+  pub are : AreNextBlocks head size head.low count bytes place blocks after.rest.now after.end
+  pub begun : after.begins ≡ list_any (λ block. block.first == head.low) blocks
+  pub ended : after.ends ≡ list_any (λ block. block.last == head.high) blocks
+
+-- the bytes start with an entry that may follow, and with it so much is read
+pub record PassesEntry (head : Head) (size : ℕ) (from next : Reached) : Type 0 where
+  pub entry : TermEntry
+  pub is : IsNextEntry head size from.rest.now from.place entry next.rest.now next.place
+  pub ascending : slice_cmp nat_cmp from.term.now entry.term ≡ Less
+  pub last : next.term.now ≡ entry.term
+  pub counted : entry.count + next.left ≡ from.left
+  pub begins : next.begun ≡ (from.begun || list_any (λ block. block.first == head.low) entry.blocks)
+  pub ends : next.ended ≡ (from.ended || list_any (λ block. block.last == head.high) entry.blocks)
+
+-- the entries are all those of a directory with this head: their terms ascend, their counts make up the number of addresses, and
+-- some block begins at the lowest address and some ends at the highest
+pub record IsWhole (head : Head) (terms : List TermEntry) : Type 0 where
+  pub ascending : IsStrictlySortedBy (slice_cmp nat_cmp) (map (λ entry. entry.term) terms)
+  pub sum : sum_by (λ entry. entry.count) terms ≡ head.stored
+  pub begin : list_any (λ entry. list_any (λ block. block.first == head.low) entry.blocks) terms ≡ true
+  pub end : list_any (λ entry. list_any (λ block. block.last == head.high) entry.blocks) terms ≡ true

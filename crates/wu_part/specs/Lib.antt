@@ -1,6 +1,10 @@
+pub mod Cursors
+pub mod Decoding
 pub mod Directories
 pub mod Entries
 pub mod Headers
+pub mod Marks
 pub mod Parts
 pub mod Views
+pub mod Walks
 pub mod Writing

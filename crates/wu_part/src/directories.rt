@@ -1,40 +1,42 @@
 //! The directory of a part, as it was read.
-ghost use Rattle.std.specs.Prelude.{◌≡◌, ℕ, List, [], ◌∷◌, ◌-◌, Contains, IfOk, MatchOption, get_or, length, map, min, ◌<◌, ◌≤◌};
-ghost use Rattle.std.specs.List.Sorted.{IsStrictlySortedBy};
-ghost use Rattle.std.specs.Cmp.Lexicographic.{slice_cmp};
-ghost use Rattle.std.specs.Ordering.{nat_cmp};
-ghost use Rattle.wu_vbyte.specs.declared.blocks.TheConstants.{BLOCK_LEN};
+ghost use Rattle.std.specs.Prelude.{◌≡◌, ℕ, List, Contains, IfOk, MatchOption, get_or, length, ◌<◌, ◌≤◌};
 ghost use Rattle.wu_part.specs.Directories.{PartDirectory, SpellsDirectory};
 ghost use Rattle.wu_part.specs.declared.entries.TermEntry.{TermEntry};
+ghost use Rattle.wu_part.specs.Marks.{mark_of};
 
-use crate::entries::{BlockEntry, TermEntry, first_count};
+use crate::cursors::Entry;
+use crate::marks::{Mark, mark_before, mark_up_to};
+use crate::reading::Head;
+use crate::walks::{Terms, entry_after, entry_among, terms_from};
 use std::alloc::Global;
 use std::marker::Model;
-use wu_base::{Bytes, NoMemory, Sequence};
+use wu_base::NoMemory;
 
 /// The directory of a part: its generation, its lowest and highest address, how many addresses it
 /// has, its size in bytes, and the entries of its terms, ascending. Each directory is one that some
 /// bytes spell, so all that has to hold of a directory holds of it.
+///
+/// It keeps the bytes of its entries, and marks in them: a term is found by a search among the marks and
+/// a short walk.
 #[derive(Drop)]
 pub struct Directory {
-    pub(crate) generation: u32,
-    pub(crate) low: u64,
-    pub(crate) high: u64,
-    pub(crate) stored: u64,
+    pub(crate) head: Head,
     pub(crate) size: u64,
-    pub(crate) terms: Vec<TermEntry>,
+    pub(crate) place: u64,
+    pub(crate) bytes: Vec<u8>,
+    pub(crate) marks: Vec<Mark>,
 }
 
 impl Model for Directory {
-    ghost use Rattle.wu_part.specs.Directories.{PartDirectory, IsSpelled};
+    ghost use Rattle.wu_part.specs.Directories.{PartDirectory};
 
     ghost Value = { PartDirectory };
 
-    ghost use Rattle.wu_part.specs.Views.{directory_of};
+    ghost use Rattle.wu_part.specs.Views.{directory_of, IsKept};
 
     ghost view = { directory_of };
 
-    ghost invariant = { λ d. IsSpelled (directory_of d) };
+    ghost invariant = { IsKept };
 }
 
 impl Directory {
@@ -42,28 +44,28 @@ impl Directory {
     pub fn generation(&self) -> u32
         ensures { result ≡ self.now.generation }
     {
-        self.generation
+        self.head.generation
     }
 
     /// The part's lowest address.
     pub fn low(&self) -> u64
         ensures { result ≡ self.now.low }
     {
-        self.low
+        self.head.low
     }
 
     /// The part's highest address.
     pub fn high(&self) -> u64
         ensures { result ≡ self.now.high }
     {
-        self.high
+        self.head.high
     }
 
     /// How many addresses the part has.
     pub fn stored(&self) -> u64
         ensures { result ≡ self.now.stored }
     {
-        self.stored
+        self.head.stored
     }
 
     /// How many bytes the part has.
@@ -77,7 +79,7 @@ impl Directory {
     pub fn term_count(&self) -> usize
         ensures { result ≡ length self.now.terms }
     {
-        self.terms.len()
+        self.head.terms as usize
     }
 
     /// The entry of the term at this place of the directory, counted from 0. `None` exactly where
@@ -86,11 +88,16 @@ impl Directory {
         ensures { MatchOption result (length self.now.terms ≤ place) (λ entry. (place < length self.now.terms) ×
             (entry ≡ get_or self.now.terms place entry)) }
     {
-        if place < self.terms.len() {
-            Some(entry_at(&self.terms, place))
-        } else {
-            None
-        }
+        let mark = mark_up_to(&self.marks, first_mark(self.place), place as u64);
+        let terms = terms_from(&self.head, self.size, &self.bytes, mark);
+        entry_after(terms, place as u64 - mark.number)
+    }
+
+    /// The entries of all terms, in order. Each takes a time that doesn't depend on the number of terms.
+    pub fn terms(&self) -> Terms<'_>
+        ensures { result ≡ self.now.terms }
+    {
+        terms_from(&self.head, self.size, &self.bytes, first_mark(self.place))
     }
 
     /// The entry of the term. `None` exactly where the part has no such term. Takes time logarithmic
@@ -99,10 +106,8 @@ impl Directory {
         ensures { MatchOption result ((entry : TermEntry) → Contains self.now.terms entry → entry.term ≡ term.now → ⊥)
             (λ entry. Contains self.now.terms entry × (entry.term ≡ term.now)) }
     {
-        match place_of(&self.terms, term) {
-            Some(place) => Some(entry_at(&self.terms, place)),
-            None => None,
-        }
+        let mark = mark_before(&self.bytes, &self.marks, first_mark(self.place), term);
+        entry_among(terms_from(&self.head, self.size, &self.bytes, mark), term)
     }
 
     /// A copy of the directory.
@@ -110,12 +115,11 @@ impl Directory {
         ensures { IfOk result (λ copy. copy ≡ self.now) }
     {
         Ok(Directory {
-            generation: self.generation,
-            low: self.low,
-            high: self.high,
-            stored: self.stored,
+            head: self.head,
             size: self.size,
-            terms: copy_entries(alloc, &self.terms)?,
+            place: self.place,
+            bytes: Vec::from_slice(alloc, &self.bytes)?,
+            marks: Vec::from_slice(alloc, &self.marks)?,
         })
     }
 
@@ -123,100 +127,17 @@ impl Directory {
     pub fn is_spelled(&self)
         ensures { (code : List ℕ) × SpellsDirectory self.now code }
     {
-        let _ = &self.low;
+        let _ = &self.size;
     }
 }
 
-/// Copies of the entries.
-fn copy_entries(alloc: Global, terms: &[TermEntry]) -> Result<Vec<TermEntry>, NoMemory>
-    ensures { IfOk result (λ copies. copies.items ≡ terms.now) }
+/// The mark of the first entry, whose blocks begin at the place.
+fn first_mark(place: u64) -> Mark
+    ensures { result ≡ mark_of 0 0 place }
 {
-    let mut copies = Vec::with_capacity(alloc, terms.len())?;
-    for entry in terms {
-        copies.push(copy_entry(alloc, entry)?)?;
-    }
-    Ok(copies)
-}
-
-/// A copy of the entry.
-fn copy_entry(alloc: Global, entry: &TermEntry) -> Result<TermEntry, NoMemory>
-    ensures { IfOk result (λ copy. copy ≡ entry.now) }
-{
-    Ok(TermEntry {
-        term: Bytes::from_slice(alloc, entry.term.as_slice())?,
-        count: entry.count,
-        blocks: Sequence::from(Vec::from_slice(alloc, entry.blocks.as_slice())?),
-    })
-}
-
-/// The entry at the place.
-fn entry_at(terms: &[TermEntry], place: usize) -> Entry<'_>
-    requires { place < length terms.now }
-    ensures { result ≡ get_or terms.now place result }
-{
-    let entry = &terms[place];
-    Entry {
-        term: entry.term.as_slice(),
-        count: entry.count,
-        blocks: entry.blocks.as_slice(),
-    }
-}
-
-/// The place of the term's entry.
-fn place_of(terms: &[TermEntry], term: &[u8]) -> Option<usize>
-    requires { IsStrictlySortedBy (slice_cmp nat_cmp) (map (λ entry. entry.term) terms.now) }
-    ensures { MatchOption result ((entry : TermEntry) → Contains terms.now entry → entry.term ≡ term.now → ⊥)
-        (λ place. (place < length terms.now) × ((d : TermEntry) → (get_or terms.now place d).term ≡ term.now)) }
-{
-    match terms.binary_search_by(|entry| entry.term.as_slice().cmp(&term)) {
-        Ok(place) => Some(place),
-        Err(_) => None,
-    }
-}
-
-/// The entry of a term, and how far its blocks have been gone through: contracts see the entry of
-/// the blocks that are left and the addresses in them.
-#[derive(Drop)]
-pub struct Entry<'a> {
-    term: &'a [u8],
-    count: u64,
-    blocks: &'a [BlockEntry],
-}
-
-impl<'a> Model for Entry<'a> {
-    ghost use Rattle.wu_part.specs.declared.entries.TermEntry.{TermEntry};
-
-    ghost Value = { TermEntry };
-
-    ghost view = { λ e. record { term = e.term.now; count = e.count; blocks = e.blocks.now } };
-}
-
-impl<'a> Entry<'a> {
-    /// The term.
-    pub fn term(&self) -> &'a [u8]
-        ensures { result.now ≡ self.now.term }
-    {
-        self.term
-    }
-
-    /// How many addresses there are in the blocks that are left.
-    pub fn count(&self) -> u64
-        ensures { result ≡ self.now.count }
-    {
-        self.count
-    }
-
-    /// The next block, and how many addresses it has, which are `BLOCK_LEN` but for the last block.
-    /// `None` exactly where no block is left.
-    pub fn next_block(&mut self) -> Option<(BlockEntry, usize)>
-        ensures { MatchOption result ((self.old.blocks ≡ []) × (self.new ≡ self.old))
-            (λ next. (self.old.blocks ≡ next.0 ∷ self.new.blocks) × (next.1 ≡ min self.old.count BLOCK_LEN)
-            × (self.new.count ≡ self.old.count - BLOCK_LEN) × (self.new.term ≡ self.old.term)) }
-    {
-        let (block, later) = self.blocks.split_first()?;
-        let count = first_count(self.count);
-        self.blocks = later;
-        self.count -= count;
-        Some((*block, count as usize))
+    Mark {
+        number: 0,
+        offset: 0,
+        place,
     }
 }

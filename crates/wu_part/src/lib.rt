@@ -1,16 +1,21 @@
 //! Parts of the index: the bytes of a part, and its directory.
 #![tactic(auto)]
 
+mod cursors;
 mod directories;
 mod entries;
 mod headers;
 mod laws;
+mod marks;
 mod reading;
+mod walks;
 mod writing;
 
-pub use directories::{Directory, Entry};
+pub use cursors::Entry;
+pub use directories::Directory;
 pub use entries::{BlockEntry, TermEntry};
 pub use headers::{HEADER_LEN, read_header};
 pub use laws::{each_directory_has_one_spelling, each_part_has_one_spelling};
 pub use reading::{read_block, read_directory};
+pub use walks::Terms;
 pub use writing::encode;

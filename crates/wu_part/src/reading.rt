@@ -1,7 +1,7 @@
 //! Reading of directories and blocks.
-ghost use Rattle.std.specs.Prelude.{◌≡◌, ◌==◌, ℕ, List, [], ◌∷◌, ◌++◌, ◌+◌, ◌-◌, ◌<◌, ◌≤◌, ◌^◌, true, IfOk, IfSome, IfNone, MatchBool, length, map};
-ghost use Rattle.std.specs.List.{AllByRecursion, list_any, sum_by};
-ghost use Rattle.std.specs.List.Sorted.{IsStrictlySortedBy};
+ghost use Rattle.std.specs.Prelude.{◌≡◌, ◌==◌, ℕ, List, [], ◌∷◌, ◌++◌, ◌+◌, ◌-◌, ◌<◌, ◌≤◌, ◌^◌, ◌||◌, true, IfOk, IfSome, IfNone, MatchBool, length};
+ghost use Rattle.std.specs.List.{list_any};
+ghost use Rattle.std.specs.declared.cmp.Ordering.TheVariants.{Less};
 ghost use Rattle.std.specs.Cmp.Lexicographic.{slice_cmp};
 ghost use Rattle.std.specs.Ordering.{nat_cmp};
 ghost use Rattle.wu_base.specs.declared.limits.TheConstants.{ADDRESSES_MAX, GENERATION_MAX, WORD_MAX};
@@ -10,13 +10,16 @@ ghost use Rattle.wu_vbyte.specs.Blocks.{SpellsBlock, AreFromTo};
 ghost use Rattle.wu_part.specs.declared.entries.TermEntry.{TermEntry};
 ghost use Rattle.wu_part.specs.declared.entries.BlockEntry.{BlockEntry};
 ghost use Rattle.wu_part.specs.Directories.{PartDirectory, SpellsDirectory, StartsWithNumbers};
-ghost use Rattle.wu_part.specs.Entries.{StartsWithHead, IsNextBlock, AreNextBlocks, IsNextEntry, AreEntries};
+ghost use Rattle.wu_part.specs.Entries.{StartsWithHead, IsNextBlock, AreNextBlocks, HasBlocks, IsNextEntry, AreEntries, PassesEntry, IsWhole};
+ghost use Rattle.wu_part.specs.Marks.{HasEntries};
 
+use crate::cursors::Entry;
 use crate::directories::Directory;
-use crate::entries::{BlockEntry, TermEntry, first_count};
+use crate::entries::{BlockEntry, first_count};
 use crate::headers::HEADER_LEN;
+use crate::marks::{Mark, put_mark};
 use std::alloc::Global;
-use wu_base::{ADDRESSES_MAX, Bytes, GENERATION_MAX, NoMemory, Sequence, WORD_MAX};
+use wu_base::{ADDRESSES_MAX, GENERATION_MAX, NoMemory, WORD_MAX};
 use wu_vbyte::{take_block, take_number};
 
 /// The directory of a part of `size` bytes whose spelling the bytes are. `None` exactly where they are
@@ -34,22 +37,17 @@ pub fn read_directory(alloc: Global, bytes: &[u8], size: u64) -> Result<Option<D
     if size < place {
         return Ok(None);
     }
-    let terms = match take_entries(alloc, rest, &head, place, size)? {
-        Some(terms) => terms,
+    let marks = match take_entries(alloc, rest, &head, place, size)? {
+        Some(marks) => marks,
         None => return Ok(None),
     };
-    if is_whole(&head, &terms) {
-        Ok(Some(Directory {
-            generation: head.generation,
-            low: head.low,
-            high: head.high,
-            stored: head.stored,
-            size,
-            terms,
-        }))
-    } else {
-        Ok(None)
-    }
+    Ok(Some(Directory {
+        head,
+        size,
+        place,
+        bytes: Vec::from_slice(alloc, rest)?,
+        marks,
+    }))
 }
 
 /// The block's `count` addresses, of which the bytes are the spelling, all of the bytes; `low` is the
@@ -82,7 +80,7 @@ fn next_number(bytes: &[u8]) -> Option<(u64, &[u8])>
 }
 
 /// The three numbers that the bytes start with, and the rest.
-fn three_numbers(bytes: &[u8]) -> Option<(u64, u64, u64, &[u8])>
+pub(crate) fn three_numbers(bytes: &[u8]) -> Option<(u64, u64, u64, &[u8])>
     ensures found { IfSome result (λ next. StartsWithNumbers bytes.now (next.0 ∷ next.1 ∷ next.2 ∷ []) next.3.now) }
     ensures none { IfNone result ((a b c : ℕ) (rest : List ℕ) → a < 2 ^ 64 → b < 2 ^ 64 → c < 2 ^ 64
         → StartsWithNumbers bytes.now (a ∷ b ∷ c ∷ []) rest → ⊥) }
@@ -100,13 +98,13 @@ fn three_numbers(bytes: &[u8]) -> Option<(u64, u64, u64, &[u8])>
 }
 
 /// What a directory begins with: its numbers, the last of them that of its terms.
-#[derive(Drop)]
-struct Head {
-    generation: u32,
-    low: u64,
-    high: u64,
-    stored: u64,
-    terms: u64,
+#[derive(Clone, Copy)]
+pub(crate) struct Head {
+    pub(crate) generation: u32,
+    pub(crate) low: u64,
+    pub(crate) high: u64,
+    pub(crate) stored: u64,
+    pub(crate) terms: u64,
 }
 
 /// The head of a directory, and its entries' bytes. `None` only where the bytes are no directory.
@@ -149,35 +147,53 @@ fn are_numbers(generation: u64, low: u64, span: u64, stored: u64) -> bool
         && stored <= span + 1
 }
 
-/// The entries that the bytes spell, all of the bytes, where their blocks stand from `place` to
-/// `size`. `None` exactly where the bytes spell no such entries.
+/// How far the entries of a directory were read: the bytes that are left, where the next entry's blocks
+/// begin, the last term, how many addresses are to come, and whether some block began at the part's
+/// lowest address and some ended at its highest.
+#[derive(Clone, Copy)]
+struct Reached<'a> {
+    rest: &'a [u8],
+    place: u64,
+    term: &'a [u8],
+    left: u64,
+    begun: bool,
+    ended: bool,
+}
+
+/// Marks in the bytes, which spell the entries of a directory with this head, all of the bytes, where
+/// the blocks stand from `place` to `size`. `None` exactly where they spell no such entries.
 fn take_entries(
     alloc: Global,
     bytes: &[u8],
     head: &Head,
     place: u64,
     size: u64,
-) -> Result<Option<Vec<TermEntry>>, NoMemory>
+) -> Result<Option<Vec<Mark>>, NoMemory>
     requires high { head.now.high < ADDRESSES_MAX }
     requires place { place ≤ size }
-    ensures found { IfOk result (λ read. IfSome read (λ terms. AreEntries head.now size head.now.terms bytes.now place terms.items)) }
+    ensures found { IfOk result (λ read. IfSome read (λ marks. HasEntries head.now size bytes.now place marks.items)) }
     ensures none { IfOk result (λ read. IfNone read ((terms : List TermEntry)
-        → AreEntries head.now size head.now.terms bytes.now place terms → ⊥)) }
+        → AreEntries head.now size head.now.terms bytes.now place terms → IsWhole head.now terms → ⊥)) }
 {
-    let mut terms = Vec::new(alloc);
-    let mut rest = bytes;
-    let mut reached = place;
-    for _ in 0..head.terms {
-        let (entry, left, after) = match take_entry(alloc, rest, head, reached, size)? {
-            Some(taken) => taken,
+    let mut marks = Vec::new(alloc);
+    let mut reached = Reached {
+        rest: bytes,
+        place,
+        term: &[],
+        left: head.stored,
+        begun: false,
+        ended: false,
+    };
+    for number in 0..head.terms {
+        let offset = bytes.len() - reached.rest.len();
+        put_mark(&mut marks, number, offset, reached.place)?;
+        reached = match pass_entry(head, size, &reached) {
+            Some(next) => next,
             None => return Ok(None),
         };
-        terms.push(entry)?;
-        rest = left;
-        reached = after;
     }
-    if is_end(rest, reached, size) {
-        Ok(Some(terms))
+    if is_end(reached.rest, reached.place, size) && is_all(&reached) {
+        Ok(Some(marks))
     } else {
         Ok(None)
     }
@@ -190,44 +206,103 @@ fn is_end(rest: &[u8], end: u64, size: u64) -> bool
     rest.is_empty() && end == size
 }
 
-/// The entry that the bytes start with, the rest of the bytes, and where its blocks end, which begin
-/// at `place`. `None` exactly where the bytes start with no entry whose blocks end at `size` at the
-/// latest.
-fn take_entry<'a>(
-    alloc: Global,
+/// Whether the entries have all addresses, the lowest and the highest too.
+fn is_all(reached: &Reached<'_>) -> bool
+    ensures { MatchBool result ((reached.now.left ≡ 0) × (reached.now.begun ≡ true) × (reached.now.ended ≡ true))
+        (reached.now.left ≡ 0 → reached.now.begun ≡ true → reached.now.ended ≡ true → ⊥) }
+{
+    reached.left == 0 && reached.begun && reached.ended
+}
+
+/// How far the entries are read with one entry more. `None` exactly where no entry that may follow
+/// comes next.
+fn pass_entry<'a>(head: &Head, size: u64, from: &Reached<'a>) -> Option<Reached<'a>>
+    requires high { head.now.high < ADDRESSES_MAX }
+    requires place { from.now.place ≤ size }
+    ensures found { IfSome result (λ next. PassesEntry head.now size from.now next) }
+    ensures none { IfNone result ((entry : TermEntry) (rest : List ℕ) (end : ℕ)
+        → IsNextEntry head.now size from.now.rest.now from.now.place entry rest end
+        → slice_cmp nat_cmp from.now.term.now entry.term ≡ Less → entry.count ≤ from.now.left → ⊥) }
+{
+    let Some(next) = take_entry(from.rest, head, from.place, size) else {
+        return None;
+    };
+    let term = next.entry.term();
+    let count = next.entry.count();
+    if ascends(from.term, term) && count <= from.left {
+        Some(Reached {
+            rest: next.rest,
+            place: next.end,
+            term,
+            left: from.left - count,
+            begun: from.begun || next.begins,
+            ended: from.ended || next.ends,
+        })
+    } else {
+        None
+    }
+}
+
+/// Whether the term stands after the one before it.
+fn ascends(before: &[u8], term: &[u8]) -> bool
+    ensures { MatchBool result (slice_cmp nat_cmp before.now term.now ≡ Less) (slice_cmp nat_cmp before.now term.now ≡ Less → ⊥) }
+{
+    before.cmp(&term).is_lt()
+}
+
+/// An entry that bytes start with, the rest of the bytes, where its blocks end, and whether some block
+/// of it begins at the part's lowest address and some ends at its highest.
+#[derive(Drop)]
+pub(crate) struct NextEntry<'a> {
+    pub(crate) entry: Entry<'a>,
+    pub(crate) rest: &'a [u8],
+    pub(crate) end: u64,
+    pub(crate) begins: bool,
+    pub(crate) ends: bool,
+}
+
+/// The entry that the bytes start with; its blocks begin at `place`. `None` exactly where the bytes
+/// start with no entry whose blocks end at `size` at the latest.
+pub(crate) fn take_entry<'a>(
     bytes: &'a [u8],
     head: &Head,
     place: u64,
     size: u64,
-) -> Result<Option<(TermEntry, &'a [u8], u64)>, NoMemory>
+) -> Option<NextEntry<'a>>
     requires high { head.now.high < ADDRESSES_MAX }
     requires place { place ≤ size }
-    ensures found { IfOk result (λ read. IfSome read (λ next. IsNextEntry head.now size bytes.now place next.0 next.1.now next.2)) }
-    ensures none { IfOk result (λ read. IfNone read ((entry : TermEntry) (rest : List ℕ) (end : ℕ)
-        → IsNextEntry head.now size bytes.now place entry rest end → ⊥)) }
+    ensures found { IfSome result (λ next. IsNextEntry head.now size bytes.now place next.entry next.rest.now next.end) }
+    ensures begins { IfSome result (λ next. next.begins ≡ list_any (λ block. block.first == head.now.low) next.entry.blocks) }
+    ensures ends { IfSome result (λ next. next.ends ≡ list_any (λ block. block.last == head.now.high) next.entry.blocks) }
+    ensures none { IfNone result ((entry : TermEntry) (rest : List ℕ) (end : ℕ)
+        → IsNextEntry head.now size bytes.now place entry rest end → ⊥) }
 {
-    let (term, rest) = match take_term(bytes) {
-        Some(taken) => taken,
-        None => return Ok(None),
+    let Some((term, rest)) = take_term(bytes) else {
+        return None;
     };
-    let (count, rest) = match take_count(rest) {
-        Some(taken) => taken,
-        None => return Ok(None),
+    let Some((count, rest)) = take_count(rest) else {
+        return None;
     };
-    let (blocks, rest, end) = match take_blocks(alloc, rest, head, count, place, size)? {
-        Some(taken) => taken,
-        None => return Ok(None),
+    let Some(blocks) = take_blocks(rest, head, count, place, size) else {
+        return None;
     };
-    let entry = TermEntry {
-        term: Bytes::from_slice(alloc, term)?,
-        count,
-        blocks: Sequence::from(blocks),
-    };
-    Ok(Some((entry, rest, end)))
+    Some(NextEntry {
+        entry: Entry {
+            term,
+            count,
+            low: head.low,
+            bytes: rest,
+            place,
+        },
+        rest: blocks.rest,
+        end: blocks.end,
+        begins: blocks.begins,
+        ends: blocks.ends,
+    })
 }
 
 /// The term that the bytes start with, after its length, and the rest.
-fn take_term(bytes: &[u8]) -> Option<(&[u8], &[u8])>
+pub(crate) fn take_term(bytes: &[u8]) -> Option<(&[u8], &[u8])>
     ensures found { IfSome result (λ next. StartsWithNumber bytes.now (length next.0.now) (next.0.now ++ next.1.now)
         × (0 < length next.0.now) × (length next.0.now ≤ WORD_MAX)) }
     ensures none { IfNone result ((term rest : List ℕ) → 0 < length term → length term ≤ WORD_MAX
@@ -262,41 +337,65 @@ fn take_count(bytes: &[u8]) -> Option<(u64, &[u8])>
     if count > 0 { Some((count, rest)) } else { None }
 }
 
-/// The blocks of so many addresses that the bytes start with, the rest of the bytes, and where the
-/// blocks end, which begin at `place`.
+/// What comes after blocks that bytes start with: the rest of the bytes, where the blocks end, and
+/// whether some of them begins at the part's lowest address and some ends at its highest.
+#[derive(Clone, Copy)]
+struct AfterBlocks<'a> {
+    rest: &'a [u8],
+    end: u64,
+    begins: bool,
+    ends: bool,
+}
+
+/// What comes after the blocks of so many addresses that the bytes start with, which begin at `place`.
+/// `None` exactly where the bytes start with no such blocks that end at `size` at the latest.
 fn take_blocks<'a>(
-    alloc: Global,
     bytes: &'a [u8],
     head: &Head,
     count: u64,
     place: u64,
     size: u64,
-) -> Result<Option<(Vec<BlockEntry>, &'a [u8], u64)>, NoMemory>
+) -> Option<AfterBlocks<'a>>
     requires high { head.now.high < ADDRESSES_MAX }
     requires place { place ≤ size }
-    ensures found { IfOk result (λ read. IfSome read (λ next. AreNextBlocks head.now size head.now.low count bytes.now place
-        next.0.items next.1.now next.2)) }
-    ensures none { IfOk result (λ read. IfNone read ((blocks : List BlockEntry) (rest : List ℕ) (end : ℕ)
-        → AreNextBlocks head.now size head.now.low count bytes.now place blocks rest end → ⊥)) }
+    ensures found { IfSome result (λ after. HasBlocks head.now size count bytes.now place after) }
+    ensures none { IfNone result ((blocks : List BlockEntry) (rest : List ℕ) (end : ℕ)
+        → AreNextBlocks head.now size head.now.low count bytes.now place blocks rest end → ⊥) }
 {
-    let mut blocks = Vec::new(alloc);
-    let mut rest = bytes;
-    let mut end = place;
+    let mut after = AfterBlocks {
+        rest: bytes,
+        end: place,
+        begins: false,
+        ends: false,
+    };
     let mut from = head.low;
     let mut left = count;
     while left > 0 {
         let in_block = first_count(left);
-        let (block, after) = match take_block_entry(rest, head, from, in_block, end, size) {
-            Some(taken) => taken,
-            None => return Ok(None),
+        let Some((block, rest)) = take_block_entry(
+            after.rest, head, from, in_block, after.end, size,
+        ) else {
+            return None;
         };
-        blocks.push(block)?;
-        rest = after;
-        end += block.len;
+        let begins = is_noted(after.begins, block.first, head.low);
+        let ends = is_noted(after.ends, block.last, head.high);
+        after = AfterBlocks {
+            rest,
+            end: after.end + block.len,
+            begins,
+            ends,
+        };
         from = block.last + 1;
         left -= in_block;
     }
-    Ok(Some((blocks, rest, end)))
+    Some(after)
+}
+
+/// Whether it was noted before, or the address is the wanted one.
+fn is_noted(before: bool, address: u64, wanted: u64) -> bool
+    ensures { result ≡ (before || address == wanted) }
+{
+    before || address == wanted
 }
 
 /// The block of so many addresses, none of them below `from`, that the bytes start with, and the rest.
@@ -358,75 +457,4 @@ fn is_room(len: u64, place: u64, size: u64) -> bool
     ensures { MatchBool result (place + len ≤ size) (size < place + len) }
 {
     len <= size - place
-}
-
-/// Whether the entries are those of a directory with this head: the terms ascend, their counts make up
-/// the number of addresses, and some block begins at the lowest address and some ends at the highest.
-fn is_whole(head: &Head, terms: &[TermEntry]) -> bool
-    ensures { MatchBool result
-        (IsStrictlySortedBy (slice_cmp nat_cmp) (map (λ entry. entry.term) terms.now) ×
-        (sum_by (λ entry. entry.count) terms.now ≡ head.now.stored)
-        × (list_any (λ entry. list_any (λ block. block.first == head.now.low) entry.blocks) terms.now ≡ true)
-        × (list_any (λ entry. list_any (λ block. block.last == head.now.high) entry.blocks) terms.now ≡ true))
-        (IsStrictlySortedBy (slice_cmp nat_cmp) (map (λ entry. entry.term) terms.now)
-        → sum_by (λ entry. entry.count) terms.now ≡ head.now.stored
-        → list_any (λ entry. list_any (λ block. block.first == head.now.low) entry.blocks) terms.now ≡ true
-        → list_any (λ entry. list_any (λ block. block.last == head.now.high) entry.blocks) terms.now ≡ true → ⊥) }
-{
-    terms_ascend(terms)
-        && is_sum(terms, head.stored)
-        && begins_at(terms, head.low)
-        && ends_at(terms, head.high)
-}
-
-/// Whether the terms ascend by their bytes.
-fn terms_ascend(terms: &[TermEntry]) -> bool
-    ensures { MatchBool result (IsStrictlySortedBy (slice_cmp nat_cmp) (map (λ entry. entry.term) terms.now))
-        (IsStrictlySortedBy (slice_cmp nat_cmp) (map (λ entry. entry.term) terms.now) → ⊥) }
-{
-    terms.is_sorted_by(|entry, next| entry.term < next.term)
-}
-
-/// Whether the terms have so many addresses in all.
-fn is_sum(terms: &[TermEntry], stored: u64) -> bool
-    ensures { MatchBool result (sum_by (λ entry. entry.count) terms.now ≡ stored) (sum_by (λ entry. entry.count) terms.now ≡ stored → ⊥) }
-{
-    let mut left = stored;
-    for entry in terms {
-        if left < entry.count {
-            return false;
-        }
-        left -= entry.count;
-    }
-    left == 0
-}
-
-/// Whether some block begins at the address.
-fn begins_at(terms: &[TermEntry], address: u64) -> bool
-    ensures { result ≡ list_any (λ entry. list_any (λ block. block.first == address) entry.blocks) terms.now }
-{
-    terms
-        .iter()
-        .any(|entry| has_begin(entry.blocks.as_slice(), address))
-}
-
-fn has_begin(blocks: &[BlockEntry], address: u64) -> bool
-    ensures { result ≡ list_any (λ block. block.first == address) blocks.now }
-{
-    blocks.iter().any(|block| block.first == address)
-}
-
-/// Whether some block ends at the address.
-fn ends_at(terms: &[TermEntry], address: u64) -> bool
-    ensures { result ≡ list_any (λ entry. list_any (λ block. block.last == address) entry.blocks) terms.now }
-{
-    terms
-        .iter()
-        .any(|entry| has_end(entry.blocks.as_slice(), address))
-}
-
-fn has_end(blocks: &[BlockEntry], address: u64) -> bool
-    ensures { result ≡ list_any (λ block. block.last == address) blocks.now }
-{
-    blocks.iter().any(|block| block.last == address)
 }

@@ -1,5 +1,5 @@
 //! Writing of parts.
-ghost use Rattle.std.specs.Prelude.{◌≡◌, ℕ, List, [], ◌∷◌, ◌++◌, ◌+◌, ◌-◌, ◌<◌, ◌≤◌, ◌==◌, ◌^◌, true, IfOk, OnOk, eqb, length, map, slice_index};
+ghost use Rattle.std.specs.Prelude.{◌≡◌, ℕ, List, [], ◌∷◌, ◌++◌, ◌+◌, ◌-◌, ◌<◌, ◌≤◌, ◌==◌, ◌^◌, true, IfOk, OnOk, drop, eqb, length, map, slice_index, take};
 ghost use Rattle.std.specs.List.{AllByRecursion, IsDistinct, flat_map, list_any, sum_by};
 ghost use Rattle.std.specs.List.Sorted.{IsStrictlyIncreasing, IsStrictlySortedBy};
 ghost use Rattle.std.specs.Cmp.Lexicographic.{slice_cmp};
@@ -11,7 +11,7 @@ ghost use Rattle.wu_part.specs.Directories.{PartDirectory};
 ghost use Rattle.wu_part.specs.Parts.{IsList, SpellsPart};
 ghost use Rattle.wu_part.specs.Writing.{AppendsNumbers, AppendsBlocks, AppendsList, AppendsLists, first_of, last_of};
 
-use crate::headers::{HEADER_LEN, put_header};
+use crate::headers::put_header;
 use std::alloc::Global;
 use wu_base::{NoMemory, TermList};
 use wu_vbyte::{BLOCK_LEN, put_block, put_number};
@@ -30,16 +30,25 @@ pub fn encode(alloc: Global, lists: &[TermList], generation: u32) -> Result<Vec<
 {
     let low = lowest(lists);
     let mut entries = Vec::new(alloc);
-    let mut blocks = Vec::new(alloc);
-    put_lists(&mut entries, &mut blocks, low, lists)?;
+    let mut blob = Vec::new(alloc);
+    put_lists(&mut entries, &mut blob, low, lists)?;
+    let blocks = blob.len();
     let mut head = Vec::new(alloc);
     put_head(&mut head, generation, low, lists)?;
-    let mut blob = Vec::with_capacity(alloc, HEADER_LEN)?;
     put_header(&mut blob, (head.len() + entries.len()) as u64)?;
     blob.extend_from_slice(&head)?;
     blob.extend_from_slice(&entries)?;
-    blob.extend_from_slice(&blocks)?;
+    move_to_end(&mut blob, blocks);
     Ok(blob)
+}
+
+/// Moves the first bytes, so many of them, to the end. The part's blocks are moved behind its directory
+/// so, and a part is never held twice.
+fn move_to_end(bytes: &mut Vec<u8>, count: usize)
+    requires { count ≤ length bytes.old.items }
+    ensures { bytes.new.items ≡ drop count bytes.old.items ++ take count bytes.old.items }
+{
+    bytes.rotate_left(count);
 }
 
 /// Appends what a directory begins with: its numbers, the last of them that of its terms.

@@ -1,28 +1,34 @@
-use Rattle.std.proofs.Common.{arith}
-use Rattle.wu_part.proofs.ReadingLemmas.{entries_none_taken, entries_taken, entries_all_taken, entries_not_all, entries_not_taken}
+use Rattle.std.proofs.Common.{refl, arith}
+use Rattle.wu_part.proofs.MarkLemmas.{nothing_read, entry_more, all_read}
+use Rattle.wu_part.proofs.ReadingLemmas.{entries_not_all}
+use Rattle.wu_part.proofs.WholeLemmas.{none_may_follow, all_not_whole}
 use Rattle.wu_part.proofs.reading.take_entries.Goals as goal
+use Rattle.wu_part.proofs.reading.take_entries.Goals.{else-is_end-via-then-is_end+else-is_all, else-is_end-via-else-is_end}
 
-pub loop-init : goal.loop-init
-loop-init c = rw c.new-terms.ensures.items (entries_none_taken _ _ _ _ _ _ c.requires.place (omega arith))
-
-pub take_entry-requires-clause-place : goal.take_entry-requires-clause-place
-take_entry-requires-clause-place c = c.loop.invariant.within
+pub loop-number-init : goal.loop-number-init
+loop-number-init c = rw c.new-marks.ensures.items (nothing_read _ _ _ _ _ c.requires.place refl refl refl refl refl refl)
 
 pub returns-in-None-clause-none : goal.returns-in-None-clause-none
-returns-in-None-clause-none c terms a =
-    entries_not_taken _ _ _ _ _ _ _ _ _ c.loop.invariant (omega (arith, c.loop-test.true))
-    (rw c.in-None.is at c.in_ok-taken.ensures.none) terms a
+returns-in-None-clause-none c terms a whole =
+    none_may_follow _ _ _ _ _ _ _ _ _ _ _ _ c.loop-number.invariant.whole (omega arith) c.in-None.ensures.none terms a whole
 
-pub loop-preserved : goal.loop-preserved
-loop-preserved c =
-    entries_taken _ _ _ _ _ _ _ _ _ _ _ _ _ _ c.loop.invariant (omega (arith, c.loop-test.true))
-    (rw c.in-Some.is at c.in_ok-taken.ensures.found)
-    c.in_ok-push.ensures.items (omega (arith, c.loop-test.true))
+pub loop-number-preserved : goal.loop-number-preserved
+loop-number-preserved c =
+    entry_more _ _ _ _ _ _ _ _ _ _ _ c.loop-number.invariant c.loop-number-test.true refl refl c.in_ok-put_mark.ensures
+    c.in-Some.ensures.found
 
-pub returns-then-is_end-clause-found : goal.returns-then-is_end-clause-found
-returns-then-is_end-clause-found c =
-    entries_all_taken _ _ _ _ _ _ _ _ _ c.loop.invariant (omega (arith, c.loop-test.false)) c.if-is_end.ensures.0 c.if-is_end.ensures.1
+pub returns-then-is_all-clause-found : goal.returns-then-is_all-clause-found
+returns-then-is_all-clause-found c =
+    let end = c.if-is_end.ensures in
+    let all = c.if-is_all.ensures in
+    all_read _ _ _ _ _ _ _ c.loop-number.invariant (omega (arith, c.loop-number-test.false)) end.0 end.1 all.0 all.1 all.2
 
 pub returns-else-is_end-clause-none : goal.returns-else-is_end-clause-none
-returns-else-is_end-clause-none c terms a =
-    entries_not_all _ _ _ _ _ _ _ _ _ c.loop.invariant (omega (arith, c.loop-test.false)) c.if-is_end.ensures terms a
+returns-else-is_end-clause-none c terms a whole =
+    let read = c.loop-number.invariant in
+    elim c.else-is_end.branch [
+      | else-is_end-via-then-is_end+else-is_all w ↦ all_not_whole _ _ _ _ _ _ _ _ _ _ _ _ read.whole
+          (omega (arith, c.loop-number-test.false)) w.if-is_all.ensures terms a whole
+      | else-is_end-via-else-is_end w ↦ entries_not_all _ _ _ _ _ _ _ _ _ read.whole.entries (omega (arith, c.loop-number-test.false))
+          w.if-is_end.ensures terms a
+    ]

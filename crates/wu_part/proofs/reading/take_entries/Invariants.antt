@@ -1,6 +1,6 @@
-use Rattle.std.proofs.Common.{◌-◌}
-use Rattle.wu_part.proofs.ReadingLemmas.{TakenEntries}
+use Rattle.wu_part.proofs.MarkLemmas.{ReadEntries}
 use Rattle.wu_part.proofs.reading.take_entries.Given as goal
 
-abbrev pub invariant-loop : goal.invariant-loop
-invariant-loop l = TakenEntries l.head l.size l.head.terms l.bytes l.place l.terms.items (l.head.terms - l.counter) l.rest l.reached
+abbrev pub invariant-loop-number : goal.invariant-loop-number
+invariant-loop-number l =
+    ReadEntries l.head l.size l.bytes l.place l.marks.items l.number l.reached

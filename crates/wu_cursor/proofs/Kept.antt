@@ -1,0 +1,240 @@
+-- What a containment keeps, by going over the extents of its left operand.
+use Rattle.std.proofs.Common.{◌≡◌, ℕ, ◌+◌, ◌-◌, ◌<◌, ◌≤◌, Bool, true, false, ◌&&◌, ◌⊎◌, List, refl, sym, ◌∙◌, subst, inl, inr, arith, leb, leb-true, le-leb}
+use Rattle.std.specs.Prelude.{Option, Some, None, MatchOption}
+use Rattle.std.specs.Cmp.{both_ways}
+use Rattle.std.proofs.lemmas.Bool.{and_parts, and_from, false≢true, false_from_ne_true}
+use Rattle.wu_base.specs.declared.addresses.Extent.{Extent}
+use Rattle.wu_gcl.specs.declared.expressions.Op.{Op}
+use Rattle.wu_gcl.specs.declared.expressions.Op.TheVariants.{Containing, ContainedIn, NotContaining, NotContainedIn, OneOf, BothOf, FollowedBy}
+use Rattle.wu_gcl.specs.Regions.{Region, Both}
+use Rattle.wu_gcl.specs.Extents.{holds, some_extent, combined, containing, contained_in, not_containing, not_contained_in, is_in}
+use Rattle.wu_solve.proofs.Sets.{Holds, holds_means, holds_from}
+use Rattle.wu_solve.proofs.Order.{some_found, some_from}
+use Rattle.wu_cursor.specs.Within.{IsMember, IsFirst, NoneStarts, IsLast, NoneEnds, IsFirstEnd, IsLastStart, IsFirstEnding, NoneEndsFrom, IsContainment, AreKept, keeps}
+use Rattle.wu_cursor.proofs.Flat.{IsFlat, starts_before}
+
+pub kept_set : (op : Op) (left right : Region) (stands : List ℕ → ℕ → Bool) (n : ℕ) (x : Extent) → IsContainment op
+    → is_in (Both op left right) stands n x ≡ (is_in left stands n x && keeps op n (is_in right stands n) x)
+unfolding is_in combined containing contained_in not_containing not_contained_in
+kept_set Containing left right stands n x is = refl
+kept_set ContainedIn left right stands n x is = refl
+kept_set NotContaining left right stands n x is = refl
+kept_set NotContainedIn left right stands n x is = refl
+kept_set OneOf left right stands n x is = absurd is
+kept_set BothOf left right stands n x is = absurd is
+kept_set FollowedBy left right stands n x is = absurd is
+
+-- What is kept of the left set.
+pub record IsKeptOf (left keep kept : Extent → Bool) : Type 0 where
+  pub same : (x : Extent) → kept x ≡ (left x && keep x)
+
+pub region_kept : (op : Op) (left right : Region) (stands : List ℕ → ℕ → Bool) (n : ℕ) → IsContainment op
+    → IsKeptOf (is_in left stands n) (keeps op n (is_in right stands n)) (is_in (Both op left right) stands n)
+region_kept op left right stands n is = record { same = λ x. kept_set op left right stands n x is }
+
+pub kept_of : (whole left right : Region) (op : Op) (stands : List ℕ → ℕ → Bool) (n : ℕ) → whole ≡ Both op left right → AreKept whole
+    → IsKeptOf (is_in left stands n) (keeps op n (is_in right stands n)) (is_in whole stands n)
+kept_of whole left right op stands n same are =
+    let there : AreKept (Both op left right) = subst (λ (r : Region). AreKept r) same are in
+    subst (λ (r : Region). IsKeptOf (is_in left stands n) (keeps op n (is_in right stands n)) (is_in r stands n)) (sym same)
+    (region_kept op left right stands n there)
+
+-- no extent of the set from the first place on starts before the other place
+pub record ArePassed (n : ℕ) (set : Extent → Bool) (from place : ℕ) : Type 0 where
+  pub passed : (y : Extent) → IsMember n set y → from ≤ y.start → place ≤ y.start
+
+-- no extent of the set up to the first place ends after the other place
+pub record ArePassedBack (n : ℕ) (set : Extent → Bool) (to place : ℕ) : Type 0 where
+  pub passed : (y : Extent) → IsMember n set y → y.end ≤ to → y.end ≤ place
+
+module _ (n : ℕ) (left keep kept : Extent → Bool) (are : IsKeptOf left keep kept) where
+  kept_here : (x : Extent) → IsMember n left x → keep x ≡ true → IsMember n kept x
+  kept_here x m is = record { extent = m.extent; passes = are.same x ∙ and_from (left x) (keep x) m.passes is }
+
+  pub kept_parts : (x : Extent) → IsMember n kept x → IsMember n left x × (keep x ≡ true)
+  kept_parts x m =
+      let b = and_parts (left x) (keep x) (sym (are.same x) ∙ m.passes) in
+      (record { extent = m.extent; passes = b.0 }, b.1)
+
+  other : (x y : Extent) → IsFlat n left → IsMember n left x → keep x ≡ false → IsMember n kept y → Holds y x → ⊥
+  other x y flat mx out my h =
+      let p = kept_parts y my in
+      let same : y ≡ x = flat.alone y x p.0 mx h in
+      false≢true (sym out ∙ subst (λ (e : Extent). keep e ≡ true) same p.1)
+
+  pub first_found : (from place : ℕ) (x : Extent) → from ≤ place → ArePassed n kept from place → IsFirst n left place x → keep x ≡ true
+      → IsFirst n kept from x
+  first_found from place x low passed f is = record {
+    member = kept_here x f.member is;
+    low = omega (arith, f.low);
+    starts = λ y my l. f.starts y (kept_parts y my).0 (passed.passed y my l);
+    ends = λ y my l. f.ends y (kept_parts y my).0 (passed.passed y my l);
+  }
+
+  pub none_found : (from place : ℕ) → ArePassed n kept from place → NoneStarts n left place → NoneStarts n kept from
+  none_found from place passed none = record {
+    none = λ y my.
+        let cases : (y.start < from) ⊎ (from ≤ y.start) = grind arith in
+        elim cases [
+          | inl before ↦ before
+          | inr low ↦ absurd (omega (arith, passed.passed y my low, none.none y (kept_parts y my).0))
+        ];
+  }
+
+  pub next_passed : (from place : ℕ) (x : Extent) → IsFlat n left → ArePassed n kept from place → IsFirst n left place x → keep x ≡ false
+      → ArePassed n kept from (x.start + 1)
+  next_passed from place x flat passed f out = record {
+    passed = λ y my low.
+        let ml = (kept_parts y my).0 in
+        let after : place ≤ y.start = passed.passed y my low in
+        let starts : x.start ≤ y.start = f.starts y ml after in
+        let ends : x.end ≤ y.end = f.ends y ml after in
+        let cases : (x.start + 1 ≤ y.start) ⊎ (y.start ≤ x.start) = grind arith in
+        elim cases [
+          | inl good ↦ good
+          | inr bad ↦ absurd (other x y flat f.member out my (record { start = bad; last = ends }))
+        ];
+  }
+
+  pub last_found : (to place : ℕ) (x : Extent) → place ≤ to → ArePassedBack n kept to place → IsLast n left place x → keep x ≡ true
+      → IsLast n kept to x
+  last_found to place x high passed l is = record {
+    member = kept_here x l.member is;
+    high = omega (arith, l.high);
+    starts = λ y my h. l.starts y (kept_parts y my).0 (passed.passed y my h);
+    ends = λ y my h. l.ends y (kept_parts y my).0 (passed.passed y my h);
+  }
+
+  pub none_found_back : (to place : ℕ) → ArePassedBack n kept to place → NoneEnds n left place → NoneEnds n kept to
+  none_found_back to place passed none = record {
+    none = λ y my.
+        let cases : (to < y.end) ⊎ (y.end ≤ to) = grind arith in
+        elim cases [
+          | inl after ↦ after
+          | inr high ↦ absurd (omega (arith, passed.passed y my high, none.none y (kept_parts y my).0))
+        ];
+  }
+
+  ends_before : (to place : ℕ) (x y : Extent) → IsFlat n left → ArePassedBack n kept to place → IsLast n left place x → keep x ≡ false
+      → IsMember n kept y → y.end ≤ to → y.end < x.end
+  ends_before to place x y flat passed l out my high =
+      let ml = (kept_parts y my).0 in
+      let before : y.end ≤ place = passed.passed y my high in
+      let starts : y.start ≤ x.start = l.starts y ml before in
+      let cases : (y.end < x.end) ⊎ (x.end ≤ y.end) = grind arith in
+      elim cases [
+        | inl good ↦ good
+        | inr bad ↦ absurd (other x y flat l.member out my (record { start = starts; last = bad }))
+      ]
+
+  pub next_passed_back : (to place : ℕ) (x : Extent) → IsFlat n left → ArePassedBack n kept to place → IsLast n left place x
+      → keep x ≡ false → ArePassedBack n kept to (x.end - 1)
+  next_passed_back to place x flat passed l out = record {
+    passed = λ y my high. omega (arith, ends_before to place x y flat passed l out my high);
+  }
+
+  pub none_at_zero : (to place : ℕ) (x : Extent) → IsFlat n left → ArePassedBack n kept to place → IsLast n left place x → keep x ≡ false
+      → x.end ≡ 0 → NoneEnds n kept to
+  none_at_zero to place x flat passed l out zero = record {
+    none = λ y my.
+        let cases : (to < y.end) ⊎ (y.end ≤ to) = grind arith in
+        elim cases [
+          | inl after ↦ after
+          | inr high ↦ absurd (omega (arith, ends_before to place x y flat passed l out my high))
+        ];
+  }
+
+-- whether an extent holds one of the set
+
+pub holds_by_end : (n : ℕ) (set : Extent → Bool) (x : Extent) (end : ℕ) → IsFirstEnd n set x.start end
+    → leb end x.end ≡ some_extent n (λ y. holds x y && set y)
+holds_by_end n set x end f = both_ways (leb end x.end) (some_extent n (λ y. holds x y && set y))
+    (λ is.
+    let within : end ≤ x.end = leb-true end x.end is in
+    let h : Holds x f.extent = record { start = f.low; last = omega (arith, f.same) } in
+    some_from n (λ y. holds x y && set y) f.extent f.member.extent (and_from _ _ (holds_from x f.extent h) f.member.passes))
+    (λ is.
+    let s = some_found n (λ y. holds x y && set y) is in
+    let b = and_parts (holds x s.0) (set s.0) s.2 in
+    let h = holds_means x s.0 b.0 in
+    le-leb end x.end (omega (arith, f.least s.0 (record { extent = s.1; passes = b.1 }) h.start, h.last)))
+
+pub holds_none : (n : ℕ) (set : Extent → Bool) (x : Extent) → NoneStarts n set x.start → false ≡ some_extent n (λ y. holds x y && set y)
+holds_none n set x none = sym (false_from_ne_true (some_extent n (λ y. holds x y && set y))
+    (λ (is : some_extent n (λ y. holds x y && set y) ≡ true).
+    let s = some_found n (λ y. holds x y && set y) is in
+    let b = and_parts (holds x s.0) (set s.0) s.2 in
+    let h = holds_means x s.0 b.0 in
+    omega (arith, none.none s.0 (record { extent = s.1; passes = b.1 }), h.start)))
+
+-- whether one of the set holds it
+
+pub held_by_first : (n : ℕ) (set : Extent → Bool) (x z : Extent) → IsFirstEnding n set x.end z
+    → leb z.start x.start ≡ some_extent n (λ y. holds y x && set y)
+held_by_first n set x z f = both_ways (leb z.start x.start) (some_extent n (λ y. holds y x && set y))
+    (λ is.
+    let h : Holds z x = record { start = leb-true z.start x.start is; last = f.low } in
+    some_from n (λ y. holds y x && set y) z f.member.extent (and_from _ _ (holds_from z x h) f.member.passes))
+    (λ is.
+    let s = some_found n (λ y. holds y x && set y) is in
+    let b = and_parts (holds s.0 x) (set s.0) s.2 in
+    let h = holds_means s.0 x b.0 in
+    le-leb z.start x.start (omega (arith, f.starts s.0 (record { extent = s.1; passes = b.1 }) h.last, h.start)))
+
+pub held_by_none : (n : ℕ) (set : Extent → Bool) (x : Extent) → NoneEndsFrom n set x.end → false ≡ some_extent n (λ y. holds y x && set y)
+held_by_none n set x none = sym (false_from_ne_true (some_extent n (λ y. holds y x && set y))
+    (λ (is : some_extent n (λ y. holds y x && set y) ≡ true).
+    let s = some_found n (λ y. holds y x && set y) is in
+    let b = and_parts (holds s.0 x) (set s.0) s.2 in
+    let h = holds_means s.0 x b.0 in
+    omega (arith, none.none s.0 (record { extent = s.1; passes = b.1 }), h.last)))
+
+-- the first that ends at a place or after it is the first behind the last that ends before
+
+pub ending_at_start : (n : ℕ) (set : Extent → Bool) (from : ℕ) (x : Extent) → from ≡ 0 → IsFirst n set 0 x → IsFirstEnding n set from x
+ending_at_start n set from x zero f = record {
+  member = f.member;
+  low = omega arith;
+  starts = λ y my low. f.starts y my (omega arith);
+}
+
+pub none_ending_at_start : (n : ℕ) (set : Extent → Bool) (from : ℕ) → NoneStarts n set 0 → NoneEndsFrom n set from
+none_ending_at_start n set from none = record { none = λ y my. absurd (omega (arith, none.none y my)) }
+
+pub ending_behind_none : (n : ℕ) (set : Extent → Bool) (from : ℕ) (x : Extent) → 0 < from → NoneEnds n set (from - 1) → IsFirst n set 0 x
+    → IsFirstEnding n set from x
+ending_behind_none n set from x some none f = record {
+  member = f.member;
+  low = omega (arith, none.none x f.member);
+  starts = λ y my low. f.starts y my (omega arith);
+}
+
+module _ (n : ℕ) (set : Extent → Bool) (from start : ℕ) (flat : IsFlat n set) (some : 0 < from) (l : IsLastStart n set
+    (from - 1) start) where
+  pub ending_behind : (x : Extent) → IsFirst n set (start + 1) x → IsFirstEnding n set from x
+  ending_behind x f = record {
+    member = f.member;
+    low =
+        let cases : (from ≤ x.end) ⊎ (x.end ≤ from - 1) = grind arith in
+        elim cases [ inl good ↦ good | inr bad ↦ absurd (omega (arith, l.greatest x f.member bad, f.low)) ];
+    starts = λ y my low.
+        let behind : l.extent.start < y.start = starts_before n set flat l.extent y l.member my (omega (arith, l.high)) in
+        f.starts y my (omega (arith, l.same));
+  }
+
+  pub none_ending_behind : NoneStarts n set (start + 1) → NoneEndsFrom n set from
+  none_ending_behind none = record {
+    none = λ y my.
+        let cases : (y.end < from) ⊎ (from ≤ y.end) = grind arith in
+        elim cases [
+          | inl good ↦ good
+          | inr bad ↦
+              let behind : l.extent.start < y.start = starts_before n set flat l.extent y l.member my (omega (arith, l.high)) in
+              absurd (omega (arith, none.none y my, l.same))
+        ];
+  }
+
+  pub ending_from : (r : Option Extent) → MatchOption r (NoneStarts n set (start + 1)) (IsFirst n set (start + 1))
+      → MatchOption r (NoneEndsFrom n set from) (IsFirstEnding n set from)
+  ending_from None none = none_ending_behind none
+  ending_from (Some x) f = ending_behind x f

@@ -1,0 +1,12 @@
+pub mod Flat
+pub mod Inner
+pub mod Ends
+pub mod Starts
+pub mod Made
+pub mod Kept
+pub mod Leaves
+pub mod Finding
+pub mod InFrames
+pub mod InLists
+pub mod Leaps
+pub mod Searching

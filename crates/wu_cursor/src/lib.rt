@@ -1,0 +1,17 @@
+//! The extents that a region expression means, one at a time, from a place on: by access functions.
+//!
+//! Within a frame an expression answers its calls from those of its operands. `+`, `^` and `..` ask
+//! each operand once for where an extent ends, and once for where one starts. A containment goes over
+//! the extents of its left operand, from one to the next, and asks the right one at each.
+#![tactic(auto)]
+
+mod access;
+mod cursors;
+mod frames;
+mod lazily;
+mod operands;
+mod phrases;
+mod places;
+
+pub use cursors::Cursor;
+pub use lazily::solve_lazily;

@@ -1,0 +1,10 @@
+pub mod HomeLemmas
+pub mod ImageLemmas
+pub mod ItemLemmas
+pub mod LinksInOrder
+pub mod ListedLemmas
+pub mod NodeLemmas
+pub mod RootLemmas
+pub mod RuleLemmas
+pub mod UniqueItems
+pub mod WritingLemmas

@@ -1,0 +1,13 @@
+-- What is written of a tree, a piece at a time.
+use Rattle.std.specs.Prelude.{ℕ, List, map}
+use Rattle.std.specs.List.{flat_map}
+use Rattle.wu_tree.specs.declared.events.Node.{Node}
+use Rattle.wu_tree.specs.FileSystems.{Link, entries_of}
+
+-- the links in a directory that has these entries
+abbrev pub links_from : ℕ → List (List ℕ × ℕ) → List Link
+links_from directory entries = map (λ entry. ((directory, entry.0), entry.1)) entries
+
+-- the links in each of the nodes, of which only directories have any
+abbrev pub links_by_directory : List (ℕ × Node) → List Link → List Link
+links_by_directory nodes links = flat_map (λ node. links_from node.0 (entries_of links node.0)) nodes

@@ -1,0 +1,113 @@
+//! Marks in a directory's bytes.
+ghost use Rattle.std.specs.Prelude.{◌≡◌, ◌∷◌, [], ◌++◌, ◌<◌, ◌≤◌, ◌⊎◌, ⊤, Contains, MatchBool, OnOk, drop, get_or, length};
+ghost use Rattle.wu_part.specs.declared.marks.Mark.{Mark};
+ghost use Rattle.wu_part.specs.Marks.{IsAtMost, mark_of};
+
+use crate::reading::take_term;
+use wu_base::NoMemory;
+
+/// A place in the bytes of a directory's entries: the entry of the term of this number, counted from 0,
+/// begins at `offset`, and its first block at `place` of the part's blob.
+#[derive(Clone, Copy)]
+pub(crate) struct Mark {
+    pub(crate) number: u64,
+    pub(crate) offset: usize,
+    pub(crate) place: u64,
+}
+
+/// So many terms after the last mark the next one is put.
+const TERMS_BETWEEN: u64 = 16;
+
+/// So many bytes after the last mark the next one is put, though fewer terms are between: a long list
+/// of blocks is passed over once at most.
+const BYTES_BETWEEN: usize = 512;
+
+/// Puts the mark at the end, where the last one is far enough away.
+pub(crate) fn put_mark(
+    marks: &mut Vec<Mark>,
+    number: u64,
+    offset: usize,
+    place: u64,
+) -> Result<(), NoMemory>
+    ensures { OnOk result ((marks.new.items ≡ marks.old.items) ⊎ (marks.new.items ≡ marks.old.items ++ mark_of number offset place ∷ [])) }
+{
+    if is_far(marks, number, offset) {
+        marks.push(Mark {
+            number,
+            offset,
+            place,
+        })?;
+    }
+    Ok(())
+}
+
+/// Whether the last mark is far enough away for another one.
+fn is_far(marks: &[Mark], number: u64, offset: usize) -> bool {
+    match marks.last() {
+        Some(last) => {
+            number.saturating_sub(last.number) >= TERMS_BETWEEN
+                || offset.saturating_sub(last.offset) >= BYTES_BETWEEN
+        }
+        None => number >= TERMS_BETWEEN || offset >= BYTES_BETWEEN,
+    }
+}
+
+/// A mark of an entry whose term isn't after this one: one of the marks, or else `start`.
+pub(crate) fn mark_before(bytes: &[u8], marks: &[Mark], start: Mark, term: &[u8]) -> Mark
+    requires { (mark : Mark) → Contains marks.now mark → mark.offset ≤ length bytes.now }
+    ensures { (result ≡ start) ⊎ (Contains marks.now result × IsAtMost (drop result.offset bytes.now) term.now) }
+{
+    let mut best = start;
+    let mut from = 0;
+    let mut to = marks.len();
+    while from < to {
+        let middle = from + (to - from) / 2;
+        let mark = mark_at(marks, middle);
+        if is_at_most(bytes, &mark, term) {
+            best = mark;
+            from = middle + 1;
+        } else {
+            to = middle;
+        }
+    }
+    best
+}
+
+/// The mark at the place.
+fn mark_at(marks: &[Mark], place: usize) -> Mark
+    requires { place < length marks.now }
+    ensures { result ≡ get_or marks.now place result }
+{
+    marks[place]
+}
+
+/// Whether the term of the mark's entry isn't after this one.
+fn is_at_most(bytes: &[u8], mark: &Mark, term: &[u8]) -> bool
+    requires { mark.now.offset ≤ length bytes.now }
+    ensures { MatchBool result (IsAtMost (drop mark.now.offset bytes.now) term.now) ⊤ }
+{
+    match take_term(&bytes[mark.offset..]) {
+        Some((first, _)) => first.cmp(&term).is_le(),
+        None => false,
+    }
+}
+
+/// The last mark of an entry with this number at most: one of the marks, or else `start`.
+pub(crate) fn mark_up_to(marks: &[Mark], start: Mark, number: u64) -> Mark
+    ensures { (result ≡ start) ⊎ (Contains marks.now result × (result.number ≤ number)) }
+{
+    let mut best = start;
+    let mut from = 0;
+    let mut to = marks.len();
+    while from < to {
+        let middle = from + (to - from) / 2;
+        let mark = mark_at(marks, middle);
+        if mark.number <= number {
+            best = mark;
+            from = middle + 1;
+        } else {
+            to = middle;
+        }
+    }
+    best
+}

@@ -1,0 +1,104 @@
+//! Walks over a directory's entries.
+ghost use Rattle.std.specs.Prelude.{◌≡◌, [], ◌<◌, ◌≤◌, ℕ, List, Contains, MatchOption, get_or, length, map};
+ghost use Rattle.std.specs.List.Sorted.{IsStrictlySortedBy};
+ghost use Rattle.std.specs.Cmp.Lexicographic.{slice_cmp};
+ghost use Rattle.std.specs.Ordering.{nat_cmp};
+ghost use Rattle.wu_base.specs.declared.limits.TheConstants.{ADDRESSES_MAX};
+ghost use Rattle.wu_part.specs.declared.entries.TermEntry.{TermEntry};
+ghost use Rattle.wu_part.specs.Marks.{IsMark, entries_from};
+
+use crate::cursors::Entry;
+use crate::marks::Mark;
+use crate::reading::{Head, take_entry};
+use std::cmp::Ordering;
+use std::marker::Model;
+
+/// The entries that are left of a walk over a directory's, in order. Contracts see the list of them.
+#[derive(Drop)]
+pub struct Terms<'a> {
+    head: &'a Head,
+    size: u64,
+    left: u64,
+    rest: &'a [u8],
+    place: u64,
+}
+
+impl<'a> Model for Terms<'a> {
+    ghost use Rattle.std.specs.Prelude.{List};
+    ghost use Rattle.wu_part.specs.declared.entries.TermEntry.{TermEntry};
+
+    ghost Value = { List TermEntry };
+
+    ghost use Rattle.wu_part.specs.Walks.{entries_left, IsWalk};
+
+    ghost view = { entries_left };
+
+    ghost invariant = { IsWalk };
+}
+
+impl<'a> Iterator for Terms<'a> {
+    ghost use Rattle.std.specs.Iterator.{YieldsFirst, item_count};
+
+    type Item = Entry<'a>;
+
+    ghost next_gives = { YieldsFirst (λ left. left) };
+
+    ghost remaining = { item_count (λ left. left) };
+
+    fn next(&mut self) -> Option<Entry<'a>> {
+        if self.left == 0 {
+            return None;
+        }
+        let Some(next) = take_entry(self.rest, self.head, self.place, self.size) else {
+            return None;
+        };
+        self.left -= 1;
+        self.rest = next.rest;
+        self.place = next.end;
+        Some(next.entry)
+    }
+}
+
+/// A walk over the entries from the mark on.
+pub(crate) fn terms_from<'a>(head: &'a Head, size: u64, bytes: &'a [u8], mark: Mark) -> Terms<'a>
+    requires mark { IsMark head.now size bytes.now mark (entries_from head.now bytes.now mark) }
+    requires high { head.now.high < ADDRESSES_MAX }
+    ensures { result ≡ entries_from head.now bytes.now mark }
+{
+    Terms {
+        head,
+        size,
+        left: head.terms - mark.number,
+        rest: &bytes[mark.offset..],
+        place: mark.place,
+    }
+}
+
+/// The entry of the term, among entries whose terms ascend.
+pub(crate) fn entry_among<'a>(terms: Terms<'a>, term: &[u8]) -> Option<Entry<'a>>
+    requires { IsStrictlySortedBy (slice_cmp nat_cmp) (map (λ entry. entry.term) terms) }
+    ensures { MatchOption result ((entry : TermEntry) → Contains terms.entry entry → entry.term ≡ term.now → ⊥)
+        (λ entry. Contains terms.entry entry × (entry.term ≡ term.now)) }
+{
+    for entry in terms {
+        match entry.term().cmp(&term) {
+            Ordering::Less => {}
+            Ordering::Equal => return Some(entry),
+            Ordering::Greater => return None,
+        }
+    }
+    None
+}
+
+/// The entry after so many others.
+pub(crate) fn entry_after<'a>(mut terms: Terms<'a>, count: u64) -> Option<Entry<'a>>
+    ensures { MatchOption result (length terms.entry ≤ count) (λ entry. (count < length terms.entry) ×
+        (entry ≡ get_or terms.entry count entry)) }
+{
+    for _ in 0..count {
+        let Some(_) = terms.next() else {
+            return None;
+        };
+    }
+    terms.next()
+}
