@@ -163,6 +163,9 @@ pub words_told : (addresses : List ℕ → List ℕ) (terms words : List (List �
 words_told addresses terms words lists found is among found_is =
     found_is ∙ ap (λ (ls : List TermList). map (list_in ls) words) is ∙ lists_in_told addresses terms words among
 
+abbrev made_by : List ℕ → List ℕ → TermList
+made_by term at' = record { term = term; at = at' }
+
 -- there are as many lists as terms, and more
 pub enough_lists : (terms words : List (List ℕ)) (lists : List TermList) → map (λ list. list.term) lists ≡ with_words terms words
     → length terms ≤ length lists
@@ -173,6 +176,13 @@ enough_lists terms words lists named =
       ap length (named ∙ (with_words-front terms words).1),
       length-append terms (with_words-front terms words).0,
     )
+
+-- a word's list, by the first list of its term
+pub list_is : (lists : List TermList) (word term at' : List ℕ) (first : Option TermList)
+    → first ≡ find (λ list. pointwise nat_eq word list.term) lists → term ≡ word
+    → at' ≡ unwrap_or (option_map (λ list. list.at) first) [] → made_by term at' ≡ list_in lists word
+list_is lists word term at' first found same addresses =
+    ap₂ made_by same (addresses ∙ ap (λ (o : Option TermList). unwrap_or (option_map (λ (list : TermList). list.at) o) []) found)
 
 -- a list of a word ascends, where all lists do
 pub list_in_ascends : (lists : List TermList) (word : List ℕ) → All (λ list. IsStrictlyIncreasing list.at) lists

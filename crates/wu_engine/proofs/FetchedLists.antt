@@ -35,6 +35,10 @@ ascending_next lists now list up pushed one =
     (All-from_recursion Ascends (lists ++ list ∷ [])
     (all-append Ascends lists (list ∷ []) (recursion_from_All Ascends lists up) (one, tt)))
 
+pub others_next : (first between now : Contents) → between ≡ record first { kept = between.kept }
+    → now ≡ record between { kept = now.kept } → now ≡ record first { kept = now.kept }
+others_next first between now before one = one ∙ ap (λ (c : Contents). record c { kept = now.kept }) before
+
 module _ (terms : List (List ℕ)) (i : ℕ) (term : List ℕ) (within : i < length terms) (is : term ≡ get_or terms i term) where
   taken : take (i + 1) terms ≡ take i terms ++ term ∷ []
   taken = take_more terms i term within ∙ ap (λ (t : List ℕ). take i terms ++ t ∷ []) (sym is)

@@ -15,7 +15,6 @@ use Rattle.wu_layout.proofs.TermLemmas.{addresses_of-append}
 use Rattle.wu_part.specs.declared.entries.BlockEntry.{BlockEntry}
 use Rattle.wu_part.specs.declared.entries.TermEntry.{TermEntry}
 use Rattle.wu_part.specs.Directories.{PartDirectory}
-use Rattle.wu_vbyte.specs.declared.blocks.TheConstants.{BLOCK_LEN}
 use Rattle.wu_lists.specs.declared.blocks.Block.{Block}
 use Rattle.wu_lists.specs.Blocks.{blocks_from, blocks_in, blocks_of, entry_of, meets, needed}
 use Rattle.wu_lists.specs.Keeping.{AreHeld, Asks, Kept, all_asked, asked, is_same}
@@ -34,7 +33,7 @@ are_kept : (content : Content) (next : ℕ) (records : List PartRec) (kept : Kep
     → AreKept content records kept
 are_kept content next [] kept keeps = tt
 are_kept content next (recorded ∷ records) kept keeps =
-    (λ bytes there. keeps.same recorded.blob bytes there, are_kept content next records kept keeps)
+    ((λ bytes there. keeps.same recorded.blob bytes there), are_kept content next records kept keeps)
 
 pub found_told : (contents : Contents) (holds : Option Content) (s : State) (frames : List Range) (term found : List ℕ)
     → TellsPostings contents holds s
@@ -71,13 +70,13 @@ below-take next zero xs a = tt
 below-take next (suc n) [] a = tt
 below-take next (suc n) (x ∷ xs) a = (a.0, below-take next n xs a.1)
 
-below-blocks : (next blob low count : ℕ) (entries : List BlockEntry) → blob < next → AllBelow next (blocks_from blob low count entries)
-below-blocks next blob low count [] l = tt
-below-blocks next blob low count (entry ∷ entries) l = (l, below-blocks next blob low _ entries l)
+below-blocks : (next blob low : ℕ) (entries : List BlockEntry) (count : ℕ) → blob < next → AllBelow next (blocks_from blob low count entries)
+below-blocks next blob low [] count l = tt
+below-blocks next blob low (entry ∷ entries) count l = (l, below-blocks next blob low entries _ l)
 
 below-entry : (next blob low : ℕ) (o : Option TermEntry) → blob < next → AllBelow next (blocks_in blob low o)
 below-entry next blob low None l = tt
-below-entry next blob low (Some entry) l = below-blocks next blob low entry.count entry.blocks l
+below-entry next blob low (Some entry) l = below-blocks next blob low entry.blocks entry.count l
 
 abbrev RecordedBelow : ℕ → List (PartRec × PartDirectory) → Type 0
 RecordedBelow next parts = AllByRecursion (λ part. part.0.blob < next) parts

@@ -1,5 +1,5 @@
 //! The ranking of a query's units, over a user's frames.
-ghost use Rattle.std.specs.Prelude.{◌≡◌, ◌≤◌, ◌<◌, ◌+◌, ◌^◌, ◌++◌, ℕ, List, All, length, map, take, nat_eq, IfOk, IfErr, OnOk};
+ghost use Rattle.std.specs.Prelude.{◌≡◌, ◌≤◌, ◌<◌, ◌+◌, ◌^◌, ◌++◌, ℕ, List, All, length, map, take, find, nat_eq, option_copied, IfOk, IfErr, OnOk};
 ghost use Rattle.std.specs.Cmp.Lexicographic.{pointwise};
 ghost use Rattle.std.specs.List.{AllByRecursion, list_any};
 ghost use Rattle.std.specs.List.Sorted.{IsStrictlyIncreasing};
@@ -127,7 +127,7 @@ fn is_among(terms: &[Bytes], word: &Bytes) -> bool
 
 /// The lists of the words, in their order, with those of words that are given more than once as often.
 fn lists_for(alloc: Global, words: &[Bytes], lists: &[TermList]) -> Result<Vec<TermList>, NoMemory>
-    requires ascending { All (λ list. IsStrictlyIncreasing list.at) lists.now }
+    requires { All (λ list. IsStrictlyIncreasing list.at) lists.now }
     ensures lists { IfOk result (λ found. found.items ≡ map (list_in lists.now) words.now) }
     ensures ascending { IfOk result (λ found. All (λ list. IsStrictlyIncreasing list.at) found.items) }
 {
@@ -140,18 +140,25 @@ fn lists_for(alloc: Global, words: &[Bytes], lists: &[TermList]) -> Result<Vec<T
 
 /// The list of the word; where there is none, one without addresses.
 fn list_for(alloc: Global, word: &Bytes, lists: &[TermList]) -> Result<TermList, NoMemory>
-    requires ascending { All (λ list. IsStrictlyIncreasing list.at) lists.now }
-    ensures list { IfOk result (λ list. list ≡ list_in lists.now word.now) }
-    ensures ascending { IfOk result (λ list. IsStrictlyIncreasing list.at) }
+    ensures { IfOk result (λ list. list ≡ list_in lists.now word.now) }
 {
-    let at = match lists.iter().find(|list| *word == list.term) {
-        Some(list) => list.at.clone()?,
-        None => Sequence::new(alloc),
-    };
-    Ok(TermList {
-        term: word.clone()?,
-        at,
-    })
+    match list_named(lists, word) {
+        Some(list) => Ok(TermList {
+            term: word.clone()?,
+            at: list.at.clone()?,
+        }),
+        None => Ok(TermList {
+            term: word.clone()?,
+            at: Sequence::new(alloc),
+        }),
+    }
+}
+
+/// The first list of that term.
+fn list_named<'a>(lists: &'a [TermList], term: &Bytes) -> Option<&'a TermList>
+    ensures { option_copied result ≡ find (λ list. pointwise nat_eq term.now list.term) lists.now }
+{
+    lists.iter().find(|list| *term == list.term)
 }
 
 /// The extents of the expression, by address, each with the place of its file in the view.

@@ -10,12 +10,12 @@ use Rattle.wu_engine.proofs.PassedCauses.{cause_at_last, err_from}
 use Rattle.wu_engine.proofs.ToldPostings.{blocks_of_one, found_told}
 use Rattle.wu_engine.proofs.fetching.list_of.Goals as goal
 
-made : List ℕ → List ℕ → TermList
+abbrev made : List ℕ → List ℕ → TermList
 made term found = record { term = term; at = found }
 
 pub returns-clause-list : goal.returns-clause-list
 returns-clause-list g c = λ s tells.
-    ap₂ made c.in_ok-clone.ensures
+    ap₂ made c.in_ok-clone.ensures.cases
     (found_told c.args.parts.now (g.D.Store.holds c.args.store.now) s c.args.frames.now.ranges c.args.term.now c.in_ok-at.at tells
     (rw (c.as_slice.ensures, c.as_slice-2.ensures) at c.in_ok-at.ensures.addresses))
 

@@ -1,4 +1,4 @@
-use Rattle.std.proofs.Common.{◌≡◌, ◌+◌, ◌<◌, ◌∙◌, [], ◌∷◌, ap, length, subst, sym, rules, take}
+use Rattle.std.proofs.Common.{◌≡◌, ◌+◌, ◌<◌, ◌∙◌, [], ◌∷◌, length, subst, sym, rules, take}
 use Rattle.std.specs.Prelude.{Option}
 use Rattle.wu_base.specs.declared.troubles.Trouble.TheVariants.{NoMemory}
 use Rattle.wu_lists.specs.Keeping.{Asks}
@@ -7,7 +7,7 @@ use Rattle.wu_parts.specs.Contents.{Contents}
 use Rattle.wu_engine.specs.Asked.{blocks_for}
 use Rattle.wu_engine.specs.States.{State}
 use Rattle.wu_engine.specs.Units.{IsCauseFor, TellsPostings, found_in}
-use Rattle.wu_engine.proofs.FetchedLists.{ascending_next, asked_next, cause_next, fails_on_the_way, lists_next, named_next}
+use Rattle.wu_engine.proofs.FetchedLists.{ascending_next, asked_next, cause_next, fails_on_the_way, lists_next, named_next, others_next}
 use Rattle.wu_engine.proofs.PassedCauses.{cause_at_once, err_from}
 use Rattle.wu_engine.proofs.ToldPostings.{still_told}
 use Rattle.wu_engine.proofs.fetching.lists_of.Goals as goal
@@ -41,8 +41,7 @@ loop-term-preserved g c =
           (reads c.args.store.now) (reads c.loop-term.store) (reads c.list_of.new.store) told.asked
           (subst (λ (o : Option Content). Asks (blocks_for c.loop-term.parts ranges (term ∷ [])) o c.loop-term.parts.kept
           c.list_of.new.parts.kept (reads c.loop-term.store) (reads c.list_of.new.store)) told.holds c.in_ok-list_of.ensures.blocks);
-      others =
-          c.list_of.ensures.others ∙ ap (λ (p : Contents). record p { kept = c.list_of.new.parts.kept }) told.others;
+      others = others_next c.args.parts.now c.loop-term.parts c.list_of.new.parts told.others c.list_of.ensures.others;
       holds = c.list_of.ensures.holds ∙ told.holds;
       calm = c.in_ok-list_of.ensures.calm ∙ told.calm;
     }
