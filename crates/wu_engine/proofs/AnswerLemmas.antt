@@ -30,6 +30,13 @@ map-more : {X Y : Type 0} (f : X → Y) (xs : List X) (x : X) → map f (xs ++ x
 map-more f [] x = refl
 map-more f (y ∷ xs) x = ap (λ ys. f y ∷ ys) (map-more f xs x)
 
+-- one more element has its image
+pub mapped_more : {X Y : Type 0} (f : X → Y) (xs : List X) (ys now : List Y) (i : ℕ) (x : X) (y : Y) → i < length xs → x ≡ get_or xs i x
+    → ys ≡ map f (take i xs) → now ≡ ys ++ y ∷ [] → y ≡ f x → now ≡ map f (take (i + 1) xs)
+mapped_more f xs ys now i x y within is before pushed image =
+    pushed ∙ ap (λ ls. ls ++ y ∷ []) before ∙ ap (λ l. map f (take i xs) ++ l ∷ []) (image ∙ ap f is)
+    ∙ sym (map-more f (take i xs) (get_or xs i x)) ∙ ap (map f) (sym (take_more xs i x within))
+
 -- one more unit has its line
 pub lines_more : (line_for : Ranked → RankLine) (lines now : List RankLine) (top : List Ranked) (i : ℕ) (d : Ranked) (line : RankLine)
     → i < length top → lines ≡ map line_for (take i top) → now ≡ lines ++ line ∷ [] → line ≡ line_for (get_or top i d)

@@ -1,5 +1,5 @@
 -- The lines that are shown of a user's files, by what is recorded and held of their texts, are those of her view.
-use Rattle.std.proofs.Common.{◌≡◌, ◌==◌, ℕ, suc, ◌+◌, ◌-◌, ◌<◌, Bool, true, false, not, cond, List, [], ◌∷◌, ◌++◌, length, take, map, min, refl, sym, ap, ap₂, ◌∙◌, subst, arith}
+use Rattle.std.proofs.Common.{◌≡◌, ◌==◌, ℕ, suc, ◌+◌, ◌-◌, ◌<◌, Bool, true, false, not, cond, List, [], ◌∷◌, ◌++◌, length, take, map, min, refl, sym, ap, ap₂, ◌∙◌, subst, arith, inl, inr}
 use Rattle.std.proofs.Math.Dec.{eqb-suc-zero}
 use Rattle.std.proofs.Math.Logic.{∥∥₁_elim}
 use Rattle.std.specs.Coded.{Coded-set, coded_bool, coded_ℕ, Π_prop, →_prop}
@@ -28,7 +28,6 @@ use Rattle.wu_image.specs.declared.records.FileRec.{FileRec}
 use Rattle.wu_layout.specs.Invariants.{IsIndexed}
 use Rattle.wu_layout.specs.Layouts.{FileEntry, entry_of, homes_of, postings_of}
 use Rattle.wu_layout.proofs.NumberedRanges.{lookup-ranges_by_number}
-use Rattle.wu_parts.specs.Memory.{Memory}
 use Rattle.wu_space.specs.Addresses.{Ranges, range_of}
 use Rattle.wu_token.specs.Tokens.{tokens_of}
 use Rattle.wu_token.specs.Words.{has_bytes}
@@ -41,7 +40,7 @@ use Rattle.wu_engine.specs.Answer.{answer, found_line, lines_in}
 use Rattle.wu_engine.specs.Finding.{KeepsTexts, counted_from, extents_of, hits_at, lines_at, lines_recorded, hits_recorded, text_recorded, record_at, text_at, text_held}
 use Rattle.wu_engine.specs.Hits.{hits_in, has_hit}
 use Rattle.wu_engine.specs.Rankings.{tokens_at}
-use Rattle.wu_engine.specs.Reads.{text_of_file, text_at_entry, texts_read, texts_shown}
+use Rattle.wu_engine.specs.Reads.{AreTexts, IsTextOf, text_of_file, text_at_entry, texts_read, texts_shown}
 use Rattle.wu_engine.specs.Records.{Records, record_of, records_of}
 use Rattle.wu_engine.specs.States.{State, Texts, indexed, text_in}
 use Rattle.wu_engine.specs.Units.{Indexes, found_in, list_at, no_range, range_at}
@@ -98,9 +97,9 @@ by_place addresses live texts view first (file ∷ files) same all =
           (λ i. let e : (first + 1) + i ≡ first + suc i = omega arith in ap (slice_get view) e ∙ same (suc i)) all.1,
     )
 
-module _ (frames : Frames) (live : Ranges) (memory : Memory) (s : State) (uid : ℕ) (is : Indexes frames live memory s uid) where
+module _ (frames : Frames) (live : Ranges) (s : State) (uid : ℕ) (is : Indexes frames live s uid) where
   abbrev found : List ℕ → List ℕ
-  found = found_in frames.ranges memory
+  found = found_in frames.ranges s
 
   framed_at : (place : ℕ) → Type 0
   framed_at place = IsFrameOf found (tokens_at (view_of s uid) place) (range_at live (files_of s.tree uid) place)
@@ -111,7 +110,7 @@ module _ (frames : Frames) (live : Ranges) (memory : Memory) (s : State) (uid : 
       ∥∥₁_elim is.hers.of_view
       (AllByRecursion-prop (IsFramed found live s.texts) (λ file. IsFrameOf-prop found _ _) (files_of s.tree uid))
       (λ moved.
-      let v = are_of_view frames live memory s uid is moved in
+      let v = are_of_view frames live s uid is moved in
       let view = files_of s.tree uid in
       let places : List ℕ = map (λ (frame : Frame). frame.place) frames.by_address in
       let every : AllByRecursion framed_at (all_places (view_of s uid)) =
@@ -177,11 +176,11 @@ module _ (content : Content) (live : Ranges) (s : State) (region : Region) (addr
 
 -- ---- the files of a view
 
-module _ (frames : Frames) (live : Ranges) (memory : Memory) (s : State) (uid : ℕ) (is : Indexes frames live memory s uid)
+module _ (frames : Frames) (live : Ranges) (s : State) (uid : ℕ) (is : Indexes frames live s uid)
     (region : Region) (terms : List (List ℕ)) (are : AreTerms region terms) (files : Records) (content : Content)
     (keeps : KeepsTexts files (Some content) s) where
   abbrev addresses : List ℕ → List ℕ
-  addresses = found_in frames.ranges memory
+  addresses = found_in frames.ranges s
 
   abbrev IsAlike : Seen → Type 0
   IsAlike = IsShownAlike content files region (map (list_at addresses) terms) s
@@ -214,8 +213,8 @@ module _ (frames : Frames) (live : Ranges) (memory : Memory) (s : State) (uid : 
       (λ file has.
       one_alike file
       (all_has (λ (x : Seen). is_some (range_of live x.ino) ≡ true) file (files_of s.tree uid)
-      (view_has_ranges live memory s is.index uid) has)
-      (all_has (IsFramed addresses live s.texts) file (files_of s.tree uid) (all_framed frames live memory s uid is) has))
+      (view_has_ranges live s is.index uid) has)
+      (all_has (IsFramed addresses live s.texts) file (files_of s.tree uid) (all_framed frames live s uid is) has))
 
   lines_alike : (view : List Seen) → AllByRecursion IsAlike view
       → flat_map (lines_at content files region (map (list_at addresses) terms)) view
@@ -255,9 +254,9 @@ module _ (frames : Frames) (live : Ranges) (memory : Memory) (s : State) (uid : 
 
 -- ---- the answer
 
-module _ (frames : Frames) (live : Ranges) (memory : Memory) (s : State) (uid : ℕ) (is : Indexes frames live memory s uid)
+module _ (frames : Frames) (live : Ranges) (s : State) (uid : ℕ) (is : Indexes frames live s uid)
     (region : Region) (terms : List (List ℕ)) (are : AreTerms region terms) (files : Records) (lists : List TermList)
-    (lists_are : lists ≡ map (list_at (found_in frames.ranges memory)) terms) (k : ℕ) (seen : List Seen) (same : seen ≡ frames.seen) where
+    (lists_are : lists ≡ map (list_at (found_in frames.ranges s)) terms) (k : ℕ) (seen : List Seen) (same : seen ≡ frames.seen) where
   pub found_answer : (holds : Option Content) (hits number : ℕ) (shown : List FindLine) → KeepsTexts files holds s
       → hits ≡ length (frames_hits region lists frames.ranges)
       → number ≡ count_by (λ frame. nat_lt 0 (length (frame_hits region lists frame))) frames.ranges
@@ -268,21 +267,68 @@ module _ (frames : Frames) (live : Ranges) (memory : Memory) (s : State) (uid : 
   found_answer (Some content) hits number shown keeps hits_is number_is shown_is =
       ap₂ (λ (h n : ℕ). Find h n shown)
       (hits_is ∙ ap (λ (ls : List TermList). length (frames_hits region ls frames.ranges)) lists_are
-      ∙ hits_counted frames live memory s uid is region terms are)
+      ∙ hits_counted frames live s uid is region terms are)
       (number_is
       ∙ ap (λ (ls : List TermList). count_by (λ frame. nat_lt 0 (length (frame_hits region ls frame))) frames.ranges) lists_are
-      ∙ files_counted frames live memory s uid is region terms are)
+      ∙ files_counted frames live s uid is region terms are)
       ∙ ap (λ (lines : List FindLine).
       Find (length (flat_map (hits_in region) (view_of s uid))) (count_by (has_hit region) (view_of s uid)) lines)
       (shown_is ∙ ap (λ (ls : List TermList). take k (flat_map (lines_at content files region ls) seen)) lists_are
-      ∙ lines_found frames live memory s uid is region terms are files content keeps k seen same)
+      ∙ lines_found frames live s uid is region terms are files content keeps k seen same)
 
-  pub found_reads : (holds : Option Content) (old new : Option (List ReadRange)) → KeepsTexts files holds s
-      → new ≡ option_map (λ ranges. ranges ++ texts_shown (hits_at files region lists) (text_at files) k seen) old
-      → new ≡ option_map (λ ranges. ranges ++ texts_read s uid (Finding k region)) old
-  found_reads None old new keeps new_is = absurd keeps.texts
-  found_reads (Some content) old new keeps new_is =
-      new_is
-      ∙ ap (λ (texts : List ReadRange). option_map (λ (ranges : List ReadRange). ranges ++ texts) old)
-      (ap (λ (ls : List TermList). texts_shown (hits_at files region ls) (text_at files) k seen) lists_are
-      ∙ texts_found frames live memory s uid is region terms are files content keeps k seen same)
+  pub found_texts : (holds : Option Content) (texts : List ReadRange) → KeepsTexts files holds s
+      → texts ≡ texts_shown (hits_at files region lists) (text_at files) k seen → texts ≡ texts_read s uid (Finding k region)
+  found_texts None texts keeps is_read = absurd keeps.texts
+  found_texts (Some content) texts keeps is_read =
+      is_read
+      ∙ ap (λ (ls : List TermList). texts_shown (hits_at files region ls) (text_at files) k seen) lists_are
+      ∙ texts_found frames live s uid is region terms are files content keeps k seen same
+
+-- ---- what is read, whatever the state
+
+text_is_of : (files : Records) (ino : ℕ) → AllByRecursion (IsTextOf files) (text_recorded (record_at files ino))
+text_is_of [] ino = tt
+text_is_of (file ∷ files) ino =
+    elim (is_at (nat_cmp ino) file.0) as
+    (λ b. AllByRecursion (IsTextOf (file ∷ files)) (text_recorded (cond b (Some file.1) (record_at files ino)))) [
+      | true ↦ elim (file.1.blob == 0) as
+          (λ b. (file.1.blob == 0) ≡ b → AllByRecursion (IsTextOf (file ∷ files)) (cond b [] (record { blob = file.1.blob; at = 0; len = file.1.len } ∷ []))) [
+            | true ↦ λ e. tt
+            | false ↦ λ e. (inl (ap (λ (b : Bool). cond b [] (record { blob = file.1.blob; at = 0; len = file.1.len } ∷ [])) e), tt)
+          ] refl
+      | false ↦ weaken (text_recorded (record_at files ino)) (text_is_of files ino)
+    ] where
+      weaken : (texts : List ReadRange) → AllByRecursion (IsTextOf files) texts → AllByRecursion (IsTextOf (file ∷ files)) texts
+      weaken [] all = tt
+      weaken (text ∷ texts) all = (inr all.0, weaken texts all.1)
+
+both_texts : (files : Records) (xs ys : List ReadRange) → AllByRecursion (IsTextOf files) xs → AllByRecursion (IsTextOf files) ys
+    → AllByRecursion (IsTextOf files) (xs ++ ys)
+both_texts files [] ys a b = b
+both_texts files (x ∷ xs) ys a b = (a.0, both_texts files xs ys a.1 b)
+
+texts_are_of : (files : Records) (hits : Seen → ℕ) (k : ℕ) (view : List Seen)
+    → AllByRecursion (IsTextOf files) (texts_shown hits (text_at files) k view)
+texts_are_of files hits k [] = tt
+texts_are_of files hits k (file ∷ view) =
+    both_texts files (cond (nat_lt 0 (min k (hits file))) (text_at files file) []) (texts_shown hits (text_at files) (k - hits file) view)
+    (elim (nat_lt 0 (min k (hits file))) as (λ b. AllByRecursion (IsTextOf files) (cond b (text_at files file) [])) [
+      | true ↦ text_is_of files file.ino
+      | false ↦ tt
+    ])
+    (texts_are_of files hits (k - hits file) view)
+
+none_shown : (files : Records) (hits : Seen → ℕ) (k : ℕ) (view : List Seen) → k ≡ 0 → texts_shown hits (text_at files) k view ≡ []
+none_shown files hits k [] none = refl
+none_shown files hits k (file ∷ view) none =
+    let least : min k (hits file) ≡ 0 = omega (arith, none) in
+    let left : k - hits file ≡ 0 = omega (arith, none) in
+    ap (λ (n : ℕ). cond (nat_lt 0 n) (text_at files file) [] ++ texts_shown hits (text_at files) (k - hits file) view) least
+    ∙ none_shown files hits (k - hits file) view left
+
+pub are_texts : (files : Records) (region : Region) (lists : List TermList) (k : ℕ) (view : List Seen)
+    → AreTexts files (Finding k region) (texts_shown (hits_at files region lists) (text_at files) k view)
+are_texts files region lists k view = record {
+  of_files = texts_are_of files (hits_at files region lists) k view;
+  none = none_shown files (hits_at files region lists) k view;
+}

@@ -75,16 +75,11 @@ lists_have addresses term terms address has =
     both_ways (has_address (map (list_at addresses) terms) term address) (is_among (addresses term) address)
     (found addresses term terms address) (finds addresses term terms address has.0 has.1 has.2)
 
-pub terms_of_lists : (addresses : List ℕ → List ℕ) (terms : List (List ℕ)) → map (λ list. list.term) (map (list_at addresses) terms) ≡ terms
-terms_of_lists addresses [] = refl
-terms_of_lists addresses (term ∷ terms) = ap (λ ts. term ∷ ts) (terms_of_lists addresses terms)
-
 -- lists of ascending terms whose addresses ascend are what the solver asks for
-pub are_lists : (addresses : List ℕ → List ℕ) (terms : List (List ℕ)) (lists : List TermList) → lists ≡ map (list_at addresses) terms
+pub are_lists : (terms : List (List ℕ)) (lists : List TermList) → map (λ list. list.term) lists ≡ terms
     → All (λ list. IsStrictlyIncreasing list.at) lists → IsStrictlySortedBy (slice_cmp nat_cmp) terms → AreLists lists
-are_lists addresses terms lists is up sorted = record {
-  terms = subst (IsStrictlySortedBy (slice_cmp nat_cmp))
-      (sym (ap (map (λ (list : TermList). list.term)) is ∙ terms_of_lists addresses terms)) sorted;
+are_lists terms lists named up sorted = record {
+  terms = subst (IsStrictlySortedBy (slice_cmp nat_cmp)) (sym named) sorted;
   addresses = recursion_from_All (λ (list : TermList). IsStrictlyIncreasing list.at) lists up;
 }
 

@@ -156,13 +156,7 @@ among frame [] has = has
 among frame (range ∷ ranges) (inl here) = inl here
 among frame (range ∷ ranges) (inr more) = inr (among frame ranges more)
 
-module _ (live : Ranges) (memory : Memory) (s : State) (is : IsIndexOf live memory s) where
-  held_all : (term : List ℕ) → held memory term ≡ addresses_of term (postings_of s.layout.parts s.layout.memory)
-  held_all term =
-      is.postings term
-      ∙ ap (addresses_of term)
-      (sym (append-nil s.layout.memory) ∙ ap (λ (ps : List Part). postings_of ps s.layout.memory) (sym is.no_parts))
-
+module _ (live : Ranges) (s : State) (is : IsIndexOf live s) where
   range_in : (ino : ℕ) → range_of live ino ≡ option_map (λ entry. entry.range) (entry_of s.layout.files ino)
   range_in ino = ap (λ (l : Ranges). range_of l ino) is.ranges ∙ lookup-ranges_by_number s.layout.files ino
 
@@ -197,43 +191,38 @@ module _ (live : Ranges) (memory : Memory) (s : State) (is : IsIndexOf live memo
             × HasText (indexed (text_in s.texts ino)) r (postings_of s.layout.parts s.layout.memory)) same (h.long, h.whole)
 
   module _ (ranges : List Range) where
-    found-fetched : (term : List ℕ) → found_in ranges memory term ≡ fetched ranges (postings_of s.layout.parts s.layout.memory) term
-    found-fetched term = ap (filter (is_live ranges)) (held_all term)
-
-    found_ascend : (term : List ℕ) → IsStrictlyIncreasing (found_in ranges memory term)
+    found_ascend : (term : List ℕ) → IsStrictlyIncreasing (found_in ranges s term)
     found_ascend term =
-        subst IsStrictlyIncreasing (sym (found-fetched term))
-        (IsStrictlyIncreasing-filter (is_live ranges) (addresses_of term (postings_of s.layout.parts s.layout.memory))
-        (addresses_of-increasing term 0 s.layout.next (postings_of s.layout.parts s.layout.memory) is.is_state.layout.addresses.ascend))
+        IsStrictlyIncreasing-filter (is_live ranges) (addresses_of term (postings_of s.layout.parts s.layout.memory))
+        (addresses_of-increasing term 0 s.layout.next (postings_of s.layout.parts s.layout.memory) is.is_state.layout.addresses.ascend)
 
     frame_of_text : (ino : ℕ) (range : Range) → range_of live ino ≡ Some range → IsAmong ranges range
-        → IsFrameOf (found_in ranges memory) (tokens_of (text_in s.texts ino)) range
+        → IsFrameOf (found_in ranges s) (tokens_of (text_in s.texts ino)) range
     frame_of_text ino range there one =
         let text = indexed (text_in s.texts ino) in
         let at' = indexed_at ino range there in
         record {
           long = at'.0;
           told = λ term i within.
-              (ap (λ (xs : List ℕ). list_any (λ a. a == range.start + i) xs) (found-fetched term)
-              ∙ fetched_at ranges (postings_of s.layout.parts s.layout.memory) term text range one at'.1 i (omega (arith, at'.0))
+              (fetched_at ranges (postings_of s.layout.parts s.layout.memory) term text range one at'.1 i (omega (arith, at'.0))
               ∙ is_token text.terms term i);
         }
 
     module _ (view : List Seen) where
       framed_here : (frame : Frame) → IsOfFile live view frame → IsAmong ranges frame.range
-          → IsFrameOf (found_in ranges memory) (tokens_at (map (shown_of s.texts) view) frame.place) (range_at live view frame.place)
+          → IsFrameOf (found_in ranges s) (tokens_at (map (shown_of s.texts) view) frame.place) (range_at live view frame.place)
       framed_here frame of one =
           let tokens : tokens_at (map (shown_of s.texts) view) frame.place ≡ tokens_of (text_in s.texts frame.ino) =
           tokens_of_file s.texts view frame.place of.file of.there ∙ ap (λ (n : ℕ). tokens_of (text_in s.texts n)) of.number in
-          subst (IsFrameOf (found_in ranges memory) (tokens_at (map (shown_of s.texts) view) frame.place))
+          subst (IsFrameOf (found_in ranges s) (tokens_at (map (shown_of s.texts) view) frame.place))
           (sym (range_there live view frame of))
-          (subst (λ (ts : List (List ℕ)). IsFrameOf (found_in ranges memory) ts frame.range) (sym tokens)
+          (subst (λ (ts : List (List ℕ)). IsFrameOf (found_in ranges s) ts frame.range) (sym tokens)
           (frame_of_text frame.ino frame.range of.range one))
 
       framed_all : (frames : List Frame) → AllByRecursion (IsOfFile live view) frames
           → AllByRecursion (λ frame. IsAmong ranges frame.range) frames
           → AllByRecursion
-          (λ place. IsFrameOf (found_in ranges memory) (tokens_at (map (shown_of s.texts) view) place) (range_at live view place))
+          (λ place. IsFrameOf (found_in ranges s) (tokens_at (map (shown_of s.texts) view) place) (range_at live view place))
           (map (λ frame. frame.place) frames)
       framed_all [] are all = tt
       framed_all (frame ∷ frames) are all = (framed_here frame are.0 all.0, framed_all frames are.1 all.1)
@@ -241,7 +230,7 @@ module _ (live : Ranges) (memory : Memory) (s : State) (is : IsIndexOf live memo
   -- the frames are those of the files at their places
   pub view_framed : (view : List Seen) (frames : List Frame) (ranges : List Range) → ranges ≡ map (λ frame. frame.range) frames
       → AllByRecursion (IsOfFile live view) frames
-      → FramesOf (found_in ranges memory) (tokens_at (map (shown_of s.texts) view)) (range_at live view) (map (λ frame. frame.place) frames)
+      → FramesOf (found_in ranges s) (tokens_at (map (shown_of s.texts) view)) (range_at live view) (map (λ frame. frame.place) frames)
   view_framed view frames ranges alone are = record {
     each = framed_all ranges view frames are
         (all_from_has (λ (frame : Frame). IsAmong ranges frame.range) frames
@@ -253,26 +242,26 @@ module _ (live : Ranges) (memory : Memory) (s : State) (is : IsIndexOf live memo
 -- ---- the user's frames
 
 -- the files of the view are at these places, in the order of their addresses, and so are their frames
-pub record AreOfView (frames : Frames) (live : Ranges) (memory : Memory) (s : State) (uid : ℕ) : Type 0 where
+pub record AreOfView (frames : Frames) (live : Ranges) (s : State) (uid : ℕ) : Type 0 where
   pub order : IsPermutation (all_places (view_of s uid)) (map (λ frame. frame.place) frames.by_address)
   pub ranges : frames.ranges ≡ map (range_at live (files_of s.tree uid)) (map (λ frame. frame.place) frames.by_address)
-  pub framed : FramesOf (found_in frames.ranges memory) (tokens_at (view_of s uid)) (range_at live (files_of s.tree uid))
+  pub framed : FramesOf (found_in frames.ranges s) (tokens_at (view_of s uid)) (range_at live (files_of s.tree uid))
       (map (λ frame. frame.place) frames.by_address)
   pub units : (region : Region) (lists : List TermList) → units_in region lists frames.by_address
       ≡ units_in_frames region lists (range_at live (files_of s.tree uid)) (map (λ frame. frame.place) frames.by_address)
 
-pub are_of_view : (frames : Frames) (live : Ranges) (memory : Memory) (s : State) (uid : ℕ) → Indexes frames live memory s uid
-    → IsPermutation (frames_in live (files_of s.tree uid)) frames.by_address → AreOfView frames live memory s uid
+pub are_of_view : (frames : Frames) (live : Ranges) (s : State) (uid : ℕ) → Indexes frames live s uid
+    → IsPermutation (frames_in live (files_of s.tree uid)) frames.by_address → AreOfView frames live s uid
 unfolding view_of
-are_of_view frames live memory s uid is moved =
+are_of_view frames live s uid is moved =
     let view = files_of s.tree uid in
     let are = by_address_of_files live view frames.by_address moved in
     record {
       order =
           subst (λ (n : ℕ). IsPermutation (range_with_len 0 n) (map (λ (frame : Frame). frame.place) frames.by_address))
           (sym (length-map view (shown_of s.texts)))
-          (by_address_has_places live view frames.by_address moved (view_has_ranges live memory s is.index uid));
+          (by_address_has_places live view frames.by_address moved (view_has_ranges live s is.index uid));
       ranges = is.hers.ranges_alone ∙ ranges_there live view frames.by_address are;
-      framed = view_framed live memory s is.index view frames.by_address frames.ranges is.hers.ranges_alone are;
+      framed = view_framed live s is.index view frames.by_address frames.ranges is.hers.ranges_alone are;
       units = λ region lists. units_there live region lists view frames.by_address are;
     }

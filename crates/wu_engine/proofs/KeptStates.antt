@@ -1,7 +1,6 @@
 -- What is true of a state at first, and stays true with each event.
 use Rattle.std.proofs.Common.{◌≡◌, ℕ, ◌+◌, ◌≤◌, List, [], length, Bool, true, false, cond, Ok, Err, refl, ap, sym, ◌∙◌, subst, arith}
 use Rattle.std.specs.Prelude.{Option, Some, None}
-use Rattle.std.specs.Result.{result_unwrap_or}
 use Rattle.wu_base.specs.declared.limits.TheConstants.{TEXT_MAX}
 use Rattle.wu_tree.specs.declared.events.Event.{Event}
 use Rattle.wu_tree.specs.declared.events.Event.TheVariants.{User, Mkdir, Create, Text, Link, Unlink, Rmdir, Rename, Chmod, Chown}
@@ -15,11 +14,13 @@ use Rattle.wu_tree.proofs.EffectLemmas.{effects_tell_files}
 use Rattle.wu_tree.proofs.KeptTrees.{step_keeps}
 use Rattle.wu_tree.proofs.TreeInvariant.{root_sound}
 use Rattle.wu_layout.specs.Layouts.{Layout}
+use Rattle.wu_layout.specs.Steps.{flush_if_full}
 use Rattle.wu_layout.proofs.Updates.{first_is_layout, layout_after_other}
-use Rattle.wu_engine.specs.States.{State, IsState, first_state, step, stepped, after_event, texts_after, layout_without, layout_with, layout_after}
+use Rattle.wu_engine.specs.States.{State, IsState, first_state, flushed_if_full, followed, step, stepped, after_event, texts_after, layout_without, layout_with, layout_after}
 use Rattle.wu_engine.specs.Stands.{taken_by}
 use Rattle.wu_engine.specs.Indexing.{is_stored, terms_given}
 use Rattle.wu_engine.proofs.FileChanges.{changes}
+use Rattle.wu_engine.proofs.FlushedStates.{full_kept, rises-full}
 use Rattle.wu_engine.proofs.StateTexts.{texts_kept, short_kept, first_texts, root_files}
 use Rattle.wu_engine.proofs.StateLayouts.{layout_kept, text_at}
 
@@ -52,25 +53,33 @@ module _ (s : State) (event : Event) (text : List ℕ) where
   unfolding step
   step-refused refusal is = ap (stepped text s) is
 
-  -- what holds after each accepted event, and before, holds after the event
-  after_cases : (P : State → Type 0) → P s
-      → ((tree : FileSystem) (effect : Effect) → tree_step s.tree event ≡ Ok (tree, effect) → P (after_effect s tree effect text))
-      → P (after_event s event text)
-  after_cases P before accepted =
-      elim (tree_step s.tree event) as (λ r. tree_step s.tree event ≡ r → P (after_event s event text)) [
-        | Ok p ↦ λ e. subst P (sym (ap (λ r. result_unwrap_or r s) (step-accepted p.0 p.1 e))) (accepted p.0 p.1 e)
-        | Err refusal ↦ λ e. subst P (sym (ap (λ r. result_unwrap_or r s) (step-refused refusal e))) before
-      ] refl
-
-  pub state_kept : IsState s → IsEvent event → length text ≤ TEXT_MAX → IsState (after_event s event text)
-  state_kept is valid short = after_cases IsState is (λ tree effect e.
+  pub effect_kept : IsState s → IsEvent event → length text ≤ TEXT_MAX → (tree : FileSystem) (effect : Effect)
+      → tree_step s.tree event ≡ Ok (tree, effect) → IsState (after_effect s tree effect text)
+  effect_kept is valid short tree effect e =
       let tells : TellsFiles s.tree effect tree = effects_tell_files s.tree is.tree event tree effect e in
       record {
         tree = step_keeps s.tree is.tree event tree effect valid e;
         texts = texts_kept s is.texts tree effect text (layout_after effect text s.layout) tells;
         short = short_kept effect text s.texts is.texts.ascend short is.short;
         layout = layout_kept s tree effect tells (changes s.tree event tree effect e).1 text is.layout;
-      })
+      }
+
+module _ (flush_at : ℕ) (s : State) (event : Event) (text : List ℕ) where
+  -- what holds after each accepted event and its flush, and before, holds after the event
+  after_cases : (P : State → Type 0) → P s
+      → ((tree : FileSystem) (effect : Effect) → tree_step s.tree event ≡ Ok (tree, effect)
+      → P (flushed_if_full flush_at (after_effect s tree effect text)))
+      → P (after_event flush_at s event text)
+  after_cases P before accepted =
+      elim (tree_step s.tree event) as (λ r. tree_step s.tree event ≡ r → P (after_event flush_at s event text)) [
+        | Ok p ↦ λ e. subst P (sym (ap (followed flush_at s) (step-accepted s event text p.0 p.1 e))) (accepted p.0 p.1 e)
+        | Err refusal ↦ λ e. subst P (sym (ap (followed flush_at s) (step-refused s event text refusal e))) before
+      ] refl
+
+  pub state_kept : IsState s → IsEvent event → length text ≤ TEXT_MAX → IsState (after_event flush_at s event text)
+  state_kept is valid short =
+      after_cases IsState is
+      (λ tree effect e. full_kept flush_at (after_effect s tree effect text) (effect_kept s event text is valid short tree effect e))
 
 -- ---- how far the next address rises
 
@@ -104,10 +113,10 @@ next-without : (o : Option ℕ) (layout : Layout) → (layout_without o layout).
 next-without None layout = refl
 next-without (Some ino) layout = refl
 
-pub next_rises : (s : State) (event : Event) (text : List ℕ)
-    → (after_event s event text).layout.next ≤ s.layout.next + taken_by event text
-next_rises s event text =
-    after_cases s event text (λ t. t.layout.next ≤ s.layout.next + taken_by event text) (omega arith) (λ tree effect e.
+pub next_rises : (flush_at : ℕ) (s : State) (event : Event) (text : List ℕ)
+    → (after_event flush_at s event text).layout.next ≤ s.layout.next + taken_by event text
+next_rises flush_at s event text =
+    after_cases flush_at s event text (λ t. t.layout.next ≤ s.layout.next + taken_by event text) (omega arith) (λ tree effect e.
     let left : Layout = layout_without effect.dropped s.layout in
     let made : Layout = layout_with effect.made [] left in
     let same : effect_of s.tree event ≡ effect = (changes s.tree event tree effect e).0 in
@@ -118,6 +127,8 @@ next_rises s event text =
     let c : (layout_without effect.texted made).next ≡ made.next = next-without effect.texted made in
     let d : (layout_after effect text s.layout).next ≡ (layout_without effect.texted made).next + taken_with effect.texted text =
     next-with effect.texted text (layout_without effect.texted made) in
+    let f : (flush_if_full flush_at (layout_after effect text s.layout)).next ≡ (layout_after effect text s.layout).next =
+    (rises-full flush_at (layout_after effect text s.layout)).next in
     omega arith)
 
 -- ---- how far the next blob rises
@@ -157,7 +168,37 @@ module _ (effect : Effect) (layout : Layout) where
       drawn-with effect.texted text (layout_without effect.texted (layout_with effect.made [] (layout_without effect.dropped layout)))
       ∙ ap (λ (n : ℕ). n + cond (is_stored effect.texted text) 1 0) drawn-made
 
-pub blob_rises : (s : State) (event : Event) (text : List ℕ) → (after_event s event text).layout.blob ≤ s.layout.blob + 1
-blob_rises s event text =
-    after_cases s event text (λ t. t.layout.blob ≤ s.layout.blob + 1) (omega arith)
-    (λ tree effect e. omega (arith, drawn-after effect s.layout text, at_most_one (is_stored effect.texted text)))
+-- one for the text, and one for the part that a flush makes
+pub blob_rises : (flush_at : ℕ) (s : State) (event : Event) (text : List ℕ)
+    → (after_event flush_at s event text).layout.blob ≤ s.layout.blob + 2
+blob_rises flush_at s event text =
+    after_cases flush_at s event text (λ t. t.layout.blob ≤ s.layout.blob + 2) (omega arith)
+    (λ tree effect e.
+    omega (
+      arith,
+      (rises-full flush_at (layout_after effect text s.layout)).blob,
+      drawn-after effect s.layout text,
+      at_most_one (is_stored effect.texted text),
+    ))
+
+-- ---- flushes
+
+flushes-with : (o : Option ℕ) (text : List ℕ) (layout : Layout) → (layout_with o text layout).flushes ≡ layout.flushes
+flushes-with None text layout = refl
+flushes-with (Some ino) text layout = refl
+
+flushes-without : (o : Option ℕ) (layout : Layout) → (layout_without o layout).flushes ≡ layout.flushes
+flushes-without None layout = refl
+flushes-without (Some ino) layout = refl
+
+pub flushes-after : (effect : Effect) (text : List ℕ) (layout : Layout) → (layout_after effect text layout).flushes ≡ layout.flushes
+flushes-after effect text layout =
+    flushes-with effect.texted text _ ∙ flushes-without effect.texted _ ∙ flushes-with effect.made [] _
+    ∙ flushes-without effect.dropped layout
+
+pub flushes_rise : (flush_at : ℕ) (s : State) (event : Event) (text : List ℕ)
+    → (after_event flush_at s event text).layout.flushes ≤ s.layout.flushes + 1
+flushes_rise flush_at s event text =
+    after_cases flush_at s event text (λ t. t.layout.flushes ≤ s.layout.flushes + 1) (omega arith)
+    (λ tree effect e.
+    omega (arith, (rises-full flush_at (layout_after effect text s.layout)).flushed, flushes-after effect text s.layout))

@@ -1,5 +1,5 @@
 -- A user's frames can be searched, whatever state the engine stands for.
-use Rattle.std.proofs.Common.{ℕ, ◌+◌, ◌≤◌, ◌<◌, ◌^◌, List, [], ◌∷◌, map, sym, subst, arith}
+use Rattle.std.proofs.Common.{◌≡◌, ℕ, ◌+◌, ◌≤◌, ◌<◌, ◌^◌, List, [], ◌∷◌, map, sym, subst, arith}
 use Rattle.std.proofs.Math.Logic.{∥∥₁_elim}
 use Rattle.std.specs.Coded.{le_prop}
 use Rattle.std.specs.List.{AllByRecursion, AllByRecursion-prop}
@@ -15,7 +15,7 @@ use Rattle.wu_parts.specs.Contents.{Contents}
 use Rattle.wu_view.specs.Views.{view_of as files_of}
 use Rattle.wu_frames.specs.declared.Frame.{Frame}
 use Rattle.wu_frames.specs.declared.Frames.{Frames}
-use Rattle.wu_frames.specs.UserFrames.{AreFrames, Kept}
+use Rattle.wu_frames.specs.UserFrames.{AreFor, AreFrames, Kept}
 use Rattle.wu_frames.proofs.ViewFrames.{HasRange, all-have}
 use Rattle.wu_engine.specs.Records.{Records, recorded_ranges}
 use Rattle.wu_engine.specs.Soundness.{IsRecord, IsSound}
@@ -65,3 +65,19 @@ module _ (fs : FileSystem) (space : Addresses) (parts : Contents) (files : Recor
         each [] kept given = tt
         each (file ∷ files') kept given =
             (record { recorded = kept.0; bounded = omega (arith, given.0, sound.few) }, each files' kept.1 given.1)
+
+-- An engine stays sound when blocks are kept anew, and frames that were made for its tree and its live ranges.
+pub sound_prepared : (fs : FileSystem) (space : Addresses) (parts parts_now : Contents) (files : Records) (kept kept_now : Kept)
+    → parts_now ≡ record parts { kept = parts_now.kept } → AreFor fs space.ranges kept_now → IsSound fs space parts files kept
+    → IsSound fs space parts_now files kept_now
+sound_prepared fs space parts parts_now files kept kept_now same right sound =
+    subst (λ (c : Contents). IsSound fs space c files kept_now) (sym same)
+    (record {
+      of_files = sound.of_files;
+      ranges = sound.ranges;
+      records = sound.records;
+      few = sound.few;
+      below = sound.below;
+      blobs = sound.blobs;
+      frames = right;
+    })

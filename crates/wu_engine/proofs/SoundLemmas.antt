@@ -1,5 +1,5 @@
 -- What an engine keeps, whatever is asked of it, it keeps with each accepted event.
-use Rattle.std.proofs.Common.{◌≡◌, ℕ, ◌+◌, ◌≤◌, ◌==◌, List, [], length, Bool, true, false, cond, refl, ap, sym, ◌∙◌, subst, arith, length-append}
+use Rattle.std.proofs.Common.{◌≡◌, ◌⊎◌, inl, inr, ℕ, ◌+◌, ◌≤◌, ◌==◌, List, [], length, Bool, true, false, cond, refl, ap, sym, ◌∙◌, subst, arith, length-append}
 use Rattle.std.specs.Prelude.{Option, Some, None, Ok, IfSome}
 use Rattle.std.specs.Ordering.{nat_cmp}
 use Rattle.std.specs.Cmp.{nat_cmp_total}
@@ -19,12 +19,13 @@ use Rattle.wu_tree.proofs.EventRules.{absent}
 use Rattle.wu_space.specs.Addresses.{Addresses, range_of}
 use Rattle.wu_parts.specs.Memory.{Gains}
 use Rattle.wu_parts.specs.Contents.{Contents}
+use Rattle.wu_parts.specs.Flushing.{EmptiesMemory, Told}
 use Rattle.wu_parts.proofs.Gaining.{end_within}
 use Rattle.wu_frames.specs.UserFrames.{Kept}
 use Rattle.wu_engine.specs.Records.{Records, recorded_ranges}
 use Rattle.wu_engine.specs.Soundness.{IsSound, IsRecord}
 use Rattle.wu_engine.specs.Stands.{taken_by}
-use Rattle.wu_engine.specs.Indexing.{IsIndexable, Catalog, KeepsParts, blob_for, drawn_for, catalog_of, catalog_made, catalog_after, catalog_without, terms_given, terms_after, with_file, without_file, space_made, space_after}
+use Rattle.wu_engine.specs.Indexing.{Follows, IsIndexable, Catalog, KeepsParts, blob_for, is_stored, drawn_for, catalog_of, catalog_made, catalog_after, catalog_without, terms_given, terms_after, with_file, without_file, space_made, space_after}
 use Rattle.wu_engine.proofs.NumberedEntries.{is_that, has, has-put, has-removed}
 use Rattle.wu_engine.proofs.KeptStates.{taken_with, taken-effect}
 use Rattle.wu_engine.proofs.FileChanges.{ChangesFiles, changes, files_without, files-after, files-texted}
@@ -175,3 +176,84 @@ module _ (before after : FileSystem) (effect : Effect) (tells : TellsFiles befor
             blobs = omega (arith, sound.blobs, ap (λ (c : Contents). c.next_blob) others);
             frames = tt;
           }
+
+-- ---- a flush
+
+-- no address below the end of memory was taken anew, and blob 0 wasn't drawn
+pub sound_with : (fs : FileSystem) (space : Addresses) (parts parts_now : Contents) (files : Records) (kept : Kept)
+    → parts_now.memory.end ≡ parts.memory.end → parts.next_blob ≤ parts_now.next_blob
+    → IsSound fs space parts files kept → IsSound fs space parts_now files kept
+sound_with fs space parts parts_now files kept end drawn sound = record {
+  of_files = sound.of_files;
+  ranges = sound.ranges;
+  records = sound.records;
+  few = sound.few;
+  below = omega (arith, sound.below, end);
+  blobs = omega (arith, sound.blobs, drawn);
+  frames = sound.frames;
+}
+
+-- what a flush leaves of some numbers
+pub record LeavesNumbers (parts parts_now : Contents) : Type 0 where
+  pub end : parts_now.memory.end ≡ parts.memory.end
+  pub least : parts.next_blob ≤ parts_now.next_blob
+  pub most : parts_now.next_blob ≤ parts.next_blob + 1
+  pub counted : parts_now.flushes + parts.next_blob ≡ parts.flushes + parts_now.next_blob
+  pub flush_at : parts_now.flush_at ≡ parts.flush_at
+  pub kept : parts_now.kept ≡ parts.kept
+
+pub numbers_left : (parts parts_now : Contents) → EmptiesMemory parts parts_now → LeavesNumbers parts parts_now
+numbers_left parts parts_now (inl e) =
+    subst (LeavesNumbers parts) (sym e)
+    (record { end = refl; least = omega arith; most = omega arith; counted = refl; flush_at = refl; kept = refl })
+numbers_left parts parts_now (inr made) =
+    subst (LeavesNumbers parts) (sym made.2)
+    (record { end = refl; least = omega arith; most = omega arith; counted = omega arith; flush_at = refl; kept = refl })
+
+pub numbers_full : (parts parts_now : Contents) → (parts_now ≡ parts) ⊎ EmptiesMemory parts parts_now → LeavesNumbers parts parts_now
+numbers_full parts parts_now (inl e) =
+    subst (LeavesNumbers parts) (sym e)
+    (record { end = refl; least = omega arith; most = omega arith; counted = refl; flush_at = refl; kept = refl })
+numbers_full parts parts_now (inr done) = numbers_left parts parts_now done
+
+-- ---- what follows an event
+
+one_at_most : (b : Bool) → cond {A = ℕ} b 1 0 ≤ 1
+one_at_most true = omega arith
+one_at_most false = omega arith
+
+-- what it leaves of some numbers
+pub record LeavesCounts (parts parts_now : Contents) : Type 0 where
+  pub drawn : parts_now.next_blob ≤ parts.next_blob + 2
+  pub counted : parts_now.flushes + parts.next_blob ≤ parts.flushes + parts_now.next_blob
+  pub flush_at : parts_now.flush_at ≡ parts.flush_at
+  pub kept : parts_now.kept ≡ parts.kept
+
+module _ (effect : Effect) (text : List ℕ) (space space_now : Addresses) (files files_now : Records) (parts parts_now : Contents)
+    (told told_now : Told) (f : Follows effect text space space_now files files_now parts parts_now told told_now) where
+  left : LeavesNumbers f.indexed parts_now
+  left = numbers_full f.indexed parts_now f.flushed.changes
+
+  pub counts_left : LeavesCounts parts parts_now
+  counts_left =
+      let next : f.indexed.next_blob ≡ parts.next_blob + cond {A = ℕ} (is_stored effect.texted text) 1 0 =
+      ap (λ (c : Contents). c.next_blob) f.others in
+      let flushes : f.indexed.flushes ≡ parts.flushes = ap (λ (c : Contents). c.flushes) f.others in
+      record {
+        drawn = omega (arith, left.most, next, one_at_most (is_stored effect.texted text));
+        counted = omega (arith, left.counted, next, flushes);
+        flush_at = left.flush_at ∙ ap (λ (c : Contents). c.flush_at) f.others;
+        kept = left.kept ∙ ap (λ (c : Contents). c.kept) f.others;
+      }
+
+  pub next_followed : space_now.next ≡ space.next + length (terms_after effect text)
+  next_followed = ap (λ (k : Catalog). k.space.next) f.catalog ∙ next-after effect text space
+
+  module _ (before after : FileSystem) (tells : TellsFiles before effect after) (changed : ChangesFiles before effect) (kept : Kept)
+      (sound : IsSound before space parts files kept) (sorted : Ascend space) (short : length text ≤ TEXT_MAX)
+      (room : space.next + length (terms_after effect text) ≤ ADDRESSES_MAX) where
+    pub sound_followed : IsSound after space_now parts_now files_now []
+    sound_followed =
+        sound_with after space_now f.indexed parts_now files_now [] left.end left.least
+        (sound_after before after effect tells changed space parts files kept sound sorted text short room f.blob space_now files_now
+        f.indexed f.drawn f.catalog f.gained f.others)

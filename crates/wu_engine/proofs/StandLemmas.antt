@@ -1,7 +1,6 @@
 -- The engine stands for the state after an event.
-use Rattle.std.proofs.Common.{◌≡◌, ℕ, ◌+◌, ◌≤◌, cond, List, [], ◌++◌, length, Ok, Err, refl, ap, sym, ◌∙◌, subst, arith, append_assoc, append-nil, length-append}
-use Rattle.std.specs.Prelude.{Option, Some, None, option_map}
-use Rattle.std.specs.Result.{result_unwrap_or}
+use Rattle.std.proofs.Common.{◌≡◌, ℕ, ◌+◌, ◌≤◌, cond, List, [], ◌++◌, length, map, Ok, Err, refl, ap, sym, ◌∙◌, subst, arith, append_assoc, append-nil, length-append}
+use Rattle.std.specs.Prelude.{Option, Some, None, IfSome, option_map}
 use Rattle.std.specs.Ordering.{nat_cmp}
 use Rattle.std.specs.Map.{remove_entry}
 use Rattle.std.specs.BTreeMap.{is_at, insert_entry}
@@ -17,29 +16,35 @@ use Rattle.wu_tree.specs.Effects.{TellsFiles}
 use Rattle.wu_tree.specs.Steps.{IsEvent}
 use Rattle.wu_tree.specs.Steps.{step as tree_step}
 use Rattle.wu_tree.proofs.EventRules.{absent}
-use Rattle.wu_layout.specs.Postings.{Posting, addresses_of, placed_from}
-use Rattle.wu_layout.specs.Layouts.{FileEntry, Layout, entry_of, ranges_by_number}
+use Rattle.wu_layout.specs.Postings.{Posting, addresses_of, live_of, placed_from}
+use Rattle.wu_base.specs.declared.addresses.PartRec.{PartRec}
+use Rattle.wu_part.specs.Directories.{PartDirectory}
+use Rattle.wu_layout.specs.Layouts.{FileEntry, Layout, Part, entry_of, ranges_by_number}
 use Rattle.wu_layout.specs.Invariants.{IsLayoutOf}
 use Rattle.wu_layout.proofs.PostingLemmas.{length-placed}
 use Rattle.wu_layout.proofs.EntryLemmas.{none_after_removal}
 use Rattle.wu_layout.proofs.NumberedRanges.{ranges_by_number-put, ranges_by_number-removal}
 use Rattle.wu_layout.proofs.Fetches.{placed-append}
 use Rattle.wu_space.specs.Addresses.{Addresses, Ranges}
-use Rattle.wu_parts.specs.Memory.{held, Gains}
+use Rattle.wu_parts.specs.Flushing.{Flushes, Told}
+use Rattle.wu_parts.specs.Memory.{HasPostings}
+use Rattle.wu_parts.specs.Holdings.{HoldParts}
 use Rattle.wu_parts.specs.Contents.{Contents}
 use Rattle.wu_parts.proofs.Gaining.{holds_more}
 use Rattle.wu_engine.specs.declared.engines.Engine.{Engine}
 use Rattle.wu_engine.specs.declared.verdicts.Verdict.TheVariants.{Made, Refused}
-use Rattle.wu_engine.specs.States.{State, Texts, IsState, step, after_event, texts_after, without_text, with_text, layout_without, layout_with, layout_after}
+use Rattle.wu_engine.specs.States.{State, Texts, IsState, flushed_if_full, flushed_state, followed, step, after_event, texts_after, without_text, with_text, layout_without, layout_with, layout_after}
 use Rattle.wu_engine.specs.Records.{Records, records_of}
-use Rattle.wu_engine.specs.Stands.{HoldsTexts, IsEngineOf, Stands, verdict_of}
-use Rattle.wu_engine.specs.Indexing.{Catalog, KeepsParts, blob_for, blob_left, catalog_after, catalog_made, catalog_of, catalog_with, catalog_without, drawn_for, is_stored, record_for, stored_at, terms_after, terms_given}
+use Rattle.wu_engine.specs.Stands.{HoldsTexts, IsEngineOf, KeepsBlocks, Stands, verdict_of}
+use Rattle.wu_engine.specs.Indexing.{Catalog, Follows, blob_for, blob_left, catalog_after, catalog_made, catalog_of, catalog_with, catalog_without, is_stored, record_for, stored_at, terms_after, terms_given}
 use Rattle.wu_engine.proofs.FileChanges.{ChangesFiles}
 use Rattle.wu_engine.proofs.StateTexts.{text-left}
 use Rattle.wu_engine.proofs.StateLayouts.{layout_dropped, left_kept, made_absent, made_kept}
-use Rattle.wu_engine.proofs.KeptStates.{after_effect, drawn-after, drawn-made, state_kept, step-accepted, step-refused}
+use Rattle.wu_engine.proofs.FlushLemmas.{IsStored, flush_stands, full_stands}
+use Rattle.wu_engine.proofs.HeldParts.{AgreesBut, blocks_stay, parts_below, parts_stay}
+use Rattle.wu_engine.proofs.KeptStates.{after_effect, drawn-after, drawn-made, effect_kept, flushes-after, step-accepted, step-refused}
 use Rattle.wu_engine.proofs.RecordLemmas.{blob-recorded, records-elsewhere, records-put, records-removal}
-use Rattle.wu_engine.proofs.StoredTexts.{IsAbsent, blobs_below, held_forgotten, held_placed, held_released, stored_none}
+use Rattle.wu_engine.proofs.StoredTexts.{IsAbsent, blobs_below, held_forgotten, held_placed, held_released, stored_elsewhere, stored_none}
 
 -- ---- the catalog
 
@@ -228,20 +233,30 @@ module _ (s : State) (is : IsState s) (after : FileSystem) (effect : Effect) (te
       (blobs_below again.blob again.files again.parts again.check again.stale again_is.blobs)
       (held_released content made_texts made effect.texted made_is.ranges.by_number b))
 
+-- ---- an engine that is as it was
+
+stands_still : (old new : Engine) (s : State) → new.ended ≡ None → (holds : Option Content) → Stands old holds s
+    → new.tree ≡ old.tree → new.space ≡ old.space → new.parts ≡ old.parts → new.files.entries ≡ old.files.entries → Stands new holds s
+stands_still old new s ended holds stands tree space parts files = record {
+  goes_on = ended;
+  index = subst (λ (t : FileSystem). IsEngineOf t new.space new.parts new.files.entries s) (sym tree)
+      (subst (λ (a : Addresses). IsEngineOf old.tree a new.parts new.files.entries s) (sym space)
+      (subst (λ (c : Contents). IsEngineOf old.tree old.space c new.files.entries s) (sym parts)
+      (subst (λ (r : Records). IsEngineOf old.tree old.space old.parts r s) (sym files) stands.index)));
+  texts = stands.texts;
+  parts = subst (λ (c : Contents). IfSome holds (λ content. HoldParts content c.parts c.directories s.layout.parts)) (sym parts) stands.parts;
+  kept = subst (λ (c : Contents). IfSome holds (λ content. KeepsBlocks content s.layout.blob c.kept)) (sym parts) stands.kept;
+}
+
 -- ---- what the engine answers
 
 module _ (old new : Engine) (s : State) (event : Event) (text : List ℕ) (ended : new.ended ≡ None) where
-  -- what was drawn, stored and indexed of an accepted event
-  module _ (before after : Option Content) (stands : Stands old before s) (effect : Effect)
+  -- what was drawn, stored, indexed and flushed of an accepted event
+  module _ (before after : Told) (stands : Stands old before.0 s) (effect : Effect)
       (step_is : tree_step old.tree event ≡ Ok (new.tree, effect)) (valid : IsEvent event) (short : length text ≤ TEXT_MAX)
-      (tells : TellsFiles old.tree effect new.tree) (changes : ChangesFiles old.tree effect) (blob : ℕ)
-      (drawn : blob ≡ blob_for effect.texted text old.parts.next_blob)
-      (stored : after ≡ option_map (stored_at old.parts.next_blob effect.texted text) before)
-      (indexed : catalog_of new.space new.files.entries new.parts
-      ≡ catalog_after effect text blob (catalog_of old.space old.files.entries (drawn_for effect.texted text old.parts)))
-      (gained : Gains old.space.next (terms_after effect text) old.parts.memory new.parts.memory)
-      (others : KeepsParts (drawn_for effect.texted text old.parts) new.parts) where
-    abbrev index : IsEngineOf old s
+      (tells : TellsFiles old.tree effect new.tree) (changes : ChangesFiles old.tree effect)
+      (f : Follows effect text old.space new.space old.files.entries new.files.entries old.parts new.parts before after) where
+    abbrev index : IsEngineOf old.tree old.space old.parts old.files.entries s
     index = stands.index
 
     abbrev next : State
@@ -256,94 +271,128 @@ module _ (old new : Engine) (s : State) (event : Event) (text : List ℕ) (ended
     changes_here : ChangesFiles s.tree effect
     changes_here = subst (λ (t : FileSystem). ChangesFiles t effect) index.tree changes
 
-    stepped : step s event text ≡ Ok next
-    stepped = step-accepted s event text new.tree effect (ap (λ (t : FileSystem). tree_step t event) (sym index.tree) ∙ step_is)
+    there : tree_step s.tree event ≡ Ok (new.tree, effect)
+    there = ap (λ (t : FileSystem). tree_step t event) (sym index.tree) ∙ step_is
 
-    told : Tells (catalog_of new.space new.files.entries new.parts) next.texts next.layout
+    told : Tells (catalog_of new.space new.files.entries f.indexed) next.texts next.layout
     told =
-        subst (λ (k : Catalog). Tells k next.texts next.layout) (sym indexed)
-        (tells_after s index.is_state new.tree effect tells_here changes_here text blob _
-        (drawn ∙ ap (blob_for effect.texted text) index.next_blob)
+        subst (λ (k : Catalog). Tells k next.texts next.layout) (sym f.catalog)
+        (tells_after s index.is_state new.tree effect tells_here changes_here text f.blob _
+        (f.drawn ∙ ap (blob_for effect.texted text) index.next_blob)
         (record { next = index.next; live = index.live; files = index.files; stale = index.stale }))
 
     more : next.layout.memory ≡ s.layout.memory ++ placed_from old.space.next terms
     more = memory_after effect text s.layout ∙ ap (λ (n : ℕ). s.layout.memory ++ placed_from n terms) (sym index.next)
 
-    index_after : IsState next → IsEngineOf new next
-    index_after is = record {
-      is_state = is;
-      goes_on = ended;
+    index_between : IsEngineOf new.tree new.space f.indexed new.files.entries next
+    index_between = record {
+      is_state = effect_kept s event text index.is_state valid short new.tree effect there;
       tree = refl;
       next = told.next;
       live = told.live;
       files = told.files;
       next_blob =
-          ap (λ (c : Contents). c.next_blob) others ∙ ap (λ (n : ℕ). n + cond (is_stored effect.texted text) 1 0) index.next_blob
+          ap (λ (c : Contents). c.next_blob) f.others ∙ ap (λ (n : ℕ). n + cond (is_stored effect.texted text) 1 0) index.next_blob
           ∙ sym (drawn-after effect s.layout text);
       stale = told.stale;
       memory = λ term.
-          holds_more old.space.next terms old.parts.memory new.parts.memory s.layout.memory gained index.memory term
+          holds_more old.space.next terms old.parts.memory f.indexed.memory s.layout.memory f.gained index.memory term
           ∙ ap (addresses_of term) (sym more);
       stored =
           omega (
             arith,
-            gained.stored,
+            f.gained.stored,
             index.stored,
             ap length more,
             length-append s.layout.memory (placed_from old.space.next terms),
             length-placed old.space.next terms,
           );
-      flushes =
-          ap (λ (c : Contents). c.flushes) others ∙ index.flushes
-          ∙ sym (same_after (λ l. l.flushes) (λ ino l. refl) (λ ino t l. refl) effect text s.layout);
-      parts = ap (λ (c : Contents). c.parts) others ∙ index.parts;
-      no_parts = same_after (λ l. l.parts) (λ ino l. refl) (λ ino t l. refl) effect text s.layout ∙ index.no_parts;
+      flushes = ap (λ (c : Contents). c.flushes) f.others ∙ index.flushes ∙ sym (flushes-after effect text s.layout);
       no_job = same_after (λ l. l.job) (λ ino l. refl) (λ ino t l. refl) effect text s.layout ∙ index.no_job;
     }
 
-    texts_of : (o : Option Content) → HoldsTexts o s.texts s.layout.files
-        → HoldsTexts (option_map (stored_at s.layout.blob effect.texted text) o) next.texts next.layout.files
-    texts_of None held = held
-    texts_of (Some content) held = held_after s index.is_state new.tree effect tells_here changes_here text content held
+    same_parts : next.layout.parts ≡ s.layout.parts
+    same_parts = same_after (λ l. l.parts) (λ ino l. refl) (λ ino t l. refl) effect text s.layout
 
-    pub accepted : (Made ≡ verdict_of (step s event text)) × Stands new after (after_event s event text)
+    kept_directories : (f.indexed.parts ≡ old.parts.parts) × ((f.indexed.directories ≡ old.parts.directories) × (f.indexed.kept ≡ old.parts.kept))
+    kept_directories = (
+      ap (λ (c : Contents). c.parts) f.others,
+      (ap (λ (c : Contents). c.directories) f.others, ap (λ (c : Contents). c.kept) f.others),
+    )
+
+    -- what the store holds after the text was put
+    stored_between : (o : Option Content) → HoldsTexts o s.texts s.layout.files
+        → IfSome o (λ content. HoldParts content old.parts.parts old.parts.directories s.layout.parts)
+        → IfSome o (λ content. KeepsBlocks content s.layout.blob old.parts.kept)
+        → IsStored (option_map (stored_at s.layout.blob effect.texted text) o) f.indexed next
+    stored_between None texts parts kept = record { texts = texts; parts = tt; kept = tt }
+    stored_between (Some content) texts parts kept =
+        let now : Content = stored_at s.layout.blob effect.texted text content in
+        let agrees : AgreesBut s.layout.blob content now = stored_elsewhere s.layout.blob effect.texted text content in
+        let held : HoldParts now old.parts.parts old.parts.directories s.layout.parts =
+        parts_stay s.layout.blob content now agrees old.parts.parts old.parts.directories s.layout.parts
+        (parts_below s.layout.blob s.layout.files s.layout.parts s.layout.check s.layout.stale index.is_state.layout.blobs) parts in
+        let rises : s.layout.blob ≤ next.layout.blob = omega (arith, drawn-after effect s.layout text) in
+        let blocks : KeepsBlocks now next.layout.blob old.parts.kept =
+        blocks_stay s.layout.blob content now agrees next.layout.blob old.parts.kept rises kept in
+        record {
+          texts = held_after s index.is_state new.tree effect tells_here changes_here text content texts;
+          parts =
+              subst (λ (ps : List Part). HoldParts now f.indexed.parts f.indexed.directories ps) (sym same_parts)
+              (subst (λ (ds : List PartDirectory). HoldParts now f.indexed.parts ds s.layout.parts) (sym kept_directories.1.0)
+              (subst (λ (rs : List PartRec). HoldParts now rs old.parts.directories s.layout.parts) (sym kept_directories.0) held));
+          kept = subst (KeepsBlocks now next.layout.blob) (sym kept_directories.1.1) blocks;
+        }
+
+    pub accepted : (Made ≡ verdict_of (step s event text)) × Stands new after.0 (after_event old.parts.flush_at s event text)
     accepted =
-        let same : after_event s event text ≡ next = ap (λ r. result_unwrap_or r s) stepped in (
+        let stepped : step s event text ≡ Ok next = step-accepted s event text new.tree effect there in
+        let between : IsStored f.between.0 f.indexed next =
+        subst (λ (o : Option Content). IsStored o f.indexed next)
+        (sym (f.stored ∙ ap (λ (n : ℕ). option_map (stored_at n effect.texted text) before.0) index.next_blob))
+        (stored_between before.0 stands.texts stands.parts stands.kept) in
+        let both = full_stands new.tree new.space f.indexed new.files.entries next index_between new.parts f.between after between f.flushed in
+        let same : after_event old.parts.flush_at s event text ≡ flushed_if_full f.indexed.flush_at next =
+        ap (followed old.parts.flush_at s) stepped
+        ∙ ap (λ (n : ℕ). flushed_if_full n next) (sym (ap (λ (c : Contents). c.flush_at) f.others)) in (
           sym (ap verdict_of stepped),
-          subst (Stands new after) (sym same) (record {
-            index = index_after (subst IsState same (state_kept s event text index.is_state valid short));
-            texts =
-                subst (λ (o : Option Content). HoldsTexts o next.texts next.layout.files)
-                (sym (stored ∙ ap (λ (n : ℕ). option_map (stored_at n effect.texted text) before) index.next_blob)) (texts_of before stands.texts);
+          subst (Stands new after.0) (sym same) (record {
+            goes_on = ended;
+            index = both.0;
+            texts = both.1.texts;
+            parts = both.1.parts;
+            kept = both.1.kept;
           }),
         )
 
   -- the event was refused
   pub refused : (holds : Option Content) → Stands old holds s → (refusal : Refusal) → tree_step old.tree event ≡ Err refusal
       → new.tree ≡ old.tree → new.space ≡ old.space → new.parts ≡ old.parts → new.files.entries ≡ old.files.entries
-      → (Refused refusal ≡ verdict_of (step s event text)) × Stands new holds (after_event s event text)
+      → (Refused refusal ≡ verdict_of (step s event text)) × Stands new holds (after_event old.parts.flush_at s event text)
   refused holds stands refusal is tree space parts files =
-      let index : IsEngineOf old s = stands.index in
       let after : step s event text ≡ Err refusal =
-      step-refused s event text refusal (ap (λ (t : FileSystem). tree_step t event) (sym index.tree) ∙ is) in (
+      step-refused s event text refusal (ap (λ (t : FileSystem). tree_step t event) (sym stands.index.tree) ∙ is) in (
         sym (ap verdict_of after),
-        subst (Stands new holds) (sym (ap (λ r. result_unwrap_or r s) after)) (record {
-          index = record {
-            is_state = index.is_state;
-            goes_on = ended;
-            tree = tree ∙ index.tree;
-            next = ap (λ (a : Addresses). a.next) space ∙ index.next;
-            live = ap (λ (a : Addresses). a.ranges) space ∙ index.live;
-            files = files ∙ index.files;
-            next_blob = ap (λ (c : Contents). c.next_blob) parts ∙ index.next_blob;
-            stale = ap (λ (c : Contents). c.stale) parts ∙ index.stale;
-            memory = λ term. ap (λ (c : Contents). held c.memory term) parts ∙ index.memory term;
-            stored = ap (λ (c : Contents). c.memory.stored) parts ∙ index.stored;
-            flushes = ap (λ (c : Contents). c.flushes) parts ∙ index.flushes;
-            parts = ap (λ (c : Contents). c.parts) parts ∙ index.parts;
-            no_parts = index.no_parts;
-            no_job = index.no_job;
-          };
-          texts = stands.texts;
-        }),
+        subst (Stands new holds) (sym (ap (followed old.parts.flush_at s) after))
+            (stands_still old new s ended holds stands tree space parts files),
       )
+
+-- ---- a flush
+
+pub flushed_on : (old new : Engine) (s : State) → new.ended ≡ None → (before after : Told) → Stands old before.0 s
+    → new.tree ≡ old.tree → new.space ≡ old.space → new.files.entries ≡ old.files.entries
+    → ((low high : ℕ) (postings : List Posting) → HasPostings low high old.parts.memory postings
+    → Flushes (live_of (map (λ file. file.1) old.space.ranges) postings) old.parts new.parts before after)
+    → Stands new after.0 (flushed_state s)
+flushed_on old new s ended before after stands tree space files done =
+    let stored : IsStored before.0 old.parts s = record { texts = stands.texts; parts = stands.parts; kept = stands.kept } in
+    let both = flush_stands old.tree old.space old.parts old.files.entries s stands.index new.parts before after stored done in
+    record {
+      goes_on = ended;
+      index = subst (λ (t : FileSystem). IsEngineOf t new.space new.parts new.files.entries (flushed_state s)) (sym tree)
+          (subst (λ (a : Addresses). IsEngineOf old.tree a new.parts new.files.entries (flushed_state s)) (sym space)
+          (subst (λ (r : Records). IsEngineOf old.tree old.space new.parts r (flushed_state s)) (sym files) both.0));
+      texts = both.1.texts;
+      parts = both.1.parts;
+      kept = both.1.kept;
+    }

@@ -13,7 +13,6 @@ use Rattle.wu_base.specs.declared.addresses.TermList.{TermList}
 use Rattle.wu_base.specs.declared.limits.TheConstants.{ADDRESSES_MAX}
 use Rattle.wu_gcl.specs.Extents.{hits}
 use Rattle.wu_gcl.specs.Regions.{Region}
-use Rattle.wu_gcl.specs.Terms.{AreTerms}
 use Rattle.wu_rank.specs.declared.results.Unit.{Unit as RankedUnit}
 use Rattle.wu_rank.specs.Scores.{length_of, total_length}
 use Rattle.wu_solve.specs.Addresses.{stands_by}
@@ -22,11 +21,10 @@ use Rattle.wu_solve.specs.Solving.{moved, frame_hits, frames_hits, AreApart}
 use Rattle.wu_solve.proofs.Results.{hits_in as inside_text}
 use Rattle.wu_solve.proofs.Sets.{all_from}
 use Rattle.wu_space.specs.Addresses.{AreApart as LieApart}
-use Rattle.wu_parts.specs.Memory.{Memory}
 use Rattle.wu_frames.specs.declared.Frame.{Frame}
 use Rattle.wu_frames.specs.declared.Frames.{Frames}
 use Rattle.wu_engine.specs.Rankings.{unit_at}
-use Rattle.wu_engine.specs.Units.{AreUnits, CanBeSearched, count_before, end_of, found_in, list_at, placed, units_in}
+use Rattle.wu_engine.specs.Units.{AreUnits, CanBeSearched, count_before, end_of, placed, units_in}
 use Rattle.wu_engine.proofs.FramesOfFiles.{frames_few}
 use Rattle.wu_engine.proofs.UnitsOfFrames.{both_all}
 
@@ -187,24 +185,20 @@ ends_fit frames can =
       all [] below = tt
       all (f ∷ fs) below = (omega (arith, below.0), all fs below.1)
 
-module _ (region : Region) (frames : Frames) (can : CanBeSearched frames) (memory : Memory) (terms : List (List ℕ)) (lists : List TermList)
-    (extents : List Extent) (units : List RankedUnit) (named : AreTerms region terms)
-    (listed : lists ≡ map (list_at (found_in frames.ranges memory)) terms) (found : extents ≡ frames_hits region lists frames.ranges)
-    (put : units ≡ placed frames.by_address extents) where
+module _ (region : Region) (frames : Frames) (can : CanBeSearched frames) (lists : List TermList) (extents : List Extent)
+    (units : List RankedUnit) (found : extents ≡ frames_hits region lists frames.ranges) (put : units ≡ placed frames.by_address extents) where
   in_frames : units ≡ units_in region lists frames.by_address
   in_frames =
       put ∙ ap (placed frames.by_address) (found ∙ ap (frames_hits region lists) can.of_frames)
       ∙ placed_by_frame region lists frames.by_address (subst AreApart can.of_frames (apart frames.ranges can.apart))
 
-  pub units_searched : AreUnits region frames memory units
+  pub units_searched : AreUnits region frames lists units
   units_searched =
       let fits : Fit units =
       subst Fit (sym in_frames)
       (units_fit region lists frames.by_address (subst (AllByRecursion (λ (range : Range). range.len < 2 ^ 26)) can.of_frames can.short)) in
       record {
-        terms = terms;
-        all = named.all;
-        are = in_frames ∙ ap (λ (ls : List TermList). units_in region ls frames.by_address) listed;
+        are = in_frames;
         some = All-from_recursion (λ (unit : RankedUnit). 1 ≤ length_of unit.extent) units fits.0;
         short = All-from_recursion (λ (unit : RankedUnit). length_of unit.extent < 2 ^ 26) units fits.1;
         few =

@@ -11,18 +11,23 @@ use Rattle.wu_base.specs.declared.troubles.Trouble.TheVariants.{StoreFault, Dama
 use Rattle.wu_outside.specs.Content.{Content}
 use Rattle.wu_outside.specs.Faults.{Rose}
 use Rattle.wu_outside.specs.declared.ranges.ReadRange.{ReadRange}
+use Rattle.wu_ask.specs.Questions.{Question}
 use Rattle.wu_ask.specs.declared.FindLine.{FindLine}
+use Rattle.wu_frames.specs.declared.Frames.{Frames}
+use Rattle.wu_parts.specs.Contents.{Contents}
+use Rattle.wu_space.specs.Addresses.{Ranges}
 use Rattle.wu_gcl.specs.Regions.{Region}
 use Rattle.wu_image.specs.declared.records.FileRec.{FileRec}
 use Rattle.wu_image.specs.Texts.{IsBrokenText}
 use Rattle.wu_solve.specs.Solving.{frame_hits}
 use Rattle.wu_view.specs.declared.Seen.{Seen}
 use Rattle.wu_engine.specs.Answer.{found_line}
-use Rattle.wu_engine.specs.Reads.{whole_text}
+use Rattle.wu_engine.specs.Reads.{AreTexts, texts_read, whole_text}
 use Rattle.wu_engine.specs.Records.{Records, records_of}
 use Rattle.wu_engine.specs.Soundness.{IsRecord}
 use Rattle.wu_engine.specs.Stands.{HoldsTexts}
 use Rattle.wu_engine.specs.States.{State}
+use Rattle.wu_engine.specs.Units.{Indexes, TellsPostings}
 
 -- a record as it is kept, whose range ends below the greatest address
 pub record CanBeRead (file : ℕ × FileRec) : Type 0 where
@@ -99,3 +104,10 @@ pub record IsCause (Broken : ℕ → Type 0) (before now : ℕ) (trouble : Troub
 pub record KeepsTexts (files : Records) (holds : Option Content) (s : State) : Type 0 where
   pub records : files ≡ records_of s.texts s.layout.files
   pub texts : HoldsTexts holds s.texts s.layout.files
+
+-- They are texts of these files. Where frames, postings and texts are a state's, they are those of the files of which a line is shown.
+pub record AreTextsOf (frames : Frames) (contents : Contents) (files : Records) (holds : Option Content) (question : Question)
+    (texts : List ReadRange) : Type 0 where
+  pub are : AreTexts files question texts
+  pub shown : (live : Ranges) (s : State) (uid : ℕ) → Indexes frames live s uid → TellsPostings contents holds s → KeepsTexts files holds s
+      → texts ≡ texts_read s uid question

@@ -1,5 +1,5 @@
 -- What an event that is accepted makes of addresses, postings, records and blobs.
-use Rattle.std.specs.Prelude.{◌≡◌, ℕ, ◌+◌, ◌≤◌, ◌==◌, Bool, false, if◌then◌else◌, List, [], ◌∷◌, ◌++◌, length, Option, None, Some, IfSome, IsSome}
+use Rattle.std.specs.Prelude.{◌≡◌, ◌⊎◌, ℕ, ◌+◌, ◌≤◌, ◌==◌, nat_le, map, option_map, Bool, true, false, if◌then◌else◌, List, [], ◌∷◌, ◌++◌, length, Option, None, Some, IfSome, IsSome}
 use Rattle.std.specs.Ordering.{nat_cmp}
 use Rattle.std.specs.Map.{lookup, remove_entry}
 use Rattle.std.specs.BTreeMap.{is_at, insert_entry}
@@ -8,8 +8,11 @@ use Rattle.wu_outside.specs.Content.{Content, with_blob}
 use Rattle.wu_token.specs.Words.{has_bytes}
 use Rattle.wu_token.specs.Tokens.{tokens_of}
 use Rattle.wu_tree.specs.declared.events.Effect.{Effect}
-use Rattle.wu_space.specs.Addresses.{Addresses, placed, range_of, released}
+use Rattle.wu_layout.specs.Postings.{Posting, live_of}
+use Rattle.wu_space.specs.Addresses.{Addresses, Ranges, placed, range_of, released}
 use Rattle.wu_parts.specs.Contents.{Contents}
+use Rattle.wu_parts.specs.Flushing.{EmptiesMemory, Flushes, Told}
+use Rattle.wu_parts.specs.Memory.{Gains, HasPostings}
 use Rattle.wu_image.specs.declared.records.FileRec.{FileRec}
 use Rattle.wu_engine.specs.Records.{Records}
 
@@ -138,3 +141,32 @@ pub record IsIndexable (effect : Effect) (text : List ℕ) (space : Addresses) (
   pub short : length text ≤ TEXT_MAX
   pub below : parts.memory.end ≤ space.next
   pub room : space.next + length (terms_after effect text) ≤ ADDRESSES_MAX
+
+-- ---- a flush that follows
+
+-- such a flush was done, where memory was full
+abbrev pub FlushesIfFull : Bool → List Posting → Contents → Contents → Told → Told → Type 0
+FlushesIfFull true live old new before after = Flushes live old new before after
+FlushesIfFull false live old new before after = (new ≡ old) × (after ≡ before)
+
+-- The live postings in memory became a part, where memory was full, and else all is as it was.
+pub record FlushesFull (ranges : Ranges) (old new : Contents) (before after : Told) : Type 0 where
+  pub postings : (low high : ℕ) (postings : List Posting) → HasPostings low high old.memory postings
+      → FlushesIfFull (nat_le old.flush_at old.memory.stored) (live_of (map (λ file. file.1) ranges) postings) old new before after
+  pub changes : (new ≡ old) ⊎ EmptiesMemory old new
+
+-- What was done after an event with that effect: the text was put into a blob, addresses, postings and records were changed, and then
+-- memory was flushed, where it was full.
+pub record Follows (effect : Effect) (text : List ℕ) (space space_now : Addresses) (files files_now : Records)
+    (parts parts_now : Contents) (before after : Told) : Type 0 where
+  pub blob : ℕ
+  -- between the changes and the flush
+  pub indexed : Contents
+  pub between : Told
+  pub drawn : blob ≡ blob_for effect.texted text parts.next_blob
+  pub stored : between.0 ≡ option_map (stored_at parts.next_blob effect.texted text) before.0
+  pub catalog : catalog_of space_now files_now indexed
+      ≡ catalog_after effect text blob (catalog_of space files (drawn_for effect.texted text parts))
+  pub gained : Gains space.next (terms_after effect text) parts.memory indexed.memory
+  pub others : KeepsParts (drawn_for effect.texted text parts) indexed
+  pub flushed : FlushesFull space_now.ranges indexed parts_now between after

@@ -5,6 +5,7 @@ pub mod View
 pub mod Hits
 pub mod Rankings
 pub mod Answer
+pub mod Asked
 pub mod Reads
 pub mod Records
 pub mod Soundness

@@ -1,13 +1,25 @@
--- Which ranges of the store a query reads: the texts of the files of which a line is shown, and nothing else.
-use Rattle.std.specs.Prelude.{◌≡◌, ⊤, ℕ, ◌-◌, ◌==◌, nat_lt, min, List, [], ◌∷◌, ◌++◌, length, Option, None, Some, if◌then◌else◌}
+-- Which ranges of the store a query reads: blocks of its terms, and then the texts of the files of which a line is shown.
+use Rattle.std.specs.Prelude.{◌≡◌, ⊤, ℕ, ◌-◌, ◌==◌, nat_lt, min, List, [], ◌∷◌, ◌++◌, length, Option, None, Some, option_map, if◌then◌else◌}
+use Rattle.std.specs.List.{AllByRecursion}
 use Rattle.wu_outside.specs.declared.ranges.ReadRange.{ReadRange}
+use Rattle.wu_outside.specs.Content.{Content}
+use Rattle.wu_layout.specs.Invariants.{SomeOf}
 use Rattle.wu_layout.specs.Layouts.{FileEntry, entry_of}
+use Rattle.wu_lists.specs.declared.blocks.Block.{Block}
+use Rattle.wu_lists.specs.Keeping.{Asks, Kept}
 use Rattle.wu_view.specs.declared.Seen.{Seen}
 use Rattle.wu_view.specs.Views.{view_of as files_of}
 use Rattle.wu_ask.specs.Questions.{Question, Counting, Finding, Ranking, ListingPaths}
+use Rattle.wu_tree.specs.FileSystems.{FileSystem}
+use Rattle.wu_space.specs.Addresses.{Ranges}
+use Rattle.wu_parts.specs.Contents.{Contents}
+use Rattle.wu_frames.specs.declared.Frames.{Frames}
+use Rattle.wu_frames.specs.UserFrames.{AreFrames}
+use Rattle.wu_engine.specs.Asked.{blocks_for, terms_asked}
 use Rattle.wu_engine.specs.States.{State, text_in}
 use Rattle.wu_engine.specs.View.{shown_of}
 use Rattle.wu_engine.specs.Hits.{hits_in}
+use Rattle.wu_engine.specs.Records.{Records}
 
 -- a text of so many bytes, whole, in one read; the empty text, which is in no blob, takes none
 abbrev pub whole_text : ℕ → ℕ → List ReadRange
@@ -29,7 +41,7 @@ texts_shown hits text lines [] = []
 texts_shown hits text lines (file ∷ files) =
     (if nat_lt 0 (min lines (hits file)) then text file else []) ++ texts_shown hits text (lines - hits file) files
 
--- what a query of that user reads
+-- the texts that a query of that user reads
 unfoldable pub texts_read : State → ℕ → Question → List ReadRange
 texts_read s uid (Counting region) = []
 texts_read s uid (Finding k region) =
@@ -43,3 +55,29 @@ ShowsNoText (Counting region) = ⊤
 ShowsNoText (Finding k region) = k ≡ 0
 ShowsNoText (Ranking k unit words) = ⊤
 ShowsNoText ListingPaths = ⊤
+
+-- the range is all of the recorded text of one of the files
+abbrev pub IsTextOf : Records → ReadRange → Type 0
+IsTextOf files range = SomeOf (λ file. whole_text file.1.blob file.1.len ≡ range ∷ []) files
+
+-- texts of files, and none where the question has none shown
+pub record AreTexts (files : Records) (question : Question) (texts : List ReadRange) : Type 0 where
+  pub of_files : AllByRecursion (IsTextOf files) texts
+  pub none : ShowsNoText question → texts ≡ []
+
+-- The blocks were asked for in turn, so that those that weren't kept were read, and then such texts were read.
+pub record ReadsInTurn (blocks : List Block) (Texts : List ReadRange → Type 0) (holds : Option Content) (old new : Kept)
+    (before after : Option (List ReadRange)) : Type 0 where
+  pub between : Option (List ReadRange)
+  pub asks : Asks blocks holds old new before between
+  pub texts : List ReadRange
+  pub are : Texts texts
+  pub read : after ≡ option_map (λ ranges. ranges ++ texts) between
+
+-- What a query of a user reads: with her frames, for that tree and those live ranges, the blocks of the terms that it asks for, and
+-- then such texts.
+pub record ReadsForQuery (fs : FileSystem) (live : Ranges) (uid : ℕ) (question : Question) (contents : Contents) (kept : Kept)
+    (Texts : List ReadRange → Type 0) (holds : Option Content) (before after : Option (List ReadRange)) : Type 0 where
+  pub frames : Frames
+  pub hers : AreFrames fs live uid frames
+  pub reads : ReadsInTurn (blocks_for contents frames.ranges (terms_asked question)) Texts holds contents.kept kept before after

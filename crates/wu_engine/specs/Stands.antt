@@ -1,39 +1,42 @@
 -- How an engine and its store stand for a state, and what it answers to an event.
-use Rattle.std.specs.Prelude.{◌≡◌, ℕ, ◌<◌, Bool, false, List, [], length, Option, None, Some, IfSome, Result, Ok, Err}
+use Rattle.std.specs.Prelude.{◌≡◌, ◌⊎◌, ⊤, ℕ, ◌+◌, ◌<◌, ◌≤◌, Bool, true, false, not, ◌&&◌, nat_lt, List, [], length, Option, None, Some, IfSome, Result, Ok, Err}
+use Rattle.std.specs.List.{AllByRecursion}
 use Rattle.wu_outside.specs.Content.{Content}
 use Rattle.wu_layout.specs.Layouts.{FileEntry, entry_of, ranges_by_number}
 use Rattle.wu_layout.specs.Postings.{addresses_of}
 use Rattle.wu_token.specs.Words.{has_bytes}
 use Rattle.wu_token.specs.Tokens.{tokens_of}
+use Rattle.wu_tree.specs.FileSystems.{FileSystem}
 use Rattle.wu_tree.specs.declared.events.Event.{Event}
 use Rattle.wu_tree.specs.declared.events.Event.TheVariants.{Create, Text}
 use Rattle.wu_tree.specs.declared.events.Refusal.{Refusal}
+use Rattle.wu_space.specs.Addresses.{Addresses}
+use Rattle.wu_lists.specs.Keeping.{AreHeld, Kept}
+use Rattle.wu_parts.specs.Contents.{Contents}
+use Rattle.wu_parts.specs.Holdings.{HoldParts}
 use Rattle.wu_parts.specs.Memory.{held}
 use Rattle.wu_engine.specs.declared.engines.Engine.{Engine}
 use Rattle.wu_engine.specs.declared.verdicts.Verdict.{Verdict}
 use Rattle.wu_engine.specs.declared.verdicts.Verdict.TheVariants.{Made, Refused}
 use Rattle.wu_engine.specs.States.{State, Texts, IsState, text_in}
-use Rattle.wu_engine.specs.Records.{records_of}
+use Rattle.wu_engine.specs.Records.{Records, records_of}
 
--- The engine goes on, and each of its parts tells the state's. It keeps no text, only where each is.
-pub record IsEngineOf (engine : Engine) (s : State) : Type 0 where
+-- Each part of an engine tells the state's. It keeps no text, only where each is.
+pub record IsEngineOf (fs : FileSystem) (addresses : Addresses) (contents : Contents) (records : Records) (s : State) : Type 0 where
   pub is_state : IsState s
-  pub goes_on : engine.ended ≡ None
-  pub tree : engine.tree ≡ s.tree
-  pub next : engine.space.next ≡ s.layout.next
+  pub tree : fs ≡ s.tree
+  pub next : addresses.next ≡ s.layout.next
   -- the live ranges, by number
-  pub live : engine.space.ranges ≡ ranges_by_number s.layout.files
+  pub live : addresses.ranges ≡ ranges_by_number s.layout.files
   -- the files' texts: how long each is, and in which blob
-  pub files : engine.files.entries ≡ records_of s.texts s.layout.files
-  pub next_blob : engine.parts.next_blob ≡ s.layout.blob
-  pub stale : engine.parts.stale ≡ s.layout.stale
+  pub files : records ≡ records_of s.texts s.layout.files
+  pub next_blob : contents.next_blob ≡ s.layout.blob
+  pub stale : contents.stale ≡ s.layout.stale
   -- where each term stands in memory
-  pub memory : (term : List ℕ) → held engine.parts.memory term ≡ addresses_of term s.layout.memory
-  pub stored : engine.parts.memory.stored ≡ length s.layout.memory
-  -- all postings are in memory: there is no part yet, and no job
-  pub flushes : engine.parts.flushes ≡ s.layout.flushes
-  pub parts : engine.parts.parts ≡ []
-  pub no_parts : s.layout.parts ≡ []
+  pub memory : (term : List ℕ) → held contents.memory term ≡ addresses_of term s.layout.memory
+  pub stored : contents.memory.stored ≡ length s.layout.memory
+  pub flushes : contents.flushes ≡ s.layout.flushes
+  -- there is no background work yet
   pub no_job : s.layout.job ≡ None
 
 -- the store tells what it holds, and that is the text of each file, under the blob that the layout has for it; the empty text is in
@@ -43,10 +46,19 @@ HoldsTexts None texts files = ⊥
 HoldsTexts (Some content) texts files =
     (ino : ℕ) → IfSome (entry_of files ino) (λ entry. 0 < entry.blob → content.blobs entry.blob ≡ Some (text_in texts ino))
 
--- Engine and store stand for the state: the engine tells its tree and its index, and the store, which tells what it holds, its texts.
+-- Each kept block was read of a blob that was drawn, and is what the content has at its place.
+pub record KeepsBlocks (content : Content) (next_blob : ℕ) (kept : Kept) : Type 0 where
+  pub below : AllByRecursion (λ entry. entry.0.blob < next_blob) kept.entries
+  pub same : (blob : ℕ) (bytes : List ℕ) → content.blobs blob ≡ Some bytes → AreHeld blob bytes kept
+
+-- Engine and store stand for the state: the engine goes on and tells its tree and its index, and the store, which tells what it holds,
+-- has its texts and its parts, with their directories and kept blocks in the engine.
 pub record Stands (engine : Engine) (holds : Option Content) (s : State) : Type 0 where
-  pub index : IsEngineOf engine s
+  pub goes_on : engine.ended ≡ None
+  pub index : IsEngineOf engine.tree engine.space engine.parts engine.files.entries s
   pub texts : HoldsTexts holds s.texts s.layout.files
+  pub parts : IfSome holds (λ content. HoldParts content engine.parts.parts engine.parts.directories s.layout.parts)
+  pub kept : IfSome holds (λ content. KeepsBlocks content s.layout.blob engine.parts.kept)
 
 -- how many addresses an event takes, where it is accepted
 abbrev pub taken_by : Event → List ℕ → ℕ
@@ -63,3 +75,17 @@ verdict_of (Err refusal) = Refused refusal
 abbrev pub gives_text : Verdict → Event → List ℕ → Bool
 gives_text Made (Text ino) text = has_bytes text
 gives_text verdict event text = false
+
+-- whether such an answer leaves the store alone: no text is given that the store keeps, and memory isn't full then
+abbrev pub leaves_store : Verdict → Event → List ℕ → Contents → Bool
+leaves_store Made event text contents =
+    not (gives_text Made event text) && nat_lt (contents.memory.stored + taken_by event text) contents.flush_at
+leaves_store (Refused refusal) event text contents = true
+
+-- The store tells as much as before, and has what it had, but maybe for blobs from the low number on and below the high one.
+abbrev pub KeepsOthers : ℕ → ℕ → Option Content → Option Content → Type 0
+KeepsOthers low high None None = ⊤
+KeepsOthers low high None (Some after) = ⊥
+KeepsOthers low high (Some before) None = ⊥
+KeepsOthers low high (Some before) (Some after) =
+    ((blob : ℕ) → (blob < low) ⊎ (high ≤ blob) → after.blobs blob ≡ before.blobs blob) × (after.root ≡ before.root)

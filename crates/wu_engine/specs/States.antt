@@ -1,6 +1,5 @@
 -- The state: a file tree, the texts of its files, and the layout of the index over them.
 use Rattle.std.specs.Prelude.{◌≡◌, ℕ, ◌≤◌, Bool, List, [], length, Option, Some, None, Result, Ok, Err, is_some, unwrap_or}
-use Rattle.std.specs.Result.{result_unwrap_or}
 use Rattle.std.specs.Ordering.{nat_cmp}
 use Rattle.std.specs.List.Sorted.{IsStrictlySortedBy}
 use Rattle.std.specs.Map.{keys_of, lookup, remove_entry}
@@ -8,7 +7,7 @@ use Rattle.std.specs.BTreeMap.{is_at, insert_entry}
 use Rattle.wu_base.specs.declared.limits.TheConstants.{TEXT_MAX}
 use Rattle.wu_layout.specs.Layouts.{Text, Layout, first_layout}
 use Rattle.wu_layout.specs.Invariants.{IsLayoutOf}
-use Rattle.wu_layout.specs.Steps.{release, place}
+use Rattle.wu_layout.specs.Steps.{release, place, flush, flush_if_full}
 use Rattle.wu_token.specs.Words.{has_bytes}
 use Rattle.wu_token.specs.Tokens.{tokens_of}
 use Rattle.wu_tree.specs.Rules.{IsTree}
@@ -80,13 +79,28 @@ stepped text s (Ok (tree, effect)) = Ok (record {
 })
 stepped text s (Err refusal) = Err refusal
 
--- what an event makes of a state, where `text` is the text that it gives, or why it is refused
+-- what an event makes of a state before a flush, where `text` is the text that it gives, or why it is refused
 unfoldable pub step : State → Event → List ℕ → Result State Refusal
 step s event text = stepped text s (tree_step s.tree event)
 
--- the state after an event, which is the one before where it is refused
-abbrev pub after_event : State → Event → List ℕ → State
-after_event s event text = result_unwrap_or (step s event text) s
+-- ---- flushes
+
+-- the state whose live postings in memory became a part
+abbrev pub flushed_state : State → State
+flushed_state s = record s { layout = flush s.layout }
+
+-- the same, where memory has as many postings as that or more
+abbrev pub flushed_if_full : ℕ → State → State
+flushed_if_full flush_at s = record s { layout = flush_if_full flush_at s.layout }
+
+-- after an accepted event a flush follows, where memory then has as many postings as that or more; a refused one changes nothing
+abbrev pub followed : ℕ → State → Result State Refusal → State
+followed flush_at s (Ok after) = flushed_if_full flush_at after
+followed flush_at s (Err refusal) = s
+
+-- the state after an event, where memory is full at so many postings
+abbrev pub after_event : ℕ → State → Event → List ℕ → State
+after_event flush_at s event text = followed flush_at s (step s event text)
 
 -- no text is longer than a text may be
 abbrev pub AreShort : Texts → Type 0

@@ -1,26 +1,36 @@
 -- A search over a user's frames: where terms stand in them, the extents of an expression with the places of their files, and how
 -- frames and postings stand for the user's view.
-use Rattle.std.specs.Prelude.{◌≡◌, ℕ, suc, ◌+◌, ◌-◌, ◌<◌, ◌≤◌, ◌^◌, List, [], ◌∷◌, ◌++◌, length, map, filter, take, drop, nat_lt, Contains, if◌then◌else◌, slice_get, option_and_then, unwrap_or}
-use Rattle.std.specs.List.{All, AllByRecursion, flat_map}
+use Rattle.std.specs.Prelude.{◌≡◌, ℕ, suc, ◌+◌, ◌-◌, ◌<◌, ◌≤◌, ◌^◌, List, [], ◌∷◌, ◌++◌, length, map, take, drop, nat_eq, nat_lt, true, find, option_map, if◌then◌else◌, slice_get, option_and_then, unwrap_or, zip, Option, IfSome, IsSome}
+use Rattle.std.specs.List.{All, AllByRecursion, flat_map, list_any}
+use Rattle.std.specs.Cmp.Lexicographic.{pointwise}
+use Rattle.std.specs.Map.{keys_of}
 use Rattle.wu_base.specs.declared.addresses.Extent.{Extent}
 use Rattle.wu_base.specs.declared.addresses.Range.{Range}
 use Rattle.wu_base.specs.declared.addresses.TermList.{TermList}
 use Rattle.wu_base.specs.declared.limits.TheConstants.{ADDRESSES_MAX}
-use Rattle.wu_layout.specs.Layouts.{ranges_by_number}
-use Rattle.wu_layout.specs.Postings.{addresses_of, is_live}
+use Rattle.wu_base.specs.declared.troubles.Trouble.{Trouble}
+use Rattle.wu_outside.specs.Content.{Content}
+use Rattle.wu_outside.specs.declared.ranges.ReadRange.{ReadRange}
+use Rattle.wu_layout.specs.Layouts.{postings_of, ranges_by_number}
+use Rattle.wu_layout.specs.Postings.{addresses_of, fetched}
 use Rattle.wu_gcl.specs.Regions.{Region}
-use Rattle.wu_gcl.specs.Terms.{terms_in}
 use Rattle.wu_view.specs.declared.Seen.{Seen}
 use Rattle.wu_rank.specs.declared.results.Unit.{Unit as RankedUnit}
 use Rattle.wu_rank.specs.declared.results.Ranked.{Ranked}
 use Rattle.wu_rank.specs.Scores.{length_of}
 use Rattle.wu_solve.specs.Solving.{frame_hits}
 use Rattle.wu_space.specs.Addresses.{Ranges, AreApart, range_of}
-use Rattle.wu_parts.specs.Memory.{Memory, held}
+use Rattle.wu_lists.specs.Keeping.{all_missing}
+use Rattle.wu_parts.specs.Causes.{IsFetchCause}
+use Rattle.wu_parts.specs.Contents.{Contents}
+use Rattle.wu_parts.specs.Holdings.{HoldParts}
+use Rattle.wu_parts.specs.Memory.{held}
 use Rattle.wu_frames.specs.declared.Frame.{Frame}
 use Rattle.wu_frames.specs.declared.Frames.{Frames}
 use Rattle.wu_frames.specs.UserFrames.{AreFrames}
+use Rattle.wu_engine.specs.Asked.{blocks_for}
 use Rattle.wu_engine.specs.Rankings.{unit_at}
+use Rattle.wu_engine.specs.Stands.{KeepsBlocks}
 use Rattle.wu_engine.specs.States.{State, IsState}
 
 -- What a search asks of frames: they lie apart, by address, and below the greatest address, and each is shorter than a ranking may
@@ -33,13 +43,22 @@ pub record CanBeSearched (frames : Frames) : Type 0 where
 
 -- ---- terms
 
--- where a term stands in the frames: the addresses at which memory has it, of those that are in one of them
-abbrev pub found_in : List Range → Memory → List ℕ → List ℕ
-found_in ranges memory term = filter (is_live ranges) (held memory term)
+-- where a term stands in the frames: the addresses that it has in the state, in parts and in memory, of those that are in one of them
+abbrev pub found_in : List Range → State → List ℕ → List ℕ
+found_in ranges s term = fetched ranges (postings_of s.layout.parts s.layout.memory) term
 
 -- the term's list, where a function tells the addresses of each term
 abbrev pub list_at : (List ℕ → List ℕ) → List ℕ → TermList
 list_at addresses term = record { term = term; at = addresses term }
+
+-- the word is one of the terms
+abbrev pub IsAmong : List (List ℕ) → List ℕ → Type 0
+IsAmong terms word = list_any (pointwise nat_eq word) terms ≡ true
+
+-- the list of the word, with the addresses that the first list of its term has; none where there is no such list
+abbrev pub list_in : List TermList → List ℕ → TermList
+list_in lists word =
+    record { term = word; at = unwrap_or (option_map (λ list. list.at) (find (λ list. pointwise nat_eq word list.term) lists)) [] }
 
 -- ---- units
 
@@ -62,11 +81,9 @@ placed (frame ∷ frames) xs = map (unit_at frame.place) (take (count_before (en
 abbrev pub units_in : Region → List TermList → List Frame → List RankedUnit
 units_in region lists frames = flat_map (λ frame. map (unit_at frame.place) (frame_hits region lists frame.range)) frames
 
--- the units of the expression in the frames, at addresses, by the lists of its terms and maybe others
-pub record AreUnits (region : Region) (frames : Frames) (memory : Memory) (units : List RankedUnit) : Type 0 where
-  pub terms : List (List ℕ)
-  pub all : (term : List ℕ) → Contains (terms_in region) term → Contains terms term
-  pub are : units ≡ units_in region (map (list_at (found_in frames.ranges memory)) terms) frames.by_address
+-- the units of the expression in the frames, at addresses, by these lists
+pub record AreUnits (region : Region) (frames : Frames) (lists : List TermList) (units : List RankedUnit) : Type 0 where
+  pub are : units ≡ units_in region lists frames.by_address
   -- they can be ranked
   pub some : All (λ unit. 1 ≤ length_of unit.extent) units
   pub short : All (λ unit. length_of unit.extent < 2 ^ 26) units
@@ -96,14 +113,28 @@ in_its_file live view ranked = unshifted (λ place. (range_at live view place).s
 
 -- ---- the state
 
--- The live ranges and the postings in memory are those of the state, which has no others.
-pub record IsIndexOf (live : Ranges) (memory : Memory) (s : State) : Type 0 where
+-- The live ranges are those of the state.
+pub record IsIndexOf (live : Ranges) (s : State) : Type 0 where
   pub is_state : IsState s
   pub ranges : live ≡ ranges_by_number s.layout.files
-  pub postings : (term : List ℕ) → held memory term ≡ addresses_of term s.layout.memory
-  pub no_parts : s.layout.parts ≡ []
 
 -- And these are the user's frames in it.
-pub record Indexes (frames : Frames) (live : Ranges) (memory : Memory) (s : State) (uid : ℕ) : Type 0 where
-  pub index : IsIndexOf live memory s
+pub record Indexes (frames : Frames) (live : Ranges) (s : State) (uid : ℕ) : Type 0 where
+  pub index : IsIndexOf live s
   pub hers : AreFrames s.tree live uid frames
+
+-- The postings of the state are in memory and in the parts that the store holds, of which blocks are kept.
+pub record TellsPostings (contents : Contents) (holds : Option Content) (s : State) : Type 0 where
+  pub is_state : IsState s
+  pub memory : (term : List ℕ) → held contents.memory term ≡ addresses_of term s.layout.memory
+  pub told : IsSome holds
+  pub parts : IfSome holds (λ content. HoldParts content contents.parts contents.directories s.layout.parts)
+  pub kept : IfSome holds (λ content. KeepsBlocks content s.layout.blob contents.kept)
+
+-- Why fetching these terms fails: of the blocks that frames need of them and that weren't kept, the first ones were read.
+abbrev pub IsCauseFor : Contents → List Range → List (List ℕ) → Option Content → ℕ → ℕ → Option (List ReadRange) → Option (List ReadRange)
+    → Trouble → Type 0
+IsCauseFor contents frames terms holds before now ranges ranges_now trouble =
+    IsFetchCause (zip contents.parts contents.directories)
+    (all_missing contents.kept.cap (keys_of contents.kept.entries) (blocks_for contents frames terms))
+    holds before now ranges ranges_now trouble

@@ -1,35 +1,47 @@
 //! How many extents an expression has over a user's frames.
-ghost use Rattle.std.specs.Prelude.{◌≡◌, ℕ, IfOk};
+ghost use Rattle.std.specs.Prelude.{◌≡◌, ℕ, IfOk, IfErr, OnOk};
 ghost use Rattle.wu_ask.specs.Questions.{Counting};
 ghost use Rattle.wu_gcl.specs.Regions.{region_of};
+ghost use Rattle.wu_lists.specs.Keeping.{Asks};
 ghost use Rattle.wu_space.specs.Addresses.{Ranges};
 ghost use Rattle.wu_engine.specs.Answer.{answer};
+ghost use Rattle.wu_engine.specs.Asked.{blocks_for, terms_of as named_in};
 ghost use Rattle.wu_engine.specs.States.{State};
-ghost use Rattle.wu_engine.specs.Units.{CanBeSearched, Indexes};
+ghost use Rattle.wu_engine.specs.Units.{CanBeSearched, Indexes, IsCauseFor, TellsPostings};
 ghost use Rattle.wu_engine.specs.View.{view_of};
 
 use crate::fetching::lists_of;
 use std::alloc::Global;
 use wu_ask::Answered;
-use wu_base::NoMemory;
+use wu_base::Trouble;
 use wu_frames::Frames;
 use wu_gcl::{Expr, terms_of};
+use wu_outside::Store;
 use wu_parts::Parts;
 use wu_solve::count as counts_in;
 
 /// How many extents the expression has over the user's view, and in how many of its files.
-pub fn count(
+pub fn count<D: Store>(
     alloc: Global,
+    store: &mut D,
     frames: &Frames,
-    parts: &Parts,
+    parts: &mut Parts,
     expr: &Expr,
-) -> Result<Answered, NoMemory>
+) -> Result<Answered, Trouble>
     requires { CanBeSearched frames.now }
-    ensures { IfOk result (λ answered. (live : Ranges) (s : State) (uid : ℕ) → Indexes frames.now live parts.now.memory s uid
-        → answered ≡ answer (view_of s uid) (Counting (region_of expr.now))) }
+    ensures answer { IfOk result (λ answered. (live : Ranges) (s : State) (uid : ℕ) → Indexes frames.now live s uid
+        → TellsPostings parts.old (D.holds store.old) s → answered ≡ answer (view_of s uid) (Counting (region_of expr.now))) }
+    ensures blocks { OnOk result (Asks (blocks_for parts.old frames.now.ranges (named_in (region_of expr.now))) (D.holds store.old)
+        parts.old.kept parts.new.kept (D.reads store.old) (D.reads store.new)) }
+    ensures others { parts.new ≡ record parts.old { kept = parts.new.kept } }
+    ensures holds { D.holds store.new ≡ D.holds store.old }
+    ensures calm { OnOk result (D.faults store.new ≡ D.faults store.old) }
+    ensures cause { IfErr result (IsCauseFor parts.old frames.now.ranges (named_in (region_of expr.now)) (D.holds store.old)
+        (D.faults store.old) (D.faults store.new) (D.reads store.old) (D.reads store.new)) }
 {
+    let _untouched = &*store;
     let terms = terms_of(alloc, expr)?;
-    let lists = lists_of(alloc, &terms, frames, parts)?;
+    let lists = lists_of(alloc, store, &terms, frames, parts)?;
     let counts = counts_in(alloc, expr, frames.ranges.as_slice(), &lists)?;
     Ok(Answered::Count {
         hits: counts.hits,

@@ -1,8 +1,9 @@
 //! The engine, and how it begins.
-ghost use Rattle.std.specs.Prelude.{◌≡◌, ◌⊎◌, ℕ, List, ◌+◌, ◌++◌, option_map, ◌<◌, ◌≤◌, ◌^◌, Option, None, Some, Err, false, length, IsSome, IfOk, IfErr, OnOk};
+ghost use Rattle.std.specs.Prelude.{◌≡◌, ◌⊎◌, ℕ, [], ◌+◌, ◌<◌, ◌≤◌, ◌^◌, None, Some, Err, true, length, IsSome, IfOk, IfErr, OnOk};
 ghost use Rattle.wu_base.specs.declared.limits.TheConstants.{ADDRESSES_MAX, TEXT_MAX};
 ghost use Rattle.wu_base.specs.declared.troubles.Trouble.TheVariants.{Damaged};
-ghost use Rattle.wu_outside.specs.Content.{MayDo, with_blob};
+ghost use Rattle.lru.specs.LruCache.{lru_cache};
+ghost use Rattle.wu_parts.specs.declared.parts.TheConstants.{BLOCKS_KEPT};
 ghost use Rattle.wu_ask.specs.Questions.{question_of, IsSoundAsk};
 ghost use Rattle.wu_tree.specs.Steps.{IsEvent};
 ghost use Rattle.wu_base.specs.declared.troubles.Trouble.{Trouble};
@@ -10,7 +11,7 @@ ghost use Rattle.std.specs.Coded.{→_prop};
 ghost use Rattle.wu_engine.specs.Soundness.{IsSound, IsSound-prop};
 
 use crate::querying::answered;
-use crate::updating::{index, store_text};
+use crate::updating::follow;
 use crate::verdicts::Verdict;
 use std::alloc::Global;
 use std::collections::BTreeMap;
@@ -41,12 +42,12 @@ pub struct Engine {
 }
 
 impl Engine {
-    ghost use Rattle.wu_engine.specs.States.{State, after_event, first_state, step};
-    ghost use Rattle.wu_engine.specs.Stands.{Stands, gives_text, taken_by, verdict_of};
-    ghost use Rattle.wu_engine.specs.Causes.{HasTroubleCause, IsDamagedAt};
+    ghost use Rattle.wu_engine.specs.States.{State, after_event, first_state, flushed_state, step};
+    ghost use Rattle.wu_engine.specs.Stands.{KeepsOthers, Stands, leaves_store, taken_by, verdict_of};
+    ghost use Rattle.wu_engine.specs.Causes.{HasTroubleCause, IsDamagedIn};
     ghost use Rattle.wu_engine.specs.View.{view_of};
     ghost use Rattle.wu_engine.specs.Answer.{answer};
-    ghost use Rattle.wu_engine.specs.Reads.{ShowsNoText, texts_read};
+    ghost use Rattle.wu_engine.specs.Reads.{AreTexts, ReadsForQuery, texts_read};
 
     /// An engine for the root directory alone, in which memory is full at `flush_at` postings. It makes no call
     /// of the store: whatever that holds, the session begins anew, and puts its blobs from number 1 on. The
@@ -56,6 +57,7 @@ impl Engine {
         ensures next { IfOk result (λ engine. engine.space.next ≡ 0) }
         ensures next_blob { IfOk result (λ engine. engine.parts.next_blob ≡ 1) }
         ensures flush_at { IfOk result (λ engine. engine.parts.flush_at ≡ flush_at) }
+        ensures kept { IfOk result (λ engine. engine.parts.kept ≡ lru_cache [] BLOCKS_KEPT) }
         ensures goes_on { IfOk result (λ engine. engine.ended ≡ None) }
         ensures store { store.new ≡ store.old }
     {
@@ -73,8 +75,9 @@ impl Engine {
 
     /// Applies an event, where `body` is the text that it gives to a file; other events give none. The event
     /// happens or is refused, and a refused event changes nothing. A text that isn't empty is put into the
-    /// store under the next blob's number; no other call of the store is made. The next address is at most
-    /// ADDRESSES_MAX after it.
+    /// store under the next blob's number. After an event that happened, memory is flushed where it is full:
+    /// its live postings become a part, which is put into the store under the number after that. No other call
+    /// of the store is made, and nothing is read. The next address is at most ADDRESSES_MAX after it.
     pub fn update<D: Store>(
         &mut self,
         store: &mut D,
@@ -84,20 +87,25 @@ impl Engine {
         requires event { IsEvent event.now }
         requires short { length body.now ≤ TEXT_MAX }
         requires room { self.old.space.next + taken_by event.now body.now ≤ ADDRESSES_MAX }
-        requires blobs { self.old.parts.next_blob < 2 ^ 63 }
+        requires blobs { self.old.parts.next_blob + 2 < 2 ^ 63 }
+        requires flushes { self.old.parts.flushes + 1 < 2 ^ 63 }
         // The answer is the step's, and engine and store stand for the state after it.
         ensures step { (s : State) → Stands self.old (D.holds store.old) s → IfOk result (λ verdict.
-            (verdict ≡ verdict_of (step s event.now body.now)) × Stands self.new (D.holds store.new) (after_event s event.now body.now)) }
+            (verdict ≡ verdict_of (step s event.now body.now))
+            × Stands self.new (D.holds store.new) (after_event self.old.parts.flush_at s event.now body.now)) }
         ensures taken { OnOk result (self.new.space.next ≤ self.old.space.next + taken_by event.now body.now) }
-        ensures drawn { OnOk result (self.new.parts.next_blob ≤ self.old.parts.next_blob + 1) }
+        ensures drawn { OnOk result (self.new.parts.next_blob ≤ self.old.parts.next_blob + 2) }
+        // Each flush that is counted drew a blob.
+        ensures counted { OnOk result
+            (self.new.parts.flushes + self.old.parts.next_blob ≤ self.old.parts.flushes + self.new.parts.next_blob) }
         ensures flush_at { OnOk result (self.new.parts.flush_at ≡ self.old.parts.flush_at) }
+        ensures kept { OnOk result (self.new.parts.kept ≡ self.old.parts.kept) }
 
-        // No call of the store is made, and no blob drawn, but for a text that isn't empty. What the store
-        // holds changes only at the blob that is drawn, also where the call fails.
-        ensures untouched { IfOk result (λ verdict. gives_text verdict event.now body.now ≡ false
+        // What the store holds changes only at the two blobs that may be drawn, also where the call fails. No call
+        // of the store is made but for a text that isn't empty and for a flush.
+        ensures untouched { IfOk result (λ verdict. leaves_store verdict event.now body.now self.old.parts ≡ true
             → (store.new ≡ store.old) × (self.new.parts.next_blob ≡ self.old.parts.next_blob)) }
-        ensures elsewhere { (written : Option (List ℕ))
-            × MayDo (with_blob self.old.parts.next_blob written) (D.holds store.old) (D.holds store.new) }
+        ensures elsewhere { KeepsOthers self.old.parts.next_blob (self.old.parts.next_blob + 2) (D.holds store.old) (D.holds store.new) }
         ensures reads { D.reads store.new ≡ D.reads store.old }
 
         ensures goes_on { OnOk result (self.new.ended ≡ None) }
@@ -117,25 +125,66 @@ impl Engine {
         match self.tree.apply(event)? {
             Ok(effect) => {
                 self.frames.clear();
-                let blob = match store_text(&mut self.parts, store, effect.texted, body) {
-                    Ok(blob) => blob,
-                    Err(fault) => return Err(self.end_with(Trouble::from(fault))),
-                };
-                index(
+                let followed = follow(
                     &mut self.space,
                     &mut self.parts,
                     &mut self.files,
+                    store,
                     effect,
                     body,
-                    blob,
-                )?;
-                self.ended = None;
-                Ok(Verdict::Made)
+                );
+                match followed {
+                    Ok(()) => {
+                        self.ended = None;
+                        Ok(Verdict::Made)
+                    }
+                    Err(trouble) => Err(self.end_with(trouble)),
+                }
             }
             Err(refusal) => {
                 self.ended = None;
                 Ok(Verdict::Refused(refusal))
             }
+        }
+    }
+
+    /// Makes a part of the live postings in memory, and puts it into the store under the next blob's number;
+    /// memory is empty then. Where no posting in memory is live no part is made, no blob is drawn and the store
+    /// is not touched. Nothing is read.
+    pub fn flush<D: Store>(&mut self, store: &mut D) -> Result<(), Trouble>
+        requires blobs { self.old.parts.next_blob + 1 < 2 ^ 63 }
+        requires flushes { self.old.parts.flushes + 1 < 2 ^ 63 }
+        ensures step { (s : State) → Stands self.old (D.holds store.old) s
+            → OnOk result (Stands self.new (D.holds store.new) (flushed_state s)) }
+        ensures space { self.new.space ≡ self.old.space }
+        ensures drawn { OnOk result (self.new.parts.next_blob ≤ self.old.parts.next_blob + 1) }
+        ensures counted { OnOk result
+            (self.new.parts.flushes + self.old.parts.next_blob ≤ self.old.parts.flushes + self.new.parts.next_blob) }
+        ensures flush_at { OnOk result (self.new.parts.flush_at ≡ self.old.parts.flush_at) }
+        ensures kept { OnOk result (self.new.parts.kept ≡ self.old.parts.kept) }
+
+        // What the store holds changes only at the blob that may be drawn, also where the call fails.
+        ensures elsewhere { KeepsOthers self.old.parts.next_blob (self.old.parts.next_blob + 1) (D.holds store.old) (D.holds store.new) }
+        ensures reads { D.reads store.new ≡ D.reads store.old }
+
+        ensures goes_on { OnOk result (self.new.ended ≡ None) }
+        ensures ends { IfErr result (λ trouble. self.new.ended ≡ Some trouble) }
+        ensures again { (trouble : Trouble) → self.old.ended ≡ Some trouble
+            → (result ≡ Err trouble) × (self.new ≡ self.old) × (store.new ≡ store.old) }
+        ensures cause { HasTroubleCause self.old.ended (D.faults store.old) (D.faults store.new) result }
+        ensures damaged { (blob : ℕ) → result ≡ Err (Damaged blob) → self.old.ended ≡ Some (Damaged blob) }
+    {
+        let _untouched = &*store;
+        if let Some(trouble) = self.ended {
+            return Err(trouble);
+        }
+        self.ended = Some(Trouble::NoMemory);
+        match self.parts.flush(store, &self.space) {
+            Ok(()) => {
+                self.ended = None;
+                Ok(())
+            }
+            Err(trouble) => Err(self.end_with(trouble)),
         }
     }
 
@@ -151,22 +200,24 @@ impl Engine {
     }
 
     /// Answers a user's query from the index: over her view alone, whatever other files there are. The store
-    /// is only read.
+    /// is only read: first those blocks of the query's terms that her frames need and that aren't kept, and
+    /// then, where a find shows lines, the texts of the files of which it shows one.
     pub fn query<D: Store>(&mut self, store: &mut D, query: &Query) -> Result<Answered, Trouble>
         requires { IsSoundAsk query.now.ask }
         // The answer is the written one over her view, and engine and store stand for the same state.
         ensures answer { (s : State) → Stands self.old (D.holds store.old) s → IfOk result (λ answered.
             (answered ≡ answer (view_of s query.now.uid) (question_of query.now.ask)) × Stands self.new (D.holds store.new) s) }
         ensures space { self.new.space ≡ self.old.space }
-        ensures flush_at { self.new.parts.flush_at ≡ self.old.parts.flush_at }
-        ensures next_blob { self.new.parts.next_blob ≡ self.old.parts.next_blob }
+        ensures parts { self.new.parts ≡ record self.old.parts { kept = self.new.parts.kept } }
 
         ensures holds { D.holds store.new ≡ D.holds store.old }
-        // Where a find shows lines, the texts of the files of which it shows one are read, each whole and once;
-        // nothing else is, and the other questions make no call of the store.
-        ensures reads { (s : State) → Stands self.old (D.holds store.old) s → OnOk result (D.reads store.new
-            ≡ option_map (λ ranges. ranges ++ texts_read s query.now.uid (question_of query.now.ask)) (D.reads store.old)) }
-        ensures unread { ShowsNoText (question_of query.now.ask) → store.new ≡ store.old }
+        // Her frames' blocks of the terms are asked for in turn, and then only texts of files are read. Where engine
+        // and store stand for a state, these are the texts of the files of which a line is shown, each whole.
+        ensures reads { OnOk result (ReadsForQuery self.old.tree self.old.space.ranges query.now.uid (question_of query.now.ask)
+            self.old.parts self.new.parts.kept
+            (λ texts. AreTexts self.old.files.entries (question_of query.now.ask) texts × ((s : State)
+            → Stands self.old (D.holds store.old) s → texts ≡ texts_read s query.now.uid (question_of query.now.ask)))
+            (D.holds store.old) (D.reads store.old) (D.reads store.new)) }
 
         ensures goes_on { OnOk result (self.new.ended ≡ None) }
         ensures ends { IfErr result (λ trouble. self.new.ended ≡ Some trouble) }
@@ -174,7 +225,7 @@ impl Engine {
             → (result ≡ Err trouble) × (self.new ≡ self.old) × (store.new ≡ store.old) }
         ensures cause { HasTroubleCause self.old.ended (D.faults store.old) (D.faults store.new) result }
         ensures damaged { (blob : ℕ) → result ≡ Err (Damaged blob)
-            → (self.old.ended ≡ Some (Damaged blob)) ⊎ IsDamagedAt self.old.files.entries (D.holds store.old) blob }
+            → (self.old.ended ≡ Some (Damaged blob)) ⊎ IsDamagedIn self.old.files.entries self.old.parts (D.holds store.old) blob }
     {
         let _untouched = &*store;
         if let Some(trouble) = self.ended {
@@ -186,7 +237,7 @@ impl Engine {
             store,
             &self.tree,
             &self.space,
-            &self.parts,
+            &mut self.parts,
             &self.files,
             &mut self.frames,
             query,

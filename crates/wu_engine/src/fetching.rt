@@ -1,37 +1,67 @@
 //! Where terms stand in a user's frames.
-ghost use Rattle.std.specs.Prelude.{◌≡◌, All, map, IfOk};
+ghost use Rattle.std.specs.Prelude.{◌≡◌, [], ◌∷◌, All, map, IfOk, IfErr, OnOk};
 ghost use Rattle.std.specs.List.Sorted.{IsStrictlyIncreasing};
-ghost use Rattle.wu_engine.specs.Units.{CanBeSearched, found_in, list_at};
+ghost use Rattle.wu_lists.specs.Keeping.{Asks};
+ghost use Rattle.wu_engine.specs.Asked.{blocks_for};
+ghost use Rattle.wu_engine.specs.States.{State};
+ghost use Rattle.wu_engine.specs.Units.{CanBeSearched, IsCauseFor, TellsPostings, found_in, list_at};
 
 use std::alloc::Global;
-use wu_base::{Bytes, NoMemory, TermList};
+use wu_base::{Bytes, TermList, Trouble};
 use wu_frames::Frames;
+use wu_outside::Store;
 use wu_parts::Parts;
 
-/// For each of the terms its addresses in the frames.
-pub fn lists_of(
+/// For each of the terms its addresses in the frames, those in parts and those in memory. The terms are asked
+/// for in turn.
+pub fn lists_of<D: Store>(
     alloc: Global,
+    store: &mut D,
     terms: &[Bytes],
     frames: &Frames,
-    parts: &Parts,
-) -> Result<Vec<TermList>, NoMemory>
+    parts: &mut Parts,
+) -> Result<Vec<TermList>, Trouble>
     requires { CanBeSearched frames.now }
-    ensures lists { IfOk result (λ lists. lists.items ≡ map (list_at (found_in frames.now.ranges parts.now.memory)) terms.now) }
+    ensures lists { IfOk result (λ lists. (s : State) → TellsPostings parts.old (D.holds store.old) s
+        → lists.items ≡ map (list_at (found_in frames.now.ranges s)) terms.now) }
+    ensures named { IfOk result (λ lists. map (λ list. list.term) lists.items ≡ terms.now) }
     ensures ascending { IfOk result (λ lists. All (λ list. IsStrictlyIncreasing list.at) lists.items) }
+    ensures blocks { OnOk result (Asks (blocks_for parts.old frames.now.ranges terms.now) (D.holds store.old)
+        parts.old.kept parts.new.kept (D.reads store.old) (D.reads store.new)) }
+    ensures others { parts.new ≡ record parts.old { kept = parts.new.kept } }
+    ensures holds { D.holds store.new ≡ D.holds store.old }
+    ensures calm { OnOk result (D.faults store.new ≡ D.faults store.old) }
+    ensures cause { IfErr result (IsCauseFor parts.old frames.now.ranges terms.now (D.holds store.old)
+        (D.faults store.old) (D.faults store.new) (D.reads store.old) (D.reads store.new)) }
 {
+    let _untouched = &*store;
     let mut lists = Vec::with_capacity(alloc, terms.len())?;
     for term in terms {
-        lists.push(list_of(term, frames, parts)?)?;
+        lists.push(list_of(store, term, frames, parts)?)?;
     }
     Ok(lists)
 }
 
-fn list_of(term: &Bytes, frames: &Frames, parts: &Parts) -> Result<TermList, NoMemory>
+fn list_of<D: Store>(
+    store: &mut D,
+    term: &Bytes,
+    frames: &Frames,
+    parts: &mut Parts,
+) -> Result<TermList, Trouble>
     requires { CanBeSearched frames.now }
-    ensures list { IfOk result (λ list. list ≡ list_at (found_in frames.now.ranges parts.now.memory) term.now) }
+    ensures list { IfOk result (λ list. (s : State) → TellsPostings parts.old (D.holds store.old) s
+        → list ≡ list_at (found_in frames.now.ranges s) term.now) }
+    ensures named { IfOk result (λ list. list.term ≡ term.now) }
     ensures ascending { IfOk result (λ list. IsStrictlyIncreasing list.at) }
+    ensures blocks { OnOk result (Asks (blocks_for parts.old frames.now.ranges (term.now ∷ [])) (D.holds store.old)
+        parts.old.kept parts.new.kept (D.reads store.old) (D.reads store.new)) }
+    ensures others { parts.new ≡ record parts.old { kept = parts.new.kept } }
+    ensures holds { D.holds store.new ≡ D.holds store.old }
+    ensures calm { OnOk result (D.faults store.new ≡ D.faults store.old) }
+    ensures cause { IfErr result (IsCauseFor parts.old frames.now.ranges (term.now ∷ []) (D.holds store.old)
+        (D.faults store.old) (D.faults store.new) (D.reads store.old) (D.reads store.new)) }
 {
-    let at = parts.fetch_memory(term.as_slice(), frames.ranges.as_slice())?;
+    let at = parts.fetch(store, term.as_slice(), frames.ranges.as_slice())?;
     Ok(TermList {
         term: term.clone()?,
         at,

@@ -8,11 +8,12 @@ ghost use Rattle.wu_snip.specs.Snippets.{IsAscending, IsWithin, snippet_of};
 ghost use Rattle.wu_solve.specs.Addresses.{AreLists};
 ghost use Rattle.wu_space.specs.Addresses.{Ranges};
 ghost use Rattle.wu_engine.specs.Answer.{answer, found_line};
-ghost use Rattle.wu_engine.specs.Causes.{IsDamagedAt};
-ghost use Rattle.wu_engine.specs.Finding.{CanBeRead, IsBelow, IsBrokenIn, IsCause, KeepsTexts, counted_from, extents_of, hits_at, lines_at, lines_of_record, text_at};
-ghost use Rattle.wu_engine.specs.Reads.{texts_read, texts_shown, whole_text};
+ghost use Rattle.wu_engine.specs.Asked.{blocks_for, terms_of as named_in};
+ghost use Rattle.wu_engine.specs.Causes.{IsDamagedAt, IsDamagedIn};
+ghost use Rattle.wu_engine.specs.Finding.{AreTextsOf, CanBeRead, IsBelow, IsBrokenIn, IsCause, KeepsTexts, counted_from, extents_of, hits_at, lines_at, lines_of_record, text_at};
+ghost use Rattle.wu_engine.specs.Reads.{ReadsInTurn, texts_shown, whole_text};
 ghost use Rattle.wu_engine.specs.States.{State};
-ghost use Rattle.wu_engine.specs.Units.{CanBeSearched, Indexes};
+ghost use Rattle.wu_engine.specs.Units.{CanBeSearched, Indexes, TellsPostings};
 ghost use Rattle.wu_engine.specs.View.{view_of};
 
 use crate::fetching::lists_of;
@@ -32,30 +33,33 @@ use wu_solve::{count, solve};
 use wu_view::Seen;
 
 /// How many extents the expression has over the user's view, in how many of its files, and the first `k` of
-/// them with their lines. Of the store only the texts of the files are read of which a line is shown.
+/// them with their lines. Of texts in the store only those of the files are read of which a line is shown.
 pub fn find<D: Store>(
     alloc: Global,
     store: &mut D,
     frames: &Frames,
-    parts: &Parts,
+    parts: &mut Parts,
     files: &BTreeMap<Ino, FileRec>,
     k: u32,
     expr: &Expr,
 ) -> Result<Answered, Trouble>
     requires fit { CanBeSearched frames.now }
     requires records { AllByRecursion CanBeRead files.now.entries }
-    ensures answer { IfOk result (λ answered. (live : Ranges) (s : State) (uid : ℕ) → Indexes frames.now live parts.now.memory s uid
-        → KeepsTexts files.now.entries (D.holds store.old) s → answered ≡ answer (view_of s uid) (AskedFinding k (region_of expr.now))) }
+    ensures answer { IfOk result (λ answered. (live : Ranges) (s : State) (uid : ℕ) → Indexes frames.now live s uid
+        → TellsPostings parts.old (D.holds store.old) s → KeepsTexts files.now.entries (D.holds store.old) s
+        → answered ≡ answer (view_of s uid) (AskedFinding k (region_of expr.now))) }
+    ensures reads { OnOk result (ReadsInTurn (blocks_for parts.old frames.now.ranges (named_in (region_of expr.now)))
+        (AreTextsOf frames.now parts.old files.now.entries (D.holds store.old) (AskedFinding k (region_of expr.now)))
+        (D.holds store.old) parts.old.kept parts.new.kept (D.reads store.old) (D.reads store.new)) }
+    ensures others { parts.new ≡ record parts.old { kept = parts.new.kept } }
     ensures holds { D.holds store.new ≡ D.holds store.old }
-    ensures reads { OnOk result ((live : Ranges) (s : State) (uid : ℕ) → Indexes frames.now live parts.now.memory s uid
-        → KeepsTexts files.now.entries (D.holds store.old) s
-        → D.reads store.new ≡ option_map (λ ranges. ranges ++ texts_read s uid (AskedFinding k (region_of expr.now))) (D.reads store.old)) }
-    ensures none { k ≡ 0 → store.new ≡ store.old }
     ensures calm { OnOk result (D.faults store.new ≡ D.faults store.old) }
-    ensures cause { IfErr result (IsCause (IsDamagedAt files.now.entries (D.holds store.old)) (D.faults store.old) (D.faults store.new)) }
+    ensures cause { IfErr result (IsCause (IsDamagedIn files.now.entries parts.old (D.holds store.old))
+        (D.faults store.old) (D.faults store.new)) }
 {
+    let _untouched = &*store;
     let terms = terms_of(alloc, expr)?;
-    let lists = lists_of(alloc, &terms, frames, parts)?;
+    let lists = lists_of(alloc, store, &terms, frames, parts)?;
     let counts = count(alloc, expr, frames.ranges.as_slice(), &lists)?;
     let shown = first_lines(
         alloc,

@@ -1,17 +1,27 @@
 //! Laws of states.
-ghost use Rattle.std.specs.Prelude.{ℕ, ◌+◌, ◌≤◌, List, length};
+ghost use Rattle.std.specs.Prelude.{◌≡◌, ℕ, ◌+◌, ◌≤◌, List, length};
 ghost use Rattle.wu_base.specs.declared.limits.TheConstants.{TEXT_MAX};
 ghost use Rattle.wu_tree.specs.Steps.{IsEvent};
 ghost use Rattle.wu_tree.specs.declared.events.Event.{Event};
 ghost use Rattle.wu_engine.specs.Stands.{taken_by};
-ghost use Rattle.wu_engine.specs.States.{State, IsState, after_event, first_state};
+ghost use Rattle.wu_engine.specs.States.{State, IsState, after_event, first_state, flushed_state};
 
-/// Each event, accepted or refused, makes a state of a state: the tree keeps its rules, there are texts of
-/// exactly its regular files, none of them too long, and the layout is one of these files and texts. The
-/// next address rises by no more than the event takes, and the next blob by no more than one.
+/// Each event, accepted or refused, and each flush make a state of a state: the tree keeps its rules, there are
+/// texts of exactly its regular files, none of them too long, and the layout is one of these files and texts.
+/// The next address rises by no more than the event takes. An event draws two blobs at most, one for a text and
+/// one for the part of a flush that follows, and a flush draws one.
 pub fn each_event_keeps_a_state()
     ensures first { IsState first_state }
-    ensures step { (s : State) (event : Event) (text : List ℕ) → IsState s → IsEvent event → length text ≤ TEXT_MAX → IsState (after_event s event text) }
-    ensures next { (s : State) (event : Event) (text : List ℕ) → (after_event s event text).layout.next ≤ s.layout.next + taken_by event text }
-    ensures next_blob { (s : State) (event : Event) (text : List ℕ) → (after_event s event text).layout.blob ≤ s.layout.blob + 1 }
+    ensures step { (flush_at : ℕ) (s : State) (event : Event) (text : List ℕ) → IsState s → IsEvent event → length text ≤ TEXT_MAX
+        → IsState (after_event flush_at s event text) }
+    ensures next { (flush_at : ℕ) (s : State) (event : Event) (text : List ℕ)
+        → (after_event flush_at s event text).layout.next ≤ s.layout.next + taken_by event text }
+    ensures next_blob { (flush_at : ℕ) (s : State) (event : Event) (text : List ℕ)
+        → (after_event flush_at s event text).layout.blob ≤ s.layout.blob + 2 }
+    ensures flushes { (flush_at : ℕ) (s : State) (event : Event) (text : List ℕ)
+        → (after_event flush_at s event text).layout.flushes ≤ s.layout.flushes + 1 }
+    ensures flush { (s : State) → IsState s → IsState (flushed_state s) }
+    ensures flush_takes { (s : State) → (flushed_state s).layout.next ≡ s.layout.next }
+    ensures flush_draws { (s : State) → (flushed_state s).layout.blob ≤ s.layout.blob + 1 }
+    ensures flush_counts { (s : State) → (flushed_state s).layout.flushes ≤ s.layout.flushes + 1 }
 {}

@@ -1,14 +1,15 @@
 //! The answer to a query, over the frames of the user who asks.
-ghost use Rattle.std.specs.Prelude.{◌≡◌, ◌++◌, ℕ, option_map, IfOk, IfErr, OnOk};
+ghost use Rattle.std.specs.Prelude.{◌≡◌, ℕ, IfOk, IfErr, OnOk};
 ghost use Rattle.std.specs.List.{AllByRecursion};
 ghost use Rattle.wu_ask.specs.Questions.{question_of, IsSoundAsk};
 ghost use Rattle.wu_engine.specs.Answer.{answer};
-ghost use Rattle.wu_engine.specs.Causes.{IsDamagedAt};
-ghost use Rattle.wu_engine.specs.Finding.{CanBeRead, IsCause, KeepsTexts};
-ghost use Rattle.wu_engine.specs.Reads.{ShowsNoText, texts_read};
+ghost use Rattle.wu_engine.specs.Asked.{blocks_for, terms_asked};
+ghost use Rattle.wu_engine.specs.Causes.{IsDamagedIn};
+ghost use Rattle.wu_engine.specs.Finding.{AreTextsOf, CanBeRead, IsCause, KeepsTexts};
+ghost use Rattle.wu_engine.specs.Reads.{AreTexts, ReadsForQuery, ReadsInTurn, texts_read};
 ghost use Rattle.wu_engine.specs.Soundness.{IsSound};
 ghost use Rattle.wu_engine.specs.States.{State};
-ghost use Rattle.wu_engine.specs.Units.{CanBeSearched, Indexes, IsIndexOf};
+ghost use Rattle.wu_engine.specs.Units.{CanBeSearched, Indexes, IsIndexOf, TellsPostings};
 ghost use Rattle.wu_engine.specs.View.{view_of};
 
 use crate::counting::count;
@@ -32,24 +33,30 @@ pub fn answered<D: Store>(
     store: &mut D,
     tree: &Tree,
     space: &Space,
-    parts: &Parts,
+    parts: &mut Parts,
     files: &BTreeMap<Ino, FileRec>,
     kept: &mut FrameCache,
     query: &Query,
 ) -> Result<Answered, Trouble>
-    requires sound { IsSound tree.now space.now parts.now files.now.entries kept.old }
+    requires sound { IsSound tree.now space.now parts.old files.now.entries kept.old }
     requires ask { IsSoundAsk query.now.ask }
-    ensures answer { IfOk result (λ answered. (s : State) → tree.now ≡ s.tree → IsIndexOf space.now.ranges parts.now.memory s
-        → KeepsTexts files.now.entries (D.holds store.old) s → answered ≡ answer (view_of s query.now.uid) (question_of query.now.ask)) }
-    ensures sound { IsSound tree.now space.now parts.now files.now.entries kept.new }
+    ensures answer { IfOk result (λ answered. (s : State) → tree.now ≡ s.tree → IsIndexOf space.now.ranges s
+        → TellsPostings parts.old (D.holds store.old) s → KeepsTexts files.now.entries (D.holds store.old) s
+        → answered ≡ answer (view_of s query.now.uid) (question_of query.now.ask)) }
+    ensures sound { IsSound tree.now space.now parts.new files.now.entries kept.new }
+    ensures reads { OnOk result (ReadsForQuery tree.now space.now.ranges query.now.uid (question_of query.now.ask)
+        parts.old parts.new.kept
+        (λ texts. AreTexts files.now.entries (question_of query.now.ask) texts × ((s : State) → tree.now ≡ s.tree
+        → IsIndexOf space.now.ranges s → TellsPostings parts.old (D.holds store.old) s → KeepsTexts files.now.entries (D.holds store.old) s
+        → texts ≡ texts_read s query.now.uid (question_of query.now.ask)))
+        (D.holds store.old) (D.reads store.old) (D.reads store.new)) }
+    ensures others { parts.new ≡ record parts.old { kept = parts.new.kept } }
     ensures holds { D.holds store.new ≡ D.holds store.old }
-    ensures reads { OnOk result ((s : State) → tree.now ≡ s.tree → IsIndexOf space.now.ranges parts.now.memory s
-        → KeepsTexts files.now.entries (D.holds store.old) s
-        → D.reads store.new ≡ option_map (λ ranges. ranges ++ texts_read s query.now.uid (question_of query.now.ask)) (D.reads store.old)) }
-    ensures unread { ShowsNoText (question_of query.now.ask) → store.new ≡ store.old }
     ensures calm { OnOk result (D.faults store.new ≡ D.faults store.old) }
-    ensures cause { IfErr result (IsCause (IsDamagedAt files.now.entries (D.holds store.old)) (D.faults store.old) (D.faults store.new)) }
+    ensures cause { IfErr result (IsCause (IsDamagedIn files.now.entries parts.old (D.holds store.old))
+        (D.faults store.old) (D.faults store.new)) }
 {
+    let _untouched = &*store;
     space.keeps_the_rules();
     kept.prepare(tree, space, query.uid)?;
     match kept.kept(query.uid) {
@@ -64,29 +71,40 @@ fn answer<D: Store>(
     store: &mut D,
     frames: &Frames,
     space: &Space,
-    parts: &Parts,
+    parts: &mut Parts,
     files: &BTreeMap<Ino, FileRec>,
     ask: &Ask,
 ) -> Result<Answered, Trouble>
     requires fit { CanBeSearched frames.now }
     requires sound { IsSoundAsk ask.now }
     requires records { AllByRecursion CanBeRead files.now.entries }
-    ensures answer { IfOk result (λ answered. (s : State) (uid : ℕ) → Indexes frames.now space.now.ranges parts.now.memory s uid
-        → KeepsTexts files.now.entries (D.holds store.old) s → answered ≡ answer (view_of s uid) (question_of ask.now)) }
+    ensures answer { IfOk result (λ answered. (s : State) (uid : ℕ) → Indexes frames.now space.now.ranges s uid
+        → TellsPostings parts.old (D.holds store.old) s → KeepsTexts files.now.entries (D.holds store.old) s
+        → answered ≡ answer (view_of s uid) (question_of ask.now)) }
+    ensures reads { OnOk result (ReadsInTurn (blocks_for parts.old frames.now.ranges (terms_asked (question_of ask.now)))
+        (AreTextsOf frames.now parts.old files.now.entries (D.holds store.old) (question_of ask.now))
+        (D.holds store.old) parts.old.kept parts.new.kept (D.reads store.old) (D.reads store.new)) }
+    ensures others { parts.new ≡ record parts.old { kept = parts.new.kept } }
     ensures holds { D.holds store.new ≡ D.holds store.old }
-    ensures reads { OnOk result ((s : State) (uid : ℕ) → Indexes frames.now space.now.ranges parts.now.memory s uid
-        → KeepsTexts files.now.entries (D.holds store.old) s
-        → D.reads store.new ≡ option_map (λ ranges. ranges ++ texts_read s uid (question_of ask.now)) (D.reads store.old)) }
-    ensures unread { ShowsNoText (question_of ask.now) → store.new ≡ store.old }
     ensures calm { OnOk result (D.faults store.new ≡ D.faults store.old) }
-    ensures cause { IfErr result (IsCause (IsDamagedAt files.now.entries (D.holds store.old)) (D.faults store.old) (D.faults store.new)) }
+    ensures cause { IfErr result (IsCause (IsDamagedIn files.now.entries parts.old (D.holds store.old))
+        (D.faults store.old) (D.faults store.new)) }
 {
     let _untouched = &*store;
     match ask {
-        Ask::Count { expr } => Ok(count(alloc, frames, parts, expr)?),
+        Ask::Count { expr } => count(alloc, store, frames, parts, expr),
         Ask::Find { k, expr } => find(alloc, store, frames, parts, files, *k, expr),
         Ask::Rank { k, unit, words } => {
-            Ok(ranked(alloc, frames, space, parts, *k, unit, words.as_slice())?)
+            ranked(
+                alloc,
+                store,
+                frames,
+                space,
+                parts,
+                *k,
+                unit,
+                words.as_slice(),
+            )
         }
         Ask::Paths => Ok(paths(alloc, frames.seen.as_slice())?),
     }

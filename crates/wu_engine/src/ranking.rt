@@ -1,24 +1,31 @@
 //! The ranking of a query's units, over a user's frames.
-ghost use Rattle.std.specs.Prelude.{◌≡◌, ◌≤◌, ◌<◌, ◌+◌, ◌^◌, ◌++◌, ℕ, All, length, map, take, IfOk, OnOk};
+ghost use Rattle.std.specs.Prelude.{◌≡◌, ◌≤◌, ◌<◌, ◌+◌, ◌^◌, ◌++◌, ℕ, List, All, length, map, take, find, nat_eq, option_copied, IfOk, IfErr, OnOk};
+ghost use Rattle.std.specs.Cmp.Lexicographic.{pointwise};
+ghost use Rattle.std.specs.List.{AllByRecursion, list_any};
 ghost use Rattle.std.specs.List.Sorted.{IsStrictlyIncreasing};
 ghost use Rattle.wu_ask.specs.Questions.{Ranking as AskedRanking};
 ghost use Rattle.wu_base.specs.declared.limits.TheConstants.{RANK_WORDS_MAX};
 ghost use Rattle.wu_gcl.specs.Regions.{region_of};
+ghost use Rattle.wu_gcl.specs.Terms.{AreTerms};
+ghost use Rattle.wu_lists.specs.Keeping.{Asks};
+ghost use Rattle.wu_solve.specs.Addresses.{AreLists};
 ghost use Rattle.wu_rank.specs.Scores.{count_at, length_of, total_length};
 ghost use Rattle.wu_rank.specs.Order.{listed};
 ghost use Rattle.wu_engine.specs.Answer.{answer};
+ghost use Rattle.wu_engine.specs.Asked.{blocks_for, terms_of as named_in, with_word, with_words};
 ghost use Rattle.wu_engine.specs.Rankings.{unit_at};
 ghost use Rattle.wu_engine.specs.States.{State};
-ghost use Rattle.wu_engine.specs.Units.{AreUnits, CanBeSearched, Indexes, count_before, placed};
+ghost use Rattle.wu_engine.specs.Units.{AreUnits, CanBeSearched, Indexes, IsAmong, IsCauseFor, TellsPostings, count_before, found_in, list_at, list_in, placed};
 ghost use Rattle.wu_engine.specs.View.{view_of};
 
 use crate::fetching::lists_of;
 use crate::listing::lines_of;
 use std::alloc::Global;
 use wu_ask::Answered;
-use wu_base::{Bytes, Extent, NoMemory, Sequence, TermList};
+use wu_base::{Bytes, Extent, NoMemory, Sequence, TermList, Trouble};
 use wu_frames::{Frame, Frames};
 use wu_gcl::{Expr, terms_of};
+use wu_outside::Store;
 use wu_parts::Parts;
 use wu_rank::{Ranker, Ranking, Unit, bm25_weigh, rank, summed_length};
 use wu_solve::solve;
@@ -26,24 +33,63 @@ use wu_space::Space;
 
 /// How many units hold one of the words, by BM25 over the view alone, and the first `k` of them: by score,
 /// falling, then by file, then by start. The units are the extents of `unit`; a word that is given more than
-/// once counts as often.
-pub fn ranked(
+/// once counts as often. Each term is fetched once.
+pub fn ranked<D: Store>(
     alloc: Global,
+    store: &mut D,
     frames: &Frames,
     space: &Space,
-    parts: &Parts,
+    parts: &mut Parts,
     k: u32,
     unit: &Expr,
     words: &[Bytes],
+) -> Result<Answered, Trouble>
+    requires fit { CanBeSearched frames.now }
+    requires few { length words.now ≤ RANK_WORDS_MAX }
+    ensures answer { IfOk result (λ answered. (s : State) (uid : ℕ) → Indexes frames.now space.now.ranges s uid
+        → TellsPostings parts.old (D.holds store.old) s
+        → answered ≡ answer (view_of s uid) (AskedRanking k (region_of unit.now) words.now)) }
+    ensures blocks { OnOk result (Asks
+        (blocks_for parts.old frames.now.ranges (with_words (named_in (region_of unit.now)) words.now)) (D.holds store.old)
+        parts.old.kept parts.new.kept (D.reads store.old) (D.reads store.new)) }
+    ensures others { parts.new ≡ record parts.old { kept = parts.new.kept } }
+    ensures holds { D.holds store.new ≡ D.holds store.old }
+    ensures calm { OnOk result (D.faults store.new ≡ D.faults store.old) }
+    ensures cause { IfErr result (IsCauseFor parts.old frames.now.ranges (with_words (named_in (region_of unit.now)) words.now)
+        (D.holds store.old) (D.faults store.old) (D.faults store.new) (D.reads store.old) (D.reads store.new)) }
+{
+    let _untouched = &*store;
+    let terms = terms_of(alloc, unit)?;
+    let count = terms.len();
+    let asked = with_words(terms, words)?;
+    let lists = lists_of(alloc, store, &asked, frames, parts)?;
+    Ok(rank_lists(alloc, frames, space, k, unit, words, &lists, count)?)
+}
+
+/// The same, by the lists of the unit's terms, which are the first `count` ones, and of the words.
+fn rank_lists(
+    alloc: Global,
+    frames: &Frames,
+    space: &Space,
+    k: u32,
+    unit: &Expr,
+    words: &[Bytes],
+    lists: &[TermList],
+    count: usize,
 ) -> Result<Answered, NoMemory>
     requires fit { CanBeSearched frames.now }
     requires few { length words.now ≤ RANK_WORDS_MAX }
-    ensures { IfOk result (λ answered. (s : State) (uid : ℕ) → Indexes frames.now space.now.ranges parts.now.memory s uid
+    requires within { count ≤ length lists.now }
+    requires of_unit { AreTerms (region_of unit.now) (map (λ list. list.term) (take count lists.now)) }
+    requires ascending { All (λ list. IsStrictlyIncreasing list.at) lists.now }
+    ensures { IfOk result (λ answered. (s : State) (uid : ℕ) → Indexes frames.now space.now.ranges s uid
+        → (terms : List (List ℕ)) → lists.now ≡ map (list_at (found_in frames.now.ranges s)) terms
+        → AllByRecursion (IsAmong terms) words.now
         → answered ≡ answer (view_of s uid) (AskedRanking k (region_of unit.now) words.now)) }
 {
-    let units = units_of(alloc, frames, parts, unit)?;
-    let lists = lists_of(alloc, words, frames, parts)?;
-    let Ranking { listed, top } = rank_all(alloc, &units, &lists, k)?;
+    let units = units_of(alloc, frames, unit, &lists[..count])?;
+    let of_words = lists_for(alloc, words, lists)?;
+    let Ranking { listed, top } = rank_all(alloc, &units, &of_words, k)?;
     let shown = lines_of(alloc, space, frames.seen.as_slice(), top.as_slice())?;
     Ok(Answered::Rank {
         listed,
@@ -51,19 +97,82 @@ pub fn ranked(
     })
 }
 
+/// The terms, and then the words that aren't among them, each once.
+fn with_words(terms: Vec<Bytes>, words: &[Bytes]) -> Result<Vec<Bytes>, NoMemory>
+    ensures { IfOk result (λ asked. asked.items ≡ with_words terms.items words.now) }
+{
+    let mut asked = terms;
+    for word in words {
+        put_word(&mut asked, word)?;
+    }
+    Ok(asked)
+}
+
+/// Puts the word at the end, where it isn't one of the terms.
+fn put_word(terms: &mut Vec<Bytes>, word: &Bytes) -> Result<(), NoMemory>
+    ensures { OnOk result (terms.new.items ≡ with_word terms.old.items word.now) }
+{
+    if is_among(terms, word) {
+        return Ok(());
+    }
+    terms.push(word.clone()?)?;
+    Ok(())
+}
+
+fn is_among(terms: &[Bytes], word: &Bytes) -> bool
+    ensures { result ≡ list_any (pointwise nat_eq word.now) terms.now }
+{
+    terms.iter().any(|term| word == term)
+}
+
+/// The lists of the words, in their order, with those of words that are given more than once as often.
+fn lists_for(alloc: Global, words: &[Bytes], lists: &[TermList]) -> Result<Vec<TermList>, NoMemory>
+    requires { All (λ list. IsStrictlyIncreasing list.at) lists.now }
+    ensures lists { IfOk result (λ found. found.items ≡ map (list_in lists.now) words.now) }
+    ensures ascending { IfOk result (λ found. All (λ list. IsStrictlyIncreasing list.at) found.items) }
+{
+    let mut found = Vec::with_capacity(alloc, words.len())?;
+    for word in words {
+        found.push(list_for(alloc, word, lists)?)?;
+    }
+    Ok(found)
+}
+
+/// The list of the word; where there is none, one without addresses.
+fn list_for(alloc: Global, word: &Bytes, lists: &[TermList]) -> Result<TermList, NoMemory>
+    ensures { IfOk result (λ list. list ≡ list_in lists.now word.now) }
+{
+    match list_named(lists, word) {
+        Some(list) => Ok(TermList {
+            term: word.clone()?,
+            at: list.at.clone()?,
+        }),
+        None => Ok(TermList {
+            term: word.clone()?,
+            at: Sequence::new(alloc),
+        }),
+    }
+}
+
+/// The first list of that term.
+fn list_named<'a>(lists: &'a [TermList], term: &Bytes) -> Option<&'a TermList>
+    ensures { option_copied result ≡ find (λ list. pointwise nat_eq term.now list.term) lists.now }
+{
+    lists.iter().find(|list| *term == list.term)
+}
+
 /// The extents of the expression, by address, each with the place of its file in the view.
 fn units_of(
     alloc: Global,
     frames: &Frames,
-    parts: &Parts,
     unit: &Expr,
+    lists: &[TermList],
 ) -> Result<Vec<Unit>, NoMemory>
-    requires { CanBeSearched frames.now }
-    ensures { IfOk result (λ units. AreUnits (region_of unit.now) frames.now parts.now.memory units.items) }
+    requires fit { CanBeSearched frames.now }
+    requires lists { AreLists lists.now }
+    ensures { IfOk result (λ units. AreUnits (region_of unit.now) frames.now lists.now units.items) }
 {
-    let terms = terms_of(alloc, unit)?;
-    let lists = lists_of(alloc, &terms, frames, parts)?;
-    let extents = solve(alloc, unit, frames.ranges.as_slice(), &lists)?;
+    let extents = solve(alloc, unit, frames.ranges.as_slice(), lists)?;
     placed(alloc, frames.by_address.as_slice(), &extents)
 }
 

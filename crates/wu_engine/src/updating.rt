@@ -1,19 +1,69 @@
 //! How an event that is accepted changes the index and the store.
-ghost use Rattle.std.specs.Prelude.{◌≡◌, ℕ, List, Option, None, ◌+◌, ◌++◌, ◌<◌, ◌≤◌, ◌^◌, false, IfOk, IfSome, IsSome, OnOk, length, option_map};
+ghost use Rattle.std.specs.Prelude.{◌≡◌, ℕ, List, Option, None, ◌+◌, ◌++◌, ◌<◌, ◌≤◌, ◌^◌, false, IfErr, IfOk, IfSome, IsSome, OnOk, length, option_map};
 ghost use Rattle.wu_base.specs.declared.limits.TheConstants.{ADDRESSES_MAX, TEXT_MAX};
 ghost use Rattle.wu_outside.specs.Content.{MayDo, with_blob};
 ghost use Rattle.wu_outside.specs.Faults.{HasFaultCause};
 ghost use Rattle.wu_space.specs.Addresses.{range_of};
+ghost use Rattle.wu_parts.specs.Causes.{IsStoreCause};
 ghost use Rattle.wu_parts.specs.Memory.{Gains};
-ghost use Rattle.wu_engine.specs.Indexing.{IsIndexable, KeepsParts, blob_for, blob_of, catalog_after, catalog_of, catalog_with, catalog_without, drawn_for, is_stored, stored_at, terms_after, terms_given};
+ghost use Rattle.wu_engine.specs.Stands.{KeepsOthers};
+ghost use Rattle.wu_engine.specs.Indexing.{Follows, FlushesFull, IsIndexable, KeepsParts, blob_for, blob_of, catalog_after, catalog_of, catalog_with, catalog_without, drawn_for, is_stored, stored_at, terms_after, terms_given};
 
 use std::collections::BTreeMap;
-use wu_base::{Ino, NoMemory, Range};
+use wu_base::{Ino, NoMemory, Range, Trouble};
 use wu_image::FileRec;
 use wu_outside::{Fault, Store};
 use wu_parts::Parts;
 use wu_space::Space;
 use wu_tree::Effect;
+
+/// Follows an event that happened: puts the text that it gives to a file into the store, does to the index what
+/// the event did to the files, and flushes memory, where it is full then. After an error space, parts and files
+/// are only dropped.
+pub(crate) fn follow<D: Store>(
+    space: &mut Space,
+    parts: &mut Parts,
+    files: &mut BTreeMap<Ino, FileRec>,
+    store: &mut D,
+    effect: Effect,
+    text: &[u8],
+) -> Result<(), Trouble>
+    requires indexable { IsIndexable effect text.now space.old (drawn_for effect.texted text.now parts.old) }
+    requires blobs { parts.old.next_blob + 2 < 2 ^ 63 }
+    requires flushes { parts.old.flushes + 1 < 2 ^ 63 }
+    ensures done { OnOk result (Follows effect text.now space.old space.new files.old.entries files.new.entries parts.old parts.new
+        (D.holds store.old, D.moments store.old) (D.holds store.new, D.moments store.new)) }
+    ensures untouched { OnOk result (is_stored effect.texted text.now ≡ false
+        → parts.old.memory.stored + length (terms_after effect text.now) < parts.old.flush_at
+        → (store.new ≡ store.old) × (parts.new.next_blob ≡ parts.old.next_blob)) }
+    ensures elsewhere { KeepsOthers parts.old.next_blob (parts.old.next_blob + 2) (D.holds store.old) (D.holds store.new) }
+    ensures reads { D.reads store.new ≡ D.reads store.old }
+    ensures calm { OnOk result (D.faults store.new ≡ D.faults store.old) }
+    ensures cause { IfErr result (IsStoreCause (D.faults store.old) (D.faults store.new)) }
+{
+    let blob = store_text(parts, store, effect.texted, text)?;
+    index(space, parts, files, effect, text, blob)?;
+    flush_if_full(parts, store, space)
+}
+
+/// Flushes memory, where it is full. After an error the parts are only dropped.
+fn flush_if_full<D: Store>(parts: &mut Parts, store: &mut D, space: &Space) -> Result<(), Trouble>
+    requires blob { parts.old.next_blob + 1 < 2 ^ 63 }
+    requires flushes { parts.old.flushes + 1 < 2 ^ 63 }
+    ensures flushed { OnOk result (FlushesFull space.now.ranges parts.old parts.new
+        (D.holds store.old, D.moments store.old) (D.holds store.new, D.moments store.new)) }
+    ensures untouched { OnOk result (parts.old.memory.stored < parts.old.flush_at → (store.new ≡ store.old) × (parts.new ≡ parts.old)) }
+    ensures elsewhere { KeepsOthers parts.old.next_blob (parts.old.next_blob + 1) (D.holds store.old) (D.holds store.new) }
+    ensures reads { D.reads store.new ≡ D.reads store.old }
+    ensures calm { OnOk result (D.faults store.new ≡ D.faults store.old) }
+    ensures cause { IfErr result (IsStoreCause (D.faults store.old) (D.faults store.new)) }
+{
+    let _untouched = &*store;
+    if parts.full() {
+        return parts.flush(store, space);
+    }
+    Ok(())
+}
 
 /// Puts a text that a file is given into the store under the next blob's number, and gives that number. The
 /// empty text is not put, and has the number 0. After an error the parts are only dropped.

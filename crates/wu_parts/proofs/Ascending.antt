@@ -1,11 +1,13 @@
 -- Addresses that ascend, and frames in order.
-use Rattle.std.proofs.Common.{◌≡◌, ℕ, zero, suc, ◌+◌, ◌<◌, ◌≤◌, Bool, true, false, cond, List, [], ◌∷◌, ◌++◌, length, get_or, take, drop, filter, refl, subst, arith, All, Less}
+use Rattle.std.proofs.Common.{◌≡◌, ℕ, zero, suc, ◌+◌, ◌<◌, ◌≤◌, Bool, true, false, cond, List, [], ◌∷◌, ◌++◌, length, get_or, take, drop, filter, map, refl, subst, arith, All, Less}
 use Rattle.std.specs.Ordering.{nat_cmp}
 use Rattle.std.specs.List.{AllByRecursion}
 use Rattle.std.specs.List.Sorted.{IsNonDecreasingBy, IsStrictlySortedBy, IsStrictlyIncreasing}
 use Rattle.std.proofs.lemmas.Bool.{lt-ltb}
 use Rattle.std.proofs.lemmas.Map.Keys.{IsStrictlyIncreasing-from_sorted}
 use Rattle.wu_base.specs.declared.addresses.Range.{Range}
+use Rattle.wu_layout.specs.Postings.{Ascend, Posting, addresses_of, is_of}
+use Rattle.wu_layout.proofs.PostingLemmas.{Ascend-filter}
 use Rattle.wu_space.specs.Addresses.{AreApart}
 use Rattle.wu_parts.specs.Lists.{AscendBetween, AreInOrder}
 use Rattle.wu_parts.specs.Chains.{moved}
@@ -116,6 +118,15 @@ addresses_sorted low high (x ∷ xs) a = (later_are_above x (x + 1) high xs (ome
 
 pub addresses_increase : (low high : ℕ) (xs : List ℕ) → AscendBetween low high xs → IsStrictlyIncreasing xs
 addresses_increase low high xs a = IsStrictlyIncreasing-from_sorted xs (addresses_sorted low high xs a)
+
+-- those of a term, among postings that ascend
+between : (low high : ℕ) (ps : List Posting) → Ascend low high ps → AscendBetween low high (map (λ p. p.address) ps)
+between low high [] a = a
+between low high (p ∷ ps) a = (a.0, between (p.address + 1) high ps a.1)
+
+pub addresses-ascend : (low high : ℕ) (term : List ℕ) (ps : List Posting) → Ascend low high ps
+    → AscendBetween low high (addresses_of term ps)
+addresses-ascend low high term ps a = between low high (filter (is_of term) ps) (Ascend-filter (is_of term) low high ps a)
 
 -- ---- frames
 

@@ -291,28 +291,28 @@ chains-given links longer term es more t a n h =
     (lists-with_address term (length links) (length links) (lists_of links es) t (omega arith) a) in
     subst (λ (end : ℕ). AllByRecursion (IsList end) (lists_of longer more)) (sym n) given
 
-pub memory-given : (start stored : ℕ) (links longer : List ℕ) (term : List ℕ) (es more : Entries)
+pub memory-given : (low start stored : ℕ) (links longer : List ℕ) (term : List ℕ) (es more : Entries)
     → length longer ≡ length links + 1 → lists_of longer more ≡ with_address term (length links) (lists_of links es)
-    → memory_of start (stored + 1) longer more ≡ with_posting (memory_of start stored links es) (start + length links) term
-memory-given start stored links longer term es more n h =
-    let make : Lists → ℕ → Memory = λ lists end. record { lists = lists; stored = stored + 1; end = end } in
+    → memory_of low start (stored + 1) longer more ≡ with_posting (memory_of low start stored links es) (start + length links) term
+memory-given low start stored links longer term es more n h =
+    let make : Lists → ℕ → Memory = λ lists end. record { lists = lists; stored = stored + 1; low = low; end = end } in
     let end : start + length longer ≡ start + length links + 1 = omega arith in
     ap₂ make (ap (all_moved start) h ∙ all_moved-with_address start term (length links) (lists_of links es)) end
 
 -- without links there are no postings, and the first address may be any
-pub memory-empty : (start address stored : ℕ) (links : List ℕ) (es : Entries) → length links ≡ 0 → AreChains links es
-    → memory_of address stored links es ≡ record (memory_of start stored links es) { end = address }
-memory-empty start address stored [] es n a =
-    let make : Lists → ℕ → Memory = λ lists end. record { lists = lists; stored = stored; end = end } in
+pub memory-empty : (low start address stored : ℕ) (links : List ℕ) (es : Entries) → length links ≡ 0 → AreChains links es
+    → memory_of low address stored links es ≡ record (memory_of low start stored links es) { end = address }
+memory-empty low start address stored [] es n a =
+    let make : Lists → ℕ → Memory = λ lists end. record { lists = lists; stored = stored; low = low; end = end } in
     let none : es ≡ [] = no_chains es a in
     let end : address + length {A = ℕ} [] ≡ address = omega arith in
     ap₂ make
     (ap (λ (l : Entries). all_moved address (lists_of [] l)) none ∙ sym (ap (λ (l : Entries). all_moved start (lists_of [] l)) none)) end
-memory-empty start address stored (link ∷ links) es n a = absurd (omega arith)
+memory-empty low start address stored (link ∷ links) es n a = absurd (omega arith)
 
 -- more links, and as many postings
-pub memory-append : (start stored : ℕ) (links more : List ℕ) (es : Entries) → AreChains links es
-    → memory_of start stored (links ++ more) es ≡ record (memory_of start stored links es) { end = start + length (links ++ more) }
-memory-append start stored links more es a =
-    let make : Lists → Memory = λ lists. record { lists = lists; stored = stored; end = start + length (links ++ more) } in
+pub memory-append : (low start stored : ℕ) (links more : List ℕ) (es : Entries) → AreChains links es
+    → memory_of low start stored (links ++ more) es ≡ record (memory_of low start stored links es) { end = start + length (links ++ more) }
+memory-append low start stored links more es a =
+    let make : Lists → Memory = λ lists. record { lists = lists; stored = stored; low = low; end = start + length (links ++ more) } in
     ap make (ap (all_moved start) (lists_of-append links more es a))

@@ -4,3 +4,11 @@ pub mod Cutting
 pub mod Putting
 pub mod Gaining
 pub mod Chaining
+pub mod SortedTerms
+pub mod LiveTerms
+pub mod NewParts
+pub mod Asking
+pub mod ReadingBack
+pub mod Spans
+pub mod MemoryLists
+pub mod Flushes

@@ -1,5 +1,5 @@
 -- Postings put into lists by term.
-use Rattle.std.proofs.Common.{◌≡◌, ℕ, ◌+◌, ◌<◌, ◌≤◌, ◌==◌, true, false, cond, List, [], ◌∷◌, ◌++◌, length, length-take, get_or, take, map, filter, refl, ap, sym, ◌∙◌, subst, arith, nat_eq, unwrap_or, None, Some, append-nil, append_assoc, ⊎_elim}
+use Rattle.std.proofs.Common.{◌≡◌, ℕ, ◌+◌, ◌<◌, ◌≤◌, ◌==◌, true, false, cond, List, [], ◌∷◌, ◌++◌, length, length-append, length-take, get_or, take, map, filter, refl, ap, sym, ◌∙◌, arith, nat_eq, unwrap_or, None, Some, append-nil, append_assoc, ⊎_elim}
 use Rattle.std.specs.List.{AllByRecursion}
 use Rattle.std.specs.Map.{lookup}
 use Rattle.std.specs.Cmp.{IsEquivalence}
@@ -10,8 +10,10 @@ use Rattle.std.proofs.lemmas.List.{length-map, map-append, take_more}
 use Rattle.wu_token.specs.declared.spans.Token.{Token}
 use Rattle.wu_token.specs.Words.{IsTerm}
 use Rattle.wu_layout.specs.Postings.{Posting, placed_from, is_of, addresses_of}
-use Rattle.wu_parts.specs.Memory.{Lists, Memory, held, Gains}
-use Rattle.wu_parts.specs.Lists.{with_address, with_posting, with_terms, IsList, KeepsRoom}
+use Rattle.wu_layout.proofs.PostingLemmas.{Ascend-append, Ascend-below}
+use Rattle.wu_layout.proofs.TermLemmas.{addresses_of-append}
+use Rattle.wu_parts.specs.Memory.{HasPostings, Lists, Memory, held, Gains}
+use Rattle.wu_parts.specs.Lists.{with_address, with_posting, with_terms, IsList}
 use Rattle.wu_parts.proofs.Ascending.{ascend-higher, ascend-push}
 
 abbrev pub found_in : List ℕ → Lists → List ℕ
@@ -153,17 +155,42 @@ lists-with_address term address end (list ∷ lists) t l a =
       )
     ]
 
-pub room-with_terms : (terms : List (List ℕ)) (memory : Memory) (start : ℕ) → memory.end ≤ start
-    → KeepsRoom memory (with_terms memory start terms)
-room-with_terms [] memory start l = omega arith
-room-with_terms (first ∷ terms) memory start l =
-    let r : KeepsRoom (with_posting memory start first) (with_terms (with_posting memory start first) (start + 1) terms) =
-    room-with_terms terms (with_posting memory start first) (start + 1) (omega arith) in
-    omega arith
+-- the low address stays
+pub low-with_terms : (terms : List (List ℕ)) (memory : Memory) (start : ℕ) → (with_terms memory start terms).low ≡ memory.low
+low-with_terms [] memory start = refl
+low-with_terms (first ∷ terms) memory start = low-with_terms terms (with_posting memory start first) (start + 1)
 
-pub room-with_posting : (first old new : Memory) (term : List ℕ) → KeepsRoom first old → new ≡ with_posting old old.end term
-    → KeepsRoom first new
-room-with_posting first old new term r e = omega (arith, ap (λ (m : Memory). m.end) e, ap (λ (m : Memory). m.stored) e)
+-- no postings
+pub has-none : (low high : ℕ) (memory : Memory) → memory.lists ≡ [] → memory.stored ≡ 0 → low ≤ high → HasPostings low high memory []
+has-none low high memory l s b = record {
+  addresses = λ term. ap (found_in term) l;
+  stored = s;
+  ascend = b;
+}
+
+-- the same postings, below a higher address
+pub has-raised : (low high most end : ℕ) (memory higher : Memory) (postings : List Posting) → higher ≡ record memory { end = end }
+    → high ≤ most → HasPostings low high memory postings → HasPostings low most higher postings
+has-raised low high most end memory higher postings e l h = record {
+  addresses = λ term. ap (λ (m : Memory). held m term) e ∙ h.addresses term;
+  stored = ap (λ (m : Memory). m.stored) e ∙ h.stored;
+  ascend = Ascend-below low high most postings l h.ascend;
+}
+
+-- one more posting, at the end
+pub has-with_posting : (low high : ℕ) (memory : Memory) (term : List ℕ) (postings : List Posting) → memory.end ≡ high
+    → HasPostings low high memory postings
+    → HasPostings low (high + 1) (with_posting memory high term) (postings ++ record { address = high; term = term } ∷ [])
+has-with_posting low high memory term postings e h =
+    let more : List Posting = record { address = high; term = term } ∷ [] in
+    record {
+      addresses = λ other.
+          held-with_terms (term ∷ []) memory high other
+          ∙ ap (λ (l : List ℕ). l ++ addresses_of other more) (h.addresses other)
+          ∙ sym (addresses_of-append other postings more);
+      stored = omega (arith, h.stored, length-append postings more);
+      ascend = Ascend-append low high (high + 1) postings more h.ascend (omega arith, omega arith);
+    }
 
 -- one more token of several
 pub add_more : (tokens : List Token) (place : ℕ) (token : Token) (memory before : Memory) (start : ℕ) (term : List ℕ)
@@ -195,10 +222,10 @@ end_of_front tokens place memory before start l e b =
       length-take place tokens,
     )
 
-pub room_of_front : (tokens : List Token) (place : ℕ) (memory before : Memory) (start : ℕ) → memory.end ≤ start
-    → before ≡ with_terms memory start (map (λ (t : Token). t.term) (take place tokens)) → KeepsRoom memory before
-room_of_front tokens place memory before start l b =
-    subst (KeepsRoom memory) (sym b) (room-with_terms (map (λ (t : Token). t.term) (take place tokens)) memory start l)
+pub low_of_front : (tokens : List Token) (place : ℕ) (memory before : Memory) (start : ℕ)
+    → before ≡ with_terms memory start (map (λ (t : Token). t.term) (take place tokens)) → before.low ≡ memory.low
+low_of_front tokens place memory before start b =
+    ap (λ (m : Memory). m.low) b ∙ low-with_terms (map (λ (t : Token). t.term) (take place tokens)) memory start
 
 -- where a posting follows, it decides the end
 pub with_terms-passed : (terms : List (List ℕ)) (memory : Memory) (start : ℕ) → 0 < length terms

@@ -1,23 +1,31 @@
 -- What a Parts holds: postings in memory, and parts of the index in a store.
-use Rattle.std.specs.Prelude.{◌≡◌, ℕ, ◌+◌, List, [], sum_by}
+use Rattle.std.specs.Prelude.{◌≡◌, ℕ, ◌+◌, List, [], ◌∷◌, ◌++◌, sum_by}
 use Rattle.wu_base.specs.declared.addresses.PartRec.{PartRec}
-use Rattle.wu_parts.specs.Memory.{Memory, no_postings, Gains}
+use Rattle.lru.specs.LruCache.{lru_cache}
+use Rattle.wu_part.specs.Directories.{PartDirectory}
+use Rattle.wu_lists.specs.Keeping.{Kept}
+use Rattle.wu_parts.specs.declared.parts.TheConstants.{BLOCKS_KEPT}
+use Rattle.wu_parts.specs.Memory.{Memory, no_postings, emptied, Gains}
 
--- the postings in memory; the parts from left to right; how many postings memory is to have before a flush; the number of the
--- next blob; how many flushes made a part; the numbers of blobs that are no longer needed
+-- the postings in memory; the parts from left to right, and their directories; the blocks that are kept of them; how many postings memory
+-- is to have before a flush; the number of the next blob; how many flushes made a part; the numbers of blobs that are no longer needed
 pub record Contents : Type 0 where
   pub memory : Memory
   pub parts : List PartRec
+  pub directories : List PartDirectory
+  pub kept : Kept
   pub flush_at : ℕ
   pub next_blob : ℕ
   pub flushes : ℕ
   pub stale : List ℕ
 
--- no posting, no part, no stale blob
+-- no posting, no part, no kept block, no stale blob
 abbrev pub no_contents : ℕ → ℕ → Contents
 no_contents flush_at next_blob = record {
   memory = no_postings;
   parts = [];
+  directories = [];
+  kept = lru_cache [] BLOCKS_KEPT;
   flush_at = flush_at;
   next_blob = next_blob;
   flushes = 0;
@@ -36,3 +44,19 @@ stored_in contents = contents.memory.stored + stored_in_parts contents.parts
 pub record GainsTerms (start : ℕ) (terms : List (List ℕ)) (old new : Contents) : Type 0 where
   pub memory : Gains start terms old.memory new.memory
   pub others : new ≡ record old { memory = new.memory }
+
+-- ---- what a flush changes
+
+-- memory has no postings
+abbrev pub without_postings : Contents → Contents
+without_postings contents = record contents { memory = emptied contents.memory }
+
+-- memory has no postings, and there is one more part, right of all others, in the blob of the next number
+abbrev pub with_part : PartRec → PartDirectory → Contents → Contents
+with_part recorded directory contents = record contents {
+  memory = emptied contents.memory;
+  parts = contents.parts ++ recorded ∷ [];
+  directories = contents.directories ++ directory ∷ [];
+  next_blob = contents.next_blob + 1;
+  flushes = contents.flushes + 1;
+}

@@ -2,8 +2,13 @@
 
 pub mod Memory
 pub mod Contents
+pub mod Holdings
+pub mod Flushing
+pub mod Causes
 -- ---- What only private functions and proofs need
 
 pub mod Lists
+pub mod LiveLists
+pub mod StoredParts
 pub mod Chains
 pub mod ViewOfParts

@@ -12,7 +12,7 @@ with_address term address (list ∷ lists) =
     if pointwise nat_eq term list.0 then (list.0, list.1 ++ address ∷ []) ∷ lists else list ∷ with_address term address lists
 
 abbrev pub with_posting : Memory → ℕ → List ℕ → Memory
-with_posting memory address term = record {
+with_posting memory address term = record memory {
   lists = with_address term address memory.lists;
   stored = memory.stored + 1;
   end = address + 1;
@@ -33,10 +33,6 @@ pub record IsList (end : ℕ) (list : List ℕ × List ℕ) : Type 0 where
   pub term : IsTerm list.0
   pub filled : 0 < length list.1
   pub ascend : AscendBetween 0 end list.1
-
--- at most as many postings are new as there are addresses from the old end up to the new one
-abbrev pub KeepsRoom : Memory → Memory → Type 0
-KeepsRoom old new = new.stored + old.end ≤ old.stored + new.end
 
 -- from low on, each frame ends before the next one starts, and the last one by high
 abbrev pub AreInOrder : ℕ → ℕ → List Range → Type 0

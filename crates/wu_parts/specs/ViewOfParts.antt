@@ -1,11 +1,14 @@
 -- What contracts see of a Parts.
 use Rattle.wu_parts.specs.declared.parts.Parts.TheInside as inside
 use Rattle.wu_parts.specs.Contents.{Contents}
+use Rattle.wu_parts.specs.StoredParts.{records_of, directories_of}
 
 abbrev pub contents_of : inside.Inside → Contents
 contents_of fields = record {
   memory = fields.memory;
-  parts = fields.parts.items;
+  parts = records_of fields.parts.items;
+  directories = directories_of fields.parts.items;
+  kept = fields.lists;
   flush_at = fields.flush_at;
   next_blob = fields.next_blob;
   flushes = fields.flushes;

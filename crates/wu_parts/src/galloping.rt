@@ -1,12 +1,12 @@
 //! Ascending addresses, cut to frames, both walked side by side by galloping: J. L. Bentley and A. C. Yao, An almost
 //! optimal algorithm for unbounded searching, 1976.
-ghost use Rattle.std.specs.Prelude.{◌≡◌, ◌+◌, ◌<◌, ◌≤◌, ◌++◌, filter, length, take, drop, nat_le, IfOk};
+ghost use Rattle.std.specs.Prelude.{◌≡◌, ◌+◌, ◌-◌, ◌^◌, ◌<◌, ◌≤◌, ◌++◌, filter, length, take, drop, nat_le, IfOk};
 ghost use Rattle.std.specs.List.{AllByRecursion};
 ghost use Rattle.wu_layout.specs.Postings.{is_live};
 ghost use Rattle.wu_parts.specs.Lists.{AscendBetween, AreInOrder};
 
 use std::alloc::Global;
-use wu_base::{ADDRESSES_MAX, NoMemory, Range, Sequence};
+use wu_base::{NoMemory, Range, Sequence};
 
 /// The addresses that lie in one of the frames. Takes a number of steps that is at most that of the
 /// addresses, and at most that of the frames, each of time logarithmic in what it passes over, and time
@@ -16,8 +16,8 @@ pub(crate) fn within_frames(
     addresses: &[u64],
     frames: &[Range],
 ) -> Result<Sequence<u64>, NoMemory>
-    requires ascend { AscendBetween 0 ADDRESSES_MAX addresses.now }
-    requires order { AreInOrder 0 ADDRESSES_MAX frames.now }
+    requires ascend { AscendBetween 0 (2 ^ 64 - 1) addresses.now }
+    requires order { AreInOrder 0 (2 ^ 64 - 1) frames.now }
     ensures { IfOk result (λ found. found ≡ filter (is_live frames.now) addresses.now) }
 {
     let mut found = Vec::new(alloc);
@@ -35,8 +35,8 @@ pub(crate) fn within_frames(
 
 /// An address such that none below it lies in a frame: where the first one starts.
 pub(crate) fn first_start(frames: &[Range]) -> u64
-    requires { AreInOrder 0 ADDRESSES_MAX frames.now }
-    ensures { AreInOrder result ADDRESSES_MAX frames.now }
+    requires { AreInOrder 0 (2 ^ 64 - 1) frames.now }
+    ensures { AreInOrder result (2 ^ 64 - 1) frames.now }
 {
     match frames {
         [first, ..] => first.start,
@@ -46,18 +46,18 @@ pub(crate) fn first_start(frames: &[Range]) -> u64
 
 /// The addresses below the limit, and the others. Takes time logarithmic in the number of those below.
 fn split_below(addresses: &[u64], limit: u64) -> (&[u64], &[u64])
-    requires ascend { AscendBetween 0 ADDRESSES_MAX addresses.now }
-    requires limit { limit ≤ ADDRESSES_MAX }
+    requires ascend { AscendBetween 0 (2 ^ 64 - 1) addresses.now }
+    requires limit { limit ≤ 2 ^ 64 - 1 }
     ensures whole { result.0.now ++ result.1.now ≡ addresses.now }
     ensures below { AllByRecursion (λ address. address < limit) result.0.now }
-    ensures others { AscendBetween limit ADDRESSES_MAX result.1.now }
+    ensures others { AscendBetween limit (2 ^ 64 - 1) result.1.now }
 {
     addresses.split_at(count_below(addresses, limit))
 }
 
 /// How many of the addresses are below the limit.
 fn count_below(addresses: &[u64], limit: u64) -> usize
-    requires { AscendBetween 0 ADDRESSES_MAX addresses.now }
+    requires { AscendBetween 0 (2 ^ 64 - 1) addresses.now }
     ensures within { result ≤ length addresses.now }
     ensures below { AllByRecursion (λ address. address < limit) (take result addresses.now) }
     ensures others { AllByRecursion (λ address. limit ≤ address) (drop result addresses.now) }
@@ -68,7 +68,7 @@ fn count_below(addresses: &[u64], limit: u64) -> usize
 
 /// At most twice as many of the first addresses as are below the limit, or one: none of the others is.
 fn reach_of_limit(addresses: &[u64], limit: u64) -> usize
-    requires { AscendBetween 0 ADDRESSES_MAX addresses.now }
+    requires { AscendBetween 0 (2 ^ 64 - 1) addresses.now }
     ensures within { result ≤ length addresses.now }
     ensures others { AllByRecursion (λ address. limit ≤ address) (drop result addresses.now) }
 {
@@ -85,10 +85,10 @@ fn reach_of_limit(addresses: &[u64], limit: u64) -> usize
 /// The frames without those first ones that end before the first of the addresses; none where no address
 /// is left. Takes time logarithmic in the number of those that it leaves out.
 fn frames_for<'a>(frames: &'a [Range], addresses: &[u64]) -> &'a [Range]
-    requires order { AreInOrder 0 ADDRESSES_MAX frames.now }
-    requires ascend { AscendBetween 0 ADDRESSES_MAX addresses.now }
+    requires order { AreInOrder 0 (2 ^ 64 - 1) frames.now }
+    requires ascend { AscendBetween 0 (2 ^ 64 - 1) addresses.now }
     ensures within { length result.now ≤ length frames.now }
-    ensures order { AreInOrder 0 ADDRESSES_MAX result.now }
+    ensures order { AreInOrder 0 (2 ^ 64 - 1) result.now }
     ensures same { filter (is_live result.now) addresses.now ≡ filter (is_live frames.now) addresses.now }
 {
     match addresses {
@@ -99,7 +99,7 @@ fn frames_for<'a>(frames: &'a [Range], addresses: &[u64]) -> &'a [Range]
 
 /// How many of the frames end before the address or at it.
 fn count_ended(frames: &[Range], address: u64) -> usize
-    requires { AreInOrder 0 ADDRESSES_MAX frames.now }
+    requires { AreInOrder 0 (2 ^ 64 - 1) frames.now }
     ensures within { result ≤ length frames.now }
     ensures ended { AllByRecursion (λ frame. frame.start + frame.len ≤ address) (take result frames.now) }
     ensures others { AllByRecursion (λ frame. address < frame.start + frame.len) (drop result frames.now) }
@@ -111,7 +111,7 @@ fn count_ended(frames: &[Range], address: u64) -> usize
 /// At most twice as many of the first frames as end before the address or at it, or one: none of the
 /// others does.
 fn reach_of_ended(frames: &[Range], address: u64) -> usize
-    requires { AreInOrder 0 ADDRESSES_MAX frames.now }
+    requires { AreInOrder 0 (2 ^ 64 - 1) frames.now }
     ensures within { result ≤ length frames.now }
     ensures others { AllByRecursion (λ frame. address < frame.start + frame.len) (drop result frames.now) }
 {

@@ -2,8 +2,11 @@
 #![tactic(auto)]
 
 mod chains;
+mod flushing;
 mod galloping;
 mod memory;
 mod parts;
+mod reading;
+mod writing;
 
-pub use parts::Parts;
+pub use parts::{BLOCKS_KEPT, Parts};

@@ -1,30 +1,35 @@
 //! Postings in memory.
-ghost use Rattle.std.specs.Prelude.{◌≡◌, ◌+◌, ◌^◌, ◌<◌, ◌≤◌, All, length, map, filter, OnOk, OnErr, IfOk};
-ghost use Rattle.std.specs.List.Sorted.{IsStrictlyIncreasing};
-ghost use Rattle.wu_layout.specs.Postings.{is_live};
+ghost use Rattle.std.specs.Prelude.{◌≡◌, ℕ, List, ◌+◌, ◌^◌, ◌<◌, ◌≤◌, All, length, map, filter, OnOk, OnErr, IfOk};
+ghost use Rattle.wu_layout.specs.Layouts.{lists_of};
+ghost use Rattle.wu_layout.specs.Postings.{Posting, is_live, live_of};
 ghost use Rattle.wu_space.specs.Addresses.{AreApart};
 ghost use Rattle.wu_token.specs.Words.{IsTerm};
 ghost use Rattle.wu_token.specs.Tokens.{tokens_of};
 ghost use Rattle.wu_token.specs.Pieces.{line_terms, piece_of};
-ghost use Rattle.wu_parts.specs.Memory.{held, no_postings};
-ghost use Rattle.wu_parts.specs.Lists.{KeepsRoom, with_posting, with_terms};
+ghost use Rattle.wu_parts.specs.Memory.{HasPostings, emptied, held, no_postings};
+ghost use Rattle.wu_parts.specs.Lists.{AscendBetween, with_posting, with_terms};
+ghost use Rattle.wu_parts.specs.LiveLists.{AreEncodable};
 
 use crate::chains::{Chain, addresses_from, put};
+use crate::flushing::{by_term, cut_to_live};
 use crate::galloping::{first_start, within_frames};
 use indexmap::IndexMap;
 use std::alloc::Global;
 use std::marker::Model;
-use wu_base::{ADDRESSES_MAX, NoMemory, Range, Sequence, TEXT_MAX};
+use wu_base::{ADDRESSES_MAX, NoMemory, Range, Sequence, TEXT_MAX, TermList};
+use wu_space::Space;
 use wu_token::{FILE_END, FILE_START, LINE_END, LINE_START, Lines, Piece, Token, Word};
 
 /// The postings that are in memory, as chains of the addresses from `start` on: an address that no posting
 /// has, between two texts, has a link that is never followed. Contracts see the addresses of each term, the
-/// number of postings, and the first address above all of them.
+/// number of postings, the first address above all of them, and one below none of them: where the last flush
+/// ended.
 #[derive(Drop)]
 pub(crate) struct MemoryPostings {
     alloc: Global,
     chains: IndexMap<Vec<u8>, Chain>,
     before: Vec<u32>,
+    low: u64,
     start: u64,
     stored: u64,
 }
@@ -36,9 +41,9 @@ impl Model for MemoryPostings {
 
     ghost use Rattle.wu_parts.specs.Chains.{memory_of, IsKept};
 
-    ghost view = { λ m. memory_of m.start m.stored m.before.items m.chains.entries };
+    ghost view = { λ m. memory_of m.low m.start m.stored m.before.items m.chains.entries };
 
-    ghost invariant = { λ m. IsKept m.start m.stored m.before.items m.chains.entries };
+    ghost invariant = { λ m. IsKept m.low m.start m.stored m.before.items m.chains.entries };
 }
 
 impl MemoryPostings {
@@ -50,6 +55,7 @@ impl MemoryPostings {
             alloc,
             chains: IndexMap::new(alloc),
             before: Vec::new(alloc),
+            low: 0,
             start: 0,
             stored: 0,
         }
@@ -58,6 +64,7 @@ impl MemoryPostings {
     /// How many postings there are.
     pub(crate) fn stored(&self) -> u64
         ensures stored { result ≡ self.now.stored }
+        ensures room { self.now.low + self.now.stored ≤ self.now.end }
         ensures bounded { self.now.end ≤ ADDRESSES_MAX }
     {
         self.stored
@@ -105,7 +112,7 @@ impl MemoryPostings {
         requires after { self.old.end ≤ start }
         requires bounded { start + length tokens.now ≤ ADDRESSES_MAX }
         ensures terms { OnOk result (self.new ≡ with_terms self.old start (map (λ token. token.term) tokens.now)) }
-        ensures room { KeepsRoom self.old self.new }
+        ensures low { self.new.low ≡ self.old.low }
     {
         if tokens.is_empty() {
             return Ok(());
@@ -125,7 +132,7 @@ impl MemoryPostings {
         requires bounded { start + length (tokens_of text.now) ≤ ADDRESSES_MAX }
         ensures count { IfOk result (λ count. count ≡ length (tokens_of text.now)) }
         ensures terms { OnOk result (self.new ≡ with_terms self.old start (tokens_of text.now)) }
-        ensures room { KeepsRoom self.old self.new }
+        ensures low { self.new.low ≡ self.old.low }
     {
         self.pass_to(start)?;
         self.push(FILE_START)?;
@@ -140,7 +147,7 @@ impl MemoryPostings {
     fn add_line(&mut self, line: Piece) -> Result<(), NoMemory>
         requires { self.old.end + length (line_terms (piece_of line)) ≤ ADDRESSES_MAX }
         ensures terms { OnOk result (self.new ≡ with_terms self.old self.old.end (line_terms (piece_of line.entry))) }
-        ensures room { KeepsRoom self.old self.new }
+        ensures low { self.new.low ≡ self.old.low }
     {
         self.push(LINE_START)?;
         for run in line.runs() {
@@ -150,13 +157,39 @@ impl MemoryPostings {
         Ok(())
     }
 
+    /// The lists of the live postings, by the bytes of their terms: those of a part. Each posting that stands at
+    /// a dead address is left out.
+    pub(crate) fn live_lists(&self, space: &Space) -> Result<Vec<TermList>, NoMemory>
+        ensures lists { IfOk result (λ lists. (low high : ℕ) (postings : List Posting) → HasPostings low high self.now postings
+            → lists.items ≡ lists_of (live_of (map (λ file. file.1) space.now.ranges) postings)) }
+        ensures encodable { IfOk result (λ lists. AreEncodable lists.items) }
+        ensures has { (postings : List Posting) × HasPostings self.now.low self.now.end self.now postings }
+        ensures bounded { self.now.end ≤ ADDRESSES_MAX }
+    {
+        space.keeps_the_rules();
+        let live = space.live_ranges(self.start, self.end())?;
+        let entries = by_term(self.alloc, &self.chains)?;
+        cut_to_live(self.alloc, &entries, &self.before, self.start, &live)
+    }
+
+    /// Forgets the postings, and gives their memory back. No address below the end is used again.
+    pub(crate) fn clear(&mut self)
+        ensures { self.new ≡ emptied self.old }
+    {
+        self.start = self.end();
+        self.low = self.start;
+        self.chains = IndexMap::new(self.alloc);
+        self.before = Vec::new(self.alloc);
+        self.stored = 0;
+    }
+
     /// The addresses of the term that lie in the frames, ascending. Takes no time for those below the first
     /// frame. The only error is out of memory.
     pub(crate) fn fetch(&self, term: &[u8], frames: &[Range]) -> Result<Sequence<u64>, NoMemory>
         requires apart { AreApart frames.now }
         requires bounded { All (λ frame. frame.start + frame.len ≤ ADDRESSES_MAX) frames.now }
         ensures addresses { IfOk result (λ found. found ≡ filter (is_live frames.now) (held self.now term.now)) }
-        ensures ascending { IfOk result IsStrictlyIncreasing }
+        ensures ascend { IfOk result (AscendBetween self.now.low self.now.end) }
     {
         match self.chains.get(term) {
             Some(chain) => {

@@ -1,25 +1,45 @@
 //! The parts of the index, and the postings in memory.
-ghost use Rattle.std.specs.Prelude.{◌≡◌, ◌+◌, ◌<◌, ◌≤◌, ◌^◌, ◌∷◌, ◌++◌, [], All, IsTrue, ◌↔◌, length, map, filter, slice_get, IfOk, OnOk, OnErr};
+ghost use Rattle.std.specs.Prelude.{◌≡◌, ℕ, ◌+◌, ◌<◌, ◌≤◌, ◌^◌, ◌∷◌, ◌++◌, List, Option, [], true, Err, All, IsTrue, ◌↔◌, length, map, filter, slice_get, zip, IfOk, IfErr, IfSome, OnOk, OnErr};
+ghost use Rattle.std.specs.List.{AllByRecursion};
 ghost use Rattle.std.specs.List.Sorted.{IsStrictlyIncreasing};
-ghost use Rattle.wu_layout.specs.Postings.{is_live};
+ghost use Rattle.std.specs.Map.{keys_of};
+ghost use Rattle.wu_layout.specs.Layouts.{Part, stored_in as postings_in};
+ghost use Rattle.wu_layout.specs.Postings.{Posting, fetched, is_live, live_of};
+ghost use Rattle.wu_outside.specs.Content.{MayDo, with_blob};
+ghost use Rattle.wu_outside.specs.Crash.{Put, try_change};
 ghost use Rattle.wu_space.specs.Addresses.{AreApart};
 ghost use Rattle.wu_token.specs.Words.{IsTerm};
 ghost use Rattle.wu_token.specs.Tokens.{tokens_of};
-ghost use Rattle.wu_parts.specs.Memory.{held};
+ghost use Rattle.wu_parts.specs.Memory.{HasPostings, held};
+ghost use Rattle.wu_lists.specs.Keeping.{Asks, all_missing};
+ghost use Rattle.wu_parts.specs.Causes.{IsFetchCause, IsStoreCause};
 ghost use Rattle.wu_parts.specs.Contents.{GainsTerms, no_contents, stored_in, stored_in_parts};
+ghost use Rattle.wu_parts.specs.Flushing.{EmptiesMemory, Flushes};
+ghost use Rattle.wu_parts.specs.Holdings.{AreKept, HoldParts, all_needed};
+ghost use Rattle.wu_parts.specs.StoredParts.{records_of};
 
 use crate::memory::MemoryPostings;
+use crate::reading::fetch_from_parts;
+use crate::writing::{StoredPart, put_part};
 use std::alloc::Global;
 use std::marker::Model;
-use wu_base::{ADDRESSES_MAX, NoMemory, PartRec, Range, Sequence, TEXT_MAX};
+use wu_base::{ADDRESSES_MAX, NoMemory, PartRec, Range, Sequence, TEXT_MAX, Trouble};
+use wu_lists::Lists;
+use wu_outside::Store;
+use wu_space::Space;
 use wu_token::Token;
+
+/// How many blocks of parts are kept.
+pub const BLOCKS_KEPT: usize = 1024;
 
 /// The postings that were added since the last flush, and the parts in the store. After out of memory a
 /// Parts is only dropped.
 #[derive(Drop)]
 pub struct Parts {
+    alloc: Global,
     memory: MemoryPostings,
-    parts: Vec<PartRec>,
+    parts: Vec<StoredPart>,
+    lists: Lists,
     flush_at: u64,
     next_blob: u64,
     flushes: u64,
@@ -27,17 +47,16 @@ pub struct Parts {
 }
 
 impl Model for Parts {
-    ghost use Rattle.std.specs.Prelude.{◌+◌, ◌≤◌};
-    ghost use Rattle.wu_parts.specs.Contents.{Contents, stored_in_parts};
+    ghost use Rattle.wu_parts.specs.Contents.{Contents};
 
     ghost Value = { Contents };
 
+    ghost use Rattle.wu_parts.specs.StoredParts.{AreStored};
     ghost use Rattle.wu_parts.specs.ViewOfParts.{contents_of};
 
     ghost view = { contents_of };
 
-    // Each posting has an address of its own, and they are below the end.
-    ghost invariant = { λ p. p.memory.stored + stored_in_parts p.parts.items ≤ p.memory.end };
+    ghost invariant = { λ p. AreStored p.memory.low p.parts.items };
 }
 
 impl Parts {
@@ -47,8 +66,10 @@ impl Parts {
         ensures { IfOk result (λ parts. parts ≡ no_contents flush_at next_blob) }
     {
         Ok(Parts {
+            alloc,
             memory: MemoryPostings::new(alloc),
             parts: Vec::new(alloc),
+            lists: Lists::new(alloc, BLOCKS_KEPT)?,
             flush_at,
             next_blob,
             flushes: 0,
@@ -93,6 +114,90 @@ impl Parts {
         self.memory.fetch(term, frames)
     }
 
+    /// The addresses of the term that lie in the frames, ascending: those in the parts, from left to right, and
+    /// then those in memory. Of the parts only those blocks of the term are read that the frames need and that
+    /// aren't kept, each in one read; they are kept then.
+    ///
+    /// A part is damaged where its blob is absent, or where a block that is read of it isn't one as its
+    /// directory tells.
+    pub fn fetch<D: Store>(
+        &mut self,
+        store: &mut D,
+        term: &[u8],
+        frames: &[Range],
+    ) -> Result<Sequence<u64>, Trouble>
+        requires apart { AreApart frames.now }
+        requires bounded { All (λ frame. frame.start + frame.len ≤ ADDRESSES_MAX) frames.now }
+        ensures addresses { IfOk result (λ found. IfSome (D.holds store.old) (λ content. (parts : List Part)
+            → HoldParts content self.old.parts self.old.directories parts → AreKept content self.old.parts self.old.kept
+            → found ≡ fetched frames.now (postings_in parts) term.now ++ filter (is_live frames.now) (held self.old.memory term.now))) }
+        ensures ascending { IfOk result IsStrictlyIncreasing }
+        ensures live { IfOk result (λ found. AllByRecursion (λ address. is_live frames.now address ≡ true) found) }
+
+        ensures blocks { OnOk result (Asks (all_needed (zip self.old.parts self.old.directories) term.now frames.now) (D.holds store.old)
+            self.old.kept self.new.kept (D.reads store.old) (D.reads store.new)) }
+        ensures others { self.new ≡ record self.old { kept = self.new.kept } }
+
+        ensures holds { D.holds store.new ≡ D.holds store.old }
+        ensures moments { D.moments store.new ≡ D.moments store.old }
+        ensures calm { OnOk result (D.faults store.new ≡ D.faults store.old) }
+        ensures cause { IfErr result (IsFetchCause (zip self.old.parts self.old.directories)
+            (all_missing self.old.kept.cap (keys_of self.old.kept.entries)
+            (all_needed (zip self.old.parts self.old.directories) term.now frames.now))
+            (D.holds store.old) (D.faults store.old) (D.faults store.new) (D.reads store.old) (D.reads store.new)) }
+    {
+        let mut found = fetch_from_parts(
+            self.alloc,
+            store,
+            &mut self.lists,
+            self.parts.as_slice(),
+            term,
+            frames,
+        )?;
+        let in_memory = self.memory.fetch(term, frames)?;
+        found.extend_from_slice(in_memory.as_slice())?;
+        Ok(Sequence::from(found))
+    }
+
+    /// Makes a part of the live postings in memory, right of all others, and forgets memory: the dead ones are
+    /// dropped, and where none is live no part is made and the store is not asked. It reads nothing of the
+    /// store. Nothing but the number of the next blob is changed before the store has the part. Its errors are
+    /// out of memory and a fault of the store.
+    pub fn flush<D: Store>(&mut self, store: &mut D, space: &Space) -> Result<(), Trouble>
+        requires blob { self.old.next_blob + 1 < 2 ^ 63 }
+        requires flushes { self.old.flushes + 1 < 2 ^ 63 }
+        ensures flushed { OnOk result ((low high : ℕ) (postings : List Posting) → HasPostings low high self.old.memory postings
+            → Flushes (live_of (map (λ file. file.1) space.now.ranges) postings) self.old self.new
+            (D.holds store.old, D.moments store.old) (D.holds store.new, D.moments store.new)) }
+        ensures changes { OnOk result (EmptiesMemory self.old self.new) }
+        ensures unchanged { OnErr result (self.new ≡ record self.old { next_blob = self.new.next_blob }) }
+
+        // Whatever is answered, only the blob of the next number may differ.
+        ensures elsewhere { (written : Option (List ℕ))
+            × MayDo (with_blob self.old.next_blob written) (D.holds store.old) (D.holds store.new) }
+        ensures tried { (written : Option (List ℕ))
+            × MayDo (try_change (Put self.old.next_blob) (with_blob self.old.next_blob written))
+            (D.moments store.old) (D.moments store.new) }
+        ensures unread { D.reads store.new ≡ D.reads store.old }
+        ensures calm { OnOk result (D.faults store.new ≡ D.faults store.old) }
+        ensures cause { IfErr result (IsStoreCause (D.faults store.old) (D.faults store.new)) }
+    {
+        let _untouched = &*store;
+        let lists = self.memory.live_lists(space)?;
+        if lists.is_empty() {
+            self.memory.clear();
+            return Ok(());
+        }
+        self.parts.reserve(1)?;
+        let blob = self.next_blob;
+        self.next_blob = blob + 1;
+        let part = put_part(self.alloc, store, blob, &lists)?;
+        self.parts.push(part)?;
+        self.flushes += 1;
+        self.memory.clear();
+        Ok(())
+    }
+
     /// Whether memory has at least so many postings as make it full.
     pub fn full(&self) -> bool
         ensures { IsTrue result ↔ (self.now.flush_at ≤ self.now.memory.stored) }
@@ -118,7 +223,10 @@ impl Parts {
     pub fn part(&self, i: usize) -> Option<PartRec>
         ensures { result ≡ slice_get self.now.parts i }
     {
-        self.parts.get(i).copied()
+        match self.parts.get(i) {
+            Some(part) => Some(part.recorded),
+            None => None,
+        }
     }
 
     /// How many flushes made a part.
@@ -171,9 +279,9 @@ impl Parts {
 }
 
 /// How many postings the parts have.
-fn stored_in_all(parts: &[PartRec]) -> u64
-    requires { stored_in_parts parts.now < 2 ^ 64 }
-    ensures { result ≡ stored_in_parts parts.now }
+fn stored_in_all(parts: &[StoredPart]) -> u64
+    requires { stored_in_parts (records_of parts.now) < 2 ^ 64 }
+    ensures { result ≡ stored_in_parts (records_of parts.now) }
 {
-    parts.iter().map(|part| part.stored).sum()
+    parts.iter().map(|part| part.recorded.stored).sum()
 }

@@ -127,7 +127,9 @@ pub fn release_others(space: &mut Space, last: u32, seen: &[u32]) {
 }
 
 /// Gives up the file, if it has addresses.
-pub fn release(space: &mut Space, ino: Ino) {
+pub fn release(space: &mut Space, ino: Ino)
+    ensures { space.new.next ≡ space.old.next }
+{
     if space.range_of(ino).is_some() {
         space.release(ino);
     }
@@ -152,7 +154,7 @@ pub fn fetch_all(parts: &Parts, term: &[u8]) -> Result<Sequence<u64>, NoAnswer> 
 }
 
 /// Whether all frames end by the greatest address.
-fn are_bounded(frames: &[Range]) -> bool
+pub fn are_bounded(frames: &[Range]) -> bool
     ensures { IsTrue result ↔ All (λ frame. frame.start + frame.len ≤ ADDRESSES_MAX) frames.now }
 {
     frames.iter().all(|frame| ends_in_time(frame))

@@ -1,5 +1,6 @@
 //! The calls of a Parts.
 use crate::fixtures::{By, fetch_live, put_texts, release_others};
+use crate::stores::{fetched as fetched_after, held, recorded};
 use std::alloc::Global;
 use wu_base::PartRec;
 use wu_parts::Parts;
@@ -32,6 +33,9 @@ pub fn answer(
         ("Parts::retire", [blobs]) => retired(alloc, blobs),
         ("Parts::clear_stale", [blobs]) => cleared(alloc, blobs),
         ("Parts::part", []) => parts_of_none(alloc),
+        ("Parts::flush", [fails, steps]) => recorded(alloc, fails, steps),
+        ("Parts::flush", [steps, "holds", blob]) => held(alloc, steps, blob),
+        ("Parts::fetch", [fails, steps, term]) => fetched_after(alloc, fails, steps, term),
         _ => Err(NoAnswer::BadRow),
     }
 }

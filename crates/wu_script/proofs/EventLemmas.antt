@@ -23,8 +23,8 @@ use Rattle.wu_script.specs.declared.events.NewNode.{NewNode}
 use Rattle.wu_script.specs.declared.words.Word.{Word}
 use Rattle.wu_script.specs.declared.words.Word.TheVariants as words
 use Rattle.wu_script.specs.Words.{word_of}
-use Rattle.wu_script.specs.Commands.{Wish, Entry, Happening, Asking, Refusing, Blank, LineSays, Whole, TextHead}
-use Rattle.wu_script.specs.Commands.{event_line, query_line, text_line}
+use Rattle.wu_script.specs.Commands.{Wish, Operation, Entry, Happening, Asking, Operating, Refusing, Blank, LineSays, Whole, TextHead}
+use Rattle.wu_script.specs.Commands.{event_line, query_line, operation_line, text_line, flush_of, work_of, stat_of}
 use Rattle.wu_script.specs.Commands.{user_of, new_node_of, mkdir_event, create_event, link_of, place_of, unlink_event, rmdir_event}
 use Rattle.wu_script.specs.Commands.{rename_of, chmod_of, chown_of, text_head_of, count_of, find_of, rank_of, paths_of, command_of}
 use Rattle.wu_script.specs.Commands.{fields_say, is_blank, line_says}
@@ -163,6 +163,10 @@ query_says : (query : Option (ℕ × Wish)) → SaysEvent (query_line query)
 query_says None = tt
 query_says (Some query) = tt
 
+operation_says : (operation : Option Operation) → SaysEvent (operation_line operation)
+operation_says None = tt
+operation_says (Some operation) = tt
+
 text_says : (head : Option (ℕ × ℕ)) → SaysEvent (text_line head)
 text_says None = tt
 text_says (Some head) = tt
@@ -187,6 +191,9 @@ command_says words.Count fields = query_says (count_of fields)
 command_says words.Find fields = query_says (find_of fields)
 command_says words.Rank fields = query_says (rank_of fields)
 command_says words.Paths fields = query_says (paths_of fields)
+command_says words.Flush fields = operation_says (flush_of fields)
+command_says words.Work fields = operation_says (work_of fields)
+command_says words.Stat fields = operation_says (stat_of fields)
 command_says words.Unbuilt fields = tt
 command_says words.Unknown fields = tt
 
@@ -262,6 +269,7 @@ asked_tells uid (Err why) = tt
 entry_tells : (read : Reading) (entry : Entry) → HasEvent entry → TellsEvent (said_of read entry)
 entry_tells read (Happening event text) h = h
 entry_tells read (Asking uid wish) h = asked_tells uid (question_in read wish)
+entry_tells read (Operating operation) h = tt
 entry_tells read (Refusing why) h = tt
 entry_tells read Blank h = tt
 

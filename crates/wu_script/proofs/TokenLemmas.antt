@@ -17,7 +17,8 @@ use Rattle.wu_script.specs.declared.types.Why.TheVariants.{LongLine}
 use Rattle.wu_script.specs.declared.words.Word.{Word}
 use Rattle.wu_script.specs.declared.words.Word.TheVariants as words
 use Rattle.wu_script.specs.Words.{word_of}
-use Rattle.wu_script.specs.Commands.{Wish, Entry, Happening, Asking, Refusing, Blank, LineSays, Whole, TextHead, event_line, query_line, text_line}
+use Rattle.wu_script.specs.Commands.{Wish, Operation, Entry, Happening, Asking, Operating, Refusing, Blank, LineSays, Whole, TextHead}
+use Rattle.wu_script.specs.Commands.{event_line, query_line, operation_line, text_line, flush_of, work_of, stat_of}
 use Rattle.wu_script.specs.Commands.{user_of, new_node_of, mkdir_event, create_event, link_of, place_of, unlink_event, rmdir_event, rename_of}
 use Rattle.wu_script.specs.Commands.{chmod_of, chown_of, text_head_of, count_of, find_of, rank_of, paths_of, command_of, fields_say, is_blank, line_says}
 use Rattle.wu_script.specs.Said.{Reading, said_of, question_in, asked, event_tokens, tokens_given, text_given}
@@ -38,6 +39,7 @@ asked_few uid (Err why) = omega arith
 entry_few : (read : Reading) (entry : Entry) → tokens_given (said_of read entry) ≤ 3 * length (text_given (said_of read entry)) + 2
 entry_few read (Happening event text) = event_few event text
 entry_few read (Asking uid wish) = asked_few uid (question_in read wish)
+entry_few read (Operating operation) = omega arith
 entry_few read (Refusing why) = omega arith
 entry_few read Blank = omega arith
 
@@ -92,6 +94,10 @@ query_line_none : (query : Option (ℕ × Wish)) → IsWithoutText (query_line q
 query_line_none None = tt
 query_line_none (Some query) = tt
 
+operation_line_none : (operation : Option Operation) → IsWithoutText (operation_line operation)
+operation_line_none None = tt
+operation_line_none (Some operation) = tt
+
 text_line_none : (head : Option (ℕ × ℕ)) → IsWithoutText (text_line head)
 text_line_none None = tt
 text_line_none (Some head) = tt
@@ -112,6 +118,9 @@ command_none words.Count fields = query_line_none (count_of fields)
 command_none words.Find fields = query_line_none (find_of fields)
 command_none words.Rank fields = query_line_none (rank_of fields)
 command_none words.Paths fields = query_line_none (paths_of fields)
+command_none words.Flush fields = operation_line_none (flush_of fields)
+command_none words.Work fields = operation_line_none (work_of fields)
+command_none words.Stat fields = operation_line_none (stat_of fields)
 command_none words.Unbuilt fields = tt
 command_none words.Unknown fields = tt
 
@@ -139,6 +148,7 @@ line_none line = by_long (nat_lt LINE_MAX (length line)) refl
 entry_text : (read : Reading) (entry : Entry) → IsWithoutText (Whole entry) → text_given (said_of read entry) ≡ []
 entry_text read (Happening event text) none = none
 entry_text read (Asking uid wish) none = asked_text uid (question_in read wish)
+entry_text read (Operating operation) none = refl
 entry_text read (Refusing why) none = refl
 entry_text read Blank none = refl
 

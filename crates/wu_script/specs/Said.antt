@@ -1,6 +1,6 @@
 -- What an item says, its expressions read. Replies and states are defined over this alone.
 use Rattle.std.specs.Prelude.{◌≡◌, ℕ, ◌≤◌, ◌==◌, nat_lt, List, [], length, Result, Ok, Err, if◌then◌else◌}
-use Rattle.wu_base.specs.declared.limits.TheConstants.{TEXT_MAX, RANK_WORDS_MAX, INPUT_MAX}
+use Rattle.wu_base.specs.declared.limits.TheConstants.{TEXT_MAX, RANK_WORDS_MAX, INPUT_MAX, WORK_MAX}
 use Rattle.wu_token.specs.Words.{words_of}
 use Rattle.wu_token.specs.Tokens.{tokens_of}
 use Rattle.wu_gcl.specs.Reading.{Value, Reads}
@@ -16,7 +16,7 @@ use Rattle.wu_script.specs.declared.types.Line.{Line}
 use Rattle.wu_script.specs.declared.types.Line.TheVariants as lines
 use Rattle.wu_script.specs.declared.types.Item.{Item}
 use Rattle.wu_script.specs.declared.types.Item.TheVariants as items
-use Rattle.wu_script.specs.Commands.{Wish, CountOf, FindOf, RankOf, PathsOf, Entry, Happening, Asking, Refusing, Blank, LineSays, Whole, TextHead}
+use Rattle.wu_script.specs.Commands.{Wish, CountOf, FindOf, RankOf, PathsOf, Operation, Flush, Work, Stat, Entry, Happening, Asking, Operating, Refusing, Blank, LineSays, Whole, TextHead}
 
 -- what each text says as a region expression; there is one such function, since each text has one reading
 abbrev pub Reading : Type 0
@@ -25,10 +25,11 @@ Reading = List ℕ → Value
 abbrev pub IsReading : Reading → Type 0
 IsReading read = (text : List ℕ) → Reads text (read text)
 
--- an event with the text that it gives; a question of a user; a refusal; nothing
+-- an event with the text that it gives; a question of a user; an operation; a refusal; nothing
 pub data Said : Type 0 where
   Happens : (event : Event) (text : List ℕ) → Said
   Asks : (uid : ℕ) (question : Question) → Said
+  Operates : (operation : Operation) → Said
   IsRefused : (why : Why) → Said
   SaysNothing : Said
 
@@ -64,6 +65,7 @@ asked uid (Err why) = IsRefused why
 abbrev pub said_of : Reading → Entry → Said
 said_of read (Happening event text) = Happens event text
 said_of read (Asking uid wish) = asked uid (question_in read wish)
+said_of read (Operating operation) = Operates operation
 said_of read (Refusing why) = IsRefused why
 said_of read Blank = SaysNothing
 
@@ -76,6 +78,9 @@ line_of read (TextHead ino len) = TextHead ino len
 abbrev pub said_by_command : Command → Said
 said_by_command (commands.Update event) = Happens event []
 said_by_command (commands.Ask query) = Asks query.uid (question_of query.ask)
+said_by_command commands.Flush = Operates Flush
+said_by_command (commands.Work units) = Operates (Work units)
+said_by_command commands.Stat = Operates Stat
 
 abbrev pub said_by_line : Line → LineSays Said
 said_by_line (lines.Command command) = Whole (said_by_command command)
@@ -104,6 +109,9 @@ IsReadAs item entry = (read : Reading) → IsReading read → said_by item ≡ s
 abbrev pub IsSoundCommand : Command → Type 0
 IsSoundCommand (commands.Update event) = IsEvent event
 IsSoundCommand (commands.Ask query) = IsSoundAsk query.ask
+IsSoundCommand commands.Flush = Unit {0}
+IsSoundCommand (commands.Work units) = (1 ≤ units) × (units ≤ WORK_MAX)
+IsSoundCommand commands.Stat = Unit {0}
 
 abbrev pub IsSoundLine : Line → Type 0
 IsSoundLine (lines.Command command) = IsSoundCommand command
@@ -129,6 +137,7 @@ event_tokens _ text = 0
 abbrev pub tokens_given : Said → ℕ
 tokens_given (Happens event text) = event_tokens event text
 tokens_given (Asks uid question) = 0
+tokens_given (Operates operation) = 0
 tokens_given (IsRefused why) = 0
 tokens_given SaysNothing = 0
 
@@ -136,5 +145,6 @@ tokens_given SaysNothing = 0
 abbrev pub text_given : Said → List ℕ
 text_given (Happens event text) = text
 text_given (Asks uid question) = []
+text_given (Operates operation) = []
 text_given (IsRefused why) = []
 text_given SaysNothing = []

@@ -8,7 +8,8 @@ use wu_rows::{NoAnswer, bytes_text, list_text, plain_text, script};
 use wu_script::{Command, Line, read_command};
 use wu_tree::Event;
 
-/// What the line says: why it is refused, the name of the file that it makes, what it finds, or how it ranks.
+/// What the line says: why it is refused, the name of the file that it makes, what it finds, how it ranks,
+/// or the operation that it is.
 pub fn said(alloc: Global, field: &str) -> Result<String, NoAnswer> {
     let line = script(alloc, field)?;
     match read_command(alloc, line.as_slice())? {
@@ -18,6 +19,9 @@ pub fn said(alloc: Global, field: &str) -> Result<String, NoAnswer> {
         }
         Line::Command(Command::Update(event)) => event_text(alloc, &event),
         Line::Command(Command::Ask(query)) => query_text(alloc, &query),
+        Line::Command(Command::Flush) => plain_text(alloc, "flush"),
+        Line::Command(Command::Work(units)) => Ok(format!(in alloc; "work {units}")?),
+        Line::Command(Command::Stat) => plain_text(alloc, "stat"),
         Line::TextHead { ino, len } => Ok(format!(in alloc; "text {ino} {len}")?),
         Line::Blank => plain_text(alloc, "blank"),
     }

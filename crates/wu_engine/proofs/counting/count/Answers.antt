@@ -1,29 +1,61 @@
-use Rattle.std.proofs.Common.{◌∙◌, ap, map}
+use Rattle.std.proofs.Common.{◌∙◌, List, ℕ, ap, map, subst}
 use Rattle.wu_gcl.specs.Regions.{region_of}
+use Rattle.wu_lists.specs.Keeping.{Asks}
+use Rattle.wu_engine.specs.Asked.{blocks_for, terms_of}
 use Rattle.wu_engine.specs.Units.{found_in, list_at}
+use Rattle.wu_engine.proofs.AskedTerms.{terms_named}
 use Rattle.wu_engine.proofs.CountLemmas.{counted}
 use Rattle.wu_engine.proofs.FramesOfFiles.{are_lists}
+use Rattle.wu_engine.proofs.PassedCauses.{cause_at_last, cause_at_once, cause_passed}
 use Rattle.wu_engine.proofs.UnitLemmas.{searched_few}
 use Rattle.wu_engine.proofs.counting.count.Goals as goal
 
-pub count-requires-clause-lists : goal.count-requires-clause-lists
-count-requires-clause-lists c =
-    let found = found_in c.args.frames.now.ranges c.args.parts.now.memory in
+pub counts_in-requires-clause-lists : goal.counts_in-requires-clause-lists
+counts_in-requires-clause-lists g c =
     rw c.deref-2.ensures.value
-    (are_lists found c.in_ok-terms.terms.items c.in_ok-lists.lists.items
-    (c.in_ok-lists.ensures.lists ∙ ap (map (list_at found)) c.deref.ensures.value) c.in_ok-lists.ensures.ascending
-    c.in_ok-terms.ensures.ascending)
+    (are_lists c.in_ok-terms.terms.items c.in_ok-lists.lists.items (c.in_ok-lists.ensures.named ∙ c.deref.ensures.value)
+    c.in_ok-lists.ensures.ascending c.in_ok-terms.ensures.ascending)
 
-pub count-requires-clause-few : goal.count-requires-clause-few
-count-requires-clause-few c =
+pub counts_in-requires-clause-few : goal.counts_in-requires-clause-few
+counts_in-requires-clause-few g c =
     rw c.as_slice.ensures (searched_few (region_of c.args.expr.now) c.deref-2.result.now c.args.frames.now c.requires)
 
-pub returns : goal.returns
-returns c = λ live s uid is.
-    let found = found_in c.args.frames.now.ranges c.args.parts.now.memory in
-    counted c.args.frames.now live c.args.parts.now.memory s uid is (region_of c.args.expr.now) c.in_ok-terms.terms.items
-    c.in_ok-terms.ensures
+pub returns-clause-answer : goal.returns-clause-answer
+returns-clause-answer g c = λ live s uid is tells.
+    counted c.args.frames.now live s uid is (region_of c.args.expr.now) c.in_ok-terms.terms.items c.in_ok-terms.ensures
     c.in_ok-lists.lists.items c.in_ok-counts.counts.hits c.in_ok-counts.counts.files
-    (c.in_ok-lists.ensures.lists ∙ ap (map (list_at found)) c.deref.ensures.value)
+    (c.in_ok-lists.ensures.lists s tells ∙ ap (map (list_at (found_in c.args.frames.now.ranges s))) c.deref.ensures.value)
     (rw (c.deref-2.ensures.value, c.as_slice.ensures) at c.in_ok-counts.ensures.hits)
     (rw (c.deref-2.ensures.value, c.as_slice.ensures) at c.in_ok-counts.ensures.files)
+
+pub returns-clause-blocks : goal.returns-clause-blocks
+returns-clause-blocks g c =
+    subst (λ (ts : List (List ℕ)). Asks (blocks_for c.args.parts.now c.args.frames.now.ranges ts) (g.D.Store.holds c.args.store.now)
+    c.args.parts.now.kept c.lists_of.new.parts.kept (g.D.Store.reads c.args.store.now) (g.D.Store.reads c.lists_of.new.store))
+    (c.deref.ensures.value ∙ terms_named (region_of c.args.expr.now) c.in_ok-terms.terms.items c.in_ok-terms.ensures)
+    c.in_ok-lists.ensures.blocks
+
+pub returns-in_err-terms-clause-cause : goal.returns-in_err-terms-clause-cause
+returns-in_err-terms-clause-cause g c =
+    cause_at_once c.from_residual.result c.args.parts.now c.args.frames.now.ranges (terms_of (region_of c.args.expr.now))
+    (g.D.Store.holds c.args.store.now) (g.D.Store.faults c.args.store.now) (g.D.Store.reads c.args.store.now) c.from_residual.ensures.1
+
+pub returns-in_err-lists-clause-cause : goal.returns-in_err-lists-clause-cause
+returns-in_err-lists-clause-cause g c =
+    cause_passed c.from_residual-in_err-lists.result c.args.parts.now c.args.frames.now.ranges (terms_of (region_of c.args.expr.now))
+    (g.D.Store.holds c.args.store.now) c.deref.result.now (g.D.Store.faults c.args.store.now) (g.D.Store.faults c.lists_of.new.store)
+    (g.D.Store.reads c.args.store.now) (g.D.Store.reads c.lists_of.new.store) c.in_err-lists.field-0.0
+    (c.deref.ensures.value ∙ terms_named (region_of c.args.expr.now) c.in_ok-terms.terms.items c.in_ok-terms.ensures)
+    c.in_err-lists.ensures.cause c.from_residual-in_err-lists.ensures.1
+
+pub returns-in_err-counts-clause-cause : goal.returns-in_err-counts-clause-cause
+returns-in_err-counts-clause-cause g c =
+    cause_at_last c.from_residual-in_err-counts.result c.args.parts.now c.args.frames.now.ranges (terms_of (region_of c.args.expr.now))
+    (g.D.Store.holds c.args.store.now) c.lists_of.new.parts.kept (g.D.Store.faults c.args.store.now)
+    (g.D.Store.faults c.lists_of.new.store) (g.D.Store.reads c.args.store.now) (g.D.Store.reads c.lists_of.new.store)
+    c.in_ok-lists.ensures.calm
+    (subst (λ (ts : List (List ℕ)). Asks (blocks_for c.args.parts.now c.args.frames.now.ranges ts) (g.D.Store.holds c.args.store.now)
+    c.args.parts.now.kept c.lists_of.new.parts.kept (g.D.Store.reads c.args.store.now) (g.D.Store.reads c.lists_of.new.store))
+    (c.deref.ensures.value ∙ terms_named (region_of c.args.expr.now) c.in_ok-terms.terms.items c.in_ok-terms.ensures)
+    c.in_ok-lists.ensures.blocks)
+    c.from_residual-in_err-counts.ensures.1

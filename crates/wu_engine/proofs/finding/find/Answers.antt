@@ -1,24 +1,28 @@
-use Rattle.std.proofs.Common.{◌≡◌, ◌++◌, ◌∙◌, List, ap, map, subst, sym, take}
-use Rattle.std.specs.Prelude.{IfSome, option_map}
+use Rattle.std.proofs.Common.{◌≡◌, ◌++◌, ◌∙◌, List, ℕ, ap, map, refl, subst, sym, take}
+use Rattle.std.specs.Prelude.{IfSome, Option, option_map}
 use Rattle.std.specs.List.{flat_map}
 use Rattle.wu_base.specs.declared.addresses.TermList.{TermList}
 use Rattle.wu_ask.specs.declared.FindLine.{FindLine}
 use Rattle.wu_gcl.specs.Regions.{region_of}
+use Rattle.wu_lists.specs.Keeping.{Asks}
+use Rattle.wu_outside.specs.Content.{Content}
+use Rattle.wu_engine.specs.Asked.{blocks_for}
+use Rattle.wu_engine.specs.Causes.{IsDamagedIn}
 use Rattle.wu_engine.specs.Finding.{hits_at, lines_at, text_at}
 use Rattle.wu_engine.specs.Reads.{texts_shown}
 use Rattle.wu_engine.specs.Units.{found_in, list_at}
-use Rattle.wu_engine.proofs.FoundLines.{found_answer, found_reads}
+use Rattle.wu_engine.proofs.AskedTerms.{terms_named}
+use Rattle.wu_engine.proofs.FoundLines.{are_texts, found_answer, found_texts}
 use Rattle.wu_engine.proofs.FramesOfFiles.{are_lists}
+use Rattle.wu_engine.proofs.QueryReads.{cause_of_fetch, cause_of_memory, cause_of_text}
 use Rattle.wu_engine.proofs.UnitLemmas.{searched_few}
 use Rattle.wu_engine.proofs.finding.find.Goals as goal
 
 pub count-requires-clause-lists : goal.count-requires-clause-lists
 count-requires-clause-lists g c =
-    let found = found_in c.args.frames.now.ranges c.args.parts.now.memory in
     rw c.deref-2.ensures.value
-    (are_lists found c.in_ok-terms.terms.items c.in_ok-lists.lists.items
-    (c.in_ok-lists.ensures.lists ∙ ap (map (list_at found)) c.deref.ensures.value) c.in_ok-lists.ensures.ascending
-    c.in_ok-terms.ensures.ascending)
+    (are_lists c.in_ok-terms.terms.items c.in_ok-lists.lists.items (c.in_ok-lists.ensures.named ∙ c.deref.ensures.value)
+    c.in_ok-lists.ensures.ascending c.in_ok-terms.ensures.ascending)
 
 pub count-requires-clause-few : goal.count-requires-clause-few
 count-requires-clause-few g c =
@@ -26,21 +30,19 @@ count-requires-clause-few g c =
 
 pub first_lines-requires-clause-lists : goal.first_lines-requires-clause-lists
 first_lines-requires-clause-lists g c =
-    let found = found_in c.args.frames.now.ranges c.args.parts.now.memory in
     rw c.deref-3.ensures.value
-    (are_lists found c.in_ok-terms.terms.items c.in_ok-lists.lists.items
-    (c.in_ok-lists.ensures.lists ∙ ap (map (list_at found)) c.deref.ensures.value) c.in_ok-lists.ensures.ascending
-    c.in_ok-terms.ensures.ascending)
+    (are_lists c.in_ok-terms.terms.items c.in_ok-lists.lists.items (c.in_ok-lists.ensures.named ∙ c.deref.ensures.value)
+    c.in_ok-lists.ensures.ascending c.in_ok-terms.ensures.ascending)
 
 pub returns-clause-answer : goal.returns-clause-answer
-returns-clause-answer g c = λ live s uid is keeps.
-    let found = found_in c.args.frames.now.ranges c.args.parts.now.memory in
+returns-clause-answer g c = λ live s uid is tells keeps.
+    let found = found_in c.args.frames.now.ranges s in
     let files = c.args.files.now.entries in
     let region = region_of c.args.expr.now in
     let lists = c.in_ok-lists.lists.items in
     let holds = g.D.Store.holds c.args.store.now in
-    found_answer c.args.frames.now live c.args.parts.now.memory s uid is region c.in_ok-terms.terms.items c.in_ok-terms.ensures files lists
-    (c.in_ok-lists.ensures.lists ∙ ap (map (list_at found)) c.deref.ensures.value)
+    found_answer c.args.frames.now live s uid is region c.in_ok-terms.terms.items c.in_ok-terms.ensures files lists
+    (c.in_ok-lists.ensures.lists s tells ∙ ap (map (list_at found)) c.deref.ensures.value)
     c.args.k c.as_slice-2.result.now c.as_slice-2.ensures holds
     c.in_ok-counts.counts.hits c.in_ok-counts.counts.files _ keeps
     (rw (c.deref-2.ensures.value, c.as_slice.ensures) at c.in_ok-counts.ensures.hits)
@@ -49,20 +51,58 @@ returns-clause-answer g c = λ live s uid is keeps.
     ≡ take c.args.k (flat_map (lines_at content files region lists) c.as_slice-2.result.now))) (sym c.from.ensures)
     (subst (λ (ls : List TermList). IfSome holds (λ content. c.in_ok-shown.shown.items
     ≡ take c.args.k (flat_map (lines_at content files region ls) c.as_slice-2.result.now)))
-    c.deref-3.ensures.value c.in_ok-shown.ensures.lines))
+    c.deref-3.ensures.value
+    (subst (λ (o : Option Content). IfSome o (λ content. c.in_ok-shown.shown.items
+    ≡ take c.args.k (flat_map (lines_at content files region c.deref-3.result.now) c.as_slice-2.result.now)))
+    c.lists_of.ensures.holds c.in_ok-shown.ensures.lines)))
 
 pub returns-clause-reads : goal.returns-clause-reads
-returns-clause-reads g c = λ live s uid is keeps.
-    let found = found_in c.args.frames.now.ranges c.args.parts.now.memory in
+returns-clause-reads g c =
     let files = c.args.files.now.entries in
     let region = region_of c.args.expr.now in
     let lists = c.in_ok-lists.lists.items in
-    let holds = g.D.Store.holds c.args.store.now in
+    let terms = c.in_ok-terms.terms.items in
     let reads = g.D.Store.reads in
-    found_reads c.args.frames.now live c.args.parts.now.memory s uid is region c.in_ok-terms.terms.items c.in_ok-terms.ensures files lists
-    (c.in_ok-lists.ensures.lists ∙ ap (map (list_at found)) c.deref.ensures.value)
-    c.args.k c.as_slice-2.result.now c.as_slice-2.ensures holds
-    (reads c.args.store.now) (reads c.first_lines.new.store) keeps
-    (subst (λ (ls : List TermList). reads c.first_lines.new.store
-    ≡ option_map (λ ranges. ranges ++ texts_shown (hits_at files region ls) (text_at files) c.args.k c.as_slice-2.result.now)
-    (reads c.args.store.now)) c.deref-3.ensures.value c.in_ok-shown.ensures.reads)
+    record {
+      between = reads c.lists_of.new.store;
+      asks = subst (λ (ts : List (List ℕ)). Asks (blocks_for c.args.parts.now c.args.frames.now.ranges ts)
+          (g.D.Store.holds c.args.store.now) c.args.parts.now.kept c.lists_of.new.parts.kept (reads c.args.store.now)
+          (reads c.lists_of.new.store))
+          (c.deref.ensures.value ∙ terms_named region terms c.in_ok-terms.ensures) c.in_ok-lists.ensures.blocks;
+      texts = texts_shown (hits_at files region lists) (text_at files) c.args.k c.as_slice-2.result.now;
+      are = record {
+        are = are_texts files region lists c.args.k c.as_slice-2.result.now;
+        shown = λ live s uid is tells keeps.
+            found_texts c.args.frames.now live s uid is region terms c.in_ok-terms.ensures files lists
+            (c.in_ok-lists.ensures.lists s tells ∙ ap (map (list_at (found_in c.args.frames.now.ranges s))) c.deref.ensures.value)
+            c.args.k c.as_slice-2.result.now c.as_slice-2.ensures (g.D.Store.holds c.args.store.now) _ keeps refl;
+      };
+      read = subst (λ (ls : List TermList). reads c.first_lines.new.store
+          ≡ option_map (λ ranges. ranges ++ texts_shown (hits_at files region ls) (text_at files) c.args.k c.as_slice-2.result.now)
+          (reads c.lists_of.new.store)) c.deref-3.ensures.value c.in_ok-shown.ensures.reads;
+    }
+
+pub returns-in_err-terms-clause-cause : goal.returns-in_err-terms-clause-cause
+returns-in_err-terms-clause-cause g c =
+    let faults = g.D.Store.faults c.args.store.now in
+    cause_of_memory c.from_residual.result faults faults
+    (IsDamagedIn c.args.files.now.entries c.args.parts.now (g.D.Store.holds c.args.store.now)) refl c.from_residual.ensures.1
+
+pub returns-in_err-lists-clause-cause : goal.returns-in_err-lists-clause-cause
+returns-in_err-lists-clause-cause g c =
+    cause_of_fetch c.from_residual-in_err-lists.result (g.D.Store.faults c.args.store.now) (g.D.Store.faults c.lists_of.new.store)
+    c.args.files.now.entries c.args.parts.now (g.D.Store.holds c.args.store.now) c.in_err-lists.field-0.0 c.from_residual-in_err-lists.ensures.1
+    _ _ _ c.in_err-lists.ensures.cause
+
+pub returns-in_err-counts-clause-cause : goal.returns-in_err-counts-clause-cause
+returns-in_err-counts-clause-cause g c =
+    cause_of_memory c.from_residual-in_err-counts.result (g.D.Store.faults c.args.store.now) (g.D.Store.faults c.lists_of.new.store)
+    (IsDamagedIn c.args.files.now.entries c.args.parts.now (g.D.Store.holds c.args.store.now)) c.in_ok-lists.ensures.calm
+    c.from_residual-in_err-counts.ensures.1
+
+pub returns-in_err-shown-clause-cause : goal.returns-in_err-shown-clause-cause
+returns-in_err-shown-clause-cause g c =
+    cause_of_text c.from_residual-in_err-shown.result (g.D.Store.faults c.args.store.now) (g.D.Store.faults c.first_lines.new.store)
+    c.args.files.now.entries c.args.parts.now (g.D.Store.holds c.args.store.now) c.in_err-shown.field-0.0 c.from_residual-in_err-shown.ensures.1
+    (g.D.Store.holds c.lists_of.new.store) (g.D.Store.faults c.lists_of.new.store) c.lists_of.ensures.holds c.in_ok-lists.ensures.calm
+    c.in_err-shown.ensures.cause

@@ -1,4 +1,5 @@
-use Rattle.wu_engine.proofs.KeptStates.{blob_rises, first_is_state, next_rises, state_kept}
+use Rattle.wu_engine.proofs.FlushedStates.{flushed_kept, rises-flush}
+use Rattle.wu_engine.proofs.KeptStates.{blob_rises, first_is_state, flushes_rise, next_rises, state_kept}
 use Rattle.wu_engine.proofs.laws.each_event_keeps_a_state.Goals as goal
 
 pub returns-clause-first : goal.returns-clause-first
@@ -12,3 +13,18 @@ returns-clause-next c = next_rises
 
 pub returns-clause-next_blob : goal.returns-clause-next_blob
 returns-clause-next_blob c = blob_rises
+
+pub returns-clause-flushes : goal.returns-clause-flushes
+returns-clause-flushes c = flushes_rise
+
+pub returns-clause-flush : goal.returns-clause-flush
+returns-clause-flush c = flushed_kept
+
+pub returns-clause-flush_takes : goal.returns-clause-flush_takes
+returns-clause-flush_takes c s = (rises-flush s.layout).next
+
+pub returns-clause-flush_draws : goal.returns-clause-flush_draws
+returns-clause-flush_draws c s = (rises-flush s.layout).blob
+
+pub returns-clause-flush_counts : goal.returns-clause-flush_counts
+returns-clause-flush_counts c s = (rises-flush s.layout).flushed

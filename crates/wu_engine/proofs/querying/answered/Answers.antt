@@ -1,18 +1,19 @@
-use Rattle.std.proofs.Common.{◌≡◌, ◌++◌, ℕ, subst}
-use Rattle.std.specs.Prelude.{option_map}
+use Rattle.std.proofs.Common.{◌≡◌, ℕ, refl, subst}
+use Rattle.std.proofs.lemmas.Result.{on_ok_weaker}
 use Rattle.wu_ask.specs.declared.Answered.{Answered}
 use Rattle.wu_ask.specs.Questions.{question_of}
 use Rattle.wu_frames.specs.UserFrames.{AreFrames}
 use Rattle.wu_frames.proofs.Keeping.{right-found}
 use Rattle.wu_tree.specs.FileSystems.{FileSystem}
 use Rattle.wu_engine.specs.Answer.{answer}
+use Rattle.wu_engine.specs.Causes.{IsDamagedIn}
 use Rattle.wu_engine.specs.Finding.{KeepsTexts}
-use Rattle.wu_engine.specs.Reads.{texts_read}
 use Rattle.wu_engine.specs.States.{State}
-use Rattle.wu_engine.specs.Units.{Indexes, IsIndexOf}
+use Rattle.wu_engine.specs.Units.{Indexes, IsIndexOf, TellsPostings}
 use Rattle.wu_engine.specs.View.{view_of}
 use Rattle.wu_engine.proofs.AnswerLemmas.{if_ok}
-use Rattle.wu_engine.proofs.Searching.{can_be_searched, can_be_read}
+use Rattle.wu_engine.proofs.QueryReads.{cause_of_memory, no_memory, reads_for}
+use Rattle.wu_engine.proofs.Searching.{can_be_read, can_be_searched, sound_prepared}
 use Rattle.wu_engine.proofs.querying.answered.Goals as goal
 
 pub answer-requires-clause-fit : goal.answer-requires-clause-fit
@@ -32,37 +33,54 @@ pub returns-in-Some-clause-answer : goal.returns-in-Some-clause-answer
 returns-in-Some-clause-answer g c =
     let hers = right-found c.args.tree.now c.args.space.now.ranges c.args.query.now.uid c.prepare.new.self c.in-Some.frames.now
     c.prepare.ensures.right c.in-Some.ensures in
+    let holds = g.D.Store.holds c.args.store.now in
     if_ok (λ (answered : Answered). (s : State) (uid : ℕ)
-    → Indexes c.in-Some.frames.now c.args.space.now.ranges c.args.parts.now.memory s uid
-    → KeepsTexts c.args.files.now.entries (g.D.Store.holds c.args.store.now) s
+    → Indexes c.in-Some.frames.now c.args.space.now.ranges s uid → TellsPostings c.args.parts.now holds s
+    → KeepsTexts c.args.files.now.entries holds s
     → answered ≡ answer (view_of s uid) (question_of c.args.query.now.ask))
-    (λ (answered : Answered). (s : State) → c.args.tree.now ≡ s.tree → IsIndexOf c.args.space.now.ranges c.args.parts.now.memory s
-    → KeepsTexts c.args.files.now.entries (g.D.Store.holds c.args.store.now) s
+    (λ (answered : Answered). (s : State) → c.args.tree.now ≡ s.tree → IsIndexOf c.args.space.now.ranges s
+    → TellsPostings c.args.parts.now holds s → KeepsTexts c.args.files.now.entries holds s
     → answered ≡ answer (view_of s c.args.query.now.uid) (question_of c.args.query.now.ask)) c.answer.result
-    (λ answered for_all s tree index texts.
+    (λ answered for_all s tree index tells texts.
     for_all s c.args.query.now.uid
     (record {
       index = index;
       hers = subst (λ (fs : FileSystem). AreFrames fs c.args.space.now.ranges c.args.query.now.uid c.in-Some.frames.now) tree hers;
-    }) texts)
+    }) tells texts)
     c.answer.ensures.answer
 
 pub returns-in-Some-clause-reads : goal.returns-in-Some-clause-reads
 returns-in-Some-clause-reads g c =
     let hers = right-found c.args.tree.now c.args.space.now.ranges c.args.query.now.uid c.prepare.new.self c.in-Some.frames.now
     c.prepare.ensures.right c.in-Some.ensures in
-    let old = g.D.Store.reads c.args.store.now in
-    let new = g.D.Store.reads c.answer.new.store in
-    if_ok (λ (_ : Answered). (s : State) (uid : ℕ) → Indexes c.in-Some.frames.now c.args.space.now.ranges c.args.parts.now.memory s uid
-    → KeepsTexts c.args.files.now.entries (g.D.Store.holds c.args.store.now) s
-    → new ≡ option_map (λ ranges. ranges ++ texts_read s uid (question_of c.args.query.now.ask)) old)
-    (λ (_ : Answered). (s : State) → c.args.tree.now ≡ s.tree → IsIndexOf c.args.space.now.ranges c.args.parts.now.memory s
-    → KeepsTexts c.args.files.now.entries (g.D.Store.holds c.args.store.now) s
-    → new ≡ option_map (λ ranges. ranges ++ texts_read s c.args.query.now.uid (question_of c.args.query.now.ask)) old) c.answer.result
-    (λ answered for_all s tree index texts.
-    for_all s c.args.query.now.uid
-    (record {
-      index = index;
-      hers = subst (λ (fs : FileSystem). AreFrames fs c.args.space.now.ranges c.args.query.now.uid c.in-Some.frames.now) tree hers;
-    }) texts)
+    on_ok_weaker c.answer.result
+    (reads_for c.args.tree.now c.args.space.now.ranges c.args.query.now.uid (question_of c.args.query.now.ask) c.args.parts.now
+    c.answer.new.parts.kept c.args.files.now.entries (g.D.Store.holds c.args.store.now) (g.D.Store.reads c.args.store.now)
+    (g.D.Store.reads c.answer.new.store) c.in-Some.frames.now hers)
     c.answer.ensures.reads
+
+pub returns-in-Some-clause-sound : goal.returns-in-Some-clause-sound
+returns-in-Some-clause-sound g c =
+    sound_prepared c.args.tree.now c.args.space.now c.args.parts.now c.answer.new.parts c.args.files.now.entries c.args.kept.now
+    c.prepare.new.self c.answer.ensures.others c.prepare.ensures.right c.requires.sound
+
+pub returns-in_err-prepare-clause-sound : goal.returns-in_err-prepare-clause-sound
+returns-in_err-prepare-clause-sound g c =
+    sound_prepared c.args.tree.now c.args.space.now c.args.parts.now c.args.parts.now c.args.files.now.entries c.args.kept.now
+    c.prepare.new.self refl c.prepare.ensures.right c.requires.sound
+
+pub returns-in-None-clause-sound : goal.returns-in-None-clause-sound
+returns-in-None-clause-sound g c =
+    sound_prepared c.args.tree.now c.args.space.now c.args.parts.now c.args.parts.now c.args.files.now.entries c.args.kept.now
+    c.prepare.new.self refl c.prepare.ensures.right c.requires.sound
+
+pub returns-in_err-prepare-clause-cause : goal.returns-in_err-prepare-clause-cause
+returns-in_err-prepare-clause-cause g c =
+    let faults = g.D.Store.faults c.args.store.now in
+    cause_of_memory c.from_residual.result faults faults
+    (IsDamagedIn c.args.files.now.entries c.args.parts.now (g.D.Store.holds c.args.store.now)) refl c.from_residual.ensures.1
+
+pub returns-in-None-clause-cause : goal.returns-in-None-clause-cause
+returns-in-None-clause-cause g c =
+    no_memory (IsDamagedIn c.args.files.now.entries c.args.parts.now (g.D.Store.holds c.args.store.now))
+    (g.D.Store.faults c.args.store.now)

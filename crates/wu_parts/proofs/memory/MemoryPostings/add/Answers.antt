@@ -1,10 +1,10 @@
-use Rattle.std.proofs.Common.{◌≡◌, ◌+◌, ◌≤◌, ℕ, List, length, take, map, ap, refl, ◌∙◌, sym, subst, arith, rules}
+use Rattle.std.proofs.Common.{◌≡◌, ◌+◌, ◌≤◌, ℕ, List, length, take, map, ap, refl, ◌∙◌, arith, rules}
 use Rattle.std.proofs.lemmas.Bool.{eqb-false}
 use Rattle.std.proofs.lemmas.List.{length-map, take_all}
 use Rattle.wu_token.specs.declared.spans.Token.{Token}
 use Rattle.wu_parts.specs.Memory.{Memory}
-use Rattle.wu_parts.specs.Lists.{KeepsRoom, with_posting, with_terms}
-use Rattle.wu_parts.proofs.Putting.{add_more, end_of_front, room_of_front, with_terms-passed}
+use Rattle.wu_parts.specs.Lists.{with_posting, with_terms}
+use Rattle.wu_parts.proofs.Putting.{add_more, end_of_front, low_of_front, with_terms-passed}
 use Rattle.wu_parts.proofs.memory.MemoryPostings.add.Goals as goal
 
 -- memory, once it has passed to the first address
@@ -15,11 +15,6 @@ end : (tokens : List Token) (place : ℕ) (old now : Memory) (start : ℕ) → p
     → now ≡ with_terms (passed old start) start (map (λ (t : Token). t.term) (take place tokens)) → now.end ≡ start + place
 end tokens place old now start l h = end_of_front tokens place (passed old start) now start l refl h
 
-room : (tokens : List Token) (place : ℕ) (old now : Memory) (start : ℕ) → old.end ≤ start
-    → now ≡ with_terms (passed old start) start (map (λ (t : Token). t.term) (take place tokens)) → KeepsRoom old now
-room tokens place old now start l h =
-    let r : KeepsRoom (passed old start) now = room_of_front tokens place (passed old start) now start (omega arith) h in omega arith
-
 pub push-requires-clause-bounded : goal.push-requires-clause-bounded
 push-requires-clause-bounded c =
     omega (
@@ -28,10 +23,14 @@ push-requires-clause-bounded c =
       c.requires.bounded,
     )
 
-pub returns-in_err-push-clause-room : goal.returns-in_err-push-clause-room
-returns-in_err-push-clause-room c =
-    subst (KeepsRoom c.args.self.now) (sym c.in_err-push.ensures.err)
-    (room c.args.tokens.now c.loop-token.token-index c.args.self.now c.loop-token.self c.args.start c.requires.after c.loop-token.invariant)
+low : (tokens : List Token) (place : ℕ) (old now : Memory) (start : ℕ)
+    → now ≡ with_terms (passed old start) start (map (λ (t : Token). t.term) (take place tokens)) → now.low ≡ old.low
+low tokens place old now start h = low_of_front tokens place (passed old start) now start h
+
+pub returns-in_err-push-clause-low : goal.returns-in_err-push-clause-low
+returns-in_err-push-clause-low c =
+    ap (λ (m : Memory). m.low) c.in_err-push.ensures.err
+    ∙ low c.args.tokens.now c.loop-token.token-index c.args.self.now c.loop-token.self c.args.start c.loop-token.invariant
 
 pub loop-token-preserved : goal.loop-token-preserved
 loop-token-preserved c =
@@ -44,9 +43,9 @@ loop-token-preserved c =
     ∙ add_more tokens place c.token-item.result (passed c.args.self.now c.args.start) c.loop-token.self c.args.start
     c.as_slice.result.now (omega arith) c.token-item.is c.as_slice.ensures c.loop-token.invariant
 
-pub returns-clause-room : goal.returns-clause-room
-returns-clause-room c =
-    room c.args.tokens.now c.loop-token.token-index c.args.self.now c.loop-token.self c.args.start c.requires.after c.loop-token.invariant
+pub returns-clause-low : goal.returns-clause-low
+returns-clause-low c =
+    low c.args.tokens.now c.loop-token.token-index c.args.self.now c.loop-token.self c.args.start c.loop-token.invariant
 
 pub returns-clause-terms : goal.returns-clause-terms
 returns-clause-terms c =

@@ -8,7 +8,6 @@ use Rattle.wu_token.proofs.PlacesLemmas.{words-runs_at}
 use Rattle.wu_token.proofs.LengthLemmas.{IsTerm-words_of}
 use Rattle.wu_parts.specs.Memory.{Memory}
 use Rattle.wu_parts.specs.Lists.{with_posting, with_terms}
-use Rattle.wu_parts.proofs.Putting.{room-with_posting}
 use Rattle.wu_parts.proofs.memory.MemoryPostings.add_line.Goals as goal
 
 abbrev words : List Piece → List (List ℕ)
@@ -32,7 +31,7 @@ loop-run-init c =
         length-append (words (runs_at (piece_of c.args.line))) (line_end ∷ []),
       );
       terms = subst (All IsTerm) (sym (ap words runs ∙ words-runs_at (piece_of c.args.line))) (IsTerm-words_of c.args.line.bytes.now);
-      room = room-with_posting old old c.push.new.self line_start (omega arith) first;
+      low = ap (λ (m : Memory). m.low) first;
     }
 
 pub loop-run-preserved : goal.loop-run-preserved
@@ -54,7 +53,7 @@ loop-run-preserved c =
         c.loop-run.invariant.count,
       );
       terms = All-tail IsTerm _ _ (subst (λ (rs : List Piece). All IsTerm (words rs)) steps c.loop-run.invariant.terms);
-      room = room-with_posting c.args.self.now memory c.push-in-loop-run.new.self word c.loop-run.invariant.room push;
+      low = ap (λ (m : Memory). m.low) push ∙ c.loop-run.invariant.low;
     }
 
 pub returns-clause-terms : goal.returns-clause-terms

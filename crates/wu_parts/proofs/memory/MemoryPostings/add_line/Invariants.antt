@@ -2,7 +2,7 @@ use Rattle.std.proofs.Common.{◌≡◌, ◌+◌, ◌∷◌, ◌++◌, [], map, 
 use Rattle.wu_token.specs.Tokens.{line_end}
 use Rattle.wu_token.specs.Words.{IsTerm, word_of}
 use Rattle.wu_token.specs.Pieces.{line_terms, piece_of}
-use Rattle.wu_parts.specs.Lists.{KeepsRoom, with_terms}
+use Rattle.wu_parts.specs.Lists.{with_terms}
 use Rattle.wu_parts.proofs.memory.MemoryPostings.add_line.Given as goal
 
 abbrev pub invariant-loop-run : goal.invariant-loop-run
@@ -12,5 +12,5 @@ invariant-loop-run l = record {
   count : l.self.end + length (map (λ run. word_of run.bytes) l.run-iterator) + 1
       ≡ l.fn.self.end + length (line_terms (piece_of l.line));
   terms : All IsTerm (map (λ run. word_of run.bytes) l.run-iterator);
-  room : KeepsRoom l.fn.self l.self;
+  low : l.self.low ≡ l.fn.self.low;
 }

@@ -43,7 +43,7 @@ loop-line-init c =
         ap length (tokens_of-pieces text),
         length-append (flat_map line_terms (placed 0 (lines_of text))) (file_end ∷ []),
       );
-      room = omega (arith, ap (λ (m : Memory). m.end) first, ap (λ (m : Memory). m.stored) first, c.requires.after);
+      low = ap (λ (m : Memory). m.low) first;
     }
 
 pub loop-line-preserved : goal.loop-line-preserved
@@ -69,7 +69,7 @@ loop-line-preserved c =
         end,
         c.loop-line.invariant.count,
       );
-      room = omega (arith, c.in_ok-add_line.ensures.room, c.loop-line.invariant.room);
+      low = c.add_line.ensures.low ∙ c.loop-line.invariant.low;
     }
 
 pub returns-clause-terms : goal.returns-clause-terms

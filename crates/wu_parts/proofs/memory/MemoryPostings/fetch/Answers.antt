@@ -1,21 +1,26 @@
-use Rattle.std.proofs.Common.{◌≡◌, ℕ, List, [], filter, nat_le, refl, ap, sym, subst, ◌∙◌, arith}
+use Rattle.std.proofs.Common.{◌≡◌, ℕ, ◌+◌, ◌-◌, ◌^◌, ◌≤◌, All, List, [], length, filter, nat_le, refl, ap, sym, subst, ◌∙◌, arith}
 use Rattle.std.specs.Prelude.{IfOk}
-use Rattle.std.specs.List.Sorted.{IsStrictlyIncreasing}
 use Rattle.std.proofs.lemmas.Result.{IfOk-weaker}
-use Rattle.std.proofs.lemmas.List.Kept.{IsStrictlyIncreasing-filter}
 use Rattle.wu_base.specs.declared.limits.TheConstants.{ADDRESSES_MAX}
-use Rattle.wu_layout.specs.Postings.{is_live}
-use Rattle.wu_parts.specs.Memory.{Memory, held}
+use Rattle.wu_base.specs.declared.addresses.Range.{Range}
+use Rattle.wu_space.specs.Addresses.{AreApart}
+use Rattle.wu_layout.specs.Postings.{Posting, is_live}
+use Rattle.wu_layout.proofs.PostingLemmas.{Ascend-bounds}
+use Rattle.wu_parts.specs.Memory.{HasPostings, Memory, held}
 use Rattle.wu_parts.specs.Chains.{moved, places_of}
-use Rattle.wu_parts.specs.Lists.{AscendBetween}
-use Rattle.wu_parts.proofs.Ascending.{addresses_increase, order-from_apart, all_from_zero}
+use Rattle.wu_parts.specs.Lists.{AscendBetween, AreInOrder}
+use Rattle.wu_parts.proofs.Ascending.{addresses-ascend, all_from_zero, ascend-filter, ascend-higher, order-from_apart}
 use Rattle.wu_parts.proofs.Cutting.{filter-from}
 use Rattle.wu_parts.proofs.Chaining.{found_chain, held-found, held-absent}
 use Rattle.wu_parts.proofs.memory.MemoryPostings.fetch.Goals as goal
 
+-- the frames end below 2^64
+order : (frames : List Range) → AreApart frames → All (λ f. f.start + f.len ≤ ADDRESSES_MAX) frames → AreInOrder 0 (2 ^ 64 - 1) frames
+order frames a b =
+    order-from_apart 0 (2 ^ 64 - 1) frames (omega arith) (all_from_zero frames) a (λ k d l. let r = b k d l in omega arith)
+
 pub first_start-low-requires : goal.first_start-low-requires
-first_start-low-requires c =
-    order-from_apart 0 ADDRESSES_MAX c.args.frames.now (omega arith) (all_from_zero c.args.frames.now) c.requires.apart c.requires.bounded
+first_start-low-requires c = order c.args.frames.now c.requires.apart c.requires.bounded
 
 pub addresses_from-requires-clause-chain : goal.addresses_from-requires-clause-chain
 addresses_from-requires-clause-chain c =
@@ -24,11 +29,12 @@ addresses_from-requires-clause-chain c =
     (sym c.in-Some.ensures.value))
 
 pub within_frames-requires-clause-ascend : goal.within_frames-requires-clause-ascend
-within_frames-requires-clause-ascend c = rw c.deref-in-Some.ensures.value c.in_ok-found-in-Some.ensures.ascend
+within_frames-requires-clause-ascend c =
+    rw c.deref-in-Some.ensures.value
+    (ascend-higher 0 ADDRESSES_MAX (2 ^ 64 - 1) c.in_ok-found-in-Some.found.items (omega arith) c.in_ok-found-in-Some.ensures.ascend)
 
 pub within_frames-requires-clause-order : goal.within_frames-requires-clause-order
-within_frames-requires-clause-order c =
-    order-from_apart 0 ADDRESSES_MAX c.args.frames.now (omega arith) (all_from_zero c.args.frames.now) c.requires.apart c.requires.bounded
+within_frames-requires-clause-order c = order c.args.frames.now c.requires.apart c.requires.bounded
 
 pub returns-in_ok-found-in-Some-clause-addresses : goal.returns-in_ok-found-in-Some-clause-addresses
 returns-in_ok-found-in-Some-clause-addresses c =
@@ -44,18 +50,37 @@ returns-in_ok-found-in-Some-clause-addresses c =
     ∙ ap (λ (m : Memory). held m c.args.term.now) c.self.view_is in
     let same : live c.deref-in-Some.result.now ≡ live (held c.args.self.now c.args.term.now) =
     ap live walked
-    ∙ filter-from low ADDRESSES_MAX c.args.frames.now c.first_start-low.ensures (moved start (places_of links c.in-Some.chain.now))
+    ∙ filter-from low (2 ^ 64 - 1) c.args.frames.now c.first_start-low.ensures (moved start (places_of links c.in-Some.chain.now))
     ∙ ap live all in
     subst (λ (l : List ℕ). IfOk c.within_frames.result (λ found. found ≡ l)) same c.within_frames.ensures
 
-pub returns-in_ok-found-in-Some-clause-ascending : goal.returns-in_ok-found-in-Some-clause-ascending
-returns-in_ok-found-in-Some-clause-ascending c =
-    let walked : List ℕ = c.deref-in-Some.result.now in
-    let ascend : AscendBetween 0 ADDRESSES_MAX walked = rw c.deref-in-Some.ensures.value c.in_ok-found-in-Some.ensures.ascend in
-    let increase : IsStrictlyIncreasing walked = addresses_increase 0 ADDRESSES_MAX walked ascend in
-    IfOk-weaker _ (λ (l : List ℕ). l ≡ filter (is_live c.args.frames.now) walked) IsStrictlyIncreasing
-    (λ l e. subst IsStrictlyIncreasing (sym e) (IsStrictlyIncreasing-filter (is_live c.args.frames.now) walked increase))
-    c.within_frames.ensures
+-- the term's addresses ascend from low to the end
+found_ascend : (low high : ℕ) (memory : Memory) (postings : List Posting) (term : List ℕ) (frames : List Range)
+    → HasPostings low high memory postings → AscendBetween low high (filter (is_live frames) (held memory term))
+found_ascend low high memory postings term frames h =
+    ascend-filter (is_live frames) low high (held memory term)
+    (subst (AscendBetween low high) (sym (h.addresses term)) (addresses-ascend low high term postings h.ascend))
+
+pub returns-in_ok-found-in-Some-clause-ascend : goal.returns-in_ok-found-in-Some-clause-ascend
+returns-in_ok-found-in-Some-clause-ascend c =
+    let memory : Memory = c.args.self.now in
+    let found : IfOk c.within_frames.result (λ found. found ≡ filter (is_live c.args.frames.now) (held memory c.args.term.now)) =
+    returns-in_ok-found-in-Some-clause-addresses c in
+    let has : HasPostings memory.low memory.end memory c.self.invariant.postings =
+    subst (λ (m : Memory). HasPostings m.low m.end m c.self.invariant.postings) c.self.view_is c.self.invariant.has in
+    IfOk-weaker _ (λ (l : List ℕ). l ≡ filter (is_live c.args.frames.now) (held memory c.args.term.now))
+    (AscendBetween memory.low memory.end)
+    (λ l e.
+    subst (AscendBetween memory.low memory.end) (sym e)
+    (found_ascend memory.low memory.end memory c.self.invariant.postings c.args.term.now c.args.frames.now has))
+    found
+
+pub returns-in-None-clause-ascend : goal.returns-in-None-clause-ascend
+returns-in-None-clause-ascend c =
+    rw c.new.ensures
+    (subst (λ (m : Memory). m.low ≤ m.end) c.self.view_is
+    (Ascend-bounds c.self.inside.low (c.self.inside.start + length c.self.inside.before.items) c.self.invariant.postings
+    c.self.invariant.has.ascend))
 
 pub returns-in-None-clause-addresses : goal.returns-in-None-clause-addresses
 returns-in-None-clause-addresses c =

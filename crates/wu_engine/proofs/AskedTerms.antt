@@ -1,0 +1,202 @@
+-- The terms that a question asks for, and the lists of them.
+use Rattle.std.proofs.Common.{◌≡◌, ℕ, zero, suc, ◌≤◌, Bool, true, false, cond, ◌||◌, List, [], ◌∷◌, ◌++◌, length, take, drop, map, refl, ap, ap₂, sym, ◌∙◌, subst, arith, rules, append_assoc, append-nil, length-append}
+use Rattle.std.specs.Prelude.{All, Option, Some, None, find, nat_eq, option_map, unwrap_or}
+use Rattle.std.specs.List.{AllByRecursion, list_any}
+use Rattle.std.specs.List.Sorted.{IsStrictlyIncreasing}
+use Rattle.std.specs.Cmp.Lexicographic.{pointwise, slice_cmp, same_text, nat_list_eq_equiv}
+use Rattle.std.specs.Ordering.{nat_cmp}
+use Rattle.std.proofs.Math.Bool.{or-true}
+use Rattle.std.proofs.lemmas.Cmp.{nat_list_cmp_total}
+use Rattle.std.proofs.lemmas.Map.Lookups.{exact_bytes}
+use Rattle.std.proofs.lemmas.List.{length-map}
+use Rattle.std.proofs.lemmas.List.Elements.{All-from_recursion, recursion_from_All}
+use Rattle.std.proofs.Math.Seq.{take-append_seam}
+use Rattle.wu_base.specs.SortedOnce.{sorted_once}
+use Rattle.wu_base.proofs.Members.{Has-from_Contains, Contains-from_Has}
+use Rattle.wu_base.proofs.SortedLists.{sorted_once_is}
+use Rattle.wu_base.specs.declared.addresses.TermList.{TermList}
+use Rattle.wu_gcl.specs.Regions.{Region}
+use Rattle.wu_gcl.specs.Terms.{AreTerms, terms_in}
+use Rattle.wu_engine.specs.Asked.{terms_of, with_word, with_words}
+use Rattle.wu_engine.specs.Units.{IsAmong, list_at, list_in}
+
+-- the terms of an expression are the sorted ones
+pub terms_named : (region : Region) (terms : List (List ℕ)) → AreTerms region terms → terms ≡ terms_of region
+terms_named region terms are =
+    sorted_once_is nat_list_cmp_total exact_bytes terms (terms_in region) are.ascending
+    (λ term h. Has-from_Contains term (terms_in region) (are.none_else term (Contains-from_Has term terms h)))
+    (λ term h. Has-from_Contains term terms (are.all term (Contains-from_Has term (terms_in region) h)))
+
+-- ---- words after terms
+
+with_word-front : (terms : List (List ℕ)) (word : List ℕ) → (rest : List (List ℕ)) × (with_word terms word ≡ terms ++ rest)
+with_word-front terms word =
+    elim (list_any (pointwise nat_eq word) terms) as
+    (λ b. (rest : List (List ℕ)) × (cond b terms (terms ++ word ∷ []) ≡ terms ++ rest)) [
+      | true ↦ ([], sym (append-nil terms))
+      | false ↦ (word ∷ [], refl)
+    ]
+
+pub with_words-front : (terms words : List (List ℕ)) → (rest : List (List ℕ)) × (with_words terms words ≡ terms ++ rest)
+with_words-front terms [] = ([], sym (append-nil terms))
+with_words-front terms (word ∷ words) =
+    let here = with_word-front terms word in
+    let later = with_words-front (with_word terms word) words in (
+      here.0 ++ later.0,
+      later.1 ∙ ap (λ (ts : List (List ℕ)). ts ++ later.0) here.1 ∙ append_assoc terms here.0 later.0,
+    )
+
+among-front : (word : List ℕ) (xs ys : List (List ℕ)) → IsAmong xs word → IsAmong (xs ++ ys) word
+among-front word [] ys is = absurd (cc)
+among-front word (x ∷ xs) ys is =
+    elim (pointwise nat_eq word x) as (λ b. (b || list_any (pointwise nat_eq word) xs) ≡ true
+    → (b || list_any (pointwise nat_eq word) (xs ++ ys)) ≡ true) [
+      | true ↦ λ h. refl
+      | false ↦ λ h. among-front word xs ys h
+    ] is
+
+among-last : (word : List ℕ) (xs : List (List ℕ)) → IsAmong (xs ++ word ∷ []) word
+among-last word [] = rw (nat_list_eq_equiv.refl word) refl
+among-last word (x ∷ xs) = rw (among-last word xs) (or-true (pointwise nat_eq word x))
+
+among-with : (terms : List (List ℕ)) (word : List ℕ) → IsAmong (with_word terms word) word
+among-with terms word =
+    elim (list_any (pointwise nat_eq word) terms) as
+    (λ b. list_any (pointwise nat_eq word) terms ≡ b → IsAmong (cond b terms (terms ++ word ∷ [])) word) [
+      | true ↦ λ e. e
+      | false ↦ λ e. among-last word terms
+    ] refl
+
+-- each of the words is among them then
+pub words_among : (terms words : List (List ℕ)) → AllByRecursion (IsAmong (with_words terms words)) words
+words_among terms [] = tt
+words_among terms (word ∷ words) =
+    let later = with_words-front (with_word terms word) words in (
+      subst (λ (ts : List (List ℕ)). IsAmong ts word) (sym later.1)
+          (among-front word (with_word terms word) later.0 (among-with terms word)),
+      words_among (with_word terms word) words,
+    )
+
+-- ---- the lists of words
+
+-- where the lists are made by a function of the term, so is a word's
+pub list_in_told : (addresses : List ℕ → List ℕ) (terms : List (List ℕ)) (word : List ℕ) → IsAmong terms word
+    → list_in (map (list_at addresses) terms) word ≡ list_at addresses word
+list_in_told addresses [] word is = absurd (cc)
+list_in_told addresses (term ∷ terms) word is =
+    elim (pointwise nat_eq word term) as
+    (λ b. pointwise nat_eq word term ≡ b → (b || list_any (pointwise nat_eq word) terms) ≡ true
+    → made (cond b (Some (list_at addresses term)) (find (λ (list : TermList). pointwise nat_eq word list.term) (map (list_at addresses) terms)))
+    ≡ list_at addresses word) [
+      | true ↦ λ e h. ap (λ (t : List ℕ). made_of (addresses t)) (sym (same_text word term (sym e)))
+      | false ↦ λ e h. list_in_told addresses terms word h
+    ] refl is where
+      made_of : List ℕ → TermList
+      made_of at' = record { term = word; at = at' }
+
+      made : Option TermList → TermList
+      made o = record { term = word; at = unwrap_or (option_map (λ (list : TermList). list.at) o) [] }
+
+pub lists_in_told : (addresses : List ℕ → List ℕ) (terms words : List (List ℕ)) → AllByRecursion (IsAmong terms) words
+    → map (list_in (map (list_at addresses) terms)) words ≡ map (list_at addresses) words
+lists_in_told addresses terms [] all = refl
+lists_in_told addresses terms (word ∷ words) all =
+    ap₂ (λ (l : TermList) (ls : List TermList). l ∷ ls) (list_in_told addresses terms word all.0) (lists_in_told addresses terms words all.1)
+
+-- ---- the first of lists
+
+map-taken : {X Y : Type 0} (f : X → Y) (n : ℕ) (xs : List X) → take n (map f xs) ≡ map f (take n xs)
+map-taken f zero xs = refl
+map-taken f (suc n) [] = refl
+map-taken f (suc n) (x ∷ xs) = ap (λ ys. f x ∷ ys) (map-taken f n xs)
+
+all_taken : {X : Type 0} (P : X → Type 0) (n : ℕ) (xs : List X) → AllByRecursion P xs → AllByRecursion P (take n xs)
+all_taken P zero xs a = tt
+all_taken P (suc n) [] a = tt
+all_taken P (suc n) (x ∷ xs) a = (a.0, all_taken P n xs a.1)
+
+pub first_ascend : (n : ℕ) (lists : List TermList) → All (λ list. IsStrictlyIncreasing list.at) lists
+    → All (λ list. IsStrictlyIncreasing list.at) (take n lists)
+first_ascend n lists up =
+    All-from_recursion (λ (list : TermList). IsStrictlyIncreasing list.at) (take n lists)
+    (all_taken (λ (list : TermList). IsStrictlyIncreasing list.at) n lists
+    (recursion_from_All (λ (list : TermList). IsStrictlyIncreasing list.at) lists up))
+
+module _ (terms words : List (List ℕ)) (lists : List TermList) where
+  -- the first lists are those of the terms
+  pub first_named : map (λ list. list.term) lists ≡ with_words terms words
+      → map (λ list. list.term) (take (length terms) lists) ≡ terms
+  first_named named =
+      sym (map-taken (λ (list : TermList). list.term) (length terms) lists)
+      ∙ ap (take (length terms)) (named ∙ (with_words-front terms words).1)
+      ∙ take-append_seam terms (with_words-front terms words).0
+
+  pub first_told : (addresses : List ℕ → List ℕ) → lists ≡ map (list_at addresses) (with_words terms words)
+      → take (length terms) lists ≡ map (list_at addresses) terms
+  first_told addresses is =
+      ap (take (length terms)) is
+      ∙ map-taken (list_at addresses) (length terms) (with_words terms words)
+      ∙ ap (λ (ts : List (List ℕ)). map (list_at addresses) (take (length terms) ts)) (with_words-front terms words).1
+      ∙ ap (map (list_at addresses)) (take-append_seam terms (with_words-front terms words).0)
+
+-- ---- any first lists
+
+terms_of_lists : (addresses : List ℕ → List ℕ) (terms : List (List ℕ)) → map (λ list. list.term) (map (list_at addresses) terms) ≡ terms
+terms_of_lists addresses [] = refl
+terms_of_lists addresses (term ∷ terms) = ap (λ ts. term ∷ ts) (terms_of_lists addresses terms)
+
+-- they are made by the function of their terms
+pub front_told : (addresses : List ℕ → List ℕ) (terms : List (List ℕ)) (lists : List TermList) (count : ℕ)
+    → lists ≡ map (list_at addresses) terms
+    → take count lists ≡ map (list_at addresses) (map (λ list. list.term) (take count lists))
+front_told addresses terms lists count is =
+    let front : take count lists ≡ map (list_at addresses) (take count terms) =
+    ap (take count) is ∙ map-taken (list_at addresses) count terms in
+    front
+    ∙ ap (map (list_at addresses))
+    (sym (ap (map (λ (list : TermList). list.term)) front ∙ terms_of_lists addresses (take count terms)))
+
+-- the words' lists are made by it too
+pub words_told : (addresses : List ℕ → List ℕ) (terms words : List (List ℕ)) (lists found : List TermList)
+    → lists ≡ map (list_at addresses) terms → AllByRecursion (IsAmong terms) words → found ≡ map (list_in lists) words
+    → found ≡ map (list_at addresses) words
+words_told addresses terms words lists found is among found_is =
+    found_is ∙ ap (λ (ls : List TermList). map (list_in ls) words) is ∙ lists_in_told addresses terms words among
+
+abbrev made_by : List ℕ → List ℕ → TermList
+made_by term at' = record { term = term; at = at' }
+
+-- there are as many lists as terms, and more
+pub enough_lists : (terms words : List (List ℕ)) (lists : List TermList) → map (λ list. list.term) lists ≡ with_words terms words
+    → length terms ≤ length lists
+enough_lists terms words lists named =
+    omega (
+      arith,
+      length-map lists (λ (list : TermList). list.term),
+      ap length (named ∙ (with_words-front terms words).1),
+      length-append terms (with_words-front terms words).0,
+    )
+
+-- a word's list, by the first list of its term
+pub list_is : (lists : List TermList) (word term at' : List ℕ) (first : Option TermList)
+    → first ≡ find (λ list. pointwise nat_eq word list.term) lists → term ≡ word
+    → at' ≡ unwrap_or (option_map (λ list. list.at) first) [] → made_by term at' ≡ list_in lists word
+list_is lists word term at' first found same addresses =
+    ap₂ made_by same (addresses ∙ ap (λ (o : Option TermList). unwrap_or (option_map (λ (list : TermList). list.at) o) []) found)
+
+-- a list of a word ascends, where all lists do
+pub list_in_ascends : (lists : List TermList) (word : List ℕ) → All (λ list. IsStrictlyIncreasing list.at) lists
+    → IsStrictlyIncreasing (list_in lists word).at
+list_in_ascends lists word up =
+    by lists (recursion_from_All (λ (list : TermList). IsStrictlyIncreasing list.at) lists up) where
+      none : IsStrictlyIncreasing []
+      none = search rules
+
+      by : (ls : List TermList) → AllByRecursion (λ list. IsStrictlyIncreasing list.at) ls → IsStrictlyIncreasing (list_in ls word).at
+      by [] all = none
+      by (list ∷ ls) all = elim (pointwise nat_eq word list.term) as
+          (λ b. IsStrictlyIncreasing (unwrap_or (option_map (λ (l : TermList). l.at)
+          (cond b (Some list) (find (λ (l : TermList). pointwise nat_eq word l.term) ls))) [])) [
+            | true ↦ all.0
+            | false ↦ by ls all.1
+          ]

@@ -1,0 +1,113 @@
+-- What a query reads, and why it fails.
+use Rattle.std.proofs.Common.{◌≡◌, ℕ, List, [], ◌∷◌, ◌++◌, refl, sym, ap, subst, inl, inr, append-nil, arith}
+use Rattle.std.specs.Prelude.{Option, None, Some, option_map, zip, Result, IfErr, IsErrAnd}
+use Rattle.wu_base.specs.declared.troubles.Trouble.{Trouble}
+use Rattle.wu_base.specs.declared.troubles.Trouble.TheVariants.{NoMemory}
+use Rattle.wu_outside.specs.Content.{Content}
+use Rattle.wu_outside.specs.declared.ranges.ReadRange.{ReadRange}
+use Rattle.wu_ask.specs.Questions.{Question}
+use Rattle.wu_tree.specs.FileSystems.{FileSystem}
+use Rattle.wu_space.specs.Addresses.{Ranges}
+use Rattle.wu_frames.specs.declared.Frames.{Frames}
+use Rattle.wu_frames.specs.UserFrames.{AreFrames}
+use Rattle.wu_lists.specs.declared.blocks.Block.{Block}
+use Rattle.wu_lists.specs.Keeping.{Asks, Kept}
+use Rattle.wu_parts.specs.Causes.{IsFetchCause}
+use Rattle.wu_parts.specs.Contents.{Contents}
+use Rattle.wu_engine.specs.Causes.{IsDamagedAt, IsDamagedIn}
+use Rattle.wu_engine.specs.Asked.{blocks_for, terms_asked}
+use Rattle.wu_engine.specs.Finding.{AreTextsOf, IsCause, KeepsTexts}
+use Rattle.wu_engine.specs.Reads.{AreTexts, ReadsForQuery, ReadsInTurn, texts_read}
+use Rattle.wu_engine.specs.Records.{Records}
+use Rattle.wu_engine.specs.States.{State}
+use Rattle.wu_engine.specs.Units.{IsIndexOf, TellsPostings}
+use Rattle.wu_engine.proofs.PassedCauses.{err_from}
+use Rattle.wu_engine.proofs.ReadCauses.{cause_after}
+
+-- a question that has no text shown reads blocks alone
+pub blocks_alone : (question : Question) (blocks : List Block) (frames : Frames) (contents : Contents) (files : Records)
+    (holds : Option Content) (old new : Kept) (before after : Option (List ReadRange))
+    → ((s : State) (uid : ℕ) → texts_read s uid question ≡ []) → Asks blocks holds old new before after
+    → ReadsInTurn blocks (AreTextsOf frames contents files holds question) holds old new before after
+blocks_alone question blocks frames contents files holds old new before after none asks = record {
+  between = after;
+  asks = asks;
+  texts = [];
+  are = record {
+    are = record { of_files = tt; none = λ h. refl };
+    shown = λ live s uid is tells keeps. sym (none s uid);
+  };
+  read = nothing after;
+} where
+  nothing : (ranges : Option (List ReadRange)) → ranges ≡ option_map (λ earlier. earlier ++ []) ranges
+  nothing None = refl
+  nothing (Some earlier) = ap (λ (rs : List ReadRange). Some rs) (sym (append-nil earlier))
+
+-- what a fetch answers is damage that the engine may answer
+pub cause_fetched : (files : Records) (contents : Contents) (holds : Option Content) (missing : List Block) (before now : ℕ)
+    (ranges ranges_now : Option (List ReadRange)) (trouble : Trouble)
+    → IsFetchCause (zip contents.parts contents.directories) missing holds before now ranges ranges_now trouble
+    → IsCause (IsDamagedIn files contents holds) before now trouble
+cause_fetched files contents holds missing before now ranges ranges_now trouble cause = record {
+  kept = cause.counted;
+  store_fault = cause.store_fault;
+  calm = cause.calm;
+  damaged = λ blob h. inr (cause.damaged blob h).1;
+}
+
+-- over the frames that were made for the user
+pub reads_for : (fs : FileSystem) (live : Ranges) (uid : ℕ) (question : Question) (contents : Contents) (kept : Kept) (files : Records)
+    (holds : Option Content) (before after : Option (List ReadRange)) (frames : Frames) → AreFrames fs live uid frames
+    → ReadsInTurn (blocks_for contents frames.ranges (terms_asked question)) (AreTextsOf frames contents files holds question) holds
+    contents.kept kept before after
+    → ReadsForQuery fs live uid question contents kept (λ texts. AreTexts files question texts × ((s : State) → fs ≡ s.tree
+    → IsIndexOf live s → TellsPostings contents holds s → KeepsTexts files holds s → texts ≡ texts_read s uid question)) holds before after
+reads_for fs live uid question contents kept files holds before after frames hers reads = record {
+  frames = frames;
+  hers = hers;
+  reads = record {
+    between = reads.between;
+    asks = reads.asks;
+    texts = reads.texts;
+    are = (
+      reads.are.are,
+      λ s tree index tells keeps. reads.are.shown live s uid
+          (record { index = index; hers = subst (λ (t : FileSystem). AreFrames t live uid frames) tree hers }) tells keeps,
+    );
+    read = reads.read;
+  };
+}
+
+-- ---- troubles of a query
+
+-- want of memory, where no fault rose
+pub no_memory : (Broken : ℕ → Type 0) (faults : ℕ) → IsCause Broken faults faults NoMemory
+no_memory Broken faults = record {
+  kept = omega arith;
+  store_fault = λ h. absurd (cc);
+  calm = λ h. refl;
+  damaged = λ blob h. absurd (cc);
+}
+
+module _ {T : Type 0} (r : Result T Trouble) (before now : ℕ) where
+  pub cause_of_memory : (Broken : ℕ → Type 0) → now ≡ before → IsErrAnd r (λ e. e ≡ NoMemory) → IfErr r (IsCause Broken before now)
+  cause_of_memory Broken calm is =
+      err_from (IsCause Broken before now) r NoMemory is
+      (subst (λ (n : ℕ). IsCause Broken before n NoMemory) (sym calm) (no_memory Broken before))
+
+  module _ (files : Records) (contents : Contents) (holds : Option Content) (trouble : Trouble) (is : IsErrAnd r (λ e. e ≡ trouble)) where
+    -- a trouble of the fetch
+    pub cause_of_fetch : (missing : List Block) (ranges ranges_now : Option (List ReadRange))
+        → IsFetchCause (zip contents.parts contents.directories) missing holds before now ranges ranges_now trouble
+        → IfErr r (IsCause (IsDamagedIn files contents holds) before now)
+    cause_of_fetch missing ranges ranges_now cause =
+        err_from (IsCause (IsDamagedIn files contents holds) before now) r trouble is
+        (cause_fetched files contents holds missing before now ranges ranges_now trouble cause)
+
+    -- a trouble with a text, after calls that changed nothing of the store
+    pub cause_of_text : (holds_then : Option Content) (middle : ℕ) → holds_then ≡ holds → middle ≡ before
+        → IsCause (IsDamagedAt files holds_then) middle now trouble → IfErr r (IsCause (IsDamagedIn files contents holds) before now)
+    cause_of_text holds_then middle same calm cause =
+        err_from (IsCause (IsDamagedIn files contents holds) before now) r trouble is
+        (cause_after (IsDamagedAt files holds_then) (IsDamagedIn files contents holds) before middle now trouble calm
+        (λ blob damaged. inl (subst (λ (o : Option Content). IsDamagedAt files o blob) same damaged)) cause)

@@ -1,0 +1,99 @@
+-- The engine stands for the same state after a query.
+use Rattle.std.proofs.Common.{◌≡◌, ℕ, List, refl, sym, subst}
+use Rattle.std.specs.Prelude.{Option, Some, None, IfSome, IsSome}
+use Rattle.wu_outside.specs.Content.{Content}
+use Rattle.wu_outside.specs.declared.ranges.ReadRange.{ReadRange}
+use Rattle.wu_tree.specs.FileSystems.{FileSystem}
+use Rattle.wu_layout.specs.Layouts.{FileEntry}
+use Rattle.wu_lists.specs.Keeping.{Asks, Kept}
+use Rattle.wu_space.specs.Addresses.{Addresses}
+use Rattle.wu_parts.specs.Contents.{Contents}
+use Rattle.wu_parts.specs.Holdings.{HoldParts}
+use Rattle.wu_ask.specs.Questions.{Question}
+use Rattle.wu_engine.specs.declared.engines.Engine.{Engine}
+use Rattle.wu_engine.specs.Asked.{terms_asked}
+use Rattle.wu_engine.specs.Finding.{KeepsTexts}
+use Rattle.wu_engine.specs.Reads.{AreTexts, ReadsForQuery, texts_read}
+use Rattle.wu_engine.specs.Records.{Records}
+use Rattle.wu_engine.specs.Stands.{HoldsTexts, IsEngineOf, KeepsBlocks, Stands}
+use Rattle.wu_engine.specs.States.{State, Texts}
+use Rattle.wu_engine.specs.Units.{IsIndexOf, TellsPostings}
+use Rattle.wu_engine.proofs.ToldPostings.{blocks_kept}
+
+is_told : (holds : Option Content) (texts : Texts) (files : List (ℕ × FileEntry)) → HoldsTexts holds texts files → IsSome holds
+is_told None texts files held = absurd held
+is_told (Some content) texts files held = refl
+
+module _ (engine : Engine) (holds : Option Content) (s : State) (stands : Stands engine holds s) where
+  pub postings_told : TellsPostings engine.parts holds s
+  postings_told = record {
+    is_state = stands.index.is_state;
+    memory = stands.index.memory;
+    told = is_told holds s.texts s.layout.files stands.texts;
+    parts = stands.parts;
+    kept = stands.kept;
+  }
+
+  pub ranges_told : IsIndexOf engine.space.ranges s
+  ranges_told = record { is_state = stands.index.is_state; ranges = stands.index.live }
+
+  pub texts_kept : KeepsTexts engine.files.entries holds s
+  texts_kept = record { records = stands.index.files; texts = stands.texts }
+
+  -- only blocks are kept anew
+  pub stands_on : (new : Engine) (holds_now : Option Content) (uid : ℕ) (question : Question) (Are : List ReadRange → Type 0)
+      (before after : Option (List ReadRange)) → new.ended ≡ None → holds_now ≡ holds → new.tree ≡ engine.tree → new.space ≡ engine.space
+      → new.files.entries ≡ engine.files.entries → new.parts ≡ record engine.parts { kept = new.parts.kept }
+      → ReadsForQuery engine.tree engine.space.ranges uid question engine.parts new.parts.kept Are holds before after
+      → Stands new holds_now s
+  stands_on new holds_now uid question Are before after ended same tree space files parts reads =
+      subst (λ (o : Option Content). Stands new o s) (sym same)
+      (record {
+        goes_on = ended;
+        index = subst (λ (t : FileSystem). IsEngineOf t new.space new.parts new.files.entries s) (sym tree)
+            (subst (λ (a : Addresses). IsEngineOf engine.tree a new.parts new.files.entries s) (sym space)
+            (subst (λ (c : Contents). IsEngineOf engine.tree engine.space c new.files.entries s) (sym parts)
+            (subst (λ (r : Records). IsEngineOf engine.tree engine.space (record engine.parts { kept = new.parts.kept }) r s) (sym files)
+            (record {
+              is_state = stands.index.is_state;
+              tree = stands.index.tree;
+              next = stands.index.next;
+              live = stands.index.live;
+              files = stands.index.files;
+              next_blob = stands.index.next_blob;
+              stale = stands.index.stale;
+              memory = stands.index.memory;
+              stored = stands.index.stored;
+              flushes = stands.index.flushes;
+              no_job = stands.index.no_job;
+            }))));
+        texts = stands.texts;
+        parts = subst (λ (c : Contents). IfSome holds (λ content. HoldParts content c.parts c.directories s.layout.parts)) (sym parts)
+            stands.parts;
+        kept = blocks_kept engine.parts reads.frames.ranges (terms_asked question) new.parts.kept s holds before reads.reads.between
+            postings_told reads.reads.asks;
+      })
+
+-- the texts are those of every state that engine and store stand for
+pub reads_of_engine : (engine : Engine) (holds : Option Content) (uid : ℕ) (question : Question) (kept : Kept)
+    (before after : Option (List ReadRange))
+    → ReadsForQuery engine.tree engine.space.ranges uid question engine.parts kept (λ texts. AreTexts engine.files.entries question texts
+    × ((s : State) → engine.tree ≡ s.tree → IsIndexOf engine.space.ranges s → TellsPostings engine.parts holds s
+    → KeepsTexts engine.files.entries holds s → texts ≡ texts_read s uid question)) holds before after
+    → ReadsForQuery engine.tree engine.space.ranges uid question engine.parts kept (λ texts. AreTexts engine.files.entries question texts
+    × ((s : State) → Stands engine holds s → texts ≡ texts_read s uid question)) holds before after
+reads_of_engine engine holds uid question kept before after r = record {
+  frames = r.frames;
+  hers = r.hers;
+  reads = record {
+    between = r.reads.between;
+    asks = r.reads.asks;
+    texts = r.reads.texts;
+    are = (
+      r.reads.are.0,
+      λ s stands. r.reads.are.1 s stands.index.tree (ranges_told engine holds s stands) (postings_told engine holds s stands)
+          (texts_kept engine holds s stands),
+    );
+    read = r.reads.read;
+  };
+}

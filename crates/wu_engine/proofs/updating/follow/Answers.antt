@@ -1,0 +1,87 @@
+use Rattle.std.proofs.Common.{◌≡◌, ◌+◌, ◌<◌, ◌∙◌, ℕ, Bool, cond, ap, subst, sym, arith}
+use Rattle.std.proofs.lemmas.Result.{on_ok_weaker}
+use Rattle.wu_parts.specs.Contents.{Contents}
+use Rattle.wu_parts.specs.Memory.{Gains}
+use Rattle.wu_engine.specs.Indexing.{Catalog, FlushesFull, IsIndexable, KeepsParts, catalog_after, catalog_of, is_stored, terms_after}
+use Rattle.wu_engine.proofs.OtherBlobs.{drawn_once, others_once, others_twice}
+use Rattle.wu_engine.proofs.updating.follow.Goals as goal
+
+pub index-requires : goal.index-requires
+index-requires g c =
+    subst (λ (parts : Contents). IsIndexable c.args.effect c.args.text.now c.args.space.now parts) (sym c.in_ok-blob.ensures.parts)
+    c.requires.indexable
+
+pub returns-clause-done : goal.returns-clause-done
+returns-clause-done g c =
+    let effect = c.args.effect in
+    let text = c.args.text.now in
+    on_ok_weaker c.flush_if_full.result
+    (λ (flushed : FlushesFull c.index.new.space.ranges c.index.new.parts c.flush_if_full.new.parts
+    (g.D.Store.holds c.store_text.new.store, g.D.Store.moments c.store_text.new.store)
+    (g.D.Store.holds c.flush_if_full.new.store, g.D.Store.moments c.flush_if_full.new.store)). record {
+      blob = c.in_ok-blob.blob;
+      indexed = c.index.new.parts;
+      between = (g.D.Store.holds c.store_text.new.store, g.D.Store.moments c.store_text.new.store);
+      drawn = c.in_ok-blob.ensures.blob;
+      stored = c.in_ok-blob.ensures.stored;
+      catalog = subst (λ (p : Contents). catalog_of c.index.new.space c.index.new.files.entries c.index.new.parts
+          ≡ catalog_after effect text c.in_ok-blob.blob (catalog_of c.args.space.now c.args.files.now.entries p))
+          c.in_ok-blob.ensures.parts c.in_ok-index.ensures.catalog;
+      gained = subst (λ (p : Contents). Gains c.args.space.now.next (terms_after effect text) p.memory c.index.new.parts.memory)
+          c.in_ok-blob.ensures.parts c.in_ok-index.ensures.memory;
+      others = subst (λ (p : Contents). KeepsParts p c.index.new.parts) c.in_ok-blob.ensures.parts c.in_ok-index.ensures.others;
+      flushed = flushed;
+    })
+    c.flush_if_full.ensures.flushed
+
+pub flush_if_full-requires-clause-blob : goal.flush_if_full-requires-clause-blob
+flush_if_full-requires-clause-blob g c =
+    let drawn = drawn_once c.args.effect.texted c.args.text.now c.args.parts.now c.store_text.new.parts c.index.new.parts
+    c.in_ok-blob.ensures.parts c.in_ok-index.ensures.others in
+    omega (arith, drawn.most, c.requires.blobs)
+
+pub flush_if_full-requires-clause-flushes : goal.flush_if_full-requires-clause-flushes
+flush_if_full-requires-clause-flushes g c =
+    let drawn = drawn_once c.args.effect.texted c.args.text.now c.args.parts.now c.store_text.new.parts c.index.new.parts
+    c.in_ok-blob.ensures.parts c.in_ok-index.ensures.others in
+    omega (arith, drawn.flushes, c.requires.flushes)
+
+pub returns-clause-elsewhere : goal.returns-clause-elsewhere
+returns-clause-elsewhere g c =
+    others_twice c.args.parts.now c.index.new.parts (g.D.Store.holds c.args.store.now) (g.D.Store.holds c.store_text.new.store)
+    (g.D.Store.holds c.flush_if_full.new.store)
+    (drawn_once c.args.effect.texted c.args.text.now c.args.parts.now c.store_text.new.parts c.index.new.parts
+    c.in_ok-blob.ensures.parts c.in_ok-index.ensures.others)
+    c.store_text.ensures.elsewhere c.flush_if_full.ensures.elsewhere
+
+pub returns-in_err-blob-clause-elsewhere : goal.returns-in_err-blob-clause-elsewhere
+returns-in_err-blob-clause-elsewhere g c =
+    others_once c.args.parts.now (g.D.Store.holds c.args.store.now) (g.D.Store.holds c.store_text.new.store) c.store_text.ensures.elsewhere
+
+pub returns-in_err-index-clause-elsewhere : goal.returns-in_err-index-clause-elsewhere
+returns-in_err-index-clause-elsewhere g c =
+    others_once c.args.parts.now (g.D.Store.holds c.args.store.now) (g.D.Store.holds c.store_text.new.store) c.store_text.ensures.elsewhere
+
+pub returns-clause-untouched : goal.returns-clause-untouched
+returns-clause-untouched g c =
+    let old = c.args.parts.now in
+    let drawn = c.in_ok-blob.ensures.parts in
+    let others = c.in_ok-index.ensures.others in
+    on_ok_weaker c.flush_if_full.result
+    (λ left stored few.
+    let fewer : c.index.new.parts.memory.stored < c.index.new.parts.flush_at =
+    omega (
+      arith,
+      few,
+      c.in_ok-index.ensures.memory.stored,
+      ap (λ (p : Contents). p.memory.stored) drawn,
+      ap (λ (p : Contents). p.flush_at) others,
+      ap (λ (p : Contents). p.flush_at) drawn,
+    ) in
+    let done = left fewer in
+    let none : old.next_blob + cond {A = ℕ} (is_stored c.args.effect.texted c.args.text.now) 1 0 ≡ old.next_blob =
+    omega (arith, ap (λ (b : Bool). cond {A = ℕ} b 1 0) stored) in (
+      done.0 ∙ c.store_text.ensures.untouched stored,
+      ap (λ (p : Contents). p.next_blob) done.1 ∙ ap (λ (p : Contents). p.next_blob) others ∙ ap (λ (p : Contents). p.next_blob) drawn ∙ none,
+    ))
+    c.flush_if_full.ensures.untouched

@@ -1,0 +1,187 @@
+-- The lists that a flush makes of the chains in memory.
+use Rattle.std.proofs.Common.{◌≡◌, ℕ, ◌+◌, ◌-◌, ◌^◌, ◌<◌, ◌≤◌, nat_eq, nat_lt, Bool, true, false, cond, All, filter, List, [], ◌∷◌, ◌++◌, length, map, take, get_or, zero, suc, refl, ap, sym, subst, ◌∙◌, arith, Vec, Global}
+use denote.Ref.{Bor}
+use Rattle.std.specs.Prelude.{IsPermutation}
+use Rattle.std.specs.List.{AllByRecursion, IsDistinct}
+use Rattle.std.specs.List.Sorted.{IsStrictlySortedBy}
+use Rattle.std.specs.Map.{keys_of}
+use Rattle.std.specs.Ordering.{nat_cmp}
+use Rattle.std.specs.Cmp.Lexicographic.{pointwise, slice_cmp}
+use Rattle.std.proofs.lemmas.List.{map-append, take_more}
+use Rattle.std.proofs.lemmas.List.Sorted.{Contains-permutation, IsPermutation-map, IsPermutation-sym}
+use Rattle.wu_base.specs.declared.addresses.Range.{Range}
+use Rattle.wu_base.specs.declared.addresses.TermList.{TermList}
+use Rattle.wu_base.specs.declared.limits.TheConstants.{ADDRESSES_MAX}
+use Rattle.wu_base.proofs.Members.{Has-from_Contains, Contains-from_Has, all_from_has, all_has}
+use Rattle.wu_layout.specs.Postings.{Posting, is_live, live_of}
+use Rattle.wu_layout.specs.Layouts.{lists_of as lists_of_postings}
+use Rattle.wu_space.specs.Addresses.{AreApart, Ranges, live_ranges, shared}
+use Rattle.wu_parts.specs.declared.chains.Chain.{Chain}
+use Rattle.wu_parts.specs.Memory.{HasPostings, Lists}
+use Rattle.wu_parts.specs.Lists.{AreInOrder, AscendBetween, IsList}
+use Rattle.wu_parts.specs.Chains.{AreChains, Chained, addressed, all_moved, chained, lent, lists_of, memory_of, moved, places_of}
+use Rattle.wu_parts.specs.LiveLists.{AreEncodable, live_lists}
+use Rattle.wu_parts.proofs.Ascending.{all_from_zero, ascend-moved, order-from_apart}
+use Rattle.wu_parts.proofs.LiveTerms.{IsListWithin, lists_encodable, live_lists-append, live_lists_are, live_same}
+
+abbrev Entries : Type 0
+Entries = List (Vec ℕ Global × Chain)
+
+all-permuted : {X : Type 0} (P : X → Type 0) (xs ys : List X) → IsPermutation xs ys → AllByRecursion P xs → AllByRecursion P ys
+all-permuted P xs ys p a =
+    all_from_has P ys
+    (λ y i. all_has P y xs a (Has-from_Contains y xs (Contains-permutation ys xs y (IsPermutation-sym xs ys p) (Contains-from_Has y ys i))))
+
+module _ (links : List ℕ) where
+  abbrev IsChained : Chained → Type 0
+  IsChained entry = IsList (length links) (entry.0, places_of links entry.1)
+
+  are_chained : (es : Entries) → AreChains links es → AllByRecursion IsChained (map chained es)
+  are_chained [] a = tt
+  are_chained (e ∷ es) a = (record { term = a.0.term; filled = a.0.filled; ascend = a.0.ascend }, are_chained es a.1)
+
+  lent_ascend : (entries : List (Bor (List ℕ) × Chain)) → AllByRecursion IsChained (map lent entries)
+      → AllByRecursion (λ e. AscendBetween 0 (length links) (places_of links e.1)) entries
+  lent_ascend [] a = tt
+  lent_ascend (e ∷ entries) a = (a.0.ascend, lent_ascend entries a.1)
+
+  -- the chains ascend, in whatever order they come
+  pub chains_ascend : (es : Entries) (entries : List (Bor (List ℕ) × Chain)) → AreChains links es
+      → IsPermutation (map chained es) (map lent entries)
+      → AllByRecursion (λ e. AscendBetween 0 (length links) (places_of links e.1)) entries
+  chains_ascend es entries a p =
+      lent_ascend entries (all-permuted IsChained (map chained es) (map lent entries) p (are_chained es a))
+
+  module _ (start : ℕ) where
+    lists_addressed : (es : Entries) → map (addressed start links) (map chained es) ≡ all_moved start (lists_of links es)
+    lists_addressed [] = refl
+    lists_addressed (e ∷ es) =
+        ap (λ (l : Lists). (e.0.items, moved start (places_of links e.1)) ∷ l) (lists_addressed es)
+
+    same_keys : (entries : List Chained) → keys_of (map (addressed start links) entries) ≡ keys_of entries
+    same_keys [] = refl
+    same_keys (e ∷ entries) = ap (λ (l : List (List ℕ)). e.0 ∷ l) (same_keys entries)
+
+    are_within : (entries : List Chained) → AllByRecursion IsChained entries
+        → AllByRecursion (IsListWithin start (start + length links)) (map (addressed start links) entries)
+    are_within [] a = tt
+    are_within (e ∷ entries) a =
+        let from : start + 0 ≡ start = omega arith in (
+          (
+            a.0.term,
+            subst (λ n. AscendBetween n (start + length links) (moved start (places_of links e.1))) from
+                (ascend-moved start 0 (length links) (places_of links e.1) a.0.ascend),
+          ),
+          are_within entries a.1,
+        )
+
+all_between : (low high : ℕ) (P : ℕ → Type 0) (xs : List ℕ) → ((x : ℕ) → low ≤ x → x < high → P x) → AscendBetween low high xs
+    → AllByRecursion P xs
+all_between low high P [] f a = tt
+all_between low high P (x ∷ xs) f a =
+    let top : x + 1 ≤ high = bounds (x + 1) high xs a.1 in
+    (f x a.0 (omega arith), all_between (x + 1) high P xs (λ y l h. f y (omega (arith, a.0)) h) a.1)
+  where
+    bounds : (low high : ℕ) (xs : List ℕ) → AscendBetween low high xs → low ≤ high
+    bounds low high [] b = b
+    bounds low high (y ∷ ys) b = let r : y + 1 ≤ high = bounds (y + 1) high ys b.1 in omega (arith, b.0)
+
+all_live : (start end : ℕ) (live ranges : List Range) (lists : Lists)
+    → ((address : ℕ) → start ≤ address → address ≤ end → is_live live address ≡ is_live ranges address)
+    → AllByRecursion (IsListWithin start end) lists
+    → AllByRecursion (λ list. AllByRecursion (λ address. is_live live address ≡ is_live ranges address) list.1) lists
+all_live start end live ranges [] f a = tt
+all_live start end live ranges (list ∷ lists) f a = (
+  all_between start end (λ address. is_live live address ≡ is_live ranges address) list.1 (λ x l h. f x l (omega arith)) a.0.1,
+  all_live start end live ranges lists f a.1,
+)
+
+module _ (low start stored : ℕ) (links : List ℕ) (es : Entries) (entries : List (Bor (List ℕ) × Chain)) (live : List Range)
+    (ranges : Ranges) (a : AreChains links es) (p : IsPermutation (map chained es) (map lent entries))
+    (d : IsDistinct (pointwise nat_eq) (keys_of (map chained es)))
+    (s : IsStrictlySortedBy (slice_cmp nat_cmp) (keys_of (map lent entries)))
+    (q : IsPermutation (live_ranges ranges start (start + length links)) live)
+    (from to : ℕ) (postings : List Posting) (h : HasPostings from to (memory_of low start stored links es) postings) where
+  abbrev sorted : Lists
+  sorted = map (addressed start links) (map lent entries)
+
+  abbrev all_ranges : List Range
+  all_ranges = map (λ file. file.1) ranges
+
+  -- a flush has the lists of a part of the live postings
+  pub lists_made : live_lists live sorted ≡ lists_of_postings (live_of all_ranges postings)
+  lists_made =
+      let lists : Lists = all_moved start (lists_of links es) in
+      let same : map (addressed start links) (map chained es) ≡ lists = lists_addressed links start es in
+      live_lists_are (memory_of low start stored links es) sorted live all_ranges
+      (subst (λ (l : Lists). IsPermutation l sorted) same
+      (IsPermutation-map (addressed start links) (map chained es) (map lent entries) p))
+      (subst (IsDistinct (pointwise nat_eq)) (sym (same_keys links start (map chained es)) ∙ ap keys_of same) d)
+      (subst (IsStrictlySortedBy (slice_cmp nat_cmp)) (sym (same_keys links start (map lent entries))) s)
+      (all_live start (start + length links) live all_ranges lists (live_same ranges start (start + length links) live q)
+      (subst (AllByRecursion (IsListWithin start (start + length links))) same
+      (are_within links start (map chained es) (are_chained links es a))))
+      from to postings h
+
+  pub lists_can_be_encoded : start + length links ≤ ADDRESSES_MAX → AreEncodable (live_lists live sorted)
+  lists_can_be_encoded l =
+      lists_encodable start (start + length links) from to live all_ranges sorted postings l
+      (are_within links start (map lent entries)
+      (all-permuted (IsChained links) (map chained es) (map lent entries) p (are_chained links es a)))
+      h.ascend lists_made
+
+-- ---- one entry after another
+
+pub all_at : {X : Type 0} (P : X → Type 0) (xs : List X) (place : ℕ) (x : X) → AllByRecursion P xs → place < length xs
+    → x ≡ get_or xs place x → P x
+all_at P [] place x a l is = absurd (omega arith)
+all_at P (y ∷ ys) zero x a l is = subst P (sym is) a.0
+all_at P (y ∷ ys) (suc place) x a l is = all_at P ys place x a.1 (omega arith) is
+
+pub more_live : (start : ℕ) (links : List ℕ) (live : List Range) (entries : List (Bor (List ℕ) × Chain)) (place : ℕ)
+    (entry : Bor (List ℕ) × Chain) (before after : List TermList) → place < length entries → entry ≡ get_or entries place entry
+    → before ≡ live_lists live (map (addressed start links) (map lent (take place entries)))
+    → after ≡ before ++ live_lists live (addressed start links (entry.0.now, entry.1) ∷ [])
+    → after ≡ live_lists live (map (addressed start links) (map lent (take (place + 1) entries)))
+more_live start links live entries place entry before after l is b e =
+    let address : Chained → List ℕ × List ℕ = addressed start links in
+    let front : List (Bor (List ℕ) × Chain) = take place entries in
+    let longer : take (place + 1) entries ≡ front ++ entry ∷ [] =
+    take_more entries place entry l ∙ ap (λ (x : Bor (List ℕ) × Chain). front ++ x ∷ []) (sym is) in
+    let whole : map address (map lent (take (place + 1) entries)) ≡ map address (map lent front) ++ address (lent entry) ∷ [] =
+    ap (λ (l : List (Bor (List ℕ) × Chain)). map address (map lent l)) longer
+    ∙ ap (map address) (map-append lent front (entry ∷ []))
+    ∙ map-append address (map lent front) (lent entry ∷ []) in
+    e
+    ∙ ap (λ (ls : List TermList). ls ++ live_lists live (address (lent entry) ∷ [])) b
+    ∙ sym (live_lists-append live (map address (map lent front)) (address (lent entry) ∷ []))
+    ∙ ap (live_lists live) (sym whole)
+
+-- ---- the live ranges
+
+all_indexed : {X : Type 0} (P : X → Type 0) (xs : List X) → AllByRecursion P xs → All P xs
+all_indexed P [] a k d l = absurd (omega arith)
+all_indexed P (x ∷ xs) a zero d l = a.0
+all_indexed P (x ∷ xs) a (suc k) d l = all_indexed P xs a.1 k d (omega arith)
+
+all-kept : (P : Range → Type 0) (test : Range → Bool) (ranges : Ranges) → AllByRecursion (λ file. P file.1) ranges
+    → AllByRecursion P (filter test (map (λ file. file.1) ranges))
+all-kept P test [] a = tt
+all-kept P test (file ∷ ranges) a =
+    elim (test file.1) as
+    (λ b. AllByRecursion P (cond b (file.1 ∷ filter test (map (λ f. f.1) ranges)) (filter test (map (λ f. f.1) ranges)))) [
+      | true ↦ (a.0, all-kept P test ranges a.1)
+      | false ↦ all-kept P test ranges a.1
+    ]
+
+-- they end below 2^64
+pub live_in_order : (next low high : ℕ) (ranges : Ranges) (live : List Range) → next < 2 ^ 64
+    → AllByRecursion (λ file. file.1.start + file.1.len ≤ next) ranges → IsPermutation (live_ranges ranges low high) live → AreApart live
+    → AreInOrder 0 (2 ^ 64 - 1) live
+live_in_order next low high ranges live l a p apart =
+    let all : AllByRecursion (λ (range : Range). range.start + range.len ≤ next) live =
+    all-permuted (λ range. range.start + range.len ≤ next) (live_ranges ranges low high) live p
+    (all-kept (λ range. range.start + range.len ≤ next) (λ range. nat_lt 0 (shared low high range)) ranges a) in
+    let bounded : All (λ (range : Range). range.start + range.len ≤ next) live =
+    all_indexed (λ range. range.start + range.len ≤ next) live all in
+    order-from_apart 0 (2 ^ 64 - 1) live (omega arith) (all_from_zero live) apart (λ k d h. let r = bounded k d h in omega arith)

@@ -1,0 +1,94 @@
+use Rattle.std.proofs.Common.{◌≡◌, ℕ, ◌+◌, ◌<◌, List, [], ◌∷◌, ◌++◌, length, map, refl, ap, sym, subst, ◌∙◌, rules}
+use Rattle.wu_base.specs.declared.addresses.PartRec.{PartRec}
+use Rattle.wu_base.specs.declared.addresses.Range.{Range}
+use Rattle.wu_base.specs.declared.addresses.TermList.{TermList}
+use Rattle.wu_layout.specs.Postings.{Posting, is_live, live_of}
+use Rattle.wu_layout.proofs.PostingLemmas.{Ascend-bounds, Ascend-filter}
+use Rattle.wu_part.specs.Directories.{PartDirectory}
+use Rattle.wu_parts.specs.Contents.{Contents, with_part, without_postings}
+use Rattle.wu_parts.specs.Flushing.{Told}
+use Rattle.wu_parts.specs.Memory.{HasPostings, Memory}
+use Rattle.wu_parts.specs.StoredParts.{AreStored, IsPut, directories_of, records_of}
+use Rattle.wu_parts.specs.ViewOfParts.{contents_of}
+use Rattle.wu_parts.specs.declared.writing.StoredPart.{StoredPart}
+use Rattle.wu_parts.proofs.Flushes.{flushes-none, flushes-part, none_of_length, stored_after}
+use Rattle.wu_parts.proofs.Spans.{directories-push, records-push, stored-raised}
+use Rattle.wu_parts.proofs.parts.Parts.flush.Goals as goal
+
+pub invariant_of-self : goal.invariant_of-self
+invariant_of-self g c =
+    let memory : Memory = c.self.inside.memory in
+    let has = c.in_ok-lists.ensures.has in
+    subst (λ (m : Memory). AreStored m.low c.self.inside.parts.items) (sym c.clear.ensures)
+    (stored-raised memory.low memory.end c.self.inside.parts.items (Ascend-bounds memory.low memory.end has.0 has.1.ascend)
+    c.self.invariant)
+
+pub returns-then-is_empty-clause-flushed : goal.returns-then-is_empty-clause-flushed
+returns-then-is_empty-clause-flushed g c low high postings h =
+    let few : length c.in_ok-lists.lists.items ≡ 0 = search rules in
+    flushes-none c.args.self.now _ _ _ (live_of (map (λ file. file.1) c.args.space.now.ranges) postings) c.in_ok-lists.lists.items
+    (c.in_ok-lists.ensures.lists low high postings
+    (subst (λ (k : Contents). HasPostings low high k.memory postings) (sym c.self.view_is) h))
+    (none_of_length c.in_ok-lists.lists.items few)
+    (ap (λ (m : Memory). record (contents_of c.self.inside) { memory = m }) c.clear.ensures
+    ∙ ap without_postings c.self.view_is)
+    refl
+
+pub invariant_of-self-2 : goal.invariant_of-self-2
+invariant_of-self-2 g c =
+    let memory : Memory = c.self.inside.memory in
+    let parts : List StoredPart = c.self.inside.parts.items in
+    let ranges : List Range = map (λ file. file.1) c.args.space.now.ranges in
+    let has = c.in_ok-lists.ensures.has in
+    let before : Told = (g.D.Store.holds c.args.store.now, g.D.Store.moments c.args.store.now) in
+    let after : Told = (g.D.Store.holds c.put_part.new.store, g.D.Store.moments c.put_part.new.store) in
+    let some : 0 < length c.in_ok-lists.lists.items = search rules in
+    let pushed : c.push.new.self.items ≡ parts ++ c.in_ok-part.part ∷ [] =
+    c.in_ok-push.ensures.items ∙ ap (λ (l : List StoredPart). l ++ c.in_ok-part.part ∷ []) c.in_ok-reserve.ensures.items in
+    let put : IsPut c.in_ok-lists.lists.items c.self.inside.next_blob c.in_ok-part.part.recorded c.in_ok-part.part.directory before after =
+    subst (λ (ls : List TermList). IsPut ls c.self.inside.next_blob c.in_ok-part.part.recorded c.in_ok-part.part.directory before after)
+    c.deref.ensures.value c.in_ok-part.ensures.put in
+    let more : AreStored memory.end (parts ++ c.in_ok-part.part ∷ []) =
+    stored_after memory.low memory.end c.self.inside.next_blob parts c.in_ok-part.part (live_of ranges has.0) c.in_ok-lists.lists.items
+    before after
+    c.self.invariant (Ascend-filter (λ (p : Posting). is_live ranges p.address) memory.low memory.end has.0 has.1.ascend)
+    (c.in_ok-lists.ensures.lists memory.low memory.end has.0 has.1) some put in
+    subst (λ (m : Memory). AreStored m.low c.push.new.self.items) (sym c.clear-2.ensures)
+    (subst (AreStored memory.end) (sym pushed) more)
+
+pub returns-clause-flushed : goal.returns-clause-flushed
+returns-clause-flushed g c low high postings h =
+    let parts : List StoredPart = c.self.inside.parts.items in
+    let part : StoredPart = c.in_ok-part.part in
+    let ranges : List Range = map (λ file. file.1) c.args.space.now.ranges in
+    let before : Told = (g.D.Store.holds c.args.store.now, g.D.Store.moments c.args.store.now) in
+    let after : Told = (g.D.Store.holds c.put_part.new.store, g.D.Store.moments c.put_part.new.store) in
+    let some : 0 < length c.in_ok-lists.lists.items = search rules in
+    let pushed : c.push.new.self.items ≡ parts ++ part ∷ [] =
+    c.in_ok-push.ensures.items ∙ ap (λ (l : List StoredPart). l ++ part ∷ []) c.in_ok-reserve.ensures.items in
+    let make : List PartRec → List PartDirectory → Memory → Contents = λ ps ds m.
+    record (contents_of c.self.inside) {
+      memory = m;
+      parts = ps;
+      directories = ds;
+      next_blob = c.self.inside.next_blob + 1;
+      flushes = c.self.inside.flushes + 1;
+    } in
+    let changes : make (records_of c.push.new.self.items) (directories_of c.push.new.self.items) c.clear-2.new.self
+    ≡ with_part part.recorded part.directory c.args.self.now =
+    ap (λ (ps : List PartRec). make ps (directories_of c.push.new.self.items) c.clear-2.new.self)
+    (ap records_of pushed ∙ records-push parts part)
+    ∙ ap (λ (ds : List PartDirectory). make (records_of parts ++ part.recorded ∷ []) ds c.clear-2.new.self)
+    (ap directories_of pushed ∙ directories-push parts part)
+    ∙ ap (make (records_of parts ++ part.recorded ∷ []) (directories_of parts ++ part.directory ∷ [])) c.clear-2.ensures
+    ∙ ap (with_part part.recorded part.directory) c.self.view_is in
+    let put : IsPut c.in_ok-lists.lists.items c.args.self.now.next_blob part.recorded part.directory before after =
+    subst (λ (n : ℕ). IsPut c.in_ok-lists.lists.items n part.recorded part.directory before after)
+    (ap (λ (k : Contents). k.next_blob) c.self.view_is)
+    (subst (λ (ls : List TermList). IsPut ls c.self.inside.next_blob part.recorded part.directory before after) c.deref.ensures.value
+    c.in_ok-part.ensures.put) in
+    flushes-part c.args.self.now _ before after low high (live_of ranges postings) c.in_ok-lists.lists.items part.recorded part.directory
+    (Ascend-filter (λ (p : Posting). is_live ranges p.address) low high postings h.ascend)
+    (c.in_ok-lists.ensures.lists low high postings
+    (subst (λ (k : Contents). HasPostings low high k.memory postings) (sym c.self.view_is) h))
+    some put changes

@@ -1,0 +1,39 @@
+-- What a store holds of the parts of the index, and what is kept and needed of their blocks.
+use Rattle.std.specs.Prelude.{◌≡◌, ℕ, List, [], ◌∷◌, Some}
+use Rattle.std.specs.List.{AllByRecursion, flat_map}
+use Rattle.wu_base.specs.declared.addresses.PartRec.{PartRec}
+use Rattle.wu_base.specs.declared.addresses.Range.{Range}
+use Rattle.wu_outside.specs.Content.{Content}
+use Rattle.wu_layout.specs.Layouts.{Part, IsRecordOf, lists_of}
+use Rattle.wu_part.specs.Directories.{PartDirectory}
+use Rattle.wu_part.specs.Parts.{IsRecorded, SpellsPart}
+use Rattle.wu_lists.specs.declared.blocks.Block.{Block}
+use Rattle.wu_lists.specs.Blocks.{needed}
+use Rattle.wu_lists.specs.Keeping.{AreHeld, Kept}
+
+-- Record and directory are the part's, and the content has the part's postings, term by term, under its blob.
+pub record HoldsPart (content : Content) (recorded : PartRec) (directory : PartDirectory) (part : Part) : Type 0 where
+  pub record_of : IsRecordOf recorded part
+  pub told : IsRecorded recorded directory
+  pub bytes : List ℕ
+  pub held : content.blobs part.blob ≡ Some bytes
+  pub spelled : SpellsPart directory (lists_of part.postings) bytes
+
+-- the same of parts side by side, from left to right
+abbrev pub HoldParts : Content → List PartRec → List PartDirectory → List Part → Type 0
+HoldParts content [] [] [] = Unit {0}
+HoldParts content [] [] (part ∷ parts) = ⊥
+HoldParts content [] (directory ∷ directories) parts = ⊥
+HoldParts content (recorded ∷ records) [] parts = ⊥
+HoldParts content (recorded ∷ records) (directory ∷ directories) [] = ⊥
+HoldParts content (recorded ∷ records) (directory ∷ directories) (part ∷ parts) =
+    HoldsPart content recorded directory part × HoldParts content records directories parts
+
+-- each kept block of a part's blob has the bytes that the content has there
+abbrev pub AreKept : Content → List PartRec → Kept → Type 0
+AreKept content records kept =
+    AllByRecursion (λ recorded. (bytes : List ℕ) → content.blobs recorded.blob ≡ Some bytes → AreHeld recorded.blob bytes kept) records
+
+-- the blocks of the term that frames need, part by part from left to right
+abbrev pub all_needed : List (PartRec × PartDirectory) → List ℕ → List Range → List Block
+all_needed parts term frames = flat_map (λ part. needed part.0.blob part.1 term frames) parts

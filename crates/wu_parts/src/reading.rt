@@ -1,0 +1,46 @@
+//! The addresses of a term in the parts.
+ghost use Rattle.std.specs.Prelude.{◌≡◌, ◌+◌, ◌≤◌, All, IfErr, IfOk, OnOk};
+ghost use Rattle.std.specs.List.{AllByRecursion};
+ghost use Rattle.std.specs.Map.{keys_of};
+ghost use Rattle.wu_space.specs.Addresses.{AreApart};
+ghost use Rattle.wu_part.specs.Parts.{IsRecorded};
+ghost use Rattle.wu_lists.specs.Keeping.{Asks, all_missing};
+ghost use Rattle.wu_parts.specs.Causes.{IsFetchCause};
+ghost use Rattle.wu_parts.specs.Holdings.{all_needed};
+ghost use Rattle.wu_parts.specs.StoredParts.{AreFetchedFrom, pairs_of};
+
+use crate::writing::StoredPart;
+use std::alloc::Global;
+use wu_base::{ADDRESSES_MAX, Range, Trouble};
+use wu_lists::Lists;
+use wu_outside::Store;
+
+/// The addresses of the term in the parts, from left to right, that lie in the frames.
+pub(crate) fn fetch_from_parts<D: Store>(
+    alloc: Global,
+    store: &mut D,
+    lists: &mut Lists,
+    parts: &[StoredPart],
+    term: &[u8],
+    frames: &[Range],
+) -> Result<Vec<u64>, Trouble>
+    requires apart { AreApart frames.now }
+    requires bounded { All (λ frame. frame.start + frame.len ≤ ADDRESSES_MAX) frames.now }
+    requires told { AllByRecursion (λ part. IsRecorded part.recorded part.directory) parts.now }
+    ensures found { IfOk result (λ found. AreFetchedFrom parts.now term.now frames.now (D.holds store.old) lists.old found.items) }
+    ensures blocks { OnOk result (Asks (all_needed (pairs_of parts.now) term.now frames.now) (D.holds store.old) lists.old lists.new
+        (D.reads store.old) (D.reads store.new)) }
+    ensures holds { D.holds store.new ≡ D.holds store.old }
+    ensures moments { D.moments store.new ≡ D.moments store.old }
+    ensures calm { OnOk result (D.faults store.new ≡ D.faults store.old) }
+    ensures cause { IfErr result (IsFetchCause (pairs_of parts.now)
+        (all_missing lists.old.cap (keys_of lists.old.entries) (all_needed (pairs_of parts.now) term.now frames.now))
+        (D.holds store.old) (D.faults store.old) (D.faults store.new) (D.reads store.old) (D.reads store.new)) }
+{
+    let mut found = Vec::new(alloc);
+    for part in parts {
+        let more = lists.fetch(store, part.recorded.blob, &part.directory, term, frames)?;
+        found.extend_from_slice(more.as_slice())?;
+    }
+    Ok(found)
+}
