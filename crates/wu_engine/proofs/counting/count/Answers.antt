@@ -10,14 +10,14 @@ use Rattle.wu_engine.proofs.PassedCauses.{cause_at_last, cause_at_once, cause_pa
 use Rattle.wu_engine.proofs.UnitLemmas.{searched_few}
 use Rattle.wu_engine.proofs.counting.count.Goals as goal
 
-pub counts_in-requires-clause-lists : goal.counts_in-requires-clause-lists
-counts_in-requires-clause-lists g c =
+pub count-requires-clause-lists : goal.count-requires-clause-lists
+count-requires-clause-lists g c =
     rw c.deref-2.ensures.value
     (are_lists c.in_ok-terms.terms.items c.in_ok-lists.lists.items (c.in_ok-lists.ensures.named ∙ c.deref.ensures.value)
     c.in_ok-lists.ensures.ascending c.in_ok-terms.ensures.ascending)
 
-pub counts_in-requires-clause-few : goal.counts_in-requires-clause-few
-counts_in-requires-clause-few g c =
+pub count-requires-clause-few : goal.count-requires-clause-few
+count-requires-clause-few g c =
     rw c.as_slice.ensures (searched_few (region_of c.args.expr.now) c.deref-2.result.now c.args.frames.now c.requires)
 
 pub returns-clause-answer : goal.returns-clause-answer

@@ -46,7 +46,7 @@ rank_lists-requires-clause-of_unit g c =
     let lists = c.in_ok-lists.lists.items in
     let named : map (λ list. list.term) lists ≡ with_words terms c.args.words.now =
     c.in_ok-lists.ensures.named ∙ c.deref.ensures.value ∙ c.in_ok-asked.ensures in
-    rw (c.deref-2.ensures.value, c.len.ensures)
+    rw (c.deref-2.ensures.value, c.len-count.ensures)
     (subst (AreTerms (region_of c.args.unit.now)) (sym (first_named terms c.args.words.now lists named)) c.in_ok-terms.ensures)
 
 pub rank_lists-requires-clause-within : goal.rank_lists-requires-clause-within
@@ -55,7 +55,7 @@ rank_lists-requires-clause-within g c =
     let lists = c.in_ok-lists.lists.items in
     let named : map (λ list. list.term) lists ≡ with_words terms c.args.words.now =
     c.in_ok-lists.ensures.named ∙ c.deref.ensures.value ∙ c.in_ok-asked.ensures in
-    rw (c.deref-2.ensures.value, c.len.ensures) (enough_lists terms c.args.words.now lists named)
+    rw (c.deref-2.ensures.value, c.len-count.ensures) (enough_lists terms c.args.words.now lists named)
 
 pub returns-clause-answer : goal.returns-clause-answer
 returns-clause-answer g c = λ s uid is tells.
