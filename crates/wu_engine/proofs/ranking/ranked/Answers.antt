@@ -1,4 +1,5 @@
-use Rattle.std.proofs.Common.{◌≡◌, ◌∙◌, List, ℕ, ap, map, subst, sym, take, arith}
+use Rattle.std.proofs.Common.{◌≡◌, ◌∙◌, List, ℕ, ap, length, map, rules, subst, sym}
+use Rattle.std.specs.Vec.{vec_len}
 use Rattle.wu_gcl.specs.Regions.{region_of}
 use Rattle.wu_gcl.specs.Terms.{AreTerms}
 use Rattle.wu_lists.specs.Keeping.{Asks}
@@ -46,7 +47,8 @@ rank_lists-requires-clause-of_unit g c =
     let lists = c.in_ok-lists.lists.items in
     let named : map (λ list. list.term) lists ≡ with_words terms c.args.words.now =
     c.in_ok-lists.ensures.named ∙ c.deref.ensures.value ∙ c.in_ok-asked.ensures in
-    rw (c.deref-2.ensures.value, c.len-count.ensures)
+    let size : vec_len c.in_ok-terms.terms ≡ length terms = search rules in
+    rw (c.deref-2.ensures.value, c.len-count.ensures, size)
     (subst (AreTerms (region_of c.args.unit.now)) (sym (first_named terms c.args.words.now lists named)) c.in_ok-terms.ensures)
 
 pub rank_lists-requires-clause-within : goal.rank_lists-requires-clause-within
@@ -55,7 +57,8 @@ rank_lists-requires-clause-within g c =
     let lists = c.in_ok-lists.lists.items in
     let named : map (λ list. list.term) lists ≡ with_words terms c.args.words.now =
     c.in_ok-lists.ensures.named ∙ c.deref.ensures.value ∙ c.in_ok-asked.ensures in
-    rw (c.deref-2.ensures.value, c.len-count.ensures) (enough_lists terms c.args.words.now lists named)
+    let size : vec_len c.in_ok-terms.terms ≡ length terms = search rules in
+    rw (c.deref-2.ensures.value, c.len-count.ensures, size) (enough_lists terms c.args.words.now lists named)
 
 pub returns-clause-answer : goal.returns-clause-answer
 returns-clause-answer g c = λ s uid is tells.
