@@ -1,17 +1,15 @@
 -- The terms that a question asks for, and the lists of them.
-use Rattle.std.proofs.Common.{◌≡◌, ℕ, zero, suc, ◌≤◌, Bool, true, false, cond, ◌||◌, List, [], ◌∷◌, ◌++◌, length, take, drop, map, refl, ap, ap₂, sym, ◌∙◌, subst, arith, rules, append_assoc, append-nil, length-append}
-use Rattle.std.specs.Prelude.{All, Option, Some, None, find, nat_eq, option_map, unwrap_or}
+use Rattle.std.proofs.Common.{◌≡◌, ℕ, zero, suc, ◌≤◌, true, false, cond, ◌||◌, List, [], ◌∷◌, ◌++◌, length, take, map, refl, ap, ap₂, sym, ◌∙◌, subst, arith, rules, append_assoc, append-nil, length-append}
+use Rattle.std.specs.Prelude.{All, Option, Some, find, nat_eq, option_map, unwrap_or}
 use Rattle.std.specs.List.{AllByRecursion, list_any}
 use Rattle.std.specs.List.Sorted.{IsStrictlyIncreasing}
-use Rattle.std.specs.Cmp.Lexicographic.{pointwise, slice_cmp, same_text, nat_list_eq_equiv}
-use Rattle.std.specs.Ordering.{nat_cmp}
+use Rattle.std.specs.Cmp.Lexicographic.{pointwise, same_text, nat_list_eq_equiv}
 use Rattle.std.proofs.Math.Bool.{or-true}
 use Rattle.std.proofs.lemmas.Cmp.{nat_list_cmp_total}
 use Rattle.std.proofs.lemmas.Map.Lookups.{exact_bytes}
 use Rattle.std.proofs.lemmas.List.{length-map}
 use Rattle.std.proofs.lemmas.List.Elements.{All-from_recursion, recursion_from_All}
 use Rattle.std.proofs.Math.Seq.{take-append_seam}
-use Rattle.wu_base.specs.SortedOnce.{sorted_once}
 use Rattle.wu_base.proofs.Members.{Has-from_Contains, Contains-from_Has}
 use Rattle.wu_base.proofs.SortedLists.{sorted_once_is}
 use Rattle.wu_base.specs.declared.addresses.TermList.{TermList}
@@ -86,7 +84,8 @@ list_in_told addresses [] word is = absurd (cc)
 list_in_told addresses (term ∷ terms) word is =
     elim (pointwise nat_eq word term) as
     (λ b. pointwise nat_eq word term ≡ b → (b || list_any (pointwise nat_eq word) terms) ≡ true
-    → made (cond b (Some (list_at addresses term)) (find (λ (list : TermList). pointwise nat_eq word list.term) (map (list_at addresses) terms)))
+    → made (cond b (Some (list_at addresses term))
+    (find (λ (list : TermList). pointwise nat_eq word list.term) (map (list_at addresses) terms)))
     ≡ list_at addresses word) [
       | true ↦ λ e h. ap (λ (t : List ℕ). made_of (addresses t)) (sym (same_text word term (sym e)))
       | false ↦ λ e h. list_in_told addresses terms word h
@@ -101,7 +100,8 @@ pub lists_in_told : (addresses : List ℕ → List ℕ) (terms words : List (Lis
     → map (list_in (map (list_at addresses) terms)) words ≡ map (list_at addresses) words
 lists_in_told addresses terms [] all = refl
 lists_in_told addresses terms (word ∷ words) all =
-    ap₂ (λ (l : TermList) (ls : List TermList). l ∷ ls) (list_in_told addresses terms word all.0) (lists_in_told addresses terms words all.1)
+    ap₂ (λ (l : TermList) (ls : List TermList). l ∷ ls) (list_in_told addresses terms word all.0)
+    (lists_in_told addresses terms words all.1)
 
 -- ---- the first of lists
 

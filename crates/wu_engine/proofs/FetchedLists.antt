@@ -1,5 +1,5 @@
 -- The lists of terms, fetched one after the other.
-use Rattle.std.proofs.Common.{◌≡◌, ℕ, ◌+◌, ◌<◌, List, [], ◌∷◌, ◌++◌, length, map, take, drop, get_or, refl, ap, sym, ◌∙◌, subst}
+use Rattle.std.proofs.Common.{◌≡◌, ℕ, ◌+◌, ◌<◌, List, [], ◌∷◌, ◌++◌, length, map, take, drop, get_or, ap, sym, ◌∙◌, subst}
 use Rattle.std.specs.Prelude.{All, Option, zip}
 use Rattle.std.specs.List.Sorted.{IsStrictlyIncreasing}
 use Rattle.std.specs.Map.{keys_of}
@@ -14,7 +14,7 @@ use Rattle.wu_outside.specs.Content.{Content}
 use Rattle.wu_outside.specs.declared.ranges.ReadRange.{ReadRange}
 use Rattle.wu_part.specs.Directories.{PartDirectory}
 use Rattle.wu_lists.specs.declared.blocks.Block.{Block}
-use Rattle.wu_lists.specs.Keeping.{Asks, Kept, all_missing}
+use Rattle.wu_lists.specs.Keeping.{Asks, all_missing}
 use Rattle.wu_parts.specs.Causes.{IsFetchCause}
 use Rattle.wu_parts.specs.Contents.{Contents}
 use Rattle.wu_engine.specs.Asked.{blocks_for}

@@ -1,8 +1,8 @@
 -- A user's frames, in a state whose index the engine keeps, are frames of the files of her view, one for each, in the order of their
 -- addresses.
-use Rattle.std.proofs.Common.{◌≡◌, ℕ, zero, suc, ◌+◌, true, List, [], ◌∷◌, ◌++◌, length, map, filter, refl, sym, ap, ap₂, ◌∙◌, subst, arith, inl, inr, append-nil, Option, None, Some}
-use Rattle.std.specs.Prelude.{◌==◌, is_some, slice_get, option_and_then, option_map, unwrap_or, IfSome, filter_map, not, IsPermutation}
-use Rattle.std.specs.List.{AllByRecursion, cons_option, enumerate_from, list_any, range_with_len}
+use Rattle.std.proofs.Common.{◌≡◌, ℕ, zero, suc, ◌+◌, true, List, [], ◌∷◌, ◌++◌, length, map, filter, refl, sym, ap, ap₂, ◌∙◌, subst, arith, inl, inr, Option, None, Some}
+use Rattle.std.specs.Prelude.{is_some, slice_get, option_and_then, option_map, unwrap_or, IfSome, filter_map, not, IsPermutation}
+use Rattle.std.specs.List.{AllByRecursion, cons_option, enumerate_from, range_with_len}
 use Rattle.std.specs.List.Sorted.{IsStrictlyIncreasing}
 use Rattle.std.proofs.lemmas.Bool.{and_parts}
 use Rattle.std.proofs.lemmas.List.{length-map}
@@ -14,13 +14,12 @@ use Rattle.wu_base.proofs.Members.{Has, Has-from_Contains, Contains-from_Has, Ha
 use Rattle.wu_base.proofs.SortedLists.{sorted_once_has}
 use Rattle.wu_gcl.specs.Extents.{is_token_at}
 use Rattle.wu_layout.specs.Invariants.{IsIndexed, IsAmong, HasText}
-use Rattle.wu_layout.specs.Layouts.{FileEntry, Part, entry_of, homes_of, postings_of}
-use Rattle.wu_layout.specs.Postings.{addresses_of, is_live, fetched}
+use Rattle.wu_layout.specs.Layouts.{FileEntry, entry_of, homes_of, postings_of}
+use Rattle.wu_layout.specs.Postings.{addresses_of, is_live}
 use Rattle.wu_layout.proofs.Fetches.{is_term_at, fetched_at}
 use Rattle.wu_layout.proofs.NumberedRanges.{lookup-ranges_by_number}
 use Rattle.wu_layout.proofs.TermLemmas.{addresses_of-increasing}
 use Rattle.wu_space.specs.Addresses.{Ranges, range_of}
-use Rattle.wu_parts.specs.Memory.{Memory, held}
 use Rattle.wu_token.specs.Tokens.{tokens_of}
 use Rattle.wu_tree.specs.declared.events.Node.{Node}
 use Rattle.wu_tree.specs.FileSystems.{FileSystem, groups_of, is_file}

@@ -1,14 +1,14 @@
 -- What is fetched of parts and memory are the state's postings, and it stays so while blocks are kept.
-use Rattle.std.proofs.Common.{◌≡◌, ℕ, zero, suc, ◌<◌, ◌≤◌, Bool, true, false, cond, List, [], ◌∷◌, ◌++◌, map, take, filter, refl, ap, ap₂, sym, ◌∙◌, subst, arith, append_assoc, append-nil}
+use Rattle.std.proofs.Common.{◌≡◌, ℕ, zero, suc, ◌<◌, Bool, true, false, cond, List, [], ◌∷◌, ◌++◌, take, filter, refl, ap, sym, ◌∙◌, subst, arith, append_assoc, append-nil}
 use Rattle.std.specs.Prelude.{Option, Some, None, IfSome, not, zip}
-use Rattle.std.specs.List.{AllByRecursion, flat_map}
+use Rattle.std.specs.List.{AllByRecursion}
 use Rattle.std.specs.Map.{keys_of}
 use Rattle.std.proofs.lemmas.List.Elements.{filter-append}
 use Rattle.wu_base.specs.declared.addresses.PartRec.{PartRec}
 use Rattle.wu_base.specs.declared.addresses.Range.{Range}
 use Rattle.wu_outside.specs.Content.{Content}
 use Rattle.wu_outside.specs.declared.ranges.ReadRange.{ReadRange}
-use Rattle.wu_layout.specs.Layouts.{Part, postings_of, stored_in}
+use Rattle.wu_layout.specs.Layouts.{Part, stored_in}
 use Rattle.wu_layout.specs.Postings.{Posting, addresses_of, fetched, is_live}
 use Rattle.wu_layout.proofs.HomeLemmas.{postings_split}
 use Rattle.wu_layout.proofs.TermLemmas.{addresses_of-append}
@@ -17,7 +17,7 @@ use Rattle.wu_part.specs.declared.entries.TermEntry.{TermEntry}
 use Rattle.wu_part.specs.Directories.{PartDirectory}
 use Rattle.wu_lists.specs.declared.blocks.Block.{Block}
 use Rattle.wu_lists.specs.Blocks.{blocks_from, blocks_in, blocks_of, entry_of, meets, needed}
-use Rattle.wu_lists.specs.Keeping.{AreHeld, Asks, Kept, all_asked, asked, is_same}
+use Rattle.wu_lists.specs.Keeping.{Asks, Kept, all_asked, asked, is_same}
 use Rattle.wu_parts.specs.Contents.{Contents}
 use Rattle.wu_parts.specs.Holdings.{AreKept, HoldParts, all_needed}
 use Rattle.wu_parts.specs.Memory.{held}
@@ -70,7 +70,8 @@ below-take next zero xs a = tt
 below-take next (suc n) [] a = tt
 below-take next (suc n) (x ∷ xs) a = (a.0, below-take next n xs a.1)
 
-below-blocks : (next blob low : ℕ) (entries : List BlockEntry) (count : ℕ) → blob < next → AllBelow next (blocks_from blob low count entries)
+below-blocks : (next blob low : ℕ) (entries : List BlockEntry) (count : ℕ) → blob < next
+    → AllBelow next (blocks_from blob low count entries)
 below-blocks next blob low [] count l = tt
 below-blocks next blob low (entry ∷ entries) count l = (l, below-blocks next blob low entries _ l)
 

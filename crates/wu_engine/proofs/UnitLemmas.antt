@@ -186,7 +186,8 @@ ends_fit frames can =
       all (f ∷ fs) below = (omega (arith, below.0), all fs below.1)
 
 module _ (region : Region) (frames : Frames) (can : CanBeSearched frames) (lists : List TermList) (extents : List Extent)
-    (units : List RankedUnit) (found : extents ≡ frames_hits region lists frames.ranges) (put : units ≡ placed frames.by_address extents) where
+    (units : List RankedUnit) (found : extents ≡ frames_hits region lists frames.ranges)
+    (put : units ≡ placed frames.by_address extents) where
   in_frames : units ≡ units_in region lists frames.by_address
   in_frames =
       put ∙ ap (placed frames.by_address) (found ∙ ap (frames_hits region lists) can.of_frames)

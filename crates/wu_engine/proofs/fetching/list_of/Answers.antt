@@ -1,4 +1,4 @@
-use Rattle.std.proofs.Common.{◌≡◌, ◌∙◌, [], ◌∷◌, ℕ, List, ap₂, subst}
+use Rattle.std.proofs.Common.{[], ◌∷◌, ℕ, List, ap₂, subst}
 use Rattle.std.specs.Prelude.{zip}
 use Rattle.std.specs.Map.{keys_of}
 use Rattle.wu_base.specs.declared.addresses.TermList.{TermList}
@@ -32,7 +32,8 @@ returns-in_err-at-clause-cause g c =
     err_from (IsCauseFor parts c.args.frames.now.ranges (c.args.term.now ∷ []) (g.D.Store.holds c.args.store.now)
     (g.D.Store.faults c.args.store.now) (g.D.Store.faults c.fetch.new.store) (g.D.Store.reads c.args.store.now)
     (g.D.Store.reads c.fetch.new.store)) c.from_residual.result c.in_err-at.field-0.0 c.from_residual.ensures.1
-    (subst (λ (bs : List Block). IsFetchCause (zip parts.parts parts.directories) (all_missing parts.kept.cap (keys_of parts.kept.entries) bs)
+    (subst (λ (bs : List Block). IsFetchCause (zip parts.parts parts.directories)
+    (all_missing parts.kept.cap (keys_of parts.kept.entries) bs)
     (g.D.Store.holds c.args.store.now) (g.D.Store.faults c.args.store.now) (g.D.Store.faults c.fetch.new.store)
     (g.D.Store.reads c.args.store.now) (g.D.Store.reads c.fetch.new.store) c.in_err-at.field-0.0)
     (blocks_of_one parts c.args.frames.now.ranges c.args.term.now)

@@ -28,7 +28,8 @@ pub returns-in_err-asked-clause-cause : goal.returns-in_err-asked-clause-cause
 returns-in_err-asked-clause-cause g c =
     cause_at_once c.from_residual-in_err-asked.result c.args.parts.now c.args.frames.now.ranges
     (with_words (terms_of (region_of c.args.unit.now)) c.args.words.now)
-    (g.D.Store.holds c.args.store.now) (g.D.Store.faults c.args.store.now) (g.D.Store.reads c.args.store.now) c.from_residual-in_err-asked.ensures.1
+    (g.D.Store.holds c.args.store.now) (g.D.Store.faults c.args.store.now) (g.D.Store.reads c.args.store.now)
+    c.from_residual-in_err-asked.ensures.1
 
 pub returns-in_err-lists-clause-cause : goal.returns-in_err-lists-clause-cause
 returns-in_err-lists-clause-cause g c =

@@ -1,4 +1,4 @@
-use Rattle.std.proofs.Common.{◌≡◌, ◌+◌, ◌<◌, ◌∙◌, ◌∷◌, ℕ, List, drop, length, ap, sym, rules}
+use Rattle.std.proofs.Common.{◌+◌, ◌<◌, ◌∙◌, ◌∷◌, ℕ, List, drop, length, ap, sym, rules}
 use Rattle.std.proofs.lemmas.List.{drop_more}
 use Rattle.wu_engine.specs.Asked.{with_words}
 use Rattle.wu_engine.proofs.ranking.with_words.Goals as goal
