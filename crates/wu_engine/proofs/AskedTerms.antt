@@ -1,5 +1,5 @@
 -- The terms that a question asks for, and the lists of them.
-use Rattle.std.proofs.Common.{◌≡◌, ℕ, zero, suc, ◌≤◌, true, false, cond, ◌||◌, List, [], ◌∷◌, ◌++◌, length, take, map, refl, ap, ap₂, sym, ◌∙◌, subst, arith, rules, append_assoc, append-nil, length-append}
+use Rattle.std.proofs.Common.{◌≡◌, ℕ, ◌≤◌, true, false, cond, ◌||◌, List, [], ◌∷◌, ◌++◌, length, take, map, refl, ap, ap₂, sym, ◌∙◌, subst, arith, rules, append_assoc, append-nil, length-append}
 use Rattle.std.specs.Prelude.{All, Option, Some, find, nat_eq, option_map, unwrap_or}
 use Rattle.std.specs.List.{AllByRecursion, list_any}
 use Rattle.std.specs.List.Sorted.{IsStrictlyIncreasing}
@@ -7,8 +7,8 @@ use Rattle.std.specs.Cmp.Lexicographic.{pointwise, same_text, nat_list_eq_equiv}
 use Rattle.std.proofs.Math.Bool.{or-true}
 use Rattle.std.proofs.lemmas.Cmp.{nat_list_cmp_total}
 use Rattle.std.proofs.lemmas.Map.Lookups.{exact_bytes}
-use Rattle.std.proofs.lemmas.List.{length-map}
-use Rattle.std.proofs.lemmas.List.Elements.{All-from_recursion, recursion_from_All}
+use Rattle.std.proofs.lemmas.List.{length-map, take-map}
+use Rattle.std.proofs.lemmas.List.Elements.{recursion_from_All}
 use Rattle.std.proofs.Math.Seq.{take-append_seam}
 use Rattle.wu_base.proofs.Members.{Has-from_Contains, Contains-from_Has}
 use Rattle.wu_base.proofs.SortedLists.{sorted_once_is}
@@ -105,41 +105,14 @@ lists_in_told addresses terms (word ∷ words) all =
 
 -- ---- the first of lists
 
-map-taken : {X Y : Type 0} (f : X → Y) (n : ℕ) (xs : List X) → take n (map f xs) ≡ map f (take n xs)
-map-taken f zero xs = refl
-map-taken f (suc n) [] = refl
-map-taken f (suc n) (x ∷ xs) = ap (λ ys. f x ∷ ys) (map-taken f n xs)
-
-all_taken : {X : Type 0} (P : X → Type 0) (n : ℕ) (xs : List X) → AllByRecursion P xs → AllByRecursion P (take n xs)
-all_taken P zero xs a = tt
-all_taken P (suc n) [] a = tt
-all_taken P (suc n) (x ∷ xs) a = (a.0, all_taken P n xs a.1)
-
-pub first_ascend : (n : ℕ) (lists : List TermList) → All (λ list. IsStrictlyIncreasing list.at) lists
-    → All (λ list. IsStrictlyIncreasing list.at) (take n lists)
-first_ascend n lists up =
-    All-from_recursion (λ (list : TermList). IsStrictlyIncreasing list.at) (take n lists)
-    (all_taken (λ (list : TermList). IsStrictlyIncreasing list.at) n lists
-    (recursion_from_All (λ (list : TermList). IsStrictlyIncreasing list.at) lists up))
-
 module _ (terms words : List (List ℕ)) (lists : List TermList) where
   -- the first lists are those of the terms
   pub first_named : map (λ list. list.term) lists ≡ with_words terms words
       → map (λ list. list.term) (take (length terms) lists) ≡ terms
   first_named named =
-      sym (map-taken (λ (list : TermList). list.term) (length terms) lists)
+      sym (take-map (λ (list : TermList). list.term) (length terms) lists)
       ∙ ap (take (length terms)) (named ∙ (with_words-front terms words).1)
       ∙ take-append_seam terms (with_words-front terms words).0
-
-  pub first_told : (addresses : List ℕ → List ℕ) → lists ≡ map (list_at addresses) (with_words terms words)
-      → take (length terms) lists ≡ map (list_at addresses) terms
-  first_told addresses is =
-      ap (take (length terms)) is
-      ∙ map-taken (list_at addresses) (length terms) (with_words terms words)
-      ∙ ap (λ (ts : List (List ℕ)). map (list_at addresses) (take (length terms) ts)) (with_words-front terms words).1
-      ∙ ap (map (list_at addresses)) (take-append_seam terms (with_words-front terms words).0)
-
--- ---- any first lists
 
 terms_of_lists : (addresses : List ℕ → List ℕ) (terms : List (List ℕ)) → map (λ list. list.term) (map (list_at addresses) terms) ≡ terms
 terms_of_lists addresses [] = refl
@@ -151,7 +124,7 @@ pub front_told : (addresses : List ℕ → List ℕ) (terms : List (List ℕ)) (
     → take count lists ≡ map (list_at addresses) (map (λ list. list.term) (take count lists))
 front_told addresses terms lists count is =
     let front : take count lists ≡ map (list_at addresses) (take count terms) =
-    ap (take count) is ∙ map-taken (list_at addresses) count terms in
+    ap (take count) is ∙ take-map (list_at addresses) count terms in
     front
     ∙ ap (map (list_at addresses))
     (sym (ap (map (λ (list : TermList). list.term)) front ∙ terms_of_lists addresses (take count terms)))

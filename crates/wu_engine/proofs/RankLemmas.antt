@@ -1,7 +1,7 @@
 -- A ranking by addresses, over a user's frames, is the ranking of her view by what its files' texts hold.
-use Rattle.std.proofs.Common.{◌≡◌, ℕ, zero, suc, List, [], ◌∷◌, length, take, map, refl, sym, ap, ap₂, ◌∙◌}
+use Rattle.std.proofs.Common.{◌≡◌, ℕ, List, [], ◌∷◌, length, take, map, refl, sym, ap, ap₂, ◌∙◌}
 use Rattle.std.proofs.Math.Logic.{∥∥₁_elim}
-use Rattle.std.proofs.lemmas.List.{length-map}
+use Rattle.std.proofs.lemmas.List.{length-map, take-map}
 use Rattle.std.specs.Coded.{Coded, Coded-set, coded_ℕ, coded_list, coded×, code_by}
 use Rattle.wu_base.specs.declared.addresses.TermList.{TermList}
 use Rattle.wu_gcl.specs.Regions.{Region}
@@ -34,11 +34,6 @@ coded_ranked =
     code_by ((ℕ × ℕ) × (ℕ × ℕ)) (coded× (coded× coded_ℕ coded_ℕ) (coded× coded_ℕ coded_ℕ))
     (λ r. ((r.score, r.unit.place), (r.unit.extent.start, r.unit.extent.end)))
     (λ p. record { score = p.0.0; unit = record { extent = record { start = p.1.0; end = p.1.1 }; place = p.0.1 } }) (λ _. refl)
-
-map-taken : (f : Ranked → Ranked) (k : ℕ) (rs : List Ranked) → take k (map f rs) ≡ map f (take k rs)
-map-taken f zero rs = refl
-map-taken f (suc k) [] = refl
-map-taken f (suc k) (r ∷ rs) = ap (λ (xs : List Ranked). f r ∷ xs) (map-taken f k rs)
 
 lines_back : (view : List Shown) (start : ℕ → ℕ) (rs : List Ranked)
     → map (λ r. line_of view (unshifted start r)) (map (shifted_ranked start) rs) ≡ map (line_of view) rs
@@ -79,7 +74,7 @@ module _ (frames : Frames) (live : Ranges) (s : State) (uid : ℕ) (is : Indexes
       let ranking = ranking_of view region words in
       shown_is
       ∙ ap (map (λ (r : Ranked). line_of view (unshifted start_at r)))
-      (top_is ∙ ap (take k) ranked_at ∙ map-taken (shifted_ranked start_at) k ranking)
+      (top_is ∙ ap (take k) ranked_at ∙ take-map (shifted_ranked start_at) k ranking)
       ∙ lines_back view start_at (take k ranking)
 
   -- it is the answer

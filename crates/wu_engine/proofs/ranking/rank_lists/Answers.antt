@@ -1,7 +1,10 @@
 use Rattle.std.proofs.Common.{◌∙◌, map, take, refl}
+use Rattle.std.proofs.lemmas.List.Elements.{All-take}
+use Rattle.std.specs.List.Sorted.{IsStrictlyIncreasing}
+use Rattle.wu_base.specs.declared.addresses.TermList.{TermList}
 use Rattle.wu_gcl.specs.Regions.{region_of}
 use Rattle.wu_engine.specs.Units.{found_in}
-use Rattle.wu_engine.proofs.AskedTerms.{first_ascend, front_told, words_told}
+use Rattle.wu_engine.proofs.AskedTerms.{front_told, words_told}
 use Rattle.wu_engine.proofs.FramesOfFiles.{are_lists}
 use Rattle.wu_engine.proofs.RankLemmas.{ranked}
 use Rattle.wu_engine.proofs.ranking.rank_lists.Goals as goal
@@ -9,7 +12,8 @@ use Rattle.wu_engine.proofs.ranking.rank_lists.Goals as goal
 pub units_of-requires-clause-lists : goal.units_of-requires-clause-lists
 units_of-requires-clause-lists c =
     let front = take c.args.count c.args.lists.now in
-    are_lists (map (λ list. list.term) front) front refl (first_ascend c.args.count c.args.lists.now c.requires.ascending)
+    are_lists (map (λ list. list.term) front) front refl
+    (All-take (λ (list : TermList). IsStrictlyIncreasing list.at) c.args.count c.args.lists.now c.requires.ascending)
     c.requires.of_unit.ascending
 
 pub returns : goal.returns
