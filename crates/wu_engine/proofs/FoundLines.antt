@@ -298,9 +298,9 @@ text_is_of (file ∷ files) ino =
           ] refl
       | false ↦ weaken (text_recorded (record_at files ino)) (text_is_of files ino)
     ] where
-      weaken : (texts : List ReadRange) → AllByRecursion (IsTextOf files) texts → AllByRecursion (IsTextOf (file ∷ files)) texts
+      weaken : (ranges : List ReadRange) → AllByRecursion (IsTextOf files) ranges → AllByRecursion (IsTextOf (file ∷ files)) ranges
       weaken [] all = tt
-      weaken (text ∷ texts) all = (inr all.0, weaken texts all.1)
+      weaken (range ∷ ranges) all = (inr all.0, weaken ranges all.1)
 
 both_texts : (files : Records) (xs ys : List ReadRange) → AllByRecursion (IsTextOf files) xs → AllByRecursion (IsTextOf files) ys
     → AllByRecursion (IsTextOf files) (xs ++ ys)
