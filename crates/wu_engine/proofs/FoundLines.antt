@@ -292,7 +292,8 @@ text_is_of (file ∷ files) ino =
     elim (is_at (nat_cmp ino) file.0) as
     (λ b. AllByRecursion (IsTextOf (file ∷ files)) (text_recorded (cond b (Some file.1) (record_at files ino)))) [
       | true ↦ elim (file.1.blob == 0) as
-          (λ b. (file.1.blob == 0) ≡ b → AllByRecursion (IsTextOf (file ∷ files)) (cond b [] (record { blob = file.1.blob; at = 0; len = file.1.len } ∷ []))) [
+          (λ b. (file.1.blob == 0) ≡ b
+          → AllByRecursion (IsTextOf (file ∷ files)) (cond b [] (record { blob = file.1.blob; at = 0; len = file.1.len } ∷ []))) [
             | true ↦ λ e. tt
             | false ↦ λ e. (inl (ap (λ (b : Bool). cond b [] (record { blob = file.1.blob; at = 0; len = file.1.len } ∷ [])) e), tt)
           ] refl

@@ -17,7 +17,8 @@ pub err_from : {T E : Type 0} (P : E → Type 0) (r : Result T E) (error : E) �
 err_from P (Ok value) error is p = absurd is
 err_from P (Err e) error is p = subst P (sym is) p
 
-module _ {T : Type 0} (r : Result T Trouble) (contents : Contents) (frames : List Range) (terms : List (List ℕ)) (holds : Option Content) where
+module _ {T : Type 0} (r : Result T Trouble) (contents : Contents) (frames : List Range) (terms : List (List ℕ))
+    (holds : Option Content) where
   -- want of memory before any block was asked for
   pub cause_at_once : (faults : ℕ) (ranges : Option (List ReadRange)) → IsErrAnd r (λ e. e ≡ NoMemory)
       → IfErr r (IsCauseFor contents frames terms holds faults faults ranges ranges)
