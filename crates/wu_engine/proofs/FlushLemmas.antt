@@ -6,19 +6,19 @@ use Rattle.wu_base.specs.declared.addresses.Range.{Range}
 use Rattle.wu_outside.specs.Content.{Content, with_blob}
 use Rattle.wu_tree.specs.FileSystems.{FileSystem}
 use Rattle.wu_layout.specs.Postings.{Posting, Ascend, live_of}
-use Rattle.wu_layout.specs.Layouts.{FileEntry, IsRecordOf, Layout, Part, lists_of, postings_of, ranges_by_number, ranges_of, stored_in}
-use Rattle.wu_layout.specs.Steps.{flush, flush_if_full, flushed}
+use Rattle.wu_layout.specs.Layouts.{FileEntry, IsRecordOf, Layout, Part, lists_of, ranges_by_number, ranges_of, stored_in}
+use Rattle.wu_layout.specs.Steps.{flush, flushed}
 use Rattle.wu_layout.proofs.HomeLemmas.{postings_split}
 use Rattle.wu_layout.proofs.PostingLemmas.{Ascend-split}
 use Rattle.wu_part.specs.Directories.{PartDirectory}
 use Rattle.wu_part.specs.Parts.{IsRecorded, SpellsPart}
-use Rattle.wu_space.specs.Addresses.{Addresses, Ranges}
+use Rattle.wu_space.specs.Addresses.{Addresses}
 use Rattle.wu_lists.specs.declared.blocks.Block.{Block}
 use Rattle.wu_lists.specs.Blocks.{bytes_of}
 use Rattle.wu_lists.specs.Keeping.{Kept}
 use Rattle.std.specs.List.{AllByRecursion}
 use Rattle.wu_parts.specs.Contents.{Contents, with_part, without_postings}
-use Rattle.wu_parts.specs.Flushing.{Flushes, MakesPart, Told, put_into}
+use Rattle.wu_parts.specs.Flushing.{Flushes, Told}
 use Rattle.wu_parts.specs.Holdings.{HoldsPart, HoldParts}
 use Rattle.wu_parts.specs.Memory.{HasPostings}
 use Rattle.wu_engine.specs.Indexing.{FlushesFull, FlushesIfFull}
@@ -161,7 +161,8 @@ module _ (fs : FileSystem) (space : Addresses) (parts : Contents) (files : Recor
             subst (λ (p : Contents). IsEngineOf fs space p files next) (sym done.contents)
                 (index_with done.recorded done.directory done.bytes posting postings is),
             subst (λ (o : Option Content). IsStored o parts_now next) (sym holds)
-                (subst (λ (p : Contents). IsStored (option_map (with_blob s.layout.blob (Some done.bytes)) before.0) p next) (sym done.contents)
+                (subst (λ (p : Contents). IsStored (option_map (with_blob s.layout.blob (Some done.bytes)) before.0) p next)
+                (sym done.contents)
                 (stored_with done.recorded done.directory done.bytes posting postings before.0 of done.told done.spelled stored)),
           )
 
@@ -177,9 +178,11 @@ module _ (fs : FileSystem) (space : Addresses) (parts : Contents) (files : Recor
       flush_stands done =
           let has = memory_held fs space parts files s index in
           flushed_by (live_of (ranges_of s.layout.files) s.layout.memory) (flushed_kept s index.is_state)
-          (subst (λ (kept : List Posting). Flushes kept parts parts_now before after) live_there (done has.0 has.1.0 s.layout.memory has.1.1))
+          (subst (λ (kept : List Posting). Flushes kept parts parts_now before after) live_there
+          (done has.0 has.1.0 s.layout.memory has.1.1))
 
-      by_fullness : (full : Bool) → FlushesIfFull full (live_of (map (λ file. file.1) space.ranges) s.layout.memory) parts parts_now before after
+      by_fullness : (full : Bool)
+          → FlushesIfFull full (live_of (map (λ file. file.1) space.ranges) s.layout.memory) parts parts_now before after
           → IsEngineOf fs space parts_now files (with_layout s (cond full (flush s.layout) s.layout))
           × IsStored after.0 parts_now (with_layout s (cond full (flush s.layout) s.layout))
       by_fullness true done =

@@ -1,5 +1,5 @@
 -- What a flush does to a state.
-use Rattle.std.proofs.Common.{◌≡◌, ℕ, ◌+◌, ◌≤◌, Bool, true, false, cond, List, [], ◌∷◌, length, refl, arith}
+use Rattle.std.proofs.Common.{◌≡◌, ℕ, ◌+◌, ◌≤◌, true, false, cond, List, [], ◌∷◌, length, refl, arith}
 use Rattle.std.specs.Prelude.{nat_le}
 use Rattle.wu_layout.specs.Layouts.{Layout, ranges_of}
 use Rattle.wu_layout.specs.Postings.{Posting, live_of}

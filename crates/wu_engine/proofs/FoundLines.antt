@@ -292,15 +292,16 @@ text_is_of (file ∷ files) ino =
     elim (is_at (nat_cmp ino) file.0) as
     (λ b. AllByRecursion (IsTextOf (file ∷ files)) (text_recorded (cond b (Some file.1) (record_at files ino)))) [
       | true ↦ elim (file.1.blob == 0) as
-          (λ b. (file.1.blob == 0) ≡ b → AllByRecursion (IsTextOf (file ∷ files)) (cond b [] (record { blob = file.1.blob; at = 0; len = file.1.len } ∷ []))) [
+          (λ b. (file.1.blob == 0) ≡ b
+          → AllByRecursion (IsTextOf (file ∷ files)) (cond b [] (record { blob = file.1.blob; at = 0; len = file.1.len } ∷ []))) [
             | true ↦ λ e. tt
             | false ↦ λ e. (inl (ap (λ (b : Bool). cond b [] (record { blob = file.1.blob; at = 0; len = file.1.len } ∷ [])) e), tt)
           ] refl
       | false ↦ weaken (text_recorded (record_at files ino)) (text_is_of files ino)
     ] where
-      weaken : (texts : List ReadRange) → AllByRecursion (IsTextOf files) texts → AllByRecursion (IsTextOf (file ∷ files)) texts
+      weaken : (ranges : List ReadRange) → AllByRecursion (IsTextOf files) ranges → AllByRecursion (IsTextOf (file ∷ files)) ranges
       weaken [] all = tt
-      weaken (text ∷ texts) all = (inr all.0, weaken texts all.1)
+      weaken (range ∷ ranges) all = (inr all.0, weaken ranges all.1)
 
 both_texts : (files : Records) (xs ys : List ReadRange) → AllByRecursion (IsTextOf files) xs → AllByRecursion (IsTextOf files) ys
     → AllByRecursion (IsTextOf files) (xs ++ ys)

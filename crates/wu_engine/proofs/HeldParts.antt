@@ -1,13 +1,13 @@
 -- The parts and the texts that a store holds, and the blocks that are kept, after a blob was put that was never drawn before.
-use Rattle.std.proofs.Common.{◌≡◌, ◌≢◌, ℕ, ◌+◌, ◌<◌, ◌≤◌, ◌==◌, true, false, cond, List, [], ◌∷◌, ◌++◌, refl, ap, sym, ◌∙◌, subst, arith, ⊎_elim}
-use Rattle.std.specs.Prelude.{Option, Some, None, IfSome, count_by}
+use Rattle.std.proofs.Common.{◌≡◌, ◌≢◌, ℕ, ◌+◌, ◌<◌, ◌≤◌, ◌==◌, cond, List, [], ◌∷◌, ◌++◌, refl, ap, sym, ◌∙◌, subst, arith, ⊎_elim}
+use Rattle.std.specs.Prelude.{Option, Some, IfSome, count_by}
 use Rattle.std.specs.List.{AllByRecursion}
 use Rattle.std.proofs.lemmas.Bool.{cases_eq, eq-eqb, ne_eqb}
 use Rattle.std.proofs.lemmas.List.Sums.{sum_by-cons}
 use Rattle.wu_base.specs.declared.addresses.PartRec.{PartRec}
 use Rattle.wu_outside.specs.Content.{Content, with_blob}
 use Rattle.wu_layout.specs.Layouts.{FileEntry, Part, entry_of}
-use Rattle.wu_layout.specs.Invariants.{BlobsAreDistinct, times_named}
+use Rattle.wu_layout.specs.Invariants.{BlobsAreDistinct}
 use Rattle.wu_layout.proofs.EntryLemmas.{IfSome-map2}
 use Rattle.wu_part.specs.Directories.{PartDirectory}
 use Rattle.wu_lists.specs.declared.blocks.Block.{Block}
@@ -16,7 +16,6 @@ use Rattle.wu_lists.specs.Keeping.{AreHeld, Kept}
 use Rattle.wu_parts.specs.Holdings.{HoldsPart, HoldParts}
 use Rattle.wu_engine.specs.States.{Texts, text_in}
 use Rattle.wu_engine.specs.Stands.{HoldsTexts, KeepsBlocks}
-use Rattle.wu_engine.proofs.StoredTexts.{blobs_below}
 
 -- ---- the blobs of parts were drawn
 
@@ -28,7 +27,8 @@ none_there next (part ∷ parts) none =
     λ number above. sym (sum_by-cons (λ (p : Part). cond {A = ℕ} (p.blob == number) 1 0) part parts) ∙ none number above in (
       (let own : cond {A = ℕ} (part.blob == part.blob) 1 0 ≡ 1 =
           ap (λ b. cond {A = ℕ} b 1 0) (eq-eqb part.blob part.blob refl) in
-          let absent : next ≤ part.blob → cond {A = ℕ} (part.blob == part.blob) 1 0 + count_by (λ (p : Part). p.blob == part.blob) parts ≡ 0 =
+          let absent : next ≤ part.blob
+          → cond {A = ℕ} (part.blob == part.blob) 1 0 + count_by (λ (p : Part). p.blob == part.blob) parts ≡ 0 =
           here part.blob in
           grind (arith, own, absent)),
       none_there next parts (λ number above. omega (arith, here number above)),

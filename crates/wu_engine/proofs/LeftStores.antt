@@ -1,5 +1,5 @@
 -- Which events leave the store alone.
-use Rattle.std.proofs.Common.{◌≡◌, ℕ, ◌+◌, ◌<◌, Bool, true, false, cond, ◌&&◌, not, List, length, Ok, refl, ap, sym, ◌∙◌, subst, arith}
+use Rattle.std.proofs.Common.{◌≡◌, ℕ, ◌+◌, ◌<◌, Bool, true, false, cond, not, List, length, Ok, refl, sym, ◌∙◌, subst, arith}
 use Rattle.std.specs.Prelude.{nat_lt}
 use Rattle.std.proofs.lemmas.Bool.{and_parts, ltb-true}
 use Rattle.wu_tree.specs.declared.events.Event.{Event}
@@ -40,9 +40,11 @@ pub left_alone : (fs : FileSystem) (event : Event) (text : List ℕ) (after : Fi
     → tree_step fs event ≡ Ok (after, effect) → (contents : Contents) → leaves_store Made event text contents ≡ true
     → (is_stored effect.texted text ≡ false) × (contents.memory.stored + length (terms_after effect text) < contents.flush_at)
 left_alone fs event text after effect e contents leaves =
-    let both = and_parts (not (gives_text Made event text)) (nat_lt (contents.memory.stored + taken_by event text) contents.flush_at) leaves in
+    let both = and_parts (not (gives_text Made event text)) (nat_lt (contents.memory.stored + taken_by event text) contents.flush_at)
+    leaves in
     let stored : is_stored effect.texted text ≡ gives_text Made event text =
-    subst (λ (f : Effect). is_stored f.texted text ≡ gives_text Made event text) (changes fs event after effect e).0 (stored-effect fs event text) in
+    subst (λ (f : Effect). is_stored f.texted text ≡ gives_text Made event text) (changes fs event after effect e).0
+    (stored-effect fs event text) in
     let few = ltb-true (contents.memory.stored + taken_by event text) contents.flush_at both.1 in (
       stored ∙ negated (gives_text Made event text) both.0,
       omega (arith, few, length-terms_after fs event text after effect e),

@@ -1,5 +1,5 @@
 -- What a store has but for some blobs stays, call by call.
-use Rattle.std.proofs.Common.{◌≡◌, ◌⊎◌, inl, inr, ℕ, ◌<◌, ◌+◌, ◌≤◌, ◌==◌, Bool, true, false, cond, List, refl, ap, sym, ◌∙◌, subst, arith, ⊎_elim}
+use Rattle.std.proofs.Common.{◌≡◌, inl, inr, ℕ, ◌<◌, ◌+◌, ◌≤◌, Bool, true, false, cond, List, refl, ap, sym, ◌∙◌, subst, arith, ⊎_elim}
 use Rattle.std.specs.Prelude.{Option, Some, None, option_map}
 use Rattle.std.proofs.lemmas.Bool.{ne_eqb}
 use Rattle.wu_outside.specs.Content.{Content, MayDo, with_blob}

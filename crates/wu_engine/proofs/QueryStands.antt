@@ -5,7 +5,7 @@ use Rattle.wu_outside.specs.Content.{Content}
 use Rattle.wu_outside.specs.declared.ranges.ReadRange.{ReadRange}
 use Rattle.wu_tree.specs.FileSystems.{FileSystem}
 use Rattle.wu_layout.specs.Layouts.{FileEntry}
-use Rattle.wu_lists.specs.Keeping.{Asks, Kept}
+use Rattle.wu_lists.specs.Keeping.{Kept}
 use Rattle.wu_space.specs.Addresses.{Addresses}
 use Rattle.wu_parts.specs.Contents.{Contents}
 use Rattle.wu_parts.specs.Holdings.{HoldParts}
@@ -15,7 +15,7 @@ use Rattle.wu_engine.specs.Asked.{terms_asked}
 use Rattle.wu_engine.specs.Finding.{KeepsTexts}
 use Rattle.wu_engine.specs.Reads.{AreTexts, ReadsForQuery, texts_read}
 use Rattle.wu_engine.specs.Records.{Records}
-use Rattle.wu_engine.specs.Stands.{HoldsTexts, IsEngineOf, KeepsBlocks, Stands}
+use Rattle.wu_engine.specs.Stands.{HoldsTexts, IsEngineOf, Stands}
 use Rattle.wu_engine.specs.States.{State, Texts}
 use Rattle.wu_engine.specs.Units.{IsIndexOf, TellsPostings}
 use Rattle.wu_engine.proofs.ToldPostings.{blocks_kept}

@@ -244,7 +244,8 @@ stands_still old new s ended holds stands tree space parts files = record {
       (subst (λ (c : Contents). IsEngineOf old.tree old.space c new.files.entries s) (sym parts)
       (subst (λ (r : Records). IsEngineOf old.tree old.space old.parts r s) (sym files) stands.index)));
   texts = stands.texts;
-  parts = subst (λ (c : Contents). IfSome holds (λ content. HoldParts content c.parts c.directories s.layout.parts)) (sym parts) stands.parts;
+  parts = subst (λ (c : Contents). IfSome holds (λ content. HoldParts content c.parts c.directories s.layout.parts)) (sym parts)
+      stands.parts;
   kept = subst (λ (c : Contents). IfSome holds (λ content. KeepsBlocks content s.layout.blob c.kept)) (sym parts) stands.kept;
 }
 
@@ -314,7 +315,8 @@ module _ (old new : Engine) (s : State) (event : Event) (text : List ℕ) (ended
     same_parts : next.layout.parts ≡ s.layout.parts
     same_parts = same_after (λ l. l.parts) (λ ino l. refl) (λ ino t l. refl) effect text s.layout
 
-    kept_directories : (f.indexed.parts ≡ old.parts.parts) × ((f.indexed.directories ≡ old.parts.directories) × (f.indexed.kept ≡ old.parts.kept))
+    kept_directories : (f.indexed.parts ≡ old.parts.parts)
+        × ((f.indexed.directories ≡ old.parts.directories) × (f.indexed.kept ≡ old.parts.kept))
     kept_directories = (
       ap (λ (c : Contents). c.parts) f.others,
       (ap (λ (c : Contents). c.directories) f.others, ap (λ (c : Contents). c.kept) f.others),
@@ -351,7 +353,8 @@ module _ (old new : Engine) (s : State) (event : Event) (text : List ℕ) (ended
         subst (λ (o : Option Content). IsStored o f.indexed next)
         (sym (f.stored ∙ ap (λ (n : ℕ). option_map (stored_at n effect.texted text) before.0) index.next_blob))
         (stored_between before.0 stands.texts stands.parts stands.kept) in
-        let both = full_stands new.tree new.space f.indexed new.files.entries next index_between new.parts f.between after between f.flushed in
+        let both = full_stands new.tree new.space f.indexed new.files.entries next index_between new.parts f.between after between
+        f.flushed in
         let same : after_event old.parts.flush_at s event text ≡ flushed_if_full f.indexed.flush_at next =
         ap (followed old.parts.flush_at s) stepped
         ∙ ap (λ (n : ℕ). flushed_if_full n next) (sym (ap (λ (c : Contents). c.flush_at) f.others)) in (

@@ -91,7 +91,8 @@ returns-in_err-terms-clause-cause g c =
 pub returns-in_err-lists-clause-cause : goal.returns-in_err-lists-clause-cause
 returns-in_err-lists-clause-cause g c =
     cause_of_fetch c.from_residual-in_err-lists.result (g.D.Store.faults c.args.store.now) (g.D.Store.faults c.lists_of.new.store)
-    c.args.files.now.entries c.args.parts.now (g.D.Store.holds c.args.store.now) c.in_err-lists.field-0.0 c.from_residual-in_err-lists.ensures.1
+    c.args.files.now.entries c.args.parts.now (g.D.Store.holds c.args.store.now)
+    c.in_err-lists.field-0.0 c.from_residual-in_err-lists.ensures.1
     _ _ _ c.in_err-lists.ensures.cause
 
 pub returns-in_err-counts-clause-cause : goal.returns-in_err-counts-clause-cause
@@ -103,6 +104,7 @@ returns-in_err-counts-clause-cause g c =
 pub returns-in_err-shown-clause-cause : goal.returns-in_err-shown-clause-cause
 returns-in_err-shown-clause-cause g c =
     cause_of_text c.from_residual-in_err-shown.result (g.D.Store.faults c.args.store.now) (g.D.Store.faults c.first_lines.new.store)
-    c.args.files.now.entries c.args.parts.now (g.D.Store.holds c.args.store.now) c.in_err-shown.field-0.0 c.from_residual-in_err-shown.ensures.1
+    c.args.files.now.entries c.args.parts.now (g.D.Store.holds c.args.store.now)
+    c.in_err-shown.field-0.0 c.from_residual-in_err-shown.ensures.1
     (g.D.Store.holds c.lists_of.new.store) (g.D.Store.faults c.lists_of.new.store) c.lists_of.ensures.holds c.in_ok-lists.ensures.calm
     c.in_err-shown.ensures.cause

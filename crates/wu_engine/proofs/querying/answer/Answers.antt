@@ -26,7 +26,7 @@ returns-in-Count-clause-answer g c =
     let frames = c.args.frames.now in
     let holds = g.D.Store.holds c.args.store.now in
     if_ok (λ (answered : Answered). (live : Ranges) (s : State) (uid : ℕ) → Indexes frames live s uid
-    → TellsPostings c.args.parts.now holds s → answered ≡ answer (view_of s uid) (Counting (region_of c.in-Count.expr.now)))
+    → TellsPostings c.args.parts.now holds s → answered ≡ answer (view_of s uid) (Counting (region_of c.in-Count.expr)))
     (λ (answered : Answered). (s : State) (uid : ℕ) → Indexes frames c.args.space.now.ranges s uid
     → TellsPostings c.args.parts.now holds s → KeepsTexts c.args.files.now.entries holds s
     → answered ≡ answer (view_of s uid) (question_of c.args.ask.now)) c.count.result
@@ -43,12 +43,12 @@ returns-in-Count-clause-reads g c =
     let before = g.D.Store.reads c.args.store.now in
     let after = g.D.Store.reads c.count.new.store in
     let kept = c.count.new.parts.kept in
-    let question = Counting (region_of c.in-Count.expr.now) in
+    let question = Counting (region_of c.in-Count.expr) in
     subst (λ (ask : Ask). OnOk c.count.result (ReadsInTurn (blocks_for parts frames.ranges (terms_asked (question_of ask)))
     (AreTextsOf frames parts files holds (question_of ask)) holds parts.kept kept before after)) (sym c.in-Count.is)
     (on_ok_weaker c.count.result
     (blocks_alone question (blocks_for parts frames.ranges (terms_asked question)) frames parts files holds parts.kept kept before after
-    (λ s uid. none_counted s uid (region_of c.in-Count.expr.now)))
+    (λ s uid. none_counted s uid (region_of c.in-Count.expr)))
     c.count.ensures.blocks)
 
 pub returns-in-Count-clause-cause : goal.returns-in-Count-clause-cause
@@ -60,7 +60,7 @@ returns-in-Count-clause-cause g c =
     let now = g.D.Store.faults c.count.new.store in
     let before = g.D.Store.reads c.args.store.now in
     let after = g.D.Store.reads c.count.new.store in
-    if_err (IsCauseFor parts c.args.frames.now.ranges (terms_asked (Counting (region_of c.in-Count.expr.now))) holds faults now before after)
+    if_err (IsCauseFor parts c.args.frames.now.ranges (terms_asked (Counting (region_of c.in-Count.expr))) holds faults now before after)
     (IsCause (IsDamagedIn files parts holds) faults now) c.count.result
     (λ trouble. cause_fetched files parts holds _ faults now before after trouble) c.count.ensures.cause
 
@@ -70,7 +70,7 @@ returns-in-Find-clause-answer g c =
     let holds = g.D.Store.holds c.args.store.now in
     if_ok (λ (answered : Answered). (live : Ranges) (s : State) (uid : ℕ) → Indexes frames live s uid
     → TellsPostings c.args.parts.now holds s → KeepsTexts c.args.files.now.entries holds s
-    → answered ≡ answer (view_of s uid) (Finding c.in-Find.k.now (region_of c.in-Find.expr.now)))
+    → answered ≡ answer (view_of s uid) (Finding c.in-Find.k (region_of c.in-Find.expr)))
     (λ (answered : Answered). (s : State) (uid : ℕ) → Indexes frames c.args.space.now.ranges s uid
     → TellsPostings c.args.parts.now holds s → KeepsTexts c.args.files.now.entries holds s
     → answered ≡ answer (view_of s uid) (question_of c.args.ask.now)) c.find.result
@@ -93,7 +93,7 @@ pub returns-in-Rank-clause-answer : goal.returns-in-Rank-clause-answer
 returns-in-Rank-clause-answer g c =
     let frames = c.args.frames.now in
     let holds = g.D.Store.holds c.args.store.now in
-    let question = Ranking c.in-Rank.k.now (region_of c.in-Rank.unit.now) c.in-Rank.words.now in
+    let question = Ranking c.in-Rank.k (region_of c.in-Rank.unit) c.in-Rank.words in
     if_ok (λ (answered : Answered). (s : State) (uid : ℕ) → Indexes frames c.args.space.now.ranges s uid
     → TellsPostings c.args.parts.now holds s → answered ≡ answer (view_of s uid) question)
     (λ (answered : Answered). (s : State) (uid : ℕ) → Indexes frames c.args.space.now.ranges s uid
@@ -112,12 +112,12 @@ returns-in-Rank-clause-reads g c =
     let before = g.D.Store.reads c.args.store.now in
     let after = g.D.Store.reads c.ranked.new.store in
     let kept = c.ranked.new.parts.kept in
-    let question = Ranking c.in-Rank.k.now (region_of c.in-Rank.unit.now) c.in-Rank.words.now in
+    let question = Ranking c.in-Rank.k (region_of c.in-Rank.unit) c.in-Rank.words in
     subst (λ (ask : Ask). OnOk c.ranked.result (ReadsInTurn (blocks_for parts frames.ranges (terms_asked (question_of ask)))
     (AreTextsOf frames parts files holds (question_of ask)) holds parts.kept kept before after)) (sym c.in-Rank.is)
     (on_ok_weaker c.ranked.result
     (blocks_alone question (blocks_for parts frames.ranges (terms_asked question)) frames parts files holds parts.kept kept before after
-    (λ s uid. none_ranked s uid c.in-Rank.k.now (region_of c.in-Rank.unit.now) c.in-Rank.words.now))
+    (λ s uid. none_ranked s uid c.in-Rank.k (region_of c.in-Rank.unit) c.in-Rank.words))
     (rw c.as_slice.ensures at c.ranked.ensures.blocks))
 
 pub returns-in-Rank-clause-cause : goal.returns-in-Rank-clause-cause
@@ -130,7 +130,7 @@ returns-in-Rank-clause-cause g c =
     let before = g.D.Store.reads c.args.store.now in
     let after = g.D.Store.reads c.ranked.new.store in
     if_err (IsCauseFor parts c.args.frames.now.ranges
-    (terms_asked (Ranking c.in-Rank.k.now (region_of c.in-Rank.unit.now) c.as_slice.result.now)) holds faults now before after)
+    (terms_asked (Ranking c.in-Rank.k (region_of c.in-Rank.unit) c.as_slice.result.now)) holds faults now before after)
     (IsCause (IsDamagedIn files parts holds) faults now) c.ranked.result
     (λ trouble. cause_fetched files parts holds _ faults now before after trouble) c.ranked.ensures.cause
 

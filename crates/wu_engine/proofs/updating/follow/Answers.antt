@@ -2,7 +2,7 @@ use Rattle.std.proofs.Common.{◌≡◌, ◌+◌, ◌<◌, ◌∙◌, ℕ, Bool,
 use Rattle.std.proofs.lemmas.Result.{on_ok_weaker}
 use Rattle.wu_parts.specs.Contents.{Contents}
 use Rattle.wu_parts.specs.Memory.{Gains}
-use Rattle.wu_engine.specs.Indexing.{Catalog, FlushesFull, IsIndexable, KeepsParts, catalog_after, catalog_of, is_stored, terms_after}
+use Rattle.wu_engine.specs.Indexing.{FlushesFull, IsIndexable, KeepsParts, catalog_after, catalog_of, is_stored, terms_after}
 use Rattle.wu_engine.proofs.OtherBlobs.{drawn_once, others_once, others_twice}
 use Rattle.wu_engine.proofs.updating.follow.Goals as goal
 
@@ -82,6 +82,7 @@ returns-clause-untouched g c =
     let none : old.next_blob + cond {A = ℕ} (is_stored c.args.effect.texted c.args.text.now) 1 0 ≡ old.next_blob =
     omega (arith, ap (λ (b : Bool). cond {A = ℕ} b 1 0) stored) in (
       done.0 ∙ c.store_text.ensures.untouched stored,
-      ap (λ (p : Contents). p.next_blob) done.1 ∙ ap (λ (p : Contents). p.next_blob) others ∙ ap (λ (p : Contents). p.next_blob) drawn ∙ none,
+      ap (λ (p : Contents). p.next_blob) done.1 ∙ ap (λ (p : Contents). p.next_blob) others
+          ∙ ap (λ (p : Contents). p.next_blob) drawn ∙ none,
     ))
     c.flush_if_full.ensures.untouched

@@ -30,7 +30,8 @@ invariant_of-self-in-Ok-followed g c =
     record {
       sound = λ _.
           rw c.clear.ensures
-          (sound_followed effect text old.space c.follow-followed.new.space old.files.entries c.follow-followed.new.files.entries old.parts c.follow-followed.new.parts
+          (sound_followed effect text old.space c.follow-followed.new.space old.files.entries c.follow-followed.new.files.entries
+          old.parts c.follow-followed.new.parts
           (holds c.args.store.now, moments c.args.store.now) (holds c.follow-followed.new.store, moments c.follow-followed.new.store)
           c.in-Ok-followed.ensures.done old.tree c.apply.new.self
           (c.effects_tell_files.ensures event c.apply.new.self effect step) (changes old.tree event c.apply.new.self effect step).1
@@ -46,7 +47,8 @@ returns-in-Ok-followed-clause-step g c = λ s stands.
     let holds = g.D.Store.holds in
     let moments = g.D.Store.moments in
     let step = rw c.in-Ok.is at c.in_ok-effect.ensures.step in
-    accepted old _ s event text refl (holds c.args.store.now, moments c.args.store.now) (holds c.follow-followed.new.store, moments c.follow-followed.new.store)
+    accepted old _ s event text refl (holds c.args.store.now, moments c.args.store.now)
+    (holds c.follow-followed.new.store, moments c.follow-followed.new.store)
     stands effect step c.requires.event c.requires.short
     (c.effects_tell_files.ensures event c.apply.new.self effect step) (changes old.tree event c.apply.new.self effect step).1
     c.in-Ok-followed.ensures.done
@@ -62,7 +64,8 @@ returns-in-Ok-followed-clause-taken g c =
     let step = rw c.in-Ok.is at c.in_ok-effect.ensures.step in
     omega (
       arith,
-      next_followed effect text old.space c.follow-followed.new.space old.files.entries c.follow-followed.new.files.entries old.parts c.follow-followed.new.parts
+      next_followed effect text old.space c.follow-followed.new.space old.files.entries c.follow-followed.new.files.entries
+          old.parts c.follow-followed.new.parts
           (holds c.args.store.now, moments c.args.store.now) (holds c.follow-followed.new.store, moments c.follow-followed.new.store)
           c.in-Ok-followed.ensures.done,
       length-terms_after old.tree event text c.apply.new.self effect step,
