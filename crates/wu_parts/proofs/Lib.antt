@@ -12,3 +12,4 @@ pub mod ReadingBack
 pub mod Spans
 pub mod MemoryLists
 pub mod Flushes
+pub mod Covering
