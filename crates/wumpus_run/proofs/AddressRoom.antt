@@ -1,4 +1,4 @@
--- The addresses and the blobs that a session takes: at most three addresses and one blob for each byte of its input.
+-- The addresses and the blobs that a session takes: at most three addresses and two blobs for each byte of its input.
 use Rattle.std.proofs.Common.{◌≡◌, ℕ, ◌+◌, ◌*◌, ◌<◌, ◌≤◌, ◌^◌, false, Option, List, [], length, refl, ap, arith, length-append}
 use Rattle.wu_base.specs.declared.limits.TheConstants.{INPUT_MAX, ADDRESSES_MAX}
 use Rattle.wu_gcl.proofs.Existence.{each_text_is_read}
@@ -66,20 +66,20 @@ HasRoom-fewer next taken most held room fewer = omega arith
 
 -- ---- blobs
 
--- the next blob and one for each byte that is held or may still be given are no more than one for each byte of the input, and one
+-- the next blob and two for each byte that is held or may still be given are no more than two for each byte of the input, and one
 abbrev pub HasBlobs : ℕ → Held → ℕ → Type 0
-HasBlobs blob held most = blob + length held.bytes + held.spare ≤ most + 1
+HasBlobs blob held most = blob + 2 * (length held.bytes + held.spare) ≤ 2 * most + 1
 
--- at the start there is one for each byte of the input
+-- at the start there are two for each byte of the input
 pub HasBlobs-none : (blob most : ℕ) → blob ≡ 1 → HasBlobs blob (record { bytes = []; spare = most; ended = false }) most
 HasBlobs-none blob most one = omega arith
 
--- an item may draw one
+-- an item may draw two
 pub HasBlobs-item : (left left' : Option (List ℕ)) (last_read : ℕ) (old new : Held) (item : Item) (blob drawn most : ℕ) → IsBeforeEnd item
-    → TakesItem left left' last_read old new item → HasBlobs blob old most → drawn ≤ blob + 1 → HasBlobs drawn new most
+    → TakesItem left left' last_read old new item → HasBlobs blob old most → drawn ≤ blob + 2 → HasBlobs drawn new most
 HasBlobs-item left left' last_read old new item blob drawn most other taken room few =
     omega (arith, takes_one left left' last_read old new item other taken, room, few)
 
--- and it is one that there is
-pub HasBlobs-few : (blob most : ℕ) (held : Held) → HasBlobs blob held most → most ≤ INPUT_MAX → blob < 2 ^ 63
+-- and two more are ones that there are
+pub HasBlobs-few : (blob most : ℕ) (held : Held) → HasBlobs blob held most → most ≤ INPUT_MAX → blob + 2 < 2 ^ 63
 HasBlobs-few blob most held room within = omega arith

@@ -1,9 +1,10 @@
 pub mod ReplyLemmas
 pub mod SettingLimits
 pub mod SessionLemmas
-pub mod SoundTexts
+pub mod SoundBlobs
 pub mod AddressRoom
 pub mod PromptLemmas
 pub mod EndLemmas
 pub mod ShortTexts
 pub mod StateLemmas
+pub mod ViewLemmas

@@ -117,15 +117,15 @@ module _ (told : Settings) (start : State) where
   -- bytes that begin with a closed item are answered by its reply, and from the state that it leaves
   closed-first : (rules : Rules) → IsReading rules.read → (s : State) (last_read : ℕ) (new : Held) (item : Item) (used more : List ℕ)
       → IsOneItem last_read new item used → (first_of used).closed ≡ true
-      → whole_output rules s (used ++ more) ≡ said_bytes s (said_by item) ++ whole_output rules (after s (said_by item)) more
+      → whole_output rules s (used ++ more) ≡ said_bytes s (said_by item) ++ whole_output rules (after rules.flush_at s (said_by item)) more
   closed-first rules are s last_read new item used more one closed =
       let first = first_more used more closed in
       let says : said_by item ≡ said_of rules.read (first_of used).entry = one.entry rules.read are in
       ap (output_of rules s)
       (whole_items_of-closed (used ++ more) (ap (λ (f : First). f.closed) first)
       ∙ ap (λ (f : First). f.entry ∷ whole_items_of f.rest) first)
-      ∙ ap (λ said. said_bytes s said ++ whole_output rules (after s said) ((first_of used).rest ++ more)) (sym says)
-      ∙ ap (λ bs. said_bytes s (said_by item) ++ whole_output rules (after s (said_by item)) (bs ++ more)) one.all
+      ∙ ap (λ said. said_bytes s said ++ whole_output rules (after rules.flush_at s said) ((first_of used).rest ++ more)) (sym says)
+      ∙ ap (λ bs. said_bytes s (said_by item) ++ whole_output rules (after rules.flush_at s (said_by item)) (bs ++ more)) one.all
 
   -- after the source's end nothing is taken
   none_left : (left left' : Option (List ℕ)) (last_read : ℕ) (old new : Held) (item : Item) (used : List ℕ) → Uses left left' old new used
@@ -142,14 +142,14 @@ module _ (told : Settings) (start : State) where
       → (left left' before between now : Option (List ℕ)) (given piece : List ℕ) (last_read : ℕ) (old new : Held) (s : State) (item : Item)
       → (uses : Uses left left' old new piece) → IsOneItem last_read new item piece → Appends between now (said_bytes s (said_by item))
       → HasSentUsed rules before between given old.bytes s
-      → HasSentUsed rules before now (given ++ uses.given) new.bytes (after s (said_by item)) ⊎ HasSentLast rules before now
-      (given ++ uses.given) new
+      → HasSentUsed rules before now (given ++ uses.given) new.bytes (after rules.flush_at s (said_by item))
+      ⊎ HasSentLast rules before now (given ++ uses.given) new
   sent_turn rules are left left' before between now given piece last_read old new s item uses one gained sent = by_case
       (first_of piece).closed refl
     where
       by_case : (closed : Bool) → (first_of piece).closed ≡ closed
-          → HasSentUsed rules before now (given ++ uses.given) new.bytes (after s (said_by item)) ⊎ HasSentLast rules before now
-          (given ++ uses.given) new
+          → HasSentUsed rules before now (given ++ uses.given) new.bytes (after rules.flush_at s (said_by item))
+          ⊎ HasSentLast rules before now (given ++ uses.given) new
       by_case true closed = inl (record {
         used = sent.used ++ piece;
         sent = sent.sent ++ said_bytes s (said_by item);
@@ -160,7 +160,7 @@ module _ (told : Settings) (start : State) where
             ap (whole_output rules start) (append_assoc sent.used piece more)
             ∙ sent.whole (piece ++ more)
             ∙ ap (λ bs. sent.sent ++ bs) (closed-first rules are s last_read new item piece more one closed)
-            ∙ sym (append_assoc sent.sent (said_bytes s (said_by item)) (whole_output rules (after s (said_by item)) more));
+            ∙ sym (append_assoc sent.sent (said_bytes s (said_by item)) (whole_output rules (after rules.flush_at s (said_by item)) more));
       })
       by_case false unclosed =
           let last = one.last.end unclosed in
@@ -181,7 +181,8 @@ module _ (told : Settings) (start : State) where
   pub HasReplied-turn : (holds : Option Content) (before between left gained mid now : Option (List ℕ)) (last_read : ℕ) (old new : Held)
       (s t : State) (item : Item) (reply written : List ℕ) (most : ℕ) → IsBeforeEnd item → TakesItem between left last_read old new item
       → HasReplied holds before between gained mid old s most → (IsSome holds → reply ≡ said_bytes s (said_by item))
-      → t ≡ after s (said_by item) → written ≡ reply → Appends mid now written → HasReplied holds before left gained now new t most
+      → t ≡ after told.flush_at s (said_by item) → written ≡ reply → Appends mid now written
+      → HasReplied holds before left gained now new t most
   HasReplied-turn holds before between left gained mid now last_read old new s t item reply written most other taken replied replies state same
       sent =
       let uses = taken.1 in
@@ -190,15 +191,17 @@ module _ (told : Settings) (start : State) where
         given = replied.given ++ uses.given;
         consumed = Consumes-trans before between left replied.given uses.given replied.consumed uses.consumed;
         counted = omega (arith, length-append replied.given uses.given, replied.counted, uses.counted);
-        replied = λ rules are. turn_case rules are.0 uses one (subst (Appends mid now) (same ∙ replies are.2) sent)
-            (replied.replied rules are);
+        replied = λ rules are.
+            subst (λ n. HasSentUsed rules gained now (replied.given ++ uses.given) new.bytes (after n s (said_by item))
+            ⊎ HasSentLast rules gained now (replied.given ++ uses.given) new) are.1
+            (turn_case rules are.0 uses one (subst (Appends mid now) (same ∙ replies are.2) sent) (replied.replied rules are));
       })
     where
       turn_case : (rules : Rules) → IsReading rules.read → (uses : Uses between left old new taken.0) → IsOneItem last_read new item taken.0
           → Appends mid now (said_bytes s (said_by item))
           → HasSentUsed rules gained mid replied.given old.bytes s ⊎ HasSentLast rules gained mid replied.given old
-          → HasSentUsed rules gained now (replied.given ++ uses.given) new.bytes (after s (said_by item)) ⊎ HasSentLast rules gained now
-          (replied.given ++ uses.given) new
+          → HasSentUsed rules gained now (replied.given ++ uses.given) new.bytes (after rules.flush_at s (said_by item))
+          ⊎ HasSentLast rules gained now (replied.given ++ uses.given) new
       turn_case rules are uses one wrote
           (inl so_far) = sent_turn rules are between left gained mid now replied.given taken.0 last_read old new s item uses one wrote so_far
       turn_case rules are uses one wrote (inr ended) = absurd
@@ -212,10 +215,10 @@ module _ (told : Settings) (start : State) where
   output-prefix rules s [] more = (output_of rules s more, refl)
   output-prefix rules s (entry ∷ entries) more =
       let said = said_of rules.read entry in
-      let later = output-prefix rules (after s said) entries more in (
+      let later = output-prefix rules (after rules.flush_at s said) entries more in (
         later.0,
         ap (λ bs. said_bytes s said ++ bs) later.1
-            ∙ sym (append_assoc (said_bytes s said) (output_of rules (after s said) entries) later.0),
+            ∙ sym (append_assoc (said_bytes s said) (output_of rules (after rules.flush_at s said) entries) later.0),
       )
 
   -- and so is that for the whole items of a prefix of bytes

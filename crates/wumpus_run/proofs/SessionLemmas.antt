@@ -98,35 +98,37 @@ module _ (told : Settings) (start : State) where
   -- the output for some bytes is what answers the first item, and the output for what comes after it
   output-first : (rules : Rules) → IsReading rules.read → (s : State) (bytes rest : List ℕ) (item : Item) → IsBeforeEnd item
       → IsFirstItem bytes rest item
-      → output_of rules s (items_of bytes) ≡ said_bytes s (said_by item) ++ output_of rules (after s (said_by item)) (items_of rest)
+      → output_of rules s (items_of bytes)
+      ≡ said_bytes s (said_by item) ++ output_of rules (after rules.flush_at s (said_by item)) (items_of rest)
   output-first rules are s bytes rest item other is =
       let first = first_item bytes rest item other is in
       let says : said_by item ≡ said_of rules.read (first_of bytes).entry = first.1 rules.read are in
       ap (output_of rules s) (items_of-some bytes first.0)
-      ∙ ap (λ said. said_bytes s said ++ output_of rules (after s said) (items_of (first_of bytes).rest)) (sym says)
-      ∙ ap (λ bs. said_bytes s (said_by item) ++ output_of rules (after s (said_by item)) (items_of bs)) (sym first.2)
+      ∙ ap (λ said. said_bytes s said ++ output_of rules (after rules.flush_at s said) (items_of (first_of bytes).rest)) (sym says)
+      ∙ ap (λ bs. said_bytes s (said_by item) ++ output_of rules (after rules.flush_at s (said_by item)) (items_of bs)) (sym first.2)
 
   turn : (rules : Rules) → IsReading rules.read → (before between now input left rest : Option (List ℕ)) (s : State) (item : Item)
       → IsBeforeEnd item → IsNext left rest item
       → IsOnTheWay rules before between input left s → Appends between now (said_bytes s (said_by item))
-      → IsOnTheWay rules before now input rest (after s (said_by item))
+      → IsOnTheWay rules before now input rest (after rules.flush_at s (said_by item))
   turn rules are before between now None left rest s item other next sent gained = tt
   turn rules are before between now (Some input) None rest s item other next sent gained = absurd sent
   turn rules are before between now (Some input) (Some left) None s item other next sent gained = absurd next
   turn rules are before between now (Some input) (Some left) (Some rest) s item other next sent gained =
       HasSent-more before between now (output_of rules start (items_of input)) (said_bytes s (said_by item))
-      (output_of rules (after s (said_by item)) (items_of rest))
+      (output_of rules (after rules.flush_at s (said_by item)) (items_of rest))
       (subst (HasSent before between (output_of rules start (items_of input)))
       (output-first rules are s left rest item other next) sent) gained
 
   -- a turn of the loop: an item was rules, and what answers it was written
   pub HasAnswered-turn : (holds : Option Content) (before between now input left rest : Option (List ℕ)) (s new : State) (item : Item)
       (reply written : List ℕ) → IsBeforeEnd item → IsNext left rest item
-      → HasAnswered holds before between input left s → (IsSome holds → reply ≡ said_bytes s (said_by item)) → new ≡ after s (said_by item)
+      → HasAnswered holds before between input left s → (IsSome holds → reply ≡ said_bytes s (said_by item))
+      → new ≡ after told.flush_at s (said_by item)
       → written ≡ reply → Appends between now written → HasAnswered holds before now input rest new
   HasAnswered-turn holds before between now input left rest s new item reply written other next sent replies state same gained =
       λ rules are.
-      subst (IsOnTheWay rules before now input rest) (sym state)
+      subst (IsOnTheWay rules before now input rest) (sym (state ∙ ap (λ n. after n s (said_by item)) (sym are.1)))
       (turn rules are.0 before between now input left rest s item other next (sent rules are)
       (subst (Appends between now) (same ∙ replies are.2) gained))
 
@@ -153,7 +155,7 @@ module _ (told : Settings) (start : State) where
   part rules are before between now input (Some left) None s item other next sent gained = absurd next
   part rules are before between now input (Some left) (Some rest) s item other next sent gained =
       HasSent-part before between now (output_of rules start (items_of input)) (said_bytes s (said_by item))
-      (output_of rules (after s (said_by item)) (items_of rest))
+      (output_of rules (after rules.flush_at s (said_by item)) (items_of rest))
       (subst (HasSent before between (output_of rules start (items_of input)))
       (output-first rules are s left rest item other next) sent) gained
 

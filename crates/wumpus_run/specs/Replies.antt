@@ -5,11 +5,11 @@ use Rattle.wu_outside.specs.Content.{Content}
 use Rattle.wu_script.specs.declared.types.Why.TheVariants.{Tree}
 use Rattle.wu_script.specs.declared.types.Reply.{Reply}
 use Rattle.wu_script.specs.declared.types.Reply.TheVariants.{Ok as Accepted, Answered, Refused}
-use Rattle.wu_script.specs.Commands.{Entry}
-use Rattle.wu_script.specs.Said.{Reading, IsReading, Said, Happens, Asks, IsRefused, SaysNothing, said_of}
+use Rattle.wu_script.specs.Commands.{Entry, Operation, Flush}
+use Rattle.wu_script.specs.Said.{Reading, IsReading, Said, Happens, Asks, Operates, IsRefused, SaysNothing, said_of}
 use Rattle.wu_script.specs.Replies.{reply_bytes}
 use Rattle.wu_options.specs.declared.command_lines.Settings.{Settings}
-use Rattle.wu_engine.specs.States.{State, step, after_event}
+use Rattle.wu_engine.specs.States.{State, step, after_event, flushed_state}
 use Rattle.wu_engine.specs.Stands.{verdict_of}
 use Rattle.wu_engine.specs.View.{view_of}
 use Rattle.wu_engine.specs.Answer.{answer}
@@ -23,19 +23,29 @@ abbrev pub verdict_reply : Verdict → Reply
 verdict_reply verdicts.Made = Accepted
 verdict_reply (verdicts.Refused refusal) = Refused (Tree refusal)
 
+-- the reply to an operation
+abbrev pub operation_reply : Operation → Reply
+operation_reply Flush = Accepted
+
 -- the reply to what an item says in a state; an empty line and a comment have none
 abbrev pub reply_to : State → Said → Option Reply
 reply_to s (Happens event text) = Some (verdict_reply (verdict_of (step s event text)))
 reply_to s (Asks uid question) = Some (Answered (answer (view_of s uid) question))
+reply_to s (Operates operation) = Some (operation_reply operation)
 reply_to s (IsRefused why) = Some (Refused why)
 reply_to s SaysNothing = None
 
--- the state after it; only an accepted event changes it
-abbrev pub after : State → Said → State
-after s (Happens event text) = after_event s event text
-after s (Asks uid question) = s
-after s (IsRefused why) = s
-after s SaysNothing = s
+-- the state after an operation
+abbrev pub after_operation : State → Operation → State
+after_operation s Flush = flushed_state s
+
+-- the state after it, where memory is full at so many postings; only an accepted event and an operation change it
+abbrev pub after : ℕ → State → Said → State
+after flush_at s (Happens event text) = after_event flush_at s event text
+after flush_at s (Asks uid question) = s
+after flush_at s (Operates operation) = after_operation s operation
+after flush_at s (IsRefused why) = s
+after flush_at s SaysNothing = s
 
 abbrev pub bytes_of : Option Reply → List ℕ
 bytes_of None = []
@@ -45,31 +55,30 @@ bytes_of (Some reply) = reply_bytes reply
 abbrev pub said_bytes : State → Said → List ℕ
 said_bytes s said = bytes_of (reply_to s said)
 
--- ---- of a script
+-- ---- of a script, where memory is full at so many postings
 
 -- an item with the state that it meets
 abbrev pub Met : Type 0
 Met = State × Said
 
 -- each item with the state that it meets, which the items before it leave
-abbrev pub met : State → List Said → List Met
-met s [] = []
-met s (said ∷ saids) = (s, said) ∷ met (after s said) saids
+abbrev pub met : ℕ → State → List Said → List Met
+met flush_at s [] = []
+met flush_at s (said ∷ saids) = (s, said) ∷ met flush_at (after flush_at s said) saids
 
 -- the replies to items
-abbrev pub replies_to : State → List Said → List ℕ
-replies_to s saids = flat_map (λ m. said_bytes m.0 m.1) (met s saids)
+abbrev pub replies_to : ℕ → State → List Said → List ℕ
+replies_to flush_at s saids = flat_map (λ m. said_bytes m.0 m.1) (met flush_at s saids)
 
 -- the state that items leave
-abbrev pub left_by : State → List Met → State
-left_by s [] = s
-left_by s (m ∷ ms) = left_by (after m.0 m.1) ms
+abbrev pub left_by : ℕ → State → List Met → State
+left_by flush_at s [] = s
+left_by flush_at s (m ∷ ms) = left_by flush_at (after flush_at m.0 m.1) ms
 
-abbrev pub last_state : State → List Said → State
-last_state s saids = left_by s (met s saids)
+abbrev pub last_state : ℕ → State → List Said → State
+last_state flush_at s saids = left_by flush_at s (met flush_at s saids)
 
--- What items and states leave open: what each text says as an expression, and from how many postings in memory on they are
--- flushed, which no reply depends on as long as nothing is flushed.
+-- What items and states leave open: what each text says as an expression, and at how many postings memory is full.
 pub record Rules : Type 0 where
   pub read : Reading
   pub flush_at : ℕ
@@ -81,4 +90,4 @@ AreRules holds told rules = IsReading rules.read × (rules.flush_at ≡ told.flu
 
 -- the output for the items of a script
 abbrev pub output_of : Rules → State → List Entry → List ℕ
-output_of rules s entries = replies_to s (map (said_of rules.read) entries)
+output_of rules s entries = replies_to rules.flush_at s (map (said_of rules.read) entries)

@@ -5,10 +5,11 @@ ghost use Rattle.wu_base.specs.declared.troubles.Trouble.TheVariants.{Damaged};
 ghost use Rattle.wu_ask.specs.Questions.{question_of, IsSoundAsk};
 ghost use Rattle.wu_tree.specs.Steps.{IsEvent};
 ghost use Rattle.wu_script.specs.Replies.{reply_bytes};
-ghost use Rattle.wu_script.specs.Said.{Asks, Happens, IsSoundItem, said_by, tokens_given};
+ghost use Rattle.wu_script.specs.Commands.{Flush};
+ghost use Rattle.wu_script.specs.Said.{Asks, Happens, IsSoundItem, Operates, said_by, tokens_given};
 ghost use Rattle.wu_engine.specs.Causes.{HasTroubleCause};
 ghost use Rattle.wu_engine.specs.Stands.{Stands};
-ghost use Rattle.wu_engine.specs.States.{State};
+ghost use Rattle.wu_engine.specs.States.{State, flushed_state};
 ghost use Rattle.wumpus_run.specs.Replies.{after, said_bytes, verdict_reply};
 ghost use Rattle.wumpus_run.specs.Session.{KeepsRoot};
 
@@ -20,8 +21,8 @@ use wu_script::{Command, Item, Reply, Why, put_reply};
 use wu_tree::Event;
 
 /// Appends the bytes that answer the item, after which the state is the one that it leaves. The engine is one
-/// that goes on, with addresses left for the item's text and a blob. Over an engine and a store that stand for
-/// a state, no blob is called damaged.
+/// that goes on, with addresses left for the item's text, two blobs and a flush. Over an engine and a store that
+/// stand for a state, no blob is called damaged.
 pub fn answer<D: Store>(
     engine: &mut Engine,
     store: &mut D,
@@ -31,11 +32,16 @@ pub fn answer<D: Store>(
     requires sound { IsSoundItem item }
     requires goes_on { engine.old.ended ≡ None }
     requires room { engine.old.space.next + tokens_given (said_by item) ≤ ADDRESSES_MAX }
-    requires blobs { engine.old.parts.next_blob < 2 ^ 63 }
+    requires blobs { engine.old.parts.next_blob + 2 < 2 ^ 63 }
+    requires flushes { engine.old.parts.flushes + 1 < 2 ^ 63 }
     ensures answer { (s : State) → Stands engine.old (D.holds store.old) s → OnOk result
-        ((out.new.items ≡ out.old.items ++ said_bytes s (said_by item)) × Stands engine.new (D.holds store.new) (after s (said_by item))) }
+        ((out.new.items ≡ out.old.items ++ said_bytes s (said_by item))
+        × Stands engine.new (D.holds store.new) (after engine.old.parts.flush_at s (said_by item))) }
     ensures taken { OnOk result (engine.new.space.next ≤ engine.old.space.next + tokens_given (said_by item)) }
-    ensures drawn { OnOk result (engine.new.parts.next_blob ≤ engine.old.parts.next_blob + 1) }
+    ensures drawn { OnOk result (engine.new.parts.next_blob ≤ engine.old.parts.next_blob + 2) }
+    ensures counted { OnOk result
+        (engine.new.parts.flushes + engine.old.parts.next_blob ≤ engine.old.parts.flushes + engine.new.parts.next_blob) }
+    ensures flush_at { OnOk result (engine.new.parts.flush_at ≡ engine.old.parts.flush_at) }
     ensures root { KeepsRoot (D.holds store.old) (D.holds store.new) }
     ensures goes_on { OnOk result (engine.new.ended ≡ None) }
     ensures cause { HasTroubleCause engine.old.ended (D.faults store.old) (D.faults store.new) result }
@@ -44,6 +50,7 @@ pub fn answer<D: Store>(
     match item {
         Item::Command(Command::Update(event)) => answer_event(engine, store, &event, b"", out),
         Item::Command(Command::Ask(query)) => answer_query(engine, store, &query, out),
+        Item::Command(Command::Flush) => answer_flush(engine, store, out),
         Item::Text { ino, body } => {
             answer_event(engine, store, &Event::Text { ino }, body.as_slice(), out)
         }
@@ -64,11 +71,16 @@ fn answer_event<D: Store>(
     requires short { length body.now ≤ TEXT_MAX }
     requires goes_on { engine.old.ended ≡ None }
     requires room { engine.old.space.next + tokens_given (Happens event.now body.now) ≤ ADDRESSES_MAX }
-    requires blobs { engine.old.parts.next_blob < 2 ^ 63 }
+    requires blobs { engine.old.parts.next_blob + 2 < 2 ^ 63 }
+    requires flushes { engine.old.parts.flushes + 1 < 2 ^ 63 }
     ensures answer { (s : State) → Stands engine.old (D.holds store.old) s → OnOk result
-        ((out.new.items ≡ out.old.items ++ said_bytes s (Happens event.now body.now)) × Stands engine.new (D.holds store.new) (after s (Happens event.now body.now))) }
+        ((out.new.items ≡ out.old.items ++ said_bytes s (Happens event.now body.now))
+        × Stands engine.new (D.holds store.new) (after engine.old.parts.flush_at s (Happens event.now body.now))) }
     ensures taken { OnOk result (engine.new.space.next ≤ engine.old.space.next + tokens_given (Happens event.now body.now)) }
-    ensures drawn { OnOk result (engine.new.parts.next_blob ≤ engine.old.parts.next_blob + 1) }
+    ensures drawn { OnOk result (engine.new.parts.next_blob ≤ engine.old.parts.next_blob + 2) }
+    ensures counted { OnOk result
+        (engine.new.parts.flushes + engine.old.parts.next_blob ≤ engine.old.parts.flushes + engine.new.parts.next_blob) }
+    ensures flush_at { OnOk result (engine.new.parts.flush_at ≡ engine.old.parts.flush_at) }
     ensures root { KeepsRoot (D.holds store.old) (D.holds store.new) }
     ensures goes_on { OnOk result (engine.new.ended ≡ None) }
     ensures cause { HasTroubleCause engine.old.ended (D.faults store.old) (D.faults store.new) result }
@@ -89,9 +101,10 @@ fn answer_query<D: Store>(
     requires sound { IsSoundAsk query.now.ask }
     requires goes_on { engine.old.ended ≡ None }
     ensures answer { (s : State) → Stands engine.old (D.holds store.old) s → OnOk result
-        ((out.new.items ≡ out.old.items ++ said_bytes s (Asks query.now.uid (question_of query.now.ask))) × Stands engine.new (D.holds store.new) s) }
+        ((out.new.items ≡ out.old.items ++ said_bytes s (Asks query.now.uid (question_of query.now.ask)))
+        × Stands engine.new (D.holds store.new) s) }
     ensures space { engine.new.space ≡ engine.old.space }
-    ensures next_blob { engine.new.parts.next_blob ≡ engine.old.parts.next_blob }
+    ensures parts { engine.new.parts ≡ record engine.old.parts { kept = engine.new.parts.kept } }
     ensures root { KeepsRoot (D.holds store.old) (D.holds store.new) }
     ensures goes_on { OnOk result (engine.new.ended ≡ None) }
     ensures cause { HasTroubleCause engine.old.ended (D.faults store.old) (D.faults store.new) result }
@@ -99,6 +112,33 @@ fn answer_query<D: Store>(
 {
     let answered = engine.query(store, query)?;
     put_reply(out, &Reply::Answered(answered))?;
+    Ok(())
+}
+
+/// Appends the reply to a flush.
+fn answer_flush<D: Store>(
+    engine: &mut Engine,
+    store: &mut D,
+    out: &mut Vec<u8>,
+) -> Result<(), Trouble>
+    requires goes_on { engine.old.ended ≡ None }
+    requires blobs { engine.old.parts.next_blob + 1 < 2 ^ 63 }
+    requires flushes { engine.old.parts.flushes + 1 < 2 ^ 63 }
+    ensures answer { (s : State) → Stands engine.old (D.holds store.old) s → OnOk result
+        ((out.new.items ≡ out.old.items ++ said_bytes s (Operates Flush))
+        × Stands engine.new (D.holds store.new) (flushed_state s)) }
+    ensures space { engine.new.space ≡ engine.old.space }
+    ensures drawn { OnOk result (engine.new.parts.next_blob ≤ engine.old.parts.next_blob + 1) }
+    ensures counted { OnOk result
+        (engine.new.parts.flushes + engine.old.parts.next_blob ≤ engine.old.parts.flushes + engine.new.parts.next_blob) }
+    ensures flush_at { OnOk result (engine.new.parts.flush_at ≡ engine.old.parts.flush_at) }
+    ensures root { KeepsRoot (D.holds store.old) (D.holds store.new) }
+    ensures goes_on { OnOk result (engine.new.ended ≡ None) }
+    ensures cause { HasTroubleCause engine.old.ended (D.faults store.old) (D.faults store.new) result }
+    ensures damaged { (blob : ℕ) → result ≡ Err (Damaged blob) → ⊥ }
+{
+    engine.flush(store)?;
+    put_reply(out, &Reply::Ok)?;
     Ok(())
 }
 

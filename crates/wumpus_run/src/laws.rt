@@ -1,8 +1,9 @@
 //! Laws of states and of replies.
-ghost use Rattle.std.specs.Prelude.{◌≡◌, ℕ, List, map};
+ghost use Rattle.std.specs.Prelude.{◌≡◌, ℕ, List, ◌∷◌, map};
 ghost use Rattle.std.specs.List.{All};
 ghost use Rattle.wu_ask.specs.Questions.{Question};
-ghost use Rattle.wu_script.specs.Said.{Asks, Reading, said_of};
+ghost use Rattle.wu_script.specs.Commands.{Flush};
+ghost use Rattle.wu_script.specs.Said.{Asks, Operates, Reading, Said, said_of};
 ghost use Rattle.wu_script.specs.Items.{items_of};
 ghost use Rattle.wu_engine.specs.States.{State, IsState, first_state};
 ghost use Rattle.wu_engine.specs.View.{view_of};
@@ -19,6 +20,17 @@ pub fn equal_views_are_answered_alike()
 /// leaves: its tree keeps the rules, its texts are exactly those of its regular files, in the order of their
 /// numbers and none too long, and all of them are indexed.
 pub fn a_script_keeps_a_state()
-    ensures met { (read : Reading) (bytes : List ℕ) → All (λ m. IsState m.0) (met first_state (map (said_of read) (items_of bytes))) }
-    ensures last { (read : Reading) (bytes : List ℕ) → IsState (last_state first_state (map (said_of read) (items_of bytes))) }
+    ensures met { (flush_at : ℕ) (read : Reading) (bytes : List ℕ)
+        → All (λ m. IsState m.0) (met flush_at first_state (map (said_of read) (items_of bytes))) }
+    ensures last { (flush_at : ℕ) (read : Reading) (bytes : List ℕ)
+        → IsState (last_state flush_at first_state (map (said_of read) (items_of bytes))) }
+{}
+
+/// Flushes show in no view: from a state on, the items of a script leave each user the same view wherever memory
+/// is full, and also where it is flushed first.
+pub fn no_view_depends_on_flushes()
+    ensures full { (one other : ℕ) (s : State) (saids : List Said) (uid : ℕ)
+        → view_of (last_state one s saids) uid ≡ view_of (last_state other s saids) uid }
+    ensures flushed { (flush_at : ℕ) (s : State) (saids : List Said) (uid : ℕ)
+        → view_of (last_state flush_at s (Operates Flush ∷ saids)) uid ≡ view_of (last_state flush_at s saids) uid }
 {}

@@ -6,6 +6,8 @@ mod laws;
 mod session;
 mod statuses;
 
-pub use laws::{a_script_keeps_a_state, equal_views_are_answered_alike};
+pub use laws::{
+    a_script_keeps_a_state, equal_views_are_answered_alike, no_view_depends_on_flushes,
+};
 pub use session::run;
 pub use statuses::Status;

@@ -23,7 +23,7 @@ use wu_script::{Item, ReadEnd, Reader};
 /// items to the sink before it reads the next. `words` are the command-line arguments, those after
 /// the program's name; they say how many bytes the input may have. The source is one that has not
 /// given its end. The session begins with the root directory alone, whatever the store holds; it puts its
-/// texts there under blobs from number 1 on, and saves nothing. What is said of the output is said where
+/// texts and parts there under blobs from number 1 on, and saves nothing. What is said of the output is said where
 /// source, sink and store tell what they have.
 pub fn run<I: Source, O: Sink, D: Store>(
     alloc: Global,
@@ -157,6 +157,8 @@ fn start<D: Store>(
     ensures engine { IfOk result (λ start. IsSome (D.holds store.old) → Stands start.1 (D.holds store.new) first_state) }
     ensures next { IfOk result (λ start. start.1.space.next ≡ 0) }
     ensures next_blob { IfOk result (λ start. start.1.parts.next_blob ≡ 1) }
+    ensures flushes { IfOk result (λ start. start.1.parts.flushes ≡ 0) }
+    ensures flush_at { IfOk result (λ start. start.1.parts.flush_at ≡ settings.flush_at) }
     ensures goes_on { IfOk result (λ start. start.1.ended ≡ None) }
     ensures store { store.new ≡ store.old }
 {

@@ -40,7 +40,9 @@ impl Subject for Tables {
             ("output", [script]) => sessions::output(alloc, script),
             ("calls", [words, script]) => sessions::calls(alloc, words, script),
             ("faults", [reads, writes, script]) => sessions::faulty(alloc, reads, writes, script),
-            ("store faults", [calls, script]) => stores::failing(alloc, calls, script),
+            ("store faults", [words, calls, script]) => {
+                stores::failing(alloc, words, calls, script)
+            }
             ("lost blobs", [script]) => stores::losing(alloc, script),
             ("pieces", [most, script]) => pieces::output(alloc, most, script),
             ("code", [status]) => statuses::code(alloc, status),

@@ -71,9 +71,23 @@ pub fn output(alloc: Global, field: &str) -> Result<String, NoAnswer> {
     shown(alloc, output.as_slice())
 }
 
-/// What a session over the script writes, which ends as it should.
+/// What a session over the script writes, which ends as it should. It writes the same where memory is full at
+/// each event that adds a posting, and at 7 postings.
 pub fn whole_output(alloc: Global, script: Vec<u8>) -> Result<Vec<u8>, NoAnswer> {
-    let ending = run_session(alloc, &["run"], script, Vec::new(alloc), Vec::new(alloc))?;
+    let output = output_by(alloc, &["run"], script.as_slice())?;
+    for option in ["--flush=1", "--flush=7"] {
+        let flushed = output_by(alloc, &["run", option], script.as_slice())?;
+        if flushed.as_slice() != output.as_slice() {
+            return Err(NoAnswer::BadRow);
+        }
+    }
+    Ok(output)
+}
+
+/// What the session that the words ask for writes, which ends as it should.
+fn output_by(alloc: Global, words: &[&str], script: &[u8]) -> Result<Vec<u8>, NoAnswer> {
+    let script = Vec::from_slice(alloc, script)?;
+    let ending = run_session(alloc, words, script, Vec::new(alloc), Vec::new(alloc))?;
     match ending.status {
         Status::Done => Ok(ending.output),
         _ => Err(NoAnswer::BadRow),

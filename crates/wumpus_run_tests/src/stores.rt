@@ -2,7 +2,7 @@
 use crate::statuses::name_of;
 use std::alloc::Global;
 use wu_outside::{Fault, MemSink, MemStore, PlainSource, Store};
-use wu_rows::{NoAnswer, numbers, script, shown};
+use wu_rows::{NoAnswer, numbers, script, shown, words};
 use wumpus_run::run;
 
 /// A store that loses each blob, and tells nothing.
@@ -51,24 +51,36 @@ impl Store for LosingStore {
     ghost told_alike = { λ _. Prim.tt };
 }
 
-/// How a session ends over a store of which these calls fail, how often it calls it, and what it has written then.
-pub fn failing(alloc: Global, fails: &str, field: &str) -> Result<String, NoAnswer> {
+/// How the session that the words ask for ends over a store of which these calls fail, how often it calls the
+/// store, and what it has written then.
+pub fn failing(
+    alloc: Global,
+    words_field: &str,
+    fails: &str,
+    field: &str,
+) -> Result<String, NoAnswer> {
+    let words = words(alloc, words_field)?;
     let mut store = MemStore::new(alloc, numbers(alloc, fails)?, u64::MAX);
-    let ending = ending(alloc, &mut store, field)?;
+    let ending = ending(alloc, words.as_slice(), &mut store, field)?;
     let calls = store.calls();
     Ok(format!(in alloc; "{calls} {ending}")?)
 }
 
 /// How a session ends over a store that loses each blob, and what it has written then.
 pub fn losing(alloc: Global, field: &str) -> Result<String, NoAnswer> {
-    ending(alloc, &mut LosingStore {}, field)
+    ending(alloc, &["run"], &mut LosingStore {}, field)
 }
 
-/// How a session over the store ends, and what it has written then.
-fn ending<D: Store>(alloc: Global, store: &mut D, field: &str) -> Result<String, NoAnswer> {
+/// How the session that the words ask for ends over the store, and what it has written then.
+fn ending<D: Store>(
+    alloc: Global,
+    words: &[&str],
+    store: &mut D,
+    field: &str,
+) -> Result<String, NoAnswer> {
     let mut source = PlainSource::new(script(alloc, field)?);
     let mut sink = MemSink::new(alloc, Vec::new(alloc));
-    let status = run(alloc, &["run"], &mut source, &mut sink, store);
+    let status = run(alloc, words, &mut source, &mut sink, store);
     let name = name_of(alloc, status)?;
     let output = shown(alloc, sink.gained())?;
     Ok(format!(in alloc; "{name}: {output}")?)

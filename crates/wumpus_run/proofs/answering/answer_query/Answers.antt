@@ -1,6 +1,6 @@
 use Rattle.std.proofs.Common.{Err, ap, ⊎_elim}
 use Rattle.wu_base.specs.declared.troubles.Trouble.TheVariants.{Damaged}
-use Rattle.wumpus_run.proofs.SoundTexts.{same_trouble, undamaged}
+use Rattle.wumpus_run.proofs.SoundBlobs.{same_trouble, undamaged}
 use Rattle.wumpus_run.proofs.answering.answer_query.Goals as goal
 
 pub returns-in_err-answered-clause-damaged : goal.returns-in_err-answered-clause-damaged

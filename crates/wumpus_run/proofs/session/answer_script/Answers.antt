@@ -1,16 +1,17 @@
-use Rattle.std.proofs.Common.{◌≡◌, [], ◌+◌, Err, IsSome, refl, ap, ◌∙◌, subst, arith}
+use Rattle.std.proofs.Common.{◌≡◌, ℕ, [], ◌+◌, Err, IsSome, refl, ap, ◌∙◌, subst, arith}
 use Rattle.std.specs.Io.KnownBytes.{prepend_known}
 use Rattle.std.proofs.KnownBytes.{Appends-nil}
 use Rattle.wu_script.specs.Items.{IsNext, IsItem}
 use Rattle.wu_script.specs.Said.{said_by, tokens_given}
 use Rattle.wumpus_run.specs.Replies.{after, said_bytes}
 use Rattle.wumpus_run.specs.Session.{moment, status_of_fault, status_of_trouble}
+use Rattle.wu_engine.specs.Stands.{Stands}
 use Rattle.wu_engine.specs.States.{first_state}
 use Rattle.wumpus_run.specs.declared.statuses.Status.TheVariants.{Done, NoMemory, ReadFault, StoreFault, WriteFault}
 use Rattle.wumpus_run.proofs.SessionLemmas.{appended, HasAnswered-none, HasAnswered-turn, HasTaken-more, IsPrefix-sent, IsPrefix-part, takes_one}
 use Rattle.wumpus_run.proofs.PromptLemmas.{HasReplied-none, HasReplied-turn, AnswersAllButOneRead-none, AnswersAllButOneRead-taken, AnswersItems-taken, HoldsNothingBack-stopped}
 use Rattle.wumpus_run.proofs.AddressRoom.{HasBlobs-none, HasBlobs-item, HasBlobs-few, HasRoom-none, HasRoom-item, HasRoom-few, HasRoom-fewer}
-use Rattle.wumpus_run.proofs.EndLemmas.{Ends-short, Ends-stopped, Ends-unanswered, Ends-unwritten, IsCounted-answered, IsCounted-other, IsCounted-written, answering, damaged_so, writing, HasTaken-none, TakesAtMost-none, TakesAtMost-taken, AnswersPrefix-none, AnswersAll-end}
+use Rattle.wumpus_run.proofs.EndLemmas.{Ends-short, Ends-stopped, Ends-unanswered, Ends-unwritten, IsCounted-answered, IsCounted-other, IsCounted-read, IsCounted-written, answering, damaged_so, writing, HasTaken-none, TakesAtMost-none, TakesAtMost-taken, AnswersPrefix-none, AnswersAll-end}
 use Rattle.wumpus_run.proofs.session.answer_script.Goals as goal
 
 pub returns-in-Err-clause-ends : goal.returns-in-Err-clause-ends
@@ -39,6 +40,12 @@ returns-in-Err-next-clause-ends g c =
     rw c.status_of.ensures
     (Ends-stopped told first_state c.in-Err-next.end before now between c.items.reader i.taken early prefix
     (HoldsNothingBack-stopped told first_state c.in-Err-next.end before now between c.items.reader i.state i.replied early))
+
+pub returns-in-Err-next-clause-read_fault : goal.returns-in-Err-next-clause-read_fault
+returns-in-Err-next-clause-read_fault g c =
+    rw c.status_of.ensures
+    (IsCounted-read c.in-Err-next.end (g.I.Source.faults c.args.source.now) (g.I.Source.faults c.items.source)
+    (g.I.Source.faults c.next.new.source) c.items.invariant.read_calm c.in-Err-next.ensures.cause)
 
 pub returns-then-is_end-clause-done : goal.returns-then-is_end-clause-done
 returns-then-is_end-clause-done g c = λ e.
@@ -150,6 +157,14 @@ pub answer-requires-clause-blobs : goal.answer-requires-clause-blobs
 answer-requires-clause-blobs g c =
     HasBlobs-few c.items.engine.parts.next_blob c.args.settings.max_input c.items.reader c.items.invariant.blobs c.requires.within
 
+pub answer-requires-clause-flushes : goal.answer-requires-clause-flushes
+answer-requires-clause-flushes g c =
+    omega (
+      arith,
+      c.items.invariant.flushes,
+      HasBlobs-few c.items.engine.parts.next_blob c.args.settings.max_input c.items.reader c.items.invariant.blobs c.requires.within,
+    )
+
 pub items-smaller : goal.items-smaller
 items-smaller g c =
     takes_one (g.I.Source.left c.items.source) (g.I.Source.left c.next.new.source)
@@ -174,13 +189,15 @@ items-preserved g c =
     (g.I.Source.left c.items.source) now.left now.last_read c.items.reader c.next.new.self item told.max_input i.taken took in
     let few = TakesAtMost-taken before.left now.left c.next.new.self.spare told.max_input taken in
     let s = i.state in
-    let t = after s (said_by item) in
+    let t = after c.args.settings.flush_at s (said_by item) in
     let reply : IsSome before.holds → c.answer.new.out.items ≡ said_bytes s (said_by item) =
     λ tells. appended c.answer.new.out.items c.clear.new.self.items (said_bytes s (said_by item))
     (c.in-Ok-answer.ensures.answer s (i.stands tells)).0 c.clear.ensures.items in
     record {
       state = t;
-      stands = λ tells. (c.in-Ok-answer.ensures.answer s (i.stands tells)).1;
+      stands = λ tells.
+          subst (λ (n : ℕ). Stands c.answer.new.engine (g.D.Store.holds c.answer.new.store) (after n s (said_by item))) i.flush_at
+          (c.in-Ok-answer.ensures.answer s (i.stands tells)).1;
       goes_on = c.in-Ok-answer.ensures.goes_on;
       room = HasRoom-fewer c.answer.new.engine.space.next (c.items.engine.space.next + tokens_given (said_by item)) told.max_input
           c.next.new.self
@@ -190,6 +207,8 @@ items-preserved g c =
       blobs = HasBlobs-item (g.I.Source.left c.items.source) now.left now.last_read c.items.reader c.next.new.self item
           c.items.engine.parts.next_blob c.answer.new.engine.parts.next_blob told.max_input
           c.if-is_end.ensures took i.blobs c.in-Ok-answer.ensures.drawn;
+      flushes = omega (arith, i.flushes, c.in-Ok-answer.ensures.counted);
+      flush_at = c.in-Ok-answer.ensures.flush_at ∙ i.flush_at;
       root = c.in-Ok-answer.ensures.root ∙ i.root;
       answered = HasAnswered-turn told first_state before.holds before.gained
           (g.O.Sink.gained c.items.sink) now.gained before.left known rest s t item
@@ -282,6 +301,8 @@ items-init g c =
       goes_on = e.goes_on;
       room = rw e.reader (HasRoom-none c.in-Ok.start.1.space.next told.max_input e.next);
       blobs = rw e.reader (HasBlobs-none c.in-Ok.start.1.parts.next_blob told.max_input e.next_blob);
+      flushes = omega (arith, e.flushes, e.next_blob);
+      flush_at = e.flush_at;
       root = rw c.start.ensures.store refl;
       answered = rw e.reader (HasAnswered-none told first_state holds gained left);
       replied = rw e.reader (HasReplied-none told first_state holds left gained told.max_input);

@@ -1,4 +1,4 @@
-use Rattle.std.proofs.Common.{◌≡◌, ◌+◌, length, true, None, IsSome}
+use Rattle.std.proofs.Common.{◌≡◌, ◌+◌, ◌<◌, length, true, None, IsSome}
 use Rattle.std.specs.Io.KnownBytes.{IsAtEnd, prepend_known}
 use Rattle.wu_script.specs.Holding.{Follows}
 use Rattle.wu_engine.specs.States.{State, first_state}
@@ -18,6 +18,8 @@ invariant-items g l = record {
   goes_on : l.engine.ended ≡ None;
   room : HasRoom l.engine.space.next l.reader l.fn.settings.max_input;
   blobs : HasBlobs l.engine.parts.next_blob l.reader l.fn.settings.max_input;
+  flushes : l.engine.parts.flushes < l.engine.parts.next_blob;
+  flush_at : l.engine.parts.flush_at ≡ l.fn.settings.flush_at;
   root : KeepsRoot (g.D.Store.holds l.fn.store) (g.D.Store.holds l.store);
   answered : HasAnswered l.fn.settings first_state (g.D.Store.holds l.fn.store)
       (g.O.Sink.gained l.fn.sink) (g.O.Sink.gained l.sink) (g.I.Source.left l.fn.source)

@@ -1,22 +1,27 @@
--- Where engine and store stand for a state, the store has each text as it was recorded.
-use Rattle.std.proofs.Common.{◌≡◌, ◌⊎◌, ℕ, ◌<◌, List, [], ◌∷◌, length, Option, Some, None, Result, Ok, Err, IsErrAnd, refl, sym, ap, ◌∙◌, subst, ⊎_elim, IfSome}
-use Rattle.std.specs.Prelude.{option_map}
+-- Where engine and store stand for a state, the store has each text and each part as it was recorded.
+use Rattle.std.proofs.Common.{◌≡◌, ℕ, ◌<◌, List, [], ◌∷◌, length, Option, Some, None, Result, Ok, Err, IsErrAnd, refl, sym, ap, ◌∙◌, subst, ⊎_elim, IfSome}
+use Rattle.std.specs.Prelude.{zip}
 use Rattle.std.specs.Ordering.{nat_cmp}
 use Rattle.std.specs.List.{AllByRecursion}
 use Rattle.std.specs.Map.{lookup}
 use Rattle.std.specs.BTreeMap.{is_at}
 use Rattle.wu_base.proofs.MapEntries.{all_found}
 use Rattle.wu_base.specs.declared.troubles.Trouble.{Trouble}
-use Rattle.wu_outside.specs.Content.{Content, MayDo, with_blob}
+use Rattle.wu_base.specs.declared.addresses.PartRec.{PartRec}
+use Rattle.wu_outside.specs.Content.{Content}
 use Rattle.wu_token.specs.Tokens.{tokens_of}
-use Rattle.wu_layout.specs.Layouts.{FileEntry, entry_of, homes_of, postings_of}
-use Rattle.wu_layout.specs.Invariants.{IsIndexed}
+use Rattle.wu_layout.specs.Layouts.{FileEntry, Part, entry_of, homes_of, lists_of, postings_of}
+use Rattle.wu_layout.specs.Invariants.{IsIndexed, SomeOf}
 use Rattle.wu_layout.proofs.EntryLemmas.{IfSome-found, IfSome-map}
 use Rattle.wu_image.specs.Texts.{IsBrokenText}
+use Rattle.wu_part.specs.Directories.{PartDirectory}
+use Rattle.wu_lists.specs.Causes.{IsNoPart}
+use Rattle.wu_parts.specs.Causes.{IsBrokenPart}
+use Rattle.wu_parts.specs.Holdings.{HoldsPart, HoldParts}
 use Rattle.wu_engine.specs.declared.engines.Engine.{Engine}
-use Rattle.wu_engine.specs.Causes.{IsDamagedAt}
+use Rattle.wu_engine.specs.Causes.{IsDamagedAt, IsDamagedIn}
 use Rattle.wu_engine.specs.Records.{record_of, records_of}
-use Rattle.wu_engine.specs.Stands.{Stands}
+use Rattle.wu_engine.specs.Stands.{KeepsOthers, Stands}
 use Rattle.wu_engine.specs.States.{State, Texts, indexed, text_in}
 use Rattle.wumpus_run.specs.Session.{KeepsRoot}
 
@@ -63,11 +68,32 @@ each_kept content s (file ∷ files) held long found = (
   each_kept content s files held long found.1,
 )
 
--- then no blob is damaged
-pub undamaged : (engine : Engine) (holds : Option Content) (s : State) (blob : ℕ) → Stands engine holds s
-    → IsDamagedAt engine.files.entries holds blob → ⊥
-undamaged engine None s blob stands damaged = absurd stands.texts
-undamaged engine (Some content) s blob stands damaged =
+-- ---- parts
+
+is_part : (content : Content) (recorded : PartRec) (directory : PartDirectory) (part : Part) → HoldsPart content recorded directory part
+    → IsNoPart directory (content.blobs recorded.blob) → ⊥
+is_part content recorded directory part held broken =
+    let there : content.blobs recorded.blob ≡ Some held.bytes = ap content.blobs held.record_of.blob ∙ held.held in
+    (subst (IsNoPart directory) there broken) (lists_of part.postings) held.spelled
+
+all_are_parts : (content : Content) (records : List PartRec) (directories : List PartDirectory) (parts : List Part) (blob : ℕ)
+    → HoldParts content records directories parts → SomeOf (IsBrokenPart (Some content) blob) (zip records directories) → ⊥
+all_are_parts content [] [] [] blob held broken = broken
+all_are_parts content [] [] (part ∷ parts) blob held broken = absurd held
+all_are_parts content [] (directory ∷ directories) parts blob held broken = absurd held
+all_are_parts content (recorded ∷ records) [] parts blob held broken = absurd held
+all_are_parts content (recorded ∷ records) (directory ∷ directories) [] blob held broken = absurd held
+all_are_parts content (recorded ∷ records) (directory ∷ directories) (part ∷ parts) blob held broken =
+    ⊎_elim
+    (λ here. is_part content recorded directory part held.0 (subst (λ b. IsNoPart directory (content.blobs b)) (sym here.0) here.1))
+    (all_are_parts content records directories parts blob held.1)
+    broken
+
+-- ---- then no blob is damaged
+
+texts_undamaged : (engine : Engine) (content : Content) (s : State) (blob : ℕ) → Stands engine (Some content) s
+    → IsDamagedAt engine.files.entries (Some content) blob → ⊥
+texts_undamaged engine content s blob stands damaged =
     let layout = stands.index.is_state.layout in
     all_kept content s.texts s.layout.files blob
     (each_kept content s s.layout.files stands.texts
@@ -77,6 +103,14 @@ undamaged engine (Some content) s blob stands damaged =
     (entry_of s.layout.files ino) (λ entry kept. kept.long) (layout.texts.each ino))
     (all_found s.layout.files layout.ranges.by_number))
     (subst (λ files. IsDamagedAt files (Some content) blob) stands.index.files damaged)
+
+pub undamaged : (engine : Engine) (holds : Option Content) (s : State) (blob : ℕ) → Stands engine holds s
+    → IsDamagedIn engine.files.entries engine.parts holds blob → ⊥
+undamaged engine None s blob stands damaged = absurd stands.texts
+undamaged engine (Some content) s blob stands damaged =
+    ⊎_elim (texts_undamaged engine content s blob stands)
+    (all_are_parts content engine.parts.parts engine.parts.directories s.layout.parts blob stands.parts)
+    damaged
 
 -- ---- troubles
 
@@ -88,12 +122,9 @@ same_trouble (Err t) trouble other is e = cc (is, e)
 
 -- ---- the root
 
--- it stays where a blob is put
-pub root_stays : (blob : ℕ) (written : Option (List ℕ)) (before now : Option Content) → MayDo (with_blob blob written) before now
-    → KeepsRoot before now
-root_stays blob written before now done =
-    ⊎_elim (ap (option_map (λ content. content.root))) (λ put. ap (option_map (λ content. content.root)) put ∙ put_keeps before) done
-  where
-    put_keeps : (before : Option Content) → KeepsRoot before (option_map (with_blob blob written) before)
-    put_keeps None = refl
-    put_keeps (Some content) = refl
+-- it stays where blobs alone may change
+pub root_stays : (low high : ℕ) (before now : Option Content) → KeepsOthers low high before now → KeepsRoot before now
+root_stays low high None None others = refl
+root_stays low high None (Some after) others = absurd others
+root_stays low high (Some content) None others = absurd others
+root_stays low high (Some content) (Some after) others = ap Some others.1
