@@ -56,6 +56,7 @@ impl Engine {
         ensures stands { IfOk result (λ engine. IsSome (D.holds store.old) → Stands engine (D.holds store.new) first_state) }
         ensures next { IfOk result (λ engine. engine.space.next ≡ 0) }
         ensures next_blob { IfOk result (λ engine. engine.parts.next_blob ≡ 1) }
+        ensures flushes { IfOk result (λ engine. engine.parts.flushes ≡ 0) }
         ensures flush_at { IfOk result (λ engine. engine.parts.flush_at ≡ flush_at) }
         ensures kept { IfOk result (λ engine. engine.parts.kept ≡ lru_cache [] BLOCKS_KEPT) }
         ensures goes_on { IfOk result (λ engine. engine.ended ≡ None) }
