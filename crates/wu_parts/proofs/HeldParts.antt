@@ -24,7 +24,7 @@ module _ {X Y : Type 0} where
   zip-take (suc n) (x ∷ xs) [] = refl
   zip-take (suc n) (x ∷ xs) (y ∷ ys) = ap (λ (l : List (X × Y)). (x, y) ∷ l) (zip-take n xs ys)
 
-  zip-none : (xs : List X) → zip {X} {Y} xs [] ≡ []
+  zip-none : (xs : List X) → zip {K = X} {X = Y} xs [] ≡ []
   zip-none [] = refl
   zip-none (x ∷ xs) = refl
 

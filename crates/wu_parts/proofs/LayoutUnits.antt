@@ -41,17 +41,17 @@ tells_of o content contents layout e t = subst (λ x. Tells x contents layout) (
 pub if_told : (P : Content → Type 0) (o : Option Content) (content : Content) → o ≡ Some content → IfSome o P → P content
 if_told P o content e h = subst (λ x. IfSome x P) e h
 
-made_same : (as bs : List Part) → AllZip (λ a b. a.generation ≡ b.generation) as bs → made_generation as ≡ made_generation bs
+made_same : (ls bs : List Part) → AllZip (λ a b. a.generation ≡ b.generation) ls bs → made_generation ls ≡ made_generation bs
 made_same [] [] g = refl
 made_same [] (b ∷ bs) g = absurd g
-made_same (a ∷ as) [] g = absurd g
-made_same (a ∷ as) (b ∷ bs) g = ap₂ (λ (n m : ℕ). n + m) g.0 (long as bs g.1)
+made_same (a ∷ ls) [] g = absurd g
+made_same (a ∷ ls) (b ∷ bs) g = ap₂ (λ (n m : ℕ). n + m) g.0 (long ls bs g.1)
   where
-    long : (as bs : List Part) → AllZip (λ a b. a.generation ≡ b.generation) as bs → length as ≡ length bs
+    long : (ls bs : List Part) → AllZip (λ a b. a.generation ≡ b.generation) ls bs → length ls ≡ length bs
     long [] [] g = refl
     long [] (b ∷ bs) g = absurd g
-    long (a ∷ as) [] g = absurd g
-    long (a ∷ as) (b ∷ bs) g = ap (λ (n : ℕ). suc n) (long as bs g.1)
+    long (a ∷ ls) [] g = absurd g
+    long (a ∷ ls) (b ∷ bs) g = ap (λ (n : ℕ). suc n) (long ls bs g.1)
 
 no_lists : (ps : List Posting) → lists_of ps ≡ [] → ps ≡ []
 no_lists [] e = refl

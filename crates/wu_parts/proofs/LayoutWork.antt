@@ -1,8 +1,8 @@
 -- Several units of work on the parts are as many of the layout's; and where no work is left, there are few parts.
-use Rattle.std.proofs.Common.{◌≡◌, ℕ, zero, suc, ◌+◌, ◌*◌, ◌^◌, ◌<◌, ◌≤◌, ◌&&◌, not, Bool, true, false, List, [], ◌∷◌, length, map, drop, Option, Some, None, option_map, is_some, position, zip, refl, ap, ap₂, sym, ◌∙◌, subst, arith, ⊎_elim, pow-suc, pow_mono}
+use Rattle.std.proofs.Common.{◌≡◌, ℕ, zero, suc, ◌+◌, ◌-◌, ◌*◌, ◌^◌, ◌<◌, ◌≤◌, ◌&&◌, not, Bool, true, false, List, [], ◌∷◌, length, map, drop, Option, Some, None, option_map, is_some, position, zip, refl, ap, ap₂, sym, ◌∙◌, subst, arith, ⊎_elim, pow-suc, pow_mono}
 use Rattle.std.specs.Option.{option_or}
 use Rattle.std.specs.List.{AllByRecursion}
-use Rattle.std.proofs.lemmas.Bool.{and_parts, cases_Bool, eqb-false, leb-false}
+use Rattle.std.proofs.lemmas.Bool.{cases_Bool, cases_lt, eqb-false, leb-false}
 use Rattle.std.proofs.lemmas.List.Sums.{sum_by-cons}
 use Rattle.wu_base.specs.declared.addresses.PartRec.{PartRec}
 use Rattle.wu_outside.specs.Content.{Content}
@@ -21,7 +21,7 @@ use Rattle.wu_parts.specs.Contents.{Contents, JobAt}
 use Rattle.wu_parts.specs.Flushing.{Told}
 use Rattle.wu_parts.specs.Holdings.{HoldParts}
 use Rattle.wu_parts.specs.Units.{DoUnits, DoesUnit, bare, bares, count_of, is_half_dead, next_job, place_of}
-use Rattle.wu_parts.specs.Working.{AreFew, IsBrokenIn, IsDamaged, IsRightJob, Tells, TellsJobs, TellsParts, is_idle}
+use Rattle.wu_parts.specs.Working.{AreFew, DoesWork, IsBrokenIn, IsDamaged, IsRightJob, Tells, TellsJobs, TellsParts, is_idle}
 use Rattle.wu_parts.proofs.LayoutUnits.{tells_after_unit}
 use Rattle.wu_parts.proofs.Policy.{picked_is}
 
@@ -203,3 +203,25 @@ few_left ranges contents n f e =
           (none_passes (is_half_dead ranges) contents.parts
           (mapped_none _ (position (is_half_dead ranges) contents.parts) either.1));
     }
+
+-- ---- all of the work
+
+pub layout_done : (ranges : Ranges) (n : ℕ) (old new : Contents) (before after : Told) (reads reads_now : Option (List ReadRange))
+    (is_file : ℕ → Bool) (text_of : ℕ → Text) (layout : Layout) → DoesWork ranges n old new before after reads reads_now
+    → IsLayoutOf is_file text_of layout → ranges ≡ ranges_by_number layout.files → Tells before.0 old layout
+    → (is_idle ranges new ≡ is_idle_in (work n layout)) × Tells after.0 new (work n layout)
+layout_done ranges n old new before after reads reads_now is_file text_of layout w d e t =
+    let tells : Tells after.0 new (work w.units layout) =
+    tells_work is_file text_of layout d w.units old new before after w.read
+    (subst (λ rs. DoUnits rs w.units old new before after w.read) e w.done) t in
+    let idle : is_idle ranges new ≡ is_idle_in (work w.units layout) =
+    ap (λ (rs : Ranges). is_idle rs new) e ∙ idle_tells is_file text_of layout w.units after.0 new d tells in
+    let same : work n layout ≡ work w.units layout =
+    ⊎_elim
+    (λ (l : w.units < n).
+    let more : is_idle_in (work w.units layout) ≡ true = sym idle ∙ w.all l in
+    ap (λ (m : ℕ). work m layout) (omega (arith, w.within))
+    ∙ work_idle w.units (n - w.units) layout more)
+    (λ (l : n ≤ w.units). ap (λ (m : ℕ). work m layout) (omega (arith, w.within)))
+    (cases_lt w.units n) in
+    (idle ∙ ap is_idle_in (sym same), subst (λ l. Tells after.0 new l) (sym same) tells)

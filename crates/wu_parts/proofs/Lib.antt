@@ -19,3 +19,5 @@ pub mod LayoutUnits
 pub mod UnitChains
 pub mod LayoutWork
 pub mod SoundParts
+pub mod NextJobs
+pub mod EndedJobs

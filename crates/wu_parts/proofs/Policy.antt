@@ -44,26 +44,26 @@ module _ {X Y : Type 0} (test : X → Bool) (other : Y → Bool) where
 abbrev SameGeneration : Part → Part → Type 0
 SameGeneration a b = a.generation ≡ b.generation
 
-pairs_alike : (as bs cs ds : List Part) → AllZip SameGeneration as bs → AllZip SameGeneration cs ds
-    → AllZip (λ p q. (p.0.generation == p.1.generation) ≡ (q.0.generation == q.1.generation)) (zip as cs) (zip bs ds)
+pairs_alike : (ls bs cs ds : List Part) → AllZip SameGeneration ls bs → AllZip SameGeneration cs ds
+    → AllZip (λ p q. (p.0.generation == p.1.generation) ≡ (q.0.generation == q.1.generation)) (zip ls cs) (zip bs ds)
 pairs_alike [] [] cs ds g h = tt
 pairs_alike [] (b ∷ bs) cs ds g h = absurd g
-pairs_alike (a ∷ as) [] cs ds g h = absurd g
-pairs_alike (a ∷ as) (b ∷ bs) [] [] g h = tt
-pairs_alike (a ∷ as) (b ∷ bs) [] (d ∷ ds) g h = absurd h
-pairs_alike (a ∷ as) (b ∷ bs) (c ∷ cs) [] g h = absurd h
-pairs_alike (a ∷ as) (b ∷ bs) (c ∷ cs) (d ∷ ds) g h = (ap₂ (λ (n m : ℕ). n == m) g.0 h.0, pairs_alike as bs cs ds g.1 h.1)
+pairs_alike (a ∷ ls) [] cs ds g h = absurd g
+pairs_alike (a ∷ ls) (b ∷ bs) [] [] g h = tt
+pairs_alike (a ∷ ls) (b ∷ bs) [] (d ∷ ds) g h = absurd h
+pairs_alike (a ∷ ls) (b ∷ bs) (c ∷ cs) [] g h = absurd h
+pairs_alike (a ∷ ls) (b ∷ bs) (c ∷ cs) (d ∷ ds) g h = (ap₂ (λ (n m : ℕ). n == m) g.0 h.0, pairs_alike ls bs cs ds g.1 h.1)
 
-later_alike : (as bs : List Part) → AllZip SameGeneration as bs → AllZip SameGeneration (drop 1 as) (drop 1 bs)
+later_alike : (ls bs : List Part) → AllZip SameGeneration ls bs → AllZip SameGeneration (drop 1 ls) (drop 1 bs)
 later_alike [] [] g = tt
 later_alike [] (b ∷ bs) g = absurd g
-later_alike (a ∷ as) [] g = absurd g
-later_alike (a ∷ as) (b ∷ bs) g = g.1
+later_alike (a ∷ ls) [] g = absurd g
+later_alike (a ∷ ls) (b ∷ bs) g = g.1
 
-pub neighbours_alike : (as bs : List Part) → AllZip SameGeneration as bs → alike_neighbours as ≡ alike_neighbours bs
-neighbours_alike as bs g =
+pub neighbours_alike : (ls bs : List Part) → AllZip SameGeneration ls bs → alike_neighbours ls ≡ alike_neighbours bs
+neighbours_alike ls bs g =
     position_alike (λ pair. pair.0.generation == pair.1.generation) (λ pair. pair.0.generation == pair.1.generation)
-    (zip as (drop 1 as)) (zip bs (drop 1 bs)) (pairs_alike as bs (drop 1 as) (drop 1 bs) g (later_alike as bs g))
+    (zip ls (drop 1 ls)) (zip bs (drop 1 bs)) (pairs_alike ls bs (drop 1 ls) (drop 1 bs) g (later_alike ls bs g))
 
 -- ---- half dead parts
 

@@ -1,11 +1,13 @@
 -- What several units of background work do, one after another.
-use Rattle.std.proofs.Common.{◌≡◌, ◌≢◌, ℕ, zero, suc, ◌+◌, ◌<◌, ◌≤◌, List, [], ◌∷◌, ◌++◌, length, map, take, drop, Option, Some, None, option_map, refl, ap, ap₂, sym, ◌∙◌, subst, arith, ⊎_elim, inl, inr, append-nil, append_assoc}
+use Rattle.std.proofs.Common.{◌≡◌, ◌≢◌, ℕ, zero, suc, ◌+◌, ◌-◌, ◌<◌, ◌≤◌, List, [], ◌∷◌, ◌++◌, length, map, take, drop, Option, Some, None, option_map, refl, ap, ap₂, sym, ◌∙◌, subst, arith, ⊎_elim, inl, inr, append-nil, append_assoc}
 use Rattle.std.specs.Prelude.{◌⊎◌, IfSome, zip}
 use Rattle.std.specs.List.{AllByRecursion}
 use Rattle.wu_base.specs.declared.addresses.PartRec.{PartRec}
 use Rattle.wu_outside.specs.Content.{Content, MayDo, with_blob}
 use Rattle.wu_outside.specs.Crash.{Moments, Put, try_change}
+use Rattle.wu_outside.specs.Faults.{Rose}
 use Rattle.wu_outside.specs.declared.ranges.ReadRange.{ReadRange}
+use Rattle.wu_base.specs.declared.troubles.Trouble.{Trouble}
 use Rattle.wu_layout.specs.Invariants.{SomeOf}
 use Rattle.wu_layout.proofs.HomeLemmas.{SomeOf-map}
 use Rattle.wu_layout.proofs.KeptLemmas.{SomeOf-cases}
@@ -13,11 +15,14 @@ use Rattle.wu_part.specs.Directories.{PartDirectory}
 use Rattle.wu_part.specs.Parts.{SpellsPart}
 use Rattle.wu_space.specs.Addresses.{Ranges}
 use Rattle.wu_job.specs.Jobs.{IsRight, JobState}
+use Rattle.wu_job.specs.Steps.{adds}
+use Rattle.wu_job.proofs.Fronts.{adds-more}
 use Rattle.wu_lists.specs.Causes.{IsNoPart}
 use Rattle.wu_parts.specs.Contents.{Contents, JobAt}
 use Rattle.wu_parts.specs.Flushing.{Told, put_into}
 use Rattle.wu_parts.specs.Units.{DoUnits, DoesUnit, GoesOn, IsMade, IsNext, Starts, Vanishes, count_of, parts_at, place_of, replaced, with_made, without_taken}
-use Rattle.wu_parts.specs.Working.{ChangesParts, IsBrokenIn, IsDamaged, IsRightJob, MayChange}
+use Rattle.wu_parts.specs.UnitsOfParts.{StopsUnit}
+use Rattle.wu_parts.specs.Working.{ChangesParts, IsBrokenIn, IsDamaged, IsRightJob, MayChange, StopsWork}
 use Rattle.wu_parts.proofs.HeldParts.{put_elsewhere, put_there, zip-drop, zip-take}
 use Rattle.wu_parts.proofs.LayoutUnits.{if_told}
 
@@ -302,3 +307,32 @@ module _ (ranges : Ranges) where
       of_told (Some content) e =
           let s = units_sound n old new before after read content e u in
           λ r. s.1.1.broken blob (if_told _ after.0 s.0 s.1.0 b (s.1.1.right r))
+
+-- ---- a unit that fails after some were done
+
+module _ {X : Type 0} (step : ℕ → Option (List ℕ) → X → X) where
+  pub changed_after : (low n k blob : ℕ) (written : Option (List ℕ)) (old middle new : Option X) → k < n → low ≤ blob → blob ≤ low + k
+      → MayChange step low (low + k) k old middle → MayDo (step blob written) middle new → MayChange step low (low + n) n old new
+  changed_after low n k blob written old middle new l least most c d =
+      may_all step low (suc k) n (n - suc k) old new (omega (arith, l)) (may_next step low k blob written old middle new least most c d)
+
+pub stops_after : (ranges : Ranges) (n k : ℕ) (old middle : Contents) (before told : Told) (read : List ReadRange) (was mid now : ℕ)
+    (reads reads_mid reads_now : Option (List ReadRange)) (trouble : Trouble) → k < n → DoUnits ranges k old middle before told read
+    → reads_mid ≡ adds read reads → mid ≡ was → StopsUnit ranges middle told.0 mid now reads_mid reads_now trouble
+    → StopsWork ranges n old before was now reads reads_now trouble
+stops_after ranges n k old middle before told read was mid now reads reads_mid reads_now trouble l u e f s = record {
+  counted = omega (arith, s.counted, f);
+  store_fault = λ fault. subst (λ m. Rose m now) f (s.store_fault fault);
+  calm = λ other. s.calm other ∙ f;
+  done = k;
+  fewer = l;
+  reached = middle;
+  stored = told;
+  read = read;
+  units_done = u;
+  last = s.last;
+  some = s.some;
+  read_are = s.read_are ∙ ap (adds s.last) e ∙ adds-more read s.last reads;
+  was_read = s.was_read;
+  damaged = λ blob d. damaged_before ranges k old middle before told read blob u (s.damaged blob d);
+}

@@ -61,6 +61,16 @@ MayChange {X} step low high (suc n) old new =
     (middle : Option X) × (blob : ℕ) × (written : Option (List ℕ)) × MayChange step low high n old middle
     × ((low ≤ blob) × (blob < high)) × MayDo (step blob written) middle new
 
+-- at most so many units were done, and fewer only where there was no more to do; nothing else was read
+pub record DoesWork (ranges : Ranges) (most : ℕ) (old new : Contents) (before after : Told) (reads reads_now : Option (List ReadRange))
+    : Type 0 where
+  pub units : ℕ
+  pub within : units ≤ most
+  pub all : units < most → is_idle ranges new ≡ true
+  pub read : List ReadRange
+  pub done : DoUnits ranges units old new before after read
+  pub read_are : reads_now ≡ adds read reads
+
 -- ---- troubles
 
 -- the part is in that blob, and what the content has of the blob isn't a part with its directory

@@ -5,8 +5,6 @@ ghost use Rattle.std.specs.List.Sorted.{IsStrictlyIncreasing};
 ghost use Rattle.std.specs.Map.{keys_of};
 ghost use Rattle.wu_base.specs.declared.reports.Worked.TheVariants.{Idle as NothingLeft};
 ghost use Rattle.wu_base.specs.declared.troubles.Trouble.TheVariants.{Damaged};
-ghost use Rattle.wu_outside.specs.declared.ranges.ReadRange.{ReadRange};
-ghost use Rattle.wu_job.specs.Steps.{adds};
 ghost use Rattle.wu_layout.specs.Invariants.{IsLayoutOf};
 ghost use Rattle.wu_layout.specs.Layouts.{Layout, Part, Text, ranges_by_number, stored_in as postings_in};
 ghost use Rattle.wu_layout.specs.Steps.{is_idle, work as units_done};
@@ -70,9 +68,8 @@ impl Model for Parts {
 
 impl Parts {
     ghost use Rattle.wu_parts.specs.StoredParts.{IsKeptJob, running_at};
-    ghost use Rattle.wu_parts.specs.Units.{DoUnits};
     ghost use Rattle.wu_parts.specs.UnitsOfParts.{EndsJob, FindsJob, IsStep, IsUnit, Replaces, StopsStep, StopsUnit};
-    ghost use Rattle.wu_parts.specs.Working.{AreFew, ChangesParts, MayChange, StopsWork, Tells, answer_of, is_idle as is_idle_by};
+    ghost use Rattle.wu_parts.specs.Working.{AreFew, ChangesParts, DoesWork, MayChange, StopsWork, Tells, answer_of, is_idle as is_idle_by};
 
     /// No postings and no parts. Memory is full at `flush_at` postings; `next_blob` is the first number that
     /// [`Parts::draw_blob`] gives. The only error is out of memory.
@@ -231,11 +228,8 @@ impl Parts {
         requires blob { self.old.next_blob + n < 2 ^ 63 }
         requires space { space.now.next ≤ ADDRESSES_MAX }
         ensures answer { IfOk result (λ worked. worked ≡ answer_of (is_idle_by space.now.ranges self.new)) }
-        ensures units { OnOk result ((units : ℕ) × (read : List ReadRange) × (units ≤ n)
-            × ((units < n → is_idle_by space.now.ranges self.new ≡ true)
-            × (DoUnits space.now.ranges units self.old self.new (D.holds store.old, D.moments store.old)
-            (D.holds store.new, D.moments store.new) read
-            × (D.reads store.new ≡ adds read (D.reads store.old))))) }
+        ensures units { OnOk result (DoesWork space.now.ranges n self.old self.new (D.holds store.old, D.moments store.old)
+            (D.holds store.new, D.moments store.new) (D.reads store.old) (D.reads store.new)) }
         ensures changes { OnOk result (ChangesParts n self.old self.new) }
         ensures few { IfOk result (λ worked. worked ≡ NothingLeft → AreFew space.now.ranges self.new) }
 
@@ -254,17 +248,35 @@ impl Parts {
         ensures stops { IfErr result (StopsWork space.now.ranges n self.old (D.holds store.old, D.moments store.old)
             (D.faults store.old) (D.faults store.new) (D.reads store.old) (D.reads store.new)) }
     {
-        for _ in 0..n {
+        self.units(store, space, n)?;
+        Ok(self.answer(space))
+    }
+
+    /// Does up to `n` units of background work, fewer only where there is no more to do.
+    fn units<D: Store>(&mut self, store: &mut D, space: &Space, n: u32) -> Result<(), Trouble>
+        requires blob { self.old.next_blob + n < 2 ^ 63 }
+        requires space { space.now.next ≤ ADDRESSES_MAX }
+        ensures units { OnOk result (DoesWork space.now.ranges n self.old self.new (D.holds store.old, D.moments store.old)
+            (D.holds store.new, D.moments store.new) (D.reads store.old) (D.reads store.new)) }
+        ensures elsewhere { MayChange with_blob self.old.next_blob (self.old.next_blob + n) n (D.holds store.old) (D.holds store.new) }
+        ensures tried { MayChange (λ blob written. try_change (Put blob) (with_blob blob written)) self.old.next_blob
+            (self.old.next_blob + n) n (D.moments store.old) (D.moments store.new) }
+        ensures calm { OnOk result (D.faults store.new ≡ D.faults store.old) }
+        ensures stops { IfErr result (StopsWork space.now.ranges n self.old (D.holds store.old, D.moments store.old)
+            (D.faults store.old) (D.faults store.new) (D.reads store.old) (D.reads store.new)) }
+    {
+        for _done in 0..n {
             if !self.unit(store, space)? {
-                return Ok(Worked::Idle);
+                return Ok(());
             }
         }
-        Ok(self.answer(space))
+        Ok(())
     }
 
     /// Whether there is background work to do.
     fn answer(&self, space: &Space) -> Worked
-        ensures { result ≡ answer_of (is_idle_by space.now.ranges self.now) }
+        ensures answer { result ≡ answer_of (is_idle_by space.now.ranges self.now) }
+        ensures few { result ≡ NothingLeft → AreFew space.now.ranges self.now }
     {
         if self.job.is_none() && next_job(self.parts.as_slice(), space).is_none() {
             Worked::Idle

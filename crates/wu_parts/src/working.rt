@@ -49,9 +49,9 @@ pub(crate) fn next_job(parts: &[StoredPart], space: &Space) -> Option<NextJob>
 fn alike_neighbours(parts: &[StoredPart]) -> Option<usize>
     ensures { result ≡ alike_in (bares (records_of parts.now)) }
 {
-    for place in 1..parts.len() {
-        if parts[place - 1].recorded.generation == parts[place].recorded.generation {
-            return Some(place - 1);
+    for place in 0..parts.len().saturating_sub(1) {
+        if parts[place].recorded.generation == parts[place + 1].recorded.generation {
+            return Some(place);
         }
     }
     None

@@ -1,0 +1,96 @@
+-- The first two parts alike, found one after another; parts taken out one by one.
+use Rattle.std.proofs.Common.{◌≡◌, ℕ, zero, suc, ◌+◌, ◌<◌, ◌≤◌, ◌==◌, Bool, true, false, List, [], ◌∷◌, ◌++◌, length, map, take, drop, get_or, remove, Option, Some, None, option_map, refl, ap, ap₂, sym, ◌∙◌, subst, arith}
+use Rattle.std.specs.Prelude.{zip}
+use Rattle.wu_layout.specs.Layouts.{Part}
+use Rattle.wu_layout.specs.Steps.{alike_neighbours}
+use Rattle.wu_layout.proofs.Picks.{alike, first_here, first_later}
+use Rattle.wu_parts.specs.StoredParts.{records_of}
+use Rattle.wu_parts.specs.Units.{bares, replaced}
+use Rattle.wu_parts.specs.declared.writing.StoredPart.{StoredPart}
+
+abbrev pub alike_of : List StoredPart → Option ℕ
+alike_of parts = alike_neighbours (bares (records_of parts))
+
+pub alike_later : (parts : List StoredPart) (place : ℕ) (a b : StoredPart) → place + 1 < length parts → a ≡ get_or parts place a
+    → b ≡ get_or parts (place + 1) b → (a.recorded.generation == b.recorded.generation) ≡ false
+    → alike_of (drop place parts) ≡ option_map (λ k. suc k) (alike_of (drop (place + 1) parts))
+alike_later [] place a b l e f g = absurd (omega (arith, l))
+alike_later (x ∷ []) place a b l e f g = absurd (omega (arith, l))
+alike_later (x ∷ y ∷ parts) zero a b l e f g =
+    first_later alike _ (zip (bares (records_of (y ∷ parts))) (bares (records_of parts)))
+    (ap₂ (λ (n m : ℕ). n == m) (sym (ap (λ (p : StoredPart). p.recorded.generation) e))
+    (sym (ap (λ (p : StoredPart). p.recorded.generation) f)) ∙ g)
+alike_later (x ∷ y ∷ parts) (suc place) a b l e f g = alike_later (y ∷ parts) place a b (omega (arith, l)) e f g
+
+pub alike_here : (parts : List StoredPart) (place : ℕ) (a b : StoredPart) → place + 1 < length parts → a ≡ get_or parts place a
+    → b ≡ get_or parts (place + 1) b → (a.recorded.generation == b.recorded.generation) ≡ true → alike_of (drop place parts) ≡ Some 0
+alike_here [] place a b l e f g = absurd (omega (arith, l))
+alike_here (x ∷ []) place a b l e f g = absurd (omega (arith, l))
+alike_here (x ∷ y ∷ parts) zero a b l e f g =
+    first_here alike _ (zip (bares (records_of (y ∷ parts))) (bares (records_of parts)))
+    (ap₂ (λ (n m : ℕ). n == m) (sym (ap (λ (p : StoredPart). p.recorded.generation) e))
+    (sym (ap (λ (p : StoredPart). p.recorded.generation) f)) ∙ g)
+alike_here (x ∷ y ∷ parts) (suc place) a b l e f g = alike_here (y ∷ parts) place a b (omega (arith, l)) e f g
+
+pub alike_few : (parts : List StoredPart) → length parts ≤ 1 → alike_of parts ≡ None
+alike_few [] l = refl
+alike_few (x ∷ []) l = refl
+alike_few (x ∷ y ∷ parts) l = absurd (omega (arith, l))
+
+pub from_zero : (o : Option ℕ) → option_map (λ k. 0 + k) o ≡ o
+from_zero None = refl
+from_zero (Some k) = refl
+
+pub one_further : (n : ℕ) (o : Option ℕ) → option_map (λ k. n + k) (option_map (λ k. suc k) o) ≡ option_map (λ k. (n + 1) + k) o
+one_further n None = refl
+one_further n (Some k) = ap (λ (m : ℕ). Some m) (omega arith)
+
+-- ---- one more taken out
+
+module _ {X : Type 0} where
+  take_next : (n : ℕ) (xs : List X) (x : X) → n < length xs → x ≡ get_or xs n x → take (n + 1) xs ≡ take n xs ++ x ∷ []
+  take_next n [] x l e = absurd (omega (arith, l))
+  take_next zero (y ∷ xs) x l e = ap (λ (z : X). z ∷ []) (sym e)
+  take_next (suc n) (y ∷ xs) x l e = ap (λ (zs : List X). y ∷ zs) (take_next n xs x (omega (arith, l)) e)
+
+  drop_next : (n : ℕ) (xs : List X) → drop 1 (drop n xs) ≡ drop (n + 1) xs
+  drop_next zero xs = refl
+  drop_next (suc n) [] = refl
+  drop_next (suc n) (x ∷ xs) = drop_next n xs
+
+  removed_back : (place : ℕ) (xs ys : List X) → place ≤ length xs → remove (take place xs ++ ys) place ≡ take place xs ++ drop 1 ys
+  removed_back zero xs ys l = refl
+  removed_back (suc place) [] ys l = absurd (omega (arith, l))
+  removed_back (suc place) (x ∷ xs) ys l = ap (λ (zs : List X). x ∷ zs) (removed_back place xs ys (omega (arith, l)))
+
+  got_back : (place : ℕ) (xs ys : List X) (x : X) → place ≤ length xs → get_or (take place xs ++ ys) place x ≡ get_or ys 0 x
+  got_back zero xs ys x l = refl
+  got_back (suc place) [] ys x l = absurd (omega (arith, l))
+  got_back (suc place) (y ∷ xs) ys x l = got_back place xs ys x (omega (arith, l))
+
+  got_first : (n : ℕ) (ys : List X) (x : X) → get_or (drop n ys) 0 x ≡ get_or ys n x
+  got_first zero ys x = refl
+  got_first (suc n) [] x = refl
+  got_first (suc n) (y ∷ ys) x = got_first n ys x
+
+  pub one_out : (place n : ℕ) (old now new : List X) → place ≤ length old → now ≡ replaced place n [] old → new ≡ remove now place
+      → new ≡ replaced place (n + 1) [] old
+  one_out place n old now new l e f =
+      f
+      ∙ ap (λ (xs : List X). remove xs place) e
+      ∙ removed_back place old (drop n (drop place old)) l
+      ∙ ap (λ (xs : List X). take place old ++ xs) (drop_next n (drop place old))
+
+  pub which_out : (place n : ℕ) (old now : List X) (x : X) → place + n < length old → now ≡ replaced place n [] old → x ≡ get_or now place x
+      → take (n + 1) (drop place old) ≡ take n (drop place old) ++ x ∷ []
+  which_out place n old now x l e g =
+      take_next n (drop place old) x (long place old l)
+      (g
+      ∙ ap (λ (xs : List X). get_or xs place x) e
+      ∙ got_back place old (drop n (drop place old)) x (omega (arith, l))
+      ∙ got_first n (drop place old) x)
+    where
+      long : (place : ℕ) (old : List X) → place + n < length old → n < length (drop place old)
+      long zero old l = l
+      long (suc place) [] l = absurd (omega (arith, l))
+      long (suc place) (x ∷ old) l = long place old (omega (arith, l))
