@@ -31,12 +31,12 @@ insert_back {X} place old ys now new x l e f = f ∙ ap (λ (zs : List X). inser
     back (suc place) (y ∷ old) l = ap (λ (zs : List X). y ∷ zs) (back place old (omega (arith, l)))
 
 module _ (place count : ℕ) (parts : List StoredPart) where
-  bares_before : take place (bares (records_of parts)) ≡ bares (records_of (take place parts))
+  pub bares_before : take place (bares (records_of parts)) ≡ bares (records_of (take place parts))
   bares_before =
       sym (map-take bare place (records_of parts))
       ∙ ap bares (sym (map-take (λ (p : StoredPart). p.recorded) place parts))
 
-  bares_taken : take count (drop place (bares (records_of parts))) ≡ bares (records_of (take count (drop place parts)))
+  pub bares_taken : take count (drop place (bares (records_of parts))) ≡ bares (records_of (take count (drop place parts)))
   bares_taken =
       ap (take count) (sym (map-drop bare place (records_of parts)))
       ∙ sym (map-take bare count (drop place (records_of parts)))

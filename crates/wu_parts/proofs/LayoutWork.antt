@@ -40,7 +40,7 @@ unit_idle layout e = ap (λ (o : Option Job). unit_of o layout) (none_of_idle (j
 
 -- where there is no more to do, more units change nothing
 pub work_idle : (n k : ℕ) (layout : Layout) → is_idle_in (work n layout) ≡ true → work (k + n) layout ≡ work n layout
-work_idle n zero layout e = refl
+work_idle n zero layout e = ap (λ (m : ℕ). work m layout) (omega arith)
 work_idle n (suc k) layout e =
     let rest : work (k + n) layout ≡ work n layout = work_idle n k layout e in
     ap (λ (m : ℕ). work m layout) (omega arith)

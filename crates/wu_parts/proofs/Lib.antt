@@ -21,3 +21,4 @@ pub mod LayoutWork
 pub mod SoundParts
 pub mod NextJobs
 pub mod EndedJobs
+pub mod StartedParts

@@ -11,26 +11,41 @@ use Rattle.wu_parts.specs.declared.writing.StoredPart.{StoredPart}
 abbrev pub alike_of : List StoredPart → Option ℕ
 alike_of parts = alike_neighbours (bares (records_of parts))
 
-pub alike_later : (parts : List StoredPart) (place : ℕ) (a b : StoredPart) → place + 1 < length parts → a ≡ get_or parts place a
-    → b ≡ get_or parts (place + 1) b → (a.recorded.generation == b.recorded.generation) ≡ false
-    → alike_of (drop place parts) ≡ option_map (λ k. suc k) (alike_of (drop (place + 1) parts))
-alike_later [] place a b l e f g = absurd (omega (arith, l))
-alike_later (x ∷ []) place a b l e f g = absurd (omega (arith, l))
-alike_later (x ∷ y ∷ parts) zero a b l e f g =
-    first_later alike _ (zip (bares (records_of (y ∷ parts))) (bares (records_of parts)))
-    (ap₂ (λ (n m : ℕ). n == m) (sym (ap (λ (p : StoredPart). p.recorded.generation) e))
-    (sym (ap (λ (p : StoredPart). p.recorded.generation) f)) ∙ g)
-alike_later (x ∷ y ∷ parts) (suc place) a b l e f g = alike_later (y ∷ parts) place a b (omega (arith, l)) e f g
+module _ (a b : StoredPart) where
+  later_at : (parts : List StoredPart) (place : ℕ) → suc place < length parts → a ≡ get_or parts place a → b ≡ get_or parts (suc place) b
+      → (a.recorded.generation == b.recorded.generation) ≡ false
+      → alike_of (drop place parts) ≡ option_map (λ k. suc k) (alike_of (drop (suc place) parts))
+  later_at [] place l e f g = absurd (omega (arith, l))
+  later_at (x ∷ []) place l e f g = absurd (omega (arith, l))
+  later_at (x ∷ y ∷ parts) zero l e f g =
+      first_later alike _ (zip (bares (records_of (y ∷ parts))) (bares (records_of parts)))
+      (ap₂ (λ (n m : ℕ). n == m) (sym (ap (λ (p : StoredPart). p.recorded.generation) e))
+      (sym (ap (λ (p : StoredPart). p.recorded.generation) f)) ∙ g)
+  later_at (x ∷ y ∷ parts) (suc place) l e f g = later_at (y ∷ parts) place (omega (arith, l)) e f g
 
-pub alike_here : (parts : List StoredPart) (place : ℕ) (a b : StoredPart) → place + 1 < length parts → a ≡ get_or parts place a
-    → b ≡ get_or parts (place + 1) b → (a.recorded.generation == b.recorded.generation) ≡ true → alike_of (drop place parts) ≡ Some 0
-alike_here [] place a b l e f g = absurd (omega (arith, l))
-alike_here (x ∷ []) place a b l e f g = absurd (omega (arith, l))
-alike_here (x ∷ y ∷ parts) zero a b l e f g =
-    first_here alike _ (zip (bares (records_of (y ∷ parts))) (bares (records_of parts)))
-    (ap₂ (λ (n m : ℕ). n == m) (sym (ap (λ (p : StoredPart). p.recorded.generation) e))
-    (sym (ap (λ (p : StoredPart). p.recorded.generation) f)) ∙ g)
-alike_here (x ∷ y ∷ parts) (suc place) a b l e f g = alike_here (y ∷ parts) place a b (omega (arith, l)) e f g
+  here_at : (parts : List StoredPart) (place : ℕ) → suc place < length parts → a ≡ get_or parts place a → b ≡ get_or parts (suc place) b
+      → (a.recorded.generation == b.recorded.generation) ≡ true → alike_of (drop place parts) ≡ Some 0
+  here_at [] place l e f g = absurd (omega (arith, l))
+  here_at (x ∷ []) place l e f g = absurd (omega (arith, l))
+  here_at (x ∷ y ∷ parts) zero l e f g =
+      first_here alike _ (zip (bares (records_of (y ∷ parts))) (bares (records_of parts)))
+      (ap₂ (λ (n m : ℕ). n == m) (sym (ap (λ (p : StoredPart). p.recorded.generation) e))
+      (sym (ap (λ (p : StoredPart). p.recorded.generation) f)) ∙ g)
+  here_at (x ∷ y ∷ parts) (suc place) l e f g = here_at (y ∷ parts) place (omega (arith, l)) e f g
+
+  module _ (parts : List StoredPart) (place : ℕ) (l : place + 1 < length parts) (e : a ≡ get_or parts place a)
+      (f : b ≡ get_or parts (place + 1) b) where
+    next_at : b ≡ get_or parts (suc place) b
+    next_at = f ∙ ap (λ (n : ℕ). get_or parts n b) (omega arith)
+
+    pub alike_later : (a.recorded.generation == b.recorded.generation) ≡ false
+        → alike_of (drop place parts) ≡ option_map (λ k. suc k) (alike_of (drop (place + 1) parts))
+    alike_later g =
+        later_at parts place (omega (arith, l)) e next_at g
+        ∙ ap (λ (n : ℕ). option_map (λ (k : ℕ). suc k) (alike_of (drop n parts))) (omega arith)
+
+    pub alike_here : (a.recorded.generation == b.recorded.generation) ≡ true → alike_of (drop place parts) ≡ Some 0
+    alike_here g = here_at parts place (omega (arith, l)) e next_at g
 
 pub alike_few : (parts : List StoredPart) → length parts ≤ 1 → alike_of parts ≡ None
 alike_few [] l = refl
@@ -39,7 +54,7 @@ alike_few (x ∷ y ∷ parts) l = absurd (omega (arith, l))
 
 pub from_zero : (o : Option ℕ) → option_map (λ k. 0 + k) o ≡ o
 from_zero None = refl
-from_zero (Some k) = refl
+from_zero (Some k) = ap (λ (m : ℕ). Some m) (omega arith)
 
 pub one_further : (n : ℕ) (o : Option ℕ) → option_map (λ k. n + k) (option_map (λ k. suc k) o) ≡ option_map (λ k. (n + 1) + k) o
 one_further n None = refl
@@ -48,12 +63,12 @@ one_further n (Some k) = ap (λ (m : ℕ). Some m) (omega arith)
 -- ---- one more taken out
 
 module _ {X : Type 0} where
-  take_next : (n : ℕ) (xs : List X) (x : X) → n < length xs → x ≡ get_or xs n x → take (n + 1) xs ≡ take n xs ++ x ∷ []
+  take_next : (n : ℕ) (xs : List X) (x : X) → n < length xs → x ≡ get_or xs n x → take (suc n) xs ≡ take n xs ++ x ∷ []
   take_next n [] x l e = absurd (omega (arith, l))
   take_next zero (y ∷ xs) x l e = ap (λ (z : X). z ∷ []) (sym e)
   take_next (suc n) (y ∷ xs) x l e = ap (λ (zs : List X). y ∷ zs) (take_next n xs x (omega (arith, l)) e)
 
-  drop_next : (n : ℕ) (xs : List X) → drop 1 (drop n xs) ≡ drop (n + 1) xs
+  drop_next : (n : ℕ) (xs : List X) → drop 1 (drop n xs) ≡ drop (suc n) xs
   drop_next zero xs = refl
   drop_next (suc n) [] = refl
   drop_next (suc n) (x ∷ xs) = drop_next n xs
@@ -79,18 +94,19 @@ module _ {X : Type 0} where
       f
       ∙ ap (λ (xs : List X). remove xs place) e
       ∙ removed_back place old (drop n (drop place old)) l
-      ∙ ap (λ (xs : List X). take place old ++ xs) (drop_next n (drop place old))
+      ∙ ap (λ (xs : List X). take place old ++ xs) (drop_next n (drop place old) ∙ ap (λ (m : ℕ). drop m (drop place old)) (omega arith))
 
   pub which_out : (place n : ℕ) (old now : List X) (x : X) → place + n < length old → now ≡ replaced place n [] old → x ≡ get_or now place x
       → take (n + 1) (drop place old) ≡ take n (drop place old) ++ x ∷ []
   which_out place n old now x l e g =
-      take_next n (drop place old) x (long place old l)
+      ap (λ (m : ℕ). take m (drop place old)) (omega arith)
+      ∙ take_next n (drop place old) x (long place old l)
       (g
       ∙ ap (λ (xs : List X). get_or xs place x) e
       ∙ got_back place old (drop n (drop place old)) x (omega (arith, l))
       ∙ got_first n (drop place old) x)
     where
       long : (place : ℕ) (old : List X) → place + n < length old → n < length (drop place old)
-      long zero old l = l
+      long zero old l = omega (arith, l)
       long (suc place) [] l = absurd (omega (arith, l))
       long (suc place) (x ∷ old) l = long place old (omega (arith, l))

@@ -5,7 +5,7 @@ use Rattle.std.specs.List.{AllByRecursion, AllZip, position_or_len}
 use Rattle.wu_base.specs.declared.addresses.PartRec.{PartRec}
 use Rattle.wu_base.specs.declared.addresses.Range.{Range}
 use Rattle.wu_outside.specs.Content.{Content}
-use Rattle.wu_layout.specs.Layouts.{FileEntry, Part, Layout, Text, ranges_by_number, ranges_of, stored_in}
+use Rattle.wu_layout.specs.Layouts.{FileEntry, Part, Layout, Text, first_address, ranges_by_number, ranges_of, stored_in}
 use Rattle.wu_layout.specs.Postings.{Ascend, live_of}
 use Rattle.wu_layout.specs.Invariants.{IsLayoutOf}
 use Rattle.wu_layout.specs.Steps.{alike_neighbours, is_half_dead as half_dead_in, job_at, pick}
@@ -27,7 +27,7 @@ module _ {X Y : Type 0} (test : X → Bool) (other : Y → Bool) where
   found_alike [] [] h = refl
   found_alike [] (y ∷ ys) h = absurd h
   found_alike (x ∷ xs) [] h = absurd h
-  found_alike (x ∷ xs) (y ∷ ys) h = ap₂ (λ (b : Bool) (n : ℕ). cond b 0 (1 + n)) h.0 (found_alike xs ys h.1)
+  found_alike (x ∷ xs) (y ∷ ys) h = ap₂ (λ (b : Bool) (n : ℕ). cond (not b) (1 + n) 0) h.0 (found_alike xs ys h.1)
 
   long_alike : (xs : List X) (ys : List Y) → AllZip (λ x y. test x ≡ other y) xs ys → length xs ≡ length ys
   long_alike [] [] h = refl
@@ -84,7 +84,7 @@ module _ (is_file : ℕ → Bool) (text_of : ℕ → Text) (layout : Layout) (co
       let split = Ascend-split low high part.postings (stored_in parts) a in
       let span : IsSpan r.low r.high part.postings =
       subst (λ n. IsSpan n r.high part.postings) (sym h.0.record_of.low)
-      (subst (λ n. IsSpan _ n part.postings) (sym h.0.record_of.high) (span_of low split.0 part.postings split.1.0 f.0)) in
+      (subst (λ n. IsSpan (first_address part.postings) n part.postings) (sym h.0.record_of.high) (span_of low split.0 part.postings split.1.0 f.0)) in
       let live : live_in ranges r.low r.high ≡ length (live_of (ranges_of layout.files) part.postings) =
       live_in_part is_file text_of layout r.low r.high d before part parts e span in (
         ap₂ (λ (n m : ℕ). nat_le (2 * n) m) live h.0.record_of.stored ∙ sym (half_dead_by_numbers (ranges_of layout.files) part),
@@ -116,3 +116,10 @@ module _ (is_file : ℕ → Bool) (text_of : ℕ → Text) (layout : Layout) (co
         named None None = refl
         named None (Some p) = refl
         named (Some o) p = refl
+
+pub position-map : {X Y : Type 0} (f : X → Y) (test : Y → Bool) (xs : List X) → position (λ x. test (f x)) xs ≡ position test (map f xs)
+position-map {X} {Y} f test xs = position_alike (λ x. test (f x)) test xs (map f xs) (same xs)
+  where
+    same : (xs : List X) → AllZip (λ x y. test (f x) ≡ test y) xs (map f xs)
+    same [] = tt
+    same (x ∷ xs) = (refl, same xs)

@@ -83,7 +83,7 @@ room_of_job parts job r =
     let count : ℕ = length job.state.parts in
     let number : count ≡ length (take count (drop job.place parts)) =
     ap (λ (ps : List JobPart). length ps) (r.parts ∙ parts_at_stored job.place count parts)
-    ∙ length-map job_part (take count (drop job.place parts)) in
+    ∙ length-map (take count (drop job.place parts)) job_part in
     let some : 0 < length (take count (drop job.place (bares (records_of parts)))) =
     some_taken (take job.place (bares (records_of parts))) (take count (drop job.place (bares (records_of parts)))) r.taken in
     omega (
@@ -93,6 +93,9 @@ room_of_job parts job r =
       length-take count (drop job.place parts),
       length-drop job.place parts,
       length-take count (drop job.place (bares (records_of parts))),
+      length-drop job.place (bares (records_of parts)),
+      length-map (records_of parts) bare,
+      length-map parts (λ (p : StoredPart). p.recorded),
     )
 
 running_pushed : (parts : List StoredPart) (part : StoredPart) (job : JobAt) → IsRunning (records_of parts) (directories_of parts) job
@@ -101,7 +104,7 @@ running_pushed parts part job r =
     let count : ℕ = length job.state.parts in
     let room : job.place + count ≤ length parts = room_of_job parts job r in
     let long : length (bares (records_of parts)) ≡ length parts =
-    length-map bare (records_of parts) ∙ length-map (λ (p : StoredPart). p.recorded) parts in
+    length-map (records_of parts) bare ∙ length-map parts (λ (p : StoredPart). p.recorded) in
     let all : bares (records_of (parts ++ part ∷ [])) ≡ bares (records_of parts) ++ bare part.recorded ∷ [] =
     ap bares (records-push parts part) ∙ map-append bare (records_of parts) (part.recorded ∷ []) in
     let before : take job.place (bares (records_of (parts ++ part ∷ []))) ≡ take job.place (bares (records_of parts)) =
@@ -308,8 +311,8 @@ module _ (low next flushes place count : ℕ) (parts : List StoredPart) (stored 
       omega (
         arith,
         some_taken (bares (records_of before)) (bares (records_of taken)) may,
-        length-map bare (records_of taken),
-        length-map (λ (p : StoredPart). p.recorded) taken,
+        length-map (records_of taken) bare,
+        length-map taken (λ (p : StoredPart). p.recorded),
       ) in
       let own_told : AllByRecursion (λ p. IsRecorded p.recorded p.directory) taken =
       each-take (λ (p : StoredPart). IsRecorded p.recorded p.directory) count (drop place parts)

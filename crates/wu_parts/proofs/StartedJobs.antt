@@ -182,7 +182,7 @@ module _ (is_file : ℕ → Bool) (text_of : ℕ → Text) (layout : Layout) (co
   pub own_number : length running.state.parts ≡ count
   own_number =
       ap length (own_parts ∙ own_joined)
-      ∙ length-map _ (zip (take count (drop place contents.parts)) (take count (drop place contents.directories)))
+      ∙ length-map (zip (take count (drop place contents.parts)) (take count (drop place contents.directories))) _
       ∙ hold-length content (take count (drop place contents.parts)) (take count (drop place contents.directories)) taken own_held
       ∙ under_way.number
 
@@ -226,7 +226,7 @@ module _ (is_file : ℕ → Bool) (text_of : ℕ → Text) (layout : Layout) (co
       let high = highest (joined records directories) in
       let span : Ascend low (high + 1) (stored_in taken) =
       up_to_highest content records directories taken low b.1 own_held filled some
-      (from_lowest content records directories taken b.0 b.1 own_held filled some b.2.1) in
+      (from_lowest content records directories taken b.0 b.1 own_held filled some b.3) in
       let met : IsPermutation (live_ranges (ranges_by_number layout.files) low high) running.state.live =
       subst (λ (ps : List JobPart). IsPermutation (live_ranges (ranges_by_number layout.files) (lowest ps) (highest ps)) running.state.live)
       (own_parts ∙ own_joined) s.live in

@@ -115,13 +115,13 @@ module _ (ranges : Ranges) where
   unit_puts old new before after read u =
       ⊎_elim
       (λ (g : GoesOn u.job.place u.state old new before after).
-      (None, inl (ap (λ (t : Told). t.0) g.stored), inl (ap (λ (t : Told). t.1) g.stored)))
+      (None, (inl (ap (λ (t : Told). t.0) g.stored), inl (ap (λ (t : Told). t.1) g.stored))))
       (λ l.
       ⊎_elim
       (λ (v : Vanishes u.job.place u.state old new before after).
-      (None, inl (ap (λ (t : Told). t.0) v.stored), inl (ap (λ (t : Told). t.1) v.stored)))
+      (None, (inl (ap (λ (t : Told). t.0) v.stored), inl (ap (λ (t : Told). t.1) v.stored))))
       (λ (m : IsMade u.job.place u.state old new before after).
-      (Some m.bytes, inr (ap (λ (t : Told). t.0) m.stored), inr (ap (λ (t : Told). t.1) m.stored)))
+      (Some m.bytes, (inr (ap (λ (t : Told). t.0) m.stored), inr (ap (λ (t : Told). t.1) m.stored))))
       l)
       u.leaves
 

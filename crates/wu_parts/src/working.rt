@@ -98,7 +98,8 @@ fn start_merge(
     place: usize,
     space: &Space,
 ) -> Result<Running, NoMemory>
-    requires named { alike_in (bares (records_of parts.now)) ≡ Some place }
+    requires place { place + 1 < length parts.now }
+    requires alike { alike_in (bares (records_of parts.now)) ≡ Some place }
     requires space { space.now.next ≤ ADDRESSES_MAX }
     requires parts { MayBeMerged parts.now }
     ensures { IfOk result (IsStarted space.now.ranges parts.now (MergeAt place)) }
