@@ -40,10 +40,11 @@ unit_idle layout e = ap (λ (o : Option Job). unit_of o layout) (none_of_idle (j
 
 -- where there is no more to do, more units change nothing
 pub work_idle : (n k : ℕ) (layout : Layout) → is_idle_in (work n layout) ≡ true → work (k + n) layout ≡ work n layout
-work_idle n zero layout e = ap (λ (m : ℕ). work m layout) (omega arith)
+work_idle n zero layout e = let same : 0 + n ≡ n = omega arith in ap (λ (m : ℕ). work m layout) same
 work_idle n (suc k) layout e =
     let rest : work (k + n) layout ≡ work n layout = work_idle n k layout e in
-    ap (λ (m : ℕ). work m layout) (omega arith)
+    let more : suc k + n ≡ suc (k + n) = omega arith in
+    ap (λ (m : ℕ). work m layout) more
     ∙ work_more (k + n) layout
     ∙ ap unit rest
     ∙ unit_idle (work n layout) e
@@ -220,8 +221,9 @@ layout_done ranges n old new before after reads reads_now is_file text_of layout
     ⊎_elim
     (λ (l : w.units < n).
     let more : is_idle_in (work w.units layout) ≡ true = sym idle ∙ w.all l in
-    ap (λ (m : ℕ). work m layout) (omega (arith, w.within))
+    let sum : n ≡ (n - w.units) + w.units = omega (arith, w.within) in
+    ap (λ (m : ℕ). work m layout) sum
     ∙ work_idle w.units (n - w.units) layout more)
-    (λ (l : n ≤ w.units). ap (λ (m : ℕ). work m layout) (omega (arith, w.within)))
+    (λ (l : n ≤ w.units). let equal : n ≡ w.units = omega (arith, w.within) in ap (λ (m : ℕ). work m layout) equal)
     (cases_lt w.units n) in
     (idle ∙ ap is_idle_in (sym same), subst (λ l. Tells after.0 new l) (sym same) tells)

@@ -22,3 +22,4 @@ pub mod SoundParts
 pub mod NextJobs
 pub mod EndedJobs
 pub mod StartedParts
+pub mod UnitSteps

@@ -1,11 +1,18 @@
 -- The first two parts alike, found one after another; parts taken out one by one.
 use Rattle.std.proofs.Common.{◌≡◌, ℕ, zero, suc, ◌+◌, ◌<◌, ◌≤◌, ◌==◌, Bool, true, false, List, [], ◌∷◌, ◌++◌, length, map, take, drop, get_or, remove, Option, Some, None, option_map, refl, ap, ap₂, sym, ◌∙◌, subst, arith}
-use Rattle.std.specs.Prelude.{zip}
+use Rattle.std.specs.Prelude.{nat_lt, position, zip}
+use Rattle.std.specs.Option.{option_or}
+use Rattle.std.specs.List.{position_or_len}
+use Rattle.std.proofs.lemmas.Bool.{ltb-true}
+use Rattle.std.proofs.lemmas.Option.{cond_some}
+use Rattle.wu_base.specs.declared.addresses.PartRec.{PartRec}
+use Rattle.wu_space.specs.Addresses.{Ranges}
 use Rattle.wu_layout.specs.Layouts.{Part}
 use Rattle.wu_layout.specs.Steps.{alike_neighbours}
 use Rattle.wu_layout.proofs.Picks.{alike, first_here, first_later}
 use Rattle.wu_parts.specs.StoredParts.{records_of}
-use Rattle.wu_parts.specs.Units.{bares, replaced}
+use Rattle.wu_parts.specs.Units.{bare, bares, is_half_dead, next_job, replaced}
+use Rattle.wu_parts.specs.declared.working.NextJob.TheVariants.{Merge, Collect}
 use Rattle.wu_parts.specs.declared.writing.StoredPart.{StoredPart}
 
 abbrev pub alike_of : List StoredPart → Option ℕ
@@ -18,7 +25,7 @@ module _ (a b : StoredPart) where
   later_at [] place l e f g = absurd (omega (arith, l))
   later_at (x ∷ []) place l e f g = absurd (omega (arith, l))
   later_at (x ∷ y ∷ parts) zero l e f g =
-      first_later alike _ (zip (bares (records_of (y ∷ parts))) (bares (records_of parts)))
+      first_later alike (bare x.recorded, bare y.recorded) (zip (bares (records_of (y ∷ parts))) (bares (records_of parts)))
       (ap₂ (λ (n m : ℕ). n == m) (sym (ap (λ (p : StoredPart). p.recorded.generation) e))
       (sym (ap (λ (p : StoredPart). p.recorded.generation) f)) ∙ g)
   later_at (x ∷ y ∷ parts) (suc place) l e f g = later_at (y ∷ parts) place (omega (arith, l)) e f g
@@ -28,7 +35,7 @@ module _ (a b : StoredPart) where
   here_at [] place l e f g = absurd (omega (arith, l))
   here_at (x ∷ []) place l e f g = absurd (omega (arith, l))
   here_at (x ∷ y ∷ parts) zero l e f g =
-      first_here alike _ (zip (bares (records_of (y ∷ parts))) (bares (records_of parts)))
+      first_here alike (bare x.recorded, bare y.recorded) (zip (bares (records_of (y ∷ parts))) (bares (records_of parts)))
       (ap₂ (λ (n m : ℕ). n == m) (sym (ap (λ (p : StoredPart). p.recorded.generation) e))
       (sym (ap (λ (p : StoredPart). p.recorded.generation) f)) ∙ g)
   here_at (x ∷ y ∷ parts) (suc place) l e f g = here_at (y ∷ parts) place (omega (arith, l)) e f g
@@ -36,13 +43,14 @@ module _ (a b : StoredPart) where
   module _ (parts : List StoredPart) (place : ℕ) (l : place + 1 < length parts) (e : a ≡ get_or parts place a)
       (f : b ≡ get_or parts (place + 1) b) where
     next_at : b ≡ get_or parts (suc place) b
-    next_at = f ∙ ap (λ (n : ℕ). get_or parts n b) (omega arith)
+    next_at = let next : place + 1 ≡ suc place = omega arith in f ∙ ap (λ (n : ℕ). get_or parts n b) next
 
     pub alike_later : (a.recorded.generation == b.recorded.generation) ≡ false
         → alike_of (drop place parts) ≡ option_map (λ k. suc k) (alike_of (drop (place + 1) parts))
     alike_later g =
+        let next : suc place ≡ place + 1 = omega arith in
         later_at parts place (omega (arith, l)) e next_at g
-        ∙ ap (λ (n : ℕ). option_map (λ (k : ℕ). suc k) (alike_of (drop n parts))) (omega arith)
+        ∙ ap (λ (n : ℕ). option_map (λ (k : ℕ). suc k) (alike_of (drop n parts))) next
 
     pub alike_here : (a.recorded.generation == b.recorded.generation) ≡ true → alike_of (drop place parts) ≡ Some 0
     alike_here g = here_at parts place (omega (arith, l)) e next_at g
@@ -59,6 +67,33 @@ from_zero (Some k) = ap (λ (m : ℕ). Some m) (omega arith)
 pub one_further : (n : ℕ) (o : Option ℕ) → option_map (λ k. n + k) (option_map (λ k. suc k) o) ≡ option_map (λ k. (n + 1) + k) o
 one_further n None = refl
 one_further n (Some k) = ap (λ (m : ℕ). Some m) (omega arith)
+
+-- ---- the job that the policy names
+
+merge_from : (o p : Option ℕ) (place : ℕ)
+    → option_or (option_map (λ k. Merge k) o) (option_map (λ k. Collect k) p) ≡ Some (Merge place) → o ≡ Some place
+merge_from None None place e = absurd cc
+merge_from None (Some q) place e = absurd cc
+merge_from (Some q) p place e = cc
+
+collect_from : (o p : Option ℕ) (place : ℕ)
+    → option_or (option_map (λ k. Merge k) o) (option_map (λ k. Collect k) p) ≡ Some (Collect place) → p ≡ Some place
+collect_from None None place e = absurd cc
+collect_from None (Some q) place e = cc
+collect_from (Some q) p place e = absurd cc
+
+pub merge_at : (ranges : Ranges) (records : List PartRec) (place : ℕ) → next_job ranges records ≡ Some (Merge place)
+    → alike_neighbours (bares records) ≡ Some place
+merge_at ranges records place e = merge_from (alike_neighbours (bares records)) (position (is_half_dead ranges) records) place e
+
+pub collect_at : (ranges : Ranges) (records : List PartRec) (place : ℕ) → next_job ranges records ≡ Some (Collect place)
+    → place < length records
+collect_at ranges records place e =
+    let found : position (is_half_dead ranges) records ≡ Some place =
+    collect_from (alike_neighbours (bares records)) (position (is_half_dead ranges) records) place e in
+    let r = cond_some (nat_lt (position_or_len (is_half_dead ranges) records) (length records))
+    (position_or_len (is_half_dead ranges) records) place found in
+    omega (arith, ltb-true _ _ r.0, r.1)
 
 -- ---- one more taken out
 
@@ -91,15 +126,17 @@ module _ {X : Type 0} where
   pub one_out : (place n : ℕ) (old now new : List X) → place ≤ length old → now ≡ replaced place n [] old → new ≡ remove now place
       → new ≡ replaced place (n + 1) [] old
   one_out place n old now new l e f =
+      let next : suc n ≡ n + 1 = omega arith in
       f
       ∙ ap (λ (xs : List X). remove xs place) e
       ∙ removed_back place old (drop n (drop place old)) l
-      ∙ ap (λ (xs : List X). take place old ++ xs) (drop_next n (drop place old) ∙ ap (λ (m : ℕ). drop m (drop place old)) (omega arith))
+      ∙ ap (λ (xs : List X). take place old ++ xs) (drop_next n (drop place old) ∙ ap (λ (m : ℕ). drop m (drop place old)) next)
 
   pub which_out : (place n : ℕ) (old now : List X) (x : X) → place + n < length old → now ≡ replaced place n [] old → x ≡ get_or now place x
       → take (n + 1) (drop place old) ≡ take n (drop place old) ++ x ∷ []
   which_out place n old now x l e g =
-      ap (λ (m : ℕ). take m (drop place old)) (omega arith)
+      let next : n + 1 ≡ suc n = omega arith in
+      ap (λ (m : ℕ). take m (drop place old)) next
       ∙ take_next n (drop place old) x (long place old l)
       (g
       ∙ ap (λ (xs : List X). get_or xs place x) e

@@ -98,6 +98,10 @@ room_of_job parts job r =
       length-map parts (λ (p : StoredPart). p.recorded),
     )
 
+pub same_length : (parts : List StoredPart) → length (records_of parts) ≡ length (directories_of parts)
+same_length parts =
+    length-map parts (λ (p : StoredPart). p.recorded) ∙ sym (length-map parts (λ (p : StoredPart). p.directory))
+
 running_pushed : (parts : List StoredPart) (part : StoredPart) (job : JobAt) → IsRunning (records_of parts) (directories_of parts) job
     → IsRunning (records_of (parts ++ part ∷ [])) (directories_of (parts ++ part ∷ [])) job
 running_pushed parts part job r =
@@ -114,6 +118,7 @@ running_pushed parts part job r =
     ap (λ (ps : List Part). take count (drop job.place ps)) all
     ∙ take_kept job.place count (bares (records_of parts)) (bare part.recorded ∷ []) (omega (arith, room, long)) in
     record {
+      paired = same_length (parts ++ part ∷ []);
       parts =
           r.parts
           ∙ parts_at_stored job.place count parts

@@ -20,7 +20,7 @@ use Rattle.wu_parts.specs.Units.{bare, bares, parts_at}
 use Rattle.wu_parts.specs.declared.working.NextJob.TheVariants.{Merge, Collect}
 use Rattle.wu_parts.specs.declared.writing.StoredPart.{StoredPart}
 use Rattle.wu_parts.proofs.EndedJobs.{bares_taken}
-use Rattle.wu_parts.proofs.SoundParts.{job_part, parts_at_stored}
+use Rattle.wu_parts.proofs.SoundParts.{job_part, parts_at_stored, same_length}
 
 -- ---- the leftmost pair
 
@@ -93,7 +93,8 @@ module _ {X : Type 0} where
 
   take_two : (n : ℕ) (xs : List X) (x y : X) → n + 1 < length xs → x ≡ get_or xs n x → y ≡ get_or xs (n + 1) y
       → take 2 (drop n xs) ≡ x ∷ y ∷ []
-  take_two n xs x y l e f = two_at n xs x y (omega (arith, l)) e (f ∙ ap (λ (m : ℕ). get_or xs m y) (omega arith))
+  take_two n xs x y l e f =
+      let next : n + 1 ≡ suc n = omega arith in two_at n xs x y (omega (arith, l)) e (f ∙ ap (λ (m : ℕ). get_or xs m y) next)
 
 spans_at : (low high : ℕ) (parts : List StoredPart) (n : ℕ) (left right : StoredPart) → SpansAscend low high parts → suc n < length parts
     → left ≡ get_or parts n left → right ≡ get_or parts (suc n) right → left.recorded.high < right.recorded.low
@@ -112,8 +113,8 @@ spans_at low high (a ∷ b ∷ parts) (suc n) left right s l e f =
 pub spans_of_pair : (parts : List StoredPart) (n : ℕ) (left right : StoredPart) → MayBeMerged parts → n + 1 < length parts
     → left ≡ get_or parts n left → right ≡ get_or parts (n + 1) right → left.recorded.high < right.recorded.low
 spans_of_pair parts n left right ready l e f =
-    spans_at ready.low ready.high parts n left right ready.spans (omega (arith, l)) e
-    (f ∙ ap (λ (m : ℕ). get_or parts m right) (omega arith))
+    let next : n + 1 ≡ suc n = omega arith in
+    spans_at ready.low ready.high parts n left right ready.spans (omega (arith, l)) e (f ∙ ap (λ (m : ℕ). get_or parts m right) next)
 
 pair_cost : (parts : List Part) (n : ℕ) (left right : Part) → take 2 (drop n parts) ≡ left ∷ right ∷ []
     → 2 ^ left.generation + 2 ^ right.generation ≤ flushes_for parts
@@ -171,6 +172,7 @@ module _ (ranges : Ranges) (parts : List StoredPart) (place : ℕ) (ready : MayB
     collect_started = record {
       kept = record {
         running = record {
+          paired = same_length parts;
           parts =
               its_parts ∙ sym its_part
               ∙ ap (λ (count : ℕ). parts_at place count (records_of parts) (directories_of parts)) (sym (ap length its_parts));
@@ -179,8 +181,9 @@ module _ (ranges : Ranges) (parts : List StoredPart) (place : ℕ) (ready : MayB
               (sym (ap length its_parts))
               (subst (MayBeTaken (take place (bares (records_of parts)))) (sym its_bare) tt);
           generation =
+              let none : part.recorded.generation ≡ part.recorded.generation + 0 = omega arith in
               its_generation
-              ∙ omega arith
+              ∙ none
               ∙ ap made (sym its_bare)
               ∙ ap (λ (count : ℕ). made (take count (drop place (bares (records_of parts))))) (sym (ap length its_parts));
           left = left;
@@ -249,6 +252,7 @@ module _ (ranges : Ranges) (parts : List StoredPart) (place : ℕ) (ready : MayB
       merge_started = record {
         kept = record {
           running = record {
+            paired = same_length parts;
             parts =
                 own_parts ∙ sym both_parts
                 ∙ ap (λ (count : ℕ). parts_at place count (records_of parts) (directories_of parts)) (sym (ap length own_parts));

@@ -141,12 +141,12 @@ module _ (ranges : Ranges) where
 -- ---- broken parts
 
 module _ {X : Type 0} (P : X → Type 0) where
-  some-take : (n : ℕ) (xs : List X) → SomeOf P (take n xs) → SomeOf P xs
+  pub some-take : (n : ℕ) (xs : List X) → SomeOf P (take n xs) → SomeOf P xs
   some-take zero xs s = absurd s
   some-take (suc n) [] s = absurd s
   some-take (suc n) (x ∷ xs) s = ⊎_elim (λ a. inl a) (λ b. inr (some-take n xs b)) s
 
-  some-drop : (n : ℕ) (xs : List X) → SomeOf P (drop n xs) → SomeOf P xs
+  pub some-drop : (n : ℕ) (xs : List X) → SomeOf P (drop n xs) → SomeOf P xs
   some-drop zero xs s = s
   some-drop (suc n) [] s = absurd s
   some-drop (suc n) (x ∷ xs) s = inr (some-drop n xs s)
@@ -244,7 +244,7 @@ module _ (ranges : Ranges) where
       (record {
         broken = λ blob s.
             ⊎_elim (λ a. absurd a) (λ b. b)
-            (some_replaced (IsBrokenIn content blob) u.job.place (length u.state.parts) [] [] old.parts old.directories u.paired refl s);
+            (some_replaced (IsBrokenIn content blob) u.job.place (length u.state.parts) [] [] old.parts old.directories u.running.paired refl s);
         right = λ r. tt;
       }))))
       (λ (m : IsMade u.job.place u.state old new before after).
@@ -260,7 +260,7 @@ module _ (ranges : Ranges) where
             (some_with (IsBrokenIn now blob) (λ part. part.0.blob < old.next_blob) (zip old.parts old.directories)
             (all_zipped old.next_blob old.parts old.directories u.below) b))
             (some_replaced (IsBrokenIn now blob) u.job.place (length u.state.parts) (m.recorded ∷ []) (m.directory ∷ []) old.parts
-            old.directories u.paired refl s);
+            old.directories u.running.paired refl s);
         right = λ r. tt;
       }))))
       l)

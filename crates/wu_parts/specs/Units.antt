@@ -53,8 +53,10 @@ abbrev pub parts_at : ℕ → ℕ → List PartRec → List PartDirectory → Li
 parts_at place count records directories =
     map (λ part. record { recorded = part.0; directory = part.1 }) (take count (drop place (zip records directories)))
 
--- A job that may be under way on these parts: its own are some of them, one, or two of a generation that those left of them don't have.
+-- A job that may be under way on these parts, each of which has a directory: its own are some of them, one, or two of a generation that those
+-- left of them don't have.
 pub record IsRunning (records : List PartRec) (directories : List PartDirectory) (job : JobAt) : Type 0 where
+  pub paired : length records ≡ length directories
   pub parts : job.state.parts ≡ parts_at job.place (length job.state.parts) records directories
   pub taken : MayBeTaken (take job.place (bares records)) (take (length job.state.parts) (drop job.place (bares records)))
   pub generation : job.state.generation ≡ made_generation (take (length job.state.parts) (drop job.place (bares records)))
@@ -137,7 +139,6 @@ pub record DoesUnit (ranges : Ranges) (old new : Contents) (before after : Told)
   pub next : IsNext ranges old job
   pub running : IsRunning old.parts old.directories job
   pub below : AllByRecursion (λ recorded. recorded.blob < old.next_blob) old.parts
-  pub paired : length old.parts ≡ length old.directories
   pub state : JobState
   pub term : DoesTerm before.0 job.state state
   pub right : IfSome before.0 (λ content. IsRight content job.state → IsRight content state)

@@ -30,13 +30,18 @@ FindsJob ranges contents (Some running) =
 
 -- ---- the end of a job
 
+-- these are the bytes of a part that was made of so many from the place on: its addresses are within theirs
+abbrev pub IsMadeOf : List PartRec → List PartDirectory → ℕ → ℕ → List ℕ → Type 0
+IsMadeOf records directories place count bytes =
+    (directory : PartDirectory) × (lists : List TermList)
+    × (directory.generation ≡ made_generation (take count (drop place (bares records))))
+    × (SpellsPart directory lists bytes × StandWithin (parts_at place count records directories) (flat_map (λ list. list.at) lists))
+
 -- the job was on so many parts from the place on, and these are the bytes of the part that it made of them
 pub record EndsJob (records : List PartRec) (directories : List PartDirectory) (place count : ℕ) (written : Option (List ℕ)) : Type 0 where
   pub taken : MayBeTaken (take place (bares records)) (take count (drop place (bares records)))
   pub number : place + count ≤ length records
-  pub made : IfSome written (λ bytes. (directory : PartDirectory) × (lists : List TermList)
-      × (directory.generation ≡ made_generation (take count (drop place (bares records))))
-      × (SpellsPart directory lists bytes × StandWithin (parts_at place count records directories) (flat_map (λ list. list.at) lists)))
+  pub made : IfSome written (IsMadeOf records directories place count)
 
 -- the part is in the blob of the next number, and in place of so many
 pub record IsReplaced (place count : ℕ) (bytes : List ℕ) (old new : Contents) (before after : Told) : Type 0 where

@@ -348,7 +348,10 @@ impl Parts {
                 self.job = Some(running);
                 Ok(())
             }
-            Progress::Done(made) => Ok(self.end(store, running.place, running.count, made)?),
+            Progress::Done(made) => {
+                running.job.stays_within_its_parts();
+                Ok(self.end(store, running.place, running.count, made)?)
+            }
         }
     }
 
@@ -378,8 +381,9 @@ impl Parts {
         match made {
             None => Ok(take_out(&mut self.parts, &mut self.stale, place, count)?),
             Some(bytes) => {
-                let part = put_bytes(self.alloc, store, self.next_blob, &bytes)?;
-                self.next_blob += 1;
+                let blob = self.next_blob;
+                self.next_blob = blob + 1;
+                let part = put_bytes(self.alloc, store, blob, &bytes)?;
                 take_out(&mut self.parts, &mut self.stale, place, count)?;
                 self.parts.insert(place, part)?;
                 Ok(())
