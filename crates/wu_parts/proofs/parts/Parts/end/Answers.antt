@@ -68,7 +68,12 @@ returns-in_ok-take_out-in-None-clause-done g c =
     let i = c.self.inside in
     let none = no_running i.job (ap (λ (k : Contents). k.job) c.self.view_is ∙ c.requires.none) in
     let told : Told = (g.D.Store.holds c.args.store.now, g.D.Store.moments c.args.store.now) in
-    subst (λ o. Replaces c.args.place c.args.count (option_map (λ b. b.items) o) c.args.self.now _ told told) (sym c.in-None.is)
+    let new : Contents = record (contents_of i) {
+      parts = records_of c.take_out.new.parts.items;
+      directories = directories_of c.take_out.new.parts.items;
+      stale = c.take_out.new.stale.items;
+    } in
+    subst (λ o. Replaces c.args.place c.args.count (option_map (λ b. b.items) o) c.args.self.now new told told) (sym c.in-None.is)
     (
       view_without (contents_of i) c.args.place c.args.count i.parts.items i.stale.items i.job c.take_out.new.parts.items
           c.take_out.new.stale.items c.in_ok-take_out-in-None.ensures.parts c.in_ok-take_out-in-None.ensures.stale none
@@ -94,7 +99,13 @@ returns-in_ok-insert-in-Some-clause-done g c =
     let placed : c.insert.new.self.items ≡ replaced c.args.place c.args.count (part ∷ []) parts =
     insert_back c.args.place parts (drop c.args.count (drop c.args.place parts)) c.take_out-in-Some.new.parts.items c.insert.new.self.items
     part (within c.args.place c.args.count parts room.number) c.in_ok-take_out-in-Some.ensures.parts c.in_ok-insert-in-Some.ensures.items in
-    subst (λ o. Replaces c.args.place c.args.count (option_map (λ b. b.items) o) c.args.self.now _ before after) (sym c.in-Some.is)
+    let new : Contents = record (contents_of i) {
+      parts = records_of c.insert.new.self.items;
+      directories = directories_of c.insert.new.self.items;
+      next_blob = i.next_blob + 1;
+      stale = c.take_out-in-Some.new.stale.items;
+    } in
+    subst (λ o. Replaces c.args.place c.args.count (option_map (λ b. b.items) o) c.args.self.now new before after) (sym c.in-Some.is)
     (record {
       recorded = part.recorded;
       directory = part.directory;
