@@ -1,6 +1,6 @@
 -- What the steps of a unit of background work do.
 use Rattle.std.specs.Prelude.{◌≡◌, ◌≢◌, ℕ, ◌<◌, ◌≤◌, ◌==◌, ◌+◌, Bool, true, false, Option, None, Some, IfSome, List, length, take, drop}
-use Rattle.std.specs.List.{flat_map, list_any}
+use Rattle.std.specs.List.{AllByRecursion, flat_map, list_any}
 use Rattle.wu_base.specs.declared.addresses.PartRec.{PartRec}
 use Rattle.wu_base.specs.declared.addresses.TermList.{TermList}
 use Rattle.wu_base.specs.declared.troubles.Trouble.{Trouble}
@@ -27,6 +27,7 @@ abbrev pub FindsJob : Ranges → Contents → Option Running → Type 0
 FindsJob ranges contents None = is_idle ranges contents ≡ true
 FindsJob ranges contents (Some running) =
     IsNext ranges contents (running_at running) × IsKeptJob contents.parts contents.directories running
+    × AllByRecursion (λ recorded. recorded.blob < contents.next_blob) contents.parts
 
 -- ---- the end of a job
 
