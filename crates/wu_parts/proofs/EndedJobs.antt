@@ -1,22 +1,21 @@
 -- What is kept of the parts, when a job ends or goes on.
-use Rattle.std.proofs.Common.{◌≡◌, ℕ, zero, suc, ◌+◌, ◌<◌, ◌≤◌, ◌^◌, List, [], ◌∷◌, ◌++◌, length, map, take, drop, insert, refl, ap, ap₂, sym, ◌∙◌, subst, arith}
-use Rattle.std.specs.Prelude.{Option, None, Some, IfSome, option_map}
+use Rattle.std.proofs.Common.{◌≡◌, ℕ, zero, suc, ◌+◌, ◌<◌, ◌≤◌, List, [], ◌∷◌, ◌++◌, length, map, take, drop, insert, refl, ap, ap₂, sym, ◌∙◌, subst, arith}
+use Rattle.std.specs.Prelude.{Option, None, Some, option_map}
 use Rattle.std.specs.List.{flat_map}
 use Rattle.std.proofs.lemmas.List.{length-map}
 use Rattle.wu_base.specs.declared.addresses.PartRec.{PartRec}
 use Rattle.wu_base.specs.declared.addresses.TermList.{TermList}
-use Rattle.wu_layout.specs.Layouts.{Part}
 use Rattle.wu_layout.specs.Invariants.{MayBeTaken}
 use Rattle.wu_layout.specs.Steps.{made_generation}
 use Rattle.wu_layout.proofs.EachLemmas.{each-map}
 use Rattle.wu_part.specs.Directories.{PartDirectory}
 use Rattle.wu_part.specs.Parts.{SpellsPart}
 use Rattle.wu_part.proofs.LawLemmas.{one_directory}
-use Rattle.wu_job.specs.Jobs.{JobPart, JobState, MakesList, StandWithin, highest, lowest}
+use Rattle.wu_job.specs.Jobs.{JobState, MakesList, StandWithin}
 use Rattle.wu_parts.specs.Contents.{Contents, JobAt}
 use Rattle.wu_parts.specs.Flushing.{Told}
 use Rattle.wu_parts.specs.StoredParts.{AreSound, IsKeptJob, IsPutAs, directories_of, records_of, running_at}
-use Rattle.wu_parts.specs.Units.{IsRunning, bare, bares, parts_at, replaced, with_made, without_taken}
+use Rattle.wu_parts.specs.Units.{bare, bares, parts_at, replaced, with_made, without_taken}
 use Rattle.wu_parts.specs.UnitsOfParts.{EndsJob}
 use Rattle.wu_parts.specs.declared.working.Running.{Running}
 use Rattle.wu_parts.specs.declared.writing.StoredPart.{StoredPart}

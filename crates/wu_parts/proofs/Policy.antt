@@ -1,11 +1,10 @@
 -- The job that the policy names by records and live ranges is the one that it names in the layout.
-use Rattle.std.proofs.Common.{◌≡◌, ℕ, suc, ◌+◌, ◌*◌, ◌<◌, ◌≤◌, ◌==◌, ◌&&◌, not, nat_le, nat_lt, Bool, true, false, cond, List, [], ◌∷◌, ◌++◌, length, map, drop, Option, Some, None, option_map, position, zip, refl, ap, ap₂, sym, ◌∙◌, subst, arith, append_assoc}
+use Rattle.std.proofs.Common.{◌≡◌, ℕ, suc, ◌+◌, ◌*◌, ◌<◌, ◌==◌, not, nat_le, nat_lt, Bool, cond, List, [], ◌∷◌, ◌++◌, length, map, drop, Option, Some, None, option_map, position, zip, refl, ap, ap₂, sym, ◌∙◌, subst, append_assoc}
 use Rattle.std.specs.Option.{option_or}
 use Rattle.std.specs.List.{AllByRecursion, AllZip, position_or_len}
 use Rattle.wu_base.specs.declared.addresses.PartRec.{PartRec}
-use Rattle.wu_base.specs.declared.addresses.Range.{Range}
 use Rattle.wu_outside.specs.Content.{Content}
-use Rattle.wu_layout.specs.Layouts.{FileEntry, Part, Layout, Text, first_address, ranges_by_number, ranges_of, stored_in}
+use Rattle.wu_layout.specs.Layouts.{Part, Layout, Text, first_address, ranges_by_number, ranges_of, stored_in}
 use Rattle.wu_layout.specs.Postings.{Ascend, live_of}
 use Rattle.wu_layout.specs.Invariants.{IsLayoutOf}
 use Rattle.wu_layout.specs.Steps.{alike_neighbours, is_half_dead as half_dead_in, job_at, pick}

@@ -1,6 +1,6 @@
 -- What is kept of the parts stays true when a part is put at their end, and when a job's parts are replaced.
-use Rattle.std.proofs.Common.{◌≡◌, ℕ, zero, suc, ◌+◌, ◌-◌, ◌^◌, ◌<◌, ◌≤◌, ◌==◌, List, [], ◌∷◌, ◌++◌, length, map, take, drop, refl, ap, ap₂, sym, ◌∙◌, subst, arith, append-nil, length-append, length-take, length-drop, take-append-drop}
-use Rattle.std.specs.Prelude.{IfSome, Option, None, Some, zip}
+use Rattle.std.proofs.Common.{◌≡◌, ℕ, zero, suc, ◌+◌, ◌^◌, ◌<◌, ◌≤◌, ◌==◌, List, [], ◌∷◌, ◌++◌, length, map, take, drop, refl, ap, ap₂, sym, ◌∙◌, subst, arith, append-nil, length-take, length-drop, take-append-drop}
+use Rattle.std.specs.Prelude.{Option, None}
 use Rattle.std.specs.List.{AllByRecursion, flat_map}
 use Rattle.std.proofs.lemmas.Bool.{eqb-true}
 use Rattle.std.proofs.lemmas.List.{length-map, map-append, take-append-le}
@@ -19,14 +19,14 @@ use Rattle.wu_part.specs.Directories.{PartDirectory, all_blocks}
 use Rattle.wu_part.specs.Parts.{IsRecorded, SpellsPart}
 use Rattle.wu_job.specs.Jobs.{JobPart, StandWithin, highest, lowest}
 use Rattle.wu_parts.specs.Contents.{JobAt}
-use Rattle.wu_parts.specs.StoredParts.{AreSound, AreStored, IsKeptJob, SpansAscend, directories_of, pairs_of, records_of}
+use Rattle.wu_parts.specs.StoredParts.{AreSound, AreStored, IsKeptJob, SpansAscend, directories_of, records_of}
 use Rattle.wu_parts.specs.Units.{IsRunning, bare, bares, parts_at, replaced}
 use Rattle.wu_parts.specs.declared.working.Running.{Running}
 use Rattle.wu_parts.specs.declared.writing.StoredPart.{StoredPart}
 use Rattle.wu_parts.proofs.Asking.{zipped}
 use Rattle.wu_parts.proofs.HeldParts.{map-drop, map-take}
 use Rattle.wu_parts.proofs.NewParts.{AreEnds, all_addresses, lists_end}
-use Rattle.wu_parts.proofs.Spans.{directories-push, records-push, spans-bounds}
+use Rattle.wu_parts.proofs.Spans.{records-push, spans-bounds}
 
 -- ---- lists
 
@@ -65,8 +65,10 @@ parts_at_stored place count parts =
   where
     make : PartRec × PartDirectory → JobPart
     make part = record { recorded = part.0; directory = part.1 }
+
     pair : StoredPart → PartRec × PartDirectory
     pair part = (part.recorded, part.directory)
+
     both : (ps : List StoredPart) → map make (map pair ps) ≡ map job_part ps
     both [] = refl
     both (p ∷ ps) = ap (λ (l : List JobPart). job_part p ∷ l) (both ps)
@@ -327,8 +329,7 @@ module _ (low next flushes place count : ℕ) (parts : List StoredPart) (stored 
         stored = record {
           told = told_with (part ∷ []) (told, tt);
           spans =
-              spans_join 0 spans.0 low before (part ∷ after) spans.2.0
-              (
+              spans_join 0 spans.0 low before (part ∷ after) spans.2.0 (
                 omega (arith, ends.0, least),
                 room,
                 spans_lower (part.recorded.high + 1) spans.1 low after (omega (arith, ends.1, most)) spans.2.2,

@@ -1,7 +1,7 @@
 -- A step of a job, as a part of a unit of background work.
-use Rattle.std.proofs.Common.{◌≡◌, ◌≢◌, ℕ, suc, Vec, Global, ◌+◌, ◌<◌, ◌≤◌, ◌==◌, true, List, [], ◌∷◌, length, map, take, drop, Option, Some, None, option_map, refl, ap, ap₂, sym, ◌∙◌, subst, arith, ⊎_elim, inl, inr, length-take, length-drop}
-use Rattle.std.specs.Prelude.{◌⊎◌, IfSome, zip}
-use Rattle.std.specs.List.{flat_map, list_any}
+use Rattle.std.proofs.Common.{◌≡◌, ℕ, suc, Vec, Global, ◌+◌, ◌<◌, ◌≤◌, List, [], ◌∷◌, length, map, take, drop, Option, Some, None, option_map, refl, ap, sym, ◌∙◌, subst, arith, ⊎_elim, inl, inr, length-take, length-drop}
+use Rattle.std.specs.Prelude.{IfSome, zip}
+use Rattle.std.specs.List.{flat_map}
 use Rattle.std.proofs.lemmas.List.{length-map}
 use Rattle.wu_base.specs.declared.addresses.PartRec.{PartRec}
 use Rattle.wu_base.specs.declared.addresses.TermList.{TermList}
@@ -26,10 +26,10 @@ use Rattle.wu_lists.specs.Causes.{IsNoPart}
 use Rattle.wu_parts.specs.Causes.{IsStoreCause}
 use Rattle.wu_parts.specs.Contents.{Contents, JobAt}
 use Rattle.wu_parts.specs.Flushing.{Told}
-use Rattle.wu_parts.specs.StoredParts.{IsKeptJob, running_at}
+use Rattle.wu_parts.specs.StoredParts.{IsKeptJob}
 use Rattle.wu_parts.specs.Units.{GoesOn, IsMade, IsNext, IsRunning, Leaves, Vanishes, bares, parts_at, with_made, without_taken}
 use Rattle.wu_parts.specs.UnitsOfParts.{EndsJob, IsMadeOf, Replaces, StopsStep, StopsUnit}
-use Rattle.wu_parts.specs.Working.{IsBrokenIn, IsDamaged, IsRightJob}
+use Rattle.wu_parts.specs.Working.{IsBrokenIn, IsDamaged}
 use Rattle.wu_parts.specs.declared.working.Running.{Running}
 use Rattle.wu_parts.proofs.UnitChains.{right_next, some-drop, some-take}
 
@@ -223,6 +223,7 @@ stops_early ranges contents holds before reads trouble e = record {
   where
     no_fault : trouble ≡ StoreFault → ⊥
     no_fault fault = cc
+
     no_damage : (blob : ℕ) → trouble ≡ Damaged blob → ⊥
     no_damage blob is = cc
 

@@ -1,5 +1,5 @@
 -- What background work does to the parts in a store, what it answers, and which steps of the index's layout that is.
-use Rattle.std.specs.Prelude.{◌≡◌, ◌≢◌, ◌⊎◌, ⊤, ℕ, suc, zero, ◌+◌, ◌*◌, ◌<◌, ◌≤◌, ◌^◌, ◌==◌, ◌&&◌, Bool, true, false, not, Option, None, Some, IfSome, is_some, List, [], ◌∷◌, ◌++◌, length, map, take, zip}
+use Rattle.std.specs.Prelude.{◌≡◌, ◌≢◌, ◌⊎◌, ⊤, ℕ, suc, zero, ◌+◌, ◌*◌, ◌<◌, ◌≤◌, ◌^◌, ◌==◌, ◌&&◌, Bool, true, false, not, Option, None, Some, IfSome, is_some, List, [], ◌++◌, length, take, zip}
 use Rattle.std.specs.List.{AllByRecursion, list_any}
 use Rattle.wu_base.specs.declared.addresses.PartRec.{PartRec}
 use Rattle.wu_base.specs.declared.reports.Worked.{Worked}

@@ -1,11 +1,9 @@
-use Rattle.std.proofs.Common.{◌≡◌, ℕ, length, Option, refl, ap, ap₂, sym, subst, ◌∙◌, option_map}
+use Rattle.std.proofs.Common.{◌≡◌, ℕ, length, Option, ap, ap₂, sym, subst, ◌∙◌, option_map}
 use Rattle.std.specs.List.{flat_map}
 use Rattle.std.proofs.lemmas.Result.{err_from_is_err_and}
 use Rattle.wu_job.specs.Jobs.{Answers, JobState, StandWithin}
-use Rattle.wu_job.specs.Steps.{adds, step_ranges}
 use Rattle.wu_outside.specs.Content.{Content}
 use Rattle.wu_outside.specs.Crash.{Moments}
-use Rattle.wu_parts.specs.Contents.{Contents}
 use Rattle.wu_parts.specs.Flushing.{Told}
 use Rattle.wu_parts.specs.StoredParts.{running_at}
 use Rattle.wu_parts.specs.UnitsOfParts.{Replaces}

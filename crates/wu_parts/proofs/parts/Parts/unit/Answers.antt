@@ -1,4 +1,4 @@
-use Rattle.std.proofs.Common.{◌≡◌, ℕ, List, Option, refl, ap, sym, subst}
+use Rattle.std.proofs.Common.{ℕ, List, Option, refl, ap, subst}
 use Rattle.std.proofs.lemmas.Result.{err_from_is_err_and}
 use Rattle.wu_outside.specs.Content.{MayDo, with_blob}
 use Rattle.wu_outside.specs.Crash.{Put, try_change}
@@ -23,8 +23,7 @@ pub returns-in_ok-step-in-Some-clause-done : goal.returns-in_ok-step-in-Some-cla
 returns-in_ok-step-in-Some-clause-done g c =
     let running : Running = c.in-Some.running in
     let finds = subst (λ (o : Option Running). FindsJob c.args.space.now.ranges c.args.self.now o) c.in-Some.is c.in_ok-running.ensures.job in
-    let step = c.in_ok-step-in-Some.ensures.done in
-    (
+    let step = c.in_ok-step-in-Some.ensures.done in (
       step_ranges running.job.terms_left running.job.parts,
       (
         record {
