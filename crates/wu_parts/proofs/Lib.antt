@@ -5,6 +5,7 @@ pub mod Putting
 pub mod Gaining
 pub mod Chaining
 pub mod SortedTerms
+pub mod LeadingLemmas
 pub mod LiveTerms
 pub mod NewParts
 pub mod Asking

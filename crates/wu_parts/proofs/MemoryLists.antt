@@ -27,7 +27,7 @@ use Rattle.wu_parts.proofs.LiveTerms.{IsListWithin, filter-zero, lists_encodable
 abbrev Entries : Type 0
 Entries = List (Vec ℕ Global × Chain)
 
-all-permuted : {X : Type 0} (P : X → Type 0) (xs ys : List X) → IsPermutation xs ys → AllByRecursion P xs → AllByRecursion P ys
+pub all-permuted : {X : Type 0} (P : X → Type 0) (xs ys : List X) → IsPermutation xs ys → AllByRecursion P xs → AllByRecursion P ys
 all-permuted P xs ys p a =
     all_from_has P ys
     (λ y i. all_has P y xs a (Has-from_Contains y xs (Contains-permutation ys xs y (IsPermutation-sym xs ys p) (Contains-from_Has y ys i))))

@@ -11,4 +11,5 @@ pub mod Lists
 pub mod LiveLists
 pub mod StoredParts
 pub mod Chains
+pub mod LeadingBytes
 pub mod ViewOfParts
