@@ -5,6 +5,7 @@ pub mod Putting
 pub mod Gaining
 pub mod Chaining
 pub mod SortedTerms
+pub mod LeadingLemmas
 pub mod LiveTerms
 pub mod NewParts
 pub mod Asking
@@ -23,3 +24,4 @@ pub mod NextJobs
 pub mod EndedJobs
 pub mod StartedParts
 pub mod UnitSteps
+pub mod Covering
