@@ -158,7 +158,8 @@ none_there next (part ∷ parts) none =
     λ number above. sym (sum_by-cons (λ (p : Part). cond {A = ℕ} (p.blob == number) 1 0) part parts) ∙ none number above in (
       (let own : cond {A = ℕ} (part.blob == part.blob) 1 0 ≡ 1 =
           ap (λ b. cond {A = ℕ} b 1 0) (eq-eqb part.blob part.blob refl) in
-          let absent : next ≤ part.blob → cond {A = ℕ} (part.blob == part.blob) 1 0 + count_by (λ (p : Part). p.blob == part.blob) parts ≡ 0 =
+          let absent : next ≤ part.blob
+          → cond {A = ℕ} (part.blob == part.blob) 1 0 + count_by (λ (p : Part). p.blob == part.blob) parts ≡ 0 =
           here part.blob in
           grind (arith, own, absent)),
       none_there next parts (λ number above. omega (arith, here number above)),

@@ -303,7 +303,8 @@ module _ (is_file : ℕ → Bool) (text_of : ℕ → Text) (layout : Layout) (co
         of_kept (p ∷ ps) some =
             let ascend : Ascend bound.0 bound.1 (p ∷ ps) =
             subst (λ qs. Ascend bound.0 bound.1 qs) some
-            (Ascend-filter (λ (q : Posting). is_live own.its.live q.address) bound.0 bound.1 (stored_in (parts_taken own.its layout.parts)) bound.3) in
+            (Ascend-filter (λ (q : Posting). is_live own.its.live q.address) bound.0 bound.1
+            (stored_in (parts_taken own.its layout.parts)) bound.3) in
             let spelled : SpellsPart m.directory (lists_of (p ∷ ps)) m.bytes =
             subst (λ ls. SpellsPart m.directory ls m.bytes) (done_is m.last ∙ ap lists_of some) m.spelled in
             subst (λ l. Tells after.0 new l) (sym (ended m.last ∙ ap (λ (qs : List Posting). replaced_by qs own.its layout) some))

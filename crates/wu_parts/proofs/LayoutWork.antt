@@ -69,7 +69,8 @@ module _ (is_file : ℕ → Bool) (text_of : ℕ → Text) (layout : Layout) (d 
 
 -- ---- whether there is more to do
 
-same_some : (content : Content) (parts : List Part) (o : Option JobAt) (p : Option Job) → TellsJobs content parts o p → is_some o ≡ is_some p
+same_some : (content : Content) (parts : List Part) (o : Option JobAt) (p : Option Job) → TellsJobs content parts o p
+    → is_some o ≡ is_some p
 same_some content parts None None t = refl
 same_some content parts None (Some job) t = absurd t
 same_some content parts (Some running) None t = absurd t
@@ -184,8 +185,8 @@ no_next None b e = refl
 no_next (Some x) true e = absurd cc
 no_next (Some x) false e = absurd cc
 
-pub few_left : (ranges : Ranges) (contents : Contents) → NeverRise (bares contents.parts) → flushes_for (bares contents.parts) ≤ contents.flushes
-    → is_idle ranges contents ≡ true → AreFew ranges contents
+pub few_left : (ranges : Ranges) (contents : Contents) → NeverRise (bares contents.parts)
+    → flushes_for (bares contents.parts) ≤ contents.flushes → is_idle ranges contents ≡ true → AreFew ranges contents
 few_left ranges contents n f e =
     let none : next_job ranges contents.parts ≡ None = no_next (next_job ranges contents.parts) (not (is_some contents.job)) e in
     let either = neither _ _ none in

@@ -83,7 +83,8 @@ module _ (is_file : ℕ → Bool) (text_of : ℕ → Text) (layout : Layout) (co
       let split = Ascend-split low high part.postings (stored_in parts) a in
       let span : IsSpan r.low r.high part.postings =
       subst (λ n. IsSpan n r.high part.postings) (sym h.0.record_of.low)
-      (subst (λ n. IsSpan (first_address part.postings) n part.postings) (sym h.0.record_of.high) (span_of low split.0 part.postings split.1.0 f.0)) in
+      (subst (λ n. IsSpan (first_address part.postings) n part.postings) (sym h.0.record_of.high)
+      (span_of low split.0 part.postings split.1.0 f.0)) in
       let live : live_in ranges r.low r.high ≡ length (live_of (ranges_of layout.files) part.postings) =
       live_in_part is_file text_of layout r.low r.high d before part parts e span in (
         ap₂ (λ (n m : ℕ). nat_le (2 * n) m) live h.0.record_of.stored ∙ sym (half_dead_by_numbers (ranges_of layout.files) part),

@@ -44,7 +44,8 @@ module _ {X : Type 0} where
       sym (take-append-drop place xs) ∙ ap (λ (ys : List X). take place xs ++ ys) (sym (take-append-drop count (drop place xs)))
 
 module _ {X Y : Type 0} (f : X → Y) where
-  pub map-replaced : (place count : ℕ) (made xs : List X) → map f (replaced place count made xs) ≡ replaced place count (map f made) (map f xs)
+  pub map-replaced : (place count : ℕ) (made xs : List X)
+      → map f (replaced place count made xs) ≡ replaced place count (map f made) (map f xs)
   map-replaced place count made xs =
       map-append f (take place xs) (made ++ drop count (drop place xs))
       ∙ ap₂ ◌++◌ (map-take f place xs)
@@ -160,7 +161,8 @@ sound_pushed low high next flushes parts part job s stored blob new room =
           (all_from_zero part.recorded.generation (bares (records_of parts)) new) tt);
       flushed =
           let one : 2 ^ part.recorded.generation ≡ 1 = ap (λ (g : ℕ). 2 ^ g) new in
-          let sums : flushes_for (bares (records_of (parts ++ part ∷ []))) ≡ flushes_for (bares (records_of parts)) + flushes_for (bare part.recorded ∷ []) =
+          let sums : flushes_for (bares (records_of (parts ++ part ∷ [])))
+          ≡ flushes_for (bares (records_of parts)) + flushes_for (bare part.recorded ∷ []) =
           ap flushes_for all ∙ sum_by-append (λ (p : Part). 2 ^ p.generation) (bares (records_of parts)) (bare part.recorded ∷ []) in
           let last : flushes_for (bare part.recorded ∷ []) ≡ 2 ^ part.recorded.generation + 0 =
           sum_by-cons (λ (p : Part). 2 ^ p.generation) (bare part.recorded) [] in

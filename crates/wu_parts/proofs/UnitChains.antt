@@ -85,7 +85,8 @@ module _ {X : Type 0} (step : ℕ → Option (List ℕ) → X → X) (low : ℕ)
   may_wider high most (suc n) old new l m =
       (m.0, m.1, m.2, may_wider high most n old m.0 l m.3, (m.4.0, omega (arith, m.4.1)), m.5)
 
-  pub may_more : (high n : ℕ) (old new : Option X) → low < high → MayChange step low high n old new → MayChange step low high (suc n) old new
+  pub may_more : (high n : ℕ) (old new : Option X) → low < high → MayChange step low high n old new
+      → MayChange step low high (suc n) old new
   may_more high n old new l m = (new, low, None, m, (omega arith, l), inl refl)
 
   -- so many at most, of which some were done
@@ -167,8 +168,8 @@ same_take (suc n) [] (y ∷ ys) e = absurd (omega (arith, e))
 same_take (suc n) (x ∷ xs) [] e = absurd (omega (arith, e))
 same_take (suc n) (x ∷ xs) (y ∷ ys) e = ap (λ (k : ℕ). suc k) (same_take n xs ys (omega (arith, e)))
 
-all_zipped : (next : ℕ) (records : List PartRec) (directories : List PartDirectory) → AllByRecursion (λ recorded. recorded.blob < next) records
-    → AllByRecursion (λ part. part.0.blob < next) (zip records directories)
+all_zipped : (next : ℕ) (records : List PartRec) (directories : List PartDirectory)
+    → AllByRecursion (λ recorded. recorded.blob < next) records → AllByRecursion (λ part. part.0.blob < next) (zip records directories)
 all_zipped next [] directories a = tt
 all_zipped next (r ∷ records) [] a = tt
 all_zipped next (r ∷ records) (d ∷ directories) a = (a.0, all_zipped next records directories a.1)
@@ -207,7 +208,8 @@ pub record KeepsSound (content content_now : Content) (old new : Contents) : Typ
       → SomeOf (IsBrokenIn content blob) (zip old.parts old.directories)
   pub right : IsRightJob content old.job → IsRightJob content_now new.job
 
-right_there : (content : Content) (o : Option JobAt) (running : JobAt) → o ≡ Some running → IsRightJob content o → IsRight content running.state
+right_there : (content : Content) (o : Option JobAt) (running : JobAt) → o ≡ Some running → IsRightJob content o
+    → IsRight content running.state
 right_there content o running e r = if_job o running e r
   where
     if_job : (o : Option JobAt) (running : JobAt) → o ≡ Some running → IsRightJob content o → IsRight content running.state
@@ -249,7 +251,8 @@ module _ (ranges : Ranges) where
               (record {
                 broken = λ blob s.
                     ⊎_elim (λ a. absurd a) (λ b. b)
-                    (some_replaced (IsBrokenIn content blob) u.job.place (length u.state.parts) [] [] old.parts old.directories u.running.paired refl s);
+                    (some_replaced (IsBrokenIn content blob) u.job.place (length u.state.parts) [] [] old.parts old.directories
+                    u.running.paired refl s);
                 right = λ r. tt;
               }),
         ),
@@ -262,7 +265,8 @@ module _ (ranges : Ranges) where
           subst (λ c. KeepsSound content now old c) (sym m.contents)
               (record {
                 broken = λ blob s.
-                    ⊎_elim (λ a. ⊎_elim (λ (one : IsBrokenIn now blob (m.recorded, m.directory)). absurd (whole m blob one)) (λ z. absurd z) a)
+                    ⊎_elim
+                    (λ a. ⊎_elim (λ (one : IsBrokenIn now blob (m.recorded, m.directory)). absurd (whole m blob one)) (λ z. absurd z) a)
                     (λ b.
                     SomeOf-map (λ part. (part.0.blob < old.next_blob) × IsBrokenIn now blob part) (IsBrokenIn content blob)
                     (zip old.parts old.directories) (λ part p. older m blob part p)

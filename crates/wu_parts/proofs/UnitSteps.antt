@@ -48,8 +48,8 @@ module _ (place count : ℕ) (state : JobState) (long : count ≡ length state.p
       }))
 
   pub leaves_made : (bytes : List ℕ) (directory : PartDirectory) → state.terms_left ≡ [] → 0 < length state.done
-      → directory.generation ≡ state.generation → SpellsPart directory state.done bytes → Replaces place count (Some bytes) old new before after
-      → Leaves place state old new before after
+      → directory.generation ≡ state.generation → SpellsPart directory state.done bytes
+      → Replaces place count (Some bytes) old new before after → Leaves place state old new before after
   leaves_made bytes directory last some generation spelled r =
       let same : r.directory ≡ directory = one_directory r.directory directory bytes r.put.own spelled.own in
       inr (inr (record {
@@ -68,8 +68,8 @@ module _ (place count : ℕ) (state : JobState) (long : count ≡ length state.p
 
 -- what a step answered with the last term
 pub leaves_of : (made : Option (Vec ℕ Global)) (place count : ℕ) (state : JobState) (old new : Contents) (before after : Told)
-    → count ≡ length state.parts → Answers state (Done made) → Replaces place count (option_map (λ bytes. bytes.items) made) old new before after
-    → Leaves place state old new before after
+    → count ≡ length state.parts → Answers state (Done made)
+    → Replaces place count (option_map (λ bytes. bytes.items) made) old new before after → Leaves place state old new before after
 leaves_of None place count state old new before after long a r = leaves_vanished place count state long old new before after a.0 a.1 r
 leaves_of (Some bytes) place count state old new before after long a r =
     leaves_made place count state long old new before after bytes.items a.2 a.0 a.1 a.3 a.4 r
@@ -81,8 +81,8 @@ made_of None state generation a e = tt
 made_of (Some bytes) state generation a e = (a.2, a.3 ∙ e, a.4)
 
 -- a job whose last term was done
-pub ends_job : (records : List PartRec) (directories : List PartDirectory) (own : Running) (done : List TermList) (written : Option (List ℕ))
-    → IsKeptJob records directories own
+pub ends_job : (records : List PartRec) (directories : List PartDirectory) (own : Running) (done : List TermList)
+    (written : Option (List ℕ)) → IsKeptJob records directories own
     → IfSome written (λ bytes. (directory : PartDirectory) × (directory.generation ≡ own.job.generation) × SpellsPart directory done bytes)
     → StandWithin own.job.parts (flat_map (λ list. list.at) done) → EndsJob records directories own.place own.count written
 ends_job records directories own done written k made within = record {
@@ -140,7 +140,8 @@ ends_job records directories own done written k made within = record {
 -- ---- a step that fails
 
 -- all was read, and then the part couldn't be put
-pub stops_late : (job : JobAt) (holds : Option Content) (before middle now : ℕ) (reads reads_now : Option (List ReadRange)) (trouble : Trouble)
+pub stops_late : (job : JobAt) (holds : Option Content) (before middle now : ℕ) (reads reads_now : Option (List ReadRange))
+    (trouble : Trouble)
     → reads_now ≡ adds (step_ranges job.state.terms_left job.state.parts) reads → middle ≡ before → IsStoreCause middle now trouble
     → StopsStep job holds before now reads reads_now trouble
 stops_late job holds before middle now reads reads_now trouble r e c = record {

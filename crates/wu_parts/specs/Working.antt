@@ -41,8 +41,8 @@ pub record AreFew (ranges : Ranges) (contents : Contents) : Type 0 where
 
 -- ---- what may change
 
--- parts, the number of the next blob, the blobs no longer needed and the job; of these numbers at most so many are drawn, and more blobs are
--- no longer needed
+-- parts, the number of the next blob, the blobs no longer needed and the job; of these numbers at most so many are drawn, and more
+-- blobs are no longer needed
 pub record ChangesParts (units : ℕ) (old new : Contents) : Type 0 where
   pub others : new ≡ record old {
     parts = new.parts;
@@ -94,8 +94,8 @@ ReadsSome ranges contents read =
 
 -- Some units were done, fewer than so many, and then one failed. A store fault is answered only where the store's count of faults rose,
 -- which else is as it was. A blob is answered as damaged only where this unit read it, and it is that of a part that was broken before.
-pub record StopsWork (ranges : Ranges) (units : ℕ) (old : Contents) (told : Told) (before now : ℕ) (reads reads_now : Option (List ReadRange))
-    (trouble : Trouble) : Type 0 where
+pub record StopsWork (ranges : Ranges) (units : ℕ) (old : Contents) (told : Told) (before now : ℕ)
+    (reads reads_now : Option (List ReadRange)) (trouble : Trouble) : Type 0 where
   pub counted : before ≤ now
   pub store_fault : trouble ≡ StoreFault → Rose before now
   pub calm : trouble ≢ StoreFault → now ≡ before
