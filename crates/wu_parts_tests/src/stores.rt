@@ -181,12 +181,7 @@ pub fn recorded(alloc: Global, fails: &str, steps: &str) -> Result<String, NoAns
 }
 
 /// What so many units answer after the steps, what is recorded then, and which blobs are no longer needed.
-pub fn worked(
-    alloc: Global,
-    fails: &str,
-    steps: &str,
-    units: &str,
-) -> Result<String, NoAnswer> {
+pub fn worked(alloc: Global, fails: &str, steps: &str, units: &str) -> Result<String, NoAnswer> {
     let mut index = match after(alloc, 1, fails, steps)? {
         Outcome::Index(index) => index,
         Outcome::Trouble(trouble) => return trouble_text(alloc, trouble),
