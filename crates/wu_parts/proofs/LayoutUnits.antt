@@ -28,6 +28,7 @@ use Rattle.wu_parts.specs.Units.{DoesUnit, GoesOn, IsMade, IsNext, Vanishes, bar
 use Rattle.wu_parts.specs.Working.{Tells, TellsJob, TellsJobs, TellsParts}
 use Rattle.wu_parts.proofs.HeldParts.{hold-append, hold-blobs, hold-drop, hold-generations, hold-stay, hold-take, hold-taken, map-drop, map-take, parts_below, postings_taken, put_there}
 use Rattle.wu_parts.proofs.NewParts.{numbers_of}
+use Rattle.wu_parts.proofs.RunningJobs.{running_later}
 use Rattle.wu_parts.proofs.StartedJobs.{job, picks_job, tells_started}
 
 -- ---- small facts
@@ -133,6 +134,7 @@ module _ (is_file : ℕ → Bool) (text_of : ℕ → Text) (layout : Layout) (co
       next_blob = t.next_blob;
       flushes = t.flushes;
       stale = own_blobs;
+      running = tt;
       job = tt;
     }
 
@@ -181,6 +183,7 @@ module _ (is_file : ℕ → Bool) (text_of : ℕ → Text) (layout : Layout) (co
         next_blob = ap (λ (n : ℕ). n + 1) t.next_blob;
         flushes = t.flushes;
         stale = own_blobs;
+        running = tt;
         job = tt;
       }
 
@@ -248,6 +251,7 @@ module _ (is_file : ℕ → Bool) (text_of : ℕ → Text) (layout : Layout) (co
           next_blob = t.next_blob;
           flushes = t.flushes;
           stale = t.stale;
+          running = running_later old.parts old.directories u.job u.running u.state same_parts same_generation g.left;
           job = record {
             place = own.tells.place;
             count = number;

@@ -14,6 +14,7 @@ pub mod Spans
 pub mod MemoryLists
 pub mod Flushes
 pub mod HeldParts
+pub mod RunningJobs
 pub mod Policy
 pub mod StartedJobs
 pub mod LayoutUnits
@@ -25,3 +26,4 @@ pub mod EndedJobs
 pub mod StartedParts
 pub mod UnitSteps
 pub mod Covering
+pub mod KeptJobs

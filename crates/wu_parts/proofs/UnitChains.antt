@@ -24,6 +24,7 @@ use Rattle.wu_parts.specs.UnitsOfParts.{StopsUnit}
 use Rattle.wu_parts.specs.Working.{ChangesParts, IsBrokenIn, IsDamaged, IsRightJob, MayChange, StopsWork}
 use Rattle.wu_parts.proofs.HeldParts.{put_elsewhere, put_there, zip-drop, zip-take}
 use Rattle.wu_parts.proofs.LayoutUnits.{if_told}
+use Rattle.wu_parts.proofs.RunningJobs.{zip-append}
 
 -- ---- the parts
 
@@ -155,12 +156,6 @@ module _ {X : Type 0} (P : X → Type 0) where
   some_with Q [] a s = absurd s
   some_with Q (x ∷ xs) a s = ⊎_elim (λ p. inl (a.0, p)) (λ r. inr (some_with Q xs a.1 r)) s
 
-zip-append : {X Y : Type 0} (xs us : List X) (ys vs : List Y) → length xs ≡ length ys → zip (xs ++ us) (ys ++ vs) ≡ zip xs ys ++ zip us vs
-zip-append [] us [] vs e = refl
-zip-append [] us (y ∷ ys) vs e = absurd (omega (arith, e))
-zip-append (x ∷ xs) us [] vs e = absurd (omega (arith, e))
-zip-append {X} {Y} (x ∷ xs) us (y ∷ ys) vs e = ap (λ (l : List (X × Y)). (x, y) ∷ l) (zip-append xs us ys vs (omega (arith, e)))
-
 same_take : {X Y : Type 0} (n : ℕ) (xs : List X) (ys : List Y) → length xs ≡ length ys → length (take n xs) ≡ length (take n ys)
 same_take zero xs ys e = refl
 same_take (suc n) [] [] e = refl
@@ -168,7 +163,7 @@ same_take (suc n) [] (y ∷ ys) e = absurd (omega (arith, e))
 same_take (suc n) (x ∷ xs) [] e = absurd (omega (arith, e))
 same_take (suc n) (x ∷ xs) (y ∷ ys) e = ap (λ (k : ℕ). suc k) (same_take n xs ys (omega (arith, e)))
 
-all_zipped : (next : ℕ) (records : List PartRec) (directories : List PartDirectory)
+pub all_zipped : (next : ℕ) (records : List PartRec) (directories : List PartDirectory)
     → AllByRecursion (λ recorded. recorded.blob < next) records → AllByRecursion (λ part. part.0.blob < next) (zip records directories)
 all_zipped next [] directories a = tt
 all_zipped next (r ∷ records) [] a = tt

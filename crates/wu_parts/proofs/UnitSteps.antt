@@ -1,8 +1,7 @@
 -- A step of a job, as a part of a unit of background work.
-use Rattle.std.proofs.Common.{◌≡◌, ℕ, suc, Vec, Global, ◌+◌, ◌<◌, ◌≤◌, List, [], ◌∷◌, length, map, take, drop, Option, Some, None, option_map, refl, ap, sym, ◌∙◌, subst, arith, ⊎_elim, inl, inr, length-take, length-drop}
+use Rattle.std.proofs.Common.{◌≡◌, ℕ, Vec, Global, ◌+◌, ◌<◌, ◌≤◌, List, [], ◌∷◌, length, map, take, drop, Option, Some, None, option_map, refl, ap, sym, ◌∙◌, subst, arith, ⊎_elim, inl, inr}
 use Rattle.std.specs.Prelude.{IfSome, zip}
 use Rattle.std.specs.List.{flat_map}
-use Rattle.std.proofs.lemmas.List.{length-map}
 use Rattle.wu_base.specs.declared.addresses.PartRec.{PartRec}
 use Rattle.wu_base.specs.declared.addresses.TermList.{TermList}
 use Rattle.wu_base.specs.declared.troubles.Trouble.{Trouble}
@@ -10,7 +9,6 @@ use Rattle.wu_base.specs.declared.troubles.Trouble.TheVariants.{Damaged, NoMemor
 use Rattle.wu_outside.specs.Content.{Content}
 use Rattle.wu_outside.specs.Faults.{Rose}
 use Rattle.wu_outside.specs.declared.ranges.ReadRange.{ReadRange}
-use Rattle.wu_layout.specs.Layouts.{Part}
 use Rattle.wu_layout.specs.Invariants.{MayBeTaken, SomeOf}
 use Rattle.wu_layout.specs.Steps.{made_generation}
 use Rattle.wu_layout.proofs.HomeLemmas.{SomeOf-map}
@@ -26,11 +24,12 @@ use Rattle.wu_lists.specs.Causes.{IsNoPart}
 use Rattle.wu_parts.specs.Causes.{IsStoreCause}
 use Rattle.wu_parts.specs.Contents.{Contents, JobAt}
 use Rattle.wu_parts.specs.Flushing.{Told}
-use Rattle.wu_parts.specs.StoredParts.{IsKeptJob}
+use Rattle.wu_parts.specs.StoredParts.{IsKeptJob, running_at}
 use Rattle.wu_parts.specs.Units.{GoesOn, IsMade, IsNext, IsRunning, Leaves, Vanishes, bares, parts_at, with_made, without_taken}
 use Rattle.wu_parts.specs.UnitsOfParts.{EndsJob, IsMadeOf, Replaces, StopsStep, StopsUnit}
 use Rattle.wu_parts.specs.Working.{IsBrokenIn, IsDamaged}
 use Rattle.wu_parts.specs.declared.working.Running.{Running}
+use Rattle.wu_parts.proofs.RunningJobs.{room_of_running}
 use Rattle.wu_parts.proofs.UnitChains.{right_next, some-drop, some-take}
 
 -- ---- the end of a job
@@ -92,33 +91,8 @@ ends_job records directories own done written k made within = record {
   made = of_written written made;
 }
   where
-    long_zip : (xs : List PartRec) (ys : List PartDirectory) → length xs ≡ length ys → length (zip xs ys) ≡ length xs
-    long_zip [] ys e = refl
-    long_zip (x ∷ xs) [] e = absurd (omega (arith, e))
-    long_zip (x ∷ xs) (y ∷ ys) e = ap (λ (n : ℕ). suc n) (long_zip xs ys (omega (arith, e)))
-
-    some : (before taken : List Part) → MayBeTaken before taken → 0 < length taken
-    some before [] m = absurd m
-    some before (part ∷ parts) m = omega arith
-
     room : own.place + own.count ≤ length records
-    room =
-        let count : ℕ = length own.job.parts in
-        let number : count ≡ length (take count (drop own.place (zip records directories))) =
-        ap (λ (ps : List JobPart). length ps) k.running.parts
-        ∙ length-map (take count (drop own.place (zip records directories))) _ in
-        let filled : 0 < length (take count (drop own.place (bares records))) =
-        some (take own.place (bares records)) (take count (drop own.place (bares records))) k.running.taken in
-        omega (
-          arith,
-          number,
-          filled,
-          k.count,
-          long_zip records directories k.running.paired,
-          length-take count (drop own.place (zip records directories)),
-          length-drop own.place (zip records directories),
-          length-take count (drop own.place (bares records)),
-        )
+    room = omega (arith, room_of_running records directories (running_at own) k.running, k.count)
 
     of_written : (o : Option (List ℕ))
         → IfSome o (λ bytes. (directory : PartDirectory) × (directory.generation ≡ own.job.generation) × SpellsPart directory done bytes)

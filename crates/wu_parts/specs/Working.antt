@@ -20,7 +20,7 @@ use Rattle.wu_lists.specs.Causes.{IsNoPart}
 use Rattle.wu_parts.specs.Contents.{Contents, JobAt}
 use Rattle.wu_parts.specs.Flushing.{Told}
 use Rattle.wu_parts.specs.Holdings.{HoldParts}
-use Rattle.wu_parts.specs.Units.{DoUnits, IsNext, bares, next_job}
+use Rattle.wu_parts.specs.Units.{DoUnits, IsNext, IsRunning, bares, next_job}
 
 -- ---- answers
 
@@ -128,12 +128,14 @@ TellsJobs content parts None (Some job) = ⊥
 TellsJobs content parts (Some running) None = ⊥
 TellsJobs content parts (Some running) (Some job) = TellsJob content parts running job
 
--- What is kept of the parts, and the content, are those of the layout: its parts, the next blob, its flushes, stale blobs and its job.
+-- What is kept of the parts, and the content, are those of the layout: its parts, the next blob, its flushes, stale blobs and its job,
+-- whose parts are some of them.
 pub record TellsParts (content : Content) (contents : Contents) (layout : Layout) : Type 0 where
   pub parts : HoldParts content contents.parts contents.directories layout.parts
   pub next_blob : contents.next_blob ≡ layout.blob
   pub flushes : contents.flushes ≡ layout.flushes
   pub stale : contents.stale ≡ layout.stale
+  pub running : IfSome contents.job (IsRunning contents.parts contents.directories)
   pub job : TellsJobs content layout.parts contents.job layout.job
 
 -- the store tells what it holds, and that is so
