@@ -12,3 +12,14 @@ pub mod ReadingBack
 pub mod Spans
 pub mod MemoryLists
 pub mod Flushes
+pub mod HeldParts
+pub mod Policy
+pub mod StartedJobs
+pub mod LayoutUnits
+pub mod UnitChains
+pub mod LayoutWork
+pub mod SoundParts
+pub mod NextJobs
+pub mod EndedJobs
+pub mod StartedParts
+pub mod UnitSteps
