@@ -265,7 +265,7 @@ impl Parts {
         ensures stops { IfErr result (StopsWork space.now.ranges n self.old (D.holds store.old, D.moments store.old)
             (D.faults store.old) (D.faults store.new) (D.reads store.old) (D.reads store.new)) }
     {
-        for _done in 0..n {
+        for _ in 0..n {
             if !self.unit(store, space)? {
                 return Ok(());
             }
