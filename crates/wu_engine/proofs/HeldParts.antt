@@ -1,5 +1,5 @@
 -- The parts and the texts that a store holds, and the blocks that are kept, after blobs were put that were never drawn before.
-use Rattle.std.proofs.Common.{◌≡◌, ◌≢◌, ℕ, ◌+◌, ◌<◌, ◌≤◌, ◌==◌, cond, List, [], ◌∷◌, ◌++◌, refl, ap, sym, ◌∙◌, subst, arith, ⊎_elim}
+use Rattle.std.proofs.Common.{◌≡◌, ℕ, ◌+◌, ◌<◌, ◌≤◌, ◌==◌, cond, List, [], ◌∷◌, ◌++◌, refl, ap, sym, ◌∙◌, arith, ⊎_elim}
 use Rattle.std.specs.Prelude.{Option, Some, IfSome, count_by}
 use Rattle.std.specs.List.{AllByRecursion}
 use Rattle.std.proofs.lemmas.Bool.{cases_lt, eq-eqb, ne_eqb}
@@ -12,7 +12,7 @@ use Rattle.wu_layout.proofs.EntryLemmas.{IfSome-map2}
 use Rattle.wu_part.specs.Directories.{PartDirectory}
 use Rattle.wu_lists.specs.declared.blocks.Block.{Block}
 use Rattle.wu_lists.specs.Blocks.{bytes_of}
-use Rattle.wu_lists.specs.Keeping.{AreHeld, Kept}
+use Rattle.wu_lists.specs.Keeping.{Kept}
 use Rattle.wu_parts.specs.Holdings.{HoldsPart, HoldParts}
 use Rattle.wu_engine.specs.States.{Texts, text_in}
 use Rattle.wu_engine.specs.Stands.{HoldsTexts, KeepsBlocks}

@@ -1,5 +1,5 @@
 -- What an engine reports of its index: whether there is background work to do, and how large it is.
-use Rattle.std.specs.Prelude.{ℕ, length, sum_by}
+use Rattle.std.specs.Prelude.{length, sum_by}
 use Rattle.wu_base.specs.declared.reports.Stat.{Stat}
 use Rattle.wu_base.specs.declared.reports.Worked.{Worked}
 use Rattle.wu_layout.specs.Layouts.{postings_of}

@@ -200,7 +200,8 @@ impl Engine {
     /// only where there is nothing to do. It answers Idle exactly where no job is under way then and none is
     /// named, else Busy.
     ///
-    /// Of the store only the blocks of these terms in the jobs' parts are read, each in one read.
+    /// Of the store only the blocks of these terms in the jobs' parts are read, each in one read. Its errors are a
+    /// damaged part, a fault of the store, and out of memory.
     pub fn work<D: Store>(&mut self, store: &mut D, n: u32) -> Result<Worked, Trouble>
         requires blobs { self.old.parts.next_blob + n < 2 ^ 63 }
         // The answer is that of the state after the units, and engine and store stand for it.
@@ -228,9 +229,9 @@ impl Engine {
         ensures again { (trouble : Trouble) → self.old.ended ≡ Some trouble
             → (result ≡ Err trouble) × (self.new ≡ self.old) × (store.new ≡ store.old) }
         ensures cause { HasTroubleCause self.old.ended (D.faults store.old) (D.faults store.new) result }
-        // No blob is answered as damaged where engine and store stand for a state.
         ensures damaged { (blob : ℕ) → result ≡ Err (Damaged blob)
             → (self.old.ended ≡ Some (Damaged blob)) ⊎ IsDamaged (D.holds store.old) self.old.parts blob }
+        // No blob is answered as damaged where engine and store stand for a state.
         ensures undamaged { (s : State) → Stands self.old (D.holds store.old) s → (blob : ℕ) → result ≢ Err (Damaged blob) }
     {
         let _untouched = &*store;
