@@ -1,26 +1,26 @@
 -- What is kept of the parts, when a job ends or goes on.
-use Rattle.std.proofs.Common.{◌≡◌, ℕ, zero, suc, ◌+◌, ◌<◌, ◌≤◌, ◌^◌, List, [], ◌∷◌, ◌++◌, length, map, take, drop, insert, refl, ap, ap₂, sym, ◌∙◌, subst, arith}
-use Rattle.std.specs.Prelude.{Option, None, Some, IfSome, option_map}
+use Rattle.std.proofs.Common.{◌≡◌, ℕ, zero, suc, ◌+◌, ◌<◌, ◌≤◌, List, [], ◌∷◌, ◌++◌, length, map, take, drop, insert, refl, ap, sym, ◌∙◌, subst, arith}
+use Rattle.std.specs.Prelude.{Option, None, Some, option_map}
 use Rattle.std.specs.List.{flat_map}
 use Rattle.std.proofs.lemmas.List.{length-map}
 use Rattle.wu_base.specs.declared.addresses.PartRec.{PartRec}
 use Rattle.wu_base.specs.declared.addresses.TermList.{TermList}
-use Rattle.wu_layout.specs.Layouts.{Part}
 use Rattle.wu_layout.specs.Invariants.{MayBeTaken}
 use Rattle.wu_layout.specs.Steps.{made_generation}
 use Rattle.wu_layout.proofs.EachLemmas.{each-map}
 use Rattle.wu_part.specs.Directories.{PartDirectory}
 use Rattle.wu_part.specs.Parts.{SpellsPart}
 use Rattle.wu_part.proofs.LawLemmas.{one_directory}
-use Rattle.wu_job.specs.Jobs.{JobPart, JobState, MakesList, StandWithin, highest, lowest}
+use Rattle.wu_job.specs.Jobs.{JobState, MakesList, StandWithin}
 use Rattle.wu_parts.specs.Contents.{Contents, JobAt}
 use Rattle.wu_parts.specs.Flushing.{Told}
 use Rattle.wu_parts.specs.StoredParts.{AreSound, IsKeptJob, IsPutAs, directories_of, records_of, running_at}
-use Rattle.wu_parts.specs.Units.{IsRunning, bare, bares, parts_at, replaced, with_made, without_taken}
+use Rattle.wu_parts.specs.Units.{IsRunning, bare, bares, replaced, with_made, without_taken}
 use Rattle.wu_parts.specs.UnitsOfParts.{EndsJob}
 use Rattle.wu_parts.specs.declared.working.Running.{Running}
 use Rattle.wu_parts.specs.declared.writing.StoredPart.{StoredPart}
 use Rattle.wu_parts.proofs.HeldParts.{map-drop, map-take}
+use Rattle.wu_parts.proofs.RunningJobs.{running_later}
 use Rattle.wu_parts.proofs.SoundParts.{job_part, map-replaced, numbers_within, parts_at_stored, sound_made, sound_without}
 
 pub insert_back : {X : Type 0} (place : ℕ) (old ys now new : List X) (x : X) → place ≤ length old → now ≡ take place old ++ ys
@@ -103,26 +103,12 @@ pub running_on : (records : List PartRec) (directories : List PartDirectory) (ol
     → 0 < length new.job.terms_left → IsKeptJob records directories new
 running_on records directories old new term kept k p n m left =
     let parts : new.job.parts ≡ old.job.parts = ap (λ (state : JobState). state.parts) m.others in
-    let long : length new.job.parts ≡ length old.job.parts = ap length parts in
-    let generation : new.job.generation ≡ old.job.generation = ap (λ (state : JobState). state.generation) m.others in
     record {
-      running = record {
-        paired = k.running.paired;
-        parts =
-            parts
-            ∙ k.running.parts
-            ∙ ap₂ (λ (place count : ℕ). parts_at place count records directories) (sym p) (sym long);
-        taken =
-            subst (λ place. MayBeTaken (take place (bares records)) (take (length new.job.parts) (drop place (bares records)))) (sym p)
-            (subst (λ count. MayBeTaken (take old.place (bares records)) (take count (drop old.place (bares records)))) (sym long)
-            k.running.taken);
-        generation =
-            generation
-            ∙ k.running.generation
-            ∙ ap₂ (λ (place count : ℕ). made_generation (take count (drop place (bares records)))) (sym p) (sym long);
-        left = left;
-      };
-      count = n ∙ k.count ∙ sym long;
+      running =
+          subst (λ place. IsRunning records directories (record { place = place; state = new.job })) (sym p)
+          (running_later records directories (running_at old) k.running new.job parts
+          (ap (λ (state : JobState). state.generation) m.others) left);
+      count = n ∙ k.count ∙ sym (ap length parts);
     }
 
 -- ---- what contracts see

@@ -1,6 +1,6 @@
 -- The parts that a content holds, cut and put together, and after a blob was put that none of them has.
 use Rattle.std.proofs.Common.{◌≡◌, ◌≢◌, ℕ, zero, suc, ◌+◌, ◌<◌, ◌≤◌, ◌==◌, cond, List, [], ◌∷◌, ◌++◌, length, map, take, drop, refl, ap, ap₂, sym, ◌∙◌, subst, arith}
-use Rattle.std.specs.Prelude.{Some, None, Option, zip, count_by}
+use Rattle.std.specs.Prelude.{Some, Option, zip, count_by}
 use Rattle.std.specs.List.{AllByRecursion, AllZip}
 use Rattle.std.proofs.lemmas.Bool.{eq-eqb, ne_eqb}
 use Rattle.std.proofs.lemmas.List.Sums.{sum_by-cons}
@@ -8,12 +8,10 @@ use Rattle.wu_base.specs.declared.addresses.PartRec.{PartRec}
 use Rattle.wu_outside.specs.Content.{Content, with_blob}
 use Rattle.wu_layout.specs.Layouts.{FileEntry, Part}
 use Rattle.wu_layout.specs.Invariants.{BlobsAreDistinct}
-use Rattle.wu_layout.specs.Postings.{Posting}
 use Rattle.wu_part.specs.Directories.{PartDirectory}
-use Rattle.wu_job.specs.Jobs.{JobPart}
 use Rattle.wu_job.specs.Postings.{HoldPostings}
-use Rattle.wu_parts.specs.Holdings.{HoldsPart, HoldParts}
-use Rattle.wu_parts.specs.Units.{bare, bares, parts_at}
+use Rattle.wu_parts.specs.Holdings.{HoldParts}
+use Rattle.wu_parts.specs.Units.{bares, parts_at}
 
 -- ---- lists side by side
 
@@ -160,7 +158,8 @@ none_there next (part ∷ parts) none =
     λ number above. sym (sum_by-cons (λ (p : Part). cond {A = ℕ} (p.blob == number) 1 0) part parts) ∙ none number above in (
       (let own : cond {A = ℕ} (part.blob == part.blob) 1 0 ≡ 1 =
           ap (λ b. cond {A = ℕ} b 1 0) (eq-eqb part.blob part.blob refl) in
-          let absent : next ≤ part.blob → cond {A = ℕ} (part.blob == part.blob) 1 0 + count_by (λ (p : Part). p.blob == part.blob) parts ≡ 0 =
+          let absent : next ≤ part.blob
+          → cond {A = ℕ} (part.blob == part.blob) 1 0 + count_by (λ (p : Part). p.blob == part.blob) parts ≡ 0 =
           here part.blob in
           grind (arith, own, absent)),
       none_there next parts (λ number above. omega (arith, here number above)),

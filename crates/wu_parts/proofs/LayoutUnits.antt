@@ -1,35 +1,34 @@
 -- A unit of work on the parts is a unit of the layout's.
-use Rattle.std.proofs.Common.{◌≡◌, ℕ, zero, suc, ◌+◌, ◌<◌, ◌≤◌, Bool, List, [], ◌∷◌, ◌++◌, length, map, take, drop, Option, Some, None, option_map, refl, ap, ap₂, sym, ◌∙◌, subst, arith, ⊎_elim, sum_by}
-use Rattle.std.specs.Prelude.{IfSome, zip}
+use Rattle.std.proofs.Common.{◌≡◌, ℕ, suc, ◌+◌, ◌<◌, ◌≤◌, Bool, List, [], ◌∷◌, ◌++◌, length, map, take, drop, Option, Some, None, option_map, refl, ap, ap₂, sym, ◌∙◌, subst, arith, ⊎_elim, sum_by}
+use Rattle.std.specs.Prelude.{IfSome}
 use Rattle.std.specs.Option.{option_or}
-use Rattle.std.specs.List.{AllByRecursion, AllZip, flat_map}
+use Rattle.std.specs.List.{AllByRecursion, AllZip}
 use Rattle.std.proofs.lemmas.List.Folds.{flat_map-map}
 use Rattle.wu_base.specs.declared.addresses.PartRec.{PartRec}
 use Rattle.wu_base.specs.declared.addresses.TermList.{TermList}
 use Rattle.wu_outside.specs.Content.{Content, with_blob}
 use Rattle.wu_outside.specs.declared.ranges.ReadRange.{ReadRange}
-use Rattle.wu_layout.specs.Layouts.{FileEntry, Job, Part, Layout, Text, lists_of, parts_taken, ranges_by_number, stored_in}
+use Rattle.wu_layout.specs.Layouts.{Job, Part, Layout, Text, lists_of, parts_taken, ranges_by_number, stored_in}
 use Rattle.wu_layout.specs.Postings.{Ascend, Posting, is_live, live_of}
 use Rattle.wu_layout.specs.Invariants.{IsLayoutOf, IsUnderWay, JobIsUnderWay}
-use Rattle.wu_layout.specs.Steps.{end_job, job_of, made_generation, pick, replaced as replaced_by, unit, unit_of, with_terms_left}
-use Rattle.wu_layout.proofs.EachLemmas.{each-drop, each-take}
+use Rattle.wu_layout.specs.Steps.{job_of, made_generation, pick, replaced as replaced_by, unit, unit_of, with_terms_left}
 use Rattle.wu_layout.proofs.HomeLemmas.{taken_bounded}
 use Rattle.wu_layout.proofs.ListTotals.{lists_total}
 use Rattle.wu_layout.proofs.PostingLemmas.{Ascend-filter}
 use Rattle.wu_layout.proofs.Units.{job_under_way}
 use Rattle.wu_part.specs.Directories.{PartDirectory}
 use Rattle.wu_part.specs.Parts.{IsRecorded, SpellsPart}
-use Rattle.wu_space.specs.Addresses.{Ranges}
-use Rattle.wu_job.specs.Jobs.{DoesTerm, IsRight, JobPart, JobState, MakesList}
+use Rattle.wu_job.specs.Jobs.{IsRight, JobPart, JobState, MakesList}
 use Rattle.wu_job.specs.Postings.{HoldPostings}
 use Rattle.wu_job.proofs.Made.{all_made}
 use Rattle.wu_parts.specs.Contents.{Contents, JobAt}
-use Rattle.wu_parts.specs.Flushing.{Told, put_into}
+use Rattle.wu_parts.specs.Flushing.{Told}
 use Rattle.wu_parts.specs.Holdings.{HoldParts, HoldsPart}
-use Rattle.wu_parts.specs.Units.{DoesUnit, GoesOn, IsMade, IsNext, IsRunning, Leaves, Starts, Vanishes, bare, bares, parts_at, replaced, with_made, without_taken}
+use Rattle.wu_parts.specs.Units.{DoesUnit, GoesOn, IsMade, IsNext, Vanishes, bare, bares, parts_at, with_made, without_taken}
 use Rattle.wu_parts.specs.Working.{Tells, TellsJob, TellsJobs, TellsParts}
 use Rattle.wu_parts.proofs.HeldParts.{hold-append, hold-blobs, hold-drop, hold-generations, hold-stay, hold-take, hold-taken, map-drop, map-take, parts_below, postings_taken, put_there}
 use Rattle.wu_parts.proofs.NewParts.{numbers_of}
+use Rattle.wu_parts.proofs.RunningJobs.{running_later}
 use Rattle.wu_parts.proofs.StartedJobs.{job, picks_job, tells_started}
 
 -- ---- small facts
@@ -135,6 +134,7 @@ module _ (is_file : ℕ → Bool) (text_of : ℕ → Text) (layout : Layout) (co
       next_blob = t.next_blob;
       flushes = t.flushes;
       stale = own_blobs;
+      running = tt;
       job = tt;
     }
 
@@ -175,8 +175,7 @@ module _ (is_file : ℕ → Bool) (text_of : ℕ → Text) (layout : Layout) (co
         parts =
             hold-append after (take its.place old.parts) (recorded ∷ drop its.count (drop its.place old.parts))
             (take its.place old.directories) (directory ∷ drop its.count (drop its.place old.directories)) (take its.place layout.parts) _
-            (hold-take after its.place old.parts old.directories layout.parts stay)
-            (
+            (hold-take after its.place old.parts old.directories layout.parts stay) (
               made_part,
               hold-drop after its.count (drop its.place old.parts) (drop its.place old.directories) (drop its.place layout.parts)
                   (hold-drop after its.place old.parts old.directories layout.parts stay),
@@ -184,6 +183,7 @@ module _ (is_file : ℕ → Bool) (text_of : ℕ → Text) (layout : Layout) (co
         next_blob = ap (λ (n : ℕ). n + 1) t.next_blob;
         flushes = t.flushes;
         stale = own_blobs;
+        running = tt;
         job = tt;
       }
 
@@ -251,6 +251,7 @@ module _ (is_file : ℕ → Bool) (text_of : ℕ → Text) (layout : Layout) (co
           next_blob = t.next_blob;
           flushes = t.flushes;
           stale = t.stale;
+          running = running_later old.parts old.directories u.job u.running u.state same_parts same_generation g.left;
           job = record {
             place = own.tells.place;
             count = number;
@@ -306,7 +307,8 @@ module _ (is_file : ℕ → Bool) (text_of : ℕ → Text) (layout : Layout) (co
         of_kept (p ∷ ps) some =
             let ascend : Ascend bound.0 bound.1 (p ∷ ps) =
             subst (λ qs. Ascend bound.0 bound.1 qs) some
-            (Ascend-filter (λ (q : Posting). is_live own.its.live q.address) bound.0 bound.1 (stored_in (parts_taken own.its layout.parts)) bound.3) in
+            (Ascend-filter (λ (q : Posting). is_live own.its.live q.address) bound.0 bound.1
+            (stored_in (parts_taken own.its layout.parts)) bound.3) in
             let spelled : SpellsPart m.directory (lists_of (p ∷ ps)) m.bytes =
             subst (λ ls. SpellsPart m.directory ls m.bytes) (done_is m.last ∙ ap lists_of some) m.spelled in
             subst (λ l. Tells after.0 new l) (sym (ended m.last ∙ ap (λ (qs : List Posting). replaced_by qs own.its layout) some))

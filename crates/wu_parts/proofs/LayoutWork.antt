@@ -1,5 +1,5 @@
 -- Several units of work on the parts are as many of the layout's; and where no work is left, there are few parts.
-use Rattle.std.proofs.Common.{◌≡◌, ℕ, zero, suc, ◌+◌, ◌-◌, ◌*◌, ◌^◌, ◌<◌, ◌≤◌, ◌&&◌, not, Bool, true, false, List, [], ◌∷◌, length, map, drop, Option, Some, None, option_map, is_some, position, zip, refl, ap, ap₂, sym, ◌∙◌, subst, arith, ⊎_elim, pow-suc, pow_mono}
+use Rattle.std.proofs.Common.{◌≡◌, ℕ, zero, suc, ◌+◌, ◌-◌, ◌*◌, ◌^◌, ◌<◌, ◌≤◌, ◌&&◌, not, Bool, true, false, List, [], ◌∷◌, length, Option, Some, None, option_map, is_some, position, zip, refl, ap, ap₂, sym, ◌∙◌, subst, arith, ⊎_elim, pow-suc, pow_mono}
 use Rattle.std.specs.Option.{option_or}
 use Rattle.std.specs.List.{AllByRecursion}
 use Rattle.std.proofs.lemmas.Bool.{cases_Bool, cases_lt, eqb-false, leb-false}
@@ -7,7 +7,7 @@ use Rattle.std.proofs.lemmas.List.Sums.{sum_by-cons}
 use Rattle.wu_base.specs.declared.addresses.PartRec.{PartRec}
 use Rattle.wu_outside.specs.Content.{Content}
 use Rattle.wu_outside.specs.declared.ranges.ReadRange.{ReadRange}
-use Rattle.wu_layout.specs.Layouts.{FileEntry, Job, Layout, Part, Text, ranges_by_number}
+use Rattle.wu_layout.specs.Layouts.{Job, Layout, Part, Text, ranges_by_number}
 use Rattle.wu_layout.specs.Invariants.{Fall, IsLayoutOf, NeverRise, SomeOf, flushes_for}
 use Rattle.wu_layout.specs.Steps.{alike_neighbours, is_idle as is_idle_in, job_at, job_of, pick, unit, unit_of, work}
 use Rattle.wu_layout.proofs.EachLemmas.{each-map}
@@ -20,7 +20,7 @@ use Rattle.wu_lists.specs.Causes.{IsNoPart}
 use Rattle.wu_parts.specs.Contents.{Contents, JobAt}
 use Rattle.wu_parts.specs.Flushing.{Told}
 use Rattle.wu_parts.specs.Holdings.{HoldParts}
-use Rattle.wu_parts.specs.Units.{DoUnits, DoesUnit, bare, bares, count_of, is_half_dead, next_job, place_of}
+use Rattle.wu_parts.specs.Units.{DoUnits, DoesUnit, bares, count_of, is_half_dead, next_job, place_of}
 use Rattle.wu_parts.specs.Working.{AreFew, DoesWork, IsBrokenIn, IsDamaged, IsRightJob, Tells, TellsJobs, TellsParts, is_idle}
 use Rattle.wu_parts.proofs.LayoutUnits.{tells_after_unit}
 use Rattle.wu_parts.proofs.Policy.{picked_is}
@@ -69,7 +69,8 @@ module _ (is_file : ℕ → Bool) (text_of : ℕ → Text) (layout : Layout) (d 
 
 -- ---- whether there is more to do
 
-same_some : (content : Content) (parts : List Part) (o : Option JobAt) (p : Option Job) → TellsJobs content parts o p → is_some o ≡ is_some p
+same_some : (content : Content) (parts : List Part) (o : Option JobAt) (p : Option Job) → TellsJobs content parts o p
+    → is_some o ≡ is_some p
 same_some content parts None None t = refl
 same_some content parts None (Some job) t = absurd t
 same_some content parts (Some running) None t = absurd t
@@ -184,8 +185,8 @@ no_next None b e = refl
 no_next (Some x) true e = absurd cc
 no_next (Some x) false e = absurd cc
 
-pub few_left : (ranges : Ranges) (contents : Contents) → NeverRise (bares contents.parts) → flushes_for (bares contents.parts) ≤ contents.flushes
-    → is_idle ranges contents ≡ true → AreFew ranges contents
+pub few_left : (ranges : Ranges) (contents : Contents) → NeverRise (bares contents.parts)
+    → flushes_for (bares contents.parts) ≤ contents.flushes → is_idle ranges contents ≡ true → AreFew ranges contents
 few_left ranges contents n f e =
     let none : next_job ranges contents.parts ≡ None = no_next (next_job ranges contents.parts) (not (is_some contents.job)) e in
     let either = neither _ _ none in

@@ -5,6 +5,7 @@ pub mod Putting
 pub mod Gaining
 pub mod Chaining
 pub mod SortedTerms
+pub mod LeadingLemmas
 pub mod LiveTerms
 pub mod NewParts
 pub mod Asking
@@ -13,6 +14,7 @@ pub mod Spans
 pub mod MemoryLists
 pub mod Flushes
 pub mod HeldParts
+pub mod RunningJobs
 pub mod Policy
 pub mod StartedJobs
 pub mod LayoutUnits
@@ -23,3 +25,5 @@ pub mod NextJobs
 pub mod EndedJobs
 pub mod StartedParts
 pub mod UnitSteps
+pub mod Covering
+pub mod KeptJobs

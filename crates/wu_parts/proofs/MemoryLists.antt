@@ -1,5 +1,5 @@
 -- The lists that a flush makes of the chains in memory.
-use Rattle.std.proofs.Common.{◌≡◌, ℕ, ◌+◌, ◌-◌, ◌^◌, ◌<◌, ◌≤◌, nat_eq, nat_lt, Bool, true, false, cond, All, filter, List, [], ◌∷◌, ◌++◌, length, map, take, get_or, zero, suc, refl, ap, sym, subst, ◌∙◌, arith, Vec, Global}
+use Rattle.std.proofs.Common.{◌≡◌, ℕ, ◌+◌, ◌-◌, ◌^◌, ◌<◌, ◌≤◌, nat_eq, nat_lt, Bool, true, false, cond, All, filter, nat_le, List, [], ◌∷◌, ◌++◌, length, map, take, get_or, zero, suc, refl, ap, sym, subst, ◌∙◌, arith, Vec, Global}
 use denote.Ref.{Bor}
 use Rattle.std.specs.Prelude.{IsPermutation}
 use Rattle.std.specs.List.{AllByRecursion, IsDistinct}
@@ -22,7 +22,7 @@ use Rattle.wu_parts.specs.Lists.{AreInOrder, AscendBetween, IsList}
 use Rattle.wu_parts.specs.Chains.{AreChains, Chained, addressed, all_moved, chained, lent, lists_of, memory_of, moved, places_of}
 use Rattle.wu_parts.specs.LiveLists.{AreEncodable, live_lists}
 use Rattle.wu_parts.proofs.Ascending.{all_from_zero, ascend-moved, order-from_apart}
-use Rattle.wu_parts.proofs.LiveTerms.{IsListWithin, lists_encodable, live_lists-append, live_lists_are, live_same}
+use Rattle.wu_parts.proofs.LiveTerms.{IsListWithin, filter-zero, lists_encodable, live_lists-append, live_lists_are, live_same}
 
 abbrev Entries : Type 0
 Entries = List (Vec ℕ Global × Chain)
@@ -75,7 +75,7 @@ module _ (links : List ℕ) where
           are_within entries a.1,
         )
 
-all_between : (low high : ℕ) (P : ℕ → Type 0) (xs : List ℕ) → ((x : ℕ) → low ≤ x → x < high → P x) → AscendBetween low high xs
+pub all_between : (low high : ℕ) (P : ℕ → Type 0) (xs : List ℕ) → ((x : ℕ) → low ≤ x → x < high → P x) → AscendBetween low high xs
     → AllByRecursion P xs
 all_between low high P [] f a = tt
 all_between low high P (x ∷ xs) f a =
@@ -132,27 +132,29 @@ module _ (low start stored : ℕ) (links : List ℕ) (es : Entries) (entries : L
 
 -- ---- one entry after another
 
-pub all_at : {X : Type 0} (P : X → Type 0) (xs : List X) (place : ℕ) (x : X) → AllByRecursion P xs → place < length xs
-    → x ≡ get_or xs place x → P x
-all_at P [] place x a l is = absurd (omega arith)
-all_at P (y ∷ ys) zero x a l is = subst P (sym is) a.0
-all_at P (y ∷ ys) (suc place) x a l is = all_at P ys place x a.1 (omega arith) is
+pub all_at : {X : Type 0} (P : X → Type 0) (xs : List X) (place : ℕ) (d : X) → AllByRecursion P xs → place < length xs
+    → P (get_or xs place d)
+all_at P [] place d a l = absurd (omega arith)
+all_at P (y ∷ ys) zero d a l = a.0
+all_at P (y ∷ ys) (suc place) d a l = all_at P ys place d a.1 (omega arith)
 
 pub more_live : (start : ℕ) (links : List ℕ) (live : List Range) (entries : List (Bor (List ℕ) × Chain)) (place : ℕ)
-    (entry : Bor (List ℕ) × Chain) (before after : List TermList) → place < length entries → entry ≡ get_or entries place entry
+    (d : Bor (List ℕ) × Chain) (addresses : List ℕ) (before after : List TermList) → place < length entries
+    → addresses ≡ filter (nat_le 0) (moved start (places_of links (get_or entries place d).1))
     → before ≡ live_lists live (map (addressed start links) (map lent (take place entries)))
-    → after ≡ before ++ live_lists live (addressed start links (entry.0.now, entry.1) ∷ [])
+    → after ≡ before ++ live_lists live (((get_or entries place d).0.now, addresses) ∷ [])
     → after ≡ live_lists live (map (addressed start links) (map lent (take (place + 1) entries)))
-more_live start links live entries place entry before after l is b e =
+more_live start links live entries place d addresses before after l is b e =
     let address : Chained → List ℕ × List ℕ = addressed start links in
+    let entry : Bor (List ℕ) × Chain = get_or entries place d in
     let front : List (Bor (List ℕ) × Chain) = take place entries in
-    let longer : take (place + 1) entries ≡ front ++ entry ∷ [] =
-    take_more entries place entry l ∙ ap (λ (x : Bor (List ℕ) × Chain). front ++ x ∷ []) (sym is) in
+    let walked : addresses ≡ moved start (places_of links entry.1) = is ∙ filter-zero (moved start (places_of links entry.1)) in
     let whole : map address (map lent (take (place + 1) entries)) ≡ map address (map lent front) ++ address (lent entry) ∷ [] =
-    ap (λ (l : List (Bor (List ℕ) × Chain)). map address (map lent l)) longer
+    ap (λ (l : List (Bor (List ℕ) × Chain)). map address (map lent l)) (take_more entries place d l)
     ∙ ap (map address) (map-append lent front (entry ∷ []))
     ∙ map-append address (map lent front) (lent entry ∷ []) in
     e
+    ∙ ap (λ (at : List ℕ). before ++ live_lists live ((entry.0.now, at) ∷ [])) walked
     ∙ ap (λ (ls : List TermList). ls ++ live_lists live (address (lent entry) ∷ [])) b
     ∙ sym (live_lists-append live (map address (map lent front)) (address (lent entry) ∷ []))
     ∙ ap (live_lists live) (sym whole)

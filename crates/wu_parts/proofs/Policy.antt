@@ -1,11 +1,10 @@
 -- The job that the policy names by records and live ranges is the one that it names in the layout.
-use Rattle.std.proofs.Common.{◌≡◌, ℕ, suc, ◌+◌, ◌*◌, ◌<◌, ◌≤◌, ◌==◌, ◌&&◌, not, nat_le, nat_lt, Bool, true, false, cond, List, [], ◌∷◌, ◌++◌, length, map, drop, Option, Some, None, option_map, position, zip, refl, ap, ap₂, sym, ◌∙◌, subst, arith, append_assoc}
+use Rattle.std.proofs.Common.{◌≡◌, ℕ, suc, ◌+◌, ◌*◌, ◌<◌, ◌==◌, not, nat_le, nat_lt, Bool, cond, List, [], ◌∷◌, ◌++◌, length, map, drop, Option, Some, None, option_map, position, zip, refl, ap, ap₂, sym, ◌∙◌, subst, append_assoc}
 use Rattle.std.specs.Option.{option_or}
 use Rattle.std.specs.List.{AllByRecursion, AllZip, position_or_len}
 use Rattle.wu_base.specs.declared.addresses.PartRec.{PartRec}
-use Rattle.wu_base.specs.declared.addresses.Range.{Range}
 use Rattle.wu_outside.specs.Content.{Content}
-use Rattle.wu_layout.specs.Layouts.{FileEntry, Part, Layout, Text, first_address, ranges_by_number, ranges_of, stored_in}
+use Rattle.wu_layout.specs.Layouts.{Part, Layout, Text, first_address, ranges_by_number, ranges_of, stored_in}
 use Rattle.wu_layout.specs.Postings.{Ascend, live_of}
 use Rattle.wu_layout.specs.Invariants.{IsLayoutOf}
 use Rattle.wu_layout.specs.Steps.{alike_neighbours, is_half_dead as half_dead_in, job_at, pick}
@@ -84,7 +83,8 @@ module _ (is_file : ℕ → Bool) (text_of : ℕ → Text) (layout : Layout) (co
       let split = Ascend-split low high part.postings (stored_in parts) a in
       let span : IsSpan r.low r.high part.postings =
       subst (λ n. IsSpan n r.high part.postings) (sym h.0.record_of.low)
-      (subst (λ n. IsSpan (first_address part.postings) n part.postings) (sym h.0.record_of.high) (span_of low split.0 part.postings split.1.0 f.0)) in
+      (subst (λ n. IsSpan (first_address part.postings) n part.postings) (sym h.0.record_of.high)
+      (span_of low split.0 part.postings split.1.0 f.0)) in
       let live : live_in ranges r.low r.high ≡ length (live_of (ranges_of layout.files) part.postings) =
       live_in_part is_file text_of layout r.low r.high d before part parts e span in (
         ap₂ (λ (n m : ℕ). nat_le (2 * n) m) live h.0.record_of.stored ∙ sym (half_dead_by_numbers (ranges_of layout.files) part),

@@ -1,9 +1,9 @@
 -- What is kept of the parts stays true when a part is put at their end, and when a job's parts are replaced.
-use Rattle.std.proofs.Common.{◌≡◌, ℕ, zero, suc, ◌+◌, ◌-◌, ◌^◌, ◌<◌, ◌≤◌, ◌==◌, List, [], ◌∷◌, ◌++◌, length, map, take, drop, refl, ap, ap₂, sym, ◌∙◌, subst, arith, append-nil, length-append, length-take, length-drop, take-append-drop}
-use Rattle.std.specs.Prelude.{IfSome, Option, None, Some, zip}
+use Rattle.std.proofs.Common.{◌≡◌, ℕ, ◌+◌, ◌^◌, ◌<◌, ◌≤◌, ◌==◌, List, [], ◌∷◌, ◌++◌, length, map, take, drop, refl, ap, ap₂, sym, ◌∙◌, subst, arith, append-nil, take-append-drop}
+use Rattle.std.specs.Prelude.{Option, None}
 use Rattle.std.specs.List.{AllByRecursion, flat_map}
 use Rattle.std.proofs.lemmas.Bool.{eqb-true}
-use Rattle.std.proofs.lemmas.List.{length-map, map-append, take-append-le}
+use Rattle.std.proofs.lemmas.List.{length-map, map-append}
 use Rattle.std.proofs.lemmas.List.Sums.{sum_by-append, sum_by-cons}
 use Rattle.wu_base.specs.declared.addresses.PartRec.{PartRec}
 use Rattle.wu_base.specs.declared.addresses.TermList.{TermList}
@@ -19,32 +19,26 @@ use Rattle.wu_part.specs.Directories.{PartDirectory, all_blocks}
 use Rattle.wu_part.specs.Parts.{IsRecorded, SpellsPart}
 use Rattle.wu_job.specs.Jobs.{JobPart, StandWithin, highest, lowest}
 use Rattle.wu_parts.specs.Contents.{JobAt}
-use Rattle.wu_parts.specs.StoredParts.{AreSound, AreStored, IsKeptJob, SpansAscend, directories_of, pairs_of, records_of}
+use Rattle.wu_parts.specs.StoredParts.{AreSound, AreStored, IsKeptJob, SpansAscend, directories_of, records_of}
 use Rattle.wu_parts.specs.Units.{IsRunning, bare, bares, parts_at, replaced}
 use Rattle.wu_parts.specs.declared.working.Running.{Running}
 use Rattle.wu_parts.specs.declared.writing.StoredPart.{StoredPart}
 use Rattle.wu_parts.proofs.Asking.{zipped}
 use Rattle.wu_parts.proofs.HeldParts.{map-drop, map-take}
 use Rattle.wu_parts.proofs.NewParts.{AreEnds, all_addresses, lists_end}
+use Rattle.wu_parts.proofs.RunningJobs.{running_more, some_taken}
 use Rattle.wu_parts.proofs.Spans.{directories-push, records-push, spans-bounds}
 
 -- ---- lists
 
 module _ {X : Type 0} where
-  take_front : (n : ℕ) (xs ys : List X) → n ≤ length xs → take n (xs ++ ys) ≡ take n xs
-  take_front n xs ys l = take-append-le n xs ys l
-
-  take_kept : (n k : ℕ) (xs ys : List X) → n + k ≤ length xs → take k (drop n (xs ++ ys)) ≡ take k (drop n xs)
-  take_kept zero k xs ys l = take-append-le k xs ys (omega (arith, l))
-  take_kept (suc n) k [] ys l = absurd (omega (arith, l))
-  take_kept (suc n) k (x ∷ xs) ys l = take_kept n k xs ys (omega (arith, l))
-
   cut_split : (place count : ℕ) (xs : List X) → xs ≡ take place xs ++ (take count (drop place xs) ++ drop count (drop place xs))
   cut_split place count xs =
       sym (take-append-drop place xs) ∙ ap (λ (ys : List X). take place xs ++ ys) (sym (take-append-drop count (drop place xs)))
 
 module _ {X Y : Type 0} (f : X → Y) where
-  pub map-replaced : (place count : ℕ) (made xs : List X) → map f (replaced place count made xs) ≡ replaced place count (map f made) (map f xs)
+  pub map-replaced : (place count : ℕ) (made xs : List X)
+      → map f (replaced place count made xs) ≡ replaced place count (map f made) (map f xs)
   map-replaced place count made xs =
       map-append f (take place xs) (made ++ drop count (drop place xs))
       ∙ ap₂ ◌++◌ (map-take f place xs)
@@ -65,38 +59,15 @@ parts_at_stored place count parts =
   where
     make : PartRec × PartDirectory → JobPart
     make part = record { recorded = part.0; directory = part.1 }
+
     pair : StoredPart → PartRec × PartDirectory
     pair part = (part.recorded, part.directory)
+
     both : (ps : List StoredPart) → map make (map pair ps) ≡ map job_part ps
     both [] = refl
     both (p ∷ ps) = ap (λ (l : List JobPart). job_part p ∷ l) (both ps)
 
--- ---- a job's parts are there
-
-some_taken : (before taken : List Part) → MayBeTaken before taken → 0 < length taken
-some_taken before [] m = absurd m
-some_taken before (part ∷ parts) m = omega arith
-
-pub room_of_job : (parts : List StoredPart) (job : JobAt) → IsRunning (records_of parts) (directories_of parts) job
-    → job.place + length job.state.parts ≤ length parts
-room_of_job parts job r =
-    let count : ℕ = length job.state.parts in
-    let number : count ≡ length (take count (drop job.place parts)) =
-    ap (λ (ps : List JobPart). length ps) (r.parts ∙ parts_at_stored job.place count parts)
-    ∙ length-map (take count (drop job.place parts)) job_part in
-    let some : 0 < length (take count (drop job.place (bares (records_of parts)))) =
-    some_taken (take job.place (bares (records_of parts))) (take count (drop job.place (bares (records_of parts)))) r.taken in
-    omega (
-      arith,
-      number,
-      some,
-      length-take count (drop job.place parts),
-      length-drop job.place parts,
-      length-take count (drop job.place (bares (records_of parts))),
-      length-drop job.place (bares (records_of parts)),
-      length-map (records_of parts) bare,
-      length-map parts (λ (p : StoredPart). p.recorded),
-    )
+-- ---- jobs
 
 pub same_length : (parts : List StoredPart) → length (records_of parts) ≡ length (directories_of parts)
 same_length parts =
@@ -105,31 +76,9 @@ same_length parts =
 running_pushed : (parts : List StoredPart) (part : StoredPart) (job : JobAt) → IsRunning (records_of parts) (directories_of parts) job
     → IsRunning (records_of (parts ++ part ∷ [])) (directories_of (parts ++ part ∷ [])) job
 running_pushed parts part job r =
-    let count : ℕ = length job.state.parts in
-    let room : job.place + count ≤ length parts = room_of_job parts job r in
-    let long : length (bares (records_of parts)) ≡ length parts =
-    length-map (records_of parts) bare ∙ length-map parts (λ (p : StoredPart). p.recorded) in
-    let all : bares (records_of (parts ++ part ∷ [])) ≡ bares (records_of parts) ++ bare part.recorded ∷ [] =
-    ap bares (records-push parts part) ∙ map-append bare (records_of parts) (part.recorded ∷ []) in
-    let before : take job.place (bares (records_of (parts ++ part ∷ []))) ≡ take job.place (bares (records_of parts)) =
-    ap (take job.place) all ∙ take_front job.place (bares (records_of parts)) (bare part.recorded ∷ []) (omega (arith, room, long)) in
-    let own : take count (drop job.place (bares (records_of (parts ++ part ∷ []))))
-    ≡ take count (drop job.place (bares (records_of parts))) =
-    ap (λ (ps : List Part). take count (drop job.place ps)) all
-    ∙ take_kept job.place count (bares (records_of parts)) (bare part.recorded ∷ []) (omega (arith, room, long)) in
-    record {
-      paired = same_length (parts ++ part ∷ []);
-      parts =
-          r.parts
-          ∙ parts_at_stored job.place count parts
-          ∙ ap (map job_part) (sym (take_kept job.place count parts (part ∷ []) room))
-          ∙ sym (parts_at_stored job.place count (parts ++ part ∷ []));
-      taken =
-          subst (λ ps. MayBeTaken ps (take count (drop job.place (bares (records_of (parts ++ part ∷ [])))))) (sym before)
-          (subst (λ ps. MayBeTaken (take job.place (bares (records_of parts))) ps) (sym own) r.taken);
-      generation = r.generation ∙ ap (λ (ps : List Part). made_generation ps) (sym own);
-      left = r.left;
-    }
+    subst (λ rs. IsRunning rs (directories_of (parts ++ part ∷ [])) job) (sym (records-push parts part))
+    (subst (λ ds. IsRunning (records_of parts ++ part.recorded ∷ []) ds job) (sym (directories-push parts part))
+    (running_more (records_of parts) (directories_of parts) job r part.recorded part.directory))
 
 -- ---- a part more
 
@@ -158,7 +107,8 @@ sound_pushed low high next flushes parts part job s stored blob new room =
           (all_from_zero part.recorded.generation (bares (records_of parts)) new) tt);
       flushed =
           let one : 2 ^ part.recorded.generation ≡ 1 = ap (λ (g : ℕ). 2 ^ g) new in
-          let sums : flushes_for (bares (records_of (parts ++ part ∷ []))) ≡ flushes_for (bares (records_of parts)) + flushes_for (bare part.recorded ∷ []) =
+          let sums : flushes_for (bares (records_of (parts ++ part ∷ [])))
+          ≡ flushes_for (bares (records_of parts)) + flushes_for (bare part.recorded ∷ []) =
           ap flushes_for all ∙ sum_by-append (λ (p : Part). 2 ^ p.generation) (bares (records_of parts)) (bare part.recorded ∷ []) in
           let last : flushes_for (bare part.recorded ∷ []) ≡ 2 ^ part.recorded.generation + 0 =
           sum_by-cons (λ (p : Part). 2 ^ p.generation) (bare part.recorded) [] in
@@ -327,8 +277,7 @@ module _ (low next flushes place count : ℕ) (parts : List StoredPart) (stored 
         stored = record {
           told = told_with (part ∷ []) (told, tt);
           spans =
-              spans_join 0 spans.0 low before (part ∷ after) spans.2.0
-              (
+              spans_join 0 spans.0 low before (part ∷ after) spans.2.0 (
                 omega (arith, ends.0, least),
                 room,
                 spans_lower (part.recorded.high + 1) spans.1 low after (omega (arith, ends.1, most)) spans.2.2,

@@ -1,5 +1,5 @@
 -- A job at its start is that of the layout.
-use Rattle.std.proofs.Common.{◌≡◌, ℕ, suc, ◌+◌, ◌<◌, ◌≤◌, Bool, true, false, cond, ◌||◌, List, [], ◌∷◌, ◌++◌, length, map, filter, take, drop, Option, Some, None, option_map, refl, ap, ap₂, sym, ◌∙◌, subst, arith, append-nil, length-append}
+use Rattle.std.proofs.Common.{◌≡◌, ℕ, ◌+◌, ◌<◌, ◌≤◌, Bool, true, false, cond, ◌||◌, List, [], ◌∷◌, ◌++◌, length, map, filter, take, drop, Some, option_map, refl, ap, sym, ◌∙◌, subst, arith, append-nil}
 use Rattle.std.specs.Prelude.{IsPermutation, zip}
 use Rattle.std.specs.List.{AllByRecursion, flat_map}
 use Rattle.std.proofs.lemmas.List.{length-map}
@@ -7,10 +7,10 @@ use Rattle.std.proofs.lemmas.List.Folds.{flat_map-map}
 use Rattle.wu_base.specs.declared.addresses.PartRec.{PartRec}
 use Rattle.wu_base.specs.declared.addresses.Range.{Range}
 use Rattle.wu_outside.specs.Content.{Content}
-use Rattle.wu_layout.specs.Layouts.{FileEntry, Job, Part, Layout, Text, first_address, last_address, parts_taken, ranges_by_number, ranges_of, stored_in, terms_of}
+use Rattle.wu_layout.specs.Layouts.{FileEntry, Job, Part, Layout, Text, first_address, last_address, ranges_by_number, ranges_of, stored_in, terms_of}
 use Rattle.wu_layout.specs.Postings.{Ascend, Posting, has_some, is_in, is_live, live_of}
 use Rattle.wu_layout.specs.Invariants.{IsLayoutOf, IsUnderWay, JobIsUnderWay}
-use Rattle.wu_layout.specs.Steps.{job_at, job_on, pick}
+use Rattle.wu_layout.specs.Steps.{job_at, pick}
 use Rattle.wu_layout.proofs.EachLemmas.{each-drop, each-take}
 use Rattle.wu_layout.proofs.HomeLemmas.{taken_bounded}
 use Rattle.wu_layout.proofs.LiveCounts.{span_of}
@@ -18,8 +18,7 @@ use Rattle.wu_layout.proofs.Picks.{picked}
 use Rattle.wu_layout.proofs.PostingLemmas.{Ascend-above, Ascend-append, Ascend-bounds, Ascend-split}
 use Rattle.wu_part.specs.Directories.{PartDirectory}
 use Rattle.wu_space.specs.Addresses.{live_ranges}
-use Rattle.wu_job.specs.Jobs.{IsRight, JobPart, JobState, highest, lowest, started, terms_in}
-use Rattle.wu_job.specs.Postings.{HoldPostings}
+use Rattle.wu_job.specs.Jobs.{IsRight, JobPart, JobState, highest, lowest}
 use Rattle.wu_job.proofs.Made.{terms_of_parts}
 use Rattle.wu_parts.specs.Contents.{Contents, JobAt}
 use Rattle.wu_parts.specs.Holdings.{HoldParts}
@@ -82,6 +81,7 @@ some_there range before (p ∷ ps) = (
           | true ↦ refl
           | false ↦ here qs i
         ]
+
     moved : (qs : List Posting) → (qs ++ p ∷ []) ++ ps ≡ qs ++ p ∷ ps
     moved [] = refl
     moved (q ∷ qs) = ap (λ (l : List Posting). q ∷ l) (moved qs)

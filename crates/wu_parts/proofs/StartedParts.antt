@@ -1,5 +1,5 @@
 -- The job that the policy names, at its start, is on parts that may be taken.
-use Rattle.std.proofs.Common.{◌≡◌, ℕ, zero, suc, ◌+◌, ◌^◌, ◌<◌, ◌≤◌, ◌==◌, Bool, true, false, List, [], ◌∷◌, length, map, take, drop, get_or, Option, Some, None, option_map, zip, refl, ap, ap₂, sym, ◌∙◌, subst, arith, ⊎_elim, pow_mono}
+use Rattle.std.proofs.Common.{◌≡◌, ℕ, zero, suc, ◌+◌, ◌^◌, ◌<◌, ◌≤◌, ◌==◌, true, false, List, [], ◌∷◌, length, map, take, drop, get_or, Option, Some, None, option_map, zip, refl, ap, ap₂, sym, ◌∙◌, subst, arith, ⊎_elim, pow_mono}
 use Rattle.std.specs.Prelude.{IsPermutation}
 use Rattle.std.specs.List.{AllByRecursion}
 use Rattle.std.proofs.lemmas.Bool.{cases_Bool, cases_lt, eqb-true, eqb-false}
@@ -42,8 +42,7 @@ IsPair parts place = (place + 1 < length parts) × MayBeTaken (take place parts)
 pair_on : (left right : Part) (more : List Part) (place k : ℕ) → suc k ≡ place
     → AllByRecursion (λ p. p.generation < left.generation) (right ∷ more) → IsPair (right ∷ more) k → IsPair (left ∷ right ∷ more) place
 pair_on left right more place k e a p =
-    subst (IsPair (left ∷ right ∷ more)) e
-    (
+    subst (IsPair (left ∷ right ∷ more)) e (
       omega (arith, p.0),
       one_more_before left (take k (right ∷ more)) (take 2 (drop k (right ∷ more)))
           (each-take (λ (q : Part). q.generation < left.generation) 2 (drop k (right ∷ more))

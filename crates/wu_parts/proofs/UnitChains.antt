@@ -1,6 +1,6 @@
 -- What several units of background work do, one after another.
-use Rattle.std.proofs.Common.{◌≡◌, ◌≢◌, ℕ, zero, suc, ◌+◌, ◌-◌, ◌<◌, ◌≤◌, List, [], ◌∷◌, ◌++◌, length, map, take, drop, Option, Some, None, option_map, refl, ap, ap₂, sym, ◌∙◌, subst, arith, ⊎_elim, inl, inr, append-nil, append_assoc}
-use Rattle.std.specs.Prelude.{◌⊎◌, IfSome, zip}
+use Rattle.std.proofs.Common.{◌≡◌, ◌≢◌, ℕ, zero, suc, ◌+◌, ◌-◌, ◌<◌, ◌≤◌, List, [], ◌∷◌, ◌++◌, length, take, drop, Option, Some, None, option_map, refl, ap, sym, ◌∙◌, subst, arith, ⊎_elim, inl, inr, append-nil, append_assoc}
+use Rattle.std.specs.Prelude.{◌⊎◌, zip}
 use Rattle.std.specs.List.{AllByRecursion}
 use Rattle.wu_base.specs.declared.addresses.PartRec.{PartRec}
 use Rattle.wu_outside.specs.Content.{Content, MayDo, with_blob}
@@ -12,19 +12,19 @@ use Rattle.wu_layout.specs.Invariants.{SomeOf}
 use Rattle.wu_layout.proofs.HomeLemmas.{SomeOf-map}
 use Rattle.wu_layout.proofs.KeptLemmas.{SomeOf-cases}
 use Rattle.wu_part.specs.Directories.{PartDirectory}
-use Rattle.wu_part.specs.Parts.{SpellsPart}
 use Rattle.wu_space.specs.Addresses.{Ranges}
-use Rattle.wu_job.specs.Jobs.{IsRight, JobState}
+use Rattle.wu_job.specs.Jobs.{IsRight}
 use Rattle.wu_job.specs.Steps.{adds}
 use Rattle.wu_job.proofs.Fronts.{adds-more}
 use Rattle.wu_lists.specs.Causes.{IsNoPart}
 use Rattle.wu_parts.specs.Contents.{Contents, JobAt}
-use Rattle.wu_parts.specs.Flushing.{Told, put_into}
-use Rattle.wu_parts.specs.Units.{DoUnits, DoesUnit, GoesOn, IsMade, IsNext, Starts, Vanishes, count_of, parts_at, place_of, replaced, with_made, without_taken}
+use Rattle.wu_parts.specs.Flushing.{Told}
+use Rattle.wu_parts.specs.Units.{DoUnits, DoesUnit, GoesOn, IsMade, IsNext, Vanishes, replaced}
 use Rattle.wu_parts.specs.UnitsOfParts.{StopsUnit}
 use Rattle.wu_parts.specs.Working.{ChangesParts, IsBrokenIn, IsDamaged, IsRightJob, MayChange, StopsWork}
 use Rattle.wu_parts.proofs.HeldParts.{put_elsewhere, put_there, zip-drop, zip-take}
 use Rattle.wu_parts.proofs.LayoutUnits.{if_told}
+use Rattle.wu_parts.proofs.RunningJobs.{zip-append}
 
 -- ---- the parts
 
@@ -86,7 +86,8 @@ module _ {X : Type 0} (step : ℕ → Option (List ℕ) → X → X) (low : ℕ)
   may_wider high most (suc n) old new l m =
       (m.0, m.1, m.2, may_wider high most n old m.0 l m.3, (m.4.0, omega (arith, m.4.1)), m.5)
 
-  pub may_more : (high n : ℕ) (old new : Option X) → low < high → MayChange step low high n old new → MayChange step low high (suc n) old new
+  pub may_more : (high n : ℕ) (old new : Option X) → low < high → MayChange step low high n old new
+      → MayChange step low high (suc n) old new
   may_more high n old new l m = (new, low, None, m, (omega arith, l), inl refl)
 
   -- so many at most, of which some were done
@@ -155,12 +156,6 @@ module _ {X : Type 0} (P : X → Type 0) where
   some_with Q [] a s = absurd s
   some_with Q (x ∷ xs) a s = ⊎_elim (λ p. inl (a.0, p)) (λ r. inr (some_with Q xs a.1 r)) s
 
-zip-append : {X Y : Type 0} (xs us : List X) (ys vs : List Y) → length xs ≡ length ys → zip (xs ++ us) (ys ++ vs) ≡ zip xs ys ++ zip us vs
-zip-append [] us [] vs e = refl
-zip-append [] us (y ∷ ys) vs e = absurd (omega (arith, e))
-zip-append (x ∷ xs) us [] vs e = absurd (omega (arith, e))
-zip-append {X} {Y} (x ∷ xs) us (y ∷ ys) vs e = ap (λ (l : List (X × Y)). (x, y) ∷ l) (zip-append xs us ys vs (omega (arith, e)))
-
 same_take : {X Y : Type 0} (n : ℕ) (xs : List X) (ys : List Y) → length xs ≡ length ys → length (take n xs) ≡ length (take n ys)
 same_take zero xs ys e = refl
 same_take (suc n) [] [] e = refl
@@ -168,8 +163,8 @@ same_take (suc n) [] (y ∷ ys) e = absurd (omega (arith, e))
 same_take (suc n) (x ∷ xs) [] e = absurd (omega (arith, e))
 same_take (suc n) (x ∷ xs) (y ∷ ys) e = ap (λ (k : ℕ). suc k) (same_take n xs ys (omega (arith, e)))
 
-all_zipped : (next : ℕ) (records : List PartRec) (directories : List PartDirectory) → AllByRecursion (λ recorded. recorded.blob < next) records
-    → AllByRecursion (λ part. part.0.blob < next) (zip records directories)
+pub all_zipped : (next : ℕ) (records : List PartRec) (directories : List PartDirectory)
+    → AllByRecursion (λ recorded. recorded.blob < next) records → AllByRecursion (λ part. part.0.blob < next) (zip records directories)
 all_zipped next [] directories a = tt
 all_zipped next (r ∷ records) [] a = tt
 all_zipped next (r ∷ records) (d ∷ directories) a = (a.0, all_zipped next records directories a.1)
@@ -208,7 +203,8 @@ pub record KeepsSound (content content_now : Content) (old new : Contents) : Typ
       → SomeOf (IsBrokenIn content blob) (zip old.parts old.directories)
   pub right : IsRightJob content old.job → IsRightJob content_now new.job
 
-right_there : (content : Content) (o : Option JobAt) (running : JobAt) → o ≡ Some running → IsRightJob content o → IsRight content running.state
+right_there : (content : Content) (o : Option JobAt) (running : JobAt) → o ≡ Some running → IsRightJob content o
+    → IsRight content running.state
 right_there content o running e r = if_job o running e r
   where
     if_job : (o : Option JobAt) (running : JobAt) → o ≡ Some running → IsRightJob content o → IsRight content running.state
@@ -227,42 +223,56 @@ module _ (ranges : Ranges) where
       → DoesUnit ranges old new before after read → (now : Content) × ((after.0 ≡ Some now) × KeepsSound content now old new)
   unit_sound old new before after read content e u =
       ⊎_elim
-      (λ (g : GoesOn u.job.place u.state old new before after).
-      (content, (ap (λ (t : Told). t.0) g.stored ∙ e,
-      subst (λ c. KeepsSound content content old c) (sym g.contents)
-      (record {
-        broken = λ blob s. s;
-        right = λ r.
-            if_told (λ told. IsRight told u.job.state → IsRight told u.state) before.0 content e u.right
-            (right_next content ranges old u.job u.next r);
-      }))))
+      (λ (g : GoesOn u.job.place u.state old new before after). (
+        content,
+        (
+          ap (λ (t : Told). t.0) g.stored ∙ e,
+          subst (λ c. KeepsSound content content old c) (sym g.contents)
+              (record {
+                broken = λ blob s. s;
+                right = λ r.
+                    if_told (λ told. IsRight told u.job.state → IsRight told u.state) before.0 content e u.right
+                    (right_next content ranges old u.job u.next r);
+              }),
+        ),
+      ))
       (λ l.
       ⊎_elim
-      (λ (v : Vanishes u.job.place u.state old new before after).
-      (content, (ap (λ (t : Told). t.0) v.stored ∙ e,
-      subst (λ c. KeepsSound content content old c) (sym v.contents)
-      (record {
-        broken = λ blob s.
-            ⊎_elim (λ a. absurd a) (λ b. b)
-            (some_replaced (IsBrokenIn content blob) u.job.place (length u.state.parts) [] [] old.parts old.directories u.running.paired refl s);
-        right = λ r. tt;
-      }))))
+      (λ (v : Vanishes u.job.place u.state old new before after). (
+        content,
+        (
+          ap (λ (t : Told). t.0) v.stored ∙ e,
+          subst (λ c. KeepsSound content content old c) (sym v.contents)
+              (record {
+                broken = λ blob s.
+                    ⊎_elim (λ a. absurd a) (λ b. b)
+                    (some_replaced (IsBrokenIn content blob) u.job.place (length u.state.parts) [] [] old.parts old.directories
+                    u.running.paired refl s);
+                right = λ r. tt;
+              }),
+        ),
+      ))
       (λ (m : IsMade u.job.place u.state old new before after).
-      let now : Content = with_blob old.next_blob (Some m.bytes) content in
-      (now, (ap (λ (t : Told). t.0) m.stored ∙ ap (λ (o : Option Content). option_map (with_blob old.next_blob (Some m.bytes)) o) e,
-      subst (λ c. KeepsSound content now old c) (sym m.contents)
-      (record {
-        broken = λ blob s.
-            ⊎_elim (λ a. ⊎_elim (λ (one : IsBrokenIn now blob (m.recorded, m.directory)). absurd (whole m blob one)) (λ z. absurd z) a)
-            (λ b.
-            SomeOf-map (λ part. (part.0.blob < old.next_blob) × IsBrokenIn now blob part) (IsBrokenIn content blob)
-            (zip old.parts old.directories) (λ part p. older m blob part p)
-            (some_with (IsBrokenIn now blob) (λ part. part.0.blob < old.next_blob) (zip old.parts old.directories)
-            (all_zipped old.next_blob old.parts old.directories u.below) b))
-            (some_replaced (IsBrokenIn now blob) u.job.place (length u.state.parts) (m.recorded ∷ []) (m.directory ∷ []) old.parts
-            old.directories u.running.paired refl s);
-        right = λ r. tt;
-      }))))
+      let now : Content = with_blob old.next_blob (Some m.bytes) content in (
+        now,
+        (
+          ap (λ (t : Told). t.0) m.stored ∙ ap (λ (o : Option Content). option_map (with_blob old.next_blob (Some m.bytes)) o) e,
+          subst (λ c. KeepsSound content now old c) (sym m.contents)
+              (record {
+                broken = λ blob s.
+                    ⊎_elim
+                    (λ a. ⊎_elim (λ (one : IsBrokenIn now blob (m.recorded, m.directory)). absurd (whole m blob one)) (λ z. absurd z) a)
+                    (λ b.
+                    SomeOf-map (λ part. (part.0.blob < old.next_blob) × IsBrokenIn now blob part) (IsBrokenIn content blob)
+                    (zip old.parts old.directories) (λ part p. older m blob part p)
+                    (some_with (IsBrokenIn now blob) (λ part. part.0.blob < old.next_blob) (zip old.parts old.directories)
+                    (all_zipped old.next_blob old.parts old.directories u.below) b))
+                    (some_replaced (IsBrokenIn now blob) u.job.place (length u.state.parts) (m.recorded ∷ []) (m.directory ∷ []) old.parts
+                    old.directories u.running.paired refl s);
+                right = λ r. tt;
+              }),
+        ),
+      ))
       l)
       u.leaves
     where
@@ -285,17 +295,25 @@ module _ (ranges : Ranges) where
 
   units_sound : (n : ℕ) (old new : Contents) (before after : Told) (read : List ReadRange) (content : Content) → before.0 ≡ Some content
       → DoUnits ranges n old new before after read → (now : Content) × ((after.0 ≡ Some now) × KeepsSound content now old new)
-  units_sound zero old new before after read content e u =
-      (content, (ap (λ (t : Told). t.0) u.1.0 ∙ e,
-      subst (λ c. KeepsSound content content old c) (sym u.0) (record { broken = λ blob s. s; right = λ r. r })))
+  units_sound zero old new before after read content e u = (
+    content,
+    (
+      ap (λ (t : Told). t.0) u.1.0 ∙ e,
+      subst (λ c. KeepsSound content content old c) (sym u.0) (record { broken = λ blob s. s; right = λ r. r }),
+    ),
+  )
   units_sound (suc n) old new before after read content e u =
       let earlier = units_sound n old u.0 before u.1 u.2 content e u.4 in
-      let last = unit_sound u.0 new u.1 after u.3 earlier.0 earlier.1.0 u.5 in
-      (last.0, (last.1.0,
-      record {
-        broken = λ blob s. earlier.1.1.broken blob (last.1.1.broken blob s);
-        right = λ r. last.1.1.right (earlier.1.1.right r);
-      }))
+      let last = unit_sound u.0 new u.1 after u.3 earlier.0 earlier.1.0 u.5 in (
+        last.0,
+        (
+          last.1.0,
+          record {
+            broken = λ blob s. earlier.1.1.broken blob (last.1.1.broken blob s);
+            right = λ r. last.1.1.right (earlier.1.1.right r);
+          },
+        ),
+      )
 
   -- a blob that is damaged now was so before
   pub damaged_before : (n : ℕ) (old new : Contents) (before after : Told) (read : List ReadRange) (blob : ℕ)

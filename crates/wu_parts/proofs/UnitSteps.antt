@@ -1,8 +1,7 @@
 -- A step of a job, as a part of a unit of background work.
-use Rattle.std.proofs.Common.{◌≡◌, ◌≢◌, ℕ, suc, Vec, Global, ◌+◌, ◌<◌, ◌≤◌, ◌==◌, true, List, [], ◌∷◌, length, map, take, drop, Option, Some, None, option_map, refl, ap, ap₂, sym, ◌∙◌, subst, arith, ⊎_elim, inl, inr, length-take, length-drop}
-use Rattle.std.specs.Prelude.{◌⊎◌, IfSome, zip}
-use Rattle.std.specs.List.{flat_map, list_any}
-use Rattle.std.proofs.lemmas.List.{length-map}
+use Rattle.std.proofs.Common.{◌≡◌, ℕ, Vec, Global, ◌+◌, ◌<◌, ◌≤◌, List, [], ◌∷◌, length, map, take, drop, Option, Some, None, option_map, refl, ap, sym, ◌∙◌, subst, arith, ⊎_elim, inl, inr}
+use Rattle.std.specs.Prelude.{IfSome, zip}
+use Rattle.std.specs.List.{flat_map}
 use Rattle.wu_base.specs.declared.addresses.PartRec.{PartRec}
 use Rattle.wu_base.specs.declared.addresses.TermList.{TermList}
 use Rattle.wu_base.specs.declared.troubles.Trouble.{Trouble}
@@ -10,7 +9,6 @@ use Rattle.wu_base.specs.declared.troubles.Trouble.TheVariants.{Damaged, NoMemor
 use Rattle.wu_outside.specs.Content.{Content}
 use Rattle.wu_outside.specs.Faults.{Rose}
 use Rattle.wu_outside.specs.declared.ranges.ReadRange.{ReadRange}
-use Rattle.wu_layout.specs.Layouts.{Part}
 use Rattle.wu_layout.specs.Invariants.{MayBeTaken, SomeOf}
 use Rattle.wu_layout.specs.Steps.{made_generation}
 use Rattle.wu_layout.proofs.HomeLemmas.{SomeOf-map}
@@ -29,8 +27,9 @@ use Rattle.wu_parts.specs.Flushing.{Told}
 use Rattle.wu_parts.specs.StoredParts.{IsKeptJob, running_at}
 use Rattle.wu_parts.specs.Units.{GoesOn, IsMade, IsNext, IsRunning, Leaves, Vanishes, bares, parts_at, with_made, without_taken}
 use Rattle.wu_parts.specs.UnitsOfParts.{EndsJob, IsMadeOf, Replaces, StopsStep, StopsUnit}
-use Rattle.wu_parts.specs.Working.{IsBrokenIn, IsDamaged, IsRightJob}
+use Rattle.wu_parts.specs.Working.{IsBrokenIn, IsDamaged}
 use Rattle.wu_parts.specs.declared.working.Running.{Running}
+use Rattle.wu_parts.proofs.RunningJobs.{room_of_running}
 use Rattle.wu_parts.proofs.UnitChains.{right_next, some-drop, some-take}
 
 -- ---- the end of a job
@@ -48,8 +47,8 @@ module _ (place count : ℕ) (state : JobState) (long : count ≡ length state.p
       }))
 
   pub leaves_made : (bytes : List ℕ) (directory : PartDirectory) → state.terms_left ≡ [] → 0 < length state.done
-      → directory.generation ≡ state.generation → SpellsPart directory state.done bytes → Replaces place count (Some bytes) old new before after
-      → Leaves place state old new before after
+      → directory.generation ≡ state.generation → SpellsPart directory state.done bytes
+      → Replaces place count (Some bytes) old new before after → Leaves place state old new before after
   leaves_made bytes directory last some generation spelled r =
       let same : r.directory ≡ directory = one_directory r.directory directory bytes r.put.own spelled.own in
       inr (inr (record {
@@ -68,8 +67,8 @@ module _ (place count : ℕ) (state : JobState) (long : count ≡ length state.p
 
 -- what a step answered with the last term
 pub leaves_of : (made : Option (Vec ℕ Global)) (place count : ℕ) (state : JobState) (old new : Contents) (before after : Told)
-    → count ≡ length state.parts → Answers state (Done made) → Replaces place count (option_map (λ bytes. bytes.items) made) old new before after
-    → Leaves place state old new before after
+    → count ≡ length state.parts → Answers state (Done made)
+    → Replaces place count (option_map (λ bytes. bytes.items) made) old new before after → Leaves place state old new before after
 leaves_of None place count state old new before after long a r = leaves_vanished place count state long old new before after a.0 a.1 r
 leaves_of (Some bytes) place count state old new before after long a r =
     leaves_made place count state long old new before after bytes.items a.2 a.0 a.1 a.3 a.4 r
@@ -81,8 +80,8 @@ made_of None state generation a e = tt
 made_of (Some bytes) state generation a e = (a.2, a.3 ∙ e, a.4)
 
 -- a job whose last term was done
-pub ends_job : (records : List PartRec) (directories : List PartDirectory) (own : Running) (done : List TermList) (written : Option (List ℕ))
-    → IsKeptJob records directories own
+pub ends_job : (records : List PartRec) (directories : List PartDirectory) (own : Running) (done : List TermList)
+    (written : Option (List ℕ)) → IsKeptJob records directories own
     → IfSome written (λ bytes. (directory : PartDirectory) × (directory.generation ≡ own.job.generation) × SpellsPart directory done bytes)
     → StandWithin own.job.parts (flat_map (λ list. list.at) done) → EndsJob records directories own.place own.count written
 ends_job records directories own done written k made within = record {
@@ -92,33 +91,8 @@ ends_job records directories own done written k made within = record {
   made = of_written written made;
 }
   where
-    long_zip : (xs : List PartRec) (ys : List PartDirectory) → length xs ≡ length ys → length (zip xs ys) ≡ length xs
-    long_zip [] ys e = refl
-    long_zip (x ∷ xs) [] e = absurd (omega (arith, e))
-    long_zip (x ∷ xs) (y ∷ ys) e = ap (λ (n : ℕ). suc n) (long_zip xs ys (omega (arith, e)))
-
-    some : (before taken : List Part) → MayBeTaken before taken → 0 < length taken
-    some before [] m = absurd m
-    some before (part ∷ parts) m = omega arith
-
     room : own.place + own.count ≤ length records
-    room =
-        let count : ℕ = length own.job.parts in
-        let number : count ≡ length (take count (drop own.place (zip records directories))) =
-        ap (λ (ps : List JobPart). length ps) k.running.parts
-        ∙ length-map (take count (drop own.place (zip records directories))) _ in
-        let filled : 0 < length (take count (drop own.place (bares records))) =
-        some (take own.place (bares records)) (take count (drop own.place (bares records))) k.running.taken in
-        omega (
-          arith,
-          number,
-          filled,
-          k.count,
-          long_zip records directories k.running.paired,
-          length-take count (drop own.place (zip records directories)),
-          length-drop own.place (zip records directories),
-          length-take count (drop own.place (bares records)),
-        )
+    room = omega (arith, room_of_running records directories (running_at own) k.running, k.count)
 
     of_written : (o : Option (List ℕ))
         → IfSome o (λ bytes. (directory : PartDirectory) × (directory.generation ≡ own.job.generation) × SpellsPart directory done bytes)
@@ -140,7 +114,8 @@ ends_job records directories own done written k made within = record {
 -- ---- a step that fails
 
 -- all was read, and then the part couldn't be put
-pub stops_late : (job : JobAt) (holds : Option Content) (before middle now : ℕ) (reads reads_now : Option (List ReadRange)) (trouble : Trouble)
+pub stops_late : (job : JobAt) (holds : Option Content) (before middle now : ℕ) (reads reads_now : Option (List ReadRange))
+    (trouble : Trouble)
     → reads_now ≡ adds (step_ranges job.state.terms_left job.state.parts) reads → middle ≡ before → IsStoreCause middle now trouble
     → StopsStep job holds before now reads reads_now trouble
 stops_late job holds before middle now reads reads_now trouble r e c = record {
@@ -223,6 +198,7 @@ stops_early ranges contents holds before reads trouble e = record {
   where
     no_fault : trouble ≡ StoreFault → ⊥
     no_fault fault = cc
+
     no_damage : (blob : ℕ) → trouble ≡ Damaged blob → ⊥
     no_damage blob is = cc
 

@@ -14,4 +14,5 @@ pub mod LiveLists
 pub mod StoredParts
 pub mod UnitsOfParts
 pub mod Chains
+pub mod LeadingBytes
 pub mod ViewOfParts

@@ -1,4 +1,5 @@
--- What a unit of background work does to the parts. Which job is next is a matter of records and live ranges alone: no posting is looked at.
+-- What a unit of background work does to the parts. Which job is next is a matter of records and live ranges alone: no posting is looked
+-- at.
 use Rattle.std.specs.Prelude.{◌≡◌, ◌⊎◌, ℕ, suc, zero, ◌+◌, ◌*◌, ◌<◌, Bool, nat_le, Option, None, Some, IfSome, option_map, List, [], ◌∷◌, ◌++◌, length, map, take, drop, position, zip, IsPermutation}
 use Rattle.std.specs.Option.{option_or}
 use Rattle.std.specs.List.{AllByRecursion}
@@ -53,8 +54,8 @@ abbrev pub parts_at : ℕ → ℕ → List PartRec → List PartDirectory → Li
 parts_at place count records directories =
     map (λ part. record { recorded = part.0; directory = part.1 }) (take count (drop place (zip records directories)))
 
--- A job that may be under way on these parts, each of which has a directory: its own are some of them, one, or two of a generation that those
--- left of them don't have.
+-- A job that may be under way on these parts, each of which has a directory: its own are some of them, one, or two of a generation that
+-- those left of them don't have.
 pub record IsRunning (records : List PartRec) (directories : List PartDirectory) (job : JobAt) : Type 0 where
   pub paired : length records ≡ length directories
   pub parts : job.state.parts ≡ parts_at job.place (length job.state.parts) records directories

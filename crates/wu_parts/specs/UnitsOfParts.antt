@@ -17,7 +17,7 @@ use Rattle.wu_job.specs.Steps.{IsCause, IsDamaged, ReadsFront, adds, step_ranges
 use Rattle.wu_parts.specs.declared.working.Running.{Running}
 use Rattle.wu_space.specs.Addresses.{Ranges}
 use Rattle.wu_parts.specs.Contents.{Contents, JobAt}
-use Rattle.wu_parts.specs.Flushing.{Told, put_into}
+use Rattle.wu_parts.specs.Flushing.{Told}
 use Rattle.wu_parts.specs.StoredParts.{IsKeptJob, IsPutAs, running_at}
 use Rattle.wu_parts.specs.Units.{DoesUnit, IsNext, Leaves, bares, parts_at, with_made, without_taken}
 use Rattle.wu_parts.specs.Working.{IsDamaged as IsDamagedBefore, ReadsSome, is_idle}

@@ -1,5 +1,5 @@
 -- What background work does to the parts in a store, what it answers, and which steps of the index's layout that is.
-use Rattle.std.specs.Prelude.{◌≡◌, ◌≢◌, ◌⊎◌, ⊤, ℕ, suc, zero, ◌+◌, ◌*◌, ◌<◌, ◌≤◌, ◌^◌, ◌==◌, ◌&&◌, Bool, true, false, not, Option, None, Some, IfSome, is_some, List, [], ◌∷◌, ◌++◌, length, map, take, zip}
+use Rattle.std.specs.Prelude.{◌≡◌, ◌≢◌, ◌⊎◌, ⊤, ℕ, suc, zero, ◌+◌, ◌*◌, ◌<◌, ◌≤◌, ◌^◌, ◌==◌, ◌&&◌, Bool, true, false, not, Option, None, Some, IfSome, is_some, List, [], ◌++◌, length, take, zip}
 use Rattle.std.specs.List.{AllByRecursion, list_any}
 use Rattle.wu_base.specs.declared.addresses.PartRec.{PartRec}
 use Rattle.wu_base.specs.declared.reports.Worked.{Worked}
@@ -20,7 +20,7 @@ use Rattle.wu_lists.specs.Causes.{IsNoPart}
 use Rattle.wu_parts.specs.Contents.{Contents, JobAt}
 use Rattle.wu_parts.specs.Flushing.{Told}
 use Rattle.wu_parts.specs.Holdings.{HoldParts}
-use Rattle.wu_parts.specs.Units.{DoUnits, IsNext, bares, next_job}
+use Rattle.wu_parts.specs.Units.{DoUnits, IsNext, IsRunning, bares, next_job}
 
 -- ---- answers
 
@@ -41,8 +41,8 @@ pub record AreFew (ranges : Ranges) (contents : Contents) : Type 0 where
 
 -- ---- what may change
 
--- parts, the number of the next blob, the blobs no longer needed and the job; of these numbers at most so many are drawn, and more blobs are
--- no longer needed
+-- parts, the number of the next blob, the blobs no longer needed and the job; of these numbers at most so many are drawn, and more
+-- blobs are no longer needed
 pub record ChangesParts (units : ℕ) (old new : Contents) : Type 0 where
   pub others : new ≡ record old {
     parts = new.parts;
@@ -94,8 +94,8 @@ ReadsSome ranges contents read =
 
 -- Some units were done, fewer than so many, and then one failed. A store fault is answered only where the store's count of faults rose,
 -- which else is as it was. A blob is answered as damaged only where this unit read it, and it is that of a part that was broken before.
-pub record StopsWork (ranges : Ranges) (units : ℕ) (old : Contents) (told : Told) (before now : ℕ) (reads reads_now : Option (List ReadRange))
-    (trouble : Trouble) : Type 0 where
+pub record StopsWork (ranges : Ranges) (units : ℕ) (old : Contents) (told : Told) (before now : ℕ)
+    (reads reads_now : Option (List ReadRange)) (trouble : Trouble) : Type 0 where
   pub counted : before ≤ now
   pub store_fault : trouble ≡ StoreFault → Rose before now
   pub calm : trouble ≢ StoreFault → now ≡ before
@@ -128,12 +128,14 @@ TellsJobs content parts None (Some job) = ⊥
 TellsJobs content parts (Some running) None = ⊥
 TellsJobs content parts (Some running) (Some job) = TellsJob content parts running job
 
--- What is kept of the parts, and the content, are those of the layout: its parts, the next blob, its flushes, stale blobs and its job.
+-- What is kept of the parts, and the content, are those of the layout: its parts, the next blob, its flushes, stale blobs and its job,
+-- whose parts are some of them.
 pub record TellsParts (content : Content) (contents : Contents) (layout : Layout) : Type 0 where
   pub parts : HoldParts content contents.parts contents.directories layout.parts
   pub next_blob : contents.next_blob ≡ layout.blob
   pub flushes : contents.flushes ≡ layout.flushes
   pub stale : contents.stale ≡ layout.stale
+  pub running : IfSome contents.job (IsRunning contents.parts contents.directories)
   pub job : TellsJobs content layout.parts contents.job layout.job
 
 -- the store tells what it holds, and that is so

@@ -1,19 +1,21 @@
 //! What a flush makes of memory: the lists of its live postings, by the bytes of their terms.
-ghost use Rattle.std.specs.Prelude.{◌≡◌, ◌+◌, ◌-◌, ◌^◌, ◌≤◌, ◌++◌, ◌∷◌, [], IfOk, IsPermutation, OnOk, length, map, nat_eq};
+ghost use Rattle.std.specs.Prelude.{◌≡◌, ◌+◌, ◌-◌, ◌^◌, ◌≤◌, ◌++◌, ◌∷◌, ◌<◌, ℕ, [], true, IfOk, IsPermutation, IsTrue, OnOk, filter, get_or, length, map, nat_eq};
 ghost use Rattle.std.specs.List.{AllByRecursion, IsDistinct};
 ghost use Rattle.std.specs.List.Sorted.{IsStrictlySortedBy};
 ghost use Rattle.std.specs.Cmp.Lexicographic.{pointwise, slice_cmp};
 ghost use Rattle.std.specs.Map.{keys_of};
 ghost use Rattle.std.specs.Ordering.{nat_cmp};
+ghost use Rattle.wu_layout.specs.Postings.{is_live};
 ghost use Rattle.wu_parts.specs.Lists.{AscendBetween, AreInOrder};
 ghost use Rattle.wu_parts.specs.Chains.{addressed, chained, lent, places_of};
+ghost use Rattle.wu_parts.specs.LeadingBytes.{IsBytes, IsNumbered, behind, number_of};
 ghost use Rattle.wu_parts.specs.LiveLists.{live_lists};
 
 use crate::chains::{Chain, addresses_from};
 use crate::galloping::within_frames;
 use indexmap::IndexMap;
 use std::alloc::Global;
-use wu_base::{ADDRESSES_MAX, Bytes, NoMemory, Range, TermList};
+use wu_base::{ADDRESSES_MAX, Bytes, NoMemory, Range, Sequence, TermList};
 
 /// The terms with their chains, by the terms' bytes.
 pub(crate) fn by_term(
@@ -24,28 +26,73 @@ pub(crate) fn by_term(
     ensures ascending { IfOk result (λ entries. IsStrictlySortedBy (slice_cmp nat_cmp) (keys_of (map lent entries.items))) }
     ensures distinct { OnOk result (IsDistinct (pointwise nat_eq) (keys_of (map chained chains.now.entries))) }
 {
-    let mut entries = in_map_order(alloc, chains)?;
-    entries.sort_unstable_by_key(|entry| entry.0);
-    Ok(entries)
+    let mut numbered = in_map_order(alloc, chains)?;
+    // Numbers are compared at once. Only terms that share theirs are compared by all of their bytes.
+    numbered.sort_unstable_by_key(|entry| (entry.0, entry.1.0));
+    without_numbers(alloc, &numbered)
 }
 
-/// The terms with their chains, in the order of the map.
+/// The terms with their chains, in the order of the map, each behind the number of its first bytes.
 fn in_map_order(
     alloc: Global,
     chains: &IndexMap<Vec<u8>, Chain>,
-) -> Result<Vec<(&[u8], Chain)>, NoMemory>
-    ensures entries { IfOk result (λ entries. map lent entries.items ≡ map chained chains.now.entries) }
+) -> Result<Vec<(u64, (&[u8], Chain))>, NoMemory>
+    ensures entries { IfOk result (λ entries. map behind entries.items ≡ map chained chains.now.entries) }
+    ensures numbers { IfOk result (λ entries. AllByRecursion IsNumbered entries.items) }
     ensures distinct { OnOk result (IsDistinct (pointwise nat_eq) (keys_of (map chained chains.now.entries))) }
 {
     let mut entries = Vec::with_capacity(alloc, chains.len())?;
     for (term, chain) in chains.iter() {
-        entries.push((term.as_slice(), *chain))?;
+        let term = term.as_slice();
+        entries.push((leading(term), (term, *chain)))?;
     }
     Ok(entries)
 }
 
+/// The terms with their chains.
+fn without_numbers<'a>(
+    alloc: Global,
+    numbered: &[(u64, (&'a [u8], Chain))],
+) -> Result<Vec<(&'a [u8], Chain)>, NoMemory>
+    ensures { IfOk result (λ entries. map lent entries.items ≡ map behind numbered.now) }
+{
+    let mut entries = Vec::with_capacity(alloc, numbered.len())?;
+    for entry in numbered {
+        entries.push(entry.1)?;
+    }
+    Ok(entries)
+}
+
+/// The first eight bytes of the term as a number, the first one highest; zeros stand behind a shorter term.
+/// Where two terms differ in it, it tells which is first.
+fn leading(term: &[u8]) -> u64
+    ensures number { result ≡ number_of term.now }
+    ensures bytes { IsBytes term.now }
+{
+    u64::from_be_bytes([
+        byte_at(term, 0),
+        byte_at(term, 1),
+        byte_at(term, 2),
+        byte_at(term, 3),
+        byte_at(term, 4),
+        byte_at(term, 5),
+        byte_at(term, 6),
+        byte_at(term, 7),
+    ])
+}
+
+/// The byte at that place of the term, or 0 behind its end.
+fn byte_at(term: &[u8], place: usize) -> u8
+    ensures { result ≡ get_or term.now place 0 }
+{
+    match term.get(place) {
+        Some(byte) => *byte,
+        None => 0,
+    }
+}
+
 /// The lists of these terms at the live addresses, without the terms that stand at none. The places of the
-/// chains have the addresses from `start` on.
+/// chains have the addresses from `start` on. Where all of these are live, none is looked up.
 pub(crate) fn cut_to_live(
     alloc: Global,
     entries: &[(&[u8], Chain)],
@@ -58,35 +105,67 @@ pub(crate) fn cut_to_live(
     requires order { AreInOrder 0 (2 ^ 64 - 1) live.now }
     ensures { IfOk result (λ lists. lists.items ≡ live_lists live.now (map (addressed start links.now) (map lent entries.now))) }
 {
+    let all_live = are_covered(start, start + links.len() as u64, live);
     let mut lists = Vec::with_capacity(alloc, entries.len())?;
     for entry in entries {
-        put_live(alloc, &mut lists, entry.0, entry.1, links, start, live)?;
+        let addresses = addresses_from(alloc, entry.1, links, start, 0)?;
+        put_live(alloc, &mut lists, entry.0, addresses, live, all_live)?;
     }
     Ok(lists)
 }
 
-/// Puts the list of the term at the live addresses at the end, if there are any.
+/// Whether each address from `start` up to `end` lies in one of the ranges, where these are in order.
+fn are_covered(start: u64, end: u64, ranges: &[Range]) -> bool
+    requires { AreInOrder 0 (2 ^ 64 - 1) ranges.now }
+    ensures { IsTrue result → (address : ℕ) → start ≤ address → address < end → is_live ranges.now address ≡ true }
+{
+    let mut reached = start;
+    for range in ranges {
+        if reached < range.start {
+            return false;
+        }
+        reached = reached.max(range.start + range.len);
+    }
+    end <= reached
+}
+
+/// Puts the list of the term at those of the addresses that are live at the end, if there are any.
 fn put_live(
     alloc: Global,
     lists: &mut Vec<TermList>,
     term: &[u8],
-    chain: Chain,
-    links: &[u32],
-    start: u64,
+    addresses: Vec<u64>,
     live: &[Range],
+    all_live: bool,
 ) -> Result<(), NoMemory>
-    requires chain { AscendBetween 0 (length links.now) (places_of links.now chain) }
-    requires bounded { start + length links.now ≤ ADDRESSES_MAX }
+    requires ascend { AscendBetween 0 (2 ^ 64 - 1) addresses.items }
     requires order { AreInOrder 0 (2 ^ 64 - 1) live.now }
-    ensures { OnOk result (lists.new.items
-        ≡ lists.old.items ++ live_lists live.now (addressed start links.now (term.now, chain) ∷ [])) }
+    requires all { IsTrue all_live → AllByRecursion (λ address. is_live live.now address ≡ true) addresses.items }
+    ensures { OnOk result (lists.new.items ≡ lists.old.items ++ live_lists live.now ((term.now, addresses.items) ∷ [])) }
 {
-    let addresses = addresses_from(alloc, chain, links, start, 0)?;
-    let at = within_frames(alloc, &addresses, live)?;
+    let at = live_among(alloc, addresses, live, all_live)?;
     if at.is_empty() {
         return Ok(());
     }
     let term = Bytes::from_slice(alloc, term)?;
     lists.push(TermList { term, at })?;
     Ok(())
+}
+
+/// Those of the addresses that are live. Where all are, it takes no time and no memory.
+fn live_among(
+    alloc: Global,
+    addresses: Vec<u64>,
+    live: &[Range],
+    all_live: bool,
+) -> Result<Sequence<u64>, NoMemory>
+    requires ascend { AscendBetween 0 (2 ^ 64 - 1) addresses.items }
+    requires order { AreInOrder 0 (2 ^ 64 - 1) live.now }
+    requires all { IsTrue all_live → AllByRecursion (λ address. is_live live.now address ≡ true) addresses.items }
+    ensures { IfOk result (λ at. at ≡ filter (is_live live.now) addresses.items) }
+{
+    if all_live {
+        return Ok(Sequence::from(addresses));
+    }
+    within_frames(alloc, &addresses, live)
 }

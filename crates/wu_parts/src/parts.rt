@@ -235,7 +235,8 @@ impl Parts {
 
         // Where the store tells what it holds, and that is of a layout, the units are those of the layout.
         ensures layout { IfOk result (λ worked. (is_file : ℕ → Bool) (text_of : ℕ → Text) (layout : Layout)
-            → IsLayoutOf is_file text_of layout → space.now.ranges ≡ ranges_by_number layout.files → Tells (D.holds store.old) self.old layout
+            → IsLayoutOf is_file text_of layout → space.now.ranges ≡ ranges_by_number layout.files
+            → Tells (D.holds store.old) self.old layout
             → (worked ≡ answer_of (is_idle (units_done n layout))) × Tells (D.holds store.new) self.new (units_done n layout)) }
         ensures undamaged { IfErr result (λ trouble. (is_file : ℕ → Bool) (text_of : ℕ → Text) (layout : Layout)
             → IsLayoutOf is_file text_of layout → Tells (D.holds store.old) self.old layout → (blob : ℕ) → trouble ≢ Damaged blob) }

@@ -110,7 +110,7 @@ pub fn put_texts(
 }
 
 /// The number after that one.
-fn next_number(ino: Ino) -> Result<Ino, NoAnswer> {
+pub fn next_number(ino: Ino) -> Result<Ino, NoAnswer> {
     match ino.checked_add(1) {
         Some(next) => Ok(next),
         None => Err(NoAnswer::BadRow),

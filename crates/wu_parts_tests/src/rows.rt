@@ -1,12 +1,12 @@
 //! The calls of a Parts.
 use crate::fixtures::{By, fetch_live, put_texts, release_others};
-use crate::stores::{fetched as fetched_after, held, recorded};
+use crate::stores::{fetched as fetched_after, fullness, held, recorded, worked};
 use std::alloc::Global;
 use wu_base::PartRec;
 use wu_parts::Parts;
 use wu_rows::{
-    NoAnswer, byte_strings, bytes, flag_text, number, number_text, numbers, numbers_text,
-    optional_text, small_numbers,
+    NoAnswer, byte_strings, bytes, number, number_text, numbers, numbers_text, optional_text,
+    small_numbers,
 };
 use wu_space::Space;
 
@@ -28,7 +28,7 @@ pub fn answer(
             fetched(alloc, By::Text, texts, skipped, seen, term)
         }
         ("Parts::stored", [texts]) => stored(alloc, texts),
-        ("Parts::full", [flush_at, texts]) => fullness(alloc, flush_at, texts),
+        ("Parts::full", [flush_at, steps]) => fullness(alloc, flush_at, steps),
         ("Parts::draw_blob", [next_blob]) => drawn(alloc, next_blob),
         ("Parts::retire", [blobs]) => retired(alloc, blobs),
         ("Parts::clear_stale", [blobs]) => cleared(alloc, blobs),
@@ -36,6 +36,7 @@ pub fn answer(
         ("Parts::flush", [fails, steps]) => recorded(alloc, fails, steps),
         ("Parts::flush", [steps, "holds", blob]) => held(alloc, steps, blob),
         ("Parts::fetch", [fails, steps, term]) => fetched_after(alloc, fails, steps, term),
+        ("Parts::work", [fails, steps, units]) => worked(alloc, fails, steps, units),
         _ => Err(NoAnswer::BadRow),
     }
 }
@@ -62,23 +63,12 @@ fn fetched(
     numbers_text(alloc, found.as_slice())
 }
 
-/// A Parts with the postings of the texts.
-fn with_texts(alloc: Global, flush_at: u64, texts: &str) -> Result<Parts, NoAnswer> {
+fn stored(alloc: Global, texts: &str) -> Result<String, NoAnswer> {
     let texts = byte_strings(alloc, texts)?;
-    let mut parts = Parts::new(alloc, flush_at, 1)?;
+    let mut parts = Parts::new(alloc, 1, 1)?;
     let mut space = Space::new(alloc, 0);
     put_texts(alloc, By::Text, &mut parts, &mut space, &texts, &[])?;
-    Ok(parts)
-}
-
-fn stored(alloc: Global, texts: &str) -> Result<String, NoAnswer> {
-    let parts = with_texts(alloc, 1, texts)?;
     number_text(alloc, parts.stored())
-}
-
-fn fullness(alloc: Global, flush_at: &str, texts: &str) -> Result<String, NoAnswer> {
-    let parts = with_texts(alloc, number(flush_at)?, texts)?;
-    flag_text(alloc, parts.full())
 }
 
 /// A number that is drawn, the next one, and the one after it.

@@ -1,5 +1,5 @@
-use Rattle.std.proofs.Common.{◌≡◌, ℕ, ◌+◌, ◌≤◌, length, drop, option_map, ap, sym, ◌∙◌, arith, length-drop}
-use Rattle.wu_parts.proofs.NextJobs.{alike_few, alike_of}
+use Rattle.std.proofs.Common.{ℕ, ◌+◌, ◌≤◌, length, drop, option_map, ap, sym, ◌∙◌, arith, length-drop}
+use Rattle.wu_parts.proofs.NextJobs.{alike_few}
 use Rattle.wu_parts.proofs.working.alike_neighbours.Goals as goal
 
 pub returns : goal.returns

@@ -1,13 +1,8 @@
-use Rattle.std.proofs.Common.{◌≡◌, ℕ, ◌+◌, ◌<◌, length, List, Option, Some, None, option_map, position, ap, sym, ◌∙◌, subst, arith}
-use Rattle.std.specs.Option.{option_or}
+use Rattle.std.proofs.Common.{Some, ap, ◌∙◌, arith}
 use Rattle.std.proofs.lemmas.List.{length-map}
-use Rattle.wu_base.specs.declared.addresses.PartRec.{PartRec}
-use Rattle.wu_space.specs.Addresses.{Ranges}
-use Rattle.wu_layout.specs.Steps.{alike_neighbours}
 use Rattle.wu_parts.specs.StoredParts.{records_of}
-use Rattle.wu_parts.specs.Units.{bare, bares, is_half_dead, next_job}
+use Rattle.wu_parts.specs.Units.{bare, bares}
 use Rattle.wu_parts.specs.declared.working.NextJob.{NextJob}
-use Rattle.wu_parts.specs.declared.working.NextJob.TheVariants.{Merge, Collect}
 use Rattle.wu_parts.specs.declared.writing.StoredPart.{StoredPart}
 use Rattle.wu_parts.proofs.NextJobs.{merge_at}
 use Rattle.wu_parts.proofs.StartedParts.{pair_taken}

@@ -1,8 +1,5 @@
-use Rattle.std.proofs.Common.{◌≡◌, ◌∷◌, List, [], ap, sym, subst, ◌∙◌}
-use Rattle.std.specs.Prelude.{IsPermutation}
+use Rattle.std.proofs.Common.{◌∷◌, List, [], ap, ◌∙◌}
 use Rattle.wu_base.specs.declared.addresses.Range.{Range}
-use Rattle.wu_part.specs.Parts.{IsRecorded}
-use Rattle.wu_space.specs.Addresses.{live_ranges}
 use Rattle.wu_job.specs.Jobs.{started}
 use Rattle.wu_parts.specs.declared.writing.StoredPart.{StoredPart}
 use Rattle.wu_parts.proofs.SoundParts.{job_part}

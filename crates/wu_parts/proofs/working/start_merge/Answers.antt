@@ -1,4 +1,4 @@
-use Rattle.std.proofs.Common.{◌≡◌, ◌+◌, ◌∷◌, List, [], ap, sym, subst, ◌∙◌, arith}
+use Rattle.std.proofs.Common.{◌+◌, ◌∷◌, List, [], ap, ◌∙◌, arith}
 use Rattle.wu_base.specs.declared.addresses.Range.{Range}
 use Rattle.wu_part.specs.Parts.{IsRecorded}
 use Rattle.wu_job.specs.Jobs.{started}

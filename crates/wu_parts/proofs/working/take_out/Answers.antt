@@ -1,4 +1,4 @@
-use Rattle.std.proofs.Common.{◌≡◌, ℕ, ◌+◌, ◌≤◌, ◌++◌, ◌∷◌, [], List, length, map, take, drop, ap, sym, ◌∙◌, arith, append_assoc}
+use Rattle.std.proofs.Common.{◌≡◌, ℕ, ◌+◌, ◌++◌, ◌∷◌, [], List, map, take, drop, ap, sym, ◌∙◌, arith, append_assoc}
 use Rattle.std.proofs.lemmas.List.{map-append}
 use Rattle.std.proofs.lemmas.Result.{err_from_is_err_and}
 use Rattle.wu_parts.specs.declared.writing.StoredPart.{StoredPart}
@@ -31,7 +31,8 @@ loop-preserved c =
 pub returns-in_err-push-clause-some : goal.returns-in_err-push-clause-some
 returns-in_err-push-clause-some c =
     let p = err_from_is_err_and c.from_residual.result c.from_residual.ensures.1 in
-    rw (p.1, p.2)
-    (c.loop.counter + 1,
-    one_out c.args.place c.loop.counter c.args.parts.now.items c.loop.parts.items c.remove-part.new.self.items
-    (omega (arith, c.requires, c.args.parts.now.ok.0)) c.loop.invariant.parts c.remove-part.ensures.items)
+    rw (p.1, p.2) (
+      c.loop.counter + 1,
+      one_out c.args.place c.loop.counter c.args.parts.now.items c.loop.parts.items c.remove-part.new.self.items
+          (omega (arith, c.requires, c.args.parts.now.ok.0)) c.loop.invariant.parts c.remove-part.ensures.items,
+    )

@@ -1,4 +1,4 @@
-use Rattle.std.proofs.Common.{◌≡◌, ◌+◌, ◌++◌, [], take, drop, map}
+use Rattle.std.proofs.Common.{◌≡◌, ◌++◌, [], take, drop, map}
 use Rattle.wu_parts.specs.Units.{replaced}
 use Rattle.wu_parts.proofs.working.take_out.Given as goal
 

@@ -1,4 +1,4 @@
-use Rattle.std.proofs.Common.{◌≡◌, ℕ, ◌+◌, ◌++◌, ◌∷◌, [], List, Option, Some, None, option_map, drop, refl, ap, sym, subst, ◌∙◌, arith}
+use Rattle.std.proofs.Common.{◌≡◌, ℕ, ◌+◌, ◌∷◌, [], List, Some, option_map, drop, refl, ap, sym, subst, ◌∙◌, arith}
 use Rattle.wu_parts.specs.Contents.{Contents}
 use Rattle.wu_parts.specs.Flushing.{Told}
 use Rattle.wu_parts.specs.StoredParts.{IsPutAs, directories_of, records_of}
@@ -73,8 +73,7 @@ returns-in_ok-take_out-in-None-clause-done g c =
       directories = directories_of c.take_out.new.parts.items;
       stale = c.take_out.new.stale.items;
     } in
-    subst (λ o. Replaces c.args.place c.args.count (option_map (λ b. b.items) o) c.args.self.now new told told) (sym c.in-None.is)
-    (
+    subst (λ o. Replaces c.args.place c.args.count (option_map (λ b. b.items) o) c.args.self.now new told told) (sym c.in-None.is) (
       view_without (contents_of i) c.args.place c.args.count i.parts.items i.stale.items i.job c.take_out.new.parts.items
           c.take_out.new.stale.items c.in_ok-take_out-in-None.ensures.parts c.in_ok-take_out-in-None.ensures.stale none
           ∙ ap (without_taken c.args.place c.args.count) c.self.view_is,

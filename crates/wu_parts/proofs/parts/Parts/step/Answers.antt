@@ -1,11 +1,9 @@
-use Rattle.std.proofs.Common.{◌≡◌, ℕ, length, Option, refl, ap, ap₂, sym, subst, ◌∙◌, option_map}
+use Rattle.std.proofs.Common.{◌≡◌, ℕ, length, Option, ap, ap₂, sym, subst, ◌∙◌, option_map}
 use Rattle.std.specs.List.{flat_map}
 use Rattle.std.proofs.lemmas.Result.{err_from_is_err_and}
 use Rattle.wu_job.specs.Jobs.{Answers, JobState, StandWithin}
-use Rattle.wu_job.specs.Steps.{adds, step_ranges}
 use Rattle.wu_outside.specs.Content.{Content}
 use Rattle.wu_outside.specs.Crash.{Moments}
-use Rattle.wu_parts.specs.Contents.{Contents}
 use Rattle.wu_parts.specs.Flushing.{Told}
 use Rattle.wu_parts.specs.StoredParts.{running_at}
 use Rattle.wu_parts.specs.UnitsOfParts.{Replaces}
@@ -21,7 +19,8 @@ end-requires-clause-job g c =
     let answer = subst (λ (p : Progress). Answers new p) c.in-Done.is c.in_ok-step.ensures.answer in
     ends_job c.args.self.now.parts c.args.self.now.directories c.args.running new.done (option_map (λ bytes. bytes.items) c.in-Done.made)
     c.requires.job (made_of c.in-Done.made new old.generation answer (ap (λ (s : JobState). s.generation) others))
-    (subst (λ ps. StandWithin ps (flat_map (λ list. list.at) new.done)) (ap (λ (s : JobState). s.parts) others) c.stays_within_its_parts.ensures)
+    (subst (λ ps. StandWithin ps (flat_map (λ list. list.at) new.done)) (ap (λ (s : JobState). s.parts) others)
+    c.stays_within_its_parts.ensures)
 
 pub returns-in_err-end-in-Done-clause-stops : goal.returns-in_err-end-in-Done-clause-stops
 returns-in_err-end-in-Done-clause-stops g c =

@@ -1,4 +1,4 @@
-use Rattle.std.proofs.Common.{◌≡◌, ℕ, List, Option, refl, ap, sym, subst}
+use Rattle.std.proofs.Common.{ℕ, List, Option, refl, ap, subst}
 use Rattle.std.proofs.lemmas.Result.{err_from_is_err_and}
 use Rattle.wu_outside.specs.Content.{MayDo, with_blob}
 use Rattle.wu_outside.specs.Crash.{Put, try_change}
@@ -13,7 +13,8 @@ use Rattle.wu_parts.proofs.parts.Parts.unit.Goals as goal
 pub returns-in_err-step-in-Some-clause-stops : goal.returns-in_err-step-in-Some-clause-stops
 returns-in_err-step-in-Some-clause-stops g c =
     let p = err_from_is_err_and c.from_residual-in_err-step-in-Some.result c.from_residual-in_err-step-in-Some.ensures.1 in
-    let finds = subst (λ (o : Option Running). FindsJob c.args.space.now.ranges c.args.self.now o) c.in-Some.is c.in_ok-running.ensures.job in
+    let finds = subst (λ (o : Option Running). FindsJob c.args.space.now.ranges c.args.self.now o) c.in-Some.is
+    c.in_ok-running.ensures.job in
     rw (p.1, p.2)
     (stops_unit c.args.space.now.ranges c.args.self.now (running_at c.in-Some.running) (g.D.Store.holds c.args.store.now)
     (g.D.Store.faults c.args.store.now) (g.D.Store.faults c.step.new.store) (g.D.Store.reads c.args.store.now)
@@ -22,9 +23,9 @@ returns-in_err-step-in-Some-clause-stops g c =
 pub returns-in_ok-step-in-Some-clause-done : goal.returns-in_ok-step-in-Some-clause-done
 returns-in_ok-step-in-Some-clause-done g c =
     let running : Running = c.in-Some.running in
-    let finds = subst (λ (o : Option Running). FindsJob c.args.space.now.ranges c.args.self.now o) c.in-Some.is c.in_ok-running.ensures.job in
-    let step = c.in_ok-step-in-Some.ensures.done in
-    (
+    let finds = subst (λ (o : Option Running). FindsJob c.args.space.now.ranges c.args.self.now o) c.in-Some.is
+    c.in_ok-running.ensures.job in
+    let step = c.in_ok-step-in-Some.ensures.done in (
       step_ranges running.job.terms_left running.job.parts,
       (
         record {

@@ -1,6 +1,6 @@
-use Rattle.std.proofs.Common.{◌≡◌, true, Bool, ap, sym, ◌∙◌}
+use Rattle.std.proofs.Common.{ap, ◌∙◌}
 use Rattle.std.proofs.lemmas.Result.{err_from_is_err_and}
-use Rattle.wu_parts.specs.Working.{DoesWork, answer_of}
+use Rattle.wu_parts.specs.Working.{answer_of}
 use Rattle.wu_parts.proofs.LayoutWork.{layout_done, undamaged}
 use Rattle.wu_parts.proofs.UnitChains.{changes_less, units_change}
 use Rattle.wu_parts.proofs.parts.Parts.work.Goals as goal

@@ -1,0 +1,68 @@
+-- Live ranges that leave no gap: each address among them is live.
+use Rattle.std.proofs.Common.{◌≡◌, ℕ, zero, suc, ◌+◌, ◌<◌, ◌≤◌, ◌||◌, true, false, List, [], ◌∷◌, length, get_or, max, filter, nat_le, refl, ap, sym, subst, ◌∙◌, arith, ⊎_elim}
+use Rattle.std.specs.List.{AllByRecursion}
+use Rattle.std.proofs.lemmas.Bool.{cases_lt, le-leb, lt-ltb}
+use Rattle.wu_base.specs.declared.addresses.Range.{Range}
+use Rattle.wu_layout.specs.Postings.{is_in, is_live}
+use Rattle.wu_parts.specs.Lists.{AscendBetween, AreInOrder}
+use Rattle.wu_parts.specs.declared.chains.Chain.{Chain}
+use Rattle.wu_parts.specs.Chains.{moved, places_of}
+use Rattle.wu_parts.proofs.Ascending.{ascend-moved, first_end}
+use Rattle.wu_parts.proofs.LiveTerms.{filter-zero}
+use Rattle.wu_parts.proofs.MemoryLists.{all_at, all_between}
+use denote.Ref.{Bor}
+
+-- an address of one of the ranges is live
+live_at : (ranges : List Range) (place : ℕ) (range : Range) (address : ℕ) → place < length ranges → range ≡ get_or ranges place range
+    → range.start ≤ address → address < range.start + range.len → is_live ranges address ≡ true
+live_at [] place range address l is low high = absurd (omega arith)
+live_at (r ∷ rs) zero range address l is low high =
+    let same : is_in range address ≡ true =
+    rw (le-leb range.start address low, lt-ltb address (range.start + range.len) high) refl in
+    let first : is_in r address ≡ true = subst (λ (x : Range). is_in x address ≡ true) is same in
+    rw first refl
+live_at (r ∷ rs) (suc place) range address l is low high =
+    let later : is_live rs address ≡ true = live_at rs place range address (omega arith) is low high in
+    elim (is_in r address) as (λ b. (b || is_live rs address) ≡ true) [
+      | true ↦ refl
+      | false ↦ later
+    ]
+
+-- each address from start on and below the end is live
+abbrev pub AreLive : ℕ → ℕ → List Range → Type 0
+AreLive start end ranges = (address : ℕ) → start ≤ address → address < end → is_live ranges address ≡ true
+
+-- so are those of a range that starts no later than they end
+pub live_on : (start reached : ℕ) (ranges : List Range) (place : ℕ) (range : Range) → AreLive start reached ranges → place < length ranges
+    → range ≡ get_or ranges place range → range.start ≤ reached → AreLive start (max reached (range.start + range.len)) ranges
+live_on start reached ranges place range a l is low address s h =
+    ⊎_elim
+    (λ (below : address < reached). a address s below)
+    (λ (from : reached ≤ address). live_at ranges place range address l is (omega arith) (omega arith))
+    (cases_lt address reached)
+
+pub end_within : (low high : ℕ) (ranges : List Range) (place : ℕ) (d : Range) → AreInOrder low high ranges → place < length ranges
+    → (get_or ranges place d).start + (get_or ranges place d).len ≤ high
+end_within low high [] place d o l = absurd (omega arith)
+end_within low high (r ∷ rs) zero d o l = first_end low high (r ∷ rs) d (omega arith) o
+end_within low high (r ∷ rs) (suc place) d o l = end_within (r.start + r.len) high rs place d o.1 (omega arith)
+
+-- where all from start on are, the addresses of a chain are live
+pub walked_live : (start : ℕ) (links : List ℕ) (live : List Range) (entries : List (Bor (List ℕ) × Chain)) (place : ℕ)
+    (d : Bor (List ℕ) × Chain) (addresses : List ℕ)
+    → AllByRecursion (λ e. AscendBetween 0 (length links) (places_of links e.1)) entries → place < length entries
+    → addresses ≡ filter (nat_le 0) (moved start (places_of links (get_or entries place d).1))
+    → AreLive start (start + length links) live → AllByRecursion (λ address. is_live live address ≡ true) addresses
+walked_live start links live entries place d addresses a l e f =
+    let places : List ℕ = places_of links (get_or entries place d).1 in
+    let ascend : AscendBetween 0 (length links) places =
+    all_at (λ (e : Bor (List ℕ) × Chain). AscendBetween 0 (length links) (places_of links e.1)) entries place d a l in
+    subst (AllByRecursion (λ address. is_live live address ≡ true)) (sym (e ∙ filter-zero (moved start places)))
+    (all_between start (start + length links) (λ address. is_live live address ≡ true) (moved start places) f
+    (subst (λ n. AscendBetween n (start + length links) (moved start places)) (omega arith)
+    (ascend-moved start 0 (length links) places ascend)))
+
+pub all_kept : (ranges : List Range) (addresses : List ℕ) → AllByRecursion (λ address. is_live ranges address ≡ true) addresses
+    → addresses ≡ filter (is_live ranges) addresses
+all_kept ranges [] a = refl
+all_kept ranges (x ∷ xs) a = rw a.0 (ap (λ (l : List ℕ). x ∷ l) (all_kept ranges xs a.1))
