@@ -6,7 +6,7 @@ use Rattle.wu_base.specs.declared.addresses.Range.{Range}
 use Rattle.wu_outside.specs.Content.{Content, with_blob}
 use Rattle.wu_tree.specs.FileSystems.{FileSystem}
 use Rattle.wu_layout.specs.Postings.{Posting, Ascend, live_of}
-use Rattle.wu_layout.specs.Layouts.{FileEntry, IsRecordOf, Layout, Part, lists_of, ranges_by_number, ranges_of, stored_in}
+use Rattle.wu_layout.specs.Layouts.{FileEntry, IsRecordOf, Layout, Part, first_layout, lists_of, ranges_by_number, ranges_of, stored_in}
 use Rattle.wu_layout.specs.Steps.{flush, flushed}
 use Rattle.wu_layout.proofs.HomeLemmas.{postings_split}
 use Rattle.wu_layout.proofs.PostingLemmas.{Ascend-split}
@@ -17,22 +17,24 @@ use Rattle.wu_lists.specs.declared.blocks.Block.{Block}
 use Rattle.wu_lists.specs.Blocks.{bytes_of}
 use Rattle.wu_lists.specs.Keeping.{Kept}
 use Rattle.std.specs.List.{AllByRecursion}
-use Rattle.wu_parts.specs.Contents.{Contents, with_part, without_postings}
+use Rattle.wu_parts.specs.Contents.{Contents, JobAt, with_part, without_postings}
 use Rattle.wu_parts.specs.Flushing.{Flushes, Told}
 use Rattle.wu_parts.specs.Holdings.{HoldsPart, HoldParts}
 use Rattle.wu_parts.specs.Memory.{HasPostings}
 use Rattle.wu_engine.specs.Indexing.{FlushesFull, FlushesIfFull}
 use Rattle.wu_engine.specs.Records.{Records}
-use Rattle.wu_engine.specs.Stands.{HoldsTexts, IsEngineOf, KeepsBlocks}
+use Rattle.wu_engine.specs.Stands.{HoldsTexts, IsEngineOf, KeepsBlocks, KeepsJob}
 use Rattle.wu_engine.specs.States.{State, IsState, flushed_if_full, flushed_state}
 use Rattle.wu_engine.proofs.FlushedStates.{flushed_kept}
 use Rattle.wu_engine.proofs.HeldParts.{blocks_stay, parts_below, parts_pushed, parts_stay, put_agrees, put_there, texts_stay}
+use Rattle.wu_engine.proofs.KeptJobs.{job_stays}
 use Rattle.wu_engine.proofs.StoredTexts.{blobs_below}
 
--- what the store holds for the state: its texts and its parts, of which blocks are kept
+-- what the store holds for the state: its texts and its parts, of which blocks are kept, and on which a job may be under way
 pub record IsStored (holds : Option Content) (contents : Contents) (s : State) : Type 0 where
   pub texts : HoldsTexts holds s.texts s.layout.files
   pub parts : IfSome holds (λ content. HoldParts content contents.parts contents.directories s.layout.parts)
+  pub job : IfSome holds (λ content. KeepsJob content s.layout contents.job)
   pub kept : IfSome holds (λ content. KeepsBlocks content s.layout.blob contents.kept)
 
 -- ---- at first
@@ -43,6 +45,10 @@ nothing_held None records directories none no_directory = tt
 nothing_held (Some content) records directories none no_directory =
     subst (λ (rs : List PartRec). HoldParts content rs directories []) (sym none)
     (subst (λ (ds : List PartDirectory). HoldParts content [] ds []) (sym no_directory) tt)
+
+pub no_job : (holds : Option Content) (job : Option JobAt) → job ≡ None → IfSome holds (λ content. KeepsJob content first_layout job)
+no_job None job none = tt
+no_job (Some content) job none = subst (KeepsJob content first_layout) (sym none) (record { same = tt; below = tt })
 
 pub nothing_kept : (holds : Option Content) (kept : Kept) → kept.entries ≡ [] → IfSome holds (λ content. KeepsBlocks content 1 kept)
 nothing_kept None kept none = tt
@@ -83,7 +89,7 @@ module _ (fs : FileSystem) (space : Addresses) (parts : Contents) (files : Recor
           → SpellsPart directory (lists_of (posting ∷ postings)) bytes → IsStored holds parts s
           → IsStored (option_map (with_blob s.layout.blob (Some bytes)) holds) (with_part recorded directory parts)
           (with_layout s (flushed (posting ∷ postings) s.layout))
-      stored_with None of told spelled stored = record { texts = stored.texts; parts = tt; kept = tt }
+      stored_with None of told spelled stored = record { texts = stored.texts; parts = tt; job = tt; kept = tt }
       stored_with (Some content) of told spelled stored =
           let next = s.layout.blob in
           let after : Content = with_blob next (Some bytes) content in
@@ -101,6 +107,8 @@ module _ (fs : FileSystem) (space : Addresses) (parts : Contents) (files : Recor
                 (parts_stay next content after agrees parts.parts parts.directories s.layout.parts
                 (parts_below next s.layout.files s.layout.parts s.layout.check s.layout.stale blobs) stored.parts)
                 one;
+            job = job_stays s.layout (flushed (posting ∷ postings) s.layout) (made ∷ []) content after agrees (omega arith) refl refl
+                index.is_state.layout.work parts.job stored.job;
             kept = blocks_stay next content after agrees (next + 1) parts.kept (omega arith) stored.kept;
           }
 
@@ -117,7 +125,6 @@ module _ (fs : FileSystem) (space : Addresses) (parts : Contents) (files : Recor
         memory = λ term. refl;
         stored = refl;
         flushes = ap (λ (n : ℕ). n + 1) index.flushes;
-        no_job = index.no_job;
       }
 
     -- ---- any flush
@@ -135,7 +142,17 @@ module _ (fs : FileSystem) (space : Addresses) (parts : Contents) (files : Recor
       memory = λ term. refl;
       stored = refl;
       flushes = index.flushes;
-      no_job = index.no_job;
+    }
+
+    -- only postings in memory were dropped
+    still_stored : (holds : Option Content) → IsStored holds parts s
+        → IsStored holds (without_postings parts) (with_layout s (flushed [] s.layout))
+    still_stored None stored = record { texts = stored.texts; parts = tt; job = tt; kept = tt }
+    still_stored (Some content) stored = record {
+      texts = stored.texts;
+      parts = stored.parts;
+      job = record { same = stored.job.same; below = stored.job.below };
+      kept = stored.kept;
     }
 
     module _ (parts_now : Contents) (before after : Told) (stored : IsStored before.0 parts s) where
@@ -144,8 +161,7 @@ module _ (fs : FileSystem) (space : Addresses) (parts : Contents) (files : Recor
           × IsStored after.0 parts_now (with_layout s (flushed kept s.layout))
       flushed_by [] is done =
           let next : State = with_layout s (flushed [] s.layout) in
-          let told : IsStored before.0 (without_postings parts) next =
-          record { texts = stored.texts; parts = stored.parts; kept = stored.kept } in (
+          let told : IsStored before.0 (without_postings parts) next = still_stored before.0 stored in (
             subst (λ (p : Contents). IsEngineOf fs space p files next) (sym done.0) (index_without is),
             subst (λ (t : Told). IsStored t.0 parts_now next) (sym done.1)
                 (subst (λ (p : Contents). IsStored before.0 p next) (sym done.0) told),

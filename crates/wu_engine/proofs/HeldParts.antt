@@ -1,8 +1,8 @@
--- The parts and the texts that a store holds, and the blocks that are kept, after a blob was put that was never drawn before.
-use Rattle.std.proofs.Common.{◌≡◌, ◌≢◌, ℕ, ◌+◌, ◌<◌, ◌≤◌, ◌==◌, cond, List, [], ◌∷◌, ◌++◌, refl, ap, sym, ◌∙◌, subst, arith, ⊎_elim}
+-- The parts and the texts that a store holds, and the blocks that are kept, after blobs were put that were never drawn before.
+use Rattle.std.proofs.Common.{◌≡◌, ℕ, ◌+◌, ◌<◌, ◌≤◌, ◌==◌, cond, List, [], ◌∷◌, ◌++◌, refl, ap, sym, ◌∙◌, arith, ⊎_elim}
 use Rattle.std.specs.Prelude.{Option, Some, IfSome, count_by}
 use Rattle.std.specs.List.{AllByRecursion}
-use Rattle.std.proofs.lemmas.Bool.{cases_eq, eq-eqb, ne_eqb}
+use Rattle.std.proofs.lemmas.Bool.{cases_lt, eq-eqb, ne_eqb}
 use Rattle.std.proofs.lemmas.List.Sums.{sum_by-cons}
 use Rattle.wu_base.specs.declared.addresses.PartRec.{PartRec}
 use Rattle.wu_outside.specs.Content.{Content, with_blob}
@@ -12,7 +12,7 @@ use Rattle.wu_layout.proofs.EntryLemmas.{IfSome-map2}
 use Rattle.wu_part.specs.Directories.{PartDirectory}
 use Rattle.wu_lists.specs.declared.blocks.Block.{Block}
 use Rattle.wu_lists.specs.Blocks.{bytes_of}
-use Rattle.wu_lists.specs.Keeping.{AreHeld, Kept}
+use Rattle.wu_lists.specs.Keeping.{Kept}
 use Rattle.wu_parts.specs.Holdings.{HoldsPart, HoldParts}
 use Rattle.wu_engine.specs.States.{Texts, text_in}
 use Rattle.wu_engine.specs.Stands.{HoldsTexts, KeepsBlocks}
@@ -39,18 +39,19 @@ pub parts_below : (next : ℕ) (files : List (ℕ × FileEntry)) (parts : List P
 parts_below next files parts check stale d =
     none_there next parts (λ number above. omega (arith, d.below number above))
 
--- ---- what has the same blobs but for one
+-- ---- what has the same blobs below a number
 
-abbrev pub AgreesBut : ℕ → Content → Content → Type 0
-AgreesBut blob content after = (number : ℕ) → number ≢ blob → after.blobs number ≡ content.blobs number
+abbrev pub AgreesBelow : ℕ → Content → Content → Type 0
+AgreesBelow next content after = (number : ℕ) → number < next → after.blobs number ≡ content.blobs number
 
-pub put_agrees : (blob : ℕ) (bytes : Option (List ℕ)) (content : Content) → AgreesBut blob content (with_blob blob bytes content)
-put_agrees blob bytes content = λ number h. ap (λ b. cond b bytes (content.blobs number)) (ne_eqb number blob h)
+pub put_agrees : (blob : ℕ) (bytes : Option (List ℕ)) (content : Content) → AgreesBelow blob content (with_blob blob bytes content)
+put_agrees blob bytes content =
+    λ number under. ap (λ b. cond b bytes (content.blobs number)) (ne_eqb number blob (λ same. omega (arith, under, same)))
 
 pub put_there : (blob : ℕ) (bytes : List ℕ) (content : Content) → (with_blob blob (Some bytes) content).blobs blob ≡ Some bytes
 put_there blob bytes content = ap (λ b. cond b (Some bytes) (content.blobs blob)) (eq-eqb blob blob refl)
 
-module _ (next : ℕ) (content after : Content) (agrees : AgreesBut next content after) where
+module _ (next : ℕ) (content after : Content) (agrees : AgreesBelow next content after) where
   pub parts_stay : (records : List PartRec) (directories : List PartDirectory) (parts : List Part)
       → AllByRecursion (λ part. part.blob < next) parts → HoldParts content records directories parts
       → HoldParts after records directories parts
@@ -64,7 +65,7 @@ module _ (next : ℕ) (content after : Content) (agrees : AgreesBut next content
       record_of = held.0.record_of;
       told = held.0.told;
       bytes = held.0.bytes;
-      held = agrees part.blob (λ same. omega (arith, below.0)) ∙ held.0.held;
+      held = agrees part.blob below.0 ∙ held.0.held;
       spelled = held.0.spelled;
     },
     parts_stay records directories parts below.1 held.1,
@@ -76,12 +77,14 @@ module _ (next : ℕ) (content after : Content) (agrees : AgreesBut next content
       IfSome-map2 (λ (entry : FileEntry). entry.blob < next)
       (λ (entry : FileEntry). 0 < entry.blob → content.blobs entry.blob ≡ Some (text_in texts ino))
       (λ (entry : FileEntry). 0 < entry.blob → after.blobs entry.blob ≡ Some (text_in texts ino)) (entry_of files ino)
-      (λ entry under there some. agrees entry.blob (λ same. omega (arith, under)) ∙ there some) (below ino) (held ino)
+      (λ entry under there some. agrees entry.blob under ∙ there some) (below ino) (held ino)
 
-  none_of : (entries : List (Block × List ℕ)) (bytes : List ℕ) → AllByRecursion (λ entry. entry.0.blob < next) entries
-      → AllByRecursion (λ entry. entry.0.blob ≡ next → entry.1 ≡ bytes_of entry.0 bytes) entries
-  none_of [] bytes below = tt
-  none_of (entry ∷ entries) bytes below = (λ same. absurd (omega (arith, below.0)), none_of entries bytes below.1)
+  none_of : (blob : ℕ) (entries : List (Block × List ℕ)) (bytes : List ℕ) → next ≤ blob
+      → AllByRecursion (λ entry. entry.0.blob < next) entries
+      → AllByRecursion (λ entry. entry.0.blob ≡ blob → entry.1 ≡ bytes_of entry.0 bytes) entries
+  none_of blob [] bytes above below = tt
+  none_of blob (entry ∷ entries) bytes above below =
+      (λ same. absurd (omega (arith, above, below.0, same)), none_of blob entries bytes above below.1)
 
   more_below : (entries : List (Block × List ℕ)) (later : ℕ) → next ≤ later → AllByRecursion (λ entry. entry.0.blob < next) entries
       → AllByRecursion (λ entry. entry.0.blob < later) entries
@@ -93,9 +96,9 @@ module _ (next : ℕ) (content after : Content) (agrees : AgreesBut next content
     below = more_below kept.entries later l keeps.below;
     same = λ blob bytes there.
         ⊎_elim
-        (λ e. subst (λ (b : ℕ). AreHeld b bytes kept) (sym e) (none_of kept.entries bytes keeps.below))
-        (λ h. keeps.same blob bytes (sym (agrees blob h) ∙ there))
-        (cases_eq blob next);
+        (λ under. keeps.same blob bytes (sym (agrees blob under) ∙ there))
+        (λ above. none_of blob kept.entries bytes above keeps.below)
+        (cases_lt blob next);
   }
 
 -- ---- one part more

@@ -10,8 +10,11 @@ pub mod SoundLemmas
 pub mod StoredTexts
 pub mod OtherBlobs
 pub mod HeldParts
+pub mod KeptJobs
 pub mod FlushLemmas
 pub mod StandLemmas
+pub mod WorkedStates
+pub mod Sizes
 pub mod LeftStores
 pub mod Asking
 pub mod ToldPostings

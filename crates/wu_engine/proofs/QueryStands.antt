@@ -15,7 +15,7 @@ use Rattle.wu_engine.specs.Asked.{terms_asked}
 use Rattle.wu_engine.specs.Finding.{KeepsTexts}
 use Rattle.wu_engine.specs.Reads.{AreTexts, ReadsForQuery, texts_read}
 use Rattle.wu_engine.specs.Records.{Records}
-use Rattle.wu_engine.specs.Stands.{HoldsTexts, IsEngineOf, Stands}
+use Rattle.wu_engine.specs.Stands.{HoldsTexts, IsEngineOf, KeepsJob, Stands}
 use Rattle.wu_engine.specs.States.{State, Texts}
 use Rattle.wu_engine.specs.Units.{IsIndexOf, TellsPostings}
 use Rattle.wu_engine.proofs.ToldPostings.{blocks_kept}
@@ -65,11 +65,11 @@ module _ (engine : Engine) (holds : Option Content) (s : State) (stands : Stands
               memory = stands.index.memory;
               stored = stands.index.stored;
               flushes = stands.index.flushes;
-              no_job = stands.index.no_job;
             }))));
         texts = stands.texts;
         parts = subst (λ (c : Contents). IfSome holds (λ content. HoldParts content c.parts c.directories s.layout.parts)) (sym parts)
             stands.parts;
+        job = subst (λ (c : Contents). IfSome holds (λ content. KeepsJob content s.layout c.job)) (sym parts) stands.job;
         kept = blocks_kept engine.parts reads.frames.ranges (terms_asked question) new.parts.kept s holds before reads.reads.between
             postings_told reads.reads.asks;
       })

@@ -35,13 +35,14 @@ use Rattle.wu_engine.specs.declared.engines.Engine.{Engine}
 use Rattle.wu_engine.specs.declared.verdicts.Verdict.TheVariants.{Made, Refused}
 use Rattle.wu_engine.specs.States.{State, Texts, IsState, flushed_if_full, flushed_state, followed, step, after_event, texts_after, without_text, with_text, layout_without, layout_with, layout_after}
 use Rattle.wu_engine.specs.Records.{Records, records_of}
-use Rattle.wu_engine.specs.Stands.{HoldsTexts, IsEngineOf, KeepsBlocks, Stands, verdict_of}
+use Rattle.wu_engine.specs.Stands.{HoldsTexts, IsEngineOf, KeepsBlocks, KeepsJob, Stands, verdict_of}
 use Rattle.wu_engine.specs.Indexing.{Catalog, Follows, blob_for, blob_left, catalog_after, catalog_made, catalog_of, catalog_with, catalog_without, is_stored, record_for, stored_at, terms_after, terms_given}
 use Rattle.wu_engine.proofs.FileChanges.{ChangesFiles}
 use Rattle.wu_engine.proofs.StateTexts.{text-left}
 use Rattle.wu_engine.proofs.StateLayouts.{layout_dropped, left_kept, made_absent, made_kept}
 use Rattle.wu_engine.proofs.FlushLemmas.{IsStored, flush_stands, full_stands}
-use Rattle.wu_engine.proofs.HeldParts.{AgreesBut, blocks_stay, parts_below, parts_stay}
+use Rattle.wu_engine.proofs.HeldParts.{AgreesBelow, blocks_stay, parts_below, parts_stay}
+use Rattle.wu_engine.proofs.KeptJobs.{job_stays_alike}
 use Rattle.wu_engine.proofs.KeptStates.{after_effect, drawn-after, drawn-made, effect_kept, flushes-after, step-accepted, step-refused}
 use Rattle.wu_engine.proofs.RecordLemmas.{blob-recorded, records-elsewhere, records-put, records-removal}
 use Rattle.wu_engine.proofs.StoredTexts.{IsAbsent, blobs_below, held_forgotten, held_placed, held_released, stored_elsewhere, stored_none}
@@ -246,6 +247,7 @@ stands_still old new s ended holds stands tree space parts files = record {
   texts = stands.texts;
   parts = subst (λ (c : Contents). IfSome holds (λ content. HoldParts content c.parts c.directories s.layout.parts)) (sym parts)
       stands.parts;
+  job = subst (λ (c : Contents). IfSome holds (λ content. KeepsJob content s.layout c.job)) (sym parts) stands.job;
   kept = subst (λ (c : Contents). IfSome holds (λ content. KeepsBlocks content s.layout.blob c.kept)) (sym parts) stands.kept;
 }
 
@@ -309,11 +311,13 @@ module _ (old new : Engine) (s : State) (event : Event) (text : List ℕ) (ended
             length-placed old.space.next terms,
           );
       flushes = ap (λ (c : Contents). c.flushes) f.others ∙ index.flushes ∙ sym (flushes-after effect text s.layout);
-      no_job = same_after (λ l. l.job) (λ ino l. refl) (λ ino t l. refl) effect text s.layout ∙ index.no_job;
     }
 
     same_parts : next.layout.parts ≡ s.layout.parts
     same_parts = same_after (λ l. l.parts) (λ ino l. refl) (λ ino t l. refl) effect text s.layout
+
+    same_job : next.layout.job ≡ s.layout.job
+    same_job = same_after (λ l. l.job) (λ ino l. refl) (λ ino t l. refl) effect text s.layout
 
     kept_directories : (f.indexed.parts ≡ old.parts.parts)
         × ((f.indexed.directories ≡ old.parts.directories) × (f.indexed.kept ≡ old.parts.kept))
@@ -325,12 +329,14 @@ module _ (old new : Engine) (s : State) (event : Event) (text : List ℕ) (ended
     -- what the store holds after the text was put
     stored_between : (o : Option Content) → HoldsTexts o s.texts s.layout.files
         → IfSome o (λ content. HoldParts content old.parts.parts old.parts.directories s.layout.parts)
+        → IfSome o (λ content. KeepsJob content s.layout old.parts.job)
         → IfSome o (λ content. KeepsBlocks content s.layout.blob old.parts.kept)
         → IsStored (option_map (stored_at s.layout.blob effect.texted text) o) f.indexed next
-    stored_between None texts parts kept = record { texts = texts; parts = tt; kept = tt }
-    stored_between (Some content) texts parts kept =
+    stored_between None texts parts job kept = record { texts = texts; parts = tt; job = tt; kept = tt }
+    stored_between (Some content) texts parts job kept =
         let now : Content = stored_at s.layout.blob effect.texted text content in
-        let agrees : AgreesBut s.layout.blob content now = stored_elsewhere s.layout.blob effect.texted text content in
+        let agrees : AgreesBelow s.layout.blob content now =
+        λ number under. stored_elsewhere s.layout.blob effect.texted text content number (λ same. omega (arith, under, same)) in
         let held : HoldParts now old.parts.parts old.parts.directories s.layout.parts =
         parts_stay s.layout.blob content now agrees old.parts.parts old.parts.directories s.layout.parts
         (parts_below s.layout.blob s.layout.files s.layout.parts s.layout.check s.layout.stale index.is_state.layout.blobs) parts in
@@ -343,6 +349,10 @@ module _ (old new : Engine) (s : State) (event : Event) (text : List ℕ) (ended
               subst (λ (ps : List Part). HoldParts now f.indexed.parts f.indexed.directories ps) (sym same_parts)
               (subst (λ (ds : List PartDirectory). HoldParts now f.indexed.parts ds s.layout.parts) (sym kept_directories.1.0)
               (subst (λ (rs : List PartRec). HoldParts now rs old.parts.directories s.layout.parts) (sym kept_directories.0) held));
+          job =
+              subst (KeepsJob now next.layout) (sym (ap (λ (c : Contents). c.job) f.others))
+              (job_stays_alike s.layout next.layout content now agrees rises same_parts same_job index.is_state.layout.work old.parts.job
+              job);
           kept = subst (KeepsBlocks now next.layout.blob) (sym kept_directories.1.1) blocks;
         }
 
@@ -352,7 +362,7 @@ module _ (old new : Engine) (s : State) (event : Event) (text : List ℕ) (ended
         let between : IsStored f.between.0 f.indexed next =
         subst (λ (o : Option Content). IsStored o f.indexed next)
         (sym (f.stored ∙ ap (λ (n : ℕ). option_map (stored_at n effect.texted text) before.0) index.next_blob))
-        (stored_between before.0 stands.texts stands.parts stands.kept) in
+        (stored_between before.0 stands.texts stands.parts stands.job stands.kept) in
         let both = full_stands new.tree new.space f.indexed new.files.entries next index_between new.parts f.between after between
         f.flushed in
         let same : after_event old.parts.flush_at s event text ≡ flushed_if_full f.indexed.flush_at next =
@@ -364,6 +374,7 @@ module _ (old new : Engine) (s : State) (event : Event) (text : List ℕ) (ended
             index = both.0;
             texts = both.1.texts;
             parts = both.1.parts;
+            job = both.1.job;
             kept = both.1.kept;
           }),
         )
@@ -388,7 +399,8 @@ pub flushed_on : (old new : Engine) (s : State) → new.ended ≡ None → (befo
     → Flushes (live_of (map (λ file. file.1) old.space.ranges) postings) old.parts new.parts before after)
     → Stands new after.0 (flushed_state s)
 flushed_on old new s ended before after stands tree space files done =
-    let stored : IsStored before.0 old.parts s = record { texts = stands.texts; parts = stands.parts; kept = stands.kept } in
+    let stored : IsStored before.0 old.parts s =
+    record { texts = stands.texts; parts = stands.parts; job = stands.job; kept = stands.kept } in
     let both = flush_stands old.tree old.space old.parts old.files.entries s stands.index new.parts before after stored done in
     record {
       goes_on = ended;
@@ -397,5 +409,6 @@ flushed_on old new s ended before after stands tree space files done =
           (subst (λ (r : Records). IsEngineOf old.tree old.space new.parts r (flushed_state s)) (sym files) both.0));
       texts = both.1.texts;
       parts = both.1.parts;
+      job = both.1.job;
       kept = both.1.kept;
     }

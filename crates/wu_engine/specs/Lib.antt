@@ -10,6 +10,7 @@ pub mod Reads
 pub mod Records
 pub mod Soundness
 pub mod Stands
+pub mod Reports
 pub mod Causes
 -- ---- What only private functions and proofs need
 

@@ -2,7 +2,7 @@
 use Rattle.std.specs.Prelude.{◌≡◌, ◌⊎◌, ⊤, ℕ, ◌+◌, ◌<◌, ◌≤◌, Bool, true, false, not, ◌&&◌, nat_lt, List, [], length, Option, None, Some, IfSome, Result, Ok, Err}
 use Rattle.std.specs.List.{AllByRecursion}
 use Rattle.wu_outside.specs.Content.{Content}
-use Rattle.wu_layout.specs.Layouts.{FileEntry, entry_of, ranges_by_number}
+use Rattle.wu_layout.specs.Layouts.{FileEntry, Layout, entry_of, ranges_by_number}
 use Rattle.wu_layout.specs.Postings.{addresses_of}
 use Rattle.wu_token.specs.Words.{has_bytes}
 use Rattle.wu_token.specs.Tokens.{tokens_of}
@@ -12,9 +12,10 @@ use Rattle.wu_tree.specs.declared.events.Event.TheVariants.{Create, Text}
 use Rattle.wu_tree.specs.declared.events.Refusal.{Refusal}
 use Rattle.wu_space.specs.Addresses.{Addresses}
 use Rattle.wu_lists.specs.Keeping.{AreHeld, Kept}
-use Rattle.wu_parts.specs.Contents.{Contents}
+use Rattle.wu_parts.specs.Contents.{Contents, JobAt}
 use Rattle.wu_parts.specs.Holdings.{HoldParts}
 use Rattle.wu_parts.specs.Memory.{held}
+use Rattle.wu_parts.specs.Working.{TellsJobs}
 use Rattle.wu_engine.specs.declared.engines.Engine.{Engine}
 use Rattle.wu_engine.specs.declared.verdicts.Verdict.{Verdict}
 use Rattle.wu_engine.specs.declared.verdicts.Verdict.TheVariants.{Made, Refused}
@@ -36,8 +37,6 @@ pub record IsEngineOf (fs : FileSystem) (addresses : Addresses) (contents : Cont
   pub memory : (term : List ℕ) → held contents.memory term ≡ addresses_of term s.layout.memory
   pub stored : contents.memory.stored ≡ length s.layout.memory
   pub flushes : contents.flushes ≡ s.layout.flushes
-  -- there is no background work yet
-  pub no_job : s.layout.job ≡ None
 
 -- the store tells what it holds, and that is the text of each file, under the blob that the layout has for it; the empty text is in
 -- no blob
@@ -51,13 +50,20 @@ pub record KeepsBlocks (content : Content) (next_blob : ℕ) (kept : Kept) : Typ
   pub below : AllByRecursion (λ entry. entry.0.blob < next_blob) kept.entries
   pub same : (blob : ℕ) (bytes : List ℕ) → content.blobs blob ≡ Some bytes → AreHeld blob bytes kept
 
+-- The job under way is the layout's, as far as it has gone, and the lists that it has made are right by the content. Its parts are in blobs
+-- that were drawn.
+pub record KeepsJob (content : Content) (layout : Layout) (job : Option JobAt) : Type 0 where
+  pub same : TellsJobs content layout.parts job layout.job
+  pub below : IfSome job (λ running. AllByRecursion (λ part. part.recorded.blob < layout.blob) running.state.parts)
+
 -- Engine and store stand for the state: the engine goes on and tells its tree and its index, and the store, which tells what it holds,
--- has its texts and its parts, with their directories and kept blocks in the engine.
+-- has its texts and its parts, with their directories, the job that is under way on them and kept blocks in the engine.
 pub record Stands (engine : Engine) (holds : Option Content) (s : State) : Type 0 where
   pub goes_on : engine.ended ≡ None
   pub index : IsEngineOf engine.tree engine.space engine.parts engine.files.entries s
   pub texts : HoldsTexts holds s.texts s.layout.files
   pub parts : IfSome holds (λ content. HoldParts content engine.parts.parts engine.parts.directories s.layout.parts)
+  pub job : IfSome holds (λ content. KeepsJob content s.layout engine.parts.job)
   pub kept : IfSome holds (λ content. KeepsBlocks content s.layout.blob engine.parts.kept)
 
 -- how many addresses an event takes, where it is accepted

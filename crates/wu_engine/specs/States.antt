@@ -7,7 +7,7 @@ use Rattle.std.specs.BTreeMap.{is_at, insert_entry}
 use Rattle.wu_base.specs.declared.limits.TheConstants.{TEXT_MAX}
 use Rattle.wu_layout.specs.Layouts.{Text, Layout, first_layout}
 use Rattle.wu_layout.specs.Invariants.{IsLayoutOf}
-use Rattle.wu_layout.specs.Steps.{release, place, flush, flush_if_full}
+use Rattle.wu_layout.specs.Steps.{release, place, flush, flush_if_full, work}
 use Rattle.wu_token.specs.Words.{has_bytes}
 use Rattle.wu_token.specs.Tokens.{tokens_of}
 use Rattle.wu_tree.specs.Rules.{IsTree}
@@ -101,6 +101,14 @@ followed flush_at s (Err refusal) = s
 -- the state after an event, where memory is full at so many postings
 abbrev pub after_event : ℕ → State → Event → List ℕ → State
 after_event flush_at s event text = followed flush_at s (step s event text)
+
+-- ---- background work
+
+-- the state after so many units of background work, or as many as there is work for
+abbrev pub worked_state : ℕ → State → State
+worked_state n s = record s { layout = work n s.layout }
+
+-- ---- what is always true
 
 -- no text is longer than a text may be
 abbrev pub AreShort : Texts → Type 0

@@ -1,7 +1,12 @@
 //! The engine, and how it begins.
-ghost use Rattle.std.specs.Prelude.{◌≡◌, ◌⊎◌, ℕ, [], ◌+◌, ◌<◌, ◌≤◌, ◌^◌, None, Some, Err, true, length, IsSome, IfOk, IfErr, OnOk};
+ghost use Rattle.std.specs.Prelude.{◌≡◌, ◌≢◌, ◌⊎◌, ℕ, [], ◌+◌, ◌<◌, ◌≤◌, ◌^◌, Option, None, Some, Ok, Err, true, length, IsSome, IfOk, IfErr, OnOk};
 ghost use Rattle.wu_base.specs.declared.limits.TheConstants.{ADDRESSES_MAX, TEXT_MAX};
+ghost use Rattle.wu_base.specs.declared.reports.Worked.TheVariants.{Idle};
 ghost use Rattle.wu_base.specs.declared.troubles.Trouble.TheVariants.{Damaged};
+ghost use Rattle.wu_outside.specs.Content.{Content};
+ghost use Rattle.wu_space.specs.Addresses.{live_total};
+ghost use Rattle.wu_parts.specs.Contents.{stored_in};
+ghost use Rattle.wu_parts.specs.Working.{AreFew, DoesWork, IsDamaged, StopsWork, answer_of, is_idle};
 ghost use Rattle.lru.specs.LruCache.{lru_cache};
 ghost use Rattle.wu_parts.specs.declared.parts.TheConstants.{BLOCKS_KEPT};
 ghost use Rattle.wu_ask.specs.Questions.{question_of, IsSoundAsk};
@@ -16,7 +21,7 @@ use crate::verdicts::Verdict;
 use std::alloc::Global;
 use std::collections::BTreeMap;
 use wu_ask::{Answered, Query};
-use wu_base::{Ino, NoMemory, Trouble};
+use wu_base::{Ino, NoMemory, Stat, Trouble, Worked};
 use wu_frames::FrameCache;
 use wu_image::FileRec;
 use wu_outside::Store;
@@ -42,7 +47,8 @@ pub struct Engine {
 }
 
 impl Engine {
-    ghost use Rattle.wu_engine.specs.States.{State, after_event, first_state, flushed_state, step};
+    ghost use Rattle.wu_engine.specs.States.{State, after_event, first_state, flushed_state, step, worked_state};
+    ghost use Rattle.wu_engine.specs.Reports.{stat_of, worked_in};
     ghost use Rattle.wu_engine.specs.Stands.{KeepsOthers, Stands, leaves_store, taken_by, verdict_of};
     ghost use Rattle.wu_engine.specs.Causes.{HasTroubleCause, IsDamagedIn};
     ghost use Rattle.wu_engine.specs.View.{view_of};
@@ -186,6 +192,85 @@ impl Engine {
                 Ok(())
             }
             Err(trouble) => Err(self.end_with(trouble)),
+        }
+    }
+
+    /// Does up to `n` units of background work on the parts: each does the first term that is left of the job
+    /// under way, or of the one that is named next. With its last term a job ends: what is left of its parts, if
+    /// anything, is put into the store under the next blob's number, and stands in their place. It stops early
+    /// only where there is nothing to do. It answers Idle exactly where no job is under way then and none is
+    /// named, else Busy.
+    ///
+    /// Of the store only the blocks of these terms in the jobs' parts are read, each in one read. Its errors are a
+    /// damaged part, a fault of the store, and out of memory.
+    pub fn work<D: Store>(&mut self, store: &mut D, n: u32) -> Result<Worked, Trouble>
+        requires blobs { self.old.parts.next_blob + n < 2 ^ 63 }
+        // The answer is that of the state after the units, and engine and store stand for it.
+        ensures step { (s : State) → Stands self.old (D.holds store.old) s → IfOk result (λ worked.
+            (worked ≡ worked_in (worked_state n s)) × Stands self.new (D.holds store.new) (worked_state n s)) }
+        ensures answer { IfOk result (λ worked. worked ≡ answer_of (is_idle self.new.space.ranges self.new.parts)) }
+        // Where there is nothing to do there are few parts, and most of each is live.
+        ensures few { IfOk result (λ worked. worked ≡ Idle → AreFew self.new.space.ranges self.new.parts) }
+        ensures space { self.new.space ≡ self.old.space }
+        ensures drawn { OnOk result (self.new.parts.next_blob ≤ self.old.parts.next_blob + n) }
+        ensures counted { OnOk result (self.new.parts.flushes ≡ self.old.parts.flushes) }
+        ensures flush_at { OnOk result (self.new.parts.flush_at ≡ self.old.parts.flush_at) }
+        ensures kept { OnOk result (self.new.parts.kept ≡ self.old.parts.kept) }
+
+        // What the store holds changes only at the blobs that may be drawn, also where the call fails.
+        ensures elsewhere { KeepsOthers self.old.parts.next_blob (self.old.parts.next_blob + n) (D.holds store.old) (D.holds store.new) }
+        // The units that were done read their terms' blocks, and nothing else is read, also where one of them fails.
+        ensures reads { OnOk result (DoesWork self.old.space.ranges n self.old.parts self.new.parts
+            (D.holds store.old, D.moments store.old) (D.holds store.new, D.moments store.new) (D.reads store.old) (D.reads store.new)) }
+        ensures stops { self.old.ended ≡ None → IfErr result (StopsWork self.old.space.ranges n self.old.parts
+            (D.holds store.old, D.moments store.old) (D.faults store.old) (D.faults store.new) (D.reads store.old) (D.reads store.new)) }
+
+        ensures goes_on { OnOk result (self.new.ended ≡ None) }
+        ensures ends { IfErr result (λ trouble. self.new.ended ≡ Some trouble) }
+        ensures again { (trouble : Trouble) → self.old.ended ≡ Some trouble
+            → (result ≡ Err trouble) × (self.new ≡ self.old) × (store.new ≡ store.old) }
+        ensures cause { HasTroubleCause self.old.ended (D.faults store.old) (D.faults store.new) result }
+        ensures damaged { (blob : ℕ) → result ≡ Err (Damaged blob)
+            → (self.old.ended ≡ Some (Damaged blob)) ⊎ IsDamaged (D.holds store.old) self.old.parts blob }
+        // No blob is answered as damaged where engine and store stand for a state.
+        ensures undamaged { (s : State) → Stands self.old (D.holds store.old) s → (blob : ℕ) → result ≢ Err (Damaged blob) }
+    {
+        let _untouched = &*store;
+        if let Some(trouble) = self.ended {
+            return Err(trouble);
+        }
+        self.ended = Some(Trouble::NoMemory);
+        match self.parts.work(store, &self.space, n) {
+            Ok(worked) => {
+                self.ended = None;
+                Ok(worked)
+            }
+            Err(trouble) => Err(self.end_with(trouble)),
+        }
+    }
+
+    /// How many regular files there are, addresses in their live ranges, postings in memory and parts, those of
+    /// texts that are gone too, and parts. Takes no memory, and asks no store. It answers a trouble only where
+    /// that had ended the engine.
+    pub fn stat(&self) -> Result<Stat, Trouble>
+        ensures stat { (holds : Option Content) (s : State) → Stands self.now holds s → result ≡ Ok (stat_of s) }
+        ensures told { IfOk result (λ stat. stat ≡ record {
+          files = length self.now.files.entries;
+          live = live_total self.now.space.ranges;
+          stored = stored_in self.now.parts;
+          parts = length self.now.parts.parts;
+        }) }
+        ensures ends { IfErr result (λ trouble. self.now.ended ≡ Some trouble) }
+        ensures again { (trouble : Trouble) → self.now.ended ≡ Some trouble → result ≡ Err trouble }
+    {
+        match self.ended {
+            Some(trouble) => Err(trouble),
+            None => Ok(Stat {
+                files: self.files.len() as u64,
+                live: self.space.live_total(),
+                stored: self.parts.stored(),
+                parts: self.parts.count(),
+            }),
         }
     }
 

@@ -4,12 +4,13 @@ ghost use Rattle.wu_base.specs.declared.limits.TheConstants.{TEXT_MAX};
 ghost use Rattle.wu_tree.specs.Steps.{IsEvent};
 ghost use Rattle.wu_tree.specs.declared.events.Event.{Event};
 ghost use Rattle.wu_engine.specs.Stands.{taken_by};
-ghost use Rattle.wu_engine.specs.States.{State, IsState, after_event, first_state, flushed_state};
+ghost use Rattle.wu_engine.specs.States.{State, IsState, after_event, first_state, flushed_state, worked_state};
 
 /// Each event, accepted or refused, and each flush make a state of a state: the tree keeps its rules, there are
 /// texts of exactly its regular files, none of them too long, and the layout is one of these files and texts.
 /// The next address rises by no more than the event takes. An event draws two blobs at most, one for a text and
-/// one for the part of a flush that follows, and a flush draws one.
+/// one for the part of a flush that follows, and a flush draws one. Units of background work too make a state of
+/// a state: they give no address, draw one blob each at most, and count no flush.
 pub fn each_event_keeps_a_state()
     ensures first { IsState first_state }
     ensures step { (flush_at : ℕ) (s : State) (event : Event) (text : List ℕ) → IsState s → IsEvent event → length text ≤ TEXT_MAX
@@ -24,4 +25,8 @@ pub fn each_event_keeps_a_state()
     ensures flush_takes { (s : State) → (flushed_state s).layout.next ≡ s.layout.next }
     ensures flush_draws { (s : State) → (flushed_state s).layout.blob ≤ s.layout.blob + 1 }
     ensures flush_counts { (s : State) → (flushed_state s).layout.flushes ≤ s.layout.flushes + 1 }
+    ensures work { (n : ℕ) (s : State) → IsState s → IsState (worked_state n s) }
+    ensures work_takes { (n : ℕ) (s : State) → (worked_state n s).layout.next ≡ s.layout.next }
+    ensures work_draws { (n : ℕ) (s : State) → (worked_state n s).layout.blob ≤ s.layout.blob + n }
+    ensures work_counts { (n : ℕ) (s : State) → (worked_state n s).layout.flushes ≡ s.layout.flushes }
 {}
