@@ -1,5 +1,5 @@
 -- What is read of a term in one part or two.
-use Rattle.std.proofs.Common.{◌≡◌, ℕ, ◌+◌, ◌<◌, Bool, true, false, List, [], ◌∷◌, ◌++◌, map, refl, ap, ap₂, sym, ◌∙◌, subst, arith, append-nil, inl, inr}
+use Rattle.std.proofs.Common.{◌≡◌, ℕ, ◌+◌, ◌<◌, ◌≤◌, Bool, true, false, List, [], ◌∷◌, ◌++◌, map, refl, ap, ap₂, sym, ◌∙◌, subst, arith, append-nil, inl, inr}
 use Rattle.std.specs.Prelude.{Option, None, Some}
 use Rattle.std.specs.List.{AllByRecursion}
 use Rattle.std.proofs.lemmas.List.{map-append}
@@ -15,21 +15,40 @@ use Rattle.wu_layout.specs.Postings.{is_live}
 use Rattle.wu_layout.proofs.EachLemmas.{each-append}
 use Rattle.wu_job.specs.declared.live.Cut.{Cut}
 use Rattle.wu_job.specs.declared.sources.Source.{Source}
-use Rattle.wu_job.specs.Jobs.{JobPart, JobState, AreKept}
+use Rattle.wu_job.specs.Jobs.{JobPart, JobState, AreKept, StandWithin, highest, lowest}
 use Rattle.wu_job.specs.Keeping.{AreMarks, IsNewCut, addresses_in, has}
 use Rattle.wu_job.specs.Live.{AscendBetween, live_below}
 use Rattle.wu_job.specs.Reading.{IsCutOf, IsNew}
 use Rattle.wu_job.specs.Sources.{AreSources, part_of, parts_of}
 use Rattle.wu_job.specs.Steps.{ReadsFront, adds, ranges_of, step_ranges}
-use Rattle.wu_job.proofs.Blocks.{ascend-higher, ascend-join, ascend-lower}
+use Rattle.wu_job.proofs.Blocks.{ascend-bounds, ascend-higher, ascend-join, ascend-lower}
 use Rattle.wu_job.proofs.Fronts.{adds-more, front_first, front_then}
 use Rattle.wu_job.proofs.Marking.{unmarked_new}
 
 -- ---- addresses
 
+stand_within : (parts : List JobPart) (low high : ℕ) (xs : List ℕ) → lowest parts ≤ low → high ≤ highest parts
+    → AscendBetween low (high + 1) xs → StandWithin parts xs
+stand_within parts low high [] l h a = tt
+stand_within parts low high (x ∷ xs) l h a =
+    let up = ascend-bounds (x + 1) (high + 1) xs a.1 in
+    ((omega (arith, l, a.0), omega (arith, h, up)), stand_within parts (x + 1) high xs (omega (arith, l, a.0)) h a.1)
+
+pub lowest_left : (left : Source) (right : Option Source) → lowest (parts_of left right) ≡ left.directory.low
+lowest_left left None = refl
+lowest_left left (Some right) = refl
+
+pub highest_alone : (left : Source) (right : Option Source) → right ≡ None → highest (parts_of left right) ≡ left.directory.high
+highest_alone left right e = ap (λ (o : Option Source). highest (parts_of left o)) e
+
+pub highest_with : (left : Source) (right : Option Source) (other : Source) → right ≡ Some other
+    → highest (parts_of left right) ≡ other.directory.high
+highest_with left right other e = ap (λ (o : Option Source). highest (parts_of left o)) e
+
 pub new_one : (job : JobState) (marks : List Bool) (low high : ℕ) (cut : Cut) → AreMarks job.live marks job.done → high < ADDRESSES_MAX
-    → IsNew job.live marks low high cut → IsNewCut job cut
-new_one job marks low high cut m l n = record {
+    → lowest job.parts ≤ low → high ≤ highest job.parts → IsNew job.live marks low high cut → IsNewCut job cut
+new_one job marks low high cut m l least most n = record {
+  within = stand_within job.parts low high cut.addresses.items least most n.ascend;
   ascend =
       ascend-lower 0 low ADDRESSES_MAX cut.addresses.items (omega arith)
       (ascend-higher low (high + 1) ADDRESSES_MAX cut.addresses.items (omega arith) n.ascend);
@@ -39,10 +58,12 @@ new_one job marks low high cut m l n = record {
 }
 
 pub new_both : (job : JobState) (marks : List Bool) (low high other top : ℕ) (cut more both : Cut) → AreMarks job.live marks job.done
-    → high < other → top < ADDRESSES_MAX → IsNew job.live marks low high cut → IsNew job.live marks other top more
-    → both.addresses.items ≡ cut.addresses.items ++ more.addresses.items → both.places.items ≡ cut.places.items ++ more.places.items
+    → high < other → top < ADDRESSES_MAX → lowest job.parts ≤ low → top ≤ highest job.parts → IsNew job.live marks low high cut
+    → IsNew job.live marks other top more → both.addresses.items ≡ cut.addresses.items ++ more.addresses.items → both.places.items ≡ cut.places.items ++ more.places.items
     → IsNewCut job both
-new_both job marks low high other top cut more both m l t a b e f =
+new_both job marks low high other top cut more both m l t least most a b e f =
+    let low_high = ascend-bounds low (high + 1) cut.addresses.items a.ascend in
+    let other_top = ascend-bounds other (top + 1) more.addresses.items b.ascend in
     let P = λ (address : ℕ). is_live job.live address ≡ true in
     let live : AllByRecursion P (cut.addresses.items ++ more.addresses.items) =
     each-append P cut.addresses.items more.addresses.items a.alive b.alive in
@@ -54,6 +75,11 @@ new_both job marks low high other top cut more both m l t a b e f =
           subst (AscendBetween 0 ADDRESSES_MAX) (sym e)
           (ascend-join 0 other ADDRESSES_MAX cut.addresses.items more.addresses.items
           (ascend-lower 0 low other cut.addresses.items (omega arith) first) second);
+      within =
+          subst (StandWithin job.parts) (sym e)
+          (each-append (λ address. (lowest job.parts ≤ address) × (address ≤ highest job.parts)) cut.addresses.items more.addresses.items
+          (stand_within job.parts low high cut.addresses.items least (omega arith) a.ascend)
+          (stand_within job.parts other top more.addresses.items (omega arith) most b.ascend));
       live = subst (AllByRecursion P) (sym e) live;
       places =
           f ∙ ap₂ ◌++◌ a.places b.places

@@ -1,10 +1,10 @@
 -- Jobs on parts of the index. As in an index that is kept as a log-structured merge tree (Büttcher, Clarke and Cormack, Information
 -- Retrieval, chapter 7), a part is written anew without its dead postings, or two neighbours are merged into one. A job goes
 -- through the terms of its parts in byte order, one term a step, and keeps the postings that were live when it began.
-use Rattle.std.specs.Prelude.{◌≡◌, ℕ, ◌<◌, List, [], ◌∷◌, ◌++◌, length, map, filter, Contains, Option, None, Some, IfSome}
+use Rattle.std.specs.Prelude.{◌≡◌, ℕ, ◌<◌, ◌≤◌, List, [], ◌∷◌, ◌++◌, length, map, filter, Contains, Option, None, Some, IfSome}
 use Rattle.std.specs.Ordering.{nat_cmp}
 use Rattle.std.specs.Cmp.Lexicographic.{slice_cmp}
-use Rattle.std.specs.List.{flat_map}
+use Rattle.std.specs.List.{AllByRecursion, flat_map}
 use Rattle.wu_base.specs.SortedOnce.{sorted_once}
 use Rattle.wu_base.specs.declared.addresses.PartRec.{PartRec}
 use Rattle.wu_base.specs.declared.addresses.Range.{Range}
@@ -41,6 +41,20 @@ terms_of_part part = map (λ entry. entry.term) part.directory.terms
 -- the terms of the parts in byte order, each of them once
 abbrev pub terms_in : List JobPart → List (List ℕ)
 terms_in parts = sorted_once (slice_cmp nat_cmp) (flat_map terms_of_part parts)
+
+-- the first address of the first part, and the last of the last one
+abbrev pub lowest : List JobPart → ℕ
+lowest [] = 0
+lowest (part ∷ parts) = part.directory.low
+
+abbrev pub highest : List JobPart → ℕ
+highest [] = 0
+highest (part ∷ []) = part.directory.high
+highest (part ∷ next ∷ parts) = highest (next ∷ parts)
+
+-- the addresses are from that one to this one
+abbrev pub StandWithin : List JobPart → List ℕ → Type 0
+StandWithin parts addresses = AllByRecursion (λ address. (lowest parts ≤ address) × (address ≤ highest parts)) addresses
 
 -- a job that has done no term
 abbrev pub started : List JobPart → List Range → ℕ → JobState

@@ -9,7 +9,7 @@ use Rattle.wu_base.specs.declared.addresses.TermList.{TermList}
 use Rattle.wu_base.specs.declared.limits.TheConstants.{ADDRESSES_MAX, GENERATION_MAX}
 use Rattle.wu_layout.specs.Postings.{is_live}
 use Rattle.wu_part.specs.Parts.{IsList}
-use Rattle.wu_job.specs.Jobs.{JobState}
+use Rattle.wu_job.specs.Jobs.{JobState, StandWithin}
 use Rattle.wu_job.specs.Live.{AreRanked, AscendBetween, live_below, ranges_alone, total_of}
 use Rattle.wu_job.specs.Sources.{AreAllPassed, AreSources, parts_of, terms_from}
 use Rattle.wu_job.specs.declared.jobs.Job.TheInside as inside
@@ -43,6 +43,7 @@ pub record IsSound (fields : inside.Inside) : Type 0 where
   pub writable : AreWritable (ranges_alone fields.live.items) fields.done.items (terms_from fields.left fields.right fields.places)
   pub units : fields.units_left ≡ length (terms_from fields.left fields.right fields.places)
   pub generation : fields.generation ≤ GENERATION_MAX
+  pub within : StandWithin (parts_of fields.left fields.right) (addresses_in fields.done.items)
 
 -- what contracts see of a job
 abbrev pub state_of : inside.Inside → JobState
@@ -61,6 +62,7 @@ IsFirst term job = (later : List (List ℕ)) × (job.terms_left ≡ term ∷ lat
 -- Live addresses, ascending, each with its place among the live ones, of which none stands in a list that was made.
 pub record IsNewCut (job : JobState) (cut : Cut) : Type 0 where
   pub ascend : AscendBetween 0 ADDRESSES_MAX cut.addresses.items
+  pub within : StandWithin job.parts cut.addresses.items
   pub live : AllByRecursion (λ address. is_live job.live address ≡ true) cut.addresses.items
   pub places : cut.places.items ≡ map (live_below job.live) cut.addresses.items
   pub new : AllByRecursion (λ address. has (addresses_in job.done) address ≡ false) cut.addresses.items

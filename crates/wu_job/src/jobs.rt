@@ -1,9 +1,10 @@
 //! Jobs.
 ghost use Rattle.std.specs.Prelude.{◌≡◌, ◌+◌, ◌<◌, ◌≤◌, ◌∷◌, ◌++◌, [], length, All, IfOk, IfErr, OnOk, OnErr};
+ghost use Rattle.std.specs.List.{flat_map};
 ghost use Rattle.wu_base.specs.declared.limits.TheConstants.{ADDRESSES_MAX, GENERATION_MAX};
 ghost use Rattle.wu_part.specs.Parts.{IsRecorded};
 ghost use Rattle.wu_space.specs.Addresses.{AreApart};
-ghost use Rattle.wu_job.specs.Jobs.{Answers, DoesTerm, list_for, started};
+ghost use Rattle.wu_job.specs.Jobs.{Answers, DoesTerm, StandWithin, list_for, started};
 ghost use Rattle.wu_job.specs.Sources.{AreSources, parts_of};
 ghost use Rattle.wu_job.specs.Steps.{IsCause, IsDamaged, ReadsFront, adds, step_ranges};
 
@@ -122,6 +123,14 @@ impl Job {
         ensures { result ≡ length self.now.terms_left }
     {
         self.units_left
+    }
+
+    /// Returns nothing and does nothing, in constant time: its clause says that the addresses of the lists that
+    /// were made are within the parts' spans, as they are at every moment. Proofs of callers cite it.
+    pub fn stays_within_its_parts(&self)
+        ensures { StandWithin self.now.parts (flat_map (λ list. list.at) self.now.done) }
+    {
+        let _units_left = self.units_left;
     }
 
     /// Does the first term that is left: reads its blocks in the parts, each once, and keeps of its addresses those

@@ -5,6 +5,7 @@ pub mod Putting
 pub mod Gaining
 pub mod Chaining
 pub mod SortedTerms
+pub mod LeadingLemmas
 pub mod LiveTerms
 pub mod NewParts
 pub mod Asking
@@ -12,4 +13,15 @@ pub mod ReadingBack
 pub mod Spans
 pub mod MemoryLists
 pub mod Flushes
+pub mod HeldParts
+pub mod Policy
+pub mod StartedJobs
+pub mod LayoutUnits
+pub mod UnitChains
+pub mod LayoutWork
+pub mod SoundParts
+pub mod NextJobs
+pub mod EndedJobs
+pub mod StartedParts
+pub mod UnitSteps
 pub mod Covering

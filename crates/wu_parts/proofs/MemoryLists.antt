@@ -27,7 +27,7 @@ use Rattle.wu_parts.proofs.LiveTerms.{IsListWithin, filter-zero, lists_encodable
 abbrev Entries : Type 0
 Entries = List (Vec ℕ Global × Chain)
 
-all-permuted : {X : Type 0} (P : X → Type 0) (xs ys : List X) → IsPermutation xs ys → AllByRecursion P xs → AllByRecursion P ys
+pub all-permuted : {X : Type 0} (P : X → Type 0) (xs ys : List X) → IsPermutation xs ys → AllByRecursion P xs → AllByRecursion P ys
 all-permuted P xs ys p a =
     all_from_has P ys
     (λ y i. all_has P y xs a (Has-from_Contains y xs (Contains-permutation ys xs y (IsPermutation-sym xs ys p) (Contains-from_Has y ys i))))
@@ -161,12 +161,12 @@ more_live start links live entries place d addresses before after l is b e =
 
 -- ---- the live ranges
 
-all_indexed : {X : Type 0} (P : X → Type 0) (xs : List X) → AllByRecursion P xs → All P xs
+pub all_indexed : {X : Type 0} (P : X → Type 0) (xs : List X) → AllByRecursion P xs → All P xs
 all_indexed P [] a k d l = absurd (omega arith)
 all_indexed P (x ∷ xs) a zero d l = a.0
 all_indexed P (x ∷ xs) a (suc k) d l = all_indexed P xs a.1 k d (omega arith)
 
-all-kept : (P : Range → Type 0) (test : Range → Bool) (ranges : Ranges) → AllByRecursion (λ file. P file.1) ranges
+pub all-kept : (P : Range → Type 0) (test : Range → Bool) (ranges : Ranges) → AllByRecursion (λ file. P file.1) ranges
     → AllByRecursion P (filter test (map (λ file. file.1) ranges))
 all-kept P test [] a = tt
 all-kept P test (file ∷ ranges) a =

@@ -43,11 +43,11 @@ has_last : (before last : ℕ) (later : List ℕ) → last_or (Some before) late
 has_last before last [] e = inl (some_same before last e)
 has_last before last (a ∷ later) e = inr (has_last a last later e)
 
-abbrev all_addresses : List TermList → List ℕ
+abbrev pub all_addresses : List TermList → List ℕ
 all_addresses lists = flat_map (λ list. list.at) lists
 
 -- the ends of each block are among some addresses
-abbrev AreEnds : List BlockEntry → List ℕ → Type 0
+abbrev pub AreEnds : List BlockEntry → List ℕ → Type 0
 AreEnds blocks addresses = AllByRecursion (λ block. Has block.first addresses × Has block.last addresses) blocks
 
 module _ (low : ℕ) (bytes : List ℕ) where
@@ -113,7 +113,7 @@ module _ (low : ℕ) (bytes : List ℕ) where
   ends_joined [] more addresses a b = b
   ends_joined (block ∷ blocks) more addresses a b = (a.0, ends_joined blocks more addresses a.1 b)
 
-  lists_end : (terms : List TermEntry) (lists : List TermList) → AllZip (HoldsList low bytes) terms lists
+  pub lists_end : (terms : List TermEntry) (lists : List TermList) → AllZip (HoldsList low bytes) terms lists
       → AreEnds (all_blocks terms) (all_addresses lists)
   lists_end [] [] h = tt
   lists_end [] (list ∷ lists) h = absurd h

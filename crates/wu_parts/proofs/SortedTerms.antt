@@ -9,8 +9,7 @@ use Rattle.std.proofs.lemmas.Cmp.{nat_list_cmp_total, nat_list_eq_equiv}
 use Rattle.std.proofs.lemmas.List.{get_or-map, length-map}
 use Rattle.std.proofs.lemmas.List.Kept.{IsStrictlySortedBy-dedup}
 use Rattle.wu_parts.specs.declared.chains.Chain.{Chain}
-use Rattle.wu_parts.specs.Chains.{chained, lent}
-use denote.Ref.{Bor}
+use Rattle.wu_parts.specs.Chains.{chained}
 
 abbrev same_term : List ℕ → List ℕ → Bool
 same_term = pointwise nat_eq
@@ -54,7 +53,3 @@ pub distinct_terms : (es : List (Vec ℕ Global × Chain)) → IsDistinct (λ k 
 unfolding IsDistinct
 distinct_terms [] d = tt
 distinct_terms (e ∷ es) d = (all_differ e.0 es d.0, distinct_terms es d.1)
-
-pub keys_of_lent : (es : List (Bor (List ℕ) × Chain)) → map (λ e. e.0.now) es ≡ keys_of (map lent es)
-keys_of_lent [] = refl
-keys_of_lent (e ∷ es) = ap (λ (l : List (List ℕ)). e.0.now ∷ l) (keys_of_lent es)

@@ -24,7 +24,7 @@ stored_within low high (part ∷ parts) s =
     let r = stored_within (part.recorded.high + 1) high parts s.2 in
     omega (arith, s.0, s.1, r, sum_by-cons (λ (p : PartRec). p.stored) part.recorded (records_of parts))
 
-spans-push : (low middle high : ℕ) (parts : List StoredPart) (part : StoredPart) → SpansAscend low middle parts
+pub spans-push : (low middle high : ℕ) (parts : List StoredPart) (part : StoredPart) → SpansAscend low middle parts
     → middle ≤ part.recorded.low → part.recorded.low + part.recorded.stored ≤ part.recorded.high + 1 → part.recorded.high + 1 ≤ high
     → SpansAscend low high (parts ++ part ∷ [])
 spans-push low middle high [] part s l r h = (omega arith, r, h)
@@ -35,7 +35,7 @@ spans-raised : (low middle high : ℕ) (parts : List StoredPart) → middle ≤ 
 spans-raised low middle high [] l s = omega arith
 spans-raised low middle high (part ∷ parts) l s = (s.0, s.1, spans-raised (part.recorded.high + 1) middle high parts l s.2)
 
-told-push : (parts : List StoredPart) (part : StoredPart) → AllByRecursion (λ p. IsRecorded p.recorded p.directory) parts
+pub told-push : (parts : List StoredPart) (part : StoredPart) → AllByRecursion (λ p. IsRecorded p.recorded p.directory) parts
     → IsRecorded part.recorded part.directory → AllByRecursion (λ p. IsRecorded p.recorded p.directory) (parts ++ part ∷ [])
 told-push [] part a t = (t, tt)
 told-push (first ∷ parts) part a t = (a.0, told-push parts part a.1 t)

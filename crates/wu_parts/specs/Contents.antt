@@ -1,14 +1,21 @@
 -- What a Parts holds: postings in memory, and parts of the index in a store.
-use Rattle.std.specs.Prelude.{◌≡◌, ℕ, ◌+◌, List, [], ◌∷◌, ◌++◌, sum_by}
+use Rattle.std.specs.Prelude.{◌≡◌, ℕ, ◌+◌, List, [], ◌∷◌, ◌++◌, Option, None, sum_by}
 use Rattle.wu_base.specs.declared.addresses.PartRec.{PartRec}
 use Rattle.lru.specs.LruCache.{lru_cache}
 use Rattle.wu_part.specs.Directories.{PartDirectory}
 use Rattle.wu_lists.specs.Keeping.{Kept}
+use Rattle.wu_job.specs.Jobs.{JobState}
 use Rattle.wu_parts.specs.declared.parts.TheConstants.{BLOCKS_KEPT}
 use Rattle.wu_parts.specs.Memory.{Memory, no_postings, emptied, Gains}
 
+-- a job that is under way: how many parts stand left of its first, and how far it has gone
+pub record JobAt : Type 0 where
+  pub place : ℕ
+  pub state : JobState
+
 -- the postings in memory; the parts from left to right, and their directories; the blocks that are kept of them; how many postings memory
--- is to have before a flush; the number of the next blob; how many flushes made a part; the numbers of blobs that are no longer needed
+-- is to have before a flush; the number of the next blob; how many flushes made a part; the numbers of blobs that are no longer needed; the
+-- job that is under way
 pub record Contents : Type 0 where
   pub memory : Memory
   pub parts : List PartRec
@@ -18,8 +25,9 @@ pub record Contents : Type 0 where
   pub next_blob : ℕ
   pub flushes : ℕ
   pub stale : List ℕ
+  pub job : Option JobAt
 
--- no posting, no part, no kept block, no stale blob
+-- no posting, no part, no kept block, no stale blob, no job
 abbrev pub no_contents : ℕ → ℕ → Contents
 no_contents flush_at next_blob = record {
   memory = no_postings;
@@ -30,6 +38,7 @@ no_contents flush_at next_blob = record {
   next_blob = next_blob;
   flushes = 0;
   stale = [];
+  job = None;
 }
 
 -- how many postings the parts have

@@ -4,11 +4,15 @@ pub mod Memory
 pub mod Contents
 pub mod Holdings
 pub mod Flushing
+pub mod Units
+pub mod Working
 pub mod Causes
 -- ---- What only private functions and proofs need
 
 pub mod Lists
 pub mod LiveLists
 pub mod StoredParts
+pub mod UnitsOfParts
 pub mod Chains
+pub mod LeadingBytes
 pub mod ViewOfParts

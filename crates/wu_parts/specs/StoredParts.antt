@@ -1,19 +1,26 @@
 -- The parts of the index as they are kept, and how one more comes to be.
-use Rattle.std.specs.Prelude.{◌≡◌, ℕ, ◌+◌, ◌≤◌, true, List, [], ◌∷◌, Option, IfSome, map}
+use Rattle.std.specs.Prelude.{◌≡◌, ℕ, ◌+◌, ◌<◌, ◌≤◌, ◌^◌, true, List, [], ◌∷◌, Option, IfSome, IsPermutation, length, map}
 use Rattle.std.specs.List.{AllByRecursion}
 use Rattle.wu_base.specs.declared.addresses.PartRec.{PartRec}
 use Rattle.wu_base.specs.declared.addresses.Range.{Range}
 use Rattle.wu_base.specs.declared.addresses.TermList.{TermList}
 use Rattle.wu_layout.specs.Layouts.{Part, stored_in}
+use Rattle.wu_layout.specs.Invariants.{NeverRise, flushes_for}
 use Rattle.wu_layout.specs.Postings.{fetched, is_live}
 use Rattle.wu_outside.specs.Content.{Content}
 use Rattle.wu_part.specs.Directories.{PartDirectory}
-use Rattle.wu_part.specs.Parts.{IsRecorded, SpellsPart}
+use Rattle.wu_part.specs.Parts.{IsDirectoryOf, IsRecorded, SpellsPart}
+use Rattle.wu_space.specs.Addresses.{Ranges, live_ranges}
+use Rattle.wu_job.specs.Jobs.{highest, lowest, started}
+use Rattle.wu_parts.specs.declared.working.NextJob.{NextJob}
+use Rattle.wu_parts.specs.declared.working.Running.{Running}
 use Rattle.wu_parts.specs.declared.writing.StoredPart.{StoredPart}
 use Rattle.wu_lists.specs.Keeping.{Kept}
+use Rattle.wu_parts.specs.Contents.{JobAt}
 use Rattle.wu_parts.specs.Flushing.{Told, put_into}
 use Rattle.wu_parts.specs.Holdings.{AreKept, HoldParts}
 use Rattle.wu_parts.specs.Lists.{AscendBetween}
+use Rattle.wu_parts.specs.Units.{IsRunning, bares, count_of, parts_at, place_of}
 
 abbrev pub records_of : List StoredPart → List PartRec
 records_of parts = map (λ part. part.recorded) parts
@@ -23,6 +30,13 @@ directories_of parts = map (λ part. part.directory) parts
 
 abbrev pub pairs_of : List StoredPart → List (PartRec × PartDirectory)
 pairs_of parts = map (λ part. (part.recorded, part.directory)) parts
+
+-- a part with these bytes is in the blob
+pub record IsPutAs (bytes : List ℕ) (blob : ℕ) (recorded : PartRec) (directory : PartDirectory) (before after : Told) : Type 0 where
+  pub blob_of : recorded.blob ≡ blob
+  pub told : IsRecorded recorded directory
+  pub own : IsDirectoryOf directory bytes
+  pub stored : after ≡ put_into blob bytes before
 
 -- the lists are a part of generation 0 in the blob
 pub record IsPut (lists : List TermList) (blob : ℕ) (recorded : PartRec) (directory : PartDirectory) (before after : Told) : Type 0 where
@@ -44,6 +58,43 @@ SpansAscend low high (part ∷ parts) =
 pub record AreStored (low : ℕ) (parts : List StoredPart) : Type 0 where
   pub told : AllByRecursion (λ part. IsRecorded part.recorded part.directory) parts
   pub spans : SpansAscend 0 low parts
+
+-- ---- the job
+
+abbrev pub running_at : Running → JobAt
+running_at running = record { place = running.place; state = running.job }
+
+-- the job is on so many parts, and they are some of these
+pub record IsKeptJob (records : List PartRec) (directories : List PartDirectory) (own : Running) : Type 0 where
+  pub running : IsRunning records directories (running_at own)
+  pub count : own.count ≡ length own.job.parts
+
+-- what a job's start needs of the parts: their spans ascend, generations never rise, and are below the greatest
+pub record MayBeMerged (parts : List StoredPart) : Type 0 where
+  pub told : AllByRecursion (λ part. IsRecorded part.recorded part.directory) parts
+  pub low : ℕ
+  pub high : ℕ
+  pub spans : SpansAscend low high parts
+  pub never_rise : NeverRise (bares (records_of parts))
+  pub few : flushes_for (bares (records_of parts)) < 2 ^ 63
+
+-- The job is the named one, at its start.
+pub record IsStarted (ranges : Ranges) (parts : List StoredPart) (next : NextJob) (running : Running) : Type 0 where
+  pub kept : IsKeptJob (records_of parts) (directories_of parts) running
+  pub place : running.place ≡ place_of next
+  pub began : running.job ≡ started (parts_at (place_of next) (count_of next) (records_of parts) (directories_of parts)) running.job.live
+      running.job.generation
+  pub live : IsPermutation (live_ranges ranges (lowest running.job.parts) (highest running.job.parts)) running.job.live
+
+-- What is kept besides: the parts' blobs were drawn, generations never rise, a part of generation g took 2^g flushes, and the job under way
+-- is on some of the parts.
+pub record AreSound (low next_blob flushes : ℕ) (parts : List StoredPart) (under_way : Option Running) : Type 0 where
+  pub stored : AreStored low parts
+  pub below : AllByRecursion (λ recorded. recorded.blob < next_blob) (records_of parts)
+  pub never_rise : NeverRise (bares (records_of parts))
+  pub flushed : flushes_for (bares (records_of parts)) ≤ flushes
+  pub few : flushes < 2 ^ 63
+  pub job : IfSome under_way (IsKeptJob (records_of parts) (directories_of parts))
 
 -- ---- fetching
 

@@ -1,7 +1,8 @@
 -- What contracts see of a Parts.
 use Rattle.wu_parts.specs.declared.parts.Parts.TheInside as inside
+use Rattle.std.specs.Prelude.{option_map}
 use Rattle.wu_parts.specs.Contents.{Contents}
-use Rattle.wu_parts.specs.StoredParts.{records_of, directories_of}
+use Rattle.wu_parts.specs.StoredParts.{records_of, directories_of, running_at}
 
 abbrev pub contents_of : inside.Inside → Contents
 contents_of fields = record {
@@ -13,4 +14,5 @@ contents_of fields = record {
   next_blob = fields.next_blob;
   flushes = fields.flushes;
   stale = fields.stale.items;
+  job = option_map running_at fields.job;
 }

@@ -1,5 +1,5 @@
 //! What a flush makes of memory: the lists of its live postings, by the bytes of their terms.
-ghost use Rattle.std.specs.Prelude.{◌≡◌, ◌+◌, ◌-◌, ◌^◌, ◌≤◌, ◌++◌, ◌∷◌, ◌<◌, ℕ, [], true, IfOk, IsPermutation, IsTrue, OnOk, filter, length, map, nat_eq};
+ghost use Rattle.std.specs.Prelude.{◌≡◌, ◌+◌, ◌-◌, ◌^◌, ◌≤◌, ◌++◌, ◌∷◌, ◌<◌, ℕ, [], true, IfOk, IsPermutation, IsTrue, OnOk, filter, get_or, length, map, nat_eq};
 ghost use Rattle.std.specs.List.{AllByRecursion, IsDistinct};
 ghost use Rattle.std.specs.List.Sorted.{IsStrictlySortedBy};
 ghost use Rattle.std.specs.Cmp.Lexicographic.{pointwise, slice_cmp};
@@ -8,6 +8,7 @@ ghost use Rattle.std.specs.Ordering.{nat_cmp};
 ghost use Rattle.wu_layout.specs.Postings.{is_live};
 ghost use Rattle.wu_parts.specs.Lists.{AscendBetween, AreInOrder};
 ghost use Rattle.wu_parts.specs.Chains.{addressed, chained, lent, places_of};
+ghost use Rattle.wu_parts.specs.LeadingBytes.{IsBytes, IsNumbered, behind, number_of};
 ghost use Rattle.wu_parts.specs.LiveLists.{live_lists};
 
 use crate::chains::{Chain, addresses_from};
@@ -25,24 +26,69 @@ pub(crate) fn by_term(
     ensures ascending { IfOk result (λ entries. IsStrictlySortedBy (slice_cmp nat_cmp) (keys_of (map lent entries.items))) }
     ensures distinct { OnOk result (IsDistinct (pointwise nat_eq) (keys_of (map chained chains.now.entries))) }
 {
-    let mut entries = in_map_order(alloc, chains)?;
-    entries.sort_unstable_by_key(|entry| entry.0);
-    Ok(entries)
+    let mut numbered = in_map_order(alloc, chains)?;
+    // Numbers are compared at once. Only terms that share theirs are compared by all of their bytes.
+    numbered.sort_unstable_by_key(|entry| (entry.0, entry.1.0));
+    without_numbers(alloc, &numbered)
 }
 
-/// The terms with their chains, in the order of the map.
+/// The terms with their chains, in the order of the map, each behind the number of its first bytes.
 fn in_map_order(
     alloc: Global,
     chains: &IndexMap<Vec<u8>, Chain>,
-) -> Result<Vec<(&[u8], Chain)>, NoMemory>
-    ensures entries { IfOk result (λ entries. map lent entries.items ≡ map chained chains.now.entries) }
+) -> Result<Vec<(u64, (&[u8], Chain))>, NoMemory>
+    ensures entries { IfOk result (λ entries. map behind entries.items ≡ map chained chains.now.entries) }
+    ensures numbers { IfOk result (λ entries. AllByRecursion IsNumbered entries.items) }
     ensures distinct { OnOk result (IsDistinct (pointwise nat_eq) (keys_of (map chained chains.now.entries))) }
 {
     let mut entries = Vec::with_capacity(alloc, chains.len())?;
     for (term, chain) in chains.iter() {
-        entries.push((term.as_slice(), *chain))?;
+        let term = term.as_slice();
+        entries.push((leading(term), (term, *chain)))?;
     }
     Ok(entries)
+}
+
+/// The terms with their chains.
+fn without_numbers<'a>(
+    alloc: Global,
+    numbered: &[(u64, (&'a [u8], Chain))],
+) -> Result<Vec<(&'a [u8], Chain)>, NoMemory>
+    ensures { IfOk result (λ entries. map lent entries.items ≡ map behind numbered.now) }
+{
+    let mut entries = Vec::with_capacity(alloc, numbered.len())?;
+    for entry in numbered {
+        entries.push(entry.1)?;
+    }
+    Ok(entries)
+}
+
+/// The first eight bytes of the term as a number, the first one highest; zeros stand behind a shorter term.
+/// Where two terms differ in it, it tells which is first.
+fn leading(term: &[u8]) -> u64
+    ensures number { result ≡ number_of term.now }
+    ensures bytes { IsBytes term.now }
+{
+    u64::from_be_bytes([
+        byte_at(term, 0),
+        byte_at(term, 1),
+        byte_at(term, 2),
+        byte_at(term, 3),
+        byte_at(term, 4),
+        byte_at(term, 5),
+        byte_at(term, 6),
+        byte_at(term, 7),
+    ])
+}
+
+/// The byte at that place of the term, or 0 behind its end.
+fn byte_at(term: &[u8], place: usize) -> u8
+    ensures { result ≡ get_or term.now place 0 }
+{
+    match term.get(place) {
+        Some(byte) => *byte,
+        None => 0,
+    }
 }
 
 /// The lists of these terms at the live addresses, without the terms that stand at none. The places of the

@@ -7,6 +7,7 @@ mod galloping;
 mod memory;
 mod parts;
 mod reading;
+mod working;
 mod writing;
 
 pub use parts::{BLOCKS_KEPT, Parts};

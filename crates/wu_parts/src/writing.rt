@@ -6,7 +6,7 @@ ghost use Rattle.wu_part.specs.Directories.{PartDirectory};
 ghost use Rattle.wu_part.specs.Parts.{IsDirectoryOf, IsRecorded};
 ghost use Rattle.wu_parts.specs.Causes.{IsStoreCause};
 ghost use Rattle.wu_parts.specs.LiveLists.{AreEncodable};
-ghost use Rattle.wu_parts.specs.StoredParts.{IsPut};
+ghost use Rattle.wu_parts.specs.StoredParts.{IsPut, IsPutAs};
 
 use std::alloc::Global;
 use wu_base::{NoMemory, PartRec, TermList, Trouble};
@@ -40,8 +40,29 @@ pub(crate) fn put_part<D: Store>(
     ensures cause { IfErr result (IsStoreCause (D.faults store.old) (D.faults store.new)) }
 {
     let bytes = encode(alloc, lists, 0)?;
-    let directory = directory_of(alloc, &bytes)?;
-    store.put(blob, &bytes)?;
+    Ok(put_bytes(alloc, store, blob, &bytes)?)
+}
+
+/// Puts the part with these bytes into the blob. Nothing is read. The errors are out of memory and a fault of
+/// the store; only that blob may differ then.
+pub(crate) fn put_bytes<D: Store>(
+    alloc: Global,
+    store: &mut D,
+    blob: u64,
+    bytes: &[u8],
+) -> Result<StoredPart, Trouble>
+    requires { (directory : PartDirectory) × IsDirectoryOf directory bytes.now }
+    ensures put { IfOk result (λ part. IsPutAs bytes.now blob part.recorded part.directory
+        (D.holds store.old, D.moments store.old) (D.holds store.new, D.moments store.new)) }
+    ensures elsewhere { (written : Option (List ℕ)) × MayDo (with_blob blob written) (D.holds store.old) (D.holds store.new) }
+    ensures tried { (written : Option (List ℕ))
+        × MayDo (try_change (Put blob) (with_blob blob written)) (D.moments store.old) (D.moments store.new) }
+    ensures unread { D.reads store.new ≡ D.reads store.old }
+    ensures calm { OnOk result (D.faults store.new ≡ D.faults store.old) }
+    ensures cause { IfErr result (IsStoreCause (D.faults store.old) (D.faults store.new)) }
+{
+    let directory = directory_of(alloc, bytes)?;
+    store.put(blob, bytes)?;
     Ok(StoredPart {
         recorded: record_of(blob, &directory),
         directory,

@@ -1,6 +1,6 @@
 //! The calls of a Parts.
 use crate::fixtures::{By, fetch_live, put_texts, release_others};
-use crate::stores::{fetched as fetched_after, fullness, held, recorded};
+use crate::stores::{fetched as fetched_after, fullness, held, recorded, worked};
 use std::alloc::Global;
 use wu_base::PartRec;
 use wu_parts::Parts;
@@ -36,6 +36,7 @@ pub fn answer(
         ("Parts::flush", [fails, steps]) => recorded(alloc, fails, steps),
         ("Parts::flush", [steps, "holds", blob]) => held(alloc, steps, blob),
         ("Parts::fetch", [fails, steps, term]) => fetched_after(alloc, fails, steps, term),
+        ("Parts::work", [fails, steps, units]) => worked(alloc, fails, steps, units),
         _ => Err(NoAnswer::BadRow),
     }
 }

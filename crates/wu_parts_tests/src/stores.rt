@@ -1,9 +1,9 @@
 //! A Parts over a store in memory, to which the steps of a row are done one after another.
-ghost use Rattle.std.specs.Prelude.{◌≡◌, ◌+◌, ◌≤◌, OnOk};
+ghost use Rattle.std.specs.Prelude.{◌≡◌, ◌+◌, ◌≤◌, IfOk, OnOk};
 
 use crate::fixtures::{By, are_bounded, next_number, put_text, release};
 use std::alloc::{AllocError, Global};
-use wu_base::{ADDRESSES_MAX, Ino, PartRec, Sequence, Trouble};
+use wu_base::{ADDRESSES_MAX, Ino, PartRec, Sequence, Trouble, Worked};
 use wu_outside::{MemStore, Store};
 use wu_parts::Parts;
 use wu_rows::{
@@ -28,9 +28,9 @@ enum Outcome {
 }
 
 /// Does the steps, which have a bar between each two: `!` is a flush, `-N` gives up the file of that number,
-/// `~N BYTES` puts the bytes into the blob of that number, `?TERM` fetches the term, and any other step is the
-/// text of the file that has the step's number, counted from 1. The calls of the store of these numbers fail.
-/// Memory is full at so many postings. Stops at the first trouble.
+/// `~N BYTES` puts the bytes into the blob of that number, `?TERM` fetches the term, `+N` does so many units of
+/// background work, and any other step is the text of the file that has the step's number, counted from 1. The
+/// calls of the store of these numbers fail. Memory is full at so many postings. Stops at the first trouble.
 fn after(alloc: Global, flush_at: u64, fails: &str, steps: &str) -> Result<Outcome, NoAnswer> {
     let mut parts = Parts::new(alloc, flush_at, 1)?;
     let mut space = Space::new(alloc, 0);
@@ -60,7 +60,7 @@ fn take(
     step: &str,
 ) -> Result<Result<(), Trouble>, NoAnswer>
     requires { parts.old.memory.end ≤ space.old.next }
-    ensures { OnOk result (parts.new.memory.end ≤ space.new.next) }
+    ensures { IfOk result (λ done. OnOk done (parts.new.memory.end ≤ space.new.next)) }
 {
     if step == "!" {
         return flush(parts, store, space);
@@ -76,6 +76,10 @@ fn take(
     if let Some(term) = step.strip_prefix('?') {
         let found = fetch(parts, store, space, &bytes(alloc, term)?)?;
         return Ok(found.map(|_found| ()));
+    }
+    if let Some(units) = step.strip_prefix('+') {
+        let worked = work(parts, store, space, small_number(units)?)?;
+        return Ok(worked.map(|_worked| ()));
     }
     put_text(alloc, By::Text, parts, space, ino, &bytes(alloc, step)?)?;
     Ok(Ok(()))
@@ -102,6 +106,25 @@ fn flush(
     }
     match parts.flush(store, space) {
         Ok(()) => Ok(Ok(())),
+        Err(Trouble::NoMemory) => Err(NoAnswer::NoMemory),
+        Err(trouble) => Ok(Err(trouble)),
+    }
+}
+
+/// Does up to so many units of background work.
+fn work(
+    parts: &mut Parts,
+    store: &mut MemStore,
+    space: &Space,
+    n: u32,
+) -> Result<Result<Worked, Trouble>, NoAnswer>
+    ensures { IfOk result (λ done. OnOk done (parts.new.memory.end ≡ parts.old.memory.end)) }
+{
+    if parts.next_blob() >= 1_000_000 || space.next() > ADDRESSES_MAX {
+        return Err(NoAnswer::BadRow);
+    }
+    match parts.work(store, space, n) {
+        Ok(worked) => Ok(Ok(worked)),
         Err(Trouble::NoMemory) => Err(NoAnswer::NoMemory),
         Err(trouble) => Ok(Err(trouble)),
     }
@@ -151,11 +174,30 @@ pub fn fetched(alloc: Global, fails: &str, steps: &str, term: &str) -> Result<St
 /// How many postings there are after the steps, how many parts, how many flushes made a part, the number of the
 /// next blob, and what is recorded of each part.
 pub fn recorded(alloc: Global, fails: &str, steps: &str) -> Result<String, NoAnswer> {
-    let index = match after(alloc, 1, fails, steps)? {
+    match after(alloc, 1, fails, steps)? {
+        Outcome::Index(index) => records_text(alloc, &index.parts),
+        Outcome::Trouble(trouble) => trouble_text(alloc, trouble),
+    }
+}
+
+/// What so many units answer after the steps, what is recorded then, and which blobs are no longer needed.
+pub fn worked(alloc: Global, fails: &str, steps: &str, units: &str) -> Result<String, NoAnswer> {
+    let mut index = match after(alloc, 1, fails, steps)? {
         Outcome::Index(index) => index,
         Outcome::Trouble(trouble) => return trouble_text(alloc, trouble),
     };
-    let parts = &index.parts;
+    let units = small_number(units)?;
+    let answer = match work(&mut index.parts, &mut index.store, &index.space, units)? {
+        Ok(Worked::Idle) => "idle",
+        Ok(Worked::Busy) => "busy",
+        Err(trouble) => return trouble_text(alloc, trouble),
+    };
+    let records = records_text(alloc, &index.parts)?;
+    let stale = index.parts.stale();
+    Ok(format!(in alloc; "{answer} {records} {stale:?}")?)
+}
+
+fn records_text(alloc: Global, parts: &Parts) -> Result<String, NoAnswer> {
     let stored = parts.stored();
     let count = parts.count();
     let flushes = parts.flushes();

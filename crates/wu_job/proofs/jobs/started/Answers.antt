@@ -1,9 +1,10 @@
 use Rattle.std.proofs.Common.{◌≡◌, ◌∙◌, false, List, replicate, sym, ap, subst, arith}
 use Rattle.wu_base.specs.declared.addresses.TermList.{TermList}
 use Rattle.wu_base.specs.declared.limits.TheConstants.{ADDRESSES_MAX}
-use Rattle.wu_job.specs.Keeping.{AreMarks, AreWritable}
+use Rattle.wu_job.specs.Jobs.{StandWithin}
+use Rattle.wu_job.specs.Keeping.{AreMarks, AreWritable, addresses_in}
 use Rattle.wu_job.specs.Live.{ranges_alone, total_of}
-use Rattle.wu_job.specs.Sources.{terms_from, terms_of, terms_of_other}
+use Rattle.wu_job.specs.Sources.{parts_of, terms_from, terms_of, terms_of_other}
 use Rattle.wu_job.proofs.Marking.{no_marks}
 use Rattle.wu_job.proofs.Merging.{merged_up}
 use Rattle.wu_job.proofs.Ranks.{sum_alone, total_within}
@@ -40,4 +41,5 @@ invariant_of-result c =
           (writable_none live left (merged_up (terms_of c.args.left) (terms_of_other c.args.right)));
       units = c.count_terms-units_left.ensures.count;
       generation = c.requires.generation;
+      within = subst (λ (lists : List TermList). StandWithin (parts_of c.args.left c.args.right) (addresses_in lists)) none tt;
     }

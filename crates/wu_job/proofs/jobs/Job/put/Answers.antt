@@ -6,11 +6,12 @@ use Rattle.wu_base.specs.declared.addresses.Range.{Range}
 use Rattle.wu_base.specs.declared.addresses.TermList.{TermList}
 use Rattle.wu_base.specs.declared.limits.TheConstants.{WORD_MAX}
 use Rattle.wu_layout.specs.Postings.{is_live}
-use Rattle.wu_job.specs.Jobs.{JobState, list_for}
+use Rattle.wu_layout.proofs.EachLemmas.{each-append}
+use Rattle.wu_job.specs.Jobs.{JobPart, JobState, StandWithin, highest, list_for, lowest}
 use Rattle.wu_job.specs.Keeping.{AreMarks, AreWritable, addresses_in, has}
 use Rattle.wu_job.specs.Live.{live_below, ranges_alone, total_of}
-use Rattle.wu_job.specs.Sources.{terms_from}
-use Rattle.wu_job.proofs.Marking.{marks_more, places_within}
+use Rattle.wu_job.specs.Sources.{parts_of, terms_from}
+use Rattle.wu_job.proofs.Marking.{addresses_more, marks_more, places_within}
 use Rattle.wu_job.proofs.Sound.{writable_more}
 use Rattle.wu_job.proofs.jobs.Job.put.Goals as goal
 
@@ -34,6 +35,8 @@ invariant_of-self c =
           same inv.writable;
       units = inv.units;
       generation = inv.generation;
+      within =
+          subst (λ (lists : List TermList). StandWithin (parts_of c.self.inside.left c.self.inside.right) (addresses_in lists)) same inv.within;
     }
 
 pub mark_all-requires : goal.mark_all-requires
@@ -59,6 +62,7 @@ invariant_of-self-2 c =
     let before = terms_from i.left i.right i.places in
     let later = terms_from i.left i.right c.places_after-places.result in
     let alive = ap (λ (s : JobState). s.live) c.self.view_is in
+    let parts : List JobPart = parts_of i.left i.right in
     let lists = ap (λ (s : JobState). s.done) c.self.view_is in
     let is_alive : AllByRecursion (λ address. is_live live address ≡ true) kept =
     subst (λ (rs : List Range). AllByRecursion (λ address. is_live rs address ≡ true) kept) (sym alive) c.requires.new.live in
@@ -92,6 +96,11 @@ invariant_of-self-2 c =
           (writable_more live i.done.items term kept before later inv.writable first some short c.requires.new.ascend is_alive new);
       units = omega (arith, inv.units, ap (λ (ts : List (List ℕ)). length ts) first);
       generation = inv.generation;
+      within =
+          subst (λ (ls : List TermList). StandWithin parts (addresses_in ls)) made
+          (subst (StandWithin parts) (sym (addresses_more i.done.items term kept))
+          (each-append (λ address. (lowest parts ≤ address) × (address ≤ highest parts)) (addresses_in i.done.items) kept inv.within
+          (subst (λ (ps : List JobPart). StandWithin ps kept) (sym (ap (λ (s : JobState). s.parts) c.self.view_is)) c.requires.new.within)));
     }
 
 pub returns : goal.returns

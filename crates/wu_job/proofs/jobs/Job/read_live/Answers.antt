@@ -1,4 +1,4 @@
-use Rattle.std.proofs.Common.{◌≡◌, ◌∷◌, ap, subst, ◌∙◌, refl, rules}
+use Rattle.std.proofs.Common.{◌≡◌, ◌∷◌, ap, subst, ◌∙◌, refl, rules, arith}
 use Rattle.std.specs.Prelude.{IfSome, None, Some}
 use Rattle.std.proofs.lemmas.Result.{err_from_is_err_and}
 use Rattle.wu_base.specs.declared.troubles.Trouble.TheVariants.{NoMemory}
@@ -12,7 +12,7 @@ use Rattle.wu_job.specs.Sources.{HasEntries, part_of, parts_of, terms_from, term
 use Rattle.wu_job.specs.Steps.{IsCause, IsDamaged, IsDamagedPart, ReadsFront, adds, step_ranges}
 use Rattle.wu_job.proofs.Doubles.{has_left, left_of, refused}
 use Rattle.wu_job.proofs.Fronts.{cause_after, front_all, if_both, no_memory}
-use Rattle.wu_job.proofs.Joining.{front_of_left, front_with, has_with, kept_alone, kept_with, new_both, new_one, reads_alone, reads_with, some_with, spans_apart}
+use Rattle.wu_job.proofs.Joining.{front_of_left, front_with, has_with, highest_alone, highest_with, kept_alone, kept_with, lowest_left, new_both, new_one, reads_alone, reads_with, some_with, spans_apart}
 use Rattle.wu_job.proofs.Walking.{stands_left}
 use Rattle.wu_job.proofs.Whole.{stands_other}
 use Rattle.wu_job.proofs.jobs.Job.read_live.Goals as goal
@@ -69,8 +69,12 @@ pub returns-in-None-clause-new : goal.returns-in-None-clause-new
 returns-in-None-clause-new g c =
     let i = c.self.inside in
     let left = all_has HasEntries (part_of i.left) _ c.are_whole.ensures.whole.entries (has_left i.left i.right) in
+    let none : i.right ≡ None = search rules in
+    let least = lowest_left i.left i.right in
+    let most = highest_alone i.left i.right none in
     subst (λ (s : JobState). IsNewCut s c.in_ok-cut.cut) c.self.view_is
     (new_one (state_of i) i.marks.items i.left.directory.low i.left.directory.high c.in_ok-cut.cut c.self.invariant.marks left.below
+    (omega (arith, least)) (omega (arith, most))
     (rw (c.deref.ensures.value, c.deref-2.ensures.value) at c.in_ok-cut.ensures.new))
 
 pub returns-in-None-clause-held : goal.returns-in-None-clause-held
@@ -176,7 +180,8 @@ returns-in_ok-append-in-Some-clause-new g c =
     subst (λ (s : JobState). IsNewCut s c.append.new.self) c.self.view_is
     (new_both (state_of i) i.marks.items i.left.directory.low i.left.directory.high other.directory.low other.directory.high
     c.in_ok-cut.cut c.in_ok-more-in-Some.more c.append.new.self c.self.invariant.marks
-    (spans_apart i.left i.right other some c.self.invariant.sources) right.below
+    (spans_apart i.left i.right other some c.self.invariant.sources) right.below (omega (arith, lowest_left i.left i.right))
+    (omega (arith, highest_with i.left i.right other some))
     (rw (c.deref.ensures.value, c.deref-2.ensures.value) at c.in_ok-cut.ensures.new)
     (rw (c.deref-in-Some.ensures.value, c.deref-in-Some-2.ensures.value) at c.in_ok-more-in-Some.ensures.new)
     c.in_ok-append-in-Some.ensures.addresses c.in_ok-append-in-Some.ensures.places)

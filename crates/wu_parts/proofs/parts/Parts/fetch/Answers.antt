@@ -82,7 +82,7 @@ pub returns-clause-ascending : goal.returns-clause-ascending
 returns-clause-ascending g c =
     let memory = c.self.inside.memory in
     let spans : SpansAscend 0 memory.low c.as_slice.result.now =
-    subst (SpansAscend 0 memory.low) (sym c.as_slice.ensures.value) c.self.invariant.spans in
+    subst (SpansAscend 0 memory.low) (sym c.as_slice.ensures.value) c.self.invariant.stored.spans in
     let all : c.from.result ≡ c.in_ok-found.found.items ++ c.in_ok-in_memory.in_memory =
     c.from.ensures ∙ c.in_ok-extend_from_slice.ensures.items ∙ ap (λ l. c.in_ok-found.found.items ++ l) c.as_slice-2.ensures in
     let up : AscendBetween 0 memory.end c.from.result =

@@ -1,4 +1,4 @@
-use Rattle.std.proofs.Common.{◌≡◌, ℕ, ◌+◌, ◌<◌, List, [], ◌∷◌, ◌++◌, length, map, refl, ap, sym, subst, ◌∙◌, rules}
+use Rattle.std.proofs.Common.{◌≡◌, ℕ, ◌+◌, ◌^◌, ◌<◌, List, [], ◌∷◌, ◌++◌, length, map, refl, ap, sym, subst, ◌∙◌, arith, rules}
 use Rattle.wu_base.specs.declared.addresses.PartRec.{PartRec}
 use Rattle.wu_base.specs.declared.addresses.Range.{Range}
 use Rattle.wu_base.specs.declared.addresses.TermList.{TermList}
@@ -8,10 +8,11 @@ use Rattle.wu_part.specs.Directories.{PartDirectory}
 use Rattle.wu_parts.specs.Contents.{Contents, with_part, without_postings}
 use Rattle.wu_parts.specs.Flushing.{Told}
 use Rattle.wu_parts.specs.Memory.{HasPostings, Memory}
-use Rattle.wu_parts.specs.StoredParts.{AreStored, IsPut, directories_of, records_of}
+use Rattle.wu_parts.specs.StoredParts.{AreSound, AreStored, IsPut, directories_of, records_of}
 use Rattle.wu_parts.specs.ViewOfParts.{contents_of}
 use Rattle.wu_parts.specs.declared.writing.StoredPart.{StoredPart}
 use Rattle.wu_parts.proofs.Flushes.{flushes-none, flushes-part, none_of_length, stored_after}
+use Rattle.wu_parts.proofs.SoundParts.{sound_pushed}
 use Rattle.wu_parts.proofs.Spans.{directories-push, records-push, stored-raised}
 use Rattle.wu_parts.proofs.parts.Parts.flush.Goals as goal
 
@@ -19,9 +20,18 @@ pub invariant_of-self : goal.invariant_of-self
 invariant_of-self g c =
     let memory : Memory = c.self.inside.memory in
     let has = c.in_ok-lists.ensures.has in
-    subst (λ (m : Memory). AreStored m.low c.self.inside.parts.items) (sym c.clear.ensures)
-    (stored-raised memory.low memory.end c.self.inside.parts.items (Ascend-bounds memory.low memory.end has.0 has.1.ascend)
-    c.self.invariant)
+    let inv = c.self.invariant in
+    subst (λ (m : Memory). AreSound m.low c.self.inside.next_blob c.self.inside.flushes c.self.inside.parts.items c.self.inside.job)
+    (sym c.clear.ensures)
+    (record {
+      stored =
+          stored-raised memory.low memory.end c.self.inside.parts.items (Ascend-bounds memory.low memory.end has.0 has.1.ascend) inv.stored;
+      below = inv.below;
+      never_rise = inv.never_rise;
+      flushed = inv.flushed;
+      few = inv.few;
+      job = inv.job;
+    })
 
 pub returns-then-is_empty-clause-flushed : goal.returns-then-is_empty-clause-flushed
 returns-then-is_empty-clause-flushed g c low high postings h =
@@ -51,10 +61,17 @@ invariant_of-self-2 g c =
     let more : AreStored memory.end (parts ++ c.in_ok-part.part ∷ []) =
     stored_after memory.low memory.end c.self.inside.next_blob parts c.in_ok-part.part (live_of ranges has.0) c.in_ok-lists.lists.items
     before after
-    c.self.invariant (Ascend-filter (λ (p : Posting). is_live ranges p.address) memory.low memory.end has.0 has.1.ascend)
+    c.self.invariant.stored (Ascend-filter (λ (p : Posting). is_live ranges p.address) memory.low memory.end has.0 has.1.ascend)
     (c.in_ok-lists.ensures.lists memory.low memory.end has.0 has.1) some put in
-    subst (λ (m : Memory). AreStored m.low c.push.new.self.items) (sym c.clear-2.ensures)
-    (subst (AreStored memory.end) (sym pushed) more)
+    let room : c.self.inside.flushes + 1 < 2 ^ 63 = omega (arith, ap (λ (k : Contents). k.flushes) c.self.view_is, c.requires.flushes) in
+    let sound : AreSound memory.end (c.self.inside.next_blob + 1) (c.self.inside.flushes + 1) (parts ++ c.in_ok-part.part ∷ [])
+    c.self.inside.job =
+    sound_pushed memory.low memory.end c.self.inside.next_blob c.self.inside.flushes parts c.in_ok-part.part c.self.inside.job
+    c.self.invariant more put.blob_of (sym put.told.generation ∙ put.new) room in
+    subst
+    (λ (m : Memory). AreSound m.low (c.self.inside.next_blob + 1) (c.self.inside.flushes + 1) c.push.new.self.items c.self.inside.job)
+    (sym c.clear-2.ensures)
+    (subst (λ ps. AreSound memory.end (c.self.inside.next_blob + 1) (c.self.inside.flushes + 1) ps c.self.inside.job) (sym pushed) sound)
 
 pub returns-clause-flushed : goal.returns-clause-flushed
 returns-clause-flushed g c low high postings h =

@@ -10,7 +10,7 @@ stored_in_all-requires c =
     omega (
       arith,
       ap (λ (ps : List StoredPart). stored_in_parts (records_of ps)) c.as_slice.ensures.value,
-      stored_within 0 c.self.inside.memory.low c.self.inside.parts.items c.self.invariant.spans,
+      stored_within 0 c.self.inside.memory.low c.self.inside.parts.items c.self.invariant.stored.spans,
       c.stored.ensures.room,
       c.stored.ensures.bounded,
     )
@@ -21,7 +21,7 @@ overflow_add-result c =
       arith,
       c.stored_in_all.ensures,
       ap (λ (ps : List StoredPart). stored_in_parts (records_of ps)) c.as_slice.ensures.value,
-      stored_within 0 c.self.inside.memory.low c.self.inside.parts.items c.self.invariant.spans,
+      stored_within 0 c.self.inside.memory.low c.self.inside.parts.items c.self.invariant.stored.spans,
       c.stored.ensures.stored,
       c.stored.ensures.room,
       c.stored.ensures.bounded,
