@@ -1,6 +1,5 @@
 use Rattle.std.proofs.Common.{◌+◌, refl, rules}
-use Rattle.wu_engine.proofs.KeptJobs.{units_on_drawn}
-use Rattle.wu_engine.proofs.WorkedStates.{on_drawn, others_worked, parts_told, worked_on}
+use Rattle.wu_engine.proofs.WorkedStates.{others_worked, parts_told, worked_on}
 use Rattle.wu_engine.proofs.engines.Engine.work.Goals as goal
 
 pub returns-in-Ok-clause-step : goal.returns-in-Ok-clause-step
@@ -10,13 +9,10 @@ returns-in-Ok-clause-step g c = λ s stands.
     let before = g.D.Store.holds c.args.store.now in
     let after = g.D.Store.holds c.work.new.store in
     let told = parts_told old before s stands in
-    let done = c.in-Ok.ensures.units in
     let layout = c.in-Ok.ensures.layout _ _ s.layout stands.index.is_state.layout stands.index.live told in
     let others = others_worked old.parts.next_blob (old.parts.next_blob + n) n before after c.work.ensures.elsewhere in (
       layout.0,
-      worked_on old _ s n refl refl refl refl c.in-Ok.ensures.changes
-          (units_on_drawn old.space.ranges done.units old.parts c.work.new.self _ _ done.read done.done (on_drawn old before s stands))
-          before after stands others layout.1,
+      worked_on old _ s n refl refl refl refl c.in-Ok.ensures.changes before after stands others layout.1,
     )
 
 pub returns-in-Ok-clause-elsewhere : goal.returns-in-Ok-clause-elsewhere
