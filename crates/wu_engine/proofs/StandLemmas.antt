@@ -106,7 +106,8 @@ tells_with (Some ino) text blob catalog texts layout absent drawn t =
       files =
           ap (λ (n : ℕ). insert_entry nat_cmp catalog.files ino (record_for ino text blob n)) t.next
           ∙ ap (λ (b : ℕ). insert_entry nat_cmp catalog.files ino (record_for ino text b layout.next)) drawn
-          ∙ ap (λ (files : Records). insert_entry nat_cmp files ino (record_for ino text (blob_for (Some ino) text layout.blob) layout.next))
+          ∙ ap
+          (λ (files : Records). insert_entry nat_cmp files ino (record_for ino text (blob_for (Some ino) text layout.blob) layout.next))
           t.files
           ∙ records-put texts ino text entry layout.files (none_at layout ino (absent ino refl));
       stale = t.stale;
@@ -192,7 +193,8 @@ module _ (s : State) (is : IsState s) (after : FileSystem) (effect : Effect) (te
   made_is_absent : IsAbsent effect.made left
   made_is_absent ino h =
       absent (entry_of left.files ino)
-      ((left_kept s after effect tells changes text is.layout).ranges.of_files ino ∙ made_absent s after effect tells changes text is.layout ino h)
+      ((left_kept s after effect tells changes text is.layout).ranges.of_files ino
+      ∙ made_absent s after effect tells changes text is.layout ino h)
 
   texted_absent : IsAbsent effect.texted again
   texted_absent ino h =
@@ -356,7 +358,12 @@ module _ (old new : Engine) (s : State) (event : Event) (text : List ℕ) (ended
           kept = blocks_stay s.layout.blob content now agrees next.layout.blob old.parts.kept rises kept;
         } in
         subst (λ (c : Contents). IsStored (Some now) c next) (sym f.others)
-        (record { texts = stored.texts; parts = stored.parts; job = record { same = stored.job.same; running = stored.job.running }; kept = stored.kept })
+        (record {
+          texts = stored.texts;
+          parts = stored.parts;
+          job = record { same = stored.job.same; running = stored.job.running };
+          kept = stored.kept;
+        })
 
     pub accepted : (Made ≡ verdict_of (step s event text)) × Stands new after.0 (after_event old.parts.flush_at s event text)
     accepted =

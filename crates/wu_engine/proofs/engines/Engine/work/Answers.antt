@@ -18,12 +18,14 @@ returns-in-Ok-clause-step g c = λ s stands.
 pub returns-in-Ok-clause-elsewhere : goal.returns-in-Ok-clause-elsewhere
 returns-in-Ok-clause-elsewhere g c =
     let next = c.args.self.now.parts.next_blob in
-    others_worked next (next + c.args.n) c.args.n (g.D.Store.holds c.args.store.now) (g.D.Store.holds c.work.new.store) c.work.ensures.elsewhere
+    others_worked next (next + c.args.n) c.args.n (g.D.Store.holds c.args.store.now) (g.D.Store.holds c.work.new.store)
+    c.work.ensures.elsewhere
 
 pub returns-in-Err-clause-elsewhere : goal.returns-in-Err-clause-elsewhere
 returns-in-Err-clause-elsewhere g c =
     let next = c.args.self.now.parts.next_blob in
-    others_worked next (next + c.args.n) c.args.n (g.D.Store.holds c.args.store.now) (g.D.Store.holds c.work.new.store) c.work.ensures.elsewhere
+    others_worked next (next + c.args.n) c.args.n (g.D.Store.holds c.args.store.now) (g.D.Store.holds c.work.new.store)
+    c.work.ensures.elsewhere
 
 pub returns-in-Err-clause-undamaged : goal.returns-in-Err-clause-undamaged
 returns-in-Err-clause-undamaged g c = λ s stands blob same.
