@@ -6,36 +6,43 @@ use Rattle.wu_base.specs.declared.addresses.Range.{Range}
 use Rattle.wu_outside.specs.Content.{Content, with_blob}
 use Rattle.wu_tree.specs.FileSystems.{FileSystem}
 use Rattle.wu_layout.specs.Postings.{Posting, Ascend, live_of}
-use Rattle.wu_layout.specs.Layouts.{FileEntry, IsRecordOf, Layout, Part, first_layout, lists_of, ranges_by_number, ranges_of, stored_in}
+use Rattle.wu_layout.specs.Layouts.{FileEntry, Layout, first_layout, ranges_by_number, ranges_of, stored_in}
 use Rattle.wu_layout.specs.Steps.{flush, flushed}
 use Rattle.wu_layout.proofs.HomeLemmas.{postings_split}
 use Rattle.wu_layout.proofs.PostingLemmas.{Ascend-split}
 use Rattle.wu_part.specs.Directories.{PartDirectory}
-use Rattle.wu_part.specs.Parts.{IsRecorded, SpellsPart}
 use Rattle.wu_space.specs.Addresses.{Addresses}
 use Rattle.wu_lists.specs.declared.blocks.Block.{Block}
 use Rattle.wu_lists.specs.Blocks.{bytes_of}
 use Rattle.wu_lists.specs.Keeping.{Kept}
 use Rattle.std.specs.List.{AllByRecursion}
-use Rattle.wu_parts.specs.Contents.{Contents, JobAt, with_part, without_postings}
+use Rattle.wu_parts.specs.Contents.{Contents, with_part, without_postings}
 use Rattle.wu_parts.specs.Flushing.{Flushes, Told}
-use Rattle.wu_parts.specs.Holdings.{HoldsPart, HoldParts}
+use Rattle.wu_parts.specs.Holdings.{HoldParts}
 use Rattle.wu_parts.specs.Memory.{HasPostings}
+use Rattle.wu_parts.specs.Units.{IsRunning}
+use Rattle.wu_parts.specs.Working.{Tells, TellsJobs, TellsParts}
+use Rattle.wu_parts.proofs.KeptJobs.{tells_flushed}
 use Rattle.wu_engine.specs.Indexing.{FlushesFull, FlushesIfFull}
 use Rattle.wu_engine.specs.Records.{Records}
 use Rattle.wu_engine.specs.Stands.{HoldsTexts, IsEngineOf, KeepsBlocks, KeepsJob}
-use Rattle.wu_engine.specs.States.{State, IsState, flushed_if_full, flushed_state}
+use Rattle.wu_engine.specs.States.{State, Texts, IsState, flushed_if_full, flushed_state}
 use Rattle.wu_engine.proofs.FlushedStates.{flushed_kept}
-use Rattle.wu_engine.proofs.HeldParts.{blocks_stay, parts_below, parts_pushed, parts_stay, put_agrees, put_there, texts_stay}
-use Rattle.wu_engine.proofs.KeptJobs.{job_stays}
+use Rattle.wu_engine.proofs.HeldParts.{blocks_stay, put_agrees, texts_stay}
 use Rattle.wu_engine.proofs.StoredTexts.{blobs_below}
 
 -- what the store holds for the state: its texts and its parts, of which blocks are kept, and on which a job may be under way
 pub record IsStored (holds : Option Content) (contents : Contents) (s : State) : Type 0 where
   pub texts : HoldsTexts holds s.texts s.layout.files
   pub parts : IfSome holds (λ content. HoldParts content contents.parts contents.directories s.layout.parts)
-  pub job : IfSome holds (λ content. KeepsJob content s.layout contents.job)
+  pub job : IfSome holds (λ content. KeepsJob content s.layout contents)
   pub kept : IfSome holds (λ content. KeepsBlocks content s.layout.blob contents.kept)
+
+-- the store tells what it holds
+is_told : (holds : Option Content) (texts : Texts) (files : List (ℕ × FileEntry)) → HoldsTexts holds texts files
+    → (content : Content) × (holds ≡ Some content)
+is_told None texts files held = absurd held
+is_told (Some content) texts files held = (content, refl)
 
 -- ---- at first
 
@@ -46,9 +53,13 @@ nothing_held (Some content) records directories none no_directory =
     subst (λ (rs : List PartRec). HoldParts content rs directories []) (sym none)
     (subst (λ (ds : List PartDirectory). HoldParts content [] ds []) (sym no_directory) tt)
 
-pub no_job : (holds : Option Content) (job : Option JobAt) → job ≡ None → IfSome holds (λ content. KeepsJob content first_layout job)
-no_job None job none = tt
-no_job (Some content) job none = subst (KeepsJob content first_layout) (sym none) (record { same = tt; below = tt })
+pub no_job : (holds : Option Content) (contents : Contents) → contents.job ≡ None
+    → IfSome holds (λ content. KeepsJob content first_layout contents)
+no_job None contents none = tt
+no_job (Some content) contents none = record {
+  same = subst (λ job. TellsJobs content [] job None) (sym none) tt;
+  running = subst (λ job. IfSome job (IsRunning contents.parts contents.directories)) (sym none) tt;
+}
 
 pub nothing_kept : (holds : Option Content) (kept : Kept) → kept.entries ≡ [] → IfSome holds (λ content. KeepsBlocks content 1 kept)
 nothing_kept None kept none = tt
@@ -79,36 +90,45 @@ with_layout s layout = record s { layout = layout }
 
 module _ (fs : FileSystem) (space : Addresses) (parts : Contents) (files : Records) (s : State) (index : IsEngineOf fs space parts files s)
   where
+    -- what is kept of the parts, and the content, are those of the layout
+    pub told_here : (content : Content) → HoldParts content parts.parts parts.directories s.layout.parts
+        → KeepsJob content s.layout parts → TellsParts content parts s.layout
+    told_here content held job = record {
+      parts = held;
+      next_blob = index.next_blob;
+      flushes = index.flushes;
+      stale = index.stale;
+      running = job.running;
+      job = job.same;
+    }
+
+    -- and so they are after a flush
+    told_flushed : (kept : List Posting) (parts_now : Contents) (before after : Told) → IsStored before.0 parts s
+        → Flushes kept parts parts_now before after → Tells after.0 parts_now (flushed kept s.layout)
+    told_flushed kept parts_now before after stored done =
+        let there = is_told before.0 s.texts s.layout.files stored.texts in
+        let here : IsStored (Some there.0) parts s = subst (λ o. IsStored o parts s) there.1 stored in
+        tells_flushed s.layout there.0 parts index.is_state.layout.blobs (told_here there.0 here.parts here.job) kept parts_now before after
+        there.1 done
+
     -- ---- a part that was made
 
     module _ (recorded : PartRec) (directory : PartDirectory) (bytes : List ℕ) (posting : Posting) (postings : List Posting) where
-      abbrev made : Part
-      made = record { blob = s.layout.blob; generation = 0; postings = posting ∷ postings }
-
-      stored_with : (holds : Option Content) → IsRecordOf recorded made → IsRecorded recorded directory
-          → SpellsPart directory (lists_of (posting ∷ postings)) bytes → IsStored holds parts s
+      stored_with : (holds : Option Content) → IsStored holds parts s
+          → Tells (option_map (with_blob s.layout.blob (Some bytes)) holds) (with_part recorded directory parts)
+          (flushed (posting ∷ postings) s.layout)
           → IsStored (option_map (with_blob s.layout.blob (Some bytes)) holds) (with_part recorded directory parts)
           (with_layout s (flushed (posting ∷ postings) s.layout))
-      stored_with None of told spelled stored = record { texts = stored.texts; parts = tt; job = tt; kept = tt }
-      stored_with (Some content) of told spelled stored =
+      stored_with None stored told = absurd told
+      stored_with (Some content) stored told =
           let next = s.layout.blob in
           let after : Content = with_blob next (Some bytes) content in
           let agrees = put_agrees next (Some bytes) content in
-          let blobs = index.is_state.layout.blobs in
-          let texts : HoldsTexts (Some after) s.texts s.layout.files =
-          texts_stay next content after agrees s.texts s.layout.files
-          (blobs_below next s.layout.files s.layout.parts s.layout.check s.layout.stale blobs) stored.texts in
-          let one : HoldsPart after recorded directory made =
-          record { record_of = of; told = told; bytes = bytes; held = put_there next bytes content; spelled = spelled } in
           record {
-            texts = texts;
-            parts =
-                parts_pushed after parts.parts parts.directories s.layout.parts recorded directory made
-                (parts_stay next content after agrees parts.parts parts.directories s.layout.parts
-                (parts_below next s.layout.files s.layout.parts s.layout.check s.layout.stale blobs) stored.parts)
-                one;
-            job = job_stays s.layout (flushed (posting ∷ postings) s.layout) (made ∷ []) content after agrees (omega arith) refl refl
-                index.is_state.layout.work parts.job stored.job;
+            texts = texts_stay next content after agrees s.texts s.layout.files
+                (blobs_below next s.layout.files s.layout.parts s.layout.check s.layout.stale index.is_state.layout.blobs) stored.texts;
+            parts = told.parts;
+            job = record { same = told.job; running = told.running };
             kept = blocks_stay next content after agrees (next + 1) parts.kept (omega arith) stored.kept;
           }
 
@@ -151,7 +171,7 @@ module _ (fs : FileSystem) (space : Addresses) (parts : Contents) (files : Recor
     still_stored (Some content) stored = record {
       texts = stored.texts;
       parts = stored.parts;
-      job = record { same = stored.job.same; below = stored.job.below };
+      job = record { same = stored.job.same; running = stored.job.running };
       kept = stored.kept;
     }
 
@@ -168,18 +188,20 @@ module _ (fs : FileSystem) (space : Addresses) (parts : Contents) (files : Recor
           )
       flushed_by (posting ∷ postings) is done =
           let next : State = with_layout s (flushed (posting ∷ postings) s.layout) in
-          let of : IsRecordOf done.recorded (made done.recorded done.directory done.bytes posting postings) =
-          subst (λ (n : ℕ). IsRecordOf done.recorded (record { blob = n; generation = 0; postings = posting ∷ postings })) index.next_blob
-          done.record_of in
           let holds : after.0 ≡ option_map (with_blob s.layout.blob (Some done.bytes)) before.0 =
           ap (λ (t : Told). t.0) done.stored
-          ∙ ap (λ (n : ℕ). option_map (with_blob n (Some done.bytes)) before.0) index.next_blob in (
+          ∙ ap (λ (n : ℕ). option_map (with_blob n (Some done.bytes)) before.0) index.next_blob in
+          let told : Tells (option_map (with_blob s.layout.blob (Some done.bytes)) before.0)
+          (with_part done.recorded done.directory parts) next.layout =
+          subst (λ (o : Option Content). Tells o (with_part done.recorded done.directory parts) next.layout) holds
+          (subst (λ (p : Contents). Tells after.0 p next.layout) done.contents
+          (told_flushed (posting ∷ postings) parts_now before after stored done)) in (
             subst (λ (p : Contents). IsEngineOf fs space p files next) (sym done.contents)
                 (index_with done.recorded done.directory done.bytes posting postings is),
             subst (λ (o : Option Content). IsStored o parts_now next) (sym holds)
                 (subst (λ (p : Contents). IsStored (option_map (with_blob s.layout.blob (Some done.bytes)) before.0) p next)
                 (sym done.contents)
-                (stored_with done.recorded done.directory done.bytes posting postings before.0 of done.told done.spelled stored)),
+                (stored_with done.recorded done.directory done.bytes posting postings before.0 stored told)),
           )
 
       -- the live postings are those of the state

@@ -10,7 +10,6 @@ pub mod SoundLemmas
 pub mod StoredTexts
 pub mod OtherBlobs
 pub mod HeldParts
-pub mod KeptJobs
 pub mod FlushLemmas
 pub mod StandLemmas
 pub mod WorkedStates

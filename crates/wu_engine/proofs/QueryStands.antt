@@ -37,6 +37,12 @@ module _ (engine : Engine) (holds : Option Content) (s : State) (stands : Stands
   pub ranges_told : IsIndexOf engine.space.ranges s
   ranges_told = record { is_state = stands.index.is_state; ranges = stands.index.live }
 
+  -- a job under way stays where other blocks are kept
+  job_on : (kept : Kept) (told : Option Content) → IfSome told (λ content. KeepsJob content s.layout engine.parts)
+      → IfSome told (λ content. KeepsJob content s.layout (record engine.parts { kept = kept }))
+  job_on kept None keeps = tt
+  job_on kept (Some content) keeps = record { same = keeps.same; running = keeps.running }
+
   pub texts_kept : KeepsTexts engine.files.entries holds s
   texts_kept = record { records = stands.index.files; texts = stands.texts }
 
@@ -69,7 +75,9 @@ module _ (engine : Engine) (holds : Option Content) (s : State) (stands : Stands
         texts = stands.texts;
         parts = subst (λ (c : Contents). IfSome holds (λ content. HoldParts content c.parts c.directories s.layout.parts)) (sym parts)
             stands.parts;
-        job = subst (λ (c : Contents). IfSome holds (λ content. KeepsJob content s.layout c.job)) (sym parts) stands.job;
+        job =
+            subst (λ (c : Contents). IfSome holds (λ content. KeepsJob content s.layout c)) (sym parts)
+            (job_on new.parts.kept holds stands.job);
         kept = blocks_kept engine.parts reads.frames.ranges (terms_asked question) new.parts.kept s holds before reads.reads.between
             postings_told reads.reads.asks;
       })

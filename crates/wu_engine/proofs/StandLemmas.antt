@@ -1,12 +1,12 @@
 -- The engine stands for the state after an event.
-use Rattle.std.proofs.Common.{◌≡◌, ℕ, ◌+◌, ◌≤◌, cond, List, [], ◌++◌, length, map, Ok, Err, refl, ap, sym, ◌∙◌, subst, arith, append_assoc, append-nil, length-append}
+use Rattle.std.proofs.Common.{◌≡◌, ℕ, ◌+◌, ◌≤◌, true, false, cond, List, [], ◌++◌, length, map, Ok, Err, refl, ap, sym, ◌∙◌, subst, arith, append_assoc, append-nil, length-append}
 use Rattle.std.specs.Prelude.{Option, Some, None, IfSome, option_map}
 use Rattle.std.specs.Ordering.{nat_cmp}
 use Rattle.std.specs.Map.{remove_entry}
 use Rattle.std.specs.BTreeMap.{is_at, insert_entry}
 use Rattle.std.proofs.lemmas.Map.{NonePasses, none_passes_from_lookup}
 use Rattle.wu_base.specs.declared.limits.TheConstants.{TEXT_MAX}
-use Rattle.wu_outside.specs.Content.{Content}
+use Rattle.wu_outside.specs.Content.{Content, with_blob}
 use Rattle.wu_token.specs.Tokens.{tokens_of}
 use Rattle.wu_tree.specs.declared.events.Event.{Event}
 use Rattle.wu_tree.specs.declared.events.Effect.{Effect}
@@ -17,9 +17,7 @@ use Rattle.wu_tree.specs.Steps.{IsEvent}
 use Rattle.wu_tree.specs.Steps.{step as tree_step}
 use Rattle.wu_tree.proofs.EventRules.{absent}
 use Rattle.wu_layout.specs.Postings.{Posting, addresses_of, live_of, placed_from}
-use Rattle.wu_base.specs.declared.addresses.PartRec.{PartRec}
-use Rattle.wu_part.specs.Directories.{PartDirectory}
-use Rattle.wu_layout.specs.Layouts.{FileEntry, Layout, Part, entry_of, ranges_by_number}
+use Rattle.wu_layout.specs.Layouts.{FileEntry, Layout, entry_of, ranges_by_number}
 use Rattle.wu_layout.specs.Invariants.{IsLayoutOf}
 use Rattle.wu_layout.proofs.PostingLemmas.{length-placed}
 use Rattle.wu_layout.proofs.EntryLemmas.{none_after_removal}
@@ -30,7 +28,9 @@ use Rattle.wu_parts.specs.Flushing.{Flushes, Told}
 use Rattle.wu_parts.specs.Memory.{HasPostings}
 use Rattle.wu_parts.specs.Holdings.{HoldParts}
 use Rattle.wu_parts.specs.Contents.{Contents}
+use Rattle.wu_parts.specs.Working.{TellsJobs, TellsParts}
 use Rattle.wu_parts.proofs.Gaining.{holds_more}
+use Rattle.wu_parts.proofs.KeptJobs.{tells_with_blob}
 use Rattle.wu_engine.specs.declared.engines.Engine.{Engine}
 use Rattle.wu_engine.specs.declared.verdicts.Verdict.TheVariants.{Made, Refused}
 use Rattle.wu_engine.specs.States.{State, Texts, IsState, flushed_if_full, flushed_state, followed, step, after_event, texts_after, without_text, with_text, layout_without, layout_with, layout_after}
@@ -40,9 +40,8 @@ use Rattle.wu_engine.specs.Indexing.{Catalog, Follows, blob_for, blob_left, cata
 use Rattle.wu_engine.proofs.FileChanges.{ChangesFiles}
 use Rattle.wu_engine.proofs.StateTexts.{text-left}
 use Rattle.wu_engine.proofs.StateLayouts.{layout_dropped, left_kept, made_absent, made_kept}
-use Rattle.wu_engine.proofs.FlushLemmas.{IsStored, flush_stands, full_stands}
-use Rattle.wu_engine.proofs.HeldParts.{AgreesBelow, blocks_stay, parts_below, parts_stay}
-use Rattle.wu_engine.proofs.KeptJobs.{job_stays_alike}
+use Rattle.wu_engine.proofs.FlushLemmas.{IsStored, flush_stands, full_stands, told_here}
+use Rattle.wu_engine.proofs.HeldParts.{AgreesBelow, blocks_stay}
 use Rattle.wu_engine.proofs.KeptStates.{after_effect, drawn-after, drawn-made, effect_kept, flushes-after, step-accepted, step-refused}
 use Rattle.wu_engine.proofs.RecordLemmas.{blob-recorded, records-elsewhere, records-put, records-removal}
 use Rattle.wu_engine.proofs.StoredTexts.{IsAbsent, blobs_below, held_forgotten, held_placed, held_released, stored_elsewhere, stored_none}
@@ -107,7 +106,8 @@ tells_with (Some ino) text blob catalog texts layout absent drawn t =
       files =
           ap (λ (n : ℕ). insert_entry nat_cmp catalog.files ino (record_for ino text blob n)) t.next
           ∙ ap (λ (b : ℕ). insert_entry nat_cmp catalog.files ino (record_for ino text b layout.next)) drawn
-          ∙ ap (λ (files : Records). insert_entry nat_cmp files ino (record_for ino text (blob_for (Some ino) text layout.blob) layout.next))
+          ∙ ap
+          (λ (files : Records). insert_entry nat_cmp files ino (record_for ino text (blob_for (Some ino) text layout.blob) layout.next))
           t.files
           ∙ records-put texts ino text entry layout.files (none_at layout ino (absent ino refl));
       stale = t.stale;
@@ -193,7 +193,8 @@ module _ (s : State) (is : IsState s) (after : FileSystem) (effect : Effect) (te
   made_is_absent : IsAbsent effect.made left
   made_is_absent ino h =
       absent (entry_of left.files ino)
-      ((left_kept s after effect tells changes text is.layout).ranges.of_files ino ∙ made_absent s after effect tells changes text is.layout ino h)
+      ((left_kept s after effect tells changes text is.layout).ranges.of_files ino
+      ∙ made_absent s after effect tells changes text is.layout ino h)
 
   texted_absent : IsAbsent effect.texted again
   texted_absent ino h =
@@ -247,7 +248,7 @@ stands_still old new s ended holds stands tree space parts files = record {
   texts = stands.texts;
   parts = subst (λ (c : Contents). IfSome holds (λ content. HoldParts content c.parts c.directories s.layout.parts)) (sym parts)
       stands.parts;
-  job = subst (λ (c : Contents). IfSome holds (λ content. KeepsJob content s.layout c.job)) (sym parts) stands.job;
+  job = subst (λ (c : Contents). IfSome holds (λ content. KeepsJob content s.layout c)) (sym parts) stands.job;
   kept = subst (λ (c : Contents). IfSome holds (λ content. KeepsBlocks content s.layout.blob c.kept)) (sym parts) stands.kept;
 }
 
@@ -319,42 +320,50 @@ module _ (old new : Engine) (s : State) (event : Event) (text : List ℕ) (ended
     same_job : next.layout.job ≡ s.layout.job
     same_job = same_after (λ l. l.job) (λ ino l. refl) (λ ino t l. refl) effect text s.layout
 
-    kept_directories : (f.indexed.parts ≡ old.parts.parts)
-        × ((f.indexed.directories ≡ old.parts.directories) × (f.indexed.kept ≡ old.parts.kept))
-    kept_directories = (
-      ap (λ (c : Contents). c.parts) f.others,
-      (ap (λ (c : Contents). c.directories) f.others, ap (λ (c : Contents). c.kept) f.others),
-    )
+    -- the text's blob is none of the parts'
+    told_between : (content : Content) → TellsParts content old.parts s.layout
+        → TellsParts (stored_at s.layout.blob effect.texted text content) old.parts s.layout
+    told_between content told =
+        elim (is_stored effect.texted text) as
+        (λ b. TellsParts (cond b (with_blob s.layout.blob (Some text) content) content) old.parts s.layout) [
+          | true ↦
+              tells_with_blob s.layout content old.parts index.is_state.layout.blobs told s.layout.blob (Some text) (omega arith)
+          | false ↦ told
+        ]
 
     -- what the store holds after the text was put
     stored_between : (o : Option Content) → HoldsTexts o s.texts s.layout.files
         → IfSome o (λ content. HoldParts content old.parts.parts old.parts.directories s.layout.parts)
-        → IfSome o (λ content. KeepsJob content s.layout old.parts.job)
+        → IfSome o (λ content. KeepsJob content s.layout old.parts)
         → IfSome o (λ content. KeepsBlocks content s.layout.blob old.parts.kept)
         → IsStored (option_map (stored_at s.layout.blob effect.texted text) o) f.indexed next
-    stored_between None texts parts job kept = record { texts = texts; parts = tt; job = tt; kept = tt }
+    stored_between None texts parts job kept = absurd texts
     stored_between (Some content) texts parts job kept =
         let now : Content = stored_at s.layout.blob effect.texted text content in
         let agrees : AgreesBelow s.layout.blob content now =
         λ number under. stored_elsewhere s.layout.blob effect.texted text content number (λ same. omega (arith, under, same)) in
-        let held : HoldParts now old.parts.parts old.parts.directories s.layout.parts =
-        parts_stay s.layout.blob content now agrees old.parts.parts old.parts.directories s.layout.parts
-        (parts_below s.layout.blob s.layout.files s.layout.parts s.layout.check s.layout.stale index.is_state.layout.blobs) parts in
+        let told : TellsParts now old.parts s.layout =
+        told_between content (told_here old.tree old.space old.parts old.files.entries s index content parts job) in
         let rises : s.layout.blob ≤ next.layout.blob = omega (arith, drawn-after effect s.layout text) in
-        let blocks : KeepsBlocks now next.layout.blob old.parts.kept =
-        blocks_stay s.layout.blob content now agrees next.layout.blob old.parts.kept rises kept in
+        let stored : IsStored (Some now) old.parts next =
         record {
           texts = held_after s index.is_state new.tree effect tells_here changes_here text content texts;
-          parts =
-              subst (λ (ps : List Part). HoldParts now f.indexed.parts f.indexed.directories ps) (sym same_parts)
-              (subst (λ (ds : List PartDirectory). HoldParts now f.indexed.parts ds s.layout.parts) (sym kept_directories.1.0)
-              (subst (λ (rs : List PartRec). HoldParts now rs old.parts.directories s.layout.parts) (sym kept_directories.0) held));
-          job =
-              subst (KeepsJob now next.layout) (sym (ap (λ (c : Contents). c.job) f.others))
-              (job_stays_alike s.layout next.layout content now agrees rises same_parts same_job index.is_state.layout.work old.parts.job
-              job);
-          kept = subst (KeepsBlocks now next.layout.blob) (sym kept_directories.1.1) blocks;
-        }
+          parts = subst (HoldParts now old.parts.parts old.parts.directories) (sym same_parts) told.parts;
+          job = record {
+            same =
+                subst (λ ps. TellsJobs now ps old.parts.job next.layout.job) (sym same_parts)
+                (subst (TellsJobs now s.layout.parts old.parts.job) (sym same_job) told.job);
+            running = told.running;
+          };
+          kept = blocks_stay s.layout.blob content now agrees next.layout.blob old.parts.kept rises kept;
+        } in
+        subst (λ (c : Contents). IsStored (Some now) c next) (sym f.others)
+        (record {
+          texts = stored.texts;
+          parts = stored.parts;
+          job = record { same = stored.job.same; running = stored.job.running };
+          kept = stored.kept;
+        })
 
     pub accepted : (Made ≡ verdict_of (step s event text)) × Stands new after.0 (after_event old.parts.flush_at s event text)
     accepted =

@@ -14,8 +14,8 @@ use Rattle.wu_engine.specs.declared.engines.Engine.{Engine}
 use Rattle.wu_engine.specs.Records.{records_of}
 use Rattle.wu_engine.specs.Stands.{HoldsTexts, IsEngineOf, KeepsBlocks, KeepsOthers, Stands}
 use Rattle.wu_engine.specs.States.{State, IsState, worked_state}
+use Rattle.wu_engine.proofs.FlushLemmas.{told_here}
 use Rattle.wu_engine.proofs.HeldParts.{AgreesBelow, blocks_stay, texts_stay}
-use Rattle.wu_engine.proofs.KeptJobs.{IsOn, IsOnDrawn}
 use Rattle.wu_engine.proofs.OtherBlobs.{others_put, others_same, others_then}
 use Rattle.wu_engine.proofs.StoredTexts.{blobs_below}
 
@@ -83,23 +83,11 @@ agrees_below low high before after keeps = λ number under. keeps.0 number (inl 
 -- what engine and store tell of the parts
 pub parts_told : (engine : Engine) (holds : Option Content) (s : State) → Stands engine holds s → Tells holds engine.parts s.layout
 parts_told engine None s stands = absurd stands.texts
-parts_told engine (Some content) s stands = record {
-  parts = stands.parts;
-  next_blob = stands.index.next_blob;
-  flushes = stands.index.flushes;
-  stale = stands.index.stale;
-  job = stands.job.same;
-}
-
--- the job under way is on parts whose blobs were drawn
-pub on_drawn : (engine : Engine) (holds : Option Content) (s : State) → Stands engine holds s → IsOnDrawn engine.parts
-on_drawn engine None s stands = absurd stands.texts
-on_drawn engine (Some content) s stands =
-    subst (λ (next : ℕ). IsOn next engine.parts.job) (sym stands.index.next_blob) stands.job.below
+parts_told engine (Some content) s stands =
+    told_here engine.tree engine.space engine.parts engine.files.entries s stands.index content stands.parts stands.job
 
 module _ (old new : Engine) (s : State) (n : ℕ) (ended : new.ended ≡ None) (tree : new.tree ≡ old.tree)
-    (space : new.space ≡ old.space) (files : new.files.entries ≡ old.files.entries) (changes : ChangesParts n old.parts new.parts)
-    (drawn : IsOnDrawn new.parts) where
+    (space : new.space ≡ old.space) (files : new.files.entries ≡ old.files.entries) (changes : ChangesParts n old.parts new.parts) where
   abbrev later : State
   later = worked_state n s
 
@@ -143,7 +131,7 @@ module _ (old new : Engine) (s : State) (n : ℕ) (ended : new.ended ≡ None) (
         index = index_worked after index told;
         texts = subst (λ (fs : List (ℕ × FileEntry)). HoldsTexts (Some after) s.texts fs) (sym same_files) texts;
         parts = told.parts;
-        job = record { same = told.job; below = subst (λ (next : ℕ). IsOn next new.parts.job) told.next_blob drawn };
+        job = record { same = told.job; running = told.running };
         kept =
             subst (KeepsBlocks after later.layout.blob) (sym (ap (λ (c : Contents). c.kept) changes.others))
             (blocks_stay s.layout.blob before after agrees later.layout.blob old.parts.kept (worked n s.layout).least stands.kept);

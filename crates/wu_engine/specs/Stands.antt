@@ -12,9 +12,10 @@ use Rattle.wu_tree.specs.declared.events.Event.TheVariants.{Create, Text}
 use Rattle.wu_tree.specs.declared.events.Refusal.{Refusal}
 use Rattle.wu_space.specs.Addresses.{Addresses}
 use Rattle.wu_lists.specs.Keeping.{AreHeld, Kept}
-use Rattle.wu_parts.specs.Contents.{Contents, JobAt}
+use Rattle.wu_parts.specs.Contents.{Contents}
 use Rattle.wu_parts.specs.Holdings.{HoldParts}
 use Rattle.wu_parts.specs.Memory.{held}
+use Rattle.wu_parts.specs.Units.{IsRunning}
 use Rattle.wu_parts.specs.Working.{TellsJobs}
 use Rattle.wu_engine.specs.declared.engines.Engine.{Engine}
 use Rattle.wu_engine.specs.declared.verdicts.Verdict.{Verdict}
@@ -50,11 +51,11 @@ pub record KeepsBlocks (content : Content) (next_blob : ℕ) (kept : Kept) : Typ
   pub below : AllByRecursion (λ entry. entry.0.blob < next_blob) kept.entries
   pub same : (blob : ℕ) (bytes : List ℕ) → content.blobs blob ≡ Some bytes → AreHeld blob bytes kept
 
--- The job under way is the layout's, as far as it has gone, and the lists that it has made are right by the content. Its parts are in blobs
--- that were drawn.
-pub record KeepsJob (content : Content) (layout : Layout) (job : Option JobAt) : Type 0 where
-  pub same : TellsJobs content layout.parts job layout.job
-  pub below : IfSome job (λ running. AllByRecursion (λ part. part.recorded.blob < layout.blob) running.state.parts)
+-- The job under way is the layout's, as far as it has gone, and the lists that it has made are right by the content. Its parts are some of
+-- those that are kept.
+pub record KeepsJob (content : Content) (layout : Layout) (contents : Contents) : Type 0 where
+  pub same : TellsJobs content layout.parts contents.job layout.job
+  pub running : IfSome contents.job (IsRunning contents.parts contents.directories)
 
 -- Engine and store stand for the state: the engine goes on and tells its tree and its index, and the store, which tells what it holds,
 -- has its texts and its parts, with their directories, the job that is under way on them and kept blocks in the engine.
@@ -63,7 +64,7 @@ pub record Stands (engine : Engine) (holds : Option Content) (s : State) : Type 
   pub index : IsEngineOf engine.tree engine.space engine.parts engine.files.entries s
   pub texts : HoldsTexts holds s.texts s.layout.files
   pub parts : IfSome holds (λ content. HoldParts content engine.parts.parts engine.parts.directories s.layout.parts)
-  pub job : IfSome holds (λ content. KeepsJob content s.layout engine.parts.job)
+  pub job : IfSome holds (λ content. KeepsJob content s.layout engine.parts)
   pub kept : IfSome holds (λ content. KeepsBlocks content s.layout.blob engine.parts.kept)
 
 -- how many addresses an event takes, where it is accepted

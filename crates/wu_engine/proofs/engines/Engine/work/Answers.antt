@@ -1,6 +1,5 @@
 use Rattle.std.proofs.Common.{◌+◌, refl, rules}
-use Rattle.wu_engine.proofs.KeptJobs.{units_on_drawn}
-use Rattle.wu_engine.proofs.WorkedStates.{on_drawn, others_worked, parts_told, worked_on}
+use Rattle.wu_engine.proofs.WorkedStates.{others_worked, parts_told, worked_on}
 use Rattle.wu_engine.proofs.engines.Engine.work.Goals as goal
 
 pub returns-in-Ok-clause-step : goal.returns-in-Ok-clause-step
@@ -10,24 +9,23 @@ returns-in-Ok-clause-step g c = λ s stands.
     let before = g.D.Store.holds c.args.store.now in
     let after = g.D.Store.holds c.work.new.store in
     let told = parts_told old before s stands in
-    let done = c.in-Ok.ensures.units in
     let layout = c.in-Ok.ensures.layout _ _ s.layout stands.index.is_state.layout stands.index.live told in
     let others = others_worked old.parts.next_blob (old.parts.next_blob + n) n before after c.work.ensures.elsewhere in (
       layout.0,
-      worked_on old _ s n refl refl refl refl c.in-Ok.ensures.changes
-          (units_on_drawn old.space.ranges done.units old.parts c.work.new.self _ _ done.read done.done (on_drawn old before s stands))
-          before after stands others layout.1,
+      worked_on old _ s n refl refl refl refl c.in-Ok.ensures.changes before after stands others layout.1,
     )
 
 pub returns-in-Ok-clause-elsewhere : goal.returns-in-Ok-clause-elsewhere
 returns-in-Ok-clause-elsewhere g c =
     let next = c.args.self.now.parts.next_blob in
-    others_worked next (next + c.args.n) c.args.n (g.D.Store.holds c.args.store.now) (g.D.Store.holds c.work.new.store) c.work.ensures.elsewhere
+    others_worked next (next + c.args.n) c.args.n (g.D.Store.holds c.args.store.now) (g.D.Store.holds c.work.new.store)
+    c.work.ensures.elsewhere
 
 pub returns-in-Err-clause-elsewhere : goal.returns-in-Err-clause-elsewhere
 returns-in-Err-clause-elsewhere g c =
     let next = c.args.self.now.parts.next_blob in
-    others_worked next (next + c.args.n) c.args.n (g.D.Store.holds c.args.store.now) (g.D.Store.holds c.work.new.store) c.work.ensures.elsewhere
+    others_worked next (next + c.args.n) c.args.n (g.D.Store.holds c.args.store.now) (g.D.Store.holds c.work.new.store)
+    c.work.ensures.elsewhere
 
 pub returns-in-Err-clause-undamaged : goal.returns-in-Err-clause-undamaged
 returns-in-Err-clause-undamaged g c = λ s stands blob same.
