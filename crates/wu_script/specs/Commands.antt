@@ -6,7 +6,7 @@
 -- laws stay as they are.
 use Rattle.std.specs.Prelude.{ℕ, ◌-◌, ◌^◌, ◌==◌, nat_lt, Bool, true, List, [], ◌∷◌, length, Option, Some, None, map, option_and_then, if◌then◌else◌}
 use Rattle.std.specs.Option.{option_map}
-use Rattle.wu_base.specs.declared.limits.TheConstants.{LINE_MAX, K_MAX, INPUT_MAX}
+use Rattle.wu_base.specs.declared.limits.TheConstants.{LINE_MAX, K_MAX, INPUT_MAX, WORK_MAX}
 use Rattle.wu_access.specs.declared.Perm.{Perm}
 use Rattle.wu_tree.specs.declared.events.Event.{Event}
 use Rattle.wu_tree.specs.declared.events.Event.TheVariants as events
@@ -126,9 +126,11 @@ pub data Wish : Type 0 where
   RankOf : (k : ℕ) (unit words : List ℕ) → Wish
   PathsOf : Wish
 
--- what the operator of the index asks for: a flush
+-- what the operator of the index asks for: a flush, so many units of background work, or the size of the index
 pub data Operation : Type 0 where
   Flush : Operation
+  Work : (units : ℕ) → Operation
+  Stat : Operation
 
 -- an item as its bytes have it: an event with the text that it gives, which is empty for all but a text; a query of a user; an
 -- operation; a refusal; nothing
@@ -200,6 +202,22 @@ unfoldable pub flush_of : List (List ℕ) → Option Operation
 flush_of [] = Some Flush
 flush_of _ = None
 
+-- how many units of work: at least one, and at most WORK_MAX
+unfoldable pub units_of : List ℕ → Option ℕ
+units_of field = do
+  n ← number_of field WORK_MAX
+  nonzero n
+
+unfoldable pub work_of : List (List ℕ) → Option Operation
+work_of (units ∷ []) = do
+  n ← units_of units
+  Some (Work n)
+work_of _ = None
+
+unfoldable pub stat_of : List (List ℕ) → Option Operation
+stat_of [] = Some Stat
+stat_of _ = None
+
 unfoldable pub command_of : Word → List (List ℕ) → LineSays Entry
 command_of words.User fields = event_line (user_of fields)
 command_of words.Mkdir fields = event_line (option_map mkdir_event (new_node_of fields))
@@ -216,6 +234,8 @@ command_of words.Find fields = query_line (find_of fields)
 command_of words.Rank fields = query_line (rank_of fields)
 command_of words.Paths fields = query_line (paths_of fields)
 command_of words.Flush fields = operation_line (flush_of fields)
+command_of words.Work fields = operation_line (work_of fields)
+command_of words.Stat fields = operation_line (stat_of fields)
 command_of words.Unbuilt fields = Whole (Refusing Unbuilt)
 command_of words.Unknown fields = Whole (Refusing Syntax)
 

@@ -1,6 +1,9 @@
 -- The bytes of a reply.
 use Rattle.std.specs.Prelude.{ℕ, List, [], ◌∷◌, ◌++◌, codes, decimal, length}
 use Rattle.std.specs.List.{flat_map}
+use Rattle.wu_base.specs.declared.reports.Stat.{Stat}
+use Rattle.wu_base.specs.declared.reports.Worked.{Worked}
+use Rattle.wu_base.specs.declared.reports.Worked.TheVariants as worked
 use Rattle.wu_tree.specs.declared.events.Refusal.{Refusal}
 use Rattle.wu_tree.specs.declared.events.Refusal.TheVariants as refusals
 use Rattle.wu_gcl.specs.declared.expressions.ExprFault.{ExprFault}
@@ -64,7 +67,19 @@ answer_bytes (answers.Rank listed shown) = codes "rank\t" ++ decimal listed ++ 9
     ++ flat_map rank_line shown
 answer_bytes (answers.Paths paths) = codes "paths\t" ++ decimal (length paths) ++ 10 ∷ [] ++ flat_map path_line paths
 
+-- whether background work is left
+unfoldable pub worked_word : Worked → List ℕ
+worked_word worked.Idle = codes "idle"
+worked_word worked.Busy = codes "busy"
+
+-- regular files, addresses of their texts, postings in memory and parts, and parts
+abbrev pub stat_line : Stat → List ℕ
+stat_line stat = codes "stat\t" ++ decimal stat.files ++ 9 ∷ [] ++ decimal stat.live ++ 9 ∷ [] ++ decimal stat.stored ++ 9 ∷ []
+    ++ decimal stat.parts ++ 10 ∷ []
+
 unfoldable pub reply_bytes : Reply → List ℕ
 reply_bytes replies.Ok = codes "ok\n"
 reply_bytes (replies.Refused w) = codes "refused\t" ++ why_word w ++ 10 ∷ []
+reply_bytes (replies.Worked w) = worked_word w ++ 10 ∷ []
+reply_bytes (replies.Stat stat) = stat_line stat
 reply_bytes (replies.Answered answered) = answer_bytes answered

@@ -1,6 +1,6 @@
 -- What an item says, its expressions read. Replies and states are defined over this alone.
 use Rattle.std.specs.Prelude.{◌≡◌, ℕ, ◌≤◌, ◌==◌, nat_lt, List, [], length, Result, Ok, Err, if◌then◌else◌}
-use Rattle.wu_base.specs.declared.limits.TheConstants.{TEXT_MAX, RANK_WORDS_MAX, INPUT_MAX}
+use Rattle.wu_base.specs.declared.limits.TheConstants.{TEXT_MAX, RANK_WORDS_MAX, INPUT_MAX, WORK_MAX}
 use Rattle.wu_token.specs.Words.{words_of}
 use Rattle.wu_token.specs.Tokens.{tokens_of}
 use Rattle.wu_gcl.specs.Reading.{Value, Reads}
@@ -16,7 +16,7 @@ use Rattle.wu_script.specs.declared.types.Line.{Line}
 use Rattle.wu_script.specs.declared.types.Line.TheVariants as lines
 use Rattle.wu_script.specs.declared.types.Item.{Item}
 use Rattle.wu_script.specs.declared.types.Item.TheVariants as items
-use Rattle.wu_script.specs.Commands.{Wish, CountOf, FindOf, RankOf, PathsOf, Operation, Flush, Entry, Happening, Asking, Operating, Refusing, Blank, LineSays, Whole, TextHead}
+use Rattle.wu_script.specs.Commands.{Wish, CountOf, FindOf, RankOf, PathsOf, Operation, Flush, Work, Stat, Entry, Happening, Asking, Operating, Refusing, Blank, LineSays, Whole, TextHead}
 
 -- what each text says as a region expression; there is one such function, since each text has one reading
 abbrev pub Reading : Type 0
@@ -79,6 +79,8 @@ abbrev pub said_by_command : Command → Said
 said_by_command (commands.Update event) = Happens event []
 said_by_command (commands.Ask query) = Asks query.uid (question_of query.ask)
 said_by_command commands.Flush = Operates Flush
+said_by_command (commands.Work units) = Operates (Work units)
+said_by_command commands.Stat = Operates Stat
 
 abbrev pub said_by_line : Line → LineSays Said
 said_by_line (lines.Command command) = Whole (said_by_command command)
@@ -108,6 +110,8 @@ abbrev pub IsSoundCommand : Command → Type 0
 IsSoundCommand (commands.Update event) = IsEvent event
 IsSoundCommand (commands.Ask query) = IsSoundAsk query.ask
 IsSoundCommand commands.Flush = Unit {0}
+IsSoundCommand (commands.Work units) = (1 ≤ units) × (units ≤ WORK_MAX)
+IsSoundCommand commands.Stat = Unit {0}
 
 abbrev pub IsSoundLine : Line → Type 0
 IsSoundLine (lines.Command command) = IsSoundCommand command

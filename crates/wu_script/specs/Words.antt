@@ -1,15 +1,15 @@
 -- The first field of a command's line.
-use Rattle.std.specs.Prelude.{ℕ, Bool, ◌||◌, List, codes, nat_eq, if◌then◌else◌}
+use Rattle.std.specs.Prelude.{ℕ, Bool, List, codes, nat_eq, if◌then◌else◌}
 use Rattle.std.specs.Cmp.Lexicographic.{pointwise}
 use Rattle.wu_script.specs.declared.words.Word.{Word}
-use Rattle.wu_script.specs.declared.words.Word.TheVariants.{User, Mkdir, Create, Text, Link, Unlink, Rmdir, Rename, Chmod, Chown, Count, Find, Rank, Paths, Flush, Unbuilt, Unknown}
+use Rattle.wu_script.specs.declared.words.Word.TheVariants.{User, Mkdir, Create, Text, Link, Unlink, Rmdir, Rename, Chmod, Chown, Count, Find, Rank, Paths, Flush, Work, Stat, Unbuilt, Unknown}
 
 abbrev pub is : List ℕ → List ℕ → Bool
 is field word = pointwise nat_eq field word
 
 -- a command that will be built later
 abbrev pub is_unbuilt : List ℕ → Bool
-is_unbuilt field = is field (codes "work") || is field (codes "stat") || is field (codes "save")
+is_unbuilt field = is field (codes "save")
 
 unfoldable pub word_of : List ℕ → Word
 word_of field =
@@ -29,4 +29,6 @@ word_of field =
     else if is field (codes "rank") then Rank
     else if is field (codes "paths") then Paths
     else if is field (codes "flush") then Flush
+    else if is field (codes "work") then Work
+    else if is field (codes "stat") then Stat
     else Unknown

@@ -3,8 +3,8 @@ ghost use Rattle.std.specs.Prelude.{◌≡◌, ◌≤◌, IfOk, IfSome};
 ghost use Rattle.wu_tree.specs.Steps.{IsEvent};
 ghost use Rattle.wu_gcl.specs.Reading.{seen};
 ghost use Rattle.wu_gcl.specs.Regions.{IsProper, region_of};
-ghost use Rattle.wu_base.specs.declared.limits.TheConstants.{K_MAX as MostRegions};
-ghost use Rattle.wu_script.specs.Commands.{command_of, event_line, fields_say, is_blank, line_says, query_line, operation_line, text_line, count_of, find_of, rank_of, paths_of, flush_of, text_head_of, Whole, Asking, CountOf, FindOf, RankOf};
+ghost use Rattle.wu_base.specs.declared.limits.TheConstants.{K_MAX as MostRegions, WORK_MAX as MostUnits};
+ghost use Rattle.wu_script.specs.Commands.{command_of, event_line, fields_say, is_blank, line_says, query_line, operation_line, text_line, count_of, find_of, rank_of, paths_of, flush_of, units_of, work_of, stat_of, text_head_of, Whole, Asking, CountOf, FindOf, RankOf};
 ghost use Rattle.wu_script.specs.Said.{IsReading, Reading, IsLine, IsSoundLine};
 ghost use Rattle.wu_script.specs.declared.types.Line.TheVariants.{Command as ACommand};
 ghost use Rattle.wu_script.specs.declared.types.Command.TheVariants.{Ask as AQuestion};
@@ -16,7 +16,7 @@ use crate::types::{Command, Line, Why};
 use crate::words::{Word, word_of};
 use std::alloc::Global;
 use wu_ask::{Ask, Query};
-use wu_base::{Bytes, INPUT_MAX, K_MAX, LINE_MAX, NoMemory, RANK_WORDS_MAX, Sequence};
+use wu_base::{Bytes, INPUT_MAX, K_MAX, LINE_MAX, NoMemory, RANK_WORDS_MAX, Sequence, WORK_MAX};
 use wu_fields::{read_decimal, split_fields};
 use wu_gcl::{Expr, ExprFault, parse};
 use wu_token::words;
@@ -89,6 +89,8 @@ fn read_by_word(alloc: Global, word: Word, fields: &[Bytes]) -> Result<Line, NoM
         Word::Rank => rank(alloc, fields),
         Word::Paths => Ok(paths(fields)),
         Word::Flush => Ok(flush(fields)),
+        Word::Work => Ok(work(fields)),
+        Word::Stat => Ok(stat(fields)),
         Word::Unbuilt => Ok(Line::Refused(Why::Unbuilt)),
         Word::Unknown => Ok(Line::Refused(Why::Syntax)),
     }
@@ -266,6 +268,47 @@ fn flush(fields: &[Bytes]) -> Line
 {
     match fields {
         [] => Line::Command(Command::Flush),
+        _ => Line::Refused(Why::Syntax),
+    }
+}
+
+/// `work`, and how many units of it.
+#[tactic(auto, unfolding(crate::specs::Commands::work_of))]
+fn work(fields: &[Bytes]) -> Line
+    ensures says { IsLine (operation_line (work_of fields.now)) result }
+    ensures sound { IsSoundLine result }
+{
+    match fields {
+        [units] => match units_of(units) {
+            Some(units) => Line::Command(Command::Work(units)),
+            None => Line::Refused(Why::Syntax),
+        },
+        _ => Line::Refused(Why::Syntax),
+    }
+}
+
+/// How many units of work the field asks for, from 1 to WORK_MAX.
+#[tactic(auto, unfolding(crate::specs::Commands::units_of))]
+fn units_of(field: &Bytes) -> Option<u32>
+    ensures value { result ≡ units_of field.now }
+    ensures some { IfSome result (λ units. 1 ≤ units) }
+    ensures within { IfSome result (λ units. units ≤ MostUnits) }
+{
+    match read_decimal(field.as_slice(), WORK_MAX as u64) {
+        Some(0) => None,
+        Some(units) => Some(units as u32),
+        None => None,
+    }
+}
+
+/// `stat`, without a further field.
+#[tactic(auto, unfolding(crate::specs::Commands::stat_of))]
+fn stat(fields: &[Bytes]) -> Line
+    ensures says { IsLine (operation_line (stat_of fields.now)) result }
+    ensures sound { IsSoundLine result }
+{
+    match fields {
+        [] => Line::Command(Command::Stat),
         _ => Line::Refused(Why::Syntax),
     }
 }

@@ -1,11 +1,11 @@
 //! Writing a reply.
 ghost use Rattle.std.specs.Prelude.{◌≡◌, ◌++◌, ◌∷◌, [], List, ℕ, codes, decimal, length, OnOk, OnErr};
 ghost use Rattle.std.specs.List.{flat_map};
-ghost use Rattle.wu_script.specs.Replies.{reply_bytes, answer_bytes, refusal_word, fault_word, why_word, path_line, find_line, rank_line};
+ghost use Rattle.wu_script.specs.Replies.{reply_bytes, answer_bytes, refusal_word, fault_word, why_word, worked_word, stat_line, path_line, find_line, rank_line};
 
 use crate::types::{Reply, Why};
 use wu_ask::{Answered, FindLine, RankLine};
-use wu_base::{Bytes, NoMemory};
+use wu_base::{Bytes, NoMemory, Stat, Worked};
 use wu_fields::{put_decimal, put_field};
 use wu_gcl::ExprFault;
 use wu_tree::Refusal;
@@ -38,6 +38,8 @@ fn append_reply(out: &mut Vec<u8>, reply: &Reply) -> Result<(), NoMemory>
             Ok(())
         }
         Reply::Refused(why) => append_refusal(out, why_word(*why)),
+        Reply::Worked(worked) => append_word(out, worked_word(*worked)),
+        Reply::Stat(stat) => append_stat(out, stat),
         Reply::Answered(answered) => append_answer(out, answered),
     }
 }
@@ -49,6 +51,33 @@ fn append_refusal(out: &mut Vec<u8>, word: &[u8]) -> Result<(), NoMemory>
 {
     out.extend_from_slice(b"refused\t")?;
     out.extend_from_slice(word)?;
+    out.push(b'\n')?;
+    Ok(())
+}
+
+/// Appends a word on a line of its own.
+fn append_word(out: &mut Vec<u8>, word: &[u8]) -> Result<(), NoMemory>
+    ensures ok { OnOk result (out.new.items ≡ out.old.items ++ (word.now ++ 10 ∷ [])) }
+    ensures err { OnErr result ((more : List ℕ) × (out.new.items ≡ out.old.items ++ more)) }
+{
+    out.extend_from_slice(word)?;
+    out.push(b'\n')?;
+    Ok(())
+}
+
+/// Appends the line of the size of the index.
+fn append_stat(out: &mut Vec<u8>, stat: &Stat) -> Result<(), NoMemory>
+    ensures ok { OnOk result (out.new.items ≡ out.old.items ++ stat_line stat.now) }
+    ensures err { OnErr result ((more : List ℕ) × (out.new.items ≡ out.old.items ++ more)) }
+{
+    out.extend_from_slice(b"stat\t")?;
+    put_decimal(out, stat.files)?;
+    out.push(b'\t')?;
+    put_decimal(out, stat.live)?;
+    out.push(b'\t')?;
+    put_decimal(out, stat.stored)?;
+    out.push(b'\t')?;
+    put_decimal(out, stat.parts)?;
     out.push(b'\n')?;
     Ok(())
 }
@@ -223,6 +252,17 @@ fn why_word(why: Why) -> &'static [u8]
         Why::NoWord => b"noword",
         Why::ManyWords => b"manywords",
         Why::Unbuilt => b"unbuilt",
+    }
+}
+
+/// The word for whether background work is left.
+#[tactic(auto, unfolding(crate::specs::Replies::worked_word))]
+fn worked_word(worked: Worked) -> &'static [u8]
+    ensures { result.now ≡ worked_word worked }
+{
+    match worked {
+        Worked::Idle => b"idle",
+        Worked::Busy => b"busy",
     }
 }
 

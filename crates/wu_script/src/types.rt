@@ -1,6 +1,6 @@
 //! What a script is made of, and what is replied.
 use wu_ask::{Answered, Query};
-use wu_base::{Bytes, Ino};
+use wu_base::{Bytes, Ino, Stat, Worked};
 use wu_gcl::ExprFault;
 use wu_tree::{Event, Refusal};
 
@@ -38,6 +38,10 @@ pub enum Command {
     Ask(Query),
     /// The postings in memory are to become a part of the index.
     Flush,
+    /// So many units of background work are to be done, from 1 to WORK_MAX.
+    Work(u32),
+    /// The size of the index is asked for.
+    Stat,
 }
 
 /// What one line says.
@@ -85,6 +89,10 @@ pub enum Reply {
     Ok,
     /// The command was refused.
     Refused(Why),
+    /// Background work was done.
+    Worked(Worked),
+    /// The size of the index.
+    Stat(Stat),
     /// The question was answered.
     Answered(Answered),
 }

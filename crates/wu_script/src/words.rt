@@ -20,6 +20,8 @@ pub enum Word {
     Rank,
     Paths,
     Flush,
+    Work,
+    Stat,
     /// A command that will be built later.
     Unbuilt,
     Unknown,
@@ -62,6 +64,10 @@ pub fn word_of(field: &[u8]) -> Word
         Word::Paths
     } else if field == b"flush".as_slice() {
         Word::Flush
+    } else if field == b"work".as_slice() {
+        Word::Work
+    } else if field == b"stat".as_slice() {
+        Word::Stat
     } else {
         Word::Unknown
     }
@@ -71,5 +77,5 @@ pub fn word_of(field: &[u8]) -> Word
 fn is_unbuilt(field: &[u8]) -> bool
     ensures { result ≡ is_unbuilt field.now }
 {
-    field == b"work".as_slice() || field == b"stat".as_slice() || field == b"save".as_slice()
+    field == b"save".as_slice()
 }

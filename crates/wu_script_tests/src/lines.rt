@@ -20,6 +20,8 @@ pub fn said(alloc: Global, field: &str) -> Result<String, NoAnswer> {
         Line::Command(Command::Update(event)) => event_text(alloc, &event),
         Line::Command(Command::Ask(query)) => query_text(alloc, &query),
         Line::Command(Command::Flush) => plain_text(alloc, "flush"),
+        Line::Command(Command::Work(units)) => Ok(format!(in alloc; "work {units}")?),
+        Line::Command(Command::Stat) => plain_text(alloc, "stat"),
         Line::TextHead { ino, len } => Ok(format!(in alloc; "text {ino} {len}")?),
         Line::Blank => plain_text(alloc, "blank"),
     }

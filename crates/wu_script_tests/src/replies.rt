@@ -2,7 +2,7 @@
 use crate::reasons::named;
 use std::alloc::Global;
 use wu_ask::{Answered, FindLine, RankLine};
-use wu_base::{Bytes, Sequence};
+use wu_base::{Bytes, Sequence, Stat, Worked};
 use wu_rows::{NoAnswer, bytes, number, shown};
 use wu_script::{Reply, put_reply};
 
@@ -21,6 +21,14 @@ fn reply(alloc: Global, fields: &[&str]) -> Result<Reply, NoAnswer> {
             Some(why) => Ok(Reply::Refused(why)),
             None => Err(NoAnswer::BadRow),
         },
+        ["idle"] => Ok(Reply::Worked(Worked::Idle)),
+        ["busy"] => Ok(Reply::Worked(Worked::Busy)),
+        ["stat", files, live, stored, parts] => Ok(Reply::Stat(Stat {
+            files: number(files)?,
+            live: number(live)?,
+            stored: number(stored)?,
+            parts: number(parts)?,
+        })),
         ["count", hits, files] => count(hits, files),
         ["paths", path] => one_path(alloc, path),
         ["find", hits, files, lines @ ..] => found(alloc, hits, files, lines),

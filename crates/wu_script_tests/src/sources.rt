@@ -60,6 +60,8 @@ fn word_of(item: &Item) -> &'static str {
         Item::Command(Command::Update(_)) => "update ",
         Item::Command(Command::Ask(_)) => "ask ",
         Item::Command(Command::Flush) => "flush ",
+        Item::Command(Command::Work(_)) => "work ",
+        Item::Command(Command::Stat) => "stat ",
         Item::Text { .. } => "text ",
         Item::Blank => "blank ",
         Item::End => "end",
