@@ -1,6 +1,6 @@
--- The addresses and the blobs that a session takes: at most three addresses and two blobs for each byte of its input.
+-- The addresses and the blobs that a session takes: at most three addresses and WORK_MAX blobs for each byte of its input.
 use Rattle.std.proofs.Common.{◌≡◌, ℕ, ◌+◌, ◌*◌, ◌<◌, ◌≤◌, ◌^◌, false, Option, List, [], length, refl, ap, arith, length-append}
-use Rattle.wu_base.specs.declared.limits.TheConstants.{INPUT_MAX, ADDRESSES_MAX}
+use Rattle.wu_base.specs.declared.limits.TheConstants.{INPUT_MAX, ADDRESSES_MAX, WORK_MAX}
 use Rattle.wu_gcl.proofs.Existence.{each_text_is_read}
 use Rattle.wu_tree.specs.declared.events.Event.{Event}
 use Rattle.wu_tree.specs.declared.events.Event.TheVariants as events
@@ -64,22 +64,23 @@ HasRoom-few next most held room within = omega arith
 pub HasRoom-fewer : (next taken most : ℕ) (held : Held) → HasRoom taken held most → next ≤ taken → HasRoom next held most
 HasRoom-fewer next taken most held room fewer = omega arith
 
--- ---- blobs
+-- ---- numbers that items raise: that of the next blob, and how many flushes are counted
 
--- the next blob and two for each byte that is held or may still be given are no more than two for each byte of the input, and one
-abbrev pub HasBlobs : ℕ → Held → ℕ → Type 0
-HasBlobs blob held most = blob + 2 * (length held.bytes + held.spare) ≤ 2 * most + 1
+-- the number, and WORK_MAX for each byte that is held or may still be given, are no more than WORK_MAX for each byte of the input, and one
+abbrev pub StaysLow : ℕ → Held → ℕ → Type 0
+StaysLow number held most = number + WORK_MAX * (length held.bytes + held.spare) ≤ WORK_MAX * most + 1
 
--- at the start there are two for each byte of the input
-pub HasBlobs-none : (blob most : ℕ) → blob ≡ 1 → HasBlobs blob (record { bytes = []; spare = most; ended = false }) most
-HasBlobs-none blob most one = omega arith
+-- at the start it is one at most
+pub StaysLow-none : (number most : ℕ) → number ≤ 1 → StaysLow number (record { bytes = []; spare = most; ended = false }) most
+StaysLow-none number most few = omega (arith, few)
 
--- an item may draw two
-pub HasBlobs-item : (left left' : Option (List ℕ)) (last_read : ℕ) (old new : Held) (item : Item) (blob drawn most : ℕ) → IsBeforeEnd item
-    → TakesItem left left' last_read old new item → HasBlobs blob old most → drawn ≤ blob + 2 → HasBlobs drawn new most
-HasBlobs-item left left' last_read old new item blob drawn most other taken room few =
-    omega (arith, takes_one left left' last_read old new item other taken, room, few)
+-- an item may raise it by WORK_MAX
+pub StaysLow-item : (left left' : Option (List ℕ)) (last_read : ℕ) (old new : Held) (item : Item) (number raised most : ℕ)
+    → IsBeforeEnd item → TakesItem left left' last_read old new item → StaysLow number old most → raised ≤ number + WORK_MAX
+    → StaysLow raised new most
+StaysLow-item left left' last_read old new item number raised most other taken low few =
+    omega (arith, takes_one left left' last_read old new item other taken, low, few)
 
--- and two more are ones that there are
-pub HasBlobs-few : (blob most : ℕ) (held : Held) → HasBlobs blob held most → most ≤ INPUT_MAX → blob + 2 < 2 ^ 63
-HasBlobs-few blob most held room within = omega arith
+-- and what is WORK_MAX higher is still a number that there is
+pub StaysLow-few : (number most : ℕ) (held : Held) → StaysLow number held most → most ≤ INPUT_MAX → number + WORK_MAX < 2 ^ 63
+StaysLow-few number most held low within = omega arith

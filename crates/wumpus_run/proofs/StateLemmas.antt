@@ -2,20 +2,26 @@
 use Rattle.std.proofs.Common.{ℕ, List, [], ◌∷◌, map}
 use Rattle.std.specs.List.{All, AllByRecursion}
 use Rattle.std.proofs.lemmas.List.Elements.{All-from_recursion}
-use Rattle.wu_script.specs.Commands.{Flush}
+use Rattle.wu_script.specs.Commands.{Operation, Flush, Work, Stat}
 use Rattle.wu_script.specs.Said.{Reading, Said, Happens, Asks, Operates, IsRefused, SaysNothing, said_of}
 use Rattle.wu_script.specs.Items.{items_of}
 use Rattle.wu_script.proofs.EventLemmas.{TellsEvent, script_tells}
 use Rattle.wu_engine.specs.States.{State, IsState, first_state}
 use Rattle.wu_engine.proofs.FlushedStates.{flushed_kept}
 use Rattle.wu_engine.proofs.KeptStates.{first_is_state, state_kept}
-use Rattle.wumpus_run.specs.Replies.{after, met, last_state}
+use Rattle.wu_engine.proofs.WorkedStates.{worked_kept}
+use Rattle.wumpus_run.specs.Replies.{after, after_operation, met, last_state}
 use Rattle.wumpus_run.proofs.ShortTexts.{IsShort, script_short}
+
+operated_kept : (s : State) (operation : Operation) → IsState s → IsState (after_operation s operation)
+operated_kept s Flush is = flushed_kept s is
+operated_kept s (Work units) is = worked_kept units s is
+operated_kept s Stat is = is
 
 stays : (flush_at : ℕ) (s : State) (said : Said) → TellsEvent said → IsShort said → IsState s → IsState (after flush_at s said)
 stays flush_at s (Happens event text) event_is short is = state_kept flush_at s event text is event_is short
 stays flush_at s (Asks uid question) event_is short is = is
-stays flush_at s (Operates Flush) event_is short is = flushed_kept s is
+stays flush_at s (Operates operation) event_is short is = operated_kept s operation is
 stays flush_at s (IsRefused why) event_is short is = is
 stays flush_at s SaysNothing event_is short is = is
 

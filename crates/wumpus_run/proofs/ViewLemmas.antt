@@ -1,4 +1,4 @@
--- Flushes show in no view.
+-- Flushes and background work show in no view.
 use Rattle.std.proofs.Common.{◌≡◌, ℕ, List, [], ◌∷◌, Result, Ok, Err, map, refl, ap, ◌∙◌, subst}
 use Rattle.wu_tree.specs.FileSystems.{FileSystem}
 use Rattle.wu_tree.specs.Steps.{step as tree_step}
@@ -6,11 +6,11 @@ use Rattle.wu_tree.specs.declared.events.Event.{Event}
 use Rattle.wu_tree.specs.declared.events.Effect.{Effect}
 use Rattle.wu_tree.specs.declared.events.Refusal.{Refusal}
 use Rattle.wu_view.specs.Views.{view_of as files_of}
-use Rattle.wu_script.specs.Commands.{Flush}
+use Rattle.wu_script.specs.Commands.{Operation, Flush, Work, Stat}
 use Rattle.wu_script.specs.Said.{Said, Happens, Asks, Operates, IsRefused, SaysNothing}
 use Rattle.wu_engine.specs.States.{State, Texts, after_event, followed, step, stepped, texts_after}
 use Rattle.wu_engine.specs.View.{shown_of, view_of}
-use Rattle.wumpus_run.specs.Replies.{after, last_state}
+use Rattle.wumpus_run.specs.Replies.{after, after_operation, last_state}
 
 -- one tree and the same texts, indexed in whatever way
 abbrev HaveSameFiles : State → State → Type 0
@@ -30,10 +30,16 @@ event_alike one other s t event text same =
     (followed other t (stepped text t (tree_step tree event))))
     same.0 (followed_alike one other s t text (tree_step s.tree event) same)
 
+operation_alike : (s t : State) (operation : Operation) → HaveSameFiles s t
+    → HaveSameFiles (after_operation s operation) (after_operation t operation)
+operation_alike s t Flush same = same
+operation_alike s t (Work units) same = same
+operation_alike s t Stat same = same
+
 after_alike : (one other : ℕ) (s t : State) (said : Said) → HaveSameFiles s t → HaveSameFiles (after one s said) (after other t said)
 after_alike one other s t (Happens event text) same = event_alike one other s t event text same
 after_alike one other s t (Asks uid question) same = same
-after_alike one other s t (Operates Flush) same = same
+after_alike one other s t (Operates operation) same = operation_alike s t operation same
 after_alike one other s t (IsRefused why) same = same
 after_alike one other s t SaysNothing same = same
 
@@ -55,9 +61,15 @@ pub left_alike : (one other : ℕ) (s : State) (saids : List Said) (uid : ℕ)
 left_alike one other s saids uid =
     view_alike (last_state one s saids) (last_state other s saids) uid (last_alike one other s s saids (refl, refl))
 
--- and so does a script with a flush before it
-pub flushed_alike : (flush_at : ℕ) (s : State) (saids : List Said) (uid : ℕ)
-    → view_of (last_state flush_at s (Operates Flush ∷ saids)) uid ≡ view_of (last_state flush_at s saids) uid
-flushed_alike flush_at s saids uid =
-    view_alike (last_state flush_at s (Operates Flush ∷ saids)) (last_state flush_at s saids) uid
-    (last_alike flush_at flush_at (after flush_at s (Operates Flush)) s saids (refl, refl))
+-- an operation changes no file and no text
+unchanged : (s : State) (operation : Operation) → HaveSameFiles (after_operation s operation) s
+unchanged s Flush = (refl, refl)
+unchanged s (Work units) = (refl, refl)
+unchanged s Stat = (refl, refl)
+
+-- so a script with an operation before it leaves the same views
+pub operated_alike : (flush_at : ℕ) (operation : Operation) (s : State) (saids : List Said) (uid : ℕ)
+    → view_of (last_state flush_at s (Operates operation ∷ saids)) uid ≡ view_of (last_state flush_at s saids) uid
+operated_alike flush_at operation s saids uid =
+    view_alike (last_state flush_at s (Operates operation ∷ saids)) (last_state flush_at s saids) uid
+    (last_alike flush_at flush_at (after_operation s operation) s saids (unchanged s operation))

@@ -4,12 +4,13 @@ use Rattle.std.specs.List.{flat_map}
 use Rattle.wu_outside.specs.Content.{Content}
 use Rattle.wu_script.specs.declared.types.Why.TheVariants.{Tree}
 use Rattle.wu_script.specs.declared.types.Reply.{Reply}
-use Rattle.wu_script.specs.declared.types.Reply.TheVariants.{Ok as Accepted, Answered, Refused}
-use Rattle.wu_script.specs.Commands.{Entry, Operation, Flush}
+use Rattle.wu_script.specs.declared.types.Reply.TheVariants.{Ok as Accepted, Answered, Refused, Worked, Stat as Told}
+use Rattle.wu_script.specs.Commands.{Entry, Operation, Flush, Work, Stat}
 use Rattle.wu_script.specs.Said.{Reading, IsReading, Said, Happens, Asks, Operates, IsRefused, SaysNothing, said_of}
 use Rattle.wu_script.specs.Replies.{reply_bytes}
 use Rattle.wu_options.specs.declared.command_lines.Settings.{Settings}
-use Rattle.wu_engine.specs.States.{State, step, after_event, flushed_state}
+use Rattle.wu_engine.specs.States.{State, step, after_event, flushed_state, worked_state}
+use Rattle.wu_engine.specs.Reports.{stat_of, worked_in}
 use Rattle.wu_engine.specs.Stands.{verdict_of}
 use Rattle.wu_engine.specs.View.{view_of}
 use Rattle.wu_engine.specs.Answer.{answer}
@@ -23,21 +24,25 @@ abbrev pub verdict_reply : Verdict → Reply
 verdict_reply verdicts.Made = Accepted
 verdict_reply (verdicts.Refused refusal) = Refused (Tree refusal)
 
--- the reply to an operation
-abbrev pub operation_reply : Operation → Reply
-operation_reply Flush = Accepted
+-- the reply to an operation in a state; that to background work is of the state after it
+abbrev pub operation_reply : State → Operation → Reply
+operation_reply s Flush = Accepted
+operation_reply s (Work units) = Worked (worked_in (worked_state units s))
+operation_reply s Stat = Told (stat_of s)
 
 -- the reply to what an item says in a state; an empty line and a comment have none
 abbrev pub reply_to : State → Said → Option Reply
 reply_to s (Happens event text) = Some (verdict_reply (verdict_of (step s event text)))
 reply_to s (Asks uid question) = Some (Answered (answer (view_of s uid) question))
-reply_to s (Operates operation) = Some (operation_reply operation)
+reply_to s (Operates operation) = Some (operation_reply s operation)
 reply_to s (IsRefused why) = Some (Refused why)
 reply_to s SaysNothing = None
 
 -- the state after an operation
 abbrev pub after_operation : State → Operation → State
 after_operation s Flush = flushed_state s
+after_operation s (Work units) = worked_state units s
+after_operation s Stat = s
 
 -- the state after it, where memory is full at so many postings; only an accepted event and an operation change it
 abbrev pub after : ℕ → State → Said → State

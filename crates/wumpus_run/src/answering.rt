@@ -1,15 +1,16 @@
 //! An item of the script is answered by the engine.
-ghost use Rattle.std.specs.Prelude.{◌≡◌, ℕ, ◌+◌, ◌<◌, ◌≤◌, ◌^◌, ◌++◌, None, Err, length, OnOk};
-ghost use Rattle.wu_base.specs.declared.limits.TheConstants.{ADDRESSES_MAX, TEXT_MAX};
+ghost use Rattle.std.specs.Prelude.{◌≡◌, ℕ, ◌+◌, ◌<◌, ◌≤◌, ◌^◌, ◌++◌, None, Option, Err, length, IfErr, OnOk};
+ghost use Rattle.wu_base.specs.declared.limits.TheConstants.{ADDRESSES_MAX, TEXT_MAX, WORK_MAX};
 ghost use Rattle.wu_base.specs.declared.troubles.Trouble.TheVariants.{Damaged};
+ghost use Rattle.wu_outside.specs.Content.{Content};
 ghost use Rattle.wu_ask.specs.Questions.{question_of, IsSoundAsk};
 ghost use Rattle.wu_tree.specs.Steps.{IsEvent};
 ghost use Rattle.wu_script.specs.Replies.{reply_bytes};
-ghost use Rattle.wu_script.specs.Commands.{Flush};
+ghost use Rattle.wu_script.specs.Commands.{Flush, Stat, Work};
 ghost use Rattle.wu_script.specs.Said.{Asks, Happens, IsSoundItem, Operates, said_by, tokens_given};
 ghost use Rattle.wu_engine.specs.Causes.{HasTroubleCause};
 ghost use Rattle.wu_engine.specs.Stands.{Stands};
-ghost use Rattle.wu_engine.specs.States.{State, flushed_state};
+ghost use Rattle.wu_engine.specs.States.{State, flushed_state, worked_state};
 ghost use Rattle.wumpus_run.specs.Replies.{after, said_bytes, verdict_reply};
 ghost use Rattle.wumpus_run.specs.Session.{KeepsRoot};
 
@@ -21,7 +22,7 @@ use wu_script::{Command, Item, Reply, Why, put_reply};
 use wu_tree::Event;
 
 /// Appends the bytes that answer the item, after which the state is the one that it leaves. The engine is one
-/// that goes on, with addresses left for the item's text, two blobs and a flush. Over an engine and a store that
+/// that goes on, with addresses left for the item's text, a blob for each unit of work, and a flush. Over an engine and a store that
 /// stand for a state, no blob is called damaged.
 pub fn answer<D: Store>(
     engine: &mut Engine,
@@ -32,15 +33,14 @@ pub fn answer<D: Store>(
     requires sound { IsSoundItem item }
     requires goes_on { engine.old.ended ≡ None }
     requires room { engine.old.space.next + tokens_given (said_by item) ≤ ADDRESSES_MAX }
-    requires blobs { engine.old.parts.next_blob + 2 < 2 ^ 63 }
+    requires blobs { engine.old.parts.next_blob + WORK_MAX < 2 ^ 63 }
     requires flushes { engine.old.parts.flushes + 1 < 2 ^ 63 }
     ensures answer { (s : State) → Stands engine.old (D.holds store.old) s → OnOk result
         ((out.new.items ≡ out.old.items ++ said_bytes s (said_by item))
         × Stands engine.new (D.holds store.new) (after engine.old.parts.flush_at s (said_by item))) }
     ensures taken { OnOk result (engine.new.space.next ≤ engine.old.space.next + tokens_given (said_by item)) }
-    ensures drawn { OnOk result (engine.new.parts.next_blob ≤ engine.old.parts.next_blob + 2) }
-    ensures counted { OnOk result
-        (engine.new.parts.flushes + engine.old.parts.next_blob ≤ engine.old.parts.flushes + engine.new.parts.next_blob) }
+    ensures drawn { OnOk result (engine.new.parts.next_blob ≤ engine.old.parts.next_blob + WORK_MAX) }
+    ensures counted { OnOk result (engine.new.parts.flushes ≤ engine.old.parts.flushes + 2) }
     ensures flush_at { OnOk result (engine.new.parts.flush_at ≡ engine.old.parts.flush_at) }
     ensures root { KeepsRoot (D.holds store.old) (D.holds store.new) }
     ensures goes_on { OnOk result (engine.new.ended ≡ None) }
@@ -51,6 +51,8 @@ pub fn answer<D: Store>(
         Item::Command(Command::Update(event)) => answer_event(engine, store, &event, b"", out),
         Item::Command(Command::Ask(query)) => answer_query(engine, store, &query, out),
         Item::Command(Command::Flush) => answer_flush(engine, store, out),
+        Item::Command(Command::Work(units)) => answer_work(engine, store, units, out),
+        Item::Command(Command::Stat) => answer_stat(engine, out),
         Item::Text { ino, body } => {
             answer_event(engine, store, &Event::Text { ino }, body.as_slice(), out)
         }
@@ -78,8 +80,7 @@ fn answer_event<D: Store>(
         × Stands engine.new (D.holds store.new) (after engine.old.parts.flush_at s (Happens event.now body.now))) }
     ensures taken { OnOk result (engine.new.space.next ≤ engine.old.space.next + tokens_given (Happens event.now body.now)) }
     ensures drawn { OnOk result (engine.new.parts.next_blob ≤ engine.old.parts.next_blob + 2) }
-    ensures counted { OnOk result
-        (engine.new.parts.flushes + engine.old.parts.next_blob ≤ engine.old.parts.flushes + engine.new.parts.next_blob) }
+    ensures counted { OnOk result (engine.new.parts.flushes ≤ engine.old.parts.flushes + 2) }
     ensures flush_at { OnOk result (engine.new.parts.flush_at ≡ engine.old.parts.flush_at) }
     ensures root { KeepsRoot (D.holds store.old) (D.holds store.new) }
     ensures goes_on { OnOk result (engine.new.ended ≡ None) }
@@ -129,8 +130,7 @@ fn answer_flush<D: Store>(
         × Stands engine.new (D.holds store.new) (flushed_state s)) }
     ensures space { engine.new.space ≡ engine.old.space }
     ensures drawn { OnOk result (engine.new.parts.next_blob ≤ engine.old.parts.next_blob + 1) }
-    ensures counted { OnOk result
-        (engine.new.parts.flushes + engine.old.parts.next_blob ≤ engine.old.parts.flushes + engine.new.parts.next_blob) }
+    ensures counted { OnOk result (engine.new.parts.flushes ≤ engine.old.parts.flushes + 2) }
     ensures flush_at { OnOk result (engine.new.parts.flush_at ≡ engine.old.parts.flush_at) }
     ensures root { KeepsRoot (D.holds store.old) (D.holds store.new) }
     ensures goes_on { OnOk result (engine.new.ended ≡ None) }
@@ -139,6 +139,44 @@ fn answer_flush<D: Store>(
 {
     engine.flush(store)?;
     put_reply(out, &Reply::Ok)?;
+    Ok(())
+}
+
+/// Appends the reply to so many units of background work.
+fn answer_work<D: Store>(
+    engine: &mut Engine,
+    store: &mut D,
+    units: u32,
+    out: &mut Vec<u8>,
+) -> Result<(), Trouble>
+    requires goes_on { engine.old.ended ≡ None }
+    requires blobs { engine.old.parts.next_blob + units < 2 ^ 63 }
+    ensures answer { (s : State) → Stands engine.old (D.holds store.old) s → OnOk result
+        ((out.new.items ≡ out.old.items ++ said_bytes s (Operates (Work units)))
+        × Stands engine.new (D.holds store.new) (worked_state units s)) }
+    ensures space { engine.new.space ≡ engine.old.space }
+    ensures drawn { OnOk result (engine.new.parts.next_blob ≤ engine.old.parts.next_blob + units) }
+    ensures counted { OnOk result (engine.new.parts.flushes ≡ engine.old.parts.flushes) }
+    ensures flush_at { OnOk result (engine.new.parts.flush_at ≡ engine.old.parts.flush_at) }
+    ensures root { KeepsRoot (D.holds store.old) (D.holds store.new) }
+    ensures goes_on { OnOk result (engine.new.ended ≡ None) }
+    ensures cause { HasTroubleCause engine.old.ended (D.faults store.old) (D.faults store.new) result }
+    ensures damaged { (s : State) → Stands engine.old (D.holds store.old) s → (blob : ℕ) → result ≡ Err (Damaged blob) → ⊥ }
+{
+    let worked = engine.work(store, units)?;
+    put_reply(out, &Reply::Worked(worked))?;
+    Ok(())
+}
+
+/// Appends how large the index is. The only error is out of memory.
+fn answer_stat(engine: &Engine, out: &mut Vec<u8>) -> Result<(), Trouble>
+    requires goes_on { engine.now.ended ≡ None }
+    ensures answer { (holds : Option Content) (s : State) → Stands engine.now holds s → OnOk result
+        (out.new.items ≡ out.old.items ++ said_bytes s (Operates Stat)) }
+    ensures error { IfErr result (λ trouble. trouble ≡ Trouble.NoMemory) }
+{
+    let stat = engine.stat()?;
+    put_reply(out, &Reply::Stat(stat))?;
     Ok(())
 }
 

@@ -2,7 +2,7 @@
 ghost use Rattle.std.specs.Prelude.{◌≡◌, ℕ, List, ◌∷◌, map};
 ghost use Rattle.std.specs.List.{All};
 ghost use Rattle.wu_ask.specs.Questions.{Question};
-ghost use Rattle.wu_script.specs.Commands.{Flush};
+ghost use Rattle.wu_script.specs.Commands.{Operation};
 ghost use Rattle.wu_script.specs.Said.{Asks, Operates, Reading, Said, said_of};
 ghost use Rattle.wu_script.specs.Items.{items_of};
 ghost use Rattle.wu_engine.specs.States.{State, IsState, first_state};
@@ -26,11 +26,12 @@ pub fn a_script_keeps_a_state()
         → IsState (last_state flush_at first_state (map (said_of read) (items_of bytes))) }
 {}
 
-/// Flushes show in no view: from a state on, the items of a script leave each user the same view wherever memory
-/// is full, and also where it is flushed first.
-pub fn no_view_depends_on_flushes()
+/// Flushes and background work show in no view: from a state on, the items of a script leave each user the same view
+/// wherever memory is full, and also where an operation comes first: a flush, any number of units of work, or the
+/// question how large the index is.
+pub fn no_view_depends_on_flushes_or_work()
     ensures full { (one other : ℕ) (s : State) (saids : List Said) (uid : ℕ)
         → view_of (last_state one s saids) uid ≡ view_of (last_state other s saids) uid }
-    ensures flushed { (flush_at : ℕ) (s : State) (saids : List Said) (uid : ℕ)
-        → view_of (last_state flush_at s (Operates Flush ∷ saids)) uid ≡ view_of (last_state flush_at s saids) uid }
+    ensures operated { (flush_at : ℕ) (operation : Operation) (s : State) (saids : List Said) (uid : ℕ)
+        → view_of (last_state flush_at s (Operates operation ∷ saids)) uid ≡ view_of (last_state flush_at s saids) uid }
 {}

@@ -7,7 +7,7 @@ mod session;
 mod statuses;
 
 pub use laws::{
-    a_script_keeps_a_state, equal_views_are_answered_alike, no_view_depends_on_flushes,
+    a_script_keeps_a_state, equal_views_are_answered_alike, no_view_depends_on_flushes_or_work,
 };
 pub use session::run;
 pub use statuses::Status;

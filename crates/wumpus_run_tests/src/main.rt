@@ -37,6 +37,7 @@ impl Subject for Tables {
     fn answer(&mut self, alloc: Global, kind: &str, fields: &[&str]) -> Result<String, NoAnswer> {
         match (kind, fields) {
             ("session", [command]) => self.session.reply(alloc, command),
+            ("words session", [words, command]) => self.session.reply_by(alloc, words, command),
             ("output", [script]) => sessions::output(alloc, script),
             ("calls", [words, script]) => sessions::calls(alloc, words, script),
             ("faults", [reads, writes, script]) => sessions::faulty(alloc, reads, writes, script),

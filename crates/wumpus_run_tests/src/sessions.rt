@@ -51,11 +51,34 @@ impl Session {
 
     /// What a session over the commands so far and this one writes more than one over those before.
     pub fn reply(&mut self, alloc: Global, command: &str) -> Result<String, NoAnswer> {
+        let script = self.with(alloc, command)?;
+        let output = whole_output(alloc, script)?;
+        self.rest(alloc, output)
+    }
+
+    /// The same of the session that the words ask for, which runs once.
+    pub fn reply_by(
+        &mut self,
+        alloc: Global,
+        field: &str,
+        command: &str,
+    ) -> Result<String, NoAnswer> {
+        let words = words(alloc, field)?;
+        let script = self.with(alloc, command)?;
+        let output = output_by(alloc, words.as_slice(), script.as_slice())?;
+        self.rest(alloc, output)
+    }
+
+    /// The script of the commands so far, of which this is the last now.
+    fn with(&mut self, alloc: Global, command: &str) -> Result<Vec<u8>, NoAnswer> {
         self.script
             .extend_from_slice(script(alloc, command)?.as_slice())?;
         self.script.push(b'\n')?;
-        let script = Vec::from_slice(alloc, self.script.as_slice())?;
-        let output = whole_output(alloc, script)?;
+        Ok(Vec::from_slice(alloc, self.script.as_slice())?)
+    }
+
+    /// What the output has after the replies so far, of which this is the last now.
+    fn rest(&mut self, alloc: Global, output: Vec<u8>) -> Result<String, NoAnswer> {
         if !output.as_slice().starts_with(self.replies.as_slice()) {
             return Err(NoAnswer::BadRow);
         }

@@ -10,7 +10,7 @@ use Rattle.wu_engine.specs.States.{first_state}
 use Rattle.wumpus_run.specs.declared.statuses.Status.TheVariants.{Done, NoMemory, ReadFault, StoreFault, WriteFault}
 use Rattle.wumpus_run.proofs.SessionLemmas.{appended, HasAnswered-none, HasAnswered-turn, HasTaken-more, IsPrefix-sent, IsPrefix-part, takes_one}
 use Rattle.wumpus_run.proofs.PromptLemmas.{HasReplied-none, HasReplied-turn, AnswersAllButOneRead-none, AnswersAllButOneRead-taken, AnswersItems-taken, HoldsNothingBack-stopped}
-use Rattle.wumpus_run.proofs.AddressRoom.{HasBlobs-none, HasBlobs-item, HasBlobs-few, HasRoom-none, HasRoom-item, HasRoom-few, HasRoom-fewer}
+use Rattle.wumpus_run.proofs.AddressRoom.{HasRoom-none, HasRoom-item, HasRoom-few, HasRoom-fewer, StaysLow-none, StaysLow-item, StaysLow-few}
 use Rattle.wumpus_run.proofs.EndLemmas.{Ends-short, Ends-stopped, Ends-unanswered, Ends-unwritten, IsCounted-answered, IsCounted-other, IsCounted-read, IsCounted-written, answering, damaged_so, writing, HasTaken-none, TakesAtMost-none, TakesAtMost-taken, AnswersPrefix-none, AnswersAll-end}
 use Rattle.wumpus_run.proofs.session.answer_script.Goals as goal
 
@@ -155,14 +155,13 @@ answer-requires-clause-room g c =
 
 pub answer-requires-clause-blobs : goal.answer-requires-clause-blobs
 answer-requires-clause-blobs g c =
-    HasBlobs-few c.items.engine.parts.next_blob c.args.settings.max_input c.items.reader c.items.invariant.blobs c.requires.within
+    StaysLow-few c.items.engine.parts.next_blob c.args.settings.max_input c.items.reader c.items.invariant.blobs c.requires.within
 
 pub answer-requires-clause-flushes : goal.answer-requires-clause-flushes
 answer-requires-clause-flushes g c =
     omega (
       arith,
-      c.items.invariant.flushes,
-      HasBlobs-few c.items.engine.parts.next_blob c.args.settings.max_input c.items.reader c.items.invariant.blobs c.requires.within,
+      StaysLow-few c.items.engine.parts.flushes c.args.settings.max_input c.items.reader c.items.invariant.flushes c.requires.within,
     )
 
 pub items-smaller : goal.items-smaller
@@ -204,10 +203,12 @@ items-preserved g c =
           (HasRoom-item (g.I.Source.left c.items.source) now.left now.last_read c.items.reader c.next.new.self item c.items.engine.space.next told.max_input
           c.if-is_end.ensures took i.room)
           c.in-Ok-answer.ensures.taken;
-      blobs = HasBlobs-item (g.I.Source.left c.items.source) now.left now.last_read c.items.reader c.next.new.self item
+      blobs = StaysLow-item (g.I.Source.left c.items.source) now.left now.last_read c.items.reader c.next.new.self item
           c.items.engine.parts.next_blob c.answer.new.engine.parts.next_blob told.max_input
           c.if-is_end.ensures took i.blobs c.in-Ok-answer.ensures.drawn;
-      flushes = omega (arith, i.flushes, c.in-Ok-answer.ensures.counted);
+      flushes = StaysLow-item (g.I.Source.left c.items.source) now.left now.last_read c.items.reader c.next.new.self item
+          c.items.engine.parts.flushes c.answer.new.engine.parts.flushes told.max_input
+          c.if-is_end.ensures took i.flushes (omega (arith, c.in-Ok-answer.ensures.counted));
       flush_at = c.in-Ok-answer.ensures.flush_at ∙ i.flush_at;
       root = c.in-Ok-answer.ensures.root ∙ i.root;
       answered = HasAnswered-turn told first_state before.holds before.gained
@@ -300,8 +301,8 @@ items-init g c =
       stands = e.engine;
       goes_on = e.goes_on;
       room = rw e.reader (HasRoom-none c.in-Ok.start.1.space.next told.max_input e.next);
-      blobs = rw e.reader (HasBlobs-none c.in-Ok.start.1.parts.next_blob told.max_input e.next_blob);
-      flushes = omega (arith, e.flushes, e.next_blob);
+      blobs = rw e.reader (StaysLow-none c.in-Ok.start.1.parts.next_blob told.max_input (omega (arith, e.next_blob)));
+      flushes = rw e.reader (StaysLow-none c.in-Ok.start.1.parts.flushes told.max_input (omega (arith, e.flushes)));
       flush_at = e.flush_at;
       root = rw c.start.ensures.store refl;
       answered = rw e.reader (HasAnswered-none told first_state holds gained left);

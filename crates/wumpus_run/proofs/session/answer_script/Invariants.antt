@@ -1,11 +1,11 @@
-use Rattle.std.proofs.Common.{◌≡◌, ◌+◌, ◌<◌, length, true, None, IsSome}
+use Rattle.std.proofs.Common.{◌≡◌, ◌+◌, length, true, None, IsSome}
 use Rattle.std.specs.Io.KnownBytes.{IsAtEnd, prepend_known}
 use Rattle.wu_script.specs.Holding.{Follows}
 use Rattle.wu_engine.specs.States.{State, first_state}
 use Rattle.wu_engine.specs.Stands.{Stands}
 use Rattle.wumpus_run.proofs.SessionLemmas.{HasAnswered, HasTaken}
 use Rattle.wumpus_run.specs.Session.{KeepsRoot}
-use Rattle.wumpus_run.proofs.AddressRoom.{HasBlobs, HasRoom}
+use Rattle.wumpus_run.proofs.AddressRoom.{HasRoom, StaysLow}
 use Rattle.wumpus_run.proofs.PromptLemmas.{HasReplied}
 use Rattle.wumpus_run.proofs.session.answer_script.Given as goal
 
@@ -17,8 +17,8 @@ invariant-items g l = record {
   stands : IsSome (g.D.Store.holds l.fn.store) → Stands l.engine (g.D.Store.holds l.store) state;
   goes_on : l.engine.ended ≡ None;
   room : HasRoom l.engine.space.next l.reader l.fn.settings.max_input;
-  blobs : HasBlobs l.engine.parts.next_blob l.reader l.fn.settings.max_input;
-  flushes : l.engine.parts.flushes < l.engine.parts.next_blob;
+  blobs : StaysLow l.engine.parts.next_blob l.reader l.fn.settings.max_input;
+  flushes : StaysLow l.engine.parts.flushes l.reader l.fn.settings.max_input;
   flush_at : l.engine.parts.flush_at ≡ l.fn.settings.flush_at;
   root : KeepsRoot (g.D.Store.holds l.fn.store) (g.D.Store.holds l.store);
   answered : HasAnswered l.fn.settings first_state (g.D.Store.holds l.fn.store)
