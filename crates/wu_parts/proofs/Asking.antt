@@ -33,10 +33,10 @@ use Rattle.wu_lists.specs.Fetching.{AreFetched, HasEntry, HasTerm}
 use Rattle.wu_lists.specs.Keeping.{AreHeld, Asks, Kept, all_asked, all_missing, asked, is_same, missing}
 use Rattle.wu_parts.specs.Causes.{IsFetchCause}
 use Rattle.wu_parts.specs.Holdings.{AreKept, HoldParts, all_needed}
-use Rattle.wu_parts.specs.Lists.{AscendBetween}
+use Rattle.wu_lists.specs.Ascending.{AscendBetween}
 use Rattle.wu_parts.specs.StoredParts.{AreFetchedFrom, directories_of, pairs_of, records_of}
 use Rattle.wu_parts.specs.declared.writing.StoredPart.{StoredPart}
-use Rattle.wu_parts.proofs.Ascending.{ascend-lower}
+use Rattle.wu_lists.proofs.Ascending.{ascend-lower}
 
 -- ---- blocks, first some and then others
 

@@ -4,10 +4,11 @@ use Rattle.std.specs.List.{AllByRecursion}
 use Rattle.std.proofs.lemmas.Bool.{cases_lt, le-leb, lt-ltb}
 use Rattle.wu_base.specs.declared.addresses.Range.{Range}
 use Rattle.wu_layout.specs.Postings.{is_in, is_live}
-use Rattle.wu_parts.specs.Lists.{AscendBetween, AreInOrder}
+use Rattle.wu_lists.specs.Ascending.{AscendBetween, AreInOrder}
 use Rattle.wu_parts.specs.declared.chains.Chain.{Chain}
 use Rattle.wu_parts.specs.Chains.{moved, places_of}
-use Rattle.wu_parts.proofs.Ascending.{ascend-moved, first_end}
+use Rattle.wu_lists.proofs.Ascending.{first_end}
+use Rattle.wu_parts.proofs.Moving.{ascend-moved}
 use Rattle.wu_parts.proofs.LiveTerms.{filter-zero}
 use Rattle.wu_parts.proofs.MemoryLists.{all_at, all_between}
 use denote.Ref.{Bor}
@@ -41,11 +42,11 @@ live_on start reached ranges place range a l is low address s h =
     (λ (from : reached ≤ address). live_at ranges place range address l is (omega arith) (omega arith))
     (cases_lt address reached)
 
-pub end_within : (low high : ℕ) (ranges : List Range) (place : ℕ) (d : Range) → AreInOrder low high ranges → place < length ranges
+pub range_ends_by : (low high : ℕ) (ranges : List Range) (place : ℕ) (d : Range) → AreInOrder low high ranges → place < length ranges
     → (get_or ranges place d).start + (get_or ranges place d).len ≤ high
-end_within low high [] place d o l = absurd (omega arith)
-end_within low high (r ∷ rs) zero d o l = first_end low high (r ∷ rs) d (omega arith) o
-end_within low high (r ∷ rs) (suc place) d o l = end_within (r.start + r.len) high rs place d o.1 (omega arith)
+range_ends_by low high [] place d o l = absurd (omega arith)
+range_ends_by low high (r ∷ rs) zero d o l = first_end low high (r ∷ rs) d (omega arith) o
+range_ends_by low high (r ∷ rs) (suc place) d o l = range_ends_by (r.start + r.len) high rs place d o.1 (omega arith)
 
 -- where all from start on are, the addresses of a chain are live
 pub walked_live : (start : ℕ) (links : List ℕ) (live : List Range) (entries : List (Bor (List ℕ) × Chain)) (place : ℕ)

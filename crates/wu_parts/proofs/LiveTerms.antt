@@ -24,10 +24,10 @@ use Rattle.wu_space.specs.Addresses.{Ranges, live_ranges, shared}
 use Rattle.wu_base.specs.declared.limits.TheConstants.{ADDRESSES_MAX}
 use Rattle.wu_token.specs.Words.{IsTerm}
 use Rattle.wu_part.specs.Parts.{IsList}
-use Rattle.wu_parts.specs.Lists.{AscendBetween}
+use Rattle.wu_lists.specs.Ascending.{AscendBetween}
 use Rattle.wu_parts.specs.Memory.{HasPostings, Lists, Memory, held}
 use Rattle.wu_parts.specs.LiveLists.{AreEncodable, has_addresses, live_list, live_lists}
-use Rattle.wu_parts.proofs.Ascending.{addresses_increase, ascend-bounds, ascend-filter}
+use Rattle.wu_lists.proofs.Ascending.{addresses_increase, ascend-bounds, ascend-filter}
 
 -- ---- the live ranges that meet a span
 

@@ -18,10 +18,12 @@ use Rattle.wu_layout.specs.Layouts.{lists_of as lists_of_postings}
 use Rattle.wu_space.specs.Addresses.{AreApart, Ranges, live_ranges, shared}
 use Rattle.wu_parts.specs.declared.chains.Chain.{Chain}
 use Rattle.wu_parts.specs.Memory.{HasPostings, Lists}
-use Rattle.wu_parts.specs.Lists.{AreInOrder, AscendBetween, IsList}
+use Rattle.wu_lists.specs.Ascending.{AreInOrder, AscendBetween}
+use Rattle.wu_parts.specs.Lists.{IsList}
 use Rattle.wu_parts.specs.Chains.{AreChains, Chained, addressed, all_moved, chained, lent, lists_of, memory_of, moved, places_of}
 use Rattle.wu_parts.specs.LiveLists.{AreEncodable, live_lists}
-use Rattle.wu_parts.proofs.Ascending.{all_from_zero, ascend-moved, order-from_apart}
+use Rattle.wu_lists.proofs.Ascending.{all_from_zero, order-from_apart}
+use Rattle.wu_parts.proofs.Moving.{ascend-moved}
 use Rattle.wu_parts.proofs.LiveTerms.{IsListWithin, filter-zero, lists_encodable, live_lists-append, live_lists_are, live_same}
 
 abbrev Entries : Type 0

@@ -13,7 +13,7 @@ use Rattle.wu_parts.specs.declared.writing.StoredPart.{StoredPart}
 use Rattle.wu_lists.specs.Keeping.{Kept}
 use Rattle.wu_parts.specs.Flushing.{Told, put_into}
 use Rattle.wu_parts.specs.Holdings.{AreKept, HoldParts}
-use Rattle.wu_parts.specs.Lists.{AscendBetween}
+use Rattle.wu_lists.specs.Ascending.{AscendBetween}
 
 abbrev pub records_of : List StoredPart → List PartRec
 records_of parts = map (λ part. part.recorded) parts

@@ -1,7 +1,8 @@
 //! Chains of places. Each posting has a place, counted from 0, and all terms share one vector of links: at each place there is
 //! the place before it of the same term. A new posting appends a link, and changes none.
 ghost use Rattle.std.specs.Prelude.{◌≡◌, ◌+◌, ◌^◌, ◌<◌, ◌≤◌, ◌∷◌, ◌++◌, [], length, filter, nat_le, reverse, IfOk, OnOk, OnErr};
-ghost use Rattle.wu_parts.specs.Lists.{AscendBetween, with_address};
+ghost use Rattle.wu_lists.specs.Ascending.{AscendBetween};
+ghost use Rattle.wu_parts.specs.Lists.{with_address};
 ghost use Rattle.wu_parts.specs.Chains.{AreChains, lists_of, moved, places_of};
 
 use indexmap::IndexMap;

@@ -6,7 +6,7 @@ ghost use Rattle.std.specs.Cmp.Lexicographic.{pointwise, slice_cmp};
 ghost use Rattle.std.specs.Map.{keys_of};
 ghost use Rattle.std.specs.Ordering.{nat_cmp};
 ghost use Rattle.wu_layout.specs.Postings.{is_live};
-ghost use Rattle.wu_parts.specs.Lists.{AscendBetween, AreInOrder};
+ghost use Rattle.wu_lists.specs.Ascending.{AscendBetween, AreInOrder};
 ghost use Rattle.wu_parts.specs.Chains.{addressed, chained, lent, places_of};
 ghost use Rattle.wu_parts.specs.LeadingBytes.{IsBytes, IsNumbered, behind, number_of};
 ghost use Rattle.wu_parts.specs.LiveLists.{live_lists};

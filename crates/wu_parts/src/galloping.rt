@@ -3,7 +3,7 @@
 ghost use Rattle.std.specs.Prelude.{◌≡◌, ◌+◌, ◌-◌, ◌^◌, ◌<◌, ◌≤◌, ◌++◌, filter, length, take, drop, nat_le, IfOk};
 ghost use Rattle.std.specs.List.{AllByRecursion};
 ghost use Rattle.wu_layout.specs.Postings.{is_live};
-ghost use Rattle.wu_parts.specs.Lists.{AscendBetween, AreInOrder};
+ghost use Rattle.wu_lists.specs.Ascending.{AscendBetween, AreInOrder};
 
 use std::alloc::Global;
 use wu_base::{NoMemory, Range, Sequence};

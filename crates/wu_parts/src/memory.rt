@@ -7,7 +7,8 @@ ghost use Rattle.wu_token.specs.Words.{IsTerm};
 ghost use Rattle.wu_token.specs.Tokens.{tokens_of};
 ghost use Rattle.wu_token.specs.Pieces.{line_terms, piece_of};
 ghost use Rattle.wu_parts.specs.Memory.{HasPostings, emptied, held, no_postings};
-ghost use Rattle.wu_parts.specs.Lists.{AscendBetween, with_posting, with_terms};
+ghost use Rattle.wu_lists.specs.Ascending.{AscendBetween};
+ghost use Rattle.wu_parts.specs.Lists.{with_posting, with_terms};
 ghost use Rattle.wu_parts.specs.LiveLists.{AreEncodable};
 
 use crate::chains::{Chain, addresses_from, put};

@@ -3,7 +3,7 @@ use Rattle.std.proofs.lemmas.List.{take_all}
 use Rattle.wu_base.specs.declared.limits.TheConstants.{ADDRESSES_MAX}
 use Rattle.wu_parts.specs.Chains.{addressed, lent}
 use Rattle.wu_parts.specs.LiveLists.{live_lists}
-use Rattle.wu_parts.proofs.Ascending.{ascend-higher}
+use Rattle.wu_lists.proofs.Ascending.{ascend-higher}
 use Rattle.wu_parts.proofs.Covering.{walked_live}
 use Rattle.wu_parts.proofs.MemoryLists.{more_live}
 use Rattle.wu_parts.proofs.flushing.cut_to_live.Goals as goal

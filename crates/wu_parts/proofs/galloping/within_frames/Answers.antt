@@ -2,8 +2,8 @@ use Rattle.std.proofs.Common.{◌-◌, ◌^◌, ◌≡◌, ℕ, ◌+◌, List, �
 use Rattle.std.proofs.lemmas.List.{take_rest}
 use Rattle.wu_base.specs.declared.addresses.Range.{Range}
 use Rattle.wu_layout.specs.Postings.{is_live}
-use Rattle.wu_parts.proofs.Ascending.{ascend-lower, first_end, first_start}
-use Rattle.wu_parts.proofs.Cutting.{cut_first, none_left}
+use Rattle.wu_lists.proofs.Ascending.{ascend-lower, first_end, first_start}
+use Rattle.wu_lists.proofs.Cutting.{cut_first, none_left}
 use Rattle.wu_parts.proofs.galloping.within_frames.Goals as goal
 
 pub split_below-requires-clause-limit : goal.split_below-requires-clause-limit

@@ -1,6 +1,6 @@
 use Rattle.std.proofs.Common.{◌-◌, ◌^◌, ◌≡◌, ◌++◌, filter, length}
 use Rattle.wu_layout.specs.Postings.{is_live}
-use Rattle.wu_parts.specs.Lists.{AscendBetween, AreInOrder}
+use Rattle.wu_lists.specs.Ascending.{AscendBetween, AreInOrder}
 use Rattle.wu_parts.proofs.galloping.within_frames.Given as goal
 
 abbrev pub invariant-loop-left : goal.invariant-loop-left

@@ -8,9 +8,10 @@ use Rattle.wu_layout.specs.Postings.{Posting, is_live}
 use Rattle.wu_layout.proofs.PostingLemmas.{Ascend-bounds}
 use Rattle.wu_parts.specs.Memory.{HasPostings, Memory, held}
 use Rattle.wu_parts.specs.Chains.{moved, places_of}
-use Rattle.wu_parts.specs.Lists.{AscendBetween, AreInOrder}
-use Rattle.wu_parts.proofs.Ascending.{addresses-ascend, all_from_zero, ascend-filter, ascend-higher, order-from_apart}
-use Rattle.wu_parts.proofs.Cutting.{filter-from}
+use Rattle.wu_lists.specs.Ascending.{AscendBetween, AreInOrder}
+use Rattle.wu_lists.proofs.Ascending.{all_from_zero, ascend-filter, ascend-higher, order-from_apart}
+use Rattle.wu_parts.proofs.Moving.{addresses-ascend}
+use Rattle.wu_lists.proofs.Cutting.{filter-from}
 use Rattle.wu_parts.proofs.Chaining.{found_chain, held-found, held-absent}
 use Rattle.wu_parts.proofs.memory.MemoryPostings.fetch.Goals as goal
 

@@ -10,12 +10,12 @@ use Rattle.wu_lists.specs.Keeping.{Asks, Kept, all_missing}
 use Rattle.wu_parts.specs.Causes.{IsFetchCause}
 use Rattle.wu_parts.specs.Contents.{Contents}
 use Rattle.wu_parts.specs.Holdings.{all_needed}
-use Rattle.wu_parts.specs.Lists.{AscendBetween}
+use Rattle.wu_lists.specs.Ascending.{AscendBetween}
 use Rattle.wu_parts.specs.Memory.{held}
 use Rattle.wu_parts.specs.StoredParts.{SpansAscend, directories_of, pairs_of, records_of}
 use Rattle.wu_parts.specs.ViewOfParts.{contents_of}
 use Rattle.wu_parts.specs.declared.writing.StoredPart.{StoredPart}
-use Rattle.wu_parts.proofs.Ascending.{addresses_increase}
+use Rattle.wu_lists.proofs.Ascending.{addresses_increase}
 use Rattle.wu_parts.proofs.Asking.{all_joined, answered, ascend-append, cause-done, cause-seen, filter_passes, zipped}
 use Rattle.wu_parts.proofs.parts.Parts.fetch.Goals as goal
 
