@@ -64,7 +64,7 @@ pub other-calm : (number : ℕ) (fault status : Status) (before now : Option (Li
     → (fault ≡ Done → ⊥) → (fault ≡ WriteFault → ⊥) → (fault ≡ NoMemory → ⊥) → IsCounted fault status count count
 other-calm number fault status before now count shown done write memory = record {
   rose = λ e. absurd (⊎_elim (λ is. done (sym e ∙ is)) (λ rest. ⊎_elim (λ is. write (sym e ∙ is)) (λ is. memory (sym e ∙ is)) rest)
-      shown.status);
+      shown.ends);
   calm = λ e. refl;
 }
 
@@ -73,7 +73,7 @@ pub nothing-shown : (line : Option CommandLine) (gained : Option (List ℕ)) →
 nothing-shown None gained = tt
 nothing-shown (Some (Run settings)) gained = tt
 nothing-shown (Some (Demo number)) gained = record {
-  status = inr (inr refl);
+  ends = inr (inr refl);
   done = λ e. absurd (cc);
   prefix = λ read are. ([], demo_line read number, refl, Appends-nil gained);
 }

@@ -76,7 +76,7 @@ pub record IsFew (most : ℕ) (tally : Tally) : Type 0 where
 
 -- It is done, or the line couldn't be written, or there was no memory. On Done the sink gained exactly the line, and else a prefix of it.
 pub record IsShown (number : ℕ) (status : Status) (before now : Option (List ℕ)) : Type 0 where
-  pub status : (status ≡ Done) ⊎ ((status ≡ WriteFault) ⊎ (status ≡ NoMemory))
+  pub ends : (status ≡ Done) ⊎ ((status ≡ WriteFault) ⊎ (status ≡ NoMemory))
   pub done : status ≡ Done → (read : Reading) → IsReading read → Appends before now (demo_line read number)
   pub prefix : (read : Reading) → IsReading read → GainsPrefix before now (demo_line read number)
 

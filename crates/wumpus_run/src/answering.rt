@@ -140,10 +140,7 @@ fn reply_to_query<D: Store>(
 }
 
 /// The reply to a flush.
-fn reply_to_flush<D: Store>(
-    engine: &mut Engine,
-    store: &mut D,
-) -> Result<Option<Reply>, Trouble>
+fn reply_to_flush<D: Store>(engine: &mut Engine, store: &mut D) -> Result<Option<Reply>, Trouble>
     requires goes_on { engine.old.ended ≡ None }
     requires blobs { engine.old.parts.next_blob + 1 < 2 ^ 63 }
     requires flushes { engine.old.parts.flushes + 1 < 2 ^ 63 }

@@ -15,14 +15,14 @@ use Rattle.wumpus_run.proofs.demo.tally_of.Goals as goal
 pub items-smaller : goal.items-smaller
 items-smaller c =
     takes_one (Some c.items.source.left) (Some c.next.new.source.left) c.next.new.source.last_read c.items.reader c.next.new.self
-    c.in-Ok-next.item c.if-is_end.ensures c.in-Ok-next.ensures.taken
+    c.in-Ok.item c.if-is_end.ensures c.in-Ok.ensures.taken
 
 pub reply_to-requires-clause-room : goal.reply_to-requires-clause-room
 reply_to-requires-clause-room c =
-    let item = c.in-Ok-next.item in
+    let item = c.in-Ok.item in
     HasRoom-few (c.items.engine.space.next + tokens_given (said_by item)) 4194304 c.next.new.self
     (HasRoom-item (Some c.items.source.left) (Some c.next.new.source.left) c.next.new.source.last_read
-    c.items.reader c.next.new.self item c.items.engine.space.next 4194304 c.if-is_end.ensures c.in-Ok-next.ensures.taken c.items.invariant.room)
+    c.items.reader c.next.new.self item c.items.engine.space.next 4194304 c.if-is_end.ensures c.in-Ok.ensures.taken c.items.invariant.room)
     (omega arith)
 
 pub reply_to-requires-clause-blobs : goal.reply_to-requires-clause-blobs
@@ -38,11 +38,13 @@ count-requires c =
     let few = c.items.invariant.few in
     let left = c.items.invariant.left in
     record {
-      commands = omega (arith, few.commands, left);
-      oks = omega (arith, few.oks, left);
-      refused = omega (arith, few.refused, left);
-      counts = omega (arith, few.counts, left);
-      hits = omega (arith, few.hits, left);
+      few = record {
+        commands = omega (arith, few.commands, left);
+        oks = omega (arith, few.oks, left);
+        refused = omega (arith, few.refused, left);
+        counts = omega (arith, few.counts, left);
+        hits = omega (arith, few.hits, left);
+      };
     }
 
 pub returns-then-is_end : goal.returns-then-is_end
@@ -51,13 +53,13 @@ returns-then-is_end c =
     let known = prepend_known c.items.reader.bytes (Some c.items.source.left) in
     let rest = prepend_known c.next.new.self.bytes (Some c.next.new.source.left) in
     IsTallied-end c.args.script.items c.items.tally i.state known rest
-    (subst (IsNext known rest) c.if-is_end.ensures (c.in-Ok-next.ensures.first i.at_end)) i.tallied
+    (subst (IsNext known rest) c.if-is_end.ensures (c.in-Ok.ensures.first i.at_end)) i.tallied
 
 pub items-preserved : goal.items-preserved
 items-preserved c =
     let i = c.items.invariant in
-    let item = c.in-Ok-next.item in
-    let took = c.in-Ok-next.ensures.taken in
+    let item = c.in-Ok.item in
+    let took = c.in-Ok.ensures.taken in
     let other = c.if-is_end.ensures in
     let left = Some c.items.source.left in
     let now = Some c.next.new.source.left in
@@ -83,7 +85,7 @@ items-preserved c =
       left = omega (arith, i.left, takes_one left now last c.items.reader c.next.new.self item other took);
       tallied = IsTallied-turn c.args.script.items c.items.tally c.count.new.self i.state
           (prepend_known c.items.reader.bytes left) (prepend_known c.next.new.self.bytes now) item c.in-Ok-reply_to.reply other
-          (c.in-Ok-next.ensures.first i.at_end) i.tallied (replied.reply i.state i.stands).0 c.count.ensures.counted;
-      follows = c.in-Ok-next.ensures.follows;
-      at_end = λ e. c.in-Ok-next.ensures.at_end i.at_end e;
+          (c.in-Ok.ensures.first i.at_end) i.tallied (replied.reply i.state i.stands).0 c.count.ensures.counted;
+      follows = c.in-Ok.ensures.follows;
+      at_end = λ e. c.in-Ok.ensures.at_end i.at_end e;
     }
