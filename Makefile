@@ -24,6 +24,8 @@ demo: all
 		echo "== examples/$$name.script"; \
 		$(WUMPUS) run <examples/$$name.script || exit; \
 	done
+	@echo '== demo 7'
+	@$(WUMPUS) demo 7
 
 install: all
 	install -d $(DESTDIR)$(PREFIX)/bin

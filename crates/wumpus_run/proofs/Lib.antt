@@ -8,3 +8,4 @@ pub mod EndLemmas
 pub mod ShortTexts
 pub mod StateLemmas
 pub mod ViewLemmas
+pub mod DemoLemmas

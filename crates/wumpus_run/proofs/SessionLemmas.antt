@@ -53,7 +53,7 @@ HasSent-part before between now output piece rest sent part =
     (sent.front ++ part.0, part.1 ++ rest, split, Appends-trans before between now sent.front part.0 sent.gained part.3)
 
 -- an item that isn't the end is the first of some bytes
-first_item : (bytes rest : List ℕ) (item : Item) → IsBeforeEnd item → IsFirstItem bytes rest item
+pub first_item : (bytes rest : List ℕ) (item : Item) → IsBeforeEnd item → IsFirstItem bytes rest item
     → (0 < length bytes) × IsReadAs item (first_of bytes).entry × (rest ≡ (first_of bytes).rest)
 first_item bytes rest (items.Command command) other is = is
 first_item bytes rest (items.Text ino body) other is = is

@@ -2,3 +2,4 @@
 pub mod Replies
 pub mod Taking
 pub mod Session
+pub mod Demo

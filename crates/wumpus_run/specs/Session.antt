@@ -47,7 +47,7 @@ moment left last_read read_faults gained write_faults holds store_faults = recor
 
 -- ---- which session
 
--- the settings of a session, where the command line is that of `run`; a demo is to come
+-- the settings of a session, where the command line is that of `run`
 abbrev pub session_settings : CommandLine → Option Settings
 session_settings (Run settings) = Some settings
 session_settings (Demo number) = None
@@ -56,10 +56,10 @@ session_settings (Demo number) = None
 abbrev pub settings_of : List (List ℕ) → Option Settings
 settings_of arguments = option_and_then session_settings (command_line_of arguments)
 
--- `Usage` comes only where the arguments ask for no session, and then it does come, unless there was no memory to read them.
-pub record IsUsage (status : Status) (settings : Option Settings) : Type 0 where
-  pub only : status ≡ Usage → settings ≡ None
-  pub comes : settings ≡ None → (status ≡ Usage) ⊎ (status ≡ NoMemory)
+-- `Usage` comes only where the arguments ask for nothing, and then it does come, unless there was no memory to read them.
+pub record IsUsage (status : Status) (line : Option CommandLine) : Type 0 where
+  pub only : status ≡ Usage → line ≡ None
+  pub comes : line ≡ None → (status ≡ Usage) ⊎ (status ≡ NoMemory)
 
 -- ---- what was taken, and which fault came
 

@@ -1,17 +1,16 @@
 //! An item of the script is answered by the engine.
-ghost use Rattle.std.specs.Prelude.{◌≡◌, ℕ, ◌+◌, ◌<◌, ◌≤◌, ◌^◌, ◌++◌, None, Option, Err, length, IfErr, OnOk};
+ghost use Rattle.std.specs.Prelude.{◌≡◌, ℕ, ◌+◌, ◌<◌, ◌≤◌, ◌^◌, ◌++◌, None, Option, Err, length, IfErr, IfOk, OnOk};
 ghost use Rattle.wu_base.specs.declared.limits.TheConstants.{ADDRESSES_MAX, TEXT_MAX, WORK_MAX};
 ghost use Rattle.wu_base.specs.declared.troubles.Trouble.TheVariants.{Damaged};
 ghost use Rattle.wu_outside.specs.Content.{Content};
 ghost use Rattle.wu_ask.specs.Questions.{question_of, IsSoundAsk};
 ghost use Rattle.wu_tree.specs.Steps.{IsEvent};
-ghost use Rattle.wu_script.specs.Replies.{reply_bytes};
 ghost use Rattle.wu_script.specs.Commands.{Flush, Stat, Work};
 ghost use Rattle.wu_script.specs.Said.{Asks, Happens, IsSoundItem, Operates, said_by, tokens_given};
 ghost use Rattle.wu_engine.specs.Causes.{HasTroubleCause};
 ghost use Rattle.wu_engine.specs.Stands.{Stands};
 ghost use Rattle.wu_engine.specs.States.{State, flushed_state, worked_state};
-ghost use Rattle.wumpus_run.specs.Replies.{after, said_bytes, verdict_reply};
+ghost use Rattle.wumpus_run.specs.Replies.{after, reply_to, said_bytes, verdict_reply};
 ghost use Rattle.wumpus_run.specs.Session.{KeepsRoot};
 
 use wu_ask::Query;
@@ -47,37 +46,65 @@ pub fn answer<D: Store>(
     ensures cause { HasTroubleCause engine.old.ended (D.faults store.old) (D.faults store.new) result }
     ensures damaged { (s : State) → Stands engine.old (D.holds store.old) s → (blob : ℕ) → result ≡ Err (Damaged blob) → ⊥ }
 {
-    match item {
-        Item::Command(Command::Update(event)) => answer_event(engine, store, &event, b"", out),
-        Item::Command(Command::Ask(query)) => answer_query(engine, store, &query, out),
-        Item::Command(Command::Flush) => answer_flush(engine, store, out),
-        Item::Command(Command::Work(units)) => answer_work(engine, store, units, out),
-        Item::Command(Command::Stat) => answer_stat(engine, out),
-        Item::Text { ino, body } => {
-            answer_event(engine, store, &Event::Text { ino }, body.as_slice(), out)
-        }
-        Item::Refused(why) => Ok(put_reply(out, &Reply::Refused(why))?),
-        Item::Blank | Item::End => Ok(()),
+    match reply_to(engine, store, item)? {
+        Some(reply) => Ok(put_reply(out, &reply)?),
+        None => Ok(()),
     }
 }
 
-/// Appends the reply to an event, where `body` is the text that it gives.
-fn answer_event<D: Store>(
+/// The reply to the item, if it has one, after which the state is the one that it leaves. The engine is one
+/// that goes on, with addresses left for the item's text, a blob for each unit of work, and a flush. Over an engine and a store that
+/// stand for a state, no blob is called damaged.
+pub fn reply_to<D: Store>(
+    engine: &mut Engine,
+    store: &mut D,
+    item: Item,
+) -> Result<Option<Reply>, Trouble>
+    requires sound { IsSoundItem item }
+    requires goes_on { engine.old.ended ≡ None }
+    requires room { engine.old.space.next + tokens_given (said_by item) ≤ ADDRESSES_MAX }
+    requires blobs { engine.old.parts.next_blob + WORK_MAX < 2 ^ 63 }
+    requires flushes { engine.old.parts.flushes + 1 < 2 ^ 63 }
+    ensures reply { (s : State) → Stands engine.old (D.holds store.old) s → IfOk result
+        (λ reply. (reply ≡ reply_to s (said_by item)) × Stands engine.new (D.holds store.new) (after engine.old.parts.flush_at s (said_by item))) }
+    ensures taken { OnOk result (engine.new.space.next ≤ engine.old.space.next + tokens_given (said_by item)) }
+    ensures drawn { OnOk result (engine.new.parts.next_blob ≤ engine.old.parts.next_blob + WORK_MAX) }
+    ensures counted { OnOk result (engine.new.parts.flushes ≤ engine.old.parts.flushes + 2) }
+    ensures flush_at { OnOk result (engine.new.parts.flush_at ≡ engine.old.parts.flush_at) }
+    ensures root { KeepsRoot (D.holds store.old) (D.holds store.new) }
+    ensures goes_on { OnOk result (engine.new.ended ≡ None) }
+    ensures cause { HasTroubleCause engine.old.ended (D.faults store.old) (D.faults store.new) result }
+    ensures damaged { (s : State) → Stands engine.old (D.holds store.old) s → (blob : ℕ) → result ≡ Err (Damaged blob) → ⊥ }
+{
+    match item {
+        Item::Command(Command::Update(event)) => reply_to_event(engine, store, &event, b""),
+        Item::Command(Command::Ask(query)) => reply_to_query(engine, store, &query),
+        Item::Command(Command::Flush) => reply_to_flush(engine, store),
+        Item::Command(Command::Work(units)) => reply_to_work(engine, store, units),
+        Item::Command(Command::Stat) => reply_to_stat(engine),
+        Item::Text { ino, body } => {
+            reply_to_event(engine, store, &Event::Text { ino }, body.as_slice())
+        }
+        Item::Refused(why) => Ok(Some(Reply::Refused(why))),
+        Item::Blank | Item::End => Ok(None),
+    }
+}
+
+/// The reply to an event, where `body` is the text that it gives.
+fn reply_to_event<D: Store>(
     engine: &mut Engine,
     store: &mut D,
     event: &Event,
     body: &[u8],
-    out: &mut Vec<u8>,
-) -> Result<(), Trouble>
+) -> Result<Option<Reply>, Trouble>
     requires event { IsEvent event.now }
     requires short { length body.now ≤ TEXT_MAX }
     requires goes_on { engine.old.ended ≡ None }
     requires room { engine.old.space.next + tokens_given (Happens event.now body.now) ≤ ADDRESSES_MAX }
     requires blobs { engine.old.parts.next_blob + 2 < 2 ^ 63 }
     requires flushes { engine.old.parts.flushes + 1 < 2 ^ 63 }
-    ensures answer { (s : State) → Stands engine.old (D.holds store.old) s → OnOk result
-        ((out.new.items ≡ out.old.items ++ said_bytes s (Happens event.now body.now))
-        × Stands engine.new (D.holds store.new) (after engine.old.parts.flush_at s (Happens event.now body.now))) }
+    ensures reply { (s : State) → Stands engine.old (D.holds store.old) s → IfOk result
+        (λ reply. (reply ≡ reply_to s (Happens event.now body.now)) × Stands engine.new (D.holds store.new) (after engine.old.parts.flush_at s (Happens event.now body.now))) }
     ensures taken { OnOk result (engine.new.space.next ≤ engine.old.space.next + tokens_given (Happens event.now body.now)) }
     ensures drawn { OnOk result (engine.new.parts.next_blob ≤ engine.old.parts.next_blob + 2) }
     ensures counted { OnOk result (engine.new.parts.flushes ≤ engine.old.parts.flushes + 2) }
@@ -88,22 +115,19 @@ fn answer_event<D: Store>(
     ensures damaged { (s : State) → Stands engine.old (D.holds store.old) s → (blob : ℕ) → result ≡ Err (Damaged blob) → ⊥ }
 {
     let verdict = engine.update(store, event, body)?;
-    put_verdict(out, verdict)?;
-    Ok(())
+    Ok(Some(verdict_reply(verdict)))
 }
 
-/// Appends the answer to a query.
-fn answer_query<D: Store>(
+/// The answer to a query.
+fn reply_to_query<D: Store>(
     engine: &mut Engine,
     store: &mut D,
     query: &Query,
-    out: &mut Vec<u8>,
-) -> Result<(), Trouble>
+) -> Result<Option<Reply>, Trouble>
     requires sound { IsSoundAsk query.now.ask }
     requires goes_on { engine.old.ended ≡ None }
-    ensures answer { (s : State) → Stands engine.old (D.holds store.old) s → OnOk result
-        ((out.new.items ≡ out.old.items ++ said_bytes s (Asks query.now.uid (question_of query.now.ask)))
-        × Stands engine.new (D.holds store.new) s) }
+    ensures reply { (s : State) → Stands engine.old (D.holds store.old) s → IfOk result
+        (λ reply. (reply ≡ reply_to s (Asks query.now.uid (question_of query.now.ask))) × Stands engine.new (D.holds store.new) s) }
     ensures space { engine.new.space ≡ engine.old.space }
     ensures parts { engine.new.parts ≡ record engine.old.parts { kept = engine.new.parts.kept } }
     ensures root { KeepsRoot (D.holds store.old) (D.holds store.new) }
@@ -112,22 +136,16 @@ fn answer_query<D: Store>(
     ensures damaged { (s : State) → Stands engine.old (D.holds store.old) s → (blob : ℕ) → result ≡ Err (Damaged blob) → ⊥ }
 {
     let answered = engine.query(store, query)?;
-    put_reply(out, &Reply::Answered(answered))?;
-    Ok(())
+    Ok(Some(Reply::Answered(answered)))
 }
 
-/// Appends the reply to a flush.
-fn answer_flush<D: Store>(
-    engine: &mut Engine,
-    store: &mut D,
-    out: &mut Vec<u8>,
-) -> Result<(), Trouble>
+/// The reply to a flush.
+fn reply_to_flush<D: Store>(engine: &mut Engine, store: &mut D) -> Result<Option<Reply>, Trouble>
     requires goes_on { engine.old.ended ≡ None }
     requires blobs { engine.old.parts.next_blob + 1 < 2 ^ 63 }
     requires flushes { engine.old.parts.flushes + 1 < 2 ^ 63 }
-    ensures answer { (s : State) → Stands engine.old (D.holds store.old) s → OnOk result
-        ((out.new.items ≡ out.old.items ++ said_bytes s (Operates Flush))
-        × Stands engine.new (D.holds store.new) (flushed_state s)) }
+    ensures reply { (s : State) → Stands engine.old (D.holds store.old) s → IfOk result
+        (λ reply. (reply ≡ reply_to s (Operates Flush)) × Stands engine.new (D.holds store.new) (flushed_state s)) }
     ensures space { engine.new.space ≡ engine.old.space }
     ensures drawn { OnOk result (engine.new.parts.next_blob ≤ engine.old.parts.next_blob + 1) }
     ensures counted { OnOk result (engine.new.parts.flushes ≤ engine.old.parts.flushes + 2) }
@@ -138,22 +156,19 @@ fn answer_flush<D: Store>(
     ensures damaged { (blob : ℕ) → result ≡ Err (Damaged blob) → ⊥ }
 {
     engine.flush(store)?;
-    put_reply(out, &Reply::Ok)?;
-    Ok(())
+    Ok(Some(Reply::Ok))
 }
 
-/// Appends the reply to so many units of background work.
-fn answer_work<D: Store>(
+/// The reply to so many units of background work.
+fn reply_to_work<D: Store>(
     engine: &mut Engine,
     store: &mut D,
     units: u32,
-    out: &mut Vec<u8>,
-) -> Result<(), Trouble>
+) -> Result<Option<Reply>, Trouble>
     requires goes_on { engine.old.ended ≡ None }
     requires blobs { engine.old.parts.next_blob + units < 2 ^ 63 }
-    ensures answer { (s : State) → Stands engine.old (D.holds store.old) s → OnOk result
-        ((out.new.items ≡ out.old.items ++ said_bytes s (Operates (Work units)))
-        × Stands engine.new (D.holds store.new) (worked_state units s)) }
+    ensures reply { (s : State) → Stands engine.old (D.holds store.old) s → IfOk result
+        (λ reply. (reply ≡ reply_to s (Operates (Work units))) × Stands engine.new (D.holds store.new) (worked_state units s)) }
     ensures space { engine.new.space ≡ engine.old.space }
     ensures drawn { OnOk result (engine.new.parts.next_blob ≤ engine.old.parts.next_blob + units) }
     ensures counted { OnOk result (engine.new.parts.flushes ≡ engine.old.parts.flushes) }
@@ -164,27 +179,25 @@ fn answer_work<D: Store>(
     ensures damaged { (s : State) → Stands engine.old (D.holds store.old) s → (blob : ℕ) → result ≡ Err (Damaged blob) → ⊥ }
 {
     let worked = engine.work(store, units)?;
-    put_reply(out, &Reply::Worked(worked))?;
-    Ok(())
+    Ok(Some(Reply::Worked(worked)))
 }
 
-/// Appends how large the index is. The only error is out of memory.
-fn answer_stat(engine: &Engine, out: &mut Vec<u8>) -> Result<(), Trouble>
+/// How large the index is.
+fn reply_to_stat(engine: &Engine) -> Result<Option<Reply>, Trouble>
     requires goes_on { engine.now.ended ≡ None }
-    ensures answer { (holds : Option Content) (s : State) → Stands engine.now holds s → OnOk result
-        (out.new.items ≡ out.old.items ++ said_bytes s (Operates Stat)) }
+    ensures reply { (holds : Option Content) (s : State) → Stands engine.now holds s → IfOk result
+        (λ reply. reply ≡ reply_to s (Operates Stat)) }
     ensures error { IfErr result (λ trouble. trouble ≡ Trouble.NoMemory) }
 {
     let stat = engine.stat()?;
-    put_reply(out, &Reply::Stat(stat))?;
-    Ok(())
+    Ok(Some(Reply::Stat(stat)))
 }
 
-fn put_verdict(out: &mut Vec<u8>, verdict: Verdict) -> Result<(), NoMemory>
-    ensures { OnOk result (out.new.items ≡ out.old.items ++ reply_bytes (verdict_reply verdict)) }
+fn verdict_reply(verdict: Verdict) -> Reply
+    ensures { result ≡ verdict_reply verdict }
 {
     match verdict {
-        Verdict::Made => put_reply(out, &Reply::Ok),
-        Verdict::Refused(refusal) => put_reply(out, &Reply::Refused(Why::Tree(refusal))),
+        Verdict::Made => Reply::Ok,
+        Verdict::Refused(refusal) => Reply::Refused(Why::Tree(refusal)),
     }
 }

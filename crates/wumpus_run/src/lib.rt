@@ -2,9 +2,11 @@
 #![tactic(auto)]
 
 mod answering;
+mod demo;
 mod laws;
 mod session;
 mod statuses;
+mod tallies;
 
 pub use laws::{
     a_script_keeps_a_state, equal_views_are_answered_alike, no_view_depends_on_flushes_or_work,

@@ -5,12 +5,14 @@ ghost use Rattle.wu_base.specs.declared.limits.TheConstants.{INPUT_MAX};
 ghost use Rattle.wu_outside.specs.Faults.{HasFaultCause, Rose};
 ghost use Rattle.wu_outside.specs.Gains.{GainsPrefix};
 ghost use Rattle.wu_script.specs.Items.{IsBeforeEnd};
-ghost use Rattle.wu_options.specs.CommandLines.{texts_of};
+ghost use Rattle.wu_options.specs.CommandLines.{command_line_of, texts_of};
 ghost use Rattle.wu_engine.specs.Stands.{Stands};
 ghost use Rattle.wu_engine.specs.States.{first_state};
+ghost use Rattle.wumpus_run.specs.Demo.{IfDemo, IsShown};
 ghost use Rattle.wumpus_run.specs.Session.{settings_of, moment, status_of, status_of_fault, status_of_trouble, IsUsage, IsCounted, AnswersAll, AnswersPrefix, StaysWithin, IsTooLong, HoldsNothingBack, KeepsRoot, Ends, Completes};
 
 use crate::answering::answer;
+use crate::demo::demo;
 use crate::statuses::Status;
 use std::alloc::Global;
 use wu_base::{NoMemory, Trouble};
@@ -33,9 +35,13 @@ pub fn run<I: Source, O: Sink, D: Store>(
     store: &mut D,
 ) -> Status
     requires { I.ended source.old ≡ false }
-    // Usage comes exactly where the arguments ask for no session, and then nothing is touched.
-    ensures usage { IsUsage result (settings_of (texts_of words.now)) }
-    ensures untouched { (settings_of (texts_of words.now)) ≡ None → (source.new ≡ source.old) × (sink.new ≡ sink.old) × (store.new ≡ store.old) }
+    // Usage comes exactly where the arguments ask for nothing, and then nothing is touched.
+    ensures usage { IsUsage result (command_line_of (texts_of words.now)) }
+    ensures untouched { (settings_of (texts_of words.now)) ≡ None → (source.new ≡ source.old) × (store.new ≡ store.old) }
+    ensures unwritten { (command_line_of (texts_of words.now)) ≡ None → sink.new ≡ sink.old }
+
+    // Where they ask for a demonstration, the sink gained its line, or a prefix of it.
+    ensures demo { IfDemo (command_line_of (texts_of words.now)) (λ number. IsShown number result (O.gained sink.old) (O.gained sink.new)) }
 
     // The input was read to its end, and the sink gained the replies to its items, and nothing else.
     ensures done { result ≡ Status.Done → AnswersAll first_state (settings_of (texts_of words.now))
@@ -90,7 +96,8 @@ pub fn run<I: Source, O: Sink, D: Store>(
 {
     match read_command_line(alloc, words) {
         Ok(Some(CommandLine::Run(settings))) => answer_script(alloc, settings, source, sink, store),
-        Ok(Some(CommandLine::Demo(_)) | None) => Status::Usage,
+        Ok(Some(CommandLine::Demo(number))) => demo(alloc, number, sink),
+        Ok(None) => Status::Usage,
         Err(NoMemory) => Status::NoMemory,
     }
 }
@@ -191,7 +198,7 @@ fn status_of_trouble(trouble: Trouble) -> Status
 }
 
 /// Writes a reply, once; after a fault the sink gained a prefix of it.
-fn write_reply<O: Sink>(sink: &mut O, reply: &[u8]) -> Result<(), Fault>
+pub(crate) fn write_reply<O: Sink>(sink: &mut O, reply: &[u8]) -> Result<(), Fault>
     ensures ok { OnOk result (Appends (O.gained sink.old) (O.gained sink.new) reply.now) }
     ensures err { OnErr result (GainsPrefix (O.gained sink.old) (O.gained sink.new) reply.now) }
     ensures cause { HasFaultCause (O.faults sink.old) (O.faults sink.new) result }
@@ -200,7 +207,7 @@ fn write_reply<O: Sink>(sink: &mut O, reply: &[u8]) -> Result<(), Fault>
 }
 
 /// How a session ends where a reply couldn't be written.
-fn status_of_fault(fault: Fault) -> Status
+pub(crate) fn status_of_fault(fault: Fault) -> Status
     ensures { result ≡ status_of_fault fault }
 {
     match fault {
@@ -210,7 +217,7 @@ fn status_of_fault(fault: Fault) -> Status
 }
 
 /// Whether the script has ended.
-fn is_end(item: &Item) -> bool
+pub(crate) fn is_end(item: &Item) -> bool
     ensures { MatchBool result (item.now ≡ Item.End) (IsBeforeEnd item.now) }
 {
     match item {

@@ -40,6 +40,7 @@ impl Subject for Tables {
             ("words session", [words, command]) => self.session.reply_by(alloc, words, command),
             ("output", [script]) => sessions::output(alloc, script),
             ("calls", [words, script]) => sessions::calls(alloc, words, script),
+            ("demo", [number]) => sessions::demo_line(alloc, number),
             ("faults", [reads, writes, script]) => sessions::faulty(alloc, reads, writes, script),
             ("store faults", [words, calls, script]) => {
                 stores::failing(alloc, words, calls, script)

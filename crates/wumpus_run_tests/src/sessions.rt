@@ -117,6 +117,12 @@ fn output_by(alloc: Global, words: &[&str], script: &[u8]) -> Result<Vec<u8>, No
     }
 }
 
+/// The line of the demonstration of the number.
+pub fn demo_line(alloc: Global, number: &str) -> Result<String, NoAnswer> {
+    let output = output_by(alloc, &["demo", number], b"")?;
+    shown(alloc, output.as_slice())
+}
+
 /// How the session that the words ask for ends, and how often it reads and writes.
 pub fn calls(alloc: Global, field: &str, script_field: &str) -> Result<String, NoAnswer> {
     let words = words(alloc, field)?;

@@ -1,7 +1,7 @@
 use Rattle.std.proofs.Common.{Err, ap, ⊎_elim}
 use Rattle.wu_base.specs.declared.troubles.Trouble.TheVariants.{Damaged}
 use Rattle.wumpus_run.proofs.SoundBlobs.{same_trouble, undamaged}
-use Rattle.wumpus_run.proofs.answering.answer_query.Goals as goal
+use Rattle.wumpus_run.proofs.answering.reply_to_query.Goals as goal
 
 pub returns-in_err-answered-clause-damaged : goal.returns-in_err-answered-clause-damaged
 returns-in_err-answered-clause-damaged g c = λ s stands blob e.
