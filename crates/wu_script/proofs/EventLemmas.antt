@@ -24,7 +24,7 @@ use Rattle.wu_script.specs.declared.words.Word.{Word}
 use Rattle.wu_script.specs.declared.words.Word.TheVariants as words
 use Rattle.wu_script.specs.Words.{word_of}
 use Rattle.wu_script.specs.Commands.{Wish, Operation, Entry, Happening, Asking, Operating, Refusing, Blank, LineSays, Whole, TextHead}
-use Rattle.wu_script.specs.Commands.{event_line, query_line, operation_line, text_line, flush_of, work_of, stat_of}
+use Rattle.wu_script.specs.Commands.{event_line, query_line, operation_line, text_line, flush_of, work_of, stat_of, save_of}
 use Rattle.wu_script.specs.Commands.{user_of, new_node_of, mkdir_event, create_event, link_of, place_of, unlink_event, rmdir_event}
 use Rattle.wu_script.specs.Commands.{rename_of, chmod_of, chown_of, text_head_of, count_of, find_of, rank_of, paths_of, command_of}
 use Rattle.wu_script.specs.Commands.{fields_say, is_blank, line_says}
@@ -194,7 +194,7 @@ command_says words.Paths fields = query_says (paths_of fields)
 command_says words.Flush fields = operation_says (flush_of fields)
 command_says words.Work fields = operation_says (work_of fields)
 command_says words.Stat fields = operation_says (stat_of fields)
-command_says words.Unbuilt fields = tt
+command_says words.Save fields = operation_says (save_of fields)
 command_says words.Unknown fields = tt
 
 fields_event : (fields : Option (List (List ℕ))) → SaysEvent (fields_say fields)

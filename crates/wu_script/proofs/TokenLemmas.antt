@@ -18,7 +18,7 @@ use Rattle.wu_script.specs.declared.words.Word.{Word}
 use Rattle.wu_script.specs.declared.words.Word.TheVariants as words
 use Rattle.wu_script.specs.Words.{word_of}
 use Rattle.wu_script.specs.Commands.{Wish, Operation, Entry, Happening, Asking, Operating, Refusing, Blank, LineSays, Whole, TextHead}
-use Rattle.wu_script.specs.Commands.{event_line, query_line, operation_line, text_line, flush_of, work_of, stat_of}
+use Rattle.wu_script.specs.Commands.{event_line, query_line, operation_line, text_line, flush_of, work_of, stat_of, save_of}
 use Rattle.wu_script.specs.Commands.{user_of, new_node_of, mkdir_event, create_event, link_of, place_of, unlink_event, rmdir_event, rename_of}
 use Rattle.wu_script.specs.Commands.{chmod_of, chown_of, text_head_of, count_of, find_of, rank_of, paths_of, command_of, fields_say, is_blank, line_says}
 use Rattle.wu_script.specs.Said.{Reading, said_of, question_in, asked, event_tokens, tokens_given, text_given}
@@ -121,7 +121,7 @@ command_none words.Paths fields = query_line_none (paths_of fields)
 command_none words.Flush fields = operation_line_none (flush_of fields)
 command_none words.Work fields = operation_line_none (work_of fields)
 command_none words.Stat fields = operation_line_none (stat_of fields)
-command_none words.Unbuilt fields = tt
+command_none words.Save fields = operation_line_none (save_of fields)
 command_none words.Unknown fields = tt
 
 fields_none : (fields : Option (List (List ℕ))) → IsWithoutText (fields_say fields)

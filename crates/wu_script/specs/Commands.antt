@@ -13,7 +13,7 @@ use Rattle.wu_tree.specs.declared.events.Event.TheVariants as events
 use Rattle.wu_fields.specs.Numbers.{number_of, mode_of}
 use Rattle.wu_fields.specs.Fields.{fields_of, all_some}
 use Rattle.wu_script.specs.declared.types.Why.{Why}
-use Rattle.wu_script.specs.declared.types.Why.TheVariants.{LongLine, Syntax, Unbuilt}
+use Rattle.wu_script.specs.declared.types.Why.TheVariants.{LongLine, Syntax}
 use Rattle.wu_script.specs.declared.events.NewNode.{NewNode}
 use Rattle.wu_script.specs.declared.events.Place.{Place}
 use Rattle.wu_script.specs.declared.words.Word.{Word}
@@ -126,11 +126,12 @@ pub data Wish : Type 0 where
   RankOf : (k : ℕ) (unit words : List ℕ) → Wish
   PathsOf : Wish
 
--- what the operator of the index asks for: a flush, so many units of background work, or the size of the index
+-- what the operator of the index asks for: a flush, so many units of background work, the size of the index, or a save
 pub data Operation : Type 0 where
   Flush : Operation
   Work : (units : ℕ) → Operation
   Stat : Operation
+  Save : Operation
 
 -- an item as its bytes have it: an event with the text that it gives, which is empty for all but a text; a query of a user; an
 -- operation; a refusal; nothing
@@ -218,6 +219,10 @@ unfoldable pub stat_of : List (List ℕ) → Option Operation
 stat_of [] = Some Stat
 stat_of _ = None
 
+unfoldable pub save_of : List (List ℕ) → Option Operation
+save_of [] = Some Save
+save_of _ = None
+
 unfoldable pub command_of : Word → List (List ℕ) → LineSays Entry
 command_of words.User fields = event_line (user_of fields)
 command_of words.Mkdir fields = event_line (option_map mkdir_event (new_node_of fields))
@@ -236,7 +241,7 @@ command_of words.Paths fields = query_line (paths_of fields)
 command_of words.Flush fields = operation_line (flush_of fields)
 command_of words.Work fields = operation_line (work_of fields)
 command_of words.Stat fields = operation_line (stat_of fields)
-command_of words.Unbuilt fields = Whole (Refusing Unbuilt)
+command_of words.Save fields = operation_line (save_of fields)
 command_of words.Unknown fields = Whole (Refusing Syntax)
 
 unfoldable pub fields_say : Option (List (List ℕ)) → LineSays Entry
@@ -250,7 +255,7 @@ is_blank [] = true
 is_blank (byte ∷ bytes) = byte == 35
 
 -- What a line says, its LF not counted. The first rule that applies decides: it is too long; it is blank; an escape fault;
--- a command that isn't built yet; the rest of syntax.
+-- the rest of syntax.
 unfoldable pub line_says : List ℕ → LineSays Entry
 line_says line =
     if nat_lt LINE_MAX (length line) then Whole (Refusing LongLine)

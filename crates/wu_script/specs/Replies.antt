@@ -43,7 +43,6 @@ why_word (why.Tree refusal) = refusal_word refusal
 why_word (why.Expr fault) = fault_word fault
 why_word why.NoWord = codes "noword"
 why_word why.ManyWords = codes "manywords"
-why_word why.Unbuilt = codes "unbuilt"
 
 -- a path on a line of its own
 abbrev pub path_line : List ℕ → List ℕ

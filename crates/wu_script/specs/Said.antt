@@ -16,7 +16,7 @@ use Rattle.wu_script.specs.declared.types.Line.{Line}
 use Rattle.wu_script.specs.declared.types.Line.TheVariants as lines
 use Rattle.wu_script.specs.declared.types.Item.{Item}
 use Rattle.wu_script.specs.declared.types.Item.TheVariants as items
-use Rattle.wu_script.specs.Commands.{Wish, CountOf, FindOf, RankOf, PathsOf, Operation, Flush, Work, Stat, Entry, Happening, Asking, Operating, Refusing, Blank, LineSays, Whole, TextHead}
+use Rattle.wu_script.specs.Commands.{Wish, CountOf, FindOf, RankOf, PathsOf, Operation, Flush, Work, Stat, Save, Entry, Happening, Asking, Operating, Refusing, Blank, LineSays, Whole, TextHead}
 
 -- what each text says as a region expression; there is one such function, since each text has one reading
 abbrev pub Reading : Type 0
@@ -81,6 +81,7 @@ said_by_command (commands.Ask query) = Asks query.uid (question_of query.ask)
 said_by_command commands.Flush = Operates Flush
 said_by_command (commands.Work units) = Operates (Work units)
 said_by_command commands.Stat = Operates Stat
+said_by_command commands.Save = Operates Save
 
 abbrev pub said_by_line : Line → LineSays Said
 said_by_line (lines.Command command) = Whole (said_by_command command)
@@ -112,6 +113,7 @@ IsSoundCommand (commands.Ask query) = IsSoundAsk query.ask
 IsSoundCommand commands.Flush = Unit {0}
 IsSoundCommand (commands.Work units) = (1 ≤ units) × (units ≤ WORK_MAX)
 IsSoundCommand commands.Stat = Unit {0}
+IsSoundCommand commands.Save = Unit {0}
 
 abbrev pub IsSoundLine : Line → Type 0
 IsSoundLine (lines.Command command) = IsSoundCommand command

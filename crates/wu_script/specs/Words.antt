@@ -2,19 +2,14 @@
 use Rattle.std.specs.Prelude.{ℕ, Bool, List, codes, nat_eq, if◌then◌else◌}
 use Rattle.std.specs.Cmp.Lexicographic.{pointwise}
 use Rattle.wu_script.specs.declared.words.Word.{Word}
-use Rattle.wu_script.specs.declared.words.Word.TheVariants.{User, Mkdir, Create, Text, Link, Unlink, Rmdir, Rename, Chmod, Chown, Count, Find, Rank, Paths, Flush, Work, Stat, Unbuilt, Unknown}
+use Rattle.wu_script.specs.declared.words.Word.TheVariants.{User, Mkdir, Create, Text, Link, Unlink, Rmdir, Rename, Chmod, Chown, Count, Find, Rank, Paths, Flush, Work, Stat, Save, Unknown}
 
 abbrev pub is : List ℕ → List ℕ → Bool
 is field word = pointwise nat_eq field word
 
--- a command that will be built later
-abbrev pub is_unbuilt : List ℕ → Bool
-is_unbuilt field = is field (codes "save")
-
 unfoldable pub word_of : List ℕ → Word
 word_of field =
-    if is_unbuilt field then Unbuilt
-    else if is field (codes "user") then User
+    if is field (codes "user") then User
     else if is field (codes "mkdir") then Mkdir
     else if is field (codes "create") then Create
     else if is field (codes "text") then Text
@@ -31,4 +26,5 @@ word_of field =
     else if is field (codes "flush") then Flush
     else if is field (codes "work") then Work
     else if is field (codes "stat") then Stat
+    else if is field (codes "save") then Save
     else Unknown

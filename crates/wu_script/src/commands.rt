@@ -4,7 +4,7 @@ ghost use Rattle.wu_tree.specs.Steps.{IsEvent};
 ghost use Rattle.wu_gcl.specs.Reading.{seen};
 ghost use Rattle.wu_gcl.specs.Regions.{IsProper, region_of};
 ghost use Rattle.wu_base.specs.declared.limits.TheConstants.{K_MAX as MostRegions, WORK_MAX as MostUnits};
-ghost use Rattle.wu_script.specs.Commands.{command_of, event_line, fields_say, is_blank, line_says, query_line, operation_line, text_line, count_of, find_of, rank_of, paths_of, flush_of, units_of, work_of, stat_of, text_head_of, Whole, Asking, CountOf, FindOf, RankOf};
+ghost use Rattle.wu_script.specs.Commands.{command_of, event_line, fields_say, is_blank, line_says, query_line, operation_line, text_line, count_of, find_of, rank_of, paths_of, flush_of, units_of, work_of, stat_of, save_of, text_head_of, Whole, Asking, CountOf, FindOf, RankOf};
 ghost use Rattle.wu_script.specs.Said.{IsReading, Reading, IsLine, IsSoundLine};
 ghost use Rattle.wu_script.specs.declared.types.Line.TheVariants.{Command as ACommand};
 ghost use Rattle.wu_script.specs.declared.types.Command.TheVariants.{Ask as AQuestion};
@@ -23,9 +23,8 @@ use wu_token::words;
 use wu_tree::Event;
 
 /// What the line says, without its LF. The first rule that applies decides: `LongLine`, more than
-/// LINE_MAX bytes; blank, no byte or `#` at its front; `Syntax` for an escape fault; `Unbuilt` for a
-/// command that isn't built yet; `Syntax` for an unknown command, a wrong number of fields or a field
-/// out of form or range; the faults of the expression of a `count` or a `find`, or of a `rank`'s unit;
+/// LINE_MAX bytes; blank, no byte or `#` at its front; `Syntax` for an escape fault, an unknown command, a
+/// wrong number of fields or a field out of form or range; the faults of the expression of a `count` or a `find`, or of a `rank`'s unit;
 /// `NoWord` and `ManyWords` for a `rank` by no word, or by more than RANK_WORDS_MAX. The one error is
 /// `NoMemory`: out of memory.
 #[tactic(auto, unfolding(crate::specs::Commands::line_says, crate::specs::Commands::fields_say))]
@@ -91,7 +90,7 @@ fn read_by_word(alloc: Global, word: Word, fields: &[Bytes]) -> Result<Line, NoM
         Word::Flush => Ok(flush(fields)),
         Word::Work => Ok(work(fields)),
         Word::Stat => Ok(stat(fields)),
-        Word::Unbuilt => Ok(Line::Refused(Why::Unbuilt)),
+        Word::Save => Ok(save(fields)),
         Word::Unknown => Ok(Line::Refused(Why::Syntax)),
     }
 }
@@ -309,6 +308,18 @@ fn stat(fields: &[Bytes]) -> Line
 {
     match fields {
         [] => Line::Command(Command::Stat),
+        _ => Line::Refused(Why::Syntax),
+    }
+}
+
+/// `save`, without a further field.
+#[tactic(auto, unfolding(crate::specs::Commands::save_of))]
+fn save(fields: &[Bytes]) -> Line
+    ensures says { IsLine (operation_line (save_of fields.now)) result }
+    ensures sound { IsSoundLine result }
+{
+    match fields {
+        [] => Line::Command(Command::Save),
         _ => Line::Refused(Why::Syntax),
     }
 }

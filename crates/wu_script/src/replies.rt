@@ -251,7 +251,6 @@ fn why_word(why: Why) -> &'static [u8]
         Why::Expr(fault) => fault_word(fault),
         Why::NoWord => b"noword",
         Why::ManyWords => b"manywords",
-        Why::Unbuilt => b"unbuilt",
     }
 }
 

@@ -25,8 +25,6 @@ pub enum Why {
     NoWord,
     /// It ranks by more than RANK_WORDS_MAX words.
     ManyWords,
-    /// It is a command that isn't built yet.
-    Unbuilt,
 }
 
 /// A command without a body.
@@ -42,6 +40,8 @@ pub enum Command {
     Work(u32),
     /// The size of the index is asked for.
     Stat,
+    /// The files and their index are to be saved.
+    Save,
 }
 
 /// What one line says.

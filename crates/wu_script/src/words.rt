@@ -1,6 +1,6 @@
 //! The first field of a command's line.
 ghost use Rattle.std.specs.Prelude.{◌≡◌};
-ghost use Rattle.wu_script.specs.Words.{word_of, is_unbuilt};
+ghost use Rattle.wu_script.specs.Words.{word_of};
 
 /// What the first field of a line says.
 #[derive(Drop)]
@@ -22,8 +22,7 @@ pub enum Word {
     Flush,
     Work,
     Stat,
-    /// A command that will be built later.
-    Unbuilt,
+    Save,
     Unknown,
 }
 
@@ -32,9 +31,7 @@ pub enum Word {
 pub fn word_of(field: &[u8]) -> Word
     ensures { result ≡ word_of field.now }
 {
-    if is_unbuilt(field) {
-        Word::Unbuilt
-    } else if field == b"user".as_slice() {
+    if field == b"user".as_slice() {
         Word::User
     } else if field == b"mkdir".as_slice() {
         Word::Mkdir
@@ -68,14 +65,9 @@ pub fn word_of(field: &[u8]) -> Word
         Word::Work
     } else if field == b"stat".as_slice() {
         Word::Stat
+    } else if field == b"save".as_slice() {
+        Word::Save
     } else {
         Word::Unknown
     }
-}
-
-/// Whether the field is a command that will be built later.
-fn is_unbuilt(field: &[u8]) -> bool
-    ensures { result ≡ is_unbuilt field.now }
-{
-    field == b"save".as_slice()
 }

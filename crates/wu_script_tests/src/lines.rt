@@ -22,6 +22,7 @@ pub fn said(alloc: Global, field: &str) -> Result<String, NoAnswer> {
         Line::Command(Command::Flush) => plain_text(alloc, "flush"),
         Line::Command(Command::Work(units)) => Ok(format!(in alloc; "work {units}")?),
         Line::Command(Command::Stat) => plain_text(alloc, "stat"),
+        Line::Command(Command::Save) => plain_text(alloc, "save"),
         Line::TextHead { ino, len } => Ok(format!(in alloc; "text {ino} {len}")?),
         Line::Blank => plain_text(alloc, "blank"),
     }

@@ -3,7 +3,7 @@ use wu_gcl::ExprFault;
 use wu_script::Why;
 use wu_tree::Refusal;
 
-const NAMES: [(&str, Why); 19] = [
+const NAMES: [(&str, Why); 18] = [
     ("longline", Why::LongLine),
     ("syntax", Why::Syntax),
     ("truncated", Why::Truncated),
@@ -11,7 +11,6 @@ const NAMES: [(&str, Why); 19] = [
     ("badbody", Why::BadBody),
     ("noword", Why::NoWord),
     ("manywords", Why::ManyWords),
-    ("unbuilt", Why::Unbuilt),
     ("tree badname", Why::Tree(Refusal::BadName)),
     ("tree nosuch", Why::Tree(Refusal::NoSuch)),
     ("tree kind", Why::Tree(Refusal::Kind)),

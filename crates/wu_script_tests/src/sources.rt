@@ -62,6 +62,7 @@ fn word_of(item: &Item) -> &'static str {
         Item::Command(Command::Flush) => "flush ",
         Item::Command(Command::Work(_)) => "work ",
         Item::Command(Command::Stat) => "stat ",
+        Item::Command(Command::Save) => "save ",
         Item::Text { .. } => "text ",
         Item::Blank => "blank ",
         Item::End => "end",
@@ -71,7 +72,6 @@ fn word_of(item: &Item) -> &'static str {
             Why::Truncated => "truncated ",
             Why::TooLong => "toolong ",
             Why::BadBody => "badbody ",
-            Why::Unbuilt => "unbuilt ",
             _ => "other ",
         },
     }
