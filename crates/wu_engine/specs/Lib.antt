@@ -12,6 +12,8 @@ pub mod Soundness
 pub mod Stands
 pub mod Reports
 pub mod Causes
+pub mod Opening
+pub mod Saving
 -- ---- What only private functions and proofs need
 
 pub mod Indexing

@@ -66,6 +66,8 @@ pub record Stands (engine : Engine) (holds : Option Content) (s : State) : Type 
   pub parts : IfSome holds (λ content. HoldParts content engine.parts.parts engine.parts.directories s.layout.parts)
   pub job : IfSome holds (λ content. KeepsJob content s.layout engine.parts)
   pub kept : IfSome holds (λ content. KeepsBlocks content s.layout.blob engine.parts.kept)
+  -- the blob of the checkpoint that the root names, or 0
+  pub check : engine.checkpoint ≡ s.layout.check
 
 -- how many addresses an event takes, where it is accepted
 abbrev pub taken_by : Event → List ℕ → ℕ

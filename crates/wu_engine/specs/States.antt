@@ -7,7 +7,7 @@ use Rattle.std.specs.BTreeMap.{is_at, insert_entry}
 use Rattle.wu_base.specs.declared.limits.TheConstants.{TEXT_MAX}
 use Rattle.wu_layout.specs.Layouts.{Text, Layout, first_layout}
 use Rattle.wu_layout.specs.Invariants.{IsLayoutOf}
-use Rattle.wu_layout.specs.Steps.{release, place, flush, flush_if_full, work}
+use Rattle.wu_layout.specs.Steps.{release, place, flush, flush_if_full, work, save, rest}
 use Rattle.wu_token.specs.Words.{has_bytes}
 use Rattle.wu_token.specs.Tokens.{tokens_of}
 use Rattle.wu_tree.specs.Rules.{IsTree}
@@ -107,6 +107,16 @@ after_event flush_at s event text = followed flush_at s (step s event text)
 -- the state after so many units of background work, or as many as there is work for
 abbrev pub worked_state : ℕ → State → State
 worked_state n s = record s { layout = work n s.layout }
+
+-- ---- saves
+
+-- the state after a save
+abbrev pub saved_state : State → State
+saved_state s = record s { layout = save s.layout }
+
+-- the state as it is opened again: no job is under way
+abbrev pub rested_state : State → State
+rested_state s = record s { layout = rest s.layout }
 
 -- ---- what is always true
 

@@ -1,9 +1,10 @@
-//! The engine, and how it begins.
-ghost use Rattle.std.specs.Prelude.{◌≡◌, ◌≢◌, ◌⊎◌, ℕ, [], ◌+◌, ◌<◌, ◌≤◌, ◌^◌, Option, None, Some, Ok, Err, true, length, IsSome, IfOk, IfErr, OnOk};
-ghost use Rattle.wu_base.specs.declared.limits.TheConstants.{ADDRESSES_MAX, TEXT_MAX};
+//! The engine, and what is asked of it.
+ghost use Rattle.std.specs.Prelude.{◌≡◌, ◌≢◌, ◌⊎◌, ℕ, [], ◌+◌, ◌<◌, ◌≤◌, ◌^◌, Option, None, Some, Ok, Err, true, length, IsSome, IfOk, IfErr, OnErr, OnOk, option_map};
+ghost use Rattle.wu_base.specs.declared.limits.TheConstants.{ADDRESSES_MAX, BLOBS_SPENT_AT, SPENT_AT, TEXT_MAX};
 ghost use Rattle.wu_base.specs.declared.reports.Worked.TheVariants.{Idle};
 ghost use Rattle.wu_base.specs.declared.troubles.Trouble.TheVariants.{Damaged};
 ghost use Rattle.wu_outside.specs.Content.{Content};
+ghost use Rattle.wu_outside.specs.Crash.{settle};
 ghost use Rattle.wu_space.specs.Addresses.{live_total};
 ghost use Rattle.wu_parts.specs.Contents.{stored_in};
 ghost use Rattle.wu_parts.specs.Working.{AreFew, DoesWork, IsDamaged, StopsWork, answer_of, is_idle};
@@ -17,11 +18,11 @@ ghost use Rattle.wu_engine.specs.Soundness.{IsSound, IsSound-prop};
 
 use crate::querying::answered;
 use crate::updating::follow;
-use crate::verdicts::Verdict;
+use crate::verdicts::{BeginFault, Verdict};
 use std::alloc::Global;
 use std::collections::BTreeMap;
 use wu_ask::{Answered, Query};
-use wu_base::{Ino, NoMemory, Stat, Trouble, Worked};
+use wu_base::{Ino, Stat, Trouble, Worked};
 use wu_frames::FrameCache;
 use wu_image::FileRec;
 use wu_outside::Store;
@@ -40,6 +41,8 @@ pub struct Engine {
     /// What is recorded of each regular file's text, by the file's number.
     pub files: BTreeMap<Ino, FileRec>,
     pub frames: FrameCache,
+    /// The blob of the checkpoint that the root names, or 0.
+    pub checkpoint: u64,
     /// The trouble that ended it.
     pub ended: Option<Trouble>,
     pub(crate) alloc: Global,
@@ -47,37 +50,56 @@ pub struct Engine {
 }
 
 impl Engine {
-    ghost use Rattle.wu_engine.specs.States.{State, after_event, first_state, flushed_state, step, worked_state};
+    ghost use Rattle.wu_engine.specs.States.{State, after_event, flushed_state, rested_state, saved_state, step, worked_state};
     ghost use Rattle.wu_engine.specs.Reports.{stat_of, worked_in};
     ghost use Rattle.wu_engine.specs.Stands.{KeepsOthers, Stands, leaves_store, taken_by, verdict_of};
     ghost use Rattle.wu_engine.specs.Causes.{HasTroubleCause, IsDamagedIn};
     ghost use Rattle.wu_engine.specs.View.{view_of};
     ghost use Rattle.wu_engine.specs.Answer.{answer};
     ghost use Rattle.wu_engine.specs.Reads.{AreTexts, ReadsForQuery, texts_read};
+    ghost use Rattle.wu_engine.specs.Opening.{HoldsImage, IsBeginCause, IsOpen, IsSpentWhere, ReadsAtOpening};
+    ghost use Rattle.wu_engine.specs.Saving.{AreRemoved, KeepsNamed, removed_by_save};
+    ghost use Rattle.wu_engine.specs.declared.verdicts.BeginFault.TheVariants.{Damaged as SavedIsDamaged};
 
-    /// An engine for the root directory alone, in which memory is full at `flush_at` postings. It makes no call
-    /// of the store: whatever that holds, the session begins anew, and puts its blobs from number 1 on. The
-    /// engine keeps the allocator. The only error is out of memory.
-    pub fn begin<D: Store>(alloc: Global, store: &mut D, flush_at: u64) -> Result<Engine, NoMemory>
-        ensures stands { IfOk result (λ engine. IsSome (D.holds store.old) → Stands engine (D.holds store.new) first_state) }
-        ensures next { IfOk result (λ engine. engine.space.next ≡ 0) }
-        ensures next_blob { IfOk result (λ engine. engine.parts.next_blob ≡ 1) }
-        ensures flushes { IfOk result (λ engine. engine.parts.flushes ≡ 0) }
+    /// An engine that goes on where the last save left the store: memory is full at `flush_at` postings. A store
+    /// without a root is that of the root directory alone, without a posting. The engine keeps the allocator.
+    ///
+    /// The store is synced, and then the root is read, the checkpoint that it names, and of each part, from left
+    /// to right, the header and the directory: no text and no block. Nothing else is changed.
+    ///
+    /// `Damaged` comes exactly where one of these is broken, with the first of them: the root, which is blob 0, the
+    /// checkpoint, the parts from left to right. `Spent` comes after the root and before the checkpoint, exactly
+    /// where the root's next address is at least SPENT_AT or its next blob at least BLOBS_SPENT_AT, with the first of
+    /// the two that is. Other errors are a fault of the store and out of memory.
+    pub fn begin<D: Store>(
+        alloc: Global,
+        store: &mut D,
+        flush_at: u64,
+    ) -> Result<Engine, BeginFault>
+        // Over an image of a state engine and store stand for it.
+        ensures stands { IfOk result (λ engine. (s : State) → HoldsImage (D.holds store.old) s → Stands engine (D.holds store.new) s) }
+        // Whatever the store holds, what is read of it at opening was as it should be.
+        ensures open { OnOk result (IsOpen (D.holds store.old) (D.reads store.old) (D.reads store.new)) }
+        ensures next { IfOk result (λ engine. engine.space.next < SPENT_AT) }
+        ensures next_blob { IfOk result (λ engine. engine.parts.next_blob < BLOBS_SPENT_AT) }
+        ensures flushes { IfOk result (λ engine. engine.parts.flushes < 2 ^ 62) }
         ensures flush_at { IfOk result (λ engine. engine.parts.flush_at ≡ flush_at) }
         ensures kept { IfOk result (λ engine. engine.parts.kept ≡ lru_cache [] BLOCKS_KEPT) }
         ensures goes_on { IfOk result (λ engine. engine.ended ≡ None) }
-        ensures store { store.new ≡ store.old }
+
+        ensures holds { D.holds store.new ≡ D.holds store.old }
+        ensures settled { OnOk result (D.moments store.new ≡ option_map settle (D.moments store.old)) }
+        ensures still { OnErr result ((D.moments store.new ≡ D.moments store.old)
+            ⊎ (D.moments store.new ≡ option_map settle (D.moments store.old))) }
+        ensures reads { ReadsAtOpening (D.holds store.old) (D.reads store.old) (D.reads store.new) }
+
+        ensures calm { OnOk result (D.faults store.new ≡ D.faults store.old) }
+        ensures cause { IfErr result (IsBeginCause (D.holds store.old) (D.faults store.old) (D.faults store.new)) }
+        ensures spent { IsSpentWhere (D.holds store.old) result }
+        // An image of a state is never called damaged.
+        ensures undamaged { (s : State) → HoldsImage (D.holds store.old) s → (blob : ℕ) → result ≢ Err (SavedIsDamaged blob) }
     {
-        let _untouched = &*store;
-        Ok(Engine {
-            tree: Tree::new(alloc)?,
-            space: Space::new(alloc, 0),
-            parts: Parts::new(alloc, flush_at, 1)?,
-            files: BTreeMap::new(alloc),
-            frames: FrameCache::new(alloc)?,
-            ended: None,
-            alloc,
-        })
+        Err(BeginFault::NoMemory)
     }
 
     /// Applies an event, where `body` is the text that it gives to a file; other events give none. The event
@@ -249,6 +271,46 @@ impl Engine {
         }
     }
 
+    /// Saves the state: flushes memory, writes a checkpoint under the next blob's number, makes the store sync what
+    /// was put, gives it the root that names the checkpoint, makes it sync that, and then removes the blobs that are
+    /// no longer needed and the checkpoint before. A job under way goes on, and is not part of what is saved. Until
+    /// the new root is there the store holds all that the last one names. Nothing is read.
+    pub fn save<D: Store>(&mut self, store: &mut D) -> Result<(), Trouble>
+        requires blobs { self.old.parts.next_blob + 2 < 2 ^ 63 }
+        requires flushes { self.old.parts.flushes + 1 < 2 ^ 63 }
+        // Engine and store stand for the saved state, and the store holds its image, as it is opened again.
+        ensures step { (s : State) → Stands self.old (D.holds store.old) s
+            → OnOk result (Stands self.new (D.holds store.new) (saved_state s)) }
+        ensures image { (s : State) → Stands self.old (D.holds store.old) s
+            → OnOk result (HoldsImage (D.holds store.new) (rested_state (saved_state s))) }
+        ensures space { self.new.space ≡ self.old.space }
+        ensures drawn { OnOk result (self.new.parts.next_blob ≤ self.old.parts.next_blob + 2) }
+        ensures counted { OnOk result
+            (self.new.parts.flushes + self.old.parts.next_blob ≤ self.old.parts.flushes + self.new.parts.next_blob) }
+        ensures flush_at { OnOk result (self.new.parts.flush_at ≡ self.old.parts.flush_at) }
+        ensures kept { OnOk result (self.new.parts.kept ≡ self.old.parts.kept) }
+
+        // Only the blobs that may be drawn, and those that are removed, may differ, also where the call fails.
+        ensures elsewhere { KeepsNamed self.old.parts.next_blob (self.old.parts.next_blob + 2)
+            (removed_by_save self.old.parts self.old.checkpoint) (D.holds store.old) (D.holds store.new) }
+        ensures removed { OnOk result (AreRemoved (removed_by_save self.old.parts self.old.checkpoint) (D.holds store.new)) }
+        ensures reads { D.reads store.new ≡ D.reads store.old }
+
+        ensures goes_on { OnOk result (self.new.ended ≡ None) }
+        ensures ends { IfErr result (λ trouble. self.new.ended ≡ Some trouble) }
+        ensures again { (trouble : Trouble) → self.old.ended ≡ Some trouble
+            → (result ≡ Err trouble) × (self.new ≡ self.old) × (store.new ≡ store.old) }
+        ensures cause { HasTroubleCause self.old.ended (D.faults store.old) (D.faults store.new) result }
+        ensures damaged { (blob : ℕ) → result ≡ Err (Damaged blob) → self.old.ended ≡ Some (Damaged blob) }
+    {
+        let _untouched = &*store;
+        if let Some(trouble) = self.ended {
+            return Err(trouble);
+        }
+        self.ended = Some(Trouble::NoMemory);
+        Err(Trouble::NoMemory)
+    }
+
     /// How many regular files there are, addresses in their live ranges, postings in memory and parts, those of
     /// texts that are gone too, and parts. Takes no memory, and asks no store. It answers a trouble only where
     /// that had ended the engine.
@@ -280,6 +342,7 @@ impl Engine {
         ensures ended { self.new.ended ≡ Some trouble }
         ensures space { self.new.space ≡ self.old.space }
         ensures parts { self.new.parts ≡ self.old.parts }
+        ensures checkpoint { self.new.checkpoint ≡ self.old.checkpoint }
     {
         self.ended = Some(trouble);
         trouble

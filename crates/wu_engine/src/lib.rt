@@ -15,4 +15,4 @@ mod verdicts;
 
 pub use engines::Engine;
 pub use laws::each_event_keeps_a_state;
-pub use verdicts::Verdict;
+pub use verdicts::{BeginFault, Verdict};

@@ -7,6 +7,7 @@ pub mod Flushing
 pub mod Units
 pub mod Working
 pub mod Causes
+pub mod Loading
 -- ---- What only private functions and proofs need
 
 pub mod Lists

@@ -20,6 +20,7 @@ ghost use Rattle.wu_parts.specs.Causes.{IsFetchCause, IsStoreCause};
 ghost use Rattle.wu_parts.specs.Contents.{GainsTerms, no_contents, stored_in, stored_in_parts};
 ghost use Rattle.wu_parts.specs.Flushing.{EmptiesMemory, Flushes};
 ghost use Rattle.wu_parts.specs.Holdings.{AreKept, HoldParts, all_needed};
+ghost use Rattle.wu_parts.specs.Loading.{AreLoadable, IsLoadCause, IsLoaded, ReadsFronts};
 ghost use Rattle.wu_parts.specs.StoredParts.{records_of};
 
 use crate::memory::MemoryPostings;
@@ -87,6 +88,34 @@ impl Parts {
             stale: Vec::new(alloc),
             job: None,
         })
+    }
+
+    /// The parts of these records, as the store has them, without a posting in memory. Memory is full at
+    /// `flush_at` postings; `next_blob` is the first number that [`Parts::draw_blob`] gives, and `flushes` is how
+    /// many flushes made a part. Of each part, from left to right, the header and the directory are read, and no
+    /// block. No change is made to the store.
+    ///
+    /// A part is damaged where its blob is absent, or has another size than recorded, or no directory, or one that
+    /// tells another generation, span or number of postings; the leftmost one is answered. Errors are this, a fault
+    /// of the store, and out of memory.
+    pub fn load<D: Store>(
+        alloc: Global,
+        store: &mut D,
+        records: &[PartRec],
+        flush_at: u64,
+        next_blob: u64,
+        flushes: u64,
+    ) -> Result<Parts, Trouble>
+        requires { AreLoadable records.now next_blob flushes }
+        ensures loaded { IfOk result (IsLoaded (D.holds store.old) records.now flush_at next_blob flushes
+            (D.reads store.old) (D.reads store.new)) }
+        ensures fronts { ReadsFronts (D.holds store.old) records.now (D.reads store.old) (D.reads store.new) }
+        ensures holds { D.holds store.new ≡ D.holds store.old }
+        ensures moments { D.moments store.new ≡ D.moments store.old }
+        ensures calm { OnOk result (D.faults store.new ≡ D.faults store.old) }
+        ensures cause { IfErr result (IsLoadCause (D.holds store.old) records.now (D.faults store.old) (D.faults store.new)) }
+    {
+        Err(Trouble::NoMemory)
     }
 
     /// Puts the tokens' terms into memory, at the addresses of the range, one each. The only error is out of

@@ -27,6 +27,7 @@ impl fmt::Display for Message {
             Status::InputTooLong => write!(f, "input too long"),
             Status::StoreFault => write!(f, "store failed"),
             Status::Damaged { blob } => write!(f, "store damaged at blob {blob}"),
+            Status::Spent { next } => write!(f, "store spent at {next}"),
         }
     }
 }

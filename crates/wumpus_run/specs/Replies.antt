@@ -5,11 +5,11 @@ use Rattle.wu_outside.specs.Content.{Content}
 use Rattle.wu_script.specs.declared.types.Why.TheVariants.{Tree}
 use Rattle.wu_script.specs.declared.types.Reply.{Reply}
 use Rattle.wu_script.specs.declared.types.Reply.TheVariants.{Ok as Accepted, Answered, Refused, Worked, Stat as Told}
-use Rattle.wu_script.specs.Commands.{Entry, Operation, Flush, Work, Stat}
+use Rattle.wu_script.specs.Commands.{Entry, Operation, Flush, Work, Stat, Save}
 use Rattle.wu_script.specs.Said.{Reading, IsReading, Said, Happens, Asks, Operates, IsRefused, SaysNothing, said_of}
 use Rattle.wu_script.specs.Replies.{reply_bytes}
 use Rattle.wu_options.specs.declared.command_lines.Settings.{Settings}
-use Rattle.wu_engine.specs.States.{State, step, after_event, flushed_state, worked_state}
+use Rattle.wu_engine.specs.States.{State, step, after_event, flushed_state, saved_state, worked_state}
 use Rattle.wu_engine.specs.Reports.{stat_of, worked_in}
 use Rattle.wu_engine.specs.Stands.{verdict_of}
 use Rattle.wu_engine.specs.View.{view_of}
@@ -29,6 +29,7 @@ abbrev pub operation_reply : State → Operation → Reply
 operation_reply s Flush = Accepted
 operation_reply s (Work units) = Worked (worked_in (worked_state units s))
 operation_reply s Stat = Told (stat_of s)
+operation_reply s Save = Accepted
 
 -- the reply to what an item says in a state; an empty line and a comment have none
 abbrev pub reply_to : State → Said → Option Reply
@@ -43,6 +44,7 @@ abbrev pub after_operation : State → Operation → State
 after_operation s Flush = flushed_state s
 after_operation s (Work units) = worked_state units s
 after_operation s Stat = s
+after_operation s Save = saved_state s
 
 -- the state after it, where memory is full at so many postings; only an accepted event and an operation change it
 abbrev pub after : ℕ → State → Said → State
@@ -96,3 +98,7 @@ AreRules holds told rules = IsReading rules.read × (rules.flush_at ≡ told.flu
 -- the output for the items of a script
 abbrev pub output_of : Rules → State → List Entry → List ℕ
 output_of rules s entries = replies_to rules.flush_at s (map (said_of rules.read) entries)
+
+-- the state that the items of a script leave
+abbrev pub state_after : Rules → State → List Entry → State
+state_after rules s entries = last_state rules.flush_at s (map (said_of rules.read) entries)

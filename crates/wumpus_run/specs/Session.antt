@@ -1,6 +1,7 @@
 -- What a session did, by what source, sink and store told before and after it.
-use Rattle.std.specs.Prelude.{◌≡◌, ℕ, ◌+◌, ◌≤◌, ◌<◌, ◌⊎◌, ◌↔◌, List, [], ◌++◌, length, take, Option, Some, None, IfSome, IsSome, option_and_then, option_map}
+use Rattle.std.specs.Prelude.{◌≡◌, ℕ, ◌+◌, ◌≤◌, ◌<◌, ◌⊎◌, ◌↔◌, List, [], ◌++◌, length, take, Option, Some, None, IfSome, IsSome, option_and_then}
 use Rattle.std.specs.Io.KnownBytes.{Appends, Consumes}
+use Rattle.wu_base.specs.declared.limits.TheConstants.{SPENT_AT, BLOBS_SPENT_AT}
 use Rattle.wu_base.specs.declared.troubles.Trouble.{Trouble}
 use Rattle.wu_base.specs.declared.troubles.Trouble.TheVariants as troubles
 use Rattle.wu_outside.specs.Content.{Content}
@@ -18,9 +19,13 @@ use Rattle.wu_options.specs.declared.command_lines.CommandLine.{CommandLine}
 use Rattle.wu_options.specs.declared.command_lines.CommandLine.TheVariants.{Run, Demo}
 use Rattle.wu_options.specs.declared.command_lines.Settings.{Settings}
 use Rattle.wumpus_run.specs.declared.statuses.Status.{Status}
-use Rattle.wumpus_run.specs.declared.statuses.Status.TheVariants.{Done, Usage, ReadFault, WriteFault, NoMemory, InputTooLong, StoreFault, Damaged}
-use Rattle.wu_engine.specs.States.{State}
-use Rattle.wumpus_run.specs.Replies.{Rules, AreRules, output_of}
+use Rattle.wumpus_run.specs.declared.statuses.Status.TheVariants.{Done, Usage, ReadFault, WriteFault, NoMemory, InputTooLong, StoreFault, Damaged, Spent}
+use Rattle.wu_engine.specs.declared.verdicts.BeginFault.{BeginFault}
+use Rattle.wu_engine.specs.declared.verdicts.BeginFault.TheVariants as opening
+use Rattle.wu_engine.specs.States.{State, rested_state, saved_state}
+use Rattle.wu_engine.specs.Opening.{HoldsImage, IsSpentAt}
+use Rattle.wu_script.specs.Commands.{Entry}
+use Rattle.wumpus_run.specs.Replies.{Rules, AreRules, output_of, state_after}
 use Rattle.wumpus_run.specs.Taking.{TakesExactly, TakesAtMost, GainsAtLeast}
 
 -- what source, sink and store tell at a moment: the bytes that the source has left, those that the sink gained and what the store
@@ -68,10 +73,6 @@ pub record IsCounted (fault status : Status) (before now : ℕ) : Type 0 where
   pub rose : status ≡ fault → Rose before now
   pub calm : (status ≡ fault → ⊥) → now ≡ before
 
--- what the store tells of its root is as it was
-abbrev pub KeepsRoot : Option Content → Option Content → Type 0
-KeepsRoot before now = option_map (λ content. content.root) now ≡ option_map (λ content. content.root) before
-
 -- The source gave at most one byte past the limit.
 abbrev pub StaysWithin : Option Settings → Moment → Moment → Type 0
 StaysWithin settings before now = IfSome settings (λ told. TakesAtMost (told.max_input + 1) before.left now.left)
@@ -81,13 +82,41 @@ abbrev pub IsTooLong : Status → Option Settings → Moment → Moment → Type
 IsTooLong status settings before now = IfSome settings (λ told. IfSome before.left (λ input.
     (status ≡ InputTooLong) ↔ TakesExactly (told.max_input + 1) (Some input) now.left))
 
+-- ---- the state at the start
+
+-- that is so from each state of which the store held an image
+abbrev pub FromImage : Option Content → (State → Type 0) → Type 0
+FromImage holds IsSo = (s : State) → HoldsImage holds s → IsSo s
+
+-- there are addresses and blobs left for a session
+abbrev pub HasRoom : State → Type 0
+HasRoom s = (s.layout.next < SPENT_AT) × (s.layout.blob < BLOBS_SPENT_AT)
+
+-- `Spent` comes only where the store's root leaves no room, with the number by which it doesn't, and then it does come where a session is
+-- asked for, unless the store failed or there was no memory.
+pub record IsSpent (status : Status) (settings : Option Settings) (holds : Option Content) : Type 0 where
+  pub only : (next : ℕ) → status ≡ Spent next → IfSome holds (λ content. IsSpentAt content next)
+  pub comes : IfSome settings (λ told. IfSome holds (λ content. (next : ℕ) → IsSpentAt content next
+      → (status ≡ Spent next) ⊎ ((status ≡ StoreFault) ⊎ (status ≡ NoMemory))))
+
+-- ---- what was saved
+
+-- the store holds an image of the state that the items leave, saved and without a job
+abbrev pub SavesAll : State → Option Settings → Moment → Moment → Type 0
+SavesAll start settings before now = IfSome settings (λ told. IfSome before.left (λ input. (rules : Rules) → AreRules before.holds told rules
+    → HoldsImage now.holds (rested_state (saved_state (state_after rules start (items_of input))))))
+
 -- ---- what was written, from a state on
 
--- The input has at most as many bytes as it may and none is left; the sink gained exactly the output for its items.
+-- The input has at most as many bytes as it may, and none is left.
+abbrev pub TakesAll : Option Settings → Moment → Moment → Type 0
+TakesAll settings before now =
+    IfSome settings (λ told. IfSome before.left (λ input. (length input ≤ told.max_input) × (now.left ≡ Some [])))
+
+-- The sink gained exactly the output for the items of the input.
 abbrev pub AnswersAll : State → Option Settings → Moment → Moment → Type 0
 AnswersAll start settings before now = IfSome settings (λ told. IfSome before.left (λ input.
-    (length input ≤ told.max_input) × (now.left ≡ Some [])
-    × ((rules : Rules) → AreRules before.holds told rules → Appends before.gained now.gained (output_of rules start (items_of input)))))
+    (rules : Rules) → AreRules before.holds told rules → Appends before.gained now.gained (output_of rules start (items_of input))))
 
 -- The sink gained a prefix of the output for the items of the input.
 abbrev pub AnswersPrefix : State → Option Settings → Moment → Moment → Type 0
@@ -106,11 +135,11 @@ AnswersAllButOneRead start settings before now = IfSome settings (λ told. (give
     × ((rules : Rules) → AreRules before.holds told rules
     → GainsAtLeast before.gained now.gained (output_of rules start (whole_items_of (but_last now.last_read given)))))
 
--- The sink gained exactly the output for the whole items of some bytes with which those that the source gave begin: no reply was cut.
+-- The sink gained exactly the output for some items with which those of the input begin: no reply was cut.
 abbrev pub AnswersItems : State → Option Settings → Moment → Moment → Type 0
-AnswersItems start settings before now = IfSome settings (λ told. (given : List ℕ) × Consumes before.left now.left given
-    × ((rules : Rules) → AreRules before.holds told rules → (used : List ℕ) × (more : List ℕ) × (given ≡ used ++ more)
-    × Appends before.gained now.gained (output_of rules start (whole_items_of used))))
+AnswersItems start settings before now = IfSome settings (λ told. IfSome before.left (λ input.
+    (rules : Rules) → AreRules before.holds told rules → (answered left : List Entry) × (items_of input ≡ answered ++ left)
+    × Appends before.gained now.gained (output_of rules start answered)))
 
 -- No reply was held back where a session ended early.
 abbrev pub HoldsNothingBack : State → Status → Option Settings → Moment → Moment → Type 0
@@ -124,11 +153,11 @@ HoldsNothingBack start StoreFault settings before now =
     AnswersAllButOneRead start settings before now × AnswersItems start settings before now
 HoldsNothingBack start (Damaged blob) settings before now =
     AnswersAllButOneRead start settings before now × AnswersItems start settings before now
+HoldsNothingBack start (Spent next) settings before now = (now.left ≡ before.left) × (now.gained ≡ before.gained)
 
--- Over a store that tells what it holds, an input within the limit is answered, and a longer one called too long, unless there was no
--- memory.
+-- An input within the limit is answered, and a longer one called too long, unless there was no memory.
 abbrev pub Completes : Status → Option Settings → Moment → Type 0
-Completes status settings before = IfSome settings (λ told. IfSome before.left (λ input. IsSome before.holds →
+Completes status settings before = IfSome settings (λ told. IfSome before.left (λ input.
     (length input ≤ told.max_input → (status ≡ Done) ⊎ (status ≡ NoMemory))
     × (told.max_input < length input → (status ≡ InputTooLong) ⊎ (status ≡ NoMemory))))
 
@@ -144,6 +173,7 @@ code_of NoMemory = 4
 code_of InputTooLong = 5
 code_of StoreFault = 6
 code_of (Damaged blob) = 7
+code_of (Spent next) = 8
 
 -- how a session ends where no item could be read
 abbrev pub status_of : ReadEnd → Status
@@ -151,7 +181,14 @@ status_of ends.ReadFault = ReadFault
 status_of ends.InputTooLong = InputTooLong
 status_of ends.NoMemory = NoMemory
 
--- how it ends where an item couldn't be answered
+-- how it ends where the store couldn't be opened
+abbrev pub status_of_opening : BeginFault → Status
+status_of_opening opening.NoMemory = NoMemory
+status_of_opening opening.StoreFault = StoreFault
+status_of_opening (opening.Damaged blob) = Damaged blob
+status_of_opening (opening.Spent next) = Spent next
+
+-- how it ends where an item couldn't be answered, or the state not be saved
 abbrev pub status_of_trouble : Trouble → Status
 status_of_trouble troubles.NoMemory = NoMemory
 status_of_trouble troubles.StoreFault = StoreFault
@@ -162,9 +199,7 @@ abbrev pub status_of_fault : Fault → Status
 status_of_fault Failed = WriteFault
 status_of_fault faults.NoMemory = NoMemory
 
--- what holds however a session ends
+-- what was written, however a session ends
 pub record Ends (start : State) (status : Status) (told : Settings) (before now : Moment) : Type 0 where
-  pub too_long : IsTooLong status (Some told) before now
-  pub taken : StaysWithin (Some told) before now
   pub prefix : AnswersPrefix start (Some told) before now
   pub prompt : HoldsNothingBack start status (Some told) before now

@@ -5,13 +5,12 @@ ghost use Rattle.wu_base.specs.declared.troubles.Trouble.TheVariants.{Damaged};
 ghost use Rattle.wu_outside.specs.Content.{Content};
 ghost use Rattle.wu_ask.specs.Questions.{question_of, IsSoundAsk};
 ghost use Rattle.wu_tree.specs.Steps.{IsEvent};
-ghost use Rattle.wu_script.specs.Commands.{Flush, Stat, Work};
+ghost use Rattle.wu_script.specs.Commands.{Flush, Save, Stat, Work};
 ghost use Rattle.wu_script.specs.Said.{Asks, Happens, IsSoundItem, Operates, said_by, tokens_given};
 ghost use Rattle.wu_engine.specs.Causes.{HasTroubleCause};
 ghost use Rattle.wu_engine.specs.Stands.{Stands};
-ghost use Rattle.wu_engine.specs.States.{State, flushed_state, worked_state};
+ghost use Rattle.wu_engine.specs.States.{State, flushed_state, saved_state, worked_state};
 ghost use Rattle.wumpus_run.specs.Replies.{after, reply_to, said_bytes, verdict_reply};
-ghost use Rattle.wumpus_run.specs.Session.{KeepsRoot};
 
 use wu_ask::Query;
 use wu_base::{NoMemory, Trouble};
@@ -41,7 +40,6 @@ pub fn answer<D: Store>(
     ensures drawn { OnOk result (engine.new.parts.next_blob ≤ engine.old.parts.next_blob + WORK_MAX) }
     ensures counted { OnOk result (engine.new.parts.flushes ≤ engine.old.parts.flushes + 2) }
     ensures flush_at { OnOk result (engine.new.parts.flush_at ≡ engine.old.parts.flush_at) }
-    ensures root { KeepsRoot (D.holds store.old) (D.holds store.new) }
     ensures goes_on { OnOk result (engine.new.ended ≡ None) }
     ensures cause { HasTroubleCause engine.old.ended (D.faults store.old) (D.faults store.new) result }
     ensures damaged { (s : State) → Stands engine.old (D.holds store.old) s → (blob : ℕ) → result ≡ Err (Damaged blob) → ⊥ }
@@ -71,7 +69,6 @@ pub fn reply_to<D: Store>(
     ensures drawn { OnOk result (engine.new.parts.next_blob ≤ engine.old.parts.next_blob + WORK_MAX) }
     ensures counted { OnOk result (engine.new.parts.flushes ≤ engine.old.parts.flushes + 2) }
     ensures flush_at { OnOk result (engine.new.parts.flush_at ≡ engine.old.parts.flush_at) }
-    ensures root { KeepsRoot (D.holds store.old) (D.holds store.new) }
     ensures goes_on { OnOk result (engine.new.ended ≡ None) }
     ensures cause { HasTroubleCause engine.old.ended (D.faults store.old) (D.faults store.new) result }
     ensures damaged { (s : State) → Stands engine.old (D.holds store.old) s → (blob : ℕ) → result ≡ Err (Damaged blob) → ⊥ }
@@ -82,6 +79,7 @@ pub fn reply_to<D: Store>(
         Item::Command(Command::Flush) => reply_to_flush(engine, store),
         Item::Command(Command::Work(units)) => reply_to_work(engine, store, units),
         Item::Command(Command::Stat) => reply_to_stat(engine),
+        Item::Command(Command::Save) => reply_to_save(engine, store),
         Item::Text { ino, body } => {
             reply_to_event(engine, store, &Event::Text { ino }, body.as_slice())
         }
@@ -109,7 +107,6 @@ fn reply_to_event<D: Store>(
     ensures drawn { OnOk result (engine.new.parts.next_blob ≤ engine.old.parts.next_blob + 2) }
     ensures counted { OnOk result (engine.new.parts.flushes ≤ engine.old.parts.flushes + 2) }
     ensures flush_at { OnOk result (engine.new.parts.flush_at ≡ engine.old.parts.flush_at) }
-    ensures root { KeepsRoot (D.holds store.old) (D.holds store.new) }
     ensures goes_on { OnOk result (engine.new.ended ≡ None) }
     ensures cause { HasTroubleCause engine.old.ended (D.faults store.old) (D.faults store.new) result }
     ensures damaged { (s : State) → Stands engine.old (D.holds store.old) s → (blob : ℕ) → result ≡ Err (Damaged blob) → ⊥ }
@@ -130,7 +127,6 @@ fn reply_to_query<D: Store>(
         (λ reply. (reply ≡ reply_to s (Asks query.now.uid (question_of query.now.ask))) × Stands engine.new (D.holds store.new) s) }
     ensures space { engine.new.space ≡ engine.old.space }
     ensures parts { engine.new.parts ≡ record engine.old.parts { kept = engine.new.parts.kept } }
-    ensures root { KeepsRoot (D.holds store.old) (D.holds store.new) }
     ensures goes_on { OnOk result (engine.new.ended ≡ None) }
     ensures cause { HasTroubleCause engine.old.ended (D.faults store.old) (D.faults store.new) result }
     ensures damaged { (s : State) → Stands engine.old (D.holds store.old) s → (blob : ℕ) → result ≡ Err (Damaged blob) → ⊥ }
@@ -150,7 +146,6 @@ fn reply_to_flush<D: Store>(engine: &mut Engine, store: &mut D) -> Result<Option
     ensures drawn { OnOk result (engine.new.parts.next_blob ≤ engine.old.parts.next_blob + 1) }
     ensures counted { OnOk result (engine.new.parts.flushes ≤ engine.old.parts.flushes + 2) }
     ensures flush_at { OnOk result (engine.new.parts.flush_at ≡ engine.old.parts.flush_at) }
-    ensures root { KeepsRoot (D.holds store.old) (D.holds store.new) }
     ensures goes_on { OnOk result (engine.new.ended ≡ None) }
     ensures cause { HasTroubleCause engine.old.ended (D.faults store.old) (D.faults store.new) result }
     ensures damaged { (blob : ℕ) → result ≡ Err (Damaged blob) → ⊥ }
@@ -173,7 +168,6 @@ fn reply_to_work<D: Store>(
     ensures drawn { OnOk result (engine.new.parts.next_blob ≤ engine.old.parts.next_blob + units) }
     ensures counted { OnOk result (engine.new.parts.flushes ≡ engine.old.parts.flushes) }
     ensures flush_at { OnOk result (engine.new.parts.flush_at ≡ engine.old.parts.flush_at) }
-    ensures root { KeepsRoot (D.holds store.old) (D.holds store.new) }
     ensures goes_on { OnOk result (engine.new.ended ≡ None) }
     ensures cause { HasTroubleCause engine.old.ended (D.faults store.old) (D.faults store.new) result }
     ensures damaged { (s : State) → Stands engine.old (D.holds store.old) s → (blob : ℕ) → result ≡ Err (Damaged blob) → ⊥ }
@@ -191,6 +185,25 @@ fn reply_to_stat(engine: &Engine) -> Result<Option<Reply>, Trouble>
 {
     let stat = engine.stat()?;
     Ok(Some(Reply::Stat(stat)))
+}
+
+/// The reply to a save.
+fn reply_to_save<D: Store>(engine: &mut Engine, store: &mut D) -> Result<Option<Reply>, Trouble>
+    requires goes_on { engine.old.ended ≡ None }
+    requires blobs { engine.old.parts.next_blob + 2 < 2 ^ 63 }
+    requires flushes { engine.old.parts.flushes + 1 < 2 ^ 63 }
+    ensures reply { (s : State) → Stands engine.old (D.holds store.old) s → IfOk result
+        (λ reply. (reply ≡ reply_to s (Operates Save)) × Stands engine.new (D.holds store.new) (saved_state s)) }
+    ensures space { engine.new.space ≡ engine.old.space }
+    ensures drawn { OnOk result (engine.new.parts.next_blob ≤ engine.old.parts.next_blob + 2) }
+    ensures counted { OnOk result (engine.new.parts.flushes ≤ engine.old.parts.flushes + 2) }
+    ensures flush_at { OnOk result (engine.new.parts.flush_at ≡ engine.old.parts.flush_at) }
+    ensures goes_on { OnOk result (engine.new.ended ≡ None) }
+    ensures cause { HasTroubleCause engine.old.ended (D.faults store.old) (D.faults store.new) result }
+    ensures damaged { (blob : ℕ) → result ≡ Err (Damaged blob) → ⊥ }
+{
+    engine.save(store)?;
+    Ok(Some(Reply::Ok))
 }
 
 fn verdict_reply(verdict: Verdict) -> Reply

@@ -64,7 +64,10 @@ fn tally_of(alloc: Global, script: Vec<u8>) -> Result<Tally, NoMemory>
     let mut source = PlainSource::new(script);
     let mut store = PlainStore::new(alloc);
     let mut reader = Reader::new(alloc, SCRIPT_MAX)?;
-    let mut engine = Engine::begin(alloc, &mut store, u64::from(FLUSH_DEFAULT))?;
+    let mut engine = match Engine::begin(alloc, &mut store, u64::from(FLUSH_DEFAULT)) {
+        Ok(engine) => engine,
+        Err(_) => return Err(NoMemory),
+    };
     let mut tally = Tally::new();
     'items: loop {
         let item = match reader.next(&mut source) {

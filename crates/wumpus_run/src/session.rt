@@ -1,22 +1,24 @@
 //! A session: the script is read as it comes, and each item is answered in turn.
-ghost use Rattle.std.specs.Prelude.{◌≡◌, ℕ, ◌≤◌, [], None, Some, false, IfOk, IsSome, OnErr, OnOk, MatchBool};
+ghost use Rattle.std.specs.Prelude.{◌≡◌, ◌≢◌, ◌⊎◌, ℕ, ◌+◌, ◌<◌, ◌≤◌, ◌^◌, [], None, Some, Err, false, IfOk, IfErr, OnErr, OnOk, MatchBool};
 ghost use Rattle.std.specs.Io.KnownBytes.{Appends};
-ghost use Rattle.wu_base.specs.declared.limits.TheConstants.{INPUT_MAX};
+ghost use Rattle.wu_base.specs.declared.limits.TheConstants.{BLOBS_SPENT_AT, INPUT_MAX, SPENT_AT};
 ghost use Rattle.wu_outside.specs.Faults.{HasFaultCause, Rose};
 ghost use Rattle.wu_outside.specs.Gains.{GainsPrefix};
 ghost use Rattle.wu_script.specs.Items.{IsBeforeEnd};
 ghost use Rattle.wu_options.specs.CommandLines.{command_line_of, texts_of};
 ghost use Rattle.wu_engine.specs.Stands.{Stands};
-ghost use Rattle.wu_engine.specs.States.{first_state};
+ghost use Rattle.wu_engine.specs.Opening.{HoldsImage, IsBeginCause, IsSpentWhere};
+ghost use Rattle.wu_engine.specs.States.{State, rested_state, saved_state};
+ghost use Rattle.wu_engine.specs.declared.verdicts.BeginFault.TheVariants.{Damaged as SavedIsDamaged};
 ghost use Rattle.wumpus_run.specs.Demo.{IfDemo, IsShown};
-ghost use Rattle.wumpus_run.specs.Session.{settings_of, moment, status_of, status_of_fault, status_of_trouble, IsUsage, IsCounted, AnswersAll, AnswersPrefix, StaysWithin, IsTooLong, HoldsNothingBack, KeepsRoot, Ends, Completes};
+ghost use Rattle.wumpus_run.specs.Session.{settings_of, moment, status_of, status_of_fault, status_of_opening, status_of_trouble, IsUsage, IsCounted, IsSpent, AnswersAll, AnswersPrefix, FromImage, HasRoom, SavesAll, StaysWithin, IsTooLong, HoldsNothingBack, Ends, Completes, TakesAll};
 
 use crate::answering::answer;
 use crate::demo::demo;
 use crate::statuses::Status;
 use std::alloc::Global;
 use wu_base::{NoMemory, Trouble};
-use wu_engine::Engine;
+use wu_engine::{BeginFault, Engine};
 use wu_options::{CommandLine, Settings, read_command_line};
 use wu_outside::{Fault, Sink, Source, Store, write_all};
 use wu_script::{Item, ReadEnd, Reader};
@@ -24,9 +26,9 @@ use wu_script::{Item, ReadEnd, Reader};
 /// Runs a session: reads the script from the source as it comes, and writes the reply to each of its
 /// items to the sink before it reads the next. `words` are the command-line arguments, those after
 /// the program's name; they say how many bytes the input may have. The source is one that has not
-/// given its end. The session begins with the root directory alone, whatever the store holds; it puts its
-/// texts and parts there under blobs from number 1 on, and saves nothing. What is said of the output is said where
-/// source, sink and store tell what they have.
+/// given its end. The session goes on from what the store holds, from the root directory alone where that is
+/// nothing, and its end is a save; a session that ends otherwise saves nothing more. What is said of the output is
+/// said where source, sink and store tell what they have, and the store holds an image of a state.
 pub fn run<I: Source, O: Sink, D: Store>(
     alloc: Global,
     words: &[&str],
@@ -43,12 +45,23 @@ pub fn run<I: Source, O: Sink, D: Store>(
     // Where they ask for a demonstration, the sink gained its line, or a prefix of it.
     ensures demo { IfDemo (command_line_of (texts_of words.now)) (λ number. IsShown number result (O.gained sink.old) (O.gained sink.new)) }
 
-    // The input was read to its end, and the sink gained the replies to its items, and nothing else.
-    ensures done { result ≡ Status.Done → AnswersAll first_state (settings_of (texts_of words.now))
+    // The input was read to its end, the sink gained the replies to its items, and nothing else, and the store holds an
+    // image of the state after them.
+    ensures all_taken { result ≡ Status.Done → TakesAll (settings_of (texts_of words.now))
         (moment (I.left source.old) (I.last_read source.old) (I.faults source.old)
         (O.gained sink.old) (O.faults sink.old) (D.holds store.old) (D.faults store.old))
         (moment (I.left source.new) (I.last_read source.new) (I.faults source.new)
         (O.gained sink.new) (O.faults sink.new) (D.holds store.new) (D.faults store.new)) }
+    ensures done { result ≡ Status.Done → FromImage (D.holds store.old) (λ s. AnswersAll s (settings_of (texts_of words.now))
+        (moment (I.left source.old) (I.last_read source.old) (I.faults source.old)
+        (O.gained sink.old) (O.faults sink.old) (D.holds store.old) (D.faults store.old))
+        (moment (I.left source.new) (I.last_read source.new) (I.faults source.new)
+        (O.gained sink.new) (O.faults sink.new) (D.holds store.new) (D.faults store.new))) }
+    ensures saved { result ≡ Status.Done → FromImage (D.holds store.old) (λ s. SavesAll s (settings_of (texts_of words.now))
+        (moment (I.left source.old) (I.last_read source.old) (I.faults source.old)
+        (O.gained sink.old) (O.faults sink.old) (D.holds store.old) (D.faults store.old))
+        (moment (I.left source.new) (I.last_read source.new) (I.faults source.new)
+        (O.gained sink.new) (O.faults sink.new) (D.holds store.new) (D.faults store.new))) }
 
     // A fault of the source, the sink or the store ends the session, exactly where its count of faults rose.
     ensures read_fault { IsCounted Status.ReadFault result (I.faults source.old) (I.faults source.new) }
@@ -60,9 +73,9 @@ pub fn run<I: Source, O: Sink, D: Store>(
         (moment (I.left source.new) (I.last_read source.new) (I.faults source.new)
         (O.gained sink.new) (O.faults sink.new) (D.holds store.new) (D.faults store.new)) }
 
-    // A store that tells what it holds is never called damaged, and its root stays.
-    ensures damaged { IsSome (D.holds store.old) → (blob : ℕ) → result ≡ Status.Damaged blob → ⊥ }
-    ensures root { KeepsRoot (D.holds store.old) (D.holds store.new) }
+    // A store that holds an image of a state is never called damaged; it is called spent exactly where it is.
+    ensures damaged { FromImage (D.holds store.old) (λ s. (blob : ℕ) → result ≡ Status.Damaged blob → ⊥) }
+    ensures spent { IsSpent result (settings_of (texts_of words.now)) (D.holds store.old) }
 
     // Whatever the status, no byte after the one past the limit was taken, and the sink gained a
     // prefix of the output.
@@ -71,28 +84,28 @@ pub fn run<I: Source, O: Sink, D: Store>(
         (O.gained sink.old) (O.faults sink.old) (D.holds store.old) (D.faults store.old))
         (moment (I.left source.new) (I.last_read source.new) (I.faults source.new)
         (O.gained sink.new) (O.faults sink.new) (D.holds store.new) (D.faults store.new)) }
-    ensures prefix { AnswersPrefix first_state (settings_of (texts_of words.now))
+    ensures prefix { FromImage (D.holds store.old) (λ s. AnswersPrefix s (settings_of (texts_of words.now))
         (moment (I.left source.old) (I.last_read source.old) (I.faults source.old)
         (O.gained sink.old) (O.faults sink.old) (D.holds store.old) (D.faults store.old))
         (moment (I.left source.new) (I.last_read source.new) (I.faults source.new)
-        (O.gained sink.new) (O.faults sink.new) (D.holds store.new) (D.faults store.new)) }
+        (O.gained sink.new) (O.faults sink.new) (D.holds store.new) (D.faults store.new))) }
 
     // No reply was held back: where the source failed or gave too much, the sink gained exactly the
     // replies to the whole items that the source gave; where sink or store failed or there was no memory,
     // at least those to the whole items before the bytes of the source's last read. Where the store
     // failed, or is damaged, no reply was cut.
-    ensures prompt { HoldsNothingBack first_state result (settings_of (texts_of words.now))
+    ensures prompt { FromImage (D.holds store.old) (λ s. HoldsNothingBack s result (settings_of (texts_of words.now))
         (moment (I.left source.old) (I.last_read source.old) (I.faults source.old)
         (O.gained sink.old) (O.faults sink.old) (D.holds store.old) (D.faults store.old))
         (moment (I.left source.new) (I.last_read source.new) (I.faults source.new)
-        (O.gained sink.new) (O.faults sink.new) (D.holds store.new) (D.faults store.new)) }
+        (O.gained sink.new) (O.faults sink.new) (D.holds store.new) (D.faults store.new))) }
 
     // Without a fault the session is done, unless there was no memory or the input is too long.
     ensures complete { ¬ Rose (I.faults source.old) (I.faults source.new) → ¬ Rose (O.faults sink.old) (O.faults sink.new)
         → ¬ Rose (D.faults store.old) (D.faults store.new)
-        → Completes result (settings_of (texts_of words.now))
+        → FromImage (D.holds store.old) (λ s. HasRoom s → Completes result (settings_of (texts_of words.now))
         (moment (I.left source.old) (I.last_read source.old) (I.faults source.old)
-        (O.gained sink.old) (O.faults sink.old) (D.holds store.old) (D.faults store.old)) }
+        (O.gained sink.old) (O.faults sink.old) (D.holds store.old) (D.faults store.old))) }
 {
     match read_command_line(alloc, words) {
         Ok(Some(CommandLine::Run(settings))) => answer_script(alloc, settings, source, sink, store),
@@ -102,7 +115,7 @@ pub fn run<I: Source, O: Sink, D: Store>(
     }
 }
 
-/// Answers the items of the script in turn, from the root directory alone.
+/// Answers the items of the script in turn, from what the store holds, and saves what they leave.
 fn answer_script<I: Source, O: Sink, D: Store>(
     alloc: Global,
     settings: Settings,
@@ -113,25 +126,45 @@ fn answer_script<I: Source, O: Sink, D: Store>(
     requires goes_on { I.ended source.old ≡ false }
     requires within { settings.max_input ≤ INPUT_MAX }
     ensures usage { result ≡ Status.Usage → ⊥ }
-    ensures done { result ≡ Status.Done → AnswersAll first_state (Some settings)
+    ensures all_taken { result ≡ Status.Done → TakesAll (Some settings)
         (moment (I.left source.old) (I.last_read source.old) (I.faults source.old)
         (O.gained sink.old) (O.faults sink.old) (D.holds store.old) (D.faults store.old))
         (moment (I.left source.new) (I.last_read source.new) (I.faults source.new)
         (O.gained sink.new) (O.faults sink.new) (D.holds store.new) (D.faults store.new)) }
+    ensures done { result ≡ Status.Done → FromImage (D.holds store.old) (λ s. AnswersAll s (Some settings)
+        (moment (I.left source.old) (I.last_read source.old) (I.faults source.old)
+        (O.gained sink.old) (O.faults sink.old) (D.holds store.old) (D.faults store.old))
+        (moment (I.left source.new) (I.last_read source.new) (I.faults source.new)
+        (O.gained sink.new) (O.faults sink.new) (D.holds store.new) (D.faults store.new))) }
+    ensures saved { result ≡ Status.Done → FromImage (D.holds store.old) (λ s. SavesAll s (Some settings)
+        (moment (I.left source.old) (I.last_read source.old) (I.faults source.old)
+        (O.gained sink.old) (O.faults sink.old) (D.holds store.old) (D.faults store.old))
+        (moment (I.left source.new) (I.last_read source.new) (I.faults source.new)
+        (O.gained sink.new) (O.faults sink.new) (D.holds store.new) (D.faults store.new))) }
     ensures read_fault { IsCounted Status.ReadFault result (I.faults source.old) (I.faults source.new) }
     ensures write_fault { IsCounted Status.WriteFault result (O.faults sink.old) (O.faults sink.new) }
     ensures store_fault { IsCounted Status.StoreFault result (D.faults store.old) (D.faults store.new) }
-    ensures damaged { IsSome (D.holds store.old) → (blob : ℕ) → result ≡ Status.Damaged blob → ⊥ }
-    ensures root { KeepsRoot (D.holds store.old) (D.holds store.new) }
-    ensures ends { Ends first_state result settings
+    ensures damaged { FromImage (D.holds store.old) (λ s. (blob : ℕ) → result ≡ Status.Damaged blob → ⊥) }
+    ensures spent { IsSpent result (Some settings) (D.holds store.old) }
+    ensures too_long { IsTooLong result (Some settings)
         (moment (I.left source.old) (I.last_read source.old) (I.faults source.old)
         (O.gained sink.old) (O.faults sink.old) (D.holds store.old) (D.faults store.old))
         (moment (I.left source.new) (I.last_read source.new) (I.faults source.new)
         (O.gained sink.new) (O.faults sink.new) (D.holds store.new) (D.faults store.new)) }
+    ensures taken { StaysWithin (Some settings)
+        (moment (I.left source.old) (I.last_read source.old) (I.faults source.old)
+        (O.gained sink.old) (O.faults sink.old) (D.holds store.old) (D.faults store.old))
+        (moment (I.left source.new) (I.last_read source.new) (I.faults source.new)
+        (O.gained sink.new) (O.faults sink.new) (D.holds store.new) (D.faults store.new)) }
+    ensures ends { FromImage (D.holds store.old) (λ s. Ends s result settings
+        (moment (I.left source.old) (I.last_read source.old) (I.faults source.old)
+        (O.gained sink.old) (O.faults sink.old) (D.holds store.old) (D.faults store.old))
+        (moment (I.left source.new) (I.last_read source.new) (I.faults source.new)
+        (O.gained sink.new) (O.faults sink.new) (D.holds store.new) (D.faults store.new))) }
 {
     let (mut reader, mut engine) = match start(alloc, settings, store) {
         Ok(start) => start,
-        Err(NoMemory) => return Status::NoMemory,
+        Err(fault) => return status_of_opening(fault),
     };
     let mut reply = Vec::new(alloc);
     'items: loop {
@@ -140,7 +173,7 @@ fn answer_script<I: Source, O: Sink, D: Store>(
             Err(end) => return status_of(end),
         };
         if is_end(&item) {
-            return Status::Done;
+            return save(&mut engine, store);
         }
         reply.clear();
         match answer(&mut engine, store, item, &mut reply) {
@@ -154,25 +187,57 @@ fn answer_script<I: Source, O: Sink, D: Store>(
     }
 }
 
-/// A reader of the script, and an engine for the root directory alone.
+/// A reader of the script, and an engine that goes on from what the store holds.
 fn start<D: Store>(
     alloc: Global,
     settings: Settings,
     store: &mut D,
-) -> Result<(Reader, Engine), NoMemory>
+) -> Result<(Reader, Engine), BeginFault>
     ensures reader { IfOk result (λ start. start.0 ≡ record { bytes = []; spare = settings.max_input; ended = false }) }
-    ensures engine { IfOk result (λ start. IsSome (D.holds store.old) → Stands start.1 (D.holds store.new) first_state) }
-    ensures next { IfOk result (λ start. start.1.space.next ≡ 0) }
-    ensures next_blob { IfOk result (λ start. start.1.parts.next_blob ≡ 1) }
-    ensures flushes { IfOk result (λ start. start.1.parts.flushes ≡ 0) }
+    ensures stands { IfOk result (λ start. (s : State) → HoldsImage (D.holds store.old) s → Stands start.1 (D.holds store.new) s) }
+    ensures next { IfOk result (λ start. start.1.space.next < SPENT_AT) }
+    ensures next_blob { IfOk result (λ start. start.1.parts.next_blob < BLOBS_SPENT_AT) }
+    ensures flushes { IfOk result (λ start. start.1.parts.flushes < 2 ^ 62) }
     ensures flush_at { IfOk result (λ start. start.1.parts.flush_at ≡ settings.flush_at) }
     ensures goes_on { IfOk result (λ start. start.1.ended ≡ None) }
-    ensures store { store.new ≡ store.old }
+    ensures holds { D.holds store.new ≡ D.holds store.old }
+    ensures calm { OnOk result (D.faults store.new ≡ D.faults store.old) }
+    ensures cause { IfErr result (IsBeginCause (D.holds store.old) (D.faults store.old) (D.faults store.new)) }
+    ensures spent { IsSpentWhere (D.holds store.old) result }
+    ensures undamaged { (s : State) → HoldsImage (D.holds store.old) s → (blob : ℕ) → result ≢ Err (SavedIsDamaged blob) }
 {
     Ok((
         Reader::new(alloc, settings.max_input)?,
         Engine::begin(alloc, store, u64::from(settings.flush_at))?,
     ))
+}
+
+/// Saves what the items of the script left: how the session ends.
+fn save<D: Store>(engine: &mut Engine, store: &mut D) -> Status
+    requires goes_on { engine.old.ended ≡ None }
+    requires blobs { engine.old.parts.next_blob + 2 < 2 ^ 63 }
+    requires flushes { engine.old.parts.flushes + 1 < 2 ^ 63 }
+    ensures image { (s : State) → Stands engine.old (D.holds store.old) s → result ≡ Status.Done
+        → HoldsImage (D.holds store.new) (rested_state (saved_state s)) }
+    ensures ends { (result ≡ Status.Done) ⊎ ((result ≡ Status.NoMemory) ⊎ (result ≡ Status.StoreFault)) }
+    ensures store_fault { IsCounted Status.StoreFault result (D.faults store.old) (D.faults store.new) }
+{
+    match engine.save(store) {
+        Ok(()) => Status::Done,
+        Err(trouble) => status_of_trouble(trouble),
+    }
+}
+
+/// How a session ends where the store couldn't be opened.
+fn status_of_opening(fault: BeginFault) -> Status
+    ensures { result ≡ status_of_opening fault }
+{
+    match fault {
+        BeginFault::NoMemory => Status::NoMemory,
+        BeginFault::StoreFault => Status::StoreFault,
+        BeginFault::Damaged { blob } => Status::Damaged { blob },
+        BeginFault::Spent { next } => Status::Spent { next },
+    }
 }
 
 /// How a session ends where no item could be read.
@@ -186,7 +251,7 @@ fn status_of(end: ReadEnd) -> Status
     }
 }
 
-/// How a session ends where an item couldn't be answered.
+/// How a session ends where an item couldn't be answered, or the state not be saved.
 fn status_of_trouble(trouble: Trouble) -> Status
     ensures { result ≡ status_of_trouble trouble }
 {

@@ -19,8 +19,10 @@ pub enum Status {
     InputTooLong,
     /// The store failed.
     StoreFault,
-    /// What the store has of this blob isn't what was put there.
+    /// What the store has of this blob isn't what was put there; the root counts as blob 0.
     Damaged { blob: u64 },
+    /// The store leaves no room for a session, by this next address or next blob.
+    Spent { next: u64 },
 }
 
 impl Status {
@@ -37,6 +39,7 @@ impl Status {
             Status::InputTooLong => 5,
             Status::StoreFault => 6,
             Status::Damaged { .. } => 7,
+            Status::Spent { .. } => 8,
         }
     }
 }

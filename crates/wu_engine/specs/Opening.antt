@@ -1,0 +1,114 @@
+-- How an engine is opened over a store: from the root, the checkpoint that it names, and the parts that this records.
+use Rattle.std.specs.Prelude.{◌≡◌, ◌⊎◌, ℕ, ◌≤◌, nat_le, if◌then◌else◌, List, [], ◌∷◌, ◌++◌, Option, None, Some, IfSome, option_map, Result, Err}
+use Rattle.std.specs.List.{AllByRecursion}
+use Rattle.wu_base.specs.declared.limits.TheConstants.{SPENT_AT, BLOBS_SPENT_AT}
+use Rattle.wu_outside.specs.Content.{Content}
+use Rattle.wu_outside.specs.Faults.{Rose}
+use Rattle.wu_outside.specs.declared.ranges.ReadRange.{ReadRange}
+use Rattle.wu_layout.specs.Invariants.{SomeOf}
+use Rattle.wu_part.specs.Directories.{PartDirectory}
+use Rattle.wu_parts.specs.Loading.{AreOpened, IsFirstBroken, IsFrontOf}
+use Rattle.wu_image.specs.declared.checkpoints.Checkpoint.{Checkpoint}
+use Rattle.wu_image.specs.declared.roots.Root.{Root}
+use Rattle.wu_image.specs.Breakage.{IsBrokenCheckpoint, IsBrokenRoot}
+use Rattle.wu_image.specs.Images.{IsCheckpointOf, IsImage}
+use Rattle.wu_image.specs.Roots.{SpellsRoot}
+use Rattle.wu_engine.specs.declared.verdicts.BeginFault.{BeginFault}
+use Rattle.wu_engine.specs.declared.verdicts.BeginFault.TheVariants as faults
+use Rattle.wu_engine.specs.States.{State, IsState}
+
+-- the store tells what it holds, and that is an image of the state
+abbrev pub HoldsImage : Option Content → State → Type 0
+HoldsImage None s = ⊥
+HoldsImage (Some content) s = IsState s × IsImage content s.tree s.texts s.layout
+
+-- ---- what is found
+
+-- the content's root
+pub record HasRoot (content : Content) (root : Root) : Type 0 where
+  pub code : List ℕ
+  pub there : content.root ≡ Some code
+  pub spelled : SpellsRoot root code
+
+-- Of a root's two numbers the first that leaves no room for a session: the next address, or the next blob.
+abbrev pub spent_of : Root → Option ℕ
+spent_of root =
+    if nat_le SPENT_AT root.next_address then Some root.next_address
+    else if nat_le BLOBS_SPENT_AT root.next_blob then Some root.next_blob
+    else None
+
+-- the content's root leaves room
+pub record HasOpenRoot (content : Content) (root : Root) : Type 0 where
+  pub has : HasRoot content root
+  pub unspent : spent_of root ≡ None
+
+-- the checkpoint that the root names
+pub record HasCheckpoint (content : Content) (root : Root) (checkpoint : Checkpoint) : Type 0 where
+  pub bytes : List ℕ
+  pub held : content.blobs root.checkpoint ≡ Some bytes
+  pub spelled : IsCheckpointOf root bytes checkpoint
+
+-- ---- what is read
+
+-- the checkpoint, whole, in one read
+abbrev pub checkpoint_range : Root → ReadRange
+checkpoint_range root = record { blob = root.checkpoint; at = 0; len = root.size }
+
+-- the range is the checkpoint's, or a header's or a directory's of one of its parts
+abbrev pub IsOpeningRange : Content → ReadRange → Type 0
+IsOpeningRange content range =
+    (root : Root) × HasOpenRoot content root
+    × ((range ≡ checkpoint_range root)
+    ⊎ ((checkpoint : Checkpoint) × HasCheckpoint content root checkpoint × SomeOf (IsFrontOf (Some content) range) checkpoint.parts))
+
+-- nothing else was read
+abbrev pub ReadsAtOpening : Option Content → Option (List ReadRange) → Option (List ReadRange) → Type 0
+ReadsAtOpening holds before after =
+    (read : List ReadRange) × IfSome holds (λ content. AllByRecursion (IsOpeningRange content) read) × (after ≡ option_map (λ earlier. earlier ++ read) before)
+
+-- ---- what comes of it
+
+-- the root leaves room, and its checkpoint and that one's parts were opened, which took these reads
+pub record OpensSaved (content : Content) (read : List ReadRange) : Type 0 where
+  pub root : Root
+  pub found : HasOpenRoot content root
+  pub checkpoint : Checkpoint
+  pub saved : HasCheckpoint content root checkpoint
+  pub directories : List PartDirectory
+  pub fronts : List ReadRange
+  pub parts : AreOpened (Some content) checkpoint.parts directories fronts
+  pub read_are : read ≡ checkpoint_range root ∷ fronts
+
+-- there is no root, and nothing is read; or what was saved is opened
+abbrev pub Opens : Content → List ReadRange → Type 0
+Opens content read = (content.root ≡ None) × (read ≡ []) ⊎ OpensSaved content read
+
+-- the content was opened, and that was read
+abbrev pub IsOpen : Option Content → Option (List ReadRange) → Option (List ReadRange) → Type 0
+IsOpen holds before after = (read : List ReadRange) × IfSome holds (λ content. Opens content read) × (after ≡ option_map (λ earlier. earlier ++ read) before)
+
+-- the content's root leaves no room, by that number
+abbrev pub IsSpentAt : Content → ℕ → Type 0
+IsSpentAt content number = (root : Root) × HasRoot content root × (spent_of root ≡ Some number)
+
+-- the root is broken; or it leaves room and the checkpoint is broken; or that isn't and the leftmost part that can't be opened is the one
+abbrev pub IsDamagedAtOpening : Content → ℕ → Type 0
+IsDamagedAtOpening content blob =
+    (blob ≡ 0) × IsBrokenRoot content.root
+    ⊎ ((root : Root) × HasOpenRoot content root × (root.checkpoint ≡ blob) × IsBrokenCheckpoint root (content.blobs blob))
+    ⊎ ((root : Root) × HasOpenRoot content root × (checkpoint : Checkpoint) × HasCheckpoint content root checkpoint
+    × IsFirstBroken (Some content) checkpoint.parts blob)
+
+-- Why an engine couldn't be opened. A store fault is answered only where the store's count of faults rose, which else is as it was;
+-- of what a store tells, the first of these that is so: the root is broken, it leaves no room, the checkpoint is broken, a part is.
+pub record IsBeginCause (holds : Option Content) (before now : ℕ) (fault : BeginFault) : Type 0 where
+  pub counted : before ≤ now
+  pub store_fault : fault ≡ faults.StoreFault → Rose before now
+  pub calm : (fault ≡ faults.StoreFault → ⊥) → now ≡ before
+  pub spent : (number : ℕ) → fault ≡ faults.Spent number → IfSome holds (λ content. IsSpentAt content number)
+  pub damaged : (blob : ℕ) → fault ≡ faults.Damaged blob → IfSome holds (λ content. IsDamagedAtOpening content blob)
+
+-- where the content's root leaves no room, that is answered, unless the store failed or there was no memory
+abbrev pub IsSpentWhere : {T : Type 0} → Option Content → Result T BeginFault → Type 0
+IsSpentWhere holds result = IfSome holds (λ content. (number : ℕ) → IsSpentAt content number
+    → (result ≡ Err (faults.Spent number)) ⊎ ((result ≡ Err faults.StoreFault) ⊎ (result ≡ Err faults.NoMemory)))
