@@ -1,9 +1,13 @@
 -- How an engine is opened over a store: from the root, the checkpoint that it names, and the parts that this records.
 use Rattle.std.specs.Prelude.{◌≡◌, ◌⊎◌, ℕ, ◌≤◌, nat_le, if◌then◌else◌, List, [], ◌∷◌, ◌++◌, Option, None, Some, IfSome, option_map, Result, Err}
 use Rattle.std.specs.List.{AllByRecursion}
+use Rattle.wu_base.specs.declared.troubles.Trouble.{Trouble}
+use Rattle.wu_base.specs.declared.troubles.Trouble.TheVariants as troubles
 use Rattle.wu_base.specs.declared.limits.TheConstants.{SPENT_AT, BLOBS_SPENT_AT}
 use Rattle.wu_outside.specs.Content.{Content}
 use Rattle.wu_outside.specs.Faults.{Rose}
+use Rattle.wu_outside.specs.declared.traits.Fault.{Fault}
+use Rattle.wu_outside.specs.declared.traits.Fault.TheVariants as calls
 use Rattle.wu_outside.specs.declared.ranges.ReadRange.{ReadRange}
 use Rattle.wu_layout.specs.Invariants.{SomeOf}
 use Rattle.wu_part.specs.Directories.{PartDirectory}
@@ -13,8 +17,8 @@ use Rattle.wu_image.specs.declared.roots.Root.{Root}
 use Rattle.wu_image.specs.Breakage.{IsBrokenCheckpoint, IsBrokenRoot}
 use Rattle.wu_image.specs.Images.{IsCheckpointOf, IsImage}
 use Rattle.wu_image.specs.Roots.{SpellsRoot}
-use Rattle.wu_engine.specs.declared.verdicts.BeginFault.{BeginFault}
-use Rattle.wu_engine.specs.declared.verdicts.BeginFault.TheVariants as faults
+use Rattle.wu_engine.specs.declared.faults.BeginFault.{BeginFault}
+use Rattle.wu_engine.specs.declared.faults.BeginFault.TheVariants as faults
 use Rattle.wu_engine.specs.States.{State, IsState}
 
 -- the store tells what it holds, and that is an image of the state
@@ -65,6 +69,19 @@ IsOpeningRange content range =
 abbrev pub ReadsAtOpening : Option Content → Option (List ReadRange) → Option (List ReadRange) → Type 0
 ReadsAtOpening holds before after =
     (read : List ReadRange) × IfSome holds (λ content. AllByRecursion (IsOpeningRange content) read) × (after ≡ option_map (λ earlier. earlier ++ read) before)
+
+-- ---- faults
+
+-- a failed call of the store, as a fault of the opening
+abbrev pub fault_of_call : Fault → BeginFault
+fault_of_call calls.Failed = faults.StoreFault
+fault_of_call calls.NoMemory = faults.NoMemory
+
+-- parts that couldn't be opened
+abbrev pub fault_of_trouble : Trouble → BeginFault
+fault_of_trouble troubles.NoMemory = faults.NoMemory
+fault_of_trouble troubles.StoreFault = faults.StoreFault
+fault_of_trouble (troubles.Damaged blob) = faults.Damaged blob
 
 -- ---- what comes of it
 

@@ -16,9 +16,12 @@ ghost use Rattle.wu_base.specs.declared.troubles.Trouble.{Trouble};
 ghost use Rattle.std.specs.Coded.{→_prop};
 ghost use Rattle.wu_engine.specs.Soundness.{IsSound, IsSound-prop};
 
+use crate::faults::BeginFault;
+use crate::opening::{open_first, open_root, open_saved};
 use crate::querying::answered;
+use crate::saving::save;
 use crate::updating::follow;
-use crate::verdicts::{BeginFault, Verdict};
+use crate::verdicts::Verdict;
 use std::alloc::Global;
 use std::collections::BTreeMap;
 use wu_ask::{Answered, Query};
@@ -59,7 +62,7 @@ impl Engine {
     ghost use Rattle.wu_engine.specs.Reads.{AreTexts, ReadsForQuery, texts_read};
     ghost use Rattle.wu_engine.specs.Opening.{HoldsImage, IsBeginCause, IsOpen, IsSpentWhere, ReadsAtOpening};
     ghost use Rattle.wu_engine.specs.Saving.{AreRemoved, KeepsNamed, removed_by_save};
-    ghost use Rattle.wu_engine.specs.declared.verdicts.BeginFault.TheVariants.{Damaged as SavedIsDamaged};
+    ghost use Rattle.wu_engine.specs.declared.faults.BeginFault.TheVariants.{Damaged as SavedIsDamaged};
 
     /// An engine that goes on where the last save left the store: memory is full at `flush_at` postings. A store
     /// without a root is that of the root directory alone, without a posting. The engine keeps the allocator.
@@ -99,7 +102,11 @@ impl Engine {
         // An image of a state is never called damaged.
         ensures undamaged { (s : State) → HoldsImage (D.holds store.old) s → (blob : ℕ) → result ≢ Err (SavedIsDamaged blob) }
     {
-        Err(BeginFault::NoMemory)
+        store.sync()?;
+        match open_root(store)? {
+            None => Ok(open_first(alloc, flush_at)?),
+            Some(root) => open_saved(alloc, store, &root, flush_at),
+        }
     }
 
     /// Applies an event, where `body` is the text that it gives to a file; other events give none. The event
@@ -308,7 +315,22 @@ impl Engine {
             return Err(trouble);
         }
         self.ended = Some(Trouble::NoMemory);
-        Err(Trouble::NoMemory)
+        match save(
+            self.alloc,
+            store,
+            &self.tree,
+            &self.space,
+            &mut self.parts,
+            &self.files,
+            self.checkpoint,
+        ) {
+            Ok(checkpoint) => {
+                self.checkpoint = checkpoint;
+                self.ended = None;
+                Ok(())
+            }
+            Err(trouble) => Err(self.end_with(trouble)),
+        }
     }
 
     /// How many regular files there are, addresses in their live ranges, postings in memory and parts, those of

@@ -3,16 +3,20 @@
 
 mod counting;
 mod engines;
+mod faults;
 mod fetching;
 mod finding;
 mod laws;
 mod listing;
+mod opening;
 mod querying;
 mod ranking;
 mod reading;
+mod saving;
 mod updating;
 mod verdicts;
 
 pub use engines::Engine;
+pub use faults::BeginFault;
 pub use laws::each_event_keeps_a_state;
-pub use verdicts::{BeginFault, Verdict};
+pub use verdicts::Verdict;

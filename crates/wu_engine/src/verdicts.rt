@@ -1,10 +1,6 @@
-//! What the engine answers to an event, and why it can't be opened.
-ghost use Rattle.wu_engine.specs.declared.verdicts.BeginFault.TheVariants.{NoMemory as WantsMemory};
+//! What the engine answers to an event.
 
 
-use thiserror::Error;
-use wu_base::{NoMemory, Trouble};
-use wu_outside::Fault;
 use wu_tree::Refusal;
 
 /// What became of an event.
@@ -14,36 +10,4 @@ pub enum Verdict {
     Made,
     /// It was refused, and nothing changed.
     Refused(Refusal),
-}
-
-/// Why an engine can't be opened over a store. The causes stand at [`Engine::begin`](crate::Engine::begin).
-#[derive(Clone, Copy, Debug, PartialEq, Eq, Error)]
-pub enum BeginFault {
-    /// There was no memory.
-    #[error("no memory")]
-    NoMemory,
-    /// The store failed; its count of faults rose.
-    #[error("the store failed")]
-    StoreFault,
-    /// What the store has of this blob isn't what was saved; the root counts as blob 0.
-    #[error("the store is damaged at blob {blob}")]
-    Damaged {
-        /// The blob's number.
-        blob: u64,
-    },
-    /// The store has room for no further session: its next address is at least SPENT_AT, or its next blob at
-    /// least BLOBS_SPENT_AT.
-    #[error("the store is spent at {next}")]
-    Spent {
-        /// The first of the two numbers that is.
-        next: u64,
-    },
-}
-
-impl From<NoMemory> for BeginFault {
-    ghost from_gives = { λ _ e. e ≡ WantsMemory };
-
-    fn from(_error: NoMemory) -> BeginFault {
-        BeginFault::NoMemory
-    }
 }

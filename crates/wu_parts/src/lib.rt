@@ -4,6 +4,7 @@
 mod chains;
 mod flushing;
 mod galloping;
+mod loading;
 mod memory;
 mod parts;
 mod reading;

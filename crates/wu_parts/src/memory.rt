@@ -1,5 +1,5 @@
 //! Postings in memory.
-ghost use Rattle.std.specs.Prelude.{◌≡◌, ℕ, List, ◌+◌, ◌^◌, ◌<◌, ◌≤◌, All, length, map, filter, OnOk, OnErr, IfOk};
+ghost use Rattle.std.specs.Prelude.{◌≡◌, ℕ, List, [], ◌+◌, ◌^◌, ◌<◌, ◌≤◌, All, length, map, filter, OnOk, OnErr, IfOk};
 ghost use Rattle.wu_layout.specs.Layouts.{lists_of};
 ghost use Rattle.wu_layout.specs.Postings.{Posting, is_live, live_of};
 ghost use Rattle.wu_space.specs.Addresses.{AreApart};
@@ -57,6 +57,21 @@ impl MemoryPostings {
             before: Vec::new(alloc),
             low: 0,
             start: 0,
+            stored: 0,
+        }
+    }
+
+    /// No postings, and none to come below the address. Takes no memory.
+    pub(crate) fn from_address(alloc: Global, address: u64) -> MemoryPostings
+        requires { address ≤ ADDRESSES_MAX }
+        ensures { result ≡ record { lists = []; stored = 0; low = address; end = address } }
+    {
+        MemoryPostings {
+            alloc,
+            chains: IndexMap::new(alloc),
+            before: Vec::new(alloc),
+            low: address,
+            start: address,
             stored: 0,
         }
     }

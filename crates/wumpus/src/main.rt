@@ -13,8 +13,11 @@ use std::env;
 use std::io::ErrorKind;
 use std::process::ExitCode;
 use std::rt::Env;
-use wu_outside::{PlainStore, StdIn, StdOut};
+use wu_outside::{DirStore, StdIn, StdOut};
 use wumpus_run::{Status, run};
+
+/// The folder of the store, in the folder that the program runs in.
+const FOLDER: &str = "wumpus-store";
 
 fn main(rt: HostRuntime) -> ExitCode {
     run_to_end(&rt)
@@ -70,7 +73,9 @@ fn session_of(rt: &HostRuntime, arguments: &[String]) -> Result<Status, AllocErr
     let (Ok(mut source), Ok(mut sink)) = (StdIn::new(rt.stdin()), StdOut::new(rt.stdout())) else {
         return Ok(Status::NoMemory);
     };
-    let mut store = PlainStore::new(rt.alloc());
+    let Ok(mut store) = DirStore::new(rt, FOLDER) else {
+        return Ok(Status::NoMemory);
+    };
     Ok(run(
         rt.alloc(),
         texts.as_slice(),

@@ -20,8 +20,8 @@ use Rattle.wu_options.specs.declared.command_lines.CommandLine.TheVariants.{Run,
 use Rattle.wu_options.specs.declared.command_lines.Settings.{Settings}
 use Rattle.wumpus_run.specs.declared.statuses.Status.{Status}
 use Rattle.wumpus_run.specs.declared.statuses.Status.TheVariants.{Done, Usage, ReadFault, WriteFault, NoMemory, InputTooLong, StoreFault, Damaged, Spent}
-use Rattle.wu_engine.specs.declared.verdicts.BeginFault.{BeginFault}
-use Rattle.wu_engine.specs.declared.verdicts.BeginFault.TheVariants as opening
+use Rattle.wu_engine.specs.declared.faults.BeginFault.{BeginFault}
+use Rattle.wu_engine.specs.declared.faults.BeginFault.TheVariants as opening
 use Rattle.wu_engine.specs.States.{State, rested_state, saved_state}
 use Rattle.wu_engine.specs.Opening.{HoldsImage, IsSpentAt}
 use Rattle.wu_script.specs.Commands.{Entry}

@@ -9,7 +9,7 @@ ghost use Rattle.wu_options.specs.CommandLines.{command_line_of, texts_of};
 ghost use Rattle.wu_engine.specs.Stands.{Stands};
 ghost use Rattle.wu_engine.specs.Opening.{HoldsImage, IsBeginCause, IsSpentWhere};
 ghost use Rattle.wu_engine.specs.States.{State, rested_state, saved_state};
-ghost use Rattle.wu_engine.specs.declared.verdicts.BeginFault.TheVariants.{Damaged as SavedIsDamaged};
+ghost use Rattle.wu_engine.specs.declared.faults.BeginFault.TheVariants.{Damaged as SavedIsDamaged};
 ghost use Rattle.wumpus_run.specs.Demo.{IfDemo, IsShown};
 ghost use Rattle.wumpus_run.specs.Session.{settings_of, moment, status_of, status_of_fault, status_of_opening, status_of_trouble, IsUsage, IsCounted, IsSpent, AnswersAll, AnswersPrefix, FromImage, HasRoom, SavesAll, StaysWithin, IsTooLong, HoldsNothingBack, Ends, Completes, TakesAll};
 
