@@ -27,3 +27,5 @@ pub mod StartedParts
 pub mod UnitSteps
 pub mod Covering
 pub mod KeptJobs
+pub mod OpenedLemmas
+pub mod LoadedParts

@@ -16,4 +16,5 @@ pub mod StoredParts
 pub mod UnitsOfParts
 pub mod Chains
 pub mod LeadingBytes
+pub mod OpenedParts
 pub mod ViewOfParts

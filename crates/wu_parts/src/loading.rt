@@ -1,5 +1,15 @@
 //! Opening of the parts that a store has.
-ghost use Rattle.std.specs.Prelude.{◌≡◌};
+ghost use Rattle.std.specs.Prelude.{◌≡◌, ◌+◌, ◌<◌, ◌≤◌, ◌^◌, [], ◌∷◌, IfErr, IfNone, IfOk, IfSome, MatchBool, OnOk, length};
+ghost use Rattle.wu_outside.specs.Faults.{HasFaultCause};
+ghost use Rattle.wu_outside.specs.Ranges.{AddsRange};
+ghost use Rattle.wu_outside.specs.declared.ranges.ReadRange.{ReadRange};
+ghost use Rattle.wu_part.specs.Directories.{IsSpelled};
+ghost use Rattle.wu_part.specs.Parts.{IsRecorded};
+ghost use Rattle.wu_part.specs.declared.headers.TheConstants.{HEADER_LEN as header_length};
+ghost use Rattle.wu_job.specs.Steps.{adds};
+ghost use Rattle.wu_parts.specs.Causes.{IsStoreCause};
+ghost use Rattle.wu_parts.specs.Loading.{IsLoadCause, ReadsFronts, directory_range, end_of as end_of_records, header_range};
+ghost use Rattle.wu_parts.specs.OpenedParts.{ArePartsOpened, CannotBeOpened, EndsBefore, HasBytesAt, HasSize, IsDirectoryIn, IsDirectoryRead, IsHeaderOf, IsPartOpened};
 
 use crate::writing::StoredPart;
 use std::alloc::Global;
@@ -13,7 +23,14 @@ pub(crate) fn open_parts<D: Store>(
     alloc: Global,
     store: &mut D,
     records: &[PartRec],
-) -> Result<Vec<StoredPart>, Trouble> {
+) -> Result<Vec<StoredPart>, Trouble>
+    ensures opened { IfOk result (λ parts. ArePartsOpened (D.holds store.old) records.now (D.reads store.old) (D.reads store.new) parts.items) }
+    ensures fronts { ReadsFronts (D.holds store.old) records.now (D.reads store.old) (D.reads store.new) }
+    ensures holds { D.holds store.new ≡ D.holds store.old }
+    ensures moments { D.moments store.new ≡ D.moments store.old }
+    ensures calm { OnOk result (D.faults store.new ≡ D.faults store.old) }
+    ensures cause { IfErr result (IsLoadCause (D.holds store.old) records.now (D.faults store.old) (D.faults store.new)) }
+{
     let mut parts = Vec::new(alloc);
     for recorded in records {
         let part = open_part(alloc, store, recorded)?;
@@ -27,7 +44,14 @@ fn open_part<D: Store>(
     alloc: Global,
     store: &mut D,
     recorded: &PartRec,
-) -> Result<StoredPart, Trouble> {
+) -> Result<StoredPart, Trouble>
+    ensures opened { IfOk result (IsPartOpened (D.holds store.old) recorded.now (D.reads store.old) (D.reads store.new)) }
+    ensures fronts { ReadsFronts (D.holds store.old) (recorded.now ∷ []) (D.reads store.old) (D.reads store.new) }
+    ensures holds { D.holds store.new ≡ D.holds store.old }
+    ensures moments { D.moments store.new ≡ D.moments store.old }
+    ensures calm { OnOk result (D.faults store.new ≡ D.faults store.old) }
+    ensures cause { IfErr result (IsLoadCause (D.holds store.old) (recorded.now ∷ []) (D.faults store.old) (D.faults store.new)) }
+{
     match directory_in(alloc, store, recorded)? {
         Some(directory) if tells(&directory, recorded) => Ok(StoredPart {
             recorded: *recorded,
@@ -39,8 +63,11 @@ fn open_part<D: Store>(
     }
 }
 
-/// Whether the directory tells what is recorded of the part, but for its size.
-fn tells(directory: &Directory, recorded: &PartRec) -> bool {
+/// Whether the directory, which is of the recorded size, tells what is recorded of the part.
+fn tells(directory: &Directory, recorded: &PartRec) -> bool
+    requires { directory.now.size ≡ recorded.now.size }
+    ensures { MatchBool result (IsRecorded recorded.now directory.now) (IsRecorded recorded.now directory.now → ⊥) }
+{
     directory.generation() == recorded.generation
         && directory.low() == recorded.low
         && directory.high() == recorded.high
@@ -53,40 +80,114 @@ fn directory_in<D: Store>(
     alloc: Global,
     store: &mut D,
     recorded: &PartRec,
-) -> Result<Option<Directory>, Trouble> {
-    match store.size(recorded.blob)? {
-        Some(size) if size == recorded.size => {}
-        _ => return Ok(None),
-    }
-    let Some(length) = header_in(store, recorded)? else {
+) -> Result<Option<Directory>, Trouble>
+    ensures found { IfOk result (λ found. IfSome found (IsDirectoryRead (D.holds store.old) recorded.now (D.reads store.old) (D.reads store.new))) }
+    ensures none { IfOk result (λ found. IfNone found (CannotBeOpened (D.holds store.old) recorded.now)) }
+    ensures fronts { ReadsFronts (D.holds store.old) (recorded.now ∷ []) (D.reads store.old) (D.reads store.new) }
+    ensures holds { D.holds store.new ≡ D.holds store.old }
+    ensures moments { D.moments store.new ≡ D.moments store.old }
+    ensures calm { OnOk result (D.faults store.new ≡ D.faults store.old) }
+    ensures cause { IfErr result (IsStoreCause (D.faults store.old) (D.faults store.new)) }
+{
+    if !has_size(store, recorded)? {
         return Ok(None);
-    };
-    let mut bytes = vec![in alloc; 0u8; length as usize]?;
-    match store.read(recorded.blob, HEADER_LEN as u64, &mut bytes)? {
-        Some(count) if count == bytes.len() => {}
-        _ => return Ok(None),
     }
-    Ok(read_directory(alloc, &bytes, recorded.size)?)
+    match header_in(store, recorded)? {
+        Some(length) => directory_after(alloc, store, recorded, length),
+        None => Ok(None),
+    }
+}
+
+/// Whether the part's blob has the size that is recorded of it.
+fn has_size<D: Store>(store: &mut D, recorded: &PartRec) -> Result<bool, Fault>
+    ensures size { IfOk result (λ sized. IfSome (D.holds store.old) (λ content. MatchBool sized
+        (HasSize recorded.now.size (content.blobs recorded.now.blob)) (HasSize recorded.now.size (content.blobs recorded.now.blob) → ⊥))) }
+    ensures holds { D.holds store.new ≡ D.holds store.old }
+    ensures unread { D.reads store.new ≡ D.reads store.old }
+    ensures moments { D.moments store.new ≡ D.moments store.old }
+    ensures cause { HasFaultCause (D.faults store.old) (D.faults store.new) result }
+{
+    match store.size(recorded.blob)? {
+        Some(size) => Ok(size == recorded.size),
+        None => Ok(false),
+    }
 }
 
 /// The length of the directory, as the header of the part's blob tells it. None where the blob has no header, or
 /// no room for so long a directory.
-fn header_in<D: Store>(store: &mut D, recorded: &PartRec) -> Result<Option<u64>, Fault> {
+fn header_in<D: Store>(store: &mut D, recorded: &PartRec) -> Result<Option<u64>, Fault>
+    ensures found { IfOk result (λ found. IfSome found (IsHeaderOf (D.holds store.old) recorded.now)) }
+    ensures none { IfOk result (λ found. IfNone found (CannotBeOpened (D.holds store.old) recorded.now)) }
+    ensures holds { D.holds store.new ≡ D.holds store.old }
+    ensures noted { AddsRange (D.reads store.old) (D.reads store.new) (header_range recorded.now.blob) result }
+    ensures moments { D.moments store.new ≡ D.moments store.old }
+    ensures cause { HasFaultCause (D.faults store.old) (D.faults store.new) result }
+{
     let mut header = [0; HEADER_LEN];
-    match store.read(recorded.blob, 0, &mut header)? {
-        Some(count) if count == HEADER_LEN => {}
-        _ => return Ok(None),
+    if !fill(store, recorded.blob, 0, &mut header)? {
+        return Ok(None);
     }
     match read_header(&header) {
-        Some(length) if length <= recorded.size.saturating_sub(HEADER_LEN as u64) => {
-            Ok(Some(length))
-        }
+        Some(length) if has_room(length, recorded.size) => Ok(Some(length)),
         _ => Ok(None),
     }
 }
 
+/// Whether a blob of so many bytes has room for a header and a directory of that length.
+fn has_room(length: u64, size: u64) -> bool
+    ensures { MatchBool result (header_length + length ≤ size) (size < header_length + length) }
+{
+    let header = HEADER_LEN as u64;
+    header <= size && length <= size - header
+}
+
+/// The directory of the part's blob, which has so many bytes after the header. None where they aren't the
+/// spelling of one.
+fn directory_after<D: Store>(
+    alloc: Global,
+    store: &mut D,
+    recorded: &PartRec,
+    length: u64,
+) -> Result<Option<Directory>, Trouble>
+    requires size { IfSome (D.holds store.old) (λ content. HasSize recorded.now.size (content.blobs recorded.now.blob)) }
+    requires header { IsHeaderOf (D.holds store.old) recorded.now length }
+    ensures found { IfOk result (λ found. IfSome found (λ directory. IsDirectoryIn (D.holds store.old) recorded.now directory length)) }
+    ensures none { IfOk result (λ found. IfNone found (CannotBeOpened (D.holds store.old) recorded.now)) }
+    ensures fronts { ReadsFronts (D.holds store.old) (recorded.now ∷ []) (D.reads store.old) (D.reads store.new) }
+    ensures read { OnOk result (D.reads store.new ≡ adds (directory_range recorded.now.blob length ∷ []) (D.reads store.old)) }
+    ensures holds { D.holds store.new ≡ D.holds store.old }
+    ensures moments { D.moments store.new ≡ D.moments store.old }
+    ensures calm { OnOk result (D.faults store.new ≡ D.faults store.old) }
+    ensures cause { IfErr result (IsStoreCause (D.faults store.old) (D.faults store.new)) }
+{
+    let mut bytes = vec![in alloc; 0u8; length as usize]?;
+    if !fill(store, recorded.blob, HEADER_LEN as u64, &mut bytes)? {
+        return Ok(None);
+    }
+    Ok(read_directory(alloc, &bytes, recorded.size)?)
+}
+
+/// Fills the buffer with the bytes of the blob from that place on, in one read. Answers whether the blob has so
+/// many there.
+fn fill<D: Store>(store: &mut D, blob: u64, place: u64, buffer: &mut [u8]) -> Result<bool, Fault>
+    ensures filled { IfOk result (λ filled. IfSome (D.holds store.old) (λ content. MatchBool filled
+        (HasBytesAt (content.blobs blob) place buffer.new) (EndsBefore (content.blobs blob) place (length buffer.new)))) }
+    ensures holds { D.holds store.new ≡ D.holds store.old }
+    ensures noted { AddsRange (D.reads store.old) (D.reads store.new) (record { blob = blob; at = place; len = length buffer.new }) result }
+    ensures moments { D.moments store.new ≡ D.moments store.old }
+    ensures cause { HasFaultCause (D.faults store.old) (D.faults store.new) result }
+{
+    match store.read(blob, place, buffer)? {
+        Some(count) => Ok(count == buffer.len()),
+        None => Ok(false),
+    }
+}
+
 /// The first address after the last part, or 0.
-pub(crate) fn end_of(records: &[PartRec]) -> u64 {
+pub(crate) fn end_of(records: &[PartRec]) -> u64
+    requires { end_of_records records.now < 2 ^ 64 }
+    ensures { result ≡ end_of_records records.now }
+{
     match records.last() {
         Some(last) => last.high + 1,
         None => 0,

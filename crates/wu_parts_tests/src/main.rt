@@ -4,6 +4,7 @@
 
 mod fixtures;
 mod many;
+mod openings;
 mod rows;
 mod stores;
 

@@ -1,5 +1,6 @@
 //! The calls of a Parts.
 use crate::fixtures::{By, fetch_live, put_texts, release_others};
+use crate::openings::loaded;
 use crate::stores::{fetched as fetched_after, fullness, held, recorded, worked};
 use std::alloc::Global;
 use wu_base::PartRec;
@@ -37,6 +38,9 @@ pub fn answer(
         ("Parts::flush", [steps, "holds", blob]) => held(alloc, steps, blob),
         ("Parts::fetch", [fails, steps, term]) => fetched_after(alloc, fails, steps, term),
         ("Parts::work", [fails, steps, units]) => worked(alloc, fails, steps, units),
+        ("Parts::load", [fails, steps, records, more, term]) => {
+            loaded(alloc, fails, steps, records, more, term)
+        }
         _ => Err(NoAnswer::BadRow),
     }
 }

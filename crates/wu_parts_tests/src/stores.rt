@@ -12,42 +12,59 @@ use wu_rows::{
 };
 use wu_space::Space;
 
-/// A Parts, the space of its files, and its store.
+/// A Parts, the space of its files, its store, and how many numbers of files stand below those of the next steps.
 #[derive(Drop)]
-struct Index {
-    parts: Parts,
-    space: Space,
-    store: MemStore,
+pub struct Index {
+    pub parts: Parts,
+    pub space: Space,
+    pub store: MemStore,
+    pub earlier: Ino,
 }
 
 /// What became of the steps of a row.
 #[derive(Drop)]
-enum Outcome {
+pub enum Outcome {
     Index(Index),
     Trouble(Trouble),
 }
 
+/// An empty index, to which the steps are done. The calls of the store of these numbers fail. Memory is full at
+/// so many postings.
+pub fn after(alloc: Global, flush_at: u64, fails: &str, steps: &str) -> Result<Outcome, NoAnswer> {
+    let mut index = Index {
+        parts: Parts::new(alloc, flush_at, 1)?,
+        space: Space::new(alloc, 0),
+        store: MemStore::new(alloc, numbers(alloc, fails)?, u64::MAX),
+        earlier: 0,
+    };
+    match go_on(alloc, &mut index, steps)? {
+        Ok(()) => Ok(Outcome::Index(index)),
+        Err(trouble) => Ok(Outcome::Trouble(trouble)),
+    }
+}
+
 /// Does the steps, which have a bar between each two: `!` is a flush, `-N` gives up the file of that number,
 /// `~N BYTES` puts the bytes into the blob of that number, `?TERM` fetches the term, `+N` does so many units of
-/// background work, and any other step is the text of the file that has the step's number, counted from 1. The
-/// calls of the store of these numbers fail. Memory is full at so many postings. Stops at the first trouble.
-fn after(alloc: Global, flush_at: u64, fails: &str, steps: &str) -> Result<Outcome, NoAnswer> {
-    let mut parts = Parts::new(alloc, flush_at, 1)?;
-    let mut space = Space::new(alloc, 0);
-    let mut store = MemStore::new(alloc, numbers(alloc, fails)?, u64::MAX);
-    let mut ino = 0;
+/// background work, and any other step is the text of the file that has the step's number, counted from 1 on, or
+/// after an opening from 101 on. Stops at the first trouble.
+pub fn go_on(
+    alloc: Global,
+    index: &mut Index,
+    steps: &str,
+) -> Result<Result<(), Trouble>, NoAnswer>
+    requires { index.old.parts.memory.end ≤ index.old.space.next }
+{
+    let mut ino = index.earlier;
     for step in &pieces(alloc, steps)? {
         ino = next_number(ino)?;
-        match take(alloc, &mut parts, &mut space, &mut store, ino, step)? {
+        match take(
+            alloc, &mut index.parts, &mut index.space, &mut index.store, ino, step,
+        )? {
             Ok(()) => {}
-            Err(trouble) => return Ok(Outcome::Trouble(trouble)),
+            Err(trouble) => return Ok(Err(trouble)),
         }
     }
-    Ok(Outcome::Index(Index {
-        parts,
-        space,
-        store,
-    }))
+    Ok(Ok(()))
 }
 
 /// Does a step. A text is that of the file of that number.
@@ -131,7 +148,7 @@ fn work(
 }
 
 /// The term's addresses in the files that are live.
-fn fetch(
+pub fn fetch(
     parts: &mut Parts,
     store: &mut MemStore,
     space: &Space,
@@ -150,7 +167,7 @@ fn fetch(
     }
 }
 
-fn trouble_text(alloc: Global, trouble: Trouble) -> Result<String, NoAnswer> {
+pub fn trouble_text(alloc: Global, trouble: Trouble) -> Result<String, NoAnswer> {
     match trouble {
         Trouble::NoMemory => Err(NoAnswer::NoMemory),
         Trouble::StoreFault => plain_text(alloc, "store fault"),
@@ -197,7 +214,7 @@ pub fn worked(alloc: Global, fails: &str, steps: &str, units: &str) -> Result<St
     Ok(format!(in alloc; "{answer} {records} {stale:?}")?)
 }
 
-fn records_text(alloc: Global, parts: &Parts) -> Result<String, NoAnswer> {
+pub fn records_text(alloc: Global, parts: &Parts) -> Result<String, NoAnswer> {
     let stored = parts.stored();
     let count = parts.count();
     let flushes = parts.flushes();
