@@ -1,5 +1,5 @@
 -- What is kept of the parts that were opened of loadable records.
-use Rattle.std.proofs.Common.{◌≡◌, ℕ, ◌+◌, ◌-◌, ◌<◌, ◌≤◌, List, [], ◌∷◌, ◌++◌, length, zero, suc, Option, None, Some, refl, ap, sym, ◌∙◌, subst, arith}
+use Rattle.std.proofs.Common.{◌≡◌, ℕ, ◌+◌, ◌-◌, ◌<◌, ◌≤◌, List, [], ◌∷◌, length, zero, suc, Option, None, Some, ap, sym, subst, arith}
 use Rattle.std.specs.Prelude.{slice_get}
 use Rattle.std.specs.List.{AllByRecursion}
 use Rattle.wu_base.specs.declared.addresses.PartRec.{PartRec}
@@ -7,7 +7,7 @@ use Rattle.wu_base.specs.declared.limits.TheConstants.{ADDRESSES_MAX}
 use Rattle.wu_outside.specs.Content.{Content}
 use Rattle.wu_outside.specs.declared.ranges.ReadRange.{ReadRange}
 use Rattle.wu_layout.specs.Invariants.{NeverRise, flushes_for}
-use Rattle.wu_part.specs.Directories.{IsSpelled, PartDirectory}
+use Rattle.wu_part.specs.Directories.{IsSpelled}
 use Rattle.wu_part.specs.Parts.{IsRecorded}
 use Rattle.wu_parts.specs.Loading.{AreLoadable, AreOpened, SpansFollow, end_of}
 use Rattle.wu_parts.specs.OpenedParts.{ArePartsOpened}

@@ -1,6 +1,6 @@
 -- What one part's blob is found to be, and what several opened parts make together.
-use Rattle.std.proofs.Common.{◌≡◌, ◌⊎◌, ℕ, ◌+◌, ◌<◌, List, [], ◌∷◌, ◌++◌, length, take, drop, get_or, Option, None, Some, refl, ap, sym, ◌∙◌, subst, arith, append-nil, append_assoc, take-append-drop, inl, inr}
-use Rattle.std.specs.Prelude.{Bool, true, false, IfNone, IfSome, MatchBool, option_map}
+use Rattle.std.proofs.Common.{◌≡◌, ℕ, ◌+◌, ◌<◌, List, [], ◌∷◌, ◌++◌, length, take, drop, get_or, Option, None, Some, refl, ap, sym, ◌∙◌, subst, arith, append-nil, append_assoc, take-append-drop, inl, inr}
+use Rattle.std.specs.Prelude.{Bool, true, false, IfNone, IfSome, MatchBool}
 use Rattle.std.specs.List.{AllByRecursion}
 use Rattle.std.proofs.lemmas.List.{drop_more, take_more}
 use Rattle.wu_base.specs.declared.addresses.PartRec.{PartRec}
@@ -15,12 +15,12 @@ use Rattle.wu_layout.proofs.EntryLemmas.{IfSome-map, IfSome-map2}
 use Rattle.wu_part.specs.declared.headers.TheConstants.{HEADER_LEN}
 use Rattle.wu_part.specs.Directories.{IsSpelled, PartDirectory, SpellsDirectory}
 use Rattle.wu_part.specs.Headers.{SpellsHeader}
-use Rattle.wu_part.specs.Parts.{IsDirectoryOf, IsRecorded}
+use Rattle.wu_part.specs.Parts.{IsRecorded}
 use Rattle.wu_part.proofs.LawLemmas.{one_directory}
 use Rattle.wu_job.specs.Steps.{adds}
-use Rattle.wu_parts.specs.Loading.{AreOpened, CanBeOpened, HasDirectory, HasHeader, HasNoDirectory, IsFirstBroken, IsFrontOf, IsLoadCause, IsOpened, ReadsFronts, directory_range, header_range}
-use Rattle.wu_parts.specs.OpenedParts.{ArePartsOpened, CannotBeOpened, EndsBefore, HasBytesAt, HasSize, IsDirectoryIn, IsDirectoryRead, IsHeaderOf, IsPartOpened, TellsLength, front_ranges}
-use Rattle.wu_parts.specs.StoredParts.{directories_of, records_of}
+use Rattle.wu_parts.specs.Loading.{AreOpened, HasDirectory, HasHeader, HasNoDirectory, IsFirstBroken, IsFrontOf, IsLoadCause, IsOpened, ReadsFronts, directory_range, header_range}
+use Rattle.wu_parts.specs.OpenedParts.{ArePartsOpened, CannotBeOpened, HasBytesAt, HasSize, IsDirectoryIn, IsDirectoryRead, IsHeaderOf, IsPartOpened, TellsLength, front_ranges}
+use Rattle.wu_parts.specs.StoredParts.{directories_of}
 use Rattle.wu_parts.specs.declared.writing.StoredPart.{StoredPart}
 use Rattle.wu_parts.proofs.Spans.{directories-push, records-push}
 use Rattle.wu_parts.proofs.ReadingBack.{code_spelled}
@@ -147,7 +147,8 @@ adds-append xs ys None = refl
 adds-append xs ys (Some earlier) = ap Some (append_assoc earlier xs ys)
 
 module _ (holds : Option Content) where
-  pub fronts-none : (records : List PartRec) (before after : Option (List ReadRange)) → after ≡ before → ReadsFronts holds records before after
+  pub fronts-none : (records : List PartRec) (before after : Option (List ReadRange)) → after ≡ before
+      → ReadsFronts holds records before after
   fronts-none records before after e = ([], tt, e ∙ sym (adds-none before))
 
   pub fronts-then : (records : List PartRec) (first next last : Option (List ReadRange)) → ReadsFronts holds records first next
@@ -179,8 +180,8 @@ module _ (holds : Option Content) where
       (inr (
         refl,
         header.room,
-        IfSome-map (λ content. TellsLength n (content.blobs recorded.blob)) (λ content. IfSome (content.blobs recorded.blob) (HasHeader n)) holds
-        (λ content t. told_of n (content.blobs recorded.blob) t) header.told,
+        IfSome-map (λ content. TellsLength n (content.blobs recorded.blob))
+            (λ content. IfSome (content.blobs recorded.blob) (HasHeader n)) holds (λ content t. told_of n (content.blobs recorded.blob) t) header.told,
       ))
       e
 
@@ -196,7 +197,7 @@ module _ (holds : Option Content) where
   fronts-among before recorded later first next f = (
     f.0,
     each-map (λ range. SomeOf (IsFrontOf holds range) (recorded ∷ []))
-    (λ range. SomeOf (IsFrontOf holds range) (before ++ recorded ∷ later)) f.0 (λ range s. among before range s) f.1,
+        (λ range. SomeOf (IsFrontOf holds range) (before ++ recorded ∷ later)) f.0 (λ range s. among before range s) f.1,
     f.2,
   )
     where
@@ -291,8 +292,8 @@ module _ (records : List PartRec) (i : ℕ) (within : i < length records) (holds
       → IsLoadCause told (get_or records i no_record ∷ []) before now trouble → IsLoadCause holds records start now trouble
   turn-fails first next parts start before now trouble a calm c =
       subst (λ rs. IsLoadCause holds rs start now trouble) (sym one_more)
-      (cause-next holds (take i records) (get_or records i no_record) (drop (i + 1) records) first next parts start before now trouble a calm
-      (subst (λ h. IsLoadCause h (get_or records i no_record ∷ []) before now trouble) same c))
+      (cause-next holds (take i records) (get_or records i no_record) (drop (i + 1) records) first next parts start before now trouble
+      a calm (subst (λ h. IsLoadCause h (get_or records i no_record ∷ []) before now trouble) same c))
 
   pub turn-fronts : (first next last : Option (List ReadRange)) → ReadsFronts holds records first next
       → ReadsFronts told (get_or records i no_record ∷ []) next last → ReadsFronts holds records first last

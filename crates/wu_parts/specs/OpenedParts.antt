@@ -5,7 +5,7 @@ use Rattle.wu_base.specs.declared.addresses.PartRec.{PartRec}
 use Rattle.wu_outside.specs.Content.{Content}
 use Rattle.wu_outside.specs.declared.ranges.ReadRange.{ReadRange}
 use Rattle.wu_part.specs.declared.headers.TheConstants.{HEADER_LEN}
-use Rattle.wu_part.specs.Directories.{IsSpelled, PartDirectory, SpellsDirectory}
+use Rattle.wu_part.specs.Directories.{IsSpelled, PartDirectory}
 use Rattle.wu_job.specs.Steps.{adds}
 use Rattle.wu_parts.specs.Loading.{AreOpened, HasDirectory, HasHeader, HasNoDirectory, IsOpened, directory_range, header_range}
 use Rattle.wu_parts.specs.StoredParts.{directories_of, records_of}
@@ -57,8 +57,8 @@ abbrev pub front_ranges : ℕ → ℕ → List ReadRange
 front_ranges blob directory_length = header_range blob ∷ directory_range blob directory_length ∷ []
 
 -- header and directory were read, and the directory is the blob's
-pub record IsDirectoryRead (holds : Option Content) (recorded : PartRec) (before after : Option (List ReadRange)) (directory : PartDirectory)
-    : Type 0 where
+pub record IsDirectoryRead (holds : Option Content) (recorded : PartRec) (before after : Option (List ReadRange))
+    (directory : PartDirectory) : Type 0 where
   pub directory_length : ℕ
   pub found : IsDirectoryIn holds recorded directory directory_length
   pub read : after ≡ adds (front_ranges recorded.blob directory_length) before
@@ -75,8 +75,8 @@ pub record IsPartOpened (holds : Option Content) (recorded : PartRec) (before af
   pub read : after ≡ adds (front_ranges recorded.blob directory_length) before
 
 -- the parts of these records are opened, and that was read
-pub record ArePartsOpened (holds : Option Content) (records : List PartRec) (before after : Option (List ReadRange)) (parts : List StoredPart)
-    : Type 0 where
+pub record ArePartsOpened (holds : Option Content) (records : List PartRec) (before after : Option (List ReadRange))
+    (parts : List StoredPart) : Type 0 where
   pub same : records_of parts ≡ records
   pub spelled : AllByRecursion IsSpelled (directories_of parts)
   pub read : List ReadRange

@@ -2,8 +2,6 @@
 ghost use Rattle.std.specs.Prelude.{◌≡◌, ◌+◌, ◌<◌, ◌≤◌, ◌^◌, [], ◌∷◌, IfErr, IfNone, IfOk, IfSome, MatchBool, OnOk, length};
 ghost use Rattle.wu_outside.specs.Faults.{HasFaultCause};
 ghost use Rattle.wu_outside.specs.Ranges.{AddsRange};
-ghost use Rattle.wu_outside.specs.declared.ranges.ReadRange.{ReadRange};
-ghost use Rattle.wu_part.specs.Directories.{IsSpelled};
 ghost use Rattle.wu_part.specs.Parts.{IsRecorded};
 ghost use Rattle.wu_part.specs.declared.headers.TheConstants.{HEADER_LEN as header_length};
 ghost use Rattle.wu_job.specs.Steps.{adds};
@@ -24,7 +22,8 @@ pub(crate) fn open_parts<D: Store>(
     store: &mut D,
     records: &[PartRec],
 ) -> Result<Vec<StoredPart>, Trouble>
-    ensures opened { IfOk result (λ parts. ArePartsOpened (D.holds store.old) records.now (D.reads store.old) (D.reads store.new) parts.items) }
+    ensures opened { IfOk result (λ parts.
+        ArePartsOpened (D.holds store.old) records.now (D.reads store.old) (D.reads store.new) parts.items) }
     ensures fronts { ReadsFronts (D.holds store.old) records.now (D.reads store.old) (D.reads store.new) }
     ensures holds { D.holds store.new ≡ D.holds store.old }
     ensures moments { D.moments store.new ≡ D.moments store.old }
@@ -81,7 +80,8 @@ fn directory_in<D: Store>(
     store: &mut D,
     recorded: &PartRec,
 ) -> Result<Option<Directory>, Trouble>
-    ensures found { IfOk result (λ found. IfSome found (IsDirectoryRead (D.holds store.old) recorded.now (D.reads store.old) (D.reads store.new))) }
+    ensures found { IfOk result (λ found. IfSome found
+        (IsDirectoryRead (D.holds store.old) recorded.now (D.reads store.old) (D.reads store.new))) }
     ensures none { IfOk result (λ found. IfNone found (CannotBeOpened (D.holds store.old) recorded.now)) }
     ensures fronts { ReadsFronts (D.holds store.old) (recorded.now ∷ []) (D.reads store.old) (D.reads store.new) }
     ensures holds { D.holds store.new ≡ D.holds store.old }

@@ -1,5 +1,4 @@
-use Rattle.std.proofs.Common.{◌≡◌, ℕ, List, length, arith, rules, subst, sym, true}
-use Rattle.std.proofs.lemmas.Grind.{common_steps}
+use Rattle.std.proofs.Common.{◌≡◌, ℕ, List, length, rules, subst, sym, true}
 use Rattle.std.proofs.lemmas.List.{take_at}
 use Rattle.std.specs.Prelude.{IfSome}
 use Rattle.wu_layout.proofs.EntryLemmas.{IfSome-map}
@@ -23,8 +22,9 @@ returns-in_err-read_directory-clause-fronts g c =
 
 pub returns-clause-fronts : goal.returns-clause-fronts
 returns-clause-fronts g c =
-    let value = c.deref.ensures.value in
-    ?
+    let long : length c.fill.new.buffer ≡ c.args.length = search rules in
+    fronts-filled (g.D.Store.holds c.args.store.now) c.args.recorded.now c.args.length (length c.fill.new.buffer)
+    (g.D.Store.reads c.args.store.now) (g.D.Store.reads c.fill.new.store) long c.requires.header c.in_ok-fill.ensures.noted
 
 pub returns-clause-found : goal.returns-clause-found
 returns-clause-found g c =
@@ -51,7 +51,8 @@ returns-clause-none g c =
     let recorded = c.args.recorded.now in
     let buffer : List ℕ = c.fill.new.buffer in
     let long : length buffer ≡ c.args.length = search rules in
-    let same : c.deref.result.now ≡ buffer = grind (arith, common_steps) in
+    let full : length buffer ≡ c.in_ok-bytes.bytes.len = search rules in
+    let same : c.deref.result.now ≡ buffer = rw c.deref.ensures.value (take_at buffer _ _ full) in
     let filled : c.in_ok-fill.field-0 ≡ true = search rules in
     let has : IfSome holds (λ content. HasBytesAt (content.blobs recorded.blob) HEADER_LEN buffer) =
     filled_is c.in_ok-fill.field-0 (λ content. HasBytesAt (content.blobs recorded.blob) HEADER_LEN buffer)

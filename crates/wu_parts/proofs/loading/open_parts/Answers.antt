@@ -1,8 +1,7 @@
-use Rattle.std.proofs.Common.{◌≡◌, ◌++◌, ◌<◌, List, [], ◌∷◌, length, refl, ap, sym, subst, ◌∙◌, take_all, arith}
+use Rattle.std.proofs.Common.{◌<◌, [], length, refl, sym, subst, ◌∙◌, take_all, arith}
 use Rattle.wu_base.specs.declared.troubles.Trouble.TheVariants.{NoMemory}
 use Rattle.wu_parts.specs.Loading.{IsLoadCause}
 use Rattle.wu_parts.specs.OpenedParts.{ArePartsOpened}
-use Rattle.wu_parts.specs.declared.writing.StoredPart.{StoredPart}
 use Rattle.wu_parts.proofs.Asking.{answered}
 use Rattle.wu_parts.proofs.OpenedLemmas.{cause-memory, fronts-none, parts-none, turn-fails, turn-fronts, turn-step}
 use Rattle.wu_parts.proofs.loading.open_parts.Goals as goal
