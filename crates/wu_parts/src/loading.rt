@@ -78,11 +78,15 @@ fn header_in<D: Store>(store: &mut D, recorded: &PartRec) -> Result<Option<u64>,
         _ => return Ok(None),
     }
     match read_header(&header) {
-        Some(length) if length <= recorded.size.saturating_sub(HEADER_LEN as u64) => {
-            Ok(Some(length))
-        }
+        Some(length) if fits(length, recorded.size) => Ok(Some(length)),
         _ => Ok(None),
     }
+}
+
+/// Whether a blob of this size has room for the header and so long a directory.
+fn fits(length: u64, size: u64) -> bool {
+    let header = HEADER_LEN as u64;
+    size >= header && length <= size - header
 }
 
 /// The first address after the last part, or 0.
