@@ -1,11 +1,11 @@
-# make try     runs the examples on an unproved build, to have a look: under a minute and a half
+# make try     runs the examples of one session on an unproved build, to have a look: under a minute and a half
 # make demo    proves what the program needs, builds it, and runs the examples
 # make         proves and builds; make install PREFIX=.. copies the built program
 # make check   the gate
 PREFIX ?= /usr/local
 JOBS ?= $(shell nproc)
 WUMPUS := crates/wumpus/out/wumpus
-EXAMPLES := first home regions ranking find flush work
+EXAMPLES := home regions ranking find flush work
 CRATES := $(shell sed -n -e '/_tests:/d' -e '/^wu_rows:/d' -e 's/^\([a-z_0-9]*\):.*/\1/p' crates.txt)
 
 .PHONY: all try demo install check clean
@@ -19,10 +19,11 @@ try:
 	@cd crates/wumpus && rt try --cases ../../examples -- run
 	@echo 'This build is not proved: make demo proves it.'
 
+# The two scripts of examples/sessions have a folder together, and each other example has one of its own.
 demo: all
+	@tools/sessions $(WUMPUS) examples/sessions/1.script examples/sessions/2.script
 	@for name in $(EXAMPLES); do \
-		echo "== examples/$$name.script"; \
-		$(WUMPUS) run <examples/$$name.script || exit; \
+		tools/sessions $(WUMPUS) examples/$$name.script || exit; \
 	done
 	@echo '== demo 7'
 	@$(WUMPUS) demo 7

@@ -6,16 +6,20 @@ mod growing;
 mod pieces;
 mod sessions;
 mod statuses;
+mod stored;
 mod stores;
 
 use crate::sessions::Session;
+use crate::stored::Stored;
 use std::alloc::Global;
 use std::io;
 use wu_rows::{NoAnswer, Subject, compare_tables};
 
 fn main(rt: HostRuntime) -> io::Result<()> {
+    let alloc = rt.alloc();
     let mut tables = Tables {
-        session: Session::new(rt.alloc()),
+        session: Session::new(alloc),
+        stored: Stored::new(alloc, Vec::new(alloc)),
     };
     compare_tables(&rt, &mut tables)?;
     growing::compare_depths(&rt)?;
@@ -26,11 +30,13 @@ fn main(rt: HostRuntime) -> io::Result<()> {
 #[derive(Drop)]
 struct Tables {
     session: Session,
+    stored: Stored,
 }
 
 impl Subject for Tables {
     fn begin(&mut self, alloc: Global) -> Result<(), NoAnswer> {
         self.session = Session::new(alloc);
+        self.stored = Stored::new(alloc, Vec::new(alloc));
         Ok(())
     }
 
@@ -38,12 +44,18 @@ impl Subject for Tables {
         match (kind, fields) {
             ("session", [command]) => self.session.reply(alloc, command),
             ("words session", [words, command]) => self.session.reply_by(alloc, words, command),
+            ("stored", [words, reads, script]) => self.stored.session(alloc, words, reads, script),
+            ("stored", [change, argument]) => self.stored.change(alloc, change, argument),
+            ("stored reads", [words, script]) => self.stored.reading(alloc, words, script),
             ("output", [script]) => sessions::output(alloc, script),
             ("calls", [words, script]) => sessions::calls(alloc, words, script),
             ("demo", [number]) => sessions::demo_line(alloc, number),
             ("faults", [reads, writes, script]) => sessions::faulty(alloc, reads, writes, script),
             ("store faults", [words, calls, script]) => {
                 stores::failing(alloc, words, calls, script)
+            }
+            ("each store fault", [words, script, next]) => {
+                stores::failing_in_turn(alloc, words, script, next)
             }
             ("lost blobs", [script]) => stores::losing(alloc, script),
             ("pieces", [most, script]) => pieces::output(alloc, most, script),

@@ -1,7 +1,7 @@
 //! Sessions over scripts.
 use crate::statuses::name_of;
 use std::alloc::{AllocError, Global};
-use wu_outside::{MemSink, MemSource, PlainStore};
+use wu_outside::{MemSink, MemSource, PlainSource, PlainStore};
 use wu_rows::{NoAnswer, numbers, script, shown, words};
 use wumpus_run::{Status, run};
 
@@ -34,11 +34,12 @@ fn run_session(
     })
 }
 
-/// The commands of a session so far, and the replies to them.
+/// The commands of a session so far, and the replies to them. The store is that of the sessions of one command each.
 #[derive(Drop)]
 pub struct Session {
     script: Vec<u8>,
     replies: Vec<u8>,
+    store: PlainStore,
 }
 
 impl Session {
@@ -46,14 +47,33 @@ impl Session {
         Session {
             script: Vec::new(alloc),
             replies: Vec::new(alloc),
+            store: PlainStore::new(alloc),
         }
     }
 
-    /// What a session over the commands so far and this one writes more than one over those before.
+    /// What a session over the commands so far and this one writes more than one over those before. A session over this
+    /// command alone writes the same where each of those before had its own session over the same store.
     pub fn reply(&mut self, alloc: Global, command: &str) -> Result<String, NoAnswer> {
         let script = self.with(alloc, command)?;
         let output = whole_output(alloc, script)?;
-        self.rest(alloc, output)
+        let reply = self.rest(alloc, output)?;
+        if self.own_reply(alloc, command)?.as_str() == reply.as_str() {
+            Ok(reply)
+        } else {
+            Err(NoAnswer::BadRow)
+        }
+    }
+
+    /// What a session over the command writes, from what the sessions before it saved.
+    fn own_reply(&mut self, alloc: Global, command: &str) -> Result<String, NoAnswer> {
+        let mut script = script(alloc, command)?;
+        script.push(b'\n')?;
+        let mut source = PlainSource::new(script);
+        let mut sink = MemSink::new(alloc, Vec::new(alloc));
+        match run(alloc, &["run"], &mut source, &mut sink, &mut self.store) {
+            Status::Done => shown(alloc, sink.gained()),
+            _ => Err(NoAnswer::BadRow),
+        }
     }
 
     /// The same of the session that the words ask for, which runs once.

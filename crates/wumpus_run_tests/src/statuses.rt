@@ -19,6 +19,7 @@ fn named(name: &str) -> Result<Status, NoAnswer> {
         "input too long" => Ok(Status::InputTooLong),
         "store fault" => Ok(Status::StoreFault),
         "damaged at blob 1" => Ok(Status::Damaged { blob: 1 }),
+        "spent at 9" => Ok(Status::Spent { next: 9 }),
         _ => Err(NoAnswer::BadRow),
     }
 }
@@ -34,5 +35,6 @@ pub fn name_of(alloc: Global, status: Status) -> Result<String, NoAnswer> {
         Status::InputTooLong => plain_text(alloc, "input too long"),
         Status::StoreFault => plain_text(alloc, "store fault"),
         Status::Damaged { blob } => Ok(format!(in alloc; "damaged at blob {blob}")?),
+        Status::Spent { next } => Ok(format!(in alloc; "spent at {next}")?),
     }
 }
