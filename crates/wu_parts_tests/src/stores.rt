@@ -47,18 +47,19 @@ pub fn after(alloc: Global, flush_at: u64, fails: &str, steps: &str) -> Result<O
 /// `~N BYTES` puts the bytes into the blob of that number, `?TERM` fetches the term, `+N` does so many units of
 /// background work, and any other step is the text of the file that has the step's number, counted from 1 on, or
 /// after an opening from 101 on. Stops at the first trouble.
-pub fn go_on(
-    alloc: Global,
-    index: &mut Index,
-    steps: &str,
-) -> Result<Result<(), Trouble>, NoAnswer>
+pub fn go_on(alloc: Global, index: &mut Index, steps: &str) -> Result<Result<(), Trouble>, NoAnswer>
     requires { index.old.parts.memory.end ≤ index.old.space.next }
 {
     let mut ino = index.earlier;
     for step in &pieces(alloc, steps)? {
         ino = next_number(ino)?;
         match take(
-            alloc, &mut index.parts, &mut index.space, &mut index.store, ino, step,
+            alloc,
+            &mut index.parts,
+            &mut index.space,
+            &mut index.store,
+            ino,
+            step,
         )? {
             Ok(()) => {}
             Err(trouble) => return Ok(Err(trouble)),
