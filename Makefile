@@ -1,4 +1,4 @@
-# make try     runs the examples on an unproved build, to have a look: under a minute and a half
+# make try     runs the examples of one session on an unproved build, to have a look: under a minute and a half
 # make demo    proves what the program needs, builds it, and runs the examples
 # make         proves and builds; make install PREFIX=.. copies the built program
 # make check   the gate
