@@ -54,6 +54,9 @@ impl Subject for Tables {
             ("store faults", [words, calls, script]) => {
                 stores::failing(alloc, words, calls, script)
             }
+            ("each store fault", [words, script, next]) => {
+                stores::failing_in_turn(alloc, words, script, next)
+            }
             ("lost blobs", [script]) => stores::losing(alloc, script),
             ("pieces", [most, script]) => pieces::output(alloc, most, script),
             ("code", [status]) => statuses::code(alloc, status),

@@ -66,6 +66,45 @@ pub fn failing(
     Ok(format!(in alloc; "{calls} {ending}")?)
 }
 
+/// How the session that the words ask for is ended by each call of the store that fails, one in each of so many runs: it has written
+/// the front of what it writes where none fails. What the next session writes then, from each call on where it writes something else.
+pub fn failing_in_turn(
+    alloc: Global,
+    words_field: &str,
+    field: &str,
+    next_field: &str,
+) -> Result<String, NoAnswer> {
+    let words = words(alloc, words_field)?;
+    let mut store = MemStore::new(alloc, Vec::new(alloc), u64::MAX);
+    let whole = ending(alloc, words.as_slice(), &mut store, field)?;
+    let mut text = format!(in alloc; "{whole}")?;
+    let mut last = String::new(alloc);
+    for call in 0..store.calls() {
+        let mut store = MemStore::new(alloc, Vec::from_slice(alloc, &[call])?, u64::MAX);
+        let ended = ending(alloc, words.as_slice(), &mut store, field)?;
+        if !is_front(ended.as_str(), whole.as_str()) {
+            return Err(NoAnswer::BadRow);
+        }
+        let next = ending(alloc, &["run"], &mut store, next_field)?;
+        if next.as_str() != last.as_str() {
+            write!(text, " | {call} {next}")?;
+            last = next;
+        }
+    }
+    Ok(text)
+}
+
+/// Whether a session that a fault of the store ended has written the front of what the other one has.
+fn is_front(ended: &str, whole: &str) -> bool {
+    match (
+        ended.strip_prefix("store fault: "),
+        whole.strip_prefix("done: "),
+    ) {
+        (Some(front), Some(output)) => output.starts_with(front),
+        _ => false,
+    }
+}
+
 /// How a session ends over a store that loses each blob, and what it has written then.
 pub fn losing(alloc: Global, field: &str) -> Result<String, NoAnswer> {
     ending(alloc, &["run"], &mut LosingStore {}, field)
