@@ -41,3 +41,6 @@ pub mod SavedBlobs
 pub mod SavedSpans
 pub mod SavedLayouts
 pub mod NamedBlobs
+pub mod OpenedParts
+pub mod OpenedFiles
+pub mod OpenedStates

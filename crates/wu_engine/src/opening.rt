@@ -1,11 +1,25 @@
 //! Opening of an engine over a store: the root, the checkpoint that it names, and the parts.
-ghost use Rattle.std.specs.Prelude.{◌≡◌};
+ghost use Rattle.std.specs.Prelude.{◌≡◌, ◌⊎◌, ◌≢◌, ◌<◌, ◌^◌, IfErr, IfNone, IfOk, IfSome, MatchBool, Some, OnOk, OnSome, None, [], length, map};
+ghost use Rattle.std.specs.List.{AllByRecursion};
+ghost use Rattle.std.specs.List.Sorted.{IsStrictlySortedBy};
+ghost use Rattle.std.specs.Ordering.{nat_cmp};
+ghost use Rattle.lru.specs.LruCache.{lru_cache};
+ghost use Rattle.wu_base.specs.declared.limits.TheConstants.{BLOBS_SPENT_AT, SPENT_AT};
+ghost use Rattle.wu_outside.specs.Faults.{HasFaultCause};
+ghost use Rattle.wu_space.specs.Addresses.{AreLive};
+ghost use Rattle.wu_parts.specs.Loading.{end_of};
+ghost use Rattle.wu_parts.specs.declared.parts.TheConstants.{BLOCKS_KEPT};
+ghost use Rattle.wu_image.specs.Checkpoints.{IsCheckpoint};
+ghost use Rattle.wu_engine.specs.Opened.{FindsRoot, HasRoom, IsEngineFor, IsFirstEngine, IsFoundIn, IsOf, IsSpentBy, ReadsCheckpoint, numbered, ranges_recorded};
+ghost use Rattle.wu_engine.specs.Opening.{HasCheckpoint, HasOpenRoot, HoldsImage, IsBeginCause, IsOpen, IsSpentWhere, ReadsAtOpening, spent_of};
+ghost use Rattle.wu_engine.specs.Stands.{Stands};
+ghost use Rattle.wu_engine.specs.States.{State};
 
 use crate::engines::Engine;
 use crate::faults::BeginFault;
 use std::alloc::Global;
 use std::collections::BTreeMap;
-use wu_base::{BLOBS_SPENT_AT, Ino, NoMemory, Range, SPENT_AT};
+use wu_base::{BLOBS_SPENT_AT, Ino, NoMemory, PartRec, Range, SPENT_AT};
 use wu_frames::FrameCache;
 use wu_image::{Checkpoint, FileRec, ROOT_LEN, Root, read_checkpoint, read_root};
 use wu_outside::{Fault, Store};
@@ -15,7 +29,16 @@ use wu_tree::Tree;
 
 /// The store's root, where it has one. It is broken where it is no root's spelling, and leaves room where its
 /// numbers are below the limits.
-pub(crate) fn open_root<D: Store>(store: &mut D) -> Result<Option<Root>, BeginFault> {
+pub(crate) fn open_root<D: Store>(store: &mut D) -> Result<Option<Root>, BeginFault>
+    ensures found { IfOk result (λ found. IfSome (D.holds store.old) (FindsRoot found)) }
+    ensures room { IfOk result (λ found. IfSome found HasRoom) }
+    ensures holds { D.holds store.new ≡ D.holds store.old }
+    ensures moments { D.moments store.new ≡ D.moments store.old }
+    ensures reads { D.reads store.new ≡ D.reads store.old }
+    ensures calm { OnOk result (D.faults store.new ≡ D.faults store.old) }
+    ensures cause { IfErr result (IsBeginCause (D.holds store.old) (D.faults store.old) (D.faults store.new)) }
+    ensures spent { IsSpentWhere (D.holds store.old) result }
+{
     let mut bytes = [0; ROOT_LEN];
     match store.root(&mut bytes)? {
         None => Ok(None),
@@ -28,7 +51,11 @@ pub(crate) fn open_root<D: Store>(store: &mut D) -> Result<Option<Root>, BeginFa
 }
 
 /// The root, where its numbers leave room for a session.
-fn with_room(root: Root) -> Result<Root, BeginFault> {
+fn with_room(root: Root) -> Result<Root, BeginFault>
+    ensures same { IfOk result (λ opened. opened ≡ root) }
+    ensures unspent { OnOk result (spent_of root ≡ None) }
+    ensures spent { IfErr result (IsSpentBy root) }
+{
     if root.next_address >= SPENT_AT {
         Err(BeginFault::Spent {
             next: root.next_address,
@@ -43,7 +70,9 @@ fn with_room(root: Root) -> Result<Root, BeginFault> {
 }
 
 /// The engine of the root directory alone.
-pub(crate) fn open_first(alloc: Global, flush_at: u64) -> Result<Engine, NoMemory> {
+pub(crate) fn open_first(alloc: Global, flush_at: u64) -> Result<Engine, NoMemory>
+    ensures { IfOk result (IsFirstEngine flush_at) }
+{
     Ok(Engine {
         tree: Tree::new(alloc)?,
         space: Space::new(alloc, 0),
@@ -62,7 +91,23 @@ pub(crate) fn open_saved<D: Store>(
     store: &mut D,
     root: &Root,
     flush_at: u64,
-) -> Result<Engine, BeginFault> {
+) -> Result<Engine, BeginFault>
+    requires room { HasRoom root.now }
+    requires found { IfSome (D.holds store.old) (λ content. HasOpenRoot content root.now) }
+    ensures stands { IfOk result (λ engine. (s : State) → HoldsImage (D.holds store.old) s → Stands engine (D.holds store.new) s) }
+    ensures open { OnOk result (IsOpen (D.holds store.old) (D.reads store.old) (D.reads store.new)) }
+    ensures next { IfOk result (λ engine. engine.space.next < SPENT_AT) }
+    ensures next_blob { IfOk result (λ engine. engine.parts.next_blob < BLOBS_SPENT_AT) }
+    ensures flushes { IfOk result (λ engine. engine.parts.flushes < 2 ^ 62) }
+    ensures flush_at { IfOk result (λ engine. engine.parts.flush_at ≡ flush_at) }
+    ensures kept { IfOk result (λ engine. engine.parts.kept ≡ lru_cache [] BLOCKS_KEPT) }
+    ensures goes_on { IfOk result (λ engine. engine.ended ≡ None) }
+    ensures holds { D.holds store.new ≡ D.holds store.old }
+    ensures moments { D.moments store.new ≡ D.moments store.old }
+    ensures reads { ReadsAtOpening (D.holds store.old) (D.reads store.old) (D.reads store.new) }
+    ensures calm { OnOk result (D.faults store.new ≡ D.faults store.old) }
+    ensures cause { IfErr result (IsBeginCause (D.holds store.old) (D.faults store.old) (D.faults store.new)) }
+{
     let checkpoint = open_checkpoint(alloc, store, root)?;
     let parts = Parts::load(
         alloc,
@@ -81,7 +126,14 @@ fn engine_of(
     blob: u64,
     checkpoint: Checkpoint,
     parts: Parts,
-) -> Result<Engine, NoMemory> {
+) -> Result<Engine, NoMemory>
+    requires rules { IsCheckpoint checkpoint }
+    requires room { checkpoint.next_address < SPENT_AT }
+    requires drawn { 0 < checkpoint.next_blob }
+    requires next_blob { parts.next_blob ≡ checkpoint.next_blob }
+    requires end { parts.memory.end ≡ end_of checkpoint.parts }
+    ensures { IfOk result (IsEngineFor blob checkpoint parts) }
+{
     let files = checkpoint.files.as_slice();
     Ok(Engine {
         space: space_of(alloc, checkpoint.next_address, files)?,
@@ -100,7 +152,18 @@ fn open_checkpoint<D: Store>(
     alloc: Global,
     store: &mut D,
     root: &Root,
-) -> Result<Checkpoint, BeginFault> {
+) -> Result<Checkpoint, BeginFault>
+    requires { IfSome (D.holds store.old) (λ content. HasOpenRoot content root.now) }
+    ensures saved { IfOk result (λ checkpoint. IfSome (D.holds store.old) (λ content. HasCheckpoint content root.now checkpoint)) }
+    ensures rules { IfOk result IsCheckpoint }
+    ensures own { IfOk result (IsOf root.now) }
+    ensures holds { D.holds store.new ≡ D.holds store.old }
+    ensures moments { D.moments store.new ≡ D.moments store.old }
+    ensures read { OnOk result (ReadsCheckpoint root.now (D.reads store.old) (D.reads store.new)) }
+    ensures reads { (D.reads store.new ≡ D.reads store.old) ⊎ ReadsCheckpoint root.now (D.reads store.old) (D.reads store.new) }
+    ensures calm { OnOk result (D.faults store.new ≡ D.faults store.old) }
+    ensures cause { IfErr result (IsBeginCause (D.holds store.old) (D.faults store.old) (D.faults store.new)) }
+{
     match checkpoint_in(alloc, store, root)? {
         Some(checkpoint) if is_of(&checkpoint, root) => Ok(checkpoint),
         _ => Err(BeginFault::Damaged {
@@ -115,47 +178,101 @@ fn checkpoint_in<D: Store>(
     alloc: Global,
     store: &mut D,
     root: &Root,
-) -> Result<Option<Checkpoint>, Fault> {
+) -> Result<Option<Checkpoint>, Fault>
+    ensures found { IfOk result (λ found. IfSome (D.holds store.old)
+        (λ content. IsFoundIn root.now.size (content.blobs root.now.checkpoint) found)) }
+    ensures rules { IfOk result (λ found. IfSome found IsCheckpoint) }
+    ensures holds { D.holds store.new ≡ D.holds store.old }
+    ensures moments { D.moments store.new ≡ D.moments store.old }
+    ensures read { IfOk result (λ found. OnSome found (ReadsCheckpoint root.now (D.reads store.old) (D.reads store.new))) }
+    ensures reads { (D.reads store.new ≡ D.reads store.old) ⊎ ReadsCheckpoint root.now (D.reads store.old) (D.reads store.new) }
+    ensures cause { HasFaultCause (D.faults store.old) (D.faults store.new) result }
+{
+    match named_blob(alloc, store, root)? {
+        Some(bytes) => Ok(read_checkpoint(alloc, &bytes)?),
+        None => Ok(None),
+    }
+}
+
+/// The blob that the root names, whole, in one read. None where it is absent or has another size than the root says.
+fn named_blob<D: Store>(alloc: Global, store: &mut D, root: &Root) -> Result<Option<Vec<u8>>, Fault>
+    ensures bytes { IfOk result (λ found. IfSome found (λ bytes. IfSome (D.holds store.old)
+        (λ content. content.blobs root.now.checkpoint ≡ Some bytes.items))) }
+    ensures size { IfOk result (λ found. IfSome found (λ bytes. length bytes.items ≡ root.now.size)) }
+    ensures none { IfOk result (λ found. IfNone found (IfSome (D.holds store.old)
+        (λ content. IsFoundIn root.now.size (content.blobs root.now.checkpoint) None))) }
+    ensures holds { D.holds store.new ≡ D.holds store.old }
+    ensures moments { D.moments store.new ≡ D.moments store.old }
+    ensures read { IfOk result (λ found. OnSome found (ReadsCheckpoint root.now (D.reads store.old) (D.reads store.new))) }
+    ensures reads { (D.reads store.new ≡ D.reads store.old) ⊎ ReadsCheckpoint root.now (D.reads store.old) (D.reads store.new) }
+    ensures cause { HasFaultCause (D.faults store.old) (D.faults store.new) result }
+{
     match store.size(root.checkpoint)? {
         Some(size) if size == root.size => {}
         _ => return Ok(None),
     }
     let mut bytes = vec![in alloc; 0u8; root.size as usize]?;
     match store.read(root.checkpoint, 0, &mut bytes)? {
-        Some(count) if count == bytes.len() => {}
-        _ => return Ok(None),
+        Some(count) if count == bytes.len() => Ok(Some(bytes)),
+        _ => Ok(None),
     }
-    Ok(read_checkpoint(alloc, &bytes)?)
 }
 
 /// Whether the checkpoint has the root's numbers, and its own blob is none of its texts' and parts'.
-fn is_of(checkpoint: &Checkpoint, root: &Root) -> bool {
+fn is_of(checkpoint: &Checkpoint, root: &Root) -> bool
+    ensures { MatchBool result (IsOf root.now checkpoint.now) (IsOf root.now checkpoint.now → ⊥) }
+{
     checkpoint.next_address == root.next_address
         && checkpoint.next_blob == root.next_blob
-        && checkpoint
-            .files
-            .as_slice()
-            .iter()
-            .all(|file| file.blob != root.checkpoint)
-        && checkpoint
-            .parts
-            .as_slice()
-            .iter()
-            .all(|part| part.blob != root.checkpoint)
+        && is_no_text(root.checkpoint, checkpoint.files.as_slice())
+        && is_no_part(root.checkpoint, checkpoint.parts.as_slice())
+}
+
+/// Whether the blob is none of the texts'.
+fn is_no_text(blob: u64, files: &[FileRec]) -> bool
+    ensures { MatchBool result (AllByRecursion (λ file. file.blob ≢ blob) files.now)
+        (AllByRecursion (λ file. file.blob ≢ blob) files.now → ⊥) }
+{
+    files.iter().all(|file| file.blob != blob)
+}
+
+/// Whether the blob is none of the parts'.
+fn is_no_part(blob: u64, parts: &[PartRec]) -> bool
+    ensures { MatchBool result (AllByRecursion (λ part. part.blob ≢ blob) parts.now)
+        (AllByRecursion (λ part. part.blob ≢ blob) parts.now → ⊥) }
+{
+    parts.iter().all(|part| part.blob != blob)
 }
 
 /// The space of addresses in which the files have their recorded ranges.
-fn space_of(alloc: Global, next: u64, files: &[FileRec]) -> Result<Space, NoMemory> {
-    let mut ranges: Vec<(Ino, Range)> = Vec::with_capacity(alloc, files.len())?;
+fn space_of(alloc: Global, next: u64, files: &[FileRec]) -> Result<Space, NoMemory>
+    requires ascend { IsStrictlySortedBy nat_cmp (map (λ file. file.ino) files.now) }
+    requires live { AreLive next (ranges_recorded files.now) }
+    ensures { IfOk result (λ space. space ≡ record { next = next; ranges = ranges_recorded files.now }) }
+{
+    let ranges = ranges_of(alloc, files)?;
+    let found = Space::rebuild(alloc, next, &ranges)?;
+    let space = found.unwrap();
+    space.keeps_the_rules();
+    Ok(space)
+}
+
+/// The files' ranges.
+fn ranges_of(alloc: Global, files: &[FileRec]) -> Result<Vec<(Ino, Range)>, NoMemory>
+    ensures { IfOk result (λ ranges. ranges.items ≡ ranges_recorded files.now) }
+{
+    let mut ranges = Vec::with_capacity(alloc, files.len())?;
     for file in files {
         ranges.push((file.ino, file.range))?;
     }
-    let space = Space::rebuild(alloc, next, &ranges)?;
-    Ok(space.unwrap())
+    Ok(ranges)
 }
 
 /// The records by the number of their file.
-fn records_by_number(alloc: Global, files: &[FileRec]) -> Result<BTreeMap<Ino, FileRec>, NoMemory> {
+fn records_by_number(alloc: Global, files: &[FileRec]) -> Result<BTreeMap<Ino, FileRec>, NoMemory>
+    requires { IsStrictlySortedBy nat_cmp (map (λ file. file.ino) files.now) }
+    ensures { IfOk result (λ records. records.entries ≡ numbered files.now) }
+{
     let mut by_number = BTreeMap::new(alloc);
     for file in files {
         by_number.insert(file.ino, *file)?;

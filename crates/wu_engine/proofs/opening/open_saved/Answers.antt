@@ -1,0 +1,127 @@
+use Rattle.std.proofs.Common.{◌∙◌, ap, arith}
+use Rattle.wu_space.specs.Addresses.{Addresses}
+use Rattle.wu_parts.specs.Contents.{Contents}
+use Rattle.wu_parts.specs.Loading.{end_of}
+use Rattle.wu_engine.proofs.OpenedParts.{loadable}
+use Rattle.wu_engine.proofs.OpenedStates.{opening_done, opening_reads, opening_stands, reads_checkpoint, room_left}
+use Rattle.wu_engine.proofs.opening.open_saved.Goals as goal
+
+pub load-requires : goal.load-requires
+load-requires g c =
+    let checkpoint = c.in_ok-checkpoint.checkpoint in
+    rw c.as_slice.ensures
+    (loadable checkpoint.next_address checkpoint.next_blob checkpoint.flushes checkpoint.files checkpoint.parts
+    c.in_ok-checkpoint.ensures.rules.layout)
+
+pub engine_of-requires-clause-room : goal.engine_of-requires-clause-room
+engine_of-requires-clause-room g c =
+    omega (arith, c.in_ok-checkpoint.ensures.own.next_address, (room_left c.args.root.now c.requires.room.unspent).0)
+
+pub engine_of-requires-clause-drawn : goal.engine_of-requires-clause-drawn
+engine_of-requires-clause-drawn g c = omega (arith, c.in_ok-checkpoint.ensures.own.next_blob, c.requires.room.drawn)
+
+pub engine_of-requires-clause-next_blob : goal.engine_of-requires-clause-next_blob
+engine_of-requires-clause-next_blob g c = ap (λ (p : Contents). p.next_blob) c.in_ok-parts.ensures.loaded.kept
+
+pub engine_of-requires-clause-end : goal.engine_of-requires-clause-end
+engine_of-requires-clause-end g c =
+    ap (λ (p : Contents). p.memory.end) c.in_ok-parts.ensures.loaded.kept ∙ ap end_of c.as_slice.ensures
+
+pub returns-clause-stands : goal.returns-clause-stands
+returns-clause-stands g c =
+    let holds = g.D.Store.holds in
+    let reads = g.D.Store.reads in
+    opening_stands c.args.root.now c.in_ok-checkpoint.checkpoint (holds c.args.store.now) (holds c.open_checkpoint.new.store)
+    c.open_checkpoint.ensures.holds c.as_slice.result.now c.as_slice.ensures c.requires.found c.in_ok-checkpoint.ensures.saved
+    c.in_ok-parts.parts c.args.flush_at (reads c.args.store.now) (reads c.open_checkpoint.new.store) (reads c.load.new.store)
+    c.in_ok-parts.ensures.loaded c.in_ok-engine_of.field-0 c.in_ok-engine_of.ensures (holds c.load.new.store) c.load.ensures.holds
+
+pub returns-clause-open : goal.returns-clause-open
+returns-clause-open g c =
+    let holds = g.D.Store.holds in
+    let reads = g.D.Store.reads in
+    opening_done c.args.root.now c.in_ok-checkpoint.checkpoint (holds c.args.store.now) (holds c.open_checkpoint.new.store)
+    c.open_checkpoint.ensures.holds c.as_slice.result.now c.as_slice.ensures c.requires.found c.in_ok-checkpoint.ensures.saved
+    c.in_ok-parts.parts c.args.flush_at (reads c.args.store.now) (reads c.open_checkpoint.new.store) (reads c.load.new.store)
+    c.in_ok-parts.ensures.loaded c.in_ok-checkpoint.ensures.read
+
+pub returns-clause-next : goal.returns-clause-next
+returns-clause-next g c =
+    omega (
+      arith,
+      ap (λ (a : Addresses). a.next) c.in_ok-engine_of.ensures.space,
+      c.in_ok-checkpoint.ensures.own.next_address,
+      (room_left c.args.root.now c.requires.room.unspent).0,
+    )
+
+pub returns-clause-next_blob : goal.returns-clause-next_blob
+returns-clause-next_blob g c =
+    omega (
+      arith,
+      ap (λ (p : Contents). p.next_blob) c.in_ok-engine_of.ensures.parts_kept,
+      ap (λ (p : Contents). p.next_blob) c.in_ok-parts.ensures.loaded.kept,
+      c.in_ok-checkpoint.ensures.own.next_blob,
+      (room_left c.args.root.now c.requires.room.unspent).1,
+    )
+
+pub returns-clause-flushes : goal.returns-clause-flushes
+returns-clause-flushes g c =
+    omega (
+      arith,
+      ap (λ (p : Contents). p.flushes) c.in_ok-engine_of.ensures.parts_kept,
+      ap (λ (p : Contents). p.flushes) c.in_ok-parts.ensures.loaded.kept,
+      c.in_ok-checkpoint.ensures.rules.layout.few,
+    )
+
+pub returns-clause-flush_at : goal.returns-clause-flush_at
+returns-clause-flush_at g c =
+    ap (λ (p : Contents). p.flush_at) c.in_ok-engine_of.ensures.parts_kept
+    ∙ ap (λ (p : Contents). p.flush_at) c.in_ok-parts.ensures.loaded.kept
+
+pub returns-clause-kept : goal.returns-clause-kept
+returns-clause-kept g c =
+    ap (λ (p : Contents). p.kept) c.in_ok-engine_of.ensures.parts_kept ∙ ap (λ (p : Contents). p.kept) c.in_ok-parts.ensures.loaded.kept
+
+pub returns-clause-goes_on : goal.returns-clause-goes_on
+returns-clause-goes_on g c = c.in_ok-engine_of.ensures.goes_on
+
+pub returns-clause-holds : goal.returns-clause-holds
+returns-clause-holds g c = c.load.ensures.holds ∙ c.open_checkpoint.ensures.holds
+
+pub returns-clause-moments : goal.returns-clause-moments
+returns-clause-moments g c = c.load.ensures.moments ∙ c.open_checkpoint.ensures.moments
+
+pub returns-clause-reads : goal.returns-clause-reads
+returns-clause-reads g c =
+    let holds = g.D.Store.holds in
+    let reads = g.D.Store.reads in
+    opening_reads c.args.root.now c.in_ok-checkpoint.checkpoint (holds c.args.store.now) (holds c.open_checkpoint.new.store)
+    c.open_checkpoint.ensures.holds c.as_slice.result.now c.as_slice.ensures c.requires.found c.in_ok-checkpoint.ensures.saved
+    (reads c.args.store.now) (reads c.open_checkpoint.new.store) (reads c.load.new.store) c.in_ok-checkpoint.ensures.read
+    c.load.ensures.fronts
+
+pub returns-clause-calm : goal.returns-clause-calm
+returns-clause-calm g c = c.in_ok-parts.ensures.calm ∙ c.in_ok-checkpoint.ensures.calm
+
+pub returns-in_err-checkpoint-clause-reads : goal.returns-in_err-checkpoint-clause-reads
+returns-in_err-checkpoint-clause-reads g c =
+    reads_checkpoint c.args.root.now (g.D.Store.holds c.args.store.now) (g.D.Store.reads c.args.store.now)
+    (g.D.Store.reads c.open_checkpoint.new.store) c.requires.found c.open_checkpoint.ensures.reads
+
+pub returns-in_err-parts-clause-reads : goal.returns-in_err-parts-clause-reads
+returns-in_err-parts-clause-reads g c =
+    let holds = g.D.Store.holds in
+    let reads = g.D.Store.reads in
+    opening_reads c.args.root.now c.in_ok-checkpoint.checkpoint (holds c.args.store.now) (holds c.open_checkpoint.new.store)
+    c.open_checkpoint.ensures.holds c.as_slice.result.now c.as_slice.ensures c.requires.found c.in_ok-checkpoint.ensures.saved
+    (reads c.args.store.now) (reads c.open_checkpoint.new.store) (reads c.load.new.store) c.in_ok-checkpoint.ensures.read
+    c.load.ensures.fronts
+
+pub returns-in_err-engine_of-clause-reads : goal.returns-in_err-engine_of-clause-reads
+returns-in_err-engine_of-clause-reads g c =
+    let holds = g.D.Store.holds in
+    let reads = g.D.Store.reads in
+    opening_reads c.args.root.now c.in_ok-checkpoint.checkpoint (holds c.args.store.now) (holds c.open_checkpoint.new.store)
+    c.open_checkpoint.ensures.holds c.as_slice.result.now c.as_slice.ensures c.requires.found c.in_ok-checkpoint.ensures.saved
+    (reads c.args.store.now) (reads c.open_checkpoint.new.store) (reads c.load.new.store) c.in_ok-checkpoint.ensures.read
+    c.load.ensures.fronts

@@ -1,0 +1,84 @@
+-- What the steps of an opening find.
+use Rattle.std.specs.Prelude.{◌≡◌, ◌≢◌, ⊤, ℕ, ◌<◌, List, [], ◌∷◌, ◌++◌, length, map, Option, None, Some, option_map}
+use Rattle.std.specs.List.{AllByRecursion}
+use Rattle.wu_outside.specs.Content.{Content}
+use Rattle.wu_outside.specs.declared.ranges.ReadRange.{ReadRange}
+use Rattle.wu_tree.specs.FileSystems.{root_alone}
+use Rattle.wu_space.specs.Addresses.{Ranges}
+use Rattle.wu_parts.specs.Contents.{Contents, no_contents}
+use Rattle.wu_image.specs.declared.checkpoints.Checkpoint.{Checkpoint}
+use Rattle.wu_image.specs.declared.records.FileRec.{FileRec}
+use Rattle.wu_image.specs.declared.roots.Root.{Root}
+use Rattle.wu_image.specs.Checkpoints.{SpellsCheckpoint}
+use Rattle.wu_engine.specs.declared.engines.Engine.{Engine}
+use Rattle.wu_engine.specs.declared.faults.BeginFault.{BeginFault}
+use Rattle.wu_engine.specs.declared.faults.BeginFault.TheVariants.{NoMemory, StoreFault, Damaged, Spent}
+use Rattle.wu_engine.specs.Opening.{HasOpenRoot, checkpoint_range, spent_of}
+use Rattle.wu_engine.specs.Records.{Records}
+
+-- ---- the root
+
+-- what was found is the content's root, if there is one, and it leaves room
+abbrev pub FindsRoot : Option Root → Content → Type 0
+FindsRoot None content = content.root ≡ None
+FindsRoot (Some root) content = HasOpenRoot content root
+
+-- the root leaves room, and its checkpoint's blob was drawn
+pub record HasRoom (root : Root) : Type 0 where
+  pub unspent : spent_of root ≡ None
+  pub drawn : 0 < root.next_blob
+
+-- the fault is that the root leaves none
+abbrev pub IsSpentBy : Root → BeginFault → Type 0
+IsSpentBy root NoMemory = ⊥
+IsSpentBy root StoreFault = ⊥
+IsSpentBy root (Damaged blob) = ⊥
+IsSpentBy root (Spent number) = spent_of root ≡ Some number
+
+-- ---- the checkpoint
+
+-- what was found in a blob is the checkpoint of that size that it has, if it has one
+abbrev pub IsFoundIn : ℕ → Option (List ℕ) → Option Checkpoint → Type 0
+IsFoundIn size None None = ⊤
+IsFoundIn size None (Some checkpoint) = ⊥
+IsFoundIn size (Some bytes) None = length bytes ≡ size → (checkpoint : Checkpoint) → SpellsCheckpoint checkpoint bytes → ⊥
+IsFoundIn size (Some bytes) (Some checkpoint) = (length bytes ≡ size) × SpellsCheckpoint checkpoint bytes
+
+-- the checkpoint has the root's numbers, and names its own blob for no text and no part
+pub record IsOf (root : Root) (checkpoint : Checkpoint) : Type 0 where
+  pub next_address : checkpoint.next_address ≡ root.next_address
+  pub next_blob : checkpoint.next_blob ≡ root.next_blob
+  pub of_no_text : AllByRecursion (λ file. file.blob ≢ root.checkpoint) checkpoint.files
+  pub of_no_part : AllByRecursion (λ part. part.blob ≢ root.checkpoint) checkpoint.parts
+
+-- the checkpoint was read, and nothing else
+abbrev pub ReadsCheckpoint : Root → Option (List ReadRange) → Option (List ReadRange) → Type 0
+ReadsCheckpoint root before after = after ≡ option_map (λ earlier. earlier ++ checkpoint_range root ∷ []) before
+
+-- ---- the engine
+
+-- the files' records, by number
+abbrev pub numbered : List FileRec → Records
+numbered files = map (λ file. (file.ino, file)) files
+
+-- the files' ranges, by number
+abbrev pub ranges_recorded : List FileRec → Ranges
+ranges_recorded files = map (λ file. (file.ino, file.range)) files
+
+-- the engine of the root directory alone
+pub record IsFirstEngine (flush_at : ℕ) (engine : Engine) : Type 0 where
+  pub tree : engine.tree ≡ root_alone
+  pub space : engine.space ≡ record { next = 0; ranges = [] }
+  pub parts : engine.parts ≡ no_contents flush_at 1
+  pub files : engine.files.entries ≡ []
+  pub checkpoint : engine.checkpoint ≡ 0
+  pub goes_on : engine.ended ≡ None
+
+-- the engine of a checkpoint, which is in that blob, and its parts
+pub record IsEngineFor (blob : ℕ) (checkpoint : Checkpoint) (parts : Contents) (engine : Engine) : Type 0 where
+  pub tree : engine.tree ≡ checkpoint.tree
+  pub space : engine.space ≡ record { next = checkpoint.next_address; ranges = ranges_recorded checkpoint.files }
+  pub files : engine.files.entries ≡ numbered checkpoint.files
+  pub parts_kept : engine.parts ≡ parts
+  pub of_blob : engine.checkpoint ≡ blob
+  pub goes_on : engine.ended ≡ None
