@@ -44,3 +44,7 @@ pub mod NamedBlobs
 pub mod OpenedParts
 pub mod OpenedFiles
 pub mod OpenedStates
+pub mod SavedContents
+pub mod SavedSteps
+pub mod SavedStates
+pub mod SavedEngines

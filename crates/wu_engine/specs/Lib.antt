@@ -20,3 +20,4 @@ pub mod Indexing
 pub mod Units
 pub mod Finding
 pub mod Opened
+pub mod SavedStores
