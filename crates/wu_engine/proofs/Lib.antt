@@ -41,6 +41,7 @@ pub mod SavedBlobs
 pub mod SavedSpans
 pub mod SavedLayouts
 pub mod NamedBlobs
+pub mod AddedBlobs
 pub mod OpenedParts
 pub mod OpenedFiles
 pub mod OpenedStates
