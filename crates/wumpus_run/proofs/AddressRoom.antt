@@ -1,6 +1,7 @@
--- The addresses and the blobs that a session takes: at most three addresses and WORK_MAX blobs for each byte of its input.
+-- The addresses and the blobs that a session takes: from less than SPENT_AT and BLOBS_SPENT_AT on, at most three addresses and WORK_MAX
+-- blobs for each byte of its input.
 use Rattle.std.proofs.Common.{◌≡◌, ℕ, ◌+◌, ◌*◌, ◌<◌, ◌≤◌, ◌^◌, false, Option, List, [], length, refl, ap, arith, length-append}
-use Rattle.wu_base.specs.declared.limits.TheConstants.{INPUT_MAX, ADDRESSES_MAX, WORK_MAX}
+use Rattle.wu_base.specs.declared.limits.TheConstants.{INPUT_MAX, ADDRESSES_MAX, BLOBS_SPENT_AT, SPENT_AT, WORK_MAX}
 use Rattle.wu_gcl.proofs.Existence.{each_text_is_read}
 use Rattle.wu_tree.specs.declared.events.Event.{Event}
 use Rattle.wu_tree.specs.declared.events.Event.TheVariants as events
@@ -33,14 +34,14 @@ few_tokens last_read new item used other is =
     let says : said_by item ≡ said_of a_reading (first_of used).entry = one.entry a_reading a_reading-is in
     omega (arith, ap tokens_given says, first_tokens a_reading used one.some, ap length one.all)
 
--- the addresses before this one, and three for each byte that is held or may still be given, are no more than three for each byte
--- that the input may have
+-- the addresses before this one, and three for each byte that is held or may still be given, are no more than SPENT_AT and three for each
+-- byte that the input may have
 abbrev pub HasRoom : ℕ → Held → ℕ → Type 0
-HasRoom next held most = next + 3 * (length held.bytes + held.spare) ≤ 3 * most
+HasRoom next held most = next + 3 * (length held.bytes + held.spare) ≤ SPENT_AT + 3 * most
 
 -- at the start there is room for the whole input
-pub HasRoom-none : (next most : ℕ) → next ≡ 0 → HasRoom next (record { bytes = []; spare = most; ended = false }) most
-HasRoom-none next most none = omega arith
+pub HasRoom-none : (next most : ℕ) → next < SPENT_AT → HasRoom next (record { bytes = []; spare = most; ended = false }) most
+HasRoom-none next most unspent = omega (arith, unspent)
 
 -- an item's text has room
 pub HasRoom-item : (left left' : Option (List ℕ)) (last_read : ℕ) (old new : Held) (item : Item) (next most : ℕ) → IsBeforeEnd item
@@ -66,12 +67,14 @@ HasRoom-fewer next taken most held room fewer = omega arith
 
 -- ---- numbers that items raise: that of the next blob, and how many flushes are counted
 
--- the number, and WORK_MAX for each byte that is held or may still be given, are no more than WORK_MAX for each byte of the input, and one
+-- the number, and WORK_MAX for each byte that is held or may still be given, are no more than BLOBS_SPENT_AT and WORK_MAX for each byte of
+-- the input
 abbrev pub StaysLow : ℕ → Held → ℕ → Type 0
-StaysLow number held most = number + WORK_MAX * (length held.bytes + held.spare) ≤ WORK_MAX * most + 1
+StaysLow number held most = number + WORK_MAX * (length held.bytes + held.spare) ≤ BLOBS_SPENT_AT + WORK_MAX * most
 
--- at the start it is one at most
-pub StaysLow-none : (number most : ℕ) → number ≤ 1 → StaysLow number (record { bytes = []; spare = most; ended = false }) most
+-- at the start it is below BLOBS_SPENT_AT
+pub StaysLow-none : (number most : ℕ) → number < BLOBS_SPENT_AT
+    → StaysLow number (record { bytes = []; spare = most; ended = false }) most
 StaysLow-none number most few = omega (arith, few)
 
 -- an item may raise it by WORK_MAX

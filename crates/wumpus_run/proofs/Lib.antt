@@ -4,6 +4,8 @@ pub mod SessionLemmas
 pub mod SoundBlobs
 pub mod AddressRoom
 pub mod PromptLemmas
+pub mod StartedStates
+pub mod RootRoom
 pub mod EndLemmas
 pub mod ShortTexts
 pub mod StateLemmas

@@ -1,5 +1,7 @@
 -- A session holds no reply back: at each moment the items of the bytes that were used are answered.
-use Rattle.std.proofs.Common.{◌≡◌, ℕ, zero, suc, ◌+◌, ◌-◌, ◌<◌, Bool, true, false, List, [], ◌∷◌, ◌++◌, length, take, drop, take_all, Option, None, Some, refl, sym, ap, ◌∙◌, subst, ◌⊎◌, inl, inr, arith, append_assoc, append-nil, length-append, IsSome}
+use Rattle.std.proofs.Common.{◌≡◌, ℕ, zero, suc, ◌+◌, ◌-◌, ◌<◌, Bool, true, false, List, [], ◌∷◌, ◌++◌, length, take, drop, take_all}
+use Rattle.std.proofs.Common.{Option, None, Some, refl, sym, ap, ◌∙◌, subst, ◌⊎◌, inl, inr, arith, append_assoc, append-nil}
+use Rattle.std.proofs.Common.{length-append}
 use Rattle.std.proofs.Math.Seq.{take-append-add}
 use Rattle.std.proofs.lemmas.List.{take-append-drop, take-append-le, length-take-le}
 use Rattle.std.specs.Io.KnownBytes.{Appends, Consumes}
@@ -8,7 +10,7 @@ use Rattle.wu_outside.specs.Content.{Content}
 use Rattle.wu_script.specs.declared.ends.ReadEnd.{ReadEnd}
 use Rattle.wu_script.specs.declared.ends.ReadEnd.TheVariants as ends
 use Rattle.wu_script.specs.declared.types.Item.{Item}
-use Rattle.wu_script.specs.Commands.{Entry}
+use Rattle.wu_script.specs.declared.types.Item.TheVariants as items
 use Rattle.wu_script.specs.Holding.{Held, Uses, but_last, settled}
 use Rattle.wu_script.specs.Said.{said_of, said_by, IsReading}
 use Rattle.wu_script.specs.Items.{First, first_of, whole_items_of, IsBeforeEnd, IsOneItem, TakesItem, EndsBeforeItem}
@@ -16,10 +18,10 @@ use Rattle.wu_script.proofs.ItemListLemmas.{first_more, whole_items_of-none, who
 use Rattle.wu_script.proofs.UnclosedLemmas.{open_none}
 use Rattle.wu_options.specs.declared.command_lines.Settings.{Settings}
 use Rattle.wu_engine.specs.States.{State}
-use Rattle.wumpus_run.specs.Replies.{Rules, AreRules, after, said_bytes, output_of}
-use Rattle.wumpus_run.specs.Session.{Moment, AnswersWholeItems, AnswersAllButOneRead, AnswersItems, HoldsNothingBack, status_of}
+use Rattle.wumpus_run.specs.Replies.{Rules, AreRules, after, said_bytes, output_of, state_after}
+use Rattle.wumpus_run.specs.Session.{Moment, AnswersWholeItems, AnswersAllButOneRead, HoldsNothingBack, status_of}
 use Rattle.wumpus_run.specs.Taking.{GainsAtLeast}
-use Rattle.wumpus_run.proofs.SessionLemmas.{one_item}
+use Rattle.wumpus_run.proofs.SessionLemmas.{one_item, output-append}
 
 -- no item is whole in a prefix of one item
 none_whole : (last_read : ℕ) (new : Held) (item : Item) (used : List ℕ) (n : ℕ) → IsOneItem last_read new item used → n < length used
@@ -177,25 +179,25 @@ module _ (told : Settings) (start : State) where
                 ∙ ap (λ es. sent.sent ++ output_of rules s es) (open_none piece unclosed) ∙ append-nil sent.sent;
           })
 
-  -- a turn of the loop: an item was rules, and what answers it was written
+  -- a turn of the loop: an item was read, and what answers it was written
   pub HasReplied-turn : (holds : Option Content) (before between left gained mid now : Option (List ℕ)) (last_read : ℕ) (old new : Held)
-      (s t : State) (item : Item) (reply written : List ℕ) (most : ℕ) → IsBeforeEnd item → TakesItem between left last_read old new item
-      → HasReplied holds before between gained mid old s most → (IsSome holds → reply ≡ said_bytes s (said_by item))
-      → t ≡ after told.flush_at s (said_by item) → written ≡ reply → Appends mid now written
-      → HasReplied holds before left gained now new t most
-  HasReplied-turn holds before between left gained mid now last_read old new s t item reply written most other taken replied replies state same
+      (s : State) (item : Item) (reply written : List ℕ) (most : ℕ) → IsBeforeEnd item → TakesItem between left last_read old new item
+      → HasReplied holds before between gained mid old s most → reply ≡ said_bytes s (said_by item)
+      → written ≡ reply → Appends mid now written
+      → HasReplied holds before left gained now new (after told.flush_at s (said_by item)) most
+  HasReplied-turn holds before between left gained mid now last_read old new s item reply written most other taken replied replies same
       sent =
       let uses = taken.1 in
       let one = one_item last_read new item taken.0 other taken.2 in
-      subst (λ u. HasReplied holds before left gained now new u most) (sym state) (record {
+      record {
         given = replied.given ++ uses.given;
         consumed = Consumes-trans before between left replied.given uses.given replied.consumed uses.consumed;
         counted = omega (arith, length-append replied.given uses.given, replied.counted, uses.counted);
         replied = λ rules are.
             subst (λ n. HasSentUsed rules gained now (replied.given ++ uses.given) new.bytes (after n s (said_by item))
             ⊎ HasSentLast rules gained now (replied.given ++ uses.given) new) are.1
-            (turn_case rules are.0 uses one (subst (Appends mid now) (same ∙ replies are.2) sent) (replied.replied rules are));
-      })
+            (turn_case rules are.0 uses one (subst (Appends mid now) (same ∙ replies) sent) (replied.replied rules are));
+      }
     where
       turn_case : (rules : Rules) → IsReading rules.read → (uses : Uses between left old new taken.0) → IsOneItem last_read new item taken.0
           → Appends mid now (said_bytes s (said_by item))
@@ -209,25 +211,14 @@ module _ (told : Settings) (start : State) where
 
   -- ---- where no item was whole
 
-  -- the output for items is a prefix of that for these and more
-  output-prefix : (rules : Rules) (s : State) (entries more : List Entry)
-      → (rest : List ℕ) × (output_of rules s (entries ++ more) ≡ output_of rules s entries ++ rest)
-  output-prefix rules s [] more = (output_of rules s more, refl)
-  output-prefix rules s (entry ∷ entries) more =
-      let said = said_of rules.read entry in
-      let later = output-prefix rules (after rules.flush_at s said) entries more in (
-        later.0,
-        ap (λ bs. said_bytes s said ++ bs) later.1
-            ∙ sym (append_assoc (said_bytes s said) (output_of rules (after rules.flush_at s said) entries) later.0),
-      )
-
-  -- and so is that for the whole items of a prefix of bytes
+  -- the output for the whole items of a prefix of bytes is a prefix of that for all of them
   whole-prefix : (rules : Rules) (s : State) (bytes more : List ℕ)
       → (rest : List ℕ) × (whole_output rules s (bytes ++ more) ≡ whole_output rules s bytes ++ rest)
   whole-prefix rules s bytes more =
-      let prefix = whole_items_more bytes more in
-      let output = output-prefix rules s (whole_items_of bytes) prefix.0 in
-      (output.0, ap (output_of rules s) prefix.1 ∙ output.1)
+      let prefix = whole_items_more bytes more in (
+        output_of rules (state_after rules s (whole_items_of bytes)) prefix.0,
+        ap (output_of rules s) prefix.1 ∙ output-append rules s (whole_items_of bytes) prefix.0,
+      )
 
   whole-take : (rules : Rules) (s : State) (n : ℕ) (bytes : List ℕ)
       → (rest : List ℕ) × (whole_output rules s bytes ≡ whole_output rules s (take n bytes) ++ rest)
@@ -391,33 +382,28 @@ module _ (told : Settings) (start : State) where
           sent.gained wrote
       by_case rules (inr sent) = absurd (none_left between now.left last old new item used taken.1 one sent.ended sent.none)
 
-  -- an item was taken, and nothing of its reply was written
-  pub AnswersItems-taken : (before now : Moment) (between : Option (List ℕ)) (old new : Held) (s : State) (item : Item)
-      → IsBeforeEnd item → TakesItem between now.left now.last_read old new item
+  -- the source had given its end, and nothing was left over
+  ended_early : (between left : Option (List ℕ)) (last_read : ℕ) (old new : Held) → TakesItem between left last_read old new items.End
+      → EndsBeforeItem between left last_read old ends.NoMemory
+  ended_early between left last_read old new taken =
+      let uses = taken.1 in
+      let none : old.bytes ++ uses.given ≡ [] = uses.joined ∙ ap (λ bs. bs ++ new.bytes) taken.2.0 ∙ taken.2.1 in
+      record {
+        given = uses.given;
+        consumed = uses.consumed;
+        counted = omega (arith, uses.counted);
+        over = λ e. ((uses.over e).0, refl);
+        short = ap (λ bs. whole_items_of (but_last last_read bs)) none ∙ ap whole_items_of (take_all (0 - last_read) [] (omega arith))
+            ∙ whole_items_of-none;
+      }
+
+  -- the script has ended
+  pub AnswersAllButOneRead-ended : (before now : Moment) (between : Option (List ℕ)) (old new : Held) (s : State)
+      → TakesItem between now.left now.last_read old new items.End
       → HasReplied before.holds before.left between before.gained now.gained old s told.max_input
-      → AnswersItems start (Some told) before now
-  AnswersItems-taken before now between old new s item other taken replied = (
-    replied.given ++ taken.1.given,
-    Consumes-trans before.left between now.left replied.given taken.1.given replied.consumed taken.1.consumed,
-    λ rules are. by_case rules (replied.replied rules are),
-  )
-    where
-      by_case : (rules : Rules)
-          → HasSentUsed rules before.gained now.gained replied.given old.bytes s ⊎ HasSentLast rules before.gained now.gained replied.given old
-          → (used : List ℕ) × (more : List ℕ) × (replied.given ++ taken.1.given ≡ used ++ more)
-          × Appends before.gained now.gained (whole_output rules start used)
-      by_case rules (inl sent) =
-          let exactly : whole_output rules start sent.used ≡ sent.sent =
-          ap (whole_output rules start) (sym (append-nil sent.used))
-          ∙ sent_exactly rules before.gained now.gained replied.given old.bytes [] s sent whole_items_of-none in (
-            sent.used,
-            old.bytes ++ taken.1.given,
-            ap (λ bs. bs ++ taken.1.given) sent.joined ∙ append_assoc sent.used old.bytes taken.1.given,
-            subst (Appends before.gained now.gained) (sym exactly) sent.gained,
-          )
-      by_case rules (inr sent) =
-          absurd (none_left between now.left now.last_read old new item taken.0 taken.1
-          (one_item now.last_read new item taken.0 other taken.2) sent.ended sent.none)
+      → AnswersAllButOneRead start (Some told) before now
+  AnswersAllButOneRead-ended before now between old new s taken replied =
+      AnswersAllButOneRead-stopped before now between old s replied (ended_early between now.left now.last_read old new taken)
 
   -- nothing was given
   pub AnswersAllButOneRead-none : (before : Moment) → AnswersAllButOneRead start (Some told) before before

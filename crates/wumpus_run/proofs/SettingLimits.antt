@@ -1,5 +1,5 @@
 -- The settings of a session are within their limits.
-use Rattle.std.proofs.Common.{◌≡◌, ℕ, ◌≤◌, Bool, true, false, List, [], ◌∷◌, Option, Some, None, refl, sym, ◌∙◌, subst, arith, IfSome}
+use Rattle.std.proofs.Common.{◌≡◌, ℕ, ◌≤◌, Bool, true, false, List, [], ◌∷◌, Option, Some, None, refl, sym, ap, ◌∙◌, subst, arith, IfSome}
 use Rattle.std.specs.Prelude.{◌&&◌, nat_le, codes, option_map, option_and_then, if◌then◌else◌}
 use Rattle.std.specs.Str.{bytes_eq}
 use Rattle.std.specs.Str.Parse.{digits_value}
@@ -9,7 +9,9 @@ use Rattle.wu_fields.specs.Numbers.{is_plain_numeral, number_of}
 use Rattle.wu_options.specs.declared.command_lines.CommandLine.{CommandLine}
 use Rattle.wu_options.specs.declared.command_lines.CommandLine.TheVariants.{Run, Demo}
 use Rattle.wu_options.specs.declared.command_lines.Settings.{Settings}
-use Rattle.wu_options.specs.CommandLines.{Said, at_least, number_in, settings_with, settings_by, asked_by, command_line_by, command_line_of, said_from, demo_by}
+use Rattle.wumpus_run.specs.Session.{session_settings, settings_of}
+use Rattle.wu_options.specs.CommandLines.{Said, at_least, number_in, settings_with, settings_by, asked_by, command_line_by}
+use Rattle.wu_options.specs.CommandLines.{command_line_of, said_from, demo_by}
 
 number_within : (field : List ℕ) (most : ℕ) → IfSome (number_of field most) (λ n. n ≤ most)
 unfolding number_of
@@ -75,3 +77,7 @@ settings_within arguments = line_within (said_from None arguments)
 pub input_within : (line : Option CommandLine) (arguments : List (List ℕ)) (settings : Settings) → line ≡ Some (Run settings)
     → line ≡ command_line_of arguments → settings.max_input ≤ INPUT_MAX
 input_within line arguments settings is said = subst (λ line. IfSome line IsWithin) (sym said ∙ is) (settings_within arguments)
+
+pub settings_asked : (line : Option CommandLine) (arguments : List (List ℕ)) (settings : Settings) → line ≡ Some (Run settings)
+    → line ≡ command_line_of arguments → settings_of arguments ≡ Some settings
+settings_asked line arguments settings is said = ap (option_and_then session_settings) (sym said ∙ is)

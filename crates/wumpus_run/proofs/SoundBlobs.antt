@@ -1,5 +1,6 @@
 -- Where engine and store stand for a state, the store has each text and each part as it was recorded.
-use Rattle.std.proofs.Common.{◌≡◌, ℕ, ◌<◌, List, [], ◌∷◌, length, Option, Some, None, Result, Ok, Err, IsErrAnd, refl, sym, ap, ◌∙◌, subst, ⊎_elim, IfSome}
+use Rattle.std.proofs.Common.{◌≡◌, ℕ, ◌<◌, List, [], ◌∷◌, length, Option, Some, None, Result, Ok, Err, IsErrAnd, sym, ap, ◌∙◌, subst}
+use Rattle.std.proofs.Common.{⊎_elim, IfSome}
 use Rattle.std.specs.Prelude.{zip}
 use Rattle.std.specs.Ordering.{nat_cmp}
 use Rattle.std.specs.List.{AllByRecursion}
@@ -21,9 +22,8 @@ use Rattle.wu_parts.specs.Holdings.{HoldsPart, HoldParts}
 use Rattle.wu_engine.specs.declared.engines.Engine.{Engine}
 use Rattle.wu_engine.specs.Causes.{IsDamagedAt, IsDamagedIn}
 use Rattle.wu_engine.specs.Records.{record_of, records_of}
-use Rattle.wu_engine.specs.Stands.{KeepsOthers, Stands}
+use Rattle.wu_engine.specs.Stands.{Stands}
 use Rattle.wu_engine.specs.States.{State, Texts, indexed, text_in}
-use Rattle.wumpus_run.specs.Session.{KeepsRoot}
 
 -- the file's text is in its blob, unless it is empty, and its range has an address for each token
 abbrev IsKept : Content → Texts → ℕ × FileEntry → Type 0
@@ -119,12 +119,3 @@ pub same_trouble : {T : Type 0} (r : Result T Trouble) (trouble other : Trouble)
     → trouble ≡ other
 same_trouble (Ok value) trouble other is e = absurd is
 same_trouble (Err t) trouble other is e = cc (is, e)
-
--- ---- the root
-
--- it stays where blobs alone may change
-pub root_stays : (low high : ℕ) (before now : Option Content) → KeepsOthers low high before now → KeepsRoot before now
-root_stays low high None None others = refl
-root_stays low high None (Some after) others = absurd others
-root_stays low high (Some content) None others = absurd others
-root_stays low high (Some content) (Some after) others = ap Some others.1

@@ -2,21 +2,31 @@
 use Rattle.std.proofs.Common.{ℕ, List, [], ◌∷◌, map}
 use Rattle.std.specs.List.{All, AllByRecursion}
 use Rattle.std.proofs.lemmas.List.Elements.{All-from_recursion}
-use Rattle.wu_script.specs.Commands.{Operation, Flush, Work, Stat}
+use Rattle.wu_script.specs.Commands.{Operation, Flush, Work, Stat, Save}
 use Rattle.wu_script.specs.Said.{Reading, Said, Happens, Asks, Operates, IsRefused, SaysNothing, said_of}
 use Rattle.wu_script.specs.Items.{items_of}
 use Rattle.wu_script.proofs.EventLemmas.{TellsEvent, script_tells}
-use Rattle.wu_engine.specs.States.{State, IsState, first_state}
+use Rattle.wu_layout.proofs.Flushes.{layout_after_save}
+use Rattle.wu_engine.specs.States.{State, IsState, saved_state}
 use Rattle.wu_engine.proofs.FlushedStates.{flushed_kept}
-use Rattle.wu_engine.proofs.KeptStates.{first_is_state, state_kept}
+use Rattle.wu_engine.proofs.KeptStates.{state_kept}
 use Rattle.wu_engine.proofs.WorkedStates.{worked_kept}
 use Rattle.wumpus_run.specs.Replies.{after, after_operation, met, last_state}
 use Rattle.wumpus_run.proofs.ShortTexts.{IsShort, script_short}
+
+saved_kept : (s : State) → IsState s → IsState (saved_state s)
+saved_kept s is = record {
+  tree = is.tree;
+  texts = record { ascend = is.texts.ascend; files = is.texts.files };
+  short = is.short;
+  layout = layout_after_save _ _ s.layout is.layout;
+}
 
 operated_kept : (s : State) (operation : Operation) → IsState s → IsState (after_operation s operation)
 operated_kept s Flush is = flushed_kept s is
 operated_kept s (Work units) is = worked_kept units s is
 operated_kept s Stat is = is
+operated_kept s Save is = saved_kept s is
 
 stays : (flush_at : ℕ) (s : State) (said : Said) → TellsEvent said → IsShort said → IsState s → IsState (after flush_at s said)
 stays flush_at s (Happens event text) event_is short is = state_kept flush_at s event text is event_is short
@@ -37,14 +47,14 @@ left flush_at s [] tell short is = is
 left flush_at s (said ∷ saids) tell short is =
     left flush_at (after flush_at s said) saids tell.1 short.1 (stays flush_at s said tell.0 short.0 is)
 
--- every state that the items of a script meet, and the one that they leave
-pub met_states : (flush_at : ℕ) (read : Reading) (bytes : List ℕ)
-    → All (λ m. IsState m.0) (met flush_at first_state (map (said_of read) (items_of bytes)))
-met_states flush_at read bytes =
-    All-from_recursion (λ m. IsState m.0) (met flush_at first_state (map (said_of read) (items_of bytes)))
-    (all_met flush_at first_state (map (said_of read) (items_of bytes)) (script_tells read bytes) (script_short read bytes) first_is_state)
+-- every state that the items of a script meet, from a state on, and the one that they leave
+pub met_states : (flush_at : ℕ) (read : Reading) (s : State) (bytes : List ℕ) → IsState s
+    → All (λ m. IsState m.0) (met flush_at s (map (said_of read) (items_of bytes)))
+met_states flush_at read s bytes is =
+    All-from_recursion (λ m. IsState m.0) (met flush_at s (map (said_of read) (items_of bytes)))
+    (all_met flush_at s (map (said_of read) (items_of bytes)) (script_tells read bytes) (script_short read bytes) is)
 
-pub left_state : (flush_at : ℕ) (read : Reading) (bytes : List ℕ)
-    → IsState (last_state flush_at first_state (map (said_of read) (items_of bytes)))
-left_state flush_at read bytes =
-    left flush_at first_state (map (said_of read) (items_of bytes)) (script_tells read bytes) (script_short read bytes) first_is_state
+pub left_state : (flush_at : ℕ) (read : Reading) (s : State) (bytes : List ℕ) → IsState s
+    → IsState (last_state flush_at s (map (said_of read) (items_of bytes)))
+left_state flush_at read s bytes is =
+    left flush_at s (map (said_of read) (items_of bytes)) (script_tells read bytes) (script_short read bytes) is

@@ -1,4 +1,4 @@
--- Flushes and background work show in no view.
+-- Flushes, background work and saves show in no view.
 use Rattle.std.proofs.Common.{◌≡◌, ℕ, List, [], ◌∷◌, Result, Ok, Err, map, refl, ap, ◌∙◌, subst}
 use Rattle.wu_tree.specs.FileSystems.{FileSystem}
 use Rattle.wu_tree.specs.Steps.{step as tree_step}
@@ -6,7 +6,7 @@ use Rattle.wu_tree.specs.declared.events.Event.{Event}
 use Rattle.wu_tree.specs.declared.events.Effect.{Effect}
 use Rattle.wu_tree.specs.declared.events.Refusal.{Refusal}
 use Rattle.wu_view.specs.Views.{view_of as files_of}
-use Rattle.wu_script.specs.Commands.{Operation, Flush, Work, Stat}
+use Rattle.wu_script.specs.Commands.{Operation, Flush, Work, Stat, Save}
 use Rattle.wu_script.specs.Said.{Said, Happens, Asks, Operates, IsRefused, SaysNothing}
 use Rattle.wu_engine.specs.States.{State, Texts, after_event, followed, step, stepped, texts_after}
 use Rattle.wu_engine.specs.View.{shown_of, view_of}
@@ -35,6 +35,7 @@ operation_alike : (s t : State) (operation : Operation) → HaveSameFiles s t
 operation_alike s t Flush same = same
 operation_alike s t (Work units) same = same
 operation_alike s t Stat same = same
+operation_alike s t Save same = same
 
 after_alike : (one other : ℕ) (s t : State) (said : Said) → HaveSameFiles s t → HaveSameFiles (after one s said) (after other t said)
 after_alike one other s t (Happens event text) same = event_alike one other s t event text same
@@ -66,6 +67,7 @@ unchanged : (s : State) (operation : Operation) → HaveSameFiles (after_operati
 unchanged s Flush = (refl, refl)
 unchanged s (Work units) = (refl, refl)
 unchanged s Stat = (refl, refl)
+unchanged s Save = (refl, refl)
 
 -- so a script with an operation before it leaves the same views
 pub operated_alike : (flush_at : ℕ) (operation : Operation) (s : State) (saids : List Said) (uid : ℕ)

@@ -203,3 +203,18 @@ status_of_fault faults.NoMemory = NoMemory
 pub record Ends (start : State) (status : Status) (told : Settings) (before now : Moment) : Type 0 where
   pub prefix : AnswersPrefix start (Some told) before now
   pub prompt : HoldsNothingBack start status (Some told) before now
+
+-- what it did, however it ended
+pub record IsSession (status : Status) (told : Settings) (before now : Moment) : Type 0 where
+  pub usage : status ≡ Usage → ⊥
+  pub all_taken : status ≡ Done → TakesAll (Some told) before now
+  pub done : status ≡ Done → FromImage before.holds (λ s. AnswersAll s (Some told) before now)
+  pub saved : status ≡ Done → FromImage before.holds (λ s. SavesAll s (Some told) before now)
+  pub read_fault : IsCounted ReadFault status before.read_faults now.read_faults
+  pub write_fault : IsCounted WriteFault status before.write_faults now.write_faults
+  pub store_fault : IsCounted StoreFault status before.store_faults now.store_faults
+  pub too_long : IsTooLong status (Some told) before now
+  pub damaged : FromImage before.holds (λ s. (blob : ℕ) → status ≡ Damaged blob → ⊥)
+  pub spent : IsSpent status (Some told) before.holds
+  pub taken : StaysWithin (Some told) before now
+  pub ends : FromImage before.holds (λ s. Ends s status told before now)

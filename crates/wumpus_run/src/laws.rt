@@ -5,7 +5,7 @@ ghost use Rattle.wu_ask.specs.Questions.{Question};
 ghost use Rattle.wu_script.specs.Commands.{Operation};
 ghost use Rattle.wu_script.specs.Said.{Asks, Operates, Reading, Said, said_of};
 ghost use Rattle.wu_script.specs.Items.{items_of};
-ghost use Rattle.wu_engine.specs.States.{State, IsState, first_state};
+ghost use Rattle.wu_engine.specs.States.{State, IsState};
 ghost use Rattle.wu_engine.specs.View.{view_of};
 ghost use Rattle.wumpus_run.specs.Replies.{last_state, met, reply_to};
 
@@ -16,20 +16,20 @@ pub fn equal_views_are_answered_alike()
         → reply_to one (Asks uid question) ≡ reply_to other (Asks uid question) }
 {}
 
-/// In a session every state that an item of the script meets is one, and so is the state that the script
-/// leaves: its tree keeps the rules, its texts are exactly those of its regular files, in the order of their
+/// In a session from a state on, every state that an item of the script meets is one, and so is the state that the
+/// script leaves: its tree keeps the rules, its texts are exactly those of its regular files, in the order of their
 /// numbers and none too long, and all of them are indexed.
 pub fn a_script_keeps_a_state()
-    ensures met { (flush_at : ℕ) (read : Reading) (bytes : List ℕ)
-        → All (λ m. IsState m.0) (met flush_at first_state (map (said_of read) (items_of bytes))) }
-    ensures last { (flush_at : ℕ) (read : Reading) (bytes : List ℕ)
-        → IsState (last_state flush_at first_state (map (said_of read) (items_of bytes))) }
+    ensures met { (flush_at : ℕ) (read : Reading) (s : State) (bytes : List ℕ) → IsState s
+        → All (λ m. IsState m.0) (met flush_at s (map (said_of read) (items_of bytes))) }
+    ensures last { (flush_at : ℕ) (read : Reading) (s : State) (bytes : List ℕ) → IsState s
+        → IsState (last_state flush_at s (map (said_of read) (items_of bytes))) }
 {}
 
-/// Flushes and background work show in no view: from a state on, the items of a script leave each user the same view
-/// wherever memory is full, and also where an operation comes first: a flush, any number of units of work, or the
-/// question how large the index is.
-pub fn no_view_depends_on_flushes_or_work()
+/// Flushes, background work and saves show in no view: from a state on, the items of a script leave each user the same
+/// view wherever memory is full, and also where an operation comes first: a flush, any number of units of work, a save,
+/// or the question how large the index is.
+pub fn no_view_depends_on_flushes_work_or_saves()
     ensures full { (one other : ℕ) (s : State) (saids : List Said) (uid : ℕ)
         → view_of (last_state one s saids) uid ≡ view_of (last_state other s saids) uid }
     ensures operated { (flush_at : ℕ) (operation : Operation) (s : State) (saids : List Said) (uid : ℕ)

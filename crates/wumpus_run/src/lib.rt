@@ -9,7 +9,8 @@ mod statuses;
 mod tallies;
 
 pub use laws::{
-    a_script_keeps_a_state, equal_views_are_answered_alike, no_view_depends_on_flushes_or_work,
+    a_script_keeps_a_state, equal_views_are_answered_alike,
+    no_view_depends_on_flushes_work_or_saves,
 };
 pub use session::run;
 pub use statuses::Status;

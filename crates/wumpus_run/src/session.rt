@@ -11,7 +11,7 @@ ghost use Rattle.wu_engine.specs.Opening.{HoldsImage, IsBeginCause, IsSpentWhere
 ghost use Rattle.wu_engine.specs.States.{State, rested_state, saved_state};
 ghost use Rattle.wu_engine.specs.declared.faults.BeginFault.TheVariants.{Damaged as SavedIsDamaged};
 ghost use Rattle.wumpus_run.specs.Demo.{IfDemo, IsShown};
-ghost use Rattle.wumpus_run.specs.Session.{settings_of, moment, status_of, status_of_fault, status_of_opening, status_of_trouble, IsUsage, IsCounted, IsSpent, AnswersAll, AnswersPrefix, FromImage, HasRoom, SavesAll, StaysWithin, IsTooLong, HoldsNothingBack, Ends, Completes, TakesAll};
+ghost use Rattle.wumpus_run.specs.Session.{settings_of, moment, status_of, status_of_fault, status_of_opening, status_of_trouble, IsUsage, IsCounted, IsSpent, AnswersAll, AnswersPrefix, FromImage, HasRoom, SavesAll, StaysWithin, IsSession, IsTooLong, HoldsNothingBack, Completes, TakesAll};
 
 use crate::answering::answer;
 use crate::demo::demo;
@@ -125,42 +125,11 @@ fn answer_script<I: Source, O: Sink, D: Store>(
 ) -> Status
     requires goes_on { I.ended source.old ≡ false }
     requires within { settings.max_input ≤ INPUT_MAX }
-    ensures usage { result ≡ Status.Usage → ⊥ }
-    ensures all_taken { result ≡ Status.Done → TakesAll (Some settings)
+    ensures { IsSession result settings
         (moment (I.left source.old) (I.last_read source.old) (I.faults source.old)
         (O.gained sink.old) (O.faults sink.old) (D.holds store.old) (D.faults store.old))
         (moment (I.left source.new) (I.last_read source.new) (I.faults source.new)
         (O.gained sink.new) (O.faults sink.new) (D.holds store.new) (D.faults store.new)) }
-    ensures done { result ≡ Status.Done → FromImage (D.holds store.old) (λ s. AnswersAll s (Some settings)
-        (moment (I.left source.old) (I.last_read source.old) (I.faults source.old)
-        (O.gained sink.old) (O.faults sink.old) (D.holds store.old) (D.faults store.old))
-        (moment (I.left source.new) (I.last_read source.new) (I.faults source.new)
-        (O.gained sink.new) (O.faults sink.new) (D.holds store.new) (D.faults store.new))) }
-    ensures saved { result ≡ Status.Done → FromImage (D.holds store.old) (λ s. SavesAll s (Some settings)
-        (moment (I.left source.old) (I.last_read source.old) (I.faults source.old)
-        (O.gained sink.old) (O.faults sink.old) (D.holds store.old) (D.faults store.old))
-        (moment (I.left source.new) (I.last_read source.new) (I.faults source.new)
-        (O.gained sink.new) (O.faults sink.new) (D.holds store.new) (D.faults store.new))) }
-    ensures read_fault { IsCounted Status.ReadFault result (I.faults source.old) (I.faults source.new) }
-    ensures write_fault { IsCounted Status.WriteFault result (O.faults sink.old) (O.faults sink.new) }
-    ensures store_fault { IsCounted Status.StoreFault result (D.faults store.old) (D.faults store.new) }
-    ensures damaged { FromImage (D.holds store.old) (λ s. (blob : ℕ) → result ≡ Status.Damaged blob → ⊥) }
-    ensures spent { IsSpent result (Some settings) (D.holds store.old) }
-    ensures too_long { IsTooLong result (Some settings)
-        (moment (I.left source.old) (I.last_read source.old) (I.faults source.old)
-        (O.gained sink.old) (O.faults sink.old) (D.holds store.old) (D.faults store.old))
-        (moment (I.left source.new) (I.last_read source.new) (I.faults source.new)
-        (O.gained sink.new) (O.faults sink.new) (D.holds store.new) (D.faults store.new)) }
-    ensures taken { StaysWithin (Some settings)
-        (moment (I.left source.old) (I.last_read source.old) (I.faults source.old)
-        (O.gained sink.old) (O.faults sink.old) (D.holds store.old) (D.faults store.old))
-        (moment (I.left source.new) (I.last_read source.new) (I.faults source.new)
-        (O.gained sink.new) (O.faults sink.new) (D.holds store.new) (D.faults store.new)) }
-    ensures ends { FromImage (D.holds store.old) (λ s. Ends s result settings
-        (moment (I.left source.old) (I.last_read source.old) (I.faults source.old)
-        (O.gained sink.old) (O.faults sink.old) (D.holds store.old) (D.faults store.old))
-        (moment (I.left source.new) (I.last_read source.new) (I.faults source.new)
-        (O.gained sink.new) (O.faults sink.new) (D.holds store.new) (D.faults store.new))) }
 {
     let (mut reader, mut engine) = match start(alloc, settings, store) {
         Ok(start) => start,

@@ -1,26 +1,55 @@
-use Rattle.std.proofs.Common.{Some, ap, ◌∙◌}
+use Rattle.std.proofs.Common.{Option, Some, sym, ap, ◌∙◌, subst}
 use Rattle.wu_options.specs.CommandLines.{texts_of}
-use Rattle.wumpus_run.specs.Session.{moment, settings_of}
-use Rattle.wu_engine.specs.States.{first_state}
+use Rattle.wu_options.specs.declared.command_lines.Settings.{Settings}
+use Rattle.wumpus_run.specs.Session.{moment, settings_of, Completes}
 use Rattle.wumpus_run.specs.declared.statuses.Status.TheVariants.{NoMemory}
-use Rattle.wumpus_run.proofs.SettingLimits.{input_within}
-use Rattle.wumpus_run.proofs.EndLemmas.{IsTooLong-none}
+use Rattle.wumpus_run.proofs.SettingLimits.{input_within, settings_asked}
+use Rattle.wumpus_run.proofs.EndLemmas.{Completes-all, IsTooLong-none}
 use Rattle.wumpus_run.proofs.PromptLemmas.{AnswersAllButOneRead-untouched}
+use Rattle.wumpus_run.proofs.RootRoom.{has_room}
 use Rattle.wumpus_run.proofs.session.run.Goals as goal
-
-pub returns-in-Err-clause-too_long : goal.returns-in-Err-clause-too_long
-returns-in-Err-clause-too_long g c = IsTooLong-none NoMemory (settings_of (texts_of c.args.words.now))
-    (moment (g.I.Source.left c.args.source.now) (g.I.Source.last_read c.args.source.now) (g.I.Source.faults c.args.source.now)
-    (g.O.Sink.gained c.args.sink.now) (g.O.Sink.faults c.args.sink.now)
-    (g.D.Store.holds c.args.store.now) (g.D.Store.faults c.args.store.now)) (λ e. (cc))
-
-pub returns-in-Err-clause-prompt : goal.returns-in-Err-clause-prompt
-returns-in-Err-clause-prompt g c = AnswersAllButOneRead-untouched first_state (settings_of (texts_of c.args.words.now))
-    (moment (g.I.Source.left c.args.source.now) (g.I.Source.last_read c.args.source.now) (g.I.Source.faults c.args.source.now)
-    (g.O.Sink.gained c.args.sink.now) (g.O.Sink.faults c.args.sink.now)
-    (g.D.Store.holds c.args.store.now) (g.D.Store.faults c.args.store.now))
 
 pub answer_script-requires-clause-within : goal.answer_script-requires-clause-within
 answer_script-requires-clause-within g c =
     let ran = c.in-Ok-Some-Run in
     input_within ran.field-0 (texts_of c.args.words.now) ran.settings (ran.field-0-is ∙ ap Some ran.field-0-0-is) ran.ensures
+
+pub returns-in-Ok-Some-Run-clause-complete : goal.returns-in-Ok-Some-Run-clause-complete
+returns-in-Ok-Some-Run-clause-complete g c =
+    λ read write store s image room.
+    let ran = c.in-Ok-Some-Run in
+    let asked = settings_asked ran.field-0 (texts_of c.args.words.now) ran.settings
+    (ran.field-0-is ∙ ap Some ran.field-0-0-is) ran.ensures in
+    subst (λ (told : Option Settings). Completes c.answer_script.result told
+    (moment (g.I.Source.left c.args.source.now) (g.I.Source.last_read c.args.source.now) (g.I.Source.faults c.args.source.now)
+    (g.O.Sink.gained c.args.sink.now) (g.O.Sink.faults c.args.sink.now)
+    (g.D.Store.holds c.args.store.now) (g.D.Store.faults c.args.store.now))) (sym asked)
+    (Completes-all ran.settings c.answer_script.result
+    (moment (g.I.Source.left c.args.source.now) (g.I.Source.last_read c.args.source.now) (g.I.Source.faults c.args.source.now)
+    (g.O.Sink.gained c.args.sink.now) (g.O.Sink.faults c.args.sink.now)
+    (g.D.Store.holds c.args.store.now) (g.D.Store.faults c.args.store.now))
+    (moment (g.I.Source.left c.answer_script.new.source) (g.I.Source.last_read c.answer_script.new.source)
+    (g.I.Source.faults c.answer_script.new.source) (g.O.Sink.gained c.answer_script.new.sink) (g.O.Sink.faults c.answer_script.new.sink)
+    (g.D.Store.holds c.answer_script.new.store) (g.D.Store.faults c.answer_script.new.store))
+    (record {
+      usage = c.answer_script.ensures.usage;
+      read = λ e. read (c.answer_script.ensures.read_fault.rose e);
+      write = λ e. write (c.answer_script.ensures.write_fault.rose e);
+      store = λ e. store (c.answer_script.ensures.store_fault.rose e);
+      damaged = c.answer_script.ensures.damaged s image;
+      spent = λ next e. has_room (g.D.Store.holds c.args.store.now) s image room next (c.answer_script.ensures.spent.only next e);
+    }) c.answer_script.ensures.all_taken c.answer_script.ensures.too_long)
+
+pub returns-in-Err-clause-too_long : goal.returns-in-Err-clause-too_long
+returns-in-Err-clause-too_long g c =
+    IsTooLong-none NoMemory (settings_of (texts_of c.args.words.now))
+    (moment (g.I.Source.left c.args.source.now) (g.I.Source.last_read c.args.source.now) (g.I.Source.faults c.args.source.now)
+    (g.O.Sink.gained c.args.sink.now) (g.O.Sink.faults c.args.sink.now)
+    (g.D.Store.holds c.args.store.now) (g.D.Store.faults c.args.store.now)) (λ e. (cc))
+
+pub returns-in-Err-clause-prompt : goal.returns-in-Err-clause-prompt
+returns-in-Err-clause-prompt g c =
+    λ s image. AnswersAllButOneRead-untouched s (settings_of (texts_of c.args.words.now))
+    (moment (g.I.Source.left c.args.source.now) (g.I.Source.last_read c.args.source.now) (g.I.Source.faults c.args.source.now)
+    (g.O.Sink.gained c.args.sink.now) (g.O.Sink.faults c.args.sink.now)
+    (g.D.Store.holds c.args.store.now) (g.D.Store.faults c.args.store.now))

@@ -1,0 +1,323 @@
+-- A session under way, from a state of which the store held an image, and how it ends.
+use Rattle.std.proofs.Common.{◌≡◌, ℕ, ◌+◌, ◌<◌, ◌≤◌, ◌^◌, List, [], Option, None, Err, true, false, refl, ◌∙◌, subst, arith}
+use Rattle.std.specs.Io.KnownBytes.{Appends, IsAtEnd, prepend_known}
+use Rattle.wu_base.specs.declared.limits.TheConstants.{BLOBS_SPENT_AT, SPENT_AT, WORK_MAX}
+use Rattle.wu_base.specs.declared.troubles.Trouble.{Trouble}
+use Rattle.wu_base.specs.declared.troubles.Trouble.TheVariants as troubles
+use Rattle.wu_outside.specs.Faults.{HasFaultCause}
+use Rattle.wu_outside.specs.Gains.{GainsPrefix}
+use Rattle.wu_outside.specs.declared.traits.Fault.{Fault}
+use Rattle.wu_outside.specs.Content.{Content}
+use Rattle.wu_script.specs.declared.ends.ReadEnd.{ReadEnd}
+use Rattle.wu_script.specs.declared.types.Item.{Item}
+use Rattle.wu_script.specs.declared.types.Item.TheVariants as items
+use Rattle.wu_script.specs.Holding.{Held, IsCounted as IsReadCounted}
+use Rattle.wu_script.specs.Said.{said_by, tokens_given}
+use Rattle.wu_script.specs.Items.{IsBeforeEnd, IsNext, EndsBeforeItem, TakesItem}
+use Rattle.wu_options.specs.declared.command_lines.Settings.{Settings}
+use Rattle.wu_engine.specs.declared.engines.Engine.{Engine}
+use Rattle.wu_engine.specs.declared.faults.BeginFault.{BeginFault}
+use Rattle.wu_engine.specs.declared.faults.BeginFault.TheVariants as opening
+use Rattle.wu_engine.specs.Causes.{HasTroubleCause}
+use Rattle.wu_engine.specs.Opening.{HoldsImage, IsBeginCause, IsSpentWhere}
+use Rattle.wu_engine.specs.Stands.{Stands}
+use Rattle.wu_engine.specs.States.{State, rested_state, saved_state}
+use Rattle.wumpus_run.specs.Replies.{after, said_bytes}
+use Rattle.wumpus_run.specs.declared.statuses.Status.{Status}
+use Rattle.wumpus_run.specs.declared.statuses.Status.TheVariants.{Done, Usage, ReadFault, WriteFault, InputTooLong, StoreFault, Damaged}
+use Rattle.wumpus_run.specs.declared.statuses.Status.TheVariants.{Spent}
+use Rattle.wumpus_run.specs.Taking.{TakesAtMost}
+use Rattle.wumpus_run.specs.Session.{Moment, FromImage, IsCounted, IsSession, status_of, status_of_fault, status_of_opening}
+use Rattle.wumpus_run.specs.Session.{status_of_trouble}
+use Rattle.wumpus_run.proofs.SessionLemmas.{HasAnswered, HasAnswered-none, HasAnswered-turn, HasTaken, HasTaken-more}
+use Rattle.wumpus_run.proofs.AddressRoom.{HasRoom, HasRoom-none, HasRoom-item, HasRoom-fewer, StaysLow, StaysLow-none, StaysLow-item}
+use Rattle.wumpus_run.proofs.EndLemmas.{AnswersAll-end, Ends-saved, Ends-stopped, Ends-unanswered, Ends-unopened, Ends-unwritten}
+use Rattle.wumpus_run.proofs.EndLemmas.{HasTaken-none}
+use Rattle.wumpus_run.proofs.EndLemmas.{IsCounted-answered, IsCounted-other, IsCounted-read, IsCounted-since, IsCounted-unopened}
+use Rattle.wumpus_run.proofs.EndLemmas.{IsCounted-written, IsSaving, IsSpent-never, IsSpent-unopened, IsTooLong-short, IsTooLong-stopped}
+use Rattle.wumpus_run.proofs.EndLemmas.{IsUnspent, SavesAll-end, StaysWithin-short, StaysWithin-stopped, TakesAll-end, TakesAtMost-none}
+use Rattle.wumpus_run.proofs.EndLemmas.{TakesAtMost-taken, answering, damaged_so, reading, saved_damaged, saving, unopened, writing}
+use Rattle.wumpus_run.proofs.PromptLemmas.{HasReplied, HasReplied-none, HasReplied-turn}
+
+-- engine and store stand for a state; what was sent, and what answers the rest of the input from that state on, is all that answers the
+-- input from the start on
+pub record HasGoneOn (told : Settings) (start : State) (before now : Moment) (engine : Engine) (held : Held) : Type 0 where
+  pub state : State
+  pub stands : Stands engine now.holds state
+  pub answered : HasAnswered told start before.holds before.gained now.gained before.left (prepend_known held.bytes now.left) state
+  pub replied : HasReplied told start before.holds before.left now.left before.gained now.gained held state told.max_input
+
+-- the store was opened
+pub HasGoneOn-none : (told : Settings) (start : State) (before : Moment) (holds : Option Content) (faults : ℕ) (engine : Engine)
+    → Stands engine holds start
+    → HasGoneOn told start before (record before { holds = holds; store_faults = faults }) engine
+    (record { bytes = []; spare = told.max_input; ended = false })
+HasGoneOn-none told start before holds faults engine stands = record {
+  state = start;
+  stands = stands;
+  answered = HasAnswered-none told start before.holds before.gained before.left;
+  replied = HasReplied-none told start before.holds before.left before.gained told.max_input;
+}
+
+-- an item was read, and what answers it was written
+pub HasGoneOn-turn : (told : Settings) (start : State) (before between now : Moment) (engine later : Engine) (old new : Held) (item : Item)
+    (reply written : List ℕ) → IsBeforeEnd item → TakesItem between.left now.left now.last_read old new item
+    → IsNext (prepend_known old.bytes between.left) (prepend_known new.bytes now.left) item
+    → (so_far : HasGoneOn told start before between engine old) → reply ≡ said_bytes so_far.state (said_by item)
+    → Stands later now.holds (after told.flush_at so_far.state (said_by item)) → written ≡ reply
+    → Appends between.gained now.gained written → HasGoneOn told start before now later new
+HasGoneOn-turn told start before between now engine later old new item reply written other taken next so_far replies stands same wrote =
+    record {
+      state = after told.flush_at so_far.state (said_by item);
+      stands = stands;
+      answered = HasAnswered-turn told start before.holds before.gained between.gained now.gained before.left
+          (prepend_known old.bytes between.left) (prepend_known new.bytes now.left) so_far.state item reply written other next
+          so_far.answered replies same wrote;
+      replied = HasReplied-turn told start before.holds before.left between.left now.left before.gained between.gained now.gained
+          now.last_read old new so_far.state item reply written told.max_input other taken so_far.replied replies same wrote;
+    }
+
+module _ (told : Settings) (before : Moment) where
+  -- the loop goes on: from each state at the start, with room for the rest of the input, and no fault so far
+  pub record IsUnderWay (now : Moment) (engine : Engine) (held : Held) : Type 0 where
+    pub from : FromImage before.holds (λ s. HasGoneOn told s before now engine held)
+    pub unspent : IsUnspent before.holds
+    pub goes_on : engine.ended ≡ None
+    pub room : HasRoom engine.space.next held told.max_input
+    pub blobs : StaysLow engine.parts.next_blob held told.max_input
+    pub flushes : StaysLow engine.parts.flushes held told.max_input
+    pub flush_at : engine.parts.flush_at ≡ told.flush_at
+    pub taken : HasTaken before.left now.left held.spare told.max_input
+    pub at_end : held.ended ≡ true → IsAtEnd now.left
+    pub read_calm : now.read_faults ≡ before.read_faults
+    pub write_calm : now.write_faults ≡ before.write_faults
+    pub store_calm : now.store_faults ≡ before.store_faults
+
+  pub IsUnderWay-none : (holds : Option Content) (faults : ℕ) (engine : Engine)
+      → ((s : State) → HoldsImage before.holds s → Stands engine holds s) → IsUnspent before.holds → engine.ended ≡ None
+      → engine.space.next < SPENT_AT → engine.parts.next_blob < BLOBS_SPENT_AT → engine.parts.flushes < 2 ^ 62
+      → engine.parts.flush_at ≡ told.flush_at → faults ≡ before.store_faults
+      → IsUnderWay (record before { holds = holds; store_faults = faults }) engine
+      (record { bytes = []; spare = told.max_input; ended = false })
+  IsUnderWay-none holds faults engine stands unspent goes_on next next_blob flushes flush_at calm = record {
+    from = λ s image. HasGoneOn-none told s before holds faults engine (stands s image);
+    unspent = unspent;
+    goes_on = goes_on;
+    room = HasRoom-none engine.space.next told.max_input next;
+    blobs = StaysLow-none engine.parts.next_blob told.max_input next_blob;
+    flushes = StaysLow-none engine.parts.flushes told.max_input (omega (arith, flushes));
+    flush_at = flush_at;
+    taken = HasTaken-none before.left told.max_input;
+    at_end = λ e. absurd (cc);
+    read_calm = refl;
+    write_calm = refl;
+    store_calm = calm;
+  }
+
+  -- what a call on an item left of an engine
+  pub record IsRaised (engine later : Engine) (item : Item) : Type 0 where
+    pub taken : later.space.next ≤ engine.space.next + tokens_given (said_by item)
+    pub drawn : later.parts.next_blob ≤ engine.parts.next_blob + WORK_MAX
+    pub counted : later.parts.flushes ≤ engine.parts.flushes + 2
+    pub flush_at : later.parts.flush_at ≡ engine.parts.flush_at
+    pub goes_on : later.ended ≡ None
+
+  -- the reply to an item, and engine and store for the state after it
+  abbrev Replies : Option Content → Option Content → Engine → Engine → Item → List ℕ → Type 0
+  Replies holds later_holds engine later item reply = (s : State) → Stands engine holds s
+      → (reply ≡ said_bytes s (said_by item)) × Stands later later_holds (after engine.parts.flush_at s (said_by item))
+
+  pub IsUnderWay-turn : (between now : Moment) (engine later : Engine) (old new : Held) (item : Item) (reply written : List ℕ)
+      → IsUnderWay between engine old → IsBeforeEnd item → TakesItem between.left now.left now.last_read old new item
+      → IsNext (prepend_known old.bytes between.left) (prepend_known new.bytes now.left) item → (new.ended ≡ true → IsAtEnd now.left)
+      → now.read_faults ≡ between.read_faults → now.write_faults ≡ between.write_faults → now.store_faults ≡ between.store_faults
+      → IsRaised engine later item → Replies between.holds now.holds engine later item reply → written ≡ reply
+      → Appends between.gained now.gained written → IsUnderWay now later new
+  IsUnderWay-turn between now engine later old new item reply written i other took next at_end read write store raised replies same wrote =
+      record {
+        from = λ s image.
+            let so_far = i.from s image in
+            let answers = replies so_far.state so_far.stands in
+            HasGoneOn-turn told s before between now engine later old new item reply written other took next so_far answers.0
+            (subst (λ (n : ℕ). Stands later now.holds (after n so_far.state (said_by item))) i.flush_at answers.1) same wrote;
+        unspent = i.unspent;
+        goes_on = raised.goes_on;
+        room = HasRoom-fewer later.space.next (engine.space.next + tokens_given (said_by item)) told.max_input new
+            (HasRoom-item between.left now.left now.last_read old new item engine.space.next told.max_input other took i.room) raised.taken;
+        blobs = StaysLow-item between.left now.left now.last_read old new item engine.parts.next_blob later.parts.next_blob told.max_input
+            other took i.blobs raised.drawn;
+        flushes = StaysLow-item between.left now.left now.last_read old new item engine.parts.flushes later.parts.flushes told.max_input
+            other took i.flushes (omega (arith, raised.counted));
+        flush_at = raised.flush_at ∙ i.flush_at;
+        taken = HasTaken-more before.left between.left now.left now.last_read old new item told.max_input i.taken took;
+        at_end = at_end;
+        read_calm = read ∙ i.read_calm;
+        write_calm = write ∙ i.write_calm;
+        store_calm = store ∙ i.store_calm;
+      }
+
+  -- ---- how it ends
+
+  -- the store couldn't be opened
+  pub IsSession-unopened : (T : Type 0) (fault : BeginFault) (holds : Option Content) (faults : ℕ)
+      → IsBeginCause before.holds before.store_faults faults fault → IsSpentWhere {T = T} before.holds (Err fault)
+      → ((s : State) → HoldsImage before.holds s → (blob : ℕ) → fault ≡ opening.Damaged blob → ⊥)
+      → IsSession (status_of_opening fault) told before (record before { holds = holds; store_faults = faults })
+  IsSession-unopened T fault holds faults cause spent undamaged =
+      let now : Moment = record before { holds = holds; store_faults = faults } in
+      let other = unopened fault in
+      let few = TakesAtMost-none before.left told.max_input in
+      record {
+        usage = other.usage;
+        all_taken = λ e. absurd (other.done e);
+        done = λ e. absurd (other.done e);
+        saved = λ e. absurd (other.done e);
+        read_fault = IsCounted-other ReadFault (status_of_opening fault) before.read_faults before.read_faults other.read_fault refl;
+        write_fault = IsCounted-other WriteFault (status_of_opening fault) before.write_faults before.write_faults other.write_fault refl;
+        store_fault = IsCounted-unopened fault before.holds before.store_faults faults cause;
+        too_long = IsTooLong-short told (status_of_opening fault) before now other.too_long few;
+        damaged = λ s image blob e. undamaged s image blob (saved_damaged fault blob e);
+        spent = IsSpent-unopened T fault told before.holds before.store_faults faults cause spent;
+        taken = StaysWithin-short told before now few;
+        ends = λ s image. Ends-unopened told s fault before holds faults;
+      }
+
+  module _ (between : Moment) (engine : Engine) (old : Held) (i : IsUnderWay between engine old) where
+    -- reading stopped
+    pub IsSession-stopped : (end : ReadEnd) (left : Option (List ℕ)) (last_read faults : ℕ)
+        → EndsBeforeItem between.left left last_read old end → IsReadCounted end between.read_faults faults
+        → IsSession (status_of end) told before (record between { left = left; last_read = last_read; read_faults = faults })
+    IsSession-stopped end left last_read faults stops counted =
+        let now : Moment = record between { left = left; last_read = last_read; read_faults = faults } in
+        let other = reading end in
+        record {
+          usage = other.usage;
+          all_taken = λ e. absurd (other.done e);
+          done = λ e. absurd (other.done e);
+          saved = λ e. absurd (other.done e);
+          read_fault = IsCounted-read end before.read_faults between.read_faults faults i.read_calm counted;
+          write_fault = IsCounted-other WriteFault (status_of end) before.write_faults between.write_faults other.write_fault i.write_calm;
+          store_fault = IsCounted-other StoreFault (status_of end) before.store_faults between.store_faults other.store_fault i.store_calm;
+          too_long = IsTooLong-stopped told end before now between.left old i.taken stops;
+          damaged = λ s image. other.damaged;
+          spent = IsSpent-never (status_of end) told before.holds i.unspent other.spent;
+          taken = StaysWithin-stopped told end before now between.left old i.taken stops;
+          ends = λ s image.
+              let so_far = i.from s image in
+              Ends-stopped told s end before now between.left old so_far.state so_far.answered so_far.replied stops;
+        }
+
+    -- the script has ended, and what it left was saved or couldn't be
+    pub IsSession-saved : (status : Status) (new : Held) (left : Option (List ℕ)) (last_read faults : ℕ) (holds : Option Content)
+        (store_faults : ℕ) → IsSaving status → TakesItem between.left left last_read old new items.End
+        → IsNext (prepend_known old.bytes between.left) (prepend_known new.bytes left) items.End → (new.ended ≡ true → IsAtEnd left)
+        → faults ≡ between.read_faults → IsCounted StoreFault status between.store_faults store_faults
+        → ((s : State) → Stands engine between.holds s → status ≡ Done → HoldsImage holds (rested_state (saved_state s)))
+        → IsSession status told before
+        (record between { left = left; last_read = last_read; read_faults = faults; holds = holds; store_faults = store_faults })
+    IsSession-saved status new left last_read faults holds store_faults ends took next at_end read counted image_after =
+        let now : Moment = record between {
+          left = left;
+          last_read = last_read;
+          read_faults = faults;
+          holds = holds;
+          store_faults = store_faults;
+        } in
+        let other = λ (is : Status). saving status is ends in
+        let known = prepend_known old.bytes between.left in
+        let rest = prepend_known new.bytes left in
+        let taken = HasTaken-more before.left between.left left last_read old new items.End told.max_input i.taken took in
+        let few : TakesAtMost told.max_input before.left left = TakesAtMost-taken before.left left new.spare told.max_input taken in
+        record {
+          usage = other Usage (λ e. cc) (λ e. cc) (λ e. cc);
+          all_taken = λ e. TakesAll-end told before now (at_end took.2.2) few;
+          done = λ e s image.
+              let so_far = i.from s image in
+              AnswersAll-end told s before now so_far.state known rest so_far.answered next;
+          saved = λ e s image.
+              let so_far = i.from s image in
+              SavesAll-end told s before now so_far.state known rest between.gained so_far.answered next
+              (image_after so_far.state so_far.stands e);
+          read_fault = IsCounted-other ReadFault status before.read_faults faults (other ReadFault (λ e. cc) (λ e. cc) (λ e. cc))
+              (read ∙ i.read_calm);
+          write_fault = IsCounted-other WriteFault status before.write_faults between.write_faults
+              (other WriteFault (λ e. cc) (λ e. cc) (λ e. cc)) i.write_calm;
+          store_fault = IsCounted-since StoreFault status before.store_faults between.store_faults store_faults i.store_calm counted;
+          too_long = IsTooLong-short told status before now (other InputTooLong (λ e. cc) (λ e. cc) (λ e. cc)) few;
+          damaged = λ s image blob. other (Damaged blob) (λ e. cc) (λ e. cc) (λ e. cc);
+          spent = IsSpent-never status told before.holds i.unspent (λ n. other (Spent n) (λ e. cc) (λ e. cc) (λ e. cc));
+          taken = StaysWithin-short told before now few;
+          ends = λ s image.
+              let so_far = i.from s image in
+              Ends-saved told s status before now between.left old new so_far.state ends took so_far.answered so_far.replied;
+        }
+
+    -- an item wasn't answered
+    pub IsSession-unanswered : (trouble : Trouble) (new : Held) (item : Item) (left : Option (List ℕ)) (last_read faults : ℕ)
+        (holds : Option Content) (store_faults : ℕ) → IsBeforeEnd item → TakesItem between.left left last_read old new item
+        → faults ≡ between.read_faults → HasTroubleCause {T = Unit {0}} engine.ended between.store_faults store_faults (Err trouble)
+        → ((s : State) → Stands engine between.holds s → (blob : ℕ) → trouble ≡ troubles.Damaged blob → ⊥)
+        → IsSession (status_of_trouble trouble) told before
+        (record between { left = left; last_read = last_read; read_faults = faults; holds = holds; store_faults = store_faults })
+    IsSession-unanswered trouble new item left last_read faults holds store_faults before_end took read cause undamaged =
+        let now : Moment = record between {
+          left = left;
+          last_read = last_read;
+          read_faults = faults;
+          holds = holds;
+          store_faults = store_faults;
+        } in
+        let status = status_of_trouble trouble in
+        let other = answering trouble in
+        let taken = HasTaken-more before.left between.left left last_read old new item told.max_input i.taken took in
+        let few : TakesAtMost told.max_input before.left left = TakesAtMost-taken before.left left new.spare told.max_input taken in
+        record {
+          usage = other.usage;
+          all_taken = λ e. absurd (other.done e);
+          done = λ e. absurd (other.done e);
+          saved = λ e. absurd (other.done e);
+          read_fault = IsCounted-other ReadFault status before.read_faults faults other.read_fault (read ∙ i.read_calm);
+          write_fault = IsCounted-other WriteFault status before.write_faults between.write_faults other.write_fault i.write_calm;
+          store_fault = IsCounted-answered trouble engine.ended before.store_faults between.store_faults store_faults i.goes_on i.store_calm
+              cause;
+          too_long = IsTooLong-short told status before now other.too_long few;
+          damaged = λ s image blob e.
+              let so_far = i.from s image in
+              undamaged so_far.state so_far.stands blob (damaged_so trouble blob e);
+          spent = IsSpent-never status told before.holds i.unspent other.spent;
+          taken = StaysWithin-short told before now few;
+          ends = λ s image.
+              let so_far = i.from s image in
+              Ends-unanswered told s trouble before now between.left old new so_far.state item before_end took so_far.answered
+              so_far.replied;
+        }
+
+    -- a reply wasn't written whole
+    pub IsSession-unwritten : (fault : Fault) (now : Moment) (later : Engine) (new : Held) (item : Item) (reply written : List ℕ)
+        → IsBeforeEnd item → TakesItem between.left now.left now.last_read old new item
+        → IsNext (prepend_known old.bytes between.left) (prepend_known new.bytes now.left) item → now.read_faults ≡ between.read_faults
+        → HasFaultCause {T = Unit {0}} between.write_faults now.write_faults (Err fault) → now.store_faults ≡ between.store_faults
+        → Replies between.holds now.holds engine later item reply → written ≡ reply → GainsPrefix between.gained now.gained written
+        → IsSession (status_of_fault fault) told before now
+    IsSession-unwritten fault now later new item reply written before_end took next read cause store replies same part =
+        let status = status_of_fault fault in
+        let other = writing fault in
+        let taken = HasTaken-more before.left between.left now.left now.last_read old new item told.max_input i.taken took in
+        let few = TakesAtMost-taken before.left now.left new.spare told.max_input taken in
+        record {
+          usage = other.usage;
+          all_taken = λ e. absurd (other.done e);
+          done = λ e. absurd (other.done e);
+          saved = λ e. absurd (other.done e);
+          read_fault = IsCounted-other ReadFault status before.read_faults now.read_faults other.read_fault (read ∙ i.read_calm);
+          write_fault = IsCounted-written fault before.write_faults between.write_faults now.write_faults i.write_calm cause;
+          store_fault = IsCounted-other StoreFault status before.store_faults now.store_faults other.store_fault (store ∙ i.store_calm);
+          too_long = IsTooLong-short told status before now other.too_long few;
+          damaged = λ s image. other.damaged;
+          spent = IsSpent-never status told before.holds i.unspent other.spent;
+          taken = StaysWithin-short told before now few;
+          ends = λ s image.
+              let so_far = i.from s image in
+              Ends-unwritten told s fault before now between.left between.gained old new so_far.state item reply written before_end took
+              next so_far.answered so_far.replied (replies so_far.state so_far.stands).0 same part;
+        }
