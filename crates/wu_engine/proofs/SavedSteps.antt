@@ -78,8 +78,8 @@ pub saves_from : (tree : FileSystem) (space : Addresses) (files : Records) (chec
     → new ≡ record drawn { stale = [] }
     → Saves tree space files checkpoint blob old new before after
 saves_from tree space files checkpoint blob old flushed drawn new before between put rooted after flush changes number drew bytes written
-    root size address next_blob spelled wrote sized addressed numbered root_spelled put_is put_settled rooted_is rooted_settled stale stale_is
-    removed removed_settled cleared =
+    root size address next_blob spelled wrote sized addressed numbered root_spelled put_is put_settled rooted_is rooted_settled stale
+    stale_is removed removed_settled cleared =
     let gone : List ℕ = removed_by_save flushed checkpoint in
     let stale_same : stale ≡ flushed.stale = stale_is ∙ ap (λ (c : Contents). c.stale) drew in
     let first : SpellsRoot (root_of flushed.next_blob size address next_blob) root =
