@@ -1,18 +1,25 @@
 -- A demonstration: what it counts over the replies of its session, and the line that tells it.
-use Rattle.std.specs.Prelude.{◌≡◌, ℕ, ◌+◌, ◌*◌, ◌≤◌, ◌^◌, ◌⊎◌, List, [], ◌∷◌, ◌++◌, map, codes, decimal, Option, Some, None}
+use Rattle.std.specs.Prelude.{◌≡◌, ℕ, ◌+◌, ◌*◌, ◌≤◌, ◌⊎◌, true, List, [], ◌∷◌, ◌++◌, map, length}
+use Rattle.std.specs.Prelude.{codes, decimal, Option, Some, None}
 use Rattle.std.specs.Io.KnownBytes.{Appends}
-use Rattle.wu_base.specs.declared.limits.TheConstants.{FLUSH_DEFAULT}
+use Rattle.wu_base.specs.declared.limits.TheConstants.{BLOBS_SPENT_AT, FLUSH_DEFAULT, SPENT_AT, WORK_MAX}
 use Rattle.wu_outside.specs.Gains.{GainsPrefix}
+use Rattle.wu_outside.specs.Known.{KnownSource}
+use Rattle.wu_outside.specs.Stored.{PlainBlobs, plain_content}
 use Rattle.wu_ask.specs.declared.Answered.{Answered}
 use Rattle.wu_ask.specs.declared.Answered.TheVariants as answers
 use Rattle.wu_script.specs.declared.types.Reply.{Reply}
 use Rattle.wu_script.specs.declared.types.Reply.TheVariants.{Ok as Accepted, Answered as Told, Refused, Worked, Stat}
+use Rattle.wu_script.specs.Holding.{Held, Follows}
 use Rattle.wu_script.specs.Items.{items_of}
 use Rattle.wu_script.specs.Said.{Reading, IsReading, said_of}
 use Rattle.wu_demo.specs.Script.{demo_script}
 use Rattle.wu_options.specs.declared.command_lines.CommandLine.{CommandLine}
 use Rattle.wu_options.specs.declared.command_lines.CommandLine.TheVariants.{Run, Demo}
+use Rattle.wu_engine.specs.declared.engines.Engine.{Engine}
+use Rattle.wu_engine.specs.Stands.{Stands}
 use Rattle.wu_engine.specs.States.{State, first_state}
+use Rattle.wumpus_run.specs.declared.demo.TheConstants.{SCRIPT_MAX}
 use Rattle.wumpus_run.specs.declared.statuses.Status.{Status}
 use Rattle.wumpus_run.specs.declared.statuses.Status.TheVariants.{Done, WriteFault, NoMemory}
 use Rattle.wumpus_run.specs.declared.tallies.Tally.{Tally}
@@ -53,6 +60,10 @@ tally_from read tally s bytes = counted_all tally (met FLUSH_DEFAULT s (map (sai
 abbrev pub script_tally : Reading → List ℕ → Tally
 script_tally read bytes = tally_from read no_reply first_state bytes
 
+-- whatever the texts say as expressions, that is counted in the script's session
+abbrev pub IsTallyOf : List ℕ → Tally → Type 0
+IsTallyOf script tally = (read : Reading) → IsReading read → tally ≡ script_tally read script
+
 -- ---- the line
 
 abbrev pub tally_line : ℕ → Tally → List ℕ
@@ -61,6 +72,9 @@ tally_line number tally = codes "demo\t" ++ decimal number ++ 9 ∷ [] ++ decima
 
 abbrev pub demo_line : Reading → ℕ → List ℕ
 demo_line read number = tally_line number (script_tally read (demo_script number))
+
+abbrev pub IsDemoLine : ℕ → List ℕ → Type 0
+IsDemoLine number line = (read : Reading) → IsReading read → line ≡ demo_line read number
 
 -- ---- bounds
 
@@ -71,6 +85,30 @@ pub record IsFew (most : ℕ) (tally : Tally) : Type 0 where
   pub refused : tally.refused ≤ most
   pub counts : tally.counts ≤ most
   pub hits : tally.hits ≤ 18446744073709551616 * most
+
+-- ---- the session under way
+
+-- It goes on: for each byte that is held or may still be given there are addresses, blobs and flushes left, and each item that was counted
+-- took one or more of the bytes.
+pub record IsReady (source : KnownSource) (reader : Held) (engine : Engine) (tally : Tally) : Type 0 where
+  pub goes_on : engine.ended ≡ None
+  pub flush_at : engine.parts.flush_at ≡ FLUSH_DEFAULT
+  pub addresses : engine.space.next + 3 * (length reader.bytes + reader.spare) ≤ SPENT_AT + 3 * SCRIPT_MAX
+  pub blobs : engine.parts.next_blob + WORK_MAX * (length reader.bytes + reader.spare) ≤ BLOBS_SPENT_AT + WORK_MAX * SCRIPT_MAX
+  pub flushes : engine.parts.flushes + WORK_MAX * (length reader.bytes + reader.spare) ≤ BLOBS_SPENT_AT + WORK_MAX * SCRIPT_MAX
+  pub items : ℕ
+  pub few : IsFew items tally
+  pub left : items + (length reader.bytes + reader.spare) ≤ SCRIPT_MAX
+  pub follows : Follows source.ended source.last_read reader
+  pub at_end : reader.ended ≡ true → source.left ≡ []
+
+-- Engine and store stand for a state, and what was counted so far, with what the bytes that are left add from that state on, is what is
+-- counted of the whole script.
+pub record IsUnderWay (script : List ℕ) (source : KnownSource) (reader : Held) (engine : Engine) (store : PlainBlobs) (tally : Tally)
+    : Type 0 where
+  pub state : State
+  pub stands : Stands engine (Some (plain_content store)) state
+  pub sums : (read : Reading) → IsReading read → tally_from read tally state (reader.bytes ++ source.left) ≡ script_tally read script
 
 -- ---- how a demonstration ends
 
