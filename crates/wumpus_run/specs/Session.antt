@@ -1,5 +1,5 @@
 -- What a session did, by what source, sink and store told before and after it.
-use Rattle.std.specs.Prelude.{◌≡◌, ℕ, ◌+◌, ◌≤◌, ◌<◌, ◌⊎◌, ◌↔◌, List, [], ◌++◌, length, take, Option, Some, None, IfSome, IsSome, option_and_then}
+use Rattle.std.specs.Prelude.{◌≡◌, ℕ, ◌+◌, ◌≤◌, ◌<◌, ◌⊎◌, ◌↔◌, List, [], ◌++◌, length, take, Option, Some, None, IfSome, option_and_then}
 use Rattle.std.specs.Io.KnownBytes.{Appends, Consumes}
 use Rattle.wu_base.specs.declared.limits.TheConstants.{SPENT_AT, BLOBS_SPENT_AT}
 use Rattle.wu_base.specs.declared.troubles.Trouble.{Trouble}

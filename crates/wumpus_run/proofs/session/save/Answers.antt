@@ -1,5 +1,4 @@
 use Rattle.std.proofs.Common.{Err, refl, ap}
-use Rattle.wumpus_run.specs.Session.{status_of_trouble}
 use Rattle.wumpus_run.proofs.EndLemmas.{IsCounted-answered, answering, trouble_saving}
 use Rattle.wumpus_run.proofs.session.save.Goals as goal
 
