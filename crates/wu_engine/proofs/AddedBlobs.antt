@@ -146,10 +146,10 @@ stored_draws : (b : Bool) (text : List ℕ) (low high : ℕ) (before after : Opt
 stored_draws true text low high before after up put = draws_put low high text before after up put
 stored_draws false text low high before after up put =
     draws_none low high before after (omega (arith, up)) (put ∙ unchanged before)
-    where
-      unchanged : (told : Option Content) → option_map (λ content. content) told ≡ told
-      unchanged None = refl
-      unchanged (Some content) = refl
+  where
+    unchanged : (told : Option Content) → option_map (λ content. content) told ≡ told
+    unchanged None = refl
+    unchanged (Some content) = refl
 
 pub event_draws : (fs : FileSystem) (space : Addresses) (parts : Contents) (files : Records) (s : State)
     → IsEngineOf fs space parts files s → (effect : Effect) (text : List ℕ) (space_now : Addresses) (files_now : Records)
