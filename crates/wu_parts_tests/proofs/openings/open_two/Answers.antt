@@ -21,9 +21,9 @@ loadable_two first second h =
     let last : flushes_for (bare second ∷ []) ≡ 2 ^ second.generation + 0 =
     sum_by-cons (λ (part : Part). 2 ^ part.generation) (bare second) [] in
     record {
-      spans = (omega arith, h.0, omega (arith, h.1), h.2, tt);
-      below = (h.3, h.4, tt);
-      never_rise = ((h.6, tt), tt, tt);
+      spans = (omega arith, h.0, (omega (arith, h.1), h.2, tt));
+      below = (h.3, (h.4, tt));
+      never_rise = ((h.6, tt), (tt, tt));
       flushed = omega (arith, few, fewer, sum, last);
       few = omega arith;
     }
