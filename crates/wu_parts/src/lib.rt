@@ -4,7 +4,6 @@
 mod chains;
 mod flushing;
 mod galloping;
-mod loading;
 mod memory;
 mod parts;
 mod reading;

