@@ -66,7 +66,7 @@ module _ (s : State) (event : Event) (text : List ℕ) where
 
 module _ (flush_at : ℕ) (s : State) (event : Event) (text : List ℕ) where
   -- what holds after each accepted event and its flush, and before, holds after the event
-  after_cases : (P : State → Type 0) → P s
+  pub after_cases : (P : State → Type 0) → P s
       → ((tree : FileSystem) (effect : Effect) → tree_step s.tree event ≡ Ok (tree, effect)
       → P (flushed_if_full flush_at (after_effect s tree effect text)))
       → P (after_event flush_at s event text)
