@@ -14,6 +14,7 @@ pub mod Reports
 pub mod Causes
 pub mod Opening
 pub mod Saving
+pub mod Naming
 -- ---- What only private functions and proofs need
 
 pub mod Indexing

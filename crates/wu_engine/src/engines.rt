@@ -62,6 +62,7 @@ impl Engine {
     ghost use Rattle.wu_engine.specs.Reads.{AreTexts, ReadsForQuery, texts_read};
     ghost use Rattle.wu_engine.specs.Opening.{HoldsImage, IsBeginCause, IsOpen, IsSpentWhere, ReadsAtOpening};
     ghost use Rattle.wu_engine.specs.Saving.{AreRemoved, KeepsNamed, removed_by_save};
+    ghost use Rattle.wu_engine.specs.Naming.{AddsNamed};
     ghost use Rattle.wu_engine.specs.declared.faults.BeginFault.TheVariants.{Damaged as SavedIsDamaged};
 
     /// An engine that goes on where the last save left the store: memory is full at `flush_at` postings. A store
@@ -129,6 +130,9 @@ impl Engine {
         ensures step { (s : State) → Stands self.old (D.holds store.old) s → IfOk result (λ verdict.
             (verdict ≡ verdict_of (step s event.now body.now))
             × Stands self.new (D.holds store.new) (after_event self.old.parts.flush_at s event.now body.now)) }
+        // A blob that wasn't there before is one that the state names.
+        ensures named { (s : State) → Stands self.old (D.holds store.old) s → OnOk result
+            (AddsNamed (after_event self.old.parts.flush_at s event.now body.now).layout (D.holds store.old) (D.holds store.new)) }
         ensures taken { OnOk result (self.new.space.next ≤ self.old.space.next + taken_by event.now body.now) }
         ensures drawn { OnOk result (self.new.parts.next_blob ≤ self.old.parts.next_blob + 2) }
         // Each flush that is counted drew a blob.
@@ -192,6 +196,8 @@ impl Engine {
         requires flushes { self.old.parts.flushes + 1 < 2 ^ 63 }
         ensures step { (s : State) → Stands self.old (D.holds store.old) s
             → OnOk result (Stands self.new (D.holds store.new) (flushed_state s)) }
+        ensures named { (s : State) → Stands self.old (D.holds store.old) s
+            → OnOk result (AddsNamed (flushed_state s).layout (D.holds store.old) (D.holds store.new)) }
         ensures space { self.new.space ≡ self.old.space }
         ensures drawn { OnOk result (self.new.parts.next_blob ≤ self.old.parts.next_blob + 1) }
         ensures counted { OnOk result
@@ -237,6 +243,8 @@ impl Engine {
         // The answer is that of the state after the units, and engine and store stand for it.
         ensures step { (s : State) → Stands self.old (D.holds store.old) s → IfOk result (λ worked.
             (worked ≡ worked_in (worked_state n s)) × Stands self.new (D.holds store.new) (worked_state n s)) }
+        ensures named { (s : State) → Stands self.old (D.holds store.old) s
+            → OnOk result (AddsNamed (worked_state n s).layout (D.holds store.old) (D.holds store.new)) }
         ensures answer { IfOk result (λ worked. worked ≡ answer_of (is_idle self.new.space.ranges self.new.parts)) }
         // Where there is nothing to do there are few parts, and most of each is live.
         ensures few { IfOk result (λ worked. worked ≡ Idle → AreFew self.new.space.ranges self.new.parts) }
@@ -290,6 +298,8 @@ impl Engine {
             → OnOk result (Stands self.new (D.holds store.new) (saved_state s)) }
         ensures image { (s : State) → Stands self.old (D.holds store.old) s
             → OnOk result (HoldsImage (D.holds store.new) (rested_state (saved_state s))) }
+        ensures named { (s : State) → Stands self.old (D.holds store.old) s
+            → OnOk result (AddsNamed (saved_state s).layout (D.holds store.old) (D.holds store.new)) }
         ensures space { self.new.space ≡ self.old.space }
         ensures drawn { OnOk result (self.new.parts.next_blob ≤ self.old.parts.next_blob + 2) }
         ensures counted { OnOk result

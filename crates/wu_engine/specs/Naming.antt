@@ -1,0 +1,16 @@
+-- Which blobs a state names, and that a store gains no others.
+use Rattle.std.specs.Prelude.{◌⊎◌, ⊤, ℕ, ◌<◌, Option, None, Some, IsSome}
+use Rattle.wu_layout.specs.Invariants.{times_named}
+use Rattle.wu_layout.specs.Layouts.{Layout}
+use Rattle.wu_outside.specs.Content.{Content}
+
+-- the layout names the blob: as a text's, a part's or the checkpoint's, or as one that is no longer needed
+abbrev pub IsNamed : Layout → ℕ → Type 0
+IsNamed layout blob = 0 < times_named blob layout.files layout.parts layout.check layout.stale
+
+-- each blob that the store has was there before, or the layout names it
+abbrev pub AddsNamed : Layout → Option Content → Option Content → Type 0
+AddsNamed layout None after = ⊤
+AddsNamed layout (Some before) None = ⊥
+AddsNamed layout (Some before) (Some after) =
+    (blob : ℕ) → IsSome (after.blobs blob) → IsSome (before.blobs blob) ⊎ IsNamed layout blob
