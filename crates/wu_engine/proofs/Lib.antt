@@ -41,3 +41,4 @@ pub mod SavedBlobs
 pub mod SavedSpans
 pub mod SavedLayouts
 pub mod NamedBlobs
+pub mod AddedBlobs

@@ -22,15 +22,13 @@ use Rattle.wu_layout.proofs.EntryLemmas.{none_after_removal}
 use Rattle.wu_layout.proofs.HomeLemmas.{parts_split}
 use Rattle.wu_layout.proofs.TextLemmas.{entry_for}
 use Rattle.wu_image.proofs.RuleLemmas.{sum_of_map}
+use Rattle.wu_engine.specs.Naming.{IsNamed}
 use Rattle.wu_engine.specs.States.{State, IsState, after_event, flushed_state, indexed, layout_after, layout_with, layout_without, saved_state, worked_state}
 use Rattle.wu_engine.proofs.FileChanges.{ChangesFiles, changes}
 use Rattle.wu_engine.proofs.KeptStates.{after_cases}
 use Rattle.wu_engine.proofs.StateLayouts.{left_kept, made_absent, made_kept}
 
 -- ---- what names a blob
-
-abbrev pub IsNamed : Layout → ℕ → Type 0
-IsNamed layout number = 0 < times_named number layout.files layout.parts layout.check layout.stale
 
 -- each blob that is drawn on the way from one layout to another is named by that, and each that was named
 record NamesOn (before after : Layout) : Type 0 where

@@ -1,4 +1,6 @@
 use Rattle.std.proofs.Common.{refl}
+use Rattle.wu_engine.proofs.AddedBlobs.{draws_named, flushed_draws}
+use Rattle.wu_engine.proofs.NamedBlobs.{flush_names}
 use Rattle.wu_engine.proofs.StandLemmas.{flushed_on}
 use Rattle.wu_engine.proofs.engines.Engine.flush.Goals as goal
 
@@ -9,3 +11,14 @@ returns-in-Ok-clause-step g c = λ s stands.
     flushed_on c.args.self.now _ s refl (holds c.args.store.now, moments c.args.store.now)
     (holds c.flush.new.store, moments c.flush.new.store)
     stands refl refl refl c.in-Ok.ensures.flushed
+
+pub returns-in-Ok-clause-named : goal.returns-in-Ok-clause-named
+returns-in-Ok-clause-named g c = λ s stands.
+    let old = c.args.self.now in
+    let holds = g.D.Store.holds in
+    let moments = g.D.Store.moments in
+    let now = returns-in-Ok-clause-step g c s stands in
+    draws_named s.layout _ _ _ (holds c.args.store.now) (holds c.flush.new.store) stands.index.next_blob now.index.next_blob
+    (flush_names s stands.index.is_state)
+    (flushed_draws old.tree old.space old.parts old.files.entries s stands.index _ (holds c.args.store.now, moments c.args.store.now)
+    (holds c.flush.new.store, moments c.flush.new.store) c.in-Ok.ensures.flushed)

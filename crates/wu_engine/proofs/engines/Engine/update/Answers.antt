@@ -1,6 +1,8 @@
 use Rattle.std.proofs.Common.{refl, arith}
+use Rattle.wu_engine.proofs.AddedBlobs.{draws_named, event_draws, none_added}
 use Rattle.wu_engine.proofs.FileChanges.{changes}
 use Rattle.wu_engine.proofs.LeftStores.{left_alone}
+use Rattle.wu_engine.proofs.NamedBlobs.{event_names}
 use Rattle.wu_engine.proofs.SoundLemmas.{indexable, length-terms_after, next_followed, sound_followed}
 use Rattle.wu_engine.proofs.StandLemmas.{accepted, refused}
 use Rattle.wu_engine.proofs.engines.Engine.update.Goals as goal
@@ -83,3 +85,19 @@ pub returns-in-Err-clause-step : goal.returns-in-Err-clause-step
 returns-in-Err-clause-step g c = λ s stands.
     let step = rw c.in-Err.is at c.in_ok-effect.ensures.step in
     refused _ _ s c.args.event.now c.args.body.now refl (g.D.Store.holds c.args.store.now) stands c.in-Err.refusal step.0 step.1 refl refl refl
+
+pub returns-in-Ok-followed-clause-named : goal.returns-in-Ok-followed-clause-named
+returns-in-Ok-followed-clause-named g c = λ s stands.
+    let old = c.args.self.now in
+    let text = c.args.body.now in
+    let holds = g.D.Store.holds in
+    let moments = g.D.Store.moments in
+    let now = (returns-in-Ok-followed-clause-step g c s stands).1 in
+    draws_named s.layout _ _ _ (holds c.args.store.now) (holds c.follow-followed.new.store) stands.index.next_blob now.index.next_blob
+    (event_names old.parts.flush_at s c.args.event.now text stands.index.is_state)
+    (event_draws old.tree old.space old.parts old.files.entries s stands.index c.in-Ok.effect text c.follow-followed.new.space
+    c.follow-followed.new.files.entries c.follow-followed.new.parts (holds c.args.store.now, moments c.args.store.now)
+    (holds c.follow-followed.new.store, moments c.follow-followed.new.store) c.in-Ok-followed.ensures.done)
+
+pub returns-in-Err-clause-named : goal.returns-in-Err-clause-named
+returns-in-Err-clause-named g c = λ s stands. none_added _ (g.D.Store.holds c.args.store.now)
