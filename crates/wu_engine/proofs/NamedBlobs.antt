@@ -1,6 +1,7 @@
 -- No step leaves a blob without a name: each that was drawn is named by a text, a part, the checkpoint, or as one that is no longer needed.
-use Rattle.std.proofs.Common.{◌≡◌, ℕ, zero, suc, ◌+◌, ◌<◌, ◌≤◌, ◌==◌, Bool, true, false, cond, if◌then◌else◌, List, [], ◌∷◌, ◌++◌, length, drop, map, count_by, Option, None, Some, is_some, refl, ap, sym, ◌∙◌, subst, ⊎_elim, arith}
-use Rattle.std.specs.Prelude.{nat_le}
+use Rattle.std.proofs.Common.{◌≡◌, ◌⊎◌, inl, inr, ℕ, zero, suc, ◌+◌, ◌<◌, ◌≤◌, ◌==◌, Bool, true, false, cond, if◌then◌else◌, List, [], ◌∷◌, ◌++◌, length, drop, map, count_by, Option, None, Some, is_some, refl, ap, sym, ◌∙◌, subst, ⊎_elim, arith}
+use Rattle.std.specs.Prelude.{⊤, IsSome, nat_le}
+use Rattle.std.specs.List.{AllByRecursion}
 use Rattle.std.specs.Ordering.{nat_cmp}
 use Rattle.std.specs.List.Sorted.{IsStrictlySortedBy}
 use Rattle.std.specs.Map.{keys_of, lookup, remove_entry}
@@ -8,6 +9,7 @@ use Rattle.std.specs.BTreeMap.{is_at, insert_entry}
 use Rattle.std.proofs.lemmas.Bool.{cases_eq, cases_lt, eq-eqb, false≢true, ne_eqb}
 use Rattle.std.proofs.lemmas.Map.{none_passes_from_lookup}
 use Rattle.wu_base.proofs.MapEntries.{counted-insert_entry}
+use Rattle.wu_outside.specs.Content.{Content}
 use Rattle.wu_tree.specs.declared.events.Event.{Event}
 use Rattle.wu_tree.specs.declared.events.Effect.{Effect}
 use Rattle.wu_tree.specs.FileSystems.{FileSystem}
@@ -21,8 +23,10 @@ use Rattle.wu_layout.proofs.BlobLemmas.{count-append, count-cons, once, once_oth
 use Rattle.wu_layout.proofs.EntryLemmas.{none_after_removal}
 use Rattle.wu_layout.proofs.HomeLemmas.{parts_split}
 use Rattle.wu_layout.proofs.TextLemmas.{entry_for}
+use Rattle.wu_parts.specs.Contents.{Contents}
 use Rattle.wu_image.proofs.RuleLemmas.{sum_of_map}
-use Rattle.wu_engine.specs.Naming.{IsNamed}
+use Rattle.wu_engine.specs.Naming.{AddsNamed, IsNamed}
+use Rattle.wu_engine.specs.Saving.{AreRemoved, checkpoint_blob, removed_by_save}
 use Rattle.wu_engine.specs.States.{State, IsState, after_event, flushed_state, indexed, layout_after, layout_with, layout_without, saved_state, worked_state}
 use Rattle.wu_engine.proofs.FileChanges.{ChangesFiles, changes}
 use Rattle.wu_engine.proofs.KeptStates.{after_cases}
@@ -320,3 +324,125 @@ work_names n s is = keeps s (work n s.layout) is (names_work n s.layout)
 pub save_names : (s : State) (number : ℕ) → s.layout.blob ≤ number → number < (saved_state s).layout.blob
     → IsNamed (saved_state s).layout number
 save_names s number from to = drawn_by_save (live_of (ranges_of s.layout.files) s.layout.memory) s.layout number from to
+
+-- ---- no stray blobs
+
+-- Of a store that began as the first content each blob is named by the state, or it was there at first and the state of then didn't name it.
+-- The blob 0 is none of an index's.
+abbrev pub NoStray : State → Option Content → State → Option Content → Type 0
+NoStray start None s now = ⊤
+NoStray start (Some first) s None = ⊥
+NoStray start (Some first) s (Some now) =
+    (blob : ℕ) → 0 < blob → IsSome (now.blobs blob)
+    → IsNamed s.layout blob ⊎ (IsSome (first.blobs blob) × (IsNamed start.layout blob → ⊥))
+
+pub no_stray_at_first : (start : State) (first : Option Content) → NoStray start first start first
+no_stray_at_first start None = tt
+no_stray_at_first start (Some first) = λ blob l some.
+    ⊎_elim
+    (λ (named : IsNamed start.layout blob). inl named)
+    (λ (none : times_named blob start.layout.files start.layout.parts start.layout.check start.layout.stale ≤ 0).
+    inr (some, λ named. omega (arith, none, named)))
+    (cases_lt 0 (times_named blob start.layout.files start.layout.parts start.layout.check start.layout.stale))
+
+-- a step adds only blobs that the state names after it, and what was named before is named after it
+no_stray_then : (start s t : State) (first now after : Option Content)
+    → ((number : ℕ) → 0 < number → IsNamed s.layout number → IsNamed t.layout number) → AddsNamed t.layout now after
+    → NoStray start first s now → NoStray start first t after
+no_stray_then start s t None now after kept adds none = tt
+no_stray_then start s t (Some first) None after kept adds none = absurd none
+no_stray_then start s t (Some first) (Some now) None kept adds none = adds
+no_stray_then start s t (Some first) (Some now) (Some after) kept adds none = λ blob l some.
+    ⊎_elim
+    (λ there.
+    ⊎_elim
+    (λ (named : IsNamed s.layout blob). inl (kept blob l named))
+    (λ (other : IsSome (first.blobs blob) × (IsNamed start.layout blob → ⊥)). inr other)
+    (none blob l there))
+    (λ (named : IsNamed t.layout blob). inl named)
+    (adds blob some)
+
+pub no_stray_after_event : (start : State) (flush_at : ℕ) (s : State) (event : Event) (text : List ℕ) → IsState s
+    → (first now after : Option Content) → AddsNamed (after_event flush_at s event text).layout now after → NoStray start first s now
+    → NoStray start first (after_event flush_at s event text) after
+no_stray_after_event start flush_at s event text is first now after =
+    no_stray_then start s (after_event flush_at s event text) first now after (event_names flush_at s event text is).kept
+
+pub no_stray_after_flush : (start s : State) → IsState s → (first now after : Option Content)
+    → AddsNamed (flushed_state s).layout now after → NoStray start first s now → NoStray start first (flushed_state s) after
+no_stray_after_flush start s is first now after =
+    no_stray_then start s (flushed_state s) first now after (flush_names s is).kept
+
+pub no_stray_after_work : (start : State) (n : ℕ) (s : State) → IsState s → (first now after : Option Content)
+    → AddsNamed (worked_state n s).layout now after → NoStray start first s now → NoStray start first (worked_state n s) after
+no_stray_after_work start n s is first now after =
+    no_stray_then start s (worked_state n s) first now after (work_names n s is).kept
+
+-- ---- and a save
+
+-- a save removes what only the checkpoint's number and the stale ones named
+kept_by_save : (kept : List Posting) (layout : Layout) (number : ℕ)
+    → 0 < count_by (λ file. file.1.blob == number) layout.files + count_by (λ part. part.blob == number) layout.parts
+    → 0 < times_named number (flushed kept layout).files (flushed kept layout).parts (flushed kept layout).blob []
+kept_by_save [] layout number named = omega (arith, named)
+kept_by_save (posting ∷ postings) layout number named =
+    let part : Part = record { blob = layout.blob; generation = 0; postings = posting ∷ postings } in
+    omega (arith, named, count-append (λ (p : Part). p.blob == number) layout.parts (part ∷ []))
+
+-- the checkpoint's number, if there is one
+checkpoint_count : (check number : ℕ) → 0 < number → count_by (λ other. other == number) (checkpoint_blob check) ≡ once check number
+checkpoint_count check number l =
+    ⊎_elim
+    (λ e. rw (eq-eqb check 0 e) (sym (once_other check number (λ same. omega arith))))
+    (λ h. rw (ne_eqb check 0 h) (omega (arith, count-cons (λ (other : ℕ). other == number) check [])))
+    (cases_eq check 0)
+
+-- what is removed is absent
+removed_absent : (content : Content) (gone : List ℕ) (number : ℕ) → AllByRecursion (λ blob. content.blobs blob ≡ None) gone
+    → 0 < count_by (λ other. other == number) gone → content.blobs number ≡ None
+removed_absent content [] number absent some = absurd (omega (arith, some))
+removed_absent content (blob ∷ gone) number absent some =
+    ⊎_elim
+    (λ (same : blob ≡ number). subst (λ (n : ℕ). content.blobs n ≡ None) same absent.0)
+    (λ other. removed_absent content gone number absent.1
+    (omega (arith, some, count-cons (λ (n : ℕ). n == number) blob gone, once_other blob number other)))
+    (cases_eq blob number)
+
+none_is_there : (o : Option (List ℕ)) → o ≡ None → IsSome o → ⊥
+none_is_there None e some = false≢true some
+none_is_there (Some bytes) e some = absurd cc
+
+pub no_stray_after_save : (start s : State) (contents : Contents) (checkpoint : ℕ) → contents.stale ≡ s.layout.stale
+    → checkpoint ≡ s.layout.check → (first now after : Option Content) → AddsNamed (saved_state s).layout now after
+    → AreRemoved (removed_by_save contents checkpoint) after → NoStray start first s now → NoStray start first (saved_state s) after
+no_stray_after_save start s contents checkpoint stale check None now after adds removed none = tt
+no_stray_after_save start s contents checkpoint stale check (Some first) None after adds removed none = absurd none
+no_stray_after_save start s contents checkpoint stale check (Some first) (Some now) None adds removed none = adds
+no_stray_after_save start s contents checkpoint stale check (Some first) (Some now) (Some after) adds removed none = λ blob l some.
+    let gone : List ℕ = s.layout.stale ++ checkpoint_blob s.layout.check in
+    let same : removed_by_save contents checkpoint ≡ gone =
+    ap (λ (blobs : List ℕ). blobs ++ checkpoint_blob checkpoint) stale
+    ∙ ap (λ (n : ℕ). s.layout.stale ++ checkpoint_blob n) check in
+    let absent : AllByRecursion (λ number. after.blobs number ≡ None) gone =
+    subst (AllByRecursion (λ number. after.blobs number ≡ None)) same removed in
+    ⊎_elim
+    (λ there.
+    ⊎_elim
+    (λ (named : IsNamed s.layout blob).
+    ⊎_elim
+    (λ (lost : 0 < count_by (λ other. other == blob) gone).
+    absurd (none_is_there (after.blobs blob) (removed_absent after gone blob absent lost) some))
+    (λ (left : count_by (λ other. other == blob) gone ≤ 0).
+    inl (kept_by_save (live_of (ranges_of s.layout.files) s.layout.memory) s.layout blob
+    (omega (
+      arith,
+      named,
+      left,
+      count-append (λ (other : ℕ). other == blob) s.layout.stale (checkpoint_blob s.layout.check),
+      checkpoint_count s.layout.check blob l,
+    ))))
+    (cases_lt 0 (count_by (λ other. other == blob) gone)))
+    (λ (other : IsSome (first.blobs blob) × (IsNamed start.layout blob → ⊥)). inr other)
+    (none blob l there))
+    (λ (named : IsNamed (saved_state s).layout blob). inl named)
+    (adds blob some)
