@@ -25,15 +25,16 @@ full_kept flush_at s is = record {
 
 -- ---- how far numbers rise
 
--- a flush gives no address, and draws a blob at most
+-- a flush gives no address, draws a blob at most, and leaves the checkpoint
 pub record RisesBy (blobs flushes : ℕ) (before after : Layout) : Type 0 where
   pub next : after.next ≡ before.next
   pub blob : after.blob ≤ before.blob + blobs
   pub flushed : after.flushes ≤ before.flushes + flushes
+  pub check : after.check ≡ before.check
 
 rises-flushed : (kept : List Posting) (layout : Layout) → RisesBy 1 1 layout (flushed kept layout)
-rises-flushed [] layout = record { next = refl; blob = omega arith; flushed = omega arith }
-rises-flushed (posting ∷ postings) layout = record { next = refl; blob = omega arith; flushed = omega arith }
+rises-flushed [] layout = record { next = refl; blob = omega arith; flushed = omega arith; check = refl }
+rises-flushed (posting ∷ postings) layout = record { next = refl; blob = omega arith; flushed = omega arith; check = refl }
 
 pub rises-flush : (layout : Layout) → RisesBy 1 1 layout (flush layout)
 rises-flush layout = rises-flushed (live_of (ranges_of layout.files) layout.memory) layout
@@ -42,5 +43,5 @@ pub rises-full : (flush_at : ℕ) (layout : Layout) → RisesBy 1 1 layout (flus
 rises-full flush_at layout =
     elim (nat_le flush_at (length layout.memory)) as (λ b. RisesBy 1 1 layout (cond b (flush layout) layout)) [
       | true ↦ rises-flush layout
-      | false ↦ record { next = refl; blob = omega arith; flushed = omega arith }
+      | false ↦ record { next = refl; blob = omega arith; flushed = omega arith; check = refl }
     ]

@@ -1,5 +1,5 @@
 -- The engine stands for the same state after a query.
-use Rattle.std.proofs.Common.{◌≡◌, ℕ, List, refl, sym, subst}
+use Rattle.std.proofs.Common.{◌≡◌, ℕ, List, refl, sym, ◌∙◌, subst}
 use Rattle.std.specs.Prelude.{Option, Some, None, IfSome, IsSome}
 use Rattle.wu_outside.specs.Content.{Content}
 use Rattle.wu_outside.specs.declared.ranges.ReadRange.{ReadRange}
@@ -49,10 +49,11 @@ module _ (engine : Engine) (holds : Option Content) (s : State) (stands : Stands
   -- only blocks are kept anew
   pub stands_on : (new : Engine) (holds_now : Option Content) (uid : ℕ) (question : Question) (Are : List ReadRange → Type 0)
       (before after : Option (List ReadRange)) → new.ended ≡ None → holds_now ≡ holds → new.tree ≡ engine.tree → new.space ≡ engine.space
-      → new.files.entries ≡ engine.files.entries → new.parts ≡ record engine.parts { kept = new.parts.kept }
+      → new.files.entries ≡ engine.files.entries → new.checkpoint ≡ engine.checkpoint
+      → new.parts ≡ record engine.parts { kept = new.parts.kept }
       → ReadsForQuery engine.tree engine.space.ranges uid question engine.parts new.parts.kept Are holds before after
       → Stands new holds_now s
-  stands_on new holds_now uid question Are before after ended same tree space files parts reads =
+  stands_on new holds_now uid question Are before after ended same tree space files check parts reads =
       subst (λ (o : Option Content). Stands new o s) (sym same)
       (record {
         goes_on = ended;
@@ -80,6 +81,7 @@ module _ (engine : Engine) (holds : Option Content) (s : State) (stands : Stands
             (job_on new.parts.kept holds stands.job);
         kept = blocks_kept engine.parts reads.frames.ranges (terms_asked question) new.parts.kept s holds before reads.reads.between
             postings_told reads.reads.asks;
+        check = check ∙ stands.check;
       })
 
 -- the texts are those of every state that engine and store stand for

@@ -40,6 +40,7 @@ use Rattle.wu_engine.specs.Indexing.{Catalog, Follows, blob_for, blob_left, cata
 use Rattle.wu_engine.proofs.FileChanges.{ChangesFiles}
 use Rattle.wu_engine.proofs.StateTexts.{text-left}
 use Rattle.wu_engine.proofs.StateLayouts.{layout_dropped, left_kept, made_absent, made_kept}
+use Rattle.wu_engine.proofs.FlushedStates.{rises-flush, rises-full}
 use Rattle.wu_engine.proofs.FlushLemmas.{IsStored, flush_stands, full_stands, told_here}
 use Rattle.wu_engine.proofs.HeldParts.{AgreesBelow, blocks_stay}
 use Rattle.wu_engine.proofs.KeptStates.{after_effect, drawn-after, drawn-made, effect_kept, flushes-after, step-accepted, step-refused}
@@ -238,8 +239,9 @@ module _ (s : State) (is : IsState s) (after : FileSystem) (effect : Effect) (te
 -- ---- an engine that is as it was
 
 stands_still : (old new : Engine) (s : State) → new.ended ≡ None → (holds : Option Content) → Stands old holds s
-    → new.tree ≡ old.tree → new.space ≡ old.space → new.parts ≡ old.parts → new.files.entries ≡ old.files.entries → Stands new holds s
-stands_still old new s ended holds stands tree space parts files = record {
+    → new.tree ≡ old.tree → new.space ≡ old.space → new.parts ≡ old.parts → new.files.entries ≡ old.files.entries
+    → new.checkpoint ≡ old.checkpoint → Stands new holds s
+stands_still old new s ended holds stands tree space parts files check = record {
   goes_on = ended;
   index = subst (λ (t : FileSystem). IsEngineOf t new.space new.parts new.files.entries s) (sym tree)
       (subst (λ (a : Addresses). IsEngineOf old.tree a new.parts new.files.entries s) (sym space)
@@ -250,11 +252,13 @@ stands_still old new s ended holds stands tree space parts files = record {
       stands.parts;
   job = subst (λ (c : Contents). IfSome holds (λ content. KeepsJob content s.layout c)) (sym parts) stands.job;
   kept = subst (λ (c : Contents). IfSome holds (λ content. KeepsBlocks content s.layout.blob c.kept)) (sym parts) stands.kept;
+  check = check ∙ stands.check;
 }
 
 -- ---- what the engine answers
 
-module _ (old new : Engine) (s : State) (event : Event) (text : List ℕ) (ended : new.ended ≡ None) where
+module _ (old new : Engine) (s : State) (event : Event) (text : List ℕ) (ended : new.ended ≡ None)
+    (check : new.checkpoint ≡ old.checkpoint) where
   -- what was drawn, stored, indexed and flushed of an accepted event
   module _ (before after : Told) (stands : Stands old before.0 s) (effect : Effect)
       (step_is : tree_step old.tree event ≡ Ok (new.tree, effect)) (valid : IsEvent event) (short : length text ≤ TEXT_MAX)
@@ -319,6 +323,11 @@ module _ (old new : Engine) (s : State) (event : Event) (text : List ℕ) (ended
 
     same_job : next.layout.job ≡ s.layout.job
     same_job = same_after (λ l. l.job) (λ ino l. refl) (λ ino t l. refl) effect text s.layout
+
+    check_followed : (flushed_if_full f.indexed.flush_at next).layout.check ≡ s.layout.check
+    check_followed =
+        (rises-full f.indexed.flush_at next.layout).check
+        ∙ same_after (λ l. l.check) (λ ino l. refl) (λ ino t l. refl) effect text s.layout
 
     -- the text's blob is none of the parts'
     told_between : (content : Content) → TellsParts content old.parts s.layout
@@ -385,6 +394,7 @@ module _ (old new : Engine) (s : State) (event : Event) (text : List ℕ) (ended
             parts = both.1.parts;
             job = both.1.job;
             kept = both.1.kept;
+            check = check ∙ stands.check ∙ sym check_followed;
           }),
         )
 
@@ -397,17 +407,17 @@ module _ (old new : Engine) (s : State) (event : Event) (text : List ℕ) (ended
       step-refused s event text refusal (ap (λ (t : FileSystem). tree_step t event) (sym stands.index.tree) ∙ is) in (
         sym (ap verdict_of after),
         subst (Stands new holds) (sym (ap (followed old.parts.flush_at s) after))
-            (stands_still old new s ended holds stands tree space parts files),
+            (stands_still old new s ended holds stands tree space parts files check),
       )
 
 -- ---- a flush
 
 pub flushed_on : (old new : Engine) (s : State) → new.ended ≡ None → (before after : Told) → Stands old before.0 s
-    → new.tree ≡ old.tree → new.space ≡ old.space → new.files.entries ≡ old.files.entries
+    → new.tree ≡ old.tree → new.space ≡ old.space → new.files.entries ≡ old.files.entries → new.checkpoint ≡ old.checkpoint
     → ((low high : ℕ) (postings : List Posting) → HasPostings low high old.parts.memory postings
     → Flushes (live_of (map (λ file. file.1) old.space.ranges) postings) old.parts new.parts before after)
     → Stands new after.0 (flushed_state s)
-flushed_on old new s ended before after stands tree space files done =
+flushed_on old new s ended before after stands tree space files check done =
     let stored : IsStored before.0 old.parts s =
     record { texts = stands.texts; parts = stands.parts; job = stands.job; kept = stands.kept } in
     let both = flush_stands old.tree old.space old.parts old.files.entries s stands.index new.parts before after stored done in
@@ -420,4 +430,5 @@ flushed_on old new s ended before after stands tree space files done =
       parts = both.1.parts;
       job = both.1.job;
       kept = both.1.kept;
+      check = check ∙ stands.check ∙ sym (rises-flush s.layout).check;
     }

@@ -29,31 +29,32 @@ worked_kept n s is = record {
 
 -- ---- what stays, and how far the blobs' numbers rise
 
--- so many units give no address, leave memory as it is, and draw a blob each at most
+-- so many units give no address, leave memory and the checkpoint as they are, and draw a blob each at most
 pub record IsWorked (units : ℕ) (before after : Layout) : Type 0 where
   pub next : after.next ≡ before.next
   pub memory : after.memory ≡ before.memory
   pub flushes : after.flushes ≡ before.flushes
   pub least : before.blob ≤ after.blob
   pub most : after.blob ≤ before.blob + units
+  pub check : after.check ≡ before.check
 
 worked-replaced : (kept : List Posting) (job : Job) (layout : Layout) → IsWorked 1 layout (replaced kept job layout)
 worked-replaced [] job layout =
-    record { next = refl; memory = refl; flushes = refl; least = omega arith; most = omega arith }
+    record { next = refl; memory = refl; flushes = refl; least = omega arith; most = omega arith; check = refl }
 worked-replaced (posting ∷ postings) job layout =
-    record { next = refl; memory = refl; flushes = refl; least = omega arith; most = omega arith }
+    record { next = refl; memory = refl; flushes = refl; least = omega arith; most = omega arith; check = refl }
 
 worked-term : (terms : List (List ℕ)) (job : Job) (layout : Layout) → IsWorked 1 layout (with_terms_left terms job layout)
 worked-term [] job layout = worked-replaced (live_of job.live (stored_in (parts_taken job layout.parts))) job layout
 worked-term (term ∷ terms) job layout =
-    record { next = refl; memory = refl; flushes = refl; least = omega arith; most = omega arith }
+    record { next = refl; memory = refl; flushes = refl; least = omega arith; most = omega arith; check = refl }
 
 worked-unit : (o : Option Job) (layout : Layout) → IsWorked 1 layout (unit_of o layout)
-worked-unit None layout = record { next = refl; memory = refl; flushes = refl; least = omega arith; most = omega arith }
+worked-unit None layout = record { next = refl; memory = refl; flushes = refl; least = omega arith; most = omega arith; check = refl }
 worked-unit (Some job) layout = worked-term (drop 1 job.terms_left) job layout
 
 pub worked : (n : ℕ) (layout : Layout) → IsWorked n layout (work n layout)
-worked zero layout = record { next = refl; memory = refl; flushes = refl; least = omega arith; most = omega arith }
+worked zero layout = record { next = refl; memory = refl; flushes = refl; least = omega arith; most = omega arith; check = refl }
 worked (suc n) layout =
     let first : IsWorked 1 layout (unit layout) = worked-unit (job_of layout) layout in
     let rest : IsWorked n (unit layout) (work n (unit layout)) = worked n (unit layout) in
@@ -63,6 +64,7 @@ worked (suc n) layout =
       flushes = rest.flushes ∙ first.flushes;
       least = omega (arith, first.least, rest.least);
       most = omega (arith, first.most, rest.most);
+      check = rest.check ∙ first.check;
     }
 
 -- ---- what the store holds
@@ -87,7 +89,8 @@ parts_told engine (Some content) s stands =
     told_here engine.tree engine.space engine.parts engine.files.entries s stands.index content stands.parts stands.job
 
 module _ (old new : Engine) (s : State) (n : ℕ) (ended : new.ended ≡ None) (tree : new.tree ≡ old.tree)
-    (space : new.space ≡ old.space) (files : new.files.entries ≡ old.files.entries) (changes : ChangesParts n old.parts new.parts) where
+    (space : new.space ≡ old.space) (files : new.files.entries ≡ old.files.entries) (check : new.checkpoint ≡ old.checkpoint)
+    (changes : ChangesParts n old.parts new.parts) where
   abbrev later : State
   later = worked_state n s
 
@@ -135,4 +138,5 @@ module _ (old new : Engine) (s : State) (n : ℕ) (ended : new.ended ≡ None) (
         kept =
             subst (KeepsBlocks after later.layout.blob) (sym (ap (λ (c : Contents). c.kept) changes.others))
             (blocks_stay s.layout.blob before after agrees later.layout.blob old.parts.kept (worked n s.layout).least stands.kept);
+        check = check ∙ stands.check ∙ sym (worked n s.layout).check;
       }

@@ -10,7 +10,7 @@ returns-in-Ok-clause-step g c = λ s stands.
     let moments = g.D.Store.moments in
     flushed_on c.args.self.now _ s refl (holds c.args.store.now, moments c.args.store.now)
     (holds c.flush.new.store, moments c.flush.new.store)
-    stands refl refl refl c.in-Ok.ensures.flushed
+    stands refl refl refl refl c.in-Ok.ensures.flushed
 
 pub returns-in-Ok-clause-named : goal.returns-in-Ok-clause-named
 returns-in-Ok-clause-named g c = λ s stands.

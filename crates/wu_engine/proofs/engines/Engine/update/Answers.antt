@@ -49,7 +49,7 @@ returns-in-Ok-followed-clause-step g c = λ s stands.
     let holds = g.D.Store.holds in
     let moments = g.D.Store.moments in
     let step = rw c.in-Ok.is at c.in_ok-effect.ensures.step in
-    accepted old _ s event text refl (holds c.args.store.now, moments c.args.store.now)
+    accepted old _ s event text refl refl (holds c.args.store.now, moments c.args.store.now)
     (holds c.follow-followed.new.store, moments c.follow-followed.new.store)
     stands effect step c.requires.event c.requires.short
     (c.effects_tell_files.ensures event c.apply.new.self effect step) (changes old.tree event c.apply.new.self effect step).1
@@ -84,7 +84,7 @@ returns-in-Ok-followed-clause-untouched g c = λ leaves.
 pub returns-in-Err-clause-step : goal.returns-in-Err-clause-step
 returns-in-Err-clause-step g c = λ s stands.
     let step = rw c.in-Err.is at c.in_ok-effect.ensures.step in
-    refused _ _ s c.args.event.now c.args.body.now refl (g.D.Store.holds c.args.store.now) stands c.in-Err.refusal step.0 step.1 refl refl refl
+    refused _ _ s c.args.event.now c.args.body.now refl refl (g.D.Store.holds c.args.store.now) stands c.in-Err.refusal step.0 step.1 refl refl refl
 
 pub returns-in-Ok-followed-clause-named : goal.returns-in-Ok-followed-clause-named
 returns-in-Ok-followed-clause-named g c = λ s stands.

@@ -14,7 +14,7 @@ returns-in-Ok-clause-step g c = λ s stands.
     let layout = c.in-Ok.ensures.layout _ _ s.layout stands.index.is_state.layout stands.index.live told in
     let others = others_worked old.parts.next_blob (old.parts.next_blob + n) n before after c.work.ensures.elsewhere in (
       layout.0,
-      worked_on old _ s n refl refl refl refl c.in-Ok.ensures.changes before after stands others layout.1,
+      worked_on old _ s n refl refl refl refl refl c.in-Ok.ensures.changes before after stands others layout.1,
     )
 
 pub returns-in-Ok-clause-elsewhere : goal.returns-in-Ok-clause-elsewhere
