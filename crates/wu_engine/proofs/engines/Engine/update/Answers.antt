@@ -1,4 +1,5 @@
 use Rattle.std.proofs.Common.{refl, arith}
+use Rattle.wu_engine.specs.States.{after_event}
 use Rattle.wu_engine.proofs.AddedBlobs.{draws_named, event_draws, none_added}
 use Rattle.wu_engine.proofs.FileChanges.{changes}
 use Rattle.wu_engine.proofs.LeftStores.{left_alone}
@@ -100,4 +101,5 @@ returns-in-Ok-followed-clause-named g c = λ s stands.
     (holds c.follow-followed.new.store, moments c.follow-followed.new.store) c.in-Ok-followed.ensures.done)
 
 pub returns-in-Err-clause-named : goal.returns-in-Err-clause-named
-returns-in-Err-clause-named g c = λ s stands. none_added _ (g.D.Store.holds c.args.store.now)
+returns-in-Err-clause-named g c = λ s stands.
+    none_added (after_event c.args.self.now.parts.flush_at s c.args.event.now c.args.body.now).layout (g.D.Store.holds c.args.store.now)
