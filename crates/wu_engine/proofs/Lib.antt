@@ -36,3 +36,11 @@ pub mod FoundLines
 pub mod FirstLines
 pub mod QueryReads
 pub mod QueryStands
+pub mod SavedTexts
+pub mod SavedBlobs
+pub mod SavedSpans
+pub mod SavedLayouts
+pub mod SavedContents
+pub mod SavedSteps
+pub mod SavedStates
+pub mod SavedEngines

@@ -19,3 +19,4 @@ pub mod Saving
 pub mod Indexing
 pub mod Units
 pub mod Finding
+pub mod SavedStores
