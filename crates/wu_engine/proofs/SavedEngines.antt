@@ -1,20 +1,20 @@
 -- Engine and store stand for the saved state after a save, and the store holds its image.
-use Rattle.std.proofs.Common.{◌≡◌, ◌≢◌, inl, inr, ℕ, ◌+◌, ◌≤◌, List, [], ◌++◌, length, map, refl, ap, sym, ◌∙◌, subst, arith}
-use Rattle.std.specs.Prelude.{Option, Some, None, IfSome, option_map}
+use Rattle.std.proofs.Common.{◌≡◌, ◌≢◌, ℕ, ◌+◌, ◌≤◌, List, [], ◌++◌, length, map, refl, ap, sym, ◌∙◌, subst, arith}
+use Rattle.std.specs.Prelude.{Option, Some, None, option_map}
 use Rattle.std.specs.List.{AllByRecursion, AllZip}
 use Rattle.wu_base.specs.declared.limits.TheConstants.{ADDRESSES_MAX}
 use Rattle.wu_outside.specs.Content.{Content, with_blob, with_root}
-use Rattle.wu_layout.specs.Layouts.{FileEntry, Layout}
+use Rattle.wu_layout.specs.Layouts.{FileEntry}
 use Rattle.wu_layout.specs.Invariants.{BlobsAreDistinct}
 use Rattle.wu_layout.specs.Steps.{checkpointed, flush, rest}
 use Rattle.wu_tree.specs.FileSystems.{FileSystem}
 use Rattle.wu_space.specs.Addresses.{Addresses}
 use Rattle.wu_parts.specs.Contents.{Contents}
-use Rattle.wu_parts.specs.Flushing.{EmptiesMemory, Told}
+use Rattle.wu_parts.specs.Flushing.{Told}
 use Rattle.wu_image.specs.declared.checkpoints.Checkpoint.{Checkpoint}
 use Rattle.wu_image.specs.declared.records.FileRec.{FileRec}
 use Rattle.wu_image.specs.declared.roots.Root.{Root}
-use Rattle.wu_image.specs.Checkpoints.{SpellsCheckpoint, file_numbers}
+use Rattle.wu_image.specs.Checkpoints.{file_numbers}
 use Rattle.wu_image.specs.Images.{HasSaved, HoldsText, IsImage, IsSaved}
 use Rattle.wu_image.specs.LayoutRules.{AreLayoutRules}
 use Rattle.wu_image.specs.Roots.{SpellsRoot}
@@ -26,10 +26,10 @@ use Rattle.wu_engine.specs.Saving.{AreRemoved, checkpoint_blob, removed_by_save}
 use Rattle.wu_engine.specs.SavedStores.{IsSpelledOf, Saves, all_done, recorded_files, remove_blob, with_drawn}
 use Rattle.wu_engine.specs.Soundness.{IsSound}
 use Rattle.wu_engine.specs.Stands.{HoldsTexts, IsEngineOf, Stands}
-use Rattle.wu_engine.specs.States.{State, Texts, IsState, flushed_state, rested_state, saved_state}
+use Rattle.wu_engine.specs.States.{State, Texts, flushed_state, rested_state, saved_state}
 use Rattle.wu_engine.proofs.FlushLemmas.{IsStored, flush_stands}
 use Rattle.wu_engine.proofs.FlushedStates.{rises-flush}
-use Rattle.wu_engine.proofs.SavedContents.{all_removed, are_removed, without}
+use Rattle.wu_engine.proofs.SavedContents.{all_removed, are_removed}
 use Rattle.wu_engine.proofs.SavedLayouts.{saved_files, saved_rules}
 use Rattle.wu_engine.proofs.SavedStates.{blocks_saved, checkpoint_there, files_imaged, job_saved, layout_checkpointed, left, memory_flushed, of_no_part, of_no_text, parts_imaged, parts_saved, rested_kept, root_there, saved_kept, texts_saved}
 use Rattle.wu_engine.proofs.SavedSteps.{stale_stays}

@@ -1,5 +1,5 @@
 -- The state after a save: what is held of it, and the image of it.
-use Rattle.std.proofs.Common.{◌≡◌, ◌≢◌, ◌⊎◌, inl, inr, ℕ, ◌+◌, ◌<◌, ◌≤◌, ◌==◌, Bool, true, false, cond, List, [], ◌∷◌, ◌++◌, length, map, take, drop, refl, ap, sym, ◌∙◌, subst, arith, ⊎_elim}
+use Rattle.std.proofs.Common.{◌≡◌, ◌≢◌, inl, inr, ℕ, ◌+◌, ◌<◌, ◌≤◌, ◌==◌, Bool, cond, List, [], ◌∷◌, ◌++◌, length, map, take, drop, refl, ap, sym, ◌∙◌, subst, arith, ⊎_elim}
 use Rattle.std.specs.Prelude.{Option, Some, None, IfSome, count_by, zip}
 use Rattle.std.specs.Ordering.{nat_cmp}
 use Rattle.std.specs.List.{AllByRecursion, AllZip}
@@ -10,32 +10,29 @@ use Rattle.std.proofs.lemmas.Bool.{cases_eq, eq-eqb, ne_eqb}
 use Rattle.wu_base.specs.declared.addresses.PartRec.{PartRec}
 use Rattle.wu_base.specs.declared.addresses.TermList.{TermList}
 use Rattle.wu_base.specs.declared.addresses.Range.{Range}
-use Rattle.wu_base.specs.declared.limits.TheConstants.{ADDRESSES_MAX}
 use Rattle.wu_base.proofs.MapEntries.{all_found, counted-remove_entry}
 use Rattle.wu_base.proofs.Members.{Has, all_from_has, all_has}
 use Rattle.wu_outside.specs.Content.{Content, with_blob, with_root}
 use Rattle.wu_layout.specs.Layouts.{FileEntry, Job, Layout, Part, Text, entry_of, ranges_of}
-use Rattle.wu_layout.specs.Invariants.{BlobsAreDistinct, IsLayoutOf, times_named}
+use Rattle.wu_layout.specs.Invariants.{BlobsAreDistinct, IsLayoutOf}
 use Rattle.wu_layout.specs.Postings.{Posting, live_of}
-use Rattle.wu_layout.specs.Steps.{checkpointed, flush, flushed, rest, save}
+use Rattle.wu_layout.specs.Steps.{checkpointed, flush, flushed}
 use Rattle.wu_layout.proofs.BlobLemmas.{count-append, count-cons, once, once_other, once_same}
 use Rattle.wu_layout.proofs.EachLemmas.{each-drop, each-take}
 use Rattle.wu_layout.proofs.EntryLemmas.{IfSome-found}
-use Rattle.wu_tree.specs.FileSystems.{FileSystem}
-use Rattle.wu_space.specs.Addresses.{Addresses}
 use Rattle.wu_part.specs.Directories.{PartDirectory}
 use Rattle.wu_job.specs.Jobs.{AreMade, HoldTerm, HoldsEntry, IsRight, JobPart, JobState}
 use Rattle.wu_lists.specs.Keeping.{Kept}
 use Rattle.wu_parts.specs.Contents.{Contents, JobAt}
-use Rattle.wu_parts.specs.Holdings.{HoldParts, HoldsPart}
+use Rattle.wu_parts.specs.Holdings.{HoldParts}
 use Rattle.wu_parts.specs.Units.{IsRunning}
 use Rattle.wu_parts.specs.Working.{TellsJobs}
 use Rattle.wu_parts.proofs.HeldParts.{parts_below, put_elsewhere, put_there}
-use Rattle.wu_image.specs.Images.{HoldsText, IsImage}
+use Rattle.wu_image.specs.Images.{HoldsText}
 use Rattle.wu_image.specs.Images.{HoldsPart as HoldsSavedPart}
 use Rattle.wu_image.proofs.RuleLemmas.{sum_has}
 use Rattle.wu_engine.specs.States.{State, Texts, IsState, flushed_state, rested_state, saved_state, text_in}
-use Rattle.wu_engine.specs.Records.{Records, records_of}
+use Rattle.wu_engine.specs.Records.{records_of}
 use Rattle.wu_engine.specs.Stands.{HoldsTexts, KeepsBlocks, KeepsJob}
 use Rattle.wu_engine.specs.Saving.{checkpoint_blob}
 use Rattle.wu_engine.specs.SavedStores.{recorded_files}

@@ -1,9 +1,9 @@
 -- What a save does, from what its calls do.
-use Rattle.std.proofs.Common.{◌≡◌, ℕ, ◌+◌, ◌<◌, ◌≤◌, List, [], ◌∷◌, ◌++◌, length, map, take, take_all, get_or, refl, ap, sym, ◌∙◌, subst, arith, ⊎_elim}
+use Rattle.std.proofs.Common.{◌≡◌, ℕ, ◌+◌, ◌<◌, List, [], ◌∷◌, ◌++◌, length, map, take, take_all, get_or, ap, sym, ◌∙◌, subst, arith, ⊎_elim}
 use Rattle.std.specs.Prelude.{Option, None, Some, option_map, slice_get, unwrap_or}
 use Rattle.std.proofs.lemmas.List.{length_push, take_more}
 use Rattle.std.proofs.lemmas.Option.{slice_get-get_or, slice_get_cases, slice_get_within}
-use Rattle.wu_outside.specs.Content.{Content, with_blob, with_root}
+use Rattle.wu_outside.specs.Content.{with_blob, with_root}
 use Rattle.wu_outside.specs.Crash.{Moments, Put, SetRoot, settle, try_change}
 use Rattle.wu_layout.specs.Postings.{Posting, live_of}
 use Rattle.wu_tree.specs.FileSystems.{FileSystem}
