@@ -40,5 +40,9 @@ pub mod SavedTexts
 pub mod SavedBlobs
 pub mod SavedSpans
 pub mod SavedLayouts
+pub mod SavedContents
+pub mod SavedSteps
+pub mod SavedStates
+pub mod SavedEngines
 pub mod NamedBlobs
 pub mod AddedBlobs

@@ -20,3 +20,4 @@ pub mod Naming
 pub mod Indexing
 pub mod Units
 pub mod Finding
+pub mod SavedStores

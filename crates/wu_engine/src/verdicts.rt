@@ -1,6 +1,5 @@
 //! What the engine answers to an event.
 
-
 use wu_tree::Refusal;
 
 /// What became of an event.

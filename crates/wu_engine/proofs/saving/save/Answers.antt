@@ -1,0 +1,82 @@
+use Rattle.std.proofs.Common.{◌≡◌, ◌∙◌, ◌++◌, ap, arith, inr, rules, subst, sym, length, ℕ, List}
+use Rattle.wu_parts.specs.Contents.{Contents}
+use Rattle.wu_engine.specs.Saving.{checkpoint_blob, removed_by_save}
+use Rattle.wu_engine.specs.SavedStores.{SomeDone, remove_blob}
+use Rattle.wu_engine.proofs.SavedContents.{all_some, named_checkpoint, named_removed, named_rooted}
+use Rattle.wu_engine.proofs.SavedSteps.{saves_from, stale_stays}
+use Rattle.wu_engine.proofs.SoundLemmas.{numbers_left}
+use Rattle.wu_engine.proofs.saving.save.Goals as goal
+
+pub returns-in_err-put_checkpoint-clause-elsewhere : goal.returns-in_err-put_checkpoint-clause-elsewhere
+returns-in_err-put_checkpoint-clause-elsewhere g c =
+    let holds = g.D.Store.holds in
+    let old = c.args.parts.now in
+    let numbers = numbers_left old c.flush.new.self c.in_ok-flush.ensures.changes in
+    let number = c.draw_blob-blob.ensures.blob in
+    named_checkpoint old.next_blob (removed_by_save old c.args.checkpoint) (holds c.args.store.now) (holds c.flush.new.store)
+    c.flush.ensures.elsewhere c.draw_blob-blob.result (omega (arith, number, numbers.least)) (omega (arith, number, numbers.most))
+    (holds c.put_checkpoint.new.store) c.put_checkpoint.ensures.elsewhere
+
+pub returns-in_err-set_root-clause-elsewhere : goal.returns-in_err-set_root-clause-elsewhere
+returns-in_err-set_root-clause-elsewhere g c =
+    let holds = g.D.Store.holds in
+    let old = c.args.parts.now in
+    let numbers = numbers_left old c.flush.new.self c.in_ok-flush.ensures.changes in
+    let number = c.draw_blob-blob.ensures.blob in
+    named_rooted old.next_blob (removed_by_save old c.args.checkpoint) (holds c.args.store.now) (holds c.flush.new.store)
+    c.flush.ensures.elsewhere c.draw_blob-blob.result (omega (arith, number, numbers.least)) (omega (arith, number, numbers.most))
+    (holds c.put_checkpoint.new.store) c.put_checkpoint.ensures.elsewhere c.write_root.result (holds c.set_root.new.store)
+    c.in_err-set_root.ensures.failed
+
+pub returns-in_err-remove_unneeded-clause-elsewhere : goal.returns-in_err-remove_unneeded-clause-elsewhere
+returns-in_err-remove_unneeded-clause-elsewhere g c =
+    let holds = g.D.Store.holds in
+    let old = c.args.parts.now in
+    let numbers = numbers_left old c.flush.new.self c.in_ok-flush.ensures.changes in
+    let number = c.draw_blob-blob.ensures.blob in
+    let stale : c.stale.result.now ≡ old.stale =
+    c.stale.ensures ∙ ap (λ (p : Contents). p.stale) c.draw_blob-blob.ensures.next
+    ∙ stale_stays old c.flush.new.self c.in_ok-flush.ensures.changes in
+    named_removed old.next_blob (removed_by_save old c.args.checkpoint) (holds c.args.store.now) (holds c.flush.new.store)
+    c.flush.ensures.elsewhere c.draw_blob-blob.result (omega (arith, number, numbers.least)) (omega (arith, number, numbers.most))
+    (holds c.put_checkpoint.new.store) c.put_checkpoint.ensures.elsewhere c.write_root.result (holds c.set_root.new.store)
+    (inr c.in_ok-set_root.ensures.set) (holds c.remove_unneeded.new.store)
+    (subst (λ (l : List ℕ). SomeDone remove_blob (l ++ checkpoint_blob c.args.checkpoint) (holds c.set_root.new.store)
+    (holds c.remove_unneeded.new.store)) stale c.in_err-remove_unneeded.ensures.failed)
+
+pub returns-clause-elsewhere : goal.returns-clause-elsewhere
+returns-clause-elsewhere g c =
+    let holds = g.D.Store.holds in
+    let old = c.args.parts.now in
+    let numbers = numbers_left old c.flush.new.self c.in_ok-flush.ensures.changes in
+    let number = c.draw_blob-blob.ensures.blob in
+    let stale : c.stale.result.now ≡ old.stale =
+    c.stale.ensures ∙ ap (λ (p : Contents). p.stale) c.draw_blob-blob.ensures.next
+    ∙ stale_stays old c.flush.new.self c.in_ok-flush.ensures.changes in
+    let gone = c.stale.result.now ++ checkpoint_blob c.args.checkpoint in
+    named_removed old.next_blob (removed_by_save old c.args.checkpoint) (holds c.args.store.now) (holds c.flush.new.store)
+    c.flush.ensures.elsewhere c.draw_blob-blob.result (omega (arith, number, numbers.least)) (omega (arith, number, numbers.most))
+    (holds c.put_checkpoint.new.store) c.put_checkpoint.ensures.elsewhere c.write_root.result (holds c.set_root.new.store)
+    (inr c.in_ok-set_root.ensures.set) (holds c.remove_unneeded.new.store)
+    (subst (λ (l : List ℕ). SomeDone remove_blob (l ++ checkpoint_blob c.args.checkpoint) (holds c.set_root.new.store)
+    (holds c.remove_unneeded.new.store)) stale
+    (subst (SomeDone remove_blob gone (holds c.set_root.new.store)) (sym c.in_ok-remove_unneeded.ensures.removed)
+    (all_some remove_blob gone (holds c.set_root.new.store))))
+
+pub returns-clause-saved : goal.returns-clause-saved
+returns-clause-saved g c =
+    let holds = g.D.Store.holds in
+    let moments = g.D.Store.moments in
+    let size : c.len.result ≡ length c.in_ok-bytes.bytes.items = search rules in
+    saves_from c.args.tree.now c.args.space.now c.args.files.now.entries c.args.checkpoint c.draw_blob-blob.result c.args.parts.now
+    c.flush.new.self c.draw_blob-blob.new.self c.clear_stale.new.self (holds c.args.store.now, moments c.args.store.now)
+    (holds c.flush.new.store, moments c.flush.new.store) (holds c.put_checkpoint.new.store, moments c.put_checkpoint.new.store)
+    (holds c.set_root.new.store, moments c.set_root.new.store)
+    (holds c.remove_unneeded.new.store, moments c.remove_unneeded.new.store)
+    c.in_ok-flush.ensures.flushed c.in_ok-flush.ensures.changes c.draw_blob-blob.ensures.blob c.draw_blob-blob.ensures.next
+    c.in_ok-bytes.bytes.items c.deref.result.now c.write_root.result c.len.result c.next.result c.next_blob.result
+    c.in_ok-bytes.ensures c.deref.ensures.value size c.next.ensures c.next_blob.ensures c.write_root.ensures
+    c.in_ok-put_checkpoint.ensures.put c.in_ok-put_checkpoint.ensures.settled
+    c.in_ok-set_root.ensures.set c.in_ok-set_root.ensures.settled
+    c.stale.result.now c.stale.ensures
+    c.in_ok-remove_unneeded.ensures.removed c.in_ok-remove_unneeded.ensures.settled c.clear_stale.ensures
