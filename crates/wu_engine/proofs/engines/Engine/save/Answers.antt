@@ -1,4 +1,5 @@
 use Rattle.std.proofs.Common.{refl}
+use Rattle.wu_engine.proofs.AddedBlobs.{save_draws, save_named}
 use Rattle.wu_engine.proofs.SavedEngines.{gone_saved, image_on, numbers_saved, saved_on, sound_saved}
 use Rattle.wu_engine.proofs.engines.Engine.save.Goals as goal
 
@@ -72,3 +73,13 @@ returns-in-Ok-clause-kept g c =
     let moments = g.D.Store.moments in
     (numbers_saved old.tree old.space old.files.entries old.checkpoint c.in-Ok.checkpoint old.parts c.save.new.parts
     (holds c.args.store.now, moments c.args.store.now) (holds c.save.new.store, moments c.save.new.store) c.in-Ok.ensures.saved).kept
+
+pub returns-in-Ok-clause-named : goal.returns-in-Ok-clause-named
+returns-in-Ok-clause-named g c = λ s stands.
+    let old = c.args.self.now in
+    let holds = g.D.Store.holds in
+    let moments = g.D.Store.moments in
+    let now = returns-in-Ok-clause-step g c s stands in
+    save_named s _ _ (holds c.args.store.now) (holds c.save.new.store) stands.index.next_blob now.index.next_blob
+    (save_draws old.tree old.space old.parts old.files.entries s stands.index old.checkpoint c.in-Ok.checkpoint c.save.new.parts
+    (holds c.args.store.now, moments c.args.store.now) (holds c.save.new.store, moments c.save.new.store) c.in-Ok.ensures.saved)
