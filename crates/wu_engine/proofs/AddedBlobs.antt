@@ -16,7 +16,7 @@ use Rattle.wu_parts.specs.Flushing.{Flushes, Told}
 use Rattle.wu_parts.specs.Memory.{Gains, HasPostings, Memory}
 use Rattle.wu_parts.specs.Units.{DoUnits, DoesUnit, GoesOn, IsMade, Vanishes}
 use Rattle.wu_parts.proofs.Gaining.{holds_more}
-use Rattle.wu_engine.specs.Indexing.{Follows, FlushesFull, FlushesIfFull, is_stored, stored_at, terms_after}
+use Rattle.wu_engine.specs.Indexing.{Follows, FlushesFull, FlushesIfFull, is_stored, terms_after}
 use Rattle.wu_engine.specs.Naming.{AddsNamed, IsNamed}
 use Rattle.wu_engine.specs.Records.{Records}
 use Rattle.wu_engine.specs.SavedStores.{Saves, all_done, remove_blob}
