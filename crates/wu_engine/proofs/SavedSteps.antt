@@ -53,6 +53,12 @@ stale_stays old flushed empties =
     (λ made. ap (λ (c : Contents). c.stale) made.2)
     empties
 
+-- the blobs that are removed are those that were no longer needed before the save
+pub stale_drawn : (old flushed drawn : Contents) (stale : List ℕ) → stale ≡ drawn.stale → drawn ≡ with_drawn flushed
+    → EmptiesMemory old flushed → stale ≡ old.stale
+stale_drawn old flushed drawn stale is drew empties =
+    is ∙ ap (λ (c : Contents). c.stale) drew ∙ stale_stays old flushed empties
+
 pub saves_from : (tree : FileSystem) (space : Addresses) (files : Records) (checkpoint blob : ℕ) (old flushed drawn new : Contents)
     (before between put rooted after : Told)
     → ((low high : ℕ) (postings : List Posting) → HasPostings low high old.memory postings
@@ -71,8 +77,8 @@ pub saves_from : (tree : FileSystem) (space : Addresses) (files : Records) (chec
     → after.1 ≡ all_done try_removal (stale ++ checkpoint_blob checkpoint) rooted.1
     → new ≡ record drawn { stale = [] }
     → Saves tree space files checkpoint blob old new before after
-saves_from tree space files checkpoint blob old flushed drawn new before between put rooted after flush changes number drew bytes written root
-    size address next_blob spelled wrote sized addressed numbered root_spelled put_is put_settled rooted_is rooted_settled stale stale_is
+saves_from tree space files checkpoint blob old flushed drawn new before between put rooted after flush changes number drew bytes written
+    root size address next_blob spelled wrote sized addressed numbered root_spelled put_is put_settled rooted_is rooted_settled stale stale_is
     removed removed_settled cleared =
     let gone : List ℕ = removed_by_save flushed checkpoint in
     let stale_same : stale ≡ flushed.stale = stale_is ∙ ap (λ (c : Contents). c.stale) drew in

@@ -1,9 +1,8 @@
-use Rattle.std.proofs.Common.{◌≡◌, ◌∙◌, ◌++◌, ap, arith, inr, rules, subst, sym, length, ℕ, List}
-use Rattle.wu_parts.specs.Contents.{Contents}
+use Rattle.std.proofs.Common.{◌≡◌, ◌++◌, arith, inr, rules, subst, sym, length, ℕ, List}
 use Rattle.wu_engine.specs.Saving.{checkpoint_blob, removed_by_save}
 use Rattle.wu_engine.specs.SavedStores.{SomeDone, remove_blob}
 use Rattle.wu_engine.proofs.SavedContents.{all_some, named_checkpoint, named_removed, named_rooted}
-use Rattle.wu_engine.proofs.SavedSteps.{saves_from, stale_stays}
+use Rattle.wu_engine.proofs.SavedSteps.{saves_from, stale_drawn}
 use Rattle.wu_engine.proofs.SoundLemmas.{numbers_left}
 use Rattle.wu_engine.proofs.saving.save.Goals as goal
 
@@ -35,8 +34,8 @@ returns-in_err-remove_unneeded-clause-elsewhere g c =
     let numbers = numbers_left old c.flush.new.self c.in_ok-flush.ensures.changes in
     let number = c.draw_blob-blob.ensures.blob in
     let stale : c.stale.result.now ≡ old.stale =
-    c.stale.ensures ∙ ap (λ (p : Contents). p.stale) c.draw_blob-blob.ensures.next
-    ∙ stale_stays old c.flush.new.self c.in_ok-flush.ensures.changes in
+    stale_drawn old c.flush.new.self c.draw_blob-blob.new.self c.stale.result.now c.stale.ensures c.draw_blob-blob.ensures.next
+    c.in_ok-flush.ensures.changes in
     named_removed old.next_blob (removed_by_save old c.args.checkpoint) (holds c.args.store.now) (holds c.flush.new.store)
     c.flush.ensures.elsewhere c.draw_blob-blob.result (omega (arith, number, numbers.least)) (omega (arith, number, numbers.most))
     (holds c.put_checkpoint.new.store) c.put_checkpoint.ensures.elsewhere c.write_root.result (holds c.set_root.new.store)
@@ -51,8 +50,8 @@ returns-clause-elsewhere g c =
     let numbers = numbers_left old c.flush.new.self c.in_ok-flush.ensures.changes in
     let number = c.draw_blob-blob.ensures.blob in
     let stale : c.stale.result.now ≡ old.stale =
-    c.stale.ensures ∙ ap (λ (p : Contents). p.stale) c.draw_blob-blob.ensures.next
-    ∙ stale_stays old c.flush.new.self c.in_ok-flush.ensures.changes in
+    stale_drawn old c.flush.new.self c.draw_blob-blob.new.self c.stale.result.now c.stale.ensures c.draw_blob-blob.ensures.next
+    c.in_ok-flush.ensures.changes in
     let gone = c.stale.result.now ++ checkpoint_blob c.args.checkpoint in
     named_removed old.next_blob (removed_by_save old c.args.checkpoint) (holds c.args.store.now) (holds c.flush.new.store)
     c.flush.ensures.elsewhere c.draw_blob-blob.result (omega (arith, number, numbers.least)) (omega (arith, number, numbers.most))
