@@ -1,13 +1,13 @@
 -- Each blob that a call adds to a store has a number that the call drew, and the state names it afterwards.
-use Rattle.std.proofs.Common.{◌≡◌, ◌⊎◌, inl, inr, ⊎_elim, ℕ, zero, suc, ◌+◌, ◌<◌, ◌≤◌, Bool, true, false, cond, List, [], ◌∷◌, ◌++◌, length, map, refl, ap, sym, ◌∙◌, subst, arith, length-append}
+use Rattle.std.proofs.Common.{◌≡◌, ◌⊎◌, inl, inr, ⊎_elim, ℕ, zero, suc, ◌+◌, ◌<◌, ◌≤◌, ◌==◌, Bool, true, false, cond, List, [], ◌∷◌, ◌++◌, length, map, refl, ap, sym, ◌∙◌, subst, arith}
 use Rattle.std.specs.Prelude.{⊤, Option, Some, None, IsSome, nat_le, option_map}
-use Rattle.std.proofs.lemmas.Bool.{cases_eq, ne_eqb}
+use Rattle.std.proofs.lemmas.Bool.{cases_eq, false≢true, ne_eqb}
 use Rattle.wu_outside.specs.declared.ranges.ReadRange.{ReadRange}
-use Rattle.wu_outside.specs.Content.{Content, with_blob}
+use Rattle.wu_outside.specs.Content.{Content, with_blob, with_root}
 use Rattle.wu_layout.specs.Postings.{Posting, Ascend, live_of, placed_from}
 use Rattle.wu_layout.specs.Layouts.{Layout, stored_in}
 use Rattle.wu_layout.proofs.HomeLemmas.{postings_split}
-use Rattle.wu_layout.proofs.PostingLemmas.{Ascend-append, Ascend-placed, Ascend-split, length-placed}
+use Rattle.wu_layout.proofs.PostingLemmas.{Ascend-split}
 use Rattle.wu_tree.specs.declared.events.Effect.{Effect}
 use Rattle.wu_tree.specs.FileSystems.{FileSystem}
 use Rattle.wu_space.specs.Addresses.{Addresses, Ranges}
@@ -15,14 +15,16 @@ use Rattle.wu_parts.specs.Contents.{Contents}
 use Rattle.wu_parts.specs.Flushing.{Flushes, Told}
 use Rattle.wu_parts.specs.Memory.{Gains, HasPostings, Memory}
 use Rattle.wu_parts.specs.Units.{DoUnits, DoesUnit, GoesOn, IsMade, Vanishes}
-use Rattle.wu_parts.proofs.Gaining.{holds_more}
-use Rattle.wu_engine.specs.Indexing.{Follows, FlushesFull, FlushesIfFull, is_stored, stored_at, terms_after}
+use Rattle.wu_engine.specs.Indexing.{Follows, FlushesIfFull, is_stored, terms_after}
 use Rattle.wu_engine.specs.Naming.{AddsNamed, IsNamed}
 use Rattle.wu_engine.specs.Records.{Records}
+use Rattle.wu_engine.specs.SavedStores.{Saves, all_done, remove_blob}
+use Rattle.wu_engine.specs.Saving.{removed_by_save}
 use Rattle.wu_engine.specs.Stands.{IsEngineOf}
-use Rattle.wu_engine.specs.States.{State}
+use Rattle.wu_engine.specs.States.{State, IsState, saved_state}
 use Rattle.wu_engine.proofs.FlushLemmas.{memory_held}
-use Rattle.wu_engine.proofs.NamedBlobs.{KeepsNames}
+use Rattle.wu_engine.proofs.IndexLemmas.{postings_gained}
+use Rattle.wu_engine.proofs.NamedBlobs.{KeepsNames, save_names}
 
 -- each blob that is there afterwards was there before, or its number is from the low one on and below the high one
 abbrev pub AddsFrom : ℕ → ℕ → Option Content → Option Content → Type 0
@@ -121,24 +123,10 @@ memory_gained : (fs : FileSystem) (space : Addresses) (parts : Contents) (files 
 memory_gained fs space parts files s index terms memory gained =
     let all : Ascend 0 s.layout.next (stored_in s.layout.parts ++ s.layout.memory) =
     subst (Ascend 0 s.layout.next) (postings_split s.layout.parts s.layout.memory) index.is_state.layout.addresses.ascend in
-    let two = Ascend-split 0 s.layout.next (stored_in s.layout.parts) s.layout.memory all in
-    let below : Ascend two.0 space.next s.layout.memory =
-    subst (λ (high : ℕ). Ascend two.0 high s.layout.memory) (sym index.next) two.1.1 in (
+    let two = Ascend-split 0 s.layout.next (stored_in s.layout.parts) s.layout.memory all in (
       two.0,
-      record {
-        addresses = holds_more space.next terms parts.memory memory s.layout.memory gained index.memory;
-        stored =
-            omega (
-              arith,
-              gained.stored,
-              index.stored,
-              length-append s.layout.memory (placed_from space.next terms),
-              length-placed space.next terms,
-            );
-        ascend =
-            Ascend-append two.0 space.next (space.next + length terms) s.layout.memory (placed_from space.next terms) below
-            (Ascend-placed space.next terms);
-      },
+      postings_gained two.0 s.layout.next space.next terms parts.memory memory s.layout.memory (omega (arith, index.next)) gained
+          (record { addresses = index.memory; stored = index.stored; ascend = two.1.1 }),
     )
 
 stored_draws : (b : Bool) (text : List ℕ) (low high : ℕ) (before after : Option Content) → high ≡ low + (cond b 1 0)
@@ -220,3 +208,60 @@ draws_named old now low high before after from to names draws =
 pub none_added : (layout : Layout) (told : Option Content) → AddsNamed layout told told
 none_added layout None = tt
 none_added layout (Some content) = λ blob some. inl some
+
+-- ---- saves
+
+-- setting the root adds no blob
+root_adds : (low : ℕ) (root : List ℕ) (told : Option Content) → AddsFrom low low told (option_map (with_root root) told)
+root_adds low root None = tt
+root_adds low root (Some content) = λ blob some. inl some
+
+-- nor does removing one
+removal_adds : (low gone : ℕ) (told : Option Content) → AddsFrom low low told (option_map (remove_blob gone) told)
+removal_adds low gone None = tt
+removal_adds low gone (Some content) = λ blob.
+    elim (blob == gone) as
+    (λ b. IsSome (cond b None (content.blobs blob)) → IsSome (content.blobs blob) ⊎ ((low ≤ blob) × (blob < low))) [
+      | true ↦ λ some. absurd (false≢true some)
+      | false ↦ λ some. inl some
+    ]
+
+-- or several
+removals_draw : (low : ℕ) (gone : List ℕ) (told : Option Content) → Draws low low told (all_done remove_blob gone told)
+removals_draw low [] told = draws_none low low told told refl refl
+removals_draw low (blob ∷ blobs) told =
+    let once : Option Content = option_map (remove_blob blob) told in
+    draws_then low low low told once (all_done remove_blob blobs once)
+    (record { rises = omega arith; added = removal_adds low blob told })
+    (removals_draw low blobs once)
+
+-- the checkpoint is put, and then the root is set and blobs are removed
+checkpoint_draws : (low high : ℕ) (bytes root gone : List ℕ) (told after : Option Content) → high ≡ low + 1
+    → after ≡ all_done remove_blob gone (option_map (with_root root) (option_map (with_blob low (Some bytes)) told))
+    → Draws low high told after
+checkpoint_draws low high bytes root gone told after up same =
+    let put : Option Content = option_map (with_blob low (Some bytes)) told in
+    let rooted : Option Content = option_map (with_root root) put in
+    subst (Draws low high told) (sym same)
+    (draws_then low high high told put (all_done remove_blob gone rooted) (draws_put low high bytes told put up refl)
+    (draws_then high high high put rooted (all_done remove_blob gone rooted)
+    (record { rises = omega arith; added = root_adds high root put })
+    (removals_draw high gone rooted)))
+
+-- a save adds only blobs that it draws: a part's, if it makes one, and the checkpoint's
+pub save_draws : (fs : FileSystem) (space : Addresses) (parts : Contents) (files : Records) (s : State)
+    → IsEngineOf fs space parts files s → (checkpoint blob : ℕ) (parts_now : Contents) (before after : Told)
+    → Saves fs space files checkpoint blob parts parts_now before after
+    → Draws parts.next_blob parts_now.next_blob before.0 after.0
+save_draws fs space parts files s index checkpoint blob parts_now before after saves =
+    draws_then parts.next_blob saves.flushed.next_blob parts_now.next_blob before.0 saves.between.0 after.0
+    (flushed_draws fs space parts files s index saves.flushed before saves.between saves.flush)
+    (checkpoint_draws saves.flushed.next_blob parts_now.next_blob saves.bytes saves.root (removed_by_save saves.flushed checkpoint)
+    saves.between.0 after.0 (ap (λ (c : Contents). c.next_blob) saves.contents) saves.stored)
+
+-- a save names each blob that it draws
+pub save_named : (s : State) → IsState s → (low high : ℕ) (before after : Option Content) → low ≡ s.layout.blob
+    → high ≡ (saved_state s).layout.blob → Draws low high before after → AddsNamed (saved_state s).layout before after
+save_named s is low high before after from to draws =
+    added_named (saved_state s).layout low high before after
+    (λ number l h. save_names s is number (omega (arith, from, l)) (omega (arith, to, h))) draws.added

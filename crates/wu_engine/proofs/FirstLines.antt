@@ -5,6 +5,7 @@ use Rattle.std.specs.List.{flat_map}
 use Rattle.std.proofs.lemmas.List.{length-take, drop_more, take-map}
 use Rattle.wu_outside.specs.Content.{Content}
 use Rattle.wu_outside.specs.declared.ranges.ReadRange.{ReadRange}
+use Rattle.wu_lists.proofs.Asking.{ranges-none}
 use Rattle.wu_ask.specs.declared.FindLine.{FindLine}
 use Rattle.wu_ask.specs.Questions.{Question, Counting, Ranking, ListingPaths}
 use Rattle.wu_base.specs.declared.addresses.Extent.{Extent}
@@ -33,7 +34,7 @@ first_of_both (suc n) (x ∷ xs) ys =
     ∙ sym (ap (λ (m : ℕ). x ∷ (take n xs ++ take m ys)) e)
 
 -- the file of this place comes before those that are left
-at_place : (view : List Seen) (i : ℕ) (file : Seen) → i < length view → file ≡ get_or view i file → drop i view ≡ file ∷ drop (i + 1) view
+pub at_place : (view : List Seen) (i : ℕ) (file : Seen) → i < length view → file ≡ get_or view i file → drop i view ≡ file ∷ drop (i + 1) view
 at_place view i file within is = drop_more view i file within ∙ ap (λ (f : Seen). f ∷ drop (i + 1) view) (sym is)
 
 module _ (k i : ℕ) (view : List Seen) (file : Seen) (within : i < length view) (is : file ≡ get_or view i file)
@@ -118,15 +119,11 @@ no_texts hits text (file ∷ files) =
     let still : 0 - hits file ≡ 0 = omega arith in
     ap₂ (λ (m n : ℕ). cond (nat_lt 0 m) (text file) [] ++ texts_shown hits text n files) none still ∙ no_texts hits text files
 
-nothing_added : (old : Option (List ReadRange)) → option_map (λ ranges. ranges ++ []) old ≡ old
-nothing_added None = refl
-nothing_added (Some ranges) = ap (λ (rs : List ReadRange). Some rs) (append-nil ranges)
-
 -- what reads nothing leaves what was read
 pub none_read : (s : State) (uid : ℕ) (question : Question) (old : Option (List ReadRange)) → texts_read s uid question ≡ []
     → old ≡ option_map (λ ranges. ranges ++ texts_read s uid question) old
 none_read s uid question old none =
-    sym (ap (λ (texts : List ReadRange). option_map (λ (ranges : List ReadRange). ranges ++ texts) old) none ∙ nothing_added old)
+    sym (ap (λ (texts : List ReadRange). option_map (λ (ranges : List ReadRange). ranges ++ texts) old) none ∙ sym (ranges-none old))
 
 pub none_counted : (s : State) (uid : ℕ) (region : Region) → texts_read s uid (Counting region) ≡ []
 unfolding texts_read
@@ -156,7 +153,7 @@ pub texts_done : (k : ℕ) (shown : List FindLine) (files : List Seen) (hits : S
     (now all : Option (List ReadRange)) → IsEnough k shown files
     → option_map (λ ranges. ranges ++ texts_shown hits text (k - length shown) files) now ≡ all → now ≡ all
 texts_done k shown files hits text now all enough is =
-    sym (nothing_added now)
+    ranges-none now
     ∙ ap (λ (texts : List ReadRange). option_map (λ (ranges : List ReadRange). ranges ++ texts) now) (sym (nothing enough)) ∙ is where
       nothing : IsEnough k shown files → texts_shown hits text (k - length shown) files ≡ []
       nothing (inl full) = ap (λ (n : ℕ). texts_shown hits text n files) full ∙ no_texts hits text files

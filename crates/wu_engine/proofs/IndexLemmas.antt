@@ -1,13 +1,15 @@
 -- What an event makes of the space of addresses and of the postings.
-use Rattle.std.proofs.Common.{◌≡◌, ℕ, zero, suc, ◌+◌, ◌<◌, ◌==◌, Bool, cond, List, ◌++◌, length, refl, ap, sym, ◌∙◌, subst, arith, append_assoc, length-append}
+use Rattle.std.proofs.Common.{◌≡◌, ℕ, zero, suc, ◌+◌, ◌<◌, ◌≤◌, ◌==◌, Bool, cond, List, ◌++◌, length, refl, ap, sym, ◌∙◌, subst, arith, append_assoc, length-append}
 use Rattle.std.specs.Prelude.{Option, Some, None}
 use Rattle.std.proofs.lemmas.Bool.{ne_eqb}
 use Rattle.wu_token.specs.Tokens.{tokens_of}
-use Rattle.wu_layout.specs.Postings.{addresses_of, placed_from}
+use Rattle.wu_layout.specs.Postings.{Posting, addresses_of, placed_from}
 use Rattle.wu_layout.proofs.Fetches.{placed-append}
+use Rattle.wu_layout.proofs.PostingLemmas.{Ascend-append, Ascend-below, Ascend-placed, length-placed}
 use Rattle.wu_layout.proofs.TermLemmas.{addresses_of-append}
 use Rattle.wu_space.specs.Addresses.{Addresses}
-use Rattle.wu_parts.specs.Memory.{Memory, held, Gains}
+use Rattle.wu_parts.specs.Memory.{Gains, HasPostings, Memory, held}
+use Rattle.wu_parts.proofs.Gaining.{holds_more}
 use Rattle.wu_engine.specs.Indexing.{terms_given, with_file, without_file}
 
 -- a text has a token or more
@@ -49,6 +51,19 @@ module _ (start : ℕ) (first second : List (List ℕ)) where
         subst (λ (n : ℕ). new.end ≡ cond (n == 0) old.end (start + n)) (sym (length-append first second))
         (end_twice old.end mid.end new.end (length first) (length second) g.end h.end);
   }
+
+-- memory has the postings that it had, and those of the terms
+pub postings_gained : (low high next : ℕ) (terms : List (List ℕ)) (old new : Memory) (postings : List Posting) → high ≤ next
+    → Gains next terms old new → HasPostings low high old postings
+    → HasPostings low (next + length terms) new (postings ++ placed_from next terms)
+postings_gained low high next terms old new postings below gained has = record {
+  addresses = holds_more next terms old new postings gained has.addresses;
+  stored =
+      omega (arith, gained.stored, has.stored, length-append postings (placed_from next terms), length-placed next terms);
+  ascend =
+      Ascend-append low next (next + length terms) postings (placed_from next terms) (Ascend-below low high next postings below has.ascend)
+      (Ascend-placed next terms);
+}
 
 -- ---- the next address
 

@@ -141,7 +141,7 @@ drawn-without : (o : Option ℕ) (layout : Layout) → (layout_without o layout)
 drawn-without None layout = refl
 drawn-without (Some ino) layout = refl
 
-none-stored : (o : Option ℕ) → is_stored o [] ≡ false
+pub none-stored : (o : Option ℕ) → is_stored o [] ≡ false
 none-stored None = refl
 none-stored (Some ino) = refl
 

@@ -13,6 +13,7 @@ pub mod HeldParts
 pub mod FlushLemmas
 pub mod StandLemmas
 pub mod WorkedStates
+pub mod WorkReads
 pub mod Sizes
 pub mod LeftStores
 pub mod Asking
@@ -36,6 +37,8 @@ pub mod FoundLines
 pub mod FirstLines
 pub mod QueryReads
 pub mod QueryStands
+pub mod PermittedBlocks
+pub mod PermittedTexts
 pub mod SavedTexts
 pub mod SavedBlobs
 pub mod SavedSpans
@@ -45,7 +48,15 @@ pub mod AddedBlobs
 pub mod OpenedParts
 pub mod OpenedFiles
 pub mod OpenedStates
+pub mod BrokenBlobs
+pub mod RightJobs
+pub mod GoingBlobs
+pub mod GoingUnits
+pub mod GoingRecords
+pub mod GoingEvents
 pub mod SavedContents
 pub mod SavedSteps
 pub mod SavedStates
 pub mod SavedEngines
+pub mod GoingSaves
+pub mod GoingAtFirst

@@ -1,6 +1,6 @@
 -- No step leaves a blob without a name: each that was drawn is named by a text, a part, the checkpoint, or as one that is no longer needed.
-use Rattle.std.proofs.Common.{◌≡◌, ◌⊎◌, inl, inr, ℕ, zero, suc, ◌+◌, ◌<◌, ◌≤◌, ◌==◌, Bool, true, false, cond, if◌then◌else◌, List, [], ◌∷◌, ◌++◌, length, drop, map, count_by, Option, None, Some, is_some, refl, ap, sym, ◌∙◌, subst, ⊎_elim, arith}
-use Rattle.std.specs.Prelude.{⊤, IsSome, nat_le}
+use Rattle.std.proofs.Common.{◌≡◌, inl, inr, ℕ, zero, suc, ◌+◌, ◌<◌, ◌≤◌, ◌==◌, Bool, true, false, cond, if◌then◌else◌, List, [], ◌∷◌, ◌++◌, length, drop, map, count_by, Option, None, Some, is_some, refl, ap, sym, ◌∙◌, subst, ⊎_elim, arith}
+use Rattle.std.specs.Prelude.{IsSome, nat_le}
 use Rattle.std.specs.List.{AllByRecursion}
 use Rattle.std.specs.Ordering.{nat_cmp}
 use Rattle.std.specs.List.Sorted.{IsStrictlySortedBy}
@@ -18,14 +18,14 @@ use Rattle.wu_tree.proofs.EffectLemmas.{effects_tell_files}
 use Rattle.wu_layout.specs.Postings.{Posting, live_of}
 use Rattle.wu_layout.specs.Layouts.{FileEntry, Job, Layout, Part, Text, entry_of, parts_after, parts_before, parts_taken, ranges_of, stored_in}
 use Rattle.wu_layout.specs.Invariants.{times_named}
-use Rattle.wu_layout.specs.Steps.{flush, flush_if_full, flushed, job_of, made_generation, place, release, replaced, text_blob, unit, unit_of, with_terms_left, work}
+use Rattle.wu_layout.specs.Steps.{flush, flush_if_full, flushed, job_of, made_generation, place, release, replaced, rest, text_blob, unit, unit_of, with_terms_left, work}
 use Rattle.wu_layout.proofs.BlobLemmas.{count-append, count-cons, once, once_other, once_same}
 use Rattle.wu_layout.proofs.EntryLemmas.{none_after_removal}
 use Rattle.wu_layout.proofs.HomeLemmas.{parts_split}
 use Rattle.wu_layout.proofs.TextLemmas.{entry_for}
 use Rattle.wu_parts.specs.Contents.{Contents}
 use Rattle.wu_image.proofs.RuleLemmas.{sum_of_map}
-use Rattle.wu_engine.specs.Naming.{AddsNamed, IsNamed}
+use Rattle.wu_engine.specs.Naming.{AddsNamed, HasNoStray, IsNamed}
 use Rattle.wu_engine.specs.Saving.{AreRemoved, checkpoint_blob, removed_by_save}
 use Rattle.wu_engine.specs.States.{State, IsState, after_event, flushed_state, indexed, layout_after, layout_with, layout_without, saved_state, worked_state}
 use Rattle.wu_engine.proofs.FileChanges.{ChangesFiles, changes}
@@ -34,10 +34,14 @@ use Rattle.wu_engine.proofs.StateLayouts.{left_kept, made_absent, made_kept}
 
 -- ---- what names a blob
 
+-- something of the layout has this number
+abbrev IsCounted : Layout → ℕ → Type 0
+IsCounted layout number = 0 < times_named number layout.files layout.parts layout.check layout.stale
+
 -- each blob that is drawn on the way from one layout to another is named by that, and each that was named
 record NamesOn (before after : Layout) : Type 0 where
-  drawn : (number : ℕ) → 0 < number → before.blob ≤ number → number < after.blob → IsNamed after number
-  kept : (number : ℕ) → 0 < number → IsNamed before number → IsNamed after number
+  drawn : (number : ℕ) → 0 < number → before.blob ≤ number → number < after.blob → IsCounted after number
+  kept : (number : ℕ) → 0 < number → IsCounted before number → IsCounted after number
 
 names_then : (before middle after : Layout) → NamesOn before middle → NamesOn middle after → NamesOn before after
 names_then before middle after first second = record {
@@ -50,8 +54,8 @@ names_then before middle after first second = record {
 }
 
 -- where no blob is drawn, and the same are named
-names_same : (before after : Layout) → after.blob ≡ before.blob → ((number : ℕ) → 0 < number → IsNamed before number → IsNamed after number)
-    → NamesOn before after
+names_same : (before after : Layout) → after.blob ≡ before.blob
+    → ((number : ℕ) → 0 < number → IsCounted before number → IsCounted after number) → NamesOn before after
 names_same before after same kept = record {
   drawn = λ number l from to. absurd (omega (arith, same, from, to));
   kept = kept;
@@ -302,12 +306,14 @@ names_event flush_at s event text is =
 -- The blobs that were drawn on the way are named, and so are those that were named before.
 pub record KeepsNames (before after : Layout) : Type 0 where
   pub drawn : (number : ℕ) → before.blob ≤ number → number < after.blob → IsNamed after number
-  pub kept : (number : ℕ) → 0 < number → IsNamed before number → IsNamed after number
+  pub kept : (number : ℕ) → IsNamed before number → IsNamed after number
 
 keeps : (s : State) (after : Layout) → IsState s → NamesOn s.layout after → KeepsNames s.layout after
 keeps s after is names = record {
-  drawn = λ number from to. names.drawn number (omega (arith, is.layout.blobs.positive, from)) from to;
-  kept = names.kept;
+  drawn = λ number from to.
+      let positive : 0 < number = omega (arith, is.layout.blobs.positive, from) in
+      (positive, names.drawn number positive from to);
+  kept = λ number named. (named.0, names.kept number named.0 named.1);
 }
 
 pub event_names : (flush_at : ℕ) (s : State) (event : Event) (text : List ℕ) → IsState s
@@ -321,62 +327,71 @@ pub work_names : (n : ℕ) (s : State) → IsState s → KeepsNames s.layout (wo
 work_names n s is = keeps s (work n s.layout) is (names_work n s.layout)
 
 -- a save names the blobs that it draws: the part's, and the checkpoint's
-pub save_names : (s : State) (number : ℕ) → s.layout.blob ≤ number → number < (saved_state s).layout.blob
+pub save_names : (s : State) → IsState s → (number : ℕ) → s.layout.blob ≤ number → number < (saved_state s).layout.blob
     → IsNamed (saved_state s).layout number
-save_names s number from to = drawn_by_save (live_of (ranges_of s.layout.files) s.layout.memory) s.layout number from to
+save_names s is number from to = (
+  omega (arith, is.layout.blobs.positive, from),
+  drawn_by_save (live_of (ranges_of s.layout.files) s.layout.memory) s.layout number from to,
+)
 
 -- ---- no stray blobs
 
--- Of a store that began as the first content each blob is named by the state, or it was there at first and the state of then didn't name it.
--- The blob 0 is none of an index's.
-abbrev pub NoStray : State → Option Content → State → Option Content → Type 0
-NoStray start None s now = ⊤
-NoStray start (Some first) s None = ⊥
-NoStray start (Some first) s (Some now) =
-    (blob : ℕ) → 0 < blob → IsSome (now.blobs blob)
-    → IsNamed s.layout blob ⊎ (IsSome (first.blobs blob) × (IsNamed start.layout blob → ⊥))
-
-pub no_stray_at_first : (start : State) (first : Option Content) → NoStray start first start first
+-- at first a blob is named, or it is one that the first layout doesn't name
+pub no_stray_at_first : (start : Layout) (first : Option Content) → HasNoStray start first start first
 no_stray_at_first start None = tt
-no_stray_at_first start (Some first) = λ blob l some.
+no_stray_at_first start (Some first) = λ blob some.
     ⊎_elim
-    (λ (named : IsNamed start.layout blob). inl named)
-    (λ (none : times_named blob start.layout.files start.layout.parts start.layout.check start.layout.stale ≤ 0).
-    inr (some, λ named. omega (arith, none, named)))
-    (cases_lt 0 (times_named blob start.layout.files start.layout.parts start.layout.check start.layout.stale))
+    (λ (none : blob < 1). inr (some, λ named. omega (arith, none, named.0)))
+    (λ (positive : 1 ≤ blob).
+    ⊎_elim
+    (λ (named : IsCounted start blob). inl (positive, named))
+    (λ (none : times_named blob start.files start.parts start.check start.stale ≤ 0).
+    inr (some, λ named. omega (arith, none, named.1)))
+    (cases_lt 0 (times_named blob start.files start.parts start.check start.stale)))
+    (cases_lt blob 1)
 
--- a step adds only blobs that the state names after it, and what was named before is named after it
-no_stray_then : (start s t : State) (first now after : Option Content)
-    → ((number : ℕ) → 0 < number → IsNamed s.layout number → IsNamed t.layout number) → AddsNamed t.layout now after
-    → NoStray start first s now → NoStray start first t after
-no_stray_then start s t None now after kept adds none = tt
-no_stray_then start s t (Some first) None after kept adds none = absurd none
-no_stray_then start s t (Some first) (Some now) None kept adds none = adds
-no_stray_then start s t (Some first) (Some now) (Some after) kept adds none = λ blob l some.
+-- a step adds only blobs that the layout names after it, and what was named before is named after it
+no_stray_then : (start old new : Layout) (first now after : Option Content)
+    → ((number : ℕ) → IsNamed old number → IsNamed new number) → AddsNamed new now after
+    → HasNoStray start first old now → HasNoStray start first new after
+no_stray_then start old new None now after kept adds none = tt
+no_stray_then start old new (Some first) None after kept adds none = absurd none
+no_stray_then start old new (Some first) (Some now) None kept adds none = adds
+no_stray_then start old new (Some first) (Some now) (Some after) kept adds none = λ blob some.
     ⊎_elim
     (λ there.
     ⊎_elim
-    (λ (named : IsNamed s.layout blob). inl (kept blob l named))
-    (λ (other : IsSome (first.blobs blob) × (IsNamed start.layout blob → ⊥)). inr other)
-    (none blob l there))
-    (λ (named : IsNamed t.layout blob). inl named)
+    (λ (named : IsNamed old blob). inl (kept blob named))
+    (λ (other : IsSome (first.blobs blob) × (IsNamed start blob → ⊥)). inr other)
+    (none blob there))
+    (λ (named : IsNamed new blob). inl named)
     (adds blob some)
 
-pub no_stray_after_event : (start : State) (flush_at : ℕ) (s : State) (event : Event) (text : List ℕ) → IsState s
-    → (first now after : Option Content) → AddsNamed (after_event flush_at s event text).layout now after → NoStray start first s now
-    → NoStray start first (after_event flush_at s event text) after
+pub no_stray_after_event : (start : Layout) (flush_at : ℕ) (s : State) (event : Event) (text : List ℕ) → IsState s
+    → (first now after : Option Content) → AddsNamed (after_event flush_at s event text).layout now after
+    → HasNoStray start first s.layout now → HasNoStray start first (after_event flush_at s event text).layout after
 no_stray_after_event start flush_at s event text is first now after =
-    no_stray_then start s (after_event flush_at s event text) first now after (event_names flush_at s event text is).kept
+    no_stray_then start s.layout (after_event flush_at s event text).layout first now after
+    (event_names flush_at s event text is).kept
 
-pub no_stray_after_flush : (start s : State) → IsState s → (first now after : Option Content)
-    → AddsNamed (flushed_state s).layout now after → NoStray start first s now → NoStray start first (flushed_state s) after
+pub no_stray_after_flush : (start : Layout) (s : State) → IsState s → (first now after : Option Content)
+    → AddsNamed (flushed_state s).layout now after → HasNoStray start first s.layout now
+    → HasNoStray start first (flushed_state s).layout after
 no_stray_after_flush start s is first now after =
-    no_stray_then start s (flushed_state s) first now after (flush_names s is).kept
+    no_stray_then start s.layout (flushed_state s).layout first now after (flush_names s is).kept
 
-pub no_stray_after_work : (start : State) (n : ℕ) (s : State) → IsState s → (first now after : Option Content)
-    → AddsNamed (worked_state n s).layout now after → NoStray start first s now → NoStray start first (worked_state n s) after
+pub no_stray_after_work : (start : Layout) (n : ℕ) (s : State) → IsState s → (first now after : Option Content)
+    → AddsNamed (worked_state n s).layout now after → HasNoStray start first s.layout now
+    → HasNoStray start first (worked_state n s).layout after
 no_stray_after_work start n s is first now after =
-    no_stray_then start s (worked_state n s) first now after (work_names n s is).kept
+    no_stray_then start s.layout (worked_state n s).layout first now after (work_names n s is).kept
+
+-- a job names no blob
+pub no_stray_rested : (start layout : Layout) (first now : Option Content) → HasNoStray start first layout now
+    → HasNoStray start first (rest layout) now
+no_stray_rested start layout None now none = tt
+no_stray_rested start layout (Some first) None none = none
+no_stray_rested start layout (Some first) (Some now) none = none
 
 -- ---- and a save
 
@@ -412,13 +427,14 @@ none_is_there : (o : Option (List ℕ)) → o ≡ None → IsSome o → ⊥
 none_is_there None e some = false≢true some
 none_is_there (Some bytes) e some = absurd cc
 
-pub no_stray_after_save : (start s : State) (contents : Contents) (checkpoint : ℕ) → contents.stale ≡ s.layout.stale
+pub no_stray_after_save : (start : Layout) (s : State) (contents : Contents) (checkpoint : ℕ) → contents.stale ≡ s.layout.stale
     → checkpoint ≡ s.layout.check → (first now after : Option Content) → AddsNamed (saved_state s).layout now after
-    → AreRemoved (removed_by_save contents checkpoint) after → NoStray start first s now → NoStray start first (saved_state s) after
+    → AreRemoved (removed_by_save contents checkpoint) after → HasNoStray start first s.layout now
+    → HasNoStray start first (saved_state s).layout after
 no_stray_after_save start s contents checkpoint stale check None now after adds removed none = tt
 no_stray_after_save start s contents checkpoint stale check (Some first) None after adds removed none = absurd none
 no_stray_after_save start s contents checkpoint stale check (Some first) (Some now) None adds removed none = adds
-no_stray_after_save start s contents checkpoint stale check (Some first) (Some now) (Some after) adds removed none = λ blob l some.
+no_stray_after_save start s contents checkpoint stale check (Some first) (Some now) (Some after) adds removed none = λ blob some.
     let gone : List ℕ = s.layout.stale ++ checkpoint_blob s.layout.check in
     let same : removed_by_save contents checkpoint ≡ gone =
     ap (λ (blobs : List ℕ). blobs ++ checkpoint_blob checkpoint) stale
@@ -433,16 +449,19 @@ no_stray_after_save start s contents checkpoint stale check (Some first) (Some n
     (λ (lost : 0 < count_by (λ other. other == blob) gone).
     absurd (none_is_there (after.blobs blob) (removed_absent after gone blob absent lost) some))
     (λ (left : count_by (λ other. other == blob) gone ≤ 0).
-    inl (kept_by_save (live_of (ranges_of s.layout.files) s.layout.memory) s.layout blob
-    (omega (
-      arith,
-      named,
-      left,
-      count-append (λ (other : ℕ). other == blob) s.layout.stale (checkpoint_blob s.layout.check),
-      checkpoint_count s.layout.check blob l,
-    ))))
+    inl (
+      named.0,
+      kept_by_save (live_of (ranges_of s.layout.files) s.layout.memory) s.layout blob
+          (omega (
+            arith,
+            named.1,
+            left,
+            count-append (λ (other : ℕ). other == blob) s.layout.stale (checkpoint_blob s.layout.check),
+            checkpoint_count s.layout.check blob named.0,
+          )),
+    ))
     (cases_lt 0 (count_by (λ other. other == blob) gone)))
-    (λ (other : IsSome (first.blobs blob) × (IsNamed start.layout blob → ⊥)). inr other)
-    (none blob l there))
+    (λ (other : IsSome (first.blobs blob) × (IsNamed start blob → ⊥)). inr other)
+    (none blob there))
     (λ (named : IsNamed (saved_state s).layout blob). inl named)
     (adds blob some)

@@ -1,10 +1,9 @@
 -- What is found at opening, and the state that an engine stands for then.
-use Rattle.std.proofs.Common.{◌≡◌, ℕ, ◌<◌, true, false, cond, nat_le, List, [], ◌∷◌, ◌++◌, length, refl, ap, sym, ◌∙◌, subst, arith, append_assoc, ◌⊎◌, inl, inr, ⊎_elim}
+use Rattle.std.proofs.Common.{◌≡◌, ℕ, ◌<◌, true, false, cond, nat_le, List, [], ◌∷◌, ◌++◌, length, refl, ap, sym, ◌∙◌, subst, arith, ◌⊎◌, inl, inr, ⊎_elim}
 use Rattle.std.specs.Prelude.{Option, Some, None, IfErr, IfNone, IfOk, IfSome, IsErrAnd, OnErr, OnOk, Result, Ok, Err, option_map}
 use Rattle.std.specs.Ordering.{is_eq, nat_cmp}
 use Rattle.std.specs.List.{AllByRecursion, AllZip}
 use Rattle.std.proofs.lemmas.Bool.{leb-false}
-use Rattle.std.proofs.lemmas.List.{append-nil}
 use Rattle.wu_base.specs.declared.addresses.PartRec.{PartRec}
 use Rattle.wu_base.specs.declared.addresses.Range.{Range}
 use Rattle.wu_base.specs.declared.limits.TheConstants.{BLOBS_SPENT_AT, SPENT_AT}
@@ -19,6 +18,7 @@ use Rattle.wu_space.specs.Addresses.{Addresses, Ranges}
 use Rattle.wu_lists.specs.declared.blocks.Block.{Block}
 use Rattle.wu_lists.specs.Blocks.{bytes_of}
 use Rattle.wu_lists.specs.Keeping.{Kept}
+use Rattle.wu_lists.proofs.Asking.{ranges-none}
 use Rattle.wu_part.specs.Directories.{PartDirectory}
 use Rattle.wu_parts.specs.Contents.{Contents}
 use Rattle.wu_parts.specs.Holdings.{HoldParts}
@@ -44,6 +44,7 @@ use Rattle.wu_engine.specs.Stands.{HoldsTexts, KeepsBlocks, KeepsJob, Stands}
 use Rattle.wu_engine.specs.States.{State, Texts, text_in}
 use Rattle.wu_engine.proofs.FlushLemmas.{no_job, nothing_held, nothing_kept}
 use Rattle.wu_engine.proofs.OpenedParts.{none_broken, opened_held}
+use Rattle.wu_engine.proofs.PermittedBlocks.{reads_joined}
 
 -- ---- the root
 
@@ -151,12 +152,8 @@ checkpoint_broken (Some content) root found roomy h other =
 
 -- ---- reads
 
-nothing_added : (o : Option (List ReadRange)) → o ≡ option_map (λ earlier. earlier ++ []) o
-nothing_added None = refl
-nothing_added (Some read) = ap (λ (r : List ReadRange). Some r) (sym (append-nil read))
-
 pub reads_nothing : (holds : Option Content) (before after : Option (List ReadRange)) → after ≡ before → ReadsAtOpening holds before after
-reads_nothing holds before after same = ([], nothing_read holds, same ∙ nothing_added before)
+reads_nothing holds before after same = ([], nothing_read holds, same ∙ ranges-none before)
   where
     nothing_read : (held : Option Content) → IfSome held (λ content. AllByRecursion (IsOpeningRange content) [])
     nothing_read None = tt
@@ -164,17 +161,11 @@ reads_nothing holds before after same = ([], nothing_read holds, same ∙ nothin
 
 pub opens_nothing : (holds : Option Content) (before after : Option (List ReadRange)) → after ≡ before → IfSome holds (FindsRoot None)
     → IsOpen holds before after
-opens_nothing holds before after same none = ([], nothing_read holds none, same ∙ nothing_added before)
+opens_nothing holds before after same none = ([], nothing_read holds none, same ∙ ranges-none before)
   where
     nothing_read : (held : Option Content) → IfSome held (FindsRoot None) → IfSome held (λ content. Opens content [])
     nothing_read None h = tt
     nothing_read (Some content) h = inl (h, refl)
-
-added_twice : (range : ReadRange) (more : List ReadRange) (o : Option (List ReadRange))
-    → option_map (λ earlier. earlier ++ more) (option_map (λ earlier. earlier ++ range ∷ []) o)
-    ≡ option_map (λ earlier. earlier ++ range ∷ more) o
-added_twice range more None = refl
-added_twice range more (Some read) = ap (λ (r : List ReadRange). Some r) (append_assoc read (range ∷ []) more)
 
 module _ (root : Root) where
   -- only the checkpoint, or nothing
@@ -205,7 +196,7 @@ module _ (root : Root) where
     reads_fronts holds before between after roomy has first later = (
       checkpoint_range root ∷ later.0,
       all_opening holds roomy has later.1,
-      later.2 ∙ (ap (option_map (λ earlier. earlier ++ later.0)) first ∙ added_twice (checkpoint_range root) later.0 before),
+      later.2 ∙ (ap (option_map (λ earlier. earlier ++ later.0)) first ∙ reads_joined before (checkpoint_range root ∷ []) later.0),
     )
       where
         all_opening : (held : Option Content) → IfSome held (λ content. HasOpenRoot content root)
@@ -223,7 +214,7 @@ module _ (root : Root) where
     opens_saved holds before between after directories read roomy has first opened later = (
       checkpoint_range root ∷ read,
       all_open holds roomy has opened,
-      later ∙ (ap (option_map (λ earlier. earlier ++ read)) first ∙ added_twice (checkpoint_range root) read before),
+      later ∙ (ap (option_map (λ earlier. earlier ++ read)) first ∙ reads_joined before (checkpoint_range root ∷ []) read),
     )
       where
         all_open : (held : Option Content) → IfSome held (λ content. HasOpenRoot content root)
@@ -474,7 +465,7 @@ module _ (root : Root) (checkpoint : Checkpoint) (before between : Option Conten
 
   module _ (parts : Contents) (flush_at : ℕ) (first middle last : Option (List ReadRange))
       (loaded : IsLoaded between records flush_at checkpoint.next_blob checkpoint.flushes middle last parts) where
-    its_load : IsLoaded before checkpoint.parts flush_at checkpoint.next_blob checkpoint.flushes middle last parts
+    pub its_load : IsLoaded before checkpoint.parts flush_at checkpoint.next_blob checkpoint.flushes middle last parts
     its_load =
         subst (λ (h : Option Content). IsLoaded h checkpoint.parts flush_at checkpoint.next_blob checkpoint.flushes middle last parts) same
         (subst (λ (rs : List PartRec). IsLoaded between rs flush_at checkpoint.next_blob checkpoint.flushes middle last parts) recorded

@@ -1,6 +1,6 @@
 -- What a query reads, and why it fails.
-use Rattle.std.proofs.Common.{◌≡◌, ℕ, List, [], ◌++◌, refl, sym, ap, subst, inl, inr, append-nil, arith}
-use Rattle.std.specs.Prelude.{Option, None, Some, option_map, zip, Result, IfErr, IsErrAnd}
+use Rattle.std.proofs.Common.{◌≡◌, ℕ, List, [], refl, sym, subst, inl, inr, arith}
+use Rattle.std.specs.Prelude.{Option, zip, Result, IfErr, IsErrAnd}
 use Rattle.wu_base.specs.declared.troubles.Trouble.{Trouble}
 use Rattle.wu_base.specs.declared.troubles.Trouble.TheVariants.{NoMemory}
 use Rattle.wu_outside.specs.Content.{Content}
@@ -12,6 +12,7 @@ use Rattle.wu_frames.specs.declared.Frames.{Frames}
 use Rattle.wu_frames.specs.UserFrames.{AreFrames}
 use Rattle.wu_lists.specs.declared.blocks.Block.{Block}
 use Rattle.wu_lists.specs.Keeping.{Asks, Kept}
+use Rattle.wu_lists.proofs.Asking.{ranges-none}
 use Rattle.wu_parts.specs.Causes.{IsFetchCause}
 use Rattle.wu_parts.specs.Contents.{Contents}
 use Rattle.wu_engine.specs.Causes.{IsDamagedAt, IsDamagedIn}
@@ -37,11 +38,8 @@ blocks_alone question blocks frames contents files holds old new before after no
     are = record { of_files = tt; none = λ h. refl };
     shown = λ live s uid is tells keeps. sym (none s uid);
   };
-  read = nothing after;
-} where
-  nothing : (ranges : Option (List ReadRange)) → ranges ≡ option_map (λ earlier. earlier ++ []) ranges
-  nothing None = refl
-  nothing (Some earlier) = ap (λ (rs : List ReadRange). Some rs) (sym (append-nil earlier))
+  read = ranges-none after;
+}
 
 -- what a fetch answers is damage that the engine may answer
 pub cause_fetched : (files : Records) (contents : Contents) (holds : Option Content) (missing : List Block) (before now : ℕ)

@@ -48,7 +48,7 @@ distinct_by_times (first ∷ numbers) f = (
         )
 
 -- without the zeros a positive number stands as often
-times-positive : (number : ℕ) → 0 < number → (numbers : List ℕ) → times number (filter (nat_lt 0) numbers) ≡ times number numbers
+pub times-positive : (number : ℕ) → 0 < number → (numbers : List ℕ) → times number (filter (nat_lt 0) numbers) ≡ times number numbers
 times-positive number l [] = refl
 times-positive number l (first ∷ numbers) =
     let split = count-cons (λ (other : ℕ). other == number) first numbers in

@@ -20,6 +20,7 @@ use Rattle.wu_image.specs.LayoutRules.{AreLayoutRules}
 use Rattle.wu_image.specs.Roots.{SpellsRoot}
 use Rattle.wu_frames.specs.UserFrames.{Kept}
 use Rattle.wu_engine.specs.declared.engines.Engine.{Engine}
+use Rattle.wu_engine.specs.Naming.{AddsNamed}
 use Rattle.wu_engine.specs.Opening.{HoldsImage}
 use Rattle.wu_engine.specs.Records.{Records}
 use Rattle.wu_engine.specs.Saving.{AreRemoved, checkpoint_blob, removed_by_save}
@@ -27,6 +28,7 @@ use Rattle.wu_engine.specs.SavedStores.{IsSpelledOf, Saves, all_done, recorded_f
 use Rattle.wu_engine.specs.Soundness.{IsSound}
 use Rattle.wu_engine.specs.Stands.{HoldsTexts, IsEngineOf, Stands}
 use Rattle.wu_engine.specs.States.{State, Texts, flushed_state, rested_state, saved_state}
+use Rattle.wu_engine.proofs.AddedBlobs.{save_draws, save_named}
 use Rattle.wu_engine.proofs.FlushLemmas.{IsStored, flush_stands}
 use Rattle.wu_engine.proofs.FlushedStates.{rises-flush}
 use Rattle.wu_engine.proofs.SavedContents.{all_removed, are_removed}
@@ -278,6 +280,12 @@ module _ (old : Engine) (blob : ℕ) (parts : Contents) (s : State) (before afte
       (subst (λ (c : Contents). IsStored (Some after_it) c (saved_state s)) (sym saves.contents)
       (stored_saved old.tree old.space saves.flushed old.files.entries between index told.0 stored few (memory_flushed s.layout)
       saves.bytes saves.root saves.spelled saves.root_spelled))
+
+  -- each blob that it adds is one that the saved state names
+  pub named_on : AddsNamed (saved_state s).layout before.0 after.0
+  named_on =
+      save_named s stands.index.is_state old.parts.next_blob parts.next_blob before.0 after.0 stands.index.next_blob index_now.next_blob
+      (save_draws old.tree old.space old.parts old.files.entries s stands.index old.checkpoint blob parts before after saves)
 
   check_now : blob ≡ (saved_state s).layout.check
   check_now = saves.drawn ∙ index.next_blob

@@ -8,8 +8,6 @@ use Rattle.std.specs.Map.{keys_of}
 use Rattle.std.specs.BTreeMap.{is_at}
 use Rattle.std.proofs.lemmas.Bool.{cases_eq, eq-eqb, ne_eqb}
 use Rattle.wu_base.specs.declared.addresses.PartRec.{PartRec}
-use Rattle.wu_base.specs.declared.addresses.TermList.{TermList}
-use Rattle.wu_base.specs.declared.addresses.Range.{Range}
 use Rattle.wu_base.proofs.MapEntries.{all_found, counted-remove_entry}
 use Rattle.wu_base.proofs.Members.{Has, all_from_has, all_has}
 use Rattle.wu_outside.specs.Content.{Content, with_blob, with_root}
@@ -21,7 +19,6 @@ use Rattle.wu_layout.proofs.BlobLemmas.{count-append, count-cons, once, once_oth
 use Rattle.wu_layout.proofs.EachLemmas.{each-drop, each-take}
 use Rattle.wu_layout.proofs.EntryLemmas.{IfSome-found}
 use Rattle.wu_part.specs.Directories.{PartDirectory}
-use Rattle.wu_job.specs.Jobs.{AreMade, HoldTerm, HoldsEntry, IsRight, JobPart, JobState}
 use Rattle.wu_lists.specs.Keeping.{Kept}
 use Rattle.wu_parts.specs.Contents.{Contents, JobAt}
 use Rattle.wu_parts.specs.Holdings.{HoldParts}
@@ -38,11 +35,12 @@ use Rattle.wu_engine.specs.Saving.{checkpoint_blob}
 use Rattle.wu_engine.specs.SavedStores.{recorded_files}
 use Rattle.wu_engine.proofs.FlushedStates.{flushed_kept}
 use Rattle.wu_engine.proofs.HeldParts.{blocks_stay, put_agrees}
+use Rattle.wu_engine.proofs.RightJobs.{SameBlob, right_stays}
 use Rattle.wu_engine.proofs.SavedContents.{gone_or_same, others_stay, root_stays, without}
 
 -- ---- the layout after a checkpoint
 
-blobs_checkpointed : (layout : Layout) → BlobsAreDistinct layout.blob layout.files layout.parts layout.check layout.stale
+pub blobs_checkpointed : (layout : Layout) → BlobsAreDistinct layout.blob layout.files layout.parts layout.check layout.stale
     → BlobsAreDistinct (layout.blob + 1) layout.files layout.parts layout.blob []
 blobs_checkpointed layout d = record {
   positive = omega arith;
@@ -137,7 +135,7 @@ module _ (layout : Layout) (d : BlobsAreDistinct layout.blob layout.files layout
       )
 
   -- a text's or a part's blob stays
-  named_stays : (number : ℕ) → 0 < number
+  pub named_stays : (number : ℕ) → 0 < number
       → 1 ≤ count_by (λ file. file.1.blob == number) layout.files + count_by (λ part. part.blob == number) layout.parts
       → left.blobs number ≡ content.blobs number
   named_stays number l named =
@@ -218,42 +216,6 @@ module _ (layout : Layout) (d : BlobsAreDistinct layout.blob layout.files layout
 
   -- ---- the job under way
 
-  -- the content has of the part's blob what it had
-  abbrev SameBlob : JobPart → Type 0
-  SameBlob part = left.blobs part.recorded.blob ≡ content.blobs part.recorded.blob
-
-  term_stays : (term : List ℕ) (parts : List JobPart) (addresses : List ℕ) → AllByRecursion SameBlob parts
-      → HoldTerm content term parts addresses → HoldTerm left term parts addresses
-  term_stays term [] addresses same held = held
-  term_stays term (part ∷ parts) addresses same held = (
-    held.0,
-    held.1,
-    record {
-      there = λ entry has is. subst (λ o. HoldsEntry o part.directory.low entry held.0) (sym same.0) (held.2.there entry has is);
-      absent = held.2.absent;
-    },
-    term_stays term parts held.1 same.1 held.3,
-    held.4,
-  )
-
-  made_stays : (parts : List JobPart) (live : List Range) (terms : List (List ℕ)) (lists : List TermList)
-      → AllByRecursion SameBlob parts → AreMade content parts live terms lists → AreMade left parts live terms lists
-  made_stays parts live [] lists same made = made
-  made_stays parts live (term ∷ terms) lists same made = (
-    made.0,
-    made.1,
-    (made.2.0, term_stays term parts made.2.0 same made.2.1, made.2.2),
-    made_stays parts live terms made.1 same made.3,
-    made.4,
-  )
-
-  right_stays : (state : JobState) → AllByRecursion SameBlob state.parts → IsRight content state → IsRight left state
-  right_stays state same right = record {
-    terms_done = right.terms_done;
-    order = right.order;
-    made = made_stays state.parts state.live right.terms_done state.done same right.made;
-  }
-
   pairs_stay : (records : List PartRec) (directories : List PartDirectory) (parts : List Part)
       → AllByRecursion (λ part. left.blobs part.blob ≡ content.blobs part.blob) parts → HoldParts content records directories parts
       → AllByRecursion (λ pair. left.blobs pair.0.blob ≡ content.blobs pair.0.blob) (zip records directories)
@@ -269,16 +231,16 @@ module _ (layout : Layout) (d : BlobsAreDistinct layout.blob layout.files layout
 
   taken_stay : (pairs : List (PartRec × PartDirectory))
       → AllByRecursion (λ pair. left.blobs pair.0.blob ≡ content.blobs pair.0.blob) pairs
-      → AllByRecursion SameBlob (map (λ pair. record { recorded = pair.0; directory = pair.1 }) pairs)
+      → AllByRecursion (SameBlob content left) (map (λ pair. record { recorded = pair.0; directory = pair.1 }) pairs)
   taken_stay [] same = tt
   taken_stay (pair ∷ pairs) same = (same.0, taken_stay pairs same.1)
 
   running_stays : (records : List PartRec) (directories : List PartDirectory) (running : JobAt)
       → HoldParts content records directories layout.parts → IsRunning records directories running
-      → AllByRecursion SameBlob running.state.parts
+      → AllByRecursion (SameBlob content left) running.state.parts
   running_stays records directories running held runs =
       let Same : PartRec × PartDirectory → Type 0 = λ pair. left.blobs pair.0.blob ≡ content.blobs pair.0.blob in
-      subst (AllByRecursion SameBlob) (sym runs.parts)
+      subst (AllByRecursion (SameBlob content left)) (sym runs.parts)
       (taken_stay (take (length running.state.parts) (drop running.place (zip records directories)))
       (each-take Same (length running.state.parts) (drop running.place (zip records directories))
       (each-drop Same running.place (zip records directories) (pairs_stay records directories layout.parts all_stay held))))
@@ -294,7 +256,7 @@ module _ (layout : Layout) (d : BlobsAreDistinct layout.blob layout.files layout
     count = tells.count;
     terms = tells.terms;
     live = tells.live;
-    right = right_stays running.state (running_stays records directories running held runs) tells.right;
+    right = right_stays content left running.state (running_stays records directories running held runs) tells.right;
   }
 
   pub job_saved : (contents : Contents) → HoldParts content contents.parts contents.directories layout.parts

@@ -37,14 +37,14 @@ some_if : (o : Option ℕ) (P : ℕ → Type 0) → ((ino : ℕ) → o ≡ Some 
 some_if None P f = tt
 some_if (Some ino) P f = f ino refl
 
-abbrev Ascend : Addresses → Type 0
+abbrev pub Ascend : Addresses → Type 0
 Ascend space = IsStrictlySortedBy nat_cmp (keys_of space.ranges)
 
 -- ---- one change
 
 module _ (o : Option ℕ) (space : Addresses) where
   -- each proof by cases of `o` goes through `at`, since `o` is fixed here
-  ascend_left : Ascend space → Ascend (without_file o space)
+  pub ascend_left : Ascend space → Ascend (without_file o space)
   ascend_left s = elim o as (λ p. Ascend (without_file p space)) [
     | None ↦ s
     | Some ino ↦ ascend-remove_entry nat_cmp (is_at (nat_cmp ino)) space.ranges s
@@ -57,7 +57,7 @@ module _ (o : Option ℕ) (space : Addresses) where
   ]
 
   module _ (text : List ℕ) where
-    ascend_given : Ascend space → Ascend (with_file o text space)
+    pub ascend_given : Ascend space → Ascend (with_file o text space)
     ascend_given s = elim o as (λ p. Ascend (with_file p text space)) [
       | None ↦ s
       | Some ino ↦ ascend-insert_entry nat_cmp_total space.ranges ino (record { start = space.next; len = length (tokens_of text) }) s

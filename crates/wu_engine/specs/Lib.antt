@@ -15,6 +15,8 @@ pub mod Causes
 pub mod Opening
 pub mod Saving
 pub mod Naming
+pub mod Permitted
+pub mod Going
 -- ---- What only private functions and proofs need
 
 pub mod Indexing

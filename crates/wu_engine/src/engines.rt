@@ -63,6 +63,8 @@ impl Engine {
     ghost use Rattle.wu_engine.specs.Opening.{HoldsImage, IsBeginCause, IsOpen, IsSpentWhere, ReadsAtOpening};
     ghost use Rattle.wu_engine.specs.Saving.{AreRemoved, KeepsNamed, removed_by_save};
     ghost use Rattle.wu_engine.specs.Naming.{AddsNamed};
+    ghost use Rattle.wu_engine.specs.Going.{Goes, HasBroken};
+    ghost use Rattle.wu_engine.specs.Permitted.{MayReadForQuery, MayReadForWork, ReadsOnly};
     ghost use Rattle.wu_engine.specs.declared.faults.BeginFault.TheVariants.{Damaged as SavedIsDamaged};
 
     /// An engine that goes on where the last save left the store: memory is full at `flush_at` postings. A store
@@ -82,6 +84,8 @@ impl Engine {
     ) -> Result<Engine, BeginFault>
         // Over an image of a state engine and store stand for it.
         ensures stands { IfOk result (λ engine. (s : State) → HoldsImage (D.holds store.old) s → Stands engine (D.holds store.new) s) }
+        // Over whatever the store holds, the engine goes on from there.
+        ensures goes { IfOk result (λ engine. (content : Content) → D.holds store.old ≡ Some content → Goes engine content (D.holds store.new)) }
         // Whatever the store holds, what is read of it at opening was as it should be.
         ensures open { OnOk result (IsOpen (D.holds store.old) (D.reads store.old) (D.reads store.new)) }
         ensures next { IfOk result (λ engine. engine.space.next < SPENT_AT) }
@@ -148,6 +152,7 @@ impl Engine {
         ensures elsewhere { KeepsOthers self.old.parts.next_blob (self.old.parts.next_blob + 2) (D.holds store.old) (D.holds store.new) }
         ensures reads { D.reads store.new ≡ D.reads store.old }
 
+        ensures goes { (start : Content) → Goes self.old start (D.holds store.old) → OnOk result (Goes self.new start (D.holds store.new)) }
         ensures goes_on { OnOk result (self.new.ended ≡ None) }
         ensures ends { IfErr result (λ trouble. self.new.ended ≡ Some trouble) }
         ensures again { (trouble : Trouble) → self.old.ended ≡ Some trouble
@@ -209,6 +214,7 @@ impl Engine {
         ensures elsewhere { KeepsOthers self.old.parts.next_blob (self.old.parts.next_blob + 1) (D.holds store.old) (D.holds store.new) }
         ensures reads { D.reads store.new ≡ D.reads store.old }
 
+        ensures goes { (start : Content) → Goes self.old start (D.holds store.old) → OnOk result (Goes self.new start (D.holds store.new)) }
         ensures goes_on { OnOk result (self.new.ended ≡ None) }
         ensures ends { IfErr result (λ trouble. self.new.ended ≡ Some trouble) }
         ensures again { (trouble : Trouble) → self.old.ended ≡ Some trouble
@@ -261,6 +267,9 @@ impl Engine {
             (D.holds store.old, D.moments store.old) (D.holds store.new, D.moments store.new) (D.reads store.old) (D.reads store.new)) }
         ensures stops { self.old.ended ≡ None → IfErr result (StopsWork self.old.space.ranges n self.old.parts
             (D.holds store.old, D.moments store.old) (D.faults store.old) (D.faults store.new) (D.reads store.old) (D.reads store.new)) }
+        // Where engine and store stand for a state, only what these units of its may read is read, whatever the answer.
+        ensures permitted { (s : State) → Stands self.old (D.holds store.old) s
+            → ReadsOnly (MayReadForWork s.layout n) (D.reads store.old) (D.reads store.new) }
 
         ensures goes_on { OnOk result (self.new.ended ≡ None) }
         ensures ends { IfErr result (λ trouble. self.new.ended ≡ Some trouble) }
@@ -269,6 +278,9 @@ impl Engine {
         ensures cause { HasTroubleCause self.old.ended (D.faults store.old) (D.faults store.new) result }
         ensures damaged { (blob : ℕ) → result ≡ Err (Damaged blob)
             → (self.old.ended ≡ Some (Damaged blob)) ⊎ IsDamaged (D.holds store.old) self.old.parts blob }
+        ensures goes { (start : Content) → Goes self.old start (D.holds store.old) → OnOk result (Goes self.new start (D.holds store.new)) }
+        ensures broken { (start : Content) → Goes self.old start (D.holds store.old) → (blob : ℕ) → result ≡ Err (Damaged blob)
+            → HasBroken start blob }
         // No blob is answered as damaged where engine and store stand for a state.
         ensures undamaged { (s : State) → Stands self.old (D.holds store.old) s → (blob : ℕ) → result ≢ Err (Damaged blob) }
     {
@@ -298,6 +310,8 @@ impl Engine {
             → OnOk result (Stands self.new (D.holds store.new) (saved_state s)) }
         ensures image { (s : State) → Stands self.old (D.holds store.old) s
             → OnOk result (HoldsImage (D.holds store.new) (rested_state (saved_state s))) }
+        ensures named { (s : State) → Stands self.old (D.holds store.old) s
+            → OnOk result (AddsNamed (saved_state s).layout (D.holds store.old) (D.holds store.new)) }
         ensures space { self.new.space ≡ self.old.space }
         ensures drawn { OnOk result (self.new.parts.next_blob ≤ self.old.parts.next_blob + 2) }
         ensures counted { OnOk result
@@ -311,6 +325,7 @@ impl Engine {
         ensures removed { OnOk result (AreRemoved (removed_by_save self.old.parts self.old.checkpoint) (D.holds store.new)) }
         ensures reads { D.reads store.new ≡ D.reads store.old }
 
+        ensures goes { (start : Content) → Goes self.old start (D.holds store.old) → OnOk result (Goes self.new start (D.holds store.new)) }
         ensures goes_on { OnOk result (self.new.ended ≡ None) }
         ensures ends { IfErr result (λ trouble. self.new.ended ≡ Some trouble) }
         ensures again { (trouble : Trouble) → self.old.ended ≡ Some trouble
@@ -397,6 +412,9 @@ impl Engine {
             (λ texts. AreTexts self.old.files.entries (question_of query.now.ask) texts × ((s : State)
             → Stands self.old (D.holds store.old) s → texts ≡ texts_read s query.now.uid (question_of query.now.ask)))
             (D.holds store.old) (D.reads store.old) (D.reads store.new)) }
+        // Then nothing is read but what a query of hers may read in that state, whatever the answer.
+        ensures permitted { (s : State) → Stands self.old (D.holds store.old) s
+            → ReadsOnly (MayReadForQuery s query.now.uid (question_of query.now.ask)) (D.reads store.old) (D.reads store.new) }
 
         ensures goes_on { OnOk result (self.new.ended ≡ None) }
         ensures ends { IfErr result (λ trouble. self.new.ended ≡ Some trouble) }
@@ -405,6 +423,10 @@ impl Engine {
         ensures cause { HasTroubleCause self.old.ended (D.faults store.old) (D.faults store.new) result }
         ensures damaged { (blob : ℕ) → result ≡ Err (Damaged blob)
             → (self.old.ended ≡ Some (Damaged blob)) ⊎ IsDamagedIn self.old.files.entries self.old.parts (D.holds store.old) blob }
+        // Over whatever the store held at opening, the engine goes on, and a blob that is called damaged was broken then.
+        ensures goes { (start : Content) → Goes self.old start (D.holds store.old) → OnOk result (Goes self.new start (D.holds store.new)) }
+        ensures broken { (start : Content) → Goes self.old start (D.holds store.old) → (blob : ℕ) → result ≡ Err (Damaged blob)
+            → HasBroken start blob }
     {
         let _untouched = &*store;
         if let Some(trouble) = self.ended {

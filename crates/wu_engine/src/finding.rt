@@ -11,6 +11,7 @@ ghost use Rattle.wu_engine.specs.Answer.{answer, found_line};
 ghost use Rattle.wu_engine.specs.Asked.{blocks_for, terms_of as named_in};
 ghost use Rattle.wu_engine.specs.Causes.{IsDamagedAt, IsDamagedIn};
 ghost use Rattle.wu_engine.specs.Finding.{AreTextsOf, CanBeRead, IsBelow, IsBrokenIn, IsCause, KeepsTexts, counted_from, extents_of, hits_at, lines_at, lines_of_record, text_at};
+ghost use Rattle.wu_engine.specs.Permitted.{IsOneOfTexts, MayReadForQuery, ReadsOnly};
 ghost use Rattle.wu_engine.specs.Reads.{ReadsInTurn, texts_shown, whole_text};
 ghost use Rattle.wu_engine.specs.States.{State};
 ghost use Rattle.wu_engine.specs.Units.{CanBeSearched, Indexes, TellsPostings};
@@ -51,6 +52,9 @@ pub fn find<D: Store>(
     ensures reads { OnOk result (ReadsInTurn (blocks_for parts.old frames.now.ranges (named_in (region_of expr.now)))
         (AreTextsOf frames.now parts.old files.now.entries (D.holds store.old) (AskedFinding k (region_of expr.now)))
         (D.holds store.old) parts.old.kept parts.new.kept (D.reads store.old) (D.reads store.new)) }
+    ensures permitted { (live : Ranges) (s : State) (uid : ℕ) → Indexes frames.now live s uid
+        → TellsPostings parts.old (D.holds store.old) s → KeepsTexts files.now.entries (D.holds store.old) s
+        → ReadsOnly (MayReadForQuery s uid (AskedFinding k (region_of expr.now))) (D.reads store.old) (D.reads store.new) }
     ensures others { parts.new ≡ record parts.old { kept = parts.new.kept } }
     ensures holds { D.holds store.new ≡ D.holds store.old }
     ensures calm { OnOk result (D.faults store.new ≡ D.faults store.old) }
@@ -96,6 +100,8 @@ fn first_lines<D: Store>(
     ensures reads { OnOk result (D.reads store.new ≡ option_map (λ ranges. ranges
         ++ texts_shown (hits_at files.now.entries (region_of expr.now) lists.now)
         (text_at files.now.entries) k view.now) (D.reads store.old)) }
+    ensures only { ReadsOnly (IsOneOfTexts (texts_shown (hits_at files.now.entries (region_of expr.now) lists.now)
+        (text_at files.now.entries) k view.now)) (D.reads store.old) (D.reads store.new) }
     ensures none { k ≡ 0 → store.new ≡ store.old }
     ensures calm { OnOk result (D.faults store.new ≡ D.faults store.old) }
     ensures cause { IfErr result (IsCause (IsDamagedAt files.now.entries (D.holds store.old)) (D.faults store.old) (D.faults store.new)) }
@@ -133,6 +139,8 @@ fn put_file<D: Store>(
         ++ (if nat_lt 0 (min left (hits_at files.now.entries (region_of expr.now) lists.now seen.now))
         then text_at files.now.entries seen.now else []))
         (D.reads store.old)) }
+    ensures only { ReadsOnly (IsOneOfTexts (if nat_lt 0 (min left (hits_at files.now.entries (region_of expr.now) lists.now seen.now))
+        then text_at files.now.entries seen.now else [])) (D.reads store.old) (D.reads store.new) }
     ensures calm { OnOk result (D.faults store.new ≡ D.faults store.old) }
     ensures cause { IfErr result (IsCause (IsDamagedAt files.now.entries (D.holds store.old)) (D.faults store.old) (D.faults store.new)) }
 {
@@ -196,6 +204,8 @@ fn put_lines<D: Store>(
     ensures holds { D.holds store.new ≡ D.holds store.old }
     ensures reads { OnOk result (D.reads store.new ≡ option_map (λ ranges. ranges
         ++ (if nat_lt 0 (length extents.now) then whole_text file.now.blob file.now.len else [])) (D.reads store.old)) }
+    ensures only { ReadsOnly (IsOneOfTexts (if nat_lt 0 (length extents.now) then whole_text file.now.blob file.now.len else []))
+        (D.reads store.old) (D.reads store.new) }
     ensures calm { OnOk result (D.faults store.new ≡ D.faults store.old) }
     ensures cause { IfErr result (IsCause (IsBrokenIn (D.holds store.old) file.now) (D.faults store.old) (D.faults store.new)) }
 {

@@ -5,11 +5,13 @@ ghost use Rattle.std.specs.List.Sorted.{IsStrictlySortedBy};
 ghost use Rattle.std.specs.Ordering.{nat_cmp};
 ghost use Rattle.lru.specs.LruCache.{lru_cache};
 ghost use Rattle.wu_base.specs.declared.limits.TheConstants.{BLOBS_SPENT_AT, SPENT_AT};
+ghost use Rattle.wu_outside.specs.Content.{Content};
 ghost use Rattle.wu_outside.specs.Faults.{HasFaultCause};
 ghost use Rattle.wu_space.specs.Addresses.{AreLive};
 ghost use Rattle.wu_parts.specs.Loading.{end_of};
 ghost use Rattle.wu_parts.specs.declared.parts.TheConstants.{BLOCKS_KEPT};
 ghost use Rattle.wu_image.specs.Checkpoints.{IsCheckpoint};
+ghost use Rattle.wu_engine.specs.Going.{Goes};
 ghost use Rattle.wu_engine.specs.Opened.{FindsRoot, HasRoom, IsEngineFor, IsFirstEngine, IsFoundIn, IsOf, IsSpentBy, ReadsCheckpoint, numbered, ranges_recorded};
 ghost use Rattle.wu_engine.specs.Opening.{HasCheckpoint, HasOpenRoot, HoldsImage, IsBeginCause, IsOpen, IsSpentWhere, ReadsAtOpening, spent_of};
 ghost use Rattle.wu_engine.specs.Stands.{Stands};
@@ -95,6 +97,8 @@ pub(crate) fn open_saved<D: Store>(
     requires room { HasRoom root.now }
     requires found { IfSome (D.holds store.old) (λ content. HasOpenRoot content root.now) }
     ensures stands { IfOk result (λ engine. (s : State) → HoldsImage (D.holds store.old) s → Stands engine (D.holds store.new) s) }
+    ensures goes { IfOk result (λ engine. (content : Content)
+        → D.holds store.old ≡ Some content → Goes engine content (D.holds store.new)) }
     ensures open { OnOk result (IsOpen (D.holds store.old) (D.reads store.old) (D.reads store.new)) }
     ensures next { IfOk result (λ engine. engine.space.next < SPENT_AT) }
     ensures next_blob { IfOk result (λ engine. engine.parts.next_blob < BLOBS_SPENT_AT) }

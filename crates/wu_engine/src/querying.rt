@@ -6,6 +6,7 @@ ghost use Rattle.wu_engine.specs.Answer.{answer};
 ghost use Rattle.wu_engine.specs.Asked.{blocks_for, terms_asked};
 ghost use Rattle.wu_engine.specs.Causes.{IsDamagedIn};
 ghost use Rattle.wu_engine.specs.Finding.{AreTextsOf, CanBeRead, IsCause, KeepsTexts};
+ghost use Rattle.wu_engine.specs.Permitted.{MayReadForQuery, ReadsOnly};
 ghost use Rattle.wu_engine.specs.Reads.{AreTexts, ReadsForQuery, ReadsInTurn, texts_read};
 ghost use Rattle.wu_engine.specs.Soundness.{IsSound};
 ghost use Rattle.wu_engine.specs.States.{State};
@@ -50,6 +51,9 @@ pub fn answered<D: Store>(
         → IsIndexOf space.now.ranges s → TellsPostings parts.old (D.holds store.old) s → KeepsTexts files.now.entries (D.holds store.old) s
         → texts ≡ texts_read s query.now.uid (question_of query.now.ask)))
         (D.holds store.old) (D.reads store.old) (D.reads store.new)) }
+    ensures permitted { (s : State) → tree.now ≡ s.tree → IsIndexOf space.now.ranges s
+        → TellsPostings parts.old (D.holds store.old) s → KeepsTexts files.now.entries (D.holds store.old) s
+        → ReadsOnly (MayReadForQuery s query.now.uid (question_of query.now.ask)) (D.reads store.old) (D.reads store.new) }
     ensures others { parts.new ≡ record parts.old { kept = parts.new.kept } }
     ensures holds { D.holds store.new ≡ D.holds store.old }
     ensures calm { OnOk result (D.faults store.new ≡ D.faults store.old) }
@@ -84,6 +88,9 @@ fn answer<D: Store>(
     ensures reads { OnOk result (ReadsInTurn (blocks_for parts.old frames.now.ranges (terms_asked (question_of ask.now)))
         (AreTextsOf frames.now parts.old files.now.entries (D.holds store.old) (question_of ask.now))
         (D.holds store.old) parts.old.kept parts.new.kept (D.reads store.old) (D.reads store.new)) }
+    ensures permitted { (s : State) (uid : ℕ) → Indexes frames.now space.now.ranges s uid
+        → TellsPostings parts.old (D.holds store.old) s → KeepsTexts files.now.entries (D.holds store.old) s
+        → ReadsOnly (MayReadForQuery s uid (question_of ask.now)) (D.reads store.old) (D.reads store.new) }
     ensures others { parts.new ≡ record parts.old { kept = parts.new.kept } }
     ensures holds { D.holds store.new ≡ D.holds store.old }
     ensures calm { OnOk result (D.faults store.new ≡ D.faults store.old) }

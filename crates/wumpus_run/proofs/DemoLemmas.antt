@@ -1,5 +1,5 @@
 -- What a demonstration counts, item by item, and how it ends.
-use Rattle.std.proofs.Common.{◌≡◌, ℕ, ◌+◌, ◌<◌, ◌^◌, ◌⊎◌, false, List, [], ◌∷◌, ◌++◌, map, Option, Some, None}
+use Rattle.std.proofs.Common.{◌≡◌, ℕ, ◌<◌, ◌^◌, ◌⊎◌, false, List, [], ◌++◌, map, Option, Some, None}
 use Rattle.std.proofs.Common.{refl, sym, ap, ◌∙◌, subst, inl, inr, ⊎_elim, arith, append-nil}
 use Rattle.std.specs.Io.KnownBytes.{Appends, prepend_known}
 use Rattle.std.proofs.KnownBytes.{Appends-nil}
@@ -17,7 +17,7 @@ use Rattle.wu_script.specs.declared.types.Reply.{Reply}
 use Rattle.wu_script.specs.Commands.{Entry}
 use Rattle.wu_script.specs.Holding.{Held}
 use Rattle.wu_script.specs.Said.{Reading, IsReading, said_by, said_of}
-use Rattle.wu_script.specs.Items.{first_of, items_of, IsBeforeEnd, IsFirstItem, IsNext}
+use Rattle.wu_script.specs.Items.{first_of, IsBeforeEnd, IsFirstItem, IsNext}
 use Rattle.wu_script.proofs.ItemListLemmas.{items_of-none, items_of-some}
 use Rattle.wu_options.specs.declared.command_lines.CommandLine.{CommandLine}
 use Rattle.wu_options.specs.declared.command_lines.CommandLine.TheVariants.{Run, Demo}

@@ -23,14 +23,14 @@ use Rattle.wumpus_run.specs.declared.statuses.Status.{Status}
 use Rattle.wumpus_run.specs.declared.statuses.Status.TheVariants.{Done, Usage, ReadFault, WriteFault, NoMemory, InputTooLong, StoreFault}
 use Rattle.wumpus_run.specs.declared.statuses.Status.TheVariants.{Damaged, Spent}
 use Rattle.wu_engine.specs.Causes.{HasTroubleCause}
-use Rattle.wu_engine.specs.Opening.{HoldsImage, IsBeginCause, IsSpentAt, IsSpentWhere}
-use Rattle.wu_engine.specs.States.{State, rested_state, saved_state}
+use Rattle.wu_engine.specs.Opening.{IsBeginCause, IsSpentAt, IsSpentWhere}
+use Rattle.wu_engine.specs.States.{State}
 use Rattle.wu_engine.specs.declared.faults.BeginFault.{BeginFault}
 use Rattle.wu_engine.specs.declared.faults.BeginFault.TheVariants as opening
-use Rattle.wumpus_run.specs.Replies.{Rules, output_of, said_bytes, state_after}
+use Rattle.wumpus_run.specs.Replies.{AreRules, Rules, output_of, said_bytes, state_after}
 use Rattle.wumpus_run.specs.Taking.{TakesAtMost, TakesExactly}
 use Rattle.wumpus_run.specs.Session.{Moment, AnswersAll, AnswersAllButOneRead, AnswersItems, AnswersPrefix, IsTooLong, HoldsNothingBack}
-use Rattle.wumpus_run.specs.Session.{Ends, Completes, IsCounted, IsSpent, SavesAll, StaysWithin, TakesAll, status_of, status_of_fault}
+use Rattle.wumpus_run.specs.Session.{Ends, Completes, IsCounted, IsSpent, StaysWithin, TakesAll, status_of, status_of_fault}
 use Rattle.wumpus_run.specs.Session.{status_of_opening, status_of_trouble}
 use Rattle.wumpus_run.proofs.SessionLemmas.{IsOnTheWay, HasAnswered, HasTaken, IsPrefix-part, IsPrefix-sent, AreItems-sent, all_answered}
 use Rattle.wumpus_run.proofs.PromptLemmas.{HasReplied, AnswersAllButOneRead-ended, AnswersAllButOneRead-none, AnswersAllButOneRead-taken}
@@ -286,18 +286,17 @@ module _ (told : Settings) (start : State) where
       by_case (Some input) answered = λ rules are.
           (answered_if rules before.gained now.gained input known rest s next (answered rules are)).0
 
-  -- and saved
-  pub SavesAll-end : (before now : Moment) (s : State) (known rest gained : Option (List ℕ))
-      → HasAnswered told start before.holds before.gained gained before.left known s → IsNext known rest items.End
-      → HoldsImage now.holds (rested_state (saved_state s)) → SavesAll start (Some told) before now
-  SavesAll-end before now s known rest gained answered next image = by_case before.left answered
+  -- and what is so of the state at its end is so of the one that the items leave
+  pub so_at_end : (IsSo : State → Type 0) (before : Moment) (s : State) (known rest gained : Option (List ℕ))
+      → HasAnswered told start before.holds before.gained gained before.left known s → IsNext known rest items.End → IsSo s
+      → IfSome before.left (λ input. (rules : Rules) → AreRules before.holds told rules → IsSo (state_after rules start (items_of input)))
+  so_at_end IsSo before s known rest gained answered next is = by_case before.left answered
     where
       by_case : (left : Option (List ℕ)) → HasAnswered told start before.holds before.gained gained left known s
-          → SavesAll start (Some told) (record before { left = left }) now
+          → IfSome left (λ input. (rules : Rules) → AreRules before.holds told rules → IsSo (state_after rules start (items_of input)))
       by_case None answered = tt
       by_case (Some input) answered = λ rules are.
-          subst (λ (t : State). HoldsImage now.holds (rested_state (saved_state t)))
-          (answered_if rules before.gained gained input known rest s next (answered rules are)).1 image
+          subst IsSo (answered_if rules before.gained gained input known rest s next (answered rules are)).1 is
 
 -- ---- where nothing went wrong
 

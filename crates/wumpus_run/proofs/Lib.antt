@@ -4,9 +4,12 @@ pub mod SessionLemmas
 pub mod SoundBlobs
 pub mod AddressRoom
 pub mod PromptLemmas
+pub mod NamedAtEnd
 pub mod StartedStates
+pub mod SessionReads
 pub mod RootRoom
 pub mod EndLemmas
+pub mod BrokenBlobs
 pub mod ShortTexts
 pub mod StateLemmas
 pub mod ViewLemmas

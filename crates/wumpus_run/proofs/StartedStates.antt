@@ -1,5 +1,5 @@
 -- A session under way, from a state of which the store held an image, and how it ends.
-use Rattle.std.proofs.Common.{◌≡◌, ℕ, ◌+◌, ◌<◌, ◌≤◌, ◌^◌, List, [], Option, None, Err, true, false, refl, ◌∙◌, subst, arith}
+use Rattle.std.proofs.Common.{◌≡◌, ℕ, ◌+◌, ◌<◌, ◌≤◌, ◌^◌, List, [], Option, None, Err, true, false, refl, sym, ◌∙◌, subst, arith}
 use Rattle.std.specs.Io.KnownBytes.{Appends, IsAtEnd, prepend_known}
 use Rattle.wu_base.specs.declared.limits.TheConstants.{BLOBS_SPENT_AT, SPENT_AT, WORK_MAX}
 use Rattle.wu_base.specs.declared.troubles.Trouble.{Trouble}
@@ -20,9 +20,12 @@ use Rattle.wu_engine.specs.declared.faults.BeginFault.{BeginFault}
 use Rattle.wu_engine.specs.declared.faults.BeginFault.TheVariants as opening
 use Rattle.wu_engine.specs.Causes.{HasTroubleCause}
 use Rattle.wu_engine.specs.Opening.{HoldsImage, IsBeginCause, IsSpentWhere}
+use Rattle.wu_engine.specs.Naming.{HasNoStray}
 use Rattle.wu_engine.specs.Stands.{Stands}
 use Rattle.wu_engine.specs.States.{State, rested_state, saved_state}
+use Rattle.wu_engine.proofs.NamedBlobs.{no_stray_at_first}
 use Rattle.wumpus_run.specs.Replies.{after, said_bytes}
+use Rattle.wumpus_run.specs.Strays.{AddsNoStray}
 use Rattle.wumpus_run.specs.declared.statuses.Status.{Status}
 use Rattle.wumpus_run.specs.declared.statuses.Status.TheVariants.{Done, Usage, ReadFault, WriteFault, InputTooLong, StoreFault, Damaged}
 use Rattle.wumpus_run.specs.declared.statuses.Status.TheVariants.{Spent}
@@ -35,26 +38,28 @@ use Rattle.wumpus_run.proofs.EndLemmas.{AnswersAll-end, Ends-saved, Ends-stopped
 use Rattle.wumpus_run.proofs.EndLemmas.{HasTaken-none}
 use Rattle.wumpus_run.proofs.EndLemmas.{IsCounted-answered, IsCounted-other, IsCounted-read, IsCounted-since, IsCounted-unopened}
 use Rattle.wumpus_run.proofs.EndLemmas.{IsCounted-written, IsSaving, IsSpent-never, IsSpent-unopened, IsTooLong-short, IsTooLong-stopped}
-use Rattle.wumpus_run.proofs.EndLemmas.{IsUnspent, SavesAll-end, StaysWithin-short, StaysWithin-stopped, TakesAll-end, TakesAtMost-none}
+use Rattle.wumpus_run.proofs.EndLemmas.{IsUnspent, so_at_end, StaysWithin-short, StaysWithin-stopped, TakesAll-end, TakesAtMost-none}
 use Rattle.wumpus_run.proofs.EndLemmas.{TakesAtMost-taken, answering, damaged_so, reading, saved_damaged, saving, unopened, writing}
 use Rattle.wumpus_run.proofs.PromptLemmas.{HasReplied, HasReplied-none, HasReplied-turn}
 
--- engine and store stand for a state; what was sent, and what answers the rest of the input from that state on, is all that answers the
--- input from the start on
+-- engine and store stand for a state, and the store has no stray blob; what was sent, and what answers the rest of the input from that
+-- state on, is all that answers the input from the start on
 pub record HasGoneOn (told : Settings) (start : State) (before now : Moment) (engine : Engine) (held : Held) : Type 0 where
   pub state : State
   pub stands : Stands engine now.holds state
+  pub no_stray : HasNoStray start.layout before.holds state.layout now.holds
   pub answered : HasAnswered told start before.holds before.gained now.gained before.left (prepend_known held.bytes now.left) state
   pub replied : HasReplied told start before.holds before.left now.left before.gained now.gained held state told.max_input
 
 -- the store was opened
 pub HasGoneOn-none : (told : Settings) (start : State) (before : Moment) (holds : Option Content) (faults : ℕ) (engine : Engine)
-    → Stands engine holds start
+    → Stands engine holds start → holds ≡ before.holds
     → HasGoneOn told start before (record before { holds = holds; store_faults = faults }) engine
     (record { bytes = []; spare = told.max_input; ended = false })
-HasGoneOn-none told start before holds faults engine stands = record {
+HasGoneOn-none told start before holds faults engine stands same = record {
   state = start;
   stands = stands;
+  no_stray = subst (HasNoStray start.layout before.holds start.layout) (sym same) (no_stray_at_first start.layout before.holds);
   answered = HasAnswered-none told start before.holds before.gained before.left;
   replied = HasReplied-none told start before.holds before.left before.gained told.max_input;
 }
@@ -64,12 +69,15 @@ pub HasGoneOn-turn : (told : Settings) (start : State) (before between now : Mom
     (reply written : List ℕ) → IsBeforeEnd item → TakesItem between.left now.left now.last_read old new item
     → IsNext (prepend_known old.bytes between.left) (prepend_known new.bytes now.left) item
     → (so_far : HasGoneOn told start before between engine old) → reply ≡ said_bytes so_far.state (said_by item)
-    → Stands later now.holds (after told.flush_at so_far.state (said_by item)) → written ≡ reply
+    → Stands later now.holds (after told.flush_at so_far.state (said_by item))
+    → AddsNoStray so_far.state.layout between.holds (after told.flush_at so_far.state (said_by item)).layout now.holds → written ≡ reply
     → Appends between.gained now.gained written → HasGoneOn told start before now later new
-HasGoneOn-turn told start before between now engine later old new item reply written other taken next so_far replies stands same wrote =
+HasGoneOn-turn told start before between now engine later old new item reply written other taken next so_far replies stands adds same
+    wrote =
     record {
       state = after told.flush_at so_far.state (said_by item);
       stands = stands;
+      no_stray = adds start.layout before.holds so_far.no_stray;
       answered = HasAnswered-turn told start before.holds before.gained between.gained now.gained before.left
           (prepend_known old.bytes between.left) (prepend_known new.bytes now.left) so_far.state item reply written other next
           so_far.answered replies same wrote;
@@ -97,10 +105,10 @@ module _ (told : Settings) (before : Moment) where
       → ((s : State) → HoldsImage before.holds s → Stands engine holds s) → IsUnspent before.holds → engine.ended ≡ None
       → engine.space.next < SPENT_AT → engine.parts.next_blob < BLOBS_SPENT_AT → engine.parts.flushes < 2 ^ 62
       → engine.parts.flush_at ≡ told.flush_at → faults ≡ before.store_faults
-      → IsUnderWay (record before { holds = holds; store_faults = faults }) engine
+      → holds ≡ before.holds → IsUnderWay (record before { holds = holds; store_faults = faults }) engine
       (record { bytes = []; spare = told.max_input; ended = false })
-  IsUnderWay-none holds faults engine stands unspent goes_on next next_blob flushes flush_at calm = record {
-    from = λ s image. HasGoneOn-none told s before holds faults engine (stands s image);
+  IsUnderWay-none holds faults engine stands unspent goes_on next next_blob flushes flush_at calm same = record {
+    from = λ s image. HasGoneOn-none told s before holds faults engine (stands s image) same;
     unspent = unspent;
     goes_on = goes_on;
     room = HasRoom-none engine.space.next told.max_input next;
@@ -122,10 +130,11 @@ module _ (told : Settings) (before : Moment) where
     pub flush_at : later.parts.flush_at ≡ engine.parts.flush_at
     pub goes_on : later.ended ≡ None
 
-  -- the reply to an item, and engine and store for the state after it
+  -- the reply to an item, and engine and store for the state after it, without a stray blob more
   abbrev Replies : Option Content → Option Content → Engine → Engine → Item → List ℕ → Type 0
   Replies holds later_holds engine later item reply = (s : State) → Stands engine holds s
       → (reply ≡ said_bytes s (said_by item)) × Stands later later_holds (after engine.parts.flush_at s (said_by item))
+      × AddsNoStray s.layout holds (after engine.parts.flush_at s (said_by item)).layout later_holds
 
   pub IsUnderWay-turn : (between now : Moment) (engine later : Engine) (old new : Held) (item : Item) (reply written : List ℕ)
       → IsUnderWay between engine old → IsBeforeEnd item → TakesItem between.left now.left now.last_read old new item
@@ -139,7 +148,9 @@ module _ (told : Settings) (before : Moment) where
             let so_far = i.from s image in
             let answers = replies so_far.state so_far.stands in
             HasGoneOn-turn told s before between now engine later old new item reply written other took next so_far answers.0
-            (subst (λ (n : ℕ). Stands later now.holds (after n so_far.state (said_by item))) i.flush_at answers.1) same wrote;
+            (subst (λ (n : ℕ). Stands later now.holds (after n so_far.state (said_by item))) i.flush_at answers.1)
+            (subst (λ (n : ℕ). AddsNoStray so_far.state.layout between.holds (after n so_far.state (said_by item)).layout now.holds)
+            i.flush_at answers.2) same wrote;
         unspent = i.unspent;
         goes_on = raised.goes_on;
         room = HasRoom-fewer later.space.next (engine.space.next + tokens_given (said_by item)) told.max_input new
@@ -172,6 +183,7 @@ module _ (told : Settings) (before : Moment) where
         all_taken = λ e. absurd (other.done e);
         done = λ e. absurd (other.done e);
         saved = λ e. absurd (other.done e);
+        named = λ e. absurd (other.done e);
         read_fault = IsCounted-other ReadFault (status_of_opening fault) before.read_faults before.read_faults other.read_fault refl;
         write_fault = IsCounted-other WriteFault (status_of_opening fault) before.write_faults before.write_faults other.write_fault refl;
         store_fault = IsCounted-unopened fault before.holds before.store_faults faults cause;
@@ -195,6 +207,7 @@ module _ (told : Settings) (before : Moment) where
           all_taken = λ e. absurd (other.done e);
           done = λ e. absurd (other.done e);
           saved = λ e. absurd (other.done e);
+          named = λ e. absurd (other.done e);
           read_fault = IsCounted-read end before.read_faults between.read_faults faults i.read_calm counted;
           write_fault = IsCounted-other WriteFault (status_of end) before.write_faults between.write_faults other.write_fault i.write_calm;
           store_fault = IsCounted-other StoreFault (status_of end) before.store_faults between.store_faults other.store_fault i.store_calm;
@@ -213,9 +226,11 @@ module _ (told : Settings) (before : Moment) where
         → IsNext (prepend_known old.bytes between.left) (prepend_known new.bytes left) items.End → (new.ended ≡ true → IsAtEnd left)
         → faults ≡ between.read_faults → IsCounted StoreFault status between.store_faults store_faults
         → ((s : State) → Stands engine between.holds s → status ≡ Done → HoldsImage holds (rested_state (saved_state s)))
+        → ((s : State) → Stands engine between.holds s → status ≡ Done
+        → AddsNoStray s.layout between.holds (rested_state (saved_state s)).layout holds)
         → IsSession status told before
         (record between { left = left; last_read = last_read; read_faults = faults; holds = holds; store_faults = store_faults })
-    IsSession-saved status new left last_read faults holds store_faults ends took next at_end read counted image_after =
+    IsSession-saved status new left last_read faults holds store_faults ends took next at_end read counted image_after adds =
         let now : Moment = record between {
           left = left;
           last_read = last_read;
@@ -236,8 +251,13 @@ module _ (told : Settings) (before : Moment) where
               AnswersAll-end told s before now so_far.state known rest so_far.answered next;
           saved = λ e s image.
               let so_far = i.from s image in
-              SavesAll-end told s before now so_far.state known rest between.gained so_far.answered next
-              (image_after so_far.state so_far.stands e);
+              so_at_end told s (λ (t : State). HoldsImage holds (rested_state (saved_state t))) before so_far.state known rest
+              between.gained so_far.answered next (image_after so_far.state so_far.stands e);
+          named = λ e s image.
+              let so_far = i.from s image in
+              so_at_end told s (λ (t : State). HasNoStray s.layout before.holds (rested_state (saved_state t)).layout holds) before
+              so_far.state known rest between.gained so_far.answered next
+              (adds so_far.state so_far.stands e s.layout before.holds so_far.no_stray);
           read_fault = IsCounted-other ReadFault status before.read_faults faults (other ReadFault (λ e. cc) (λ e. cc) (λ e. cc))
               (read ∙ i.read_calm);
           write_fault = IsCounted-other WriteFault status before.write_faults between.write_faults
@@ -276,6 +296,7 @@ module _ (told : Settings) (before : Moment) where
           all_taken = λ e. absurd (other.done e);
           done = λ e. absurd (other.done e);
           saved = λ e. absurd (other.done e);
+          named = λ e. absurd (other.done e);
           read_fault = IsCounted-other ReadFault status before.read_faults faults other.read_fault (read ∙ i.read_calm);
           write_fault = IsCounted-other WriteFault status before.write_faults between.write_faults other.write_fault i.write_calm;
           store_fault = IsCounted-answered trouble engine.ended before.store_faults between.store_faults store_faults i.goes_on i.store_calm
@@ -309,6 +330,7 @@ module _ (told : Settings) (before : Moment) where
           all_taken = λ e. absurd (other.done e);
           done = λ e. absurd (other.done e);
           saved = λ e. absurd (other.done e);
+          named = λ e. absurd (other.done e);
           read_fault = IsCounted-other ReadFault status before.read_faults now.read_faults other.read_fault (read ∙ i.read_calm);
           write_fault = IsCounted-written fault before.write_faults between.write_faults now.write_faults i.write_calm cause;
           store_fault = IsCounted-other StoreFault status before.store_faults now.store_faults other.store_fault (store ∙ i.store_calm);

@@ -2,4 +2,6 @@
 pub mod Replies
 pub mod Taking
 pub mod Session
+pub mod Permitted
+pub mod Strays
 pub mod Demo

@@ -22,6 +22,7 @@ use Rattle.wumpus_run.specs.declared.statuses.Status.{Status}
 use Rattle.wumpus_run.specs.declared.statuses.Status.TheVariants.{Done, Usage, ReadFault, WriteFault, NoMemory, InputTooLong, StoreFault, Damaged, Spent}
 use Rattle.wu_engine.specs.declared.faults.BeginFault.{BeginFault}
 use Rattle.wu_engine.specs.declared.faults.BeginFault.TheVariants as opening
+use Rattle.wu_engine.specs.Naming.{HasNoStray}
 use Rattle.wu_engine.specs.States.{State, rested_state, saved_state}
 use Rattle.wu_engine.specs.Opening.{HoldsImage, IsSpentAt}
 use Rattle.wu_script.specs.Commands.{Entry}
@@ -105,6 +106,11 @@ pub record IsSpent (status : Status) (settings : Option Settings) (holds : Optio
 abbrev pub SavesAll : State → Option Settings → Moment → Moment → Type 0
 SavesAll start settings before now = IfSome settings (λ told. IfSome before.left (λ input. (rules : Rules) → AreRules before.holds told rules
     → HoldsImage now.holds (rested_state (saved_state (state_after rules start (items_of input))))))
+
+-- each blob of the store is one that this image names, or it was there before, and the image before didn't name it
+abbrev pub LeavesNoStray : State → Option Settings → Moment → Moment → Type 0
+LeavesNoStray start settings before now = IfSome settings (λ told. IfSome before.left (λ input. (rules : Rules) → AreRules before.holds told rules
+    → HasNoStray start.layout before.holds (rested_state (saved_state (state_after rules start (items_of input)))).layout now.holds))
 
 -- ---- what was written, from a state on
 
@@ -210,6 +216,7 @@ pub record IsSession (status : Status) (told : Settings) (before now : Moment) :
   pub all_taken : status ≡ Done → TakesAll (Some told) before now
   pub done : status ≡ Done → FromImage before.holds (λ s. AnswersAll s (Some told) before now)
   pub saved : status ≡ Done → FromImage before.holds (λ s. SavesAll s (Some told) before now)
+  pub named : status ≡ Done → FromImage before.holds (λ s. LeavesNoStray s (Some told) before now)
   pub read_fault : IsCounted ReadFault status before.read_faults now.read_faults
   pub write_fault : IsCounted WriteFault status before.write_faults now.write_faults
   pub store_fault : IsCounted StoreFault status before.store_faults now.store_faults

@@ -8,9 +8,13 @@ ghost use Rattle.wu_tree.specs.Steps.{IsEvent};
 ghost use Rattle.wu_script.specs.Commands.{Flush, Save, Stat, Work};
 ghost use Rattle.wu_script.specs.Said.{Asks, Happens, IsSoundItem, Operates, said_by, tokens_given};
 ghost use Rattle.wu_engine.specs.Causes.{HasTroubleCause};
+ghost use Rattle.wu_engine.specs.Permitted.{ReadsOnly};
+ghost use Rattle.wu_engine.specs.Going.{Goes, HasBroken};
 ghost use Rattle.wu_engine.specs.Stands.{Stands};
 ghost use Rattle.wu_engine.specs.States.{State, flushed_state, saved_state, worked_state};
+ghost use Rattle.wumpus_run.specs.Permitted.{MayReadFor};
 ghost use Rattle.wumpus_run.specs.Replies.{after, reply_to, said_bytes, verdict_reply};
+ghost use Rattle.wumpus_run.specs.Strays.{AddsNoStray};
 
 use wu_ask::Query;
 use wu_base::{NoMemory, Trouble};
@@ -21,7 +25,8 @@ use wu_tree::Event;
 
 /// Appends the bytes that answer the item, after which the state is the one that it leaves. The engine is one
 /// that goes on, with addresses left for the item's text, a blob for each unit of work, and a flush. Over an engine and a store that
-/// stand for a state, no blob is called damaged.
+/// stand for a state, no blob is called damaged, no stray blob is left, and only what the item may read is read. Over any other
+/// store a blob is called damaged only where it was broken when the store was opened.
 pub fn answer<D: Store>(
     engine: &mut Engine,
     store: &mut D,
@@ -36,10 +41,17 @@ pub fn answer<D: Store>(
     ensures answer { (s : State) → Stands engine.old (D.holds store.old) s → OnOk result
         ((out.new.items ≡ out.old.items ++ said_bytes s (said_by item))
         × Stands engine.new (D.holds store.new) (after engine.old.parts.flush_at s (said_by item))) }
+    ensures named { (s : State) → Stands engine.old (D.holds store.old) s → OnOk result
+        (AddsNoStray s.layout (D.holds store.old) (after engine.old.parts.flush_at s (said_by item)).layout (D.holds store.new)) }
+    ensures permitted { (s : State) → Stands engine.old (D.holds store.old) s
+        → ReadsOnly (MayReadFor s (said_by item)) (D.reads store.old) (D.reads store.new) }
     ensures taken { OnOk result (engine.new.space.next ≤ engine.old.space.next + tokens_given (said_by item)) }
     ensures drawn { OnOk result (engine.new.parts.next_blob ≤ engine.old.parts.next_blob + WORK_MAX) }
     ensures counted { OnOk result (engine.new.parts.flushes ≤ engine.old.parts.flushes + 2) }
     ensures flush_at { OnOk result (engine.new.parts.flush_at ≡ engine.old.parts.flush_at) }
+    ensures goes { (start : Content) → Goes engine.old start (D.holds store.old) → OnOk result (Goes engine.new start (D.holds store.new)) }
+    ensures broken { (start : Content) → Goes engine.old start (D.holds store.old) → (blob : ℕ) → result ≡ Err (Damaged blob)
+        → HasBroken start blob }
     ensures goes_on { OnOk result (engine.new.ended ≡ None) }
     ensures cause { HasTroubleCause engine.old.ended (D.faults store.old) (D.faults store.new) result }
     ensures damaged { (s : State) → Stands engine.old (D.holds store.old) s → (blob : ℕ) → result ≡ Err (Damaged blob) → ⊥ }
@@ -52,7 +64,8 @@ pub fn answer<D: Store>(
 
 /// The reply to the item, if it has one, after which the state is the one that it leaves. The engine is one
 /// that goes on, with addresses left for the item's text, a blob for each unit of work, and a flush. Over an engine and a store that
-/// stand for a state, no blob is called damaged.
+/// stand for a state, no blob is called damaged, no stray blob is left, and only what the item may read is read. Over any other
+/// store a blob is called damaged only where it was broken when the store was opened.
 pub fn reply_to<D: Store>(
     engine: &mut Engine,
     store: &mut D,
@@ -65,10 +78,17 @@ pub fn reply_to<D: Store>(
     requires flushes { engine.old.parts.flushes + 1 < 2 ^ 63 }
     ensures reply { (s : State) → Stands engine.old (D.holds store.old) s → IfOk result
         (λ reply. (reply ≡ reply_to s (said_by item)) × Stands engine.new (D.holds store.new) (after engine.old.parts.flush_at s (said_by item))) }
+    ensures named { (s : State) → Stands engine.old (D.holds store.old) s → OnOk result
+        (AddsNoStray s.layout (D.holds store.old) (after engine.old.parts.flush_at s (said_by item)).layout (D.holds store.new)) }
+    ensures permitted { (s : State) → Stands engine.old (D.holds store.old) s
+        → ReadsOnly (MayReadFor s (said_by item)) (D.reads store.old) (D.reads store.new) }
     ensures taken { OnOk result (engine.new.space.next ≤ engine.old.space.next + tokens_given (said_by item)) }
     ensures drawn { OnOk result (engine.new.parts.next_blob ≤ engine.old.parts.next_blob + WORK_MAX) }
     ensures counted { OnOk result (engine.new.parts.flushes ≤ engine.old.parts.flushes + 2) }
     ensures flush_at { OnOk result (engine.new.parts.flush_at ≡ engine.old.parts.flush_at) }
+    ensures goes { (start : Content) → Goes engine.old start (D.holds store.old) → OnOk result (Goes engine.new start (D.holds store.new)) }
+    ensures broken { (start : Content) → Goes engine.old start (D.holds store.old) → (blob : ℕ) → result ≡ Err (Damaged blob)
+        → HasBroken start blob }
     ensures goes_on { OnOk result (engine.new.ended ≡ None) }
     ensures cause { HasTroubleCause engine.old.ended (D.faults store.old) (D.faults store.new) result }
     ensures damaged { (s : State) → Stands engine.old (D.holds store.old) s → (blob : ℕ) → result ≡ Err (Damaged blob) → ⊥ }
@@ -103,13 +123,17 @@ fn reply_to_event<D: Store>(
     requires flushes { engine.old.parts.flushes + 1 < 2 ^ 63 }
     ensures reply { (s : State) → Stands engine.old (D.holds store.old) s → IfOk result
         (λ reply. (reply ≡ reply_to s (Happens event.now body.now)) × Stands engine.new (D.holds store.new) (after engine.old.parts.flush_at s (Happens event.now body.now))) }
+    ensures named { (s : State) → Stands engine.old (D.holds store.old) s → OnOk result (AddsNoStray s.layout
+        (D.holds store.old) (after engine.old.parts.flush_at s (Happens event.now body.now)).layout (D.holds store.new)) }
+    ensures reads { D.reads store.new ≡ D.reads store.old }
     ensures taken { OnOk result (engine.new.space.next ≤ engine.old.space.next + tokens_given (Happens event.now body.now)) }
     ensures drawn { OnOk result (engine.new.parts.next_blob ≤ engine.old.parts.next_blob + 2) }
     ensures counted { OnOk result (engine.new.parts.flushes ≤ engine.old.parts.flushes + 2) }
     ensures flush_at { OnOk result (engine.new.parts.flush_at ≡ engine.old.parts.flush_at) }
+    ensures goes { (start : Content) → Goes engine.old start (D.holds store.old) → OnOk result (Goes engine.new start (D.holds store.new)) }
     ensures goes_on { OnOk result (engine.new.ended ≡ None) }
     ensures cause { HasTroubleCause engine.old.ended (D.faults store.old) (D.faults store.new) result }
-    ensures damaged { (s : State) → Stands engine.old (D.holds store.old) s → (blob : ℕ) → result ≡ Err (Damaged blob) → ⊥ }
+    ensures damaged { (blob : ℕ) → result ≡ Err (Damaged blob) → ⊥ }
 {
     let verdict = engine.update(store, event, body)?;
     Ok(Some(verdict_reply(verdict)))
@@ -125,8 +149,14 @@ fn reply_to_query<D: Store>(
     requires goes_on { engine.old.ended ≡ None }
     ensures reply { (s : State) → Stands engine.old (D.holds store.old) s → IfOk result
         (λ reply. (reply ≡ reply_to s (Asks query.now.uid (question_of query.now.ask))) × Stands engine.new (D.holds store.new) s) }
+    ensures holds { D.holds store.new ≡ D.holds store.old }
+    ensures permitted { (s : State) → Stands engine.old (D.holds store.old) s
+        → ReadsOnly (MayReadFor s (Asks query.now.uid (question_of query.now.ask))) (D.reads store.old) (D.reads store.new) }
     ensures space { engine.new.space ≡ engine.old.space }
     ensures parts { engine.new.parts ≡ record engine.old.parts { kept = engine.new.parts.kept } }
+    ensures goes { (start : Content) → Goes engine.old start (D.holds store.old) → OnOk result (Goes engine.new start (D.holds store.new)) }
+    ensures broken { (start : Content) → Goes engine.old start (D.holds store.old) → (blob : ℕ) → result ≡ Err (Damaged blob)
+        → HasBroken start blob }
     ensures goes_on { OnOk result (engine.new.ended ≡ None) }
     ensures cause { HasTroubleCause engine.old.ended (D.faults store.old) (D.faults store.new) result }
     ensures damaged { (s : State) → Stands engine.old (D.holds store.old) s → (blob : ℕ) → result ≡ Err (Damaged blob) → ⊥ }
@@ -142,10 +172,14 @@ fn reply_to_flush<D: Store>(engine: &mut Engine, store: &mut D) -> Result<Option
     requires flushes { engine.old.parts.flushes + 1 < 2 ^ 63 }
     ensures reply { (s : State) → Stands engine.old (D.holds store.old) s → IfOk result
         (λ reply. (reply ≡ reply_to s (Operates Flush)) × Stands engine.new (D.holds store.new) (flushed_state s)) }
+    ensures named { (s : State) → Stands engine.old (D.holds store.old) s → OnOk result
+        (AddsNoStray s.layout (D.holds store.old) (flushed_state s).layout (D.holds store.new)) }
+    ensures reads { D.reads store.new ≡ D.reads store.old }
     ensures space { engine.new.space ≡ engine.old.space }
     ensures drawn { OnOk result (engine.new.parts.next_blob ≤ engine.old.parts.next_blob + 1) }
     ensures counted { OnOk result (engine.new.parts.flushes ≤ engine.old.parts.flushes + 2) }
     ensures flush_at { OnOk result (engine.new.parts.flush_at ≡ engine.old.parts.flush_at) }
+    ensures goes { (start : Content) → Goes engine.old start (D.holds store.old) → OnOk result (Goes engine.new start (D.holds store.new)) }
     ensures goes_on { OnOk result (engine.new.ended ≡ None) }
     ensures cause { HasTroubleCause engine.old.ended (D.faults store.old) (D.faults store.new) result }
     ensures damaged { (blob : ℕ) → result ≡ Err (Damaged blob) → ⊥ }
@@ -164,10 +198,17 @@ fn reply_to_work<D: Store>(
     requires blobs { engine.old.parts.next_blob + units < 2 ^ 63 }
     ensures reply { (s : State) → Stands engine.old (D.holds store.old) s → IfOk result
         (λ reply. (reply ≡ reply_to s (Operates (Work units))) × Stands engine.new (D.holds store.new) (worked_state units s)) }
+    ensures named { (s : State) → Stands engine.old (D.holds store.old) s → OnOk result
+        (AddsNoStray s.layout (D.holds store.old) (worked_state units s).layout (D.holds store.new)) }
+    ensures permitted { (s : State) → Stands engine.old (D.holds store.old) s
+        → ReadsOnly (MayReadFor s (Operates (Work units))) (D.reads store.old) (D.reads store.new) }
     ensures space { engine.new.space ≡ engine.old.space }
     ensures drawn { OnOk result (engine.new.parts.next_blob ≤ engine.old.parts.next_blob + units) }
     ensures counted { OnOk result (engine.new.parts.flushes ≡ engine.old.parts.flushes) }
     ensures flush_at { OnOk result (engine.new.parts.flush_at ≡ engine.old.parts.flush_at) }
+    ensures goes { (start : Content) → Goes engine.old start (D.holds store.old) → OnOk result (Goes engine.new start (D.holds store.new)) }
+    ensures broken { (start : Content) → Goes engine.old start (D.holds store.old) → (blob : ℕ) → result ≡ Err (Damaged blob)
+        → HasBroken start blob }
     ensures goes_on { OnOk result (engine.new.ended ≡ None) }
     ensures cause { HasTroubleCause engine.old.ended (D.faults store.old) (D.faults store.new) result }
     ensures damaged { (s : State) → Stands engine.old (D.holds store.old) s → (blob : ℕ) → result ≡ Err (Damaged blob) → ⊥ }
@@ -194,10 +235,14 @@ fn reply_to_save<D: Store>(engine: &mut Engine, store: &mut D) -> Result<Option<
     requires flushes { engine.old.parts.flushes + 1 < 2 ^ 63 }
     ensures reply { (s : State) → Stands engine.old (D.holds store.old) s → IfOk result
         (λ reply. (reply ≡ reply_to s (Operates Save)) × Stands engine.new (D.holds store.new) (saved_state s)) }
+    ensures named { (s : State) → Stands engine.old (D.holds store.old) s → OnOk result
+        (AddsNoStray s.layout (D.holds store.old) (saved_state s).layout (D.holds store.new)) }
+    ensures reads { D.reads store.new ≡ D.reads store.old }
     ensures space { engine.new.space ≡ engine.old.space }
     ensures drawn { OnOk result (engine.new.parts.next_blob ≤ engine.old.parts.next_blob + 2) }
     ensures counted { OnOk result (engine.new.parts.flushes ≤ engine.old.parts.flushes + 2) }
     ensures flush_at { OnOk result (engine.new.parts.flush_at ≡ engine.old.parts.flush_at) }
+    ensures goes { (start : Content) → Goes engine.old start (D.holds store.old) → OnOk result (Goes engine.new start (D.holds store.new)) }
     ensures goes_on { OnOk result (engine.new.ended ≡ None) }
     ensures cause { HasTroubleCause engine.old.ended (D.faults store.old) (D.faults store.new) result }
     ensures damaged { (blob : ℕ) → result ≡ Err (Damaged blob) → ⊥ }

@@ -2,16 +2,20 @@
 ghost use Rattle.std.specs.Prelude.{◌≡◌, ◌≢◌, ◌⊎◌, ℕ, ◌+◌, ◌<◌, ◌≤◌, ◌^◌, [], None, Some, Err, false, IfOk, IfErr, OnErr, OnOk, MatchBool};
 ghost use Rattle.std.specs.Io.KnownBytes.{Appends};
 ghost use Rattle.wu_base.specs.declared.limits.TheConstants.{BLOBS_SPENT_AT, INPUT_MAX, SPENT_AT};
+ghost use Rattle.wu_outside.specs.Content.{Content};
 ghost use Rattle.wu_outside.specs.Faults.{HasFaultCause, Rose};
 ghost use Rattle.wu_outside.specs.Gains.{GainsPrefix};
 ghost use Rattle.wu_script.specs.Items.{IsBeforeEnd};
 ghost use Rattle.wu_options.specs.CommandLines.{command_line_of, texts_of};
+ghost use Rattle.wu_engine.specs.Going.{Goes, HasBroken};
 ghost use Rattle.wu_engine.specs.Stands.{Stands};
-ghost use Rattle.wu_engine.specs.Opening.{HoldsImage, IsBeginCause, IsSpentWhere};
+ghost use Rattle.wu_engine.specs.Opening.{HoldsImage, IsBeginCause, IsSpentWhere, ReadsAtOpening};
 ghost use Rattle.wu_engine.specs.States.{State, rested_state, saved_state};
 ghost use Rattle.wu_engine.specs.declared.faults.BeginFault.TheVariants.{Damaged as SavedIsDamaged};
 ghost use Rattle.wumpus_run.specs.Demo.{IfDemo, IsShown};
-ghost use Rattle.wumpus_run.specs.Session.{settings_of, moment, status_of, status_of_fault, status_of_opening, status_of_trouble, IsUsage, IsCounted, IsSpent, AnswersAll, AnswersPrefix, FromImage, HasRoom, SavesAll, StaysWithin, IsSession, IsTooLong, HoldsNothingBack, Completes, TakesAll};
+ghost use Rattle.wumpus_run.specs.Permitted.{ReadsPermitted};
+ghost use Rattle.wumpus_run.specs.Session.{LeavesNoStray, settings_of, moment, status_of, status_of_fault, status_of_opening, status_of_trouble, IsUsage, IsCounted, IsSpent, AnswersAll, AnswersPrefix, FromImage, HasRoom, SavesAll, StaysWithin, IsSession, IsTooLong, HoldsNothingBack, Completes, TakesAll};
+ghost use Rattle.wumpus_run.specs.Strays.{AddsNoStray};
 
 use crate::answering::answer;
 use crate::demo::demo;
@@ -62,6 +66,16 @@ pub fn run<I: Source, O: Sink, D: Store>(
         (O.gained sink.old) (O.faults sink.old) (D.holds store.old) (D.faults store.old))
         (moment (I.left source.new) (I.last_read source.new) (I.faults source.new)
         (O.gained sink.new) (O.faults sink.new) (D.holds store.new) (D.faults store.new))) }
+    ensures named { result ≡ Status.Done → FromImage (D.holds store.old) (λ s. LeavesNoStray s (settings_of (texts_of words.now))
+        (moment (I.left source.old) (I.last_read source.old) (I.faults source.old)
+        (O.gained sink.old) (O.faults sink.old) (D.holds store.old) (D.faults store.old))
+        (moment (I.left source.new) (I.last_read source.new) (I.faults source.new)
+        (O.gained sink.new) (O.faults sink.new) (D.holds store.new) (D.faults store.new))) }
+
+    // Of the store only this was read: the root's checkpoint and the fronts of its parts at opening, for a query blocks of its
+    // terms where her files are and the texts of which a line is shown, and for background work the blocks of its terms.
+    ensures permitted { FromImage (D.holds store.old) (λ s. ReadsPermitted s (settings_of (texts_of words.now))
+        (D.holds store.old) (I.left source.old) (D.reads store.old) (D.reads store.new)) }
 
     // A fault of the source, the sink or the store ends the session, exactly where its count of faults rose.
     ensures read_fault { IsCounted Status.ReadFault result (I.faults source.old) (I.faults source.new) }
@@ -73,8 +87,11 @@ pub fn run<I: Source, O: Sink, D: Store>(
         (moment (I.left source.new) (I.last_read source.new) (I.faults source.new)
         (O.gained sink.new) (O.faults sink.new) (D.holds store.new) (D.faults store.new)) }
 
-    // A store that holds an image of a state is never called damaged; it is called spent exactly where it is.
-    ensures damaged { FromImage (D.holds store.old) (λ s. (blob : ℕ) → result ≡ Status.Damaged blob → ⊥) }
+    // A blob is called damaged only where it is broken in what the store held, by the root and by the checkpoint there. A store
+    // that holds an image of a state is never called damaged; it is called spent exactly where it is.
+    ensures damaged { (content : Content) → D.holds store.old ≡ Some content → (blob : ℕ) → result ≡ Status.Damaged blob
+        → HasBroken content blob }
+    ensures undamaged { FromImage (D.holds store.old) (λ s. (blob : ℕ) → result ≡ Status.Damaged blob → ⊥) }
     ensures spent { IsSpent result (settings_of (texts_of words.now)) (D.holds store.old) }
 
     // Whatever the status, no byte after the one past the limit was taken, and the sink gained a
@@ -125,11 +142,15 @@ fn answer_script<I: Source, O: Sink, D: Store>(
 ) -> Status
     requires goes_on { I.ended source.old ≡ false }
     requires within { settings.max_input ≤ INPUT_MAX }
-    ensures { IsSession result settings
+    ensures session { IsSession result settings
         (moment (I.left source.old) (I.last_read source.old) (I.faults source.old)
         (O.gained sink.old) (O.faults sink.old) (D.holds store.old) (D.faults store.old))
         (moment (I.left source.new) (I.last_read source.new) (I.faults source.new)
         (O.gained sink.new) (O.faults sink.new) (D.holds store.new) (D.faults store.new)) }
+    ensures permitted { FromImage (D.holds store.old) (λ s. ReadsPermitted s (Some settings)
+        (D.holds store.old) (I.left source.old) (D.reads store.old) (D.reads store.new)) }
+    ensures broken { (content : Content) → D.holds store.old ≡ Some content → (blob : ℕ) → result ≡ Status.Damaged blob
+        → HasBroken content blob }
 {
     let (mut reader, mut engine) = match start(alloc, settings, store) {
         Ok(start) => start,
@@ -164,12 +185,14 @@ fn start<D: Store>(
 ) -> Result<(Reader, Engine), BeginFault>
     ensures reader { IfOk result (λ start. start.0 ≡ record { bytes = []; spare = settings.max_input; ended = false }) }
     ensures stands { IfOk result (λ start. (s : State) → HoldsImage (D.holds store.old) s → Stands start.1 (D.holds store.new) s) }
+    ensures goes { IfOk result (λ start. (content : Content) → D.holds store.old ≡ Some content → Goes start.1 content (D.holds store.new)) }
     ensures next { IfOk result (λ start. start.1.space.next < SPENT_AT) }
     ensures next_blob { IfOk result (λ start. start.1.parts.next_blob < BLOBS_SPENT_AT) }
     ensures flushes { IfOk result (λ start. start.1.parts.flushes < 2 ^ 62) }
     ensures flush_at { IfOk result (λ start. start.1.parts.flush_at ≡ settings.flush_at) }
     ensures goes_on { IfOk result (λ start. start.1.ended ≡ None) }
     ensures holds { D.holds store.new ≡ D.holds store.old }
+    ensures reads { ReadsAtOpening (D.holds store.old) (D.reads store.old) (D.reads store.new) }
     ensures calm { OnOk result (D.faults store.new ≡ D.faults store.old) }
     ensures cause { IfErr result (IsBeginCause (D.holds store.old) (D.faults store.old) (D.faults store.new)) }
     ensures spent { IsSpentWhere (D.holds store.old) result }
@@ -188,6 +211,9 @@ fn save<D: Store>(engine: &mut Engine, store: &mut D) -> Status
     requires flushes { engine.old.parts.flushes + 1 < 2 ^ 63 }
     ensures image { (s : State) → Stands engine.old (D.holds store.old) s → result ≡ Status.Done
         → HoldsImage (D.holds store.new) (rested_state (saved_state s)) }
+    ensures named { (s : State) → Stands engine.old (D.holds store.old) s → result ≡ Status.Done
+        → AddsNoStray s.layout (D.holds store.old) (rested_state (saved_state s)).layout (D.holds store.new) }
+    ensures reads { D.reads store.new ≡ D.reads store.old }
     ensures ends { (result ≡ Status.Done) ⊎ ((result ≡ Status.NoMemory) ⊎ (result ≡ Status.StoreFault)) }
     ensures store_fault { IsCounted Status.StoreFault result (D.faults store.old) (D.faults store.new) }
 {

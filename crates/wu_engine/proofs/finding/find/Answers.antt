@@ -3,6 +3,7 @@ use Rattle.std.specs.Prelude.{IfSome, Option, option_map}
 use Rattle.std.specs.List.{flat_map}
 use Rattle.wu_base.specs.declared.addresses.TermList.{TermList}
 use Rattle.wu_ask.specs.declared.FindLine.{FindLine}
+use Rattle.wu_ask.specs.Questions.{Finding}
 use Rattle.wu_gcl.specs.Regions.{region_of}
 use Rattle.wu_lists.specs.Keeping.{Asks}
 use Rattle.wu_outside.specs.Content.{Content}
@@ -15,6 +16,8 @@ use Rattle.wu_engine.proofs.AskedTerms.{terms_named}
 use Rattle.wu_engine.proofs.FoundLines.{are_texts, found_answer, found_texts}
 use Rattle.wu_engine.proofs.FramesOfFiles.{are_lists}
 use Rattle.wu_engine.proofs.QueryReads.{cause_of_fetch, cause_of_memory, cause_of_text}
+use Rattle.wu_engine.proofs.PermittedBlocks.{asked_permitted, failed_permitted}
+use Rattle.wu_engine.proofs.PermittedTexts.{shown_permitted}
 use Rattle.wu_engine.proofs.UnitLemmas.{searched_few}
 use Rattle.wu_engine.proofs.finding.find.Goals as goal
 
@@ -108,3 +111,37 @@ returns-in_err-shown-clause-cause g c =
     c.in_err-shown.field-0.0 c.from_residual-in_err-shown.ensures.1
     (g.D.Store.holds c.lists_of.new.store) (g.D.Store.faults c.lists_of.new.store) c.lists_of.ensures.holds c.in_ok-lists.ensures.calm
     c.in_err-shown.ensures.cause
+
+pub returns-in_err-lists-clause-permitted : goal.returns-in_err-lists-clause-permitted
+returns-in_err-lists-clause-permitted g c = λ live s uid is tells keeps.
+    failed_permitted c.args.frames.now live s uid is c.args.parts.now (g.D.Store.holds c.args.store.now) tells
+    (Finding c.args.k (region_of c.args.expr.now)) c.deref.result.now
+    (c.deref.ensures.value ∙ terms_named (region_of c.args.expr.now) c.in_ok-terms.terms.items c.in_ok-terms.ensures)
+    (g.D.Store.reads c.args.store.now) (g.D.Store.reads c.lists_of.new.store) _ _ _ c.in_err-lists.ensures.cause
+
+pub returns-in_err-counts-clause-permitted : goal.returns-in_err-counts-clause-permitted
+returns-in_err-counts-clause-permitted g c = λ live s uid is tells keeps.
+    asked_permitted c.args.frames.now live s uid is c.args.parts.now (g.D.Store.holds c.args.store.now) tells
+    (Finding c.args.k (region_of c.args.expr.now)) c.deref.result.now
+    (c.deref.ensures.value ∙ terms_named (region_of c.args.expr.now) c.in_ok-terms.terms.items c.in_ok-terms.ensures)
+    (g.D.Store.reads c.args.store.now) (g.D.Store.reads c.lists_of.new.store) c.lists_of.new.parts.kept c.in_ok-lists.ensures.blocks
+
+pub returns-in_err-shown-clause-permitted : goal.returns-in_err-shown-clause-permitted
+returns-in_err-shown-clause-permitted g c = λ live s uid is tells keeps.
+    let found = found_in c.args.frames.now.ranges s in
+    shown_permitted c.args.frames.now live s uid is (region_of c.args.expr.now) c.in_ok-terms.terms.items c.in_ok-terms.ensures
+    c.args.files.now.entries c.deref-3.result.now
+    (c.deref-3.ensures.value ∙ c.in_ok-lists.ensures.lists s tells ∙ ap (map (list_at found)) c.deref.ensures.value)
+    c.args.parts.now (g.D.Store.holds c.args.store.now) tells keeps c.deref.result.now c.deref.ensures.value c.lists_of.new.parts.kept
+    (g.D.Store.reads c.args.store.now) (g.D.Store.reads c.lists_of.new.store) (g.D.Store.reads c.first_lines.new.store)
+    c.in_ok-lists.ensures.blocks c.args.k c.as_slice-2.result.now c.as_slice-2.ensures c.in_err-shown.ensures.only
+
+pub returns-clause-permitted : goal.returns-clause-permitted
+returns-clause-permitted g c = λ live s uid is tells keeps.
+    let found = found_in c.args.frames.now.ranges s in
+    shown_permitted c.args.frames.now live s uid is (region_of c.args.expr.now) c.in_ok-terms.terms.items c.in_ok-terms.ensures
+    c.args.files.now.entries c.deref-3.result.now
+    (c.deref-3.ensures.value ∙ c.in_ok-lists.ensures.lists s tells ∙ ap (map (list_at found)) c.deref.ensures.value)
+    c.args.parts.now (g.D.Store.holds c.args.store.now) tells keeps c.deref.result.now c.deref.ensures.value c.lists_of.new.parts.kept
+    (g.D.Store.reads c.args.store.now) (g.D.Store.reads c.lists_of.new.store) (g.D.Store.reads c.first_lines.new.store)
+    c.in_ok-lists.ensures.blocks c.args.k c.as_slice-2.result.now c.as_slice-2.ensures c.in_ok-shown.ensures.only

@@ -3,6 +3,8 @@ use Rattle.std.specs.List.{flat_map}
 use Rattle.wu_gcl.specs.Regions.{region_of}
 use Rattle.wu_engine.specs.Finding.{hits_at, lines_at, text_at}
 use Rattle.wu_engine.proofs.FirstLines.{lines_kept, texts_done, texts_kept}
+use Rattle.wu_engine.specs.Reads.{texts_shown}
+use Rattle.wu_engine.proofs.PermittedTexts.{file_only, left_next}
 use Rattle.wu_engine.proofs.finding.first_lines.Goals as goal
 
 pub returns-then-len-k-clause-reads : goal.returns-then-len-k-clause-reads
@@ -39,4 +41,28 @@ loop-seen-preserved g c =
           (hits_at files region lists) (text_at files) (reads c.loop-seen.store) (reads c.put_file.new.store)
           _ c.len-in-loop-seen.result long
           c.in_ok-put_file.ensures.count c.in_ok-put_file.ensures.reads c.loop-seen.invariant.reads;
+      only =
+          file_only (hits_at files region lists) (text_at files) c.args.k c.loop-seen.seen-index view c.seen-item.result within
+          c.seen-item.is (texts_shown (hits_at files region lists) (text_at files) c.args.k view) c.len-in-loop-seen.result
+          (length before) long c.loop-seen.invariant.left (reads c.args.store.now) (reads c.loop-seen.store) (reads c.put_file.new.store)
+          c.loop-seen.invariant.only c.in_ok-put_file.ensures.only;
+      left =
+          left_next (hits_at files region lists) (text_at files) c.args.k c.loop-seen.seen-index view c.seen-item.result within
+          c.seen-item.is (texts_shown (hits_at files region lists) (text_at files) c.args.k view) c.len-in-loop-seen.result
+          (length before) long c.loop-seen.invariant.left (length after) c.in_ok-put_file.ensures.count;
     }
+
+pub returns-in_err-put_file-clause-only : goal.returns-in_err-put_file-clause-only
+returns-in_err-put_file-clause-only g c =
+    let files = c.args.files.now.entries in
+    let region = region_of c.args.expr.now in
+    let lists = c.args.lists.now in
+    let view = c.args.view.now in
+    let before = c.loop-seen.shown.items in
+    let reads = g.D.Store.reads in
+    let within : c.loop-seen.seen-index < length view = search rules in
+    let long : c.len-in-loop-seen.result ≡ length before = search rules in
+    file_only (hits_at files region lists) (text_at files) c.args.k c.loop-seen.seen-index view c.seen-item.result within
+    c.seen-item.is (texts_shown (hits_at files region lists) (text_at files) c.args.k view) c.len-in-loop-seen.result
+    (length before) long c.loop-seen.invariant.left (reads c.args.store.now) (reads c.loop-seen.store) (reads c.put_file.new.store)
+    c.loop-seen.invariant.only c.in_err-put_file.ensures.only

@@ -3,7 +3,9 @@ use Rattle.std.specs.Prelude.{IfSome, option_map}
 use Rattle.std.specs.List.{flat_map}
 use Rattle.wu_gcl.specs.Regions.{region_of}
 use Rattle.wu_engine.specs.Finding.{hits_at, lines_at, text_at}
+use Rattle.wu_engine.specs.Permitted.{IsOneOfTexts, ReadsOnly}
 use Rattle.wu_engine.specs.Reads.{texts_shown}
+use Rattle.wu_engine.proofs.PermittedTexts.{AreAmong}
 use Rattle.wu_engine.proofs.finding.first_lines.Given as goal
 
 -- with those of the files to come, the lines so far are the first ones, and so are the texts read so far
@@ -21,4 +23,9 @@ invariant-loop-seen g l = record {
       ≡ option_map (λ ranges. ranges ++ texts_shown (hits_at l.files.entries (region_of l.expr) l.lists)
       (text_at l.files.entries) l.k l.view)
       (g.D.Store.reads l.fn.store);
+  only : ReadsOnly (IsOneOfTexts (texts_shown (hits_at l.files.entries (region_of l.expr) l.lists) (text_at l.files.entries) l.k l.view))
+      (g.D.Store.reads l.fn.store) (g.D.Store.reads l.store);
+  left : AreAmong (texts_shown (hits_at l.files.entries (region_of l.expr) l.lists) (text_at l.files.entries)
+      (l.k - length l.shown.items) (drop l.seen-index l.view))
+      (texts_shown (hits_at l.files.entries (region_of l.expr) l.lists) (text_at l.files.entries) l.k l.view);
 }

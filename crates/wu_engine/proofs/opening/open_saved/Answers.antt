@@ -2,6 +2,7 @@ use Rattle.std.proofs.Common.{◌∙◌, ap, arith}
 use Rattle.wu_space.specs.Addresses.{Addresses}
 use Rattle.wu_parts.specs.Contents.{Contents}
 use Rattle.wu_parts.specs.Loading.{end_of}
+use Rattle.wu_engine.proofs.GoingAtFirst.{saved_goes}
 use Rattle.wu_engine.proofs.OpenedParts.{loadable}
 use Rattle.wu_engine.proofs.OpenedStates.{opening_done, opening_reads, opening_stands, reads_checkpoint, room_left}
 use Rattle.wu_engine.proofs.opening.open_saved.Goals as goal
@@ -35,6 +36,16 @@ returns-clause-stands g c =
     c.open_checkpoint.ensures.holds c.as_slice.result.now c.as_slice.ensures c.requires.found c.in_ok-checkpoint.ensures.saved
     c.in_ok-parts.parts c.args.flush_at (reads c.args.store.now) (reads c.open_checkpoint.new.store) (reads c.load.new.store)
     c.in_ok-parts.ensures.loaded c.in_ok-engine_of.field-0 c.in_ok-engine_of.ensures (holds c.load.new.store) c.load.ensures.holds
+
+pub returns-clause-goes : goal.returns-clause-goes
+returns-clause-goes g c = λ content told.
+    let holds = g.D.Store.holds in
+    let reads = g.D.Store.reads in
+    saved_goes c.args.root.now c.in_ok-checkpoint.checkpoint (holds c.args.store.now) (holds c.open_checkpoint.new.store)
+    c.open_checkpoint.ensures.holds c.as_slice.result.now c.as_slice.ensures c.requires.found c.in_ok-checkpoint.ensures.saved
+    c.in_ok-parts.parts c.args.flush_at (reads c.args.store.now) (reads c.open_checkpoint.new.store) (reads c.load.new.store)
+    c.in_ok-parts.ensures.loaded c.in_ok-engine_of.field-0 c.in_ok-engine_of.ensures (holds c.load.new.store) c.load.ensures.holds
+    content told
 
 pub returns-clause-open : goal.returns-clause-open
 returns-clause-open g c =

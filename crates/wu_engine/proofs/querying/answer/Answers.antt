@@ -11,12 +11,14 @@ use Rattle.wu_engine.specs.Answer.{answer}
 use Rattle.wu_engine.specs.Asked.{blocks_for, terms_asked}
 use Rattle.wu_engine.specs.Causes.{IsDamagedIn}
 use Rattle.wu_engine.specs.Finding.{AreTextsOf, IsCause, KeepsTexts}
+use Rattle.wu_engine.specs.Permitted.{MayReadForQuery, ReadsOnly}
 use Rattle.wu_engine.specs.Reads.{ReadsInTurn}
 use Rattle.wu_engine.specs.States.{State}
 use Rattle.wu_engine.specs.Units.{Indexes, IsCauseFor, TellsPostings}
 use Rattle.wu_engine.specs.View.{view_of}
 use Rattle.wu_engine.proofs.AnswerLemmas.{if_ok, paths_listed}
 use Rattle.wu_engine.proofs.FirstLines.{none_counted, none_listed, none_ranked}
+use Rattle.wu_engine.proofs.PermittedBlocks.{fetched_permitted}
 use Rattle.wu_engine.proofs.QueryReads.{blocks_alone, cause_fetched, cause_of_memory}
 use Rattle.wu_engine.proofs.ReadCauses.{if_err}
 use Rattle.wu_engine.proofs.querying.answer.Goals as goal
@@ -50,6 +52,16 @@ returns-in-Count-clause-reads g c =
     (blocks_alone question (blocks_for parts frames.ranges (terms_asked question)) frames parts files holds parts.kept kept before after
     (λ s uid. none_counted s uid (region_of c.in-Count.expr)))
     c.count.ensures.blocks)
+
+pub returns-in-Count-clause-permitted : goal.returns-in-Count-clause-permitted
+returns-in-Count-clause-permitted g c = λ s uid is tells keeps.
+    let question = Counting (region_of c.in-Count.expr) in
+    let before = g.D.Store.reads c.args.store.now in
+    let after = g.D.Store.reads c.count.new.store in
+    subst (λ (ask : Ask). ReadsOnly (MayReadForQuery s uid (question_of ask)) before after) (sym c.in-Count.is)
+    (fetched_permitted c.args.frames.now c.args.space.now.ranges s uid is c.args.parts.now (g.D.Store.holds c.args.store.now) tells
+    question (terms_asked question) refl before after c.count.result c.count.new.parts.kept _ _ c.count.ensures.blocks
+    c.count.ensures.cause)
 
 pub returns-in-Count-clause-cause : goal.returns-in-Count-clause-cause
 returns-in-Count-clause-cause g c =
@@ -119,6 +131,16 @@ returns-in-Rank-clause-reads g c =
     (blocks_alone question (blocks_for parts frames.ranges (terms_asked question)) frames parts files holds parts.kept kept before after
     (λ s uid. none_ranked s uid c.in-Rank.k (region_of c.in-Rank.unit) c.in-Rank.words))
     (rw c.as_slice.ensures at c.ranked.ensures.blocks))
+
+pub returns-in-Rank-clause-permitted : goal.returns-in-Rank-clause-permitted
+returns-in-Rank-clause-permitted g c = λ s uid is tells keeps.
+    let question = Ranking c.in-Rank.k (region_of c.in-Rank.unit) c.in-Rank.words in
+    let before = g.D.Store.reads c.args.store.now in
+    let after = g.D.Store.reads c.ranked.new.store in
+    subst (λ (ask : Ask). ReadsOnly (MayReadForQuery s uid (question_of ask)) before after) (sym c.in-Rank.is)
+    (fetched_permitted c.args.frames.now c.args.space.now.ranges s uid is c.args.parts.now (g.D.Store.holds c.args.store.now) tells
+    question (terms_asked question) refl before after c.ranked.result c.ranked.new.parts.kept _ _
+    (rw c.as_slice.ensures at c.ranked.ensures.blocks) (rw c.as_slice.ensures at c.ranked.ensures.cause))
 
 pub returns-in-Rank-clause-cause : goal.returns-in-Rank-clause-cause
 returns-in-Rank-clause-cause g c =

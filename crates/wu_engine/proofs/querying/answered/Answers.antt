@@ -59,6 +59,17 @@ returns-in-Some-clause-reads g c =
     (g.D.Store.reads c.answer.new.store) c.in-Some.frames.now hers)
     c.answer.ensures.reads
 
+pub returns-in-Some-clause-permitted : goal.returns-in-Some-clause-permitted
+returns-in-Some-clause-permitted g c = λ s tree index tells texts.
+    let uid = c.args.query.now.uid in
+    let live = c.args.space.now.ranges in
+    c.answer.ensures.permitted s uid
+    (record {
+      index = index;
+      hers = subst (λ (fs : FileSystem). AreFrames fs live uid c.in-Some.frames.now) tree
+          (right-found c.args.tree.now live uid c.prepare.new.self c.in-Some.frames.now c.prepare.ensures.right c.in-Some.ensures);
+    }) tells texts
+
 pub returns-in-Some-clause-sound : goal.returns-in-Some-clause-sound
 returns-in-Some-clause-sound g c =
     sound_prepared c.args.tree.now c.args.space.now c.args.parts.now c.answer.new.parts c.args.files.now.entries c.args.kept.now

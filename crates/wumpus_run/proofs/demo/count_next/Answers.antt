@@ -1,4 +1,4 @@
-use Rattle.std.proofs.Common.{◌≡◌, ℕ, ◌+◌, Some, subst, ◌∙◌, arith}
+use Rattle.std.proofs.Common.{◌+◌, Some, subst, ◌∙◌, arith}
 use Rattle.std.specs.Io.KnownBytes.{prepend_known}
 use Rattle.wu_script.specs.Items.{IsNext}
 use Rattle.wu_script.specs.Said.{said_by, tokens_given}

@@ -6,13 +6,16 @@ use Rattle.wumpus_run.specs.Replies.{said_bytes}
 use Rattle.wumpus_run.specs.Session.{moment}
 use Rattle.wumpus_run.proofs.SessionLemmas.{appended, takes_one}
 use Rattle.wumpus_run.proofs.AddressRoom.{HasRoom-item, HasRoom-few, StaysLow-few}
-use Rattle.wumpus_run.proofs.EndLemmas.{IsUnspent-opened}
+use Rattle.wumpus_run.specs.declared.statuses.Status.TheVariants.{Damaged}
+use Rattle.wumpus_run.proofs.BrokenBlobs.{opening_broken}
+use Rattle.wumpus_run.proofs.EndLemmas.{IsUnspent-opened, damaged_so, reading, saving, writing}
 use Rattle.wumpus_run.proofs.StartedStates.{IsUnderWay-none, IsUnderWay-turn, IsSession-saved, IsSession-stopped, IsSession-unanswered}
 use Rattle.wumpus_run.proofs.StartedStates.{IsSession-unopened, IsSession-unwritten}
+use Rattle.wumpus_run.proofs.SessionReads.{permitted_at_opening, permitted_turn}
 use Rattle.wumpus_run.proofs.session.answer_script.Goals as goal
 
-pub returns-in-Err : goal.returns-in-Err
-returns-in-Err g c =
+pub returns-in-Err-clause-session : goal.returns-in-Err-clause-session
+returns-in-Err-clause-session g c =
     let before = moment (g.I.Source.left c.args.source.now) (g.I.Source.last_read c.args.source.now) (g.I.Source.faults c.args.source.now)
     (g.O.Sink.gained c.args.sink.now) (g.O.Sink.faults c.args.sink.now)
     (g.D.Store.holds c.args.store.now) (g.D.Store.faults c.args.store.now) in
@@ -20,8 +23,8 @@ returns-in-Err g c =
     (IsSession-unopened c.args.settings before _ c.in-Err.fault (g.D.Store.holds c.start.new.store) (g.D.Store.faults c.start.new.store)
     c.in-Err.ensures.cause c.in-Err.ensures.spent (λ s image blob e. c.in-Err.ensures.undamaged s image blob (ap Err e)))
 
-pub returns-in-Err-next : goal.returns-in-Err-next
-returns-in-Err-next g c =
+pub returns-in-Err-next-clause-session : goal.returns-in-Err-next-clause-session
+returns-in-Err-next-clause-session g c =
     let told = c.args.settings in
     let i = c.items.invariant.under_way in
     let before = moment (g.I.Source.left c.args.source.now) (g.I.Source.last_read c.args.source.now) (g.I.Source.faults c.args.source.now)
@@ -51,8 +54,8 @@ save-requires-clause-flushes g c =
           c.requires.within,
     )
 
-pub returns-then-is_end : goal.returns-then-is_end
-returns-then-is_end g c =
+pub returns-then-is_end-clause-session : goal.returns-then-is_end-clause-session
+returns-then-is_end-clause-session g c =
     let told = c.args.settings in
     let i = c.items.invariant.under_way in
     let before = moment (g.I.Source.left c.args.source.now) (g.I.Source.last_read c.args.source.now) (g.I.Source.faults c.args.source.now)
@@ -69,10 +72,10 @@ returns-then-is_end g c =
     (subst (λ item. TakesItem between.left (g.I.Source.left c.next.new.source) (g.I.Source.last_read c.next.new.source) c.items.reader
     c.next.new.self item) c.if-is_end.ensures c.in-Ok-next.ensures.taken)
     (subst (IsNext known rest) c.if-is_end.ensures (c.in-Ok-next.ensures.first i.at_end)) (c.in-Ok-next.ensures.at_end i.at_end)
-    c.in-Ok-next.ensures.cause c.save.ensures.store_fault c.save.ensures.image
+    c.in-Ok-next.ensures.cause c.save.ensures.store_fault c.save.ensures.image c.save.ensures.named
 
-pub returns-in-Err-answer : goal.returns-in-Err-answer
-returns-in-Err-answer g c =
+pub returns-in-Err-answer-clause-session : goal.returns-in-Err-answer-clause-session
+returns-in-Err-answer-clause-session g c =
     let told = c.args.settings in
     let i = c.items.invariant.under_way in
     let before = moment (g.I.Source.left c.args.source.now) (g.I.Source.last_read c.args.source.now) (g.I.Source.faults c.args.source.now)
@@ -156,12 +159,17 @@ items-preserved g c =
           let answers = c.in-Ok-answer.ensures.answer s stands in (
             appended c.answer.new.out.items c.clear.new.self.items (said_bytes s (said_by item)) answers.0 c.clear.ensures.items,
             answers.1,
+            done.named s stands,
           )) c.as_slice.ensures.value c.in-Ok-write_reply.ensures.ok;
+      permitted = permitted_turn told before between c.items.engine c.items.reader (prepend_known c.next.new.self.bytes now.left)
+          item (g.D.Store.reads c.args.store.now) (g.D.Store.reads c.items.store) (g.D.Store.reads c.answer.new.store) i c.if-is_end.ensures
+          (c.in-Ok-next.ensures.first i.at_end) done.permitted c.items.invariant.permitted;
+      goes = λ content e. done.goes content (c.items.invariant.goes content e);
       follows = c.in-Ok-next.ensures.follows;
     }
 
-pub returns-in-Err-write_reply : goal.returns-in-Err-write_reply
-returns-in-Err-write_reply g c =
+pub returns-in-Err-write_reply-clause-session : goal.returns-in-Err-write_reply-clause-session
+returns-in-Err-write_reply-clause-session g c =
     let told = c.args.settings in
     let i = c.items.invariant.under_way in
     let before = moment (g.I.Source.left c.args.source.now) (g.I.Source.last_read c.args.source.now) (g.I.Source.faults c.args.source.now)
@@ -183,6 +191,7 @@ returns-in-Err-write_reply g c =
     let answers = c.in-Ok-answer.ensures.answer s stands in (
       appended c.answer.new.out.items c.clear.new.self.items (said_bytes s (said_by item)) answers.0 c.clear.ensures.items,
       answers.1,
+      c.in-Ok-answer.ensures.named s stands,
     ))
     c.as_slice.ensures.value c.in-Err-write_reply.ensures.err)
 
@@ -196,6 +205,75 @@ items-init g c =
     record {
       under_way = rw e.reader
           (IsUnderWay-none told before (g.D.Store.holds c.start.new.store) (g.D.Store.faults c.start.new.store) c.in-Ok.start.1 e.stands
-          (IsUnspent-opened before.holds c.in-Ok.start e.spent) e.goes_on e.next e.next_blob e.flushes e.flush_at e.calm);
+          (IsUnspent-opened before.holds c.in-Ok.start e.spent) e.goes_on e.next e.next_blob e.flushes e.flush_at e.calm
+          e.holds);
+      permitted = λ s image. permitted_at_opening told s before.holds before.left (g.D.Store.reads c.args.store.now)
+          (g.D.Store.reads c.start.new.store) e.reads;
+      goes = e.goes;
       follows = rw e.reader (record { going = λ h. c.requires.goes_on; recent = omega arith });
     }
+
+pub returns-in-Err-clause-permitted : goal.returns-in-Err-clause-permitted
+returns-in-Err-clause-permitted g c =
+    λ s image. permitted_at_opening c.args.settings s (g.D.Store.holds c.args.store.now) (g.I.Source.left c.args.source.now)
+    (g.D.Store.reads c.args.store.now) (g.D.Store.reads c.start.new.store) c.in-Err.ensures.reads
+
+pub returns-in-Err-next-clause-permitted : goal.returns-in-Err-next-clause-permitted
+returns-in-Err-next-clause-permitted g c =
+    c.items.invariant.permitted
+
+pub returns-then-is_end-clause-permitted : goal.returns-then-is_end-clause-permitted
+returns-then-is_end-clause-permitted g c =
+    rw c.save.ensures.reads c.items.invariant.permitted
+
+pub returns-in-Err-answer-clause-permitted : goal.returns-in-Err-answer-clause-permitted
+returns-in-Err-answer-clause-permitted g c =
+    let i = c.items.invariant.under_way in
+    let before = moment (g.I.Source.left c.args.source.now) (g.I.Source.last_read c.args.source.now) (g.I.Source.faults c.args.source.now)
+    (g.O.Sink.gained c.args.sink.now) (g.O.Sink.faults c.args.sink.now)
+    (g.D.Store.holds c.args.store.now) (g.D.Store.faults c.args.store.now) in
+    let between = moment (g.I.Source.left c.items.source) (g.I.Source.last_read c.items.source) (g.I.Source.faults c.items.source)
+    (g.O.Sink.gained c.items.sink) (g.O.Sink.faults c.items.sink)
+    (g.D.Store.holds c.items.store) (g.D.Store.faults c.items.store) in
+    permitted_turn c.args.settings before between c.items.engine c.items.reader
+    (prepend_known c.next.new.self.bytes (g.I.Source.left c.next.new.source)) c.in-Ok-next.item (g.D.Store.reads c.args.store.now)
+    (g.D.Store.reads c.items.store) (g.D.Store.reads c.answer.new.store) i c.if-is_end.ensures
+    (c.in-Ok-next.ensures.first i.at_end) c.in-Err-answer.ensures.permitted c.items.invariant.permitted
+
+pub returns-in-Err-write_reply-clause-permitted : goal.returns-in-Err-write_reply-clause-permitted
+returns-in-Err-write_reply-clause-permitted g c =
+    let i = c.items.invariant.under_way in
+    let before = moment (g.I.Source.left c.args.source.now) (g.I.Source.last_read c.args.source.now) (g.I.Source.faults c.args.source.now)
+    (g.O.Sink.gained c.args.sink.now) (g.O.Sink.faults c.args.sink.now)
+    (g.D.Store.holds c.args.store.now) (g.D.Store.faults c.args.store.now) in
+    let between = moment (g.I.Source.left c.items.source) (g.I.Source.last_read c.items.source) (g.I.Source.faults c.items.source)
+    (g.O.Sink.gained c.items.sink) (g.O.Sink.faults c.items.sink)
+    (g.D.Store.holds c.items.store) (g.D.Store.faults c.items.store) in
+    permitted_turn c.args.settings before between c.items.engine c.items.reader
+    (prepend_known c.next.new.self.bytes (g.I.Source.left c.next.new.source)) c.in-Ok-next.item (g.D.Store.reads c.args.store.now)
+    (g.D.Store.reads c.items.store) (g.D.Store.reads c.answer.new.store) i c.if-is_end.ensures
+    (c.in-Ok-next.ensures.first i.at_end) c.in-Ok-answer.ensures.permitted c.items.invariant.permitted
+
+pub returns-in-Err-clause-broken : goal.returns-in-Err-clause-broken
+returns-in-Err-clause-broken g c =
+    rw c.status_of_opening.ensures
+    (opening_broken (g.D.Store.holds c.args.store.now) c.in-Err.fault (g.D.Store.faults c.args.store.now)
+    (g.D.Store.faults c.start.new.store) c.in-Err.ensures.cause)
+
+pub returns-in-Err-next-clause-broken : goal.returns-in-Err-next-clause-broken
+returns-in-Err-next-clause-broken g c =
+    rw c.status_of.ensures (λ content told blob e. absurd ((reading c.in-Err-next.end).damaged blob e))
+
+pub returns-then-is_end-clause-broken : goal.returns-then-is_end-clause-broken
+returns-then-is_end-clause-broken g c = λ content told blob e.
+    absurd (saving c.save.result (Damaged blob) c.save.ensures.ends (λ is. cc) (λ is. cc) (λ is. cc) e)
+
+pub returns-in-Err-answer-clause-broken : goal.returns-in-Err-answer-clause-broken
+returns-in-Err-answer-clause-broken g c =
+    rw c.status_of_trouble.ensures (λ content told blob e.
+    c.in-Err-answer.ensures.broken content (c.items.invariant.goes content told) blob
+    (ap Err (damaged_so c.in-Err-answer.trouble blob e)))
+
+pub returns-in-Err-write_reply-clause-broken : goal.returns-in-Err-write_reply-clause-broken
+returns-in-Err-write_reply-clause-broken g c =
+    rw c.status_of_fault.ensures (λ content told blob e. absurd ((writing c.in-Err-write_reply.fault).damaged blob e))

@@ -1,6 +1,9 @@
-use Rattle.std.proofs.Common.{◌+◌, length}
+use Rattle.std.proofs.Common.{◌≡◌, ◌+◌, length, Some}
+use Rattle.wu_outside.specs.Content.{Content}
 use Rattle.wu_script.specs.Holding.{Follows}
-use Rattle.wumpus_run.specs.Session.{moment}
+use Rattle.wu_engine.specs.Going.{Goes}
+use Rattle.wumpus_run.specs.Permitted.{ReadsPermitted}
+use Rattle.wumpus_run.specs.Session.{FromImage, moment}
 use Rattle.wumpus_run.proofs.StartedStates.{IsUnderWay}
 use Rattle.wumpus_run.proofs.session.answer_script.Given as goal
 
@@ -14,6 +17,9 @@ invariant-items g l = record {
       (g.O.Sink.gained l.sink) (g.O.Sink.faults l.sink)
       (g.D.Store.holds l.store) (g.D.Store.faults l.store))
       l.engine l.reader;
+  permitted : FromImage (g.D.Store.holds l.fn.store) (λ s. ReadsPermitted s (Some l.fn.settings)
+      (g.D.Store.holds l.fn.store) (g.I.Source.left l.fn.source) (g.D.Store.reads l.fn.store) (g.D.Store.reads l.store));
+  goes : (content : Content) → g.D.Store.holds l.fn.store ≡ Some content → Goes l.engine content (g.D.Store.holds l.store);
   follows : Follows (g.I.Source.ended l.source) (g.I.Source.last_read l.source) l.reader;
 }
 

@@ -32,13 +32,13 @@ returns-in-Ok-Some-Run-clause-complete g c =
     (g.I.Source.faults c.answer_script.new.source) (g.O.Sink.gained c.answer_script.new.sink) (g.O.Sink.faults c.answer_script.new.sink)
     (g.D.Store.holds c.answer_script.new.store) (g.D.Store.faults c.answer_script.new.store))
     (record {
-      usage = c.answer_script.ensures.usage;
-      read = λ e. read (c.answer_script.ensures.read_fault.rose e);
-      write = λ e. write (c.answer_script.ensures.write_fault.rose e);
-      store = λ e. store (c.answer_script.ensures.store_fault.rose e);
-      damaged = c.answer_script.ensures.damaged s image;
-      spent = λ next e. has_room (g.D.Store.holds c.args.store.now) s image room next (c.answer_script.ensures.spent.only next e);
-    }) c.answer_script.ensures.all_taken c.answer_script.ensures.too_long)
+      usage = c.answer_script.ensures.session.usage;
+      read = λ e. read (c.answer_script.ensures.session.read_fault.rose e);
+      write = λ e. write (c.answer_script.ensures.session.write_fault.rose e);
+      store = λ e. store (c.answer_script.ensures.session.store_fault.rose e);
+      damaged = c.answer_script.ensures.session.damaged s image;
+      spent = λ next e. has_room (g.D.Store.holds c.args.store.now) s image room next (c.answer_script.ensures.session.spent.only next e);
+    }) c.answer_script.ensures.session.all_taken c.answer_script.ensures.session.too_long)
 
 pub returns-in-Err-clause-too_long : goal.returns-in-Err-clause-too_long
 returns-in-Err-clause-too_long g c =

@@ -3,6 +3,7 @@ use Rattle.std.specs.Prelude.{IfErr, IfSome, None}
 use Rattle.std.proofs.lemmas.Result.{on_ok_weaker}
 use Rattle.wu_engine.specs.Opened.{FindsRoot}
 use Rattle.wu_engine.specs.Opening.{IsBeginCause}
+use Rattle.wu_engine.proofs.GoingAtFirst.{begins_going, first_goes}
 use Rattle.wu_engine.proofs.OpenedStates.{begins_cause, begins_first, begins_open, begins_reads, begins_saved, error_passed, never_damaged, on_any_err, on_any_ok, opens_nothing, reads_nothing, spent_on}
 use Rattle.wu_engine.proofs.engines.Engine.begin.Goals as goal
 
@@ -11,6 +12,12 @@ returns-in-Some-clause-stands g c =
     let holds = g.D.Store.holds in
     begins_saved (holds c.args.store.now) (holds c.open_root.new.store) (c.open_root.ensures.holds ∙ c.sync.ensures.same)
     c.open_saved.result (holds c.open_saved.new.store) c.open_saved.ensures.stands
+
+pub returns-in-Some-clause-goes : goal.returns-in-Some-clause-goes
+returns-in-Some-clause-goes g c =
+    let holds = g.D.Store.holds in
+    begins_going (holds c.args.store.now) (holds c.open_root.new.store) (holds c.open_saved.new.store)
+    (c.open_root.ensures.holds ∙ c.sync.ensures.same) c.open_saved.result c.open_saved.ensures.goes
 
 pub returns-in-Some-clause-open : goal.returns-in-Some-clause-open
 returns-in-Some-clause-open g c =
@@ -86,6 +93,12 @@ returns-in_ok-open_first-in-None-clause-stands g c =
     begins_first (holds c.args.store.now) (holds c.open_root.new.store) (c.open_root.ensures.holds ∙ c.sync.ensures.same)
     c.in_ok-open_first-in-None.field-0 c.args.flush_at c.in_ok-open_first-in-None.ensures
     (subst (λ h. IfSome h (FindsRoot None)) c.sync.ensures.same (rw c.in-None.is at c.in_ok-open_root.ensures.found))
+
+pub returns-in_ok-open_first-in-None-clause-goes : goal.returns-in_ok-open_first-in-None-clause-goes
+returns-in_ok-open_first-in-None-clause-goes g c = λ content told.
+    let holds = g.D.Store.holds in
+    first_goes c.in_ok-open_first-in-None.field-0 c.args.flush_at c.in_ok-open_first-in-None.ensures (holds c.args.store.now)
+    (holds c.open_root.new.store) (c.open_root.ensures.holds ∙ c.sync.ensures.same) content told
 
 pub returns-in_ok-open_first-in-None-clause-open : goal.returns-in_ok-open_first-in-None-clause-open
 returns-in_ok-open_first-in-None-clause-open g c =

@@ -1,5 +1,8 @@
-use Rattle.std.proofs.Common.{refl}
+use Rattle.std.proofs.Common.{ℕ, map, refl}
+use Rattle.wu_base.specs.declared.addresses.Range.{Range}
+use Rattle.wu_layout.specs.Postings.{live_of}
 use Rattle.wu_engine.proofs.AddedBlobs.{draws_named, flushed_draws}
+use Rattle.wu_engine.proofs.GoingEvents.{flush_sound, has_none}
 use Rattle.wu_engine.proofs.NamedBlobs.{flush_names}
 use Rattle.wu_engine.proofs.StandLemmas.{flushed_on}
 use Rattle.wu_engine.proofs.engines.Engine.flush.Goals as goal
@@ -22,3 +25,22 @@ returns-in-Ok-clause-named g c = λ s stands.
     (flush_names s stands.index.is_state)
     (flushed_draws old.tree old.space old.parts old.files.entries s stands.index _ (holds c.args.store.now, moments c.args.store.now)
     (holds c.flush.new.store, moments c.flush.new.store) c.in-Ok.ensures.flushed)
+
+pub returns-in-Ok-clause-goes : goal.returns-in-Ok-clause-goes
+returns-in-Ok-clause-goes g c = λ start goes.
+    let old = c.args.self.now in
+    let holds = g.D.Store.holds in
+    let moments = g.D.Store.moments in
+    let memory = has_none old.space.next old.parts c.flush.new.self c.in-Ok.ensures.changes in
+    record {
+      goes_on = refl;
+      low = memory.low;
+      high = memory.high;
+      below = memory.below;
+      postings = memory.postings;
+      memory = memory.has;
+      sound =
+          flush_sound start old.files.entries old.checkpoint (live_of (map (λ (file : ℕ × Range). file.1) old.space.ranges) goes.postings)
+          old.parts c.flush.new.self (holds c.args.store.now, moments c.args.store.now) (holds c.flush.new.store, moments c.flush.new.store)
+          (c.in-Ok.ensures.flushed goes.low goes.high goes.postings goes.memory) goes.sound;
+    }

@@ -1,5 +1,7 @@
-use Rattle.std.proofs.Common.{refl}
+use Rattle.std.proofs.Common.{◌≡◌, refl}
+use Rattle.wu_base.specs.declared.troubles.Trouble.TheVariants.{Damaged}
 use Rattle.wu_ask.specs.Questions.{question_of}
+use Rattle.wu_engine.proofs.BrokenBlobs.{found_is_broken}
 use Rattle.wu_engine.proofs.QueryStands.{postings_told, ranges_told, reads_of_engine, stands_on, texts_kept}
 use Rattle.wu_engine.proofs.engines.Engine.query.Goals as goal
 
@@ -17,3 +19,11 @@ pub returns-in-Ok-clause-reads : goal.returns-in-Ok-clause-reads
 returns-in-Ok-clause-reads g c =
     reads_of_engine c.args.self.now (g.D.Store.holds c.args.store.now) c.args.query.now.uid (question_of c.args.query.now.ask)
     c.answered.new.parts.kept (g.D.Store.reads c.args.store.now) (g.D.Store.reads c.answered.new.store) c.in-Ok.ensures.reads
+
+pub returns-in-Err-clause-broken : goal.returns-in-Err-clause-broken
+returns-in-Err-clause-broken g c = λ start goes blob e.
+    let told : c.end_with.result ≡ c.in-Err.trouble = c.end_with.ensures.trouble in
+    let same : c.in-Err.trouble ≡ Damaged blob = cc in
+    found_is_broken start (g.D.Store.holds c.args.store.now) c.args.self.now.files.entries c.args.self.now.parts
+    c.args.self.now.checkpoint blob goes.sound
+    (c.in-Err.ensures.cause.damaged blob same)

@@ -1,5 +1,8 @@
 use Rattle.std.proofs.Common.{refl}
-use Rattle.wu_engine.proofs.SavedEngines.{gone_saved, image_on, numbers_saved, saved_on, sound_saved}
+use Rattle.wu_parts.specs.Flushing.{Told}
+use Rattle.wu_engine.proofs.GoingSaves.{none_in_memory, save_sound}
+use Rattle.wu_engine.proofs.SavedEngines.{LeavesSaved, gone_saved, image_on, named_on, numbers_saved, saved_on, sound_saved}
+use Rattle.wu_engine.proofs.engines.Engine.save.Given.{Over}
 use Rattle.wu_engine.proofs.engines.Engine.save.Goals as goal
 
 pub save-requires-clause-some : goal.save-requires-clause-some
@@ -17,58 +20,69 @@ invariant_of-self g c =
           old.frames (old.sound c.in_default.is);
     }
 
+-- what the store told before the save, and after it
+abbrev before : (g : Over) → goal.After-self-1 g → Told
+before g c = (g.D.Store.holds c.args.store.now, g.D.Store.moments c.args.store.now)
+
+abbrev after : (g : Over) → goal.After-self-1 g → Told
+after g c = (g.D.Store.holds c.save.new.store, g.D.Store.moments c.save.new.store)
+
 pub returns-in-Ok-clause-step : goal.returns-in-Ok-clause-step
 returns-in-Ok-clause-step g c = λ s stands.
     let old = c.args.self.now in
-    let holds = g.D.Store.holds in
-    let moments = g.D.Store.moments in
-    saved_on old _ s (holds c.args.store.now, moments c.args.store.now) (holds c.save.new.store, moments c.save.new.store) stands
-    (old.sound c.in_default.is).few c.in-Ok.ensures.saved refl refl refl refl
+    saved_on old _ s (before g c) (after g c) stands (old.sound c.in_default.is).few c.in-Ok.ensures.saved refl refl refl refl
 
 pub returns-in-Ok-clause-image : goal.returns-in-Ok-clause-image
 returns-in-Ok-clause-image g c = λ s stands.
     let old = c.args.self.now in
-    let holds = g.D.Store.holds in
-    let moments = g.D.Store.moments in
-    image_on old c.in-Ok.checkpoint c.save.new.parts s (holds c.args.store.now, moments c.args.store.now)
-    (holds c.save.new.store, moments c.save.new.store) stands (old.sound c.in_default.is).few c.in-Ok.ensures.saved
+    image_on old c.in-Ok.checkpoint c.save.new.parts s (before g c) (after g c) stands (old.sound c.in_default.is).few
+    c.in-Ok.ensures.saved
+
+pub returns-in-Ok-clause-named : goal.returns-in-Ok-clause-named
+returns-in-Ok-clause-named g c = λ s stands.
+    let old = c.args.self.now in
+    named_on old c.in-Ok.checkpoint c.save.new.parts s (before g c) (after g c) stands (old.sound c.in_default.is).few
+    c.in-Ok.ensures.saved
 
 pub returns-in-Ok-clause-removed : goal.returns-in-Ok-clause-removed
 returns-in-Ok-clause-removed g c =
     let old = c.args.self.now in
-    let holds = g.D.Store.holds in
-    let moments = g.D.Store.moments in
-    gone_saved old.tree old.space old.files.entries old.checkpoint c.in-Ok.checkpoint old.parts c.save.new.parts
-    (holds c.args.store.now, moments c.args.store.now) (holds c.save.new.store, moments c.save.new.store) c.in-Ok.ensures.saved
+    gone_saved old.tree old.space old.files.entries old.checkpoint c.in-Ok.checkpoint old.parts c.save.new.parts (before g c) (after g c)
+    c.in-Ok.ensures.saved
+
+-- what it leaves of some numbers
+numbers : (g : Over) (c : goal.After-self-1 g) → LeavesSaved c.args.self.now.parts c.save.new.parts
+numbers g c =
+    let old = c.args.self.now in
+    numbers_saved old.tree old.space old.files.entries old.checkpoint c.in-Ok.checkpoint old.parts c.save.new.parts (before g c)
+    (after g c) c.in-Ok.ensures.saved
 
 pub returns-in-Ok-clause-drawn : goal.returns-in-Ok-clause-drawn
-returns-in-Ok-clause-drawn g c =
-    let old = c.args.self.now in
-    let holds = g.D.Store.holds in
-    let moments = g.D.Store.moments in
-    (numbers_saved old.tree old.space old.files.entries old.checkpoint c.in-Ok.checkpoint old.parts c.save.new.parts
-    (holds c.args.store.now, moments c.args.store.now) (holds c.save.new.store, moments c.save.new.store) c.in-Ok.ensures.saved).most
+returns-in-Ok-clause-drawn g c = (numbers g c).most
 
 pub returns-in-Ok-clause-counted : goal.returns-in-Ok-clause-counted
-returns-in-Ok-clause-counted g c =
-    let old = c.args.self.now in
-    let holds = g.D.Store.holds in
-    let moments = g.D.Store.moments in
-    (numbers_saved old.tree old.space old.files.entries old.checkpoint c.in-Ok.checkpoint old.parts c.save.new.parts
-    (holds c.args.store.now, moments c.args.store.now) (holds c.save.new.store, moments c.save.new.store) c.in-Ok.ensures.saved).counted
+returns-in-Ok-clause-counted g c = (numbers g c).counted
 
 pub returns-in-Ok-clause-flush_at : goal.returns-in-Ok-clause-flush_at
-returns-in-Ok-clause-flush_at g c =
-    let old = c.args.self.now in
-    let holds = g.D.Store.holds in
-    let moments = g.D.Store.moments in
-    (numbers_saved old.tree old.space old.files.entries old.checkpoint c.in-Ok.checkpoint old.parts c.save.new.parts
-    (holds c.args.store.now, moments c.args.store.now) (holds c.save.new.store, moments c.save.new.store) c.in-Ok.ensures.saved).flush_at
+returns-in-Ok-clause-flush_at g c = (numbers g c).flush_at
 
 pub returns-in-Ok-clause-kept : goal.returns-in-Ok-clause-kept
-returns-in-Ok-clause-kept g c =
+returns-in-Ok-clause-kept g c = (numbers g c).kept
+
+pub returns-in-Ok-clause-goes : goal.returns-in-Ok-clause-goes
+returns-in-Ok-clause-goes g c = λ start goes.
     let old = c.args.self.now in
-    let holds = g.D.Store.holds in
-    let moments = g.D.Store.moments in
-    (numbers_saved old.tree old.space old.files.entries old.checkpoint c.in-Ok.checkpoint old.parts c.save.new.parts
-    (holds c.args.store.now, moments c.args.store.now) (holds c.save.new.store, moments c.save.new.store) c.in-Ok.ensures.saved).kept
+    let memory =
+    none_in_memory old.tree old.space old.files.entries old.checkpoint c.in-Ok.checkpoint old.parts c.save.new.parts (before g c)
+    (after g c) c.in-Ok.ensures.saved in
+    record {
+      goes_on = refl;
+      low = memory.low;
+      high = memory.high;
+      below = memory.below;
+      postings = memory.postings;
+      memory = memory.has;
+      sound =
+          save_sound old.tree old.space old.files.entries old.checkpoint c.in-Ok.checkpoint old.parts c.save.new.parts (before g c)
+          (after g c) c.in-Ok.ensures.saved start goes.low goes.high goes.postings goes.memory goes.sound;
+    }

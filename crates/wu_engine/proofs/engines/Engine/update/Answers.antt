@@ -1,7 +1,9 @@
 use Rattle.std.proofs.Common.{refl, arith}
+use Rattle.wu_parts.specs.Flushing.{Told}
 use Rattle.wu_engine.specs.States.{after_event}
 use Rattle.wu_engine.proofs.AddedBlobs.{draws_named, event_draws, none_added}
 use Rattle.wu_engine.proofs.FileChanges.{changes}
+use Rattle.wu_engine.proofs.GoingEvents.{HasSome, goes_followed, has_followed}
 use Rattle.wu_engine.proofs.LeftStores.{left_alone}
 use Rattle.wu_engine.proofs.NamedBlobs.{event_names}
 use Rattle.wu_engine.proofs.SoundLemmas.{indexable, length-terms_after, next_followed, sound_followed}
@@ -103,3 +105,49 @@ returns-in-Ok-followed-clause-named g c = λ s stands.
 pub returns-in-Err-clause-named : goal.returns-in-Err-clause-named
 returns-in-Err-clause-named g c = λ s stands.
     none_added (after_event c.args.self.now.parts.flush_at s c.args.event.now c.args.body.now).layout (g.D.Store.holds c.args.store.now)
+
+pub returns-in-Ok-followed-clause-goes : goal.returns-in-Ok-followed-clause-goes
+returns-in-Ok-followed-clause-goes g c = λ start goes.
+    let old = c.args.self.now in
+    let effect = c.in-Ok.effect in
+    let text = c.args.body.now in
+    let space = c.follow-followed.new.space in
+    let files = c.follow-followed.new.files.entries in
+    let parts = c.follow-followed.new.parts in
+    let before : Told = (g.D.Store.holds c.args.store.now, g.D.Store.moments c.args.store.now) in
+    let after : Told = (g.D.Store.holds c.follow-followed.new.store, g.D.Store.moments c.follow-followed.new.store) in
+    let step = rw c.in-Ok.is at c.in_ok-effect.ensures.step in
+    let taken = length-terms_after old.tree c.args.event.now text c.apply.new.self effect step in
+    let done = c.in-Ok-followed.ensures.done in
+    let sound = old.sound c.in_default.is in
+    let sorted = c.keeps_the_rules.ensures.by_number in
+    let indexed =
+    indexable old.tree c.apply.new.self effect (c.effects_tell_files.ensures c.args.event.now c.apply.new.self effect step)
+    (changes old.tree c.args.event.now c.apply.new.self effect step).1 old.space old.parts old.files.entries old.frames sound sorted text
+    c.requires.short (omega (arith, taken)) in
+    let some : HasSome old.space.next old.parts.memory =
+    record { low = goes.low; high = goes.high; below = goes.below; postings = goes.postings; has = goes.memory } in
+    let memory =
+    has_followed start old.checkpoint effect text old.space space old.files.entries files old.parts parts before after done some in
+    record {
+      goes_on = refl;
+      low = memory.low;
+      high = memory.high;
+      below = memory.below;
+      postings = memory.postings;
+      memory = memory.has;
+      sound =
+          goes_followed start old.checkpoint effect text old.space space old.files.entries files old.parts parts before after done
+          sound.ranges sorted indexed.made some goes.sound;
+    }
+
+pub returns-in-Err-clause-goes : goal.returns-in-Err-clause-goes
+returns-in-Err-clause-goes g c = λ start goes. record {
+  goes_on = refl;
+  low = goes.low;
+  high = goes.high;
+  below = goes.below;
+  postings = goes.postings;
+  memory = goes.memory;
+  sound = goes.sound;
+}

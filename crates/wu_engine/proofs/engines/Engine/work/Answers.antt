@@ -1,7 +1,13 @@
-use Rattle.std.proofs.Common.{◌+◌, refl, rules}
+use Rattle.std.proofs.Common.{◌≡◌, ◌+◌, refl, ap, sym, subst, rules}
+use Rattle.wu_base.specs.declared.troubles.Trouble.TheVariants.{Damaged}
+use Rattle.wu_parts.specs.Contents.{Contents}
+use Rattle.wu_parts.specs.Memory.{HasPostings, Memory}
 use Rattle.wu_engine.proofs.AddedBlobs.{draws_named, units_draw}
+use Rattle.wu_engine.proofs.BrokenBlobs.{worked_is_broken}
+use Rattle.wu_engine.proofs.GoingUnits.{units_sound}
 use Rattle.wu_engine.proofs.NamedBlobs.{work_names}
 use Rattle.wu_engine.proofs.WorkedStates.{others_worked, parts_told, worked_on}
+use Rattle.wu_engine.proofs.WorkReads.{stop_permitted, work_permitted}
 use Rattle.wu_engine.proofs.engines.Engine.work.Goals as goal
 
 pub returns-in-Ok-clause-step : goal.returns-in-Ok-clause-step
@@ -45,3 +51,44 @@ returns-in-Ok-clause-named g c = λ s stands.
     (work_names c.args.n s stands.index.is_state)
     (units_draw old.space.ranges work.units old.parts _ (holds c.args.store.now, moments c.args.store.now)
     (holds c.work.new.store, moments c.work.new.store) work.read work.done)
+
+pub returns-in-Ok-clause-permitted : goal.returns-in-Ok-clause-permitted
+returns-in-Ok-clause-permitted g c = λ s stands.
+    let holds = g.D.Store.holds in
+    let moments = g.D.Store.moments in
+    work_permitted c.args.self.now s c.args.n (holds c.args.store.now, moments c.args.store.now) stands (g.D.Store.reads c.args.store.now)
+    (g.D.Store.reads c.work.new.store) _ (holds c.work.new.store, moments c.work.new.store) c.in-Ok.ensures.units
+
+pub returns-in-Err-clause-permitted : goal.returns-in-Err-clause-permitted
+returns-in-Err-clause-permitted g c = λ s stands.
+    stop_permitted c.args.self.now s c.args.n (g.D.Store.holds c.args.store.now, g.D.Store.moments c.args.store.now) stands
+    (g.D.Store.reads c.args.store.now) (g.D.Store.reads c.work.new.store) (g.D.Store.faults c.args.store.now)
+    (g.D.Store.faults c.work.new.store) c.in-Err.trouble c.in-Err.ensures.stops
+
+pub returns-in-Ok-clause-goes : goal.returns-in-Ok-clause-goes
+returns-in-Ok-clause-goes g c = λ start goes.
+    let old = c.args.self.now in
+    let holds = g.D.Store.holds in
+    let moments = g.D.Store.moments in
+    let work = c.in-Ok.ensures.units in
+    record {
+      goes_on = refl;
+      low = goes.low;
+      high = goes.high;
+      below = goes.below;
+      postings = goes.postings;
+      memory =
+          subst (λ (m : Memory). HasPostings goes.low goes.high m goes.postings)
+          (sym (ap (λ (parts : Contents). parts.memory) c.in-Ok.ensures.changes.others)) goes.memory;
+      sound =
+          units_sound start old.files.entries old.checkpoint old.space.ranges work.units old.parts _
+          (holds c.args.store.now, moments c.args.store.now) (holds c.work.new.store, moments c.work.new.store) work.read work.done goes.sound;
+    }
+
+pub returns-in-Err-clause-broken : goal.returns-in-Err-clause-broken
+returns-in-Err-clause-broken g c = λ start goes blob e.
+    let old = c.args.self.now in
+    let told : c.end_with.result ≡ c.in-Err.trouble = c.end_with.ensures.trouble in
+    let same : c.in-Err.trouble ≡ Damaged blob = cc in
+    worked_is_broken start (g.D.Store.holds c.args.store.now) old.files.entries old.parts old.checkpoint blob goes.sound
+    (c.in-Err.ensures.stops.damaged blob same)

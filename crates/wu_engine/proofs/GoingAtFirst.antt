@@ -1,0 +1,300 @@
+-- What an engine records is sound when it is opened.
+use Rattle.std.proofs.Common.{◌≡◌, ◌≢◌, inl, inr, ⊎_elim, ℕ, ◌+◌, ◌<◌, ◌≤◌, ◌==◌, nat_lt, eqb, true, false, cond, List, [], ◌∷◌, length, map, filter, count_by, refl, ap, sym, ◌∙◌, subst, arith}
+use Rattle.std.specs.Prelude.{Option, Some, None, IfOk, IfSome, Result, zip}
+use Rattle.std.specs.List.{AllByRecursion, IsDistinct}
+use Rattle.std.proofs.lemmas.Bool.{cases_eq, eq-eqb}
+use Rattle.wu_base.specs.declared.addresses.PartRec.{PartRec}
+use Rattle.wu_base.proofs.Members.{Contains-from_Has, Has, Has-append_right, Has-map, all_from_has, all_has}
+use Rattle.wu_outside.specs.Content.{Content}
+use Rattle.wu_outside.specs.declared.ranges.ReadRange.{ReadRange}
+use Rattle.wu_layout.specs.Invariants.{BlobsAreDistinct}
+use Rattle.wu_layout.specs.Layouts.{FileEntry}
+use Rattle.wu_layout.proofs.BlobLemmas.{count-append, count-cons, once_other, once_same}
+use Rattle.wu_space.proofs.Files.{sum_by-map}
+use Rattle.wu_part.specs.Directories.{PartDirectory}
+use Rattle.wu_part.specs.Parts.{IsDirectoryOf}
+use Rattle.wu_parts.specs.Contents.{Contents, no_contents}
+use Rattle.wu_parts.specs.Loading.{AreOpened, HasDirectory, IsLoaded, loaded_contents}
+use Rattle.wu_parts.specs.Units.{bares}
+use Rattle.wu_parts.proofs.Putting.{has-none}
+use Rattle.wu_image.specs.declared.checkpoints.Checkpoint.{Checkpoint}
+use Rattle.wu_image.specs.declared.records.FileRec.{FileRec}
+use Rattle.wu_image.specs.declared.roots.Root.{Root}
+use Rattle.wu_image.specs.LayoutRules.{AreLayoutRules, named_blobs}
+use Rattle.wu_engine.specs.declared.engines.Engine.{Engine}
+use Rattle.wu_engine.specs.declared.faults.BeginFault.{BeginFault}
+use Rattle.wu_engine.specs.Going.{Goes, HasSaved, IsSoundIn, IsSoundPart, IsSoundText, entries_of, entry_for}
+use Rattle.wu_engine.specs.Opened.{IsEngineFor, IsFirstEngine, numbered}
+use Rattle.wu_engine.specs.Opening.{HasCheckpoint, HasOpenRoot, HasRoot}
+use Rattle.wu_engine.specs.Records.{Records}
+use Rattle.wu_engine.proofs.GoingUnits.{named_by_blobs, named_by_parts}
+use Rattle.wu_engine.proofs.OpenedStates.{its_load}
+use Rattle.wu_engine.proofs.SavedBlobs.{times, times-positive}
+
+-- ---- numbers that are counted
+
+-- a number that none has is never counted
+none_counted : {X : Type 0} (number_of : X → ℕ) (number : ℕ) (xs : List X) → AllByRecursion (λ x. number_of x ≢ number) xs
+    → count_by (λ x. number_of x == number) xs ≡ 0
+none_counted number_of number [] other = refl
+none_counted {X} number_of number (x ∷ xs) other =
+    omega (
+      arith,
+      count-cons (λ (y : X). number_of y == number) x xs,
+      once_other (number_of x) number other.0,
+      none_counted number_of number xs other.1,
+    )
+
+-- where none is equal to a later one, each is counted once
+times_once : (number : ℕ) (numbers : List ℕ) → IsDistinct eqb numbers → times number numbers ≤ 1
+unfolding IsDistinct
+times_once number [] d = omega arith
+times_once number (first ∷ numbers) d =
+    let split = count-cons (λ (other : ℕ). other == number) first numbers in
+    ⊎_elim
+    (λ (e : first ≡ number). omega (arith, split, once_same first number e, none_counted (λ (n : ℕ). n) number numbers (others e)))
+    (λ (o : first ≢ number). omega (arith, split, once_other first number o, times_once number numbers d.1))
+    (cases_eq first number)
+  where
+    others : first ≡ number → AllByRecursion (λ n. n ≢ number) numbers
+    others e =
+        all_from_has (λ (n : ℕ). n ≢ number) numbers
+        (λ later has same.
+        let never : eqb first later ≡ false = all_has (λ (n : ℕ). eqb first n ≡ false) later numbers d.0 has in
+        let always : eqb first later ≡ true = eq-eqb first later (e ∙ sym same) in
+        absurd cc)
+
+-- the files' records name the blobs of their texts
+texts_counted : (number : ℕ) (files : List FileRec)
+    → count_by (λ file. file.1.blob == number) (entries_of (numbered files)) ≡ count_by (λ file. file.blob == number) files
+texts_counted number files =
+    sum_by-map (λ (entry : ℕ × FileEntry). cond {A = ℕ} (entry.1.blob == number) 1 0) (λ (file : ℕ × FileRec). (file.0, entry_for file.1))
+    (numbered files)
+    ∙ sum_by-map (λ (file : ℕ × FileRec). cond {A = ℕ} (file.1.blob == number) 1 0) (λ (file : FileRec). (file.ino, file)) files
+
+blobs_counted : (number : ℕ) (files : List FileRec)
+    → times number (map (λ file. file.blob) files) ≡ count_by (λ file. file.blob == number) files
+blobs_counted number files = sum_by-map (λ (n : ℕ). cond {A = ℕ} (n == number) 1 0) (λ (file : FileRec). file.blob) files
+
+-- ---- what was saved
+
+module _ (content : Content) (root : Root) (found : HasRoot content root) (checkpoint : Checkpoint)
+    (has : HasCheckpoint content root checkpoint) where
+  abbrev files : List FileRec
+  files = checkpoint.files
+
+  abbrev parts : List PartRec
+  parts = checkpoint.parts
+
+  abbrev blobs : List ℕ
+  blobs = named_blobs files parts
+
+  rules : AreLayoutRules checkpoint.next_address checkpoint.next_blob checkpoint.flushes files parts
+  rules = has.spelled.spelled.holds.layout
+
+  -- texts and parts name each blob as often as the rules count it
+  both_counted : (number : ℕ) → 0 < number
+      → count_by (λ file. file.1.blob == number) (entries_of (numbered files)) + count_by (λ part. part.blob == number) (bares parts)
+      ≡ times number blobs
+  both_counted number l =
+      omega (
+        arith,
+        texts_counted number files,
+        blobs_counted number files,
+        named_by_parts number parts,
+        named_by_blobs number parts,
+        times-positive number l (map (λ file. file.blob) files),
+        count-append (λ (other : ℕ). other == number) (filter (nat_lt 0) (map (λ file. file.blob) files)) (map (λ part. part.blob) parts),
+      )
+
+  -- the checkpoint's own blob is none of theirs
+  its_own : (number : ℕ) → root.checkpoint ≡ number
+      → count_by (λ file. file.1.blob == number) (entries_of (numbered files)) + count_by (λ part. part.blob == number) (bares parts) ≡ 0
+  its_own number same =
+      omega (
+        arith,
+        texts_counted number files,
+        named_by_parts number parts,
+        none_counted (λ (file : FileRec). file.blob) number files
+            (subst (λ (n : ℕ). AllByRecursion (λ (file : FileRec). file.blob ≢ n) files) same has.spelled.of_no_text),
+        none_counted (λ (part : PartRec). part.blob) number parts
+            (subst (λ (n : ℕ). AllByRecursion (λ (part : PartRec). part.blob ≢ n) parts) same has.spelled.of_no_part),
+      )
+
+  -- nor is one that was never drawn
+  not_drawn : (number : ℕ) → checkpoint.next_blob ≤ number → times number blobs ≡ 0
+  not_drawn number above =
+      none_counted (λ (n : ℕ). n) number blobs
+      (all_from_has (λ (n : ℕ). n ≢ number) blobs
+      (λ blob is same. omega (arith, above, same, (all_has (λ (n : ℕ). (0 < n) × (n < checkpoint.next_blob)) blob blobs rules.drawn is).1)))
+
+  -- each part has a blob
+  parts_positive : AllByRecursion (λ part. part.blob ≢ 0) parts
+  parts_positive =
+      all_from_has (λ (part : PartRec). part.blob ≢ 0) parts
+      (λ part is none.
+      omega (
+        arith,
+        none,
+        (all_has (λ (n : ℕ). (0 < n) × (n < checkpoint.next_blob)) part.blob blobs rules.drawn
+            (Has-append_right part.blob (filter (nat_lt 0) (map (λ file. file.blob) files)) (map (λ recorded. recorded.blob) parts)
+            (Has-map (λ (recorded : PartRec). recorded.blob) part parts is))).0,
+      ))
+
+  blobs_distinct : BlobsAreDistinct checkpoint.next_blob (entries_of (numbered files)) (bares parts) root.checkpoint []
+  blobs_distinct = record {
+    positive = omega (arith, found.spelled.drawn, has.spelled.next_blob);
+    distinct = λ number l.
+        ⊎_elim
+        (λ (same : root.checkpoint ≡ number). omega (arith, once_same root.checkpoint number same, its_own number same))
+        (λ (other : root.checkpoint ≢ number).
+        omega (arith, once_other root.checkpoint number other, both_counted number l, times_once number blobs rules.distinct))
+        (cases_eq root.checkpoint number);
+    below = λ number above.
+        let drawn : root.checkpoint ≢ number = λ same. omega (arith, same, above, found.spelled.drawn, has.spelled.next_blob) in
+        omega (
+          arith,
+          once_other root.checkpoint number drawn,
+          both_counted number (omega (arith, above, found.spelled.drawn, has.spelled.next_blob)),
+          not_drawn number above,
+        );
+    of_parts = named_by_parts 0 parts ∙ none_counted (λ (part : PartRec). part.blob) 0 parts parts_positive;
+    of_stale = refl;
+  }
+
+  -- ---- texts and parts
+
+  its_records : HasSaved content files parts
+  its_records = record { root = root; found = found; checkpoint = checkpoint; saved = has; of_files = refl; of_parts = refl }
+
+  texts_saved : (some : List FileRec) → ((file : FileRec) → Has file some → Has file files)
+      → AllByRecursion (IsSoundText content content) (numbered some)
+  texts_saved [] among = tt
+  texts_saved (file ∷ some) among = (
+    λ stored. inl (record {
+      files = files;
+      parts = parts;
+      saved = its_records;
+      recorded = Contains-from_Has file files (among file (inl refl));
+      same = refl;
+    }),
+    texts_saved some (λ other is. among other (inr is)),
+  )
+
+  directory_there : (directory : PartDirectory) (directory_length : ℕ) (held : Option (List ℕ))
+      → HasDirectory directory directory_length held → (bytes : List ℕ) × (held ≡ Some bytes) × IsDirectoryOf directory bytes
+  directory_there directory directory_length None own = absurd own
+  directory_there directory directory_length (Some bytes) own = (bytes, refl, own.0)
+
+  parts_saved : (some : List PartRec) (directories : List PartDirectory) (read : List ReadRange)
+      → ((part : PartRec) → Has part some → Has part parts) → AreOpened (Some content) some directories read
+      → AllByRecursion (IsSoundPart content content) (zip some directories)
+  parts_saved [] directories read among opened = tt
+  parts_saved (recorded ∷ some) [] read among opened = tt
+  parts_saved (recorded ∷ some) (directory ∷ directories) read among opened =
+      let own = directory_there directory opened.0 (content.blobs recorded.blob) opened.2.own in (
+        record {
+          told = opened.2.told;
+          bytes = own.0;
+          held = own.1;
+          own = own.2;
+          sound = inl (record {
+            files = files;
+            parts = parts;
+            saved = its_records;
+            recorded_so = Contains-from_Has recorded parts (among recorded (inl refl));
+            same = refl;
+          });
+        },
+        parts_saved some directories opened.1 (λ other is. among other (inr is)) opened.4,
+      )
+
+  opened_paired : (some : List PartRec) (directories : List PartDirectory) (read : List ReadRange)
+      → AreOpened (Some content) some directories read → length some ≡ length directories
+  opened_paired [] [] read opened = refl
+  opened_paired [] (directory ∷ directories) read opened = absurd opened
+  opened_paired (recorded ∷ some) [] read opened = absurd opened
+  opened_paired (recorded ∷ some) (directory ∷ directories) read opened = omega (arith, opened_paired some directories opened.1 opened.4)
+
+  saved_sound : (directories : List PartDirectory) (read : List ReadRange) (flush_at : ℕ) → AreOpened (Some content) parts directories read
+      → IsSoundIn content content (numbered files)
+      (loaded_contents parts directories flush_at checkpoint.next_blob checkpoint.flushes) root.checkpoint
+  saved_sound directories read flush_at opened = record {
+    paired = opened_paired parts directories read opened;
+    blobs = blobs_distinct;
+    texts = texts_saved files (λ file is. is);
+    parts = parts_saved parts directories read (λ part is. is) opened;
+    job = tt;
+  }
+
+-- ---- the engine
+
+-- an engine without a posting in memory
+at_first : (engine : Engine) (content : Content) (files : Records) (contents : Contents) (checkpoint : ℕ) → engine.ended ≡ None
+    → engine.files.entries ≡ files → engine.parts ≡ contents → engine.checkpoint ≡ checkpoint → contents.memory.lists ≡ []
+    → contents.memory.stored ≡ 0 → IsSoundIn content content files contents checkpoint → Goes engine content (Some content)
+at_first engine content files contents checkpoint goes_on kept is check none counted sound = record {
+  goes_on = goes_on;
+  low = 0;
+  high = 0;
+  below = omega arith;
+  postings = [];
+  memory =
+      has-none 0 0 engine.parts.memory (ap (λ (c : Contents). c.memory.lists) is ∙ none)
+      (ap (λ (c : Contents). c.memory.stored) is ∙ counted) (omega arith);
+  sound =
+      subst (λ (rs : Records). IsSoundIn content content rs engine.parts engine.checkpoint) (sym kept)
+      (subst (λ (c : Contents). IsSoundIn content content files c engine.checkpoint) (sym is)
+      (subst (λ (n : ℕ). IsSoundIn content content files contents n) (sym check) sound));
+}
+
+nothing_sound : (content : Content) (flush_at : ℕ) → IsSoundIn content content [] (no_contents flush_at 1) 0
+nothing_sound content flush_at = record {
+  paired = refl;
+  blobs = record {
+    positive = omega arith;
+    distinct = λ number l. omega (arith, once_other 0 number (λ same. omega (arith, same, l)));
+    below = λ number above. omega (arith, once_other 0 number (λ same. omega (arith, same, above)));
+    of_parts = refl;
+    of_stale = refl;
+  };
+  texts = tt;
+  parts = tt;
+  job = tt;
+}
+
+-- an engine of a store without a root goes on
+pub first_goes : (engine : Engine) (flush_at : ℕ) → IsFirstEngine flush_at engine → (before opened : Option Content) → opened ≡ before
+    → (content : Content) → before ≡ Some content → Goes engine content opened
+first_goes engine flush_at is before opened same content told =
+    subst (Goes engine content) (sym (same ∙ told))
+    (at_first engine content [] (no_contents flush_at 1) 0 is.goes_on is.files is.parts is.checkpoint refl refl
+    (nothing_sound content flush_at))
+
+-- and so does one of what was saved
+module _ (root : Root) (checkpoint : Checkpoint) (before between : Option Content) (same : between ≡ before) (records : List PartRec)
+    (recorded : records ≡ checkpoint.parts) (roomy : IfSome before (λ content. HasOpenRoot content root))
+    (has : IfSome before (λ content. HasCheckpoint content root checkpoint)) (parts : Contents) (flush_at : ℕ)
+    (first middle last : Option (List ReadRange))
+    (loaded : IsLoaded between records flush_at checkpoint.next_blob checkpoint.flushes middle last parts) where
+  pub saved_goes : (engine : Engine) → IsEngineFor root.checkpoint checkpoint parts engine → (after : Option Content) → after ≡ between
+      → (content : Content) → before ≡ Some content → Goes engine content after
+  saved_goes engine is after unchanged content told =
+      let load = its_load root checkpoint before between same records recorded roomy has parts flush_at first middle last loaded in
+      let found : HasOpenRoot content root = subst (λ (h : Option Content). IfSome h (λ held. HasOpenRoot held root)) told roomy in
+      let saved : HasCheckpoint content root checkpoint =
+      subst (λ (h : Option Content). IfSome h (λ held. HasCheckpoint held root checkpoint)) told has in
+      let opened : AreOpened (Some content) checkpoint.parts parts.directories load.read =
+      subst (λ (h : Option Content). AreOpened h checkpoint.parts parts.directories load.read) told load.opened in
+      subst (Goes engine content) (sym (unchanged ∙ same ∙ told))
+      (at_first engine content (numbered checkpoint.files)
+      (loaded_contents checkpoint.parts parts.directories flush_at checkpoint.next_blob checkpoint.flushes) root.checkpoint is.goes_on
+      is.files (is.parts_kept ∙ load.kept) is.of_blob refl refl
+      (saved_sound content root found.has checkpoint saved parts.directories load.read flush_at opened))
+
+-- what was opened is what the store held at first
+pub begins_going : (before opened after : Option Content) → opened ≡ before → (r : Result Engine BeginFault)
+    → IfOk r (λ engine. (content : Content) → opened ≡ Some content → Goes engine content after)
+    → IfOk r (λ engine. (content : Content) → before ≡ Some content → Goes engine content after)
+begins_going before opened after same r h =
+    subst (λ (o : Option Content). IfOk r (λ engine. (content : Content) → o ≡ Some content → Goes engine content after)) same h

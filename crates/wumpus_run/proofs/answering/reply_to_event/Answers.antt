@@ -1,0 +1,7 @@
+use Rattle.wu_engine.proofs.NamedBlobs.{no_stray_after_event}
+use Rattle.wumpus_run.proofs.answering.reply_to_event.Goals as goal
+
+pub returns-clause-named : goal.returns-clause-named
+returns-clause-named g c = λ s stands start first.
+    no_stray_after_event start c.args.engine.now.parts.flush_at s c.args.event.now c.args.body.now stands.index.is_state first
+    (g.D.Store.holds c.args.store.now) (g.D.Store.holds c.update.new.store) (c.in_ok-verdict.ensures.named s stands)

@@ -1,0 +1,15 @@
+use Rattle.std.proofs.Common.{Err, ap}
+use Rattle.wu_base.specs.declared.troubles.Trouble.TheVariants.{Damaged}
+use Rattle.wu_engine.proofs.NamedBlobs.{no_stray_after_work}
+use Rattle.wumpus_run.proofs.SoundBlobs.{same_trouble}
+use Rattle.wumpus_run.proofs.answering.reply_to_work.Goals as goal
+
+pub returns-clause-named : goal.returns-clause-named
+returns-clause-named g c = λ s stands start first.
+    no_stray_after_work start c.args.units s stands.index.is_state first (g.D.Store.holds c.args.store.now)
+    (g.D.Store.holds c.work.new.store) (c.in_ok-worked.ensures.named s stands)
+
+pub returns-in_err-worked-clause-broken : goal.returns-in_err-worked-clause-broken
+returns-in_err-worked-clause-broken g c = λ start goes blob e.
+    c.in_err-worked.ensures.broken start goes blob
+    (ap Err (same_trouble c.from_residual.result c.in_err-worked.field-0.0 (Damaged blob) c.from_residual.ensures.1 e))
