@@ -3,22 +3,21 @@ ghost use Rattle.std.specs.Prelude.{◌≡◌, ℕ, List, [], ◌∷◌, ◌++�
 ghost use Rattle.wu_image.specs.Items.{Item, Number, Id, Raw, StartsWith, Appends};
 
 use wu_base::NoMemory;
-use wu_vbyte::{put_number, take_number};
+use wu_vbyte::put_number;
 
 /// The number that the bytes start with, and the rest. `None` exactly where they start with no number.
+#[inline]
 pub(crate) fn next_number(bytes: &[u8]) -> Option<(u64, &[u8])>
     ensures found { IfSome result (λ next. StartsWith bytes.now (Number next.0 ∷ []) next.1.now) }
     ensures none { IfNone result ((number : ℕ) (items : List Item) (rest : List ℕ)
         → StartsWith bytes.now (Number number ∷ items) rest → ⊥) }
 {
-    match take_number(bytes, 0) {
-        Some((number, place)) => Some((number, &bytes[place..])),
-        None => None,
-    }
+    wu_vbyte::next_number(bytes)
 }
 
 /// The number of a user, a group or a node that the bytes start with, and the rest. `None` exactly where
 /// they start with no number of 32 bits.
+#[inline]
 pub(crate) fn next_id(bytes: &[u8]) -> Option<(u32, &[u8])>
     ensures found { IfSome result (λ next. StartsWith bytes.now (Id next.0 ∷ []) next.1.now) }
     ensures none { IfNone result ((id : ℕ) (items : List Item) (rest : List ℕ) → StartsWith bytes.now (Id id ∷ items) rest → ⊥) }

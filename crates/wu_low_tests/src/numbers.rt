@@ -2,7 +2,7 @@
 use std::alloc::Global;
 use std::io;
 use wu_rows::{NoAnswer, ascending_numbers, bytes, bytes_text, number, numbers_text, plain_text};
-use wu_vbyte::{BLOCK_LEN, put_block, put_number, take_block, take_number};
+use wu_vbyte::{BLOCK_LEN, next_number, put_block, put_number, take_block, take_number};
 
 /// The answer of the call to the arguments.
 pub fn answer(alloc: Global, call: &str, arguments: &[&str]) -> Result<String, NoAnswer> {
@@ -90,8 +90,8 @@ fn is_read_back(alloc: Global, number: u64) -> Result<bool, NoAnswer> {
 
 /// Whether the bytes are read as this number, all of them.
 fn is_whole(bytes: &[u8], number: u64) -> bool {
-    match take_number(bytes, 0) {
-        Some((found, after)) => found == number && after == bytes.len(),
+    match next_number(bytes) {
+        Some((found, rest)) => found == number && rest.is_empty(),
         None => false,
     }
 }

@@ -1,5 +1,5 @@
 -- Lemmas on the lowest and the highest address of lists.
-use Rattle.std.proofs.Common.{◌≡◌, ℕ, zero, suc, ◌+◌, ◌<◌, ◌≤◌, ⊎_elim, List, [], ◌∷◌, length, min, max, get_or, refl, ap, sym, subst, ◌∙◌, true, ◌==◌, arith}
+use Rattle.std.proofs.Common.{◌≡◌, ℕ, zero, suc, ◌+◌, ◌<◌, ◌≤◌, ⊎_elim, List, [], ◌∷◌, length, min, get_or, refl, ap, sym, subst, ◌∙◌, true, ◌==◌, arith}
 use Rattle.std.specs.List.{AllByRecursion, list_any}
 use Rattle.std.proofs.lemmas.Bool.{cases_lt, eq-eqb}
 use Rattle.std.proofs.lemmas.List.Folds.{list_any_at}
@@ -63,32 +63,3 @@ least_more f lists n value new item l inside is e = record {
 pub least_all : (f : TermList → ℕ) (lists : List TermList) (n value : ℕ) → IsLeast f lists n value → length lists ≤ n
     → AllByRecursion (λ list. value ≤ f list) lists
 least_all f lists n value l over = all_of_each (λ list. value ≤ f list) lists (λ k d inside. l.each k d (omega arith) inside)
-
--- the greatest of the first values, and one of the values
-pub record IsGreatest (f : TermList → ℕ) (lists : List TermList) (n value : ℕ) : Type 0 where
-  pub each : (k : ℕ) (d : TermList) → k < n → k < length lists → f (get_or lists k d) ≤ value
-  pub one : IsOneOf f lists value
-
-pub greatest_more : (f : TermList → ℕ) (lists : List TermList) (n value new : ℕ) (item : TermList) → IsGreatest f lists n value
-    → n < length lists → item ≡ get_or lists n item → new ≡ max value (f item) → IsGreatest f lists (n + 1) new
-greatest_more f lists n value new item l inside is e = record {
-  each = λ k d below within.
-      ⊎_elim
-      (λ (s : k < n). let before = l.each k d s within in omega arith)
-      (λ (s : n ≤ k).
-      let same : k ≡ n = omega arith in
-      let its : get_or lists k d ≡ item = ap (λ x. get_or lists x d) same ∙ (same_item lists n d item inside ∙ sym is) in
-      let value_is = ap f its in
-      omega arith)
-      (cases_lt k n);
-  one =
-      ⊎_elim
-      (λ (s : value < f item). let is_new : f item ≡ new = omega arith in subst (λ x. IsOneOf f lists x) is_new
-      (one_at f lists n item inside is))
-      (λ (s : f item ≤ value). let is_old : value ≡ new = omega arith in subst (λ x. IsOneOf f lists x) is_old l.one)
-      (cases_lt value (f item));
-}
-
-pub greatest_all : (f : TermList → ℕ) (lists : List TermList) (n value : ℕ) → IsGreatest f lists n value → length lists ≤ n
-    → AllByRecursion (λ list. f list ≤ value) lists
-greatest_all f lists n value l over = all_of_each (λ list. f list ≤ value) lists (λ k d inside. l.each k d (omega arith) inside)

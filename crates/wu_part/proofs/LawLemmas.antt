@@ -114,7 +114,7 @@ list_is a b term addresses =
     let make : List ℕ → List ℕ → TermList = λ t l. record { term = t; at = l } in
     ap (λ x. make x a.at) term ∙ ap (λ x. make b.term x) addresses
 
-same_lists : (low : ℕ) (blob : List ℕ) (terms : List TermEntry) (lists others : List TermList) → AllZip (HoldsList low blob) terms lists
+pub same_lists : (low : ℕ) (blob : List ℕ) (terms : List TermEntry) (lists others : List TermList) → AllZip (HoldsList low blob) terms lists
     → AllZip (HoldsList low blob) terms others → lists ≡ others
 same_lists low blob [] [] [] a b = refl
 same_lists low blob [] [] (other ∷ others) a b = absurd b

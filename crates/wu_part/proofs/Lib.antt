@@ -1,13 +1,16 @@
 pub mod BoundLemmas
+pub mod BuilderLemmas
 pub mod DecodingLemmas
 pub mod DirectoryLemmas
 pub mod HeaderLemmas
 pub mod LawLemmas
 pub mod MarkLemmas
 pub mod PartLemmas
+pub mod ReadBackLemmas
 pub mod ReadingLemmas
 pub mod SpellingLemmas
 pub mod TermLemmas
+pub mod TotalsLemmas
 pub mod WalkLemmas
 pub mod WholeLemmas
 pub mod WritingLemmas

@@ -2,7 +2,7 @@
 use Rattle.std.proofs.Common.{◌≡◌, ℕ, zero, suc, ◌+◌, ◌-◌, ◌<◌, ◌≤◌, ⊎_elim, List, [], ◌∷◌, ◌++◌, length, min, get_or, take, drop}
 use Rattle.std.proofs.Common.{refl, ap, sym, subst, ◌∙◌, append_assoc, append-nil, length-append, length-drop, arith}
 use Rattle.std.specs.Prelude.{Some, slice_range, true, false, ◌==◌}
-use Rattle.std.specs.List.{AllByRecursion, flat_map, last_or}
+use Rattle.std.specs.List.{flat_map, last_or}
 use Rattle.std.specs.List.Sorted.{IsStrictlyIncreasing}
 use Rattle.std.proofs.Math.Seq.{drop-append_seam, take-append_seam}
 use Rattle.std.proofs.lemmas.Bool.{cases_lt, eqb-true}
@@ -382,29 +382,3 @@ lists_first low list lists old mid new before middle after front a m = record {
   );
   hold = λ high all. (a.holds high all.0, m.hold high all.1);
 }
-
--- the lists that are left, and what is to be appended of them
-pub record ListsLeft (low : ℕ) (lists rest : List TermList) (old now before middle : List ℕ) : Type 0 where
-  pub are : AllByRecursion IsList rest
-  pub begin : AllByRecursion (λ list. low ≤ first_of list.at) rest
-  pub whole : (front new after : List ℕ) → AppendsLists low rest now new middle after front
-      → AppendsLists low lists old new before after front
-
-pub all_lists_left : (low : ℕ) (lists : List TermList) (old before : List ℕ) → AllByRecursion IsList lists
-    → AllByRecursion (λ list. low ≤ first_of list.at) lists → ListsLeft low lists lists old old before before
-all_lists_left low lists old before s l = record { are = s; begin = l; whole = λ front new after a. a }
-
-pub one_list_appended : (low : ℕ) (lists : List TermList) (list : TermList) (rest : List TermList)
-    (old now mid before middle further : List ℕ)
-    → ListsLeft low lists (list ∷ rest) old now before middle → ((front : List ℕ) → AppendsList low list now mid middle further front)
-    → ListsLeft low lists rest old mid before further
-one_list_appended low lists list rest old now mid before middle further t a = record {
-  are = t.are.1;
-  begin = t.begin.1;
-  whole = λ front new after m. t.whole front new after (lists_first low list rest now mid new middle further after front (a front) m);
-}
-
-pub no_list_left : (low : ℕ) (lists rest : List TermList) (old now before middle : List ℕ) → ListsLeft low lists rest old now before middle
-    → rest ≡ [] → (front : List ℕ) → AppendsLists low lists old now before middle front
-no_list_left low lists rest old now before middle t none front =
-    t.whole front now middle (subst (λ x. AppendsLists low x now now middle middle front) (sym none) (lists_none low now middle front))

@@ -1,3 +1,5 @@
+pub mod Buildings
+pub mod Built
 pub mod Cursors
 pub mod Decoding
 pub mod Directories
@@ -5,6 +7,7 @@ pub mod Entries
 pub mod Headers
 pub mod Marks
 pub mod Parts
+pub mod Totals
 pub mod Views
 pub mod Walks
 pub mod Writing

@@ -1,5 +1,5 @@
 -- Marks in the bytes of a directory's entries.
-use Rattle.std.specs.Prelude.{ℕ, List, ◌++◌, ◌-◌, ◌≤◌, ◌≡◌, Contains, drop, length}
+use Rattle.std.specs.Prelude.{ℕ, List, ◌++◌, ◌-◌, ◌≤◌, ◌≡◌, ◌⊎◌, Contains, drop, length}
 use Rattle.std.specs.declared.cmp.Ordering.TheVariants.{Greater}
 use Rattle.std.specs.Cmp.Lexicographic.{slice_cmp}
 use Rattle.std.specs.Ordering.{nat_cmp}
@@ -29,6 +29,10 @@ pub record IsAtMost (bytes term : List ℕ) : Type 0 where
   pub left : List ℕ
   pub starts : StartsWithNumber bytes (length first) (first ++ left)
   pub most : slice_cmp nat_cmp first term ≡ Greater → ⊥
+
+-- one of the marks, of an entry with this number at most, or else the start
+abbrev pub IsUpTo : List Mark → Mark → ℕ → Mark → Type 0
+IsUpTo marks start number mark = (mark ≡ start) ⊎ (Contains marks mark × (mark.number ≤ number))
 
 -- the bytes spell the entries of a directory with this head, and the marks are marks in them
 pub record HasEntries (head : Head) (size : ℕ) (bytes : List ℕ) (place : ℕ) (marks : List Mark) : Type 0 where

@@ -46,6 +46,7 @@ impl<'a> Entry<'a> {
 
     /// The next block, and how many addresses it has, which are `BLOCK_LEN` but for the last block.
     /// `None` exactly where no block is left.
+    #[inline]
     pub fn next_block(&mut self) -> Option<(BlockEntry, usize)>
         ensures { MatchOption result ((self.old.blocks ≡ []) × (self.new ≡ self.old))
             (λ next. (self.old.blocks ≡ next.0 ∷ self.new.blocks) × (next.1 ≡ min self.old.count BLOCK_LEN)

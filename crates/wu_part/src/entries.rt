@@ -24,6 +24,7 @@ pub struct TermEntry {
 }
 
 /// How many of so many addresses are in the first block.
+#[inline]
 pub(crate) fn first_count(count: u64) -> u64
     ensures { result ≡ min count BLOCK_LEN }
 {

@@ -1,16 +1,21 @@
 //! Parts of the index: the bytes of a part, and its directory.
 #![tactic(auto)]
 
+mod builders;
 mod cursors;
 mod directories;
 mod entries;
 mod headers;
+mod histories;
 mod laws;
+mod lists;
 mod marks;
 mod reading;
+mod totals;
 mod walks;
 mod writing;
 
+pub use builders::{Builder, encode};
 pub use cursors::Entry;
 pub use directories::Directory;
 pub use entries::{BlockEntry, TermEntry};
@@ -18,4 +23,3 @@ pub use headers::{HEADER_LEN, read_header};
 pub use laws::{each_directory_has_one_spelling, each_part_has_one_spelling};
 pub use reading::{read_block, read_directory};
 pub use walks::Terms;
-pub use writing::encode;

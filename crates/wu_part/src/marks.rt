@@ -1,7 +1,7 @@
 //! Marks in a directory's bytes.
 ghost use Rattle.std.specs.Prelude.{◌≡◌, ◌∷◌, [], ◌++◌, ◌<◌, ◌≤◌, ◌⊎◌, ⊤, Contains, MatchBool, OnOk, drop, get_or, length};
 ghost use Rattle.wu_part.specs.declared.marks.Mark.{Mark};
-ghost use Rattle.wu_part.specs.Marks.{IsAtMost, mark_of};
+ghost use Rattle.wu_part.specs.Marks.{IsAtMost, IsUpTo, mark_of};
 
 use crate::reading::take_term;
 use wu_base::NoMemory;
@@ -15,14 +15,16 @@ pub(crate) struct Mark {
     pub(crate) place: u64,
 }
 
-/// So many terms after the last mark the next one is put.
-const TERMS_BETWEEN: u64 = 16;
+/// So many terms after the last mark the next one is put: few, since each term between is passed over
+/// where a term is looked for.
+const TERMS_BETWEEN: u64 = 8;
 
 /// So many bytes after the last mark the next one is put, though fewer terms are between: a long list
 /// of blocks is passed over once at most.
 const BYTES_BETWEEN: usize = 512;
 
 /// Puts the mark at the end, where the last one is far enough away.
+#[inline]
 pub(crate) fn put_mark(
     marks: &mut Vec<Mark>,
     number: u64,
@@ -42,6 +44,7 @@ pub(crate) fn put_mark(
 }
 
 /// Whether the last mark is far enough away for another one.
+#[inline]
 fn is_far(marks: &[Mark], number: u64, offset: usize) -> bool {
     match marks.last() {
         Some(last) => {
@@ -93,12 +96,15 @@ fn is_at_most(bytes: &[u8], mark: &Mark, term: &[u8]) -> bool
 }
 
 /// The last mark of an entry with this number at most: one of the marks, or else `start`.
+///
+/// From mark to mark the number grows by `TERMS_BETWEEN` at most, and mostly by that. So the mark is
+/// guessed first, and a search is for those terms that long entries come before.
 pub(crate) fn mark_up_to(marks: &[Mark], start: Mark, number: u64) -> Mark
-    ensures { (result ≡ start) ⊎ (Contains marks.now result × (result.number ≤ number)) }
+    ensures { IsUpTo marks.now start number result }
 {
-    let mut best = start;
-    let mut from = 0;
-    let mut to = marks.len();
+    let guess = guessed(marks, number);
+    let (mut best, mut from) = mark_near(marks, guess, start, number);
+    let mut to = end_near(marks, guess, number);
     while from < to {
         let middle = from + (to - from) / 2;
         let mark = mark_at(marks, middle);
@@ -110,4 +116,46 @@ pub(crate) fn mark_up_to(marks: &[Mark], start: Mark, number: u64) -> Mark
         }
     }
     best
+}
+
+/// How many marks have this number at most, where all stand as far from each other as they may.
+fn guessed(marks: &[Mark], number: u64) -> usize
+    ensures { result ≤ length marks.now }
+{
+    let most = marks.len();
+    let guess = number / TERMS_BETWEEN;
+    if guess < most as u64 {
+        guess as usize
+    } else {
+        most
+    }
+}
+
+/// The mark before the guess, and the guess, where that mark has this number at most; or else `start`,
+/// and 0: where a search begins.
+fn mark_near(marks: &[Mark], guess: usize, start: Mark, number: u64) -> (Mark, usize)
+    requires { guess ≤ length marks.now }
+    ensures { IsUpTo marks.now start number result.0 }
+{
+    if guess == 0 {
+        return (start, 0);
+    }
+    let mark = mark_at(marks, guess - 1);
+    if mark.number <= number {
+        (mark, guess)
+    } else {
+        (start, 0)
+    }
+}
+
+/// Where a search ends: at the guess, where the mark there has a higher number.
+fn end_near(marks: &[Mark], guess: usize, number: u64) -> usize
+    requires { guess ≤ length marks.now }
+    ensures { result ≤ length marks.now }
+{
+    if guess < marks.len() && mark_at(marks, guess).number > number {
+        guess
+    } else {
+        marks.len()
+    }
 }

@@ -20,7 +20,7 @@ use crate::headers::HEADER_LEN;
 use crate::marks::{Mark, put_mark};
 use std::alloc::Global;
 use wu_base::{ADDRESSES_MAX, GENERATION_MAX, NoMemory, WORD_MAX};
-use wu_vbyte::{take_block, take_number};
+use wu_vbyte::{next_number, take_block};
 
 /// The directory of a part of `size` bytes whose spelling the bytes are. `None` exactly where they are
 /// no such spelling. Takes memory only for entries that the bytes were found to hold.
@@ -67,19 +67,8 @@ pub fn read_block(
     take_block(alloc, bytes, low, count, entry.first, entry.last)
 }
 
-/// The number that the bytes start with, and the rest. `None` exactly where they start with no
-/// spelling of a number below 2^64.
-fn next_number(bytes: &[u8]) -> Option<(u64, &[u8])>
-    ensures found { IfSome result (λ next. StartsWithNumber bytes.now next.0 next.1.now) }
-    ensures none { IfNone result ((number : ℕ) (rest : List ℕ) → number < 2 ^ 64 → StartsWithNumber bytes.now number rest → ⊥) }
-{
-    match take_number(bytes, 0) {
-        Some((number, place)) => Some((number, &bytes[place..])),
-        None => None,
-    }
-}
-
 /// The three numbers that the bytes start with, and the rest.
+#[inline(always)]
 pub(crate) fn three_numbers(bytes: &[u8]) -> Option<(u64, u64, u64, &[u8])>
     ensures found { IfSome result (λ next. StartsWithNumbers bytes.now (next.0 ∷ next.1 ∷ next.2 ∷ []) next.3.now) }
     ensures none { IfNone result ((a b c : ℕ) (rest : List ℕ) → a < 2 ^ 64 → b < 2 ^ 64 → c < 2 ^ 64
@@ -216,6 +205,7 @@ fn is_all(reached: &Reached<'_>) -> bool
 
 /// How far the entries are read with one entry more. `None` exactly where no entry that may follow
 /// comes next.
+#[inline]
 fn pass_entry<'a>(head: &Head, size: u64, from: &Reached<'a>) -> Option<Reached<'a>>
     requires high { head.now.high < ADDRESSES_MAX }
     requires place { from.now.place ≤ size }
@@ -263,6 +253,7 @@ pub(crate) struct NextEntry<'a> {
 
 /// The entry that the bytes start with; its blocks begin at `place`. `None` exactly where the bytes
 /// start with no entry whose blocks end at `size` at the latest.
+#[inline]
 pub(crate) fn take_entry<'a>(
     bytes: &'a [u8],
     head: &Head,
@@ -302,6 +293,7 @@ pub(crate) fn take_entry<'a>(
 }
 
 /// The term that the bytes start with, after its length, and the rest.
+#[inline]
 pub(crate) fn take_term(bytes: &[u8]) -> Option<(&[u8], &[u8])>
     ensures found { IfSome result (λ next. StartsWithNumber bytes.now (length next.0.now) (next.0.now ++ next.1.now)
         × (0 < length next.0.now) × (length next.0.now ≤ WORD_MAX)) }
@@ -319,6 +311,7 @@ pub(crate) fn take_term(bytes: &[u8]) -> Option<(&[u8], &[u8])>
 }
 
 /// Whether a term may have this length, where so many bytes are left.
+#[inline]
 fn is_term_length(length: u64, left: usize) -> bool
     ensures { MatchBool result ((0 < length) × (length ≤ WORD_MAX) × (length ≤ left)) (0 < length → length ≤ WORD_MAX → length ≤ left → ⊥) }
 {
@@ -326,6 +319,7 @@ fn is_term_length(length: u64, left: usize) -> bool
 }
 
 /// The number of addresses that the bytes start with, at least 1, and the rest.
+#[inline(always)]
 fn take_count(bytes: &[u8]) -> Option<(u64, &[u8])>
     ensures found { IfSome result (λ next. StartsWithNumber bytes.now next.0 next.1.now × (0 < next.0)) }
     ensures none { IfNone result ((number : ℕ) (rest : List ℕ) → 0 < number → number < 2 ^ 64 → StartsWithNumber bytes.now number rest
@@ -349,6 +343,7 @@ struct AfterBlocks<'a> {
 
 /// What comes after the blocks of so many addresses that the bytes start with, which begin at `place`.
 /// `None` exactly where the bytes start with no such blocks that end at `size` at the latest.
+#[inline]
 fn take_blocks<'a>(
     bytes: &'a [u8],
     head: &Head,
@@ -392,6 +387,7 @@ fn take_blocks<'a>(
 }
 
 /// Whether it was noted before, or the address is the wanted one.
+#[inline(always)]
 fn is_noted(before: bool, address: u64, wanted: u64) -> bool
     ensures { result ≡ (before || address == wanted) }
 {
@@ -399,6 +395,7 @@ fn is_noted(before: bool, address: u64, wanted: u64) -> bool
 }
 
 /// The block of so many addresses, none of them below `from`, that the bytes start with, and the rest.
+#[inline(always)]
 fn take_block_entry<'a>(
     bytes: &'a [u8],
     head: &Head,
@@ -436,6 +433,7 @@ fn take_block_entry<'a>(
 }
 
 /// Whether an address so far above the lowest, and one so far above that, are at most the highest.
+#[inline]
 fn fits(above: u64, span: u64, head: &Head) -> bool
     ensures { MatchBool result (head.now.low + above + span ≤ head.now.high) (head.now.high < head.now.low + above + span) }
 {
@@ -443,6 +441,7 @@ fn fits(above: u64, span: u64, head: &Head) -> bool
 }
 
 /// Whether a block of so many addresses, none below `from`, may begin at `first` and end so far above.
+#[inline]
 fn is_block(first: u64, span: u64, from: u64, count: u64) -> bool
     requires { 0 < count }
     ensures { MatchBool result ((from ≤ first) × (count ≤ span + 1) × (count ≡ 1 → span ≡ 0))
@@ -452,6 +451,7 @@ fn is_block(first: u64, span: u64, from: u64, count: u64) -> bool
 }
 
 /// Whether so many bytes fit between the place and the part's end.
+#[inline]
 fn is_room(len: u64, place: u64, size: u64) -> bool
     requires { place ≤ size }
     ensures { MatchBool result (place + len ≤ size) (size < place + len) }

@@ -5,19 +5,15 @@ use Rattle.std.specs.Prelude.{slice_get}
 use Rattle.std.specs.List.{last_or}
 use Rattle.std.specs.List.Sorted.{IsStrictlyIncreasing}
 use Rattle.std.proofs.lemmas.List.{drop_more, at_drop_all}
-use Rattle.wu_vbyte.specs.Numbers.{SpellsNumber, StartsWithNumber, AppendsNumber}
-use Rattle.wu_vbyte.specs.Blocks.{SpellsGaps, SpellsBlock, AppendsBlock, AreFromTo}
-use Rattle.wu_vbyte.proofs.NumberLemmas.{one_number, has_spelling, starts_not_empty, code_of_value}
+use Rattle.wu_vbyte.specs.Numbers.{StartsWithNumber, AppendsNumber}
+use Rattle.wu_vbyte.specs.Blocks.{SpellsGaps, SpellsBlock, SpellsAfterFirst, AppendsBlock, AreFromTo}
+use Rattle.wu_vbyte.proofs.NumberLemmas.{one_number, has_spelling, starts_not_empty, code_longer, code_of_value}
 
 -- ---- what starts with a number
 
 pub starts_longer : (bytes : List ℕ) (n : ℕ) (rest more : List ℕ) → StartsWithNumber bytes n rest
     → StartsWithNumber (bytes ++ more) n (rest ++ more)
 starts_longer bytes n rest more s = (s.0, s.1, rw s.2 (append_assoc s.0 rest more))
-
-code_longer : (n : ℕ) (code : List ℕ) → SpellsNumber n code → 1 ≤ length code
-code_longer n [] s = absurd s.form
-code_longer n (byte ∷ code) s = omega arith
 
 pub starts_length : (bytes : List ℕ) (n : ℕ) (rest : List ℕ) → StartsWithNumber bytes n rest → length rest + 1 ≤ length bytes
 starts_length bytes n rest s = let longer = code_longer n s.0 s.1 in rw s.2 (omega (arith, length-append s.0 rest))
@@ -196,32 +192,43 @@ block_first low count first last (address ∷ later) bytes s a =
     let within = gaps_within address last later s.1 s.3 a.end in
     (rw same at s.0, rw same at within, s.1, rw same at s.2)
 
+-- the first address's number, and then the later ones
+pub block_of_later : (low first : ℕ) (addresses bytes rest : List ℕ) → low ≤ first → StartsWithNumber bytes (first - low) rest
+    → SpellsAfterFirst first addresses rest → SpellsBlock low addresses bytes
+block_of_later low first [] bytes rest from s t = absurd t
+block_of_later low first (address ∷ later) bytes rest from s t =
+    let same = t.0 in
+    (rw same from, rest, rw same s, rw same t.1)
+
+pub later_of_block : (low count first last : ℕ) (addresses bytes rest : List ℕ) → StartsWithNumber bytes (first - low) rest
+    → SpellsBlock low addresses bytes → AreFromTo count first last addresses → SpellsAfterFirst first addresses rest
+later_of_block low count first last [] bytes rest s b f = absurd b
+later_of_block low count first last (address ∷ later) bytes rest s b f =
+    let same : address ≡ first = some_same address first f.begin in
+    let one = one_number bytes (first - low) (first - low) b.1 rest (rw same at b.2) s in
+    (same, rw (same, one.1) at b.3)
+
 -- the addresses that were taken, of which the last is before, and the bytes that are left for the later ones
-pub record Taken (low count first last : ℕ) (bytes rest taken : List ℕ) (before : ℕ) : Type 0 where
+pub record Taken (first last : ℕ) (bytes rest taken : List ℕ) (before : ℕ) : Type 0 where
   pub within : before ≤ last
   pub begin : slice_get taken 0 ≡ Some first
   pub end : last_or None taken ≡ Some before
-  pub on : (later : List ℕ) → SpellsGaps before later rest → SpellsBlock low (taken ++ later) bytes
-  pub back : (all : List ℕ) → SpellsBlock low all bytes → AreFromTo count first last all
+  pub on : (later : List ℕ) → SpellsGaps before later rest → SpellsAfterFirst first (taken ++ later) bytes
+  pub back : (all : List ℕ) → SpellsAfterFirst first all bytes
       → (later : List ℕ) × (all ≡ taken ++ later) × SpellsGaps before later rest
 
-pub taken_first : (low count first last : ℕ) (bytes rest : List ℕ) → low ≤ first → first ≤ last → StartsWithNumber bytes (first - low) rest
-    → Taken low count first last bytes rest (first ∷ []) first
-taken_first low count first last bytes rest from within s = record {
+pub taken_first : (first last : ℕ) (bytes : List ℕ) → first ≤ last → Taken first last bytes bytes (first ∷ []) first
+taken_first first last bytes within = record {
   within = within;
   begin = refl;
   end = refl;
-  on = λ later g. (from, rest, s, g);
+  on = λ later g. (refl, g);
   back = first_back;
 }
   where
-    first_back : (all : List ℕ) → SpellsBlock low all bytes → AreFromTo count first last all
-        → (later : List ℕ) × (all ≡ first ∷ later) × SpellsGaps first later rest
-    first_back [] t a = absurd t
-    first_back (address ∷ later) t a =
-        let same : address ≡ first = some_same address first a.begin in
-        let one = one_number bytes (first - low) (first - low) t.1 rest (rw same at t.2) s in
-        (later, ap (λ x. x ∷ later) same, rw (same, one.1) at t.3)
+    first_back : (all : List ℕ) → SpellsAfterFirst first all bytes → (later : List ℕ) × (all ≡ first ∷ later) × SpellsGaps first later bytes
+    first_back [] t = absurd t
+    first_back (address ∷ later) t = (later, ap (λ x. x ∷ later) t.0, t.1)
 
 last_after : (o : Option ℕ) (xs ys : List ℕ) → last_or o (xs ++ ys) ≡ last_or (last_or o xs) ys
 last_after o [] ys = refl
@@ -231,15 +238,15 @@ begin_more : (first : ℕ) (taken more : List ℕ) → slice_get taken 0 ≡ Som
 begin_more first [] more e = cc
 begin_more first (x ∷ taken) more e = e
 
-pub taken_next : (low count first last : ℕ) (bytes rest left taken new : List ℕ) (before a : ℕ)
-    → Taken low count first last bytes rest taken before
-    → before < a → a ≤ last → StartsWithNumber rest (a - before) left → new ≡ taken ++ a ∷ [] → Taken low count first last bytes left new a
-taken_next low count first last bytes rest left taken new before a t above within s e = rw e (record {
+pub taken_next : (first last : ℕ) (bytes rest left taken new : List ℕ) (before a : ℕ)
+    → Taken first last bytes rest taken before
+    → before < a → a ≤ last → StartsWithNumber rest (a - before) left → new ≡ taken ++ a ∷ [] → Taken first last bytes left new a
+taken_next first last bytes rest left taken new before a t above within s e = rw e (record {
   within = within;
   begin = begin_more first taken (a ∷ []) t.begin;
   end = last_after None taken (a ∷ []);
   on = λ later g. rw (append_assoc taken (a ∷ []) later) (t.on (a ∷ later) (above, left, s, g));
-  back = λ all b f. let h = t.back all b f in next_back all h.0 h.1 h.2;
+  back = λ all b. let h = t.back all b in next_back all h.0 h.1 h.2;
 })
   where
     next_back : (all later : List ℕ) → all ≡ taken ++ later → SpellsGaps before later rest
@@ -253,16 +260,16 @@ taken_next low count first last bytes rest left taken new before a t above withi
         (more, is ∙ (ap (λ x. taken ++ x ∷ more) same ∙ sym (append_assoc taken (a ∷ []) more)), rw (same, one.1) at g.3)
 
 -- all addresses are taken, and all bytes
-pub taken_all : (low count first last : ℕ) (bytes taken : List ℕ) (before : ℕ) → Taken low count first last bytes [] taken before
-    → length taken ≡ count → before ≡ last → SpellsBlock low taken bytes × AreFromTo count first last taken
-taken_all low count first last bytes taken before t number same =
+pub taken_all : (count first last : ℕ) (bytes taken : List ℕ) (before : ℕ) → Taken first last bytes [] taken before
+    → length taken ≡ count → before ≡ last → SpellsAfterFirst first taken bytes × AreFromTo count first last taken
+taken_all count first last bytes taken before t number same =
     (rw (append-nil taken) at (t.on [] refl), record { number = number; begin = t.begin; end = t.end ∙ ap Some same })
 
 -- all addresses are taken, and either bytes are left or the last address is another one
-pub taken_not_all : (low count first last : ℕ) (bytes rest taken : List ℕ) (before : ℕ) → Taken low count first last bytes rest taken before
-    → length taken ≡ count → (rest ≡ [] → before ≡ last → ⊥) → (all : List ℕ) → SpellsBlock low all bytes
+pub taken_not_all : (count first last : ℕ) (bytes rest taken : List ℕ) (before : ℕ) → Taken first last bytes rest taken before
+    → length taken ≡ count → (rest ≡ [] → before ≡ last → ⊥) → (all : List ℕ) → SpellsAfterFirst first all bytes
     → AreFromTo count first last all → ⊥
-taken_not_all low count first last bytes rest taken before t number other all b f = let h = t.back all b f in none h.0 h.1 h.2
+taken_not_all count first last bytes rest taken before t number other all b f = let h = t.back all b in none h.0 h.1 h.2
   where
     none : (later : List ℕ) → all ≡ taken ++ later → SpellsGaps before later rest → ⊥
     none [] is g =
@@ -273,10 +280,10 @@ taken_not_all low count first last bytes rest taken before t number other all b 
         absurd (omega (arith, f.number))
 
 -- more addresses are to be taken, and no number of one is next
-pub taken_no_next : (low count first last : ℕ) (bytes rest taken : List ℕ) (before : ℕ) → Taken low count first last bytes rest taken before
+pub taken_no_next : (count first last : ℕ) (bytes rest taken : List ℕ) (before : ℕ) → Taken first last bytes rest taken before
     → length taken < count → ((a : ℕ) (left : List ℕ) → before < a → a ≤ last → StartsWithNumber rest (a - before) left → ⊥)
-    → (all : List ℕ) → SpellsBlock low all bytes → AreFromTo count first last all → ⊥
-taken_no_next low count first last bytes rest taken before t number none all b f = let h = t.back all b f in no_later h.0 h.1 h.2
+    → (all : List ℕ) → SpellsAfterFirst first all bytes → AreFromTo count first last all → ⊥
+taken_no_next count first last bytes rest taken before t number none all b f = let h = t.back all b in no_later h.0 h.1 h.2
   where
     no_later : (later : List ℕ) → all ≡ taken ++ later → SpellsGaps before later rest → ⊥
     no_later [] is g =

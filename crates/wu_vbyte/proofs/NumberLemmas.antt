@@ -1,10 +1,12 @@
 -- Lemmas on spelled numbers.
 use Rattle.std.proofs.Common.{◌≡◌, ℕ, zero, suc, ◌+◌, ◌*◌, ◌/◌, ◌%◌, ◌^◌, ◌<◌, ◌≤◌, List, [], ◌∷◌, ◌++◌, ◌⊎◌, inl, inr, refl, ap, sym, ◌∙◌}
-use Rattle.std.proofs.Common.{append_assoc, length, ⊎_elim, arith}
+use Rattle.std.proofs.Common.{◌-◌, append_assoc, length, length-append, length-drop, get_or, drop, ⊎_elim, arith}
+use Rattle.std.proofs.lemmas.List.{drop-drop}
+use Rattle.std.proofs.Math.Seq.{drop-append_seam}
 use Rattle.std.proofs.lemmas.Bool.{cases_lt}
 use Rattle.std.proofs.lemmas.Nat.{pow-add}
 use Rattle.std.proofs.Math.Nat.{pow-suc, pow-le-pow_right, mul-le-mul, mul-le-mul_right}
-use Rattle.wu_vbyte.specs.Numbers.{value_of, IsCode, SpellsNumber, StartsWithNumber, AppendsNumber}
+use Rattle.wu_vbyte.specs.Numbers.{value_of, IsCode, SpellsNumber, StartsWithNumber, IsNumberAt, AppendsNumber}
 
 -- no code begins another
 pub codes_apart : (a b x y : List ℕ) → IsCode a → IsCode b → a ++ x ≡ b ++ y → (a ≡ b) × (x ≡ y)
@@ -44,6 +46,11 @@ longer_code n byte (next ∷ code) l h some s = record {
 pub starts_not_empty : (n : ℕ) (rest : List ℕ) → StartsWithNumber [] n rest → ⊥
 starts_not_empty n rest ([], s, e) = absurd s.form
 starts_not_empty n rest (byte ∷ code, s, e) = cc
+
+-- each has a byte at least
+pub code_longer : (n : ℕ) (code : List ℕ) → SpellsNumber n code → 1 ≤ length code
+code_longer n [] s = absurd s.form
+code_longer n (byte ∷ code) s = omega arith
 
 -- a byte below 128 is a spelling by itself
 pub starts_with_last : (byte n : ℕ) (left rest : List ℕ) → byte < 128 → StartsWithNumber (byte ∷ left) n rest → (n ≡ byte) × (left ≡ rest)
@@ -146,6 +153,35 @@ reads_too_long whole left byte number shift n rest r large full fits s =
     let t = starts_with_more byte b.0 left rest large b.3 in
     let e : n ≡ number + b.0 * 2 ^ 63 = b.2 ∙ ap (λ bits. number + b.0 * 2 ^ bits) full in
     absurd (omega (arith, t.1, t.2))
+
+-- a number of one byte
+pub starts_with_one : (bytes : List ℕ) → 1 ≤ length bytes → get_or bytes 0 0 < 128
+    → StartsWithNumber bytes (get_or bytes 0 0) (drop 1 bytes)
+starts_with_one [] some small = absurd (omega arith)
+starts_with_one (byte ∷ left) some small = last_starts byte left small
+
+-- a number of two bytes
+pub starts_with_two : (bytes : List ℕ) → 1 ≤ length bytes → 1 ≤ length (drop 1 bytes) → 128 ≤ get_or bytes 0 0 → get_or bytes 0 0 < 256
+    → 0 < get_or (drop 1 bytes) 0 0 → get_or (drop 1 bytes) 0 0 < 128
+    → StartsWithNumber bytes (get_or bytes 0 0 % 128 + get_or (drop 1 bytes) 0 0 * 2 ^ 7) (drop 1 (drop 1 bytes))
+starts_with_two [] some more large byte above small = absurd (omega arith)
+starts_with_two (low ∷ []) some more large byte above small = absurd (omega arith)
+starts_with_two (low ∷ high ∷ left) some more large byte above small =
+    reads_end (low ∷ high ∷ left) left high (low % 128) 7 (reads_first low (high ∷ left) large byte) small above
+
+-- a number that starts at a place
+pub number_at : (bytes : List ℕ) (place number : ℕ) (rest : List ℕ) → place ≤ length bytes → StartsWithNumber (drop place bytes) number rest
+    → IsNumberAt bytes place number (length bytes - length rest)
+number_at bytes place number rest inside (code, spelled, e) =
+    let some = code_longer number code spelled in
+    let whole : length bytes - place ≡ length code + length rest =
+    sym (length-drop place bytes) ∙ (ap length e ∙ length-append code rest) in
+    let after : length bytes - length rest ≡ place + length code = omega arith in
+    rw after (record {
+      longer = omega arith;
+      within = omega arith;
+      spelled = rw (sym (drop-drop (length code) place bytes), e, drop-append_seam code rest) (code, spelled, refl);
+    })
 
 -- bytes start with the spelling of one number at most
 pub one_number : (bytes : List ℕ) (number other : ℕ) (rest left : List ℕ) → StartsWithNumber bytes number rest

@@ -16,6 +16,11 @@ SpellsBlock low [] bytes = ⊥
 SpellsBlock low (first ∷ later) bytes =
     (low ≤ first) × (rest : List ℕ) × StartsWithNumber bytes (first - low) rest × SpellsGaps first later rest
 
+-- the first of the addresses, and the bytes spell how far each later one is above the one before it
+abbrev pub SpellsAfterFirst : ℕ → List ℕ → List ℕ → Type 0
+SpellsAfterFirst first [] bytes = ⊥
+SpellsAfterFirst first (address ∷ later) bytes = (address ≡ first) × SpellsGaps first later bytes
+
 -- new is old with the block's spelling at its end
 abbrev pub AppendsBlock : List ℕ → ℕ → List ℕ → List ℕ → Type 0
 AppendsBlock old low addresses new = (code : List ℕ) × SpellsBlock low addresses code × (new ≡ old ++ code)

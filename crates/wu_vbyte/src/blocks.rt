@@ -1,11 +1,11 @@
 //! Blocks of ascending addresses.
-ghost use Rattle.std.specs.Prelude.{◌≡◌, ◌++◌, ◌+◌, ◌-◌, ◌<◌, ◌≤◌, ◌⊎◌, ℕ, List, OnOk, OnErr, IfOk, IfSome, IfNone, MatchBool, length, drop, slice_index};
+ghost use Rattle.std.specs.Prelude.{◌≡◌, [], ◌++◌, ◌+◌, ◌-◌, ◌<◌, ◌≤◌, ◌⊎◌, ℕ, List, OnOk, OnErr, IfOk, IfSome, IfNone, MatchBool, length, drop, slice_index};
 ghost use Rattle.std.specs.List.Sorted.{IsStrictlyIncreasing};
 ghost use Rattle.wu_vbyte.specs.declared.blocks.TheConstants.{BLOCK_LEN};
 ghost use Rattle.wu_vbyte.specs.Numbers.{StartsWithNumber};
-ghost use Rattle.wu_vbyte.specs.Blocks.{SpellsBlock, AppendsBlock, AreFromTo};
+ghost use Rattle.wu_vbyte.specs.Blocks.{SpellsBlock, SpellsAfterFirst, AppendsBlock, AreFromTo};
 
-use crate::numbers::{put_number, take_number};
+use crate::numbers::{next_number, put_number};
 use std::alloc::Global;
 use wu_base::NoMemory;
 
@@ -68,7 +68,7 @@ pub fn take_block(
         return Ok(None);
     }
     match after_first(bytes, low, first) {
-        Some(place) => take_gaps(alloc, bytes, low, place, count, first, last),
+        Some(rest) => take_gaps(alloc, rest, count, first, last),
         None => Ok(None),
     }
 }
@@ -80,15 +80,15 @@ fn is_enough(bytes: usize, count: usize) -> bool
     0 < count && count <= bytes
 }
 
-/// The place after the first number, where that is the one of the address `first`.
-fn after_first(bytes: &[u8], low: u64, first: u64) -> Option<usize>
-    ensures found { IfSome result (λ place. (place ≤ length bytes.now) × (low ≤ first) × StartsWithNumber bytes.now (first - low) (drop place bytes.now)) }
+/// The bytes after the first number, where that is the one of the address `first`.
+fn after_first(bytes: &[u8], low: u64, first: u64) -> Option<&[u8]>
+    ensures found { IfSome result (λ rest. (low ≤ first) × StartsWithNumber bytes.now (first - low) rest.now) }
     ensures none { IfNone result ((rest : List ℕ) → low ≤ first → StartsWithNumber bytes.now (first - low) rest → ⊥) }
 {
-    match take_number(bytes, 0) {
-        Some((number, place)) => {
+    match next_number(bytes) {
+        Some((number, rest)) => {
             if is_first(number, low, first) {
-                Some(place)
+                Some(rest)
             } else {
                 None
             }
@@ -104,19 +104,19 @@ fn is_first(number: u64, low: u64, first: u64) -> bool
     low <= first && number == first - low
 }
 
-/// The address after `before`, up to `last`, whose number stands at `place`, and the place after it.
-fn next_address(bytes: &[u8], place: usize, before: u64, last: u64) -> Option<(u64, usize)>
-    requires inside { place ≤ length bytes.now }
-    requires within { before ≤ last }
-    ensures found { IfSome result (λ found. (found.1 ≤ length bytes.now) × (before < found.0) × (found.0 ≤ last) ×
-        StartsWithNumber (drop place bytes.now) (found.0 - before) (drop found.1 bytes.now)) }
+/// The address after `before`, up to `last`, of which the bytes start with the number, and the rest.
+#[inline(always)]
+fn next_address(bytes: &[u8], before: u64, last: u64) -> Option<(u64, &[u8])>
+    requires { before ≤ last }
+    ensures found { IfSome result (λ next. (before < next.0) × (next.0 ≤ last) ×
+        StartsWithNumber bytes.now (next.0 - before) next.1.now) }
     ensures none { IfNone result ((address : ℕ) (rest : List ℕ) → before < address → address ≤ last →
-        StartsWithNumber (drop place bytes.now) (address - before) rest → ⊥) }
+        StartsWithNumber bytes.now (address - before) rest → ⊥) }
 {
-    match take_number(bytes, place) {
-        Some((gap, after)) => {
+    match next_number(bytes) {
+        Some((gap, rest)) => {
             if is_gap(gap, last - before) {
-                Some((before + gap, after))
+                Some((before + gap, rest))
             } else {
                 None
             }
@@ -127,44 +127,42 @@ fn next_address(bytes: &[u8], place: usize, before: u64, last: u64) -> Option<(u
 
 /// Whether a number is the difference of two addresses of a block, of which the later is at most so
 /// far away.
+#[inline(always)]
 fn is_gap(number: u64, room: u64) -> bool
     ensures { MatchBool result ((0 < number) × (number ≤ room)) ((number ≡ 0) ⊎ (room < number)) }
 {
     0 < number && number <= room
 }
 
-/// The block, whose first number ends before `place`.
+/// The block of `count` addresses from `first` to `last`; the bytes spell those after the first one.
 fn take_gaps(
     alloc: Global,
     bytes: &[u8],
-    low: u64,
-    mut place: usize,
     count: usize,
     first: u64,
     last: u64,
 ) -> Result<Option<Vec<u64>>, NoMemory>
-    requires inside { place ≤ length bytes.now }
     requires count { 0 < count }
-    requires low { low ≤ first }
     requires within { first ≤ last }
-    requires first { StartsWithNumber bytes.now (first - low) (drop place bytes.now) }
-    ensures found { IfOk result (λ block. IfSome block (λ found. SpellsBlock low found.items bytes.now × AreFromTo count first last found.items)) }
-    ensures none { IfOk result (λ block. IfNone block ((addresses : List ℕ) → SpellsBlock low addresses bytes.now →
+    ensures found { IfOk result (λ block. IfSome block (λ found. SpellsAfterFirst first found.items bytes.now
+        × AreFromTo count first last found.items)) }
+    ensures none { IfOk result (λ block. IfNone block ((addresses : List ℕ) → SpellsAfterFirst first addresses bytes.now →
         AreFromTo count first last addresses → ⊥)) }
 {
     let mut addresses = Vec::with_capacity(alloc, count)?;
-    addresses.push(first)?;
+    addresses.push_reserved(first);
+    let mut rest = bytes;
     let mut before = first;
     for _ in 1..count {
-        let (address, after) = match next_address(bytes, place, before, last) {
+        let (address, after) = match next_address(rest, before, last) {
             Some(next) => next,
             None => return Ok(None),
         };
-        addresses.push(address)?;
+        addresses.push_reserved(address);
         before = address;
-        place = after;
+        rest = after;
     }
-    if is_complete(bytes.len(), place, last, before) {
+    if is_complete(rest, last, before) {
         Ok(Some(addresses))
     } else {
         Ok(None)
@@ -172,10 +170,10 @@ fn take_gaps(
 }
 
 /// Whether the block has ended: at the end of the bytes, with the last address.
-fn is_complete(bytes: usize, place: usize, last: u64, address: u64) -> bool
-    ensures { MatchBool result ((place ≡ bytes) × (address ≡ last)) (place ≡ bytes → address ≡ last → ⊥) }
+fn is_complete(rest: &[u8], last: u64, address: u64) -> bool
+    ensures { MatchBool result ((rest.now ≡ []) × (address ≡ last)) (rest.now ≡ [] → address ≡ last → ⊥) }
 {
-    place == bytes && address == last
+    rest.is_empty() && address == last
 }
 
 /// A law: each block of ascending addresses from `low` on has one spelling, and a spelling is that

@@ -1,5 +1,5 @@
 //! Numbers from 0 to 2^64 - 1.
-ghost use Rattle.std.specs.Prelude.{◌≡◌, ◌++◌, ◌+◌, ◌*◌, ◌%◌, ◌^◌, ◌<◌, ◌≤◌, ◌⊎◌, ℕ, slice_index, List, OnOk, OnErr, IfSome, IfNone, MatchBool, length, drop};
+ghost use Rattle.std.specs.Prelude.{◌≡◌, ◌++◌, ◌+◌, ◌*◌, ◌%◌, ◌^◌, ◌<◌, ◌≤◌, ◌⊎◌, ⊤, ℕ, slice_index, List, OnOk, OnErr, IfSome, IfNone, MatchBool, length, drop};
 ghost use Rattle.wu_vbyte.specs.Numbers.{SpellsNumber, StartsWithNumber, IsNumberAt, AppendsNumber};
 
 use wu_base::NoMemory;
@@ -47,41 +47,77 @@ fn continued(number: u64) -> u8
 
 /// The number whose spelling stands at `place`, and the place after it. `None` exactly where no
 /// spelling of a number below 2^64 stands there. Takes no memory.
+#[inline]
 pub fn take_number(bytes: &[u8], place: usize) -> Option<(u64, usize)>
     requires { place ≤ length bytes.now }
     ensures found { IfSome result (λ found. IsNumberAt bytes.now place found.0 found.1) }
     ensures none { IfNone result ((number : ℕ) (rest : List ℕ) → number < 2 ^ 64 →
         StartsWithNumber (drop place bytes.now) number rest → ⊥) }
 {
-    if place == bytes.len() {
-        return None;
-    }
-    let first = bytes[place];
-    if is_last(first) {
-        Some((u64::from(first), place + 1))
-    } else {
-        take_groups(bytes, place)
+    match next_number(&bytes[place..]) {
+        Some((number, rest)) => Some((number, bytes.len() - rest.len())),
+        None => None,
     }
 }
 
-/// The number whose spelling of two bytes or more stands at `place`, and the place after it. `None`
-/// exactly where no spelling of a number below 2^64 stands there.
-fn take_groups(bytes: &[u8], place: usize) -> Option<(u64, usize)>
-    requires inside { place < length bytes.now }
-    requires continued { 128 ≤ slice_index bytes.now place }
-    ensures found { IfSome result (λ found. IsNumberAt bytes.now place found.0 found.1) }
-    ensures none { IfNone result ((number : ℕ) (rest : List ℕ) → number < 2 ^ 64 →
-        StartsWithNumber (drop place bytes.now) number rest → ⊥) }
+/// The number that the bytes start with, and the rest. `None` exactly where they start with no
+/// spelling of a number below 2^64. Takes no memory.
+// Most numbers of a block take one byte or two, so the callers have these two cases in their loops.
+#[inline(always)]
+pub fn next_number(bytes: &[u8]) -> Option<(u64, &[u8])>
+    ensures found { IfSome result (λ next. StartsWithNumber bytes.now next.0 next.1.now) }
+    ensures none { IfNone result ((number : ℕ) (rest : List ℕ) → number < 2 ^ 64 → StartsWithNumber bytes.now number rest → ⊥) }
 {
-    let mut number = u64::from(bytes[place] % 128);
+    let [low, after_low @ ..] = bytes else {
+        return None;
+    };
+    if is_last(*low) {
+        return Some((u64::from(*low), after_low));
+    }
+    let [high, after_high @ ..] = after_low else {
+        return None;
+    };
+    if is_second(*high) {
+        return Some((two_groups(*low, *high), after_high));
+    }
+    next_groups(bytes)
+}
+
+/// Whether the byte ends a spelling of two bytes.
+#[inline(always)]
+fn is_second(byte: u8) -> bool
+    ensures { MatchBool result ((0 < byte) × (byte < 128)) ⊤ }
+{
+    0 < byte && byte < 128
+}
+
+/// The number of two bytes, of which the first one has the lowest seven bits.
+#[inline(always)]
+fn two_groups(low: u8, high: u8) -> u64
+    requires { high < 128 }
+    ensures { result ≡ low % 128 + high * 2 ^ 7 }
+{
+    u64::from(low % 128) + (u64::from(high) << GROUP_BITS)
+}
+
+/// The number of two bytes or more that the bytes start with, and the rest. `None` exactly where they
+/// start with no spelling of a number below 2^64.
+#[inline(never)]
+fn next_groups(bytes: &[u8]) -> Option<(u64, &[u8])>
+    requires some { 0 < length bytes.now }
+    requires continued { 128 ≤ slice_index bytes.now 0 }
+    ensures found { IfSome result (λ next. StartsWithNumber bytes.now next.0 next.1.now) }
+    ensures none { IfNone result ((number : ℕ) (rest : List ℕ) → number < 2 ^ 64 → StartsWithNumber bytes.now number rest → ⊥) }
+{
+    let mut number = u64::from(bytes[0] % 128);
     let mut shift = GROUP_BITS;
-    for at in place + 1..bytes.len() {
+    for at in 1..bytes.len() {
         let byte = bytes[at];
         if is_last(byte) {
             if !is_end(byte, shift) {
                 return None;
             }
-            return Some((with_group(number, byte, shift), at + 1));
+            return Some((with_group(number, byte, shift), &bytes[at + 1..]));
         }
         if shift == LAST_SHIFT {
             return None;
@@ -112,6 +148,7 @@ fn with_group(number: u64, group: u8, shift: u32) -> u64
 }
 
 /// Whether the byte is the last of a spelling.
+#[inline(always)]
 fn is_last(byte: u8) -> bool
     ensures { MatchBool result (byte < 128) (128 ≤ byte) }
 {

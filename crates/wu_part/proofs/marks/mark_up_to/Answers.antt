@@ -1,9 +1,9 @@
-use Rattle.std.proofs.Common.{inl, inr, refl, arith}
+use Rattle.std.proofs.Common.{inr, arith}
 use Rattle.wu_part.proofs.MarkLemmas.{has_mark}
 use Rattle.wu_part.proofs.marks.mark_up_to.Goals as goal
 
 pub loop-from-init : goal.loop-from-init
-loop-from-init c = (omega arith, inl refl)
+loop-from-init c = (c.end_near-to.ensures, c.mark_near-from.ensures)
 
 pub loop-from-preserved-then-mark-number : goal.loop-from-preserved-then-mark-number
 loop-from-preserved-then-mark-number c = (

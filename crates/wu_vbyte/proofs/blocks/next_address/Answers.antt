@@ -4,7 +4,7 @@ use Rattle.wu_vbyte.proofs.blocks.next_address.Goals as goal
 
 pub returns-else-is_gap-clause-none : goal.returns-else-is_gap-clause-none
 returns-else-is_gap-clause-none c address rest above within s =
-    let one = one_number _ _ _ _ _ c.in-Some.ensures.found.spelled s in
+    let one = one_number _ _ _ _ _ c.in-Some.ensures.found s in
     refused _ address c.args.before c.args.last one.0 above within c.if-is_gap.ensures
   where
     refused : (gap address before last : ℕ) → gap ≡ address - before → before < address → address ≤ last

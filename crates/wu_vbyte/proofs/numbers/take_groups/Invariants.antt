@@ -1,6 +1,0 @@
-use Rattle.std.proofs.Common.{drop}
-use Rattle.wu_vbyte.proofs.NumberLemmas.{Reads}
-use Rattle.wu_vbyte.proofs.numbers.take_groups.Given as goal
-
-abbrev pub invariant-loop-at : goal.invariant-loop-at
-invariant-loop-at l = Reads (drop l.place l.bytes) (drop l.at l.bytes) l.number l.shift
