@@ -76,14 +76,6 @@ module _ {K X : Type 0} (t : K → Bool) where
   passes : (es : List (K × X)) (e : K × X) → lookup_entry t es ≡ Some e → t e.0 ≡ true
   passes es e h = (Contains-lookup_entry t es e h).1
 
-  pub lookup-promoted : (es : List (K × X)) → lookup t (promoted t es) ≡ lookup t es
-  lookup-promoted es =
-      elim (lookup_entry t es) as
-      (λ o. lookup_entry t es ≡ o → lookup t (option_map_or (λ (e : K × X). e ∷ remove_entry t es) o es) ≡ lookup t es) [
-        | None ↦ λ h. refl
-        | Some e ↦ λ h. rw (passes es e h) (sym (lookup-entry es e h))
-      ] refl
-
   pub promoted-none : (es : List (K × X)) → is_some (lookup t es) ≡ false → promoted t es ≡ es
   promoted-none es n =
       elim (lookup_entry t es) as
@@ -232,14 +224,13 @@ checked-found block entries v a h =
     let same : block ≡ r.0 = same-blocks block r.0 r.1 in
     subst (λ (b : Block). (addresses : List ℕ) × IsSpelling b addresses v) (sym same) r.2
 
--- a block that is among the keys is found
-pub never-absent : (block : Block) (entries : List (Block × List ℕ)) → list_any (is_same block) (keys_of entries) ≡ true
-    → lookup (is_same block) entries ≡ None → ⊥
-never-absent block entries there none =
-    let found : is_some (lookup (is_same block) entries) ≡ true = sym (any-key (is_same block) entries) ∙ there in
-    let not_found : is_some (lookup (is_same block) entries) ≡ false = ap (λ (o : Option (List ℕ)). is_some o) none in
-    let never : true ≡ false = sym found ∙ not_found in
-    cc
+pub is_found : (block : Block) (entries : List (Block × List ℕ)) (bytes : List ℕ) → lookup (is_same block) entries ≡ Some bytes
+    → list_any (is_same block) (keys_of entries) ≡ true
+is_found block entries bytes found = any-key (is_same block) entries ∙ ap (λ (o : Option (List ℕ)). is_some o) found
+
+pub is_absent : (block : Block) (entries : List (Block × List ℕ)) → lookup (is_same block) entries ≡ None
+    → list_any (is_same block) (keys_of entries) ≡ false
+is_absent block entries none = any-key (is_same block) entries ∙ ap (λ (o : Option (List ℕ)). is_some o) none
 
 -- ---- which block is read
 

@@ -1,6 +1,6 @@
 -- One block that is asked for: what is found, kept and read.
 use Rattle.std.proofs.Common.{◌≡◌, ℕ, ◌+◌, ◌≤◌, Bool, true, false, cond, List, [], ◌∷◌, ◌++◌, filter, refl, ap, sym, ◌∙◌, subst, arith, append-nil}
-use Rattle.std.specs.Prelude.{Option, None, Some, Result, Ok, Err, IfSome, IfOk, IfErr, OnOk}
+use Rattle.std.specs.Prelude.{Option, None, Some, Result, Ok, Err, IfSome, IfNone, IfOk, IfErr}
 use Rattle.std.specs.List.{AllByRecursion, list_any}
 use Rattle.std.specs.Map.{keys_of, lookup}
 use Rattle.wu_base.specs.declared.addresses.Range.{Range}
@@ -166,9 +166,13 @@ pub if_err : {T E : Type 0} (P Q : E → Type 0) (r : Result T E) → ((error : 
 if_err P Q (Ok value) step h = h
 if_err P Q (Err error) step h = step error h
 
-pub on_ok : {T E : Type 0} (P Q : Type 0) (r : Result T E) → (P → Q) → OnOk r P → OnOk r Q
-on_ok P Q (Ok value) step h = step h
-on_ok P Q (Err error) step h = h
+pub if_some : {T : Type 0} (P : Type 0) (o : Option T) → P → IfSome o (λ value. P)
+if_some P None p = tt
+if_some P (Some value) p = p
+
+pub never_none : {T : Type 0} (P Q : Type 0) (o : Option T) → (P → ⊥) → IfNone o P → IfNone o Q
+never_none P Q None not h = absurd (not h)
+never_none P Q (Some value) not h = h
 
 -- what the addresses of a kept block are
 pub told-kept : (block : Block) (holds : Option Content) (kept : Kept) (bytes addresses : List ℕ)

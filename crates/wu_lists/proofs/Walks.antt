@@ -21,7 +21,7 @@ use Rattle.wu_lists.specs.Ascending.{AscendBetween, AreInOrder}
 use Rattle.wu_lists.specs.Blocks.{IsSpelling, IsSpelledIn, blocks_from, bytes_of, meets}
 use Rattle.wu_lists.specs.Fetching.{AreFetched, HasBlock, HasBlocks, Puts}
 use Rattle.wu_lists.specs.Keeping.{AreHeld, Asks, Kept}
-use Rattle.wu_lists.specs.Walking.{IsRest, IsWalked}
+use Rattle.wu_lists.specs.Walking.{IsFound, IsRest, IsWalked}
 use Rattle.wu_lists.proofs.Ascending.{all_from, ascend-higher, ascend-lower}
 use Rattle.wu_lists.proofs.Asking.{all-append, all-back, asks-join, asks-none}
 use Rattle.wu_lists.proofs.Spans.{filter-alike, spelled_ascend}
@@ -36,6 +36,26 @@ passes-alike : (p q : ℕ → Bool) (low : ℕ) (xs : List ℕ) → ((x : ℕ) �
     → AllByRecursion (λ x. p x ≡ true) xs → AllByRecursion (λ x. q x ≡ true) xs
 passes-alike p q low [] same a t = tt
 passes-alike p q low (x ∷ xs) same a t = (sym (same x a.0) ∙ t.0, passes-alike p q low xs same a.1 t.1)
+
+-- ---- what was put at the end
+
+pub puts-none : (Kind : List ℕ → Type 0) (before : List ℕ) → Kind [] → Puts Kind before before
+puts-none Kind before k = record { more = []; put = sym (append-nil before); kind = k }
+
+pub puts-step : (Kind Other : List ℕ → Type 0) (before after : List ℕ) → ((more : List ℕ) → Kind more → Other more)
+    → Puts Kind before after → Puts Other before after
+puts-step Kind Other before after step p = record { more = p.more; put = p.put; kind = step p.more p.kind }
+
+puts-join : (First Next Both : List ℕ → Type 0) (before middle after : List ℕ)
+    → ((xs ys : List ℕ) → First xs → Next ys → Both (xs ++ ys)) → Puts First before middle → Puts Next middle after
+    → Puts Both before after
+puts-join First Next Both before middle after join p q = record {
+  more = p.more ++ q.more;
+  put =
+      q.put ∙ ap (λ (l : List ℕ). l ++ q.more) p.put
+      ∙ append_assoc before p.more q.more;
+  kind = join p.more q.more p.kind q.kind;
+}
 
 -- ---- the block of an entry
 
@@ -54,10 +74,10 @@ spelled-block blob low count entry bytes addresses n h = record {
 
 -- ---- none yet
 
-module _ (frames : List Range) (blob low high : ℕ) (all : TermEntry) (holds : Option Content) (old : Kept)
-    (ranges : Option (List ReadRange)) where
+module _ (AreWanted : Type 0) (frames : List Range) (blob low high : ℕ) (all : TermEntry) (holds : Option Content) (old : Kept)
+    (ranges : Option (List ReadRange)) (before : List ℕ) where
   pub walked-none : AreBlocks low high all.count all.blocks → low ≤ high → AreInOrder 0 ADDRESSES_MAX frames
-      → IsWalked frames frames blob low high all all holds old old ranges ranges []
+      → IsWalked AreWanted frames frames blob low high all all holds old old ranges ranges before before
   walked-none blocks span order = record {
     from = low;
     above = omega arith;
@@ -69,9 +89,8 @@ module _ (frames : List Range) (blob low high : ℕ) (all : TermEntry) (holds : 
     gone = [];
     split = refl;
     asks = asks-none holds old ranges;
-    ascend = omega arith;
-    in_frames = tt;
-    told = all-rest holds;
+    found_of = λ wanted. puts-none (IsFound frames blob low low all all holds old) before
+        (record { ascend = omega arith; in_frames = tt; told = all-rest holds });
   }
     where
       all-rest : (holds : Option Content) → IfSome holds (λ content. (bytes addresses : List ℕ) → content.blobs blob ≡ Some bytes
@@ -82,7 +101,7 @@ module _ (frames : List Range) (blob low high : ℕ) (all : TermEntry) (holds : 
   -- ---- all of them
 
   module _ (left : List Range) (rest : TermEntry) (now : Kept) (ranges_now : Option (List ReadRange)) (found : List ℕ)
-      (w : IsWalked frames left blob low high all rest holds old now ranges ranges_now found) where
+      (w : IsWalked AreWanted frames left blob low high all rest holds old now ranges ranges_now before found) where
     pub walked-asks : rest.blocks ≡ []
         → Asks (filter (meets frames) (blocks_from blob low all.count all.blocks)) holds old now ranges ranges_now
     walked-asks none =
@@ -91,27 +110,31 @@ module _ (frames : List Range) (blob low high : ℕ) (all : TermEntry) (holds : 
         ∙ ap (λ (bs : List BlockEntry). w.gone ++ blocks_from blob low rest.count bs) (sym none) ∙ w.split in
         subst (λ (bs : List Block). Asks (filter (meets frames) bs) holds old now ranges ranges_now) whole w.asks
 
-    pub walked-found : rest.blocks ≡ []
-        → AreFetched (HasBlocks low all.count all.blocks) frames blob low (high + 1) holds old found
-    walked-found none = record {
-      ascend = ascend-higher low w.from (high + 1) found w.within w.ascend;
-      live = w.in_frames;
-      told = all-found holds w.told;
-    }
+    pub walked-found : AreWanted → rest.blocks ≡ []
+        → Puts (AreFetched (HasBlocks low all.count all.blocks) frames blob low (high + 1) holds old) before found
+    walked-found wanted none =
+        puts-step (IsFound frames blob low w.from all rest holds old)
+        (AreFetched (HasBlocks low all.count all.blocks) frames blob low (high + 1) holds old) before found
+        (λ more f. record {
+          ascend = ascend-higher low w.from (high + 1) more w.within f.ascend;
+          live = f.in_frames;
+          told = all-found more holds f.told;
+        })
+        (w.found_of wanted)
       where
         none-later : (blocks : List BlockEntry) (bytes later : List ℕ) → blocks ≡ [] → HoldBlocks low bytes blocks later → later ≡ []
         none-later blocks bytes later e h = subst (λ (bs : List BlockEntry). HoldBlocks low bytes bs later) e h
 
-        all-found : (holds : Option Content)
+        all-found : (more : List ℕ) (holds : Option Content)
             → IfSome holds (λ content. (bytes addresses : List ℕ) → content.blobs blob ≡ Some bytes → AreHeld blob bytes old
-            → HasBlocks low all.count all.blocks bytes addresses → IsRest frames low rest bytes addresses found)
+            → HasBlocks low all.count all.blocks bytes addresses → IsRest frames low rest bytes addresses more)
             → IfSome holds (λ content. (bytes addresses : List ℕ) → content.blobs blob ≡ Some bytes → AreHeld blob bytes old
-            → HasBlocks low all.count all.blocks bytes addresses → found ≡ filter (is_live frames) addresses)
-        all-found None t = tt
-        all-found (Some content) t = λ bytes addresses there held has.
+            → HasBlocks low all.count all.blocks bytes addresses → more ≡ filter (is_live frames) addresses)
+        all-found more None t = tt
+        all-found more (Some content) t = λ bytes addresses there held has.
             let r = t bytes addresses there held has in
             let none_later : r.later ≡ [] = none-later rest.blocks bytes r.later none r.has.held in
-            sym (append-nil found) ∙ ap (λ (l : List ℕ). found ++ filter (is_live frames) l) (sym none_later) ∙ r.made
+            sym (append-nil more) ∙ ap (λ (l : List ℕ). more ++ filter (is_live frames) l) (sym none_later) ∙ r.made
 
     -- ---- one more
 
@@ -190,21 +213,21 @@ module _ (frames : List Range) (blob low high : ℕ) (all : TermEntry) (holds : 
             ∙ sym (filter-append (meets frames) w.gone (block ∷ later))
             ∙ ap (filter (meets frames)) (ap (λ (bs : List Block). w.gone ++ bs) (sym rest-split) ∙ w.split)
 
-        module _ (then : Kept) (ranges_then : Option (List ReadRange)) (more_found : List ℕ)
-            (asks : Asks (filter (meets nearer) (block ∷ [])) holds now then ranges_now ranges_then)
-            (puts : Puts (AreFetched (HasBlock block) nearer blob entry.first (entry.last + 1) holds now) found more_found) where
-          starts : AllByRecursion (λ (x : ℕ). entry.first ≤ x) puts.more
-          starts = all_from entry.first (entry.last + 1) puts.more puts.kind.ascend
+        -- its addresses that frames need, after those of the blocks before it
+        module _ (found_before more : List ℕ) (f : IsFound frames blob low w.from all rest holds old found_before)
+            (g : AreFetched (HasBlock block) nearer blob entry.first (entry.last + 1) holds now more) where
+          starts : AllByRecursion (λ (x : ℕ). entry.first ≤ x) more
+          starts = all_from entry.first (entry.last + 1) more g.ascend
 
           next-told : (holds : Option Content)
               → IfSome holds (λ content. (blob : ℕ) (bytes : List ℕ) → content.blobs blob ≡ Some bytes → AreHeld blob bytes old
               → AreHeld blob bytes now)
               → IfSome holds (λ content. (bytes addresses : List ℕ) → content.blobs blob ≡ Some bytes → AreHeld blob bytes now
-              → IsSpelling block addresses (bytes_of block bytes) → puts.more ≡ filter (is_live nearer) addresses)
+              → IsSpelling block addresses (bytes_of block bytes) → more ≡ filter (is_live nearer) addresses)
               → IfSome holds (λ content. (bytes addresses : List ℕ) → content.blobs blob ≡ Some bytes → AreHeld blob bytes old
-              → HasBlocks low all.count all.blocks bytes addresses → IsRest frames low rest bytes addresses found)
+              → HasBlocks low all.count all.blocks bytes addresses → IsRest frames low rest bytes addresses found_before)
               → IfSome holds (λ content. (bytes addresses : List ℕ) → content.blobs blob ≡ Some bytes → AreHeld blob bytes old
-              → HasBlocks low all.count all.blocks bytes addresses → IsRest frames low next bytes addresses more_found)
+              → HasBlocks low all.count all.blocks bytes addresses → IsRest frames low next bytes addresses (found_before ++ more))
           next-told None h p t = tt
           next-told (Some content) h p t = λ bytes addresses there held has.
               let r = t bytes addresses there held has in
@@ -214,7 +237,7 @@ module _ (frames : List Range) (blob low high : ℕ) (all : TermEntry) (holds : 
               let number : count ≡ length here =
               omega (arith, counted, r.has.number, length-take BLOCK_LEN r.later) in
               let spelled : IsSpelling block here (bytes_of block bytes) = spelled-block blob low count entry bytes here number both.0 in
-              let more : puts.more ≡ filter (is_live frames) here =
+              let same : more ≡ filter (is_live frames) here =
               p bytes here there (h blob bytes there held) spelled
               ∙ filter-alike (is_live nearer) (is_live frames) entry.first here alike
               (all_from entry.first (entry.last + 1) here (spelled_ascend block here (bytes_of block bytes) spelled)) in
@@ -225,40 +248,49 @@ module _ (frames : List Range) (blob low high : ℕ) (all : TermEntry) (holds : 
                   held = both.1;
                 };
                 made =
-                    ap (λ (l : List ℕ). l ++ filter (is_live frames) (drop BLOCK_LEN r.later)) puts.put
-                    ∙ append_assoc found puts.more (filter (is_live frames) (drop BLOCK_LEN r.later))
-                    ∙ ap (λ (l : List ℕ). found ++ (l ++ filter (is_live frames) (drop BLOCK_LEN r.later))) more
-                    ∙ ap (λ (l : List ℕ). found ++ l) (sym (filter-append (is_live frames) here (drop BLOCK_LEN r.later)))
-                    ∙ ap (λ (l : List ℕ). found ++ filter (is_live frames) l) (take-append-drop BLOCK_LEN r.later)
+                    append_assoc found_before more (filter (is_live frames) (drop BLOCK_LEN r.later))
+                    ∙ ap (λ (l : List ℕ). found_before ++ (l ++ filter (is_live frames) (drop BLOCK_LEN r.later))) same
+                    ∙ ap (λ (l : List ℕ). found_before ++ l) (sym (filter-append (is_live frames) here (drop BLOCK_LEN r.later)))
+                    ∙ ap (λ (l : List ℕ). found_before ++ filter (is_live frames) l) (take-append-drop BLOCK_LEN r.later)
                     ∙ r.made;
               }
 
-          pub walked-next : IsWalked frames nearer blob low high all next holds old then ranges ranges_then more_found
-          walked-next = record {
-            from = entry.last + 1;
-            above = omega (arith, w.above, next-blocks.1.begin, ends-later);
-            within = omega (arith, next-blocks.1.end);
-            blocks = subst (λ (n : ℕ). AreBlocks (entry.last + 1) high n next.blocks) (sym fewer) next-blocks.2;
-            order = order;
-            live = λ address l. alike address (omega (arith, ends-later));
-            needed = λ other l.
-                needed other (omega (arith, ends-later))
-                ∙ w.needed other (omega (arith, ends-later, next-blocks.1.begin));
-            gone = w.gone ++ block ∷ [];
-            split = all-split;
-            asks =
-                subst (λ (bs : List Block). Asks bs holds old then ranges ranges_then)
-                (ap (λ (bs : List Block). filter (meets frames) w.gone ++ bs) needed-alike
-                ∙ sym (filter-append (meets frames) w.gone (block ∷ [])))
-                (asks-join holds old now then ranges ranges_now ranges_then (filter (meets frames) w.gone)
-                (filter (meets nearer) (block ∷ [])) w.asks asks);
+          found-next : IsFound frames blob low (entry.last + 1) all next holds old (found_before ++ more)
+          found-next = record {
             ascend =
-                subst (AscendBetween low (entry.last + 1)) (sym puts.put)
-                (ascend-join low entry.first (entry.last + 1) found puts.more
-                (ascend-higher low w.from entry.first found next-blocks.1.begin w.ascend) puts.kind.ascend);
+                ascend-join low entry.first (entry.last + 1) found_before more
+                (ascend-higher low w.from entry.first found_before next-blocks.1.begin f.ascend) g.ascend;
             in_frames =
-                subst (AllByRecursion (λ (x : ℕ). is_live frames x ≡ true)) (sym puts.put)
-                (all-append (λ (x : ℕ). is_live frames x ≡ true) found puts.more w.in_frames
-                (passes-alike (is_live nearer) (is_live frames) entry.first puts.more alike starts puts.kind.live));
-            told = next-told holds w.asks.held puts.kind.told w.told;
+                all-append (λ (x : ℕ). is_live frames x ≡ true) found_before more f.in_frames
+                (passes-alike (is_live nearer) (is_live frames) entry.first more alike starts g.live);
+            told = next-told holds w.asks.held g.told f.told;
           }
+
+        pub walked-next : (then : Kept) (ranges_then : Option (List ReadRange)) (more_found : List ℕ)
+            → Asks (filter (meets nearer) (block ∷ [])) holds now then ranges_now ranges_then
+            → (AreWanted → Puts (AreFetched (HasBlock block) nearer blob entry.first (entry.last + 1) holds now) found more_found)
+            → IsWalked AreWanted frames nearer blob low high all next holds old then ranges ranges_then before more_found
+        walked-next then ranges_then more_found asks puts = record {
+          from = entry.last + 1;
+          above = omega (arith, w.above, next-blocks.1.begin, ends-later);
+          within = omega (arith, next-blocks.1.end);
+          blocks = subst (λ (n : ℕ). AreBlocks (entry.last + 1) high n next.blocks) (sym fewer) next-blocks.2;
+          order = order;
+          live = λ address l. alike address (omega (arith, ends-later));
+          needed = λ other l.
+              needed other (omega (arith, ends-later))
+              ∙ w.needed other (omega (arith, ends-later, next-blocks.1.begin));
+          gone = w.gone ++ block ∷ [];
+          split = all-split;
+          asks =
+              subst (λ (bs : List Block). Asks bs holds old then ranges ranges_then)
+              (ap (λ (bs : List Block). filter (meets frames) w.gone ++ bs) needed-alike
+              ∙ sym (filter-append (meets frames) w.gone (block ∷ [])))
+              (asks-join holds old now then ranges ranges_now ranges_then (filter (meets frames) w.gone)
+              (filter (meets nearer) (block ∷ [])) w.asks asks);
+          found_of = λ wanted.
+              puts-join (IsFound frames blob low w.from all rest holds old)
+              (AreFetched (HasBlock block) nearer blob entry.first (entry.last + 1) holds now)
+              (IsFound frames blob low (entry.last + 1) all next holds old) before found more_found found-next
+              (w.found_of wanted) (puts wanted);
+        }

@@ -11,7 +11,7 @@ use Rattle.wu_part.specs.Directories.{AreBlocks}
 use Rattle.wu_lists.specs.declared.blocks.Block.{Block}
 use Rattle.wu_lists.specs.Ascending.{AscendBetween, AreInOrder}
 use Rattle.wu_lists.specs.Blocks.{blocks_from, meets}
-use Rattle.wu_lists.specs.Fetching.{HasBlocks}
+use Rattle.wu_lists.specs.Fetching.{HasBlocks, Puts}
 use Rattle.wu_lists.specs.Keeping.{AreHeld, Asks, Kept}
 
 -- of all the addresses, those that were found and those of the rest of the blocks are in the frames
@@ -20,10 +20,18 @@ pub record IsRest (frames : List Range) (low : ℕ) (rest : TermEntry) (bytes ad
   pub has : HasBlocks low rest.count rest.blocks bytes later
   pub made : found ++ filter (is_live frames) later ≡ filter (is_live frames) addresses
 
--- The first blocks were asked for, as far as frames need them, and the addresses in frames found. The rest of the blocks begin at an
--- address or after it, and the frames that are left are all that they need.
-pub record IsWalked (frames left : List Range) (blob low high : ℕ) (all rest : TermEntry) (holds : Option Content) (old now : Kept)
-    (ranges ranges_now : Option (List ReadRange)) (found : List ℕ) : Type 0 where
+-- Of the addresses of all blocks, those before the rest that lie in frames.
+pub record IsFound (frames : List Range) (blob low from : ℕ) (all rest : TermEntry) (holds : Option Content) (kept : Kept)
+    (found : List ℕ) : Type 0 where
+  pub ascend : AscendBetween low from found
+  pub in_frames : AllByRecursion (λ address. is_live frames address ≡ true) found
+  pub told : IfSome holds (λ content. (bytes addresses : List ℕ) → content.blobs blob ≡ Some bytes → AreHeld blob bytes kept
+      → HasBlocks low all.count all.blocks bytes addresses → IsRest frames low rest bytes addresses found)
+
+-- The first blocks were asked for, as far as frames need them, and where they were wanted, the addresses in frames were put at the end of
+-- those found before. The rest of the blocks begin at an address or after it, and the frames that are left are all that they need.
+pub record IsWalked (AreWanted : Type 0) (frames left : List Range) (blob low high : ℕ) (all rest : TermEntry) (holds : Option Content)
+    (old now : Kept) (ranges ranges_now : Option (List ReadRange)) (before found : List ℕ) : Type 0 where
   pub from : ℕ
   pub above : low ≤ from
   pub within : from ≤ high + 1
@@ -34,7 +42,4 @@ pub record IsWalked (frames left : List Range) (blob low high : ℕ) (all rest :
   pub gone : List Block
   pub split : gone ++ blocks_from blob low rest.count rest.blocks ≡ blocks_from blob low all.count all.blocks
   pub asks : Asks (filter (meets frames) gone) holds old now ranges ranges_now
-  pub ascend : AscendBetween low from found
-  pub in_frames : AllByRecursion (λ address. is_live frames address ≡ true) found
-  pub told : IfSome holds (λ content. (bytes addresses : List ℕ) → content.blobs blob ≡ Some bytes → AreHeld blob bytes old
-      → HasBlocks low all.count all.blocks bytes addresses → IsRest frames low rest bytes addresses found)
+  pub found_of : AreWanted → Puts (IsFound frames blob low from all rest holds old) before found

@@ -35,6 +35,7 @@ pub(crate) fn put_within(
 }
 
 /// Whether one of the frames, none of which ends before the block, overlaps with the block's span.
+#[inline]
 pub(crate) fn is_needed(block: &Block, frames: &[Range]) -> bool
     requires order { AreInOrder 0 ADDRESSES_MAX frames.now }
     requires after { AllByRecursion (λ frame. block.now.first < frame.start + frame.len) frames.now }
@@ -48,6 +49,7 @@ pub(crate) fn is_needed(block: &Block, frames: &[Range]) -> bool
 
 /// The frames without those first ones that end before the address or at it. Takes time logarithmic in the
 /// number of those that it leaves out.
+#[inline]
 pub(crate) fn frames_from(frames: &[Range], address: u64) -> &[Range]
     requires { AreInOrder 0 ADDRESSES_MAX frames.now }
     ensures within { length result.now ≤ length frames.now }
@@ -60,6 +62,7 @@ pub(crate) fn frames_from(frames: &[Range], address: u64) -> &[Range]
 }
 
 /// The addresses below the limit, and the others. Takes time logarithmic in the number of those below.
+#[inline]
 fn split_below(addresses: &[u64], limit: u64) -> (&[u64], &[u64])
     requires ascend { AscendBetween 0 ADDRESSES_MAX addresses.now }
     requires limit { limit ≤ ADDRESSES_MAX }
@@ -71,6 +74,7 @@ fn split_below(addresses: &[u64], limit: u64) -> (&[u64], &[u64])
 }
 
 /// How many of the addresses are below the limit.
+#[inline]
 fn count_below(addresses: &[u64], limit: u64) -> usize
     requires { AscendBetween 0 ADDRESSES_MAX addresses.now }
     ensures within { result ≤ length addresses.now }
@@ -81,24 +85,26 @@ fn count_below(addresses: &[u64], limit: u64) -> usize
     addresses[..end].partition_point(|address| *address < limit)
 }
 
-/// At most twice as many of the first addresses as are below the limit, or one: none of the others is.
+/// At most twice as many of the first addresses as are below the limit: none of the others is.
+#[inline]
 fn reach_of_limit(addresses: &[u64], limit: u64) -> usize
     requires { AscendBetween 0 ADDRESSES_MAX addresses.now }
     ensures within { result ≤ length addresses.now }
     ensures others { AllByRecursion (λ address. limit ≤ address) (drop result addresses.now) }
 {
-    let mut end = 1;
+    let mut end = 0;
     while end < addresses.len() {
         if addresses[end] >= limit {
             return end;
         }
-        end *= 2;
+        end = 2 * end + 1;
     }
     addresses.len()
 }
 
 /// The frames without those first ones that end before the first of the addresses; none where no address
 /// is left. Takes time logarithmic in the number of those that it leaves out.
+#[inline]
 fn frames_for<'a>(frames: &'a [Range], addresses: &[u64]) -> &'a [Range]
     requires order { AreInOrder 0 ADDRESSES_MAX frames.now }
     requires ascend { AscendBetween 0 ADDRESSES_MAX addresses.now }
@@ -113,6 +119,7 @@ fn frames_for<'a>(frames: &'a [Range], addresses: &[u64]) -> &'a [Range]
 }
 
 /// How many of the frames end before the address or at it.
+#[inline]
 fn count_ended(frames: &[Range], address: u64) -> usize
     requires { AreInOrder 0 ADDRESSES_MAX frames.now }
     ensures within { result ≤ length frames.now }
@@ -123,24 +130,25 @@ fn count_ended(frames: &[Range], address: u64) -> usize
     frames[..end].partition_point(|frame| has_ended(frame, address))
 }
 
-/// At most twice as many of the first frames as end before the address or at it, or one: none of the
-/// others does.
+/// At most twice as many of the first frames as end before the address or at it: none of the others does.
+#[inline]
 fn reach_of_ended(frames: &[Range], address: u64) -> usize
     requires { AreInOrder 0 ADDRESSES_MAX frames.now }
     ensures within { result ≤ length frames.now }
     ensures others { AllByRecursion (λ frame. address < frame.start + frame.len) (drop result frames.now) }
 {
-    let mut end = 1;
+    let mut end = 0;
     while end < frames.len() {
         if !has_ended(&frames[end], address) {
             return end;
         }
-        end *= 2;
+        end = 2 * end + 1;
     }
     frames.len()
 }
 
 /// Whether the address is after all of the frame's.
+#[inline]
 fn has_ended(frame: &Range, address: u64) -> bool
     ensures { result ≡ nat_le (frame.now.start + frame.now.len) address }
 {

@@ -1,5 +1,5 @@
 //! The lists of terms in parts, and the blocks that are kept of them.
-ghost use Rattle.std.specs.Prelude.{◌≡◌, ◌+◌, ◌<◌, ◌≤◌, ℕ, List, [], ◌∷◌, All, filter, true, false, IfOk, IfErr, IfSome, OnOk, Some};
+ghost use Rattle.std.specs.Prelude.{◌≡◌, ◌+◌, ◌<◌, ◌≤◌, ℕ, List, [], ◌∷◌, All, filter, true, false, IfOk, IfErr, IfSome, IfNone, OnOk, Some, None};
 ghost use Rattle.std.specs.List.{AllByRecursion, list_any};
 ghost use Rattle.std.specs.Map.{keys_of, lookup};
 ghost use Rattle.lru.specs.LruCache.{IsValid, lru_cache};
@@ -10,6 +10,7 @@ ghost use Rattle.wu_lists.specs.Ascending.{AscendBetween, AreInOrder};
 ghost use Rattle.wu_lists.specs.Blocks.{HasBytes, IsSpelledIn, IsSpelling, blocks_from, bytes_of, meets, needed};
 ghost use Rattle.wu_lists.specs.Causes.{IsCause, IsNoPart};
 ghost use Rattle.wu_lists.specs.Fetching.{AreFetched, HasBlock, HasBlocks, HasTerm, Puts};
+ghost use Rattle.wu_lists.specs.declared.lists.Purpose.TheVariants.{Fetch};
 ghost use Rattle.wu_lists.specs.Keeping.{AreHeld, Asks, IsChecked, all_missing, asked, is_same};
 
 use crate::blocks::{Block, read_bytes};
@@ -21,6 +22,15 @@ use std::num::NonZeroUsize;
 use wu_base::{Bytes, NoMemory, Range, Sequence, Trouble};
 use wu_outside::Store;
 use wu_part::{Directory, Entry};
+
+/// What the blocks of a term are asked for.
+#[derive(Clone, Copy)]
+enum Purpose {
+    /// For their addresses.
+    Fetch,
+    /// For the reads alone.
+    Touch,
+}
 
 /// Reads the lists of terms in parts, and keeps blocks of them. Contracts see the blocks that are kept, the one
 /// that was asked for last first, each with its bytes, and how many may be kept. A block that is kept was found
@@ -86,31 +96,120 @@ impl Lists {
             (IfSome (D.holds store.old) (λ content. IsNoPart dir.now (content.blobs blob)))
             (D.faults store.old) (D.faults store.new) (D.reads store.old) (D.reads store.new)) }
     {
+        let mut found = Vec::new(self.alloc);
+        self.fetch_into(store, blob, dir, term, frames, &mut found)?;
+        Ok(Sequence::from(found))
+    }
+
+    /// Appends the addresses that [`Lists::fetch`] gives. After an error some of them may have been appended.
+    pub fn fetch_into<D: Store>(
+        &mut self,
+        store: &mut D,
+        blob: u64,
+        dir: &Directory,
+        term: &[u8],
+        frames: &[Range],
+        found: &mut Vec<u64>,
+    ) -> Result<(), Trouble>
+        requires apart { AreApart frames.now }
+        requires bounded { All (λ frame. frame.start + frame.len ≤ ADDRESSES_MAX) frames.now }
+        ensures addresses { OnOk result (Puts (AreFetched (HasTerm dir.now term.now) frames.now blob dir.now.low (dir.now.high + 1)
+            (D.holds store.old) self.old) found.old.items found.new.items) }
+        ensures blocks { OnOk result (Asks (needed blob dir.now term.now frames.now) (D.holds store.old) self.old self.new
+            (D.reads store.old) (D.reads store.new)) }
+        ensures holds { D.holds store.new ≡ D.holds store.old }
+        ensures moments { D.moments store.new ≡ D.moments store.old }
+        ensures calm { OnOk result (D.faults store.new ≡ D.faults store.old) }
+        ensures cause { IfErr result (IsCause
+            (all_missing self.old.cap (keys_of self.old.entries) (needed blob dir.now term.now frames.now)) blob
+            (IfSome (D.holds store.old) (λ content. IsNoPart dir.now (content.blobs blob)))
+            (D.faults store.old) (D.faults store.new) (D.reads store.old) (D.reads store.new)) }
+    {
+        self.walk(store, blob, dir, term, frames, Purpose::Fetch, found)
+    }
+
+    /// Asks for the blocks of the term in the part with that blob and that directory that the frames need, as
+    /// [`Lists::fetch`] does, and gives no addresses: for a caller who knows them and owes the reads. A block
+    /// that is kept is the one that was asked for last then. One that isn't is read, checked and kept.
+    ///
+    /// The blob is damaged where [`Lists::fetch`] would find it so.
+    pub fn touch<D: Store>(
+        &mut self,
+        store: &mut D,
+        blob: u64,
+        dir: &Directory,
+        term: &[u8],
+        frames: &[Range],
+    ) -> Result<(), Trouble>
+        requires apart { AreApart frames.now }
+        requires bounded { All (λ frame. frame.start + frame.len ≤ ADDRESSES_MAX) frames.now }
+        ensures blocks { OnOk result (Asks (needed blob dir.now term.now frames.now) (D.holds store.old) self.old self.new
+            (D.reads store.old) (D.reads store.new)) }
+        ensures holds { D.holds store.new ≡ D.holds store.old }
+        ensures moments { D.moments store.new ≡ D.moments store.old }
+        ensures calm { OnOk result (D.faults store.new ≡ D.faults store.old) }
+        ensures cause { IfErr result (IsCause
+            (all_missing self.old.cap (keys_of self.old.entries) (needed blob dir.now term.now frames.now)) blob
+            (IfSome (D.holds store.old) (λ content. IsNoPart dir.now (content.blobs blob)))
+            (D.faults store.old) (D.faults store.new) (D.reads store.old) (D.reads store.new)) }
+    {
+        let mut none = Vec::new(self.alloc);
+        self.walk(store, blob, dir, term, frames, Purpose::Touch, &mut none)
+    }
+
+    /// Asks for the blocks of the term that the frames need, and for a fetch appends the addresses that lie in
+    /// the frames.
+    fn walk<D: Store>(
+        &mut self,
+        store: &mut D,
+        blob: u64,
+        dir: &Directory,
+        term: &[u8],
+        frames: &[Range],
+        purpose: Purpose,
+        found: &mut Vec<u64>,
+    ) -> Result<(), Trouble>
+        requires apart { AreApart frames.now }
+        requires bounded { All (λ frame. frame.start + frame.len ≤ ADDRESSES_MAX) frames.now }
+        ensures addresses { OnOk result (purpose ≡ Fetch → Puts (AreFetched (HasTerm dir.now term.now) frames.now blob
+            dir.now.low (dir.now.high + 1) (D.holds store.old) self.old) found.old.items found.new.items) }
+        ensures blocks { OnOk result (Asks (needed blob dir.now term.now frames.now) (D.holds store.old) self.old self.new
+            (D.reads store.old) (D.reads store.new)) }
+        ensures holds { D.holds store.new ≡ D.holds store.old }
+        ensures moments { D.moments store.new ≡ D.moments store.old }
+        ensures calm { OnOk result (D.faults store.new ≡ D.faults store.old) }
+        ensures cause { IfErr result (IsCause
+            (all_missing self.old.cap (keys_of self.old.entries) (needed blob dir.now term.now frames.now)) blob
+            (IfSome (D.holds store.old) (λ content. IsNoPart dir.now (content.blobs blob)))
+            (D.faults store.old) (D.faults store.new) (D.reads store.old) (D.reads store.new)) }
+    {
         dir.is_spelled();
         match dir.entry_of(term) {
             Some(entry) => {
-                let found = self.fetch_blocks(store, blob, dir, entry, frames)?;
-                Ok(Sequence::from(found))
+                self.walk_blocks(store, blob, dir, entry, frames, purpose, found)?;
+                Ok(())
             }
-            None => Ok(Sequence::new(self.alloc)),
+            None => Ok(()),
         }
     }
 
-    /// The addresses of the entry's blocks that lie in the frames.
-    fn fetch_blocks<D: Store>(
+    /// The same of the entry's blocks.
+    fn walk_blocks<D: Store>(
         &mut self,
         store: &mut D,
         blob: u64,
         dir: &Directory,
         mut entry: Entry,
         frames: &[Range],
-    ) -> Result<Vec<u64>, Trouble>
+        purpose: Purpose,
+        found: &mut Vec<u64>,
+    ) -> Result<(), Trouble>
         requires order { AreInOrder 0 ADDRESSES_MAX frames.now }
         requires cut { AreBlocks dir.now.low dir.now.high entry.count entry.blocks }
         requires bounded { dir.now.high < ADDRESSES_MAX }
         requires span { dir.now.low ≤ dir.now.high }
-        ensures addresses { IfOk result (λ found. AreFetched (HasBlocks dir.now.low entry.entry.count entry.entry.blocks) frames.now blob
-            dir.now.low (dir.now.high + 1) (D.holds store.old) self.old found.items) }
+        ensures addresses { OnOk result (purpose ≡ Fetch → Puts (AreFetched (HasBlocks dir.now.low entry.entry.count entry.entry.blocks)
+            frames.now blob dir.now.low (dir.now.high + 1) (D.holds store.old) self.old) found.old.items found.new.items) }
         ensures blocks { OnOk result (Asks
             (filter (meets frames.now) (blocks_from blob dir.now.low entry.entry.count entry.entry.blocks))
             (D.holds store.old) self.old self.new (D.reads store.old) (D.reads store.new)) }
@@ -124,7 +223,6 @@ impl Lists {
             AllByRecursion (IsSpelledIn content) (blocks_from blob dir.now.low entry.entry.count entry.entry.blocks) → ⊥))
             (D.faults store.old) (D.faults store.new) (D.reads store.old) (D.reads store.new)) }
     {
-        let mut found = Vec::new(self.alloc);
         let mut left = frames;
         while let Some((block, count)) = entry.next_block() {
             left = frames_from(left, block.first);
@@ -137,13 +235,77 @@ impl Lists {
                 at: block.at,
                 len: block.len,
             };
-            self.put_block(store, &block, left, &mut found)?;
+            self.visit(store, &block, left, purpose, found)?;
         }
-        Ok(found)
+        Ok(())
+    }
+
+    /// Asks for the block if a frame overlaps with it, and for a fetch appends its addresses that lie in the
+    /// frames.
+    #[inline]
+    fn visit<D: Store>(
+        &mut self,
+        store: &mut D,
+        block: &Block,
+        frames: &[Range],
+        purpose: Purpose,
+        found: &mut Vec<u64>,
+    ) -> Result<(), Trouble>
+        requires order { AreInOrder 0 ADDRESSES_MAX frames.now }
+        requires after { AllByRecursion (λ frame. block.now.first < frame.start + frame.len) frames.now }
+        requires span { block.now.first ≤ block.now.last }
+        requires bounded { block.now.last < ADDRESSES_MAX }
+        ensures addresses { OnOk result (purpose ≡ Fetch → Puts (AreFetched (HasBlock block.now) frames.now block.now.blob
+            block.now.first (block.now.last + 1) (D.holds store.old) self.old) found.old.items found.new.items) }
+        ensures blocks { OnOk result (Asks (filter (meets frames.now) (block.now ∷ [])) (D.holds store.old) self.old self.new
+            (D.reads store.old) (D.reads store.new)) }
+        ensures holds { D.holds store.new ≡ D.holds store.old }
+        ensures moments { D.moments store.new ≡ D.moments store.old }
+        ensures calm { OnOk result (D.faults store.new ≡ D.faults store.old) }
+        ensures cause { IfErr result (IsCause
+            (all_missing self.old.cap (keys_of self.old.entries) (filter (meets frames.now) (block.now ∷ []))) block.now.blob
+            (IfSome (D.holds store.old) (λ content. IsSpelledIn content block.now → ⊥))
+            (D.faults store.old) (D.faults store.new) (D.reads store.old) (D.reads store.new)) }
+    {
+        match purpose {
+            Purpose::Fetch => self.put_block(store, block, frames, found),
+            Purpose::Touch => self.touch_block(store, block, frames),
+        }
+    }
+
+    /// Asks for the block if a frame overlaps with it.
+    #[inline]
+    fn touch_block<D: Store>(
+        &mut self,
+        store: &mut D,
+        block: &Block,
+        frames: &[Range],
+    ) -> Result<(), Trouble>
+        requires order { AreInOrder 0 ADDRESSES_MAX frames.now }
+        requires after { AllByRecursion (λ frame. block.now.first < frame.start + frame.len) frames.now }
+        ensures blocks { OnOk result (Asks (filter (meets frames.now) (block.now ∷ [])) (D.holds store.old) self.old self.new
+            (D.reads store.old) (D.reads store.new)) }
+        ensures holds { D.holds store.new ≡ D.holds store.old }
+        ensures moments { D.moments store.new ≡ D.moments store.old }
+        ensures calm { OnOk result (D.faults store.new ≡ D.faults store.old) }
+        ensures cause { IfErr result (IsCause
+            (all_missing self.old.cap (keys_of self.old.entries) (filter (meets frames.now) (block.now ∷ []))) block.now.blob
+            (IfSome (D.holds store.old) (λ content. IsSpelledIn content block.now → ⊥))
+            (D.faults store.old) (D.faults store.new) (D.reads store.old) (D.reads store.new)) }
+    {
+        if !is_needed(block, frames) {
+            return Ok(());
+        }
+        if self.is_kept(block) {
+            return Ok(());
+        }
+        self.read(store, block)?;
+        Ok(())
     }
 
     /// Appends the addresses of the block that lie in the frames. A block that no frame overlaps with isn't
     /// asked for.
+    #[inline]
     fn put_block<D: Store>(
         &mut self,
         store: &mut D,
@@ -176,6 +338,7 @@ impl Lists {
     }
 
     /// The addresses of the block, which is read where it isn't kept.
+    #[inline]
     fn addresses<D: Store>(&mut self, store: &mut D, block: &Block) -> Result<Vec<u64>, Trouble>
         ensures ascend { IfOk result (λ found. AscendBetween block.now.first (block.now.last + 1) found.items) }
         ensures told { IfOk result (λ found. IfSome (D.holds store.old) (λ content. (bytes : List ℕ)
@@ -190,16 +353,16 @@ impl Lists {
             (IfSome (D.holds store.old) (λ content. IsSpelledIn content block.now → ⊥))
             (D.faults store.old) (D.faults store.new) (D.reads store.old) (D.reads store.new)) }
     {
-        if self.is_kept(block) {
-            return Ok(self.kept_addresses(block)?);
+        match self.kept_addresses(block)? {
+            Some(addresses) => Ok(addresses),
+            None => self.read(store, block),
         }
-        self.read(store, block)
     }
 
     /// Whether the block is kept. It is then the one that was asked for last.
+    #[inline]
     fn is_kept(&mut self, block: &Block) -> bool
         ensures kept { result ≡ list_any (is_same block.now) (keys_of self.old.entries) }
-        ensures found { lookup (is_same block.now) self.new.entries ≡ lookup (is_same block.now) self.old.entries }
         ensures asked { result ≡ true → keys_of self.new.entries ≡ asked self.old.cap (keys_of self.old.entries) block.now }
         ensures absent { result ≡ false → self.new ≡ self.old }
         ensures capacity { self.new.cap ≡ self.old.cap }
@@ -216,19 +379,24 @@ impl Lists {
         let _count = self.kept.len();
     }
 
-    /// The addresses of a block that is kept.
-    fn kept_addresses(&self, block: &Block) -> Result<Vec<u64>, NoMemory>
-        requires { list_any (is_same block.now) (keys_of self.now.entries) ≡ true }
-        ensures { IfOk result (λ found. (bytes : List ℕ) × (lookup (is_same block.now) self.now.entries ≡ Some bytes)
-            × IsSpelling block.now found.items bytes) }
+    /// The addresses of the block where it is kept. It is then the one that was asked for last.
+    #[inline]
+    fn kept_addresses(&mut self, block: &Block) -> Result<Option<Vec<u64>>, NoMemory>
+        ensures spelled { IfOk result (λ kept. IfSome kept (λ found. (bytes : List ℕ)
+            × (lookup (is_same block.now) self.old.entries ≡ Some bytes) × IsSpelling block.now found.items bytes)) }
+        ensures asked { IfOk result (λ kept. IfSome kept (λ _.
+            keys_of self.new.entries ≡ asked self.old.cap (keys_of self.old.entries) block.now)) }
+        ensures absent { IfOk result (λ kept. IfNone kept
+            ((lookup (is_same block.now) self.old.entries ≡ None) × (self.new ≡ self.old))) }
+        ensures capacity { self.new.cap ≡ self.old.cap }
+        ensures held { (blob : ℕ) (bytes : List ℕ) → AreHeld blob bytes self.old → AreHeld blob bytes self.new }
     {
-        match self.kept.peek(block) {
-            Some(bytes) => match block.addresses(self.alloc, bytes.as_slice())? {
-                Some(addresses) => Ok(addresses),
-                None => unreachable!(),
-            },
-            None => unreachable!(),
-        }
+        self.is_valid();
+        let Some(bytes) = self.kept.get(block) else {
+            return Ok(None);
+        };
+        // They were checked before they were kept.
+        block.addresses(self.alloc, bytes.as_slice())
     }
 
     /// The addresses of a block that isn't kept: it is read, checked and kept.

@@ -49,9 +49,33 @@ impl Rows {
                         let found = found.as_slice();
                         format!(in alloc; "{found:?}")?
                     }
-                    Err(Trouble::Damaged { blob }) => format!(in alloc; "damaged {blob}")?,
-                    Err(Trouble::StoreFault) => String::from_str(alloc, "store fault")?,
-                    Err(Trouble::NoMemory) => return Err(NoAnswer::NoMemory),
+                    Err(trouble) => trouble_text(alloc, trouble)?,
+                }
+            }
+            None => return Err(NoAnswer::BadRow),
+        };
+        put_ranges(&mut text, self.store.reads(), before)?;
+        Ok(text)
+    }
+
+    /// The ranges that are read where the term is touched in the frames.
+    fn touch(
+        &mut self,
+        alloc: Global,
+        blob: u64,
+        term: &[u8],
+        frames: &str,
+    ) -> Result<String, NoAnswer> {
+        let frames = frames_of(alloc, frames)?;
+        let before = self.store.reads().len();
+        let mut text = match self.directories.get(&blob) {
+            Some(directory) => {
+                match self
+                    .lists
+                    .touch(&mut self.store, blob, directory, term, &frames)
+                {
+                    Ok(()) => String::from_str(alloc, "touched")?,
+                    Err(trouble) => trouble_text(alloc, trouble)?,
                 }
             }
             None => return Err(NoAnswer::BadRow),
@@ -72,6 +96,14 @@ impl Rows {
             Ok(()) => plain_text(alloc, "removed"),
             Err(_) => plain_text(alloc, "failed"),
         }
+    }
+}
+
+fn trouble_text(alloc: Global, trouble: Trouble) -> Result<String, NoAnswer> {
+    match trouble {
+        Trouble::Damaged { blob } => Ok(format!(in alloc; "damaged {blob}")?),
+        Trouble::StoreFault => Ok(String::from_str(alloc, "store fault")?),
+        Trouble::NoMemory => Err(NoAnswer::NoMemory),
     }
 }
 
@@ -113,6 +145,9 @@ impl Subject for Rows {
             ["remove", blob] => self.remove(alloc, number(blob)?),
             ["fetch", blob, term, frames] => {
                 self.fetch(alloc, number(blob)?, &bytes(alloc, term)?, frames)
+            }
+            ["touch", blob, term, frames] => {
+                self.touch(alloc, number(blob)?, &bytes(alloc, term)?, frames)
             }
             _ => Err(NoAnswer::BadRow),
         }

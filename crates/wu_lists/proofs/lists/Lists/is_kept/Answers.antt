@@ -7,7 +7,7 @@ use Rattle.wu_lists.specs.Blocks.{bytes_of}
 use Rattle.wu_lists.specs.declared.blocks.Block.{Block}
 use Rattle.wu_lists.specs.Keeping.{AreHeld, IsChecked, Kept, asked, is_same}
 use Rattle.std.proofs.Common.{ℕ, List}
-use Rattle.wu_lists.proofs.Caching.{all-promoted, any-key, keys-promoted, lookup-promoted, promoted-none}
+use Rattle.wu_lists.proofs.Caching.{all-promoted, any-key, keys-promoted, promoted-none}
 use Rattle.wu_lists.proofs.lists.Lists.is_kept.Goals as goal
 
 pub invariant_of-self : goal.invariant_of-self
@@ -19,12 +19,6 @@ returns-clause-kept c =
     c.promote.ensures.value
     ∙ sym (any-key (is_same c.args.block.now) c.self.inside.kept.entries)
     ∙ ap (λ (k : Kept). list_any (is_same c.args.block.now) (keys_of k.entries)) c.self.view_is
-
-pub returns-clause-found : goal.returns-clause-found
-returns-clause-found c =
-    ap (λ (k : Kept). lookup (is_same c.args.block.now) k.entries) c.promote.ensures.entries
-    ∙ lookup-promoted (is_same c.args.block.now) c.self.inside.kept.entries
-    ∙ ap (λ (k : Kept). lookup (is_same c.args.block.now) k.entries) c.self.view_is
 
 pub returns-clause-asked : goal.returns-clause-asked
 returns-clause-asked c = λ is.

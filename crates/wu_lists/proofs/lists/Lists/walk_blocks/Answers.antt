@@ -1,18 +1,18 @@
-use Rattle.std.proofs.Common.{◌+◌, ℕ, List, [], ◌∷◌, filter, refl, sym, ◌∙◌, subst, rules}
+use Rattle.std.proofs.Common.{◌≡◌, ◌+◌, List, [], ◌∷◌, filter, refl, ◌∙◌, subst, rules}
 use Rattle.std.specs.Prelude.{IfErr, IfSome}
 use Rattle.std.specs.List.{AllByRecursion}
 use Rattle.std.specs.Map.{keys_of}
 use Rattle.wu_base.specs.declared.troubles.Trouble.{Trouble}
 use Rattle.wu_lists.specs.Blocks.{IsSpelledIn, blocks_from, meets}
 use Rattle.wu_lists.specs.declared.blocks.Block.{Block}
+use Rattle.wu_lists.specs.declared.lists.Purpose.TheVariants.{Fetch}
 use Rattle.wu_lists.specs.Causes.{IsCause}
 use Rattle.wu_lists.specs.Fetching.{AreFetched, HasBlock, Puts}
 use Rattle.wu_lists.specs.Keeping.{Asks, all_missing}
-use Rattle.wu_lists.specs.Walking.{IsWalked}
 use Rattle.wu_lists.proofs.Asking.{cause-join}
 use Rattle.wu_lists.proofs.Fetches.{if_err}
 use Rattle.wu_lists.proofs.Walks.{asked-split, block-broken, block_with, walked-found, walked-next, walked-none}
-use Rattle.wu_lists.proofs.lists.Lists.fetch_blocks.Goals as goal
+use Rattle.wu_lists.proofs.lists.Lists.walk_blocks.Goals as goal
 
 pub loop-block-init : goal.loop-block-init
 loop-block-init g c = record {
@@ -20,12 +20,9 @@ loop-block-init g c = record {
   moments = refl;
   calm = refl;
   walked =
-      subst (λ (found : List ℕ). IsWalked c.args.frames.now c.args.frames.now c.args.blob c.args.dir.now.low
-      c.args.dir.now.high c.args.entry c.args.entry (g.D.Store.holds c.args.store.now) c.args.self.now c.args.self.now
-      (g.D.Store.reads c.args.store.now)
-      (g.D.Store.reads c.args.store.now) found) (sym c.new-found.ensures.items)
-      (walked-none c.args.frames.now c.args.blob c.args.dir.now.low c.args.dir.now.high c.args.entry (g.D.Store.holds c.args.store.now)
-      c.args.self.now (g.D.Store.reads c.args.store.now) c.requires.cut c.requires.span c.requires.order);
+      walked-none (c.args.purpose ≡ Fetch) c.args.frames.now c.args.blob c.args.dir.now.low c.args.dir.now.high c.args.entry
+      (g.D.Store.holds c.args.store.now) c.args.self.now (g.D.Store.reads c.args.store.now) c.args.found.now.items
+      c.requires.cut c.requires.span c.requires.order;
 }
 
 pub loop-block-preserved : goal.loop-block-preserved
@@ -37,26 +34,28 @@ loop-block-preserved g c =
     let entry = c.in-Some.block in
     let holds = g.D.Store.holds c.args.store.now in
     let block : Block = block_with blob low c.in-Some.count entry in
-    let asks : Asks (filter (meets nearer) (block ∷ [])) holds c.loop-block.self c.put_block.new.self (g.D.Store.reads c.loop-block.store)
-    (g.D.Store.reads c.put_block.new.store) =
-    rw (c.low.ensures, c.loop-block.invariant.holds) at c.in_ok-put_block.ensures.blocks in
-    let puts : Puts (AreFetched (HasBlock block) nearer blob entry.first (entry.last + 1) holds c.loop-block.self) c.loop-block.found.items
-    c.put_block.new.found.items =
-    rw (c.low.ensures, c.loop-block.invariant.holds) at c.in_ok-put_block.ensures.addresses in
+    let asks : Asks (filter (meets nearer) (block ∷ [])) holds c.loop-block.self c.visit.new.self (g.D.Store.reads c.loop-block.store)
+    (g.D.Store.reads c.visit.new.store) =
+    rw (c.low.ensures, c.loop-block.invariant.holds) at c.in_ok-visit.ensures.blocks in
+    let puts : c.args.purpose ≡ Fetch
+    → Puts (AreFetched (HasBlock block) nearer blob entry.first (entry.last + 1) holds c.loop-block.self) c.loop-block.found.items
+    c.visit.new.found.items =
+    rw (c.low.ensures, c.loop-block.invariant.holds) at c.in_ok-visit.ensures.addresses in
     record {
-      holds = c.in_ok-put_block.ensures.holds ∙ c.loop-block.invariant.holds;
-      moments = c.in_ok-put_block.ensures.moments ∙ c.loop-block.invariant.moments;
-      calm = c.in_ok-put_block.ensures.calm ∙ c.loop-block.invariant.calm;
+      holds = c.in_ok-visit.ensures.holds ∙ c.loop-block.invariant.holds;
+      moments = c.in_ok-visit.ensures.moments ∙ c.loop-block.invariant.moments;
+      calm = c.in_ok-visit.ensures.calm ∙ c.loop-block.invariant.calm;
       walked =
-          walked-next frames blob low c.args.dir.now.high c.args.entry holds c.args.self.now (g.D.Store.reads c.args.store.now)
-          c.loop-block.left.now c.loop-block.entry c.loop-block.self (g.D.Store.reads c.loop-block.store) c.loop-block.found.items
+          walked-next (c.args.purpose ≡ Fetch) frames blob low c.args.dir.now.high c.args.entry holds c.args.self.now
+          (g.D.Store.reads c.args.store.now) c.args.found.now.items c.loop-block.left.now c.loop-block.entry c.loop-block.self
+          (g.D.Store.reads c.loop-block.store) c.loop-block.found.items
           c.loop-block.invariant.walked entry c.next_block.new.self c.in-Some.count c.in-Some.ensures.0 c.in-Some.ensures.1
           c.in-Some.ensures.2 nearer c.frames_from-left.ensures.order c.frames_from-left.ensures.live c.frames_from-left.ensures.needed
-          c.put_block.new.self (g.D.Store.reads c.put_block.new.store) c.put_block.new.found.items asks puts;
+          c.visit.new.self (g.D.Store.reads c.visit.new.store) c.visit.new.found.items asks puts;
     }
 
-pub returns-in_err-put_block-clause-cause : goal.returns-in_err-put_block-clause-cause
-returns-in_err-put_block-clause-cause g c =
+pub returns-in_err-visit-clause-cause : goal.returns-in_err-visit-clause-cause
+returns-in_err-visit-clause-cause g c =
     let frames = c.args.frames.now in
     let nearer = c.frames_from-left.result.now in
     let blob = c.args.blob in
@@ -77,35 +76,38 @@ returns-in_err-put_block-clause-cause g c =
     (block_with blob c.low.result c.in-Some.count entry ∷ []))) blob
     (IfSome (g.D.Store.holds c.loop-block.store) (λ content.
     IsSpelledIn content (block_with blob c.low.result c.in-Some.count entry) → ⊥))
-    (faults c.loop-block.store) (faults c.put_block.new.store) (reads c.loop-block.store) (reads c.put_block.new.store)) =
+    (faults c.loop-block.store) (faults c.visit.new.store) (reads c.loop-block.store) (reads c.visit.new.store)) =
     search rules in
     let cause : IfErr c.from_residual.result (IsCause
     (all_missing now.cap (keys_of now.entries) (filter (meets nearer) (block ∷ []))) blob Broken
-    (faults c.loop-block.store) (faults c.put_block.new.store) (reads c.loop-block.store) (reads c.put_block.new.store)) =
+    (faults c.loop-block.store) (faults c.visit.new.store) (reads c.loop-block.store) (reads c.visit.new.store)) =
     rw (c.low.ensures, c.loop-block.invariant.holds) at told in
     let Goal : Trouble → Type 0 = λ trouble. IsCause (all_missing c.args.self.now.cap (keys_of c.args.self.now.entries)
     (filter (meets frames) (blocks_from blob low all.count all.blocks))) blob Other
-    (faults c.args.store.now) (faults c.put_block.new.store) (reads c.args.store.now) (reads c.put_block.new.store) trouble in
+    (faults c.args.store.now) (faults c.visit.new.store) (reads c.args.store.now) (reads c.visit.new.store) trouble in
     if_err _ Goal c.from_residual.result
     (λ trouble is.
     subst (λ (bs : List Block). IsCause (all_missing c.args.self.now.cap (keys_of c.args.self.now.entries) bs) blob Other
-    (faults c.args.store.now) (faults c.put_block.new.store) (reads c.args.store.now) (reads c.put_block.new.store) trouble)
-    (asked-split frames blob low c.args.dir.now.high all holds c.args.self.now (reads c.args.store.now) c.loop-block.left.now
+    (faults c.args.store.now) (faults c.visit.new.store) (reads c.args.store.now) (reads c.visit.new.store) trouble)
+    (asked-split (c.args.purpose ≡ Fetch) frames blob low c.args.dir.now.high all holds c.args.self.now (reads c.args.store.now)
+    c.args.found.now.items c.loop-block.left.now
     c.loop-block.entry now (reads c.loop-block.store) c.loop-block.found.items w entry next c.in-Some.count c.in-Some.ensures.0
     c.in-Some.ensures.1 c.in-Some.ensures.2 nearer c.frames_from-left.ensures.order c.frames_from-left.ensures.live
     c.frames_from-left.ensures.needed)
     (cause-join holds c.args.self.now now (filter (meets frames) w.gone) (filter (meets nearer) (block ∷ []))
     (filter (meets frames) (blocks_from blob low next.count next.blocks)) blob Broken Other (faults c.args.store.now)
-    (faults c.loop-block.store) (faults c.put_block.new.store) (reads c.args.store.now) (reads c.loop-block.store)
-    (reads c.put_block.new.store) trouble
-    (block-broken frames blob low c.args.dir.now.high all holds c.args.self.now (reads c.args.store.now) c.loop-block.left.now
+    (faults c.loop-block.store) (faults c.visit.new.store) (reads c.args.store.now) (reads c.loop-block.store)
+    (reads c.visit.new.store) trouble
+    (block-broken (c.args.purpose ≡ Fetch) frames blob low c.args.dir.now.high all holds c.args.self.now (reads c.args.store.now)
+    c.args.found.now.items c.loop-block.left.now
     c.loop-block.entry now (reads c.loop-block.store) c.loop-block.found.items w entry next c.in-Some.count c.in-Some.ensures.0
     c.in-Some.ensures.1 c.in-Some.ensures.2)
     c.loop-block.invariant.calm w.asks is))
     cause
 
 pub returns-clause-addresses : goal.returns-clause-addresses
-returns-clause-addresses g c =
-    walked-found c.args.frames.now c.args.blob c.args.dir.now.low c.args.dir.now.high c.args.entry (g.D.Store.holds c.args.store.now)
-    c.args.self.now (g.D.Store.reads c.args.store.now) c.loop-block.left.now c.loop-block.entry c.loop-block.self
-    (g.D.Store.reads c.loop-block.store) c.loop-block.found.items c.loop-block.invariant.walked c.in_default.ensures.0
+returns-clause-addresses g c = λ wanted.
+    walked-found (c.args.purpose ≡ Fetch) c.args.frames.now c.args.blob c.args.dir.now.low c.args.dir.now.high c.args.entry
+    (g.D.Store.holds c.args.store.now) c.args.self.now (g.D.Store.reads c.args.store.now) c.args.found.now.items c.loop-block.left.now
+    c.loop-block.entry c.loop-block.self (g.D.Store.reads c.loop-block.store) c.loop-block.found.items c.loop-block.invariant.walked
+    wanted c.in_default.ensures.0

@@ -1,6 +1,7 @@
 use Rattle.std.proofs.Common.{◌≡◌, length}
+use Rattle.wu_lists.specs.declared.lists.Purpose.TheVariants.{Fetch}
 use Rattle.wu_lists.specs.Walking.{IsWalked}
-use Rattle.wu_lists.proofs.lists.Lists.fetch_blocks.Given as goal
+use Rattle.wu_lists.proofs.lists.Lists.walk_blocks.Given as goal
 
 -- the blocks so far were asked for, as far as frames need them
 abbrev pub invariant-loop-block : goal.invariant-loop-block
@@ -8,8 +9,8 @@ invariant-loop-block g l = record {
   holds : g.D.Store.holds l.store ≡ g.D.Store.holds l.fn.store;
   moments : g.D.Store.moments l.store ≡ g.D.Store.moments l.fn.store;
   calm : g.D.Store.faults l.store ≡ g.D.Store.faults l.fn.store;
-  walked : IsWalked l.frames l.left l.blob l.dir.low l.dir.high l.fn.entry l.entry (g.D.Store.holds l.fn.store) l.fn.self l.self
-      (g.D.Store.reads l.fn.store) (g.D.Store.reads l.store) l.found.items;
+  walked : IsWalked (l.purpose ≡ Fetch) l.frames l.left l.blob l.dir.low l.dir.high l.fn.entry l.entry (g.D.Store.holds l.fn.store)
+      l.fn.self l.self (g.D.Store.reads l.fn.store) (g.D.Store.reads l.store) l.fn.found.items l.found.items;
 }
 
 abbrev pub decreases-loop-block : goal.decreases-loop-block

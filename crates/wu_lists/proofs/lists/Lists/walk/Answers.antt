@@ -8,23 +8,25 @@ use Rattle.wu_layout.proofs.EntryLemmas.{IfSome-map}
 use Rattle.wu_lists.specs.Blocks.{IsSpelledIn, blocks_from, meets, needed}
 use Rattle.wu_lists.specs.declared.blocks.Block.{Block}
 use Rattle.wu_lists.specs.Causes.{IsCause, IsNoPart}
+use Rattle.wu_lists.specs.Fetching.{AreFetched, HasBlocks, HasTerm}
 use Rattle.wu_lists.specs.Keeping.{Asks, all_missing}
 use Rattle.wu_lists.proofs.Ascending.{order-from_apart, all_from_zero}
 use Rattle.wu_lists.proofs.Asking.{asks-none, cause-step}
 use Rattle.wu_lists.proofs.Fetches.{if_err}
 use Rattle.wu_lists.proofs.Terms.{entry-absent, entry-blocks, entry-found, fetched-absent, fetched-term, needed-absent, needed-found, no-part}
-use Rattle.wu_lists.proofs.lists.Lists.fetch.Goals as goal
+use Rattle.wu_lists.proofs.Walks.{puts-none, puts-step}
+use Rattle.wu_lists.proofs.lists.Lists.walk.Goals as goal
 
-pub fetch_blocks-requires-clause-order : goal.fetch_blocks-requires-clause-order
-fetch_blocks-requires-clause-order g c =
+pub walk_blocks-requires-clause-order : goal.walk_blocks-requires-clause-order
+walk_blocks-requires-clause-order g c =
     order-from_apart 0 ADDRESSES_MAX c.args.frames.now (omega arith) (all_from_zero c.args.frames.now) c.requires.apart c.requires.bounded
 
-pub fetch_blocks-requires-clause-cut : goal.fetch_blocks-requires-clause-cut
-fetch_blocks-requires-clause-cut g c =
+pub walk_blocks-requires-clause-cut : goal.walk_blocks-requires-clause-cut
+walk_blocks-requires-clause-cut g c =
     entry-blocks c.args.dir.now c.is_spelled.ensures.0 c.in-Some.entry c.is_spelled.ensures.1 c.in-Some.ensures.0
 
-pub returns-in_err-found-in-Some-clause-cause : goal.returns-in_err-found-in-Some-clause-cause
-returns-in_err-found-in-Some-clause-cause g c =
+pub returns-in_err-walk_blocks-in-Some-clause-cause : goal.returns-in_err-walk_blocks-in-Some-clause-cause
+returns-in_err-walk_blocks-in-Some-clause-cause g c =
     let directory = c.args.dir.now in
     let blob = c.args.blob in
     let entry = c.in-Some.entry in
@@ -40,48 +42,59 @@ returns-in_err-found-in-Some-clause-cause g c =
     let Other = IfSome holds (λ content. IsNoPart directory (content.blobs blob)) in
     let told : IfErr c.from_residual.result (IsCause (all_missing old.cap (keys_of old.entries)
     (filter (meets frames) (blocks_from blob directory.low entry.count entry.blocks))) blob Broken
-    (faults c.args.store.now) (faults c.fetch_blocks.new.store) (reads c.args.store.now) (reads c.fetch_blocks.new.store)) =
+    (faults c.args.store.now) (faults c.walk_blocks.new.store) (reads c.args.store.now) (reads c.walk_blocks.new.store)) =
     search rules in
     let Goal : Trouble → Type 0 = λ trouble. IsCause (all_missing old.cap (keys_of old.entries)
     (needed blob directory c.args.term.now frames)) blob Other
-    (faults c.args.store.now) (faults c.fetch_blocks.new.store) (reads c.args.store.now) (reads c.fetch_blocks.new.store) trouble in
+    (faults c.args.store.now) (faults c.walk_blocks.new.store) (reads c.args.store.now) (reads c.walk_blocks.new.store) trouble in
     if_err _ Goal c.from_residual.result
     (λ trouble is.
     subst (λ (bs : List Block). IsCause (all_missing old.cap (keys_of old.entries) bs) blob Other
-    (faults c.args.store.now) (faults c.fetch_blocks.new.store) (reads c.args.store.now) (reads c.fetch_blocks.new.store) trouble)
+    (faults c.args.store.now) (faults c.walk_blocks.new.store) (reads c.args.store.now) (reads c.walk_blocks.new.store) trouble)
     (needed-found directory c.args.term.now frames blob entry there)
     (cause-step (all_missing old.cap (keys_of old.entries)
     (filter (meets frames) (blocks_from blob directory.low entry.count entry.blocks))) blob Broken Other
-    (faults c.args.store.now) (faults c.fetch_blocks.new.store) (reads c.args.store.now) (reads c.fetch_blocks.new.store) trouble
+    (faults c.args.store.now) (faults c.walk_blocks.new.store) (reads c.args.store.now) (reads c.walk_blocks.new.store) trouble
     (IfSome-map (λ content. AllByRecursion (IsSpelledIn content) (blocks_from blob directory.low entry.count entry.blocks) → ⊥)
     (λ content. IsNoPart directory (content.blobs blob)) holds
     (λ content broken. no-part content blob directory entry c.in-Some.ensures.0 broken)) is))
     told
 
-pub returns-in_ok-found-in-Some-clause-addresses : goal.returns-in_ok-found-in-Some-clause-addresses
-returns-in_ok-found-in-Some-clause-addresses g c =
+pub returns-in_ok-walk_blocks-in-Some-clause-addresses : goal.returns-in_ok-walk_blocks-in-Some-clause-addresses
+returns-in_ok-walk_blocks-in-Some-clause-addresses g c = λ wanted.
     let directory = c.args.dir.now in
-    let there = entry-found directory.terms c.in-Some.entry c.args.term.now c.is_spelled.ensures.1.holds.ascending c.in-Some.ensures.0
+    let entry = c.in-Some.entry in
+    let there = entry-found directory.terms entry c.args.term.now c.is_spelled.ensures.1.holds.ascending c.in-Some.ensures.0
     c.in-Some.ensures.1 in
-    rw c.from.ensures
-    (fetched-term directory c.args.term.now c.args.frames.now c.args.blob directory.low (directory.high + 1)
-    (g.D.Store.holds c.args.store.now) c.args.self.now c.in-Some.entry c.in_ok-found-in-Some.found.items there
-    c.in_ok-found-in-Some.ensures.addresses)
+    puts-step
+    (AreFetched (HasBlocks directory.low entry.count entry.blocks) c.args.frames.now c.args.blob directory.low (directory.high + 1)
+    (g.D.Store.holds c.args.store.now) c.args.self.now)
+    (AreFetched (HasTerm directory c.args.term.now) c.args.frames.now c.args.blob directory.low (directory.high + 1)
+    (g.D.Store.holds c.args.store.now) c.args.self.now)
+    c.args.found.now.items c.walk_blocks.new.found.items
+    (λ more f.
+    fetched-term directory c.args.term.now c.args.frames.now c.args.blob directory.low (directory.high + 1)
+    (g.D.Store.holds c.args.store.now) c.args.self.now entry more there f)
+    (c.in_ok-walk_blocks-in-Some.ensures.addresses wanted)
 
-pub returns-in_ok-found-in-Some-clause-blocks : goal.returns-in_ok-found-in-Some-clause-blocks
-returns-in_ok-found-in-Some-clause-blocks g c =
+pub returns-in_ok-walk_blocks-in-Some-clause-blocks : goal.returns-in_ok-walk_blocks-in-Some-clause-blocks
+returns-in_ok-walk_blocks-in-Some-clause-blocks g c =
     let directory = c.args.dir.now in
     let there = entry-found directory.terms c.in-Some.entry c.args.term.now c.is_spelled.ensures.1.holds.ascending c.in-Some.ensures.0
     c.in-Some.ensures.1 in
-    subst (λ (bs : List Block). Asks bs (g.D.Store.holds c.args.store.now) c.args.self.now c.fetch_blocks.new.self
-    (g.D.Store.reads c.args.store.now) (g.D.Store.reads c.fetch_blocks.new.store))
-    (needed-found directory c.args.term.now c.args.frames.now c.args.blob c.in-Some.entry there) c.in_ok-found-in-Some.ensures.blocks
+    subst (λ (bs : List Block). Asks bs (g.D.Store.holds c.args.store.now) c.args.self.now c.walk_blocks.new.self
+    (g.D.Store.reads c.args.store.now) (g.D.Store.reads c.walk_blocks.new.store))
+    (needed-found directory c.args.term.now c.args.frames.now c.args.blob c.in-Some.entry there)
+    c.in_ok-walk_blocks-in-Some.ensures.blocks
 
 pub returns-in-None-clause-addresses : goal.returns-in-None-clause-addresses
-returns-in-None-clause-addresses g c =
+returns-in-None-clause-addresses g c = λ wanted.
     let directory = c.args.dir.now in
     let span = c.is_spelled.ensures.1.holds.span in
-    rw c.new.ensures
+    puts-none
+    (AreFetched (HasTerm directory c.args.term.now) c.args.frames.now c.args.blob directory.low (directory.high + 1)
+    (g.D.Store.holds c.args.store.now) c.args.self.now)
+    c.args.found.now.items
     (fetched-absent directory c.args.term.now c.args.frames.now c.args.blob directory.low (directory.high + 1)
     (g.D.Store.holds c.args.store.now) c.args.self.now (entry-absent directory.terms c.args.term.now c.in-None.ensures)
     (omega (arith, span)))
