@@ -1,5 +1,6 @@
 pub mod Merging
 pub mod Walking
+pub mod Counting
 pub mod Ranks
 pub mod Marking
 pub mod Fronts
@@ -12,3 +13,4 @@ pub mod Doubles
 pub mod Parting
 pub mod Joining
 pub mod Whole
+pub mod Bits

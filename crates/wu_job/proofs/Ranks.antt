@@ -325,3 +325,33 @@ same_place rs a b h g e =
 pub all_same : (live : List LiveRange) (xs : List ℕ) → AllByRecursion (λ a. find_place live a ≡ find_place live a) xs
 all_same live [] = tt
 all_same live (x ∷ xs) = (refl, all_same live xs)
+
+-- ---- the first live address from one on
+
+first_and_rest : (rs : List LiveRange) (d : LiveRange) → 0 < length rs → (rest : List LiveRange) × (rs ≡ get_or rs 0 d ∷ rest)
+first_and_rest [] d l = absurd (omega arith)
+first_and_rest (r ∷ rs) d l = (rs, refl)
+
+no_place : (a : ℕ) (first : LiveRange) (rest : List LiveRange) → a < first.start → find_place (first ∷ rest) a ≡ None
+no_place a first rest l =
+    let ends : nat_lt a (first.start + first.len) ≡ true = lt-ltb a (first.start + first.len) (omega arith) in
+    let start : nat_le first.start a ≡ false = lt-leb first.start a l in
+    rw (ends, start) refl
+
+-- a live address isn't below the first of the ranges in which it is found
+pub starts_by : (high a : ℕ) (live left : List LiveRange) (d : LiveRange) → AreRanked live high → is_live (ranges_alone live) a ≡ true
+    → find_place left a ≡ find_place live a → 0 < length left → (get_or left 0 d).start ≤ a
+starts_by high a live left d r alive same some =
+    let first = get_or left 0 d in
+    let split = first_and_rest left d some in
+    ⊎_elim
+    (λ (l : a < first.start).
+    let none : find_place left a ≡ None = ap (λ (rs : List LiveRange). find_place rs a) split.1 ∙ no_place a first split.0 l in
+    let found : find_place live a ≡ Some (live_below (ranges_alone live) a) =
+    place_is high a live r ∙ ap (λ (b : Bool). cond b (Some (live_below (ranges_alone live) a)) None) alive in
+    absurd (none_place (live_below (ranges_alone live) a) (sym none ∙ same ∙ found)))
+    (λ (l : first.start ≤ a). l)
+    (cases_lt a first.start)
+  where
+    none_place : (n : ℕ) → None ≡ Some n → ⊥
+    none_place n e = cc

@@ -13,8 +13,9 @@ use Rattle.wu_base.specs.declared.limits.TheConstants.{ADDRESSES_MAX, WORD_MAX}
 use Rattle.wu_layout.specs.Postings.{is_live}
 use Rattle.wu_layout.proofs.EachLemmas.{each-append}
 use Rattle.wu_part.specs.Parts.{IsList}
-use Rattle.wu_job.specs.Jobs.{list_for}
-use Rattle.wu_job.specs.Keeping.{AreWritable, addresses_in, has}
+use Rattle.wu_part.specs.Writing.{first_of}
+use Rattle.wu_job.specs.Jobs.{JobPart, StandWithin, list_for}
+use Rattle.wu_job.specs.Keeping.{AreWritable, IsFrom, addresses_in, has}
 use Rattle.wu_job.specs.Live.{AscendBetween}
 use Rattle.wu_job.proofs.Marking.{addresses_more, ascending_distinct, distinct_join}
 
@@ -38,7 +39,7 @@ all_below : (low high : ℕ) (xs : List ℕ) → AscendBetween low high xs → A
 all_below low high [] a = tt
 all_below low high (x ∷ xs) a = (omega (arith, bounds (x + 1) high xs a.1), all_below (x + 1) high xs a.1)
 
-lists_for : (term kept : List ℕ) → 0 < length term → length term ≤ WORD_MAX → AscendBetween 0 ADDRESSES_MAX kept
+pub lists_for : (term kept : List ℕ) → 0 < length term → length term ≤ WORD_MAX → AscendBetween 0 ADDRESSES_MAX kept
     → AllByRecursion IsList (list_for term kept)
 lists_for term [] l m a = tt
 lists_for term (x ∷ kept) l m a = (
@@ -103,3 +104,10 @@ writable_more live lists term kept left later w is some short a alive new =
 pub writable_none : (live : List Range) (left : List (List ℕ)) → IsUp left → AreWritable live [] left
 unfolding IsDistinct
 writable_none live left s = record { each = tt; ascending = s; distinct = tt; alive = tt }
+
+-- the list has no address below low, where its addresses are live ones of the parts
+pub list_from : (low : ℕ) (live : List Range) (parts : List JobPart) (term kept : List ℕ) → IsFrom live parts low
+    → AllByRecursion (λ address. is_live live address ≡ true) kept → StandWithin parts kept
+    → AllByRecursion (λ list. low ≤ first_of list.at) (list_for term kept)
+list_from low live parts term [] f a w = tt
+list_from low live parts term (x ∷ kept) f a w = (f x a.0 w.0.0, tt)

@@ -1,6 +1,6 @@
 -- The entry of a term in a directory, and what a part's blob holds of it.
 use Rattle.std.proofs.Common.{◌≡◌, ℕ, zero, suc, ◌+◌, ◌<◌, ◌≤◌, nat_eq, Bool, true, false, cond, List, [], ◌∷◌, ◌++◌, length, map, filter, get_or, refl, ap, sym, ◌∙◌, subst, arith, ⊎_elim, inl, inr, append-nil}
-use Rattle.std.specs.Prelude.{Option, None, Some, Contains}
+use Rattle.std.specs.Prelude.{Option, None, Some, IfSome, Contains, slice_get}
 use Rattle.std.specs.declared.cmp.Ordering.TheVariants.{Less}
 use Rattle.std.specs.Cmp.Lexicographic.{pointwise, nat_list_eq_equiv, same_text}
 use Rattle.std.specs.List.{AllByRecursion}
@@ -13,7 +13,7 @@ use Rattle.wu_part.specs.Directories.{PartDirectory, IsDirectory, IsEntry, Stand
 use Rattle.wu_part.proofs.ReadingLemmas.{stand_within}
 use Rattle.wu_job.specs.Jobs.{JobPart, HoldsEntry, HoldsTerm}
 use Rattle.wu_job.specs.Live.{AscendBetween}
-use Rattle.wu_job.specs.Reading.{AreNoBlocks, LieIn, StandsAt}
+use Rattle.wu_job.specs.Reading.{AreNoBlocks, IsFound, LieIn, StandsAt}
 use Rattle.wu_job.specs.Steps.{IsNoPart, block_ranges, ranges_of, ranges_of_entries}
 use Rattle.wu_job.proofs.Blocks.{ascend-lower}
 use Rattle.wu_job.proofs.Made.{list_at_entry}
@@ -171,17 +171,41 @@ filter_all p (x ∷ xs) =
 
 -- ---- the entry at a place
 
-same_within : (entries : List TermEntry) (place : ℕ) (a b : TermEntry) → place < length entries → get_or entries place a ≡ get_or entries place b
-same_within [] place a b l = absurd (omega arith)
-same_within (x ∷ xs) zero a b l = refl
-same_within (x ∷ xs) (suc place) a b l = same_within xs place a b (omega arith)
+some_entry : (a b : TermEntry) → Some a ≡ Some b → a ≡ b
+some_entry a b e = cc
+
+none_entry : (a : TermEntry) → None ≡ Some a → ⊥
+none_entry a e = cc
+
+got_within : (entries : List TermEntry) (place : ℕ) (entry : TermEntry) → slice_get entries place ≡ Some entry
+    → (place < length entries) × (get_or entries place entry ≡ entry)
+got_within [] place entry e = absurd (none_entry entry e)
+got_within (x ∷ xs) zero entry e = (omega arith, some_entry x entry e)
+got_within (x ∷ xs) (suc place) entry e = let r = got_within xs place entry e in (omega (arith, r.0), r.1)
+
+got_there : (entries : List TermEntry) (place : ℕ) (entry : TermEntry) → place < length entries → get_or entries place entry ≡ entry
+    → slice_get entries place ≡ Some entry
+got_there [] place entry l e = absurd (omega arith)
+got_there (x ∷ xs) zero entry l e = ap Some e
+got_there (x ∷ xs) (suc place) entry l e = got_there xs place entry (omega arith) e
+
+contains_got : (entries : List TermEntry) (place : ℕ) (found : Option TermEntry) → found ≡ slice_get entries place
+    → IfSome found (λ entry. Contains entries entry)
+contains_got entries place None e = tt
+contains_got entries place (Some entry) e = let r = got_within entries place entry (sym e) in (place, r.0, r.1)
 
 -- the entry of the term is the one at the place
-pub at_place : (entries : List TermEntry) (place : ℕ) (term : List ℕ) (found entry : TermEntry) → StandsAt entries place term
-    → found ≡ get_or entries place found → Contains entries entry → entry.term ≡ term → found.term ≡ term
-at_place entries place term found entry s is h e =
-    let r = s entry h e in
-    ap (λ (z : TermEntry). z.term) (is ∙ same_within entries place found entry r.0 ∙ r.1) ∙ e
+pub found_at : (entries : List TermEntry) (place : ℕ) (term : List ℕ) (found : Option TermEntry) → StandsAt entries place term
+    → found ≡ slice_get entries place → IsFound entries term found
+found_at entries place term found s is = record {
+  has = contains_got entries place found is;
+  only = λ entry h e. let r = s entry h e in is ∙ got_there entries place entry r.0 r.1;
+}
+
+pub found_has : (entries : List TermEntry) (found : Option TermEntry) (entry : TermEntry) → IfSome found (λ entry. Contains entries entry)
+    → found ≡ Some entry → Contains entries entry
+found_has entries None entry h e = absurd (none_entry entry e)
+found_has entries (Some a) entry h e = subst (Contains entries) (some_entry a entry e) h
 
 -- ---- of a directory
 

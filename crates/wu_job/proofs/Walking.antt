@@ -1,6 +1,6 @@
 -- Places in two lists of terms that ascend, walked side by side.
 use Rattle.std.proofs.Common.{◌≡◌, ℕ, zero, suc, ◌+◌, ◌<◌, ◌≤◌, nat_eq, true, false, cond, List, [], ◌∷◌, ◌++◌, length, map, drop, get_or, sum_by, refl, ap, sym, ◌∙◌, subst, arith, ⊎_elim, inl, inr}
-use Rattle.std.specs.Prelude.{◌⊎◌, Option, None, Some, slice_get, Contains}
+use Rattle.std.specs.Prelude.{◌⊎◌, Option, None, Some, option_map, slice_get, Contains}
 use Rattle.std.specs.declared.cmp.Ordering.TheVariants.{Less}
 use Rattle.std.specs.List.{AllByRecursion}
 use Rattle.std.specs.List.Sorted.{IsStrictlySortedBy}
@@ -11,10 +11,13 @@ use Rattle.std.proofs.lemmas.List.Sums.{sum_by-cons}
 use Rattle.wu_base.proofs.Members.{Has, Has-from_Contains, Has-map, Has-append_left, Has-append_right, Has-append_cases, all_has}
 use Rattle.wu_base.proofs.SortedLists.{has-sorted_once, sorted_once_has}
 use Rattle.std.proofs.lemmas.Map.Lookups.{exact_bytes}
-use Rattle.wu_base.specs.declared.limits.TheConstants.{WORD_MAX}
+use Rattle.wu_base.specs.declared.limits.TheConstants.{ADDRESSES_MAX, WORD_MAX}
+use Rattle.std.proofs.lemmas.Option.{slice_get_within}
 use Rattle.wu_part.specs.declared.entries.TermEntry.{TermEntry}
 use Rattle.wu_part.specs.Directories.{PartDirectory, IsDirectory, IsEntry}
-use Rattle.wu_job.specs.Sources.{AreTerms, ArePassed, merged, lesser_of, passed}
+use Rattle.wu_job.specs.declared.sources.Source.{Source}
+use Rattle.wu_job.specs.Fronts.{entries_of_other}
+use Rattle.wu_job.specs.Sources.{AreTerms, ArePassed, merged, lesser_of, passed, terms_of_other}
 use Rattle.wu_job.proofs.Merging.{text_cmp, IsUp, less_itself, less_both, without, merged_first, merged_after, merged_up}
 
 -- ---- the place after a term
@@ -224,3 +227,23 @@ some_merged (x ∷ xs) ys l =
 pub no_terms : AreTerms []
 unfolding IsStrictlySortedBy
 no_terms = record { ascending = tt; bounded = tt; few = omega arith }
+
+-- ---- the entries of the first terms
+
+pub term_at : (entries : List TermEntry) (place : ℕ)
+    → option_map (λ entry. entry.term) (slice_get entries place) ≡ slice_get (terms entries) place
+term_at [] zero = refl
+term_at [] (suc place) = refl
+term_at (x ∷ entries) zero = refl
+term_at (x ∷ entries) (suc place) = term_at entries place
+
+pub term_at_other : (right : Option Source) (place : ℕ)
+    → option_map (λ entry. entry.term) (slice_get (entries_of_other right) place) ≡ slice_get (terms_of_other right) place
+term_at_other None place = term_at [] place
+term_at_other (Some source) place = term_at source.directory.terms place
+
+pub place_below : (xs : List (List ℕ)) (place : ℕ) (entry : Option TermEntry) → option_map (λ entry. entry.term) entry ≡ slice_get xs place
+    → AreTerms xs → (place < ADDRESSES_MAX) ⊎ (entry ≡ None)
+place_below xs place None e are = inr refl
+place_below xs place (Some entry) e are =
+    inl (omega (arith, slice_get_within xs place entry.term (sym e), are.few))

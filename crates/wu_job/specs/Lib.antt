@@ -9,6 +9,8 @@ pub mod Postings
 -- ---- What only private functions and proofs need
 
 pub mod Live
+pub mod Marks
 pub mod Sources
+pub mod Fronts
 pub mod Reading
 pub mod Keeping

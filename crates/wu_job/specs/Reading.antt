@@ -52,6 +52,11 @@ abbrev pub StandsAt : List TermEntry → ℕ → List ℕ → Type 0
 StandsAt entries place term =
     (entry : TermEntry) → Contains entries entry → entry.term ≡ term → (place < length entries) × (get_or entries place entry ≡ entry)
 
+-- The term's entry, where the list has one, is this one of the list.
+pub record IsFound (entries : List TermEntry) (term : List ℕ) (found : Option TermEntry) : Type 0 where
+  pub has : IfSome found (λ entry. Contains entries entry)
+  pub only : (entry : TermEntry) → Contains entries entry → entry.term ≡ term → found ≡ Some entry
+
 -- ---- live addresses of a term
 
 -- one of the addresses stands in a list that was made, as marks tell by its place among the live ones

@@ -4,9 +4,11 @@ use Rattle.std.specs.Ordering.{nat_cmp, is_lt}
 use Rattle.std.specs.Cmp.Lexicographic.{slice_cmp, pointwise}
 use Rattle.std.specs.List.{AllByRecursion}
 use Rattle.std.specs.List.Sorted.{IsStrictlySortedBy}
-use Rattle.std.specs.declared.cmp.Ordering.TheVariants.{Less}
+use Rattle.std.specs.declared.cmp.Ordering.{Ordering}
+use Rattle.std.specs.declared.cmp.Ordering.TheVariants.{Less, Greater}
 use Rattle.wu_base.specs.SortedOnce.{sorted_once}
 use Rattle.wu_base.specs.declared.limits.TheConstants.{ADDRESSES_MAX, WORD_MAX}
+use Rattle.wu_part.specs.declared.entries.TermEntry.{TermEntry}
 use Rattle.wu_part.specs.Directories.{IsEntry}
 use Rattle.wu_part.specs.Parts.{IsRecorded}
 use Rattle.wu_job.specs.declared.sources.Places.{Places}
@@ -58,6 +60,18 @@ abbrev pub lesser_of : Option (List ℕ) → Option (List ℕ) → Option (List 
 lesser_of None b = b
 lesser_of (Some a) None = Some a
 lesser_of (Some a) (Some b) = if is_lt (slice_cmp nat_cmp b a) then Some b else Some a
+
+-- how two terms compare: one alone is before what isn't there
+abbrev pub order_of : Option (List ℕ) → Option (List ℕ) → Option Ordering
+order_of None None = None
+order_of None (Some b) = Some Greater
+order_of (Some a) None = Some Less
+order_of (Some a) (Some b) = Some (slice_cmp nat_cmp a b)
+
+-- the entry, where there is one, and the others
+abbrev pub with_entry : Option TermEntry → List TermEntry → List TermEntry
+with_entry None rest = rest
+with_entry (Some entry) rest = entry ∷ rest
 
 -- the place after the term, where it is the one at the place
 abbrev pub passed : Option (List ℕ) → List ℕ → ℕ → ℕ

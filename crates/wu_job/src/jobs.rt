@@ -1,24 +1,25 @@
 //! Jobs.
 ghost use Rattle.std.specs.Prelude.{◌≡◌, ◌+◌, ◌<◌, ◌≤◌, ◌∷◌, ◌++◌, [], length, All, IfOk, IfErr, OnOk, OnErr};
-ghost use Rattle.std.specs.List.{flat_map};
+ghost use Rattle.std.specs.List.{AllByRecursion, flat_map};
 ghost use Rattle.wu_base.specs.declared.limits.TheConstants.{ADDRESSES_MAX, GENERATION_MAX};
-ghost use Rattle.wu_part.specs.Parts.{IsRecorded};
+ghost use Rattle.wu_part.specs.Parts.{IsList, IsRecorded};
+ghost use Rattle.wu_part.specs.Writing.{first_of};
 ghost use Rattle.wu_space.specs.Addresses.{AreApart};
 ghost use Rattle.wu_job.specs.Jobs.{Answers, DoesTerm, StandWithin, list_for, started};
 ghost use Rattle.wu_job.specs.Sources.{AreSources, parts_of};
 ghost use Rattle.wu_job.specs.Steps.{IsCause, IsDamaged, ReadsFront, adds, step_ranges};
 
 use crate::lists::live_addresses;
-use crate::live::{Cut, LiveRange, ranked, total};
-use crate::marks::mark_all;
-use crate::sources::{Places, Source, are_whole, count_terms, first_term, places_after};
+use crate::live::{Cut, LiveRange, first_live, ranked, total};
+use crate::marks::{Marks, mark_all};
+use crate::sources::{First, Front, Places, Source, are_whole, count_terms, first_of, front_at};
 use std::alloc::Global;
 use std::marker::Model;
 use wu_base::{
     ADDRESSES_MAX, Bytes, GENERATION_MAX, NoMemory, PartRec, Range, Sequence, TermList, Trouble,
 };
 use wu_outside::Store;
-use wu_part::{Directory, encode};
+use wu_part::{Builder, Directory};
 
 /// What a step of a job answers.
 #[derive(Debug, Drop)]
@@ -29,8 +30,15 @@ pub enum Progress {
     Done(Option<Vec<u8>>),
 }
 
-/// A job on one part or two, between two steps. It keeps the live ranges of its start and the lists that it
-/// has made, and goes through the terms of its parts, each once, in byte order. After a step that answered a
+/// The first term that is left, with its live addresses.
+#[derive(Drop)]
+struct NewList {
+    first: First,
+    cut: Cut,
+}
+
+/// A job on one part or two, between two steps. It keeps the live ranges of its start, writes the
+/// lists that it makes, and goes through the terms of its parts, each once, in byte order. After a step that answered a
 /// trouble a job is only dropped.
 #[derive(Drop)]
 pub struct Job {
@@ -40,9 +48,9 @@ pub struct Job {
     places: Places,
     live: Vec<LiveRange>,
     /// A mark for each live address: whether it stands in a list that was made.
-    marks: Vec<bool>,
+    marks: Marks,
     generation: u32,
-    done: Vec<TermList>,
+    done: Builder,
     units_left: u64,
 }
 
@@ -61,7 +69,7 @@ impl Model for Job {
 impl Job {
     ghost use Rattle.std.specs.Prelude.{IfSome};
     ghost use Rattle.wu_job.specs.Jobs.{AreKept, IsRight, MakesList};
-    ghost use Rattle.wu_job.specs.Keeping.{IsFirst, IsNewCut};
+    ghost use Rattle.wu_job.specs.Keeping.{AreFound, IsFirst, IsNewCut, IsNext};
 
     /// The merge of two neighbours of a generation below `GENERATION_MAX`, to the next generation. `live` are
     /// the live ranges now, ascending. Takes time near linear in the sizes of the directories. The only error
@@ -149,26 +157,42 @@ impl Job {
         ensures calm { OnOk result (D.faults store.new ≡ D.faults store.old) }
         ensures cause { IfErr result (IsCause (IsDamaged (D.holds store.old) self.old) (D.faults store.old) (D.faults store.new)) }
     {
-        let term = self.first_term()?;
-        let cut = self.read_live(store, term.as_slice())?;
-        self.put(term, cut)?;
+        let list = self.read_first(store)?;
+        self.put(list.first, list.cut)?;
         Ok(self.progress()?)
     }
 
-    /// The first term that is left.
-    fn first_term(&self) -> Result<Bytes, NoMemory>
+    /// The first term that is left, and its live addresses. Its entries are found in the parts' directories once.
+    fn read_first<D: Store>(&self, store: &mut D) -> Result<NewList, Trouble>
         requires { 0 < length self.now.terms_left }
-        ensures { IfOk result (λ term. IsFirst term self.now) }
+        ensures next { IfOk result (λ list. IsNext self.now list.first.term list.first.after) }
+        ensures new { IfOk result (λ list. IsNewCut self.now list.cut) }
+        ensures held { IfOk result (λ list. IfSome (D.holds store.old) (λ content.
+            AreKept content self.now.parts self.now.live list.first.term list.cut.addresses.items)) }
+        ensures holds { D.holds store.new ≡ D.holds store.old }
+        ensures still { D.moments store.new ≡ D.moments store.old }
+        ensures reads { OnOk result (D.reads store.new ≡ adds (step_ranges self.now.terms_left self.now.parts) (D.reads store.old)) }
+        ensures front { IfErr result (ReadsFront (step_ranges self.now.terms_left self.now.parts) (D.reads store.old)
+            (D.reads store.new)) }
+        ensures calm { OnOk result (D.faults store.new ≡ D.faults store.old) }
+        ensures cause { IfErr result (IsCause (IsDamaged (D.holds store.old) self.now) (D.faults store.old) (D.faults store.new)) }
     {
-        match first_term(&self.left, &self.right, self.places) {
-            Some(term) => Ok(Bytes::from_slice(self.alloc, term)?),
-            None => Err(NoMemory),
-        }
+        are_whole(&self.left, &self.right);
+        let front = front_at(&self.left, &self.right, self.places);
+        let first = first_of(self.alloc, &self.left, &self.right, self.places, &front)?;
+        let cut = self.read_live(store, front, first.term.as_slice())?;
+        Ok(NewList { first, cut })
     }
 
     /// The live addresses of the term in the parts, of which none stands in a list that was made.
-    fn read_live<D: Store>(&self, store: &mut D, term: &[u8]) -> Result<Cut, Trouble>
-        requires { IsFirst term.now self.now }
+    fn read_live<D: Store>(
+        &self,
+        store: &mut D,
+        front: Front<'_>,
+        term: &[u8],
+    ) -> Result<Cut, Trouble>
+        requires first { IsFirst term.now self.now }
+        requires front { AreFound self.now.parts term.now front.left front.right }
         ensures new { IfOk result (IsNewCut self.now) }
         ensures held { IfOk result (λ cut. IfSome (D.holds store.old) (λ content.
             AreKept content self.now.parts self.now.live term.now cut.addresses.items)) }
@@ -186,7 +210,7 @@ impl Job {
             alloc,
             store,
             &self.left,
-            self.places.left,
+            front.left,
             term,
             &self.live,
             &self.marks,
@@ -198,7 +222,7 @@ impl Job {
                     alloc,
                     store,
                     right,
-                    self.places.right,
+                    front.right,
                     term,
                     &self.live,
                     &self.marks,
@@ -210,22 +234,22 @@ impl Job {
     }
 
     /// Keeps the term's list, where it has an address, and goes on to the next term.
-    fn put(&mut self, term: Bytes, cut: Cut) -> Result<(), NoMemory>
-        requires first { IsFirst term self.old }
+    fn put(&mut self, first: First, cut: Cut) -> Result<(), NoMemory>
+        requires next { IsNext self.old first.term first.after }
         requires new { IsNewCut self.old cut }
-        ensures { OnOk result (MakesList term cut.addresses.items self.old self.new) }
+        ensures { OnOk result (MakesList first.term cut.addresses.items self.old self.new) }
     {
-        let places = places_after(&self.left, &self.right, self.places, term.as_slice());
-        put_list(&mut self.done, term, cut.addresses)?;
+        put_list(&mut self.done, first.term, cut.addresses)?;
         mark_all(&mut self.marks, &cut.places);
-        self.places = places;
+        self.places = first.after;
         self.units_left -= 1;
         Ok(())
     }
 
     /// What the step answers that has left the job so.
-    fn progress(&self) -> Result<Progress, NoMemory>
-        ensures { IfOk result (Answers self.now) }
+    fn progress(&mut self) -> Result<Progress, NoMemory>
+        ensures answer { IfOk result (Answers self.new) }
+        ensures kept { self.new ≡ self.old }
     {
         if self.units_left > 0 {
             return Ok(Progress::More);
@@ -233,7 +257,7 @@ impl Job {
         if self.done.is_empty() {
             return Ok(Progress::Done(None));
         }
-        let bytes = encode(self.alloc, &self.done, self.generation)?;
+        let bytes = self.done.finish(self.generation)?;
         Ok(Progress::Done(Some(bytes)))
     }
 }
@@ -255,7 +279,9 @@ fn started(
 {
     let units_left = count_terms(&left, &right);
     let live = ranked(alloc, live)?;
-    let marks = vec![in alloc; false; total(&live) as usize]?;
+    let marks = Marks::none(alloc, total(&live))?;
+    let low = first_live(&live, left.directory.low());
+    let done = Builder::with_room(alloc, low, size_of_parts(&left, &right))?;
     Ok(Job {
         alloc,
         left,
@@ -264,22 +290,34 @@ fn started(
         live,
         marks,
         generation,
-        done: Vec::new(alloc),
+        done,
         units_left,
     })
 }
 
-/// Puts the term's list at the end, where it has an address. Out of memory, the lists are as they were.
-fn put_list(lists: &mut Vec<TermList>, term: Bytes, addresses: Vec<u64>) -> Result<(), NoMemory>
-    ensures ok { OnOk result (lists.new.items ≡ lists.old.items ++ list_for term addresses.items) }
-    ensures err { OnErr result (lists.new.items ≡ lists.old.items) }
+/// How many bytes the parts have, which the new part mostly has too at most.
+fn size_of_parts(left: &Source, right: &Option<Source>) -> usize {
+    let other = match right {
+        Some(source) => source.recorded.size,
+        None => 0,
+    };
+    left.recorded.size.saturating_add(other) as usize
+}
+
+/// Adds the term's list, where it has an address. Out of memory, the lists are as they were.
+fn put_list(lists: &mut Builder, term: Bytes, addresses: Vec<u64>) -> Result<(), NoMemory>
+    requires lists { AllByRecursion IsList (list_for term addresses.items) }
+    requires low { AllByRecursion (λ list. lists.old.low ≤ first_of list.at) (list_for term addresses.items) }
+    ensures ok { OnOk result (lists.new ≡ record lists.old { lists = lists.old.lists ++ list_for term addresses.items }) }
+    ensures err { OnErr result (lists.new ≡ lists.old) }
 {
     if addresses.is_empty() {
         return Ok(());
     }
-    lists.push(TermList {
+    let list = TermList {
         term,
         at: Sequence::from(addresses),
-    })?;
+    };
+    lists.add(&list)?;
     Ok(())
 }

@@ -1,20 +1,20 @@
 //! A term's addresses in a part, from the store.
-ghost use Rattle.std.specs.Prelude.{◌≡◌, ◌==◌, ◌+◌, ◌<◌, [], ◌∷◌, true, length, MatchOption, Contains, IfOk, IfErr, IfSome, OnOk};
+ghost use Rattle.std.specs.Prelude.{◌≡◌, ◌==◌, ◌+◌, ◌<◌, [], ◌∷◌, ◌++◌, true, length, MatchOption, Some, IfOk, IfErr, IfSome, OnOk};
 ghost use Rattle.std.specs.List.{list_any};
 ghost use Rattle.wu_base.specs.declared.limits.TheConstants.{ADDRESSES_MAX};
 ghost use Rattle.wu_part.specs.Directories.{IsEntry};
 ghost use Rattle.wu_part.specs.declared.entries.TermEntry.{TermEntry};
 ghost use Rattle.wu_job.specs.Jobs.{HoldsEntry, HoldsTerm};
 ghost use Rattle.wu_job.specs.Live.{AreRanked, AscendBetween, ranges_alone, total_of};
-ghost use Rattle.wu_job.specs.Reading.{AreNoBlocks, EndsBefore, HasBytes, HoldsInBlock, IsCutOf, IsNew, IsNoBlock, IsRefused, StandsAt};
+ghost use Rattle.wu_job.specs.Reading.{AreNoBlocks, EndsBefore, HasBytes, HoldsInBlock, IsCutOf, IsNew, IsNoBlock, IsFound, IsRefused};
 ghost use Rattle.wu_job.specs.Sources.{part_of};
 ghost use Rattle.wu_job.specs.Steps.{IsCause, IsNoPart, ReadsFront, adds, block_range, block_ranges, ranges_of};
 
 use crate::live::{Cut, LiveRange, cut_to_live};
-use crate::marks::some_marked;
+use crate::marks::{Marks, some_marked};
 use crate::sources::Source;
 use std::alloc::Global;
-use wu_base::{ADDRESSES_MAX, Trouble};
+use wu_base::{ADDRESSES_MAX, NoMemory, Trouble};
 use wu_outside::Store;
 use wu_part::{BlockEntry, Entry, read_block};
 
@@ -24,12 +24,12 @@ pub(crate) fn live_addresses<D: Store>(
     alloc: Global,
     store: &mut D,
     source: &Source,
-    place: usize,
+    entry: Option<Entry<'_>>,
     term: &[u8],
     live: &[LiveRange],
-    marks: &[bool],
+    marks: &Marks,
 ) -> Result<Cut, Trouble>
-    requires place { StandsAt source.now.directory.terms place term.now }
+    requires entry { IsFound source.now.directory.terms term.now entry }
     requires live { AreRanked live.now ADDRESSES_MAX }
     requires marks { length marks.now ≡ total_of (ranges_alone live.now) }
     ensures new { IfOk result (IsNew (ranges_alone live.now) marks.now source.now.directory.low source.now.directory.high) }
@@ -43,7 +43,7 @@ pub(crate) fn live_addresses<D: Store>(
     ensures cause { IfErr result (IsCause (IsRefused (D.holds store.old) (ranges_alone live.now) marks.now term.now (part_of source.now))
         (D.faults store.old) (D.faults store.new)) }
 {
-    let found = read_term(alloc, store, source, place, term)?;
+    let found = read_term(alloc, store, source, entry, term)?;
     let cut = cut_to_live(alloc, live, &found)?;
     if some_marked(marks, &cut.places) {
         return Err(Trouble::Damaged {
@@ -58,10 +58,10 @@ fn read_term<D: Store>(
     alloc: Global,
     store: &mut D,
     source: &Source,
-    place: usize,
+    entry: Option<Entry<'_>>,
     term: &[u8],
 ) -> Result<Vec<u64>, Trouble>
-    requires { StandsAt source.now.directory.terms place term.now }
+    requires { IsFound source.now.directory.terms term.now entry }
     ensures ascend { IfOk result (λ found. AscendBetween source.now.directory.low (source.now.directory.high + 1) found.items) }
     ensures bounded { source.now.directory.high < ADDRESSES_MAX }
     ensures some { IfOk result (λ found. 0 < length found.items
@@ -77,27 +77,20 @@ fn read_term<D: Store>(
         IsNoPart source.now.directory (content.blobs blob))) (D.faults store.old) (D.faults store.new)) }
 {
     source.directory.is_spelled();
-    match entry_at(source, place, term) {
+    match entry_of(entry, term) {
         Some(mut entry) => read_list(alloc, store, source, &mut entry),
         None => Ok(Vec::new(alloc)),
     }
 }
 
-/// The entry of the term, which stands at the place or nowhere.
-fn entry_at<'a>(source: &'a Source, place: usize, term: &[u8]) -> Option<Entry<'a>>
-    requires { StandsAt source.now.directory.terms place term.now }
-    ensures { MatchOption result ((entry : TermEntry) → Contains source.now.directory.terms entry → entry.term ≡ term.now → ⊥)
-        (λ entry. Contains source.now.directory.terms entry × (entry.term ≡ term.now)) }
+/// The entry, where it is the term's.
+fn entry_of<'a>(entry: Option<Entry<'a>>, term: &[u8]) -> Option<Entry<'a>>
+    ensures { MatchOption result ((other : TermEntry) → entry.entry ≡ Some other → other.term ≡ term.now → ⊥)
+        (λ found. (entry.entry ≡ Some found) × (found.term ≡ term.now)) }
 {
-    match source.directory.term_at(place) {
-        Some(entry) => {
-            if entry.term() == term {
-                Some(entry)
-            } else {
-                None
-            }
-        }
-        None => None,
+    match entry {
+        Some(entry) if entry.term() == term => Some(entry),
+        _ => None,
     }
 }
 
@@ -125,9 +118,21 @@ fn read_list<D: Store>(
     let mut found = Vec::new(alloc);
     while let Some((block, count)) = entry.next_block() {
         let addresses = read_one(alloc, store, blob, low, &block, count)?;
-        found.extend_from_slice(&addresses)?;
+        add_addresses(&mut found, addresses)?;
     }
     Ok(found)
+}
+
+/// Puts the addresses at the end: where there are none yet, their vector is taken.
+fn add_addresses(found: &mut Vec<u64>, more: Vec<u64>) -> Result<(), NoMemory>
+    ensures { OnOk result (found.new.items ≡ found.old.items ++ more.items) }
+{
+    if found.is_empty() {
+        *found = more;
+    } else {
+        found.extend_from_slice(&more)?;
+    }
+    Ok(())
 }
 
 /// The block's addresses, so many.

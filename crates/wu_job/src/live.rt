@@ -1,8 +1,9 @@
 //! The ranges that were live when a job began, walked beside ascending addresses by galloping: J. L. Bentley and
 //! A. C. Yao, An almost optimal algorithm for unbounded searching, 1976.
-ghost use Rattle.std.specs.Prelude.{◌≡◌, ℕ, ◌+◌, ◌<◌, ◌≤◌, ◌^◌, [], ◌++◌, drop, length, nat_le, sum_by, take, IfOk, All, OnOk};
+ghost use Rattle.std.specs.Prelude.{◌≡◌, ℕ, ◌+◌, ◌<◌, ◌≤◌, ◌^◌, true, [], ◌++◌, drop, length, nat_le, sum_by, take, IfOk, All, OnOk};
 ghost use Rattle.std.specs.List.{AllByRecursion};
 ghost use Rattle.wu_space.specs.Addresses.{AreApart};
+ghost use Rattle.wu_layout.specs.Postings.{is_live};
 ghost use Rattle.wu_job.specs.Live.{AscendBetween, AreInOrder, AreRanked, FirstEndsAfter, IsCut, find_place, place_alone, ranges_alone, with_place};
 
 use std::alloc::Global;
@@ -33,13 +34,14 @@ pub(crate) struct Cut {
 }
 
 impl Cut {
-    fn new(alloc: Global) -> Cut
-        ensures { (result.addresses.items ≡ []) × (result.places.items ≡ []) }
+    /// No address yet, with room for so many.
+    fn with_room(alloc: Global, count: usize) -> Result<Cut, NoMemory>
+        ensures { IfOk result (λ cut. (cut.addresses.items ≡ []) × (cut.places.items ≡ [])) }
     {
-        Cut {
-            addresses: Vec::new(alloc),
-            places: Vec::new(alloc),
-        }
+        Ok(Cut {
+            addresses: Vec::with_capacity(alloc, count)?,
+            places: Vec::with_capacity(alloc, count)?,
+        })
     }
 
     /// Puts the address at the end, where it has a place.
@@ -106,13 +108,24 @@ pub(crate) fn cut_to_live(
     requires ascend { AscendBetween 0 ADDRESSES_MAX addresses.now }
     ensures { IfOk result (IsCut (ranges_alone live.now) addresses.now) }
 {
-    let mut cut = Cut::new(alloc);
+    let mut cut = Cut::with_room(alloc, addresses.len())?;
     let mut left = live;
     for address in addresses {
         left = from_address(left, *address);
         cut.put(*address, place_in(left, *address))?;
     }
     Ok(cut)
+}
+
+/// The first live address from that one on, where there is one: no live one is between.
+pub(crate) fn first_live(live: &[LiveRange], from: u64) -> u64
+    requires { AreRanked live.now ADDRESSES_MAX }
+    ensures { (address : ℕ) → is_live (ranges_alone live.now) address ≡ true → from ≤ address → result ≤ address }
+{
+    match from_address(live, from) {
+        [first, ..] => first.start.max(from),
+        [] => from,
+    }
 }
 
 /// How many live addresses are before that one, where it is live.

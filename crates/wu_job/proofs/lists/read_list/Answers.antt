@@ -1,4 +1,4 @@
-use Rattle.std.proofs.Common.{◌≡◌, ◌<◌, ℕ, List, [], ◌++◌, length, min, refl, sym, ap, subst, ◌∙◌, rules}
+use Rattle.std.proofs.Common.{◌≡◌, ◌<◌, ℕ, List, [], ◌++◌, length, min, refl, sym, subst, ◌∙◌, rules}
 use Rattle.std.specs.Prelude.{IfSome}
 use Rattle.std.proofs.lemmas.Result.{err_from_is_err_and}
 use Rattle.wu_layout.proofs.EntryLemmas.{IfSome-map}
@@ -41,8 +41,7 @@ loop-block-preserved g c =
     let few : c.in-Some.count ≡ min entry.count BLOCK_LEN = search rules in
     let n : length addresses ≡ min entry.count BLOCK_LEN = c.in_ok-addresses.ensures.number ∙ few in
     let some : 0 < entry.count = some_left low high first entry left block found inv.to is in
-    let grown : c.extend_from_slice.new.self.items ≡ found ++ addresses =
-    c.in_ok-extend_from_slice.ensures.items ∙ ap (λ (xs : List ℕ). found ++ xs) c.deref.ensures.value in
+    let grown : c.add_addresses.new.found.items ≡ found ++ addresses = c.in_ok-add_addresses.ensures in
     record {
       held =
           subst (λ (xs : List ℕ). IfSome (g.D.Store.holds c.args.store.now) (λ content. AreRead (content.blobs blob) low first left xs))
@@ -108,9 +107,9 @@ returns-in_err-addresses-clause-cause g c =
     ))
     c.in_err-addresses.ensures.cause)
 
-pub returns-in_err-extend_from_slice-clause-front : goal.returns-in_err-extend_from_slice-clause-front
-returns-in_err-extend_from_slice-clause-front g c =
-    let p = err_from_is_err_and c.from_residual-in_err-extend_from_slice.result c.from_residual-in_err-extend_from_slice.ensures.1 in
+pub returns-in_err-add_addresses-clause-front : goal.returns-in_err-add_addresses-clause-front
+returns-in_err-add_addresses-clause-front g c =
+    let p = err_from_is_err_and c.from_residual-in_err-add_addresses.result c.from_residual-in_err-add_addresses.ensures.1 in
     let blob = c.args.source.now.recorded.blob in
     let left = c.next_block.new.self in
     let is : IsAfter c.loop-block.entry left c.in-Some.block = record { blocks = search rules; count = search rules; term = search rules } in

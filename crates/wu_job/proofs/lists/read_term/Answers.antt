@@ -10,14 +10,17 @@ use Rattle.wu_job.specs.Sources.{part_of}
 use Rattle.wu_job.specs.Steps.{IsCause, IsNoPart, ReadsFront, adds, block_ranges, ranges_of}
 use Rattle.wu_job.proofs.Blocks.{blocks_read}
 use Rattle.wu_job.proofs.Fronts.{adds-none, cause_after, if_err, if_some}
-use Rattle.wu_job.proofs.Terms.{entry_of_directory, held_nowhere, held_there, no_part, ranges_at, ranges_nowhere}
+use Rattle.wu_job.proofs.Terms.{entry_of_directory, found_has, held_nowhere, held_there, no_part, ranges_at, ranges_nowhere}
 use Rattle.wu_job.proofs.lists.read_term.Goals as goal
 
 pub read_list-requires : goal.read_list-requires
-read_list-requires g c = entry_of_directory c.args.source.now.directory _ c.in-Some.entry c.is_spelled.ensures.1.holds c.in-Some.ensures.0
+read_list-requires g c =
+    let has = found_has c.args.source.now.directory.terms _ c.in-Some.entry c.requires.has c.in-Some.ensures.0 in
+    entry_of_directory c.args.source.now.directory _ c.in-Some.entry c.is_spelled.ensures.1.holds has
 
 pub returns-in-Some-clause-held : goal.returns-in-Some-clause-held
 returns-in-Some-clause-held g c =
+    let has = found_has c.args.source.now.directory.terms _ c.in-Some.entry c.requires.has c.in-Some.ensures.0 in
     let part = part_of c.args.source.now in
     let entry = c.in-Some.entry in
     let holds = g.D.Store.holds c.args.store.now in
@@ -29,19 +32,20 @@ returns-in-Some-clause-held g c =
     (λ content. HoldsTerm content c.args.term.now part found.items) holds
     (λ content k.
     subst (λ t. HoldsTerm content t part found.items) c.in-Some.ensures.1
-    (held_there content part entry found.items c.is_spelled.ensures.1.holds.ascending c.in-Some.ensures.0 k))
+    (held_there content part entry found.items c.is_spelled.ensures.1.holds.ascending has k))
     h)
     c.read_list.ensures.held
 
 pub returns-in-Some-clause-some : goal.returns-in-Some-clause-some
 returns-in-Some-clause-some g c =
+    let has = found_has c.args.source.now.directory.terms _ c.in-Some.entry c.requires.has c.in-Some.ensures.0 in
     let blob = c.args.source.now.recorded.blob in
     let low = c.args.source.now.directory.low in
     let high = c.args.source.now.directory.high in
     let same =
-    ranges_at (part_of c.args.source.now) c.args.term.now c.in-Some.entry c.is_spelled.ensures.1.holds.ascending c.in-Some.ensures.0
+    ranges_at (part_of c.args.source.now) c.args.term.now c.in-Some.entry c.is_spelled.ensures.1.holds.ascending has
     c.in-Some.ensures.1 in
-    let is = entry_of_directory c.args.source.now.directory _ c.in-Some.entry c.is_spelled.ensures.1.holds c.in-Some.ensures.0 in
+    let is = entry_of_directory c.args.source.now.directory _ c.in-Some.entry c.is_spelled.ensures.1.holds has in
     IfOk-weaker c.read_list.result _
     (λ found. 0 < length found.items → list_any (λ range. range.blob == blob) (ranges_of c.args.term.now (part_of c.args.source.now)) ≡ true)
     (λ found h l.
@@ -51,18 +55,20 @@ returns-in-Some-clause-some g c =
 
 pub returns-in-Some-clause-reads : goal.returns-in-Some-clause-reads
 returns-in-Some-clause-reads g c =
+    let has = found_has c.args.source.now.directory.terms _ c.in-Some.entry c.requires.has c.in-Some.ensures.0 in
     let old = g.D.Store.reads c.args.store.now in
     let same =
-    ranges_at (part_of c.args.source.now) c.args.term.now c.in-Some.entry c.is_spelled.ensures.1.holds.ascending c.in-Some.ensures.0
+    ranges_at (part_of c.args.source.now) c.args.term.now c.in-Some.entry c.is_spelled.ensures.1.holds.ascending has
     c.in-Some.ensures.1 in
     on_ok_weaker c.read_list.result (λ e. e ∙ ap (λ (rs : List ReadRange). adds rs old) (sym same)) c.read_list.ensures.reads
 
 pub returns-in-Some-clause-front : goal.returns-in-Some-clause-front
 returns-in-Some-clause-front g c =
+    let has = found_has c.args.source.now.directory.terms _ c.in-Some.entry c.requires.has c.in-Some.ensures.0 in
     let old = g.D.Store.reads c.args.store.now in
     let new = g.D.Store.reads c.read_list.new.store in
     let same =
-    ranges_at (part_of c.args.source.now) c.args.term.now c.in-Some.entry c.is_spelled.ensures.1.holds.ascending c.in-Some.ensures.0
+    ranges_at (part_of c.args.source.now) c.args.term.now c.in-Some.entry c.is_spelled.ensures.1.holds.ascending has
     c.in-Some.ensures.1 in
     if_err (ReadsFront (block_ranges c.args.source.now.recorded.blob c.in-Some.entry.blocks) old new)
     (ReadsFront (ranges_of c.args.term.now (part_of c.args.source.now)) old new) c.read_list.result
@@ -71,6 +77,7 @@ returns-in-Some-clause-front g c =
 
 pub returns-in-Some-clause-cause : goal.returns-in-Some-clause-cause
 returns-in-Some-clause-cause g c =
+    let has = found_has c.args.source.now.directory.terms _ c.in-Some.entry c.requires.has c.in-Some.ensures.0 in
     let source = c.args.source.now in
     let holds = g.D.Store.holds c.args.store.now in
     let before = g.D.Store.faults c.args.store.now in
@@ -85,7 +92,7 @@ returns-in-Some-clause-cause g c =
       p.0,
       IfSome-map (λ content. AreNoBlocks (content.blobs blob) source.directory.low c.in-Some.entry)
           (λ content. IsNoPart source.directory (content.blobs blob)) holds
-          (λ content n. no_part source.directory c.in-Some.entry (content.blobs blob) c.in-Some.ensures.0 n)
+          (λ content n. no_part source.directory c.in-Some.entry (content.blobs blob) has n)
           p.1,
     ))
     k)
@@ -95,10 +102,14 @@ pub returns-in-None-clause-held : goal.returns-in-None-clause-held
 returns-in-None-clause-held g c =
     let part = part_of c.args.source.now in
     if_some (λ content. HoldsTerm content c.args.term.now part _) (g.D.Store.holds c.args.store.now)
-    (λ content. rw c.new.ensures.items (held_nowhere content c.args.term.now part c.in-None.ensures))
+    (λ content.
+    rw c.new.ensures.items
+    (held_nowhere content c.args.term.now part (λ entry h e. c.in-None.ensures entry (c.requires.only entry h e) e)))
 
 pub returns-in-None-clause-reads : goal.returns-in-None-clause-reads
 returns-in-None-clause-reads g c =
     let old = g.D.Store.reads c.args.store.now in
-    let none = ranges_nowhere (part_of c.args.source.now) c.args.term.now c.in-None.ensures in
+    let none =
+    ranges_nowhere (part_of c.args.source.now) c.args.term.now
+    (λ entry h e. c.in-None.ensures entry (c.requires.only entry h e) e) in
     sym (ap (λ (rs : List ReadRange). adds rs old) none ∙ adds-none old)

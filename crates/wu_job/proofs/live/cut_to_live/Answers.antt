@@ -9,8 +9,8 @@ use Rattle.wu_job.proofs.live.cut_to_live.Goals as goal
 pub loop-address-init : goal.loop-address-init
 loop-address-init c = record {
   cut = record {
-    cut = c.new-cut.ensures.0;
-    ranks = rw (c.new-cut.ensures.0, c.new-cut.ensures.1) refl;
+    cut = c.in_ok-cut.ensures.0;
+    ranks = rw (c.in_ok-cut.ensures.0, c.in_ok-cut.ensures.1) refl;
     same = all_same c.args.live.now c.args.addresses.now;
   };
   order = c.requires.live.order;

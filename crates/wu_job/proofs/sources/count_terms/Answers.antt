@@ -1,32 +1,40 @@
-use Rattle.std.proofs.Common.{◌≡◌, List, ℕ, length, ap, arith, rules}
-use Rattle.std.specs.Prelude.{None, slice_get}
-use Rattle.wu_job.specs.Sources.{terms_from, terms_of, terms_of_other}
-use Rattle.wu_job.proofs.Merging.{length_merged}
+use Rattle.std.proofs.Common.{◌≡◌, ◌∙◌, List, ℕ, length, ap, arith, rules}
+use Rattle.std.specs.Prelude.{None, Option}
+use Rattle.std.proofs.lemmas.List.{length-map}
+use Rattle.wu_part.specs.declared.entries.TermEntry.{TermEntry}
+use Rattle.wu_job.specs.Sources.{merged, terms_of, terms_of_other}
+use Rattle.wu_job.specs.declared.sources.Source.{Source}
+use Rattle.wu_job.proofs.Counting.{merged_alone}
 use Rattle.wu_job.proofs.Walking.{some_merged}
-use Rattle.wu_job.proofs.Whole.{none_left}
 use Rattle.wu_job.proofs.sources.count_terms.Goals as goal
 
-pub overflow_add-count : goal.overflow_add-count
-overflow_add-count c =
+pub returns-in-None-clause-count : goal.returns-in-None-clause-count
+returns-in-None-clause-count c =
+    let terms = terms_of c.args.left.now in
+    let none : c.args.right.now ≡ None = search rules in
+    let alone : merged terms (terms_of_other c.args.right.now) ≡ terms =
+    ap (λ (o : Option Source). merged terms (terms_of_other o)) none ∙ merged_alone terms c.are_whole.ensures.whole.terms.ascending in
     omega (
       arith,
-      c.loop-term.invariant,
-      ap (λ (ts : List (List ℕ)). length ts) c.places_after-places.ensures.left,
-      length_merged (terms_of c.args.left.now) (terms_of_other c.args.right.now),
-      c.are_whole.ensures.whole.terms.few,
-      c.are_whole.ensures.whole.others.few,
+      c.term_count.ensures,
+      ap (λ (ts : List (List ℕ)). length ts) alone,
+      length-map c.args.left.now.directory.terms (λ (e : TermEntry). e.term),
     )
 
-pub returns-clause-count : goal.returns-clause-count
-returns-clause-count c =
-    let terms = terms_from c.args.left.now c.args.right.now c.loop-term.places in
-    let none : slice_get terms 0 ≡ None = search rules in
-    omega (arith, c.loop-term.invariant, ap (λ (ts : List (List ℕ)). length ts) (none_left terms none))
-
-pub returns-clause-some : goal.returns-clause-some
-returns-clause-some c =
+pub returns-in-None-clause-some : goal.returns-in-None-clause-some
+returns-in-None-clause-some c =
     omega (
       arith,
-      returns-clause-count c,
-      some_merged (terms_of c.args.left.now) (terms_of_other c.args.right.now) c.are_whole.ensures.some,
+      c.term_count.ensures,
+      c.are_whole.ensures.some,
+      length-map c.args.left.now.directory.terms (λ (e : TermEntry). e.term),
+    )
+
+pub returns-in-Some-clause-some : goal.returns-in-Some-clause-some
+returns-in-Some-clause-some c =
+    let all = rw (c.terms.ensures, c.terms-in-Some.ensures) at c.count_merged.ensures in
+    omega (
+      arith,
+      all,
+      some_merged (terms_of c.args.left.now) (terms_of c.in-Some.right) c.are_whole.ensures.some,
     )

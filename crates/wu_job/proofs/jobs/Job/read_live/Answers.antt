@@ -1,35 +1,32 @@
-use Rattle.std.proofs.Common.{◌≡◌, ◌∷◌, ap, subst, ◌∙◌, refl, rules, arith}
+use Rattle.std.proofs.Common.{◌≡◌, ◌∷◌, ap, subst, ◌∙◌, refl, sym, rules, arith}
 use Rattle.std.specs.Prelude.{IfSome, None, Some}
 use Rattle.std.proofs.lemmas.Result.{err_from_is_err_and}
 use Rattle.wu_base.specs.declared.troubles.Trouble.TheVariants.{NoMemory}
 use Rattle.wu_base.proofs.Members.{all_has}
 use Rattle.wu_layout.proofs.EntryLemmas.{IfSome-map}
 use Rattle.wu_job.specs.Jobs.{AreKept, JobState}
-use Rattle.wu_job.specs.Keeping.{IsNewCut, state_of}
+use Rattle.wu_job.specs.Keeping.{AreFound, IsNewCut, state_of}
 use Rattle.wu_job.specs.Live.{ranges_alone}
 use Rattle.wu_job.specs.Reading.{IsCutOf, IsRefused}
-use Rattle.wu_job.specs.Sources.{HasEntries, part_of, parts_of, terms_from, terms_of_other}
+use Rattle.wu_job.specs.Sources.{HasEntries, part_of, parts_of, terms_from}
 use Rattle.wu_job.specs.Steps.{IsCause, IsDamaged, IsDamagedPart, ReadsFront, adds, step_ranges}
 use Rattle.wu_job.proofs.Doubles.{has_left, left_of, refused}
 use Rattle.wu_job.proofs.Fronts.{cause_after, front_all, if_both, no_memory}
 use Rattle.wu_job.proofs.Joining.{front_of_left, front_with, has_with, highest_alone, highest_with, kept_alone, kept_with, lowest_left, new_both, new_one, reads_alone, reads_with, some_with, spans_apart}
-use Rattle.wu_job.proofs.Walking.{stands_left}
-use Rattle.wu_job.proofs.Whole.{stands_other}
+use Rattle.wu_job.proofs.Whole.{found_left, found_with}
 use Rattle.wu_job.proofs.jobs.Job.read_live.Goals as goal
 
-pub live_addresses-requires-clause-place : goal.live_addresses-requires-clause-place
-live_addresses-requires-clause-place g c =
+pub live_addresses-requires-clause-entry : goal.live_addresses-requires-clause-entry
+live_addresses-requires-clause-entry g c =
     let i = c.self.inside in
-    let is : terms_from i.left i.right i.places ≡ c.args.term.now ∷ c.requires.0 =
-    ap (λ (s : JobState). s.terms_left) c.self.view_is ∙ c.requires.1 in
-    stands_left c.args.term.now c.requires.0 (terms_of_other i.right) i.places.left i.places.right i.left.directory.terms
-    c.are_whole.ensures.whole.terms.ascending is c.self.invariant.passed.0
+    found_left i.left i.right c.args.term.now _ _
+    (subst (λ (s : JobState). AreFound s.parts c.args.term.now c.args.front.left c.args.front.right) (sym c.self.view_is) c.requires.front)
 
 pub live_addresses-requires-clause-live : goal.live_addresses-requires-clause-live
 live_addresses-requires-clause-live g c = rw c.deref.ensures.value c.self.invariant.live
 
 pub live_addresses-requires-clause-marks : goal.live_addresses-requires-clause-marks
-live_addresses-requires-clause-marks g c = rw (c.deref.ensures.value, c.deref-2.ensures.value) c.self.invariant.marks.long
+live_addresses-requires-clause-marks g c = rw c.deref.ensures.value c.self.invariant.marks.long
 
 pub returns-in_err-cut-clause-front : goal.returns-in_err-cut-clause-front
 returns-in_err-cut-clause-front g c =
@@ -38,11 +35,11 @@ returns-in_err-cut-clause-front g c =
     let old = g.D.Store.reads c.args.store.now in
     let new = g.D.Store.reads c.live_addresses.new.store in
     let t = c.in_err-cut.field-0.0 in
-    let is : terms_from i.left i.right i.places ≡ c.args.term.now ∷ c.requires.0 =
-    ap (λ (s : JobState). s.terms_left) c.self.view_is ∙ c.requires.1 in
+    let is : terms_from i.left i.right i.places ≡ c.args.term.now ∷ c.requires.first.0 =
+    ap (λ (s : JobState). s.terms_left) c.self.view_is ∙ c.requires.first.1 in
     rw (p.1, p.2)
     (subst (λ (s : JobState). ReadsFront (step_ranges s.terms_left s.parts) old new t) c.self.view_is
-    (front_of_left (terms_from i.left i.right i.places) c.args.term.now c.requires.0 i.left i.right old new t is c.in_err-cut.ensures.front))
+    (front_of_left (terms_from i.left i.right i.places) c.args.term.now c.requires.first.0 i.left i.right old new t is c.in_err-cut.ensures.front))
 
 pub returns-in_err-cut-clause-cause : goal.returns-in_err-cut-clause-cause
 returns-in_err-cut-clause-cause g c =
@@ -54,16 +51,16 @@ returns-in_err-cut-clause-cause g c =
     let before = g.D.Store.faults c.args.store.now in
     let now = g.D.Store.faults c.live_addresses.new.store in
     let t = c.in_err-cut.field-0.0 in
-    let is : terms_from i.left i.right i.places ≡ c.args.term.now ∷ c.requires.0 =
-    ap (λ (s : JobState). s.terms_left) c.self.view_is ∙ c.requires.1 in
+    let is : terms_from i.left i.right i.places ≡ c.args.term.now ∷ c.requires.first.0 =
+    ap (λ (s : JobState). s.terms_left) c.self.view_is ∙ c.requires.first.1 in
     rw (p.1, p.2)
     (subst (λ (s : JobState). IsCause (IsDamaged holds s) before now t) c.self.view_is
-    (cause_after (IsRefused holds live i.marks.items c.args.term.now (part_of i.left)) (IsDamaged holds (state_of i)) before before now t refl
+    (cause_after (IsRefused holds live i.marks c.args.term.now (part_of i.left)) (IsDamaged holds (state_of i)) before before now t refl
     (λ blob b.
     left_of (IsDamagedPart holds (state_of i) blob) i.left i.right
-    (refused holds (state_of i) i.left i.right i.marks.items (part_of i.left) c.args.term.now c.requires.0 refl inv.sources
+    (refused holds (state_of i) i.left i.right i.marks (part_of i.left) c.args.term.now c.requires.first.0 refl inv.sources
     c.are_whole.ensures.whole.entries inv.marks (has_left i.left i.right) is blob b))
-    (rw (c.deref.ensures.value, c.deref-2.ensures.value) at c.in_err-cut.ensures.cause)))
+    (rw c.deref.ensures.value at c.in_err-cut.ensures.cause)))
 
 pub returns-in-None-clause-new : goal.returns-in-None-clause-new
 returns-in-None-clause-new g c =
@@ -73,9 +70,9 @@ returns-in-None-clause-new g c =
     let least = lowest_left i.left i.right in
     let most = highest_alone i.left i.right none in
     subst (λ (s : JobState). IsNewCut s c.in_ok-cut.cut) c.self.view_is
-    (new_one (state_of i) i.marks.items i.left.directory.low i.left.directory.high c.in_ok-cut.cut c.self.invariant.marks left.below
+    (new_one (state_of i) i.marks i.left.directory.low i.left.directory.high c.in_ok-cut.cut c.self.invariant.marks left.below
     (omega (arith, least)) (omega (arith, most))
-    (rw (c.deref.ensures.value, c.deref-2.ensures.value) at c.in_ok-cut.ensures.new))
+    (rw c.deref.ensures.value at c.in_ok-cut.ensures.new))
 
 pub returns-in-None-clause-held : goal.returns-in-None-clause-held
 returns-in-None-clause-held g c =
@@ -96,19 +93,17 @@ returns-in-None-clause-reads g c =
     let none : i.right ≡ None = search rules in
     let old = g.D.Store.reads c.args.store.now in
     let new = g.D.Store.reads c.live_addresses.new.store in
-    let is : terms_from i.left i.right i.places ≡ c.args.term.now ∷ c.requires.0 =
-    ap (λ (s : JobState). s.terms_left) c.self.view_is ∙ c.requires.1 in
+    let is : terms_from i.left i.right i.places ≡ c.args.term.now ∷ c.requires.first.0 =
+    ap (λ (s : JobState). s.terms_left) c.self.view_is ∙ c.requires.first.1 in
     subst (λ (s : JobState). new ≡ adds (step_ranges s.terms_left s.parts) old) c.self.view_is
-    (reads_alone i.left i.right (terms_from i.left i.right i.places) c.args.term.now c.requires.0 old new none is c.in_ok-cut.ensures.reads)
+    (reads_alone i.left i.right (terms_from i.left i.right i.places) c.args.term.now c.requires.first.0 old new none is c.in_ok-cut.ensures.reads)
 
-pub live_addresses-requires-in-Some-clause-place : goal.live_addresses-requires-in-Some-clause-place
-live_addresses-requires-in-Some-clause-place g c =
+pub live_addresses-requires-in-Some-clause-entry : goal.live_addresses-requires-in-Some-clause-entry
+live_addresses-requires-in-Some-clause-entry g c =
     let i = c.self.inside in
     let some : i.right ≡ Some c.in-Some.right = search rules in
-    let is : terms_from i.left i.right i.places ≡ c.args.term.now ∷ c.requires.0 =
-    ap (λ (s : JobState). s.terms_left) c.self.view_is ∙ c.requires.1 in
-    stands_other i.left i.right c.in-Some.right i.places c.args.term.now c.requires.0 some c.are_whole.ensures.whole.others is
-    c.self.invariant.passed
+    found_with i.left i.right c.in-Some.right c.args.term.now _ _ some
+    (subst (λ (s : JobState). AreFound s.parts c.args.term.now c.args.front.left c.args.front.right) (sym c.self.view_is) c.requires.front)
 
 pub returns-in_err-more-in-Some-clause-front : goal.returns-in_err-more-in-Some-clause-front
 returns-in_err-more-in-Some-clause-front g c =
@@ -119,11 +114,11 @@ returns-in_err-more-in-Some-clause-front g c =
     let mid = g.D.Store.reads c.live_addresses.new.store in
     let new = g.D.Store.reads c.live_addresses-in-Some.new.store in
     let t = c.in_err-more-in-Some.field-0.0 in
-    let is : terms_from i.left i.right i.places ≡ c.args.term.now ∷ c.requires.0 =
-    ap (λ (s : JobState). s.terms_left) c.self.view_is ∙ c.requires.1 in
+    let is : terms_from i.left i.right i.places ≡ c.args.term.now ∷ c.requires.first.0 =
+    ap (λ (s : JobState). s.terms_left) c.self.view_is ∙ c.requires.first.1 in
     rw (p.1, p.2)
     (subst (λ (s : JobState). ReadsFront (step_ranges s.terms_left s.parts) old new t) c.self.view_is
-    (front_with i.left i.right (terms_from i.left i.right i.places) c.args.term.now c.requires.0 c.in-Some.right old mid new t some is
+    (front_with i.left i.right (terms_from i.left i.right i.places) c.args.term.now c.requires.first.0 c.in-Some.right old mid new t some is
     c.in_ok-cut.ensures.reads c.in_err-more-in-Some.ensures.front))
 
 pub returns-in_err-more-in-Some-clause-cause : goal.returns-in_err-more-in-Some-clause-cause
@@ -140,18 +135,18 @@ returns-in_err-more-in-Some-clause-cause g c =
     let now = g.D.Store.faults c.live_addresses-in-Some.new.store in
     let t = c.in_err-more-in-Some.field-0.0 in
     let term = c.args.term.now in
-    let is : terms_from i.left i.right i.places ≡ term ∷ c.requires.0 =
-    ap (λ (s : JobState). s.terms_left) c.self.view_is ∙ c.requires.1 in
+    let is : terms_from i.left i.right i.places ≡ term ∷ c.requires.first.0 =
+    ap (λ (s : JobState). s.terms_left) c.self.view_is ∙ c.requires.first.1 in
     rw (p.1, p.2)
     (subst (λ (s : JobState). IsCause (IsDamaged holds s) before now t) c.self.view_is
-    (cause_after (IsRefused mid live i.marks.items term (part_of c.in-Some.right)) (IsDamaged holds (state_of i)) before then now t
+    (cause_after (IsRefused mid live i.marks term (part_of c.in-Some.right)) (IsDamaged holds (state_of i)) before then now t
     c.in_ok-cut.ensures.calm
     (λ blob b.
     some_with i.left i.right (IsDamagedPart holds (state_of i) blob) c.in-Some.right some
-    (refused holds (state_of i) i.left i.right i.marks.items (part_of c.in-Some.right) term c.requires.0 refl inv.sources
+    (refused holds (state_of i) i.left i.right i.marks (part_of c.in-Some.right) term c.requires.first.0 refl inv.sources
     c.are_whole.ensures.whole.entries inv.marks (has_with i.left i.right c.in-Some.right some) is blob
-    (subst (λ o. IsRefused o live i.marks.items term (part_of c.in-Some.right) blob) c.in_ok-cut.ensures.holds b)))
-    (rw (c.deref-in-Some.ensures.value, c.deref-in-Some-2.ensures.value) at c.in_err-more-in-Some.ensures.cause)))
+    (subst (λ o. IsRefused o live i.marks term (part_of c.in-Some.right) blob) c.in_ok-cut.ensures.holds b)))
+    (rw c.deref-in-Some.ensures.value at c.in_err-more-in-Some.ensures.cause)))
 
 pub returns-in_err-append-in-Some-clause-front : goal.returns-in_err-append-in-Some-clause-front
 returns-in_err-append-in-Some-clause-front g c =
@@ -161,12 +156,12 @@ returns-in_err-append-in-Some-clause-front g c =
     let old = g.D.Store.reads c.args.store.now in
     let mid = g.D.Store.reads c.live_addresses.new.store in
     let new = g.D.Store.reads c.live_addresses-in-Some.new.store in
-    let is : terms_from i.left i.right i.places ≡ c.args.term.now ∷ c.requires.0 =
-    ap (λ (s : JobState). s.terms_left) c.self.view_is ∙ c.requires.1 in
+    let is : terms_from i.left i.right i.places ≡ c.args.term.now ∷ c.requires.first.0 =
+    ap (λ (s : JobState). s.terms_left) c.self.view_is ∙ c.requires.first.1 in
     rw (p.1, p.2)
     (subst (λ (s : JobState). ReadsFront (step_ranges s.terms_left s.parts) old new NoMemory) c.self.view_is
     (front_all (step_ranges (terms_from i.left i.right i.places) (parts_of i.left i.right)) old new NoMemory
-    (reads_with i.left i.right (terms_from i.left i.right i.places) c.args.term.now c.requires.0 c.in-Some.right old mid new some is
+    (reads_with i.left i.right (terms_from i.left i.right i.places) c.args.term.now c.requires.first.0 c.in-Some.right old mid new some is
     c.in_ok-cut.ensures.reads c.in_ok-more-in-Some.ensures.reads)
     (λ blob e. absurd (no_memory blob e))))
 
@@ -178,12 +173,12 @@ returns-in_ok-append-in-Some-clause-new g c =
     let entries = c.are_whole.ensures.whole.entries in
     let right = all_has HasEntries (part_of other) _ entries (has_with i.left i.right other some) in
     subst (λ (s : JobState). IsNewCut s c.append.new.self) c.self.view_is
-    (new_both (state_of i) i.marks.items i.left.directory.low i.left.directory.high other.directory.low other.directory.high
+    (new_both (state_of i) i.marks i.left.directory.low i.left.directory.high other.directory.low other.directory.high
     c.in_ok-cut.cut c.in_ok-more-in-Some.more c.append.new.self c.self.invariant.marks
     (spans_apart i.left i.right other some c.self.invariant.sources) right.below (omega (arith, lowest_left i.left i.right))
     (omega (arith, highest_with i.left i.right other some))
-    (rw (c.deref.ensures.value, c.deref-2.ensures.value) at c.in_ok-cut.ensures.new)
-    (rw (c.deref-in-Some.ensures.value, c.deref-in-Some-2.ensures.value) at c.in_ok-more-in-Some.ensures.new)
+    (rw c.deref.ensures.value at c.in_ok-cut.ensures.new)
+    (rw c.deref-in-Some.ensures.value at c.in_ok-more-in-Some.ensures.new)
     c.in_ok-append-in-Some.ensures.addresses c.in_ok-append-in-Some.ensures.places)
 
 pub returns-in_ok-append-in-Some-clause-held : goal.returns-in_ok-append-in-Some-clause-held
