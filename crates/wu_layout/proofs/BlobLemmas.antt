@@ -31,11 +31,12 @@ once_other blob number h = rw (ne_eqb blob number h) refl
 
 -- ---- the blob of a file that is taken out
 
-abbrev named_by : Option FileEntry → ℕ → ℕ
+-- how often a file's entry names the blob
+abbrev pub named_by : Option FileEntry → ℕ → ℕ
 named_by None number = 0
 named_by (Some entry) number = once entry.blob number
 
-removed_count : (test : ℕ → Bool) (number : ℕ) (files : List (ℕ × FileEntry))
+pub removed_count : (test : ℕ → Bool) (number : ℕ) (files : List (ℕ × FileEntry))
     → named_by (lookup test files) number + count_by (λ file. file.1.blob == number) (remove_entry test files)
     ≡ count_by (λ file. file.1.blob == number) files
 removed_count test number [] = refl
@@ -54,7 +55,7 @@ removed_count test number (file ∷ files) =
           )
     ]
 
-released_count : (o : Option FileEntry) (number : ℕ) → 0 < number → count_by (λ other. other == number) (text_blob o) ≡ named_by o number
+pub released_count : (o : Option FileEntry) (number : ℕ) → 0 < number → count_by (λ other. other == number) (text_blob o) ≡ named_by o number
 released_count None number l = refl
 released_count (Some entry) number l =
     ⊎_elim

@@ -84,7 +84,7 @@ job_after_flush files parts more (Some job) d =
 
 module _ (next : ℕ) (files : List (ℕ × FileEntry)) (parts : List Part) (check : ℕ) (stale : List ℕ)
     (d : BlobsAreDistinct next files parts check stale) where
-  blobs_after_flush : (part : Part) → part.blob ≡ next → BlobsAreDistinct (next + 1) files (parts ++ part ∷ []) check stale
+  pub blobs_after_flush : (part : Part) → part.blob ≡ next → BlobsAreDistinct (next + 1) files (parts ++ part ∷ []) check stale
   blobs_after_flush part e =
       let more : (number : ℕ)
       → times_named number files (parts ++ part ∷ []) check stale ≡ once part.blob number + times_named number files parts check stale =
@@ -108,7 +108,7 @@ module _ (next : ℕ) (files : List (ℕ × FileEntry)) (parts : List Part) (che
         of_stale = d.of_stale;
       }
 
-  blobs_after_checkpoint : BlobsAreDistinct (next + 1) files parts next []
+  pub blobs_after_checkpoint : BlobsAreDistinct (next + 1) files parts next []
   blobs_after_checkpoint = record {
     positive = omega arith;
     distinct = λ number l.

@@ -79,7 +79,7 @@ module _ (next : ℕ) (files : List (ℕ × FileEntry)) (before taken after : Li
       count-append (λ (other : ℕ). other == number) stale freed
       ∙ ap (λ (n : ℕ). count_by (λ (other : ℕ). other == number) stale + n) (count_blobs number taken)
 
-  blobs_vanished : BlobsAreDistinct next files (before ++ after) check (stale ++ freed)
+  pub blobs_vanished : BlobsAreDistinct next files (before ++ after) check (stale ++ freed)
   blobs_vanished =
       let same : (number : ℕ)
       → times_named number files (before ++ after) check (stale ++ freed)
@@ -93,7 +93,7 @@ module _ (next : ℕ) (files : List (ℕ × FileEntry)) (before taken after : Li
         of_stale = omega (arith, count_split 0, freed_count 0, d.of_parts, d.of_stale);
       }
 
-  blobs_made : (part : Part) → part.blob ≡ next → BlobsAreDistinct (next + 1) files (before ++ part ∷ after) check (stale ++ freed)
+  pub blobs_made : (part : Part) → part.blob ≡ next → BlobsAreDistinct (next + 1) files (before ++ part ∷ after) check (stale ++ freed)
   blobs_made part e =
       let put : (number : ℕ)
       → count_by (named number) (before ++ part ∷ after)

@@ -211,7 +211,7 @@ module _ (text : Text) (range : Range) (long : range.len ≡ length text.terms) 
   Has ps = HasText text range ps
 
   -- where the text's postings are these, the range lies within their bounds
-  bounds_of_home : (low high : ℕ) (home : List Posting) → Ascend low high home → Has home
+  pub bounds_of_home : (low high : ℕ) (home : List Posting) → Ascend low high home → Has home
       → (low ≤ range.start) × (range.start + range.len ≤ high)
   bounds_of_home low high home a h =
       let placed : Ascend low high (placed_from range.start text.terms) =

@@ -29,14 +29,15 @@ use Rattle.wu_part.specs.Parts.{HoldsList, IsRecorded, SpellsPart}
 use Rattle.wu_lists.specs.declared.blocks.Block.{Block}
 use Rattle.wu_lists.specs.Blocks.{IsSpelledIn, blocks_from, blocks_in, blocks_of, entry_of, meets, needed, range_of}
 use Rattle.wu_lists.specs.Causes.{IsCause, IsNoPart}
-use Rattle.wu_lists.specs.Fetching.{AreFetched, HasEntry, HasTerm}
+use Rattle.wu_lists.specs.Fetching.{AreFetched, HasEntry, HasTerm, Puts}
 use Rattle.wu_lists.specs.Keeping.{AreHeld, Asks, Kept, all_asked, all_missing, asked, is_same, missing}
 use Rattle.wu_parts.specs.Causes.{IsFetchCause}
+use Rattle.wu_parts.specs.Contents.{Contents}
 use Rattle.wu_parts.specs.Holdings.{AreKept, HoldParts, all_needed}
-use Rattle.wu_parts.specs.Lists.{AscendBetween}
+use Rattle.wu_lists.specs.Ascending.{AscendBetween}
 use Rattle.wu_parts.specs.StoredParts.{AreFetchedFrom, directories_of, pairs_of, records_of}
 use Rattle.wu_parts.specs.declared.writing.StoredPart.{StoredPart}
-use Rattle.wu_parts.proofs.Ascending.{ascend-lower}
+use Rattle.wu_lists.proofs.Ascending.{ascend-lower}
 
 -- ---- blocks, first some and then others
 
@@ -399,11 +400,9 @@ zipped (part ∷ parts) = ap (λ (l : List (PartRec × PartDirectory)). (part.re
 
 -- ---- what was fetched so far, and what is left to fetch
 
--- What is fetched of the parts that are left leads to what is fetched of all: the addresses, the blocks and the trouble.
+-- The blocks that are asked for in the parts that are left lead to those that are asked for in all, and so does a trouble.
 pub record Leads (parts left : List StoredPart) (term : List ℕ) (frames : List Range) (holds : Option Content) (old now : Kept)
-    (ranges ranges_now : Option (List ReadRange)) (found : List ℕ) : Type 0 where
-  pub fetched : (rest : List ℕ) → AreFetchedFrom left term frames holds now rest
-      → AreFetchedFrom parts term frames holds old (found ++ rest)
+    (ranges ranges_now : Option (List ReadRange)) : Type 0 where
   pub asks : (new : Kept) (ranges_new : Option (List ReadRange))
       → Asks (all_needed (pairs_of left) term frames) holds now new ranges_now ranges_new
       → Asks (all_needed (pairs_of parts) term frames) holds old new ranges ranges_new
@@ -414,64 +413,75 @@ pub record Leads (parts left : List StoredPart) (term : List ℕ) (frames : List
       after
       ranges ranges_new trouble
 
-pub leads-none : (parts : List StoredPart) (term : List ℕ) (frames : List Range) (holds : Option Content) (old : Kept)
-    (ranges : Option (List ReadRange)) → Leads parts parts term frames holds old old ranges ranges []
-leads-none parts term frames holds old ranges = record {
-  fetched = λ rest f. f;
-  asks = λ new ranges_new a. a;
-  cause = λ before after ranges_new trouble c. c;
-}
+-- What is fetched of the parts that are left leads to what is fetched of all.
+pub record LeadsTo (found : List ℕ) (parts left : List StoredPart) (term : List ℕ) (frames : List Range) (holds : Option Content)
+    (old now : Kept) : Type 0 where
+  pub fetched : (rest : List ℕ) → AreFetchedFrom left term frames holds now rest
+      → AreFetchedFrom parts term frames holds old (found ++ rest)
+
+module _ (parts : List StoredPart) (term : List ℕ) (frames : List Range) (holds : Option Content) (old : Kept) where
+  pub leads-none : (ranges : Option (List ReadRange)) → Leads parts parts term frames holds old old ranges ranges
+  leads-none ranges = record {
+    asks = λ new ranges_new a. a;
+    cause = λ before after ranges_new trouble c. c;
+  }
+
+  pub leads_to-none : LeadsTo [] parts parts term frames holds old old
+  leads_to-none = record { fetched = λ rest f. f }
 
 module _ (parts left : List StoredPart) (part : StoredPart) (term : List ℕ) (frames : List Range) (holds : Option Content)
-    (old now : Kept) (ranges ranges_now : Option (List ReadRange)) (found : List ℕ)
-    (l : Leads parts (part ∷ left) term frames holds old now ranges ranges_now found) where
-  pub leads-fails : (before after : ℕ) (ranges_new : Option (List ReadRange)) (trouble : Trouble)
-      → IsCause (all_missing now.cap (keys_of now.entries) (needed part.recorded.blob part.directory term frames)) part.recorded.blob
-      (IfSome holds (λ content. IsNoPart part.directory (content.blobs part.recorded.blob))) before after ranges_now ranges_new trouble
-      → IsFetchCause (pairs_of parts) (all_missing old.cap (keys_of old.entries) (all_needed (pairs_of parts) term frames)) holds before
-      after
-      ranges ranges_new trouble
-  leads-fails before after ranges_new trouble c =
-      l.cause before after ranges_new trouble
-      (cause-first (pairs_of left) (part.recorded, part.directory) term frames now holds before after ranges_now ranges_new trouble c)
+    (old now : Kept) (ranges ranges_now : Option (List ReadRange)) where
+  module _ (l : Leads parts (part ∷ left) term frames holds old now ranges ranges_now) where
+    pub leads-fails : (before after : ℕ) (ranges_new : Option (List ReadRange)) (trouble : Trouble)
+        → IsCause (all_missing now.cap (keys_of now.entries) (needed part.recorded.blob part.directory term frames)) part.recorded.blob
+        (IfSome holds (λ content. IsNoPart part.directory (content.blobs part.recorded.blob))) before after ranges_now ranges_new trouble
+        → IsFetchCause (pairs_of parts) (all_missing old.cap (keys_of old.entries) (all_needed (pairs_of parts) term frames)) holds before
+        after
+        ranges ranges_new trouble
+    leads-fails before after ranges_new trouble c =
+        l.cause before after ranges_new trouble
+        (cause-first (pairs_of left) (part.recorded, part.directory) term frames now holds before after ranges_now ranges_new trouble c)
 
-  pub leads-step : (next : Kept) (ranges_next : Option (List ReadRange)) (more longer : List ℕ) → IsRecorded part.recorded part.directory
+    pub leads-step : (next : Kept) (ranges_next : Option (List ReadRange))
+        → Asks (needed part.recorded.blob part.directory term frames) holds now next ranges_now ranges_next
+        → Leads parts left term frames holds old next ranges ranges_next
+    leads-step next ranges_next a = record {
+      asks = λ new ranges_new b.
+          l.asks new ranges_new
+          (asks-append holds now next new ranges_now ranges_next ranges_new (needed part.recorded.blob part.directory term frames)
+          (all_needed (pairs_of left) term frames) a b);
+      cause = λ before after ranges_new trouble c.
+          l.cause before after ranges_new trouble
+          (cause-later (pairs_of left) (part.recorded, part.directory) term frames now holds next before after ranges_now ranges_next
+          ranges_new trouble a c);
+    }
+
+  pub leads_to-step : (found : List ℕ) → LeadsTo found parts (part ∷ left) term frames holds old now
+      → (next : Kept) (ranges_next : Option (List ReadRange)) (more longer : List ℕ) → IsRecorded part.recorded part.directory
       → AreFetched (HasTerm part.directory term) frames part.recorded.blob part.directory.low (part.directory.high + 1) holds now more
       → Asks (needed part.recorded.blob part.directory term frames) holds now next ranges_now ranges_next → longer ≡ found ++ more
-      → Leads parts left term frames holds old next ranges ranges_next longer
-  leads-step next ranges_next more longer told f a e = record {
+      → LeadsTo longer parts left term frames holds old next
+  leads_to-step found l next ranges_next more longer told f a e = record {
     fetched = λ rest g.
         subst (AreFetchedFrom parts term frames holds old)
         (sym (append_assoc found more rest) ∙ ap (λ (xs : List ℕ). xs ++ rest) (sym e))
         (l.fetched (more ++ rest)
         (fetched-first part left term frames now next more rest told holds
         (needed part.recorded.blob part.directory term frames) ranges_now ranges_next f a g));
-    asks = λ new ranges_new b.
-        l.asks new ranges_new
-        (asks-append holds now next new ranges_now ranges_next ranges_new (needed part.recorded.blob part.directory term frames)
-        (all_needed (pairs_of left) term frames) a b);
-    cause = λ before after ranges_new trouble c.
-        l.cause before after ranges_new trouble
-        (cause-later (pairs_of left) (part.recorded, part.directory) term frames now holds next before after ranges_now ranges_next
-        ranges_new trouble a c);
   }
 
-module _ (parts : List StoredPart) (term : List ℕ) (frames : List Range) (holds : Option Content) (old now : Kept)
-    (ranges ranges_now : Option (List ReadRange)) (found : List ℕ) where
-  pub leads-out_of_memory : (left : List StoredPart) (n : ℕ) → Leads parts left term frames holds old now ranges ranges_now found
-      → IsFetchCause (pairs_of parts) (all_missing old.cap (keys_of old.entries) (all_needed (pairs_of parts) term frames)) holds n n
-      ranges ranges_now NoMemory
-  leads-out_of_memory left n l =
-      l.cause n n ranges_now NoMemory
-      (cause-none (pairs_of left) (all_missing now.cap (keys_of now.entries) (all_needed (pairs_of left) term frames)) holds n ranges_now)
+module _ (parts : List StoredPart) (term : List ℕ) (frames : List Range) (holds : Option Content) (old now : Kept) where
+  pub leads-end : (ranges ranges_now : Option (List ReadRange)) (left : List StoredPart) → left ≡ []
+      → Leads parts left term frames holds old now ranges ranges_now
+      → Asks (all_needed (pairs_of parts) term frames) holds old now ranges ranges_now
+  leads-end ranges ranges_now [] e l = l.asks now ranges_now (asks-none holds now ranges_now)
+  leads-end ranges ranges_now (part ∷ left) e l = absurd cc
 
-  pub leads-end : (left : List StoredPart) → left ≡ [] → Leads parts left term frames holds old now ranges ranges_now found
-      → AreFetchedFrom parts term frames holds old found × Asks (all_needed (pairs_of parts) term frames) holds old now ranges ranges_now
-  leads-end [] e l = (
-    subst (AreFetchedFrom parts term frames holds old) (append-nil found) (l.fetched [] (fetched-none term frames holds now)),
-    l.asks now ranges_now (asks-none holds now ranges_now),
-  )
-  leads-end (part ∷ left) e l = absurd cc
+  pub leads_to-end : (found : List ℕ) (left : List StoredPart) → left ≡ [] → LeadsTo found parts left term frames holds old now
+      → AreFetchedFrom parts term frames holds old found
+  leads_to-end found [] e l =
+      subst (AreFetchedFrom parts term frames holds old) (append-nil found) (l.fetched [] (fetched-none term frames holds now))
+  leads_to-end found (part ∷ left) e l = absurd cc
 
 pub told_at : (parts : List StoredPart) (place : ℕ) (part : StoredPart) → AllByRecursion (λ p. IsRecorded p.recorded p.directory) parts
     → place < length parts → part ≡ get_or parts place part → IsRecorded part.recorded part.directory
@@ -524,6 +534,24 @@ cause-seen pairs others kept same term frames holds before now ranges ranges_now
     holds before now ranges ranges_now trouble)
     p c)
 
+pub asks-seen : (pairs others : List (PartRec × PartDirectory)) (kept same new : Kept) (term : List ℕ) (frames : List Range)
+    (holds : Option Content) (ranges ranges_now : Option (List ReadRange)) → pairs ≡ others → kept ≡ same
+    → Asks (all_needed pairs term frames) holds kept new ranges ranges_now
+    → Asks (all_needed others term frames) holds same new ranges ranges_now
+asks-seen pairs others kept same new term frames holds ranges ranges_now p k a =
+    subst (λ (l : Kept). Asks (all_needed others term frames) holds l new ranges ranges_now) k
+    (subst (λ (ps : List (PartRec × PartDirectory)). Asks (all_needed ps term frames) holds kept new ranges ranges_now) p a)
+
+-- the parts, as contracts see them
+pub seen-parts : (old fields : Contents) (parts slice : List StoredPart) → fields ≡ old → fields.parts ≡ records_of parts
+    → fields.directories ≡ directories_of parts → slice ≡ parts → pairs_of slice ≡ zip old.parts old.directories
+seen-parts old fields parts slice e p d s =
+    ap pairs_of s
+    ∙ sym (zipped parts)
+    ∙ ap (λ ps. zip ps (directories_of parts)) (sym p)
+    ∙ ap (zip fields.parts) (sym d)
+    ∙ ap (λ (k : Contents). zip k.parts k.directories) e
+
 pub filter_passes : (test : ℕ → Bool) (xs : List ℕ) → AllByRecursion (λ x. test x ≡ true) (filter test xs)
 filter_passes test [] = tt
 filter_passes test (x ∷ xs) =
@@ -535,47 +563,58 @@ filter_passes test (x ∷ xs) =
 -- ---- a turn of the loop over the parts, where the store tells now what it told at the beginning
 
 module _ (parts : List StoredPart) (place : ℕ) (part : StoredPart) (term : List ℕ) (frames : List Range) (holds holds_now : Option Content)
-    (old now : Kept) (ranges ranges_now : Option (List ReadRange)) (found : List ℕ) (within : place < length parts)
-    (is : part ≡ get_or parts place part) (same : holds_now ≡ holds)
-    (l : Leads parts (drop place parts) term frames holds old now ranges ranges_now found) where
-  split : Leads parts (part ∷ drop (place + 1) parts) term frames holds old now ranges ranges_now found
-  split =
-      subst (λ (left : List StoredPart). Leads parts left term frames holds old now ranges ranges_now found)
-      (left_at parts place part within is) l
+    (old now : Kept) (ranges ranges_now : Option (List ReadRange)) (within : place < length parts) (is : part ≡ get_or parts place part)
+    (same : holds_now ≡ holds) where
+  module _ (l : Leads parts (drop place parts) term frames holds old now ranges ranges_now) where
+    split : Leads parts (part ∷ drop (place + 1) parts) term frames holds old now ranges ranges_now
+    split =
+        subst (λ (left : List StoredPart). Leads parts left term frames holds old now ranges ranges_now)
+        (left_at parts place part within is) l
 
-  pub turn-fails : (before before_now after : ℕ) (ranges_new : Option (List ReadRange)) (trouble : Trouble) → before_now ≡ before
-      → IsCause (all_missing now.cap (keys_of now.entries) (needed part.recorded.blob part.directory term frames)) part.recorded.blob
-      (IfSome holds_now (λ content. IsNoPart part.directory (content.blobs part.recorded.blob))) before_now after ranges_now ranges_new
-      trouble
-      → IsFetchCause (pairs_of parts) (all_missing old.cap (keys_of old.entries) (all_needed (pairs_of parts) term frames)) holds before
-      after
-      ranges ranges_new trouble
-  turn-fails before before_now after ranges_new trouble e c =
-      leads-fails parts (drop (place + 1) parts) part term frames holds old now ranges ranges_now found split before after ranges_new
-      trouble
-      (subst
-      (λ (n : ℕ). IsCause (all_missing now.cap (keys_of now.entries) (needed part.recorded.blob part.directory term frames))
-      part.recorded.blob (IfSome holds (λ content. IsNoPart part.directory (content.blobs part.recorded.blob))) n after ranges_now
-      ranges_new
-      trouble)
-      e
-      (subst
-      (λ (h : Option Content). IsCause
-      (all_missing now.cap (keys_of now.entries) (needed part.recorded.blob part.directory term frames)) part.recorded.blob
-      (IfSome h (λ content. IsNoPart part.directory (content.blobs part.recorded.blob))) before_now after ranges_now ranges_new trouble)
-      same c))
+    pub turn-fails : (before before_now after : ℕ) (ranges_new : Option (List ReadRange)) (trouble : Trouble) → before_now ≡ before
+        → IsCause (all_missing now.cap (keys_of now.entries) (needed part.recorded.blob part.directory term frames)) part.recorded.blob
+        (IfSome holds_now (λ content. IsNoPart part.directory (content.blobs part.recorded.blob))) before_now after ranges_now ranges_new
+        trouble
+        → IsFetchCause (pairs_of parts) (all_missing old.cap (keys_of old.entries) (all_needed (pairs_of parts) term frames)) holds before
+        after
+        ranges ranges_new trouble
+    turn-fails before before_now after ranges_new trouble e c =
+        leads-fails parts (drop (place + 1) parts) part term frames holds old now ranges ranges_now split before after ranges_new
+        trouble
+        (subst
+        (λ (n : ℕ). IsCause (all_missing now.cap (keys_of now.entries) (needed part.recorded.blob part.directory term frames))
+        part.recorded.blob (IfSome holds (λ content. IsNoPart part.directory (content.blobs part.recorded.blob))) n after ranges_now
+        ranges_new
+        trouble)
+        e
+        (subst
+        (λ (h : Option Content). IsCause
+        (all_missing now.cap (keys_of now.entries) (needed part.recorded.blob part.directory term frames)) part.recorded.blob
+        (IfSome h (λ content. IsNoPart part.directory (content.blobs part.recorded.blob))) before_now after ranges_now ranges_new trouble)
+        same c))
 
-  pub turn-step : (next : Kept) (ranges_next : Option (List ReadRange)) (more longer : List ℕ)
+    pub turn-step : (next : Kept) (ranges_next : Option (List ReadRange))
+        → Asks (needed part.recorded.blob part.directory term frames) holds_now now next ranges_now ranges_next
+        → Leads parts (drop (place + 1) parts) term frames holds old next ranges ranges_next
+    turn-step next ranges_next a =
+        leads-step parts (drop (place + 1) parts) part term frames holds old now ranges ranges_now split next ranges_next
+        (subst (λ (h : Option Content). Asks (needed part.recorded.blob part.directory term frames) h now next ranges_now ranges_next)
+        same a)
+
+  pub turn-fetches : (found : List ℕ) → LeadsTo found parts (drop place parts) term frames holds old now
+      → (next : Kept) (ranges_next : Option (List ReadRange)) (longer : List ℕ)
       → AllByRecursion (λ p. IsRecorded p.recorded p.directory) parts
-      → AreFetched (HasTerm part.directory term) frames part.recorded.blob part.directory.low (part.directory.high + 1) holds_now now more
-      → Asks (needed part.recorded.blob part.directory term frames) holds_now now next ranges_now ranges_next → longer ≡ found ++ more
-      → Leads parts (drop (place + 1) parts) term frames holds old next ranges ranges_next longer
-  turn-step next ranges_next more longer told f a e =
-      leads-step parts (drop (place + 1) parts) part term frames holds old now ranges ranges_now found split next ranges_next more longer
-      (told_at parts place part told within is)
+      → Puts (AreFetched (HasTerm part.directory term) frames part.recorded.blob part.directory.low (part.directory.high + 1) holds_now now)
+      found longer
+      → Asks (needed part.recorded.blob part.directory term frames) holds_now now next ranges_now ranges_next
+      → LeadsTo longer parts (drop (place + 1) parts) term frames holds old next
+  turn-fetches found l next ranges_next longer told puts a =
+      leads_to-step parts (drop (place + 1) parts) part term frames holds old now ranges ranges_now found
+      (subst (λ (left : List StoredPart). LeadsTo found parts left term frames holds old now) (left_at parts place part within is) l)
+      next ranges_next puts.more longer (told_at parts place part told within is)
       (subst
       (λ (h : Option Content). AreFetched (HasTerm part.directory term) frames part.recorded.blob part.directory.low
-      (part.directory.high + 1) h now more)
-      same f)
+      (part.directory.high + 1) h now puts.more)
+      same puts.kind)
       (subst (λ (h : Option Content). Asks (needed part.recorded.blob part.directory term frames) h now next ranges_now ranges_next) same a)
-      e
+      puts.put

@@ -11,9 +11,11 @@ use Rattle.wu_base.specs.declared.limits.TheConstants.{ADDRESSES_MAX}
 use Rattle.wu_parts.specs.declared.chains.Chain.{Chain}
 use Rattle.wu_token.specs.Words.{IsTerm}
 use Rattle.wu_parts.specs.Memory.{Lists, Memory}
-use Rattle.wu_parts.specs.Lists.{AscendBetween, IsList, with_address, with_posting}
+use Rattle.wu_lists.specs.Ascending.{AscendBetween}
+use Rattle.wu_parts.specs.Lists.{IsList, with_address, with_posting}
 use Rattle.wu_parts.specs.Chains.{places_from, places_of, list_of, lists_of, AreChains, moved, all_moved, memory_of}
-use Rattle.wu_parts.proofs.Ascending.{ascend-bounds, ascend-filter, ascend-higher, ascend-last, ascend-length, ascend-lower, ascend-moved, ascend-push}
+use Rattle.wu_lists.proofs.Ascending.{ascend-bounds, ascend-filter, ascend-higher, ascend-last, ascend-length, ascend-lower, ascend-push}
+use Rattle.wu_parts.proofs.Moving.{ascend-moved}
 use Rattle.wu_parts.proofs.Putting.{found_in, raised, lists-with_address}
 
 abbrev Entries : Type 0

@@ -1,16 +1,16 @@
 -- Live ranges that leave no gap: each address among them is live.
 use Rattle.std.proofs.Common.{◌≡◌, ℕ, zero, suc, ◌+◌, ◌<◌, ◌≤◌, ◌||◌, true, false, List, [], ◌∷◌, length, get_or, max, filter, nat_le, refl, ap, sym, subst, ◌∙◌, arith, ⊎_elim}
 use Rattle.std.specs.List.{AllByRecursion}
-use Rattle.std.proofs.lemmas.Bool.{cases_lt, le-leb, lt-ltb}
+use Rattle.std.proofs.lemmas.Bool.{and_parts, cases_lt, le-leb, leb-true, lt-ltb}
 use Rattle.wu_base.specs.declared.addresses.Range.{Range}
 use Rattle.wu_layout.specs.Postings.{is_in, is_live}
-use Rattle.wu_parts.specs.Lists.{AscendBetween, AreInOrder}
-use Rattle.wu_parts.specs.declared.chains.Chain.{Chain}
+use Rattle.wu_lists.specs.Ascending.{AscendBetween, AreInOrder}
+use Rattle.wu_parts.specs.LeadingBytes.{Numbered}
 use Rattle.wu_parts.specs.Chains.{moved, places_of}
-use Rattle.wu_parts.proofs.Ascending.{ascend-moved, first_end}
+use Rattle.wu_lists.proofs.Ascending.{first_end}
+use Rattle.wu_parts.proofs.Moving.{ascend-moved}
 use Rattle.wu_parts.proofs.LiveTerms.{filter-zero}
 use Rattle.wu_parts.proofs.MemoryLists.{all_at, all_between}
-use denote.Ref.{Bor}
 
 -- an address of one of the ranges is live
 live_at : (ranges : List Range) (place : ℕ) (range : Range) (address : ℕ) → place < length ranges → range ≡ get_or ranges place range
@@ -41,24 +41,36 @@ live_on start reached ranges place range a l is low address s h =
     (λ (from : reached ≤ address). live_at ranges place range address l is (omega arith) (omega arith))
     (cases_lt address reached)
 
-pub end_within : (low high : ℕ) (ranges : List Range) (place : ℕ) (d : Range) → AreInOrder low high ranges → place < length ranges
+pub range_ends_by : (low high : ℕ) (ranges : List Range) (place : ℕ) (d : Range) → AreInOrder low high ranges → place < length ranges
     → (get_or ranges place d).start + (get_or ranges place d).len ≤ high
-end_within low high [] place d o l = absurd (omega arith)
-end_within low high (r ∷ rs) zero d o l = first_end low high (r ∷ rs) d (omega arith) o
-end_within low high (r ∷ rs) (suc place) d o l = end_within (r.start + r.len) high rs place d o.1 (omega arith)
+range_ends_by low high [] place d o l = absurd (omega arith)
+range_ends_by low high (r ∷ rs) zero d o l = first_end low high (r ∷ rs) d (omega arith) o
+range_ends_by low high (r ∷ rs) (suc place) d o l = range_ends_by (r.start + r.len) high rs place d o.1 (omega arith)
 
--- where all from start on are, the addresses of a chain are live
-pub walked_live : (start : ℕ) (links : List ℕ) (live : List Range) (entries : List (Bor (List ℕ) × Chain)) (place : ℕ)
-    (d : Bor (List ℕ) × Chain) (addresses : List ℕ)
-    → AllByRecursion (λ e. AscendBetween 0 (length links) (places_of links e.1)) entries → place < length entries
-    → addresses ≡ filter (nat_le 0) (moved start (places_of links (get_or entries place d).1))
-    → AreLive start (start + length links) live → AllByRecursion (λ address. is_live live address ≡ true) addresses
-walked_live start links live entries place d addresses a l e f =
-    let places : List ℕ = places_of links (get_or entries place d).1 in
+-- no live address is before the ranges
+pub live_from : (low high : ℕ) (ranges : List Range) (address : ℕ) → AreInOrder low high ranges → is_live ranges address ≡ true
+    → low ≤ address
+live_from low high [] address o l = absurd cc
+live_from low high (r ∷ rs) address o l =
+    elim (is_in r address) as (λ b. is_in r address ≡ b → (b || is_live rs address) ≡ true → low ≤ address) [
+      | true ↦ λ e t.
+          let both = and_parts _ _ e in
+          let above : r.start ≤ address = leb-true r.start address both.0 in omega (arith, o.0)
+      | false ↦ λ e t.
+          let later : r.start + r.len ≤ address = live_from (r.start + r.len) high rs address o.1 t in omega (arith, o.0)
+    ] refl l
+
+-- what is so of each address from start on is so of those of a chain
+pub walked_all : (P : ℕ → Type 0) (start : ℕ) (links : List ℕ) (entries : List Numbered) (place : ℕ) (d : Numbered) (addresses : List ℕ)
+    → AllByRecursion (λ e. AscendBetween 0 (length links) (places_of links e.1.1)) entries → place < length entries
+    → addresses ≡ filter (nat_le 0) (moved start (places_of links (get_or entries place d).1.1))
+    → ((address : ℕ) → start ≤ address → address < start + length links → P address) → AllByRecursion P addresses
+walked_all P start links entries place d addresses a l e f =
+    let places : List ℕ = places_of links (get_or entries place d).1.1 in
     let ascend : AscendBetween 0 (length links) places =
-    all_at (λ (e : Bor (List ℕ) × Chain). AscendBetween 0 (length links) (places_of links e.1)) entries place d a l in
-    subst (AllByRecursion (λ address. is_live live address ≡ true)) (sym (e ∙ filter-zero (moved start places)))
-    (all_between start (start + length links) (λ address. is_live live address ≡ true) (moved start places) f
+    all_at (λ (e : Numbered). AscendBetween 0 (length links) (places_of links e.1.1)) entries place d a l in
+    subst (AllByRecursion P) (sym (e ∙ filter-zero (moved start places)))
+    (all_between start (start + length links) P (moved start places) f
     (subst (λ n. AscendBetween n (start + length links) (moved start places)) (omega arith)
     (ascend-moved start 0 (length links) places ascend)))
 

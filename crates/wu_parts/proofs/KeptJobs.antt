@@ -27,7 +27,7 @@ use Rattle.wu_parts.proofs.UnitChains.{all_zipped}
 -- ---- the lists that a job has made
 
 -- the content has of the part's blob what it had
-abbrev SameBlob : Content → Content → JobPart → Type 0
+abbrev pub SameBlob : Content → Content → JobPart → Type 0
 SameBlob content after part = after.blobs part.recorded.blob ≡ content.blobs part.recorded.blob
 
 module _ (content after : Content) where
@@ -56,7 +56,7 @@ module _ (content after : Content) where
     m.4,
   )
 
-  right_stays : (state : JobState) → AllByRecursion (SameBlob content after) state.parts → IsRight content state → IsRight after state
+  pub right_stays : (state : JobState) → AllByRecursion (SameBlob content after) state.parts → IsRight content state → IsRight after state
   right_stays state s r = record {
     terms_done = r.terms_done;
     order = r.order;

@@ -1,6 +1,4 @@
-pub mod Ascending
-pub mod Parting
-pub mod Cutting
+pub mod Moving
 pub mod Putting
 pub mod Gaining
 pub mod Chaining

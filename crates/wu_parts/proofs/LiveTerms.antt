@@ -24,10 +24,11 @@ use Rattle.wu_space.specs.Addresses.{Ranges, live_ranges, shared}
 use Rattle.wu_base.specs.declared.limits.TheConstants.{ADDRESSES_MAX}
 use Rattle.wu_token.specs.Words.{IsTerm}
 use Rattle.wu_part.specs.Parts.{IsList}
-use Rattle.wu_parts.specs.Lists.{AscendBetween}
+use Rattle.wu_part.specs.Writing.{first_of}
+use Rattle.wu_lists.specs.Ascending.{AscendBetween}
 use Rattle.wu_parts.specs.Memory.{HasPostings, Lists, Memory, held}
 use Rattle.wu_parts.specs.LiveLists.{AreEncodable, has_addresses, live_list, live_lists}
-use Rattle.wu_parts.proofs.Ascending.{addresses_increase, ascend-bounds, ascend-filter}
+use Rattle.wu_lists.proofs.Ascending.{addresses_increase, ascend-bounds, ascend-filter}
 
 -- ---- the live ranges that meet a span
 
@@ -162,46 +163,61 @@ terms_of_lists : (ps : List Posting) (terms : List (List ℕ)) → map (λ (list
 terms_of_lists ps [] = refl
 terms_of_lists ps (term ∷ terms) = ap (λ (ts : List (List ℕ)). term ∷ ts) (terms_of_lists ps terms)
 
-all_below : (low high most : ℕ) (xs : List ℕ) → high ≤ most → AscendBetween low high xs → AllByRecursion (λ x. x < most) xs
-all_below low high most [] l a = tt
-all_below low high most (x ∷ xs) l a =
-    let top : x + 1 ≤ high = ascend-bounds (x + 1) high xs a.1 in (omega arith, all_below (x + 1) high most xs l a.1)
+all_below : (low high : ℕ) (xs : List ℕ) → AscendBetween low high xs → AllByRecursion (λ x. x < high) xs
+all_below low high [] a = tt
+all_below low high (x ∷ xs) a =
+    let top : x + 1 ≤ high = ascend-bounds (x + 1) high xs a.1 in (omega arith, all_below (x + 1) high xs a.1)
 
 -- a term, and addresses that ascend within bounds
 abbrev pub IsListWithin : ℕ → ℕ → List ℕ × List ℕ → Type 0
 IsListWithin start end list = IsTerm list.0 × AscendBetween start end list.1
 
-each_encodable : (start end : ℕ) (live : List Range) (sorted : Lists) → end ≤ ADDRESSES_MAX → AllByRecursion (IsListWithin start end) sorted
-    → AllByRecursion IsList (live_lists live sorted)
-each_encodable start end live sorted l a =
-    all_from_has IsList (live_lists live sorted)
-    (λ list i.
-    let f = filter_has has_addresses list (map (live_list live) sorted) i in
-    let m = map_has (live_list live) list sorted f.0 in
-    let w : IsListWithin start end m.0 = all_has (IsListWithin start end) m.0 sorted a m.1.0 in
-    let some : 0 < length list.at = ltb-true 0 (length list.at) f.1 in
-    let kept : AscendBetween start end (filter (is_live live) m.0.1) = ascend-filter (is_live live) start end m.0.1 w.1 in
-    subst IsList m.1.1
-    (record {
-      some = w.0.0;
-      short = w.0.1;
-      count = subst (λ (x : TermList). 0 < length x.at) (sym m.1.1) some;
-      ascending = addresses_increase start end (filter (is_live live) m.0.1) kept;
-      below = all_below start end ADDRESSES_MAX (filter (is_live live) m.0.1) l kept;
-    }))
-
-pub lists_encodable : (start end low high : ℕ) (live ranges : List Range) (sorted : Lists) (postings : List Posting) → end ≤ ADDRESSES_MAX
-    → AllByRecursion (IsListWithin start end) sorted → Ascend low high postings
+pub lists_encodable : (low high : ℕ) (live ranges : List Range) (sorted : Lists) (postings : List Posting) → Ascend low high postings
     → live_lists live sorted ≡ lists_of (live_of ranges postings) → AreEncodable (live_lists live sorted)
-lists_encodable start end low high live ranges sorted postings l a u e =
+lists_encodable low high live ranges sorted postings u e =
     let left : List Posting = live_of ranges postings in
     record {
-      each = each_encodable start end live sorted l a;
       ascending = subst (λ (ls : List TermList). IsStrictlySortedBy (slice_cmp nat_cmp) (map (λ list. list.term) ls)) (sym e)
           (subst (IsStrictlySortedBy (slice_cmp nat_cmp)) (sym (terms_of_lists left (terms_of left))) (terms_sorted left));
       distinct = subst (λ (ls : List TermList). IsDistinct eqb (flat_map (λ list. list.at) ls)) (sym e)
           (lists_distinct low high left (Ascend-filter (λ posting. is_live ranges posting.address) low high postings u));
     }
+
+some_of : (at : List ℕ) → (at ≡ [] → ⊥) → 0 < length at
+some_of [] n = absurd (n refl)
+some_of (address ∷ at) n = omega arith
+
+-- the list of a term at its live addresses can be written
+pub live_list_is : (live : List Range) (term addresses at : List ℕ) → IsTerm term → AscendBetween 0 ADDRESSES_MAX addresses
+    → at ≡ filter (is_live live) addresses → (at ≡ [] → ⊥) → IsList (record { term = term; at = at })
+live_list_is live term addresses at t a e n =
+    let kept : AscendBetween 0 ADDRESSES_MAX at =
+    subst (AscendBetween 0 ADDRESSES_MAX) (sym e) (ascend-filter (is_live live) 0 ADDRESSES_MAX addresses a) in
+    record {
+      some = t.0;
+      short = t.1;
+      count = some_of at n;
+      ascending = addresses_increase 0 ADDRESSES_MAX at kept;
+      below = all_below 0 ADDRESSES_MAX at kept;
+    }
+
+-- it begins where its first live address is
+pub live_list_from : (live : List Range) (low : ℕ) (addresses at : List ℕ)
+    → AllByRecursion (λ address. is_live live address ≡ true → low ≤ address) addresses
+    → at ≡ filter (is_live live) addresses → (at ≡ [] → ⊥) → low ≤ first_of at
+live_list_from live low addresses at a e n =
+    subst (λ l. low ≤ first_of l) (sym e) (from addresses a (λ none. n (e ∙ none)))
+  where
+    from : (xs : List ℕ) → AllByRecursion (λ x. is_live live x ≡ true → low ≤ x) xs → (filter (is_live live) xs ≡ [] → ⊥)
+        → low ≤ first_of (filter (is_live live) xs)
+    from [] b m = absurd (m refl)
+    from (x ∷ xs) b m =
+        let rest : List ℕ = filter (is_live live) xs in
+        elim (is_live live x) as
+        (λ t. is_live live x ≡ t → (cond t (x ∷ rest) rest ≡ [] → ⊥) → low ≤ first_of (cond t (x ∷ rest) rest)) [
+          | true ↦ λ f o. b.0 f
+          | false ↦ λ f o. from xs b.1 o
+        ] refl m
 
 -- ---- one list after another
 

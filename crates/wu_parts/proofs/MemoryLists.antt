@@ -1,6 +1,5 @@
 -- The lists that a flush makes of the chains in memory.
 use Rattle.std.proofs.Common.{◌≡◌, ℕ, ◌+◌, ◌-◌, ◌^◌, ◌<◌, ◌≤◌, nat_eq, nat_lt, Bool, true, false, cond, All, filter, nat_le, List, [], ◌∷◌, ◌++◌, length, map, take, get_or, zero, suc, refl, ap, sym, subst, ◌∙◌, arith, Vec, Global}
-use denote.Ref.{Bor}
 use Rattle.std.specs.Prelude.{IsPermutation}
 use Rattle.std.specs.List.{AllByRecursion, IsDistinct}
 use Rattle.std.specs.List.Sorted.{IsStrictlySortedBy}
@@ -11,17 +10,20 @@ use Rattle.std.proofs.lemmas.List.{map-append, take_more}
 use Rattle.std.proofs.lemmas.List.Sorted.{Contains-permutation, IsPermutation-map, IsPermutation-sym}
 use Rattle.wu_base.specs.declared.addresses.Range.{Range}
 use Rattle.wu_base.specs.declared.addresses.TermList.{TermList}
-use Rattle.wu_base.specs.declared.limits.TheConstants.{ADDRESSES_MAX}
 use Rattle.wu_base.proofs.Members.{Has-from_Contains, Contains-from_Has, all_from_has, all_has}
 use Rattle.wu_layout.specs.Postings.{Posting, is_live, live_of}
 use Rattle.wu_layout.specs.Layouts.{lists_of as lists_of_postings}
 use Rattle.wu_space.specs.Addresses.{AreApart, Ranges, live_ranges, shared}
 use Rattle.wu_parts.specs.declared.chains.Chain.{Chain}
 use Rattle.wu_parts.specs.Memory.{HasPostings, Lists}
-use Rattle.wu_parts.specs.Lists.{AreInOrder, AscendBetween, IsList}
-use Rattle.wu_parts.specs.Chains.{AreChains, Chained, addressed, all_moved, chained, lent, lists_of, memory_of, moved, places_of}
+use Rattle.wu_lists.specs.Ascending.{AreInOrder, AscendBetween}
+use Rattle.wu_parts.specs.Lists.{IsList}
+use Rattle.wu_parts.specs.Chains.{AreChains, Chained, addressed, all_moved, chained, lists_of, memory_of, moved, places_of}
+use Rattle.wu_parts.specs.LeadingBytes.{Numbered, behind}
+use Rattle.wu_token.specs.Words.{IsTerm}
 use Rattle.wu_parts.specs.LiveLists.{AreEncodable, live_lists}
-use Rattle.wu_parts.proofs.Ascending.{all_from_zero, ascend-moved, order-from_apart}
+use Rattle.wu_lists.proofs.Ascending.{all_from_zero, order-from_apart}
+use Rattle.wu_parts.proofs.Moving.{ascend-moved}
 use Rattle.wu_parts.proofs.LiveTerms.{IsListWithin, filter-zero, lists_encodable, live_lists-append, live_lists_are, live_same}
 
 abbrev Entries : Type 0
@@ -40,17 +42,26 @@ module _ (links : List ℕ) where
   are_chained [] a = tt
   are_chained (e ∷ es) a = (record { term = a.0.term; filled = a.0.filled; ascend = a.0.ascend }, are_chained es a.1)
 
-  lent_ascend : (entries : List (Bor (List ℕ) × Chain)) → AllByRecursion IsChained (map lent entries)
-      → AllByRecursion (λ e. AscendBetween 0 (length links) (places_of links e.1)) entries
-  lent_ascend [] a = tt
-  lent_ascend (e ∷ entries) a = (a.0.ascend, lent_ascend entries a.1)
+  terms_behind : (entries : List Numbered) → AllByRecursion IsChained (map behind entries) → AllByRecursion (λ e. IsTerm e.1.0.now) entries
+  terms_behind [] a = tt
+  terms_behind (e ∷ entries) a = (a.0.term, terms_behind entries a.1)
+
+  ascend_behind : (entries : List Numbered) → AllByRecursion IsChained (map behind entries)
+      → AllByRecursion (λ e. AscendBetween 0 (length links) (places_of links e.1.1)) entries
+  ascend_behind [] a = tt
+  ascend_behind (e ∷ entries) a = (a.0.ascend, ascend_behind entries a.1)
 
   -- the chains ascend, in whatever order they come
-  pub chains_ascend : (es : Entries) (entries : List (Bor (List ℕ) × Chain)) → AreChains links es
-      → IsPermutation (map chained es) (map lent entries)
-      → AllByRecursion (λ e. AscendBetween 0 (length links) (places_of links e.1)) entries
+  pub chains_ascend : (es : Entries) (entries : List Numbered) → AreChains links es
+      → IsPermutation (map chained es) (map behind entries)
+      → AllByRecursion (λ e. AscendBetween 0 (length links) (places_of links e.1.1)) entries
   chains_ascend es entries a p =
-      lent_ascend entries (all-permuted IsChained (map chained es) (map lent entries) p (are_chained es a))
+      ascend_behind entries (all-permuted IsChained (map chained es) (map behind entries) p (are_chained es a))
+
+  -- and each is of a term
+  pub chains_terms : (es : Entries) (entries : List Numbered) → AreChains links es → IsPermutation (map chained es) (map behind entries)
+      → AllByRecursion (λ e. IsTerm e.1.0.now) entries
+  chains_terms es entries a p = terms_behind entries (all-permuted IsChained (map chained es) (map behind entries) p (are_chained es a))
 
   module _ (start : ℕ) where
     lists_addressed : (es : Entries) → map (addressed start links) (map chained es) ≡ all_moved start (lists_of links es)
@@ -96,14 +107,14 @@ all_live start end live ranges (list ∷ lists) f a = (
   all_live start end live ranges lists f a.1,
 )
 
-module _ (low start stored : ℕ) (links : List ℕ) (es : Entries) (entries : List (Bor (List ℕ) × Chain)) (live : List Range)
-    (ranges : Ranges) (a : AreChains links es) (p : IsPermutation (map chained es) (map lent entries))
+module _ (low start stored : ℕ) (links : List ℕ) (es : Entries) (entries : List Numbered) (live : List Range)
+    (ranges : Ranges) (a : AreChains links es) (p : IsPermutation (map chained es) (map behind entries))
     (d : IsDistinct (pointwise nat_eq) (keys_of (map chained es)))
-    (s : IsStrictlySortedBy (slice_cmp nat_cmp) (keys_of (map lent entries)))
+    (s : IsStrictlySortedBy (slice_cmp nat_cmp) (keys_of (map behind entries)))
     (q : IsPermutation (live_ranges ranges start (start + length links)) live)
     (from to : ℕ) (postings : List Posting) (h : HasPostings from to (memory_of low start stored links es) postings) where
   abbrev sorted : Lists
-  sorted = map (addressed start links) (map lent entries)
+  sorted = map (addressed start links) (map behind entries)
 
   abbrev all_ranges : List Range
   all_ranges = map (λ file. file.1) ranges
@@ -115,20 +126,16 @@ module _ (low start stored : ℕ) (links : List ℕ) (es : Entries) (entries : L
       let same : map (addressed start links) (map chained es) ≡ lists = lists_addressed links start es in
       live_lists_are (memory_of low start stored links es) sorted live all_ranges
       (subst (λ (l : Lists). IsPermutation l sorted) same
-      (IsPermutation-map (addressed start links) (map chained es) (map lent entries) p))
+      (IsPermutation-map (addressed start links) (map chained es) (map behind entries) p))
       (subst (IsDistinct (pointwise nat_eq)) (sym (same_keys links start (map chained es)) ∙ ap keys_of same) d)
-      (subst (IsStrictlySortedBy (slice_cmp nat_cmp)) (sym (same_keys links start (map lent entries))) s)
+      (subst (IsStrictlySortedBy (slice_cmp nat_cmp)) (sym (same_keys links start (map behind entries))) s)
       (all_live start (start + length links) live all_ranges lists (live_same ranges start (start + length links) live q)
       (subst (AllByRecursion (IsListWithin start (start + length links))) same
       (are_within links start (map chained es) (are_chained links es a))))
       from to postings h
 
-  pub lists_can_be_encoded : start + length links ≤ ADDRESSES_MAX → AreEncodable (live_lists live sorted)
-  lists_can_be_encoded l =
-      lists_encodable start (start + length links) from to live all_ranges sorted postings l
-      (are_within links start (map lent entries)
-      (all-permuted (IsChained links) (map chained es) (map lent entries) p (are_chained links es a)))
-      h.ascend lists_made
+  pub lists_can_be_encoded : AreEncodable (live_lists live sorted)
+  lists_can_be_encoded = lists_encodable from to live all_ranges sorted postings h.ascend lists_made
 
 -- ---- one entry after another
 
@@ -138,25 +145,25 @@ all_at P [] place d a l = absurd (omega arith)
 all_at P (y ∷ ys) zero d a l = a.0
 all_at P (y ∷ ys) (suc place) d a l = all_at P ys place d a.1 (omega arith)
 
-pub more_live : (start : ℕ) (links : List ℕ) (live : List Range) (entries : List (Bor (List ℕ) × Chain)) (place : ℕ)
-    (d : Bor (List ℕ) × Chain) (addresses : List ℕ) (before after : List TermList) → place < length entries
-    → addresses ≡ filter (nat_le 0) (moved start (places_of links (get_or entries place d).1))
-    → before ≡ live_lists live (map (addressed start links) (map lent (take place entries)))
-    → after ≡ before ++ live_lists live (((get_or entries place d).0.now, addresses) ∷ [])
-    → after ≡ live_lists live (map (addressed start links) (map lent (take (place + 1) entries)))
+pub more_live : (start : ℕ) (links : List ℕ) (live : List Range) (entries : List Numbered) (place : ℕ)
+    (d : Numbered) (addresses : List ℕ) (before after : List TermList) → place < length entries
+    → addresses ≡ filter (nat_le 0) (moved start (places_of links (get_or entries place d).1.1))
+    → before ≡ live_lists live (map (addressed start links) (map behind (take place entries)))
+    → after ≡ before ++ live_lists live (((get_or entries place d).1.0.now, addresses) ∷ [])
+    → after ≡ live_lists live (map (addressed start links) (map behind (take (place + 1) entries)))
 more_live start links live entries place d addresses before after l is b e =
     let address : Chained → List ℕ × List ℕ = addressed start links in
-    let entry : Bor (List ℕ) × Chain = get_or entries place d in
-    let front : List (Bor (List ℕ) × Chain) = take place entries in
-    let walked : addresses ≡ moved start (places_of links entry.1) = is ∙ filter-zero (moved start (places_of links entry.1)) in
-    let whole : map address (map lent (take (place + 1) entries)) ≡ map address (map lent front) ++ address (lent entry) ∷ [] =
-    ap (λ (l : List (Bor (List ℕ) × Chain)). map address (map lent l)) (take_more entries place d l)
-    ∙ ap (map address) (map-append lent front (entry ∷ []))
-    ∙ map-append address (map lent front) (lent entry ∷ []) in
+    let entry : Numbered = get_or entries place d in
+    let front : List Numbered = take place entries in
+    let walked : addresses ≡ moved start (places_of links entry.1.1) = is ∙ filter-zero (moved start (places_of links entry.1.1)) in
+    let whole : map address (map behind (take (place + 1) entries)) ≡ map address (map behind front) ++ address (behind entry) ∷ [] =
+    ap (λ (l : List Numbered). map address (map behind l)) (take_more entries place d l)
+    ∙ ap (map address) (map-append behind front (entry ∷ []))
+    ∙ map-append address (map behind front) (behind entry ∷ []) in
     e
-    ∙ ap (λ (at : List ℕ). before ++ live_lists live ((entry.0.now, at) ∷ [])) walked
-    ∙ ap (λ (ls : List TermList). ls ++ live_lists live (address (lent entry) ∷ [])) b
-    ∙ sym (live_lists-append live (map address (map lent front)) (address (lent entry) ∷ []))
+    ∙ ap (λ (at : List ℕ). before ++ live_lists live ((entry.1.0.now, at) ∷ [])) walked
+    ∙ ap (λ (ls : List TermList). ls ++ live_lists live (address (behind entry) ∷ [])) b
+    ∙ sym (live_lists-append live (map address (map behind front)) (address (behind entry) ∷ []))
     ∙ ap (live_lists live) (sym whole)
 
 -- ---- the live ranges

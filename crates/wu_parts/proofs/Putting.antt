@@ -14,7 +14,7 @@ use Rattle.wu_layout.proofs.PostingLemmas.{Ascend-append, Ascend-below}
 use Rattle.wu_layout.proofs.TermLemmas.{addresses_of-append}
 use Rattle.wu_parts.specs.Memory.{HasPostings, Lists, Memory, held, Gains}
 use Rattle.wu_parts.specs.Lists.{with_address, with_posting, with_terms, IsList}
-use Rattle.wu_parts.proofs.Ascending.{ascend-higher, ascend-push}
+use Rattle.wu_lists.proofs.Ascending.{ascend-higher, ascend-push}
 
 abbrev pub found_in : List ℕ → Lists → List ℕ
 found_in term lists = unwrap_or (lookup (pointwise nat_eq term) lists) []

@@ -3,7 +3,6 @@
 -- They are the linked lists of postings of an in-memory index; see Büttcher, Clarke and Cormack, Information Retrieval, chapter 4.
 use Rattle.std.specs.Prelude.{ℕ, zero, suc, ◌+◌, ◌^◌, ◌<◌, ◌≤◌, List, [], ◌∷◌, ◌++◌, length, map, slice_index}
 use Rattle.std.specs.List.{AllByRecursion}
-use denote.Ref.{Bor}
 use Rattle.std.specs.declared.vec.Vec.{Vec}
 use Rattle.std.specs.declared.alloc.Global.{Global}
 use Rattle.wu_base.specs.declared.limits.TheConstants.{ADDRESSES_MAX}
@@ -38,10 +37,6 @@ Chained = List ℕ × Chain
 
 abbrev pub chained : Vec ℕ Global × Chain → Chained
 chained entry = (entry.0.items, entry.1)
-
--- the same of a term that is lent
-abbrev pub lent : Bor (List ℕ) × Chain → Chained
-lent entry = (entry.0.now, entry.1)
 
 -- its addresses, where the first place has the address `start`
 abbrev pub addressed : ℕ → List ℕ → Chained → List ℕ × List ℕ

@@ -3,7 +3,7 @@ use Rattle.std.specs.Prelude.{◌≡◌, ℕ, ◌<◌, List, [], ◌∷◌, get_
 use Rattle.std.specs.Int.{w64, from_be_bytes}
 use denote.Ref.{Bor}
 use Rattle.wu_parts.specs.declared.chains.Chain.{Chain}
-use Rattle.wu_parts.specs.Chains.{Chained, lent}
+use Rattle.wu_parts.specs.Chains.{Chained}
 
 -- the first eight bytes, the first one highest, and zeros behind a shorter term
 abbrev pub number_of : List ℕ → ℕ
@@ -19,7 +19,7 @@ abbrev pub Numbered : Type 0
 Numbered = ℕ × (Bor (List ℕ) × Chain)
 
 abbrev pub behind : Numbered → Chained
-behind entry = lent entry.1
+behind entry = (entry.1.0.now, entry.1.1)
 
 pub record IsNumbered (entry : Numbered) : Type 0 where
   pub number : entry.0 ≡ number_of entry.1.0.now

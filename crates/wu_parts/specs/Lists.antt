@@ -1,7 +1,7 @@
 -- Lists of addresses by term, and what puts a posting into them.
-use Rattle.std.specs.Prelude.{ℕ, ◌+◌, ◌<◌, ◌≤◌, if◌then◌else◌, List, [], ◌∷◌, ◌++◌, length, nat_eq}
+use Rattle.std.specs.Prelude.{ℕ, ◌+◌, ◌<◌, if◌then◌else◌, List, [], ◌∷◌, ◌++◌, length, nat_eq}
 use Rattle.std.specs.Cmp.Lexicographic.{pointwise}
-use Rattle.wu_base.specs.declared.addresses.Range.{Range}
+use Rattle.wu_lists.specs.Ascending.{AscendBetween}
 use Rattle.wu_token.specs.Words.{IsTerm}
 use Rattle.wu_parts.specs.Memory.{Lists, Memory}
 
@@ -23,18 +23,8 @@ abbrev pub with_terms : Memory → ℕ → List (List ℕ) → Memory
 with_terms memory start [] = memory
 with_terms memory start (term ∷ terms) = with_terms (with_posting memory start term) (start + 1) terms
 
--- the addresses ascend strictly, none below the low one, and all below the high one
-abbrev pub AscendBetween : ℕ → ℕ → List ℕ → Type 0
-AscendBetween low high [] = low ≤ high
-AscendBetween low high (address ∷ addresses) = (low ≤ address) × AscendBetween (address + 1) high addresses
-
 -- a term, and the addresses at which it stands, one or more
 pub record IsList (end : ℕ) (list : List ℕ × List ℕ) : Type 0 where
   pub term : IsTerm list.0
   pub filled : 0 < length list.1
   pub ascend : AscendBetween 0 end list.1
-
--- from low on, each frame ends before the next one starts, and the last one by high
-abbrev pub AreInOrder : ℕ → ℕ → List Range → Type 0
-AreInOrder low high [] = low ≤ high
-AreInOrder low high (frame ∷ frames) = (low ≤ frame.start) × AreInOrder (frame.start + frame.len) high frames

@@ -1,6 +1,6 @@
 -- The lists of the live postings in memory, and what makes lists a part.
 use Rattle.std.specs.Prelude.{ℕ, List, Bool, nat_lt, length, map, filter}
-use Rattle.std.specs.List.{AllByRecursion, IsDistinct, flat_map}
+use Rattle.std.specs.List.{IsDistinct, flat_map}
 use Rattle.std.specs.List.Sorted.{IsStrictlySortedBy}
 use Rattle.std.specs.Prelude.{eqb}
 use Rattle.std.specs.Cmp.Lexicographic.{slice_cmp}
@@ -8,7 +8,6 @@ use Rattle.std.specs.Ordering.{nat_cmp}
 use Rattle.wu_base.specs.declared.addresses.Range.{Range}
 use Rattle.wu_base.specs.declared.addresses.TermList.{TermList}
 use Rattle.wu_layout.specs.Postings.{is_live}
-use Rattle.wu_part.specs.Parts.{IsList}
 use Rattle.wu_parts.specs.Memory.{Lists}
 
 -- a term at those of its addresses that are live
@@ -22,8 +21,7 @@ has_addresses list = nat_lt 0 (length list.at)
 abbrev pub live_lists : List Range → Lists → List TermList
 live_lists live lists = filter has_addresses (map (live_list live) lists)
 
--- lists that a part can be made of
+-- lists that a part can be made of, where each of them can be written
 pub record AreEncodable (lists : List TermList) : Type 0 where
-  pub each : AllByRecursion IsList lists
   pub ascending : IsStrictlySortedBy (slice_cmp nat_cmp) (map (λ list. list.term) lists)
   pub distinct : IsDistinct eqb (flat_map (λ list. list.at) lists)

@@ -1,5 +1,5 @@
 -- What is read of parts that are opened, and what is kept of them then. Of each the header and the directory are read, and no block.
-use Rattle.std.specs.Prelude.{◌≡◌, ◌⊎◌, ⊤, ℕ, ◌+◌, ◌<◌, ◌≤◌, ◌^◌, List, [], ◌∷◌, ◌++◌, length, take, Option, None, Some, IfSome}
+use Rattle.std.specs.Prelude.{◌≡◌, ◌⊎◌, ⊤, ℕ, ◌+◌, ◌<◌, ◌≤◌, ◌^◌, List, [], ◌∷◌, length, take, Option, None, Some, IfSome}
 use Rattle.std.specs.List.{AllByRecursion}
 use Rattle.lru.specs.LruCache.{lru_cache}
 use Rattle.wu_base.specs.declared.addresses.PartRec.{PartRec}

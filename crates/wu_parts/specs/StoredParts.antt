@@ -19,7 +19,7 @@ use Rattle.wu_lists.specs.Keeping.{Kept}
 use Rattle.wu_parts.specs.Contents.{JobAt}
 use Rattle.wu_parts.specs.Flushing.{Told, put_into}
 use Rattle.wu_parts.specs.Holdings.{AreKept, HoldParts}
-use Rattle.wu_parts.specs.Lists.{AscendBetween}
+use Rattle.wu_lists.specs.Ascending.{AscendBetween}
 use Rattle.wu_parts.specs.Units.{IsRunning, bares, count_of, parts_at, place_of}
 
 abbrev pub records_of : List StoredPart → List PartRec

@@ -1,12 +1,17 @@
 //! Chains of places. Each posting has a place, counted from 0, and all terms share one vector of links: at each place there is
 //! the place before it of the same term. A new posting appends a link, and changes none.
 ghost use Rattle.std.specs.Prelude.{◌≡◌, ◌+◌, ◌^◌, ◌<◌, ◌≤◌, ◌∷◌, ◌++◌, [], length, filter, nat_le, reverse, IfOk, OnOk, OnErr};
-ghost use Rattle.wu_parts.specs.Lists.{AscendBetween, with_address};
+ghost use Rattle.std.specs.Vec.{vec_capacity, vec_len};
+ghost use Rattle.wu_lists.specs.Ascending.{AscendBetween};
+ghost use Rattle.wu_parts.specs.Lists.{with_address};
 ghost use Rattle.wu_parts.specs.Chains.{AreChains, lists_of, moved, places_of};
 
 use indexmap::IndexMap;
 use std::alloc::Global;
 use wu_base::{ADDRESSES_MAX, NoMemory};
+
+/// By how many links the room for them grows at least.
+const LEAST_GROWTH: usize = 1024;
 
 /// The places of one term: the newest one, and how many there are. The link at the first one is never
 /// followed.
@@ -63,7 +68,7 @@ pub(crate) fn put(
     let place = next_place(links.len())?;
     match chains.get_mut(term) {
         Some(chain) => {
-            links.push(chain.newest)?;
+            push_link(links, chain.newest)?;
             *chain = chain.with(place);
             Ok(())
         }
@@ -72,12 +77,37 @@ pub(crate) fn put(
                 newest: place,
                 count: 1,
             };
-            links.reserve(1)?;
+            make_room(links)?;
             chains.insert(Vec::from_slice(alloc, term)?, first)?;
             links.push(place)?;
             Ok(())
         }
     }
+}
+
+/// Appends the link. Out of memory, the links are as they were.
+#[inline]
+fn push_link(links: &mut Vec<u32>, link: u32) -> Result<(), NoMemory>
+    ensures ok { OnOk result (links.new.items ≡ links.old.items ++ link ∷ []) }
+    ensures err { OnErr result (links.new.items ≡ links.old.items) }
+{
+    make_room(links)?;
+    links.push(link)?;
+    Ok(())
+}
+
+/// Makes room for one more link. It grows by a quarter at a time, since most of memory is links, and half of them may
+/// stay unused where it is doubled. Out of memory, the room is as it was.
+#[inline]
+fn make_room(links: &mut Vec<u32>) -> Result<(), NoMemory>
+    ensures items { links.new.items ≡ links.old.items }
+    ensures room { OnOk result (vec_len links.new + 1 ≤ vec_capacity links.new) }
+{
+    if links.len() < links.capacity() {
+        return Ok(());
+    }
+    links.reserve_exact(links.len() / 4 + LEAST_GROWTH)?;
+    Ok(())
 }
 
 /// The place after so many.

@@ -1,4 +1,4 @@
-//! What a flush makes of memory: the lists of its live postings, by the bytes of their terms.
+//! What a flush makes of memory: the lists of its live postings, by the bytes of their terms, each written as it is cut.
 ghost use Rattle.std.specs.Prelude.{◌≡◌, ◌+◌, ◌-◌, ◌^◌, ◌≤◌, ◌++◌, ◌∷◌, ◌<◌, ℕ, [], true, IfOk, IsPermutation, IsTrue, OnOk, filter, get_or, length, map, nat_eq};
 ghost use Rattle.std.specs.List.{AllByRecursion, IsDistinct};
 ghost use Rattle.std.specs.List.Sorted.{IsStrictlySortedBy};
@@ -6,30 +6,36 @@ ghost use Rattle.std.specs.Cmp.Lexicographic.{pointwise, slice_cmp};
 ghost use Rattle.std.specs.Map.{keys_of};
 ghost use Rattle.std.specs.Ordering.{nat_cmp};
 ghost use Rattle.wu_layout.specs.Postings.{is_live};
-ghost use Rattle.wu_parts.specs.Lists.{AscendBetween, AreInOrder};
-ghost use Rattle.wu_parts.specs.Chains.{addressed, chained, lent, places_of};
+ghost use Rattle.wu_lists.specs.Ascending.{AscendBetween, AreInOrder};
+ghost use Rattle.wu_parts.specs.Chains.{addressed, chained, places_of};
 ghost use Rattle.wu_parts.specs.LeadingBytes.{IsBytes, IsNumbered, behind, number_of};
 ghost use Rattle.wu_parts.specs.LiveLists.{live_lists};
+ghost use Rattle.wu_token.specs.Words.{IsTerm};
 
 use crate::chains::{Chain, addresses_from};
-use crate::galloping::within_frames;
+use crate::galloping::{first_start, within_frames};
 use indexmap::IndexMap;
 use std::alloc::Global;
 use wu_base::{ADDRESSES_MAX, Bytes, NoMemory, Range, Sequence, TermList};
+use wu_part::Builder;
 
-/// The terms with their chains, by the terms' bytes.
+/// How many bytes are reserved for each posting of a new part: mostly enough, where what a posting takes hangs on the
+/// distance to the one before it of its term.
+const POSTING_BYTES: usize = 2;
+
+/// The terms with their chains, each behind the number of its first bytes, by the terms' bytes.
 pub(crate) fn by_term(
     alloc: Global,
     chains: &IndexMap<Vec<u8>, Chain>,
-) -> Result<Vec<(&[u8], Chain)>, NoMemory>
-    ensures entries { IfOk result (λ entries. IsPermutation (map chained chains.now.entries) (map lent entries.items)) }
-    ensures ascending { IfOk result (λ entries. IsStrictlySortedBy (slice_cmp nat_cmp) (keys_of (map lent entries.items))) }
+) -> Result<Vec<(u64, (&[u8], Chain))>, NoMemory>
+    ensures entries { IfOk result (λ entries. IsPermutation (map chained chains.now.entries) (map behind entries.items)) }
+    ensures ascending { IfOk result (λ entries. IsStrictlySortedBy (slice_cmp nat_cmp) (keys_of (map behind entries.items))) }
     ensures distinct { OnOk result (IsDistinct (pointwise nat_eq) (keys_of (map chained chains.now.entries))) }
 {
-    let mut numbered = in_map_order(alloc, chains)?;
+    let mut entries = in_map_order(alloc, chains)?;
     // Numbers are compared at once. Only terms that share theirs are compared by all of their bytes.
-    numbered.sort_unstable_by_key(|entry| (entry.0, entry.1.0));
-    without_numbers(alloc, &numbered)
+    entries.sort_unstable_by_key(|entry| (entry.0, entry.1.0));
+    Ok(entries)
 }
 
 /// The terms with their chains, in the order of the map, each behind the number of its first bytes.
@@ -45,20 +51,6 @@ fn in_map_order(
     for (term, chain) in chains.iter() {
         let term = term.as_slice();
         entries.push((leading(term), (term, *chain)))?;
-    }
-    Ok(entries)
-}
-
-/// The terms with their chains.
-fn without_numbers<'a>(
-    alloc: Global,
-    numbered: &[(u64, (&'a [u8], Chain))],
-) -> Result<Vec<(&'a [u8], Chain)>, NoMemory>
-    ensures { IfOk result (λ entries. map lent entries.items ≡ map behind numbered.now) }
-{
-    let mut entries = Vec::with_capacity(alloc, numbered.len())?;
-    for entry in numbered {
-        entries.push(entry.1)?;
     }
     Ok(entries)
 }
@@ -91,25 +83,28 @@ fn byte_at(term: &[u8], place: usize) -> u8
     }
 }
 
-/// The lists of these terms at the live addresses, without the terms that stand at none. The places of the
-/// chains have the addresses from `start` on. Where all of these are live, none is looked up.
+/// The lists of these terms at the live addresses, without the terms that stand at none: each is written and dropped
+/// before the next one is cut. The places of the chains have the addresses from `start` on. Where all of these are
+/// live, none is looked up.
 pub(crate) fn cut_to_live(
     alloc: Global,
-    entries: &[(&[u8], Chain)],
+    entries: &[(u64, (&[u8], Chain))],
     links: &[u32],
     start: u64,
     live: &[Range],
-) -> Result<Vec<TermList>, NoMemory>
-    requires chains { AllByRecursion (λ e. AscendBetween 0 (length links.now) (places_of links.now e.1)) entries.now }
+) -> Result<Builder, NoMemory>
+    requires terms { AllByRecursion (λ e. IsTerm e.1.0.now) entries.now }
+    requires chains { AllByRecursion (λ e. AscendBetween 0 (length links.now) (places_of links.now e.1.1)) entries.now }
     requires bounded { start + length links.now ≤ ADDRESSES_MAX }
     requires order { AreInOrder 0 (2 ^ 64 - 1) live.now }
-    ensures { IfOk result (λ lists. lists.items ≡ live_lists live.now (map (addressed start links.now) (map lent entries.now))) }
+    ensures { IfOk result (λ lists. lists.lists ≡ live_lists live.now (map (addressed start links.now) (map behind entries.now))) }
 {
     let all_live = are_covered(start, start + links.len() as u64, live);
-    let mut lists = Vec::with_capacity(alloc, entries.len())?;
+    let low = start.max(first_start(live));
+    let mut lists = Builder::with_room(alloc, low, links.len() * POSTING_BYTES)?;
     for entry in entries {
-        let addresses = addresses_from(alloc, entry.1, links, start, 0)?;
-        put_live(alloc, &mut lists, entry.0, addresses, live, all_live)?;
+        let addresses = addresses_from(alloc, entry.1.1, links, start, 0)?;
+        put_live(alloc, &mut lists, entry.1.0, addresses, live, all_live)?;
     }
     Ok(lists)
 }
@@ -129,26 +124,30 @@ fn are_covered(start: u64, end: u64, ranges: &[Range]) -> bool
     end <= reached
 }
 
-/// Puts the list of the term at those of the addresses that are live at the end, if there are any.
+/// Adds the list of the term at those of the addresses that are live, if there are any.
 fn put_live(
     alloc: Global,
-    lists: &mut Vec<TermList>,
+    lists: &mut Builder,
     term: &[u8],
     addresses: Vec<u64>,
     live: &[Range],
     all_live: bool,
 ) -> Result<(), NoMemory>
-    requires ascend { AscendBetween 0 (2 ^ 64 - 1) addresses.items }
+    requires term { IsTerm term.now }
+    requires ascend { AscendBetween 0 ADDRESSES_MAX addresses.items }
     requires order { AreInOrder 0 (2 ^ 64 - 1) live.now }
     requires all { IsTrue all_live → AllByRecursion (λ address. is_live live.now address ≡ true) addresses.items }
-    ensures { OnOk result (lists.new.items ≡ lists.old.items ++ live_lists live.now ((term.now, addresses.items) ∷ [])) }
+    requires low { AllByRecursion (λ address. is_live live.now address ≡ true → lists.old.low ≤ address) addresses.items }
+    ensures { OnOk result (lists.new ≡ record lists.old {
+      lists = lists.old.lists ++ live_lists live.now ((term.now, addresses.items) ∷ []);
+    }) }
 {
     let at = live_among(alloc, addresses, live, all_live)?;
     if at.is_empty() {
         return Ok(());
     }
     let term = Bytes::from_slice(alloc, term)?;
-    lists.push(TermList { term, at })?;
+    lists.add(&TermList { term, at })?;
     Ok(())
 }
 

@@ -1,16 +1,14 @@
 //! Ascending addresses, cut to frames, both walked side by side by galloping: J. L. Bentley and A. C. Yao, An almost
 //! optimal algorithm for unbounded searching, 1976.
-ghost use Rattle.std.specs.Prelude.{◌≡◌, ◌+◌, ◌-◌, ◌^◌, ◌<◌, ◌≤◌, ◌++◌, filter, length, take, drop, nat_le, IfOk};
+ghost use Rattle.std.specs.Prelude.{◌≡◌, ◌+◌, ◌-◌, ◌^◌, ◌<◌, ◌≤◌, ◌++◌, filter, length, take, drop, nat_le, IfOk, OnOk};
 ghost use Rattle.std.specs.List.{AllByRecursion};
 ghost use Rattle.wu_layout.specs.Postings.{is_live};
-ghost use Rattle.wu_parts.specs.Lists.{AscendBetween, AreInOrder};
+ghost use Rattle.wu_lists.specs.Ascending.{AscendBetween, AreInOrder};
 
 use std::alloc::Global;
 use wu_base::{NoMemory, Range, Sequence};
 
-/// The addresses that lie in one of the frames. Takes a number of steps that is at most that of the
-/// addresses, and at most that of the frames, each of time logarithmic in what it passes over, and time
-/// for the result.
+/// The addresses that lie in one of the frames. Takes the time that [`put_within`] tells.
 pub(crate) fn within_frames(
     alloc: Global,
     addresses: &[u64],
@@ -21,6 +19,22 @@ pub(crate) fn within_frames(
     ensures { IfOk result (λ found. found ≡ filter (is_live frames.now) addresses.now) }
 {
     let mut found = Vec::new(alloc);
+    put_within(&mut found, addresses, frames)?;
+    Ok(Sequence::from(found))
+}
+
+/// Appends the addresses that lie in one of the frames. Takes a number of steps that is at most that of the
+/// addresses, and at most that of the frames, each of time logarithmic in what it passes over, and time for
+/// what it appends. Out of memory, some may have been appended.
+pub(crate) fn put_within(
+    found: &mut Vec<u64>,
+    addresses: &[u64],
+    frames: &[Range],
+) -> Result<(), NoMemory>
+    requires ascend { AscendBetween 0 (2 ^ 64 - 1) addresses.now }
+    requires order { AreInOrder 0 (2 ^ 64 - 1) frames.now }
+    ensures { OnOk result (found.new.items ≡ found.old.items ++ filter (is_live frames.now) addresses.now) }
+{
     let mut rest = addresses;
     let mut left = frames;
     while let [frame, later @ ..] = left {
@@ -30,7 +44,7 @@ pub(crate) fn within_frames(
         rest = after;
         left = frames_for(later, after);
     }
-    Ok(Sequence::from(found))
+    Ok(())
 }
 
 /// An address such that none below it lies in a frame: where the first one starts.
@@ -45,6 +59,7 @@ pub(crate) fn first_start(frames: &[Range]) -> u64
 }
 
 /// The addresses below the limit, and the others. Takes time logarithmic in the number of those below.
+#[inline]
 fn split_below(addresses: &[u64], limit: u64) -> (&[u64], &[u64])
     requires ascend { AscendBetween 0 (2 ^ 64 - 1) addresses.now }
     requires limit { limit ≤ 2 ^ 64 - 1 }
@@ -56,6 +71,7 @@ fn split_below(addresses: &[u64], limit: u64) -> (&[u64], &[u64])
 }
 
 /// How many of the addresses are below the limit.
+#[inline]
 fn count_below(addresses: &[u64], limit: u64) -> usize
     requires { AscendBetween 0 (2 ^ 64 - 1) addresses.now }
     ensures within { result ≤ length addresses.now }
@@ -66,24 +82,26 @@ fn count_below(addresses: &[u64], limit: u64) -> usize
     addresses[..end].partition_point(|address| *address < limit)
 }
 
-/// At most twice as many of the first addresses as are below the limit, or one: none of the others is.
+/// At most twice as many of the first addresses as are below the limit: none of the others is.
+#[inline]
 fn reach_of_limit(addresses: &[u64], limit: u64) -> usize
     requires { AscendBetween 0 (2 ^ 64 - 1) addresses.now }
     ensures within { result ≤ length addresses.now }
     ensures others { AllByRecursion (λ address. limit ≤ address) (drop result addresses.now) }
 {
-    let mut end = 1;
+    let mut end = 0;
     while end < addresses.len() {
         if addresses[end] >= limit {
             return end;
         }
-        end *= 2;
+        end = 2 * end + 1;
     }
     addresses.len()
 }
 
 /// The frames without those first ones that end before the first of the addresses; none where no address
 /// is left. Takes time logarithmic in the number of those that it leaves out.
+#[inline]
 fn frames_for<'a>(frames: &'a [Range], addresses: &[u64]) -> &'a [Range]
     requires order { AreInOrder 0 (2 ^ 64 - 1) frames.now }
     requires ascend { AscendBetween 0 (2 ^ 64 - 1) addresses.now }
@@ -98,6 +116,7 @@ fn frames_for<'a>(frames: &'a [Range], addresses: &[u64]) -> &'a [Range]
 }
 
 /// How many of the frames end before the address or at it.
+#[inline]
 fn count_ended(frames: &[Range], address: u64) -> usize
     requires { AreInOrder 0 (2 ^ 64 - 1) frames.now }
     ensures within { result ≤ length frames.now }
@@ -108,24 +127,25 @@ fn count_ended(frames: &[Range], address: u64) -> usize
     frames[..end].partition_point(|frame| has_ended(frame, address))
 }
 
-/// At most twice as many of the first frames as end before the address or at it, or one: none of the
-/// others does.
+/// At most twice as many of the first frames as end before the address or at it: none of the others does.
+#[inline]
 fn reach_of_ended(frames: &[Range], address: u64) -> usize
     requires { AreInOrder 0 (2 ^ 64 - 1) frames.now }
     ensures within { result ≤ length frames.now }
     ensures others { AllByRecursion (λ frame. address < frame.start + frame.len) (drop result frames.now) }
 {
-    let mut end = 1;
+    let mut end = 0;
     while end < frames.len() {
         if !has_ended(&frames[end], address) {
             return end;
         }
-        end *= 2;
+        end = 2 * end + 1;
     }
     frames.len()
 }
 
 /// Whether the address is after all of the frame's.
+#[inline]
 fn has_ended(frame: &Range, address: u64) -> bool
     ensures { result ≡ nat_le (frame.now.start + frame.now.len) address }
 {

@@ -1,5 +1,5 @@
 //! Postings in memory.
-ghost use Rattle.std.specs.Prelude.{◌≡◌, ℕ, List, [], ◌+◌, ◌^◌, ◌<◌, ◌≤◌, All, length, map, filter, OnOk, OnErr, IfOk};
+ghost use Rattle.std.specs.Prelude.{◌≡◌, ℕ, List, [], ◌+◌, ◌++◌, ◌^◌, ◌<◌, ◌≤◌, All, length, map, filter, OnOk, OnErr, IfOk};
 ghost use Rattle.wu_layout.specs.Layouts.{lists_of};
 ghost use Rattle.wu_layout.specs.Postings.{Posting, is_live, live_of};
 ghost use Rattle.wu_space.specs.Addresses.{AreApart};
@@ -7,16 +7,18 @@ ghost use Rattle.wu_token.specs.Words.{IsTerm};
 ghost use Rattle.wu_token.specs.Tokens.{tokens_of};
 ghost use Rattle.wu_token.specs.Pieces.{line_terms, piece_of};
 ghost use Rattle.wu_parts.specs.Memory.{HasPostings, emptied, held, no_postings};
-ghost use Rattle.wu_parts.specs.Lists.{AscendBetween, with_posting, with_terms};
+ghost use Rattle.wu_lists.specs.Ascending.{AscendBetween};
+ghost use Rattle.wu_parts.specs.Lists.{with_posting, with_terms};
 ghost use Rattle.wu_parts.specs.LiveLists.{AreEncodable};
 
 use crate::chains::{Chain, addresses_from, put};
 use crate::flushing::{by_term, cut_to_live};
-use crate::galloping::{first_start, within_frames};
+use crate::galloping::{first_start, put_within};
 use indexmap::IndexMap;
 use std::alloc::Global;
 use std::marker::Model;
-use wu_base::{ADDRESSES_MAX, NoMemory, Range, Sequence, TEXT_MAX, TermList};
+use wu_base::{ADDRESSES_MAX, NoMemory, Range, Sequence, TEXT_MAX};
+use wu_part::Builder;
 use wu_space::Space;
 use wu_token::{FILE_END, FILE_START, LINE_END, LINE_START, Lines, Piece, Token, Word};
 
@@ -172,12 +174,12 @@ impl MemoryPostings {
         Ok(())
     }
 
-    /// The lists of the live postings, by the bytes of their terms: those of a part. Each posting that stands at
-    /// a dead address is left out.
-    pub(crate) fn live_lists(&self, space: &Space) -> Result<Vec<TermList>, NoMemory>
+    /// The lists of the live postings, by the bytes of their terms: those of a part, which is being built of them. Each
+    /// posting that stands at a dead address is left out.
+    pub(crate) fn live_lists(&self, space: &Space) -> Result<Builder, NoMemory>
         ensures lists { IfOk result (λ lists. (low high : ℕ) (postings : List Posting) → HasPostings low high self.now postings
-            → lists.items ≡ lists_of (live_of (map (λ file. file.1) space.now.ranges) postings)) }
-        ensures encodable { IfOk result (λ lists. AreEncodable lists.items) }
+            → lists.lists ≡ lists_of (live_of (map (λ file. file.1) space.now.ranges) postings)) }
+        ensures encodable { IfOk result (λ lists. AreEncodable lists.lists) }
         ensures has { (postings : List Posting) × HasPostings self.now.low self.now.end self.now postings }
         ensures bounded { self.now.end ≤ ADDRESSES_MAX }
     {
@@ -206,13 +208,30 @@ impl MemoryPostings {
         ensures addresses { IfOk result (λ found. found ≡ filter (is_live frames.now) (held self.now term.now)) }
         ensures ascend { IfOk result (AscendBetween self.now.low self.now.end) }
     {
+        let mut found = Vec::new(self.alloc);
+        self.fetch_into(term, frames, &mut found)?;
+        Ok(Sequence::from(found))
+    }
+
+    /// Appends the addresses that [`MemoryPostings::fetch`] gives. Out of memory, some may have been appended.
+    pub(crate) fn fetch_into(
+        &self,
+        term: &[u8],
+        frames: &[Range],
+        found: &mut Vec<u64>,
+    ) -> Result<(), NoMemory>
+        requires apart { AreApart frames.now }
+        requires bounded { All (λ frame. frame.start + frame.len ≤ ADDRESSES_MAX) frames.now }
+        ensures addresses { OnOk result (found.new.items ≡ found.old.items ++ filter (is_live frames.now) (held self.now term.now)) }
+        ensures ascend { AscendBetween self.now.low self.now.end (filter (is_live frames.now) (held self.now term.now)) }
+    {
         match self.chains.get(term) {
             Some(chain) => {
                 let low = first_start(frames);
-                let found = addresses_from(self.alloc, *chain, &self.before, self.start, low)?;
-                within_frames(self.alloc, &found, frames)
+                let addresses = addresses_from(self.alloc, *chain, &self.before, self.start, low)?;
+                put_within(found, &addresses, frames)
             }
-            None => Ok(Sequence::new(self.alloc)),
+            None => Ok(()),
         }
     }
 }

@@ -25,7 +25,7 @@ ghost use Rattle.wu_parts.specs.StoredParts.{records_of};
 
 use crate::loading::{end_of, open_parts};
 use crate::memory::MemoryPostings;
-use crate::reading::fetch_from_parts;
+use crate::reading::{fetch_from_parts, touch_parts};
 use crate::working::{Running, next_job, start, take_out};
 use crate::writing::{StoredPart, put_bytes, put_part};
 use std::alloc::Global;
@@ -207,9 +207,37 @@ impl Parts {
             term,
             frames,
         )?;
-        let in_memory = self.memory.fetch(term, frames)?;
-        found.extend_from_slice(in_memory.as_slice())?;
+        self.memory.fetch_into(term, frames, &mut found)?;
         Ok(Sequence::from(found))
+    }
+
+    /// Asks for the blocks of the term that the frames need in the parts, from left to right, as [`Parts::fetch`]
+    /// does, and gives no addresses: for a caller who knows them and owes the reads. Memory isn't asked.
+    ///
+    /// A part is damaged where [`Parts::fetch`] would find it so.
+    pub fn touch<D: Store>(
+        &mut self,
+        store: &mut D,
+        term: &[u8],
+        frames: &[Range],
+    ) -> Result<(), Trouble>
+        requires apart { AreApart frames.now }
+        requires bounded { All (λ frame. frame.start + frame.len ≤ ADDRESSES_MAX) frames.now }
+        ensures blocks { OnOk result (Asks (all_needed (zip self.old.parts self.old.directories) term.now frames.now) (D.holds store.old)
+            self.old.kept self.new.kept (D.reads store.old) (D.reads store.new)) }
+        ensures others { self.new ≡ record self.old { kept = self.new.kept } }
+
+        ensures holds { D.holds store.new ≡ D.holds store.old }
+        ensures moments { D.moments store.new ≡ D.moments store.old }
+        ensures calm { OnOk result (D.faults store.new ≡ D.faults store.old) }
+        ensures cause { IfErr result (IsFetchCause (zip self.old.parts self.old.directories)
+            (all_missing self.old.kept.cap (keys_of self.old.kept.entries)
+            (all_needed (zip self.old.parts self.old.directories) term.now frames.now))
+            (D.holds store.old) (D.faults store.old) (D.faults store.new) (D.reads store.old) (D.reads store.new)) }
+    {
+        let parts = self.parts.as_slice();
+        touch_parts(store, &mut self.lists, parts, term, frames)?;
+        Ok(())
     }
 
     /// Makes a part of the live postings in memory, right of all others, and forgets memory: the dead ones are
@@ -236,7 +264,7 @@ impl Parts {
         ensures cause { IfErr result (IsStoreCause (D.faults store.old) (D.faults store.new)) }
     {
         let _untouched = &*store;
-        let lists = self.memory.live_lists(space)?;
+        let mut lists = self.memory.live_lists(space)?;
         if lists.is_empty() {
             self.memory.clear();
             return Ok(());
@@ -244,7 +272,7 @@ impl Parts {
         self.parts.reserve(1)?;
         let blob = self.next_blob;
         self.next_blob = blob + 1;
-        let part = put_part(self.alloc, store, blob, &lists)?;
+        let part = put_part(self.alloc, store, blob, &mut lists)?;
         self.parts.push(part)?;
         self.flushes += 1;
         self.memory.clear();

@@ -39,8 +39,40 @@ pub(crate) fn fetch_from_parts<D: Store>(
 {
     let mut found = Vec::new(alloc);
     for part in parts {
-        let more = lists.fetch(store, part.recorded.blob, &part.directory, term, frames)?;
-        found.extend_from_slice(more.as_slice())?;
+        lists.fetch_into(
+            store,
+            part.recorded.blob,
+            &part.directory,
+            term,
+            frames,
+            &mut found,
+        )?;
     }
     Ok(found)
+}
+
+/// Asks for the blocks of the term that the frames need in the parts, from left to right, and gives no
+/// addresses.
+pub(crate) fn touch_parts<D: Store>(
+    store: &mut D,
+    lists: &mut Lists,
+    parts: &[StoredPart],
+    term: &[u8],
+    frames: &[Range],
+) -> Result<(), Trouble>
+    requires apart { AreApart frames.now }
+    requires bounded { All (λ frame. frame.start + frame.len ≤ ADDRESSES_MAX) frames.now }
+    ensures blocks { OnOk result (Asks (all_needed (pairs_of parts.now) term.now frames.now) (D.holds store.old) lists.old lists.new
+        (D.reads store.old) (D.reads store.new)) }
+    ensures holds { D.holds store.new ≡ D.holds store.old }
+    ensures moments { D.moments store.new ≡ D.moments store.old }
+    ensures calm { OnOk result (D.faults store.new ≡ D.faults store.old) }
+    ensures cause { IfErr result (IsFetchCause (pairs_of parts.now)
+        (all_missing lists.old.cap (keys_of lists.old.entries) (all_needed (pairs_of parts.now) term.now frames.now))
+        (D.holds store.old) (D.faults store.old) (D.faults store.new) (D.reads store.old) (D.reads store.new)) }
+{
+    for part in parts {
+        lists.touch(store, part.recorded.blob, &part.directory, term, frames)?;
+    }
+    Ok(())
 }

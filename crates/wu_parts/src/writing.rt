@@ -9,9 +9,9 @@ ghost use Rattle.wu_parts.specs.LiveLists.{AreEncodable};
 ghost use Rattle.wu_parts.specs.StoredParts.{IsPut, IsPutAs};
 
 use std::alloc::Global;
-use wu_base::{NoMemory, PartRec, TermList, Trouble};
+use wu_base::{NoMemory, PartRec, Trouble};
 use wu_outside::Store;
-use wu_part::{Directory, HEADER_LEN, encode, read_directory, read_header};
+use wu_part::{Builder, Directory, HEADER_LEN, read_directory, read_header};
 
 /// What is kept of a part in the store: its record and its directory.
 #[derive(Drop)]
@@ -20,17 +20,17 @@ pub(crate) struct StoredPart {
     pub(crate) directory: Directory,
 }
 
-/// Makes a part of generation 0 of the lists, and puts it into the blob. Nothing is read. The errors are out
+/// Makes a part of generation 0 of the lists that were added, and puts it into the blob. Nothing is read. The errors are out
 /// of memory and a fault of the store; only that blob may differ then.
 pub(crate) fn put_part<D: Store>(
     alloc: Global,
     store: &mut D,
     blob: u64,
-    lists: &[TermList],
+    lists: &mut Builder,
 ) -> Result<StoredPart, Trouble>
-    requires some { 0 < length lists.now }
-    requires lists { AreEncodable lists.now }
-    ensures put { IfOk result (λ part. IsPut lists.now blob part.recorded part.directory
+    requires some { 0 < length lists.old.lists }
+    requires lists { AreEncodable lists.old.lists }
+    ensures put { IfOk result (λ part. IsPut lists.old.lists blob part.recorded part.directory
         (D.holds store.old, D.moments store.old) (D.holds store.new, D.moments store.new)) }
     ensures elsewhere { (written : Option (List ℕ)) × MayDo (with_blob blob written) (D.holds store.old) (D.holds store.new) }
     ensures tried { (written : Option (List ℕ))
@@ -39,7 +39,7 @@ pub(crate) fn put_part<D: Store>(
     ensures calm { OnOk result (D.faults store.new ≡ D.faults store.old) }
     ensures cause { IfErr result (IsStoreCause (D.faults store.old) (D.faults store.new)) }
 {
-    let bytes = encode(alloc, lists, 0)?;
+    let bytes = lists.finish(0)?;
     Ok(put_bytes(alloc, store, blob, &bytes)?)
 }
 

@@ -1,5 +1,5 @@
 use Rattle.std.proofs.Common.{◌≡◌, ◌++◌, length, reverse}
-use Rattle.wu_parts.specs.Lists.{AscendBetween}
+use Rattle.wu_lists.specs.Ascending.{AscendBetween}
 use Rattle.wu_parts.specs.Chains.{places_of}
 use Rattle.wu_parts.proofs.Chaining.{from_low}
 use Rattle.wu_parts.proofs.chains.addresses_back_to.Given as goal

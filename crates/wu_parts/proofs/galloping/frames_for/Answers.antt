@@ -2,8 +2,8 @@ use Rattle.std.proofs.Common.{◌-◌, ◌^◌, List, filter, take, drop, get_or
 use Rattle.std.proofs.lemmas.List.{take-append-drop}
 use Rattle.wu_base.specs.declared.addresses.Range.{Range}
 use Rattle.wu_layout.specs.Postings.{is_live}
-use Rattle.wu_parts.proofs.Ascending.{ascend-first, order-drop}
-use Rattle.wu_parts.proofs.Cutting.{skip_frames}
+use Rattle.wu_lists.proofs.Ascending.{ascend-first, order-drop}
+use Rattle.wu_lists.proofs.Cutting.{skip_frames}
 use Rattle.wu_parts.proofs.galloping.frames_for.Goals as goal
 
 pub returns-in-len1-up-clause-order : goal.returns-in-len1-up-clause-order

@@ -1,7 +1,7 @@
 use Rattle.std.proofs.Common.{◌-◌, ◌^◌, ◌≡◌, false, ◌∙◌, sym, arith, rules}
 use Rattle.std.proofs.lemmas.Bool.{leb-false}
 use Rattle.wu_base.specs.declared.addresses.Range.{Range}
-use Rattle.wu_parts.proofs.Ascending.{ends_from_place}
+use Rattle.wu_lists.proofs.Ascending.{ends_from_place}
 use Rattle.wu_parts.proofs.galloping.reach_of_ended.Goals as goal
 
 pub returns-then-not-has_ended-clause-others : goal.returns-then-not-has_ended-clause-others

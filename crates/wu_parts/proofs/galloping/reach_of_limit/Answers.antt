@@ -1,5 +1,5 @@
 use Rattle.std.proofs.Common.{◌-◌, ◌^◌, arith}
-use Rattle.wu_parts.proofs.Ascending.{all_from_place}
+use Rattle.wu_lists.proofs.Ascending.{all_from_place}
 use Rattle.wu_parts.proofs.galloping.reach_of_limit.Goals as goal
 
 pub returns-then-addresses-end-clause-others : goal.returns-then-addresses-end-clause-others

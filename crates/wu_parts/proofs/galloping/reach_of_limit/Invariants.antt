@@ -1,8 +1,5 @@
-use Rattle.std.proofs.Common.{length, ◌-◌, ◌<◌}
+use Rattle.std.proofs.Common.{length, ◌-◌}
 use Rattle.wu_parts.proofs.galloping.reach_of_limit.Given as goal
-
-abbrev pub invariant-loop-end : goal.invariant-loop-end
-invariant-loop-end l = 0 < l.end
 
 abbrev pub decreases-loop-end : goal.decreases-loop-end
 decreases-loop-end l = length l.addresses - l.end

@@ -1,5 +1,5 @@
 use Rattle.std.proofs.Common.{◌-◌, ◌^◌, drop}
-use Rattle.wu_parts.proofs.Ascending.{ascend-from, ascend-drop}
+use Rattle.wu_lists.proofs.Ascending.{ascend-from, ascend-drop}
 use Rattle.wu_parts.proofs.galloping.split_below.Goals as goal
 
 pub returns-clause-others : goal.returns-clause-others

@@ -1,5 +1,5 @@
 use Rattle.std.proofs.Common.{◌≡◌, drop}
-use Rattle.wu_parts.proofs.Asking.{Leads}
+use Rattle.wu_parts.proofs.Asking.{Leads, LeadsTo}
 use Rattle.wu_parts.proofs.reading.fetch_from_parts.Given as goal
 
 abbrev pub invariant-loop-part : goal.invariant-loop-part
@@ -8,5 +8,6 @@ invariant-loop-part g l = record {
   moments : g.D.Store.moments l.store ≡ g.D.Store.moments l.fn.store;
   calm : g.D.Store.faults l.store ≡ g.D.Store.faults l.fn.store;
   leads : Leads l.parts (drop l.part-index l.parts) l.term l.frames (g.D.Store.holds l.fn.store) l.fn.lists l.lists
-      (g.D.Store.reads l.fn.store) (g.D.Store.reads l.store) l.found.items;
+      (g.D.Store.reads l.fn.store) (g.D.Store.reads l.store);
+  fetches : LeadsTo l.found.items l.parts (drop l.part-index l.parts) l.term l.frames (g.D.Store.holds l.fn.store) l.fn.lists l.lists;
 }

@@ -1,5 +1,4 @@
 use Rattle.std.proofs.Common.{◌≡◌, ℕ, ◌+◌, List, length, map, ap, sym, subst, ◌∙◌}
-use denote.Ref.{Bor}
 use Rattle.std.specs.Prelude.{IsPermutation}
 use Rattle.std.proofs.lemmas.Result.{IfOk-weaker}
 use Rattle.wu_base.specs.declared.addresses.Range.{Range}
@@ -7,11 +6,11 @@ use Rattle.wu_base.specs.declared.addresses.TermList.{TermList}
 use Rattle.wu_layout.specs.Layouts.{lists_of}
 use Rattle.wu_layout.specs.Postings.{Posting, live_of}
 use Rattle.wu_space.specs.Addresses.{live_ranges}
-use Rattle.wu_parts.specs.declared.chains.Chain.{Chain}
-use Rattle.wu_parts.specs.Chains.{addressed, lent}
+use Rattle.wu_parts.specs.Chains.{addressed}
+use Rattle.wu_parts.specs.LeadingBytes.{Numbered, behind}
 use Rattle.wu_parts.specs.LiveLists.{AreEncodable, live_lists}
 use Rattle.wu_parts.specs.Memory.{HasPostings, Memory}
-use Rattle.wu_parts.proofs.MemoryLists.{chains_ascend, lists_can_be_encoded, lists_made, live_in_order}
+use Rattle.wu_parts.proofs.MemoryLists.{chains_ascend, chains_terms, lists_can_be_encoded, lists_made, live_in_order}
 use Rattle.wu_parts.proofs.memory.MemoryPostings.live_lists.Goals as goal
 
 pub cut_to_live-requires-clause-chains : goal.cut_to_live-requires-clause-chains
@@ -20,21 +19,27 @@ cut_to_live-requires-clause-chains c =
     (chains_ascend c.self.inside.before.items c.self.inside.chains.entries c.in_ok-entries.entries.items c.self.invariant.chains
     c.in_ok-entries.ensures.entries)
 
+pub cut_to_live-requires-clause-terms : goal.cut_to_live-requires-clause-terms
+cut_to_live-requires-clause-terms c =
+    rw c.deref.ensures.value
+    (chains_terms c.self.inside.before.items c.self.inside.chains.entries c.in_ok-entries.entries.items c.self.invariant.chains
+    c.in_ok-entries.ensures.entries)
+
 pub cut_to_live-requires-clause-order : goal.cut_to_live-requires-clause-order
 cut_to_live-requires-clause-order c =
     rw c.deref-3.ensures.value
     (live_in_order c.args.space.now.next c.self.inside.start c.end.result c.args.space.now.ranges c.in_ok-live.live.items
     c.keeps_the_rules.ensures.small c.keeps_the_rules.ensures.live.given c.in_ok-live.ensures.ranges c.in_ok-live.ensures.ascending)
 
-abbrev made : ℕ → List Range → List ℕ → List (Bor (List ℕ) × Chain) → List TermList
-made start live links entries = live_lists live (map (addressed start links) (map lent entries))
+abbrev made : ℕ → List Range → List ℕ → List Numbered → List TermList
+made start live links entries = live_lists live (map (addressed start links) (map behind entries))
 
 pub returns-clause-lists : goal.returns-clause-lists
 returns-clause-lists c =
     let start : ℕ = c.self.inside.start in
     let links : List ℕ = c.self.inside.before.items in
     let live : List Range = c.in_ok-live.live.items in
-    let entries : List (Bor (List ℕ) × Chain) = c.in_ok-entries.entries.items in
+    let entries : List Numbered = c.in_ok-entries.entries.items in
     let same : made start c.deref-3.result.now c.deref-2.result.now c.deref.result.now ≡ made start live links entries =
     ap (λ (l : List Range). made start l c.deref-2.result.now c.deref.result.now) c.deref-3.ensures.value
     ∙ ap (λ (l : List ℕ). made start live l c.deref.result.now) c.deref-2.ensures.value
@@ -43,9 +48,9 @@ returns-clause-lists c =
     let met : IsPermutation (live_ranges c.args.space.now.ranges start (start + length links)) live =
     subst (λ (n : ℕ). IsPermutation (live_ranges c.args.space.now.ranges start n) live) end c.in_ok-live.ensures.ranges in
     IfOk-weaker c.cut_to_live.result
-    (λ lists. lists.items ≡ made start c.deref-3.result.now c.deref-2.result.now c.deref.result.now)
+    (λ lists. lists.lists ≡ made start c.deref-3.result.now c.deref-2.result.now c.deref.result.now)
     (λ lists. (low high : ℕ) (postings : List Posting) → HasPostings low high c.args.self.now postings
-    → lists.items ≡ lists_of (live_of (map (λ file. file.1) c.args.space.now.ranges) postings))
+    → lists.lists ≡ lists_of (live_of (map (λ file. file.1) c.args.space.now.ranges) postings))
     (λ lists e low high postings h.
     e ∙ same
     ∙ lists_made c.self.inside.low start c.self.inside.stored links c.self.inside.chains.entries entries live c.args.space.now.ranges
@@ -58,7 +63,7 @@ returns-clause-encodable c =
     let start : ℕ = c.self.inside.start in
     let links : List ℕ = c.self.inside.before.items in
     let live : List Range = c.in_ok-live.live.items in
-    let entries : List (Bor (List ℕ) × Chain) = c.in_ok-entries.entries.items in
+    let entries : List Numbered = c.in_ok-entries.entries.items in
     let same : made start c.deref-3.result.now c.deref-2.result.now c.deref.result.now ≡ made start live links entries =
     ap (λ (l : List Range). made start l c.deref-2.result.now c.deref.result.now) c.deref-3.ensures.value
     ∙ ap (λ (l : List ℕ). made start live l c.deref.result.now) c.deref-2.ensures.value
@@ -67,14 +72,14 @@ returns-clause-encodable c =
     let met : IsPermutation (live_ranges c.args.space.now.ranges start (start + length links)) live =
     subst (λ (n : ℕ). IsPermutation (live_ranges c.args.space.now.ranges start n) live) end c.in_ok-live.ensures.ranges in
     IfOk-weaker c.cut_to_live.result
-    (λ lists. lists.items ≡ made start c.deref-3.result.now c.deref-2.result.now c.deref.result.now)
-    (λ lists. AreEncodable lists.items)
+    (λ lists. lists.lists ≡ made start c.deref-3.result.now c.deref-2.result.now c.deref.result.now)
+    (λ lists. AreEncodable lists.lists)
     (λ lists e.
     subst AreEncodable (sym (e ∙ same))
     (lists_can_be_encoded c.self.inside.low start c.self.inside.stored links c.self.inside.chains.entries entries live
     c.args.space.now.ranges c.self.invariant.chains c.in_ok-entries.ensures.entries c.in_ok-entries.ensures.distinct
-    c.in_ok-entries.ensures.ascending met c.self.inside.low (start + length links) c.self.invariant.postings c.self.invariant.has
-    c.self.invariant.bounded))
+    c.in_ok-entries.ensures.ascending met c.self.inside.low (start + length links) c.self.invariant.postings
+    c.self.invariant.has))
     c.cut_to_live.ensures
 
 pub returns-clause-has : goal.returns-clause-has

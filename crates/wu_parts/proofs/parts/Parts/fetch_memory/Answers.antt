@@ -1,7 +1,7 @@
 use Rattle.std.specs.List.Sorted.{IsStrictlyIncreasing}
 use Rattle.std.proofs.lemmas.Result.{IfOk-weaker}
-use Rattle.wu_parts.specs.Lists.{AscendBetween}
-use Rattle.wu_parts.proofs.Ascending.{addresses_increase}
+use Rattle.wu_lists.specs.Ascending.{AscendBetween}
+use Rattle.wu_lists.proofs.Ascending.{addresses_increase}
 use Rattle.wu_parts.proofs.parts.Parts.fetch_memory.Goals as goal
 
 pub returns-clause-ascending : goal.returns-clause-ascending

@@ -1,7 +1,6 @@
 use Rattle.std.proofs.Common.{◌≡◌, ℕ, ◌+◌, ◌^◌, ◌<◌, List, [], ◌∷◌, ◌++◌, length, map, refl, ap, sym, subst, ◌∙◌, arith, rules}
 use Rattle.wu_base.specs.declared.addresses.PartRec.{PartRec}
 use Rattle.wu_base.specs.declared.addresses.Range.{Range}
-use Rattle.wu_base.specs.declared.addresses.TermList.{TermList}
 use Rattle.wu_layout.specs.Postings.{Posting, is_live, live_of}
 use Rattle.wu_layout.proofs.PostingLemmas.{Ascend-bounds, Ascend-filter}
 use Rattle.wu_part.specs.Directories.{PartDirectory}
@@ -35,11 +34,11 @@ invariant_of-self g c =
 
 pub returns-then-is_empty-clause-flushed : goal.returns-then-is_empty-clause-flushed
 returns-then-is_empty-clause-flushed g c low high postings h =
-    let few : length c.in_ok-lists.lists.items ≡ 0 = search rules in
-    flushes-none c.args.self.now _ _ _ (live_of (map (λ file. file.1) c.args.space.now.ranges) postings) c.in_ok-lists.lists.items
+    let few : length c.in_ok-lists.lists.lists ≡ 0 = search rules in
+    flushes-none c.args.self.now _ _ _ (live_of (map (λ file. file.1) c.args.space.now.ranges) postings) c.in_ok-lists.lists.lists
     (c.in_ok-lists.ensures.lists low high postings
     (subst (λ (k : Contents). HasPostings low high k.memory postings) (sym c.self.view_is) h))
-    (none_of_length c.in_ok-lists.lists.items few)
+    (none_of_length c.in_ok-lists.lists.lists few)
     (ap (λ (m : Memory). record (contents_of c.self.inside) { memory = m }) c.clear.ensures
     ∙ ap without_postings c.self.view_is)
     refl
@@ -52,14 +51,13 @@ invariant_of-self-2 g c =
     let has = c.in_ok-lists.ensures.has in
     let before : Told = (g.D.Store.holds c.args.store.now, g.D.Store.moments c.args.store.now) in
     let after : Told = (g.D.Store.holds c.put_part.new.store, g.D.Store.moments c.put_part.new.store) in
-    let some : 0 < length c.in_ok-lists.lists.items = search rules in
+    let some : 0 < length c.in_ok-lists.lists.lists = search rules in
     let pushed : c.push.new.self.items ≡ parts ++ c.in_ok-part.part ∷ [] =
     c.in_ok-push.ensures.items ∙ ap (λ (l : List StoredPart). l ++ c.in_ok-part.part ∷ []) c.in_ok-reserve.ensures.items in
-    let put : IsPut c.in_ok-lists.lists.items c.self.inside.next_blob c.in_ok-part.part.recorded c.in_ok-part.part.directory before after =
-    subst (λ (ls : List TermList). IsPut ls c.self.inside.next_blob c.in_ok-part.part.recorded c.in_ok-part.part.directory before after)
-    c.deref.ensures.value c.in_ok-part.ensures.put in
+    let put : IsPut c.in_ok-lists.lists.lists c.self.inside.next_blob c.in_ok-part.part.recorded c.in_ok-part.part.directory before after =
+    c.in_ok-part.ensures.put in
     let more : AreStored memory.end (parts ++ c.in_ok-part.part ∷ []) =
-    stored_after memory.low memory.end c.self.inside.next_blob parts c.in_ok-part.part (live_of ranges has.0) c.in_ok-lists.lists.items
+    stored_after memory.low memory.end c.self.inside.next_blob parts c.in_ok-part.part (live_of ranges has.0) c.in_ok-lists.lists.lists
     before after
     c.self.invariant.stored (Ascend-filter (λ (p : Posting). is_live ranges p.address) memory.low memory.end has.0 has.1.ascend)
     (c.in_ok-lists.ensures.lists memory.low memory.end has.0 has.1) some put in
@@ -80,7 +78,7 @@ returns-clause-flushed g c low high postings h =
     let ranges : List Range = map (λ file. file.1) c.args.space.now.ranges in
     let before : Told = (g.D.Store.holds c.args.store.now, g.D.Store.moments c.args.store.now) in
     let after : Told = (g.D.Store.holds c.put_part.new.store, g.D.Store.moments c.put_part.new.store) in
-    let some : 0 < length c.in_ok-lists.lists.items = search rules in
+    let some : 0 < length c.in_ok-lists.lists.lists = search rules in
     let pushed : c.push.new.self.items ≡ parts ++ part ∷ [] =
     c.in_ok-push.ensures.items ∙ ap (λ (l : List StoredPart). l ++ part ∷ []) c.in_ok-reserve.ensures.items in
     let make : List PartRec → List PartDirectory → Memory → Contents = λ ps ds m.
@@ -99,12 +97,11 @@ returns-clause-flushed g c low high postings h =
     (ap directories_of pushed ∙ directories-push parts part)
     ∙ ap (make (records_of parts ++ part.recorded ∷ []) (directories_of parts ++ part.directory ∷ [])) c.clear-2.ensures
     ∙ ap (with_part part.recorded part.directory) c.self.view_is in
-    let put : IsPut c.in_ok-lists.lists.items c.args.self.now.next_blob part.recorded part.directory before after =
-    subst (λ (n : ℕ). IsPut c.in_ok-lists.lists.items n part.recorded part.directory before after)
+    let put : IsPut c.in_ok-lists.lists.lists c.args.self.now.next_blob part.recorded part.directory before after =
+    subst (λ (n : ℕ). IsPut c.in_ok-lists.lists.lists n part.recorded part.directory before after)
     (ap (λ (k : Contents). k.next_blob) c.self.view_is)
-    (subst (λ (ls : List TermList). IsPut ls c.self.inside.next_blob part.recorded part.directory before after) c.deref.ensures.value
-    c.in_ok-part.ensures.put) in
-    flushes-part c.args.self.now _ before after low high (live_of ranges postings) c.in_ok-lists.lists.items part.recorded part.directory
+    c.in_ok-part.ensures.put in
+    flushes-part c.args.self.now _ before after low high (live_of ranges postings) c.in_ok-lists.lists.lists part.recorded part.directory
     (Ascend-filter (λ (p : Posting). is_live ranges p.address) low high postings h.ascend)
     (c.in_ok-lists.ensures.lists low high postings
     (subst (λ (k : Contents). HasPostings low high k.memory postings) (sym c.self.view_is) h))

@@ -2,9 +2,9 @@ use Rattle.std.proofs.Common.{◌-◌, ◌^◌, ◌≡◌, ℕ, ◌+◌, List, �
 use Rattle.std.proofs.lemmas.List.{take_rest}
 use Rattle.wu_base.specs.declared.addresses.Range.{Range}
 use Rattle.wu_layout.specs.Postings.{is_live}
-use Rattle.wu_parts.proofs.Ascending.{ascend-lower, first_end, first_start}
-use Rattle.wu_parts.proofs.Cutting.{cut_first, none_left}
-use Rattle.wu_parts.proofs.galloping.within_frames.Goals as goal
+use Rattle.wu_lists.proofs.Ascending.{ascend-lower, first_end, first_start}
+use Rattle.wu_lists.proofs.Cutting.{cut_first, none_left}
+use Rattle.wu_parts.proofs.galloping.put_within.Goals as goal
 
 pub split_below-requires-clause-limit : goal.split_below-requires-clause-limit
 split_below-requires-clause-limit c =
@@ -58,6 +58,6 @@ loop-left-preserved c =
 
 pub returns : goal.returns
 returns c =
-    c.from.ensures ∙ sym (append-nil c.loop-left.found.items)
+    sym (append-nil c.loop-left.found.items)
     ∙ ap (λ (l : List ℕ). c.loop-left.found.items ++ l) (sym (none_left c.loop-left.left.now c.loop-left.rest.now (omega arith)))
     ∙ c.loop-left.invariant.made

@@ -1,11 +1,11 @@
 use Rattle.std.proofs.Common.{◌-◌, ◌^◌, ◌≡◌, ◌++◌, filter, length}
 use Rattle.wu_layout.specs.Postings.{is_live}
-use Rattle.wu_parts.specs.Lists.{AscendBetween, AreInOrder}
-use Rattle.wu_parts.proofs.galloping.within_frames.Given as goal
+use Rattle.wu_lists.specs.Ascending.{AscendBetween, AreInOrder}
+use Rattle.wu_parts.proofs.galloping.put_within.Given as goal
 
 abbrev pub invariant-loop-left : goal.invariant-loop-left
 invariant-loop-left l = record {
-  made : l.found.items ++ filter (is_live l.left) l.rest ≡ filter (is_live l.frames) l.addresses;
+  made : l.found.items ++ filter (is_live l.left) l.rest ≡ l.fn.found.items ++ filter (is_live l.frames) l.addresses;
   ascend : AscendBetween 0 (2 ^ 64 - 1) l.rest;
   order : AreInOrder 0 (2 ^ 64 - 1) l.left;
 }
