@@ -1,5 +1,5 @@
 -- Where an extent lies in frames that lie apart, by the first frame that ends behind its start.
-use Rattle.std.proofs.Common.{◌≡◌, ℕ, zero, suc, ◌+◌, ◌-◌, ◌^◌, ◌<◌, ◌≤◌, Bool, true, false, cond, ◌⊎◌, List, [], ◌∷◌, ◌++◌, length, get_or, take, drop, map, min, refl, sym, ap, ◌∙◌, subst, inl, inr, arith, nat_le, nat_lt, leb-true, leb-false, ltb-true, lt-ltb, append_assoc}
+use Rattle.std.proofs.Common.{◌≡◌, ℕ, zero, suc, ◌+◌, ◌-◌, ◌^◌, ◌<◌, ◌≤◌, Bool, true, false, cond, ◌⊎◌, List, [], ◌∷◌, ◌++◌, length, get_or, take, drop, map, min, refl, sym, ap, ◌∙◌, subst, inl, inr, arith, nat_le, nat_lt, leb-true, leb-false, ltb-true, lt-ltb}
 use Rattle.std.specs.Prelude.{filter}
 use Rattle.std.specs.Cmp.{both_ways}
 use Rattle.std.specs.List.{All, AllByRecursion}
@@ -202,6 +202,22 @@ ended_before frames place count e apart some within last k d less =
     let same : get_or frames k e ≡ get_or frames k d = get_or_default frames k e d (omega arith) in
     subst (λ (f : Range). f.start + f.len ≤ place) same (omega (arith, far, last))
 
+-- the frame that an address lies in is the first that ends behind it
+pub ends_here : (frames : List Range) (place at_frame : ℕ) (d : Range) → AreApart frames → at_frame < length frames
+    → (get_or frames at_frame d).start ≤ place → place < (get_or frames at_frame d).start + (get_or frames at_frame d).len
+    → EndsAfter frames place at_frame
+ends_here frames place at_frame d apart within low behind = record {
+  within = omega arith;
+  before = λ k e less.
+      let far = apart_at frames apart k at_frame d less within in
+      let same : get_or frames k d ≡ get_or frames k e = get_or_default frames k d e (omega arith) in
+      subst (λ (f : Range). f.start + f.len ≤ place) same (omega (arith, far, low));
+  after = λ k e from high.
+      let far = ends_rise frames apart at_frame k d from high in
+      let same : get_or frames k d ≡ get_or frames k e = get_or_default frames k d e high in
+      subst (λ (f : Range). place < f.start + f.len) same (omega (arith, far, behind));
+}
+
 -- what is left of frames that lie apart, and those of them that pass a test, lie apart too
 
 pub apart_dropped : (n : ℕ) (frames : List Range) → AreApart frames → AreApart (drop n frames)
@@ -312,15 +328,20 @@ lies_here frames at_frame x d apart ends within low = both_ways _ _
 
 -- ---- walking addresses beside the frames
 
--- the next extent is kept, or not
-pub run_tested : (frames : List Range) (before after a : ℕ) (more : List ℕ) (found : List Extent) (test : Bool)
-    → lies_in_one frames (run_around before after a) ≡ test
-    → (found ++ cond test (run_around before after a ∷ []) []) ++ filter (lies_in_one frames) (map (run_around before after) more)
-    ≡ found ++ filter (lies_in_one frames) (map (run_around before after) (a ∷ more))
-run_tested frames before after a more found true is =
-    append_assoc found (run_around before after a ∷ []) (filter (lies_in_one frames) (map (run_around before after) more)) ∙ rw is refl
-run_tested frames before after a more found false is =
-    append_assoc found [] (filter (lies_in_one frames) (map (run_around before after) more)) ∙ rw is refl
+-- those in front that pass the one test where they pass the other
+front_by : (x : Extent) (ys zs more : List Extent) (test : Bool) → ys ≡ zs ++ more → cond test (x ∷ ys) ys ≡ cond test (x ∷ zs) zs ++ more
+front_by x ys zs more true same = ap (λ (l : List Extent). x ∷ l) same
+front_by x ys zs more false same = same
+
+pub front_alike : (p short : Extent → Bool) (run : ℕ → Extent) (xs : List ℕ) (n : ℕ)
+    → ((k : ℕ) → k < n → k < length xs → p (run (get_or xs k 0)) ≡ short (run (get_or xs k 0)))
+    → filter p (map run xs) ≡ filter short (map run (take n xs)) ++ filter p (map run (drop n xs))
+front_alike p short run xs zero same = refl
+front_alike p short run [] (suc n) same = refl
+front_alike p short run (x ∷ xs) (suc n) same =
+    rw (same 0 (omega arith) (omega arith))
+    (front_by (run x) (filter p (map run xs)) (filter short (map run (take n xs))) (filter p (map run (drop n xs))) (short (run x))
+    (front_alike p short run xs n (λ k less within. same (suc k) (omega arith) (omega arith))))
 
 kept_or_not : (p : Extent → Bool) (run : ℕ → Extent) (bound a : ℕ) (xs : List ℕ) (test : Bool) → nat_le bound a ≡ test
     → (a < bound → p (run a) ≡ false)
@@ -369,14 +390,20 @@ module _ (frames : List Range) (before after : ℕ) (apart : AreApart frames) wh
       lies_in_no_gap frames (get_or rest 0 0 - before) place (run_around before after (get_or rest k 0)) d apart ends
       (later_start rest k up within) (omega arith))
 
-  -- the first address lies in the next frame
-  pub first_tested : (rest : List ℕ) (found : List Extent) (place : ℕ) (d : Range) → 0 < length rest
-      → EndsAfter frames (get_or rest 0 0 - before) place → place < length frames → (get_or frames place d).start ≤ get_or rest 0 0 - before
-      → (found ++ cond (nat_lt (get_or rest 0 0 + after) ((get_or frames place d).start + (get_or frames place d).len))
-      (run_around before after (get_or rest 0 0) ∷ []) []) ++ kept_runs (drop 1 rest) ≡ found ++ kept_runs rest
-  first_tested [] found place d some ends within low = absurd (omega arith)
-  first_tested (a ∷ more) found place d some ends within low =
-      run_tested frames before after a more found _ (lies_here frames place (run_around before after a) d apart ends within low)
+  -- the first addresses lie in the next frame
+  pub front_tested : (rest : List ℕ) (n place : ℕ) (d : Range) → IsStrictlyIncreasing rest → n ≤ length rest → place < length frames
+      → (get_or frames place d).start ≤ get_or rest 0 0 - before
+      → ((k : ℕ) → k < n → get_or rest k 0 - before < (get_or frames place d).start + (get_or frames place d).len)
+      → kept_runs rest
+      ≡ filter (λ x. nat_lt x.end ((get_or frames place d).start + (get_or frames place d).len)) (map (run_around before after) (take n rest))
+      ++ kept_runs (drop n rest)
+  front_tested rest n place d up fits within low inside =
+      front_alike (lies_in_one frames) (λ x. nat_lt x.end ((get_or frames place d).start + (get_or frames place d).len))
+      (run_around before after) rest n (λ k less there.
+      let first : (get_or frames place d).start ≤ get_or rest k 0 - before =
+      let later = later_start rest k up there in omega (arith, later) in
+      lies_here frames place (run_around before after (get_or rest k 0)) d apart
+      (ends_here frames (get_or rest k 0 - before) place d apart within first (inside k less)) within first)
 
   -- no frame is left
   pub none_left : (rest : List ℕ) (place : ℕ) → IsStrictlyIncreasing rest → EndsAfter frames (get_or rest 0 0 - before) place

@@ -20,6 +20,8 @@ pub mod Moving
 pub mod Whole
 pub mod SameRegions
 pub mod PhrasesInFrames
+pub mod WordByWord
+pub mod Roomy
 pub mod FramePlaces
 pub mod Needing
 pub mod LeavingOut

@@ -144,16 +144,12 @@ fewer_kept bound (x ∷ xs) some low =
     above : (a : ℕ) → a < bound → nat_le bound a ≡ false
     above a less = grind (arith, nat_tests)
 
--- behind the first
-
-pub increasing_behind : (xs : List ℕ) → IsStrictlyIncreasing xs → IsStrictlyIncreasing (drop 1 xs)
-increasing_behind [] up = up
-increasing_behind (x ∷ xs) up = increasing_rest x xs up
-
-pub from_behind : (low : ℕ) (xs : List ℕ) → ((k : ℕ) → k < length xs → low ≤ get_or xs k 0) → (k : ℕ) → k < length (drop 1 xs)
-    → low ≤ get_or (drop 1 xs) k 0
-from_behind low [] all k within = absurd (omega arith)
-from_behind low (x ∷ xs) all k within = all (suc k) (omega arith)
+-- behind so many
+pub from_behind : (low n : ℕ) (xs : List ℕ) → ((k : ℕ) → k < length xs → low ≤ get_or xs k 0) → (k : ℕ) → k < length (drop n xs)
+    → low ≤ get_or (drop n xs) k 0
+from_behind low n xs all k within =
+    let long = length-drop n xs in
+    subst (λ (a : ℕ). low ≤ a) (sym (get_or-drop n xs k 0)) (all (n + k) (omega (arith, long)))
 
 -- members
 

@@ -1,7 +1,9 @@
 -- A phrase's extents over frames that lie apart, from the addresses of one of its words.
 use Rattle.std.proofs.Common.{◌≡◌, ℕ, zero, suc, ◌+◌, ◌-◌, ◌<◌, ◌≤◌, Bool, true, List, [], ◌∷◌, length, get_or, refl, sym, ap, ◌∙◌, subst, arith, eqb, eqb-true, eq-eqb, leb-true, le-leb, nat_le}
 use Rattle.std.specs.Prelude.{filter}
+use Rattle.std.specs.List.{All}
 use Rattle.std.proofs.lemmas.Bool.{and_parts, and_from}
+use Rattle.std.proofs.lemmas.List.Elements.{All-from_recursion}
 use Rattle.wu_base.specs.declared.addresses.Extent.{Extent}
 use Rattle.wu_base.specs.declared.addresses.Range.{Range}
 use Rattle.wu_base.specs.declared.addresses.TermList.{TermList}
@@ -12,7 +14,7 @@ use Rattle.wu_solve.specs.Frames.{lies_in_one}
 use Rattle.wu_solve.specs.Listing.{Has}
 use Rattle.wu_solve.specs.Operands.{run_around, runs_around}
 use Rattle.wu_solve.specs.Solving.{moved, frame_hits, frames_hits, AreApart}
-use Rattle.wu_solve.proofs.Sets.{same_ends, from_filter, to_filter}
+use Rattle.wu_solve.proofs.Sets.{same_ends, all_from, from_filter, to_filter}
 use Rattle.wu_solve.proofs.Order.{one_list, filter_ordered, ordered_from}
 use Rattle.wu_solve.proofs.Phrases.{Among, from_among, to_among, from_kept, to_kept, has_map, map_has, runs_ascending, words_moved}
 use Rattle.wu_solve.proofs.Results.{LiesIn, extent_lies, hits_listed, from_moved, frames_ascend}
@@ -121,6 +123,20 @@ module _ (lists : List TermList) (frames : List Range) (apart : AreApart frames)
       (filter_ordered (lies_in_one frames) (runs_around r after addresses)
       (ordered_from (runs_around r after addresses) (runs_ascending r after addresses are.ascending))))
       (ordered_from (frames_hits (Phrase words) lists frames) (frames_ascend (Phrase words) lists frames apart)) kept found
+
+-- the word whose addresses these are stands in each of the extents around them
+pub known_word : (lists : List TermList) (frames : List Range) (term addresses : List ℕ) (r after : ℕ) → AreAddressesOf lists term addresses
+    → All (λ x. has_address lists term (x.start + r) ≡ true) (filter (lies_in_one frames) (runs_around r after addresses))
+known_word lists frames term addresses r after are =
+    All-from_recursion (λ x. has_address lists term (x.start + r) ≡ true) (filter (lies_in_one frames) (runs_around r after addresses))
+    (all_from (λ x. has_address lists term (x.start + r) ≡ true) (filter (lies_in_one frames) (runs_around r after addresses)) (λ x has.
+    let l = from_filter (lies_in_one frames) (runs_around r after addresses) x has in
+    let m = has_map (run_around r after) (filter (λ a. nat_le r a) addresses) x l.0 in
+    let kept = from_kept (λ a. nat_le r a) addresses m.0 m.1 in
+    let starts : m.0 - r ≡ x.start = ap (λ (e : Extent). e.start) m.2 in
+    let room : r ≤ m.0 = leb-true r m.0 kept.1 in
+    let same : m.0 ≡ x.start + r = omega arith in
+    subst (λ (a : ℕ). has_address lists term a ≡ true) same (sym (are.same m.0) ∙ to_among addresses m.0 kept.0)))
 
 -- one word alone
 pub term_whole : (lists : List TermList) (frames : List Range) → AreApart frames → (term addresses : List ℕ)

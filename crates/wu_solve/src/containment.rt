@@ -8,6 +8,7 @@ use std::alloc::Global;
 use wu_base::{Extent, NoMemory};
 
 /// Whether an extent is kept, where it was found that it holds another or is held, or that it isn't.
+#[inline(always)]
 pub fn is_kept(wanted: bool, found: bool) -> bool
     ensures { result ≡ is_wanted wanted found }
 {

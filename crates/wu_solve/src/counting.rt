@@ -13,7 +13,7 @@ use crate::first_extents::starting_from;
 use crate::framing::{are_apart, end_of, frame_at};
 use crate::lookup::{addresses_from, addresses_of};
 use crate::meeting::frames_with_needed;
-use crate::solving::{FRAMES_AT_ONCE, solve_apart};
+use crate::solving::{FRAMES_AT_ONCE, solve_at_once};
 use std::alloc::Global;
 use wu_base::{Extent, NoMemory, Range, TermList};
 use wu_gcl::{Expr, tag_bytes};
@@ -54,8 +54,9 @@ pub fn count(
     Ok(Counts { hits, files })
 }
 
-/// The same of frames that lie apart.
-fn count_apart(
+/// The same for callers who know that each frame ends before the next one starts, so that no walk over
+/// the frames has to find it out.
+pub fn count_apart(
     alloc: Global,
     expr: &Expr,
     frames: &[Range],
@@ -71,8 +72,11 @@ fn count_apart(
     if let Some(term) = only_term(expr) {
         return Ok(count_term(addresses_of(lists, term), frames));
     }
-    let met = frames_with_needed(alloc, expr, frames, lists)?;
-    count_parts(alloc, expr, &met, lists)
+    let some = frames_with_needed(alloc, expr, frames, lists)?;
+    match some {
+        Some(met) => count_parts(alloc, expr, &met, lists),
+        None => count_parts(alloc, expr, frames, lists),
+    }
 }
 
 /// The same, so many frames at a time.
@@ -95,7 +99,7 @@ fn count_parts(
     while from < frames.len() {
         let some = FRAMES_AT_ONCE.min(frames.len() - from);
         let part = &frames[from..from + some];
-        let extents = solve_apart(alloc, expr, part, lists)?;
+        let extents = solve_at_once(alloc, expr, part, lists)?;
         hits += extents.len() as u64;
         files += frames_of(&extents, part);
         from += some;

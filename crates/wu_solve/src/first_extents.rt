@@ -5,6 +5,7 @@ ghost use Rattle.wu_solve.specs.FirstExtents.{from_start, from_end, after_start,
 use wu_base::Extent;
 
 /// What is left from the first extent on that doesn't start before the place.
+#[inline]
 pub fn starting_from(extents: &[Extent], place: u64) -> &[Extent]
     ensures { result.now ≡ from_start place extents.now }
 {
@@ -16,6 +17,7 @@ pub fn starting_from(extents: &[Extent], place: u64) -> &[Extent]
 }
 
 /// What is left from the first extent on that doesn't end before the place.
+#[inline]
 pub fn ending_from(extents: &[Extent], place: u64) -> &[Extent]
     ensures { result.now ≡ from_end place extents.now }
 {
@@ -27,6 +29,7 @@ pub fn ending_from(extents: &[Extent], place: u64) -> &[Extent]
 }
 
 /// What is left from the first extent on that starts after the place.
+#[inline]
 pub fn starting_after(extents: &[Extent], place: u64) -> &[Extent]
     ensures { result.now ≡ after_start place extents.now }
 {
@@ -38,6 +41,7 @@ pub fn starting_after(extents: &[Extent], place: u64) -> &[Extent]
 }
 
 /// Whether there is a first that ends at the place or before it.
+#[inline(always)]
 pub fn ends_by(extents: &[Extent], place: u64) -> bool
     ensures { result ≡ first_ends_by place extents.now }
 {
@@ -45,6 +49,7 @@ pub fn ends_by(extents: &[Extent], place: u64) -> bool
 }
 
 /// Whether there is a first that starts at the place or before it.
+#[inline(always)]
 pub fn starts_by(extents: &[Extent], place: u64) -> bool
     ensures { result ≡ first_starts_by place extents.now }
 {
@@ -52,6 +57,7 @@ pub fn starts_by(extents: &[Extent], place: u64) -> bool
 }
 
 /// Whether there is a first that ends before the place.
+#[inline(always)]
 pub fn ends_before(extents: &[Extent], place: u64) -> bool
     ensures { result ≡ first_ends_before place extents.now }
 {

@@ -1,13 +1,14 @@
 //! Frames that lie apart, and the extents in them.
 ghost use Rattle.std.specs.Prelude.{◌≡◌, ℕ, ◌+◌, ◌<◌, ◌≤◌, All, length, filter, slice_index_or, IsTrue, IfOk, ◌↔◌};
 ghost use Rattle.wu_base.specs.declared.addresses.Range.{Range};
-ghost use Rattle.wu_solve.specs.Frames.{lies_in_one, EndsAfter};
+ghost use Rattle.wu_solve.specs.Frames.{is_place_of, lies_in_one, EndsAfter};
 ghost use Rattle.wu_solve.specs.Solving.{IsFrame, AreApart};
 
 use std::alloc::Global;
 use wu_base::{Extent, NoMemory, Range};
 
 /// Where the frame ends: the first address behind it.
+#[inline(always)]
 pub fn end_of(frame: &Range) -> u64
     requires { IsFrame frame.now }
     ensures { result ≡ frame.now.start + frame.now.len }
@@ -61,18 +62,46 @@ fn passed_over(frames: &[Range], remembered: usize, address: u64) -> usize
     remembered
 }
 
-/// The place of the first frame that ends behind the address. It is sought from the remembered place
-/// on, if no frame before that one can be it.
+/// The place of the first frame that ends behind the address. Addresses that ascend mostly lie in the
+/// remembered frame, so that one is tried first.
+#[inline(always)]
 pub fn frame_at(frames: &[Range], remembered: usize, address: u64) -> usize
     requires frames { All IsFrame frames.now }
     requires apart { AreApart frames.now }
     ensures { EndsAfter frames.now address result }
 {
+    if remembered < frames.len() && is_in_frame(&frames[remembered], address) {
+        return remembered;
+    }
+    sought_frame(frames, remembered, address)
+}
+
+/// Whether the address is one of the frame's.
+#[inline(always)]
+fn is_in_frame(frame: &Range, address: u64) -> bool
+    requires { IsFrame frame.now }
+    ensures { result ≡ is_place_of frame.now address }
+{
+    frame.start <= address && address < end_of(frame)
+}
+
+/// The place of the first frame that ends behind the address. It is sought from the remembered place
+/// on, if no frame before that one can be it; the next frame is tried first.
+fn sought_frame(frames: &[Range], remembered: usize, address: u64) -> usize
+    requires frames { All IsFrame frames.now }
+    requires apart { AreApart frames.now }
+    ensures { EndsAfter frames.now address result }
+{
+    let next = remembered.saturating_add(1);
+    if next < frames.len() && is_in_frame(&frames[next], address) {
+        return next;
+    }
     let passed = passed_over(frames, remembered, address);
     passed + ended(&frames[passed..], address)
 }
 
 /// Whether the extent lies in one of the frames. The place of the frame is remembered.
+#[inline(always)]
 pub fn lies_in_one(frames: &[Range], remembered: &mut usize, extent: &Extent) -> bool
     requires frames { All IsFrame frames.now }
     requires apart { AreApart frames.now }

@@ -2,7 +2,8 @@
 //!
 //! In the list of every expression starts and ends both ascend strictly, so that each operator walks
 //! the lists of its operands once, side by side. A list is that of all frames, one behind the other;
-//! frames without an address of a needed term are left out before.
+//! frames without an address of a needed term are left out before, unless that term is a word that
+//! most frames have.
 #![tactic(auto)]
 
 mod containment;
@@ -19,8 +20,8 @@ mod overlaps;
 mod solving;
 mod windows;
 
-pub use counting::{Counts, count};
+pub use counting::{Counts, count, count_apart};
 pub use laws::{extents_ascend, frames_of_texts, needed_terms_stand};
 pub use lookup::find_term;
 pub use needed::needed_terms;
-pub use solving::solve;
+pub use solving::{solve, solve_apart};

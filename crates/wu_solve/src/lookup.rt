@@ -8,8 +8,29 @@ ghost use Rattle.wu_solve.specs.Addresses.{is_among, has_address, AreLists, Ends
 
 use wu_base::{Bytes, TermList};
 
-/// How many addresses in front are below the bound, found by steps that double.
+/// How many addresses are looked at one by one before the steps double.
+const NEAR: usize = 4;
+
+/// How many addresses in front are below the bound. The first few are looked at one by one: of a
+/// frequent term it is mostly one of these.
+#[inline(always)]
 fn below(addresses: &[u64], bound: u64) -> usize
+    requires { IsStrictlyIncreasing addresses.now }
+    ensures { EndsBelow addresses.now bound result }
+{
+    let near = addresses.len().min(NEAR);
+    let mut passed = 0;
+    while passed < near && addresses[passed] < bound {
+        passed += 1;
+    }
+    if passed < NEAR {
+        return passed;
+    }
+    passed + below_far(&addresses[passed..], bound)
+}
+
+/// The same, found by steps that double.
+fn below_far(addresses: &[u64], bound: u64) -> usize
     requires { IsStrictlyIncreasing addresses.now }
     ensures { EndsBelow addresses.now bound result }
 {
@@ -25,6 +46,7 @@ fn below(addresses: &[u64], bound: u64) -> usize
 }
 
 /// The addresses from the bound on.
+#[inline]
 pub fn addresses_from(addresses: &[u64], bound: u64) -> &[u64]
     requires { IsStrictlyIncreasing addresses.now }
     ensures { result.now ≡ filter (λ a. nat_le bound a) addresses.now }
@@ -97,7 +119,8 @@ fn list_of(lists: &[TermList], term: &[u8], remembered: usize) -> Option<usize>
 }
 
 /// Whether the address stands at the place where those below it end.
-fn is_at(addresses: &[u64], place: usize, address: u64) -> bool
+#[inline(always)]
+pub fn is_at(addresses: &[u64], place: usize, address: u64) -> bool
     requires ascending { IsStrictlyIncreasing addresses.now }
     requires ends { EndsBelow addresses.now address place }
     ensures { result ≡ is_among addresses.now address }
@@ -107,7 +130,8 @@ fn is_at(addresses: &[u64], place: usize, address: u64) -> bool
 
 /// Where the addresses below the bound end, sought from the remembered place on, if all before it are
 /// below.
-fn address_at(addresses: &[u64], remembered: usize, bound: u64) -> usize
+#[inline(always)]
+pub fn address_at(addresses: &[u64], remembered: usize, bound: u64) -> usize
     requires { IsStrictlyIncreasing addresses.now }
     ensures { EndsBelow addresses.now bound result }
 {
@@ -116,6 +140,7 @@ fn address_at(addresses: &[u64], remembered: usize, bound: u64) -> usize
 }
 
 /// The remembered place, if all addresses before it are below the bound; otherwise 0.
+#[inline(always)]
 fn passed_over(addresses: &[u64], remembered: usize, bound: u64) -> usize
     requires { IsStrictlyIncreasing addresses.now }
     ensures within { result ≤ length addresses.now }

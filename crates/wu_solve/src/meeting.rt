@@ -11,28 +11,61 @@ use crate::lookup::{addresses_from, addresses_of, rarest};
 use crate::needed::needed_terms;
 use std::alloc::Global;
 use wu_base::{Bytes, NoMemory, Range, TermList};
-use wu_gcl::Expr;
+use wu_gcl::{Expr, Op};
 
-/// The frames but those without an address of the rarest needed term.
+/// With so many addresses of a needed term for each frame, its frames aren't sought: most frames have
+/// it.
+const MANY: usize = 4;
+
+/// The frames but those without an address of the rarest needed term. None, if all frames serve as
+/// well: no term is needed, or the rarest has many addresses for each frame, and the expression lists
+/// only the places of words.
 pub fn frames_with_needed(
     alloc: Global,
     expr: &Expr,
     frames: &[Range],
     lists: &[TermList],
-) -> Result<Vec<Range>, NoMemory>
+) -> Result<Option<Vec<Range>>, NoMemory>
     requires lists { AreLists lists.now }
     requires frames { All IsFrame frames.now }
     requires apart { AreApart frames.now }
-    ensures hits { IfOk result (λ met. frames_hits (region_of expr.now) lists.now met.items ≡ frames_hits (region_of expr.now) lists.now frames.now) }
-    ensures files { IfOk result (λ met. count_by (λ frame. nat_lt 0 (length (frame_hits (region_of expr.now) lists.now frame))) met.items
-        ≡ count_by (λ frame. nat_lt 0 (length (frame_hits (region_of expr.now) lists.now frame))) frames.now) }
-    ensures frames { IfOk result (λ met. All IsFrame met.items) }
-    ensures apart { IfOk result (λ met. AreApart met.items) }
+    ensures hits { IfOk result (λ some. IfSome some (λ met. frames_hits (region_of expr.now) lists.now met.items
+        ≡ frames_hits (region_of expr.now) lists.now frames.now)) }
+    ensures files { IfOk result (λ some. IfSome some (λ met. count_by (λ frame. nat_lt 0 (length (frame_hits (region_of expr.now) lists.now frame))) met.items
+        ≡ count_by (λ frame. nat_lt 0 (length (frame_hits (region_of expr.now) lists.now frame))) frames.now)) }
+    ensures frames { IfOk result (λ some. IfSome some (λ met. All IsFrame met.items)) }
+    ensures apart { IfOk result (λ some. IfSome some (λ met. AreApart met.items)) }
 {
     let terms = needed_terms(alloc, expr)?;
     match rarest_addresses(&terms, lists) {
-        Some(addresses) => frames_met(alloc, addresses, frames),
-        None => Ok(Vec::from_slice(alloc, frames)?),
+        Some(addresses) => {
+            if addresses.len() / MANY >= frames.len() && is_of_words(expr) {
+                return Ok(None);
+            }
+            let met = frames_met(alloc, addresses, frames)?;
+            Ok(Some(met))
+        }
+        None => Ok(None),
+    }
+}
+
+/// Whether the expression lists no more in a frame than the places of its words. Only the time depends
+/// on it.
+fn is_of_words(expr: &Expr) -> bool {
+    match expr {
+        Expr::Phrase(_) => true,
+        Expr::Both(op, left, right) => {
+            is_of_words(left) && (is_of_words(right) || is_measured(*op, right))
+        }
+        _ => false,
+    }
+}
+
+/// Whether the right operand is windows that the operator doesn't list.
+fn is_measured(op: Op, right: &Expr) -> bool {
+    match op {
+        Op::OneOf | Op::BothOf | Op::FollowedBy => false,
+        _ => matches!(right, Expr::Window(_)),
     }
 }
 

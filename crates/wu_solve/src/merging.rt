@@ -9,6 +9,7 @@ use std::alloc::Global;
 use wu_base::{Extent, NoMemory};
 
 /// Whether the outer extent starts no later and ends no earlier than the inner one.
+#[inline(always)]
 pub fn holds(outer: &Extent, inner: &Extent) -> bool
     ensures { result ≡ holds outer.now inner.now }
 {
@@ -16,6 +17,7 @@ pub fn holds(outer: &Extent, inner: &Extent) -> bool
 }
 
 /// The least extent that holds both.
+#[inline(always)]
 fn cover(left: &Extent, right: &Extent) -> Extent
     ensures { result ≡ cover left.now right.now }
 {

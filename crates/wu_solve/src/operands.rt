@@ -1,18 +1,20 @@
 //! The extents of an expression that has no operator, over frames that lie apart.
-ghost use Rattle.std.specs.Prelude.{◌≡◌, ℕ, ◌+◌, ◌-◌, ◌^◌, ◌<◌, ◌≤◌, List, [], ◌∷◌, ◌++◌, All, length, drop, filter, map, nat_eq, nat_lt, IfOk, OnOk, if◌then◌else◌};
+ghost use Rattle.std.specs.Prelude.{◌≡◌, ℕ, ◌+◌, ◌-◌, ◌^◌, ◌<◌, ◌≤◌, true, List, [], ◌∷◌, ◌++◌, All, length, drop, take, filter, map, nat_eq, nat_lt, slice_index, slice_index_or, IfOk, OnOk, if◌then◌else◌};
 ghost use Rattle.std.specs.List.{range_with_len};
 ghost use Rattle.std.specs.List.Sorted.{IsStrictlyIncreasing};
 ghost use Rattle.wu_gcl.specs.Extents.{words_stand};
 ghost use Rattle.wu_gcl.specs.Regions.{Phrase, Window};
-ghost use Rattle.wu_solve.specs.Addresses.{has_address, AreLists};
+ghost use Rattle.wu_solve.specs.Addresses.{is_among, has_address, AreLists};
 ghost use Rattle.wu_base.specs.declared.addresses.TermList.{TermList};
 ghost use Rattle.wu_solve.specs.Frames.{lies_in_one};
-ghost use Rattle.wu_solve.specs.Operands.{run_from, runs_around};
+ghost use Rattle.wu_solve.specs.Operands.{run_from, run_around, runs_around};
 ghost use Rattle.wu_solve.specs.Prefixes.{PrefixStands};
 ghost use Rattle.wu_solve.specs.Solving.{moved, frame_hits, frames_hits, IsFrame, AreApart};
 
-use crate::framing::frame_at;
-use crate::lookup::{Remembered, addresses_from, addresses_of, has_address, rarest};
+use crate::framing::{end_of, frame_at};
+use crate::lookup::{
+    Remembered, address_at, addresses_from, addresses_of, has_address, is_at, rarest,
+};
 use crate::overlaps::{Stretch, farther, known_words, overlaps};
 use std::alloc::Global;
 use wu_base::{Bytes, Extent, NoMemory, Range, TermList};
@@ -44,23 +46,57 @@ fn runs_in(
         if start < frame.start {
             rest = addresses_from(rest, frame.start + before);
         } else {
-            let end = *address + after;
-            put_before(&mut found, Extent { start, end }, frame.start + frame.len)?;
-            rest = behind_first(rest);
+            let count = put_around(&mut found, rest, before, after, end_of(&frame))?;
+            rest = behind(rest, count);
         }
     }
     Ok(found)
 }
 
-/// What is left behind the first.
-fn behind_first(addresses: &[u64]) -> &[u64]
-    requires { 0 < length addresses.now }
-    ensures { result.now ≡ drop 1 addresses.now }
+/// What is left behind so many.
+#[inline(always)]
+fn behind(addresses: &[u64], count: usize) -> &[u64]
+    requires { count ≤ length addresses.now }
+    ensures { result.now ≡ drop count addresses.now }
 {
-    &addresses[1..]
+    &addresses[count..]
+}
+
+/// Puts the extents around the addresses in front that start before the end of the first one's frame,
+/// but those that end behind it. Gives how many these addresses are.
+#[inline(always)]
+fn put_around(
+    found: &mut Vec<Extent>,
+    addresses: &[u64],
+    before: u64,
+    after: u64,
+    end: u64,
+) -> Result<usize, NoMemory>
+    requires some { 0 < length addresses.now }
+    requires first { slice_index addresses.now 0 - before < end }
+    requires room { (k : ℕ) → k < length addresses.now → before ≤ slice_index addresses.now k }
+    requires fits { end + before + after < 2 ^ 64 }
+    ensures some { IfOk result (λ count. 0 < count) }
+    ensures within { IfOk result (λ count. count ≤ length addresses.now) }
+    ensures inside { IfOk result (λ count. (k : ℕ) → k < count → slice_index addresses.now k - before < end) }
+    ensures put { IfOk result (λ count. found.new.items
+        ≡ found.old.items ++ filter (λ x. nat_lt x.end end) (map (run_around before after) (take count addresses.now))) }
+{
+    let mut count = 0;
+    while count < addresses.len() && addresses[count] - before < end {
+        let address = addresses[count];
+        let extent = Extent {
+            start: address - before,
+            end: address + after,
+        };
+        put_before(found, extent, end)?;
+        count += 1;
+    }
+    Ok(count)
 }
 
 /// Puts the extent, if it ends before the end of its frame.
+#[inline(always)]
 fn put_before(found: &mut Vec<Extent>, extent: Extent, end: u64) -> Result<(), NoMemory>
     ensures { OnOk result (found.new.items ≡ found.old.items ++ (if nat_lt extent.end end then extent ∷ [] else [])) }
 {
@@ -121,14 +157,114 @@ fn words_together(
     let addresses = addresses_of(lists, words[rarest].as_slice());
     let after = words.len() - rarest - 1;
     let runs = runs_in(alloc, addresses, rarest as u64, after as u64, frames)?;
-    standing(alloc, words, &runs, lists)
+    standing(alloc, words, rarest, runs, lists)
+}
+
+/// Those of the extents at whose start the words stand one after the other, where the word at the
+/// known place is known to stand at each.
+fn standing(
+    alloc: Global,
+    words: &[Bytes],
+    known: usize,
+    extents: Vec<Extent>,
+    lists: &[TermList],
+) -> Result<Vec<Extent>, NoMemory>
+    requires lists { AreLists lists.now }
+    requires low { All (λ x. x.start < 2 ^ 47) extents.items }
+    requires known { All (λ x. has_address lists.now (slice_index_or words.now known []) (x.start + known) ≡ true) extents.items }
+    ensures { IfOk result (λ v. v.items ≡ filter (λ x. words_stand (has_address lists.now) words.now x.start) extents.items) }
+{
+    if is_first_repeated(words) {
+        return standing_again(alloc, words, &extents, lists);
+    }
+    word_by_word(alloc, words, known, extents, lists)
+}
+
+/// Whether the first word stands at a later place of the phrase too. Only the way to the extents
+/// depends on it.
+fn is_first_repeated(words: &[Bytes]) -> bool {
+    for i in 1..words.len() {
+        if words[i] == words[0] {
+            return true;
+        }
+    }
+    false
+}
+
+/// The same for each word in turn, beside the extents that the words before it left. Where the phrase
+/// doesn't repeat its first word, and no address has two terms, no two extents share an address at
+/// which words of both stand, so that words are looked up no more often than there are extents and
+/// addresses under them.
+fn word_by_word(
+    alloc: Global,
+    words: &[Bytes],
+    known: usize,
+    extents: Vec<Extent>,
+    lists: &[TermList],
+) -> Result<Vec<Extent>, NoMemory>
+    requires lists { AreLists lists.now }
+    requires low { All (λ x. x.start < 2 ^ 47) extents.items }
+    requires known { All (λ x. has_address lists.now (slice_index_or words.now known []) (x.start + known) ≡ true) extents.items }
+    ensures { IfOk result (λ v. v.items ≡ filter (λ x. words_stand (has_address lists.now) words.now x.start) extents.items) }
+{
+    let mut left = extents;
+    for place in 0..words.len() {
+        left = with_word(alloc, words, known, place, left, lists)?;
+    }
+    Ok(left)
+}
+
+/// Those of the extents that have the word of the phrase at its place.
+fn with_word(
+    alloc: Global,
+    words: &[Bytes],
+    known: usize,
+    place: usize,
+    extents: Vec<Extent>,
+    lists: &[TermList],
+) -> Result<Vec<Extent>, NoMemory>
+    requires place { place < length words.now }
+    requires lists { AreLists lists.now }
+    requires low { All (λ x. x.start < 2 ^ 47) extents.items }
+    requires known { All (λ x. has_address lists.now (slice_index_or words.now known []) (x.start + known) ≡ true) extents.items }
+    ensures { IfOk result (λ v. v.items ≡ filter (λ x. has_address lists.now (slice_index_or words.now place []) (x.start + place)) extents.items) }
+{
+    if place == known {
+        return Ok(extents);
+    }
+    let addresses = addresses_of(lists, words[place].as_slice());
+    with_address(alloc, &extents, place as u64, addresses)
+}
+
+/// Those of the extents that have one of the addresses so far behind their start.
+fn with_address(
+    alloc: Global,
+    extents: &[Extent],
+    offset: u64,
+    addresses: &[u64],
+) -> Result<Vec<Extent>, NoMemory>
+    requires ascending { IsStrictlyIncreasing addresses.now }
+    requires low { All (λ x. x.start < 2 ^ 47) extents.now }
+    requires fits { offset < 2 ^ 63 }
+    ensures { IfOk result (λ v. v.items ≡ filter (λ x. is_among addresses.now (x.start + offset)) extents.now) }
+{
+    let mut found = Vec::new(alloc);
+    let mut place = 0;
+    for extent in extents {
+        let address = extent.start + offset;
+        place = address_at(addresses, place, address);
+        if is_at(addresses, place, address) {
+            found.push(*extent)?;
+        }
+    }
+    Ok(found)
 }
 
 /// Those of the extents at whose start the words stand one after the other. Where no address has two
 /// terms, words are looked up at most twice as often as there are extents and addresses under them,
 /// however often the phrase repeats itself: what an earlier match tells of a later one isn't looked
 /// up again.
-fn standing(
+fn standing_again(
     alloc: Global,
     words: &[Bytes],
     extents: &[Extent],

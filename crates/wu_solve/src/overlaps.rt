@@ -16,6 +16,7 @@ pub struct Stretch {
 /// How many of the first words stand from the place on, as far as an earlier stretch tells. What is
 /// left of it there are the phrase's own words from some place on, and `overlaps` says how many of
 /// its first words stand there.
+#[inline]
 pub fn known_words(stretch: Stretch, overlaps: &[usize], place: u64) -> usize
     ensures within { result ≤ stretch.count }
     ensures stand { (stands : List ℕ → ℕ → Bool) (words : List (List ℕ)) → AreOverlaps words overlaps.now
@@ -35,6 +36,7 @@ pub fn known_words(stretch: Stretch, overlaps: &[usize], place: u64) -> usize
 }
 
 /// The one of the two that ends later.
+#[inline(always)]
 pub fn farther(one: Stretch, other: Stretch) -> Stretch
     ensures { (result ≡ one) ⊎ (result ≡ other) }
 {

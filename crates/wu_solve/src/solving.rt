@@ -117,7 +117,7 @@ fn between(
 
 /// The extents of the expression in frames that lie apart, in one walk over all of them: of each
 /// operand and operator one list, whatever the number of frames.
-pub fn solve_apart(
+pub fn solve_at_once(
     alloc: Global,
     expr: &Expr,
     frames: &[Range],
@@ -135,11 +135,11 @@ pub fn solve_apart(
         Expr::Line => between(alloc, Tag::LineStart, Tag::LineEnd, frames, lists),
         Expr::Window(size) => windows(alloc, *size, frames),
         Expr::Both(op, left, right) => {
-            let left = solve_apart(alloc, left, frames, lists)?;
+            let left = solve_at_once(alloc, left, frames, lists)?;
             if let Some(size) = window_size(right) {
                 return combine_with_windows(alloc, *op, &left, size, frames);
             }
-            let right = solve_apart(alloc, right, frames, lists)?;
+            let right = solve_at_once(alloc, right, frames, lists)?;
             combine(alloc, *op, &left, &right, frames)
         }
     }
@@ -157,11 +157,14 @@ fn solve_parts(
     requires apart { AreApart frames.now }
     ensures { IfOk result (λ v. v.items ≡ frames_hits (region_of expr.now) lists.now frames.now) }
 {
+    if frames.len() <= FRAMES_AT_ONCE {
+        return solve_at_once(alloc, expr, frames, lists);
+    }
     let mut found = Vec::new(alloc);
     let mut from = 0;
     while from < frames.len() {
         let some = FRAMES_AT_ONCE.min(frames.len() - from);
-        let extents = solve_apart(alloc, expr, &frames[from..from + some], lists)?;
+        let extents = solve_at_once(alloc, expr, &frames[from..from + some], lists)?;
         found.extend_from_slice(&extents)?;
         from += some;
     }
@@ -173,6 +176,9 @@ fn solve_parts(
 /// terms' bytes, and the addresses of each ascend. An address counts as a term where the term's list
 /// has it: a term without a list stands nowhere, and two lists may share an address. The one error is
 /// out of memory.
+///
+/// Each call asks whether the frames lie apart, by a walk over all of them: where the caller knows it,
+/// `solve_apart` asks nothing.
 pub fn solve(
     alloc: Global,
     expr: &Expr,
@@ -187,13 +193,48 @@ pub fn solve(
     ensures ascending { AreApart frames.now → IfOk result (λ v. IsAscending v.items) }
 {
     if are_apart(frames) {
-        let met = frames_with_needed(alloc, expr, frames, lists)?;
-        return solve_parts(alloc, expr, &met, lists);
+        return solve_apart(alloc, expr, frames, lists);
     }
     let mut found = Vec::new(alloc);
     for frame in frames {
-        let extents = solve_apart(alloc, expr, &[*frame], lists)?;
+        let extents = solve_at_once(alloc, expr, &[*frame], lists)?;
         found.extend_from_slice(&extents)?;
     }
     Ok(found)
+}
+
+/// The same for callers who know that each frame ends before the next one starts, so that no walk over
+/// the frames has to find it out.
+pub fn solve_apart(
+    alloc: Global,
+    expr: &Expr,
+    frames: &[Range],
+    lists: &[TermList],
+) -> Result<Vec<Extent>, NoMemory>
+    requires lists { AreLists lists.now }
+    requires frames { All IsFrame frames.now }
+    requires apart { AreApart frames.now }
+    // Frame by frame the extents of a text.
+    ensures extents { IfOk result (λ v. v.items ≡ frames_hits (region_of expr.now) lists.now frames.now) }
+    // Starts and ends both ascend strictly.
+    ensures ascending { IfOk result (λ v. IsAscending v.items) }
+{
+    if is_one_term(expr) {
+        return solve_at_once(alloc, expr, frames, lists);
+    }
+    let some = frames_with_needed(alloc, expr, frames, lists)?;
+    match some {
+        Some(met) => solve_parts(alloc, expr, &met, lists),
+        None => solve_parts(alloc, expr, frames, lists),
+    }
+}
+
+/// Whether the expression is one word or one tag alone. Its addresses lead to the frames themselves,
+/// and no other list than that of its extents is made. Only time and memory depend on it.
+fn is_one_term(expr: &Expr) -> bool {
+    match expr {
+        Expr::Phrase(words) => words.len() <= 1,
+        Expr::Tag(_) => true,
+        _ => false,
+    }
 }

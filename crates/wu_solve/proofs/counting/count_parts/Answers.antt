@@ -5,8 +5,8 @@ use Rattle.wu_solve.proofs.FrameCounts.{hits_of_part, files_of_part, hits_taken}
 use Rattle.wu_solve.proofs.FramePlaces.{apart_taken, apart_dropped}
 use Rattle.wu_solve.proofs.counting.count_parts.Goals as goal
 
-pub solve_apart-requires-clause-apart : goal.solve_apart-requires-clause-apart
-solve_apart-requires-clause-apart c =
+pub solve_at_once-requires-clause-apart : goal.solve_at_once-requires-clause-apart
+solve_at_once-requires-clause-apart c =
     apart_taken (c.loop-from.from + c.min-some.result - c.loop-from.from) (drop c.loop-from.from c.args.frames.now)
     (apart_dropped c.loop-from.from c.args.frames.now c.requires.apart)
 

@@ -1,34 +1,38 @@
-use Rattle.std.proofs.Common.{◌≡◌, ℕ, ◌+◌, ◌-◌, ◌<◌, ◌≤◌, length, get_or, take, drop, nat_lt, subst, arith, rules}
-use Rattle.std.proofs.lemmas.List.Sorted.{IsPartitionedBy-ltb, IsPartitionPoint-from_clause}
-use Rattle.wu_solve.proofs.Numbers.{step_below, rising_stretch, found_in_stretch}
+use Rattle.std.proofs.Common.{ℕ, List, sym, subst, arith}
+use Rattle.std.specs.List.Sorted.{IsStrictlyIncreasing}
+use Rattle.std.proofs.lemmas.List.{take_rest}
+use Rattle.wu_solve.specs.Addresses.{EndsBelow}
+use Rattle.wu_solve.proofs.Numbers.{ends_in_rest, increasing_dropped, increasing_not_below}
 use Rattle.wu_solve.proofs.lookup.below.Goals as goal
-use Rattle.wu_solve.proofs.lookup.below.Goals.{then-loop-step-test+else-addresses-passed, else-loop-step-test}
+use Rattle.wu_solve.proofs.lookup.below.Goals.{then-loop-passed-test+else-addresses-passed, else-loop-passed-test}
 
-pub loop-step-preserved : goal.loop-step-preserved
-loop-step-preserved c = record {
-  some = omega (arith, c.saturating_mul-step.ensures, c.loop-step.invariant.some);
-  within = omega arith;
-  front = step_below c.args.addresses.now c.args.bound c.loop-step.passed c.loop-step.step c.requires c.loop-step.invariant.some
-      (omega arith) c.loop-step.invariant.front c.if-addresses-passed.true;
-}
+pub returns-then-passed-lt-NEAR : goal.returns-then-passed-lt-NEAR
+returns-then-passed-lt-NEAR c =
+    let xs = c.args.addresses.now in
+    let passed = c.loop-passed.passed in
+    elim c.loop-passed-test.branch [
+      | then-loop-passed-test+else-addresses-passed w ↦ record {
+        within = omega (arith, c.loop-passed.invariant.within, c.min-near.ensures);
+        front = c.loop-passed.invariant.front;
+        rest = λ k low high.
+            let far = increasing_not_below xs c.requires passed k low high in
+            omega (arith, far, w.if-addresses-passed.false);
+      }
+      | else-loop-passed-test w ↦ record {
+        within = omega (arith, c.loop-passed.invariant.within, c.min-near.ensures);
+        front = c.loop-passed.invariant.front;
+        rest = λ k low high. absurd (omega (arith, c.min-near.ensures));
+      }
+    ]
+
+pub below_far-requires : goal.below_far-requires
+below_far-requires c =
+    subst (λ (xs : List ℕ). IsStrictlyIncreasing xs) (sym (take_rest c.args.addresses.now c.loop-passed.passed))
+    (increasing_dropped c.loop-passed.passed c.args.addresses.now c.requires)
 
 pub returns : goal.returns
 returns c =
-    let xs = c.args.addresses.now in
-    let bound = c.args.bound in
-    let passed = c.loop-step.passed in
-    let reach = c.min-reach.result in
-    let m = passed + reach - passed in
-    let n = c.partition_point.result in
-    let reached : m ≡ reach = omega arith in
-    let point = IsPartitionPoint-from_clause (λ (a : ℕ). nat_lt a bound) (take m (drop passed xs)) n c.partition_point.ensures.partitioned
-    (IsPartitionedBy-ltb (λ (a : ℕ). a) (take m (drop passed xs)) bound (rising_stretch xs passed m c.requires)) (λ a r q k. search rules) in
-    let fits : passed + reach ≤ length xs = omega arith in
-    let inside : n ≤ reach = omega arith in
-    let next : passed + reach < length xs → bound ≤ get_or xs (passed + reach) 0 = λ more. elim c.loop-step-test.branch [
-      | then-loop-step-test+else-addresses-passed w ↦
-          let same : passed + (c.loop-step.step - 1) ≡ passed + reach = omega arith in
-          subst (λ (i : ℕ). bound ≤ get_or xs i 0) same w.if-addresses-passed.false
-      | else-loop-step-test w ↦ absurd (omega arith)
-    ] in
-    found_in_stretch xs bound passed reach m n c.requires reached fits inside c.loop-step.invariant.front point next
+    ends_in_rest c.args.addresses.now c.args.bound c.loop-passed.passed c.below_far.result (omega (arith, c.loop-passed.invariant.within, c.min-near.ensures))
+    c.loop-passed.invariant.front
+    (subst (λ (xs : List ℕ). EndsBelow xs c.args.bound c.below_far.result) (take_rest c.args.addresses.now c.loop-passed.passed)
+    c.below_far.ensures)

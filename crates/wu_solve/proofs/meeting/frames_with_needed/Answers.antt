@@ -1,13 +1,12 @@
-use Rattle.std.proofs.Common.{◌≡◌, [], ℕ, List, false, length}
-use Rattle.std.specs.Prelude.{All, Contains, count_by, filter, nat_lt}
+use Rattle.std.proofs.Common.{◌≡◌, [], ℕ, List, false}
+use Rattle.std.specs.Prelude.{Contains}
 use Rattle.std.proofs.lemmas.List.Elements.{All-filter}
-use Rattle.std.proofs.lemmas.Result.{IfOk-weaker}
 use Rattle.wu_base.specs.declared.addresses.Range.{Range}
 use Rattle.wu_gcl.specs.Regions.{region_of}
 use Rattle.wu_solve.specs.Addresses.{AreAddressesOf}
 use Rattle.wu_solve.specs.Frames.{has_one_of}
 use Rattle.wu_solve.specs.Needed.{Needs}
-use Rattle.wu_solve.specs.Solving.{frame_hits, frames_hits, IsFrame, AreApart}
+use Rattle.wu_solve.specs.Solving.{frame_hits, IsFrame}
 use Rattle.wu_solve.proofs.FramePlaces.{apart_kept}
 use Rattle.wu_solve.proofs.LeavingOut.{hits_of_kept, files_of_kept}
 use Rattle.wu_solve.proofs.Needing.{none_without}
@@ -25,9 +24,7 @@ returns-in-Some-clause-hits c =
     let needs : Needs region told.0 = (c.in_ok-terms.ensures.members told.0).0 (rw c.deref.ensures.value at told.1) in
     let none : (f : Range) → HasFrame frames f → has_one_of addresses f ≡ false → frame_hits region lists f ≡ [] =
     λ f sees is. none_without region lists f told.0 needs (none_of_term lists told.0 addresses f told.2 is) in
-    IfOk-weaker c.frames_met.result (λ v. v.items ≡ filter (has_one_of addresses) frames)
-    (λ met. frames_hits region lists met.items ≡ frames_hits region lists frames)
-    (λ v same. rw same (hits_of_kept region lists (has_one_of addresses) frames none)) c.frames_met.ensures
+    rw c.in_ok-met-in-Some.ensures (hits_of_kept region lists (has_one_of addresses) frames none)
 
 pub returns-in-Some-clause-files : goal.returns-in-Some-clause-files
 returns-in-Some-clause-files c =
@@ -39,21 +36,12 @@ returns-in-Some-clause-files c =
     let needs : Needs region told.0 = (c.in_ok-terms.ensures.members told.0).0 (rw c.deref.ensures.value at told.1) in
     let none : (f : Range) → HasFrame frames f → has_one_of addresses f ≡ false → frame_hits region lists f ≡ [] =
     λ f sees is. none_without region lists f told.0 needs (none_of_term lists told.0 addresses f told.2 is) in
-    IfOk-weaker c.frames_met.result (λ v. v.items ≡ filter (has_one_of addresses) frames)
-    (λ met. count_by (λ frame. nat_lt 0 (length (frame_hits region lists frame))) met.items
-    ≡ count_by (λ frame. nat_lt 0 (length (frame_hits region lists frame))) frames)
-    (λ v same. rw same (files_of_kept region lists (has_one_of addresses) frames none)) c.frames_met.ensures
+    rw c.in_ok-met-in-Some.ensures (files_of_kept region lists (has_one_of addresses) frames none)
 
 pub returns-in-Some-clause-frames : goal.returns-in-Some-clause-frames
 returns-in-Some-clause-frames c =
-    let frames = c.args.frames.now in
-    let addresses = c.in-Some.addresses.now in
-    IfOk-weaker c.frames_met.result (λ v. v.items ≡ filter (has_one_of addresses) frames) (λ met. All IsFrame met.items)
-    (λ v same. rw same (All-filter (has_one_of addresses) IsFrame frames c.requires.frames)) c.frames_met.ensures
+    rw c.in_ok-met-in-Some.ensures (All-filter (has_one_of c.in-Some.addresses.now) IsFrame c.args.frames.now c.requires.frames)
 
 pub returns-in-Some-clause-apart : goal.returns-in-Some-clause-apart
 returns-in-Some-clause-apart c =
-    let frames = c.args.frames.now in
-    let addresses = c.in-Some.addresses.now in
-    IfOk-weaker c.frames_met.result (λ v. v.items ≡ filter (has_one_of addresses) frames) (λ met. AreApart met.items)
-    (λ v same. rw same (apart_kept (has_one_of addresses) frames c.requires.apart)) c.frames_met.ensures
+    rw c.in_ok-met-in-Some.ensures (apart_kept (has_one_of c.in-Some.addresses.now) c.args.frames.now c.requires.apart)

@@ -7,6 +7,7 @@ use Rattle.wu_solve.specs.Merging.{is_wanted}
 use Rattle.wu_solve.specs.Solving.{frames_hits}
 use Rattle.wu_solve.specs.Windows.{lies_in_window, holds_window}
 use Rattle.wu_solve.proofs.Results.{frames_ascend}
+use Rattle.wu_solve.proofs.Roomy.{all_lie}
 use Rattle.wu_solve.proofs.Whole.{contained_in_windows_whole, not_contained_in_windows_whole, containing_windows_whole, not_containing_windows_whole}
 use Rattle.wu_solve.proofs.solving.combine_with_windows.Goals as goal
 
@@ -24,7 +25,7 @@ returns-in-ContainedIn c = λ one lists is_left.
     (IfOk-weaker c.held_by_windows.result (λ v. v.items ≡ filter (λ x. is_wanted true (lies_in_window c.args.size c.args.frames.now x)) c.args.left.now)
     (λ v. v.items ≡ frames_hits (Both ContainedIn one (Window c.args.size)) lists c.args.frames.now)
     (λ v same. same ∙ rw is_left (contained_in_windows_whole one c.args.size lists c.args.frames.now c.requires.apart))
-    c.held_by_windows.ensures)
+    (c.held_by_windows.ensures (rw is_left (all_lie one lists c.args.frames.now))))
 
 pub returns-in-NotContaining : goal.returns-in-NotContaining
 returns-in-NotContaining c = λ one lists is_left.
@@ -40,7 +41,7 @@ returns-in-NotContainedIn c = λ one lists is_left.
     (IfOk-weaker c.held_by_windows-in-NotContainedIn.result (λ v. v.items ≡ filter (λ x. is_wanted false (lies_in_window c.args.size c.args.frames.now x)) c.args.left.now)
     (λ v. v.items ≡ frames_hits (Both NotContainedIn one (Window c.args.size)) lists c.args.frames.now)
     (λ v same. same ∙ rw is_left (not_contained_in_windows_whole one c.args.size lists c.args.frames.now c.requires.apart))
-    c.held_by_windows-in-NotContainedIn.ensures)
+    (c.held_by_windows-in-NotContainedIn.ensures (rw is_left (all_lie one lists c.args.frames.now))))
 
 pub combine-requires-clause-right_ascends : goal.combine-requires-clause-right_ascends
 combine-requires-clause-right_ascends c =

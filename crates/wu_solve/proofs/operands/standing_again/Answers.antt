@@ -1,5 +1,5 @@
 use Rattle.wu_solve.specs.Addresses.{has_address}
-use Rattle.wu_solve.proofs.operands.standing.Goals as goal
+use Rattle.wu_solve.proofs.operands.standing_again.Goals as goal
 
 pub words_from-count-requires-clause-known : goal.words_from-count-requires-clause-known
 words_from-count-requires-clause-known c =

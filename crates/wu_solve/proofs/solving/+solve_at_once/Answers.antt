@@ -6,7 +6,7 @@ use Rattle.wu_gcl.specs.Regions.{region_of, Mark, WholeFile, WholeLine, Both}
 use Rattle.wu_solve.specs.Solving.{frames_hits}
 use Rattle.wu_solve.proofs.Results.{frames_ascend}
 use Rattle.wu_solve.proofs.SameRegions.{file_whole, line_whole}
-use Rattle.wu_solve.proofs.solving.+solve_apart.Goals as goal
+use Rattle.wu_solve.proofs.solving.+solve_at_once.Goals as goal
 
 pub combine_with_windows-requires-clause-ascend : goal.combine_with_windows-requires-clause-ascend
 combine_with_windows-requires-clause-ascend t c =

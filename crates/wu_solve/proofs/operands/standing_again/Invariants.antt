@@ -3,7 +3,7 @@ use Rattle.std.specs.Prelude.{filter}
 use Rattle.wu_gcl.specs.Extents.{words_stand}
 use Rattle.wu_solve.specs.Addresses.{has_address}
 use Rattle.wu_solve.specs.Prefixes.{PrefixStands}
-use Rattle.wu_solve.proofs.operands.standing.Given as goal
+use Rattle.wu_solve.proofs.operands.standing_again.Given as goal
 
 abbrev pub invariant-loop-extent : goal.invariant-loop-extent
 invariant-loop-extent l = record {
