@@ -4,6 +4,7 @@ pub mod Ends
 pub mod Starts
 pub mod Made
 pub mod Kept
+pub mod Remembering
 pub mod Leaves
 pub mod Finding
 pub mod InFrames

@@ -17,9 +17,9 @@ use wu_gcl::Expr;
 /// its words may take to the next. `+`, `^` and `..` ask each operand once for where an extent ends
 /// and once for where one starts, however deep they stand in one another. A containment goes over the
 /// extents of its left operand, one by one until it keeps one, and at each asks the right operand
-/// once, or twice for `<` and `/<`. As nothing is remembered, an operand is asked again from each of
-/// these: where containments stand in one another's right operands, or under operators in their left
-/// ones, the look-ups may multiply with each.
+/// once, or twice for `<` and `/<`. What it answers is remembered until the call leaves the frame, so
+/// that containments within one another don't go over the same extents again and again. Between calls
+/// nothing is remembered.
 #[derive(Clone, Copy)]
 pub struct Cursor<'a> {
     expr: &'a Expr,

@@ -2,13 +2,15 @@
 //!
 //! Within a frame an expression answers its calls from those of its operands. `+`, `^` and `..` ask
 //! each operand once for where an extent ends, and once for where one starts. A containment goes over
-//! the extents of its left operand, from one to the next, and asks the right one at each.
+//! the extents of its left operand, from one to the next, and asks the right one at each; what it
+//! answers is remembered until the call leaves the frame.
 #![tactic(auto)]
 
 mod access;
 mod cursors;
 mod frames;
 mod lazily;
+mod memory;
 mod operands;
 mod phrases;
 mod places;
