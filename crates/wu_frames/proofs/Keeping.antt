@@ -1,15 +1,15 @@
 -- What is kept of users after one asked or was put in.
-use Rattle.std.proofs.Common.{◌≡◌, ℕ, zero, suc, ◌-◌, true, List, [], ◌∷◌, take, nat_eq, refl, sym, subst}
-use Rattle.std.specs.Prelude.{None, Some, IsSome, is_some}
+use Rattle.std.proofs.Common.{◌≡◌, ℕ, zero, suc, ◌-◌, true, false, cond, List, [], ◌∷◌, length, take, nat_eq, refl, ap, sym, subst, Option}
+use Rattle.std.specs.Prelude.{None, Some, Ok, Err, IsSome, OnOk, OnErr, Result, is_some, slice_get}
 use Rattle.std.specs.Option.{option_map_or}
 use Rattle.std.specs.List.{AllByRecursion}
-use Rattle.std.specs.Map.{lookup, lookup_entry, remove_entry}
+use Rattle.std.specs.Map.{lookup, lookup_entry, remove_entry, set_value}
 use Rattle.std.specs.Cmp.{nat_eq_equiv}
 use Rattle.std.proofs.lemmas.Bool.{eqb-true}
-use Rattle.lru.specs.LruCache.{LruCache, promoted, put_entries}
+use Rattle.lru.specs.LruCache.{LruCache, last_entry, lru_cache, promoted, put_entries}
 use Rattle.lru.proofs.CallerLemmas.{Contains-lookup_entry, lookup-put_entries}
 use Rattle.wu_base.proofs.Members.{Has-from_Contains, all_has}
-use Rattle.wu_base.proofs.MapEntries.{All-remove_entry, All-found}
+use Rattle.wu_base.proofs.MapEntries.{All-remove_entry, All-found, All-set_value}
 use Rattle.wu_tree.specs.FileSystems.{FileSystem}
 use Rattle.wu_space.specs.Addresses.{Ranges}
 use Rattle.wu_frames.specs.declared.Frames.{Frames}
@@ -56,6 +56,50 @@ module _ (fs : FileSystem) (live : Ranges) where
       let r = All-found IsRight (nat_eq uid) kept frames a (sym h) in
       subst (λ (n : ℕ). AreFrames fs live n frames) (sym (eqb-true uid r.0 r.1)) r.2
 
+  -- where the put may fail
+  pub right-tried : {E : Type 0} (old now : LruCache ℕ Frames) (uid : ℕ) (frames : Frames) (result : Result (Option Frames) E)
+      → OnOk result (now ≡ lru_cache (put_entries nat_eq old uid frames) old.cap) → OnErr result (now ≡ old)
+      → AreFor fs live old.entries → AreFrames fs live uid frames → AreFor fs live now.entries
+  right-tried old now uid frames (Ok before) done failed a p = rw done (right-put old uid frames a p)
+  right-tried old now uid frames (Err error) done failed a p = rw failed a
+
+  right-at : (i uid : ℕ) (kept : Kept) (frames : Frames) → AreFor fs live kept
+      → slice_get kept i ≡ Some (uid, frames) → AreFrames fs live uid frames
+  right-at i uid [] frames a h = cc
+  right-at zero uid (entry ∷ kept) frames a h = let same : entry ≡ (uid, frames) = cc in subst IsRight same a.0
+  right-at (suc i) uid (entry ∷ kept) frames a h = right-at i uid kept frames a.1 h
+
+  -- the one who asked longest ago, and the others
+  pub right-last : (uid : ℕ) (kept : Kept) (frames : Frames) → AreFor fs live kept → last_entry kept ≡ Some (uid, frames)
+      → AreFrames fs live uid frames
+  right-last uid kept frames = right-at (length kept - 1) uid kept frames
+
+  pub right-others : (kept : Kept) → AreFor fs live kept → AreFor fs live (take (length kept - 1) kept)
+  right-others kept = All-take IsRight (length kept - 1) kept
+
+  -- frames that were right, with another count of changes
+  right-counted : (uid mends : ℕ) (frames : Frames) → AreFrames fs live uid frames → AreFrames fs live uid (record frames { mends = mends })
+  right-counted uid mends frames a =
+      record { view = a.view; of_view = a.of_view; ascending = a.ascending; ranges_alone = a.ranges_alone; sum = a.sum }
+
+  pub right-asked : (uid : ℕ) (kept : Kept) (frames : Frames) → AreFor fs live kept → Some frames ≡ frames_for kept uid
+      → AreFor fs live (set_value (nat_eq uid) (promoted (nat_eq uid) kept) (record frames { mends = 0 }))
+  right-asked uid kept frames a h =
+      All-set_value IsRight (nat_eq uid) (promoted (nat_eq uid) kept) (record frames { mends = 0 }) (right-promoted uid kept a)
+      (λ n q. subst (λ (k : ℕ). AreFrames fs live k (record frames { mends = 0 })) (eqb-true uid n q)
+      (right-counted uid 0 frames (right-found uid kept frames a h)))
+
+found-set : (uid : ℕ) (kept : Kept) (frames : Frames) → IsSome (frames_for kept uid)
+    → IsSome (frames_for (set_value (nat_eq uid) kept frames) uid)
+found-set uid [] frames h = h
+found-set uid (entry ∷ kept) frames h =
+    elim (nat_eq uid entry.0) as
+    (λ b. nat_eq uid entry.0 ≡ b → IsSome (cond b (Some entry.1) (frames_for kept uid))
+    → IsSome (lookup (nat_eq uid) (cond b ((entry.0, frames) ∷ kept) (entry ∷ set_value (nat_eq uid) kept frames)))) [
+      | true ↦ λ p g. rw p refl
+      | false ↦ λ p g. rw p (found-set uid kept frames g)
+    ] refl h
+
 pub kept-promoted : (uid : ℕ) (kept : Kept) → true ≡ is_some (frames_for kept uid) → IsSome (frames_for (promoted (nat_eq uid) kept) uid)
 kept-promoted uid kept h =
     elim (lookup_entry (nat_eq uid) kept) as
@@ -67,3 +111,7 @@ kept-promoted uid kept h =
 
 pub kept-put : (cache : LruCache ℕ Frames) (uid : ℕ) (frames : Frames) → IsSome (frames_for (put_entries nat_eq cache uid frames) uid)
 kept-put cache uid frames = rw (lookup-put_entries nat_eq cache uid frames nat_eq_equiv) refl
+
+pub kept-asked : (uid : ℕ) (kept : Kept) (frames now : Frames) → Some frames ≡ frames_for kept uid
+    → IsSome (frames_for (set_value (nat_eq uid) (promoted (nat_eq uid) kept) now) uid)
+kept-asked uid kept frames now h = found-set uid (promoted (nat_eq uid) kept) now (kept-promoted uid kept (ap is_some h))

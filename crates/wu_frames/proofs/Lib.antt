@@ -2,3 +2,4 @@ pub mod Views
 pub mod ViewFrames
 pub mod Keeping
 pub mod FrameFacts
+pub mod MovedFrames

@@ -176,7 +176,7 @@ module _ (ranges : Ranges) where
         ranges-after range [] b = tt
         ranges-after range (x ∷ xs) b = (b.0, ranges-after range xs b.1)
 
-    within : (frames : List Frame) → AllByRecursion HasRange frames
+    pub within : (frames : List Frame) → AllByRecursion HasRange frames
         → AllByRecursion (λ (range : Range). range.start + range.len ≤ next) (map (λ frame. frame.range) frames)
     within [] a = tt
     within (frame ∷ frames) a = (given-from_live next ranges live frame.ino frame.range a.0, within frames a.1)
@@ -208,7 +208,7 @@ module _ (ranges : Ranges) where
 pub frames-from_parts : (fs : FileSystem) (space : Addresses) (uid : ℕ) (seen : List Seen) (frames : List Frame) (ranges : List Range) (total : ℕ)
     → IsSpace space → seen ≡ view_of fs uid → IsPermutation (frames_in space.ranges seen) frames
     → IsNonDecreasingBy (λ (x : Frame). x.range.start) frames → ranges ≡ map (λ (x : Frame). x.range) frames → total ≡ length_of ranges
-    → AreFrames fs space.ranges uid (record { by_address = frames; seen = seen; ranges = ranges; total = total })
+    → AreFrames fs space.ranges uid (record { by_address = frames; seen = seen; ranges = ranges; total = total; mends = 0 })
 frames-from_parts fs space uid seen frames ranges total s v m up r t =
     let once : IsOnce seen = subst IsOnce (sym v) (view_of-once fs uid) in
     let have : AllByRecursion (HasRange space.ranges) frames = all-have space.ranges seen frames m in

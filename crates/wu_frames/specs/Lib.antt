@@ -4,3 +4,4 @@ pub mod UserFrames
 -- ---- What only private functions and proofs need
 
 pub mod Making
+pub mod Mending

@@ -1,12 +1,14 @@
 -- A user's frames: the live ranges of the files of her view, each with the file's number and its place in the view.
-use Rattle.std.specs.Prelude.{◌≡◌, ℕ, Option, List, map, sum_by, option_map, nat_eq, IsPermutation, filter_map}
+use Rattle.std.specs.Prelude.{◌≡◌, ℕ, ◌≤◌, Option, Some, List, map, sum_by, option_map, nat_eq, IsPermutation, filter_map}
+use Rattle.std.specs.Ordering.{nat_cmp}
 use Rattle.std.specs.List.{AllByRecursion, enumerate_from}
-use Rattle.std.specs.Map.{lookup}
+use Rattle.std.specs.Map.{lookup, remove_entry}
+use Rattle.std.specs.BTreeMap.{is_at, insert_entry}
 use Rattle.wu_base.specs.declared.addresses.Range.{Range}
 use Rattle.wu_tree.specs.FileSystems.{FileSystem}
 use Rattle.wu_view.specs.declared.Seen.{Seen}
 use Rattle.wu_view.specs.Views.{view_of}
-use Rattle.wu_space.specs.Addresses.{Ranges, AreApart, range_of}
+use Rattle.wu_space.specs.Addresses.{Addresses, Ranges, AreApart, IsSpace, range_of}
 use Rattle.wu_frames.specs.declared.Frame.{Frame}
 use Rattle.wu_frames.specs.declared.Frames.{Frames}
 
@@ -44,3 +46,15 @@ frames_for kept uid = lookup (nat_eq uid) kept
 -- what is kept was made for that tree and those live ranges
 abbrev pub AreFor : FileSystem → Ranges → Kept → Type 0
 AreFor fs live kept = AllByRecursion (λ entry. AreFrames fs live entry.0 entry.1) kept
+
+-- ---- a file that has a new text
+
+-- the live ranges with that one of the file in place of the one before
+abbrev pub with_range : ℕ → Range → Ranges → Ranges
+with_range ino new live = insert_entry nat_cmp (remove_entry (is_at (nat_cmp ino)) live) ino new
+
+-- the file has the old range, and the new one lies behind all addresses that were given
+pub record IsMove (space : Addresses) (ino : ℕ) (old new : Range) : Type 0 where
+  pub rules : IsSpace space
+  pub from : range_of space.ranges ino ≡ Some old
+  pub to : space.next ≤ new.start

@@ -1,13 +1,17 @@
 //! The frames of the users who asked last.
 ghost use Rattle.std.specs.Prelude.{◌≡◌, [], IfOk, OnOk, OnErr, IsSome, option_copied};
-ghost use Rattle.wu_frames.specs.UserFrames.{AreFor, AreFrames, frames_for};
+ghost use Rattle.wu_tree.specs.FileSystems.{FileSystem};
+ghost use Rattle.wu_space.specs.Addresses.{Addresses};
+ghost use Rattle.wu_frames.specs.UserFrames.{AreFor, AreFrames, IsMove, frames_for, with_range};
+ghost use Rattle.wu_frames.specs.Mending.{KeepsRight};
 
-use crate::{Frames, making};
+use crate::{Frames, making, mending};
 use lru::LruCache;
 use std::alloc::Global;
 use std::marker::Model;
+use std::mem;
 use std::num::NonZeroUsize;
-use wu_base::{NoMemory, Uid};
+use wu_base::{Ino, NoMemory, Range, Uid};
 use wu_space::Space;
 use wu_tree::Tree;
 
@@ -64,7 +68,8 @@ impl FrameCache {
         ensures right { AreFor tree.now space.now.ranges self.new }
         ensures kept { OnOk result (IsSome (frames_for self.new uid)) }
     {
-        if self.kept.promote(&uid) {
+        if let Some(frames) = self.kept.get_mut(&uid) {
+            frames.mends = 0;
             return Ok(());
         }
         let frames = making::made(self.alloc, tree, space, uid)?;
@@ -79,10 +84,52 @@ impl FrameCache {
         self.kept.peek(&uid)
     }
 
-    /// Forgets all frames: called at each change of the tree or the space. Takes no memory.
+    /// Mends the frames after a file had a new text: where its old range was a frame, the new one is, behind
+    /// all others. All that changed is that the file's range went from the old one to the new one, which no
+    /// file had before. What can't be mended for want of memory is forgotten, and so are the frames of a user
+    /// who didn't ask while files of hers had 64 new texts.
+    ///
+    /// Takes time linear in the frames behind the old ones.
+    pub fn move_range(&mut self, ino: Ino, old: Range, new: Range)
+        ensures { (fs : FileSystem) (space : Addresses) → IsMove space ino old new
+            → AreFor fs space.ranges self.old → AreFor fs (with_range ino new space.ranges) self.new }
+    {
+        if self.kept.is_empty() {
+            return;
+        }
+        let users = NonZeroUsize::new(USERS_KEPT).unwrap();
+        match LruCache::new(self.alloc, users) {
+            Ok(empty) => {
+                let before = mem::replace(&mut self.kept, empty);
+                mend_each(&mut self.kept, before, ino, old, new);
+            }
+            Err(_) => self.kept.clear(),
+        }
+    }
+
+    /// Forgets all frames: called at each other change of the tree or the space. Takes no memory.
     pub fn clear(&mut self)
         ensures { self.new ≡ [] }
     {
         self.kept.clear();
+    }
+}
+
+/// Puts what is left of the frames, mended, before what was mended already, from the user on who asked for
+/// hers longest ago.
+fn mend_each(
+    mended: &mut LruCache<Uid, Frames>,
+    mut left: LruCache<Uid, Frames>,
+    ino: Ino,
+    old: Range,
+    new: Range,
+)
+    ensures { KeepsRight ino old new left.entries mended.old.entries mended.new.entries }
+{
+    while let Some((uid, frames)) = left.pop_lru() {
+        if let Some(frames) = mending::mended(frames, ino, old, new) {
+            // Out of memory, the user's frames are made anew when she asks.
+            let _ = mended.put(uid, frames);
+        }
     }
 }

@@ -3,6 +3,7 @@
 
 mod caches;
 mod making;
+mod mending;
 
 pub use caches::{FrameCache, USERS_KEPT};
 use wu_base::{Ino, Range, Sequence};
@@ -28,4 +29,6 @@ pub struct Frames {
     pub ranges: Sequence<Range>,
     /// How many addresses the ranges have together.
     pub total: u64,
+    /// How often a file among them had a new text since she last asked.
+    pub mends: u32,
 }

@@ -24,6 +24,7 @@ pub(crate) fn made(alloc: Global, tree: &Tree, space: &Space, uid: Uid) -> Resul
         seen: Sequence::from(seen),
         ranges: Sequence::from(ranges),
         total,
+        mends: 0,
     })
 }
 

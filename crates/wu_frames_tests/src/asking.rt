@@ -2,7 +2,7 @@
 use std::alloc::Global;
 use wu_base::Uid;
 use wu_frames::{FrameCache, Frames};
-use wu_rows::NoAnswer;
+use wu_rows::{NoAnswer, small_number};
 use wu_space::Space;
 use wu_tree::Tree;
 
@@ -11,6 +11,10 @@ pub fn frames(alloc: Global, tree: &Tree, space: &Space, uid: Uid) -> Result<Str
     let mut cache = FrameCache::new(alloc)?;
     cache.prepare(tree, space, uid)?;
     let frames = cache.frames_of(tree, space, uid)?;
+    written(alloc, frames)
+}
+
+fn written(alloc: Global, frames: &Frames) -> Result<String, NoAnswer> {
     let mut text = String::new(alloc);
     for frame in frames.by_address.as_slice() {
         let start = frame.range.start;
@@ -23,6 +27,35 @@ pub fn frames(alloc: Global, tree: &Tree, space: &Space, uid: Uid) -> Result<Str
         write!(text, "{start}+{len} of {ino} at {place}")?;
     }
     Ok(text)
+}
+
+/// A cache that has frames of these users, whose numbers have a space between each two, the last first.
+pub fn keep(
+    alloc: Global,
+    tree: &Tree,
+    space: &Space,
+    users: &str,
+) -> Result<FrameCache, NoAnswer> {
+    let mut cache = FrameCache::new(alloc)?;
+    for uid in users.split_whitespace() {
+        cache.prepare(tree, space, small_number(uid)?)?;
+    }
+    Ok(cache)
+}
+
+/// The frames that are kept of the user, or `none`; `stale` where they aren't those that are made anew.
+pub fn kept(
+    alloc: Global,
+    tree: &Tree,
+    space: &Space,
+    uid: Uid,
+    kept: Option<&Frames>,
+) -> Result<String, NoAnswer> {
+    match kept {
+        None => Ok(String::from_str(alloc, "none")?),
+        Some(frames) if is_anew(alloc, tree, space, uid, kept)? => written(alloc, frames),
+        Some(_) => Ok(String::from_str(alloc, "stale")?),
+    }
 }
 
 /// The numbers of the files of the view.
@@ -93,6 +126,7 @@ fn is_anew(
     match kept {
         Some(frames) => Ok(
             frames.total == anew.total
+                && frames.ranges.as_slice() == anew.ranges.as_slice()
                 && frames.by_address.as_slice() == anew.by_address.as_slice()
                 && frames.seen.as_slice() == anew.seen.as_slice(),
         ),

@@ -1,16 +1,19 @@
 //! The rows of a table: events of one tree, and questions for the frames of users.
 use crate::{asking, events};
 use std::alloc::Global;
-use wu_base::{ADDRESSES_MAX, Ino};
+use wu_base::{ADDRESSES_MAX, Ino, Range};
+use wu_frames::FrameCache;
 use wu_rows::{NoAnswer, Subject, number, small_number};
 use wu_space::Space;
 use wu_tree::{Event, Tree};
 
-/// The tree and the space to which the rows of a table are put. A table begins with the root alone.
+/// The tree and the space to which the rows of a table are put, and the frames that rows have kept. A table
+/// begins with the root alone.
 #[derive(Drop)]
 pub struct Rows {
     tree: Tree,
     space: Space,
+    kept: FrameCache,
 }
 
 impl Rows {
@@ -18,14 +21,15 @@ impl Rows {
         Ok(Rows {
             tree: Tree::new(alloc)?,
             space: Space::new(alloc, 0),
+            kept: FrameCache::new(alloc)?,
         })
     }
 
     /// What the tree answers to the event. A file that it makes or that gets a text is given `len`
-    /// addresses, and a file that it drops loses its range.
+    /// addresses, and a file that it drops loses its range. Kept frames are mended after a text, and
+    /// forgotten after any other event.
     fn apply(&mut self, alloc: Global, event: Event, len: u64) -> Result<String, NoAnswer> {
-        let made = events::applied(&mut self.tree, &event)?;
-        match made {
+        match events::applied(&mut self.tree, &event)? {
             Ok(effect) => {
                 if let Some(ino) = effect.dropped {
                     release(&mut self.space, ino);
@@ -33,14 +37,43 @@ impl Rows {
                 if let Some(ino) = effect.made {
                     place(&mut self.space, ino, len)?;
                 }
-                if let Some(ino) = effect.texted {
-                    release(&mut self.space, ino);
-                    place(&mut self.space, ino, len)?;
+                match effect.texted {
+                    Some(ino) => self.give_text(ino, len)?,
+                    None => self.kept.clear(),
                 }
                 Ok(String::from_str(alloc, "done")?)
             }
             Err(_) => Ok(String::from_str(alloc, "refused")?),
         }
+    }
+
+    /// Gives the file the next addresses, so many, in place of those that it has.
+    fn give_text(&mut self, ino: Ino, len: u64) -> Result<(), NoAnswer> {
+        let old = self.space.range_of(ino);
+        release(&mut self.space, ino);
+        let new = place(&mut self.space, ino, len)?;
+        match old {
+            Some(old) => self.kept.move_range(ino, old, new),
+            None => self.kept.clear(),
+        }
+        Ok(())
+    }
+
+    /// Gives the file so many texts in turn, each of `len` addresses.
+    fn give_texts(
+        &mut self,
+        alloc: Global,
+        ino: Ino,
+        len: u64,
+        times: u32,
+    ) -> Result<String, NoAnswer> {
+        for _ in 0..times {
+            let answer = self.apply(alloc, Event::Text { ino }, len)?;
+            if answer.as_str() != "done" {
+                return Ok(answer);
+            }
+        }
+        Ok(String::from_str(alloc, "done")?)
     }
 }
 
@@ -50,21 +83,21 @@ fn release(space: &mut Space, ino: Ino) {
     }
 }
 
-fn place(space: &mut Space, ino: Ino, len: u64) -> Result<(), NoAnswer> {
+fn place(space: &mut Space, ino: Ino, len: u64) -> Result<Range, NoAnswer> {
     if len == 0 || len > ADDRESSES_MAX || space.next() > ADDRESSES_MAX - len {
         return Err(NoAnswer::BadRow);
     }
     if space.range_of(ino).is_some() {
         return Err(NoAnswer::BadRow);
     }
-    space.place(ino, len)?;
-    Ok(())
+    Ok(space.place(ino, len)?)
 }
 
 impl Subject for Rows {
     fn begin(&mut self, alloc: Global) -> Result<(), NoAnswer> {
         self.tree = Tree::new(alloc)?;
         self.space = Space::new(alloc, 0);
+        self.kept.clear();
         Ok(())
     }
 
@@ -80,6 +113,22 @@ impl Subject for Rows {
                 small_number(users)?,
                 small_number(times)?,
             ),
+            ["keep", users] => {
+                self.kept = asking::keep(alloc, &self.tree, &self.space, users)?;
+                Ok(String::from_str(alloc, "done")?)
+            }
+            ["kept", uid] => {
+                let uid = small_number(uid)?;
+                asking::kept(alloc, &self.tree, &self.space, uid, self.kept.kept(uid))
+            }
+            ["texts", ino, len, times] => {
+                self.give_texts(
+                    alloc,
+                    small_number(ino)?,
+                    number(len)?,
+                    small_number(times)?,
+                )
+            }
             ["text", ino, len] => {
                 let event = Event::Text {
                     ino: small_number(ino)?,
