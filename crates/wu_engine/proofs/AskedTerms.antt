@@ -1,5 +1,5 @@
 -- The terms that a question asks for, and the lists of them.
-use Rattle.std.proofs.Common.{◌≡◌, ℕ, ◌≤◌, true, false, cond, ◌||◌, List, [], ◌∷◌, ◌++◌, length, take, map, refl, ap, ap₂, sym, ◌∙◌, subst, arith, rules, append_assoc, append-nil, length-append}
+use Rattle.std.proofs.Common.{◌≡◌, ℕ, ◌≤◌, Bool, true, false, cond, ◌||◌, List, [], ◌∷◌, ◌++◌, length, take, map, refl, ap, ap₂, sym, ◌∙◌, subst, arith, rules, append_assoc, append-nil, length-append}
 use Rattle.std.specs.Prelude.{All, Option, Some, find, nat_eq, option_map, unwrap_or}
 use Rattle.std.specs.List.{AllByRecursion, list_any}
 use Rattle.std.specs.List.Sorted.{IsStrictlyIncreasing}
@@ -7,7 +7,7 @@ use Rattle.std.specs.Cmp.Lexicographic.{pointwise, same_text, nat_list_eq_equiv}
 use Rattle.std.proofs.Math.Bool.{or-true}
 use Rattle.std.proofs.lemmas.Cmp.{nat_list_cmp_total}
 use Rattle.std.proofs.lemmas.Map.Lookups.{exact_bytes}
-use Rattle.std.proofs.lemmas.List.{length-map, take-map}
+use Rattle.std.proofs.lemmas.List.{take-map}
 use Rattle.std.proofs.lemmas.List.Elements.{recursion_from_All}
 use Rattle.std.proofs.Math.Seq.{take-append_seam}
 use Rattle.wu_base.proofs.Members.{Has-from_Contains, Contains-from_Has}
@@ -16,7 +16,7 @@ use Rattle.wu_base.specs.declared.addresses.TermList.{TermList}
 use Rattle.wu_gcl.specs.Regions.{Region}
 use Rattle.wu_gcl.specs.Terms.{AreTerms, terms_in}
 use Rattle.wu_engine.specs.Asked.{terms_of, with_word, with_words}
-use Rattle.wu_engine.specs.Units.{IsAmong, list_at, list_in}
+use Rattle.wu_engine.specs.Units.{IsAmong, list_at, list_in, wanted}
 
 -- the terms of an expression are the sorted ones
 pub terms_named : (region : Region) (terms : List (List ℕ)) → AreTerms region terms → terms ≡ terms_of region
@@ -75,6 +75,47 @@ words_among terms (word ∷ words) =
       words_among (with_word terms word) words,
     )
 
+-- ---- the terms that are words
+
+among_more : (term : List ℕ) (terms words : List (List ℕ)) → AllByRecursion (IsAmong terms) words
+    → AllByRecursion (IsAmong (term ∷ terms)) words
+among_more term terms [] are = tt
+among_more term terms (word ∷ words) are =
+    let here : list_any (pointwise nat_eq word) terms ≡ true = are.0 in
+    (rw here (or-true (pointwise nat_eq word term)), among_more term terms words are.1)
+
+each_among : (words : List (List ℕ)) → AllByRecursion (IsAmong words) words
+each_among [] = tt
+each_among (word ∷ words) =
+    (rw (nat_list_eq_equiv.refl word) refl, among_more word words words (each_among words))
+
+word_wanted : (words terms : List (List ℕ)) (word : List ℕ) → IsAmong words word → IsAmong terms word → IsAmong (wanted words terms) word
+word_wanted words [] word has is = is
+word_wanted words (term ∷ terms) word has is =
+    by (list_any (pointwise nat_eq term) words) (pointwise nat_eq word term) refl refl is (word_wanted words terms word has) where
+      by : (kept here : Bool) → list_any (pointwise nat_eq term) words ≡ kept → pointwise nat_eq word term ≡ here
+          → (here || list_any (pointwise nat_eq word) terms) ≡ true
+          → (IsAmong terms word → IsAmong (wanted words terms) word)
+          → IsAmong (cond kept (term ∷ wanted words terms) (wanted words terms)) word
+      by true true kept here more later = rw here refl
+      by true false kept here more later =
+          let rest : list_any (pointwise nat_eq word) (wanted words terms) ≡ true = later more in
+          rw rest (or-true (pointwise nat_eq word term))
+      by false true kept here more later =
+          let same : list_any (pointwise nat_eq term) words ≡ true =
+          subst (λ (w : List ℕ). list_any (pointwise nat_eq w) words ≡ true) (same_text word term (sym here)) has in
+          absurd (cc)
+      by false false kept here more later = later more
+
+-- each word that is among the terms is among those of them that are words
+pub wanted_among : (terms words : List (List ℕ)) → AllByRecursion (IsAmong terms) words
+    → AllByRecursion (IsAmong (wanted words terms)) words
+wanted_among terms words among = each words (each_among words) among where
+  each : (ws : List (List ℕ)) → AllByRecursion (IsAmong words) ws → AllByRecursion (IsAmong terms) ws
+      → AllByRecursion (IsAmong (wanted words terms)) ws
+  each [] own others = tt
+  each (word ∷ ws) own others = (word_wanted words terms word own.0 others.0, each ws own.1 others.1)
+
 -- ---- the lists of words
 
 -- where the lists are made by a function of the term, so is a word's
@@ -105,14 +146,15 @@ lists_in_told addresses terms (word ∷ words) all =
 
 -- ---- the first of lists
 
-module _ (terms words : List (List ℕ)) (lists : List TermList) where
-  -- the first lists are those of the terms
-  pub first_named : map (λ list. list.term) lists ≡ with_words terms words
-      → map (λ list. list.term) (take (length terms) lists) ≡ terms
-  first_named named =
-      sym (take-map (λ (list : TermList). list.term) (length terms) lists)
-      ∙ ap (take (length terms)) (named ∙ (with_words-front terms words).1)
-      ∙ take-append_seam terms (with_words-front terms words).0
+module _ (terms words : List (List ℕ)) where
+  -- of those that are asked for the first ones are the terms
+  pub first_asked : take (length terms) (with_words terms words) ≡ terms
+  first_asked =
+      let front = with_words-front terms words in ap (take (length terms)) front.1 ∙ take-append_seam terms front.0
+
+  pub enough_asked : length terms ≤ length (with_words terms words)
+  enough_asked =
+      let front = with_words-front terms words in omega (arith, ap length front.1, length-append terms front.0)
 
 terms_of_lists : (addresses : List ℕ → List ℕ) (terms : List (List ℕ)) → map (λ list. list.term) (map (list_at addresses) terms) ≡ terms
 terms_of_lists addresses [] = refl
@@ -129,6 +171,14 @@ front_told addresses terms lists count is =
     ∙ ap (map (list_at addresses))
     (sym (ap (map (λ (list : TermList). list.term)) front ∙ terms_of_lists addresses (take count terms)))
 
+-- lists that are named by these words, in turn, are made by it of them
+pub told_of : (addresses : List ℕ → List ℕ) (terms words : List (List ℕ)) (lists : List TermList) → lists ≡ map (list_at addresses) terms
+    → map (λ list. list.term) lists ≡ words → lists ≡ map (list_at addresses) words
+told_of addresses terms words lists is named =
+    is
+    ∙ ap (map (list_at addresses))
+    (sym (terms_of_lists addresses terms) ∙ ap (map (λ (list : TermList). list.term)) (sym is) ∙ named)
+
 -- the words' lists are made by it too
 pub words_told : (addresses : List ℕ → List ℕ) (terms words : List (List ℕ)) (lists found : List TermList)
     → lists ≡ map (list_at addresses) terms → AllByRecursion (IsAmong terms) words → found ≡ map (list_in lists) words
@@ -138,17 +188,6 @@ words_told addresses terms words lists found is among found_is =
 
 abbrev made_by : List ℕ → List ℕ → TermList
 made_by term at' = record { term = term; at = at' }
-
--- there are as many lists as terms, and more
-pub enough_lists : (terms words : List (List ℕ)) (lists : List TermList) → map (λ list. list.term) lists ≡ with_words terms words
-    → length terms ≤ length lists
-enough_lists terms words lists named =
-    omega (
-      arith,
-      length-map lists (λ (list : TermList). list.term),
-      ap length (named ∙ (with_words-front terms words).1),
-      length-append terms (with_words-front terms words).0,
-    )
 
 -- a word's list, by the first list of its term
 pub list_is : (lists : List TermList) (word term at' : List ℕ) (first : Option TermList)

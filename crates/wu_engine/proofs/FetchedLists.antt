@@ -1,10 +1,12 @@
 -- The lists of terms, fetched one after the other.
 use Rattle.std.proofs.Common.{◌≡◌, ℕ, ◌+◌, ◌<◌, List, [], ◌∷◌, ◌++◌, length, map, take, drop, get_or, ap, sym, ◌∙◌, subst}
-use Rattle.std.specs.Prelude.{All, Option, zip}
+use Rattle.std.specs.Prelude.{All, Option, nat_eq, zip}
+use Rattle.std.specs.Cmp.Lexicographic.{pointwise}
+use Rattle.std.specs.List.{list_any}
 use Rattle.std.specs.List.Sorted.{IsStrictlyIncreasing}
 use Rattle.std.specs.Map.{keys_of}
 use Rattle.std.proofs.lemmas.List.{take_more, drop_more, take-append-drop, map-append}
-use Rattle.std.proofs.lemmas.List.Elements.{All-from_recursion, recursion_from_All}
+use Rattle.std.proofs.lemmas.List.Elements.{All-from_recursion, filter-append, recursion_from_All}
 use Rattle.wu_base.specs.declared.addresses.PartRec.{PartRec}
 use Rattle.wu_base.specs.declared.addresses.Range.{Range}
 use Rattle.wu_base.specs.declared.addresses.TermList.{TermList}
@@ -18,7 +20,7 @@ use Rattle.wu_lists.specs.Keeping.{Asks, all_missing}
 use Rattle.wu_parts.specs.Causes.{IsFetchCause}
 use Rattle.wu_parts.specs.Contents.{Contents}
 use Rattle.wu_engine.specs.Asked.{blocks_for}
-use Rattle.wu_engine.specs.Units.{IsCauseFor, list_at}
+use Rattle.wu_engine.specs.Units.{IsCauseFor, list_at, wanted}
 use Rattle.wu_lists.proofs.Asking.{all-append, asks-join}
 use Rattle.wu_engine.proofs.Asking.{fails_after, fails_then}
 use Rattle.wu_engine.proofs.ToldPostings.{for-append}
@@ -50,6 +52,17 @@ module _ (terms : List (List ℕ)) (i : ℕ) (term : List ℕ) (within : i < len
       ∙ ap (λ (l : TermList). map (list_at found) (take i terms) ++ l ∷ []) list_is
       ∙ sym (map-append (list_at found) (take i terms) (term ∷ []))
       ∙ ap (map (list_at found)) (sym taken)
+
+  -- the next term's list, if it is wanted
+  pub wanted_next : (words : List (List ℕ)) (found : List ℕ → List ℕ) (lists now : List TermList)
+      → lists ≡ map (list_at found) (wanted words (take i terms))
+      → now ≡ lists ++ map (list_at found) (wanted words (term ∷ []))
+      → now ≡ map (list_at found) (wanted words (take (i + 1) terms))
+  wanted_next words found lists now before put =
+      put ∙ ap (λ (ls : List TermList). ls ++ map (list_at found) (wanted words (term ∷ []))) before
+      ∙ sym (map-append (list_at found) (wanted words (take i terms)) (wanted words (term ∷ [])))
+      ∙ ap (map (list_at found))
+      (sym (filter-append (λ (t : List ℕ). list_any (pointwise nat_eq t) words) (take i terms) (term ∷ [])) ∙ ap (wanted words) (sym taken))
 
   pub named_next : (lists now : List TermList) (list : TermList) → map (λ list. list.term) lists ≡ take i terms
       → now ≡ lists ++ list ∷ [] → list.term ≡ term → map (λ list. list.term) now ≡ take (i + 1) terms

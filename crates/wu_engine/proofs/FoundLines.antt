@@ -207,7 +207,7 @@ module _ (frames : Frames) (live : Ranges) (s : State) (uid : ℕ) (is : Indexes
             (subst (λ (o : Option Range). IsFrameOf addresses (tokens_of (text_in s.texts file.ino)) (unwrap_or o no_range)) range framed)
             files there e
 
-  all_alike : AllByRecursion IsAlike (files_of s.tree uid)
+  pub all_alike : AllByRecursion IsAlike (files_of s.tree uid)
   all_alike =
       all_from_has IsAlike (files_of s.tree uid)
       (λ file has.

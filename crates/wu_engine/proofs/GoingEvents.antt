@@ -11,7 +11,7 @@ use Rattle.wu_outside.specs.Content.{Content, with_blob}
 use Rattle.wu_layout.specs.Invariants.{BlobsAreDistinct}
 use Rattle.wu_layout.specs.Layouts.{FileEntry, Part}
 use Rattle.wu_layout.specs.Postings.{Posting, live_of, placed_from}
-use Rattle.wu_layout.proofs.BlobLemmas.{count-append, count-cons, once, once_other, once_same}
+use Rattle.wu_layout.proofs.Flushes.{blobs_after_flush}
 use Rattle.wu_layout.proofs.EachLemmas.{each-append}
 use Rattle.wu_layout.proofs.EntryLemmas.{IfSome-map}
 use Rattle.wu_tree.specs.declared.events.Effect.{Effect}
@@ -27,7 +27,7 @@ use Rattle.wu_parts.proofs.RunningJobs.{running_more, zip-append}
 use Rattle.wu_engine.specs.Going.{IsSoundIn, IsSoundJob, IsSoundOver, IsSoundPart, entries_of}
 use Rattle.wu_engine.specs.Indexing.{Follows, FlushesIfFull, catalog_of, drawn_for, is_stored, stored_at, terms_after, without_file}
 use Rattle.wu_engine.specs.Records.{Records, recorded_ranges}
-use Rattle.wu_engine.proofs.GoingBlobs.{blobs_drawn, sound_after_put}
+use Rattle.wu_engine.proofs.GoingBlobs.{sound_after_put}
 use Rattle.wu_engine.proofs.GoingRecords.{IsSoundCatalog, catalog_followed}
 use Rattle.wu_engine.proofs.IndexLemmas.{postings_gained}
 use Rattle.wu_engine.proofs.SoundLemmas.{Ascend, next_followed}
@@ -60,31 +60,10 @@ has_none next old new (inr made) = subst (λ (c : Contents). HasSome next c.memo
 
 module _ (next : ℕ) (files : List (ℕ × FileEntry)) (parts : List PartRec) (check : ℕ) (stale : List ℕ)
     (d : BlobsAreDistinct next files (bares parts) check stale) (recorded : PartRec) (e : recorded.blob ≡ next) where
-  abbrev named : ℕ → List PartRec → ℕ
-  named number records = count_by (λ part. part.blob == number) (bares records)
-
-  one_more : (number : ℕ) → named number (parts ++ recorded ∷ []) ≡ named number parts + once recorded.blob number
-  one_more number =
-      let test : Part → Bool = λ part. part.blob == number in
-      omega (
-        arith,
-        ap (count_by test) (map-append bare parts (recorded ∷ [])),
-        count-append test (bares parts) (bare recorded ∷ []),
-        count-cons test (bare recorded) [],
-      )
-
   blobs_more : BlobsAreDistinct (next + 1) files (bares (parts ++ recorded ∷ [])) check stale
   blobs_more =
-      let zeroth : once recorded.blob 0 ≡ 0 = once_other recorded.blob 0 (λ same. omega (arith, e, same, d.positive)) in
-      blobs_drawn next (next + 1) files files (bares parts) (bares (parts ++ recorded ∷ [])) check check stale stale d (omega arith)
-      (λ number l.
-      ⊎_elim
-      (λ (same : recorded.blob ≡ number).
-      inr (omega (arith, e, same), omega (arith, e, same), omega (arith, one_more number, once_same recorded.blob number same)))
-      (λ other. inl (omega (arith, one_more number, once_other recorded.blob number other)))
-      (cases_eq recorded.blob number))
-      (omega (arith, one_more 0, zeroth, d.of_parts))
-      d.of_stale
+      subst (λ all. BlobsAreDistinct (next + 1) files all check stale) (sym (map-append bare parts (recorded ∷ [])))
+      (blobs_after_flush next files (bares parts) check stale d (bare recorded) e)
 
 -- ---- flushes
 

@@ -4,6 +4,7 @@ use Rattle.std.specs.Prelude.{Option, Some, None, option_map}
 use Rattle.wu_outside.specs.Content.{Content, with_blob, with_root}
 use Rattle.wu_layout.specs.Layouts.{Layout}
 use Rattle.wu_layout.specs.Postings.{Posting}
+use Rattle.wu_layout.proofs.Flushes.{blobs_after_checkpoint}
 use Rattle.wu_tree.specs.FileSystems.{FileSystem}
 use Rattle.wu_space.specs.Addresses.{Addresses}
 use Rattle.wu_parts.specs.Contents.{Contents}
@@ -17,7 +18,7 @@ use Rattle.wu_engine.specs.SavedStores.{Saves, all_done, remove_blob}
 use Rattle.wu_engine.proofs.GoingBlobs.{sound_stays}
 use Rattle.wu_engine.proofs.GoingEvents.{HasSome, flush_sound, has_none}
 use Rattle.wu_engine.proofs.SavedContents.{all_removed}
-use Rattle.wu_engine.proofs.SavedStates.{blobs_checkpointed, left, named_stays}
+use Rattle.wu_engine.proofs.SavedStates.{left, named_stays}
 
 -- a layout with the blobs that are recorded
 abbrev layout_for : Records → Contents → ℕ → Layout
@@ -49,7 +50,7 @@ module _ (start content : Content) (files : Records) (contents : Contents) (chec
       (λ number named some. named_stays layout sound.blobs content bytes root number some (omega (arith, named))) sound in
       record {
         paired = stays.paired;
-        blobs = blobs_checkpointed layout sound.blobs;
+        blobs = blobs_after_checkpoint layout.blob layout.files layout.parts layout.check layout.stale sound.blobs;
         texts = stays.texts;
         parts = stays.parts;
         job = stays.job;

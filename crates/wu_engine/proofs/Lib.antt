@@ -1,5 +1,6 @@
 pub mod NumberedEntries
 pub mod FileChanges
+pub mod KeptFrames
 pub mod StateTexts
 pub mod StateLayouts
 pub mod FlushedStates
@@ -25,9 +26,13 @@ pub mod UnitsOfFrames
 pub mod AskedTerms
 pub mod Places
 pub mod FramesOfView
+pub mod PassedFrames
 pub mod UnitLemmas
+pub mod WholeFiles
+pub mod FileUnits
 pub mod CountLemmas
 pub mod RankLemmas
+pub mod RankedAnswers
 pub mod AnswerLemmas
 pub mod Searching
 pub mod ReadCauses
@@ -35,6 +40,7 @@ pub mod ReadTexts
 pub mod FoundExtents
 pub mod FoundLines
 pub mod FirstLines
+pub mod FilesWithExtents
 pub mod QueryReads
 pub mod QueryStands
 pub mod PermittedBlocks
@@ -49,7 +55,6 @@ pub mod OpenedParts
 pub mod OpenedFiles
 pub mod OpenedStates
 pub mod BrokenBlobs
-pub mod RightJobs
 pub mod GoingBlobs
 pub mod GoingUnits
 pub mod GoingRecords

@@ -19,7 +19,7 @@ use Rattle.wu_layout.specs.Postings.{Posting, live_of}
 use Rattle.wu_layout.specs.Layouts.{FileEntry, Job, Layout, Part, Text, entry_of, parts_after, parts_before, parts_taken, ranges_of, stored_in}
 use Rattle.wu_layout.specs.Invariants.{times_named}
 use Rattle.wu_layout.specs.Steps.{flush, flush_if_full, flushed, job_of, made_generation, place, release, replaced, rest, text_blob, unit, unit_of, with_terms_left, work}
-use Rattle.wu_layout.proofs.BlobLemmas.{count-append, count-cons, once, once_other, once_same}
+use Rattle.wu_layout.proofs.BlobLemmas.{count-append, count-cons, once, once_other, once_same, released_count, removed_count}
 use Rattle.wu_layout.proofs.EntryLemmas.{none_after_removal}
 use Rattle.wu_layout.proofs.HomeLemmas.{parts_split}
 use Rattle.wu_layout.proofs.TextLemmas.{entry_for}
@@ -62,37 +62,6 @@ names_same before after same kept = record {
 }
 
 -- ---- texts
-
-abbrev named_by : Option FileEntry → ℕ → ℕ
-named_by None number = 0
-named_by (Some entry) number = once entry.blob number
-
-removed_count : (test : ℕ → Bool) (number : ℕ) (files : List (ℕ × FileEntry))
-    → named_by (lookup test files) number + count_by (λ file. file.1.blob == number) (remove_entry test files)
-    ≡ count_by (λ file. file.1.blob == number) files
-removed_count test number [] = refl
-removed_count test number (file ∷ files) =
-    elim (test file.0) as
-    (λ b. named_by (cond b (Some file.1) (lookup test files)) number
-    + count_by (λ (other : ℕ × FileEntry). other.1.blob == number) (cond b files (file ∷ remove_entry test files))
-    ≡ count_by (λ (other : ℕ × FileEntry). other.1.blob == number) (file ∷ files)) [
-      | true ↦ sym (count-cons (λ (other : ℕ × FileEntry). other.1.blob == number) file files)
-      | false ↦
-          omega (
-            arith,
-            removed_count test number files,
-            count-cons (λ (other : ℕ × FileEntry). other.1.blob == number) file files,
-            count-cons (λ (other : ℕ × FileEntry). other.1.blob == number) file (remove_entry test files),
-          )
-    ]
-
-released_count : (o : Option FileEntry) (number : ℕ) → 0 < number → count_by (λ other. other == number) (text_blob o) ≡ named_by o number
-released_count None number l = refl
-released_count (Some entry) number l =
-    ⊎_elim
-    (λ e. rw (eq-eqb entry.blob 0 e) (sym (once_other entry.blob number (λ same. omega arith))))
-    (λ h. rw (ne_eqb entry.blob 0 h) (omega (arith, count-cons (λ (other : ℕ). other == number) entry.blob [])))
-    (cases_eq entry.blob 0)
 
 names_release : (ino : ℕ) (layout : Layout) → NamesOn layout (release ino layout)
 names_release ino layout =

@@ -5,7 +5,6 @@ use Rattle.std.proofs.lemmas.List.{length-map, take-map}
 use Rattle.std.specs.Coded.{Coded, Coded-set, coded_ℕ, coded_list, coded×, code_by}
 use Rattle.wu_base.specs.declared.addresses.TermList.{TermList}
 use Rattle.wu_gcl.specs.Regions.{Region}
-use Rattle.wu_gcl.specs.Terms.{AreTerms}
 use Rattle.wu_ask.specs.declared.Answered.TheVariants.{Rank}
 use Rattle.wu_ask.specs.declared.RankLine.{RankLine}
 use Rattle.wu_ask.specs.Questions.{Ranking}
@@ -22,7 +21,7 @@ use Rattle.wu_frames.specs.declared.Frames.{Frames}
 use Rattle.wu_engine.specs.Answer.{answer, line_of}
 use Rattle.wu_engine.specs.Rankings.{frequency_in, ranking_of, tokens_at}
 use Rattle.wu_engine.specs.States.{State, Texts}
-use Rattle.wu_engine.specs.Units.{AreUnits, Indexes, found_in, in_its_file, list_at, range_at, units_in, unshifted}
+use Rattle.wu_engine.specs.Units.{AreUnitsIn, Indexes, found_in, in_its_file, list_at, range_at, unshifted}
 use Rattle.wu_engine.specs.View.{Shown, shown_of, view_of}
 use Rattle.wu_engine.proofs.FramesOfView.{are_of_view}
 use Rattle.wu_engine.proofs.Places.{all_places, units_of-places}
@@ -42,9 +41,7 @@ lines_back view start (r ∷ rs) =
     ap₂ (λ (x : Ranked) (lines : List RankLine). line_of view x ∷ lines) (shifted_back_one start r) (lines_back view start rs)
 
 module _ (frames : Frames) (live : Ranges) (s : State) (uid : ℕ) (is : Indexes frames live s uid)
-    (region : Region) (terms words : List (List ℕ)) (named : AreTerms region terms) (units : List RankedUnit)
-    (unit_lists lists : List TermList) (are : AreUnits region frames unit_lists units)
-    (of_terms : unit_lists ≡ map (list_at (found_in frames.ranges s)) terms)
+    (region : Region) (words : List (List ℕ)) (units : List RankedUnit) (are : AreUnitsIn region frames s units) (lists : List TermList)
     (of_words : lists ≡ map (list_at (found_in frames.ranges s)) words) where
   abbrev start_at : ℕ → ℕ
   start_at place = (range_at live (files_of s.tree uid) place).start
@@ -59,10 +56,9 @@ module _ (frames : Frames) (live : Ranges) (s : State) (uid : ℕ) (is : Indexes
       let view = view_of s uid in
       let found = found_in frames.ranges s in
       ap₂ (λ (us : List RankedUnit) (ls : List TermList). listed count_at us ls)
-      (are.are ∙ ap (λ (ls : List TermList). units_in region ls frames.by_address) of_terms
-      ∙ v.units region (map (list_at found) terms)) of_words
-      ∙ frames_ranked region found terms words (tokens_at view) (range_at live (files_of s.tree uid)) (all_places view)
-      (map (λ (frame : Frame). frame.place) frames.by_address) named.all v.framed v.order
+      (are.are ∙ v.units region (map (list_at found) are.terms)) of_words
+      ∙ frames_ranked region found are.terms words (tokens_at view) (range_at live (files_of s.tree uid)) (all_places view)
+      (map (λ (frame : Frame). frame.place) frames.by_address) are.all v.framed v.order
       ∙ ap (λ (us : List RankedUnit). map (shifted_ranked start_at) (listed (frequency_in view) us words))
       (sym (units_of-places region view)))
 

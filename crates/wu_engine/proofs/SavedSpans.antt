@@ -13,7 +13,7 @@ use Rattle.wu_layout.specs.Invariants.{HasText, IsLayoutOf, SomeOf, flushes_for}
 use Rattle.wu_layout.specs.Invariants.{NeverRise as NeverRiseIn}
 use Rattle.wu_layout.proofs.GenerationLemmas.{AreUpTo}
 use Rattle.wu_layout.proofs.KeptLemmas.{length-live_of}
-use Rattle.wu_layout.proofs.LiveCounts.{IsSpan, live_in_part, shared, span_of}
+use Rattle.wu_layout.proofs.LiveCounts.{IsSpan, bounds_of_home, live_in_part, shared, span_of}
 use Rattle.wu_layout.proofs.LiveCounts.{SpansAscend as SpansAscendIn}
 use Rattle.wu_layout.proofs.PostingLemmas.{Ascend-filter, Ascend-split, length-placed}
 use Rattle.wu_part.specs.Directories.{PartDirectory}
@@ -122,23 +122,7 @@ span_recorded content r x part low high h a l =
 
 -- ---- each range lies in a part
 
-placed_bounds : (low high start : ℕ) (terms : List (List ℕ)) → 0 < length terms → Ascend low high (placed_from start terms)
-    → (low ≤ start) × (start + length terms ≤ high)
-placed_bounds low high start [] l a = absurd (omega arith)
-placed_bounds low high start (term ∷ []) l a = (a.0, omega (arith, a.1))
-placed_bounds low high start (term ∷ second ∷ more) l a =
-    let r = placed_bounds (start + 1) high (start + 1) (second ∷ more) (omega arith) a.1 in (a.0, omega (arith, r.1))
-
 module _ (text : Text) (range : Range) (long : range.len ≡ length text.terms) (some : 0 < range.len) where
-  -- where the text's postings are these, the range lies within their bounds
-  bounds_of_home : (low high : ℕ) (home : List Posting) → Ascend low high home → HasText text range home
-      → (low ≤ range.start) × (range.start + range.len ≤ high)
-  bounds_of_home low high home a h =
-      let placed : Ascend low high (placed_from range.start text.terms) =
-      subst (λ ps. Ascend low high ps) h (Ascend-filter (λ (p : Posting). is_in range p.address) low high home a) in
-      let r = placed_bounds low high range.start text.terms (omega arith) placed in
-      (r.0, omega (arith, r.1))
-
   not_in_none : HasText text range [] → ⊥
   not_in_none h =
       let none : 0 ≡ length text.terms = ap (λ (ps : List Posting). length ps) h ∙ length-placed range.start text.terms in omega arith
@@ -157,7 +141,7 @@ module _ (text : Text) (range : Range) (long : range.len ≡ length text.terms) 
       let span : IsSpan r.low r.high part.postings = span_recorded content r x part low split.0 h.0 split.1.0 f.0 in
       ⊎_elim
       (λ (m : HasText text range part.postings).
-      let b = bounds_of_home r.low (r.high + 1) part.postings span.within m in
+      let b = bounds_of_home text range long some r.low (r.high + 1) part.postings span.within m in
       or_left (lies_in range r) (list_any (λ (p : PartRec). lies_in range p) records)
       (and_from (nat_le r.low range.start) (nat_le (range.start + range.len) (r.high + 1))
       (le-leb r.low range.start b.0) (le-leb (range.start + range.len) (r.high + 1) b.1)))

@@ -18,6 +18,7 @@ use Rattle.wu_layout.specs.Steps.{checkpointed, flush, flushed}
 use Rattle.wu_layout.proofs.BlobLemmas.{count-append, count-cons, once, once_other, once_same}
 use Rattle.wu_layout.proofs.EachLemmas.{each-drop, each-take}
 use Rattle.wu_layout.proofs.EntryLemmas.{IfSome-found}
+use Rattle.wu_layout.proofs.Flushes.{blobs_after_checkpoint}
 use Rattle.wu_part.specs.Directories.{PartDirectory}
 use Rattle.wu_lists.specs.Keeping.{Kept}
 use Rattle.wu_parts.specs.Contents.{Contents, JobAt}
@@ -25,6 +26,7 @@ use Rattle.wu_parts.specs.Holdings.{HoldParts}
 use Rattle.wu_parts.specs.Units.{IsRunning}
 use Rattle.wu_parts.specs.Working.{TellsJobs}
 use Rattle.wu_parts.proofs.HeldParts.{parts_below, put_elsewhere, put_there}
+use Rattle.wu_parts.proofs.KeptJobs.{SameBlob, right_stays}
 use Rattle.wu_image.specs.Images.{HoldsText}
 use Rattle.wu_image.specs.Images.{HoldsPart as HoldsSavedPart}
 use Rattle.wu_image.proofs.RuleLemmas.{sum_has}
@@ -35,25 +37,9 @@ use Rattle.wu_engine.specs.Saving.{checkpoint_blob}
 use Rattle.wu_engine.specs.SavedStores.{recorded_files}
 use Rattle.wu_engine.proofs.FlushedStates.{flushed_kept}
 use Rattle.wu_engine.proofs.HeldParts.{blocks_stay, put_agrees}
-use Rattle.wu_engine.proofs.RightJobs.{SameBlob, right_stays}
 use Rattle.wu_engine.proofs.SavedContents.{gone_or_same, others_stay, root_stays, without}
 
 -- ---- the layout after a checkpoint
-
-pub blobs_checkpointed : (layout : Layout) → BlobsAreDistinct layout.blob layout.files layout.parts layout.check layout.stale
-    → BlobsAreDistinct (layout.blob + 1) layout.files layout.parts layout.blob []
-blobs_checkpointed layout d = record {
-  positive = omega arith;
-  distinct = λ number l.
-      ⊎_elim
-      (λ (same : layout.blob ≡ number). omega (arith, once_same layout.blob number same, d.below number (omega (arith, same))))
-      (λ other. omega (arith, once_other layout.blob number other, d.distinct number l))
-      (cases_eq layout.blob number);
-  below = λ number above.
-      omega (arith, once_other layout.blob number (λ same. omega (arith, same, above)), d.below number (omega (arith, above)));
-  of_parts = d.of_parts;
-  of_stale = refl;
-}
 
 pub layout_checkpointed : (is_file : ℕ → Bool) (text_of : ℕ → Text) (layout : Layout) → IsLayoutOf is_file text_of layout
     → IsLayoutOf is_file text_of (checkpointed layout)
@@ -63,7 +49,7 @@ layout_checkpointed is_file text_of layout is = record {
   texts = is.texts;
   generations = is.generations;
   work = is.work;
-  blobs = blobs_checkpointed layout is.blobs;
+  blobs = blobs_after_checkpoint layout.blob layout.files layout.parts layout.check layout.stale is.blobs;
 }
 
 pub saved_kept : (s : State) → IsState s → IsState (saved_state s)

@@ -13,6 +13,7 @@ use Rattle.wu_base.specs.declared.addresses.TermList.{TermList}
 use Rattle.wu_base.specs.declared.limits.TheConstants.{ADDRESSES_MAX}
 use Rattle.wu_gcl.specs.Extents.{hits}
 use Rattle.wu_gcl.specs.Regions.{Region}
+use Rattle.wu_gcl.specs.Terms.{AreTerms}
 use Rattle.wu_rank.specs.declared.results.Unit.{Unit as RankedUnit}
 use Rattle.wu_rank.specs.Scores.{length_of, total_length}
 use Rattle.wu_solve.specs.Addresses.{stands_by}
@@ -24,7 +25,8 @@ use Rattle.wu_space.specs.Addresses.{AreApart as LieApart}
 use Rattle.wu_frames.specs.declared.Frame.{Frame}
 use Rattle.wu_frames.specs.declared.Frames.{Frames}
 use Rattle.wu_engine.specs.Rankings.{unit_at}
-use Rattle.wu_engine.specs.Units.{AreUnits, CanBeSearched, count_before, end_of, placed, units_in}
+use Rattle.wu_engine.specs.States.{State}
+use Rattle.wu_engine.specs.Units.{AreUnits, AreUnitsIn, CanBeSearched, count_before, end_of, found_in, list_at, placed, units_in}
 use Rattle.wu_engine.proofs.FramesOfFiles.{frames_few}
 use Rattle.wu_engine.proofs.UnitsOfFrames.{both_all}
 
@@ -200,14 +202,27 @@ module _ (region : Region) (frames : Frames) (can : CanBeSearched frames) (lists
       (units_fit region lists frames.by_address (subst (AllByRecursion (λ (range : Range). range.len < 2 ^ 26)) can.of_frames can.short)) in
       record {
         are = in_frames;
-        some = All-from_recursion (λ (unit : RankedUnit). 1 ≤ length_of unit.extent) units fits.0;
-        short = All-from_recursion (λ (unit : RankedUnit). length_of unit.extent < 2 ^ 26) units fits.1;
-        few =
-            omega (
-              arith,
-              ap length in_frames,
-              length-units_in region lists frames.by_address,
-              ap (λ (rs : List Range). length (frames_hits region lists rs)) can.of_frames,
-              searched_few region lists frames can,
-            );
+        fit = record {
+          some = All-from_recursion (λ (unit : RankedUnit). 1 ≤ length_of unit.extent) units fits.0;
+          short = All-from_recursion (λ (unit : RankedUnit). length_of unit.extent < 2 ^ 26) units fits.1;
+          few =
+              omega (
+                arith,
+                ap length in_frames,
+                length-units_in region lists frames.by_address,
+                ap (λ (rs : List Range). length (frames_hits region lists rs)) can.of_frames,
+                searched_few region lists frames can,
+              );
+        };
       }
+
+-- by lists that have the addresses of a state they are those of the state
+pub units_told : (region : Region) (frames : Frames) (s : State) (lists : List TermList) (units ranked : List RankedUnit)
+    → AreTerms region (map (λ list. list.term) lists) → AreUnits region frames lists units
+    → lists ≡ map (list_at (found_in frames.ranges s)) (map (λ list. list.term) lists) → ranked ≡ units
+    → AreUnitsIn region frames s ranked
+units_told region frames s lists units ranked named are told same = record {
+  terms = map (λ (list : TermList). list.term) lists;
+  all = named.all;
+  are = same ∙ are.are ∙ ap (λ (ls : List TermList). units_in region ls frames.by_address) told;
+}

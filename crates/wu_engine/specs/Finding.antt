@@ -1,6 +1,7 @@
 -- The lines that are shown of extents, by what is recorded of files and what the store holds of their texts.
-use Rattle.std.specs.Prelude.{◌≡◌, ◌≢◌, ℕ, ◌+◌, ◌-◌, ◌<◌, ◌≤◌, ◌==◌, List, [], length, map, Option, None, Some, IfSome, unwrap_or, if◌then◌else◌}
+use Rattle.std.specs.Prelude.{◌≡◌, ◌≢◌, ℕ, ◌+◌, ◌-◌, ◌<◌, ◌≤◌, ◌==◌, Bool, List, [], ◌∷◌, length, map, Option, None, Some, IfSome, unwrap_or, if◌then◌else◌}
 use Rattle.std.specs.Ordering.{nat_cmp}
+use Rattle.std.specs.List.{list_any}
 use Rattle.std.specs.Map.{lookup}
 use Rattle.std.specs.BTreeMap.{is_at}
 use Rattle.wu_base.specs.declared.addresses.Extent.{Extent}
@@ -19,6 +20,7 @@ use Rattle.wu_space.specs.Addresses.{Ranges}
 use Rattle.wu_gcl.specs.Regions.{Region}
 use Rattle.wu_image.specs.declared.records.FileRec.{FileRec}
 use Rattle.wu_image.specs.Texts.{IsBrokenText}
+use Rattle.wu_rank.specs.declared.results.Unit.{Unit as RankedUnit}
 use Rattle.wu_solve.specs.Solving.{frame_hits}
 use Rattle.wu_view.specs.declared.Seen.{Seen}
 use Rattle.wu_engine.specs.Answer.{found_line}
@@ -27,7 +29,7 @@ use Rattle.wu_engine.specs.Records.{Records, records_of}
 use Rattle.wu_engine.specs.Soundness.{IsRecord}
 use Rattle.wu_engine.specs.Stands.{HoldsTexts}
 use Rattle.wu_engine.specs.States.{State}
-use Rattle.wu_engine.specs.Units.{Indexes, TellsPostings}
+use Rattle.wu_engine.specs.Units.{Indexes, TellsPostings, units_in}
 
 -- a record as it is kept, whose range ends below the greatest address
 pub record CanBeRead (file : ℕ × FileRec) : Type 0 where
@@ -83,6 +85,22 @@ hits_at files region lists seen = hits_recorded region lists (record_at files se
 
 abbrev pub text_at : Records → Seen → List ReadRange
 text_at files seen = text_recorded (record_at files seen.ino)
+
+-- ---- the files that are looked through
+
+abbrev pub is_at_place : ℕ → RankedUnit → Bool
+is_at_place place unit = unit.place == place
+
+-- of the files, the first of them at that place of a view, those that have one of the units
+abbrev pub with_units : List RankedUnit → ℕ → List Seen → List Seen
+with_units units place [] = []
+with_units units place (file ∷ files) =
+    if list_any (is_at_place place) units then file ∷ with_units units (place + 1) files else with_units units (place + 1) files
+
+-- all files of the view, or, where there are few extents, those that have one
+abbrev pub looked_through : Bool → Region → List TermList → Frames → List Seen
+looked_through few region lists frames =
+    if few then with_units (units_in region lists frames.by_address) 0 frames.seen else frames.seen
 
 -- ---- troubles
 

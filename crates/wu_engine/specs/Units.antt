@@ -1,6 +1,6 @@
 -- A search over a user's frames: where terms stand in them, the extents of an expression with the places of their files, and how
 -- frames and postings stand for the user's view.
-use Rattle.std.specs.Prelude.{◌≡◌, ℕ, suc, ◌+◌, ◌-◌, ◌<◌, ◌≤◌, ◌^◌, List, [], ◌∷◌, ◌++◌, length, map, take, drop, nat_eq, nat_lt, true, find, option_map, if◌then◌else◌, slice_get, option_and_then, unwrap_or, zip, Option, IfSome, IsSome}
+use Rattle.std.specs.Prelude.{◌≡◌, ℕ, suc, ◌+◌, ◌-◌, ◌<◌, ◌≤◌, ◌^◌, Contains, List, [], ◌∷◌, ◌++◌, length, map, take, drop, nat_eq, nat_le, nat_lt, true, filter, find, option_map, if◌then◌else◌, slice_get, option_and_then, unwrap_or, zip, Option, IfSome, IsSome}
 use Rattle.std.specs.List.{All, AllByRecursion, flat_map, list_any}
 use Rattle.std.specs.Cmp.Lexicographic.{pointwise}
 use Rattle.std.specs.Map.{keys_of}
@@ -14,6 +14,7 @@ use Rattle.wu_outside.specs.declared.ranges.ReadRange.{ReadRange}
 use Rattle.wu_layout.specs.Layouts.{postings_of, ranges_by_number}
 use Rattle.wu_layout.specs.Postings.{addresses_of, fetched}
 use Rattle.wu_gcl.specs.Regions.{Region}
+use Rattle.wu_gcl.specs.Terms.{terms_in}
 use Rattle.wu_view.specs.declared.Seen.{Seen}
 use Rattle.wu_rank.specs.declared.results.Unit.{Unit as RankedUnit}
 use Rattle.wu_rank.specs.declared.results.Ranked.{Ranked}
@@ -55,6 +56,10 @@ list_at addresses term = record { term = term; at = addresses term }
 abbrev pub IsAmong : List (List ℕ) → List ℕ → Type 0
 IsAmong terms word = list_any (pointwise nat_eq word) terms ≡ true
 
+-- those of the terms that are among the words
+abbrev pub wanted : List (List ℕ) → List (List ℕ) → List (List ℕ)
+wanted words terms = filter (λ term. list_any (pointwise nat_eq term) words) terms
+
 -- the list of the word, with the addresses that the first list of its term has; none where there is no such list
 abbrev pub list_in : List TermList → List ℕ → TermList
 list_in lists word =
@@ -81,13 +86,29 @@ placed (frame ∷ frames) xs = map (unit_at frame.place) (take (count_before (en
 abbrev pub units_in : Region → List TermList → List Frame → List RankedUnit
 units_in region lists frames = flat_map (λ frame. map (unit_at frame.place) (frame_hits region lists frame.range)) frames
 
--- the units of the expression in the frames, at addresses, by these lists
-pub record AreUnits (region : Region) (frames : Frames) (lists : List TermList) (units : List RankedUnit) : Type 0 where
-  pub are : units ≡ units_in region lists frames.by_address
-  -- they can be ranked
+-- what a ranking asks of its units
+pub record CanBeRanked (units : List RankedUnit) : Type 0 where
   pub some : All (λ unit. 1 ≤ length_of unit.extent) units
   pub short : All (λ unit. length_of unit.extent < 2 ^ 26) units
   pub few : length units ≤ 2 ^ 47
+
+-- the units of the expression in the frames, at addresses, by these lists
+pub record AreUnits (region : Region) (frames : Frames) (lists : List TermList) (units : List RankedUnit) : Type 0 where
+  pub are : units ≡ units_in region lists frames.by_address
+  pub fit : CanBeRanked units
+
+-- all of the frame, as the unit that is the whole file; none where a frame has no room for the tags at its start and its end
+abbrev pub file_unit : Frame → List RankedUnit
+file_unit frame =
+    if nat_le 2 frame.range.len then
+    unit_at frame.place (record { start = frame.range.start; end = frame.range.start + frame.range.len - 1 }) ∷ []
+    else
+    []
+
+-- the units that are whole files
+abbrev pub file_units : List Frame → List RankedUnit
+file_units [] = []
+file_units (frame ∷ frames) = file_unit frame ++ file_units frames
 
 -- ---- back to the files
 
@@ -130,6 +151,12 @@ pub record TellsPostings (contents : Contents) (holds : Option Content) (s : Sta
   pub told : IsSome holds
   pub parts : IfSome holds (λ content. HoldParts content contents.parts contents.directories s.layout.parts)
   pub kept : IfSome holds (λ content. KeepsBlocks content s.layout.blob contents.kept)
+
+-- The units of the expression in the frames, by the addresses that the state has.
+pub record AreUnitsIn (region : Region) (frames : Frames) (s : State) (units : List RankedUnit) : Type 0 where
+  pub terms : List (List ℕ)
+  pub all : (term : List ℕ) → Contains (terms_in region) term → Contains terms term
+  pub are : units ≡ units_in region (map (list_at (found_in frames.ranges s)) terms) frames.by_address
 
 -- Why fetching these terms fails: of the blocks that frames need of them and that weren't kept, the first ones were read.
 abbrev pub IsCauseFor : Contents → List Range → List (List ℕ) → Option Content → ℕ → ℕ → Option (List ReadRange) → Option (List ReadRange)

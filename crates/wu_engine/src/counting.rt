@@ -18,7 +18,7 @@ use wu_frames::Frames;
 use wu_gcl::{Expr, terms_of};
 use wu_outside::Store;
 use wu_parts::Parts;
-use wu_solve::count as counts_in;
+use wu_solve::count_apart;
 
 /// How many extents the expression has over the user's view, and in how many of its files.
 pub fn count<D: Store>(
@@ -42,7 +42,7 @@ pub fn count<D: Store>(
     let _untouched = &*store;
     let terms = terms_of(alloc, expr)?;
     let lists = lists_of(alloc, store, &terms, frames, parts)?;
-    let counts = counts_in(alloc, expr, frames.ranges.as_slice(), &lists)?;
+    let counts = count_apart(alloc, expr, frames.ranges.as_slice(), &lists)?;
     Ok(Answered::Count {
         hits: counts.hits,
         files: counts.files,

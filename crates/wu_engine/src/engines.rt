@@ -20,7 +20,7 @@ use crate::faults::BeginFault;
 use crate::opening::{open_first, open_root, open_saved};
 use crate::querying::answered;
 use crate::saving::save;
-use crate::updating::follow;
+use crate::updating::{follow, renew_frames, texted_before};
 use crate::verdicts::Verdict;
 use std::alloc::Global;
 use std::collections::BTreeMap;
@@ -169,7 +169,7 @@ impl Engine {
         self.space.keeps_the_rules();
         match self.tree.apply(event)? {
             Ok(effect) => {
-                self.frames.clear();
+                let texted = texted_before(&self.space, effect.texted);
                 let followed = follow(
                     &mut self.space,
                     &mut self.parts,
@@ -180,6 +180,7 @@ impl Engine {
                 );
                 match followed {
                     Ok(()) => {
+                        renew_frames(&mut self.frames, &self.space, texted);
                         self.ended = None;
                         Ok(Verdict::Made)
                     }

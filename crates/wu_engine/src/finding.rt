@@ -10,7 +10,7 @@ ghost use Rattle.wu_space.specs.Addresses.{Ranges};
 ghost use Rattle.wu_engine.specs.Answer.{answer, found_line};
 ghost use Rattle.wu_engine.specs.Asked.{blocks_for, terms_of as named_in};
 ghost use Rattle.wu_engine.specs.Causes.{IsDamagedAt, IsDamagedIn};
-ghost use Rattle.wu_engine.specs.Finding.{AreTextsOf, CanBeRead, IsBelow, IsBrokenIn, IsCause, KeepsTexts, counted_from, extents_of, hits_at, lines_at, lines_of_record, text_at};
+ghost use Rattle.wu_engine.specs.Finding.{AreTextsOf, CanBeRead, IsBelow, IsBrokenIn, IsCause, KeepsTexts, counted_from, extents_of, hits_at, lines_at, lines_of_record, looked_through, text_at};
 ghost use Rattle.wu_engine.specs.Permitted.{IsOneOfTexts, MayReadForQuery, ReadsOnly};
 ghost use Rattle.wu_engine.specs.Reads.{ReadsInTurn, texts_shown, whole_text};
 ghost use Rattle.wu_engine.specs.States.{State};
@@ -20,6 +20,7 @@ ghost use Rattle.wu_engine.specs.View.{view_of};
 use crate::fetching::lists_of;
 use crate::listing::first_path;
 use crate::reading::read_text;
+use crate::units::{files_with, units_of};
 use std::alloc::Global;
 use std::collections::BTreeMap;
 use wu_ask::{Answered, FindLine};
@@ -30,8 +31,11 @@ use wu_image::FileRec;
 use wu_outside::Store;
 use wu_parts::Parts;
 use wu_snip::{Snip, snippets};
-use wu_solve::{count, solve};
+use wu_solve::{count_apart, solve_apart};
 use wu_view::Seen;
+
+/// Up to so many extents the files that have one are sought by them. More of them are soon met file by file.
+const FEW_HITS: u64 = 4_096;
 
 /// How many extents the expression has over the user's view, in how many of its files, and the first `k` of
 /// them with their lines. Of texts in the store only those of the files are read of which a line is shown.
@@ -64,21 +68,59 @@ pub fn find<D: Store>(
     let _untouched = &*store;
     let terms = terms_of(alloc, expr)?;
     let lists = lists_of(alloc, store, &terms, frames, parts)?;
-    let counts = count(alloc, expr, frames.ranges.as_slice(), &lists)?;
-    let shown = first_lines(
+    let counts = count_apart(alloc, expr, frames.ranges.as_slice(), &lists)?;
+    let shown = lines_shown(
         alloc,
         store,
-        frames.seen.as_slice(),
+        frames,
         files,
         expr,
         &lists,
         k as usize,
+        counts.hits <= FEW_HITS,
     )?;
     Ok(Answered::Find {
         hits: counts.hits,
         files: counts.files,
         shown: Sequence::from(shown),
     })
+}
+
+/// The first `k` extents with their lines, file by file in the order of the view. Where there are `few` extents
+/// only the files that have one are looked through, so that it takes no time for the others.
+fn lines_shown<D: Store>(
+    alloc: Global,
+    store: &mut D,
+    frames: &Frames,
+    files: &BTreeMap<Ino, FileRec>,
+    expr: &Expr,
+    lists: &[TermList],
+    k: usize,
+    few: bool,
+) -> Result<Vec<FindLine>, Trouble>
+    requires fit { CanBeSearched frames.now }
+    requires records { AllByRecursion CanBeRead files.now.entries }
+    requires lists { AreLists lists.now }
+    ensures lines { IfOk result (λ lines. IfSome (D.holds store.old) (λ content. lines.items
+        ≡ take k (flat_map (lines_at content files.now.entries (region_of expr.now) lists.now)
+        (looked_through few (region_of expr.now) lists.now frames.now)))) }
+    ensures holds { D.holds store.new ≡ D.holds store.old }
+    ensures reads { OnOk result (D.reads store.new ≡ option_map (λ ranges. ranges
+        ++ texts_shown (hits_at files.now.entries (region_of expr.now) lists.now)
+        (text_at files.now.entries) k (looked_through few (region_of expr.now) lists.now frames.now)) (D.reads store.old)) }
+    ensures only { ReadsOnly (IsOneOfTexts (texts_shown (hits_at files.now.entries (region_of expr.now) lists.now)
+        (text_at files.now.entries) k (looked_through few (region_of expr.now) lists.now frames.now)))
+        (D.reads store.old) (D.reads store.new) }
+    ensures calm { OnOk result (D.faults store.new ≡ D.faults store.old) }
+    ensures cause { IfErr result (IsCause (IsDamagedAt files.now.entries (D.holds store.old)) (D.faults store.old) (D.faults store.new)) }
+{
+    let _untouched = &*store;
+    if !few {
+        return first_lines(alloc, store, frames.seen.as_slice(), files, expr, lists, k);
+    }
+    let units = units_of(alloc, frames, expr, lists)?;
+    let seen = files_with(alloc, frames.seen.as_slice(), &units)?;
+    first_lines(alloc, store, &seen, files, expr, lists, k)
 }
 
 /// The first `k` extents with their lines, file by file in the order of the view. Hits beyond these are not
@@ -167,7 +209,7 @@ fn first_extents(
     ensures within { IfOk result (λ v. All (IsBelow file.now.range.len) v.items) }
     ensures ascending { IfOk result (λ v. IsAscending v.items) }
 {
-    let extents = solve(alloc, expr, &[file.range], lists)?;
+    let extents = solve_apart(alloc, expr, &[file.range], lists)?;
     let count = extents.len().min(left);
     counted_from(alloc, file.range.start, &extents[..count])
 }

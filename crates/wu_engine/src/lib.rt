@@ -13,6 +13,7 @@ mod querying;
 mod ranking;
 mod reading;
 mod saving;
+mod units;
 mod updating;
 mod verdicts;
 

@@ -69,6 +69,7 @@ fn path_at(alloc: Global, view: &[Seen], place: u32) -> Result<Bytes, NoMemory>
     }
 }
 
+/// A copy of the first of the paths, which is the least; the empty path, if there is none.
 pub fn first_path(alloc: Global, paths: &[Bytes]) -> Result<Bytes, NoMemory>
     ensures { IfOk result (λ path. path ≡ unwrap_or (slice_get paths.now 0) []) }
 {

@@ -1,39 +1,37 @@
 //! The ranking of a query's units, over a user's frames.
-ghost use Rattle.std.specs.Prelude.{◌≡◌, ◌≤◌, ◌<◌, ◌+◌, ◌^◌, ◌++◌, ℕ, List, All, length, map, take, find, nat_eq, option_copied, IfOk, IfErr, OnOk};
+ghost use Rattle.std.specs.Prelude.{◌≡◌, ◌≤◌, ◌<◌, ◌^◌, ℕ, List, All, true, length, map, take, find, nat_eq, option_copied, IfOk, IfErr, OnOk};
 ghost use Rattle.std.specs.Cmp.Lexicographic.{pointwise};
-ghost use Rattle.std.specs.List.{AllByRecursion, list_any};
+ghost use Rattle.std.specs.List.{AllByRecursion};
 ghost use Rattle.std.specs.List.Sorted.{IsStrictlyIncreasing};
 ghost use Rattle.wu_ask.specs.Questions.{Ranking as AskedRanking};
 ghost use Rattle.wu_base.specs.declared.limits.TheConstants.{RANK_WORDS_MAX};
-ghost use Rattle.wu_gcl.specs.Regions.{region_of};
+ghost use Rattle.wu_gcl.specs.Regions.{Region, WholeFile, region_of};
 ghost use Rattle.wu_gcl.specs.Terms.{AreTerms};
 ghost use Rattle.wu_lists.specs.Keeping.{Asks};
-ghost use Rattle.wu_solve.specs.Addresses.{AreLists};
 ghost use Rattle.wu_rank.specs.Scores.{count_at, length_of, total_length};
 ghost use Rattle.wu_rank.specs.Order.{listed};
 ghost use Rattle.wu_engine.specs.Answer.{answer};
 ghost use Rattle.wu_engine.specs.Asked.{blocks_for, terms_of as named_in, with_word, with_words};
-ghost use Rattle.wu_engine.specs.Rankings.{unit_at};
 ghost use Rattle.wu_engine.specs.States.{State};
-ghost use Rattle.wu_engine.specs.Units.{AreUnits, CanBeSearched, Indexes, IsAmong, IsCauseFor, TellsPostings, count_before, found_in, list_at, list_in, placed};
+ghost use Rattle.wu_engine.specs.Units.{AreUnitsIn, CanBeRanked, CanBeSearched, Indexes, IsAmong, IsCauseFor, TellsPostings, found_in, list_at, list_in};
 ghost use Rattle.wu_engine.specs.View.{view_of};
 
-use crate::fetching::lists_of;
+use crate::fetching::{is_among, lists_of, lists_of_words};
 use crate::listing::lines_of;
+use crate::units::{units_of, units_of_files};
 use std::alloc::Global;
 use wu_ask::Answered;
-use wu_base::{Bytes, Extent, NoMemory, Sequence, TermList, Trouble};
-use wu_frames::{Frame, Frames};
+use wu_base::{Bytes, NoMemory, Sequence, TermList, Trouble};
+use wu_frames::Frames;
 use wu_gcl::{Expr, terms_of};
 use wu_outside::Store;
 use wu_parts::Parts;
 use wu_rank::{Ranker, Ranking, Unit, bm25_weigh, rank, summed_length};
-use wu_solve::solve;
 use wu_space::Space;
 
 /// How many units hold one of the words, by BM25 over the view alone, and the first `k` of them: by score,
 /// falling, then by file, then by start. The units are the extents of `unit`; a word that is given more than
-/// once counts as often. Each term is fetched once.
+/// once counts as often. Each term is asked for once.
 pub fn ranked<D: Store>(
     alloc: Global,
     store: &mut D,
@@ -62,7 +60,99 @@ pub fn ranked<D: Store>(
     let terms = terms_of(alloc, unit)?;
     let count = terms.len();
     let asked = with_words(terms, words)?;
-    let lists = lists_of(alloc, store, &asked, frames, parts)?;
+    match unit {
+        Expr::File => rank_files(alloc, store, frames, space, parts, k, words, &asked),
+        _ => {
+            rank_extents(
+                alloc, store, frames, space, parts, k, unit, words, &asked, count,
+            )
+        }
+    }
+}
+
+/// The same of whole files, where `asked` are the unit's terms and the words, in turn. Of terms that are no
+/// words only the reads are owed.
+fn rank_files<D: Store>(
+    alloc: Global,
+    store: &mut D,
+    frames: &Frames,
+    space: &Space,
+    parts: &mut Parts,
+    k: u32,
+    words: &[Bytes],
+    asked: &[Bytes],
+) -> Result<Answered, Trouble>
+    requires fit { CanBeSearched frames.now }
+    requires few { length words.now ≤ RANK_WORDS_MAX }
+    requires among { AllByRecursion (IsAmong asked.now) words.now }
+    ensures answer { IfOk result (λ answered. (s : State) (uid : ℕ) → Indexes frames.now space.now.ranges s uid
+        → TellsPostings parts.old (D.holds store.old) s
+        → answered ≡ answer (view_of s uid) (AskedRanking k WholeFile words.now)) }
+    ensures blocks { OnOk result (Asks (blocks_for parts.old frames.now.ranges asked.now) (D.holds store.old)
+        parts.old.kept parts.new.kept (D.reads store.old) (D.reads store.new)) }
+    ensures others { parts.new ≡ record parts.old { kept = parts.new.kept } }
+    ensures holds { D.holds store.new ≡ D.holds store.old }
+    ensures calm { OnOk result (D.faults store.new ≡ D.faults store.old) }
+    ensures cause { IfErr result (IsCauseFor parts.old frames.now.ranges asked.now
+        (D.holds store.old) (D.faults store.old) (D.faults store.new) (D.reads store.old) (D.reads store.new)) }
+{
+    let _untouched = &*store;
+    let lists = lists_of_words(alloc, store, asked, words, frames, parts)?;
+    Ok(rank_file_lists(alloc, frames, space, k, words, &lists)?)
+}
+
+/// The same, by the lists of the words.
+fn rank_file_lists(
+    alloc: Global,
+    frames: &Frames,
+    space: &Space,
+    k: u32,
+    words: &[Bytes],
+    lists: &[TermList],
+) -> Result<Answered, NoMemory>
+    requires fit { CanBeSearched frames.now }
+    requires few { length words.now ≤ RANK_WORDS_MAX }
+    requires ascending { All (λ list. IsStrictlyIncreasing list.at) lists.now }
+    ensures { IfOk result (λ answered. (s : State) (uid : ℕ) → Indexes frames.now space.now.ranges s uid
+        → (terms : List (List ℕ)) → lists.now ≡ map (list_at (found_in frames.now.ranges s)) terms
+        → AllByRecursion (IsAmong terms) words.now
+        → answered ≡ answer (view_of s uid) (AskedRanking k WholeFile words.now)) }
+{
+    let units = units_of_files(alloc, frames.by_address.as_slice())?;
+    rank_units(alloc, frames, space, k, &units, words, lists, lists)
+}
+
+/// The same of other extents, where the first `count` terms that are asked for are the unit's.
+fn rank_extents<D: Store>(
+    alloc: Global,
+    store: &mut D,
+    frames: &Frames,
+    space: &Space,
+    parts: &mut Parts,
+    k: u32,
+    unit: &Expr,
+    words: &[Bytes],
+    asked: &[Bytes],
+    count: usize,
+) -> Result<Answered, Trouble>
+    requires fit { CanBeSearched frames.now }
+    requires few { length words.now ≤ RANK_WORDS_MAX }
+    requires among { AllByRecursion (IsAmong asked.now) words.now }
+    requires within { count ≤ length asked.now }
+    requires of_unit { AreTerms (region_of unit.now) (take count asked.now) }
+    ensures answer { IfOk result (λ answered. (s : State) (uid : ℕ) → Indexes frames.now space.now.ranges s uid
+        → TellsPostings parts.old (D.holds store.old) s
+        → answered ≡ answer (view_of s uid) (AskedRanking k (region_of unit.now) words.now)) }
+    ensures blocks { OnOk result (Asks (blocks_for parts.old frames.now.ranges asked.now) (D.holds store.old)
+        parts.old.kept parts.new.kept (D.reads store.old) (D.reads store.new)) }
+    ensures others { parts.new ≡ record parts.old { kept = parts.new.kept } }
+    ensures holds { D.holds store.new ≡ D.holds store.old }
+    ensures calm { OnOk result (D.faults store.new ≡ D.faults store.old) }
+    ensures cause { IfErr result (IsCauseFor parts.old frames.now.ranges asked.now
+        (D.holds store.old) (D.faults store.old) (D.faults store.new) (D.reads store.old) (D.reads store.new)) }
+{
+    let _untouched = &*store;
+    let lists = lists_of(alloc, store, asked, frames, parts)?;
     Ok(rank_lists(alloc, frames, space, k, unit, words, &lists, count)?)
 }
 
@@ -87,9 +177,74 @@ fn rank_lists(
         → AllByRecursion (IsAmong terms) words.now
         → answered ≡ answer (view_of s uid) (AskedRanking k (region_of unit.now) words.now)) }
 {
-    let units = units_of(alloc, frames, unit, &lists[..count])?;
+    let (of_unit, own) = lists.split_at(count);
+    let units = units_of(alloc, frames, unit, of_unit)?;
+    rank_units(alloc, frames, space, k, &units, words, lists, own)
+}
+
+/// Ranks the units, where each word has one of the lists. The lists that weren't fetched for the units are
+/// its `own`: they aren't copied where they are those of the words, in turn.
+fn rank_units(
+    alloc: Global,
+    frames: &Frames,
+    space: &Space,
+    k: u32,
+    units: &[Unit],
+    words: &[Bytes],
+    lists: &[TermList],
+    own: &[TermList],
+) -> Result<Answered, NoMemory>
+    requires fit { CanBeRanked units.now }
+    requires few { length words.now ≤ RANK_WORDS_MAX }
+    requires ascending { All (λ list. IsStrictlyIncreasing list.at) lists.now }
+    requires own { All (λ list. IsStrictlyIncreasing list.at) own.now }
+    ensures { IfOk result (λ answered. (s : State) (uid : ℕ) → Indexes frames.now space.now.ranges s uid
+        → (region : Region) → AreUnitsIn region frames.now s units.now
+        → (terms own_terms : List (List ℕ)) → lists.now ≡ map (list_at (found_in frames.now.ranges s)) terms
+        → own.now ≡ map (list_at (found_in frames.now.ranges s)) own_terms
+        → AllByRecursion (IsAmong terms) words.now
+        → answered ≡ answer (view_of s uid) (AskedRanking k region words.now)) }
+{
+    if are_of(own, words) {
+        return rank_words(alloc, frames, space, k, units, own);
+    }
     let of_words = lists_for(alloc, words, lists)?;
-    let Ranking { listed, top } = rank_all(alloc, &units, &of_words, k)?;
+    rank_words(alloc, frames, space, k, units, &of_words)
+}
+
+/// Whether the lists are those of the words, in turn.
+fn are_of(lists: &[TermList], words: &[Bytes]) -> bool
+    ensures { result ≡ true → map (λ list. list.term) lists.now ≡ words.now }
+{
+    if lists.len() != words.len() {
+        return false;
+    }
+    for i in 0..words.len() {
+        if lists[i].term != words[i] {
+            return false;
+        }
+    }
+    true
+}
+
+/// Ranks the units by the lists of the words, and shows the first `k`.
+fn rank_words(
+    alloc: Global,
+    frames: &Frames,
+    space: &Space,
+    k: u32,
+    units: &[Unit],
+    lists: &[TermList],
+) -> Result<Answered, NoMemory>
+    requires fit { CanBeRanked units.now }
+    requires few { length lists.now ≤ RANK_WORDS_MAX }
+    requires ascending { All (λ list. IsStrictlyIncreasing list.at) lists.now }
+    ensures { IfOk result (λ answered. (s : State) (uid : ℕ) → Indexes frames.now space.now.ranges s uid
+        → (region : Region) → AreUnitsIn region frames.now s units.now
+        → (words : List (List ℕ)) → lists.now ≡ map (list_at (found_in frames.now.ranges s)) words
+        → answered ≡ answer (view_of s uid) (AskedRanking k region words)) }
+{
+    let Ranking { listed, top } = rank_all(alloc, units, lists, k)?;
     let shown = lines_of(alloc, space, frames.seen.as_slice(), top.as_slice())?;
     Ok(Answered::Rank {
         listed,
@@ -117,12 +272,6 @@ fn put_word(terms: &mut Vec<Bytes>, word: &Bytes) -> Result<(), NoMemory>
     }
     terms.push(word.clone()?)?;
     Ok(())
-}
-
-fn is_among(terms: &[Bytes], word: &Bytes) -> bool
-    ensures { result ≡ list_any (pointwise nat_eq word.now) terms.now }
-{
-    terms.iter().any(|term| word == term)
 }
 
 /// The lists of the words, in their order, with those of words that are given more than once as often.
@@ -159,60 +308,6 @@ fn list_named<'a>(lists: &'a [TermList], term: &Bytes) -> Option<&'a TermList>
     ensures { option_copied result ≡ find (λ list. pointwise nat_eq term.now list.term) lists.now }
 {
     lists.iter().find(|list| *term == list.term)
-}
-
-/// The extents of the expression, by address, each with the place of its file in the view.
-fn units_of(
-    alloc: Global,
-    frames: &Frames,
-    unit: &Expr,
-    lists: &[TermList],
-) -> Result<Vec<Unit>, NoMemory>
-    requires fit { CanBeSearched frames.now }
-    requires lists { AreLists lists.now }
-    ensures { IfOk result (λ units. AreUnits (region_of unit.now) frames.now lists.now units.items) }
-{
-    let extents = solve(alloc, unit, frames.ranges.as_slice(), lists)?;
-    placed(alloc, frames.by_address.as_slice(), &extents)
-}
-
-/// The extents, each with the place of the frame that it starts in, where frames and extents ascend.
-fn placed(alloc: Global, frames: &[Frame], extents: &[Extent]) -> Result<Vec<Unit>, NoMemory>
-    requires { All (λ frame. frame.range.start + frame.range.len < 2 ^ 64) frames.now }
-    ensures { IfOk result (λ units. units.items ≡ placed frames.now extents.now) }
-{
-    let mut units = Vec::with_capacity(alloc, extents.len())?;
-    let mut rest = extents;
-    for frame in frames {
-        let count = count_before(rest, frame.range.start + frame.range.len);
-        put_units(&mut units, &rest[..count], frame.place)?;
-        rest = &rest[count..];
-    }
-    Ok(units)
-}
-
-/// How many of the first extents start before the address.
-fn count_before(extents: &[Extent], end: u64) -> usize
-    ensures count { result ≡ count_before end extents.now }
-    ensures within { result ≤ length extents.now }
-{
-    let mut count = 0;
-    while count < extents.len() && extents[count].start < end {
-        count += 1;
-    }
-    count
-}
-
-fn put_units(units: &mut Vec<Unit>, extents: &[Extent], place: u32) -> Result<(), NoMemory>
-    ensures { OnOk result (units.new.items ≡ units.old.items ++ map (unit_at place) extents.now) }
-{
-    for extent in extents {
-        units.push(Unit {
-            extent: *extent,
-            place,
-        })?;
-    }
-    Ok(())
 }
 
 /// Ranks the units by the weights for their own number and their own summed length.

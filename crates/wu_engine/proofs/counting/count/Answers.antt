@@ -7,17 +7,17 @@ use Rattle.wu_engine.proofs.AskedTerms.{terms_named}
 use Rattle.wu_engine.proofs.CountLemmas.{counted}
 use Rattle.wu_engine.proofs.FramesOfFiles.{are_lists}
 use Rattle.wu_engine.proofs.PassedCauses.{cause_at_last, cause_at_once, cause_passed}
-use Rattle.wu_engine.proofs.UnitLemmas.{searched_few}
+use Rattle.wu_engine.proofs.UnitLemmas.{apart, searched_few}
 use Rattle.wu_engine.proofs.counting.count.Goals as goal
 
-pub count-requires-clause-lists : goal.count-requires-clause-lists
-count-requires-clause-lists g c =
+pub count_apart-requires-clause-lists : goal.count_apart-requires-clause-lists
+count_apart-requires-clause-lists g c =
     rw c.deref-2.ensures.value
     (are_lists c.in_ok-terms.terms.items c.in_ok-lists.lists.items (c.in_ok-lists.ensures.named ∙ c.deref.ensures.value)
     c.in_ok-lists.ensures.ascending c.in_ok-terms.ensures.ascending)
 
-pub count-requires-clause-few : goal.count-requires-clause-few
-count-requires-clause-few g c =
+pub count_apart-requires-clause-few : goal.count_apart-requires-clause-few
+count_apart-requires-clause-few g c =
     rw c.as_slice.ensures (searched_few (region_of c.args.expr.now) c.deref-2.result.now c.args.frames.now c.requires)
 
 pub returns-clause-answer : goal.returns-clause-answer
@@ -59,3 +59,6 @@ returns-in_err-counts-clause-cause g c =
     (c.deref.ensures.value ∙ terms_named (region_of c.args.expr.now) c.in_ok-terms.terms.items c.in_ok-terms.ensures)
     c.in_ok-lists.ensures.blocks)
     c.from_residual-in_err-counts.ensures.1
+
+pub count_apart-requires-clause-apart : goal.count_apart-requires-clause-apart
+count_apart-requires-clause-apart g c = rw c.as_slice.ensures (apart c.args.frames.now.ranges c.requires.apart)

@@ -1,5 +1,5 @@
 use Rattle.std.proofs.Common.{◌≡◌, ◌++◌, ◌∙◌, List, ℕ, ap, map, refl, subst, sym, take}
-use Rattle.std.specs.Prelude.{IfSome, Option, option_map}
+use Rattle.std.specs.Prelude.{IfSome, Option, nat_le, option_map}
 use Rattle.std.specs.List.{flat_map}
 use Rattle.wu_base.specs.declared.addresses.TermList.{TermList}
 use Rattle.wu_ask.specs.declared.FindLine.{FindLine}
@@ -7,32 +7,38 @@ use Rattle.wu_ask.specs.Questions.{Finding}
 use Rattle.wu_gcl.specs.Regions.{region_of}
 use Rattle.wu_lists.specs.Keeping.{Asks}
 use Rattle.wu_outside.specs.Content.{Content}
+use Rattle.wu_outside.specs.declared.ranges.ReadRange.{ReadRange}
 use Rattle.wu_engine.specs.Asked.{blocks_for}
 use Rattle.wu_engine.specs.Causes.{IsDamagedIn}
-use Rattle.wu_engine.specs.Finding.{hits_at, lines_at, text_at}
+use Rattle.wu_engine.specs.Finding.{hits_at, lines_at, looked_through, text_at}
+use Rattle.wu_engine.specs.Permitted.{IsOneOfTexts, ReadsOnly}
 use Rattle.wu_engine.specs.Reads.{texts_shown}
 use Rattle.wu_engine.specs.Units.{found_in, list_at}
 use Rattle.wu_engine.proofs.AskedTerms.{terms_named}
-use Rattle.wu_engine.proofs.FoundLines.{are_texts, found_answer, found_texts}
+use Rattle.wu_engine.proofs.FilesWithExtents.{looked_answer, looked_shown, looked_texts}
+use Rattle.wu_engine.proofs.FoundLines.{are_texts}
 use Rattle.wu_engine.proofs.FramesOfFiles.{are_lists}
 use Rattle.wu_engine.proofs.QueryReads.{cause_of_fetch, cause_of_memory, cause_of_text}
 use Rattle.wu_engine.proofs.PermittedBlocks.{asked_permitted, failed_permitted}
 use Rattle.wu_engine.proofs.PermittedTexts.{shown_permitted}
-use Rattle.wu_engine.proofs.UnitLemmas.{searched_few}
+use Rattle.wu_engine.proofs.UnitLemmas.{apart, searched_few}
 use Rattle.wu_engine.proofs.finding.find.Goals as goal
 
-pub count-requires-clause-lists : goal.count-requires-clause-lists
-count-requires-clause-lists g c =
+pub count_apart-requires-clause-lists : goal.count_apart-requires-clause-lists
+count_apart-requires-clause-lists g c =
     rw c.deref-2.ensures.value
     (are_lists c.in_ok-terms.terms.items c.in_ok-lists.lists.items (c.in_ok-lists.ensures.named ∙ c.deref.ensures.value)
     c.in_ok-lists.ensures.ascending c.in_ok-terms.ensures.ascending)
 
-pub count-requires-clause-few : goal.count-requires-clause-few
-count-requires-clause-few g c =
+pub count_apart-requires-clause-few : goal.count_apart-requires-clause-few
+count_apart-requires-clause-few g c =
     rw c.as_slice.ensures (searched_few (region_of c.args.expr.now) c.deref-2.result.now c.args.frames.now c.requires.fit)
 
-pub first_lines-requires-clause-lists : goal.first_lines-requires-clause-lists
-first_lines-requires-clause-lists g c =
+pub count_apart-requires-clause-apart : goal.count_apart-requires-clause-apart
+count_apart-requires-clause-apart g c = rw c.as_slice.ensures (apart c.args.frames.now.ranges c.requires.fit.apart)
+
+pub lines_shown-requires-clause-lists : goal.lines_shown-requires-clause-lists
+lines_shown-requires-clause-lists g c =
     rw c.deref-3.ensures.value
     (are_lists c.in_ok-terms.terms.items c.in_ok-lists.lists.items (c.in_ok-lists.ensures.named ∙ c.deref.ensures.value)
     c.in_ok-lists.ensures.ascending c.in_ok-terms.ensures.ascending)
@@ -44,19 +50,21 @@ returns-clause-answer g c = λ live s uid is tells keeps.
     let region = region_of c.args.expr.now in
     let lists = c.in_ok-lists.lists.items in
     let holds = g.D.Store.holds c.args.store.now in
-    found_answer c.args.frames.now live s uid is region c.in_ok-terms.terms.items c.in_ok-terms.ensures files lists
+    let few = nat_le c.in_ok-counts.counts.hits 4096 in
+    looked_answer c.args.frames.now live s uid is region c.in_ok-terms.terms.items c.in_ok-terms.ensures files lists
     (c.in_ok-lists.ensures.lists s tells ∙ ap (map (list_at found)) c.deref.ensures.value)
-    c.args.k c.as_slice-2.result.now c.as_slice-2.ensures holds
-    c.in_ok-counts.counts.hits c.in_ok-counts.counts.files _ keeps
+    c.args.k few holds c.in_ok-counts.counts.hits c.in_ok-counts.counts.files _ keeps
     (rw (c.deref-2.ensures.value, c.as_slice.ensures) at c.in_ok-counts.ensures.hits)
     (rw (c.deref-2.ensures.value, c.as_slice.ensures) at c.in_ok-counts.ensures.files)
     (subst (λ (lines : List FindLine). IfSome holds (λ content. lines
-    ≡ take c.args.k (flat_map (lines_at content files region lists) c.as_slice-2.result.now))) (sym c.from.ensures)
+    ≡ take c.args.k (flat_map (lines_at content files region lists) (looked_through few region lists c.args.frames.now))))
+    (sym c.from.ensures)
     (subst (λ (ls : List TermList). IfSome holds (λ content. c.in_ok-shown.shown.items
-    ≡ take c.args.k (flat_map (lines_at content files region ls) c.as_slice-2.result.now)))
+    ≡ take c.args.k (flat_map (lines_at content files region ls) (looked_through few region ls c.args.frames.now))))
     c.deref-3.ensures.value
     (subst (λ (o : Option Content). IfSome o (λ content. c.in_ok-shown.shown.items
-    ≡ take c.args.k (flat_map (lines_at content files region c.deref-3.result.now) c.as_slice-2.result.now)))
+    ≡ take c.args.k (flat_map (lines_at content files region c.deref-3.result.now)
+    (looked_through few region c.deref-3.result.now c.args.frames.now))))
     c.lists_of.ensures.holds c.in_ok-shown.ensures.lines)))
 
 pub returns-clause-reads : goal.returns-clause-reads
@@ -66,22 +74,25 @@ returns-clause-reads g c =
     let lists = c.in_ok-lists.lists.items in
     let terms = c.in_ok-terms.terms.items in
     let reads = g.D.Store.reads in
+    let few = nat_le c.in_ok-counts.counts.hits 4096 in
+    let looked = looked_through few region lists c.args.frames.now in
     record {
       between = reads c.lists_of.new.store;
       asks = subst (λ (ts : List (List ℕ)). Asks (blocks_for c.args.parts.now c.args.frames.now.ranges ts)
           (g.D.Store.holds c.args.store.now) c.args.parts.now.kept c.lists_of.new.parts.kept (reads c.args.store.now)
           (reads c.lists_of.new.store))
           (c.deref.ensures.value ∙ terms_named region terms c.in_ok-terms.ensures) c.in_ok-lists.ensures.blocks;
-      texts = texts_shown (hits_at files region lists) (text_at files) c.args.k c.as_slice-2.result.now;
+      texts = texts_shown (hits_at files region lists) (text_at files) c.args.k looked;
       are = record {
-        are = are_texts files region lists c.args.k c.as_slice-2.result.now;
+        are = are_texts files region lists c.args.k looked;
         shown = λ live s uid is tells keeps.
-            found_texts c.args.frames.now live s uid is region terms c.in_ok-terms.ensures files lists
+            looked_texts c.args.frames.now live s uid is region terms c.in_ok-terms.ensures files lists
             (c.in_ok-lists.ensures.lists s tells ∙ ap (map (list_at (found_in c.args.frames.now.ranges s))) c.deref.ensures.value)
-            c.args.k c.as_slice-2.result.now c.as_slice-2.ensures (g.D.Store.holds c.args.store.now) _ keeps refl;
+            c.args.k few (g.D.Store.holds c.args.store.now) keeps;
       };
-      read = subst (λ (ls : List TermList). reads c.first_lines.new.store
-          ≡ option_map (λ ranges. ranges ++ texts_shown (hits_at files region ls) (text_at files) c.args.k c.as_slice-2.result.now)
+      read = subst (λ (ls : List TermList). reads c.lines_shown.new.store
+          ≡ option_map (λ ranges. ranges ++ texts_shown (hits_at files region ls) (text_at files) c.args.k
+          (looked_through few region ls c.args.frames.now))
           (reads c.lists_of.new.store)) c.deref-3.ensures.value c.in_ok-shown.ensures.reads;
     }
 
@@ -106,7 +117,7 @@ returns-in_err-counts-clause-cause g c =
 
 pub returns-in_err-shown-clause-cause : goal.returns-in_err-shown-clause-cause
 returns-in_err-shown-clause-cause g c =
-    cause_of_text c.from_residual-in_err-shown.result (g.D.Store.faults c.args.store.now) (g.D.Store.faults c.first_lines.new.store)
+    cause_of_text c.from_residual-in_err-shown.result (g.D.Store.faults c.args.store.now) (g.D.Store.faults c.lines_shown.new.store)
     c.args.files.now.entries c.args.parts.now (g.D.Store.holds c.args.store.now)
     c.in_err-shown.field-0.0 c.from_residual-in_err-shown.ensures.1
     (g.D.Store.holds c.lists_of.new.store) (g.D.Store.faults c.lists_of.new.store) c.lists_of.ensures.holds c.in_ok-lists.ensures.calm
@@ -133,8 +144,15 @@ returns-in_err-shown-clause-permitted g c = λ live s uid is tells keeps.
     c.args.files.now.entries c.deref-3.result.now
     (c.deref-3.ensures.value ∙ c.in_ok-lists.ensures.lists s tells ∙ ap (map (list_at found)) c.deref.ensures.value)
     c.args.parts.now (g.D.Store.holds c.args.store.now) tells keeps c.deref.result.now c.deref.ensures.value c.lists_of.new.parts.kept
-    (g.D.Store.reads c.args.store.now) (g.D.Store.reads c.lists_of.new.store) (g.D.Store.reads c.first_lines.new.store)
-    c.in_ok-lists.ensures.blocks c.args.k c.as_slice-2.result.now c.as_slice-2.ensures c.in_err-shown.ensures.only
+    (g.D.Store.reads c.args.store.now) (g.D.Store.reads c.lists_of.new.store) (g.D.Store.reads c.lines_shown.new.store)
+    c.in_ok-lists.ensures.blocks c.args.k c.args.frames.now.seen refl
+    (subst (λ (texts : List ReadRange). ReadsOnly (IsOneOfTexts texts) (g.D.Store.reads c.lists_of.new.store)
+    (g.D.Store.reads c.lines_shown.new.store))
+    (looked_shown c.args.frames.now live s uid is (region_of c.args.expr.now) c.in_ok-terms.terms.items c.in_ok-terms.ensures
+    c.args.files.now.entries c.deref-3.result.now
+    (c.deref-3.ensures.value ∙ c.in_ok-lists.ensures.lists s tells ∙ ap (map (list_at found)) c.deref.ensures.value)
+    c.args.k (nat_le c.in_ok-counts.counts.hits 4096) (g.D.Store.holds c.args.store.now) keeps)
+    c.in_err-shown.ensures.only)
 
 pub returns-clause-permitted : goal.returns-clause-permitted
 returns-clause-permitted g c = λ live s uid is tells keeps.
@@ -143,5 +161,12 @@ returns-clause-permitted g c = λ live s uid is tells keeps.
     c.args.files.now.entries c.deref-3.result.now
     (c.deref-3.ensures.value ∙ c.in_ok-lists.ensures.lists s tells ∙ ap (map (list_at found)) c.deref.ensures.value)
     c.args.parts.now (g.D.Store.holds c.args.store.now) tells keeps c.deref.result.now c.deref.ensures.value c.lists_of.new.parts.kept
-    (g.D.Store.reads c.args.store.now) (g.D.Store.reads c.lists_of.new.store) (g.D.Store.reads c.first_lines.new.store)
-    c.in_ok-lists.ensures.blocks c.args.k c.as_slice-2.result.now c.as_slice-2.ensures c.in_ok-shown.ensures.only
+    (g.D.Store.reads c.args.store.now) (g.D.Store.reads c.lists_of.new.store) (g.D.Store.reads c.lines_shown.new.store)
+    c.in_ok-lists.ensures.blocks c.args.k c.args.frames.now.seen refl
+    (subst (λ (texts : List ReadRange). ReadsOnly (IsOneOfTexts texts) (g.D.Store.reads c.lists_of.new.store)
+    (g.D.Store.reads c.lines_shown.new.store))
+    (looked_shown c.args.frames.now live s uid is (region_of c.args.expr.now) c.in_ok-terms.terms.items c.in_ok-terms.ensures
+    c.args.files.now.entries c.deref-3.result.now
+    (c.deref-3.ensures.value ∙ c.in_ok-lists.ensures.lists s tells ∙ ap (map (list_at found)) c.deref.ensures.value)
+    c.args.k (nat_le c.in_ok-counts.counts.hits 4096) (g.D.Store.holds c.args.store.now) keeps)
+    c.in_ok-shown.ensures.only)

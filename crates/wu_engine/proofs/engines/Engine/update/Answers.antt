@@ -1,11 +1,14 @@
-use Rattle.std.proofs.Common.{refl, arith}
+use Rattle.std.proofs.Common.{[], ap, refl, arith}
 use Rattle.wu_parts.specs.Flushing.{Told}
+use Rattle.wu_engine.specs.Indexing.{Catalog}
 use Rattle.wu_engine.specs.States.{after_event}
 use Rattle.wu_engine.proofs.AddedBlobs.{draws_named, event_draws, none_added}
 use Rattle.wu_engine.proofs.FileChanges.{changes}
 use Rattle.wu_engine.proofs.GoingEvents.{HasSome, goes_followed, has_followed}
+use Rattle.wu_engine.proofs.KeptFrames.{gave_text, kept_for}
 use Rattle.wu_engine.proofs.LeftStores.{left_alone}
 use Rattle.wu_engine.proofs.NamedBlobs.{event_names}
+use Rattle.wu_engine.proofs.Searching.{sound_prepared}
 use Rattle.wu_engine.proofs.SoundLemmas.{indexable, length-terms_after, next_followed, sound_followed}
 use Rattle.wu_engine.proofs.StandLemmas.{accepted, refused}
 use Rattle.wu_engine.proofs.engines.Engine.update.Goals as goal
@@ -28,19 +31,29 @@ invariant_of-self-in-Ok-followed g c =
     let event = c.args.event.now in
     let text = c.args.body.now in
     let effect = c.in-Ok.effect in
-    let holds = g.D.Store.holds in
-    let moments = g.D.Store.moments in
+    let tree = c.apply.new.self in
+    let space = c.follow-followed.new.space in
+    let files = c.follow-followed.new.files.entries in
+    let parts = c.follow-followed.new.parts in
+    let before : Told = (g.D.Store.holds c.args.store.now, g.D.Store.moments c.args.store.now) in
+    let after : Told = (g.D.Store.holds c.follow-followed.new.store, g.D.Store.moments c.follow-followed.new.store) in
     let step = rw c.in-Ok.is at c.in_ok-effect.ensures.step in
-    let taken = length-terms_after old.tree event text c.apply.new.self effect step in
+    let taken = length-terms_after old.tree event text tree effect step in
+    let done = c.in-Ok-followed.ensures.done in
+    let sound = old.sound c.in_default.is in
+    let rules = c.keeps_the_rules.ensures in
+    let texted = c.texted_before-texted.result in
+    let had = c.texted_before-texted.ensures in
+    let gave =
+    gave_text old.tree event tree effect step old.space space texted had text rules (ap (λ (k : Catalog). k.space) done.catalog) in
     record {
       sound = λ _.
-          rw c.clear.ensures
-          (sound_followed effect text old.space c.follow-followed.new.space old.files.entries c.follow-followed.new.files.entries
-          old.parts c.follow-followed.new.parts
-          (holds c.args.store.now, moments c.args.store.now) (holds c.follow-followed.new.store, moments c.follow-followed.new.store)
-          c.in-Ok-followed.ensures.done old.tree c.apply.new.self
-          (c.effects_tell_files.ensures event c.apply.new.self effect step) (changes old.tree event c.apply.new.self effect step).1
-          old.frames (old.sound c.in_default.is) c.keeps_the_rules.ensures.by_number c.requires.short (omega (arith, taken)));
+          sound_prepared tree space parts parts files [] c.renew_frames.new.frames refl
+          (c.renew_frames.ensures tree old.space gave
+          (kept_for old.tree event tree effect step old.space space texted had old.frames sound.frames))
+          (sound_followed effect text old.space space old.files.entries files old.parts parts before after done old.tree tree
+          (c.effects_tell_files.ensures event tree effect step) (changes old.tree event tree effect step).1
+          old.frames sound rules.by_number c.requires.short (omega (arith, taken)));
     }
 
 pub returns-in-Ok-followed-clause-step : goal.returns-in-Ok-followed-clause-step

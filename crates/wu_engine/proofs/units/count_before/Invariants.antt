@@ -1,6 +1,6 @@
 use Rattle.std.proofs.Common.{◌≡◌, ◌+◌, ◌-◌, ◌≤◌, drop, length}
 use Rattle.wu_engine.specs.Units.{count_before}
-use Rattle.wu_engine.proofs.ranking.count_before.Given as goal
+use Rattle.wu_engine.proofs.units.count_before.Given as goal
 
 -- with those that come next they are all that start before the address
 abbrev pub invariant-loop-count : goal.invariant-loop-count

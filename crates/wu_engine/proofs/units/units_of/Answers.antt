@@ -1,15 +1,24 @@
 use Rattle.std.specs.declared.alloc.Global.{Global}
 use Rattle.std.specs.declared.vec.Vec.{Vec}
-use Rattle.std.proofs.Common.{◌≡◌}
+use Rattle.std.proofs.Common.{◌≡◌, subst}
 use Rattle.wu_gcl.specs.Regions.{region_of}
 use Rattle.wu_rank.specs.declared.results.Unit.{Unit as RankedUnit}
+use Rattle.wu_solve.specs.Solving.{AreApart}
 use Rattle.wu_engine.specs.Units.{AreUnits, placed}
 use Rattle.wu_engine.proofs.AnswerLemmas.{if_ok}
-use Rattle.wu_engine.proofs.UnitLemmas.{ends_fit, units_searched}
-use Rattle.wu_engine.proofs.ranking.units_of.Goals as goal
+use Rattle.wu_engine.proofs.UnitLemmas.{apart, ends_fit, units_searched}
+use Rattle.wu_engine.proofs.units.units_of.Goals as goal
 
-pub placed-requires : goal.placed-requires
-placed-requires c = rw c.as_slice-2.ensures (ends_fit c.args.frames.now c.requires.fit)
+pub solve_apart-requires-clause-apart : goal.solve_apart-requires-clause-apart
+solve_apart-requires-clause-apart c = rw c.as_slice.ensures (apart c.args.frames.now.ranges c.requires.fit.apart)
+
+pub placed-requires-clause-ends : goal.placed-requires-clause-ends
+placed-requires-clause-ends c = rw c.as_slice-2.ensures (ends_fit c.args.frames.now c.requires.fit)
+
+pub placed-requires-clause-apart : goal.placed-requires-clause-apart
+placed-requires-clause-apart c =
+    let frames = c.args.frames.now in
+    rw c.as_slice-2.ensures (subst AreApart c.requires.fit.of_frames (apart frames.ranges c.requires.fit.apart))
 
 pub returns : goal.returns
 returns c =
