@@ -260,9 +260,9 @@ taken_next first last bytes rest left taken new before a t above within s e = rw
         (more, is ∙ (ap (λ x. taken ++ x ∷ more) same ∙ sym (append_assoc taken (a ∷ []) more)), rw (same, one.1) at g.3)
 
 -- all addresses are taken, and all bytes
-pub taken_all : (count first last : ℕ) (bytes taken : List ℕ) (before : ℕ) → Taken first last bytes [] taken before
+pub taken_all : (count first limit last : ℕ) (bytes taken : List ℕ) (before : ℕ) → Taken first limit bytes [] taken before
     → length taken ≡ count → before ≡ last → SpellsAfterFirst first taken bytes × AreFromTo count first last taken
-taken_all count first last bytes taken before t number same =
+taken_all count first limit last bytes taken before t number same =
     (rw (append-nil taken) at (t.on [] refl), record { number = number; begin = t.begin; end = t.end ∙ ap Some same })
 
 -- all addresses are taken, and either bytes are left or the last address is another one

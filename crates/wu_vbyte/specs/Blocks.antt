@@ -1,6 +1,6 @@
 -- Blocks of a posting list: gap compression, as Büttcher, Clarke and Cormack give it in Information Retrieval, chapter 6.
 -- Ascending addresses are spelled by their differences, each of them a number.
-use Rattle.std.specs.Prelude.{ℕ, List, [], ◌∷◌, ◌++◌, ◌-◌, ◌<◌, ◌≤◌, ◌≡◌, Some, None, length, slice_get}
+use Rattle.std.specs.Prelude.{ℕ, List, [], ◌∷◌, ◌++◌, ◌-◌, ◌<◌, ◌≤◌, ◌≡◌, ◌⊎◌, ⊤, Some, None, length, slice_get}
 use Rattle.std.specs.List.{last_or}
 use Rattle.wu_vbyte.specs.Numbers.{StartsWithNumber}
 
@@ -30,3 +30,13 @@ pub record AreFromTo (count first last : ℕ) (addresses : List ℕ) : Type 0 wh
   pub number : length addresses ≡ count
   pub begin : slice_get addresses 0 ≡ Some first
   pub end : last_or None addresses ≡ Some last
+
+-- after this byte come bytes of numbers above 0 that take one byte or two each
+abbrev pub AreShort : ℕ → List ℕ → Type 0
+AreShort before [] = ⊤
+AreShort before (byte ∷ later) = (0 < byte) × ((before < 128) ⊎ (byte < 128)) × AreShort byte later
+
+-- bytes of numbers above 0 that take one byte each
+abbrev pub AreSingle : List ℕ → Type 0
+AreSingle [] = ⊤
+AreSingle (byte ∷ later) = (0 < byte) × (byte < 128) × AreSingle later

@@ -6,6 +6,7 @@ ghost use Rattle.wu_vbyte.specs.Numbers.{StartsWithNumber};
 ghost use Rattle.wu_vbyte.specs.Blocks.{SpellsBlock, SpellsAfterFirst, AppendsBlock, AreFromTo};
 
 use crate::numbers::{next_number, put_number};
+use crate::short::take_short;
 use std::alloc::Global;
 use wu_base::NoMemory;
 
@@ -68,7 +69,7 @@ pub fn take_block(
         return Ok(None);
     }
     match after_first(bytes, low, first) {
-        Some(rest) => take_gaps(alloc, rest, count, first, last),
+        Some(rest) => take_later(alloc, rest, count, first, last),
         None => Ok(None),
     }
 }
@@ -135,6 +136,27 @@ fn is_gap(number: u64, room: u64) -> bool
 }
 
 /// The block of `count` addresses from `first` to `last`; the bytes spell those after the first one.
+fn take_later(
+    alloc: Global,
+    bytes: &[u8],
+    count: usize,
+    first: u64,
+    last: u64,
+) -> Result<Option<Vec<u64>>, NoMemory>
+    requires count { 0 < count }
+    requires within { first ≤ last }
+    ensures found { IfOk result (λ block. IfSome block (λ found. SpellsAfterFirst first found.items bytes.now
+        × AreFromTo count first last found.items)) }
+    ensures none { IfOk result (λ block. IfNone block ((addresses : List ℕ) → SpellsAfterFirst first addresses bytes.now →
+        AreFromTo count first last addresses → ⊥)) }
+{
+    match take_short(alloc, bytes, count, first, last)? {
+        Some(block) => Ok(Some(block)),
+        None => take_gaps(alloc, bytes, count, first, last),
+    }
+}
+
+/// The block of `count` addresses from `first` to `last`, number by number.
 fn take_gaps(
     alloc: Global,
     bytes: &[u8],

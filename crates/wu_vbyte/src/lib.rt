@@ -3,6 +3,7 @@
 
 mod blocks;
 mod numbers;
+mod short;
 
 pub use blocks::{
     BLOCK_LEN, each_block_has_one_spelling, no_block_begins_another, put_block, take_block,

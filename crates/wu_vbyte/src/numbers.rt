@@ -62,12 +62,12 @@ pub fn take_number(bytes: &[u8], place: usize) -> Option<(u64, usize)>
 
 /// The number that the bytes start with, and the rest. `None` exactly where they start with no
 /// spelling of a number below 2^64. Takes no memory.
-// Most numbers of a block take one byte or two, so the callers have these two cases in their loops.
 #[inline(always)]
 pub fn next_number(bytes: &[u8]) -> Option<(u64, &[u8])>
     ensures found { IfSome result (λ next. StartsWithNumber bytes.now next.0 next.1.now) }
     ensures none { IfNone result ((number : ℕ) (rest : List ℕ) → number < 2 ^ 64 → StartsWithNumber bytes.now number rest → ⊥) }
 {
+    // Most numbers of a block take one byte or two, so the callers have these two cases in their loops.
     let [low, after_low @ ..] = bytes else {
         return None;
     };

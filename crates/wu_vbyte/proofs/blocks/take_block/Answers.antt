@@ -16,16 +16,16 @@ returns-in-None-clause-none c addresses b f = let h = block_first _ _ _ _ _ _ b 
 pub returns-in-Some-clause-found : goal.returns-in-Some-clause-found
 returns-in-Some-clause-found c =
     let first = c.in-Some.ensures.found in
-    IfOk-weaker c.take_gaps.result _ _
+    IfOk-weaker c.take_later.result _ _
     (λ block h. IfSome_then block h (λ found t. (block_of_later _ _ _ _ _ first.0 first.1 t.0, t.1)))
-    c.take_gaps.ensures.found
+    c.take_later.ensures.found
 
 pub returns-in-Some-clause-none : goal.returns-in-Some-clause-none
 returns-in-Some-clause-none c =
     let first = c.in-Some.ensures.found in
-    IfOk-weaker c.take_gaps.result _ _
+    IfOk-weaker c.take_later.result _ _
     (λ block h. none_weaker block (λ none addresses b f. none addresses (later_of_block _ _ _ _ _ _ _ first.1 b f) f) h)
-    c.take_gaps.ensures.none
+    c.take_later.ensures.none
   where
     none_weaker : {X P Q : Type 0} → (block : Option X) → (P → Q) → IfNone block P → IfNone block Q
     none_weaker None weaker h = weaker h

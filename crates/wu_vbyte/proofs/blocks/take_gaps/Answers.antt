@@ -32,7 +32,7 @@ loop-preserved c =
 pub returns-then-is_complete-clause-found : goal.returns-then-is_complete-clause-found
 returns-then-is_complete-clause-found c =
     let i = c.loop.invariant in
-    taken_all _ _ _ _ _ _ (rw c.if-is_complete.ensures.0 at i.taken) (omega (arith, i.number)) c.if-is_complete.ensures.1
+    taken_all _ _ _ _ _ _ _ (rw c.if-is_complete.ensures.0 at i.taken) (omega (arith, i.number)) c.if-is_complete.ensures.1
 
 pub returns-else-is_complete-clause-none : goal.returns-else-is_complete-clause-none
 returns-else-is_complete-clause-none c addresses b f =

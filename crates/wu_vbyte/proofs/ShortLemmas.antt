@@ -1,0 +1,77 @@
+-- Lemmas on blocks of short numbers.
+use Rattle.std.proofs.Common.{◌≡◌, ℕ, ◌+◌, ◌-◌, ◌*◌, ◌%◌, ◌<◌, ◌≤◌, ◌⊎◌, ⊎_elim, inl, inr, List, [], ◌∷◌, ◌++◌, length, set, take, drop}
+use Rattle.std.proofs.Common.{refl, ap, arith}
+use Rattle.std.proofs.lemmas.Bool.{cases_lt}
+use Rattle.std.proofs.lemmas.List.{at_drop_all, take-set, take_more_set}
+use Rattle.wu_vbyte.specs.Blocks.{SpellsAfterFirst, AreFromTo, AreShort}
+use Rattle.wu_vbyte.proofs.NumberLemmas.{last_starts, more_starts}
+use Rattle.wu_vbyte.proofs.BlockLemmas.{Taken, taken_next, taken_all}
+
+-- what was taken, and the sum after the byte before, which is part of a number that goes on where its top bit is set
+abbrev pub Summed : ℕ → ℕ → List ℕ → List ℕ → List ℕ → ℕ → ℕ → Type 0
+Summed first last bytes left taken byte total =
+    ((byte < 128) × Taken first last bytes left taken total)
+    ⊎ ((128 ≤ byte) × (byte < 256) × (sum : ℕ) × (total ≡ sum + byte % 128) × Taken first last bytes (byte ∷ left) taken sum)
+
+pub summed_last : (first last : ℕ) (bytes left taken : List ℕ) (before byte total more : ℕ)
+    → Summed first last bytes (byte ∷ left) taken before total → 0 < byte → byte < 128
+    → (before < 128 → more ≡ byte % 128) → (128 ≤ before → more ≡ byte % 128 * 128) → total + more ≤ last
+    → Summed first last bytes left (taken ++ (total + more) ∷ []) byte (total + more)
+summed_last first last bytes left taken before byte total more (inl s) some small one two within =
+    let gap : total + more - total ≡ byte = omega (arith, one s.0) in
+    inl (
+      small,
+      taken_next _ _ _ _ left _ _ _ (total + more) s.1 (omega (arith, one s.0)) within
+          (rw gap (last_starts byte left small)) refl,
+    )
+summed_last first last bytes left taken before byte total more (inr (large, top, sum, e, t)) some small one two within =
+    let two = two large in
+    let gap : total + more - sum ≡ before % 128 + 128 * byte = omega arith in
+    inl (
+      small,
+      taken_next _ _ _ _ left _ _ _ (total + more) t (omega arith) within
+          (rw gap (more_starts before byte (byte ∷ left) left large top some (last_starts byte left small))) refl,
+    )
+
+pub summed_more : (first last : ℕ) (bytes left taken : List ℕ) (before byte total more : ℕ)
+    → Summed first last bytes (byte ∷ left) taken before total → 128 ≤ byte → byte < 256 → (before < 128) ⊎ (byte < 128)
+    → (before < 128 → more ≡ byte % 128) → Summed first last bytes left taken byte (total + more)
+summed_more first last bytes left taken before byte total more (inl s) large top short one =
+    inr (large, top, total, ap (λ m. total + m) (one s.0), s.1)
+summed_more first last bytes left taken before byte total more (inr s) large top short one =
+    let over = s.0 in
+    absurd (⊎_elim (λ (h : before < 128). omega arith) (λ (h : byte < 128). omega arith) short)
+
+pub summed_next : (first last : ℕ) (bytes left items : List ℕ) (taken before byte total more ended : ℕ)
+    → Summed first last bytes (byte ∷ left) (take taken items) before total → AreShort before (byte ∷ left) → byte < 256
+    → (before < 128 → more ≡ byte % 128) → (128 ≤ before → more ≡ byte % 128 * 128) → total + more ≤ last
+    → (byte < 128 → ended ≡ 1) → (128 ≤ byte → ended ≡ 0) → taken < length items
+    → Summed first last bytes left (take (taken + ended) (set items taken (total + more))) byte (total + more)
+summed_next first last bytes left items taken before byte total more ended s short top one two within last_byte more_bytes room =
+    ⊎_elim
+    (λ (h : byte < 128). rw (last_byte h, take_more_set items taken (total + more) room)
+    (summed_last first last bytes left _ before byte total more s short.0 h one two within))
+    (λ (h : 128 ≤ byte).
+    let none = more_bytes h in
+    let same : taken + ended ≡ taken = omega arith in
+    rw (same, take-set items taken (total + more))
+    (summed_more first last bytes left _ before byte total more s h top short.1 one))
+    (cases_lt byte 128)
+
+pub summed_all : (count first limit last : ℕ) (bytes items found : List ℕ) (place taken byte total : ℕ)
+    → Summed first limit bytes (drop place bytes) (take taken items) byte total → length bytes ≤ place → byte < 128 → total ≡ last
+    → length found ≡ count → found ≡ take taken items → SpellsAfterFirst first found bytes × AreFromTo count first last found
+summed_all count first limit last bytes items found place taken byte total (inl s) over small same number is =
+    rw is (taken_all count first limit last bytes (take taken items) total (rw (at_drop_all (λ left. left) bytes place over) at s.1)
+    (rw is at number) same)
+summed_all count first limit last bytes items found place taken byte total (inr s) over small same number is =
+    let large = s.0 in absurd (omega arith)
+
+-- a byte that is a number
+pub single_next : (first last : ℕ) (bytes left items : List ℕ) (place byte total more : ℕ)
+    → Taken first last bytes (byte ∷ left) (take place items) total → 0 < byte → byte < 128 → more ≡ byte → total + more ≤ last
+    → place < length items → Taken first last bytes left (take (place + 1) (set items place (total + more))) (total + more)
+single_next first last bytes left items place byte total more t some small e within room =
+    let gap : total + more - total ≡ byte = omega arith in
+    rw (take_more_set items place (total + more) room)
+    (taken_next _ _ _ _ left _ _ _ (total + more) t (omega arith) within (rw gap (last_starts byte left small)) refl)
