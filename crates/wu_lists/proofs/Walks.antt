@@ -1,5 +1,5 @@
 -- The blocks of a term, gone through beside the frames.
-use Rattle.std.proofs.Common.{◌≡◌, ℕ, ◌+◌, ◌-◌, ◌<◌, ◌≤◌, Bool, true, cond, List, [], ◌∷◌, ◌++◌, filter, length, take, drop, min, refl, ap, ap₂, sym, ◌∙◌, subst, arith, append-nil, append_assoc}
+use Rattle.std.proofs.Common.{◌≡◌, ℕ, ◌+◌, ◌-◌, ◌^◌, ◌<◌, ◌≤◌, Bool, true, cond, List, [], ◌∷◌, ◌++◌, filter, length, take, drop, min, refl, ap, ap₂, sym, ◌∙◌, subst, arith, append-nil, append_assoc}
 use Rattle.std.specs.Prelude.{Option, None, Some, IfSome}
 use Rattle.std.specs.List.{AllByRecursion}
 use Rattle.std.proofs.lemmas.List.{length-drop, length-take, take-append-drop}
@@ -76,7 +76,7 @@ spelled-block blob low count entry bytes addresses n h = record {
 
 module _ (AreWanted : Type 0) (frames : List Range) (blob low high : ℕ) (all : TermEntry) (holds : Option Content) (old : Kept)
     (ranges : Option (List ReadRange)) (before : List ℕ) where
-  pub walked-none : AreBlocks low high all.count all.blocks → low ≤ high → AreInOrder 0 ADDRESSES_MAX frames
+  pub walked-none : AreBlocks low high all.count all.blocks → low ≤ high → AreInOrder 0 (2 ^ 64 - 1) frames
       → IsWalked AreWanted frames frames blob low high all all holds old old ranges ranges before before
   walked-none blocks span order = record {
     from = low;
@@ -190,7 +190,7 @@ module _ (AreWanted : Type 0) (frames : List Range) (blob low high : ℕ) (all :
           (λ content. AllByRecursion (IsSpelledIn content) (blocks_from blob low all.count all.blocks) → ⊥) holds
           (λ content none a. none (block-spelled content a)) broken
 
-      module _ (nearer : List Range) (order : AreInOrder 0 ADDRESSES_MAX nearer)
+      module _ (nearer : List Range) (order : AreInOrder 0 (2 ^ 64 - 1) nearer)
           (live : (address : ℕ) → entry.first ≤ address → is_live nearer address ≡ is_live left address)
           (needed : (other : Block) → entry.first ≤ other.first → meets nearer other ≡ meets left other) where
         alike : (address : ℕ) → entry.first ≤ address → is_live nearer address ≡ is_live frames address

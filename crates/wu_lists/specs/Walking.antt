@@ -1,8 +1,7 @@
 -- How far the blocks of a term were gone through.
-use Rattle.std.specs.Prelude.{ℕ, ◌≡◌, ◌≤◌, ◌+◌, ◌++◌, List, Option, Some, IfSome, true, filter}
+use Rattle.std.specs.Prelude.{ℕ, ◌≡◌, ◌≤◌, ◌+◌, ◌-◌, ◌^◌, ◌++◌, List, Option, Some, IfSome, true, filter}
 use Rattle.std.specs.List.{AllByRecursion}
 use Rattle.wu_base.specs.declared.addresses.Range.{Range}
-use Rattle.wu_base.specs.declared.limits.TheConstants.{ADDRESSES_MAX}
 use Rattle.wu_layout.specs.Postings.{is_live}
 use Rattle.wu_outside.specs.Content.{Content}
 use Rattle.wu_outside.specs.declared.ranges.ReadRange.{ReadRange}
@@ -36,7 +35,7 @@ pub record IsWalked (AreWanted : Type 0) (frames left : List Range) (blob low hi
   pub above : low ≤ from
   pub within : from ≤ high + 1
   pub blocks : AreBlocks from high rest.count rest.blocks
-  pub order : AreInOrder 0 ADDRESSES_MAX left
+  pub order : AreInOrder 0 (2 ^ 64 - 1) left
   pub live : (address : ℕ) → from ≤ address → is_live left address ≡ is_live frames address
   pub needed : (block : Block) → from ≤ block.first → meets left block ≡ meets frames block
   pub gone : List Block

@@ -1,6 +1,6 @@
 //! Addresses and blocks beside frames, both walked by galloping: J. L. Bentley and A. C. Yao, An almost optimal
 //! algorithm for unbounded searching, 1976.
-ghost use Rattle.std.specs.Prelude.{◌≡◌, ◌+◌, ◌<◌, ◌≤◌, ◌++◌, ℕ, filter, length, take, drop, nat_le, OnOk};
+ghost use Rattle.std.specs.Prelude.{◌≡◌, ◌+◌, ◌-◌, ◌^◌, ◌<◌, ◌≤◌, ◌++◌, ℕ, filter, length, take, drop, nat_le, OnOk};
 ghost use Rattle.std.specs.List.{AllByRecursion};
 ghost use Rattle.wu_layout.specs.Postings.{is_live};
 ghost use Rattle.wu_lists.specs.Ascending.{AscendBetween, AreInOrder};
@@ -8,18 +8,14 @@ ghost use Rattle.wu_lists.specs.Blocks.{meets};
 ghost use Rattle.wu_lists.specs.declared.blocks.Block.{Block};
 
 use crate::blocks::Block;
-use wu_base::{ADDRESSES_MAX, NoMemory, Range};
+use wu_base::{NoMemory, Range};
 
 /// Appends the addresses that lie in one of the frames. Takes a number of steps that is at most that of the
 /// addresses, and at most that of the frames, each of time logarithmic in what it passes over, and time for
 /// what it appends. Out of memory, some may have been appended.
-pub(crate) fn put_within(
-    found: &mut Vec<u64>,
-    addresses: &[u64],
-    frames: &[Range],
-) -> Result<(), NoMemory>
-    requires ascend { AscendBetween 0 ADDRESSES_MAX addresses.now }
-    requires order { AreInOrder 0 ADDRESSES_MAX frames.now }
+pub fn put_within(found: &mut Vec<u64>, addresses: &[u64], frames: &[Range]) -> Result<(), NoMemory>
+    requires ascend { AscendBetween 0 (2 ^ 64 - 1) addresses.now }
+    requires order { AreInOrder 0 (2 ^ 64 - 1) frames.now }
     ensures { OnOk result (found.new.items ≡ found.old.items ++ filter (is_live frames.now) addresses.now) }
 {
     let mut rest = addresses;
@@ -37,7 +33,7 @@ pub(crate) fn put_within(
 /// Whether one of the frames, none of which ends before the block, overlaps with the block's span.
 #[inline]
 pub(crate) fn is_needed(block: &Block, frames: &[Range]) -> bool
-    requires order { AreInOrder 0 ADDRESSES_MAX frames.now }
+    requires order { AreInOrder 0 (2 ^ 64 - 1) frames.now }
     requires after { AllByRecursion (λ frame. block.now.first < frame.start + frame.len) frames.now }
     ensures { result ≡ meets frames.now block.now }
 {
@@ -51,9 +47,9 @@ pub(crate) fn is_needed(block: &Block, frames: &[Range]) -> bool
 /// number of those that it leaves out.
 #[inline]
 pub(crate) fn frames_from(frames: &[Range], address: u64) -> &[Range]
-    requires { AreInOrder 0 ADDRESSES_MAX frames.now }
+    requires { AreInOrder 0 (2 ^ 64 - 1) frames.now }
     ensures within { length result.now ≤ length frames.now }
-    ensures order { AreInOrder 0 ADDRESSES_MAX result.now }
+    ensures order { AreInOrder 0 (2 ^ 64 - 1) result.now }
     ensures after { AllByRecursion (λ frame. address < frame.start + frame.len) result.now }
     ensures live { (other : ℕ) → address ≤ other → is_live result.now other ≡ is_live frames.now other }
     ensures needed { (block : Block) → address ≤ block.first → meets result.now block ≡ meets frames.now block }
@@ -64,11 +60,11 @@ pub(crate) fn frames_from(frames: &[Range], address: u64) -> &[Range]
 /// The addresses below the limit, and the others. Takes time logarithmic in the number of those below.
 #[inline]
 fn split_below(addresses: &[u64], limit: u64) -> (&[u64], &[u64])
-    requires ascend { AscendBetween 0 ADDRESSES_MAX addresses.now }
-    requires limit { limit ≤ ADDRESSES_MAX }
+    requires ascend { AscendBetween 0 (2 ^ 64 - 1) addresses.now }
+    requires limit { limit ≤ 2 ^ 64 - 1 }
     ensures whole { result.0.now ++ result.1.now ≡ addresses.now }
     ensures below { AllByRecursion (λ address. address < limit) result.0.now }
-    ensures others { AscendBetween limit ADDRESSES_MAX result.1.now }
+    ensures others { AscendBetween limit (2 ^ 64 - 1) result.1.now }
 {
     addresses.split_at(count_below(addresses, limit))
 }
@@ -76,7 +72,7 @@ fn split_below(addresses: &[u64], limit: u64) -> (&[u64], &[u64])
 /// How many of the addresses are below the limit.
 #[inline]
 fn count_below(addresses: &[u64], limit: u64) -> usize
-    requires { AscendBetween 0 ADDRESSES_MAX addresses.now }
+    requires { AscendBetween 0 (2 ^ 64 - 1) addresses.now }
     ensures within { result ≤ length addresses.now }
     ensures below { AllByRecursion (λ address. address < limit) (take result addresses.now) }
     ensures others { AllByRecursion (λ address. limit ≤ address) (drop result addresses.now) }
@@ -88,7 +84,7 @@ fn count_below(addresses: &[u64], limit: u64) -> usize
 /// At most twice as many of the first addresses as are below the limit: none of the others is.
 #[inline]
 fn reach_of_limit(addresses: &[u64], limit: u64) -> usize
-    requires { AscendBetween 0 ADDRESSES_MAX addresses.now }
+    requires { AscendBetween 0 (2 ^ 64 - 1) addresses.now }
     ensures within { result ≤ length addresses.now }
     ensures others { AllByRecursion (λ address. limit ≤ address) (drop result addresses.now) }
 {
@@ -106,10 +102,10 @@ fn reach_of_limit(addresses: &[u64], limit: u64) -> usize
 /// is left. Takes time logarithmic in the number of those that it leaves out.
 #[inline]
 fn frames_for<'a>(frames: &'a [Range], addresses: &[u64]) -> &'a [Range]
-    requires order { AreInOrder 0 ADDRESSES_MAX frames.now }
-    requires ascend { AscendBetween 0 ADDRESSES_MAX addresses.now }
+    requires order { AreInOrder 0 (2 ^ 64 - 1) frames.now }
+    requires ascend { AscendBetween 0 (2 ^ 64 - 1) addresses.now }
     ensures within { length result.now ≤ length frames.now }
-    ensures order { AreInOrder 0 ADDRESSES_MAX result.now }
+    ensures order { AreInOrder 0 (2 ^ 64 - 1) result.now }
     ensures same { filter (is_live result.now) addresses.now ≡ filter (is_live frames.now) addresses.now }
 {
     match addresses {
@@ -121,7 +117,7 @@ fn frames_for<'a>(frames: &'a [Range], addresses: &[u64]) -> &'a [Range]
 /// How many of the frames end before the address or at it.
 #[inline]
 fn count_ended(frames: &[Range], address: u64) -> usize
-    requires { AreInOrder 0 ADDRESSES_MAX frames.now }
+    requires { AreInOrder 0 (2 ^ 64 - 1) frames.now }
     ensures within { result ≤ length frames.now }
     ensures ended { AllByRecursion (λ frame. frame.start + frame.len ≤ address) (take result frames.now) }
     ensures others { AllByRecursion (λ frame. address < frame.start + frame.len) (drop result frames.now) }
@@ -133,7 +129,7 @@ fn count_ended(frames: &[Range], address: u64) -> usize
 /// At most twice as many of the first frames as end before the address or at it: none of the others does.
 #[inline]
 fn reach_of_ended(frames: &[Range], address: u64) -> usize
-    requires { AreInOrder 0 ADDRESSES_MAX frames.now }
+    requires { AreInOrder 0 (2 ^ 64 - 1) frames.now }
     ensures within { result ≤ length frames.now }
     ensures others { AllByRecursion (λ frame. address < frame.start + frame.len) (drop result frames.now) }
 {

@@ -7,4 +7,5 @@ mod frames;
 mod lists;
 
 pub use blocks::Block;
+pub use frames::put_within;
 pub use lists::Lists;

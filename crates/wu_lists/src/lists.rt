@@ -1,5 +1,5 @@
 //! The lists of terms in parts, and the blocks that are kept of them.
-ghost use Rattle.std.specs.Prelude.{◌≡◌, ◌+◌, ◌<◌, ◌≤◌, ℕ, List, [], ◌∷◌, All, filter, true, false, IfOk, IfErr, IfSome, IfNone, OnOk, Some, None};
+ghost use Rattle.std.specs.Prelude.{◌≡◌, ◌+◌, ◌-◌, ◌^◌, ◌<◌, ◌≤◌, ℕ, List, [], ◌∷◌, All, filter, true, false, IfOk, IfErr, IfSome, IfNone, OnOk, Some, None};
 ghost use Rattle.std.specs.List.{AllByRecursion, list_any};
 ghost use Rattle.std.specs.Map.{keys_of, lookup};
 ghost use Rattle.lru.specs.LruCache.{IsValid, lru_cache};
@@ -8,7 +8,7 @@ ghost use Rattle.wu_space.specs.Addresses.{AreApart};
 ghost use Rattle.wu_part.specs.Directories.{AreBlocks};
 ghost use Rattle.wu_lists.specs.Ascending.{AscendBetween, AreInOrder};
 ghost use Rattle.wu_lists.specs.Blocks.{HasBytes, IsSpelledIn, IsSpelling, blocks_from, bytes_of, meets, needed};
-ghost use Rattle.wu_lists.specs.Causes.{IsCause, IsNoPart};
+ghost use Rattle.wu_lists.specs.Causes.{IsCause, IsTermCause};
 ghost use Rattle.wu_lists.specs.Fetching.{AreFetched, HasBlock, HasBlocks, HasTerm, Puts};
 ghost use Rattle.wu_lists.specs.declared.lists.Purpose.TheVariants.{Fetch};
 ghost use Rattle.wu_lists.specs.Keeping.{AreHeld, Asks, IsChecked, all_missing, asked, is_same};
@@ -91,9 +91,7 @@ impl Lists {
         ensures holds { D.holds store.new ≡ D.holds store.old }
         ensures moments { D.moments store.new ≡ D.moments store.old }
         ensures calm { OnOk result (D.faults store.new ≡ D.faults store.old) }
-        ensures cause { IfErr result (IsCause
-            (all_missing self.old.cap (keys_of self.old.entries) (needed blob dir.now term.now frames.now)) blob
-            (IfSome (D.holds store.old) (λ content. IsNoPart dir.now (content.blobs blob)))
+        ensures cause { IfErr result (IsTermCause self.old blob dir.now term.now frames.now (D.holds store.old)
             (D.faults store.old) (D.faults store.new) (D.reads store.old) (D.reads store.new)) }
     {
         let mut found = Vec::new(self.alloc);
@@ -120,9 +118,7 @@ impl Lists {
         ensures holds { D.holds store.new ≡ D.holds store.old }
         ensures moments { D.moments store.new ≡ D.moments store.old }
         ensures calm { OnOk result (D.faults store.new ≡ D.faults store.old) }
-        ensures cause { IfErr result (IsCause
-            (all_missing self.old.cap (keys_of self.old.entries) (needed blob dir.now term.now frames.now)) blob
-            (IfSome (D.holds store.old) (λ content. IsNoPart dir.now (content.blobs blob)))
+        ensures cause { IfErr result (IsTermCause self.old blob dir.now term.now frames.now (D.holds store.old)
             (D.faults store.old) (D.faults store.new) (D.reads store.old) (D.reads store.new)) }
     {
         self.walk(store, blob, dir, term, frames, Purpose::Fetch, found)
@@ -148,9 +144,7 @@ impl Lists {
         ensures holds { D.holds store.new ≡ D.holds store.old }
         ensures moments { D.moments store.new ≡ D.moments store.old }
         ensures calm { OnOk result (D.faults store.new ≡ D.faults store.old) }
-        ensures cause { IfErr result (IsCause
-            (all_missing self.old.cap (keys_of self.old.entries) (needed blob dir.now term.now frames.now)) blob
-            (IfSome (D.holds store.old) (λ content. IsNoPart dir.now (content.blobs blob)))
+        ensures cause { IfErr result (IsTermCause self.old blob dir.now term.now frames.now (D.holds store.old)
             (D.faults store.old) (D.faults store.new) (D.reads store.old) (D.reads store.new)) }
     {
         let mut none = Vec::new(self.alloc);
@@ -178,9 +172,7 @@ impl Lists {
         ensures holds { D.holds store.new ≡ D.holds store.old }
         ensures moments { D.moments store.new ≡ D.moments store.old }
         ensures calm { OnOk result (D.faults store.new ≡ D.faults store.old) }
-        ensures cause { IfErr result (IsCause
-            (all_missing self.old.cap (keys_of self.old.entries) (needed blob dir.now term.now frames.now)) blob
-            (IfSome (D.holds store.old) (λ content. IsNoPart dir.now (content.blobs blob)))
+        ensures cause { IfErr result (IsTermCause self.old blob dir.now term.now frames.now (D.holds store.old)
             (D.faults store.old) (D.faults store.new) (D.reads store.old) (D.reads store.new)) }
     {
         dir.is_spelled();
@@ -204,7 +196,7 @@ impl Lists {
         purpose: Purpose,
         found: &mut Vec<u64>,
     ) -> Result<(), Trouble>
-        requires order { AreInOrder 0 ADDRESSES_MAX frames.now }
+        requires order { AreInOrder 0 (2 ^ 64 - 1) frames.now }
         requires cut { AreBlocks dir.now.low dir.now.high entry.count entry.blocks }
         requires bounded { dir.now.high < ADDRESSES_MAX }
         requires span { dir.now.low ≤ dir.now.high }
@@ -251,7 +243,7 @@ impl Lists {
         purpose: Purpose,
         found: &mut Vec<u64>,
     ) -> Result<(), Trouble>
-        requires order { AreInOrder 0 ADDRESSES_MAX frames.now }
+        requires order { AreInOrder 0 (2 ^ 64 - 1) frames.now }
         requires after { AllByRecursion (λ frame. block.now.first < frame.start + frame.len) frames.now }
         requires span { block.now.first ≤ block.now.last }
         requires bounded { block.now.last < ADDRESSES_MAX }
@@ -281,7 +273,7 @@ impl Lists {
         block: &Block,
         frames: &[Range],
     ) -> Result<(), Trouble>
-        requires order { AreInOrder 0 ADDRESSES_MAX frames.now }
+        requires order { AreInOrder 0 (2 ^ 64 - 1) frames.now }
         requires after { AllByRecursion (λ frame. block.now.first < frame.start + frame.len) frames.now }
         ensures blocks { OnOk result (Asks (filter (meets frames.now) (block.now ∷ [])) (D.holds store.old) self.old self.new
             (D.reads store.old) (D.reads store.new)) }
@@ -313,7 +305,7 @@ impl Lists {
         frames: &[Range],
         found: &mut Vec<u64>,
     ) -> Result<(), Trouble>
-        requires order { AreInOrder 0 ADDRESSES_MAX frames.now }
+        requires order { AreInOrder 0 (2 ^ 64 - 1) frames.now }
         requires after { AllByRecursion (λ frame. block.now.first < frame.start + frame.len) frames.now }
         requires span { block.now.first ≤ block.now.last }
         requires bounded { block.now.last < ADDRESSES_MAX }

@@ -1,6 +1,8 @@
 -- Why a call on the parts in a store answers a trouble.
 use Rattle.std.specs.Prelude.{◌≡◌, ◌≢◌, ℕ, ◌≤◌, List, ◌++◌, Option, IfSome, map, option_map}
+use Rattle.std.specs.Map.{keys_of}
 use Rattle.wu_base.specs.declared.addresses.PartRec.{PartRec}
+use Rattle.wu_base.specs.declared.addresses.Range.{Range}
 use Rattle.wu_base.specs.declared.troubles.Trouble.{Trouble}
 use Rattle.wu_base.specs.declared.troubles.Trouble.TheVariants.{StoreFault, Damaged}
 use Rattle.wu_outside.specs.Content.{Content}
@@ -11,6 +13,8 @@ use Rattle.wu_part.specs.Directories.{PartDirectory}
 use Rattle.wu_lists.specs.declared.blocks.Block.{Block}
 use Rattle.wu_lists.specs.Blocks.{range_of}
 use Rattle.wu_lists.specs.Causes.{IsNoPart}
+use Rattle.wu_lists.specs.Keeping.{Kept, all_missing}
+use Rattle.wu_parts.specs.Holdings.{all_needed}
 
 -- A store fault is answered only where the store's count of faults rose, which else is as it was, and no blob is answered as damaged.
 pub record IsStoreCause (before now : ℕ) (trouble : Trouble) : Type 0 where
@@ -36,3 +40,10 @@ pub record IsFetchCause (parts : List (PartRec × PartDirectory)) (missing : Lis
   pub read : ranges_now ≡ option_map (λ earlier. earlier ++ map range_of added) ranges
   pub damaged : (blob : ℕ) → trouble ≡ Damaged blob
       → SomeOf (λ block. block.blob ≡ blob) added × SomeOf (IsBrokenPart holds blob) parts
+
+-- the blocks are those of a term that frames need in the parts, where these ones are kept
+abbrev pub IsPartsCause : Kept → List (PartRec × PartDirectory) → List ℕ → List Range → Option Content → ℕ → ℕ → Option (List ReadRange)
+    → Option (List ReadRange) → Trouble → Type 0
+IsPartsCause kept parts term frames holds before now ranges ranges_now trouble =
+    IsFetchCause parts (all_missing kept.cap (keys_of kept.entries) (all_needed parts term frames)) holds before now ranges ranges_now
+    trouble

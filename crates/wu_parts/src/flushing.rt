@@ -13,7 +13,7 @@ ghost use Rattle.wu_parts.specs.LiveLists.{live_lists};
 ghost use Rattle.wu_token.specs.Words.{IsTerm};
 
 use crate::chains::{Chain, addresses_from};
-use crate::galloping::{first_start, within_frames};
+use crate::frames::{first_start, within_frames};
 use indexmap::IndexMap;
 use std::alloc::Global;
 use wu_base::{ADDRESSES_MAX, Bytes, NoMemory, Range, Sequence, TermList};

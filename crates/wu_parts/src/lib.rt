@@ -3,7 +3,7 @@
 
 mod chains;
 mod flushing;
-mod galloping;
+mod frames;
 mod loading;
 mod memory;
 mod parts;

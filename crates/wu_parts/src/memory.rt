@@ -13,11 +13,12 @@ ghost use Rattle.wu_parts.specs.LiveLists.{AreEncodable};
 
 use crate::chains::{Chain, addresses_from, put};
 use crate::flushing::{by_term, cut_to_live};
-use crate::galloping::{first_start, put_within};
+use crate::frames::first_start;
 use indexmap::IndexMap;
 use std::alloc::Global;
 use std::marker::Model;
 use wu_base::{ADDRESSES_MAX, NoMemory, Range, Sequence, TEXT_MAX};
+use wu_lists::put_within;
 use wu_part::Builder;
 use wu_space::Space;
 use wu_token::{FILE_END, FILE_START, LINE_END, LINE_START, Lines, Piece, Token, Word};

@@ -2,7 +2,6 @@
 ghost use Rattle.std.specs.Prelude.{◌≡◌, ◌≢◌, ℕ, ◌+◌, ◌<◌, ◌≤◌, ◌^◌, ◌∷◌, ◌++◌, Bool, List, Option, None, [], true, Err, All, IsTrue, ◌↔◌, length, map, filter, slice_get, zip, IfOk, IfErr, IfSome, OnOk, OnErr, option_map};
 ghost use Rattle.std.specs.List.{AllByRecursion};
 ghost use Rattle.std.specs.List.Sorted.{IsStrictlyIncreasing};
-ghost use Rattle.std.specs.Map.{keys_of};
 ghost use Rattle.wu_base.specs.declared.reports.Worked.TheVariants.{Idle as NothingLeft};
 ghost use Rattle.wu_base.specs.declared.troubles.Trouble.TheVariants.{Damaged};
 ghost use Rattle.wu_layout.specs.Invariants.{IsLayoutOf};
@@ -15,8 +14,8 @@ ghost use Rattle.wu_space.specs.Addresses.{AreApart};
 ghost use Rattle.wu_token.specs.Words.{IsTerm};
 ghost use Rattle.wu_token.specs.Tokens.{tokens_of};
 ghost use Rattle.wu_parts.specs.Memory.{HasPostings, held};
-ghost use Rattle.wu_lists.specs.Keeping.{Asks, all_missing};
-ghost use Rattle.wu_parts.specs.Causes.{IsFetchCause, IsStoreCause};
+ghost use Rattle.wu_lists.specs.Keeping.{Asks};
+ghost use Rattle.wu_parts.specs.Causes.{IsPartsCause, IsStoreCause};
 ghost use Rattle.wu_parts.specs.Contents.{GainsTerms, no_contents, stored_in, stored_in_parts};
 ghost use Rattle.wu_parts.specs.Flushing.{EmptiesMemory, Flushes};
 ghost use Rattle.wu_parts.specs.Holdings.{AreKept, HoldParts, all_needed};
@@ -194,9 +193,7 @@ impl Parts {
         ensures holds { D.holds store.new ≡ D.holds store.old }
         ensures moments { D.moments store.new ≡ D.moments store.old }
         ensures calm { OnOk result (D.faults store.new ≡ D.faults store.old) }
-        ensures cause { IfErr result (IsFetchCause (zip self.old.parts self.old.directories)
-            (all_missing self.old.kept.cap (keys_of self.old.kept.entries)
-            (all_needed (zip self.old.parts self.old.directories) term.now frames.now))
+        ensures cause { IfErr result (IsPartsCause self.old.kept (zip self.old.parts self.old.directories) term.now frames.now
             (D.holds store.old) (D.faults store.old) (D.faults store.new) (D.reads store.old) (D.reads store.new)) }
     {
         let mut found = fetch_from_parts(
@@ -230,9 +227,7 @@ impl Parts {
         ensures holds { D.holds store.new ≡ D.holds store.old }
         ensures moments { D.moments store.new ≡ D.moments store.old }
         ensures calm { OnOk result (D.faults store.new ≡ D.faults store.old) }
-        ensures cause { IfErr result (IsFetchCause (zip self.old.parts self.old.directories)
-            (all_missing self.old.kept.cap (keys_of self.old.kept.entries)
-            (all_needed (zip self.old.parts self.old.directories) term.now frames.now))
+        ensures cause { IfErr result (IsPartsCause self.old.kept (zip self.old.parts self.old.directories) term.now frames.now
             (D.holds store.old) (D.faults store.old) (D.faults store.new) (D.reads store.old) (D.reads store.new)) }
     {
         let parts = self.parts.as_slice();

@@ -1,11 +1,10 @@
 //! The addresses of a term in the parts.
 ghost use Rattle.std.specs.Prelude.{◌≡◌, ◌+◌, ◌≤◌, All, IfErr, IfOk, OnOk};
 ghost use Rattle.std.specs.List.{AllByRecursion};
-ghost use Rattle.std.specs.Map.{keys_of};
 ghost use Rattle.wu_space.specs.Addresses.{AreApart};
 ghost use Rattle.wu_part.specs.Parts.{IsRecorded};
-ghost use Rattle.wu_lists.specs.Keeping.{Asks, all_missing};
-ghost use Rattle.wu_parts.specs.Causes.{IsFetchCause};
+ghost use Rattle.wu_lists.specs.Keeping.{Asks};
+ghost use Rattle.wu_parts.specs.Causes.{IsPartsCause};
 ghost use Rattle.wu_parts.specs.Holdings.{all_needed};
 ghost use Rattle.wu_parts.specs.StoredParts.{AreFetchedFrom, pairs_of};
 
@@ -33,8 +32,7 @@ pub(crate) fn fetch_from_parts<D: Store>(
     ensures holds { D.holds store.new ≡ D.holds store.old }
     ensures moments { D.moments store.new ≡ D.moments store.old }
     ensures calm { OnOk result (D.faults store.new ≡ D.faults store.old) }
-    ensures cause { IfErr result (IsFetchCause (pairs_of parts.now)
-        (all_missing lists.old.cap (keys_of lists.old.entries) (all_needed (pairs_of parts.now) term.now frames.now))
+    ensures cause { IfErr result (IsPartsCause lists.old (pairs_of parts.now) term.now frames.now
         (D.holds store.old) (D.faults store.old) (D.faults store.new) (D.reads store.old) (D.reads store.new)) }
 {
     let mut found = Vec::new(alloc);
@@ -67,8 +65,7 @@ pub(crate) fn touch_parts<D: Store>(
     ensures holds { D.holds store.new ≡ D.holds store.old }
     ensures moments { D.moments store.new ≡ D.moments store.old }
     ensures calm { OnOk result (D.faults store.new ≡ D.faults store.old) }
-    ensures cause { IfErr result (IsFetchCause (pairs_of parts.now)
-        (all_missing lists.old.cap (keys_of lists.old.entries) (all_needed (pairs_of parts.now) term.now frames.now))
+    ensures cause { IfErr result (IsPartsCause lists.old (pairs_of parts.now) term.now frames.now
         (D.holds store.old) (D.faults store.old) (D.faults store.new) (D.reads store.old) (D.reads store.new)) }
 {
     for part in parts {

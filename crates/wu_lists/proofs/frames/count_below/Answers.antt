@@ -1,8 +1,7 @@
-use Rattle.std.proofs.Common.{ℕ, ◌<◌, ◌≤◌, ltb, take, drop, rules}
+use Rattle.std.proofs.Common.{◌-◌, ◌^◌, ℕ, ◌<◌, ◌≤◌, ltb, take, drop, rules}
 use Rattle.std.specs.List.{AllByRecursion}
 use Rattle.std.proofs.lemmas.Bool.{ltb-true, ltb-false}
 use Rattle.std.proofs.lemmas.List.Sorted.{IsPartitionPoint-from_clause, IsPartitionedBy-ltb}
-use Rattle.wu_base.specs.declared.limits.TheConstants.{ADDRESSES_MAX}
 use Rattle.wu_lists.proofs.Ascending.{ascend-take, addresses-rise}
 use Rattle.wu_lists.proofs.Parting.{parts_at}
 use Rattle.wu_lists.proofs.frames.count_below.Goals as goal
@@ -19,7 +18,7 @@ parts c =
     (IsPartitionPoint-from_clause
     (λ (x : ℕ). ltb x limit) (take end xs) _ c.partition_point.ensures.partitioned
     (IsPartitionedBy-ltb (λ (x : ℕ). x) (take end xs) limit
-    (addresses-rise 0 ADDRESSES_MAX (take end xs) (ascend-take end 0 ADDRESSES_MAX xs c.requires)))
+    (addresses-rise 0 (2 ^ 64 - 1) (take end xs) (ascend-take end 0 (2 ^ 64 - 1) xs c.requires)))
     (λ a r f k. search rules))
     c.reach_of_limit-end.ensures.others
 

@@ -1,9 +1,8 @@
-use Rattle.std.proofs.Common.{◌+◌, ◌<◌, ◌≤◌, leb, take, drop, rules}
+use Rattle.std.proofs.Common.{◌-◌, ◌^◌, ◌+◌, ◌<◌, ◌≤◌, leb, take, drop, rules}
 use Rattle.std.specs.List.{AllByRecursion}
 use Rattle.std.proofs.lemmas.Bool.{leb-true, leb-false}
 use Rattle.std.proofs.lemmas.List.Sorted.{IsPartitionPoint-from_clause, IsPartitionedBy-leb}
 use Rattle.wu_base.specs.declared.addresses.Range.{Range}
-use Rattle.wu_base.specs.declared.limits.TheConstants.{ADDRESSES_MAX}
 use Rattle.wu_lists.proofs.Ascending.{order-take, ends-rise}
 use Rattle.wu_lists.proofs.Parting.{parts_at}
 use Rattle.wu_lists.proofs.frames.count_ended.Goals as goal
@@ -22,7 +21,7 @@ parts c =
     (IsPartitionPoint-from_clause
     (λ (f : Range). leb (f.start + f.len) address) (take end fs) _ c.partition_point.ensures.partitioned
     (IsPartitionedBy-leb (λ (f : Range). f.start + f.len) (take end fs) address
-    (ends-rise 0 ADDRESSES_MAX (take end fs) (order-take end 0 ADDRESSES_MAX fs c.requires)))
+    (ends-rise 0 (2 ^ 64 - 1) (take end fs) (order-take end 0 (2 ^ 64 - 1) fs c.requires)))
     (λ a r f k. search rules))
     c.reach_of_ended-end.ensures.others
 

@@ -1,11 +1,11 @@
-use Rattle.wu_base.specs.declared.limits.TheConstants.{ADDRESSES_MAX}
+use Rattle.std.proofs.Common.{◌-◌, ◌^◌}
 use Rattle.wu_lists.proofs.Ascending.{order-drop}
 use Rattle.wu_lists.proofs.Spans.{live-drop, meets-drop}
 use Rattle.wu_lists.proofs.frames.frames_from.Goals as goal
 
 pub returns-clause-order : goal.returns-clause-order
 returns-clause-order c =
-    rw c.split_at.ensures.back (order-drop c.count_ended.result 0 ADDRESSES_MAX c.args.frames.now c.requires)
+    rw c.split_at.ensures.back (order-drop c.count_ended.result 0 (2 ^ 64 - 1) c.args.frames.now c.requires)
 
 pub returns-clause-after : goal.returns-clause-after
 returns-clause-after c = rw c.split_at.ensures.back c.count_ended.ensures.others

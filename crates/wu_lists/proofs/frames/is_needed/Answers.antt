@@ -1,11 +1,10 @@
-use Rattle.std.proofs.Common.{arith}
-use Rattle.wu_base.specs.declared.limits.TheConstants.{ADDRESSES_MAX}
+use Rattle.std.proofs.Common.{◌-◌, ◌^◌, arith}
 use Rattle.wu_lists.proofs.Spans.{needed_at, needed_none}
 use Rattle.wu_lists.proofs.frames.is_needed.Goals as goal
 
 pub returns-in-len1-up : goal.returns-in-len1-up
 returns-in-len1-up c =
-    needed_at ADDRESSES_MAX c.args.frames.now (record { start = 0; len = 0 }) c.args.block.now (omega arith)
+    needed_at (2 ^ 64 - 1) c.args.frames.now (record { start = 0; len = 0 }) c.args.block.now (omega arith)
     c.requires.order c.requires.after
 
 pub returns-in-empty : goal.returns-in-empty

@@ -1,7 +1,6 @@
-use Rattle.std.proofs.Common.{◌≡◌, ℕ, ◌+◌, List, ◌++◌, filter, drop, get_or, ap, sym, ◌∙◌, arith, append-nil, append_assoc, refl}
+use Rattle.std.proofs.Common.{◌-◌, ◌^◌, ◌≡◌, ℕ, ◌+◌, List, ◌++◌, filter, drop, get_or, ap, sym, ◌∙◌, arith, append-nil, append_assoc, refl}
 use Rattle.std.proofs.lemmas.List.{take_rest}
 use Rattle.wu_base.specs.declared.addresses.Range.{Range}
-use Rattle.wu_base.specs.declared.limits.TheConstants.{ADDRESSES_MAX}
 use Rattle.wu_layout.specs.Postings.{is_live}
 use Rattle.wu_lists.proofs.Ascending.{ascend-lower, first_end, first_start}
 use Rattle.wu_lists.proofs.Cutting.{cut_first, none_left}
@@ -9,27 +8,27 @@ use Rattle.wu_lists.proofs.frames.put_within.Goals as goal
 
 pub split_below-requires-clause-limit : goal.split_below-requires-clause-limit
 split_below-requires-clause-limit c =
-    first_start 0 ADDRESSES_MAX c.loop-left.left.now (record { start = 0; len = 0 }) (omega arith) c.loop-left.invariant.order
+    first_start 0 (2 ^ 64 - 1) c.loop-left.left.now (record { start = 0; len = 0 }) (omega arith) c.loop-left.invariant.order
 
 pub overflow_add-frame : goal.overflow_add-frame
 overflow_add-frame c =
-    let e = first_end 0 ADDRESSES_MAX c.loop-left.left.now (record { start = 0; len = 0 }) (omega arith) c.loop-left.invariant.order in
+    let e = first_end 0 (2 ^ 64 - 1) c.loop-left.left.now (record { start = 0; len = 0 }) (omega arith) c.loop-left.invariant.order in
     omega arith
 
 pub split_below-requires-in-len1-up-clause-ascend : goal.split_below-requires-in-len1-up-clause-ascend
 split_below-requires-in-len1-up-clause-ascend c =
-    ascend-lower 0 (get_or c.loop-left.left.now 0 (record { start = 0; len = 0 })).start ADDRESSES_MAX c.split_below.result.1.now
+    ascend-lower 0 (get_or c.loop-left.left.now 0 (record { start = 0; len = 0 })).start (2 ^ 64 - 1) c.split_below.result.1.now
     (omega arith)
     c.split_below.ensures.others
 
 pub split_below-requires-in-len1-up-clause-limit : goal.split_below-requires-in-len1-up-clause-limit
 split_below-requires-in-len1-up-clause-limit c =
-    first_end 0 ADDRESSES_MAX c.loop-left.left.now (record { start = 0; len = 0 }) (omega arith) c.loop-left.invariant.order
+    first_end 0 (2 ^ 64 - 1) c.loop-left.left.now (record { start = 0; len = 0 }) (omega arith) c.loop-left.invariant.order
 
 pub frames_for-left-requires-clause-ascend : goal.frames_for-left-requires-clause-ascend
 frames_for-left-requires-clause-ascend c =
     let f : Range = get_or c.loop-left.left.now 0 (record { start = 0; len = 0 }) in
-    ascend-lower 0 (f.start + f.len) ADDRESSES_MAX c.split_below-in-len1-up.result.1.now (omega arith)
+    ascend-lower 0 (f.start + f.len) (2 ^ 64 - 1) c.split_below-in-len1-up.result.1.now (omega arith)
     c.split_below-in-len1-up.ensures.others
 
 pub loop-left-preserved : goal.loop-left-preserved
@@ -40,7 +39,7 @@ loop-left-preserved c =
     let after : List ℕ = c.split_below-in-len1-up.result.1.now in
     let inside : List ℕ = c.split_below-in-len1-up.result.0.now in
     let step : filter (is_live left) c.loop-left.rest.now ≡ inside ++ filter (is_live (drop 1 left)) after =
-    cut_first ADDRESSES_MAX left (drop 1 left) d c.loop-left.rest.now c.split_below.result.0.now c.split_below.result.1.now inside after
+    cut_first (2 ^ 64 - 1) left (drop 1 left) d c.loop-left.rest.now c.split_below.result.0.now c.split_below.result.1.now inside after
     (omega arith) refl c.loop-left.invariant.order c.split_below.ensures.whole c.split_below-in-len1-up.ensures.whole
     c.split_below.ensures.below c.split_below.ensures.others
     c.split_below-in-len1-up.ensures.below c.split_below-in-len1-up.ensures.others in
@@ -53,7 +52,7 @@ loop-left-preserved c =
           ∙ ap (λ (l : List ℕ). c.loop-left.found.items ++ (inside ++ l)) same
           ∙ ap (λ (l : List ℕ). c.loop-left.found.items ++ l) (sym step)
           ∙ c.loop-left.invariant.made;
-      ascend = ascend-lower 0 (f.start + f.len) ADDRESSES_MAX after (omega arith) c.split_below-in-len1-up.ensures.others;
+      ascend = ascend-lower 0 (f.start + f.len) (2 ^ 64 - 1) after (omega arith) c.split_below-in-len1-up.ensures.others;
       order = c.frames_for-left.ensures.order;
     }
 

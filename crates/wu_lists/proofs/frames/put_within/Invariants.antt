@@ -1,5 +1,4 @@
-use Rattle.std.proofs.Common.{◌≡◌, ◌++◌, filter, length}
-use Rattle.wu_base.specs.declared.limits.TheConstants.{ADDRESSES_MAX}
+use Rattle.std.proofs.Common.{◌-◌, ◌^◌, ◌≡◌, ◌++◌, filter, length}
 use Rattle.wu_layout.specs.Postings.{is_live}
 use Rattle.wu_lists.specs.Ascending.{AscendBetween, AreInOrder}
 use Rattle.wu_lists.proofs.frames.put_within.Given as goal
@@ -7,8 +6,8 @@ use Rattle.wu_lists.proofs.frames.put_within.Given as goal
 abbrev pub invariant-loop-left : goal.invariant-loop-left
 invariant-loop-left l = record {
   made : l.found.items ++ filter (is_live l.left) l.rest ≡ l.fn.found.items ++ filter (is_live l.frames) l.addresses;
-  ascend : AscendBetween 0 ADDRESSES_MAX l.rest;
-  order : AreInOrder 0 ADDRESSES_MAX l.left;
+  ascend : AscendBetween 0 (2 ^ 64 - 1) l.rest;
+  order : AreInOrder 0 (2 ^ 64 - 1) l.left;
 }
 
 abbrev pub decreases-loop-left : goal.decreases-loop-left

@@ -1,5 +1,4 @@
-use Rattle.std.proofs.Common.{◌≡◌, ◌+◌, ℕ, List, ◌++◌, true, false, filter, sym, ◌∙◌, ap, subst, arith, rules}
-use Rattle.wu_base.specs.declared.limits.TheConstants.{ADDRESSES_MAX}
+use Rattle.std.proofs.Common.{◌-◌, ◌^◌, ◌≡◌, ◌+◌, ℕ, List, ◌++◌, true, false, filter, sym, ◌∙◌, ap, subst, arith, rules}
 use Rattle.wu_layout.specs.Postings.{is_live}
 use Rattle.wu_lists.specs.declared.blocks.Block.{Block}
 use Rattle.wu_lists.specs.Keeping.{Asks}
@@ -25,8 +24,8 @@ returns-then-not-is_needed-clause-blocks g c =
 pub put_within-requires-clause-ascend : goal.put_within-requires-clause-ascend
 put_within-requires-clause-ascend g c =
     rw c.deref.ensures.value
-    (ascend-lower 0 c.args.block.now.first ADDRESSES_MAX c.in_ok-addresses.addresses.items (omega arith)
-    (ascend-higher c.args.block.now.first (c.args.block.now.last + 1) ADDRESSES_MAX c.in_ok-addresses.addresses.items
+    (ascend-lower 0 c.args.block.now.first (2 ^ 64 - 1) c.in_ok-addresses.addresses.items (omega arith)
+    (ascend-higher c.args.block.now.first (c.args.block.now.last + 1) (2 ^ 64 - 1) c.in_ok-addresses.addresses.items
     (omega (arith, c.requires.bounded)) c.in_ok-addresses.ensures.ascend))
 
 pub returns-clause-addresses : goal.returns-clause-addresses

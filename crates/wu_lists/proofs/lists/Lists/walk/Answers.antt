@@ -1,8 +1,7 @@
-use Rattle.std.proofs.Common.{◌+◌, List, filter, subst, arith, rules}
+use Rattle.std.proofs.Common.{◌+◌, ◌-◌, ◌^◌, List, filter, subst, arith, rules}
 use Rattle.std.specs.Prelude.{IfErr, IfSome}
 use Rattle.std.specs.List.{AllByRecursion}
 use Rattle.std.specs.Map.{keys_of}
-use Rattle.wu_base.specs.declared.limits.TheConstants.{ADDRESSES_MAX}
 use Rattle.wu_base.specs.declared.troubles.Trouble.{Trouble}
 use Rattle.wu_layout.proofs.EntryLemmas.{IfSome-map}
 use Rattle.wu_lists.specs.Blocks.{IsSpelledIn, blocks_from, meets, needed}
@@ -19,7 +18,8 @@ use Rattle.wu_lists.proofs.lists.Lists.walk.Goals as goal
 
 pub walk_blocks-requires-clause-order : goal.walk_blocks-requires-clause-order
 walk_blocks-requires-clause-order g c =
-    order-from_apart 0 ADDRESSES_MAX c.args.frames.now (omega arith) (all_from_zero c.args.frames.now) c.requires.apart c.requires.bounded
+    order-from_apart 0 (2 ^ 64 - 1) c.args.frames.now (omega arith) (all_from_zero c.args.frames.now) c.requires.apart
+    (λ k d l. let within = c.requires.bounded k d l in omega arith)
 
 pub walk_blocks-requires-clause-cut : goal.walk_blocks-requires-clause-cut
 walk_blocks-requires-clause-cut g c =

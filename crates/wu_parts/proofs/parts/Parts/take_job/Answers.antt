@@ -1,5 +1,5 @@
 use Rattle.std.proofs.Common.{◌≡◌, ◌∙◌, ap, inl, inr, refl, subst, sym, List, None, Option, Some, true}
-use Rattle.std.specs.Prelude.{option_map, IfOk, IfSome}
+use Rattle.std.specs.Prelude.{option_map, IfSome}
 use Rattle.wu_parts.specs.Contents.{Contents}
 use Rattle.wu_parts.specs.StoredParts.{IsKeptJob, IsStarted, directories_of, records_of, running_at}
 use Rattle.wu_parts.specs.Units.{next_job}
