@@ -8,12 +8,13 @@ use Rattle.std.specs.Cmp.{nat_eq_equiv}
 use Rattle.std.proofs.lemmas.Bool.{eqb-true}
 use Rattle.lru.specs.LruCache.{LruCache, last_entry, lru_cache, promoted, put_entries}
 use Rattle.lru.proofs.CallerLemmas.{Contains-lookup_entry, lookup-put_entries}
+use Rattle.lru.proofs.Pairs.{lookup-lookup_entry}
 use Rattle.wu_base.proofs.Members.{Has-from_Contains, all_has}
 use Rattle.wu_base.proofs.MapEntries.{All-remove_entry, All-found, All-set_value}
 use Rattle.wu_tree.specs.FileSystems.{FileSystem}
 use Rattle.wu_space.specs.Addresses.{Ranges}
 use Rattle.wu_frames.specs.declared.Frames.{Frames}
-use Rattle.wu_frames.specs.UserFrames.{AreFor, AreFrames, Kept, frames_for}
+use Rattle.wu_frames.specs.UserFrames.{AreFor, AreFrames, AskedLast, Kept, frames_for}
 
 All-take : {X : Type 0} (P : X → Type 0) (n : ℕ) (xs : List X) → AllByRecursion P xs → AllByRecursion P (take n xs)
 All-take P zero xs a = tt
@@ -115,3 +116,29 @@ kept-put cache uid frames = rw (lookup-put_entries nat_eq cache uid frames nat_e
 pub kept-asked : (uid : ℕ) (kept : Kept) (frames now : Frames) → Some frames ≡ frames_for kept uid
     → IsSome (frames_for (set_value (nat_eq uid) (promoted (nat_eq uid) kept) now) uid)
 kept-asked uid kept frames now h = found-set uid (promoted (nat_eq uid) kept) now (kept-promoted uid kept (ap is_some h))
+
+-- who asks, or is put in, is the one who asked last
+
+pub asked-put : (cache : LruCache ℕ Frames) (uid : ℕ) (frames : Frames) → frames.mends ≡ 0
+    → AskedLast uid (put_entries nat_eq cache uid frames)
+asked-put cache uid frames anew =
+    elim (lookup_entry (nat_eq uid) cache.entries) as
+    (λ o. lookup_entry (nat_eq uid) cache.entries ≡ o
+    → AskedLast uid
+    (option_map_or (λ (e : ℕ × Frames). (e.0, frames) ∷ remove_entry (nat_eq uid) cache.entries) o
+    ((uid, frames) ∷ take (cache.cap - 1) cache.entries))) [
+      | None ↦ λ e. (refl, anew)
+      | Some entry ↦ λ e. (sym (eqb-true uid entry.0 (Contains-lookup_entry (nat_eq uid) cache.entries entry e).1), anew)
+    ] refl
+
+pub asked-again : (uid : ℕ) (kept : Kept) (frames now : Frames) → Some frames ≡ frames_for kept uid → now.mends ≡ 0
+    → AskedLast uid (set_value (nat_eq uid) (promoted (nat_eq uid) kept) now)
+asked-again uid kept frames now h anew =
+    elim (lookup_entry (nat_eq uid) kept) as
+    (λ o. lookup_entry (nat_eq uid) kept ≡ o
+    → AskedLast uid (set_value (nat_eq uid) (option_map_or (λ (e : ℕ × Frames). e ∷ remove_entry (nat_eq uid) kept) o kept) now)) [
+      | None ↦ λ e. let none = lookup-lookup_entry (nat_eq uid) kept in let none' = rw e at none in cc
+      | Some entry ↦ λ e.
+          let same = (Contains-lookup_entry (nat_eq uid) kept entry e).1 in
+          rw same (sym (eqb-true uid entry.0 same), anew)
+    ] refl

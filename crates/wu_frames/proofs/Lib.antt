@@ -3,3 +3,5 @@ pub mod ViewFrames
 pub mod Keeping
 pub mod FrameFacts
 pub mod MovedFrames
+pub mod SameViews
+pub mod Rechecking

@@ -1,6 +1,7 @@
 -- ---- What a reader of the contracts trusts
 
 pub mod UserFrames
+pub mod Permissions
 -- ---- What only private functions and proofs need
 
 pub mod Making

@@ -1,5 +1,5 @@
 -- A user's frames: the live ranges of the files of her view, each with the file's number and its place in the view.
-use Rattle.std.specs.Prelude.{◌≡◌, ℕ, ◌≤◌, Option, Some, List, map, sum_by, option_map, nat_eq, IsPermutation, filter_map}
+use Rattle.std.specs.Prelude.{◌≡◌, ℕ, ◌≤◌, Option, Some, List, [], ◌∷◌, map, sum_by, option_map, nat_eq, IsPermutation, filter_map}
 use Rattle.std.specs.Ordering.{nat_cmp}
 use Rattle.std.specs.List.{AllByRecursion, enumerate_from}
 use Rattle.std.specs.Map.{lookup, remove_entry}
@@ -46,6 +46,11 @@ frames_for kept uid = lookup (nat_eq uid) kept
 -- what is kept was made for that tree and those live ranges
 abbrev pub AreFor : FileSystem → Ranges → Kept → Type 0
 AreFor fs live kept = AllByRecursion (λ entry. AreFrames fs live entry.0 entry.1) kept
+
+-- the user is the one who asked last: her frames come first, and no mend of them is counted
+abbrev pub AskedLast : ℕ → Kept → Type 0
+AskedLast uid [] = ⊥
+AskedLast uid (entry ∷ kept) = (entry.0 ≡ uid) × (entry.1.mends ≡ 0)
 
 -- ---- a file that has a new text
 

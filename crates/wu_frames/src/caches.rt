@@ -1,11 +1,13 @@
 //! The frames of the users who asked last.
-ghost use Rattle.std.specs.Prelude.{◌≡◌, [], IfOk, OnOk, OnErr, IsSome, option_copied};
+ghost use Rattle.std.specs.Prelude.{◌≡◌, [], nat_eq, IfOk, OnOk, OnErr, IsSome, Some, option_copied};
+ghost use Rattle.std.specs.Map.{remove_entry};
 ghost use Rattle.wu_tree.specs.FileSystems.{FileSystem};
-ghost use Rattle.wu_space.specs.Addresses.{Addresses};
-ghost use Rattle.wu_frames.specs.UserFrames.{AreFor, AreFrames, IsMove, frames_for, with_range};
+ghost use Rattle.wu_space.specs.Addresses.{Addresses, Ranges};
+ghost use Rattle.wu_frames.specs.UserFrames.{AreFor, AreFrames, AskedLast, IsMove, frames_for, with_range};
+ghost use Rattle.wu_frames.specs.Permissions.{IsGroupChange, IsPermChange, kept_as_before};
 ghost use Rattle.wu_frames.specs.Mending.{KeepsRight};
 
-use crate::{Frames, making, mending};
+use crate::{Frames, making, mending, permissions};
 use lru::LruCache;
 use std::alloc::Global;
 use std::marker::Model;
@@ -13,7 +15,7 @@ use std::mem;
 use std::num::NonZeroUsize;
 use wu_base::{Ino, NoMemory, Range, Uid};
 use wu_space::Space;
-use wu_tree::Tree;
+use wu_tree::{Node, Tree};
 
 /// For how many users frames are kept.
 pub const USERS_KEPT: usize = 16;
@@ -35,6 +37,10 @@ impl Model for FrameCache {
 }
 
 impl FrameCache {
+    ghost use Rattle.std.specs.Borrow.{sem};
+    ghost use Rattle.std.specs.Io.BufRead.{Rests};
+    ghost use Rattle.wu_frames.specs.contracts.caches.FrameCache.{the_row};
+
     /// No frames. The cache keeps the allocator for its changes.
     pub fn new(alloc: Global) -> Result<FrameCache, NoMemory>
         ensures { IfOk result (λ cache. cache ≡ []) }
@@ -53,7 +59,10 @@ impl FrameCache {
     /// directories that she may reach and in the bytes of her view.
     pub fn frames_of(&mut self, tree: &Tree, space: &Space, uid: Uid) -> Result<&Frames, NoMemory>
         requires { AreFor tree.now space.now.ranges self.old }
-        ensures { IfOk result (λ frames. AreFrames tree.now space.now.ranges uid frames.now) }
+        ensures frames { IfOk result (λ frames. AreFrames tree.now space.now.ranges uid frames.now) }
+        // What is kept once the answer is let go.
+        ensures* right { sem 𝓛 (Rests the_row self.entry (λ kept. AreFor tree.now space.now.ranges kept
+            × IfOk result (λ frames. AskedLast uid kept × (frames_for kept uid ≡ Some frames.now)))) }
     {
         self.prepare(tree, space, uid)?;
         match self.kept(uid) {
@@ -67,6 +76,7 @@ impl FrameCache {
         requires { AreFor tree.now space.now.ranges self.old }
         ensures right { AreFor tree.now space.now.ranges self.new }
         ensures kept { OnOk result (IsSome (frames_for self.new uid)) }
+        ensures asked { OnOk result (AskedLast uid self.new) }
     {
         if let Some(frames) = self.kept.get_mut(&uid) {
             frames.mends = 0;
@@ -84,10 +94,10 @@ impl FrameCache {
         self.kept.peek(&uid)
     }
 
-    /// Mends the frames after a file had a new text: where its old range was a frame, the new one is, behind
-    /// all others. All that changed is that the file's range went from the old one to the new one, which no
-    /// file had before. What can't be mended for want of memory is forgotten, and so are the frames of a user
-    /// who didn't ask while files of hers had 64 new texts.
+    /// Brings the frames up to date after a file had a new text: who had a frame with its old range has one
+    /// with the new range instead, behind her others. Nothing else may have changed since the frames were
+    /// right, and the new range lies behind all addresses that were given before. Frames for which memory runs
+    /// out are forgotten, and so are those of a user whose files had more than 64 new texts since she asked.
     ///
     /// Takes time linear in the frames behind the old ones.
     pub fn move_range(&mut self, ino: Ino, old: Range, new: Range)
@@ -105,6 +115,39 @@ impl FrameCache {
             }
             Err(_) => self.kept.clear(),
         }
+    }
+
+    /// Forgets the frames of each user to whom a node that has other permissions doesn't grant what it granted her
+    /// before: to read it, where it is a file, or to pass through it, where it is a directory. The frames of others
+    /// stay. `before` is the node that it was. Out of memory, which is the only error, all frames are forgotten.
+    ///
+    /// Takes memory for the groups of one user, which are copied once for each user that is kept, and again for
+    /// those before each one that is forgotten: at most 136 times in all.
+    pub fn recheck(&mut self, tree: &Tree, ino: Ino, before: Node) -> Result<(), NoMemory>
+        ensures right { (fs : FileSystem) (live : Ranges) → IsPermChange fs ino before tree.now
+            → AreFor fs live self.old → AreFor tree.now live self.new }
+        ensures stays { OnOk result (self.new ≡ kept_as_before tree.now ino before self.old) }
+        ensures none { OnErr result (self.new ≡ []) }
+    {
+        tree.keeps_the_rules();
+        match permissions::forget_changed(self.alloc, &mut self.kept, tree, ino, before) {
+            Ok(()) => Ok(()),
+            Err(error) => {
+                self.clear();
+                Err(error)
+            }
+        }
+    }
+
+    /// Forgets the frames of a user who is in other groups now, and no others. Takes no memory.
+    pub fn forget(&mut self, uid: Uid)
+        ensures right { (before after : FileSystem) (live : Ranges) → IsGroupChange before uid after
+            → AreFor before live self.old → AreFor after live self.new }
+        ensures others { self.new ≡ remove_entry (nat_eq uid) self.old }
+    {
+        // That no user is there twice is said of the length.
+        let _ = self.kept.len();
+        self.kept.pop(&uid);
     }
 
     /// Forgets all frames: called at each other change of the tree or the space. Takes no memory.

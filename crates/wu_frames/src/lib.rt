@@ -4,6 +4,7 @@
 mod caches;
 mod making;
 mod mending;
+mod permissions;
 
 pub use caches::{FrameCache, USERS_KEPT};
 use wu_base::{Ino, Range, Sequence};

@@ -12,7 +12,8 @@ use wu_view::{Seen, searchable};
 
 /// The frames of the user, made anew.
 pub(crate) fn made(alloc: Global, tree: &Tree, space: &Space, uid: Uid) -> Result<Frames, NoMemory>
-    ensures { IfOk result (λ frames. AreFrames tree.now space.now.ranges uid frames) }
+    ensures right { IfOk result (λ frames. AreFrames tree.now space.now.ranges uid frames) }
+    ensures anew { IfOk result (λ frames. frames.mends ≡ 0) }
 {
     space.keeps_the_rules();
     let seen = searchable(alloc, tree, uid)?;

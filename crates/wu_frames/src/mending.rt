@@ -7,11 +7,11 @@ ghost use Rattle.wu_frames.specs.Mending.{IsMoved, StaysRight};
 use crate::{Frame, Frames};
 use wu_base::{Ino, Range, Sequence};
 
-/// How often the frames of a user are mended while she doesn't ask.
+/// How often the frames of a user are mended, at most, from one time that she asks to the next.
 const MENDS_MAX: u32 = 64;
 
-/// The frames with the file's range moved. None, where they are to be made anew: for want of memory, or since
-/// they were mended too often while their user didn't ask.
+/// The frames after the file went from its old range to the new one. None where they are to be forgotten: memory
+/// ran out, or they were mended `MENDS_MAX` times since their user asked. They are made anew when she asks again.
 pub(crate) fn mended(frames: Frames, ino: Ino, old: Range, new: Range) -> Option<Frames>
     ensures { IfSome result (λ after. StaysRight ino old new frames after) }
 {

@@ -5,7 +5,7 @@ use wu_base::{ADDRESSES_MAX, Ino, Range};
 use wu_frames::FrameCache;
 use wu_rows::{NoAnswer, Subject, number, small_number};
 use wu_space::Space;
-use wu_tree::{Event, Tree};
+use wu_tree::{Event, Node, Tree};
 
 /// The tree and the space to which the rows of a table are put, and the frames that rows have kept. A table
 /// begins with the root alone.
@@ -26,9 +26,9 @@ impl Rows {
     }
 
     /// What the tree answers to the event. A file that it makes or that gets a text is given `len`
-    /// addresses, and a file that it drops loses its range. Kept frames are mended after a text, and
-    /// forgotten after any other event.
+    /// addresses, and a file that it drops loses its range.
     fn apply(&mut self, alloc: Global, event: Event, len: u64) -> Result<String, NoAnswer> {
+        let before = node_before(&self.tree, &event);
         match events::applied(&mut self.tree, &event)? {
             Ok(effect) => {
                 if let Some(ino) = effect.dropped {
@@ -39,12 +39,23 @@ impl Rows {
                 }
                 match effect.texted {
                     Some(ino) => self.give_text(ino, len)?,
-                    None => self.kept.clear(),
+                    None => self.renew(&event, before)?,
                 }
                 Ok(String::from_str(alloc, "done")?)
             }
             Err(_) => Ok(String::from_str(alloc, "refused")?),
         }
+    }
+
+    /// Forgets the kept frames that the event may have changed, where `before` is the node to which it gave other
+    /// permissions.
+    fn renew(&mut self, event: &Event, before: Option<(Ino, Node)>) -> Result<(), NoAnswer> {
+        match (event, before) {
+            (Event::User { uid, .. }, _) => self.kept.forget(*uid),
+            (_, Some((ino, node))) => self.kept.recheck(&self.tree, ino, node)?,
+            _ => self.kept.clear(),
+        }
+        Ok(())
     }
 
     /// Gives the file the next addresses, so many, in place of those that it has.
@@ -74,6 +85,14 @@ impl Rows {
             }
         }
         Ok(String::from_str(alloc, "done")?)
+    }
+}
+
+/// The node to which the event gives other permissions, as it is before.
+fn node_before(tree: &Tree, event: &Event) -> Option<(Ino, Node)> {
+    match event {
+        Event::Chmod { ino, .. } | Event::Chown { ino, .. } => Some((*ino, tree.node(*ino)?)),
+        _ => None,
     }
 }
 

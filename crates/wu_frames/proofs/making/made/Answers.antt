@@ -24,8 +24,8 @@ length-total-requires c =
     ∙ ap (λ (l : List Frame). map (λ (x : Frame). x.range) l) c.as_slice-2.ensures.value in
     omega (arith, fits, c.keeps_the_rules.ensures.small, ap (λ (l : List Range). length_of l) r)
 
-pub returns : goal.returns
-returns c =
+pub returns-clause-right : goal.returns-clause-right
+returns-clause-right c =
     let v : c.from-2.result ≡ view_of c.args.tree.now c.args.uid = c.from-2.ensures ∙ c.in_ok-seen.ensures.view in
     let m : IsPermutation (frames_in c.args.space.now.ranges c.from-2.result) c.from.result =
     rw (c.from-2.ensures, c.from.ensures, ← c.as_slice.ensures.value) c.in_ok-by_address.ensures.frames in

@@ -1,0 +1,142 @@
+-- Which frames are left after those that may have changed are forgotten.
+use Rattle.std.proofs.Common.{◌≡◌, ℕ, zero, suc, ◌<◌, Bool, true, false, cond, List, [], ◌∷◌, length, nat_eq, refl, ap, sym, ◌∙◌, subst, Bor, arith}
+use Rattle.std.specs.Prelude.{None, Some, IsPermutation, IsSome, MatchOption, Option, filter, map, slice_get}
+use Rattle.std.specs.Cmp.{booleans_Decides, nat_eq_equiv}
+use Rattle.std.specs.List.{AllByRecursion, IsDistinct}
+use Rattle.std.specs.Map.{keys_of, remove_entry}
+use Rattle.std.specs.Map.Iter.{deref_pair}
+use Rattle.std.proofs.lemmas.Bool.{eqb-true}
+use Rattle.std.proofs.lemmas.Map.{NonePasses}
+use Rattle.std.proofs.lemmas.Map.Entries.{none_past_head}
+use Rattle.wu_access.specs.declared.Perm.{Perm}
+use Rattle.wu_access.specs.Access.{is_allowed}
+use Rattle.wu_tree.specs.declared.events.Node.{Node}
+use Rattle.wu_tree.specs.FileSystems.{FileSystem, node_of}
+use Rattle.wu_tree.specs.Rules.{IsTree}
+use Rattle.wu_tree.specs.Steps.{with_perm, with_user}
+use Rattle.wu_view.specs.declared.Seen.{Seen}
+use Rattle.wu_view.specs.Views.{is_granted_node, view_of}
+use Rattle.wu_space.specs.Addresses.{Ranges}
+use Rattle.wu_frames.specs.declared.Frames.{Frames}
+use Rattle.wu_frames.specs.UserFrames.{AreFor, AreFrames, Kept, frames_for, frames_in}
+use Rattle.wu_frames.specs.Permissions.{IsGroupChange, IsPermChange, grants_as_before, kept_as_before, user_in, want_of}
+use Rattle.wu_frames.proofs.SameViews.{node_of-here, view_of-permitted, view_of-regrouped}
+
+-- ---- the walk over what is kept
+
+pub of-entries : (P : ℕ → Type 0) (xs : List (Bor ℕ × Bor Frames)) → AllByRecursion (λ entry. P entry.0.now) xs
+    → AllByRecursion (λ entry. P entry.0) (map deref_pair xs)
+of-entries P [] a = tt
+of-entries P (x ∷ xs) a = (a.0, of-entries P xs a.1)
+
+pub found-at : (i uid : ℕ) (kept : Kept) (frames : Frames) → slice_get kept i ≡ Some (uid, frames) → IsSome (frames_for kept uid)
+found-at i uid [] frames h = absurd cc
+found-at zero uid (entry ∷ kept) frames h =
+    let same : uid ≡ entry.0 = cc in
+    let first : nat_eq uid entry.0 ≡ true = subst (λ (n : ℕ). nat_eq uid n ≡ true) same (nat_eq_equiv.refl uid) in
+    rw first refl
+found-at (suc i) uid (entry ∷ kept) frames h =
+    elim (nat_eq uid entry.0) as (λ b. IsSome (cond b (Some entry.1) (frames_for kept uid))) [
+      | true ↦ refl
+      | false ↦ found-at i uid kept frames h
+    ]
+
+pub of-some : {X : Type 0} (N : Type 0) (P : X → Type 0) (o : Option X) (x : X) → o ≡ Some x → MatchOption o N P → P x
+of-some N P o x e m = subst (λ o. MatchOption o N P) e m
+
+pub of-none : {X : Type 0} (N : Type 0) (P : X → Type 0) (o : Option X) → o ≡ None → MatchOption o N P → N
+of-none N P o e m = subst (λ o. MatchOption o N P) e m
+
+-- ---- what is taken out
+
+pub pop-kept : (p : ℕ → Bool) (uid : ℕ) (kept : Kept) → p uid ≡ false
+    → filter (λ entry. p entry.0) (remove_entry (nat_eq uid) kept) ≡ filter (λ entry. p entry.0) kept
+pop-kept p uid [] f = refl
+pop-kept p uid (entry ∷ kept) f =
+    elim (nat_eq uid entry.0) as
+    (λ b. nat_eq uid entry.0 ≡ b
+    → filter (λ (x : ℕ × Frames). p x.0) (cond b kept (entry ∷ remove_entry (nat_eq uid) kept))
+    ≡ filter (λ (x : ℕ × Frames). p x.0) (entry ∷ kept)) [
+      | true ↦ λ h. let n : p entry.0 ≡ false = subst (λ (k : ℕ). p k ≡ false) (eqb-true uid entry.0 h) f in rw n refl
+      | false ↦ λ h.
+          ap (λ (l : Kept). cond (p entry.0) (entry ∷ l) l) (pop-kept p uid kept f)
+    ] refl
+
+pub all-kept : (p : ℕ → Bool) (kept : Kept) → AllByRecursion (λ entry. p entry.0 ≡ true) kept → filter (λ entry. p entry.0) kept ≡ kept
+all-kept p [] a = refl
+all-kept p (entry ∷ kept) a = rw a.0 (ap (λ (l : Kept). entry ∷ l) (all-kept p kept a.1))
+
+pub pop-shorter : (uid : ℕ) (kept : Kept) → IsSome (frames_for kept uid) → length (remove_entry (nat_eq uid) kept) < length kept
+pop-shorter uid [] h = absurd cc
+pop-shorter uid (entry ∷ kept) h =
+    elim (nat_eq uid entry.0) as
+    (λ b. IsSome (cond b (Some entry.1) (frames_for kept uid))
+    → length (cond b kept (entry ∷ remove_entry (nat_eq uid) kept)) < suc (length kept)) [
+      | true ↦ λ g. omega arith
+      | false ↦ λ g. omega (arith, pop-shorter uid kept g)
+    ] h
+
+-- ---- what is left is right
+
+module _ (fs after : FileSystem) (live : Ranges) where
+  -- frames depend on the tree by the view alone
+  frames-same : (uid : ℕ) (frames : Frames) → view_of after uid ≡ view_of fs uid → AreFrames fs live uid frames
+      → AreFrames after live uid frames
+  frames-same uid frames e a = record {
+    view = a.view ∙ sym e;
+    of_view = subst (λ (l : List Seen). ∥ IsPermutation (frames_in live l) frames.by_address ∥₁) (sym e) a.of_view;
+    ascending = a.ascending;
+    ranges_alone = a.ranges_alone;
+    sum = a.sum;
+  }
+
+  -- of those who pass the test
+  right-filtered : (p : ℕ → Bool) → ((uid : ℕ) → p uid ≡ true → view_of after uid ≡ view_of fs uid) → (kept : Kept)
+      → AreFor fs live kept → AreFor after live (filter (λ entry. p entry.0) kept)
+  right-filtered p same [] a = tt
+  right-filtered p same (entry ∷ kept) a =
+      let rest : Kept = filter (λ (x : ℕ × Frames). p x.0) kept in
+      elim (p entry.0) as (λ b. p entry.0 ≡ b → AreFor after live (cond b (entry ∷ rest) rest)) [
+        | true ↦ λ h. (frames-same entry.0 entry.1 (same entry.0 h) a.0, right-filtered p same kept a.1)
+        | false ↦ λ h. right-filtered p same kept a.1
+      ] refl
+
+  -- of those other than one
+  module _ (uid : ℕ) (same : (other : ℕ) → nat_eq uid other ≡ false → view_of after other ≡ view_of fs other) where
+    right-others : (kept : Kept) → NonePasses (nat_eq uid) kept → AreFor fs live kept → AreFor after live kept
+    right-others [] n a = tt
+    right-others (entry ∷ kept) n a = (frames-same entry.0 entry.1 (same entry.0 n.0) a.0, right-others kept n.1 a.1)
+
+    right-without : (kept : Kept) → IsDistinct nat_eq (keys_of kept) → AreFor fs live kept
+        → AreFor after live (remove_entry (nat_eq uid) kept)
+    unfolding IsDistinct
+    right-without [] d a = tt
+    right-without (entry ∷ kept) d a =
+        elim (nat_eq uid entry.0) as
+        (λ b. nat_eq uid entry.0 ≡ b → AreFor after live (cond b kept (entry ∷ remove_entry (nat_eq uid) kept))) [
+          | true ↦ λ h. right-others kept (none_past_head nat_eq_equiv uid entry kept d h) a.1
+          | false ↦ λ h. (frames-same entry.0 entry.1 (same entry.0 h) a.0, right-without kept d.1 a.1)
+        ] refl
+
+granted-alike : (fs : FileSystem) (ino : ℕ) (node : Node) (perm : Perm) (there : node_of fs ino ≡ Some node) (uid : ℕ)
+    → grants_as_before (with_perm (λ _. perm) fs ino (Some node)) ino node uid ≡ true
+    → is_allowed (user_in fs uid) node.perm (want_of node.kind) ≡ is_allowed (user_in fs uid) perm (want_of node.kind)
+granted-alike fs ino node perm there uid h =
+    (booleans_Decides _ _).0 h
+    ∙ ap (λ (o : Option Node). is_granted_node (user_in fs uid) (want_of node.kind) o) (node_of-here fs ino node perm there)
+
+pub right-rechecked : (fs after : FileSystem) (live : Ranges) (ino : ℕ) (node : Node) (kept : Kept) → IsTree after
+    → IsPermChange fs ino node after → AreFor fs live kept → AreFor after live (kept_as_before after ino node kept)
+right-rechecked fs after live ino node kept t c a =
+    subst (λ (f : FileSystem). IsTree f → AreFor f live (kept_as_before f ino node kept)) (sym c.changed)
+    (λ u.
+    let now : FileSystem = with_perm (λ _. c.perm) fs ino (Some node) in
+    right-filtered fs now live (grants_as_before now ino node)
+    (λ uid h. view_of-permitted fs ino node c.perm c.there (user_in fs uid) (granted-alike fs ino node c.perm c.there uid h) u uid refl)
+    kept a) t
+
+pub right-forgotten : (fs after : FileSystem) (live : Ranges) (uid : ℕ) (kept : Kept) → IsDistinct nat_eq (keys_of kept)
+    → IsGroupChange fs uid after → AreFor fs live kept → AreFor after live (remove_entry (nat_eq uid) kept)
+right-forgotten fs after live uid kept d c a =
+    subst (λ (f : FileSystem). AreFor f live (remove_entry (nat_eq uid) kept)) (sym c.changed)
+    (right-without fs (with_user fs uid c.groups) live uid (λ other h. view_of-regrouped fs uid c.groups other h) kept d a)
