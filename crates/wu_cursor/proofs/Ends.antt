@@ -1,5 +1,5 @@
--- Where the first extent ends of what an operator makes, before it is seen which are innermost.
-use Rattle.std.proofs.Common.{◌≡◌, ℕ, ◌+◌, ◌<◌, ◌≤◌, Bool, ◌&&◌, ◌⊎◌, max, min, inl, inr, arith, lt-ltb, ltb-true}
+-- The far end of the nearest extent of what an operator makes, before it is seen which are innermost.
+use Rattle.std.proofs.Common.{◌≡◌, ℕ, ◌<◌, ◌≤◌, Bool, ◌&&◌, ◌⊎◌, inl, inr, refl, sym, subst, ◌∙◌, arith, lt-ltb, ltb-true}
 use Rattle.std.specs.Prelude.{nat_lt, Option, Some, None, MatchOption}
 use Rattle.std.proofs.lemmas.Bool.{and_parts, and_from, or_cases, or_left, or_right}
 use Rattle.wu_base.specs.declared.addresses.Extent.{Extent}
@@ -7,7 +7,11 @@ use Rattle.wu_gcl.specs.Extents.{holds, some_extent, in_either, holds_both, hold
 use Rattle.wu_solve.specs.Merging.{cover, span}
 use Rattle.wu_solve.proofs.Sets.{Holds, holds_means, holds_from}
 use Rattle.wu_solve.proofs.Order.{some_found, some_from}
-use Rattle.wu_cursor.specs.Within.{IsMember, NoneStarts, IsFirstEnd, least_of}
+use Rattle.wu_cursor.specs.declared.directions.Direction.{Direction}
+use Rattle.wu_cursor.specs.declared.directions.Direction.TheVariants.{Forward, Backward}
+use Rattle.wu_cursor.specs.Directions.{Reaches, Precedes, next_place, near, far, nearer, nearer_of, farther}
+use Rattle.wu_cursor.specs.Within.{IsMember, NoneReached, IsFarEnd}
+use Rattle.wu_cursor.proofs.Orders.{before_held, before_or_reached, before_through, cover_far, cover_reached, far_held, farther_reaches, near_held, nearer_one, nearer_other, nearer_reaches, next_before, next_none, next_reached, not_both}
 
 module _ (n : ℕ) (left right : Extent → Bool) where
   -- in either set
@@ -117,118 +121,186 @@ module _ (n : ℕ) (left right : Extent → Bool) where
             (lt-ltb y.end z.start behind))));
       }
 
-  -- where the first one ends
+-- one of two in the direction: the first of them, where the other order gives the second
+abbrev pub first_of : {X : Type 0} → Direction → X → X → X
+first_of Forward one other = one
+first_of Backward one other = other
 
-  pub end_of_either : (from : ℕ) (one other : Option ℕ) → MatchOption one (NoneStarts n left from) (IsFirstEnd n left from)
-      → MatchOption other (NoneStarts n right from) (IsFirstEnd n right from)
-      → MatchOption (least_of one other) (NoneStarts n (in_either left right) from) (IsFirstEnd n (in_either left right) from)
-  end_of_either from None None l r = record {
-    none = λ y my. elim (either_cases y my) [ inl m ↦ l.none y m | inr m ↦ r.none y m ];
+module _ (d : Direction) (n : ℕ) (left right : Extent → Bool) where
+  -- in either set
+
+  pub far_end_of_either : (place : ℕ) (one other : Option ℕ) → MatchOption one (NoneReached d n left place) (IsFarEnd d n left place)
+      → MatchOption other (NoneReached d n right place) (IsFarEnd d n right place)
+      → MatchOption (nearer_of d one other) (NoneReached d n (in_either left right) place) (IsFarEnd d n (in_either left right) place)
+  far_end_of_either place None None l r = record {
+    none = λ y my. elim (either_cases n left right y my) [ inl m ↦ l.none y m | inr m ↦ r.none y m ];
   }
-  end_of_either from None (Some b) l r = record {
+  far_end_of_either place None (Some b) l r = record {
     extent = r.extent;
-    member = either_right r.extent r.member;
-    low = r.low;
+    member = either_right n left right r.extent r.member;
+    reached = r.reached;
     same = r.same;
-    least = λ y my low. elim (either_cases y my) [ inl m ↦ absurd (omega (arith, l.none y m)) | inr m ↦ r.least y m low ];
+    least = λ y my reached.
+        elim (either_cases n left right y my) [
+          | inl m ↦ absurd (not_both d place (near d y) (l.none y m) reached)
+          | inr m ↦ r.least y m reached
+        ];
   }
-  end_of_either from (Some a) None l r = record {
+  far_end_of_either place (Some a) None l r = record {
     extent = l.extent;
-    member = either_left l.extent l.member;
-    low = l.low;
+    member = either_left n left right l.extent l.member;
+    reached = l.reached;
     same = l.same;
-    least = λ y my low. elim (either_cases y my) [ inl m ↦ l.least y m low | inr m ↦ absurd (omega (arith, r.none y m)) ];
+    least = λ y my reached.
+        elim (either_cases n left right y my) [
+          | inl m ↦ l.least y m reached
+          | inr m ↦ absurd (not_both d place (near d y) (r.none y m) reached)
+        ];
   }
-  end_of_either from (Some a) (Some b) l r =
-      let least : (y : Extent) → IsMember n (in_either left right) y → from ≤ y.start → min a b ≤ y.end = λ y my low.
-      elim (either_cases y my) [ inl m ↦ omega (arith, l.least y m low) | inr m ↦ omega (arith, r.least y m low) ] in
-      let cases : (a ≤ b) ⊎ (b < a) = grind arith in
-      elim cases [
-        | inl first ↦ record {
-          extent = l.extent;
-          member = either_left l.extent l.member;
-          low = l.low;
-          same = omega (arith, l.same);
+  far_end_of_either place (Some a) (Some b) l r =
+      let least : (y : Extent) → IsMember n (in_either left right) y → Reaches d place (near d y) → Reaches d (nearer d a b) (far d y) =
+      λ y my reached.
+      nearer_reaches d a b (far d y)
+      (elim (either_cases n left right y my) [ inl m ↦ inl (l.least y m reached) | inr m ↦ inr (r.least y m reached) ]) in
+      elim (before_or_reached d a b) [
+        | inl before ↦ record {
+          extent = r.extent;
+          member = either_right n left right r.extent r.member;
+          reached = r.reached;
+          same = r.same ∙ nearer_other d a b before;
           least = least;
         }
-        | inr second ↦ record {
-          extent = r.extent;
-          member = either_right r.extent r.member;
-          low = r.low;
-          same = omega (arith, r.same);
+        | inr reached ↦ record {
+          extent = l.extent;
+          member = either_left n left right l.extent l.member;
+          reached = l.reached;
+          same = l.same ∙ nearer_one d a b reached;
           least = least;
         }
       ]
 
-  pub end_of_both : (from a b : ℕ) → IsFirstEnd n left from a → IsFirstEnd n right from b → IsFirstEnd n (holds_both n left right) from
-      (max a b)
-  end_of_both from a b l r =
-      let y = l.extent in
-      let z = r.extent in
-      let ly : from ≤ y.start = l.low in
-      let lz : from ≤ z.start = r.low in
-      let sy : y.end ≡ a = l.same in
-      let sz : z.end ≡ b = r.same in
-      record {
-        extent = cover y z;
-        member = both_from y z l.member r.member;
-        low = omega arith;
-        same = omega arith;
-        least = λ x m low.
-            let p = both_parts x m in
-            omega (
-              arith,
-              l.least p.one p.of_left (omega (arith, p.holds_left.start)),
-              r.least p.other p.of_right (omega
-                  (arith, p.holds_right.start)),
-              p.holds_left.last,
-              p.holds_right.last,
-            );
-      }
+  -- that hold one of each
 
-  pub no_both_left : (from : ℕ) → NoneStarts n left from → NoneStarts n (holds_both n left right) from
-  no_both_left from none = record {
-    none = λ x m. let p = both_parts x m in omega (arith, none.none p.one p.of_left, p.holds_left.start);
+  pub far_end_of_both : (place a b : ℕ) → IsFarEnd d n left place a → IsFarEnd d n right place b
+      → IsFarEnd d n (holds_both n left right) place (farther d a b)
+  far_end_of_both place a b l r = record {
+    extent = cover l.extent r.extent;
+    member = both_from n left right l.extent r.extent l.member r.member;
+    reached = cover_reached d place l.extent r.extent l.reached r.reached;
+    same = cover_far d a b l.extent r.extent l.same r.same;
+    least = λ x m reached.
+        let p = both_parts n left right x m in
+        farther_reaches d a b (far d x)
+        (far_held d a x p.one p.holds_left (l.least p.one p.of_left (near_held d place x p.one p.holds_left reached)))
+        (far_held d b x p.other p.holds_right (r.least p.other p.of_right (near_held d place x p.other p.holds_right reached)));
   }
 
-  pub no_both_right : (from : ℕ) → NoneStarts n right from → NoneStarts n (holds_both n left right) from
-  no_both_right from none = record {
-    none = λ x m. let p = both_parts x m in omega (arith, none.none p.other p.of_right, p.holds_right.start);
-  }
-
-  pub end_in_order : (from a b : ℕ) → IsFirstEnd n left from a → IsFirstEnd n right (a + 1) b → IsFirstEnd n
-      (holds_in_order n left right) from b
-  end_in_order from a b l r =
-      let y = l.extent in
-      let z = r.extent in
-      let sy : y.end ≡ a = l.same in
-      let lz : a + 1 ≤ z.start = r.low in
-      record {
-        extent = span y z;
-        member = order_from y z l.member r.member (omega arith);
-        low = l.low;
-        same = r.same;
-        least = λ x m low.
-            let p = order_parts x m in
-            let after : a ≤ p.one.end = l.least p.one p.of_left (omega (arith, p.holds_left.start)) in
-            omega (arith, r.least p.other p.of_right (omega (arith, p.behind)), p.holds_right.last);
-      }
-
-  pub none_in_order_left : (from : ℕ) → NoneStarts n left from → NoneStarts n (holds_in_order n left right) from
-  none_in_order_left from none = record {
-    none = λ x m. let p = order_parts x m in omega (arith, none.none p.one p.of_left, p.holds_left.start);
-  }
-
-  pub none_in_order_right : (from a : ℕ) → IsFirstEnd n left from a → NoneStarts n right (a + 1) → NoneStarts n
-      (holds_in_order n left right) from
-  none_in_order_right from a l none = record {
+  pub none_of_both_left : (place : ℕ) → NoneReached d n left place → NoneReached d n (holds_both n left right) place
+  none_of_both_left place none = record {
     none = λ x m.
-        let p = order_parts x m in
-        let cases : (x.start < from) ⊎ (from ≤ x.start) = grind arith in
-        elim cases [
+        let p = both_parts n left right x m in before_held d place x p.one p.holds_left (none.none p.one p.of_left);
+  }
+
+  pub none_of_both_right : (place : ℕ) → NoneReached d n right place → NoneReached d n (holds_both n left right) place
+  none_of_both_right place none = record {
+    none = λ x m.
+        let p = both_parts n left right x m in before_held d place x p.other p.holds_right (none.none p.other p.of_right);
+  }
+
+  -- that hold one of each, in order
+
+  pub record Follows (x : Extent) : Type 0 where
+    pub first : Extent
+    pub of_first : IsMember n (first_of d left right) first
+    pub holds_first : Holds x first
+    pub second : Extent
+    pub of_second : IsMember n (first_of d right left) second
+    pub holds_second : Holds x second
+    pub behind : Precedes d (far d first) (near d second)
+
+follows : (d : Direction) (n : ℕ) (left right : Extent → Bool) (x : Extent) → IsMember n (holds_in_order n left right) x
+    → Follows d n left right x
+follows Forward n left right x m =
+    let p = order_parts n left right x m in
+    record {
+      first = p.one;
+      of_first = p.of_left;
+      holds_first = p.holds_left;
+      second = p.other;
+      of_second = p.of_right;
+      holds_second = p.holds_right;
+      behind = p.behind;
+    }
+follows Backward n left right x m =
+    let p = order_parts n left right x m in
+    record {
+      first = p.other;
+      of_first = p.of_right;
+      holds_first = p.holds_right;
+      second = p.one;
+      of_second = p.of_left;
+      holds_second = p.holds_left;
+      behind = p.behind;
+    }
+
+follows_from : (d : Direction) (n : ℕ) (left right : Extent → Bool) (y z : Extent) → IsMember n (first_of d left right) y
+    → IsMember n (first_of d right left) z → Precedes d (far d y) (near d z)
+    → (x : Extent) × IsMember n (holds_in_order n left right) x × (near d x ≡ near d y) × (far d x ≡ far d z)
+follows_from Forward n left right y z my mz behind = (span y z, order_from n left right y z my mz behind, refl, refl)
+follows_from Backward n left right y z my mz behind = (span z y, order_from n left right z y mz my behind, refl, refl)
+
+module _ (d : Direction) (n : ℕ) (left right : Extent → Bool) (place a : ℕ) (f : IsFarEnd d n (first_of d left right) place a) where
+  -- the second one of an extent from the place on lies behind the nearest first one
+  second_behind : (x : Extent) (m : IsMember n (holds_in_order n left right) x) → Reaches d place (near d x)
+      → Precedes d a (near d (follows d n left right x m).second)
+  second_behind x m reached =
+      let p = follows d n left right x m in
+      before_through d a (far d p.first) (near d p.second) (f.least p.first p.of_first (near_held d place x p.first p.holds_first reached))
+      p.behind
+
+  pub far_end_in_order : (next b : ℕ) → next_place d a ≡ Some next → IsFarEnd d n (first_of d right left) next b
+      → IsFarEnd d n (holds_in_order n left right) place b
+  far_end_in_order next b is s =
+      let behind : Precedes d (far d f.extent) (near d s.extent) =
+      subst (λ (end : ℕ). Precedes d end (near d s.extent)) (sym f.same) (next_before d a next (near d s.extent) is s.reached) in
+      let o = follows_from d n left right f.extent s.extent f.member s.member behind in
+      record {
+        extent = o.0;
+        member = o.1;
+        reached = subst (λ (first : ℕ). Reaches d place first) (sym o.2) f.reached;
+        same = o.3 ∙ s.same;
+        least = λ x m reached.
+            let p = follows d n left right x m in
+            far_held d b x p.second p.holds_second
+            (s.least p.second p.of_second (next_reached d a next (near d p.second) is (second_behind x m reached)));
+      }
+
+  pub none_in_order_second : (next : ℕ) → next_place d a ≡ Some next → NoneReached d n (first_of d right left) next
+      → NoneReached d n (holds_in_order n left right) place
+  none_in_order_second next is none = record {
+    none = λ x m.
+        let p = follows d n left right x m in
+        elim (before_or_reached d place (near d x)) [
           | inl before ↦ before
-          | inr low ↦
-              let after : a ≤ p.one.end = l.least p.one p.of_left (omega (arith, p.holds_left.start)) in
-              absurd (omega (arith, none.none p.other p.of_right, p.behind))
+          | inr reached ↦
+              absurd (not_both d next (near d p.second) (none.none p.second p.of_second)
+              (next_reached d a next (near d p.second) is (second_behind x m reached)))
         ];
   }
+
+  pub none_in_order_behind : next_place d a ≡ None → NoneReached d n (holds_in_order n left right) place
+  none_in_order_behind is = record {
+    none = λ x m.
+        elim (before_or_reached d place (near d x)) [
+          | inl before ↦ before
+          | inr reached ↦
+              absurd (next_none d a (near d (follows d n left right x m).second) is (second_behind x m reached))
+        ];
+  }
+
+pub none_in_order_first : (d : Direction) (n : ℕ) (left right : Extent → Bool) (place : ℕ) → NoneReached d n (first_of d left right) place
+    → NoneReached d n (holds_in_order n left right) place
+none_in_order_first d n left right place none = record {
+  none = λ x m.
+      let p = follows d n left right x m in before_held d place x p.first p.holds_first (none.none p.first p.of_first);
+}

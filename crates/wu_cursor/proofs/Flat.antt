@@ -3,10 +3,14 @@ use Rattle.std.proofs.Common.{◌≡◌, ℕ, ◌<◌, ◌≤◌, Bool, ◌⊎�
 use Rattle.wu_base.specs.declared.addresses.Extent.{Extent}
 use Rattle.wu_gcl.specs.Regions.{Region}
 use Rattle.wu_gcl.specs.Extents.{is_in, hits}
-use Rattle.wu_solve.proofs.Sets.{Holds, same_ends}
+use Rattle.wu_solve.proofs.Sets.{Holds}
 use Rattle.wu_solve.proofs.Operators.{no_other}
 use Rattle.wu_solve.proofs.Results.{hits_listed}
-use Rattle.wu_cursor.specs.Within.{IsMember, IsFirst, NoneStarts, IsLast, NoneEnds, IsFirstEnd, IsLastStart}
+use Rattle.wu_cursor.specs.declared.directions.Direction.{Direction}
+use Rattle.wu_cursor.specs.declared.directions.Direction.TheVariants.{Forward, Backward}
+use Rattle.wu_cursor.specs.Directions.{opposite, Reaches, near, far, between}
+use Rattle.wu_cursor.specs.Within.{IsMember, IsNearest, NoneReached, IsFarEnd}
+use Rattle.wu_cursor.proofs.Orders.{between_is, holds_between, not_before_end, reached_back}
 
 -- no extent of the set holds another
 pub record IsFlat (n : ℕ) (set : Extent → Bool) : Type 0 where
@@ -59,54 +63,43 @@ ends_before n set flat x y mx my before =
     let cases : (x.end < y.end) ⊎ (y.end ≤ x.end) = grind arith in
     elim cases [ inl good ↦ good | inr bad ↦ absurd (omega (arith, back bad)) ]
 
--- The first extent is the last one that ends where it does, and the last one the first that starts where it does.
+-- what is done no later starts no later and ends no later
+pub rise : (d : Direction) (n : ℕ) (set : Extent → Bool) → IsFlat n set → (x y : Extent) → IsMember n set x → IsMember n set y
+    → Reaches d (far d x) (far d y) → Reaches d x.start y.start × Reaches d x.end y.end
+rise Forward n set flat x y mx my done = (starts_rise n set flat x y mx my done, done)
+rise Backward n set flat x y mx my done = (done, ends_rise n set flat y x my mx done)
 
-pub first_whole : (n : ℕ) (set : Extent → Bool) (from start end : ℕ) → IsFlat n set → IsFirstEnd n set from end
-    → IsLastStart n set end start
-    → IsFirst n set from (record { start = start; end = end })
-first_whole n set from start end flat f l =
+-- The nearest extent is the nearest one from its far end in the other direction.
+pub nearest_whole : (d : Direction) (n : ℕ) (set : Extent → Bool) (place first end : ℕ) → IsFlat n set → IsFarEnd d n set place end
+    → IsFarEnd (opposite d) n set end first
+    → IsNearest d n set place (between d first end)
+nearest_whole d n set place first end flat f l =
     let x = f.extent in
     let z = l.extent in
-    let ends : x.end ≤ end = omega (arith, f.same) in
-    let last : z.end ≤ x.end = omega (arith, f.same, l.high) in
-    let h : Holds x z = record { start = omega (arith, l.greatest x f.member ends, l.same); last = last } in
+    let h : Holds x z =
+    holds_between d first end x z f.same l.same l.reached (l.least x f.member (reached_back d end x f.same)) in
     let same : x ≡ z = flat.alone x z f.member l.member h in
-    let is : x ≡ record { start = start; end = end } = same_ends _ _ (ap (λ (e : Extent). e.start) same ∙ l.same) f.same in
-    subst (λ (e : Extent). IsFirst n set from e) is (record {
+    let is : x ≡ between d first end = between_is d x first end (ap (λ (e : Extent). far (opposite d) e) same ∙ l.same) f.same in
+    let rises : (y : Extent) → IsMember n set y → Reaches d place (near d y) → Reaches d x.start y.start × Reaches d x.end y.end = λ y my r.
+    rise d n set flat x y f.member my (rw f.same (f.least y my r)) in
+    subst (λ (e : Extent). IsNearest d n set place e) is (record {
       member = f.member;
-      low = f.low;
-      starts = λ y my low. starts_rise n set flat x y f.member my (omega (arith, f.same, f.least y my low));
-      ends = λ y my low. omega (arith, f.same, f.least y my low);
+      reached = f.reached;
+      starts = λ y my r. (rises y my r).0;
+      ends = λ y my r. (rises y my r).1;
     })
 
-pub last_whole : (n : ℕ) (set : Extent → Bool) (to start end : ℕ) → IsFlat n set → IsLastStart n set to start → IsFirstEnd n set start end
-    → IsLast n set to (record { start = start; end = end })
-last_whole n set to start end flat l f =
-    let x = l.extent in
-    let z = f.extent in
-    let starts : start ≤ x.start = omega (arith, l.same) in
-    let first : x.start ≤ z.start = omega (arith, l.same, f.low) in
-    let h : Holds x z = record { start = first; last = omega (arith, f.least x l.member starts, f.same) } in
-    let same : x ≡ z = flat.alone x z l.member f.member h in
-    let is : x ≡ record { start = start; end = end } = same_ends _ _ l.same (ap (λ (e : Extent). e.end) same ∙ f.same) in
-    subst (λ (e : Extent). IsLast n set to e) is (record {
-      member = l.member;
-      high = l.high;
-      starts = λ y my high. omega (arith, l.same, l.greatest y my high);
-      ends = λ y my high. ends_rise n set flat y x my l.member (omega (arith, l.same, l.greatest y my high));
-    })
+-- there is one in the other direction too
+pub nearest_there : (d : Direction) (n : ℕ) (set : Extent → Bool) (place end : ℕ) → IsFarEnd d n set place end
+    → NoneReached (opposite d) n set end → ⊥
+nearest_there d n set place end f none = not_before_end d end f.extent f.same (none.none f.extent f.member)
 
--- there is a last one where there is a first one
-pub last_there : (n : ℕ) (set : Extent → Bool) (from end : ℕ) → IsFirstEnd n set from end → NoneEnds n set end → ⊥
-last_there n set from end f none = omega (arith, f.same, none.none f.extent f.member)
-
-pub first_there : (n : ℕ) (set : Extent → Bool) (to start : ℕ) → IsLastStart n set to start → NoneStarts n set start → ⊥
-first_there n set to start l none = omega (arith, l.same, none.none l.extent l.member)
-
--- where the first and the last extent are known
-
-pub end_of_first : (n : ℕ) (set : Extent → Bool) (from : ℕ) (x : Extent) → IsFirst n set from x → IsFirstEnd n set from x.end
-end_of_first n set from x f = record { extent = x; member = f.member; low = f.low; same = refl; least = f.ends }
-
-pub start_of_last : (n : ℕ) (set : Extent → Bool) (to : ℕ) (x : Extent) → IsLast n set to x → IsLastStart n set to x.start
-start_of_last n set to x l = record { extent = x; member = l.member; high = l.high; same = refl; greatest = l.starts }
+-- where the nearest extent is known
+pub far_end_of : (d : Direction) (n : ℕ) (set : Extent → Bool) (place : ℕ) (x : Extent) → IsNearest d n set place x
+    → IsFarEnd d n set place (far d x)
+far_end_of d n set place x f = record { extent = x; member = f.member; reached = f.reached; same = refl; least = least d f }
+  where
+    least : (e : Direction) → IsNearest e n set place x → (y : Extent) → IsMember n set y → Reaches e place (near e y)
+        → Reaches e (far e x) (far e y)
+    least Forward g = g.ends
+    least Backward g = g.starts

@@ -51,7 +51,7 @@ module _ (region : Region) (lists : List TermList) (frame : Range) where
   pub first_moved : (address : ℕ) (x : Extent) → IsFirst frame.len (set_in region lists frame) (address - frame.start) x
       → Some (moved frame.start x) ≡ first_starting address (frame_hits region lists frame)
   first_moved address x f =
-      let low : address ≤ frame.start + x.start = omega (arith, f.low) in
+      let low : address ≤ frame.start + x.start = omega (arith, f.reached) in
       sym (find_some (λ y. nat_le address y.start) (frame_hits region lists frame) (moved frame.start x) ascending (there x f.member)
       (le-leb address (frame.start + x.start) low)
       (λ y has is.
@@ -73,7 +73,7 @@ module _ (region : Region) (lists : List TermList) (frame : Range) where
       → IsLast frame.len (set_in region lists frame) (address - frame.start) x
       → Some (moved frame.start x) ≡ last_ending address (frame_hits region lists frame)
   last_moved address x after l =
-      let high : frame.start + x.end ≤ address = omega (arith, l.high) in
+      let high : frame.start + x.end ≤ address = omega (arith, l.reached) in
       sym (last_some (λ y. nat_le y.end address) (frame_hits region lists frame) (moved frame.start x) ascending (there x l.member)
       (le-leb (frame.start + x.end) address high)
       (λ y has is.

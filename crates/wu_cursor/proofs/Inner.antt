@@ -6,7 +6,10 @@ use Rattle.wu_gcl.specs.Extents.{holds, same_extent, some_extent, innermost}
 use Rattle.wu_solve.proofs.Sets.{Holds, holds_means, same_ends, same_from}
 use Rattle.wu_solve.proofs.Order.{some_found}
 use Rattle.wu_solve.proofs.Operators.{holds_through}
-use Rattle.wu_cursor.specs.Within.{IsMember, NoneStarts, NoneEnds, IsFirstEnd, IsLastStart}
+use Rattle.wu_cursor.specs.declared.directions.Direction.{Direction}
+use Rattle.wu_cursor.specs.Directions.{Reaches, near}
+use Rattle.wu_cursor.specs.Within.{IsMember, NoneReached, IsFarEnd}
+use Rattle.wu_cursor.proofs.Orders.{near_held, same_far}
 
 abbrev Another : (Extent → Bool) → Extent → Extent → Bool
 Another set x y = holds x y && not (same_extent x y) && set y
@@ -55,32 +58,21 @@ pub holds_inner : (n : ℕ) (set : Extent → Bool) (x : Extent) → IsMember n 
     → (z : Extent) × IsMember n (innermost n set) z × Holds x z
 holds_inner n set x m = by_length n set (x.end - x.start) x (omega arith) m
 
-pub first_end_inner : (n : ℕ) (set : Extent → Bool) (from end : ℕ) → IsFirstEnd n set from end → IsFirstEnd n (innermost n set) from end
-first_end_inner n set from end f =
+-- so the nearest of both is done at the same place
+
+pub far_end_inner : (d : Direction) (n : ℕ) (set : Extent → Bool) (place end : ℕ) → IsFarEnd d n set place end
+    → IsFarEnd d n (innermost n set) place end
+far_end_inner d n set place end f =
     let i = holds_inner n set f.extent f.member in
-    let low : from ≤ i.0.start = omega (arith, f.low, i.2.start) in
+    let reached : Reaches d place (near d i.0) = near_held d place f.extent i.0 i.2 f.reached in
     record {
       extent = i.0;
       member = i.1;
-      low = low;
-      same = omega (arith, f.same, i.2.last, f.least i.0 (inner_of n set i.0 i.1) low);
-      least = λ y my l. f.least y (inner_of n set y my) l;
+      reached = reached;
+      same = same_far d end f.extent i.0 i.2 f.same (f.least i.0 (inner_of n set i.0 i.1) reached);
+      least = λ y my r. f.least y (inner_of n set y my) r;
     }
 
-pub none_starts_inner : (n : ℕ) (set : Extent → Bool) (from : ℕ) → NoneStarts n set from → NoneStarts n (innermost n set) from
-none_starts_inner n set from none = record { none = λ y my. none.none y (inner_of n set y my) }
-
-pub last_start_inner : (n : ℕ) (set : Extent → Bool) (to start : ℕ) → IsLastStart n set to start → IsLastStart n (innermost n set) to start
-last_start_inner n set to start l =
-    let i = holds_inner n set l.extent l.member in
-    let high : i.0.end ≤ to = omega (arith, l.high, i.2.last) in
-    record {
-      extent = i.0;
-      member = i.1;
-      high = high;
-      same = omega (arith, l.same, i.2.start, l.greatest i.0 (inner_of n set i.0 i.1) high);
-      greatest = λ y my h. l.greatest y (inner_of n set y my) h;
-    }
-
-pub none_ends_inner : (n : ℕ) (set : Extent → Bool) (to : ℕ) → NoneEnds n set to → NoneEnds n (innermost n set) to
-none_ends_inner n set to none = record { none = λ y my. none.none y (inner_of n set y my) }
+pub none_inner : (d : Direction) (n : ℕ) (set : Extent → Bool) (place : ℕ) → NoneReached d n set place
+    → NoneReached d n (innermost n set) place
+none_inner d n set place none = record { none = λ y my. none.none y (inner_of n set y my) }

@@ -10,8 +10,11 @@ use Rattle.wu_gcl.specs.Regions.{Region, Both}
 use Rattle.wu_gcl.specs.Extents.{holds, some_extent, combined, containing, contained_in, not_containing, not_contained_in, is_in}
 use Rattle.wu_solve.proofs.Sets.{Holds, holds_means, holds_from}
 use Rattle.wu_solve.proofs.Order.{some_found, some_from}
-use Rattle.wu_cursor.specs.Within.{IsMember, IsFirst, NoneStarts, IsLast, NoneEnds, IsFirstEnd, IsLastStart, IsFirstEnding, NoneEndsFrom, IsContainment, AreKept, keeps}
+use Rattle.wu_cursor.specs.declared.directions.Direction.{Direction}
+use Rattle.wu_cursor.specs.Directions.{Reaches, Precedes, next_place, near}
+use Rattle.wu_cursor.specs.Within.{IsMember, IsNearest, NoneReached, IsFirst, NoneStarts, NoneEnds, IsFirstEnd, IsLastStart, IsFirstEnding, NoneEndsFrom, IsContainment, AreKept, keeps}
 use Rattle.wu_cursor.proofs.Flat.{IsFlat, starts_before}
+use Rattle.wu_cursor.proofs.Orders.{before_or_reached, holds_near, next_none, next_reached, not_both, through}
 
 pub kept_set : (op : Op) (left right : Region) (stands : List ℕ → ℕ → Bool) (n : ℕ) (x : Extent) → IsContainment op
     → is_in (Both op left right) stands n x ≡ (is_in left stands n x && keeps op n (is_in right stands n) x)
@@ -39,13 +42,9 @@ kept_of whole left right op stands n same are =
     subst (λ (r : Region). IsKeptOf (is_in left stands n) (keeps op n (is_in right stands n)) (is_in r stands n)) (sym same)
     (region_kept op left right stands n there)
 
--- no extent of the set from the first place on starts before the other place
-pub record ArePassed (n : ℕ) (set : Extent → Bool) (from place : ℕ) : Type 0 where
-  pub passed : (y : Extent) → IsMember n set y → from ≤ y.start → place ≤ y.start
-
--- no extent of the set up to the first place ends after the other place
-pub record ArePassedBack (n : ℕ) (set : Extent → Bool) (to place : ℕ) : Type 0 where
-  pub passed : (y : Extent) → IsMember n set y → y.end ≤ to → y.end ≤ place
+-- each extent of the set from the first place on comes at the other place or behind it
+pub record ArePassed (d : Direction) (n : ℕ) (set : Extent → Bool) (place from : ℕ) : Type 0 where
+  pub passed : (y : Extent) → IsMember n set y → Reaches d place (near d y) → Reaches d from (near d y)
 
 module _ (n : ℕ) (left keep kept : Extent → Bool) (are : IsKeptOf left keep kept) where
   kept_here : (x : Extent) → IsMember n left x → keep x ≡ true → IsMember n kept x
@@ -62,87 +61,47 @@ module _ (n : ℕ) (left keep kept : Extent → Bool) (are : IsKeptOf left keep 
       let same : y ≡ x = flat.alone y x p.0 mx h in
       false≢true (sym out ∙ subst (λ (e : Extent). keep e ≡ true) same p.1)
 
-  pub first_found : (from place : ℕ) (x : Extent) → from ≤ place → ArePassed n kept from place → IsFirst n left place x → keep x ≡ true
-      → IsFirst n kept from x
-  first_found from place x low passed f is = record {
-    member = kept_here x f.member is;
-    low = omega (arith, f.low);
-    starts = λ y my l. f.starts y (kept_parts y my).0 (passed.passed y my l);
-    ends = λ y my l. f.ends y (kept_parts y my).0 (passed.passed y my l);
-  }
+  module _ (d : Direction) (place from : ℕ) (passed : ArePassed d n kept place from) where
+    pub nearest_kept : (x : Extent) → Reaches d place from → IsNearest d n left from x → keep x ≡ true → IsNearest d n kept place x
+    nearest_kept x on f is = record {
+      member = kept_here x f.member is;
+      reached = through d place from (near d x) on f.reached;
+      starts = λ y my r. f.starts y (kept_parts y my).0 (passed.passed y my r);
+      ends = λ y my r. f.ends y (kept_parts y my).0 (passed.passed y my r);
+    }
 
-  pub none_found : (from place : ℕ) → ArePassed n kept from place → NoneStarts n left place → NoneStarts n kept from
-  none_found from place passed none = record {
-    none = λ y my.
-        let cases : (y.start < from) ⊎ (from ≤ y.start) = grind arith in
-        elim cases [
-          | inl before ↦ before
-          | inr low ↦ absurd (omega (arith, passed.passed y my low, none.none y (kept_parts y my).0))
-        ];
-  }
+    pub none_kept : NoneReached d n left from → NoneReached d n kept place
+    none_kept none = record {
+      none = λ y my.
+          elim (before_or_reached d place (near d y)) [
+            | inl before ↦ before
+            | inr r ↦ absurd (not_both d from (near d y) (none.none y (kept_parts y my).0) (passed.passed y my r))
+          ];
+    }
 
-  pub next_passed : (from place : ℕ) (x : Extent) → IsFlat n left → ArePassed n kept from place → IsFirst n left place x → keep x ≡ false
-      → ArePassed n kept from (x.start + 1)
-  next_passed from place x flat passed f out = record {
-    passed = λ y my low.
-        let ml = (kept_parts y my).0 in
-        let after : place ≤ y.start = passed.passed y my low in
-        let starts : x.start ≤ y.start = f.starts y ml after in
-        let ends : x.end ≤ y.end = f.ends y ml after in
-        let cases : (x.start + 1 ≤ y.start) ⊎ (y.start ≤ x.start) = grind arith in
-        elim cases [
-          | inl good ↦ good
-          | inr bad ↦ absurd (other x y flat f.member out my (record { start = bad; last = ends }))
-        ];
-  }
+    -- where the nearest one isn't kept
+    module _ (x : Extent) (flat : IsFlat n left) (f : IsNearest d n left from x) (out : keep x ≡ false) where
+      behind : (y : Extent) → IsMember n kept y → Reaches d place (near d y) → Precedes d (near d x) (near d y)
+      behind y my r =
+          let my_left = (kept_parts y my).0 in
+          let on : Reaches d from (near d y) = passed.passed y my r in
+          elim (before_or_reached d (near d y) (near d x)) [
+            | inl before ↦ before
+            | inr back ↦ absurd (other x y flat f.member out my
+                (holds_near d x y (f.starts y my_left on) (f.ends y my_left on) back))
+          ]
 
-  pub last_found : (to place : ℕ) (x : Extent) → place ≤ to → ArePassedBack n kept to place → IsLast n left place x → keep x ≡ true
-      → IsLast n kept to x
-  last_found to place x high passed l is = record {
-    member = kept_here x l.member is;
-    high = omega (arith, l.high);
-    starts = λ y my h. l.starts y (kept_parts y my).0 (passed.passed y my h);
-    ends = λ y my h. l.ends y (kept_parts y my).0 (passed.passed y my h);
-  }
+      pub next_passed : (next : ℕ) → next_place d (near d x) ≡ Some next → ArePassed d n kept place next
+      next_passed next is = record { passed = λ y my r. next_reached d (near d x) next (near d y) is (behind y my r) }
 
-  pub none_found_back : (to place : ℕ) → ArePassedBack n kept to place → NoneEnds n left place → NoneEnds n kept to
-  none_found_back to place passed none = record {
-    none = λ y my.
-        let cases : (to < y.end) ⊎ (y.end ≤ to) = grind arith in
-        elim cases [
-          | inl after ↦ after
-          | inr high ↦ absurd (omega (arith, passed.passed y my high, none.none y (kept_parts y my).0))
-        ];
-  }
-
-  ends_before : (to place : ℕ) (x y : Extent) → IsFlat n left → ArePassedBack n kept to place → IsLast n left place x → keep x ≡ false
-      → IsMember n kept y → y.end ≤ to → y.end < x.end
-  ends_before to place x y flat passed l out my high =
-      let ml = (kept_parts y my).0 in
-      let before : y.end ≤ place = passed.passed y my high in
-      let starts : y.start ≤ x.start = l.starts y ml before in
-      let cases : (y.end < x.end) ⊎ (x.end ≤ y.end) = grind arith in
-      elim cases [
-        | inl good ↦ good
-        | inr bad ↦ absurd (other x y flat l.member out my (record { start = starts; last = bad }))
-      ]
-
-  pub next_passed_back : (to place : ℕ) (x : Extent) → IsFlat n left → ArePassedBack n kept to place → IsLast n left place x
-      → keep x ≡ false → ArePassedBack n kept to (x.end - 1)
-  next_passed_back to place x flat passed l out = record {
-    passed = λ y my high. omega (arith, ends_before to place x y flat passed l out my high);
-  }
-
-  pub none_at_zero : (to place : ℕ) (x : Extent) → IsFlat n left → ArePassedBack n kept to place → IsLast n left place x → keep x ≡ false
-      → x.end ≡ 0 → NoneEnds n kept to
-  none_at_zero to place x flat passed l out zero = record {
-    none = λ y my.
-        let cases : (to < y.end) ⊎ (y.end ≤ to) = grind arith in
-        elim cases [
-          | inl after ↦ after
-          | inr high ↦ absurd (omega (arith, ends_before to place x y flat passed l out my high))
-        ];
-  }
+      pub none_behind : next_place d (near d x) ≡ None → NoneReached d n kept place
+      none_behind is = record {
+        none = λ y my.
+            elim (before_or_reached d place (near d y)) [
+              | inl before ↦ before
+              | inr r ↦ absurd (next_none d (near d x) (near d y) is (behind y my r))
+            ];
+      }
 
 -- whether an extent holds one of the set
 
@@ -151,7 +110,7 @@ pub holds_by_end : (n : ℕ) (set : Extent → Bool) (x : Extent) (end : ℕ) �
 holds_by_end n set x end f = both_ways (leb end x.end) (some_extent n (λ y. holds x y && set y))
     (λ is.
     let within : end ≤ x.end = leb-true end x.end is in
-    let h : Holds x f.extent = record { start = f.low; last = omega (arith, f.same) } in
+    let h : Holds x f.extent = record { start = f.reached; last = omega (arith, f.same) } in
     some_from n (λ y. holds x y && set y) f.extent f.member.extent (and_from _ _ (holds_from x f.extent h) f.member.passes))
     (λ is.
     let s = some_found n (λ y. holds x y && set y) is in
@@ -216,9 +175,9 @@ module _ (n : ℕ) (set : Extent → Bool) (from start : ℕ) (flat : IsFlat n s
     member = f.member;
     low =
         let cases : (from ≤ x.end) ⊎ (x.end ≤ from - 1) = grind arith in
-        elim cases [ inl good ↦ good | inr bad ↦ absurd (omega (arith, l.greatest x f.member bad, f.low)) ];
+        elim cases [ inl good ↦ good | inr bad ↦ absurd (omega (arith, l.least x f.member bad, f.reached)) ];
     starts = λ y my low.
-        let behind : l.extent.start < y.start = starts_before n set flat l.extent y l.member my (omega (arith, l.high)) in
+        let behind : l.extent.start < y.start = starts_before n set flat l.extent y l.member my (omega (arith, l.reached)) in
         f.starts y my (omega (arith, l.same));
   }
 
@@ -229,7 +188,7 @@ module _ (n : ℕ) (set : Extent → Bool) (from start : ℕ) (flat : IsFlat n s
         elim cases [
           | inl good ↦ good
           | inr bad ↦
-              let behind : l.extent.start < y.start = starts_before n set flat l.extent y l.member my (omega (arith, l.high)) in
+              let behind : l.extent.start < y.start = starts_before n set flat l.extent y l.member my (omega (arith, l.reached)) in
               absurd (omega (arith, none.none y my, l.same))
         ];
   }

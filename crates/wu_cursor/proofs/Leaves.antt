@@ -7,9 +7,10 @@ use Rattle.wu_gcl.specs.declared.expressions.Tag.{Tag}
 use Rattle.wu_gcl.specs.Regions.{Phrase, Mark, Window}
 use Rattle.wu_gcl.specs.Extents.{words_stand, is_in}
 use Rattle.wu_gcl.specs.Reading.{tag_text}
+use Rattle.wu_cursor.specs.declared.directions.Direction.TheVariants.{Forward, Backward}
 use Rattle.wu_cursor.specs.Places.{IsFirstPlace, HasNoneFrom, IsLastPlace, HasNoneTo}
 use Rattle.wu_cursor.specs.Within.{IsMember, IsFirst, NoneStarts, IsLast, NoneEnds, IsFirstEnd, IsLastStart}
-use Rattle.wu_cursor.proofs.Flat.{end_of_first, start_of_last}
+use Rattle.wu_cursor.proofs.Flat.{far_end_of}
 
 abbrev At : ℕ → ℕ → Extent
 At first last = record { start = first; end = last }
@@ -30,7 +31,7 @@ module _ (n m after : ℕ) (test : ℕ → Bool) (set : Extent → Bool) (runs :
   first_run : (from place : ℕ) → IsFirstPlace m test from place → IsFirst n set from (At place (place + after))
   first_run from place f = record {
     member = runs.there place f.within f.passes;
-    low = f.low;
+    reached = f.low;
     starts = λ y my low. behind from place y f my low;
     ends = λ y my low. omega (arith, behind from place y f my low, runs.long y my);
   }
@@ -58,7 +59,7 @@ module _ (n m after : ℕ) (test : ℕ → Bool) (set : Extent → Bool) (runs :
   last_run : (to place : ℕ) → after ≤ to → IsLastPlace m test (to - after) place → IsLast n set to (At place (place + after))
   last_run to place room l = record {
     member = runs.there place l.within l.passes;
-    high = omega (arith, l.high);
+    reached = omega (arith, l.high);
     starts = λ y my high. before to place y room l my high;
     ends = λ y my high. omega (arith, before to place y room l my high, runs.long y my);
   }
@@ -134,7 +135,7 @@ module _ (size : ℕ) (stands : List ℕ → ℕ → Bool) (n : ℕ) where
       (size - 1)))
   first_window from some fits low = record {
     member = window_there size stands n from (from + (size - 1)) (omega arith) some (omega arith);
-    low = omega arith;
+    reached = omega arith;
     starts = λ y my l. l;
     ends = λ y my l. omega (arith, window_ends size stands n y my);
   }
@@ -148,7 +149,7 @@ module _ (size : ℕ) (stands : List ℕ → ℕ → Bool) (n : ℕ) where
       → IsLast n (is_in (Window size) stands n) to (At (end - (size - 1)) end)
   last_window to end some long high within is fits = record {
     member = window_there size stands n (end - (size - 1)) end (omega arith) some within;
-    high = high;
+    reached = high;
     starts = λ y my h. let e = before y my h in omega (arith, window_ends size stands n y my);
     ends = λ y my h. before y my h;
   }
@@ -222,13 +223,13 @@ module _ (tag : Tag) (stands : List ℕ → ℕ → Bool) (n : ℕ) where
       (tag_text tag)) from)
       → MatchOption r (NoneStarts n (is_in (Mark tag) stands n) from) (IsFirstEnd n (is_in (Mark tag) stands n) from)
   end_of_tag from None none = no_tag from none
-  end_of_tag from (Some place) f = end_of_first n (is_in (Mark tag) stands n) from (At place place) (first_tag from place f)
+  end_of_tag from (Some place) f = far_end_of Forward n (is_in (Mark tag) stands n) from (At place place) (first_tag from place f)
 
   pub start_of_tag : (to : ℕ) (r : Option ℕ) → MatchOption r (HasNoneTo n (stands (tag_text tag)) to) (IsLastPlace n (stands
       (tag_text tag)) to)
       → MatchOption r (NoneEnds n (is_in (Mark tag) stands n) to) (IsLastStart n (is_in (Mark tag) stands n) to)
   start_of_tag to None none = no_tag_back to none
-  start_of_tag to (Some place) l = start_of_last n (is_in (Mark tag) stands n) to (At place place) (last_tag to place l)
+  start_of_tag to (Some place) l = far_end_of Backward n (is_in (Mark tag) stands n) to (At place place) (last_tag to place l)
 
 module _ (words : List (List ℕ)) (stands : List ℕ → ℕ → Bool) (n : ℕ) (some : 0 < length words) where
   pub first_phrase : (from place : ℕ) → IsFirstPlace (n + 1 - length words) (words_stand stands words) from place

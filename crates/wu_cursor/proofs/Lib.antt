@@ -1,7 +1,7 @@
+pub mod Orders
 pub mod Flat
 pub mod Inner
 pub mod Ends
-pub mod Starts
 pub mod Made
 pub mod Kept
 pub mod Remembering

@@ -1,11 +1,20 @@
 -- What an answer that is remembered tells: of which expression it is, and of other places.
-use Rattle.std.proofs.Common.{◌≡◌, ℕ, ◌<◌, ◌≤◌, Bool, true, ◌⊎◌, List, [], ◌∷◌, refl, sym, inl, inr, arith}
-use Rattle.std.specs.Prelude.{nat_eq, Option, Some, None, MatchOption}
+use Rattle.std.proofs.Common.{◌≡◌, ℕ, Bool, true, List, [], ◌∷◌, refl, sym, inl, inr}
+use Rattle.std.specs.Prelude.{nat_eq, Option, Some, None}
 use Rattle.std.specs.Cmp.Lexicographic.{pointwise, same_text}
 use Rattle.std.proofs.lemmas.Bool.{and_parts}
 use Rattle.wu_base.specs.declared.addresses.Extent.{Extent}
-use Rattle.wu_cursor.specs.Within.{IsFirst, NoneStarts, IsLast, NoneEnds}
-use Rattle.wu_cursor.proofs.Kept.{ArePassed, ArePassedBack}
+use Rattle.wu_base.specs.declared.addresses.Range.{Range}
+use Rattle.wu_base.specs.declared.addresses.TermList.{TermList}
+use Rattle.wu_gcl.specs.Regions.{region_of}
+use Rattle.wu_cursor.specs.declared.directions.Direction.{Direction}
+use Rattle.wu_cursor.specs.declared.directions.Direction.TheVariants.{Forward, Backward}
+use Rattle.wu_cursor.specs.declared.memory.Slot.{Slot}
+use Rattle.wu_cursor.specs.Directions.{Reaches, near}
+use Rattle.wu_cursor.specs.Memory.{AreAnswers, IsNearestIn, IsRight, answers_in}
+use Rattle.wu_cursor.specs.Within.{IsNearest, NoneReached, set_in}
+use Rattle.wu_cursor.proofs.Kept.{ArePassed}
+use Rattle.wu_cursor.proofs.Orders.{before_or_reached, not_both, through}
 
 pub same_texts : (xs ys : List (List ℕ)) → pointwise (pointwise nat_eq) xs ys ≡ true → xs ≡ ys
 same_texts [] [] is = refl
@@ -17,57 +26,47 @@ same_texts (x ∷ xs) (y ∷ ys) is =
     let rest : xs ≡ ys = same_texts xs ys b.1 in
     cc
 
-module _ (n : ℕ) (set : Extent → Bool) where
+module _ (d : Direction) (n : ℕ) (set : Extent → Bool) where
   -- from a later place, up to the extent itself
 
-  pub first_later : (before place : ℕ) (x : Extent) → before ≤ place → place ≤ x.start → IsFirst n set before x → IsFirst n set place x
-  first_later before place x up low f = record {
+  pub nearest_later : (before place : ℕ) (x : Extent) → Reaches d before place → Reaches d place (near d x)
+      → IsNearest d n set before x → IsNearest d n set place x
+  nearest_later before place x on reached f = record {
     member = f.member;
-    low = low;
-    starts = λ y my after. f.starts y my (omega arith);
-    ends = λ y my after. f.ends y my (omega arith);
+    reached = reached;
+    starts = λ y my r. f.starts y my (through d before place (near d y) on r);
+    ends = λ y my r. f.ends y my (through d before place (near d y) on r);
   }
 
-  pub none_later : (before place : ℕ) → before ≤ place → NoneStarts n set before → NoneStarts n set place
-  none_later before place up none = record { none = λ y my. omega (arith, none.none y my) }
-
-  pub last_earlier : (behind place : ℕ) (x : Extent) → place ≤ behind → x.end ≤ place → IsLast n set behind x → IsLast n set place x
-  last_earlier behind place x down high l = record {
-    member = l.member;
-    high = high;
-    starts = λ y my before. l.starts y my (omega arith);
-    ends = λ y my before. l.ends y my (omega arith);
-  }
-
-  pub none_earlier : (behind place : ℕ) → place ≤ behind → NoneEnds n set behind → NoneEnds n set place
-  none_earlier behind place down none = record { none = λ y my. omega (arith, none.none y my) }
-
-  -- where all before it were passed, what is first from the place is first of all
-
-  pub first_passed : (from place : ℕ) (r : Option Extent) → from ≤ place → ArePassed n set from place
-      → MatchOption r (NoneStarts n set place) (IsFirst n set place) → MatchOption r (NoneStarts n set from) (IsFirst n set from)
-  first_passed from place None low passed none = record {
+  pub none_later : (before place : ℕ) → Reaches d before place → NoneReached d n set before → NoneReached d n set place
+  none_later before place on none = record {
     none = λ y my.
-        let cases : (y.start < from) ⊎ (from ≤ y.start) = grind arith in
-        elim cases [ inl before ↦ before | inr after ↦ absurd (omega (arith, passed.passed y my after, none.none y my)) ];
+        elim (before_or_reached d place (near d y)) [
+          | inl is ↦ is
+          | inr r ↦ absurd (not_both d before (near d y) (none.none y my) (through d before place (near d y) on r))
+        ];
   }
-  first_passed from place (Some x) low passed f = record {
+
+  -- where all before it were passed, what is nearest from the place is nearest of all
+
+  pub nearest_passed : (place from : ℕ) (r : Option Extent) → Reaches d place from → ArePassed d n set place from
+      → IsNearestIn d n set from r → IsNearestIn d n set place r
+  nearest_passed place from None on passed none = record {
+    none = λ y my.
+        elim (before_or_reached d place (near d y)) [
+          | inl is ↦ is
+          | inr r ↦ absurd (not_both d from (near d y) (none.none y my) (passed.passed y my r))
+        ];
+  }
+  nearest_passed place from (Some x) on passed f = record {
     member = f.member;
-    low = omega (arith, f.low);
-    starts = λ y my after. f.starts y my (passed.passed y my after);
-    ends = λ y my after. f.ends y my (passed.passed y my after);
+    reached = through d place from (near d x) on f.reached;
+    starts = λ y my r. f.starts y my (passed.passed y my r);
+    ends = λ y my r. f.ends y my (passed.passed y my r);
   }
 
-  pub last_passed : (to place : ℕ) (r : Option Extent) → place ≤ to → ArePassedBack n set to place
-      → MatchOption r (NoneEnds n set place) (IsLast n set place) → MatchOption r (NoneEnds n set to) (IsLast n set to)
-  last_passed to place None high passed none = record {
-    none = λ y my.
-        let cases : (to < y.end) ⊎ (y.end ≤ to) = grind arith in
-        elim cases [ inl after ↦ after | inr before ↦ absurd (omega (arith, passed.passed y my before, none.none y my)) ];
-  }
-  last_passed to place (Some x) high passed l = record {
-    member = l.member;
-    high = omega (arith, l.high);
-    starts = λ y my before. l.starts y my (passed.passed y my before);
-    ends = λ y my before. l.ends y my (passed.passed y my before);
-  }
+-- what a slot remembers in a direction is right
+pub slot_answers : (d : Direction) (lists : List TermList) (frame : Range) (slot : Slot) → IsRight lists frame slot
+    → AreAnswers d frame.len (set_in (region_of slot.expr.now) lists frame) (answers_in d slot)
+slot_answers Forward lists frame slot right = right.forward
+slot_answers Backward lists frame slot right = right.backward

@@ -1,5 +1,5 @@
 -- The access functions of a set of extents in a text of n places.
-use Rattle.std.specs.Prelude.{◌≡◌, ℕ, ◌<◌, ◌≤◌, ◌&&◌, Bool, true, false, not, min, max, List, Option, Some, None}
+use Rattle.std.specs.Prelude.{◌≡◌, ℕ, ◌<◌, ◌≤◌, ◌&&◌, Bool, true, false, not, List}
 use Rattle.wu_base.specs.declared.addresses.Extent.{Extent}
 use Rattle.wu_base.specs.declared.addresses.Range.{Range}
 use Rattle.wu_base.specs.declared.addresses.TermList.{TermList}
@@ -9,6 +9,9 @@ use Rattle.wu_gcl.specs.Regions.{Region, Phrase, Mark, WholeFile, WholeLine, Win
 use Rattle.wu_gcl.specs.Extents.{holds, some_extent, is_in}
 use Rattle.wu_solve.specs.Addresses.{stands_by}
 use Rattle.wu_solve.specs.Listing.{IsExtentIn}
+use Rattle.wu_cursor.specs.declared.directions.Direction.{Direction}
+use Rattle.wu_cursor.specs.declared.directions.Direction.TheVariants.{Forward, Backward}
+use Rattle.wu_cursor.specs.Directions.{Reaches, Precedes, near, far}
 
 -- the extents that the expression means in the frame, at places counted from its start
 abbrev pub set_in : Region → List TermList → Range → Extent → Bool
@@ -19,43 +22,48 @@ pub record IsMember (n : ℕ) (set : Extent → Bool) (x : Extent) : Type 0 wher
   pub extent : IsExtentIn n x
   pub passes : set x ≡ true
 
--- the first extent that starts at the place or after it
-pub record IsFirst (n : ℕ) (set : Extent → Bool) (from : ℕ) (x : Extent) : Type 0 where
+-- the nearest extent from the place on: forward the first that starts there or after it, backward the last that ends there or before it
+pub record IsNearest (direction : Direction) (n : ℕ) (set : Extent → Bool) (place : ℕ) (x : Extent) : Type 0 where
   pub member : IsMember n set x
-  pub low : from ≤ x.start
-  pub starts : (y : Extent) → IsMember n set y → from ≤ y.start → x.start ≤ y.start
-  pub ends : (y : Extent) → IsMember n set y → from ≤ y.start → x.end ≤ y.end
+  pub reached : Reaches direction place (near direction x)
+  pub starts : (y : Extent) → IsMember n set y → Reaches direction place (near direction y) → Reaches direction x.start y.start
+  pub ends : (y : Extent) → IsMember n set y → Reaches direction place (near direction y) → Reaches direction x.end y.end
+
+-- there is none: each comes before the place
+pub record NoneReached (direction : Direction) (n : ℕ) (set : Extent → Bool) (place : ℕ) : Type 0 where
+  pub none : (y : Extent) → IsMember n set y → Precedes direction (near direction y) place
+
+-- the far end of the nearest extent: forward where it ends, backward where it starts. No extent from the place on has one before it
+pub record IsFarEnd (direction : Direction) (n : ℕ) (set : Extent → Bool) (place end : ℕ) : Type 0 where
+  pub extent : Extent
+  pub member : IsMember n set extent
+  pub reached : Reaches direction place (near direction extent)
+  pub same : far direction extent ≡ end
+  pub least : (y : Extent) → IsMember n set y → Reaches direction place (near direction y) → Reaches direction end (far direction y)
+
+-- the first extent that starts at the place or after it
+abbrev pub IsFirst : ℕ → (Extent → Bool) → ℕ → Extent → Type 0
+IsFirst = IsNearest Forward
 
 -- no extent starts there or after it
-pub record NoneStarts (n : ℕ) (set : Extent → Bool) (from : ℕ) : Type 0 where
-  pub none : (y : Extent) → IsMember n set y → y.start < from
+abbrev pub NoneStarts : ℕ → (Extent → Bool) → ℕ → Type 0
+NoneStarts = NoneReached Forward
+
+-- where the first extent ends that starts at the place or after it
+abbrev pub IsFirstEnd : ℕ → (Extent → Bool) → ℕ → ℕ → Type 0
+IsFirstEnd = IsFarEnd Forward
 
 -- the last extent that ends at the place or before it
-pub record IsLast (n : ℕ) (set : Extent → Bool) (to : ℕ) (x : Extent) : Type 0 where
-  pub member : IsMember n set x
-  pub high : x.end ≤ to
-  pub starts : (y : Extent) → IsMember n set y → y.end ≤ to → y.start ≤ x.start
-  pub ends : (y : Extent) → IsMember n set y → y.end ≤ to → y.end ≤ x.end
+abbrev pub IsLast : ℕ → (Extent → Bool) → ℕ → Extent → Type 0
+IsLast = IsNearest Backward
 
 -- no extent ends there or before it
-pub record NoneEnds (n : ℕ) (set : Extent → Bool) (to : ℕ) : Type 0 where
-  pub none : (y : Extent) → IsMember n set y → to < y.end
+abbrev pub NoneEnds : ℕ → (Extent → Bool) → ℕ → Type 0
+NoneEnds = NoneReached Backward
 
--- where the first extent ends that starts at the place or after it: no such extent ends before
-pub record IsFirstEnd (n : ℕ) (set : Extent → Bool) (from end : ℕ) : Type 0 where
-  pub extent : Extent
-  pub member : IsMember n set extent
-  pub low : from ≤ extent.start
-  pub same : extent.end ≡ end
-  pub least : (y : Extent) → IsMember n set y → from ≤ y.start → end ≤ y.end
-
--- where the last extent starts that ends at the place or before it: no such extent starts after
-pub record IsLastStart (n : ℕ) (set : Extent → Bool) (to start : ℕ) : Type 0 where
-  pub extent : Extent
-  pub member : IsMember n set extent
-  pub high : extent.end ≤ to
-  pub same : extent.start ≡ start
-  pub greatest : (y : Extent) → IsMember n set y → y.end ≤ to → y.start ≤ start
+-- where the last extent starts that ends at the place or before it
+abbrev pub IsLastStart : ℕ → (Extent → Bool) → ℕ → ℕ → Type 0
+IsLastStart = IsFarEnd Backward
 
 -- the first extent that ends at the place or after it
 pub record IsFirstEnding (n : ℕ) (set : Extent → Bool) (from : ℕ) (x : Extent) : Type 0 where
@@ -66,18 +74,6 @@ pub record IsFirstEnding (n : ℕ) (set : Extent → Bool) (from : ℕ) (x : Ext
 -- no extent ends there or after it
 pub record NoneEndsFrom (n : ℕ) (set : Extent → Bool) (from : ℕ) : Type 0 where
   pub none : (y : Extent) → IsMember n set y → y.end < from
-
--- the lesser of two, as far as they are there
-abbrev pub least_of : Option ℕ → Option ℕ → Option ℕ
-least_of None other = other
-least_of (Some one) None = Some one
-least_of (Some one) (Some other) = Some (min one other)
-
--- the greater of two, as far as they are there
-abbrev pub greatest_of : Option ℕ → Option ℕ → Option ℕ
-greatest_of None other = other
-greatest_of (Some one) None = Some one
-greatest_of (Some one) (Some other) = Some (max one other)
 
 -- the expression has no operator
 abbrev pub IsOperand : Region → Type 0

@@ -1,96 +1,70 @@
 //! The access functions of an expression in one frame, with places counted from the frame's start.
 ghost use Rattle.std.specs.Prelude.{◌≡◌, ◌&&◌, MatchOption};
-ghost use Rattle.wu_cursor.specs.Memory.{AreRight};
-ghost use Rattle.wu_cursor.specs.Within.{set_in, keeps, least_of, greatest_of, IsFirst, NoneStarts, IsLast, NoneEnds, IsFirstEnd, IsLastStart, IsFirstEnding, NoneEndsFrom, AreKept};
+ghost use Rattle.wu_cursor.specs.Memory.{AreRight, IsNearestOf};
+ghost use Rattle.wu_cursor.specs.Within.{set_in, keeps, NoneReached, IsFarEnd, IsFirstEnding, NoneEndsFrom, AreKept};
 ghost use Rattle.wu_gcl.specs.Extents.{holds, some_extent};
 ghost use Rattle.wu_gcl.specs.Regions.{region_of};
 ghost use Rattle.wu_solve.specs.Addresses.{AreLists};
 ghost use Rattle.wu_solve.specs.Listing.{IsExtentIn};
 ghost use Rattle.wu_solve.specs.Solving.{IsFrame};
 
-use crate::memory::{Slot, note_first, note_last, recall_first, recall_last};
-use crate::operands::{first_operand, last_operand};
+use crate::directions::{Direction, between, far, farther, near, nearer, next_place, opposite};
+use crate::memory::{Slot, note, recall};
+use crate::operands::operand;
+use crate::slots::{asks_again, operators_in, right_at};
 use wu_base::{Extent, OPERATORS_MAX, Range, TermList};
 use wu_gcl::{Expr, Op};
 
 /// As many slots as most expressions need: a slot costs some time in each frame, used or not.
 const FEW_SLOTS: usize = 8;
 
-/// Whether the expression has a containment.
-fn has_containment(expr: &Expr) -> bool {
-    match expr {
-        Expr::Both(op, left, right) => match op {
-            Op::Containing | Op::ContainedIn | Op::NotContaining | Op::NotContainedIn => true,
-            Op::OneOf | Op::BothOf | Op::FollowedBy => has_containment(left)
-                || has_containment(right),
-        },
-        _ => false,
-    }
-}
-
-/// Whether one call may ask a containment again and again: one among the operands.
-fn asks_again(expr: &Expr) -> bool {
-    match expr {
-        Expr::Both(_, left, right) => has_containment(left) || has_containment(right),
-        _ => false,
-    }
-}
-
-/// How many operators the expression has: so many slots it may take.
-fn operators_in(expr: &Expr) -> usize {
-    match expr {
-        Expr::Both(_, left, right) => {
-            let operands = operators_in(left).saturating_add(operators_in(right));
-            operands.saturating_add(1)
-        }
-        _ => 0,
-    }
-}
-
-/// The slot of an operator's right operand, behind its own and those of its left operand.
-fn right_at(at: usize, left: &Expr) -> usize {
-    at.saturating_add(1).saturating_add(operators_in(left))
-}
-
-/// The first extent of the expression in the frame that starts at the place `from` or after it.
-pub fn first_at(expr: &Expr, lists: &[TermList], frame: Range, from: u64) -> Option<Extent>
+/// The nearest extent of the expression in the frame from the place on: forward the first one that starts
+/// there or after it, backward the last one that ends there or before it.
+pub fn nearest_at(
+    direction: Direction,
+    expr: &Expr,
+    lists: &[TermList],
+    frame: Range,
+    place: u64,
+) -> Option<Extent>
     requires lists { AreLists lists.now }
     requires frame { IsFrame frame }
-    ensures { MatchOption result (NoneStarts frame.len (set_in (region_of expr.now) lists.now frame) from)
-        (IsFirst frame.len (set_in (region_of expr.now) lists.now frame) from) }
+    ensures { IsNearestOf direction (region_of expr.now) lists.now frame place result }
 {
     if !asks_again(expr) {
-        return first(expr, lists, frame, from, &mut [], 0);
+        return nearest(direction, expr, lists, frame, place, &mut [], 0);
     }
     if operators_in(expr) <= FEW_SLOTS {
-        return first(expr, lists, frame, from, &mut [None; FEW_SLOTS], 0);
+        return nearest(
+            direction,
+            expr,
+            lists,
+            frame,
+            place,
+            &mut [None; FEW_SLOTS],
+            0,
+        );
     }
-    first(expr, lists, frame, from, &mut [None; OPERATORS_MAX], 0)
+    nearest(
+        direction,
+        expr,
+        lists,
+        frame,
+        place,
+        &mut [None; OPERATORS_MAX],
+        0,
+    )
 }
 
-/// The last extent of the expression in the frame that ends at the place `to` or before it.
-pub fn last_at(expr: &Expr, lists: &[TermList], frame: Range, to: u64) -> Option<Extent>
-    requires lists { AreLists lists.now }
-    requires frame { IsFrame frame }
-    ensures { MatchOption result (NoneEnds frame.len (set_in (region_of expr.now) lists.now frame) to)
-        (IsLast frame.len (set_in (region_of expr.now) lists.now frame) to) }
-{
-    if !asks_again(expr) {
-        return last(expr, lists, frame, to, &mut [], 0);
-    }
-    if operators_in(expr) <= FEW_SLOTS {
-        return last(expr, lists, frame, to, &mut [None; FEW_SLOTS], 0);
-    }
-    last(expr, lists, frame, to, &mut [None; OPERATORS_MAX], 0)
-}
-
-/// The same, with what was remembered in the frame. The expression's slot is `at`, if there are so many.
+/// The same, with what was remembered in the frame. The expression's slot is `at`, if
+/// there are so many.
 #[cycle(access)]
-fn first<'a>(
+fn nearest<'a>(
+    direction: Direction,
     expr: &'a Expr,
     lists: &[TermList],
     frame: Range,
-    from: u64,
+    place: u64,
     memory: &mut [Option<Slot<'a>>],
     at: usize,
 ) -> Option<Extent>
@@ -98,64 +72,32 @@ fn first<'a>(
     requires frame { IsFrame frame }
     requires memory { AreRight lists.now frame memory.old }
     ensures memory { AreRight lists.now frame memory.new }
-    ensures found { MatchOption result (NoneStarts frame.len (set_in (region_of expr.now) lists.now frame) from)
-        (IsFirst frame.len (set_in (region_of expr.now) lists.now frame) from) }
+    ensures found { IsNearestOf direction (region_of expr.now) lists.now frame place result }
 {
     match expr {
         Expr::Both(op, ..) => match op {
             Op::Containing | Op::ContainedIn | Op::NotContaining | Op::NotContainedIn => {
-                first_kept(expr, lists, frame, from, memory, at)
+                kept(direction, expr, lists, frame, place, memory, at)
             }
             Op::OneOf | Op::BothOf | Op::FollowedBy => {
-                let end = first_end(expr, lists, frame, from, memory, at)?;
-                let start = last_start(expr, lists, frame, end, memory, at)?;
-                Some(Extent { start, end })
+                let last = far_end(direction, expr, lists, frame, place, memory, at)?;
+                let first = far_end(opposite(direction), expr, lists, frame, last, memory, at)?;
+                Some(between(direction, first, last))
             }
         },
-        _ => first_operand(expr, lists, frame, from),
+        _ => operand(direction, expr, lists, frame, place),
     }
 }
 
-/// The same, with what was remembered in the frame. The expression's slot is `at`, if there are so many.
+/// The far end of the nearest extent: forward where it ends, backward where it starts. Each operand of
+/// `+`, `^` and `..` is asked once: which of the extents that these make hold others doesn't matter here.
 #[cycle(access)]
-fn last<'a>(
+fn far_end<'a>(
+    direction: Direction,
     expr: &'a Expr,
     lists: &[TermList],
     frame: Range,
-    to: u64,
-    memory: &mut [Option<Slot<'a>>],
-    at: usize,
-) -> Option<Extent>
-    requires lists { AreLists lists.now }
-    requires frame { IsFrame frame }
-    requires memory { AreRight lists.now frame memory.old }
-    ensures memory { AreRight lists.now frame memory.new }
-    ensures found { MatchOption result (NoneEnds frame.len (set_in (region_of expr.now) lists.now frame) to)
-        (IsLast frame.len (set_in (region_of expr.now) lists.now frame) to) }
-{
-    match expr {
-        Expr::Both(op, ..) => match op {
-            Op::Containing | Op::ContainedIn | Op::NotContaining | Op::NotContainedIn => {
-                last_kept(expr, lists, frame, to, memory, at)
-            }
-            Op::OneOf | Op::BothOf | Op::FollowedBy => {
-                let start = last_start(expr, lists, frame, to, memory, at)?;
-                let end = first_end(expr, lists, frame, start, memory, at)?;
-                Some(Extent { start, end })
-            }
-        },
-        _ => last_operand(expr, lists, frame, to),
-    }
-}
-
-/// Where the first extent ends that starts at the place `from` or after it. Each operand of `+`, `^`
-/// and `..` is asked once: which of the extents that these make hold others doesn't matter here.
-#[cycle(access)]
-fn first_end<'a>(
-    expr: &'a Expr,
-    lists: &[TermList],
-    frame: Range,
-    from: u64,
+    place: u64,
     memory: &mut [Option<Slot<'a>>],
     at: usize,
 ) -> Option<u64>
@@ -163,87 +105,116 @@ fn first_end<'a>(
     requires frame { IsFrame frame }
     requires memory { AreRight lists.now frame memory.old }
     ensures memory { AreRight lists.now frame memory.new }
-    ensures found { MatchOption result (NoneStarts frame.len (set_in (region_of expr.now) lists.now frame) from)
-        (IsFirstEnd frame.len (set_in (region_of expr.now) lists.now frame) from) }
+    ensures found { MatchOption result (NoneReached direction frame.len (set_in (region_of expr.now) lists.now frame) place)
+        (IsFarEnd direction frame.len (set_in (region_of expr.now) lists.now frame) place) }
 {
     match expr {
         Expr::Both(op, left, right) => match op {
             Op::OneOf => {
-                let one = first_end(left, lists, frame, from, memory, at.saturating_add(1));
-                let other = first_end(right, lists, frame, from, memory, right_at(at, left));
-                least(one, other)
+                let one = far_end(
+                    direction,
+                    left,
+                    lists,
+                    frame,
+                    place,
+                    memory,
+                    at.saturating_add(1),
+                );
+                let other = far_end(
+                    direction,
+                    right,
+                    lists,
+                    frame,
+                    place,
+                    memory,
+                    right_at(at, left),
+                );
+                nearer(direction, one, other)
             }
             Op::BothOf => {
-                let one = first_end(left, lists, frame, from, memory, at.saturating_add(1))?;
-                let other = first_end(right, lists, frame, from, memory, right_at(at, left))?;
-                Some(one.max(other))
+                let one = far_end(
+                    direction,
+                    left,
+                    lists,
+                    frame,
+                    place,
+                    memory,
+                    at.saturating_add(1),
+                )?;
+                let other = far_end(
+                    direction,
+                    right,
+                    lists,
+                    frame,
+                    place,
+                    memory,
+                    right_at(at, left),
+                )?;
+                Some(farther(direction, one, other))
             }
-            Op::FollowedBy => {
-                let end = first_end(left, lists, frame, from, memory, at.saturating_add(1))?;
-                first_end(right, lists, frame, end + 1, memory, right_at(at, left))
-            }
-            Op::Containing | Op::ContainedIn | Op::NotContaining | Op::NotContainedIn => {
-                Some(first_kept(expr, lists, frame, from, memory, at)?.end)
-            }
-        },
-        _ => Some(first_operand(expr, lists, frame, from)?.end),
-    }
-}
-
-/// Where the last extent starts that ends at the place `to` or before it. Each operand of `+`, `^` and
-/// `..` is asked once.
-#[cycle(access)]
-fn last_start<'a>(
-    expr: &'a Expr,
-    lists: &[TermList],
-    frame: Range,
-    to: u64,
-    memory: &mut [Option<Slot<'a>>],
-    at: usize,
-) -> Option<u64>
-    requires lists { AreLists lists.now }
-    requires frame { IsFrame frame }
-    requires memory { AreRight lists.now frame memory.old }
-    ensures memory { AreRight lists.now frame memory.new }
-    ensures found { MatchOption result (NoneEnds frame.len (set_in (region_of expr.now) lists.now frame) to)
-        (IsLastStart frame.len (set_in (region_of expr.now) lists.now frame) to) }
-{
-    match expr {
-        Expr::Both(op, left, right) => match op {
-            Op::OneOf => {
-                let one = last_start(left, lists, frame, to, memory, at.saturating_add(1));
-                let other = last_start(right, lists, frame, to, memory, right_at(at, left));
-                greatest(one, other)
-            }
-            Op::BothOf => {
-                let one = last_start(left, lists, frame, to, memory, at.saturating_add(1))?;
-                let other = last_start(right, lists, frame, to, memory, right_at(at, left))?;
-                Some(one.min(other))
-            }
-            Op::FollowedBy => {
-                let start = last_start(right, lists, frame, to, memory, right_at(at, left))?;
-                if start == 0 {
-                    return None;
+            Op::FollowedBy => match direction {
+                Direction::Forward => {
+                    let end = far_end(
+                        direction,
+                        left,
+                        lists,
+                        frame,
+                        place,
+                        memory,
+                        at.saturating_add(1),
+                    )?;
+                    let next = next_place(direction, end)?;
+                    far_end(
+                        direction,
+                        right,
+                        lists,
+                        frame,
+                        next,
+                        memory,
+                        right_at(at, left),
+                    )
                 }
-                last_start(left, lists, frame, start - 1, memory, at.saturating_add(1))
-            }
+                Direction::Backward => {
+                    let start = far_end(
+                        direction,
+                        right,
+                        lists,
+                        frame,
+                        place,
+                        memory,
+                        right_at(at, left),
+                    )?;
+                    let next = next_place(direction, start)?;
+                    far_end(
+                        direction,
+                        left,
+                        lists,
+                        frame,
+                        next,
+                        memory,
+                        at.saturating_add(1),
+                    )
+                }
+            },
             Op::Containing | Op::ContainedIn | Op::NotContaining | Op::NotContainedIn => {
-                Some(last_kept(expr, lists, frame, to, memory, at)?.start)
+                Some(far(
+                    direction,
+                    kept(direction, expr, lists, frame, place, memory, at)?,
+                ))
             }
         },
-        _ => Some(last_operand(expr, lists, frame, to)?.start),
+        _ => Some(far(direction, operand(direction, expr, lists, frame, place)?)),
     }
 }
 
-/// The first extent of the left operand that the containment keeps and that starts at the place
-/// `from` or after it: what is remembered,
-/// or what is sought and then remembered.
+/// The nearest extent that the containment keeps: what is remembered, or is sought and then remembered.
 #[cycle(access)]
-fn first_kept<'a>(
+fn kept<'a>(
+    direction: Direction,
     expr: &'a Expr,
     lists: &[TermList],
     frame: Range,
-    from: u64,
+    place: u64,
     memory: &mut [Option<Slot<'a>>],
     at: usize,
 ) -> Option<Extent>
@@ -252,24 +223,24 @@ fn first_kept<'a>(
     requires frame { IsFrame frame }
     requires memory { AreRight lists.now frame memory.old }
     ensures memory { AreRight lists.now frame memory.new }
-    ensures found { MatchOption result (NoneStarts frame.len (set_in (region_of expr.now) lists.now frame) from)
-        (IsFirst frame.len (set_in (region_of expr.now) lists.now frame) from) }
+    ensures found { IsNearestOf direction (region_of expr.now) lists.now frame place result }
 {
-    if let Some(known) = recall_first(memory, at, expr, from) {
+    if let Some(known) = recall(direction, memory, at, expr, place) {
         return known;
     }
-    let found = first_sought(expr, lists, frame, from, memory, at);
-    note_first(memory, at, expr, from, found);
+    let found = sought(direction, expr, lists, frame, place, memory, at);
+    note(direction, memory, at, expr, place, found);
     found
 }
 
 /// The same, sought by a loop over the extents of the left operand, up to where it is remembered.
 #[cycle(access)]
-fn first_sought<'a>(
+fn sought<'a>(
+    direction: Direction,
     expr: &'a Expr,
     lists: &[TermList],
     frame: Range,
-    from: u64,
+    place: u64,
     memory: &mut [Option<Slot<'a>>],
     at: usize,
 ) -> Option<Extent>
@@ -278,87 +249,29 @@ fn first_sought<'a>(
     requires frame { IsFrame frame }
     requires memory { AreRight lists.now frame memory.old }
     ensures memory { AreRight lists.now frame memory.new }
-    ensures found { MatchOption result (NoneStarts frame.len (set_in (region_of expr.now) lists.now frame) from)
-        (IsFirst frame.len (set_in (region_of expr.now) lists.now frame) from) }
+    ensures found { IsNearestOf direction (region_of expr.now) lists.now frame place result }
 {
     let Expr::Both(op, left, right) = expr else {
         return None;
     };
-    let mut place = from;
+    let mut from = place;
     loop {
-        if let Some(known) = recall_first(memory, at, expr, place) {
+        if let Some(known) = recall(direction, memory, at, expr, from) {
             return known;
         }
-        let extent = first(left, lists, frame, place, memory, at.saturating_add(1))?;
+        let extent = nearest(
+            direction,
+            left,
+            lists,
+            frame,
+            from,
+            memory,
+            at.saturating_add(1),
+        )?;
         if is_kept(*op, right, lists, frame, extent, memory, right_at(at, left)) {
             return Some(extent);
         }
-        place = extent.start + 1;
-    }
-}
-
-/// The last extent of the left operand that the containment keeps and that ends at the place `to` or
-/// before it: what is remembered,
-/// or what is sought and then remembered.
-#[cycle(access)]
-fn last_kept<'a>(
-    expr: &'a Expr,
-    lists: &[TermList],
-    frame: Range,
-    to: u64,
-    memory: &mut [Option<Slot<'a>>],
-    at: usize,
-) -> Option<Extent>
-    requires containment { AreKept (region_of expr.now) }
-    requires lists { AreLists lists.now }
-    requires frame { IsFrame frame }
-    requires memory { AreRight lists.now frame memory.old }
-    ensures memory { AreRight lists.now frame memory.new }
-    ensures found { MatchOption result (NoneEnds frame.len (set_in (region_of expr.now) lists.now frame) to)
-        (IsLast frame.len (set_in (region_of expr.now) lists.now frame) to) }
-{
-    if let Some(known) = recall_last(memory, at, expr, to) {
-        return known;
-    }
-    let found = last_sought(expr, lists, frame, to, memory, at);
-    note_last(memory, at, expr, to, found);
-    found
-}
-
-/// The same, sought by a loop over the extents of the left operand, up to where it is remembered.
-#[cycle(access)]
-fn last_sought<'a>(
-    expr: &'a Expr,
-    lists: &[TermList],
-    frame: Range,
-    to: u64,
-    memory: &mut [Option<Slot<'a>>],
-    at: usize,
-) -> Option<Extent>
-    requires containment { AreKept (region_of expr.now) }
-    requires lists { AreLists lists.now }
-    requires frame { IsFrame frame }
-    requires memory { AreRight lists.now frame memory.old }
-    ensures memory { AreRight lists.now frame memory.new }
-    ensures found { MatchOption result (NoneEnds frame.len (set_in (region_of expr.now) lists.now frame) to)
-        (IsLast frame.len (set_in (region_of expr.now) lists.now frame) to) }
-{
-    let Expr::Both(op, left, right) = expr else {
-        return None;
-    };
-    let mut place = to;
-    loop {
-        if let Some(known) = recall_last(memory, at, expr, place) {
-            return known;
-        }
-        let extent = last(left, lists, frame, place, memory, at.saturating_add(1))?;
-        if is_kept(*op, right, lists, frame, extent, memory, right_at(at, left)) {
-            return Some(extent);
-        }
-        if extent.end == 0 {
-            return None;
-        }
-        place = extent.end - 1;
+        from = next_place(direction, near(direction, extent))?;
     }
 }
 
@@ -406,14 +319,21 @@ fn holds_one<'a>(
     ensures memory { AreRight lists.now frame memory.new }
     ensures found { result ≡ some_extent frame.len (λ y. holds extent y && set_in (region_of expr.now) lists.now frame y) }
 {
-    match first_end(expr, lists, frame, extent.start, memory, at) {
+    match far_end(
+        Direction::Forward,
+        expr,
+        lists,
+        frame,
+        extent.start,
+        memory,
+        at,
+    ) {
         Some(end) => end <= extent.end,
         None => false,
     }
 }
 
-/// Whether an extent of the expression holds the extent: the first one that ends where it does or
-/// after it.
+/// Whether an extent of the expression holds it: the first one that ends where it does or after it.
 #[cycle(access)]
 fn is_held<'a>(
     expr: &'a Expr,
@@ -454,32 +374,26 @@ fn first_ending<'a>(
         (IsFirstEnding frame.len (set_in (region_of expr.now) lists.now frame) from) }
 {
     if from == 0 {
-        return first(expr, lists, frame, 0, memory, at);
+        return nearest(Direction::Forward, expr, lists, frame, 0, memory, at);
     }
-    match last_start(expr, lists, frame, from - 1, memory, at) {
-        Some(start) => first(expr, lists, frame, start + 1, memory, at),
-        None => first(expr, lists, frame, 0, memory, at),
-    }
-}
-
-/// The lesser of the two, as far as they are there.
-fn least(one: Option<u64>, other: Option<u64>) -> Option<u64>
-    ensures { result ≡ least_of one other }
-{
-    match (one, other) {
-        (Some(first), Some(second)) => Some(first.min(second)),
-        (Some(first), None) => Some(first),
-        (None, second) => second,
-    }
-}
-
-/// The greater of the two, as far as they are there.
-fn greatest(one: Option<u64>, other: Option<u64>) -> Option<u64>
-    ensures { result ≡ greatest_of one other }
-{
-    match (one, other) {
-        (Some(first), Some(second)) => Some(first.max(second)),
-        (Some(first), None) => Some(first),
-        (None, second) => second,
+    match far_end(
+        Direction::Backward,
+        expr,
+        lists,
+        frame,
+        from - 1,
+        memory,
+        at,
+    ) {
+        Some(start) => nearest(
+            Direction::Forward,
+            expr,
+            lists,
+            frame,
+            start + 1,
+            memory,
+            at,
+        ),
+        None => nearest(Direction::Forward, expr, lists, frame, 0, memory, at),
     }
 }

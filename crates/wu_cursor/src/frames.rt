@@ -6,7 +6,8 @@ ghost use Rattle.wu_gcl.specs.Regions.{region_of};
 ghost use Rattle.wu_solve.specs.Addresses.{AreLists};
 ghost use Rattle.wu_solve.specs.Solving.{moved, frame_hits, frames_hits, IsFrame, AreApart};
 
-use crate::access::{first_at, last_at};
+use crate::access::nearest_at;
+use crate::directions::Direction;
 use wu_base::{Extent, Range, TermList};
 use wu_gcl::Expr;
 
@@ -49,7 +50,7 @@ fn first_in(expr: &Expr, lists: &[TermList], frame: Range, address: u64) -> Opti
     ensures { result ≡ first_starting address (frame_hits (region_of expr.now) lists.now frame) }
 {
     let from = address.saturating_sub(frame.start);
-    let extent = first_at(expr, lists, frame, from)?;
+    let extent = nearest_at(Direction::Forward, expr, lists, frame, from)?;
     Some(moved(frame, extent))
 }
 
@@ -62,7 +63,13 @@ fn last_in(expr: &Expr, lists: &[TermList], frame: Range, address: u64) -> Optio
     if address < frame.start {
         return None;
     }
-    let extent = last_at(expr, lists, frame, address - frame.start)?;
+    let extent = nearest_at(
+        Direction::Backward,
+        expr,
+        lists,
+        frame,
+        address - frame.start,
+    )?;
     Some(moved(frame, extent))
 }
 

@@ -8,12 +8,14 @@
 
 mod access;
 mod cursors;
+mod directions;
 mod frames;
 mod lazily;
 mod memory;
 mod operands;
 mod phrases;
 mod places;
+mod slots;
 
 pub use cursors::Cursor;
 pub use lazily::solve_lazily;

@@ -1,29 +1,37 @@
 //! What the calls in one frame remember of containments, so that none goes twice over the same extents.
-ghost use Rattle.std.specs.Prelude.{◌≡◌, List, IsTrue, Option, MatchOption, ⊤};
+ghost use Rattle.std.specs.Prelude.{◌≡◌, ℕ, Bool, List, IsTrue, MatchOption, ⊤};
+ghost use Rattle.wu_base.specs.declared.addresses.Extent.{Extent};
 ghost use Rattle.wu_base.specs.declared.addresses.Range.{Range};
 ghost use Rattle.wu_base.specs.declared.addresses.TermList.{TermList};
-ghost use Rattle.wu_cursor.specs.Memory.{AreRight, IsRight, IsFirstOf, IsLastOf, IsFirstKnown, IsLastKnown};
+ghost use Rattle.wu_cursor.specs.declared.directions.Direction.{Direction};
+ghost use Rattle.wu_cursor.specs.Memory.{AreAnswers, AreRight, IsKnown, IsNearestIn, IsNearestOf, IsRight, answers_in};
 ghost use Rattle.wu_gcl.specs.Regions.{region_of};
 
+use crate::directions::{Direction, near, precedes};
 use wu_base::Extent;
 use wu_gcl::Expr;
 
-/// The extent that was found from a place on, or up to a place.
+/// The nearest extent from a place on.
 #[derive(Clone, Copy)]
 pub struct Found {
     place: u64,
     extent: Option<Extent>,
 }
 
-/// What was found of one expression: in each direction the last two answers that differ. One alone
-/// wouldn't do, as a holder is sought from near what it holds, and its start then from its own end.
+/// What was found in one direction: the last two answers that differ. One alone wouldn't do, as a holder
+/// is sought from near what it holds, and its start then from its own end.
+#[derive(Clone, Copy)]
+pub struct Answers {
+    last: Option<Found>,
+    before: Option<Found>,
+}
+
+/// What was found of one expression.
 #[derive(Clone, Copy)]
 pub struct Slot<'a> {
     expr: &'a Expr,
-    first: Option<Found>,
-    first_before: Option<Found>,
-    last: Option<Found>,
-    last_before: Option<Found>,
+    forward: Answers,
+    backward: Answers,
 }
 
 /// Whether both expressions say the same.
@@ -43,17 +51,17 @@ fn is_same(one: &Expr, other: &Expr) -> bool
     }
 }
 
-/// The first extent from the place on, if the answer that is remembered tells it.
-fn first_known(found: Option<Found>, place: u64) -> Option<Option<Extent>>
-    ensures { IsFirstKnown found place result }
+/// The nearest extent from the place on, if the answer that is remembered tells it.
+fn known(direction: Direction, found: Option<Found>, place: u64) -> Option<Option<Extent>>
+    ensures { IsKnown direction found place result }
 {
     let found = found?;
-    if place < found.place {
+    if precedes(direction, place, found.place) {
         return None;
     }
     match found.extent {
         Some(extent) => {
-            if extent.start < place {
+            if precedes(direction, near(direction, extent), place) {
                 return None;
             }
             Some(Some(extent))
@@ -62,87 +70,48 @@ fn first_known(found: Option<Found>, place: u64) -> Option<Option<Extent>>
     }
 }
 
-/// The last extent up to the place, if the answer that is remembered tells it.
-fn last_known(found: Option<Found>, place: u64) -> Option<Option<Extent>>
-    ensures { IsLastKnown found place result }
+/// The same, if one of both answers tells it.
+fn known_of(direction: Direction, answers: Answers, place: u64) -> Option<Option<Extent>>
+    ensures { (n : ℕ) (set : Extent → Bool) → AreAnswers direction n set answers
+        → MatchOption result ⊤ (IsNearestIn direction n set place) }
 {
-    let found = found?;
-    if found.place < place {
-        return None;
-    }
-    match found.extent {
-        Some(extent) => {
-            if place < extent.end {
-                return None;
-            }
-            Some(Some(extent))
-        }
-        None => Some(None),
+    match known(direction, answers.last, place) {
+        Some(known) => Some(known),
+        None => known(direction, answers.before, place),
     }
 }
 
-/// The first extent of the expression from the place on, if its slot tells it.
+/// What is remembered in the direction.
+fn answers_in(direction: Direction, slot: &Slot<'_>) -> Answers
+    ensures { result ≡ answers_in direction slot.now }
+{
+    match direction {
+        Direction::Forward => slot.forward,
+        Direction::Backward => slot.backward,
+    }
+}
+
+/// The nearest extent of the expression from the place on, if its slot tells it.
 #[inline]
-pub fn recall_first(
+pub fn recall(
+    direction: Direction,
     memory: &[Option<Slot<'_>>],
     at: usize,
     expr: &Expr,
     place: u64,
 ) -> Option<Option<Extent>>
     ensures { (lists : List TermList) (frame : Range) → AreRight lists frame memory.now → MatchOption result ⊤
-        (IsFirstOf (region_of expr.now) lists frame place) }
+        (IsNearestOf direction (region_of expr.now) lists frame place) }
 {
     if at >= memory.len() {
         return None;
     }
     let slot = memory[at]?;
-    match first_known(slot.first, place) {
-        Some(known) => {
-            if !is_same(slot.expr, expr) {
-                return None;
-            }
-            Some(known)
-        }
-        None => {
-            let known = first_known(slot.first_before, place)?;
-            if !is_same(slot.expr, expr) {
-                return None;
-            }
-            Some(known)
-        }
-    }
-}
-
-/// The last extent of the expression up to the place, if its slot tells it.
-#[inline]
-pub fn recall_last(
-    memory: &[Option<Slot<'_>>],
-    at: usize,
-    expr: &Expr,
-    place: u64,
-) -> Option<Option<Extent>>
-    ensures { (lists : List TermList) (frame : Range) → AreRight lists frame memory.now → MatchOption result ⊤
-        (IsLastOf (region_of expr.now) lists frame place) }
-{
-    if at >= memory.len() {
+    let known = known_of(direction, answers_in(direction, &slot), place)?;
+    if !is_same(slot.expr, expr) {
         return None;
     }
-    let slot = memory[at]?;
-    match last_known(slot.last, place) {
-        Some(known) => {
-            if !is_same(slot.expr, expr) {
-                return None;
-            }
-            Some(known)
-        }
-        None => {
-            let known = last_known(slot.last_before, place)?;
-            if !is_same(slot.expr, expr) {
-                return None;
-            }
-            Some(known)
-        }
-    }
+    Some(known)
 }
 
 /// Whether the answer named the same extent, or none as well.
@@ -157,80 +126,77 @@ fn names(known: Option<Found>, extent: Option<Extent>) -> bool {
     }
 }
 
-/// The slot with a new first extent; a new one, if the slot is another expression's.
-fn with_first<'a>(slot: Option<Slot<'a>>, expr: &'a Expr, found: Found) -> Slot<'a>
-    ensures { (lists : List TermList) (frame : Range) → MatchOption slot.entry ⊤ (IsRight lists frame)
-        → IsFirstOf (region_of expr.now) lists frame found.place found.extent → IsRight lists frame result }
+/// The answers with a new one, in place of the last one where that named the same extent.
+fn with_answer(answers: Answers, found: Found) -> Answers
+    ensures { (direction : Direction) (n : ℕ) (set : Extent → Bool) → AreAnswers direction n set answers
+        → IsNearestIn direction n set found.place found.extent → AreAnswers direction n set result }
 {
-    let fresh = Slot {
-        expr,
-        first: Some(found),
-        first_before: None,
-        last: None,
-        last_before: None,
-    };
-    let Some(slot) = slot else {
-        return fresh;
-    };
-    if !is_same(slot.expr, expr) {
-        return fresh;
-    }
-    if names(slot.first, found.extent) {
-        return Slot {
-            expr: slot.expr,
-            first: Some(found),
-            first_before: slot.first_before,
-            last: slot.last,
-            last_before: slot.last_before,
-        };
-    }
-    Slot {
-        expr: slot.expr,
-        first: Some(found),
-        first_before: slot.first,
-        last: slot.last,
-        last_before: slot.last_before,
-    }
-}
-
-/// The slot with a new last extent; a new one, if the slot is another expression's.
-fn with_last<'a>(slot: Option<Slot<'a>>, expr: &'a Expr, found: Found) -> Slot<'a>
-    ensures { (lists : List TermList) (frame : Range) → MatchOption slot.entry ⊤ (IsRight lists frame)
-        → IsLastOf (region_of expr.now) lists frame found.place found.extent → IsRight lists frame result }
-{
-    let fresh = Slot {
-        expr,
-        first: None,
-        first_before: None,
-        last: Some(found),
-        last_before: None,
-    };
-    let Some(slot) = slot else {
-        return fresh;
-    };
-    if !is_same(slot.expr, expr) {
-        return fresh;
-    }
-    if names(slot.last, found.extent) {
-        return Slot {
-            expr: slot.expr,
-            first: slot.first,
-            first_before: slot.first_before,
+    if names(answers.last, found.extent) {
+        return Answers {
             last: Some(found),
-            last_before: slot.last_before,
+            before: answers.before,
         };
     }
-    Slot {
-        expr: slot.expr,
-        first: slot.first,
-        first_before: slot.first_before,
+    Answers {
         last: Some(found),
-        last_before: slot.last,
+        before: answers.last,
     }
 }
 
-/// Remembers the first extent of the expression from the place on, if there is a slot for it.
-pub fn note_first<'a>(
+/// The slot, if it is the expression's; else a new one that has no answers.
+fn slot_of<'a>(slot: Option<Slot<'a>>, expr: &'a Expr) -> Slot<'a>
+    ensures expr { region_of result.expr.now ≡ region_of expr.now }
+    ensures right { (lists : List TermList) (frame : Range) → MatchOption slot.entry ⊤ (IsRight lists frame)
+        → IsRight lists frame result }
+{
+    let none = Answers {
+        last: None,
+        before: None,
+    };
+    let fresh = Slot {
+        expr,
+        forward: none,
+        backward: none,
+    };
+    match slot {
+        Some(slot) => {
+            if is_same(slot.expr, expr) {
+                return slot;
+            }
+            fresh
+        }
+        None => fresh,
+    }
+}
+
+/// The slot with a new answer; a new one, if the slot is another expression's.
+fn with_found<'a>(
+    direction: Direction,
+    slot: Option<Slot<'a>>,
+    expr: &'a Expr,
+    found: Found,
+) -> Slot<'a>
+    ensures { (lists : List TermList) (frame : Range) → MatchOption slot.entry ⊤ (IsRight lists frame)
+        → IsNearestOf direction (region_of expr.now) lists frame found.place found.extent → IsRight lists frame result }
+{
+    let slot = slot_of(slot, expr);
+    match direction {
+        Direction::Forward => Slot {
+            expr: slot.expr,
+            forward: with_answer(slot.forward, found),
+            backward: slot.backward,
+        },
+        Direction::Backward => Slot {
+            expr: slot.expr,
+            forward: slot.forward,
+            backward: with_answer(slot.backward, found),
+        },
+    }
+}
+
+/// Remembers the nearest extent of the expression from the place on, if there is a slot for it.
+pub fn note<'a>(
+    direction: Direction,
     memory: &mut [Option<Slot<'a>>],
     at: usize,
     expr: &'a Expr,
@@ -238,27 +204,10 @@ pub fn note_first<'a>(
     extent: Option<Extent>,
 )
     ensures { (lists : List TermList) (frame : Range) → AreRight lists frame memory.old
-        → IsFirstOf (region_of expr.now) lists frame place extent → AreRight lists frame memory.new }
+        → IsNearestOf direction (region_of expr.now) lists frame place extent → AreRight lists frame memory.new }
 {
     if at < memory.len() {
-        let slot = with_first(memory[at], expr, Found { place, extent });
-        memory[at] = Some(slot);
-    }
-}
-
-/// Remembers the last extent of the expression up to the place, if there is a slot for it.
-pub fn note_last<'a>(
-    memory: &mut [Option<Slot<'a>>],
-    at: usize,
-    expr: &'a Expr,
-    place: u64,
-    extent: Option<Extent>,
-)
-    ensures { (lists : List TermList) (frame : Range) → AreRight lists frame memory.old
-        → IsLastOf (region_of expr.now) lists frame place extent → AreRight lists frame memory.new }
-{
-    if at < memory.len() {
-        let slot = with_last(memory[at], expr, Found { place, extent });
+        let slot = with_found(direction, memory[at], expr, Found { place, extent });
         memory[at] = Some(slot);
     }
 }

@@ -1,18 +1,39 @@
 //! The access functions of an expression that has no operator, in one frame.
 ghost use Rattle.std.specs.Prelude.{◌∷◌, [], ◌<◌, ◌≤◌, MatchOption};
+ghost use Rattle.wu_cursor.specs.Memory.{IsNearestOf};
 ghost use Rattle.wu_cursor.specs.Within.{set_in, IsFirst, NoneStarts, IsLast, NoneEnds, IsFirstEnd, IsLastStart, IsOperand};
 ghost use Rattle.wu_gcl.specs.declared.expressions.Op.TheVariants.{FollowedBy};
 ghost use Rattle.wu_gcl.specs.Regions.{region_of, Phrase, Mark, Window, Both};
 ghost use Rattle.wu_solve.specs.Addresses.{AreLists};
 ghost use Rattle.wu_solve.specs.Solving.{IsFrame};
 
+use crate::directions::Direction;
 use crate::phrases::{first_standing, last_standing};
 use crate::places::{first_place, last_place};
 use wu_base::{Bytes, Extent, Range, TermList};
 use wu_gcl::{Expr, Tag, tag_bytes};
 
+/// The nearest extent of an expression that has no operator.
+pub fn operand(
+    direction: Direction,
+    expr: &Expr,
+    lists: &[TermList],
+    frame: Range,
+    place: u64,
+) -> Option<Extent>
+    requires operand { IsOperand (region_of expr.now) }
+    requires lists { AreLists lists.now }
+    requires frame { IsFrame frame }
+    ensures { IsNearestOf direction (region_of expr.now) lists.now frame place result }
+{
+    match direction {
+        Direction::Forward => first_operand(expr, lists, frame, place),
+        Direction::Backward => last_operand(expr, lists, frame, place),
+    }
+}
+
 /// The first extent of the expression in the frame that starts at the place `from` or after it.
-pub fn first_operand(expr: &Expr, lists: &[TermList], frame: Range, from: u64) -> Option<Extent>
+fn first_operand(expr: &Expr, lists: &[TermList], frame: Range, from: u64) -> Option<Extent>
     requires operand { IsOperand (region_of expr.now) }
     requires lists { AreLists lists.now }
     requires frame { IsFrame frame }
@@ -30,7 +51,7 @@ pub fn first_operand(expr: &Expr, lists: &[TermList], frame: Range, from: u64) -
 }
 
 /// The last extent of the expression in the frame that ends at the place `to` or before it.
-pub fn last_operand(expr: &Expr, lists: &[TermList], frame: Range, to: u64) -> Option<Extent>
+fn last_operand(expr: &Expr, lists: &[TermList], frame: Range, to: u64) -> Option<Extent>
     requires operand { IsOperand (region_of expr.now) }
     requires lists { AreLists lists.now }
     requires frame { IsFrame frame }

@@ -1,26 +1,17 @@
-use Rattle.std.proofs.Common.{◌-◌, ◌≤◌}
 use Rattle.wu_gcl.specs.Regions.{region_of}
+use Rattle.wu_cursor.specs.Directions.{Reaches}
 use Rattle.wu_cursor.specs.Memory.{AreRight}
 use Rattle.wu_cursor.specs.Within.{set_in}
-use Rattle.wu_cursor.proofs.Kept.{ArePassed, ArePassedBack}
+use Rattle.wu_cursor.proofs.Kept.{ArePassed}
+use Rattle.wu_cursor.proofs.Orders.{left_below}
 use Rattle.wu_cursor.proofs.access.+access.Given as goal
 
-abbrev pub invariant-first_sought-loop-known : goal.invariant-first_sought-loop-known
-invariant-first_sought-loop-known l = record {
+abbrev pub invariant-sought-loop-known : goal.invariant-sought-loop-known
+invariant-sought-loop-known l = record {
   memory : AreRight l.lists l.frame l.memory;
-  low : l.from ≤ l.place;
-  passed : ArePassed l.frame.len (set_in (region_of l.expr) l.lists l.frame) l.from l.place;
+  on : Reaches l.direction l.place l.from;
+  passed : ArePassed l.direction l.frame.len (set_in (region_of l.expr) l.lists l.frame) l.place l.from;
 }
 
-abbrev pub decreases-first_sought-loop-known : goal.decreases-first_sought-loop-known
-decreases-first_sought-loop-known l = l.frame.len - l.place
-
-abbrev pub invariant-last_sought-loop-known : goal.invariant-last_sought-loop-known
-invariant-last_sought-loop-known l = record {
-  memory : AreRight l.lists l.frame l.memory;
-  high : l.place ≤ l.to;
-  passed : ArePassedBack l.frame.len (set_in (region_of l.expr) l.lists l.frame) l.to l.place;
-}
-
-abbrev pub decreases-last_sought-loop-known : goal.decreases-last_sought-loop-known
-decreases-last_sought-loop-known l = l.place
+abbrev pub decreases-sought-loop-known : goal.decreases-sought-loop-known
+decreases-sought-loop-known l = left_below l.direction l.frame.len l.from
