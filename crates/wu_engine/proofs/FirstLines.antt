@@ -149,12 +149,15 @@ lines_done k shown files lines all enough is =
       nothing (inl full) = ap (λ (n : ℕ). take n (flat_map lines files)) full
       nothing (inr last) = ap (λ (fs : List Seen). take (k - length shown) (flat_map lines fs)) last ∙ none_of (k - length shown)
 
+pub none_to_show : (k : ℕ) (shown : List FindLine) (files : List Seen) (hits : Seen → ℕ) (text : Seen → List ReadRange)
+    → IsEnough k shown files → texts_shown hits text (k - length shown) files ≡ []
+none_to_show k shown files hits text (inl full) = ap (λ (n : ℕ). texts_shown hits text n files) full ∙ no_texts hits text files
+none_to_show k shown files hits text (inr last) = ap (texts_shown hits text (k - length shown)) last
+
 pub texts_done : (k : ℕ) (shown : List FindLine) (files : List Seen) (hits : Seen → ℕ) (text : Seen → List ReadRange)
     (now all : Option (List ReadRange)) → IsEnough k shown files
     → option_map (λ ranges. ranges ++ texts_shown hits text (k - length shown) files) now ≡ all → now ≡ all
 texts_done k shown files hits text now all enough is =
     ranges-none now
-    ∙ ap (λ (texts : List ReadRange). option_map (λ (ranges : List ReadRange). ranges ++ texts) now) (sym (nothing enough)) ∙ is where
-      nothing : IsEnough k shown files → texts_shown hits text (k - length shown) files ≡ []
-      nothing (inl full) = ap (λ (n : ℕ). texts_shown hits text n files) full ∙ no_texts hits text files
-      nothing (inr last) = ap (texts_shown hits text (k - length shown)) last
+    ∙ ap (λ (texts : List ReadRange). option_map (λ (ranges : List ReadRange). ranges ++ texts) now)
+    (sym (none_to_show k shown files hits text enough)) ∙ is

@@ -1,5 +1,5 @@
 -- The lines that are shown of a user's files, by what is recorded and held of their texts, are those of her view.
-use Rattle.std.proofs.Common.{◌≡◌, ◌==◌, ℕ, suc, ◌+◌, ◌-◌, ◌<◌, Bool, true, false, not, cond, List, [], ◌∷◌, ◌++◌, length, take, map, min, refl, sym, ap, ap₂, ◌∙◌, subst, arith, inl, inr}
+use Rattle.std.proofs.Common.{◌≡◌, ◌==◌, ℕ, suc, ◌+◌, ◌-◌, ◌<◌, Bool, true, false, not, cond, List, [], ◌∷◌, ◌++◌, length, take, map, min, refl, sym, ap, ap₂, ◌∙◌, subst, arith}
 use Rattle.std.proofs.Math.Dec.{eqb-suc-zero}
 use Rattle.std.proofs.Math.Logic.{∥∥₁_elim}
 use Rattle.std.specs.Coded.{Coded-set, coded_bool, coded_ℕ, Π_prop, →_prop}
@@ -286,39 +286,6 @@ module _ (frames : Frames) (live : Ranges) (s : State) (uid : ℕ) (is : Indexes
 
 -- ---- what is read, whatever the state
 
-text_is_of : (files : Records) (ino : ℕ) → AllByRecursion (IsTextOf files) (text_recorded (record_at files ino))
-text_is_of [] ino = tt
-text_is_of (file ∷ files) ino =
-    elim (is_at (nat_cmp ino) file.0) as
-    (λ b. AllByRecursion (IsTextOf (file ∷ files)) (text_recorded (cond b (Some file.1) (record_at files ino)))) [
-      | true ↦ elim (file.1.blob == 0) as
-          (λ b. (file.1.blob == 0) ≡ b
-          → AllByRecursion (IsTextOf (file ∷ files)) (cond b [] (record { blob = file.1.blob; at = 0; len = file.1.len } ∷ []))) [
-            | true ↦ λ e. tt
-            | false ↦ λ e. (inl (ap (λ (b : Bool). cond b [] (record { blob = file.1.blob; at = 0; len = file.1.len } ∷ [])) e), tt)
-          ] refl
-      | false ↦ weaken (text_recorded (record_at files ino)) (text_is_of files ino)
-    ] where
-      weaken : (ranges : List ReadRange) → AllByRecursion (IsTextOf files) ranges → AllByRecursion (IsTextOf (file ∷ files)) ranges
-      weaken [] all = tt
-      weaken (range ∷ ranges) all = (inr all.0, weaken ranges all.1)
-
-both_texts : (files : Records) (xs ys : List ReadRange) → AllByRecursion (IsTextOf files) xs → AllByRecursion (IsTextOf files) ys
-    → AllByRecursion (IsTextOf files) (xs ++ ys)
-both_texts files [] ys a b = b
-both_texts files (x ∷ xs) ys a b = (a.0, both_texts files xs ys a.1 b)
-
-texts_are_of : (files : Records) (hits : Seen → ℕ) (k : ℕ) (view : List Seen)
-    → AllByRecursion (IsTextOf files) (texts_shown hits (text_at files) k view)
-texts_are_of files hits k [] = tt
-texts_are_of files hits k (file ∷ view) =
-    both_texts files (cond (nat_lt 0 (min k (hits file))) (text_at files file) []) (texts_shown hits (text_at files) (k - hits file) view)
-    (elim (nat_lt 0 (min k (hits file))) as (λ b. AllByRecursion (IsTextOf files) (cond b (text_at files file) [])) [
-      | true ↦ text_is_of files file.ino
-      | false ↦ tt
-    ])
-    (texts_are_of files hits (k - hits file) view)
-
 none_shown : (files : Records) (hits : Seen → ℕ) (k : ℕ) (view : List Seen) → k ≡ 0 → texts_shown hits (text_at files) k view ≡ []
 none_shown files hits k [] none = refl
 none_shown files hits k (file ∷ view) none =
@@ -327,9 +294,10 @@ none_shown files hits k (file ∷ view) none =
     ap (λ (n : ℕ). cond (nat_lt 0 n) (text_at files file) [] ++ texts_shown hits (text_at files) (k - hits file) view) least
     ∙ none_shown files hits (k - hits file) view left
 
-pub are_texts : (files : Records) (region : Region) (lists : List TermList) (k : ℕ) (view : List Seen)
-    → AreTexts files (Finding k region) (texts_shown (hits_at files region lists) (text_at files) k view)
-are_texts files region lists k view = record {
-  of_files = texts_are_of files (hits_at files region lists) k view;
+pub are_texts : (holds : Option Content) (files : Records) (region : Region) (lists : List TermList) (k : ℕ) (view : List Seen)
+    → AllByRecursion (IsTextOf holds files) (texts_shown (hits_at files region lists) (text_at files) k view)
+    → AreTexts holds files (Finding k region) (texts_shown (hits_at files region lists) (text_at files) k view)
+are_texts holds files region lists k view whole = record {
+  of_files = whole;
   none = none_shown files (hits_at files region lists) k view;
 }

@@ -1,15 +1,14 @@
 -- What an engine records stays sound through flushes and events, and memory is that of some postings.
-use Rattle.std.proofs.Common.{◌≡◌, ◌⊎◌, inl, inr, ⊎_elim, ℕ, ◌+◌, ◌≤◌, ◌<◌, ◌==◌, Bool, true, false, cond, List, [], ◌∷◌, ◌++◌, length, map, refl, ap, sym, ◌∙◌, subst, arith, length-append}
-use Rattle.std.specs.Prelude.{Option, Some, None, IfSome, count_by, nat_le, option_map, zip}
+use Rattle.std.proofs.Common.{◌≡◌, ◌⊎◌, inl, inr, ℕ, ◌+◌, ◌≤◌, ◌<◌, ◌==◌, Bool, true, false, cond, List, [], ◌∷◌, ◌++◌, length, map, refl, ap, sym, ◌∙◌, subst, arith, length-append}
+use Rattle.std.specs.Prelude.{Option, Some, None, IfSome, nat_le, option_map, zip}
 use Rattle.std.specs.List.{AllByRecursion}
-use Rattle.std.proofs.lemmas.Bool.{cases_eq}
 use Rattle.std.proofs.lemmas.List.{map-append}
 use Rattle.wu_base.specs.declared.addresses.PartRec.{PartRec}
 use Rattle.wu_base.specs.declared.addresses.Range.{Range}
 use Rattle.wu_base.specs.declared.addresses.TermList.{TermList}
 use Rattle.wu_outside.specs.Content.{Content, with_blob}
 use Rattle.wu_layout.specs.Invariants.{BlobsAreDistinct}
-use Rattle.wu_layout.specs.Layouts.{FileEntry, Part}
+use Rattle.wu_layout.specs.Layouts.{FileEntry}
 use Rattle.wu_layout.specs.Postings.{Posting, live_of, placed_from}
 use Rattle.wu_layout.proofs.Flushes.{blobs_after_flush}
 use Rattle.wu_layout.proofs.EachLemmas.{each-append}

@@ -40,6 +40,7 @@ pub mod ReadTexts
 pub mod FoundExtents
 pub mod FoundLines
 pub mod FirstLines
+pub mod WholeTexts
 pub mod FilesWithExtents
 pub mod QueryReads
 pub mod QueryStands
@@ -65,3 +66,6 @@ pub mod SavedStates
 pub mod SavedEngines
 pub mod GoingSaves
 pub mod GoingAtFirst
+pub mod LeftImages
+pub mod StoppedSaves
+pub mod SavedCrashes

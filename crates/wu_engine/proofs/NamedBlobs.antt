@@ -4,7 +4,7 @@ use Rattle.std.specs.Prelude.{IsSome, nat_le}
 use Rattle.std.specs.List.{AllByRecursion}
 use Rattle.std.specs.Ordering.{nat_cmp}
 use Rattle.std.specs.List.Sorted.{IsStrictlySortedBy}
-use Rattle.std.specs.Map.{keys_of, lookup, remove_entry}
+use Rattle.std.specs.Map.{keys_of}
 use Rattle.std.specs.BTreeMap.{is_at, insert_entry}
 use Rattle.std.proofs.lemmas.Bool.{cases_eq, cases_lt, eq-eqb, false≢true, ne_eqb}
 use Rattle.std.proofs.lemmas.Map.{none_passes_from_lookup}

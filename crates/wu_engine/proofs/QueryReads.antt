@@ -58,7 +58,7 @@ pub reads_for : (fs : FileSystem) (live : Ranges) (uid : ℕ) (question : Questi
     (holds : Option Content) (before after : Option (List ReadRange)) (frames : Frames) → AreFrames fs live uid frames
     → ReadsInTurn (blocks_for contents frames.ranges (terms_asked question)) (AreTextsOf frames contents files holds question) holds
     contents.kept kept before after
-    → ReadsForQuery fs live uid question contents kept (λ texts. AreTexts files question texts × ((s : State) → fs ≡ s.tree
+    → ReadsForQuery fs live uid question contents kept (λ texts. AreTexts holds files question texts × ((s : State) → fs ≡ s.tree
     → IsIndexOf live s → TellsPostings contents holds s → KeepsTexts files holds s → texts ≡ texts_read s uid question)) holds before after
 reads_for fs live uid question contents kept files holds before after frames hers reads = record {
   frames = frames;

@@ -87,10 +87,10 @@ module _ (engine : Engine) (holds : Option Content) (s : State) (stands : Stands
 -- the texts are those of every state that engine and store stand for
 pub reads_of_engine : (engine : Engine) (holds : Option Content) (uid : ℕ) (question : Question) (kept : Kept)
     (before after : Option (List ReadRange))
-    → ReadsForQuery engine.tree engine.space.ranges uid question engine.parts kept (λ texts. AreTexts engine.files.entries question texts
+    → ReadsForQuery engine.tree engine.space.ranges uid question engine.parts kept (λ texts. AreTexts holds engine.files.entries question texts
     × ((s : State) → engine.tree ≡ s.tree → IsIndexOf engine.space.ranges s → TellsPostings engine.parts holds s
     → KeepsTexts engine.files.entries holds s → texts ≡ texts_read s uid question)) holds before after
-    → ReadsForQuery engine.tree engine.space.ranges uid question engine.parts kept (λ texts. AreTexts engine.files.entries question texts
+    → ReadsForQuery engine.tree engine.space.ranges uid question engine.parts kept (λ texts. AreTexts holds engine.files.entries question texts
     × ((s : State) → Stands engine holds s → texts ≡ texts_read s uid question)) holds before after
 reads_of_engine engine holds uid question kept before after r = record {
   frames = r.frames;

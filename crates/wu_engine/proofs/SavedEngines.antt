@@ -43,7 +43,7 @@ abbrev checked : State → State
 checked s = record s { layout = checkpointed s.layout }
 
 -- the parts after a save that follows the flush
-abbrev contents_saved : Contents → Contents
+abbrev pub contents_saved : Contents → Contents
 contents_saved contents = record contents { next_blob = contents.next_blob + 1; stale = [] }
 
 abbrev root_for : ℕ → Contents → Addresses → Root
@@ -226,21 +226,21 @@ module _ (old : Engine) (blob : ℕ) (parts : Contents) (s : State) (before afte
   abbrev between : State
   between = flushed_state s
 
-  both : IsEngineOf old.tree old.space saves.flushed old.files.entries between × IsStored saves.between.0 saves.flushed between
+  pub both : IsEngineOf old.tree old.space saves.flushed old.files.entries between × IsStored saves.between.0 saves.flushed between
   both =
       flush_stands old.tree old.space old.parts old.files.entries s stands.index saves.flushed before saves.between
       (record { texts = stands.texts; parts = stands.parts; job = stands.job; kept = stands.kept }) saves.flush
 
-  abbrev index : IsEngineOf old.tree old.space saves.flushed old.files.entries between
+  abbrev pub index : IsEngineOf old.tree old.space saves.flushed old.files.entries between
   index = both.0
 
-  told : (content : Content) × (saves.between.0 ≡ Some content)
+  pub told : (content : Content) × (saves.between.0 ≡ Some content)
   told = told_so saves.between.0 s.texts (flush s.layout).files both.1.texts
 
   stored : IsStored (Some told.0) saves.flushed between
   stored = subst (λ (o : Option Content). IsStored o saves.flushed between) told.1 both.1
 
-  check_same : old.checkpoint ≡ (flush s.layout).check
+  pub check_same : old.checkpoint ≡ (flush s.layout).check
   check_same = stands.check ∙ sym (rises-flush s.layout).check
 
   abbrev after_it : Content

@@ -7,7 +7,7 @@ use Rattle.wu_base.specs.declared.addresses.Range.{Range}
 use Rattle.wu_base.specs.declared.addresses.PartRec.{PartRec}
 use Rattle.wu_base.specs.declared.limits.TheConstants.{GENERATION_MAX}
 use Rattle.wu_outside.specs.Content.{Content}
-use Rattle.wu_layout.specs.Postings.{Posting, Ascend, is_in, live_of, placed_from}
+use Rattle.wu_layout.specs.Postings.{Posting, Ascend, live_of}
 use Rattle.wu_layout.specs.Layouts.{FileEntry, Layout, Part, Text, first_address, homes_of, last_address, ranges_by_number, ranges_of, stored_in}
 use Rattle.wu_layout.specs.Invariants.{HasText, IsLayoutOf, SomeOf, flushes_for}
 use Rattle.wu_layout.specs.Invariants.{NeverRise as NeverRiseIn}
@@ -15,7 +15,7 @@ use Rattle.wu_layout.proofs.GenerationLemmas.{AreUpTo}
 use Rattle.wu_layout.proofs.KeptLemmas.{length-live_of}
 use Rattle.wu_layout.proofs.LiveCounts.{IsSpan, bounds_of_home, live_in_part, shared, span_of}
 use Rattle.wu_layout.proofs.LiveCounts.{SpansAscend as SpansAscendIn}
-use Rattle.wu_layout.proofs.PostingLemmas.{Ascend-filter, Ascend-split, length-placed}
+use Rattle.wu_layout.proofs.PostingLemmas.{Ascend-split, length-placed}
 use Rattle.wu_part.specs.Directories.{PartDirectory}
 use Rattle.wu_part.proofs.ReadingLemmas.{numbers_length}
 use Rattle.wu_parts.specs.Holdings.{HoldParts, HoldsPart}

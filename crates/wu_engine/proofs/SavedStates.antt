@@ -86,7 +86,7 @@ memory_flushed layout = none_left (live_of (ranges_of layout.files) layout.memor
 
 -- ---- who is counted is there
 
-counted : {X : Type 0} (blob_of : X → ℕ) (x : X) (xs : List X) → Has x xs → 1 ≤ count_by (λ y. blob_of y == blob_of x) xs
+pub counted : {X : Type 0} (blob_of : X → ℕ) (x : X) (xs : List X) → Has x xs → 1 ≤ count_by (λ y. blob_of y == blob_of x) xs
 counted {X} blob_of x xs has =
     let one : cond {A = ℕ} (blob_of x == blob_of x) 1 0 ≡ 1 = ap (λ (b : Bool). cond {A = ℕ} b 1 0) (eq-eqb (blob_of x) (blob_of x) refl) in
     omega (arith, sum_has (λ (y : X). cond {A = ℕ} (blob_of y == blob_of x) 1 0) x xs has)
@@ -111,7 +111,7 @@ module _ (layout : Layout) (d : BlobsAreDistinct layout.blob layout.files layout
       (λ h. rw (ne_eqb check 0 h) (omega (arith, count-cons (λ (other : ℕ). other == number) check [])))
       (cases_eq check 0)
 
-  gone_counted : (number : ℕ) → 0 < number
+  pub gone_counted : (number : ℕ) → 0 < number
       → count_by (λ other. other == number) gone ≡ once layout.check number + count_by (λ other. other == number) layout.stale
   gone_counted number l =
       omega (

@@ -126,6 +126,6 @@ pub record KeepsTexts (files : Records) (holds : Option Content) (s : State) : T
 -- They are texts of these files. Where frames, postings and texts are a state's, they are those of the files of which a line is shown.
 pub record AreTextsOf (frames : Frames) (contents : Contents) (files : Records) (holds : Option Content) (question : Question)
     (texts : List ReadRange) : Type 0 where
-  pub are : AreTexts files question texts
+  pub are : AreTexts holds files question texts
   pub shown : (live : Ranges) (s : State) (uid : ℕ) → Indexes frames live s uid → TellsPostings contents holds s → KeepsTexts files holds s
       → texts ≡ texts_read s uid question

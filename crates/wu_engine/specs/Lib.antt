@@ -13,6 +13,7 @@ pub mod Stands
 pub mod Reports
 pub mod Causes
 pub mod Opening
+pub mod Crashes
 pub mod Saving
 pub mod Naming
 pub mod Permitted
@@ -20,6 +21,7 @@ pub mod Going
 -- ---- What only private functions and proofs need
 
 pub mod Indexing
+pub mod Renewing
 pub mod Units
 pub mod Finding
 pub mod Opened

@@ -1,15 +1,17 @@
 -- Which ranges of the store a query reads: blocks of its terms, and then the texts of the files of which a line is shown.
-use Rattle.std.specs.Prelude.{◌≡◌, ⊤, ℕ, ◌-◌, ◌==◌, nat_lt, min, List, [], ◌∷◌, ◌++◌, length, Option, None, Some, option_map, if◌then◌else◌}
+use Rattle.std.specs.Prelude.{◌≡◌, ⊤, ℕ, ◌-◌, ◌==◌, nat_lt, min, List, [], ◌∷◌, ◌++◌, length, Option, None, Some, IfSome, option_map, if◌then◌else◌}
 use Rattle.std.specs.List.{AllByRecursion}
 use Rattle.wu_outside.specs.declared.ranges.ReadRange.{ReadRange}
 use Rattle.wu_outside.specs.Content.{Content}
 use Rattle.wu_layout.specs.Invariants.{SomeOf}
 use Rattle.wu_layout.specs.Layouts.{FileEntry, entry_of}
+use Rattle.wu_image.specs.declared.records.FileRec.{FileRec}
 use Rattle.wu_lists.specs.declared.blocks.Block.{Block}
 use Rattle.wu_lists.specs.Keeping.{Asks, Kept}
 use Rattle.wu_view.specs.declared.Seen.{Seen}
 use Rattle.wu_view.specs.Views.{view_of as files_of}
 use Rattle.wu_ask.specs.Questions.{Question, Counting, Finding, Ranking, ListingPaths}
+use Rattle.wu_token.specs.Tokens.{tokens_of}
 use Rattle.wu_tree.specs.FileSystems.{FileSystem}
 use Rattle.wu_space.specs.Addresses.{Ranges}
 use Rattle.wu_parts.specs.Contents.{Contents}
@@ -56,13 +58,22 @@ ShowsNoText (Finding k region) = k ≡ 0
 ShowsNoText (Ranking k unit words) = ⊤
 ShowsNoText ListingPaths = ⊤
 
--- the range is all of the recorded text of one of the files
-abbrev pub IsTextOf : Records → ReadRange → Type 0
-IsTextOf files range = SomeOf (λ file. whole_text file.1.blob file.1.len ≡ range ∷ []) files
+-- the text is there, as long as was recorded, and has as many tokens as the range of its file is long
+abbrev pub IsWholeText : FileRec → Option (List ℕ) → Type 0
+IsWholeText file None = ⊥
+IsWholeText file (Some text) = (length text ≡ file.len) × (length (tokens_of text) ≡ file.range.len)
+
+-- a store that tells what it holds has the text so
+abbrev pub HasWholeText : Option Content → FileRec → Type 0
+HasWholeText holds file = IfSome holds (λ content. IsWholeText file (content.blobs file.blob))
+
+-- the range is all of the recorded text of one of the files, which the store has as it was recorded
+abbrev pub IsTextOf : Option Content → Records → ReadRange → Type 0
+IsTextOf holds files range = SomeOf (λ file. (whole_text file.1.blob file.1.len ≡ range ∷ []) × HasWholeText holds file.1) files
 
 -- texts of files, and none where the question has none shown
-pub record AreTexts (files : Records) (question : Question) (texts : List ReadRange) : Type 0 where
-  pub of_files : AllByRecursion (IsTextOf files) texts
+pub record AreTexts (holds : Option Content) (files : Records) (question : Question) (texts : List ReadRange) : Type 0 where
+  pub of_files : AllByRecursion (IsTextOf holds files) texts
   pub none : ShowsNoText question → texts ≡ []
 
 -- The blocks were asked for in turn, so that those that weren't kept were read, and then such texts were read.

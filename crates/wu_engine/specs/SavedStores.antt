@@ -1,6 +1,6 @@
 -- What a save does, call by call.
 use Rattle.std.specs.Prelude.{◌≡◌, ◌⊎◌, ℕ, ◌+◌, List, [], ◌∷◌, Option, None, Some, length, map, option_map}
-use Rattle.wu_outside.specs.Content.{Content, with_blob, with_root}
+use Rattle.wu_outside.specs.Content.{Content, MayDo, with_blob, with_root}
 use Rattle.wu_outside.specs.Crash.{Moments, Put, Remove, SetRoot, settle, try_change}
 use Rattle.wu_layout.specs.Postings.{Posting, live_of}
 use Rattle.wu_tree.specs.FileSystems.{FileSystem}
@@ -90,3 +90,75 @@ pub record Saves (tree : FileSystem) (space : Addresses) (files : Records) (chec
       ≡ all_done try_removal (removed_by_save flushed checkpoint)
       (option_map settle (option_map (try_change (SetRoot root) (with_root root))
       (option_map settle (option_map (try_change (Put flushed.next_blob) (with_blob flushed.next_blob (Some bytes))) between.1))))
+
+-- ---- a save that fails
+
+-- A put of that blob was tried: it has some bytes, or is absent, or nothing was changed.
+pub record TriesPut (blob : ℕ) (before after : Told) : Type 0 where
+  pub held : (written : Option (List ℕ)) × MayDo (with_blob blob written) before.0 after.0
+  pub tried : (written : Option (List ℕ)) × MayDo (try_change (Put blob) (with_blob blob written)) before.1 after.1
+
+-- A new root was tried: it is set, or nothing was changed.
+pub record TriesRoot (root : List ℕ) (before after : Told) : Type 0 where
+  pub held : MayDo (with_root root) before.0 after.0
+  pub tried : MayDo (try_change (SetRoot root) (with_root root)) before.1 after.1
+
+-- Some of these blobs were removed, the first ones.
+pub record TriesRemovals (gone : List ℕ) (before after : Told) : Type 0 where
+  pub held : SomeDone remove_blob gone before.0 after.0
+  pub tried : SomeDone try_removal gone before.1 after.1
+
+-- the checkpoint's bytes were put into the blob, and that was synced
+abbrev pub put_and_synced : ℕ → List ℕ → Told → Told
+put_and_synced blob bytes told = (
+  option_map (with_blob blob (Some bytes)) told.0,
+  option_map settle (option_map (try_change (Put blob) (with_blob blob (Some bytes))) told.1),
+)
+
+-- the root was set, and that was synced
+abbrev pub set_and_synced : List ℕ → Told → Told
+set_and_synced root told = (
+  option_map (with_root root) told.0,
+  option_map settle (option_map (try_change (SetRoot root) (with_root root)) told.1),
+)
+
+-- Memory was flushed.
+pub record IsFlushed (space : Addresses) (old : Contents) (before : Told) : Type 0 where
+  pub flushed : Contents
+  pub between : Told
+  pub flush : (low high : ℕ) (postings : List Posting) → HasPostings low high old.memory postings
+      → Flushes (live_of (map (λ file. file.1) space.ranges) postings) old flushed before between
+  pub changes : EmptiesMemory old flushed
+
+-- Then the checkpoint and the root that names it were spelled.
+pub record IsPrepared (tree : FileSystem) (space : Addresses) (files : Records) (old : Contents) (before : Told) : Type 0 where
+  pub first : IsFlushed space old before
+  pub bytes : List ℕ
+  pub spelled : IsSpelledOf tree space files (with_drawn first.flushed) bytes
+  pub root : List ℕ
+  pub root_spelled : SpellsRoot (record {
+    checkpoint = first.flushed.next_blob;
+    size = length bytes;
+    next_address = space.next;
+    next_blob = first.flushed.next_blob + 1;
+  }) root
+
+-- what the store tells after the checkpoint was put and synced, and after the root was set and synced
+abbrev pub with_checkpoint : {tree : FileSystem} {space : Addresses} {files : Records} {old : Contents} {before : Told}
+    → IsPrepared tree space files old before → Told
+with_checkpoint prepared = put_and_synced prepared.first.flushed.next_blob prepared.bytes prepared.first.between
+
+abbrev pub with_new_root : {tree : FileSystem} {space : Addresses} {files : Records} {old : Contents} {before : Told}
+    → IsPrepared tree space files old before → Told
+with_new_root prepared = set_and_synced prepared.root (with_checkpoint prepared)
+
+-- How far a save came that failed: the flush's put was tried, or not even that; or memory was flushed, and the checkpoint's put was tried,
+-- or not even that; or the checkpoint was put and synced, and the root was tried; or the root was set and synced, and some of what is no
+-- longer needed was removed.
+abbrev pub StopsSave : FileSystem → Addresses → Records → ℕ → Contents → Told → Told → Type 0
+StopsSave tree space files checkpoint old before after =
+    TriesPut old.next_blob before after
+    ⊎ (((first : IsFlushed space old before) × TriesPut first.flushed.next_blob first.between after)
+    ⊎ (((prepared : IsPrepared tree space files old before) × TriesRoot prepared.root (with_checkpoint prepared) after)
+    ⊎ ((prepared : IsPrepared tree space files old before)
+    × TriesRemovals (removed_by_save prepared.first.flushed checkpoint) (with_new_root prepared) after)))

@@ -35,6 +35,7 @@ pub fn count<D: Store>(
         parts.old.kept parts.new.kept (D.reads store.old) (D.reads store.new)) }
     ensures others { parts.new ≡ record parts.old { kept = parts.new.kept } }
     ensures holds { D.holds store.new ≡ D.holds store.old }
+    ensures moments { D.moments store.new ≡ D.moments store.old }
     ensures calm { OnOk result (D.faults store.new ≡ D.faults store.old) }
     ensures cause { IfErr result (IsCauseFor parts.old frames.now.ranges (named_in (region_of expr.now)) (D.holds store.old)
         (D.faults store.old) (D.faults store.new) (D.reads store.old) (D.reads store.new)) }

@@ -5,6 +5,7 @@ ghost use Rattle.wu_base.specs.declared.reports.Worked.TheVariants.{Idle};
 ghost use Rattle.wu_base.specs.declared.troubles.Trouble.TheVariants.{Damaged};
 ghost use Rattle.wu_outside.specs.Content.{Content};
 ghost use Rattle.wu_outside.specs.Crash.{settle};
+ghost use Rattle.wu_outside.specs.Surviving.{IsLeft, Leaves, LeavesNow};
 ghost use Rattle.wu_space.specs.Addresses.{live_total};
 ghost use Rattle.wu_parts.specs.Contents.{stored_in};
 ghost use Rattle.wu_parts.specs.Working.{AreFew, DoesWork, IsDamaged, StopsWork, answer_of, is_idle};
@@ -19,8 +20,9 @@ ghost use Rattle.wu_engine.specs.Soundness.{IsSound, IsSound-prop};
 use crate::faults::BeginFault;
 use crate::opening::{open_first, open_root, open_saved};
 use crate::querying::answered;
+use crate::renewing::{renew_frames, touched_by};
 use crate::saving::save;
-use crate::updating::{follow, renew_frames, texted_before};
+use crate::updating::follow;
 use crate::verdicts::Verdict;
 use std::alloc::Global;
 use std::collections::BTreeMap;
@@ -62,7 +64,9 @@ impl Engine {
     ghost use Rattle.wu_engine.specs.Reads.{AreTexts, ReadsForQuery, texts_read};
     ghost use Rattle.wu_engine.specs.Opening.{HoldsImage, IsBeginCause, IsOpen, IsSpentWhere, ReadsAtOpening};
     ghost use Rattle.wu_engine.specs.Saving.{AreRemoved, KeepsNamed, removed_by_save};
+    ghost use Rattle.wu_engine.specs.SavedStores.{Saves};
     ghost use Rattle.wu_engine.specs.Naming.{AddsNamed};
+    ghost use Rattle.wu_engine.specs.Crashes.{IsImageOf, IsImageOfEither, IsSavedLast};
     ghost use Rattle.wu_engine.specs.Going.{Goes, HasBroken};
     ghost use Rattle.wu_engine.specs.Permitted.{MayReadForQuery, MayReadForWork, ReadsOnly};
     ghost use Rattle.wu_engine.specs.declared.faults.BeginFault.TheVariants.{Damaged as SavedIsDamaged};
@@ -100,6 +104,9 @@ impl Engine {
         ensures still { OnErr result ((D.moments store.new ≡ D.moments store.old)
             ⊎ (D.moments store.new ≡ option_map settle (D.moments store.old))) }
         ensures reads { ReadsAtOpening (D.holds store.old) (D.reads store.old) (D.reads store.new) }
+        // A crash leaves only what it could leave before, and where the store was opened over an image only images of that state.
+        ensures survives { Leaves (D.moments store.old) (D.moments store.new) (IsLeft (D.moments store.old)) }
+        ensures durable { (s : State) → HoldsImage (D.holds store.old) s → OnOk result (LeavesNow (D.moments store.new) (IsImageOf s)) }
 
         ensures calm { OnOk result (D.faults store.new ≡ D.faults store.old) }
         ensures cause { IfErr result (IsBeginCause (D.holds store.old) (D.faults store.old) (D.faults store.new)) }
@@ -139,6 +146,7 @@ impl Engine {
             (AddsNamed (after_event self.old.parts.flush_at s event.now body.now).layout (D.holds store.old) (D.holds store.new)) }
         ensures taken { OnOk result (self.new.space.next ≤ self.old.space.next + taken_by event.now body.now) }
         ensures drawn { OnOk result (self.new.parts.next_blob ≤ self.old.parts.next_blob + 2) }
+        ensures onward { OnOk result (self.old.parts.next_blob ≤ self.new.parts.next_blob) }
         // Each flush that is counted drew a blob.
         ensures counted { OnOk result
             (self.new.parts.flushes + self.old.parts.next_blob ≤ self.old.parts.flushes + self.new.parts.next_blob) }
@@ -151,6 +159,9 @@ impl Engine {
             → (store.new ≡ store.old) × (self.new.parts.next_blob ≡ self.old.parts.next_blob)) }
         ensures elsewhere { KeepsOthers self.old.parts.next_blob (self.old.parts.next_blob + 2) (D.holds store.old) (D.holds store.new) }
         ensures reads { D.reads store.new ≡ D.reads store.old }
+        // A crash in the call or after it leaves the state that was saved last, whatever the answer.
+        ensures survives { (s last : State) → Stands self.old (D.holds store.old) s → IsSavedLast (D.moments store.old) s last
+            → Leaves (D.moments store.old) (D.moments store.new) (IsImageOf last) }
 
         ensures goes { (start : Content) → Goes self.old start (D.holds store.old) → OnOk result (Goes self.new start (D.holds store.new)) }
         ensures goes_on { OnOk result (self.new.ended ≡ None) }
@@ -167,9 +178,9 @@ impl Engine {
         self.ended = Some(Trouble::NoMemory);
         effects_tell_files(&self.tree);
         self.space.keeps_the_rules();
+        let touched = touched_by(&self.tree, &self.space, event);
         match self.tree.apply(event)? {
             Ok(effect) => {
-                let texted = texted_before(&self.space, effect.texted);
                 let followed = follow(
                     &mut self.space,
                     &mut self.parts,
@@ -180,7 +191,7 @@ impl Engine {
                 );
                 match followed {
                     Ok(()) => {
-                        renew_frames(&mut self.frames, &self.space, texted);
+                        renew_frames(&mut self.frames, &self.tree, &self.space, touched);
                         self.ended = None;
                         Ok(Verdict::Made)
                     }
@@ -206,6 +217,7 @@ impl Engine {
             → OnOk result (AddsNamed (flushed_state s).layout (D.holds store.old) (D.holds store.new)) }
         ensures space { self.new.space ≡ self.old.space }
         ensures drawn { OnOk result (self.new.parts.next_blob ≤ self.old.parts.next_blob + 1) }
+        ensures onward { OnOk result (self.old.parts.next_blob ≤ self.new.parts.next_blob) }
         ensures counted { OnOk result
             (self.new.parts.flushes + self.old.parts.next_blob ≤ self.old.parts.flushes + self.new.parts.next_blob) }
         ensures flush_at { OnOk result (self.new.parts.flush_at ≡ self.old.parts.flush_at) }
@@ -214,6 +226,9 @@ impl Engine {
         // What the store holds changes only at the blob that may be drawn, also where the call fails.
         ensures elsewhere { KeepsOthers self.old.parts.next_blob (self.old.parts.next_blob + 1) (D.holds store.old) (D.holds store.new) }
         ensures reads { D.reads store.new ≡ D.reads store.old }
+        // A crash in the call or after it leaves the state that was saved last, whatever the answer.
+        ensures survives { (s last : State) → Stands self.old (D.holds store.old) s → IsSavedLast (D.moments store.old) s last
+            → Leaves (D.moments store.old) (D.moments store.new) (IsImageOf last) }
 
         ensures goes { (start : Content) → Goes self.old start (D.holds store.old) → OnOk result (Goes self.new start (D.holds store.new)) }
         ensures goes_on { OnOk result (self.new.ended ≡ None) }
@@ -257,6 +272,7 @@ impl Engine {
         ensures few { IfOk result (λ worked. worked ≡ Idle → AreFew self.new.space.ranges self.new.parts) }
         ensures space { self.new.space ≡ self.old.space }
         ensures drawn { OnOk result (self.new.parts.next_blob ≤ self.old.parts.next_blob + n) }
+        ensures onward { OnOk result (self.old.parts.next_blob ≤ self.new.parts.next_blob) }
         ensures counted { OnOk result (self.new.parts.flushes ≡ self.old.parts.flushes) }
         ensures flush_at { OnOk result (self.new.parts.flush_at ≡ self.old.parts.flush_at) }
         ensures kept { OnOk result (self.new.parts.kept ≡ self.old.parts.kept) }
@@ -271,6 +287,9 @@ impl Engine {
         // Where engine and store stand for a state, only what these units of its may read is read, whatever the answer.
         ensures permitted { (s : State) → Stands self.old (D.holds store.old) s
             → ReadsOnly (MayReadForWork s.layout n) (D.reads store.old) (D.reads store.new) }
+        // A crash in the call or after it leaves the state that was saved last, whatever the answer.
+        ensures survives { (s last : State) → Stands self.old (D.holds store.old) s → IsSavedLast (D.moments store.old) s last
+            → Leaves (D.moments store.old) (D.moments store.new) (IsImageOf last) }
 
         ensures goes_on { OnOk result (self.new.ended ≡ None) }
         ensures ends { IfErr result (λ trouble. self.new.ended ≡ Some trouble) }
@@ -315,16 +334,25 @@ impl Engine {
             → OnOk result (AddsNamed (saved_state s).layout (D.holds store.old) (D.holds store.new)) }
         ensures space { self.new.space ≡ self.old.space }
         ensures drawn { OnOk result (self.new.parts.next_blob ≤ self.old.parts.next_blob + 2) }
+        ensures onward { OnOk result (self.old.parts.next_blob ≤ self.new.parts.next_blob) }
         ensures counted { OnOk result
             (self.new.parts.flushes + self.old.parts.next_blob ≤ self.old.parts.flushes + self.new.parts.next_blob) }
         ensures flush_at { OnOk result (self.new.parts.flush_at ≡ self.old.parts.flush_at) }
         ensures kept { OnOk result (self.new.parts.kept ≡ self.old.parts.kept) }
 
+        // The checkpoint is synced before the root is set, and that is synced before anything is removed.
+        ensures order { OnOk result (Saves self.old.tree self.old.space self.old.files.entries self.old.checkpoint self.new.checkpoint
+            self.old.parts self.new.parts (D.holds store.old, D.moments store.old) (D.holds store.new, D.moments store.new)) }
         // Only the blobs that may be drawn, and those that are removed, may differ, also where the call fails.
         ensures elsewhere { KeepsNamed self.old.parts.next_blob (self.old.parts.next_blob + 2)
             (removed_by_save self.old.parts self.old.checkpoint) (D.holds store.old) (D.holds store.new) }
         ensures removed { OnOk result (AreRemoved (removed_by_save self.old.parts self.old.checkpoint) (D.holds store.new)) }
         ensures reads { D.reads store.new ≡ D.reads store.old }
+        // A crash in the call or after it leaves the state that was saved last, or this one; after Ok only this one.
+        ensures survives { (s last : State) → Stands self.old (D.holds store.old) s → IsSavedLast (D.moments store.old) s last
+            → Leaves (D.moments store.old) (D.moments store.new) (IsImageOfEither last (rested_state (saved_state s))) }
+        ensures durable { (s : State) → Stands self.old (D.holds store.old) s
+            → OnOk result (LeavesNow (D.moments store.new) (IsImageOf (rested_state (saved_state s)))) }
 
         ensures goes { (start : Content) → Goes self.old start (D.holds store.old) → OnOk result (Goes self.new start (D.holds store.new)) }
         ensures goes_on { OnOk result (self.new.ended ≡ None) }
@@ -406,11 +434,12 @@ impl Engine {
         ensures parts { self.new.parts ≡ record self.old.parts { kept = self.new.parts.kept } }
 
         ensures holds { D.holds store.new ≡ D.holds store.old }
+        ensures moments { D.moments store.new ≡ D.moments store.old }
         // Her frames' blocks of the terms are asked for in turn, and then only texts of files are read. Where engine
         // and store stand for a state, these are the texts of the files of which a line is shown, each whole.
         ensures reads { OnOk result (ReadsForQuery self.old.tree self.old.space.ranges query.now.uid (question_of query.now.ask)
             self.old.parts self.new.parts.kept
-            (λ texts. AreTexts self.old.files.entries (question_of query.now.ask) texts × ((s : State)
+            (λ texts. AreTexts (D.holds store.old) self.old.files.entries (question_of query.now.ask) texts × ((s : State)
             → Stands self.old (D.holds store.old) s → texts ≡ texts_read s query.now.uid (question_of query.now.ask)))
             (D.holds store.old) (D.reads store.old) (D.reads store.new)) }
         // Then nothing is read but what a query of hers may read in that state, whatever the answer.

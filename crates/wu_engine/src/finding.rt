@@ -1,5 +1,5 @@
 //! Where an expression has its extents over a user's frames, and the lines that are shown of them.
-ghost use Rattle.std.specs.Prelude.{◌≡◌, ◌≤◌, ◌+◌, ◌++◌, ℕ, List, nat_lt, min, [], map, take, length, option_map, All, if◌then◌else◌, IfOk, IfErr, IfSome, OnOk};
+ghost use Rattle.std.specs.Prelude.{◌≡◌, ◌<◌, ◌≤◌, ◌+◌, ◌++◌, ℕ, List, nat_lt, min, [], map, take, length, option_map, All, if◌then◌else◌, IfOk, IfErr, IfSome, OnOk};
 ghost use Rattle.std.specs.List.{AllByRecursion, flat_map};
 ghost use Rattle.wu_ask.specs.Questions.{Finding as AskedFinding};
 ghost use Rattle.wu_base.specs.declared.limits.TheConstants.{TEXT_MAX};
@@ -12,7 +12,7 @@ ghost use Rattle.wu_engine.specs.Asked.{blocks_for, terms_of as named_in};
 ghost use Rattle.wu_engine.specs.Causes.{IsDamagedAt, IsDamagedIn};
 ghost use Rattle.wu_engine.specs.Finding.{AreTextsOf, CanBeRead, IsBelow, IsBrokenIn, IsCause, KeepsTexts, counted_from, extents_of, hits_at, lines_at, lines_of_record, looked_through, text_at};
 ghost use Rattle.wu_engine.specs.Permitted.{IsOneOfTexts, MayReadForQuery, ReadsOnly};
-ghost use Rattle.wu_engine.specs.Reads.{ReadsInTurn, texts_shown, whole_text};
+ghost use Rattle.wu_engine.specs.Reads.{HasWholeText, IsTextOf, ReadsInTurn, texts_shown, whole_text};
 ghost use Rattle.wu_engine.specs.States.{State};
 ghost use Rattle.wu_engine.specs.Units.{CanBeSearched, Indexes, TellsPostings};
 ghost use Rattle.wu_engine.specs.View.{view_of};
@@ -61,6 +61,7 @@ pub fn find<D: Store>(
         → ReadsOnly (MayReadForQuery s uid (AskedFinding k (region_of expr.now))) (D.reads store.old) (D.reads store.new) }
     ensures others { parts.new ≡ record parts.old { kept = parts.new.kept } }
     ensures holds { D.holds store.new ≡ D.holds store.old }
+    ensures moments { D.moments store.new ≡ D.moments store.old }
     ensures calm { OnOk result (D.faults store.new ≡ D.faults store.old) }
     ensures cause { IfErr result (IsCause (IsDamagedIn files.now.entries parts.old (D.holds store.old))
         (D.faults store.old) (D.faults store.new)) }
@@ -104,7 +105,11 @@ fn lines_shown<D: Store>(
     ensures lines { IfOk result (λ lines. IfSome (D.holds store.old) (λ content. lines.items
         ≡ take k (flat_map (lines_at content files.now.entries (region_of expr.now) lists.now)
         (looked_through few (region_of expr.now) lists.now frames.now)))) }
+    ensures sound { OnOk result (AllByRecursion (IsTextOf (D.holds store.old) files.now.entries)
+        (texts_shown (hits_at files.now.entries (region_of expr.now) lists.now)
+        (text_at files.now.entries) k (looked_through few (region_of expr.now) lists.now frames.now))) }
     ensures holds { D.holds store.new ≡ D.holds store.old }
+    ensures moments { D.moments store.new ≡ D.moments store.old }
     ensures reads { OnOk result (D.reads store.new ≡ option_map (λ ranges. ranges
         ++ texts_shown (hits_at files.now.entries (region_of expr.now) lists.now)
         (text_at files.now.entries) k (looked_through few (region_of expr.now) lists.now frames.now)) (D.reads store.old)) }
@@ -138,7 +143,10 @@ fn first_lines<D: Store>(
     requires lists { AreLists lists.now }
     ensures lines { IfOk result (λ lines. IfSome (D.holds store.old) (λ content.
         lines.items ≡ take k (flat_map (lines_at content files.now.entries (region_of expr.now) lists.now) view.now))) }
+    ensures sound { OnOk result (AllByRecursion (IsTextOf (D.holds store.old) files.now.entries)
+        (texts_shown (hits_at files.now.entries (region_of expr.now) lists.now) (text_at files.now.entries) k view.now)) }
     ensures holds { D.holds store.new ≡ D.holds store.old }
+    ensures moments { D.moments store.new ≡ D.moments store.old }
     ensures reads { OnOk result (D.reads store.new ≡ option_map (λ ranges. ranges
         ++ texts_shown (hits_at files.now.entries (region_of expr.now) lists.now)
         (text_at files.now.entries) k view.now) (D.reads store.old)) }
@@ -176,7 +184,11 @@ fn put_file<D: Store>(
         shown.new.items ≡ shown.old.items ++ take left (lines_at content files.now.entries (region_of expr.now) lists.now seen.now))) }
     ensures count { OnOk result (length shown.new.items
         ≡ length shown.old.items + min left (hits_at files.now.entries (region_of expr.now) lists.now seen.now)) }
+    ensures sound { OnOk result (AllByRecursion (IsTextOf (D.holds store.old) files.now.entries)
+        (if nat_lt 0 (min left (hits_at files.now.entries (region_of expr.now) lists.now seen.now))
+        then text_at files.now.entries seen.now else [])) }
     ensures holds { D.holds store.new ≡ D.holds store.old }
+    ensures moments { D.moments store.new ≡ D.moments store.old }
     ensures reads { OnOk result (D.reads store.new ≡ option_map (λ ranges. ranges
         ++ (if nat_lt 0 (min left (hits_at files.now.entries (region_of expr.now) lists.now seen.now))
         then text_at files.now.entries seen.now else []))
@@ -243,7 +255,9 @@ fn put_lines<D: Store>(
     ensures lines { OnOk result (IfSome (D.holds store.old) (λ content.
         shown.new.items ≡ shown.old.items ++ lines_of_record content paths.now extents.now file.now)) }
     ensures count { OnOk result (length shown.new.items ≡ length shown.old.items + length extents.now) }
+    ensures sound { OnOk result (0 < length extents.now → 0 < file.now.blob → HasWholeText (D.holds store.old) file.now) }
     ensures holds { D.holds store.new ≡ D.holds store.old }
+    ensures moments { D.moments store.new ≡ D.moments store.old }
     ensures reads { OnOk result (D.reads store.new ≡ option_map (λ ranges. ranges
         ++ (if nat_lt 0 (length extents.now) then whole_text file.now.blob file.now.len else [])) (D.reads store.old)) }
     ensures only { ReadsOnly (IsOneOfTexts (if nat_lt 0 (length extents.now) then whole_text file.now.blob file.now.len else []))

@@ -1,8 +1,11 @@
 //! Laws of states.
 ghost use Rattle.std.specs.Prelude.{◌≡◌, ℕ, ◌+◌, ◌≤◌, List, length};
 ghost use Rattle.wu_base.specs.declared.limits.TheConstants.{TEXT_MAX};
+ghost use Rattle.wu_outside.specs.Surviving.{NamesOnly};
 ghost use Rattle.wu_tree.specs.Steps.{IsEvent};
 ghost use Rattle.wu_tree.specs.declared.events.Event.{Event};
+ghost use Rattle.wu_engine.specs.Crashes.{IsImageOf};
+ghost use Rattle.wu_engine.specs.Naming.{IsNamed};
 ghost use Rattle.wu_engine.specs.Stands.{taken_by};
 ghost use Rattle.wu_engine.specs.States.{State, IsState, after_event, first_state, flushed_state, worked_state};
 
@@ -29,4 +32,10 @@ pub fn each_event_keeps_a_state()
     ensures work_takes { (n : ℕ) (s : State) → (worked_state n s).layout.next ≡ s.layout.next }
     ensures work_draws { (n : ℕ) (s : State) → (worked_state n s).layout.blob ≤ s.layout.blob + n }
     ensures work_counts { (n : ℕ) (s : State) → (worked_state n s).layout.flushes ≡ s.layout.flushes }
+{}
+
+/// A law: an image of a state is one by its root and by the blobs that the state names. What a store has besides, as
+/// what a crash left of blobs that no root names yet or none names any more, makes no difference.
+pub fn strays_make_no_difference()
+    ensures strays { (s : State) → NamesOnly (IsNamed s.layout) (IsImageOf s) }
 {}

@@ -12,6 +12,7 @@ mod opening;
 mod querying;
 mod ranking;
 mod reading;
+mod renewing;
 mod saving;
 mod units;
 mod updating;
@@ -19,5 +20,5 @@ mod verdicts;
 
 pub use engines::Engine;
 pub use faults::BeginFault;
-pub use laws::each_event_keeps_a_state;
+pub use laws::{each_event_keeps_a_state, strays_make_no_difference};
 pub use verdicts::Verdict;

@@ -47,7 +47,7 @@ pub fn answered<D: Store>(
     ensures sound { IsSound tree.now space.now parts.new files.now.entries kept.new }
     ensures reads { OnOk result (ReadsForQuery tree.now space.now.ranges query.now.uid (question_of query.now.ask)
         parts.old parts.new.kept
-        (λ texts. AreTexts files.now.entries (question_of query.now.ask) texts × ((s : State) → tree.now ≡ s.tree
+        (λ texts. AreTexts (D.holds store.old) files.now.entries (question_of query.now.ask) texts × ((s : State) → tree.now ≡ s.tree
         → IsIndexOf space.now.ranges s → TellsPostings parts.old (D.holds store.old) s → KeepsTexts files.now.entries (D.holds store.old) s
         → texts ≡ texts_read s query.now.uid (question_of query.now.ask)))
         (D.holds store.old) (D.reads store.old) (D.reads store.new)) }
@@ -56,6 +56,7 @@ pub fn answered<D: Store>(
         → ReadsOnly (MayReadForQuery s query.now.uid (question_of query.now.ask)) (D.reads store.old) (D.reads store.new) }
     ensures others { parts.new ≡ record parts.old { kept = parts.new.kept } }
     ensures holds { D.holds store.new ≡ D.holds store.old }
+    ensures moments { D.moments store.new ≡ D.moments store.old }
     ensures calm { OnOk result (D.faults store.new ≡ D.faults store.old) }
     ensures cause { IfErr result (IsCause (IsDamagedIn files.now.entries parts.old (D.holds store.old))
         (D.faults store.old) (D.faults store.new)) }
@@ -93,6 +94,7 @@ fn answer<D: Store>(
         → ReadsOnly (MayReadForQuery s uid (question_of ask.now)) (D.reads store.old) (D.reads store.new) }
     ensures others { parts.new ≡ record parts.old { kept = parts.new.kept } }
     ensures holds { D.holds store.new ≡ D.holds store.old }
+    ensures moments { D.moments store.new ≡ D.moments store.old }
     ensures calm { OnOk result (D.faults store.new ≡ D.faults store.old) }
     ensures cause { IfErr result (IsCause (IsDamagedIn files.now.entries parts.old (D.holds store.old))
         (D.faults store.old) (D.faults store.new)) }

@@ -52,6 +52,7 @@ pub fn ranked<D: Store>(
         parts.old.kept parts.new.kept (D.reads store.old) (D.reads store.new)) }
     ensures others { parts.new ≡ record parts.old { kept = parts.new.kept } }
     ensures holds { D.holds store.new ≡ D.holds store.old }
+    ensures moments { D.moments store.new ≡ D.moments store.old }
     ensures calm { OnOk result (D.faults store.new ≡ D.faults store.old) }
     ensures cause { IfErr result (IsCauseFor parts.old frames.now.ranges (with_words (named_in (region_of unit.now)) words.now)
         (D.holds store.old) (D.faults store.old) (D.faults store.new) (D.reads store.old) (D.reads store.new)) }
@@ -92,6 +93,7 @@ fn rank_files<D: Store>(
         parts.old.kept parts.new.kept (D.reads store.old) (D.reads store.new)) }
     ensures others { parts.new ≡ record parts.old { kept = parts.new.kept } }
     ensures holds { D.holds store.new ≡ D.holds store.old }
+    ensures moments { D.moments store.new ≡ D.moments store.old }
     ensures calm { OnOk result (D.faults store.new ≡ D.faults store.old) }
     ensures cause { IfErr result (IsCauseFor parts.old frames.now.ranges asked.now
         (D.holds store.old) (D.faults store.old) (D.faults store.new) (D.reads store.old) (D.reads store.new)) }
@@ -147,6 +149,7 @@ fn rank_extents<D: Store>(
         parts.old.kept parts.new.kept (D.reads store.old) (D.reads store.new)) }
     ensures others { parts.new ≡ record parts.old { kept = parts.new.kept } }
     ensures holds { D.holds store.new ≡ D.holds store.old }
+    ensures moments { D.moments store.new ≡ D.moments store.old }
     ensures calm { OnOk result (D.faults store.new ≡ D.faults store.old) }
     ensures cause { IfErr result (IsCauseFor parts.old frames.now.ranges asked.now
         (D.holds store.old) (D.faults store.old) (D.faults store.new) (D.reads store.old) (D.reads store.new)) }

@@ -4,7 +4,7 @@ ghost use Rattle.wu_base.specs.declared.limits.TheConstants.{TEXT_MAX};
 ghost use Rattle.wu_token.specs.Tokens.{tokens_of};
 ghost use Rattle.wu_engine.specs.Finding.{IsBrokenIn, IsCause, text_held};
 ghost use Rattle.wu_engine.specs.Permitted.{IsOneOfTexts, ReadsOnly};
-ghost use Rattle.wu_engine.specs.Reads.{whole_text};
+ghost use Rattle.wu_engine.specs.Reads.{HasWholeText, whole_text};
 ghost use Rattle.wu_engine.specs.Soundness.{IsRecord};
 
 use std::alloc::Global;
@@ -21,7 +21,9 @@ pub fn read_text<D: Store>(alloc: Global, store: &mut D, file: &FileRec) -> Resu
     ensures text { IfOk result (λ text. IfSome (D.holds store.old) (λ content. text.items ≡ text_held content file.now)) }
     ensures short { IfOk result (λ text. length text.items ≤ TEXT_MAX) }
     ensures tokens { IfOk result (λ text. file.now.range.len ≤ length (tokens_of text.items)) }
+    ensures sound { OnOk result (0 < file.now.blob → HasWholeText (D.holds store.old) file.now) }
     ensures holds { D.holds store.new ≡ D.holds store.old }
+    ensures moments { D.moments store.new ≡ D.moments store.old }
     ensures reads { OnOk result (D.reads store.new
         ≡ option_map (λ ranges. ranges ++ whole_text file.now.blob file.now.len) (D.reads store.old)) }
     ensures only { ReadsOnly (IsOneOfTexts (whole_text file.now.blob file.now.len)) (D.reads store.old) (D.reads store.new) }
@@ -45,6 +47,7 @@ fn read_blob<D: Store>(alloc: Global, store: &mut D, file: &FileRec) -> Result<V
     ensures text { IfOk result (λ text. IfSome (D.holds store.old) (λ content. content.blobs file.now.blob ≡ Some text.items)) }
     ensures len { IfOk result (λ text. length text.items ≡ file.now.len) }
     ensures holds { D.holds store.new ≡ D.holds store.old }
+    ensures moments { D.moments store.new ≡ D.moments store.old }
     ensures reads { OnOk result (D.reads store.new
         ≡ option_map (λ ranges. ranges ++ record { blob = file.now.blob; at = 0; len = file.now.len } ∷ []) (D.reads store.old)) }
     ensures only { ReadsOnly (IsOneOfTexts (record { blob = file.now.blob; at = 0; len = file.now.len } ∷ []))

@@ -5,7 +5,7 @@ ghost use Rattle.wu_outside.specs.Crash.{Put, SetRoot, settle, try_change};
 ghost use Rattle.wu_outside.specs.Faults.{HasFaultCause};
 ghost use Rattle.wu_parts.specs.Causes.{IsStoreCause};
 ghost use Rattle.wu_engine.specs.Saving.{KeepsNamed, checkpoint_blob, removed_by_save};
-ghost use Rattle.wu_engine.specs.SavedStores.{IsSpelledOf, Saves, SomeDone, all_done, remove_blob, try_removal};
+ghost use Rattle.wu_engine.specs.SavedStores.{IsSpelledOf, Saves, SomeDone, StopsSave, all_done, remove_blob, try_removal};
 
 use std::alloc::Global;
 use std::collections::BTreeMap;
@@ -31,6 +31,8 @@ pub(crate) fn save<D: Store>(
     requires blobs { parts.old.next_blob + 2 < 2 ^ 63 }
     requires flushes { parts.old.flushes + 1 < 2 ^ 63 }
     ensures saved { IfOk result (λ blob. Saves tree.now space.now files.now.entries checkpoint blob parts.old parts.new
+        (D.holds store.old, D.moments store.old) (D.holds store.new, D.moments store.new)) }
+    ensures stops { OnErr result (StopsSave tree.now space.now files.now.entries checkpoint parts.old
         (D.holds store.old, D.moments store.old) (D.holds store.new, D.moments store.new)) }
     ensures elsewhere { KeepsNamed parts.old.next_blob (parts.old.next_blob + 2) (removed_by_save parts.old checkpoint)
         (D.holds store.old) (D.holds store.new) }

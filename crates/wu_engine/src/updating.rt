@@ -2,18 +2,17 @@
 ghost use Rattle.std.specs.Prelude.{◌≡◌, ℕ, List, Option, None, Some, ◌+◌, ◌++◌, ◌<◌, ◌≤◌, ◌^◌, false, IfErr, IfOk, IfSome, IsSome, OnOk, length, option_map};
 ghost use Rattle.wu_base.specs.declared.limits.TheConstants.{ADDRESSES_MAX, TEXT_MAX};
 ghost use Rattle.wu_outside.specs.Content.{MayDo, with_blob};
+ghost use Rattle.wu_outside.specs.Crash.{Put, try_change};
 ghost use Rattle.wu_outside.specs.Faults.{HasFaultCause};
-ghost use Rattle.wu_space.specs.Addresses.{Addresses, range_of};
-ghost use Rattle.wu_tree.specs.FileSystems.{FileSystem};
+ghost use Rattle.wu_space.specs.Addresses.{range_of};
 ghost use Rattle.wu_parts.specs.Causes.{IsStoreCause};
 ghost use Rattle.wu_parts.specs.Memory.{Gains};
+ghost use Rattle.wu_parts.specs.Working.{MayChange};
 ghost use Rattle.wu_engine.specs.Stands.{KeepsOthers};
-ghost use Rattle.wu_frames.specs.UserFrames.{AreFor};
-ghost use Rattle.wu_engine.specs.Indexing.{Follows, FlushesFull, GaveText, IsIndexable, KeepsParts, blob_for, blob_of, catalog_after, catalog_of, catalog_with, catalog_without, drawn_for, is_stored, stored_at, terms_after, terms_given};
+ghost use Rattle.wu_engine.specs.Indexing.{Follows, FlushesFull, IsIndexable, KeepsParts, blob_for, blob_of, catalog_after, catalog_of, catalog_with, catalog_without, drawn_for, is_stored, stored_at, terms_after, terms_given};
 
 use std::collections::BTreeMap;
 use wu_base::{Ino, NoMemory, Range, Trouble};
-use wu_frames::FrameCache;
 use wu_image::FileRec;
 use wu_outside::{Fault, Store};
 use wu_parts::Parts;
@@ -40,6 +39,8 @@ pub(crate) fn follow<D: Store>(
         → parts.old.memory.stored + length (terms_after effect text.now) < parts.old.flush_at
         → (store.new ≡ store.old) × (parts.new.next_blob ≡ parts.old.next_blob)) }
     ensures elsewhere { KeepsOthers parts.old.next_blob (parts.old.next_blob + 2) (D.holds store.old) (D.holds store.new) }
+    ensures tried { MayChange (λ blob written. try_change (Put blob) (with_blob blob written)) parts.old.next_blob
+        (parts.old.next_blob + 2) 2 (D.moments store.old) (D.moments store.new) }
     ensures reads { D.reads store.new ≡ D.reads store.old }
     ensures calm { OnOk result (D.faults store.new ≡ D.faults store.old) }
     ensures cause { IfErr result (IsStoreCause (D.faults store.old) (D.faults store.new)) }
@@ -47,30 +48,6 @@ pub(crate) fn follow<D: Store>(
     let blob = store_text(parts, store, effect.texted, text)?;
     index(space, parts, files, effect, text, blob)?;
     flush_if_full(parts, store, space)
-}
-
-/// The file to which an event gives a text, with the range that it has so far. None, where there is none.
-pub(crate) fn texted_before(space: &Space, texted: Option<Ino>) -> Option<(Ino, Range)>
-    ensures { IfSome result (λ file. (texted ≡ Some file.0) × (range_of space.now.ranges file.0 ≡ Some file.1)) }
-{
-    let ino = texted?;
-    let range = space.range_of(ino)?;
-    Some((ino, range))
-}
-
-/// Mends the frames that are kept after an event that gave a text to a file, where the file had that range before.
-/// After any other event, which may change what a user may read, all frames are forgotten.
-pub(crate) fn renew_frames(frames: &mut FrameCache, space: &Space, texted: Option<(Ino, Range)>)
-    ensures { (fs : FileSystem) (before : Addresses) → IfSome texted (GaveText before space.now)
-        → (IsSome texted → AreFor fs before.ranges frames.old) → AreFor fs space.now.ranges frames.new }
-{
-    match texted {
-        Some((ino, old)) => match space.range_of(ino) {
-            Some(new) => frames.move_range(ino, old, new),
-            None => frames.clear(),
-        },
-        None => frames.clear(),
-    }
 }
 
 /// Flushes memory, where it is full. After an error the parts are only dropped.
@@ -81,6 +58,9 @@ fn flush_if_full<D: Store>(parts: &mut Parts, store: &mut D, space: &Space) -> R
         (D.holds store.old, D.moments store.old) (D.holds store.new, D.moments store.new)) }
     ensures untouched { OnOk result (parts.old.memory.stored < parts.old.flush_at → (store.new ≡ store.old) × (parts.new ≡ parts.old)) }
     ensures elsewhere { KeepsOthers parts.old.next_blob (parts.old.next_blob + 1) (D.holds store.old) (D.holds store.new) }
+    ensures tried { (written : Option (List ℕ))
+        × MayDo (try_change (Put parts.old.next_blob) (with_blob parts.old.next_blob written))
+        (D.moments store.old) (D.moments store.new) }
     ensures reads { D.reads store.new ≡ D.reads store.old }
     ensures calm { OnOk result (D.faults store.new ≡ D.faults store.old) }
     ensures cause { IfErr result (IsStoreCause (D.faults store.old) (D.faults store.new)) }
@@ -105,6 +85,9 @@ pub(crate) fn store_text<D: Store>(
     ensures parts { OnOk result (parts.new ≡ drawn_for file text.now parts.old) }
     ensures stored { OnOk result (D.holds store.new ≡ option_map (stored_at parts.old.next_blob file text.now) (D.holds store.old)) }
     ensures elsewhere { (written : Option (List ℕ)) × MayDo (with_blob parts.old.next_blob written) (D.holds store.old) (D.holds store.new) }
+    ensures tried { (written : Option (List ℕ))
+        × MayDo (try_change (Put parts.old.next_blob) (with_blob parts.old.next_blob written))
+        (D.moments store.old) (D.moments store.new) }
     ensures untouched { is_stored file text.now ≡ false → store.new ≡ store.old }
     ensures reads { D.reads store.new ≡ D.reads store.old }
     ensures cause { HasFaultCause (D.faults store.old) (D.faults store.new) result }

@@ -43,6 +43,7 @@ loop-term-preserved g c =
           c.list_of.new.parts.kept (reads c.loop-term.store) (reads c.list_of.new.store)) told.holds c.in_ok-list_of.ensures.blocks);
       others = others_next c.args.parts.now c.loop-term.parts c.list_of.new.parts told.others c.list_of.ensures.others;
       holds = c.list_of.ensures.holds ∙ told.holds;
+      moments = c.list_of.ensures.moments ∙ told.moments;
       calm = c.in_ok-list_of.ensures.calm ∙ told.calm;
     }
 

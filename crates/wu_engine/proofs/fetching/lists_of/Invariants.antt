@@ -18,5 +18,6 @@ invariant-loop-term g l = record {
       l.fn.parts.kept l.parts.kept (g.D.Store.reads l.fn.store) (g.D.Store.reads l.store);
   others : l.parts ≡ record l.fn.parts { kept = l.parts.kept };
   holds : g.D.Store.holds l.store ≡ g.D.Store.holds l.fn.store;
+  moments : g.D.Store.moments l.store ≡ g.D.Store.moments l.fn.store;
   calm : g.D.Store.faults l.store ≡ g.D.Store.faults l.fn.store;
 }

@@ -40,6 +40,7 @@ loop-term-preserved g c =
           c.put_list.new.parts.kept (reads c.loop-term.store) (reads c.put_list.new.store)) told.holds c.in_ok-put_list.ensures.blocks);
       others = others_next c.args.parts.now c.loop-term.parts c.put_list.new.parts told.others c.put_list.ensures.others;
       holds = c.put_list.ensures.holds ∙ told.holds;
+      moments = c.put_list.ensures.moments ∙ told.moments;
       calm = c.in_ok-put_list.ensures.calm ∙ told.calm;
     }
 

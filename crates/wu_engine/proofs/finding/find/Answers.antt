@@ -1,6 +1,6 @@
 use Rattle.std.proofs.Common.{◌≡◌, ◌++◌, ◌∙◌, List, ℕ, ap, map, refl, subst, sym, take}
 use Rattle.std.specs.Prelude.{IfSome, Option, nat_le, option_map}
-use Rattle.std.specs.List.{flat_map}
+use Rattle.std.specs.List.{AllByRecursion, flat_map}
 use Rattle.wu_base.specs.declared.addresses.TermList.{TermList}
 use Rattle.wu_ask.specs.declared.FindLine.{FindLine}
 use Rattle.wu_ask.specs.Questions.{Finding}
@@ -12,7 +12,7 @@ use Rattle.wu_engine.specs.Asked.{blocks_for}
 use Rattle.wu_engine.specs.Causes.{IsDamagedIn}
 use Rattle.wu_engine.specs.Finding.{hits_at, lines_at, looked_through, text_at}
 use Rattle.wu_engine.specs.Permitted.{IsOneOfTexts, ReadsOnly}
-use Rattle.wu_engine.specs.Reads.{texts_shown}
+use Rattle.wu_engine.specs.Reads.{IsTextOf, texts_shown}
 use Rattle.wu_engine.specs.Units.{found_in, list_at}
 use Rattle.wu_engine.proofs.AskedTerms.{terms_named}
 use Rattle.wu_engine.proofs.FilesWithExtents.{looked_answer, looked_shown, looked_texts}
@@ -84,7 +84,13 @@ returns-clause-reads g c =
           (c.deref.ensures.value ∙ terms_named region terms c.in_ok-terms.ensures) c.in_ok-lists.ensures.blocks;
       texts = texts_shown (hits_at files region lists) (text_at files) c.args.k looked;
       are = record {
-        are = are_texts files region lists c.args.k looked;
+        are =
+            are_texts (g.D.Store.holds c.args.store.now) files region lists c.args.k looked
+            (subst (λ (o : Option Content). AllByRecursion (IsTextOf o files)
+            (texts_shown (hits_at files region lists) (text_at files) c.args.k looked)) c.lists_of.ensures.holds
+            (subst (λ (ls : List TermList). AllByRecursion (IsTextOf (g.D.Store.holds c.lists_of.new.store) files)
+            (texts_shown (hits_at files region ls) (text_at files) c.args.k (looked_through few region ls c.args.frames.now)))
+            c.deref-3.ensures.value c.in_ok-shown.ensures.sound));
         shown = λ live s uid is tells keeps.
             looked_texts c.args.frames.now live s uid is region terms c.in_ok-terms.ensures files lists
             (c.in_ok-lists.ensures.lists s tells ∙ ap (map (list_at (found_in c.args.frames.now.ranges s))) c.deref.ensures.value)

@@ -1,9 +1,12 @@
-use Rattle.std.proofs.Common.{◌≡◌, ◌-◌, ◌<◌, ◌∙◌, length, take, inl, arith, rules}
-use Rattle.std.specs.List.{flat_map}
+use Rattle.std.proofs.Common.{◌≡◌, ◌-◌, ◌<◌, ◌∙◌, length, take, [], inl, subst, arith, rules}
+use Rattle.std.specs.Prelude.{Option, cond, min, nat_lt}
+use Rattle.std.specs.List.{AllByRecursion, flat_map}
+use Rattle.wu_outside.specs.Content.{Content}
 use Rattle.wu_gcl.specs.Regions.{region_of}
 use Rattle.wu_engine.specs.Finding.{hits_at, lines_at, text_at}
 use Rattle.wu_engine.proofs.FirstLines.{lines_kept, texts_done, texts_kept}
-use Rattle.wu_engine.specs.Reads.{texts_shown}
+use Rattle.wu_engine.specs.Reads.{IsTextOf, texts_shown}
+use Rattle.wu_engine.proofs.WholeTexts.{whole_done, whole_next}
 use Rattle.wu_engine.proofs.PermittedTexts.{file_only, left_next}
 use Rattle.wu_engine.proofs.finding.first_lines.Goals as goal
 
@@ -29,6 +32,7 @@ loop-seen-preserved g c =
     let long : c.len-in-loop-seen.result ≡ length before = search rules in
     record {
       holds = c.in_ok-put_file.ensures.holds ∙ c.loop-seen.invariant.holds;
+      moments = c.put_file.ensures.moments ∙ c.loop-seen.invariant.moments;
       calm = c.in_ok-put_file.ensures.calm ∙ c.loop-seen.invariant.calm;
       none = λ h. absurd (omega (arith, c.if-len-k.false));
       lines =
@@ -41,6 +45,14 @@ loop-seen-preserved g c =
           (hits_at files region lists) (text_at files) (reads c.loop-seen.store) (reads c.put_file.new.store)
           _ c.len-in-loop-seen.result long
           c.in_ok-put_file.ensures.count c.in_ok-put_file.ensures.reads c.loop-seen.invariant.reads;
+      sound =
+          whole_next (IsTextOf (holds c.args.store.now) files)
+          (AllByRecursion (IsTextOf (holds c.args.store.now) files) (texts_shown (hits_at files region lists) (text_at files) c.args.k view))
+          (hits_at files region lists) (text_at files) c.args.k c.loop-seen.seen-index view c.seen-item.result within c.seen-item.is
+          c.len-in-loop-seen.result (length before) (length after) long c.in_ok-put_file.ensures.count c.loop-seen.invariant.sound
+          (subst (λ (o : Option Content). AllByRecursion (IsTextOf o files)
+          (cond (nat_lt 0 (min (c.args.k - c.len-in-loop-seen.result) (hits_at files region lists c.seen-item.result)))
+          (text_at files c.seen-item.result) [])) c.loop-seen.invariant.holds c.in_ok-put_file.ensures.sound);
       only =
           file_only (hits_at files region lists) (text_at files) c.args.k c.loop-seen.seen-index view c.seen-item.result within
           c.seen-item.is (texts_shown (hits_at files region lists) (text_at files) c.args.k view) c.len-in-loop-seen.result
@@ -66,3 +78,13 @@ returns-in_err-put_file-clause-only g c =
     c.seen-item.is (texts_shown (hits_at files region lists) (text_at files) c.args.k view) c.len-in-loop-seen.result
     (length before) long c.loop-seen.invariant.left (reads c.args.store.now) (reads c.loop-seen.store) (reads c.put_file.new.store)
     c.loop-seen.invariant.only c.in_err-put_file.ensures.only
+
+pub returns-then-len-k-clause-sound : goal.returns-then-len-k-clause-sound
+returns-then-len-k-clause-sound g c =
+    let files = c.args.files.now.entries in
+    let hits = hits_at files (region_of c.args.expr.now) c.args.lists.now in
+    let Is = IsTextOf (g.D.Store.holds c.args.store.now) files in
+    let long : c.len.result ≡ length c.loop-seen.shown.items = search rules in
+    let full : c.args.k - length c.loop-seen.shown.items ≡ 0 = omega (arith, c.if-len-k.true) in
+    whole_done Is (AllByRecursion Is (texts_shown hits (text_at files) c.args.k c.args.view.now)) hits (text_at files) c.args.k
+    c.loop-seen.shown.items _ (inl full) c.loop-seen.invariant.sound

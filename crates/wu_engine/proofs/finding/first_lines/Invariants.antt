@@ -1,10 +1,10 @@
 use Rattle.std.proofs.Common.{◌≡◌, ◌++◌, ◌-◌, drop, length, take}
 use Rattle.std.specs.Prelude.{IfSome, option_map}
-use Rattle.std.specs.List.{flat_map}
+use Rattle.std.specs.List.{AllByRecursion, flat_map}
 use Rattle.wu_gcl.specs.Regions.{region_of}
 use Rattle.wu_engine.specs.Finding.{hits_at, lines_at, text_at}
 use Rattle.wu_engine.specs.Permitted.{IsOneOfTexts, ReadsOnly}
-use Rattle.wu_engine.specs.Reads.{texts_shown}
+use Rattle.wu_engine.specs.Reads.{IsTextOf, texts_shown}
 use Rattle.wu_engine.proofs.PermittedTexts.{AreAmong}
 use Rattle.wu_engine.proofs.finding.first_lines.Given as goal
 
@@ -12,6 +12,7 @@ use Rattle.wu_engine.proofs.finding.first_lines.Given as goal
 abbrev pub invariant-loop-seen : goal.invariant-loop-seen
 invariant-loop-seen g l = record {
   holds : g.D.Store.holds l.store ≡ g.D.Store.holds l.fn.store;
+  moments : g.D.Store.moments l.store ≡ g.D.Store.moments l.fn.store;
   calm : g.D.Store.faults l.store ≡ g.D.Store.faults l.fn.store;
   none : l.k ≡ 0 → l.store ≡ l.fn.store;
   lines : IfSome (g.D.Store.holds l.fn.store) (λ content. l.shown.items
@@ -23,6 +24,11 @@ invariant-loop-seen g l = record {
       ≡ option_map (λ ranges. ranges ++ texts_shown (hits_at l.files.entries (region_of l.expr) l.lists)
       (text_at l.files.entries) l.k l.view)
       (g.D.Store.reads l.fn.store);
+  sound : AllByRecursion (IsTextOf (g.D.Store.holds l.fn.store) l.files.entries)
+      (texts_shown (hits_at l.files.entries (region_of l.expr) l.lists) (text_at l.files.entries)
+      (l.k - length l.shown.items) (drop l.seen-index l.view))
+      → AllByRecursion (IsTextOf (g.D.Store.holds l.fn.store) l.files.entries)
+      (texts_shown (hits_at l.files.entries (region_of l.expr) l.lists) (text_at l.files.entries) l.k l.view);
   only : ReadsOnly (IsOneOfTexts (texts_shown (hits_at l.files.entries (region_of l.expr) l.lists) (text_at l.files.entries) l.k l.view))
       (g.D.Store.reads l.fn.store) (g.D.Store.reads l.store);
   left : AreAmong (texts_shown (hits_at l.files.entries (region_of l.expr) l.lists) (text_at l.files.entries)

@@ -1,4 +1,5 @@
 use Rattle.std.proofs.Common.{◌≡◌, ◌++◌, ◌∙◌, ap, take, refl, sym}
+use Rattle.std.proofs.lemmas.Result.{on_ok_weaker}
 use Rattle.std.specs.Prelude.{IfSome}
 use Rattle.wu_ask.specs.declared.FindLine.{FindLine}
 use Rattle.std.specs.Prelude.{List}
@@ -8,6 +9,7 @@ use Rattle.wu_engine.specs.Causes.{IsDamagedAt}
 use Rattle.wu_engine.specs.Finding.{IsBrokenIn, IsCause, lines_at, lines_of_record}
 use Rattle.wu_engine.proofs.AnswerLemmas.{if_ok}
 use Rattle.wu_engine.proofs.FirstLines.{lines_of_file}
+use Rattle.wu_engine.proofs.WholeTexts.{whole_shown}
 use Rattle.wu_engine.proofs.ReadCauses.{broken_file, cause_after, if_err, recorded}
 use Rattle.wu_engine.proofs.finding.put_file.Goals as goal
 
@@ -49,3 +51,11 @@ returns-in_ok-extents-in-Some-clause-cause g c =
     (λ trouble. cause_after (IsBrokenIn holds file) (IsDamagedAt files holds) before before now trouble refl
     (broken_file holds c.args.seen.now.ino file files (sym c.in-Some.ensures.value)))
     c.put_lines.ensures.cause
+
+pub returns-in_ok-extents-in-Some-clause-sound : goal.returns-in_ok-extents-in-Some-clause-sound
+returns-in_ok-extents-in-Some-clause-sound g c =
+    on_ok_weaker c.put_lines.result
+    (whole_shown (g.D.Store.holds c.args.store.now) c.args.files.now.entries (region_of c.args.expr.now) c.args.lists.now c.args.seen.now
+    c.in-Some.file.now c.args.left c.deref.result.now (sym c.in-Some.ensures.value)
+    (c.deref.ensures.value ∙ c.in_ok-extents-in-Some.ensures.extents))
+    c.put_lines.ensures.sound

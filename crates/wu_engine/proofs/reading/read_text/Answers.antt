@@ -1,6 +1,9 @@
 use Rattle.wu_engine.proofs.ReadTexts.{empty_long}
-use Rattle.std.proofs.Common.{rules}
+use Rattle.std.proofs.Common.{◌≡◌, arith, rules}
 use Rattle.wu_engine.proofs.reading.read_text.Goals as goal
 
 pub returns-then-file-eq0-clause-tokens : goal.returns-then-file-eq0-clause-tokens
 returns-then-file-eq0-clause-tokens g c = rw c.new.ensures.items (empty_long c.args.file.now c.requires (search rules))
+
+pub returns-then-file-eq0-clause-sound : goal.returns-then-file-eq0-clause-sound
+returns-then-file-eq0-clause-sound g c = λ some. let none : c.args.file.now.blob ≡ 0 = search rules in absurd (omega (arith, none, some))

@@ -1,9 +1,10 @@
 use Rattle.std.proofs.Common.{◌≡◌, ◌++◌, arith, inr, rules, subst, sym, length, ℕ, List}
 use Rattle.wu_engine.specs.Saving.{checkpoint_blob, removed_by_save}
 use Rattle.wu_engine.specs.SavedStores.{SomeDone, remove_blob}
-use Rattle.wu_engine.proofs.SavedContents.{all_some, named_checkpoint, named_removed, named_rooted}
+use Rattle.wu_engine.proofs.SavedContents.{all_some, named_checkpoint, named_removed, named_rooted, on_err}
 use Rattle.wu_engine.proofs.SavedSteps.{saves_from, stale_drawn}
 use Rattle.wu_engine.proofs.SoundLemmas.{numbers_left}
+use Rattle.wu_engine.proofs.StoppedSaves.{stops_after_flush, stops_at_checkpoint, stops_at_flush, stops_at_removal, stops_at_root}
 use Rattle.wu_engine.proofs.saving.save.Goals as goal
 
 pub returns-in_err-put_checkpoint-clause-elsewhere : goal.returns-in_err-put_checkpoint-clause-elsewhere
@@ -79,3 +80,70 @@ returns-clause-saved g c =
     c.in_ok-set_root.ensures.set c.in_ok-set_root.ensures.settled
     c.stale.result.now c.stale.ensures
     c.in_ok-remove_unneeded.ensures.removed c.in_ok-remove_unneeded.ensures.settled c.clear_stale.ensures
+
+-- ---- how far a save came that failed
+
+pub returns-in_err-flush-clause-stops : goal.returns-in_err-flush-clause-stops
+returns-in_err-flush-clause-stops g c =
+    let holds = g.D.Store.holds in
+    let moments = g.D.Store.moments in
+    on_err c.from_residual.result
+    (stops_at_flush c.args.tree.now c.args.space.now c.args.files.now.entries c.args.checkpoint c.args.parts.now
+    (holds c.args.store.now, moments c.args.store.now) (holds c.flush.new.store, moments c.flush.new.store)
+    c.flush.ensures.elsewhere c.flush.ensures.tried)
+
+pub returns-in_err-bytes-clause-stops : goal.returns-in_err-bytes-clause-stops
+returns-in_err-bytes-clause-stops g c =
+    let holds = g.D.Store.holds in
+    let moments = g.D.Store.moments in
+    on_err c.from_residual-in_err-bytes.result
+    (stops_after_flush c.args.tree.now c.args.space.now c.args.files.now.entries c.args.checkpoint c.args.parts.now
+    (holds c.args.store.now, moments c.args.store.now) c.flush.new.self c.draw_blob-blob.new.self
+    (holds c.flush.new.store, moments c.flush.new.store) c.in_ok-flush.ensures.flushed c.in_ok-flush.ensures.changes
+    c.draw_blob-blob.result c.draw_blob-blob.ensures.blob)
+
+pub returns-in_err-put_checkpoint-clause-stops : goal.returns-in_err-put_checkpoint-clause-stops
+returns-in_err-put_checkpoint-clause-stops g c =
+    let holds = g.D.Store.holds in
+    let moments = g.D.Store.moments in
+    on_err c.from_residual-in_err-put_checkpoint.result
+    (stops_at_checkpoint c.args.tree.now c.args.space.now c.args.files.now.entries c.args.checkpoint c.args.parts.now
+    (holds c.args.store.now, moments c.args.store.now) c.flush.new.self c.draw_blob-blob.new.self
+    (holds c.flush.new.store, moments c.flush.new.store) c.in_ok-flush.ensures.flushed c.in_ok-flush.ensures.changes
+    c.draw_blob-blob.result c.draw_blob-blob.ensures.blob
+    (holds c.put_checkpoint.new.store, moments c.put_checkpoint.new.store) c.put_checkpoint.ensures.elsewhere
+    c.in_err-put_checkpoint.ensures.tried)
+
+pub returns-in_err-set_root-clause-stops : goal.returns-in_err-set_root-clause-stops
+returns-in_err-set_root-clause-stops g c =
+    let holds = g.D.Store.holds in
+    let moments = g.D.Store.moments in
+    let size : c.len.result ≡ length c.in_ok-bytes.bytes.items = search rules in
+    on_err c.from_residual-in_err-set_root.result
+    (stops_at_root c.args.tree.now c.args.space.now c.args.files.now.entries c.args.checkpoint c.args.parts.now
+    (holds c.args.store.now, moments c.args.store.now) c.flush.new.self c.draw_blob-blob.new.self
+    (holds c.flush.new.store, moments c.flush.new.store) c.in_ok-flush.ensures.flushed c.in_ok-flush.ensures.changes
+    c.draw_blob-blob.result c.draw_blob-blob.ensures.blob c.draw_blob-blob.ensures.next
+    c.in_ok-bytes.bytes.items c.deref.result.now c.write_root.result c.len.result c.next.result c.next_blob.result
+    c.in_ok-bytes.ensures c.deref.ensures.value size c.next.ensures c.next_blob.ensures c.write_root.ensures
+    (holds c.put_checkpoint.new.store, moments c.put_checkpoint.new.store) c.in_ok-put_checkpoint.ensures.put
+    c.in_ok-put_checkpoint.ensures.settled (holds c.set_root.new.store, moments c.set_root.new.store)
+    c.in_err-set_root.ensures.failed c.in_err-set_root.ensures.tried)
+
+pub returns-in_err-remove_unneeded-clause-stops : goal.returns-in_err-remove_unneeded-clause-stops
+returns-in_err-remove_unneeded-clause-stops g c =
+    let holds = g.D.Store.holds in
+    let moments = g.D.Store.moments in
+    let size : c.len.result ≡ length c.in_ok-bytes.bytes.items = search rules in
+    on_err c.from_residual-in_err-remove_unneeded.result
+    (stops_at_removal c.args.tree.now c.args.space.now c.args.files.now.entries c.args.checkpoint c.args.parts.now
+    (holds c.args.store.now, moments c.args.store.now) c.flush.new.self c.draw_blob-blob.new.self
+    (holds c.flush.new.store, moments c.flush.new.store) c.in_ok-flush.ensures.flushed c.in_ok-flush.ensures.changes
+    c.draw_blob-blob.result c.draw_blob-blob.ensures.blob c.draw_blob-blob.ensures.next
+    c.in_ok-bytes.bytes.items c.deref.result.now c.write_root.result c.len.result c.next.result c.next_blob.result
+    c.in_ok-bytes.ensures c.deref.ensures.value size c.next.ensures c.next_blob.ensures c.write_root.ensures
+    (holds c.put_checkpoint.new.store, moments c.put_checkpoint.new.store) c.in_ok-put_checkpoint.ensures.put
+    c.in_ok-put_checkpoint.ensures.settled (holds c.set_root.new.store, moments c.set_root.new.store)
+    (holds c.remove_unneeded.new.store, moments c.remove_unneeded.new.store) c.stale.result.now c.stale.ensures
+    c.in_ok-set_root.ensures.set c.in_ok-set_root.ensures.settled c.in_err-remove_unneeded.ensures.failed
+    c.in_err-remove_unneeded.ensures.tried)

@@ -1,8 +1,11 @@
-use Rattle.std.proofs.Common.{◌≡◌, ◌+◌, ◌<◌, ◌∙◌, ℕ, Bool, cond, ap, subst, sym, arith}
+use Rattle.std.proofs.Common.{◌≡◌, ◌+◌, ◌<◌, ◌∙◌, ℕ, List, Option, Bool, cond, ap, subst, sym, arith}
 use Rattle.std.proofs.lemmas.Result.{on_ok_weaker}
 use Rattle.wu_parts.specs.Contents.{Contents}
 use Rattle.wu_parts.specs.Memory.{Gains}
 use Rattle.wu_engine.specs.Indexing.{FlushesFull, IsIndexable, KeepsParts, catalog_after, catalog_of, is_stored, terms_after}
+use Rattle.wu_outside.specs.Content.{with_blob}
+use Rattle.wu_outside.specs.Crash.{Moments, Put, try_change}
+use Rattle.wu_engine.proofs.LeftImages.{changed_first, changed_twice}
 use Rattle.wu_engine.proofs.OtherBlobs.{drawn_once, others_once, others_twice}
 use Rattle.wu_engine.proofs.updating.follow.Goals as goal
 
@@ -86,3 +89,31 @@ returns-clause-untouched g c =
           ∙ ap (λ (p : Contents). p.next_blob) drawn ∙ none,
     ))
     c.flush_if_full.ensures.untouched
+
+-- a put is tried
+abbrev tried : ℕ → Option (List ℕ) → Moments → Moments
+tried blob written moments = try_change (Put blob) (with_blob blob written) moments
+
+pub returns-clause-tried : goal.returns-clause-tried
+returns-clause-tried g c =
+    let moments = g.D.Store.moments in
+    let next = c.args.parts.now.next_blob in
+    let drawn = drawn_once c.args.effect.texted c.args.text.now c.args.parts.now c.store_text.new.parts c.index.new.parts
+    c.in_ok-blob.ensures.parts c.in_ok-index.ensures.others in
+    changed_twice tried next (next + 2) next c.index.new.parts.next_blob (moments c.args.store.now) (moments c.store_text.new.store)
+    (moments c.flush_if_full.new.store) (omega arith) (omega arith) drawn.least (omega (arith, drawn.most))
+    c.store_text.ensures.tried c.flush_if_full.ensures.tried
+
+pub returns-in_err-blob-clause-tried : goal.returns-in_err-blob-clause-tried
+returns-in_err-blob-clause-tried g c =
+    let moments = g.D.Store.moments in
+    let next = c.args.parts.now.next_blob in
+    changed_first tried next (next + 2) next (moments c.args.store.now) (moments c.store_text.new.store) (omega arith) (omega arith)
+    c.store_text.ensures.tried
+
+pub returns-in_err-index-clause-tried : goal.returns-in_err-index-clause-tried
+returns-in_err-index-clause-tried g c =
+    let moments = g.D.Store.moments in
+    let next = c.args.parts.now.next_blob in
+    changed_first tried next (next + 2) next (moments c.args.store.now) (moments c.store_text.new.store) (omega arith) (omega arith)
+    c.store_text.ensures.tried

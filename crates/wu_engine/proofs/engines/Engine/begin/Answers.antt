@@ -4,6 +4,7 @@ use Rattle.std.proofs.lemmas.Result.{on_ok_weaker}
 use Rattle.wu_engine.specs.Opened.{FindsRoot}
 use Rattle.wu_engine.specs.Opening.{IsBeginCause}
 use Rattle.wu_engine.proofs.GoingAtFirst.{begins_going, first_goes}
+use Rattle.wu_engine.proofs.LeftImages.{opened_durable, opened_left}
 use Rattle.wu_engine.proofs.OpenedStates.{begins_cause, begins_first, begins_open, begins_reads, begins_saved, error_passed, never_damaged, on_any_err, on_any_ok, opens_nothing, reads_nothing, spent_on}
 use Rattle.wu_engine.proofs.engines.Engine.begin.Goals as goal
 
@@ -113,3 +114,35 @@ returns-in_ok-open_first-in-None-clause-reads g c =
     let reads = g.D.Store.reads in
     reads_nothing (g.D.Store.holds c.args.store.now) (reads c.args.store.now) (reads c.open_root.new.store)
     (c.open_root.ensures.reads ∙ c.sync.ensures.unread)
+
+pub returns-in-Some-clause-survives : goal.returns-in-Some-clause-survives
+returns-in-Some-clause-survives g c =
+    opened_left (g.D.Store.moments c.args.store.now) (g.D.Store.moments c.open_saved.new.store)
+    (c.open_saved.ensures.moments ∙ (c.open_root.ensures.moments ∙ c.in_ok-sync.ensures.settled))
+
+pub returns-in-Some-clause-durable : goal.returns-in-Some-clause-durable
+returns-in-Some-clause-durable g c = λ s image.
+    on_any_ok _ c.open_saved.result
+    (opened_durable (g.D.Store.holds c.args.store.now) (g.D.Store.moments c.args.store.now) (g.D.Store.moments c.open_saved.new.store)
+    (g.met.D.Store.told_alike c.args.store.now)
+    (c.open_saved.ensures.moments ∙ (c.open_root.ensures.moments ∙ c.in_ok-sync.ensures.settled)) s image)
+
+pub returns-in_ok-open_first-in-None-clause-durable : goal.returns-in_ok-open_first-in-None-clause-durable
+returns-in_ok-open_first-in-None-clause-durable g c = λ s image.
+    opened_durable (g.D.Store.holds c.args.store.now) (g.D.Store.moments c.args.store.now) (g.D.Store.moments c.open_root.new.store)
+    (g.met.D.Store.told_alike c.args.store.now) (c.open_root.ensures.moments ∙ c.in_ok-sync.ensures.settled) s image
+
+pub returns-in_ok-open_first-in-None-clause-survives : goal.returns-in_ok-open_first-in-None-clause-survives
+returns-in_ok-open_first-in-None-clause-survives g c =
+    opened_left (g.D.Store.moments c.args.store.now) (g.D.Store.moments c.open_root.new.store)
+    (c.open_root.ensures.moments ∙ c.in_ok-sync.ensures.settled)
+
+pub returns-in_err-open_root-clause-survives : goal.returns-in_err-open_root-clause-survives
+returns-in_err-open_root-clause-survives g c =
+    opened_left (g.D.Store.moments c.args.store.now) (g.D.Store.moments c.open_root.new.store)
+    (c.open_root.ensures.moments ∙ c.in_ok-sync.ensures.settled)
+
+pub returns-in_err-open_first-in-None-clause-survives : goal.returns-in_err-open_first-in-None-clause-survives
+returns-in_err-open_first-in-None-clause-survives g c =
+    opened_left (g.D.Store.moments c.args.store.now) (g.D.Store.moments c.open_root.new.store)
+    (c.open_root.ensures.moments ∙ c.in_ok-sync.ensures.settled)

@@ -3,7 +3,9 @@ use Rattle.wu_base.specs.declared.addresses.Range.{Range}
 use Rattle.wu_layout.specs.Postings.{live_of}
 use Rattle.wu_engine.proofs.AddedBlobs.{draws_named, flushed_draws}
 use Rattle.wu_engine.proofs.GoingEvents.{flush_sound, has_none}
+use Rattle.wu_engine.proofs.LeftImages.{put_left}
 use Rattle.wu_engine.proofs.NamedBlobs.{flush_names}
+use Rattle.wu_engine.proofs.SoundLemmas.{numbers_left}
 use Rattle.wu_engine.proofs.StandLemmas.{flushed_on}
 use Rattle.wu_engine.proofs.engines.Engine.flush.Goals as goal
 
@@ -44,3 +46,16 @@ returns-in-Ok-clause-goes g c = λ start goes.
           old.parts c.flush.new.self (holds c.args.store.now, moments c.args.store.now) (holds c.flush.new.store, moments c.flush.new.store)
           (c.in-Ok.ensures.flushed goes.low goes.high goes.postings goes.memory) goes.sound;
     }
+
+pub returns-in-Ok-clause-onward : goal.returns-in-Ok-clause-onward
+returns-in-Ok-clause-onward g c = (numbers_left c.args.self.now.parts c.flush.new.self c.in-Ok.ensures.changes).least
+
+pub returns-in-Ok-clause-survives : goal.returns-in-Ok-clause-survives
+returns-in-Ok-clause-survives g c = λ s last stands saved.
+    put_left c.args.self.now (g.D.Store.holds c.args.store.now) s last (g.D.Store.moments c.args.store.now)
+    (g.D.Store.moments c.flush.new.store) stands saved c.flush.ensures.tried
+
+pub returns-in-Err-clause-survives : goal.returns-in-Err-clause-survives
+returns-in-Err-clause-survives g c = λ s last stands saved.
+    put_left c.args.self.now (g.D.Store.holds c.args.store.now) s last (g.D.Store.moments c.args.store.now)
+    (g.D.Store.moments c.flush.new.store) stands saved c.flush.ensures.tried

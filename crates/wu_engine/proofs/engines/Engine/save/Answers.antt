@@ -1,6 +1,7 @@
 use Rattle.std.proofs.Common.{refl}
 use Rattle.wu_parts.specs.Flushing.{Told}
 use Rattle.wu_engine.proofs.GoingSaves.{none_in_memory, save_sound}
+use Rattle.wu_engine.proofs.SavedCrashes.{saved_durable, saved_left, stopped_left}
 use Rattle.wu_engine.proofs.SavedEngines.{LeavesSaved, gone_saved, image_on, named_on, numbers_saved, saved_on, sound_saved}
 use Rattle.wu_engine.proofs.engines.Engine.save.Given.{Over}
 use Rattle.wu_engine.proofs.engines.Engine.save.Goals as goal
@@ -86,3 +87,29 @@ returns-in-Ok-clause-goes g c = λ start goes.
           save_sound old.tree old.space old.files.entries old.checkpoint c.in-Ok.checkpoint old.parts c.save.new.parts (before g c)
           (after g c) c.in-Ok.ensures.saved start goes.low goes.high goes.postings goes.memory goes.sound;
     }
+
+pub returns-in-Ok-clause-onward : goal.returns-in-Ok-clause-onward
+returns-in-Ok-clause-onward g c = (numbers g c).least
+
+pub returns-in-Ok-clause-order : goal.returns-in-Ok-clause-order
+returns-in-Ok-clause-order g c = c.in-Ok.ensures.saved
+
+pub returns-in-Ok-clause-survives : goal.returns-in-Ok-clause-survives
+returns-in-Ok-clause-survives g c = λ s last stands saved.
+    let old = c.args.self.now in
+    saved_left old c.in-Ok.checkpoint c.save.new.parts s (before g c) (after g c) stands (g.met.D.Store.told_alike c.args.store.now)
+    (old.sound c.in_default.is).few c.in-Ok.ensures.saved last saved
+
+pub returns-in-Ok-clause-durable : goal.returns-in-Ok-clause-durable
+returns-in-Ok-clause-durable g c = λ s stands.
+    let old = c.args.self.now in
+    saved_durable old c.in-Ok.checkpoint c.save.new.parts s (before g c) (after g c) stands (g.met.D.Store.told_alike c.args.store.now)
+    (old.sound c.in_default.is).few c.in-Ok.ensures.saved
+
+pub returns-in-Err-clause-survives : goal.returns-in-Err-clause-survives
+returns-in-Err-clause-survives g c = λ s last stands saved.
+    let old = c.args.self.now in
+    let holds = g.D.Store.holds in
+    let moments = g.D.Store.moments in
+    stopped_left old s (holds c.args.store.now, moments c.args.store.now) stands (g.met.D.Store.told_alike c.args.store.now) last saved
+    (old.sound c.in_default.is).few (holds c.save.new.store, moments c.save.new.store) c.in-Err.ensures.stops

@@ -1,11 +1,13 @@
-use Rattle.std.proofs.Common.{[], ap, refl, arith}
+use Rattle.std.proofs.Common.{[], ◌+◌, ap, refl, arith}
 use Rattle.wu_parts.specs.Flushing.{Told}
 use Rattle.wu_engine.specs.Indexing.{Catalog}
+use Rattle.wu_engine.specs.Renewing.{Touches}
 use Rattle.wu_engine.specs.States.{after_event}
 use Rattle.wu_engine.proofs.AddedBlobs.{draws_named, event_draws, none_added}
 use Rattle.wu_engine.proofs.FileChanges.{changes}
 use Rattle.wu_engine.proofs.GoingEvents.{HasSome, goes_followed, has_followed}
-use Rattle.wu_engine.proofs.KeptFrames.{gave_text, kept_for}
+use Rattle.wu_engine.proofs.KeptFrames.{touches}
+use Rattle.wu_engine.proofs.LeftImages.{puts_left, still_left}
 use Rattle.wu_engine.proofs.LeftStores.{left_alone}
 use Rattle.wu_engine.proofs.NamedBlobs.{event_names}
 use Rattle.wu_engine.proofs.Searching.{sound_prepared}
@@ -42,15 +44,13 @@ invariant_of-self-in-Ok-followed g c =
     let done = c.in-Ok-followed.ensures.done in
     let sound = old.sound c.in_default.is in
     let rules = c.keeps_the_rules.ensures in
-    let texted = c.texted_before-texted.result in
-    let had = c.texted_before-texted.ensures in
-    let gave =
-    gave_text old.tree event tree effect step old.space space texted had text rules (ap (λ (k : Catalog). k.space) done.catalog) in
+    let touched : Touches old.tree old.space tree space c.touched_by-touched.result =
+    rw c.touched_by-touched.ensures
+    (touches old.tree old.space text rules event tree effect step space (ap (λ (k : Catalog). k.space) done.catalog)) in
     record {
       sound = λ _.
           sound_prepared tree space parts parts files [] c.renew_frames.new.frames refl
-          (c.renew_frames.ensures tree old.space gave
-          (kept_for old.tree event tree effect step old.space space texted had old.frames sound.frames))
+          (c.renew_frames.ensures old.tree old.space touched sound.frames)
           (sound_followed effect text old.space space old.files.entries files old.parts parts before after done old.tree tree
           (c.effects_tell_files.ensures event tree effect step) (changes old.tree event tree effect step).1
           old.frames sound rules.by_number c.requires.short (omega (arith, taken)));
@@ -164,3 +164,20 @@ returns-in-Err-clause-goes g c = λ start goes. record {
   memory = goes.memory;
   sound = goes.sound;
 }
+
+pub returns-in-Ok-followed-clause-survives : goal.returns-in-Ok-followed-clause-survives
+returns-in-Ok-followed-clause-survives g c = λ s last stands saved.
+    let next = c.args.self.now.parts.next_blob in
+    puts_left c.args.self.now (g.D.Store.holds c.args.store.now) s last (g.D.Store.moments c.args.store.now)
+    (g.D.Store.moments c.follow-followed.new.store) stands saved (next + 2) 2 c.follow-followed.ensures.tried
+
+pub returns-in-Err-clause-survives : goal.returns-in-Err-clause-survives
+returns-in-Err-clause-survives g c = λ s last stands saved.
+    still_left c.args.self.now (g.D.Store.holds c.args.store.now) s last (g.D.Store.moments c.args.store.now)
+    (g.D.Store.moments c.args.store.now) stands saved refl
+
+pub returns-in-Err-followed-clause-survives : goal.returns-in-Err-followed-clause-survives
+returns-in-Err-followed-clause-survives g c = λ s last stands saved.
+    let next = c.args.self.now.parts.next_blob in
+    puts_left c.args.self.now (g.D.Store.holds c.args.store.now) s last (g.D.Store.moments c.args.store.now)
+    (g.D.Store.moments c.follow-followed.new.store) stands saved (next + 2) 2 c.follow-followed.ensures.tried

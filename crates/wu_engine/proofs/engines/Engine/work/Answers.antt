@@ -5,6 +5,7 @@ use Rattle.wu_parts.specs.Memory.{HasPostings, Memory}
 use Rattle.wu_engine.proofs.AddedBlobs.{draws_named, units_draw}
 use Rattle.wu_engine.proofs.BrokenBlobs.{worked_is_broken}
 use Rattle.wu_engine.proofs.GoingUnits.{units_sound}
+use Rattle.wu_engine.proofs.LeftImages.{puts_left}
 use Rattle.wu_engine.proofs.NamedBlobs.{work_names}
 use Rattle.wu_engine.proofs.WorkedStates.{others_worked, parts_told, worked_on}
 use Rattle.wu_engine.proofs.WorkReads.{stop_permitted, work_permitted}
@@ -92,3 +93,15 @@ returns-in-Err-clause-broken g c = λ start goes blob e.
     let same : c.in-Err.trouble ≡ Damaged blob = cc in
     worked_is_broken start (g.D.Store.holds c.args.store.now) old.files.entries old.parts old.checkpoint blob goes.sound
     (c.in-Err.ensures.stops.damaged blob same)
+
+pub returns-in-Ok-clause-survives : goal.returns-in-Ok-clause-survives
+returns-in-Ok-clause-survives g c = λ s last stands saved.
+    let next = c.args.self.now.parts.next_blob in
+    puts_left c.args.self.now (g.D.Store.holds c.args.store.now) s last (g.D.Store.moments c.args.store.now)
+    (g.D.Store.moments c.work.new.store) stands saved (next + c.args.n) c.args.n c.work.ensures.tried
+
+pub returns-in-Err-clause-survives : goal.returns-in-Err-clause-survives
+returns-in-Err-clause-survives g c = λ s last stands saved.
+    let next = c.args.self.now.parts.next_blob in
+    puts_left c.args.self.now (g.D.Store.holds c.args.store.now) s last (g.D.Store.moments c.args.store.now)
+    (g.D.Store.moments c.work.new.store) stands saved (next + c.args.n) c.args.n c.work.ensures.tried
