@@ -14,3 +14,6 @@ pub mod ShortTexts
 pub mod StateLemmas
 pub mod ViewLemmas
 pub mod DemoLemmas
+pub mod SavesOfItems
+pub mod CrashesUnderWay
+pub mod CrashesAtEnd

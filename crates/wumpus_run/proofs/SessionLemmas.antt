@@ -69,7 +69,7 @@ output-append rules s (entry ∷ entries) more =
     ap (λ bs. said_bytes s said ++ bs) (output-append rules next entries more)
     ∙ sym (append_assoc (said_bytes s said) (output_of rules next entries) (output_of rules (state_after rules next entries) more))
 
-state-append : (rules : Rules) (s : State) (entries more : List Entry)
+pub state-append : (rules : Rules) (s : State) (entries more : List Entry)
     → state_after rules s (entries ++ more) ≡ state_after rules (state_after rules s entries) more
 state-append rules s [] more = refl
 state-append rules s (entry ∷ entries) more = state-append rules (after rules.flush_at s (said_of rules.read entry)) entries more
@@ -105,8 +105,8 @@ module _ (told : Settings) (start : State) where
 
   -- ---- a turn
 
-  one-more : (rules : Rules) → IsReading rules.read → (before between now : Option (List ℕ)) (input left rest : List ℕ) (s : State)
-      (item : Item) → IsBeforeEnd item → IsFirstItem left rest item → HasAnsweredItems rules before between input left s
+  unfoldable pub one-more : (rules : Rules) → IsReading rules.read → (before between now : Option (List ℕ)) (input left rest : List ℕ)
+      (s : State) (item : Item) → IsBeforeEnd item → IsFirstItem left rest item → HasAnsweredItems rules before between input left s
       → Appends between now (said_bytes s (said_by item))
       → HasAnsweredItems rules before now input rest (after rules.flush_at s (said_by item))
   one-more rules are before between now input left rest s item other next sent wrote =

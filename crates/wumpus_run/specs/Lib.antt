@@ -4,4 +4,5 @@ pub mod Taking
 pub mod Session
 pub mod Permitted
 pub mod Strays
+pub mod Crashes
 pub mod Demo

@@ -1,17 +1,20 @@
 //! An item of the script is answered by the engine.
-ghost use Rattle.std.specs.Prelude.{◌≡◌, ℕ, ◌+◌, ◌<◌, ◌≤◌, ◌^◌, ◌++◌, None, Option, Err, length, IfErr, IfOk, OnOk};
+ghost use Rattle.std.specs.Prelude.{◌≡◌, ℕ, ◌+◌, ◌<◌, ◌≤◌, ◌^◌, ◌∷◌, ◌++◌, None, Option, Err, length, IfErr, IfOk, OnOk};
 ghost use Rattle.wu_base.specs.declared.limits.TheConstants.{ADDRESSES_MAX, TEXT_MAX, WORK_MAX};
 ghost use Rattle.wu_base.specs.declared.troubles.Trouble.TheVariants.{Damaged};
 ghost use Rattle.wu_outside.specs.Content.{Content};
+ghost use Rattle.wu_outside.specs.Surviving.{Leaves, LeavesNow};
 ghost use Rattle.wu_ask.specs.Questions.{question_of, IsSoundAsk};
 ghost use Rattle.wu_tree.specs.Steps.{IsEvent};
 ghost use Rattle.wu_script.specs.Commands.{Flush, Save, Stat, Work};
 ghost use Rattle.wu_script.specs.Said.{Asks, Happens, IsSoundItem, Operates, said_by, tokens_given};
 ghost use Rattle.wu_engine.specs.Causes.{HasTroubleCause};
+ghost use Rattle.wu_engine.specs.Crashes.{IsImageOf, IsImageOfEither, IsSavedLast};
 ghost use Rattle.wu_engine.specs.Permitted.{ReadsOnly};
 ghost use Rattle.wu_engine.specs.Going.{Goes, HasBroken};
 ghost use Rattle.wu_engine.specs.Stands.{Stands};
 ghost use Rattle.wu_engine.specs.States.{State, flushed_state, saved_state, worked_state};
+ghost use Rattle.wumpus_run.specs.Crashes.{IsImageOfOne, last_or, left_to_next, saved_for};
 ghost use Rattle.wumpus_run.specs.Permitted.{MayReadFor};
 ghost use Rattle.wumpus_run.specs.Replies.{after, reply_to, said_bytes, verdict_reply};
 ghost use Rattle.wumpus_run.specs.Strays.{AddsNoStray};
@@ -45,8 +48,13 @@ pub fn answer<D: Store>(
         (AddsNoStray s.layout (D.holds store.old) (after engine.old.parts.flush_at s (said_by item)).layout (D.holds store.new)) }
     ensures permitted { (s : State) → Stands engine.old (D.holds store.old) s
         → ReadsOnly (MayReadFor s (said_by item)) (D.reads store.old) (D.reads store.new) }
+    ensures survives { (s last : State) → Stands engine.old (D.holds store.old) s → IsSavedLast (D.moments store.old) s last
+        → Leaves (D.moments store.old) (D.moments store.new) (IsImageOfOne (last ∷ saved_for s (said_by item))) }
+    ensures durable { (s last : State) → Stands engine.old (D.holds store.old) s → IsSavedLast (D.moments store.old) s last
+        → OnOk result (LeavesNow (D.moments store.new) (IsImageOf (last_or last (saved_for s (said_by item))))) }
     ensures taken { OnOk result (engine.new.space.next ≤ engine.old.space.next + tokens_given (said_by item)) }
     ensures drawn { OnOk result (engine.new.parts.next_blob ≤ engine.old.parts.next_blob + WORK_MAX) }
+    ensures onward { OnOk result (engine.old.parts.next_blob ≤ engine.new.parts.next_blob) }
     ensures counted { OnOk result (engine.new.parts.flushes ≤ engine.old.parts.flushes + 2) }
     ensures flush_at { OnOk result (engine.new.parts.flush_at ≡ engine.old.parts.flush_at) }
     ensures goes { (start : Content) → Goes engine.old start (D.holds store.old) → OnOk result (Goes engine.new start (D.holds store.new)) }
@@ -82,8 +90,13 @@ pub fn reply_to<D: Store>(
         (AddsNoStray s.layout (D.holds store.old) (after engine.old.parts.flush_at s (said_by item)).layout (D.holds store.new)) }
     ensures permitted { (s : State) → Stands engine.old (D.holds store.old) s
         → ReadsOnly (MayReadFor s (said_by item)) (D.reads store.old) (D.reads store.new) }
+    ensures survives { (s last : State) → Stands engine.old (D.holds store.old) s → IsSavedLast (D.moments store.old) s last
+        → Leaves (D.moments store.old) (D.moments store.new) (IsImageOfOne (last ∷ saved_for s (said_by item))) }
+    ensures durable { (s last : State) → Stands engine.old (D.holds store.old) s → IsSavedLast (D.moments store.old) s last
+        → OnOk result (LeavesNow (D.moments store.new) (IsImageOf (last_or last (saved_for s (said_by item))))) }
     ensures taken { OnOk result (engine.new.space.next ≤ engine.old.space.next + tokens_given (said_by item)) }
     ensures drawn { OnOk result (engine.new.parts.next_blob ≤ engine.old.parts.next_blob + WORK_MAX) }
+    ensures onward { OnOk result (engine.old.parts.next_blob ≤ engine.new.parts.next_blob) }
     ensures counted { OnOk result (engine.new.parts.flushes ≤ engine.old.parts.flushes + 2) }
     ensures flush_at { OnOk result (engine.new.parts.flush_at ≡ engine.old.parts.flush_at) }
     ensures goes { (start : Content) → Goes engine.old start (D.holds store.old) → OnOk result (Goes engine.new start (D.holds store.new)) }
@@ -126,8 +139,11 @@ fn reply_to_event<D: Store>(
     ensures named { (s : State) → Stands engine.old (D.holds store.old) s → OnOk result (AddsNoStray s.layout
         (D.holds store.old) (after engine.old.parts.flush_at s (Happens event.now body.now)).layout (D.holds store.new)) }
     ensures reads { D.reads store.new ≡ D.reads store.old }
+    ensures survives { (s last : State) → Stands engine.old (D.holds store.old) s → IsSavedLast (D.moments store.old) s last
+        → Leaves (D.moments store.old) (D.moments store.new) (IsImageOf last) }
     ensures taken { OnOk result (engine.new.space.next ≤ engine.old.space.next + tokens_given (Happens event.now body.now)) }
     ensures drawn { OnOk result (engine.new.parts.next_blob ≤ engine.old.parts.next_blob + 2) }
+    ensures onward { OnOk result (engine.old.parts.next_blob ≤ engine.new.parts.next_blob) }
     ensures counted { OnOk result (engine.new.parts.flushes ≤ engine.old.parts.flushes + 2) }
     ensures flush_at { OnOk result (engine.new.parts.flush_at ≡ engine.old.parts.flush_at) }
     ensures goes { (start : Content) → Goes engine.old start (D.holds store.old) → OnOk result (Goes engine.new start (D.holds store.new)) }
@@ -150,6 +166,7 @@ fn reply_to_query<D: Store>(
     ensures reply { (s : State) → Stands engine.old (D.holds store.old) s → IfOk result
         (λ reply. (reply ≡ reply_to s (Asks query.now.uid (question_of query.now.ask))) × Stands engine.new (D.holds store.new) s) }
     ensures holds { D.holds store.new ≡ D.holds store.old }
+    ensures moments { D.moments store.new ≡ D.moments store.old }
     ensures permitted { (s : State) → Stands engine.old (D.holds store.old) s
         → ReadsOnly (MayReadFor s (Asks query.now.uid (question_of query.now.ask))) (D.reads store.old) (D.reads store.new) }
     ensures space { engine.new.space ≡ engine.old.space }
@@ -175,8 +192,11 @@ fn reply_to_flush<D: Store>(engine: &mut Engine, store: &mut D) -> Result<Option
     ensures named { (s : State) → Stands engine.old (D.holds store.old) s → OnOk result
         (AddsNoStray s.layout (D.holds store.old) (flushed_state s).layout (D.holds store.new)) }
     ensures reads { D.reads store.new ≡ D.reads store.old }
+    ensures survives { (s last : State) → Stands engine.old (D.holds store.old) s → IsSavedLast (D.moments store.old) s last
+        → Leaves (D.moments store.old) (D.moments store.new) (IsImageOf last) }
     ensures space { engine.new.space ≡ engine.old.space }
     ensures drawn { OnOk result (engine.new.parts.next_blob ≤ engine.old.parts.next_blob + 1) }
+    ensures onward { OnOk result (engine.old.parts.next_blob ≤ engine.new.parts.next_blob) }
     ensures counted { OnOk result (engine.new.parts.flushes ≤ engine.old.parts.flushes + 2) }
     ensures flush_at { OnOk result (engine.new.parts.flush_at ≡ engine.old.parts.flush_at) }
     ensures goes { (start : Content) → Goes engine.old start (D.holds store.old) → OnOk result (Goes engine.new start (D.holds store.new)) }
@@ -202,8 +222,11 @@ fn reply_to_work<D: Store>(
         (AddsNoStray s.layout (D.holds store.old) (worked_state units s).layout (D.holds store.new)) }
     ensures permitted { (s : State) → Stands engine.old (D.holds store.old) s
         → ReadsOnly (MayReadFor s (Operates (Work units))) (D.reads store.old) (D.reads store.new) }
+    ensures survives { (s last : State) → Stands engine.old (D.holds store.old) s → IsSavedLast (D.moments store.old) s last
+        → Leaves (D.moments store.old) (D.moments store.new) (IsImageOf last) }
     ensures space { engine.new.space ≡ engine.old.space }
     ensures drawn { OnOk result (engine.new.parts.next_blob ≤ engine.old.parts.next_blob + units) }
+    ensures onward { OnOk result (engine.old.parts.next_blob ≤ engine.new.parts.next_blob) }
     ensures counted { OnOk result (engine.new.parts.flushes ≡ engine.old.parts.flushes) }
     ensures flush_at { OnOk result (engine.new.parts.flush_at ≡ engine.old.parts.flush_at) }
     ensures goes { (start : Content) → Goes engine.old start (D.holds store.old) → OnOk result (Goes engine.new start (D.holds store.new)) }
@@ -238,8 +261,13 @@ fn reply_to_save<D: Store>(engine: &mut Engine, store: &mut D) -> Result<Option<
     ensures named { (s : State) → Stands engine.old (D.holds store.old) s → OnOk result
         (AddsNoStray s.layout (D.holds store.old) (saved_state s).layout (D.holds store.new)) }
     ensures reads { D.reads store.new ≡ D.reads store.old }
+    ensures survives { (s last : State) → Stands engine.old (D.holds store.old) s → IsSavedLast (D.moments store.old) s last
+        → Leaves (D.moments store.old) (D.moments store.new) (IsImageOfEither last (left_to_next s)) }
+    ensures durable { (s : State) → Stands engine.old (D.holds store.old) s
+        → OnOk result (LeavesNow (D.moments store.new) (IsImageOf (left_to_next s))) }
     ensures space { engine.new.space ≡ engine.old.space }
     ensures drawn { OnOk result (engine.new.parts.next_blob ≤ engine.old.parts.next_blob + 2) }
+    ensures onward { OnOk result (engine.old.parts.next_blob ≤ engine.new.parts.next_blob) }
     ensures counted { OnOk result (engine.new.parts.flushes ≤ engine.old.parts.flushes + 2) }
     ensures flush_at { OnOk result (engine.new.parts.flush_at ≡ engine.old.parts.flush_at) }
     ensures goes { (start : Content) → Goes engine.old start (D.holds store.old) → OnOk result (Goes engine.new start (D.holds store.new)) }

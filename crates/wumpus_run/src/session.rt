@@ -5,8 +5,10 @@ ghost use Rattle.wu_base.specs.declared.limits.TheConstants.{BLOBS_SPENT_AT, INP
 ghost use Rattle.wu_outside.specs.Content.{Content};
 ghost use Rattle.wu_outside.specs.Faults.{HasFaultCause, Rose};
 ghost use Rattle.wu_outside.specs.Gains.{GainsPrefix};
+ghost use Rattle.wu_outside.specs.Surviving.{IsLeft, Leaves, LeavesNow};
 ghost use Rattle.wu_script.specs.Items.{IsBeforeEnd};
 ghost use Rattle.wu_options.specs.CommandLines.{command_line_of, texts_of};
+ghost use Rattle.wu_engine.specs.Crashes.{IsImageOf, IsImageOfEither, IsSavedLast};
 ghost use Rattle.wu_engine.specs.Going.{Goes, HasBroken};
 ghost use Rattle.wu_engine.specs.Stands.{Stands};
 ghost use Rattle.wu_engine.specs.Opening.{HoldsImage, IsBeginCause, IsSpentWhere, ReadsAtOpening};
@@ -16,6 +18,7 @@ ghost use Rattle.wumpus_run.specs.Demo.{IfDemo, IsShown};
 ghost use Rattle.wumpus_run.specs.Permitted.{ReadsPermitted};
 ghost use Rattle.wumpus_run.specs.Session.{LeavesNoStray, settings_of, moment, status_of, status_of_fault, status_of_opening, status_of_trouble, IsUsage, IsCounted, IsSpent, AnswersAll, AnswersPrefix, FromImage, HasRoom, SavesAll, StaysWithin, IsSession, IsTooLong, HoldsNothingBack, Completes, TakesAll};
 ghost use Rattle.wumpus_run.specs.Strays.{AddsNoStray};
+ghost use Rattle.wumpus_run.specs.Crashes.{LeavesAcknowledged, LeavesLast, LeavesSaves, Survives, left_to_next};
 
 use crate::answering::answer;
 use crate::demo::demo;
@@ -76,6 +79,21 @@ pub fn run<I: Source, O: Sink, D: Store>(
     // terms where her files are and the texts of which a line is shown, and for background work the blocks of its terms.
     ensures permitted { FromImage (D.holds store.old) (λ s. ReadsPermitted s (settings_of (texts_of words.now))
         (D.holds store.old) (I.left source.old) (D.reads store.old) (D.reads store.new)) }
+
+    // A crash while the session goes on leaves what one could leave before it, or an image of one of its saves. After it a crash
+    // leaves the last save whose reply the sink has, or the next one; after Done what the items leave.
+    ensures crash { FromImage (D.holds store.old) (λ s. LeavesSaves s (settings_of (texts_of words.now))
+        (D.holds store.old) (I.left source.old) (D.moments store.old) (D.moments store.new)) }
+    ensures durable { result ≡ Status.Done → FromImage (D.holds store.old) (λ s. LeavesLast s (settings_of (texts_of words.now))
+        (D.holds store.old) (I.left source.old) (D.moments store.new)) }
+    ensures acknowledged { FromImage (D.holds store.old) (λ s. LeavesAcknowledged s result (settings_of (texts_of words.now))
+        (moment (I.left source.old) (I.last_read source.old) (I.faults source.old)
+        (O.gained sink.old) (O.faults sink.old) (D.holds store.old) (D.faults store.old))
+        (moment (I.left source.new) (I.last_read source.new) (I.faults source.new)
+        (O.gained sink.new) (O.faults sink.new) (D.holds store.new) (D.faults store.new))
+        (D.moments store.old) (D.moments store.new)) }
+    // Where the store leaves no room it holds what it held.
+    ensures unopened { (next : ℕ) → result ≡ Status.Spent next → D.holds store.new ≡ D.holds store.old }
 
     // A fault of the source, the sink or the store ends the session, exactly where its count of faults rose.
     ensures read_fault { IsCounted Status.ReadFault result (I.faults source.old) (I.faults source.new) }
@@ -149,6 +167,13 @@ fn answer_script<I: Source, O: Sink, D: Store>(
         (O.gained sink.new) (O.faults sink.new) (D.holds store.new) (D.faults store.new)) }
     ensures permitted { FromImage (D.holds store.old) (λ s. ReadsPermitted s (Some settings)
         (D.holds store.old) (I.left source.old) (D.reads store.old) (D.reads store.new)) }
+    ensures survives { FromImage (D.holds store.old) (λ s. Survives s result settings
+        (moment (I.left source.old) (I.last_read source.old) (I.faults source.old)
+        (O.gained sink.old) (O.faults sink.old) (D.holds store.old) (D.faults store.old))
+        (moment (I.left source.new) (I.last_read source.new) (I.faults source.new)
+        (O.gained sink.new) (O.faults sink.new) (D.holds store.new) (D.faults store.new))
+        (D.moments store.old) (D.moments store.new)) }
+    ensures unopened { (next : ℕ) → result ≡ Status.Spent next → D.holds store.new ≡ D.holds store.old }
     ensures broken { (content : Content) → D.holds store.old ≡ Some content → (blob : ℕ) → result ≡ Status.Damaged blob
         → HasBroken content blob }
 {
@@ -192,6 +217,8 @@ fn start<D: Store>(
     ensures flush_at { IfOk result (λ start. start.1.parts.flush_at ≡ settings.flush_at) }
     ensures goes_on { IfOk result (λ start. start.1.ended ≡ None) }
     ensures holds { D.holds store.new ≡ D.holds store.old }
+    ensures survives { Leaves (D.moments store.old) (D.moments store.new) (IsLeft (D.moments store.old)) }
+    ensures durable { (s : State) → HoldsImage (D.holds store.old) s → OnOk result (LeavesNow (D.moments store.new) (IsImageOf s)) }
     ensures reads { ReadsAtOpening (D.holds store.old) (D.reads store.old) (D.reads store.new) }
     ensures calm { OnOk result (D.faults store.new ≡ D.faults store.old) }
     ensures cause { IfErr result (IsBeginCause (D.holds store.old) (D.faults store.old) (D.faults store.new)) }
@@ -213,6 +240,10 @@ fn save<D: Store>(engine: &mut Engine, store: &mut D) -> Status
         → HoldsImage (D.holds store.new) (rested_state (saved_state s)) }
     ensures named { (s : State) → Stands engine.old (D.holds store.old) s → result ≡ Status.Done
         → AddsNoStray s.layout (D.holds store.old) (rested_state (saved_state s)).layout (D.holds store.new) }
+    ensures survives { (s last : State) → Stands engine.old (D.holds store.old) s → IsSavedLast (D.moments store.old) s last
+        → Leaves (D.moments store.old) (D.moments store.new) (IsImageOfEither last (left_to_next s)) }
+    ensures durable { (s : State) → Stands engine.old (D.holds store.old) s → result ≡ Status.Done
+        → LeavesNow (D.moments store.new) (IsImageOf (left_to_next s)) }
     ensures reads { D.reads store.new ≡ D.reads store.old }
     ensures ends { (result ≡ Status.Done) ⊎ ((result ≡ Status.NoMemory) ⊎ (result ≡ Status.StoreFault)) }
     ensures store_fault { IsCounted Status.StoreFault result (D.faults store.old) (D.faults store.new) }

@@ -57,6 +57,9 @@ impl Subject for Tables {
             ("each store fault", [words, script, next]) => {
                 stores::failing_in_turn(alloc, words, script, next)
             }
+            ("each stop", [words, script, next]) => {
+                stores::crashed_in_turn(alloc, words, script, next)
+            }
             ("lost blobs", [script]) => stores::losing(alloc, script),
             ("pieces", [most, script]) => pieces::output(alloc, most, script),
             ("code", [status]) => statuses::code(alloc, status),

@@ -94,6 +94,49 @@ pub fn failing_in_turn(
     Ok(text)
 }
 
+/// What of the changes since its last sync a store keeps that stops: none, all, or those of two neighbours that stand at a pattern.
+const CHOICES: [u64; 3] = [0, u64::MAX, 0x5555_5555_5555_5555];
+
+/// What the session that the words ask for has written where the store stops at one of its calls, one in each of so many runs, and
+/// what the next session writes over what a crash then left, for each of the choices: told from each call on where one of these differs.
+pub fn crashed_in_turn(
+    alloc: Global,
+    words_field: &str,
+    field: &str,
+    next_field: &str,
+) -> Result<String, NoAnswer> {
+    let words = words(alloc, words_field)?;
+    let mut store = MemStore::new(alloc, Vec::new(alloc), u64::MAX);
+    let mut text = ending(alloc, words.as_slice(), &mut store, field)?;
+    let mut last = String::new(alloc);
+    for call in 0..store.calls() {
+        let told = crashed_at(alloc, words.as_slice(), field, next_field, call)?;
+        if told.as_str() != last.as_str() {
+            write!(text, " | {call} {told}")?;
+            last = told;
+        }
+    }
+    Ok(text)
+}
+
+/// The same where it stops at that call.
+fn crashed_at(
+    alloc: Global,
+    words: &[&str],
+    field: &str,
+    next_field: &str,
+    call: u64,
+) -> Result<String, NoAnswer> {
+    let mut store = MemStore::new(alloc, Vec::new(alloc), call);
+    let mut text = ending(alloc, words, &mut store, field)?;
+    for choice in CHOICES {
+        let mut left = store.crashed(choice)?;
+        let next = ending(alloc, &["run"], &mut left, next_field)?;
+        write!(text, ", {next}")?;
+    }
+    Ok(text)
+}
+
 /// Whether a session that a fault of the store ended has written the front of what the other one has.
 fn is_front(ended: &str, whole: &str) -> bool {
     match (

@@ -1,4 +1,4 @@
-use Rattle.std.proofs.Common.{◌+◌, Err, ap, subst, arith}
+use Rattle.std.proofs.Common.{◌+◌, Err, ap, refl, subst, arith}
 use Rattle.std.specs.Io.KnownBytes.{prepend_known}
 use Rattle.wu_script.specs.Items.{IsNext, TakesItem}
 use Rattle.wu_script.specs.Said.{said_by, tokens_given}
@@ -6,9 +6,11 @@ use Rattle.wumpus_run.specs.Replies.{said_bytes}
 use Rattle.wumpus_run.specs.Session.{moment}
 use Rattle.wumpus_run.proofs.SessionLemmas.{appended, takes_one}
 use Rattle.wumpus_run.proofs.AddressRoom.{HasRoom-item, HasRoom-few, StaysLow-few}
-use Rattle.wumpus_run.specs.declared.statuses.Status.TheVariants.{Damaged}
+use Rattle.wumpus_run.specs.declared.statuses.Status.TheVariants.{Damaged, Spent}
 use Rattle.wumpus_run.proofs.BrokenBlobs.{opening_broken}
-use Rattle.wumpus_run.proofs.EndLemmas.{IsUnspent-opened, damaged_so, reading, saving, writing}
+use Rattle.wumpus_run.proofs.CrashesAtEnd.{Survives-saved, Survives-stopped, Survives-unanswered, Survives-unopened, Survives-unwritten}
+use Rattle.wumpus_run.proofs.CrashesUnderWay.{HasKept-none, HasKept-turn, IsAnswered-appended}
+use Rattle.wumpus_run.proofs.EndLemmas.{IsUnspent-opened, answering, damaged_so, reading, saving, writing}
 use Rattle.wumpus_run.proofs.StartedStates.{IsUnderWay-none, IsUnderWay-turn, IsSession-saved, IsSession-stopped, IsSession-unanswered}
 use Rattle.wumpus_run.proofs.StartedStates.{IsSession-unopened, IsSession-unwritten}
 use Rattle.wumpus_run.proofs.SessionReads.{permitted_at_opening, permitted_turn}
@@ -164,6 +166,12 @@ items-preserved g c =
       permitted = permitted_turn told before between c.items.engine c.items.reader (prepend_known c.next.new.self.bytes now.left)
           item (g.D.Store.reads c.args.store.now) (g.D.Store.reads c.items.store) (g.D.Store.reads c.answer.new.store) i c.if-is_end.ensures
           (c.in-Ok-next.ensures.first i.at_end) done.permitted c.items.invariant.permitted;
+      crash = λ s image. HasKept-turn told s before between now c.items.engine c.answer.new.engine c.items.reader c.next.new.self item
+          c.answer.new.out.items c.as_slice.result.now (g.D.Store.moments c.args.store.now) (g.D.Store.moments c.items.store)
+          (g.D.Store.moments c.answer.new.store) c.if-is_end.ensures (c.in-Ok-next.ensures.first i.at_end) i.flush_at
+          (IsAnswered-appended c.items.engine c.answer.new.engine between.holds now.holds item c.answer.new.out.items
+          c.clear.new.self.items (g.D.Store.moments c.items.store) (g.D.Store.moments c.answer.new.store) c.clear.ensures.items
+          done.answer done.onward done.survives done.durable) c.as_slice.ensures.value c.in-Ok-write_reply.ensures.ok (c.items.invariant.crash s image);
       goes = λ content e. done.goes content (c.items.invariant.goes content e);
       follows = c.in-Ok-next.ensures.follows;
     }
@@ -209,6 +217,9 @@ items-init g c =
           e.holds);
       permitted = λ s image. permitted_at_opening told s before.holds before.left (g.D.Store.reads c.args.store.now)
           (g.D.Store.reads c.start.new.store) e.reads;
+      crash = λ s image. rw e.reader
+          (HasKept-none told s before (g.D.Store.holds c.start.new.store) (g.D.Store.faults c.start.new.store) c.in-Ok.start.1
+          (g.D.Store.moments c.args.store.now) (g.D.Store.moments c.start.new.store) (e.stands s image) e.survives (e.durable s image));
       goes = e.goes;
       follows = rw e.reader (record { going = λ h. c.requires.goes_on; recent = omega arith });
     }
@@ -277,3 +288,105 @@ returns-in-Err-answer-clause-broken g c =
 pub returns-in-Err-write_reply-clause-broken : goal.returns-in-Err-write_reply-clause-broken
 returns-in-Err-write_reply-clause-broken g c =
     rw c.status_of_fault.ensures (λ content told blob e. absurd ((writing c.in-Err-write_reply.fault).damaged blob e))
+
+pub returns-in-Err-clause-survives : goal.returns-in-Err-clause-survives
+returns-in-Err-clause-survives g c =
+    let before = moment (g.I.Source.left c.args.source.now) (g.I.Source.last_read c.args.source.now) (g.I.Source.faults c.args.source.now)
+    (g.O.Sink.gained c.args.sink.now) (g.O.Sink.faults c.args.sink.now)
+    (g.D.Store.holds c.args.store.now) (g.D.Store.faults c.args.store.now) in
+    rw c.status_of_opening.ensures (λ s image.
+    Survives-unopened c.args.settings s before c.in-Err.fault (g.D.Store.holds c.start.new.store) (g.D.Store.faults c.start.new.store)
+    (g.D.Store.moments c.args.store.now) (g.D.Store.moments c.start.new.store)
+    (λ blob e. c.in-Err.ensures.undamaged s image blob (ap Err e)) c.in-Err.ensures.survives)
+
+pub returns-in-Err-next-clause-survives : goal.returns-in-Err-next-clause-survives
+returns-in-Err-next-clause-survives g c =
+    let before = moment (g.I.Source.left c.args.source.now) (g.I.Source.last_read c.args.source.now) (g.I.Source.faults c.args.source.now)
+    (g.O.Sink.gained c.args.sink.now) (g.O.Sink.faults c.args.sink.now)
+    (g.D.Store.holds c.args.store.now) (g.D.Store.faults c.args.store.now) in
+    let between = moment (g.I.Source.left c.items.source) (g.I.Source.last_read c.items.source) (g.I.Source.faults c.items.source)
+    (g.O.Sink.gained c.items.sink) (g.O.Sink.faults c.items.sink)
+    (g.D.Store.holds c.items.store) (g.D.Store.faults c.items.store) in
+    rw c.status_of.ensures (λ s image.
+    Survives-stopped c.args.settings s before between c.items.engine c.items.reader (g.D.Store.moments c.args.store.now)
+    (g.D.Store.moments c.items.store) (c.items.invariant.crash s image) c.in-Err-next.end (g.I.Source.left c.next.new.source)
+    (g.I.Source.last_read c.next.new.source) (g.I.Source.faults c.next.new.source))
+
+pub returns-then-is_end-clause-survives : goal.returns-then-is_end-clause-survives
+returns-then-is_end-clause-survives g c =
+    let before = moment (g.I.Source.left c.args.source.now) (g.I.Source.last_read c.args.source.now) (g.I.Source.faults c.args.source.now)
+    (g.O.Sink.gained c.args.sink.now) (g.O.Sink.faults c.args.sink.now)
+    (g.D.Store.holds c.args.store.now) (g.D.Store.faults c.args.store.now) in
+    let between = moment (g.I.Source.left c.items.source) (g.I.Source.last_read c.items.source) (g.I.Source.faults c.items.source)
+    (g.O.Sink.gained c.items.sink) (g.O.Sink.faults c.items.sink)
+    (g.D.Store.holds c.items.store) (g.D.Store.faults c.items.store) in
+    let now = moment (g.I.Source.left c.next.new.source) (g.I.Source.last_read c.next.new.source) (g.I.Source.faults c.next.new.source)
+    (g.O.Sink.gained c.items.sink) (g.O.Sink.faults c.items.sink)
+    (g.D.Store.holds c.save.new.store) (g.D.Store.faults c.save.new.store) in
+    let known = prepend_known c.items.reader.bytes between.left in
+    let rest = prepend_known c.next.new.self.bytes (g.I.Source.left c.next.new.source) in
+    λ s image.
+    Survives-saved c.args.settings s before between c.items.engine c.items.reader (g.D.Store.moments c.args.store.now)
+    (g.D.Store.moments c.items.store) (c.items.invariant.crash s image) c.save.result now rest (g.D.Store.moments c.save.new.store) refl
+    (subst (IsNext known rest) c.if-is_end.ensures (c.in-Ok-next.ensures.first c.items.invariant.under_way.at_end))
+    c.save.ensures.survives c.save.ensures.durable
+
+pub returns-in-Err-answer-clause-survives : goal.returns-in-Err-answer-clause-survives
+returns-in-Err-answer-clause-survives g c =
+    let before = moment (g.I.Source.left c.args.source.now) (g.I.Source.last_read c.args.source.now) (g.I.Source.faults c.args.source.now)
+    (g.O.Sink.gained c.args.sink.now) (g.O.Sink.faults c.args.sink.now)
+    (g.D.Store.holds c.args.store.now) (g.D.Store.faults c.args.store.now) in
+    let between = moment (g.I.Source.left c.items.source) (g.I.Source.last_read c.items.source) (g.I.Source.faults c.items.source)
+    (g.O.Sink.gained c.items.sink) (g.O.Sink.faults c.items.sink)
+    (g.D.Store.holds c.items.store) (g.D.Store.faults c.items.store) in
+    let now = moment (g.I.Source.left c.next.new.source) (g.I.Source.last_read c.next.new.source) (g.I.Source.faults c.next.new.source)
+    (g.O.Sink.gained c.items.sink) (g.O.Sink.faults c.items.sink)
+    (g.D.Store.holds c.answer.new.store) (g.D.Store.faults c.answer.new.store) in
+    rw c.status_of_trouble.ensures (λ s image.
+    Survives-unanswered c.args.settings s before between c.items.engine c.items.reader (g.D.Store.moments c.args.store.now)
+    (g.D.Store.moments c.items.store) (c.items.invariant.crash s image) c.in-Ok-next.item
+    (prepend_known c.next.new.self.bytes (g.I.Source.left c.next.new.source)) c.if-is_end.ensures
+    (c.in-Ok-next.ensures.first c.items.invariant.under_way.at_end) now (g.D.Store.moments c.answer.new.store) c.in-Err-answer.trouble refl
+    c.in-Err-answer.ensures.survives)
+
+pub returns-in-Err-write_reply-clause-survives : goal.returns-in-Err-write_reply-clause-survives
+returns-in-Err-write_reply-clause-survives g c =
+    let i = c.items.invariant.under_way in
+    let before = moment (g.I.Source.left c.args.source.now) (g.I.Source.last_read c.args.source.now) (g.I.Source.faults c.args.source.now)
+    (g.O.Sink.gained c.args.sink.now) (g.O.Sink.faults c.args.sink.now)
+    (g.D.Store.holds c.args.store.now) (g.D.Store.faults c.args.store.now) in
+    let between = moment (g.I.Source.left c.items.source) (g.I.Source.last_read c.items.source) (g.I.Source.faults c.items.source)
+    (g.O.Sink.gained c.items.sink) (g.O.Sink.faults c.items.sink)
+    (g.D.Store.holds c.items.store) (g.D.Store.faults c.items.store) in
+    let now = moment (g.I.Source.left c.next.new.source) (g.I.Source.last_read c.next.new.source) (g.I.Source.faults c.next.new.source)
+    (g.O.Sink.gained c.write_reply.new.sink) (g.O.Sink.faults c.write_reply.new.sink)
+    (g.D.Store.holds c.answer.new.store) (g.D.Store.faults c.answer.new.store) in
+    let item = c.in-Ok-next.item in
+    let done = c.in-Ok-answer.ensures in
+    rw c.status_of_fault.ensures (λ s image.
+    Survives-unwritten c.args.settings s before between c.items.engine c.items.reader (g.D.Store.moments c.args.store.now)
+    (g.D.Store.moments c.items.store) (c.items.invariant.crash s image) item
+    (prepend_known c.next.new.self.bytes (g.I.Source.left c.next.new.source)) c.if-is_end.ensures (c.in-Ok-next.ensures.first i.at_end) now
+    (g.D.Store.moments c.answer.new.store) c.in-Err-write_reply.fault c.answer.new.engine c.answer.new.out.items c.as_slice.result.now
+    i.flush_at
+    (IsAnswered-appended c.items.engine c.answer.new.engine between.holds now.holds item c.answer.new.out.items c.clear.new.self.items
+    (g.D.Store.moments c.items.store) (g.D.Store.moments c.answer.new.store) c.clear.ensures.items done.answer done.onward done.survives
+    done.durable) c.as_slice.ensures.value c.in-Err-write_reply.ensures.err)
+
+pub returns-in-Err-clause-unopened : goal.returns-in-Err-clause-unopened
+returns-in-Err-clause-unopened g c = λ next e. c.in-Err.ensures.holds
+
+pub returns-in-Err-next-clause-unopened : goal.returns-in-Err-next-clause-unopened
+returns-in-Err-next-clause-unopened g c = rw c.status_of.ensures (λ next e. absurd ((reading c.in-Err-next.end).spent next e))
+
+pub returns-then-is_end-clause-unopened : goal.returns-then-is_end-clause-unopened
+returns-then-is_end-clause-unopened g c = λ next e.
+    absurd (saving c.save.result (Spent next) c.save.ensures.ends (λ is. cc) (λ is. cc) (λ is. cc) e)
+
+pub returns-in-Err-answer-clause-unopened : goal.returns-in-Err-answer-clause-unopened
+returns-in-Err-answer-clause-unopened g c =
+    rw c.status_of_trouble.ensures (λ next e. absurd ((answering c.in-Err-answer.trouble).spent next e))
+
+pub returns-in-Err-write_reply-clause-unopened : goal.returns-in-Err-write_reply-clause-unopened
+returns-in-Err-write_reply-clause-unopened g c =
+    rw c.status_of_fault.ensures (λ next e. absurd ((writing c.in-Err-write_reply.fault).spent next e))

@@ -3,6 +3,7 @@ use Rattle.wu_options.specs.CommandLines.{texts_of}
 use Rattle.wu_options.specs.declared.command_lines.Settings.{Settings}
 use Rattle.wumpus_run.specs.Session.{moment, settings_of, Completes}
 use Rattle.wumpus_run.specs.declared.statuses.Status.TheVariants.{NoMemory}
+use Rattle.wumpus_run.proofs.CrashesAtEnd.{LeavesAcknowledged-untouched, LeavesSaves-untouched}
 use Rattle.wumpus_run.proofs.SettingLimits.{input_within, settings_asked}
 use Rattle.wumpus_run.proofs.EndLemmas.{Completes-all, IsTooLong-none}
 use Rattle.wumpus_run.proofs.PromptLemmas.{AnswersAllButOneRead-untouched}
@@ -53,3 +54,15 @@ returns-in-Err-clause-prompt g c =
     (moment (g.I.Source.left c.args.source.now) (g.I.Source.last_read c.args.source.now) (g.I.Source.faults c.args.source.now)
     (g.O.Sink.gained c.args.sink.now) (g.O.Sink.faults c.args.sink.now)
     (g.D.Store.holds c.args.store.now) (g.D.Store.faults c.args.store.now))
+
+pub returns-in-Err-clause-crash : goal.returns-in-Err-clause-crash
+returns-in-Err-clause-crash g c = λ s image.
+    LeavesSaves-untouched s (settings_of (texts_of c.args.words.now)) (g.D.Store.holds c.args.store.now) (g.I.Source.left c.args.source.now)
+    (g.D.Store.moments c.args.store.now)
+
+pub returns-in-Err-clause-acknowledged : goal.returns-in-Err-clause-acknowledged
+returns-in-Err-clause-acknowledged g c = λ s image.
+    LeavesAcknowledged-untouched s (settings_of (texts_of c.args.words.now))
+    (moment (g.I.Source.left c.args.source.now) (g.I.Source.last_read c.args.source.now) (g.I.Source.faults c.args.source.now)
+    (g.O.Sink.gained c.args.sink.now) (g.O.Sink.faults c.args.sink.now)
+    (g.D.Store.holds c.args.store.now) (g.D.Store.faults c.args.store.now)) (g.D.Store.moments c.args.store.now)

@@ -7,6 +7,10 @@ pub returns-in-Err-clause-image : goal.returns-in-Err-clause-image
 returns-in-Err-clause-image g c =
     rw c.status_of_trouble.ensures (λ s stands e. absurd ((answering c.in-Err.trouble).done e))
 
+pub returns-in-Err-clause-durable : goal.returns-in-Err-clause-durable
+returns-in-Err-clause-durable g c =
+    rw c.status_of_trouble.ensures (λ s stands e. absurd ((answering c.in-Err.trouble).done e))
+
 pub returns-in-Err-clause-ends : goal.returns-in-Err-clause-ends
 returns-in-Err-clause-ends g c =
     rw c.status_of_trouble.ensures
