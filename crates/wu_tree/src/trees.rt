@@ -157,8 +157,9 @@ impl Tree {
         let _ = &self.links;
     }
 
-    /// The number of the directory in which a directory other than the root stands.
-    pub(crate) fn parent(&self, directory: Ino) -> Option<Ino>
+    /// The number of the directory in which a directory other than the root stands. Takes no memory, and time
+    /// logarithmic in the number of nodes.
+    pub fn parent(&self, directory: Ino) -> Option<Ino>
         requires found { is_directory self.now directory ≡ true }
         requires below { directory ≢ 1 }
         ensures parent { result ≡ parent_of self.now.links directory }
