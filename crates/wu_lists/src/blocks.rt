@@ -1,15 +1,19 @@
 //! Blocks, as they are read from the store.
+ghost use Rattle.std.proofs.Common.{rules};
+ghost use Rattle.std.specs.Cmp.Rules.{hashing};
+ghost use Rattle.std.specs.Hash as fed;
 ghost use Rattle.std.specs.Prelude.{◌≡◌, ◌++◌, ℕ, List, [], ◌∷◌, option_map, IfOk, IfErr, IfSome, IfNone, OnOk};
 ghost use Rattle.wu_lists.specs.Blocks.{HasBytes, IsSpelledIn, IsSpelling, range_of};
 ghost use Rattle.wu_lists.specs.Causes.{IsCause};
 
 use std::alloc::Global;
+use std::hash::{Hash, Hasher};
 use wu_base::{NoMemory, Trouble};
 use wu_outside::Store;
 use wu_vbyte::take_block;
 
 /// A block of a part, as the part's directory tells of it.
-#[derive(Clone, Copy, Debug, PartialEq, Eq, Hash)]
+#[derive(Clone, Copy, Debug, PartialEq, Eq)]
 pub struct Block {
     /// The number of the part's blob.
     pub blob: u64,
@@ -27,6 +31,18 @@ pub struct Block {
     pub len: u64,
 }
 
+/// A block's place tells it from nearly all others, so nothing else is hashed.
+impl Hash for Block {
+    ghost hash_input = { λ block. fed.u64 block.blob ++ fed.u64 block.at };
+
+    ghost respects_eq = { Prim.search (hashing, rules) };
+
+    fn hash<H: Hasher>(&self, state: &mut H) {
+        state.write_u64(self.blob);
+        state.write_u64(self.at);
+    }
+}
+
 impl Block {
     /// The block's addresses, of which the bytes are the spelling. `None` exactly where they are no such
     /// spelling.
@@ -42,12 +58,12 @@ impl Block {
     }
 }
 
-/// The block's bytes, all of them, in one read of that range. Where the blob is absent or ends before, it is
-/// damaged.
+/// The block's bytes, all of them, in one read of that range, in the vector that is given for them. Where the
+/// blob is absent or ends before, it is damaged.
 pub(crate) fn read_bytes<D: Store>(
-    alloc: Global,
     store: &mut D,
     block: &Block,
+    mut bytes: Vec<u8>,
 ) -> Result<Vec<u8>, Trouble>
     ensures bytes { IfOk result (λ bytes. IfSome (D.holds store.old) (λ content. HasBytes content block.now bytes.items)) }
     ensures holds { D.holds store.new ≡ D.holds store.old }
@@ -58,7 +74,7 @@ pub(crate) fn read_bytes<D: Store>(
         (IfSome (D.holds store.old) (λ content. IsSpelledIn content block.now → ⊥))
         (D.faults store.old) (D.faults store.new) (D.reads store.old) (D.reads store.new)) }
 {
-    let mut bytes = vec![in alloc; 0u8; block.len as usize]?;
+    bytes.resize(block.len as usize, 0)?;
     match store.read(block.blob, block.at, &mut bytes)? {
         Some(count) if count == bytes.len() => Ok(bytes),
         _ => Err(Trouble::Damaged { blob: block.blob }),

@@ -22,7 +22,7 @@ pub fn put_within(found: &mut Vec<u64>, addresses: &[u64], frames: &[Range]) -> 
     let mut left = frames;
     while let [frame, later @ ..] = left {
         let (_, from_start) = split_below(rest, frame.start);
-        let (inside, after) = split_below(from_start, frame.start + frame.len);
+        let (inside, after) = split_inside(from_start, frame.start + frame.len);
         found.extend_from_slice(inside)?;
         rest = after;
         left = frames_for(later, after);
@@ -67,6 +67,35 @@ fn split_below(addresses: &[u64], limit: u64) -> (&[u64], &[u64])
     ensures others { AscendBetween limit (2 ^ 64 - 1) result.1.now }
 {
     addresses.split_at(count_below(addresses, limit))
+}
+
+/// The same, found by looking at each one below, for addresses that are to be copied.
+#[inline]
+fn split_inside(addresses: &[u64], limit: u64) -> (&[u64], &[u64])
+    requires ascend { AscendBetween 0 (2 ^ 64 - 1) addresses.now }
+    requires limit { limit ≤ 2 ^ 64 - 1 }
+    ensures whole { result.0.now ++ result.1.now ≡ addresses.now }
+    ensures below { AllByRecursion (λ address. address < limit) result.0.now }
+    ensures others { AscendBetween limit (2 ^ 64 - 1) result.1.now }
+{
+    addresses.split_at(count_inside(addresses, limit))
+}
+
+/// How many of the addresses are below the limit. A frame mostly has few of a block's, and to copy them takes as
+/// long as to look at each.
+#[inline]
+fn count_inside(addresses: &[u64], limit: u64) -> usize
+    requires { AscendBetween 0 (2 ^ 64 - 1) addresses.now }
+    ensures within { result ≤ length addresses.now }
+    ensures below { AllByRecursion (λ address. address < limit) (take result addresses.now) }
+    ensures others { AllByRecursion (λ address. limit ≤ address) (drop result addresses.now) }
+{
+    for place in 0..addresses.len() {
+        if addresses[place] >= limit {
+            return place;
+        }
+    }
+    addresses.len()
 }
 
 /// How many of the addresses are below the limit.

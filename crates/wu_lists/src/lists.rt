@@ -18,6 +18,7 @@ use crate::frames::{frames_from, is_needed, put_within};
 use lru::LruCache;
 use std::alloc::Global;
 use std::marker::Model;
+use std::mem;
 use std::num::NonZeroUsize;
 use wu_base::{Bytes, NoMemory, Range, Sequence, Trouble};
 use wu_outside::Store;
@@ -39,6 +40,8 @@ enum Purpose {
 pub struct Lists {
     alloc: Global,
     kept: LruCache<Block, Bytes>,
+    /// Where the next block is read to: the vector of the last one that was given up.
+    room: Vec<u8>,
 }
 
 impl Model for Lists {
@@ -64,6 +67,7 @@ impl Lists {
         Ok(Lists {
             alloc,
             kept: LruCache::new(alloc, capacity)?,
+            room: Vec::new(alloc),
         })
     }
 
@@ -405,7 +409,8 @@ impl Lists {
             (IfSome (D.holds store.old) (λ content. IsSpelledIn content block.now → ⊥))
             (D.faults store.old) (D.faults store.new) (D.reads store.old) (D.reads store.new)) }
     {
-        let bytes = read_bytes(self.alloc, store, block)?;
+        let room = self.take_room();
+        let bytes = read_bytes(store, block, room)?;
         match block.addresses(self.alloc, &bytes)? {
             Some(addresses) => {
                 self.keep(block, bytes)?;
@@ -413,6 +418,14 @@ impl Lists {
             }
             None => Err(Trouble::Damaged { blob: block.blob }),
         }
+    }
+
+    /// A vector to read a block to.
+    #[inline]
+    fn take_room(&mut self) -> Vec<u8>
+        ensures { self.new ≡ self.old }
+    {
+        mem::replace(&mut self.room, Vec::new(self.alloc))
     }
 
     /// Keeps a block that isn't kept yet, of which these are the bytes.
@@ -425,7 +438,16 @@ impl Lists {
             → AreHeld blob others self.old → AreHeld blob others self.new) }
     {
         self.is_valid();
-        self.kept.put(*block, Bytes::from(bytes))?;
+        let given_up = self.kept.push(*block, Bytes::from(bytes))?;
+        self.room = room_of(self.alloc, given_up);
         Ok(())
+    }
+}
+
+/// The vector of the block that was given up, if one was.
+fn room_of(alloc: Global, given_up: Option<(Block, Bytes)>) -> Vec<u8> {
+    match given_up {
+        Some((_, bytes)) => bytes.into_vec(),
+        None => Vec::new(alloc),
     }
 }

@@ -1,9 +1,12 @@
-use Rattle.std.proofs.Common.{◌≡◌, ℕ, List, [], ◌∷◌, rules}
+use Rattle.std.proofs.Common.{◌≡◌, ℕ, List, [], ◌∷◌, false, sym, subst, rules}
 use Rattle.std.specs.Prelude.{Err, IfSome}
+use Rattle.std.specs.List.{list_any}
+use Rattle.std.specs.Map.{keys_of}
 use Rattle.wu_layout.proofs.EntryLemmas.{IfSome-map}
 use Rattle.wu_base.specs.declared.troubles.Trouble.TheVariants.{NoMemory}
 use Rattle.wu_lists.specs.Blocks.{HasBytes, IsSpelledIn, IsSpelling}
 use Rattle.wu_lists.specs.declared.blocks.Block.{Block}
+use Rattle.wu_lists.specs.Keeping.{Asks, Kept, is_same}
 use Rattle.wu_lists.proofs.Fetches.{asks-read}
 use Rattle.wu_lists.proofs.Readings.{cause-damaged, cause-memory, unspelled}
 use Rattle.wu_lists.proofs.lists.Lists.read.Goals as goal
@@ -40,10 +43,15 @@ pub returns-in_ok-keep-in-Some-clause-blocks : goal.returns-in_ok-keep-in-Some-c
 returns-in_ok-keep-in-Some-clause-blocks g c =
     let spelled : IsSpelling c.args.block.now c.in-Some.addresses.items c.in_ok-bytes.bytes.items =
     rw (c.in-Some.is, c.deref.ensures.value) at c.in_ok-addresses.ensures.found in
-    asks-read c.args.block.now (g.D.Store.holds c.args.store.now) c.args.self.now c.keep.new.self (g.D.Store.reads c.args.store.now)
+    let old : Kept = c.take_room-room.new.self in
+    let absent = subst (λ (kept : Kept). list_any (is_same c.args.block.now) (keys_of kept.entries) ≡ false)
+    (sym c.take_room-room.ensures) c.requires in
+    subst (λ (kept : Kept). Asks (c.args.block.now ∷ []) (g.D.Store.holds c.args.store.now) kept c.keep.new.self
+    (g.D.Store.reads c.args.store.now) (g.D.Store.reads c.read_bytes.new.store)) c.take_room-room.ensures
+    (asks-read c.args.block.now (g.D.Store.holds c.args.store.now) old c.keep.new.self (g.D.Store.reads c.args.store.now)
     (g.D.Store.reads c.read_bytes.new.store) c.in_ok-keep-in-Some.ensures.capacity c.in_ok-keep-in-Some.ensures.asked
-    c.in_ok-bytes.bytes.items c.in-Some.addresses.items c.requires c.in_ok-bytes.ensures.reads c.in_ok-bytes.ensures.bytes spelled
-    c.in_ok-keep-in-Some.ensures.held
+    c.in_ok-bytes.bytes.items c.in-Some.addresses.items absent c.in_ok-bytes.ensures.reads c.in_ok-bytes.ensures.bytes spelled
+    c.in_ok-keep-in-Some.ensures.held)
 
 pub returns-in-None-clause-cause : goal.returns-in-None-clause-cause
 returns-in-None-clause-cause g c =
