@@ -5,3 +5,7 @@ pub mod FrameFacts
 pub mod MovedFrames
 pub mod SameViews
 pub mod Rechecking
+pub mod SeenLinks
+pub mod OpenDirectories
+pub mod Relinking
+pub mod LinkEvents

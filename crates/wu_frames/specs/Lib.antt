@@ -2,6 +2,7 @@
 
 pub mod UserFrames
 pub mod Permissions
+pub mod Links
 -- ---- What only private functions and proofs need
 
 pub mod Making

@@ -5,8 +5,10 @@ ghost use Rattle.wu_tree.specs.FileSystems.{FileSystem};
 ghost use Rattle.wu_space.specs.Addresses.{Addresses, Ranges};
 ghost use Rattle.wu_frames.specs.UserFrames.{AreFor, AreFrames, AskedLast, IsMove, frames_for, with_range};
 ghost use Rattle.wu_frames.specs.Permissions.{IsGroupChange, IsPermChange, kept_as_before};
+ghost use Rattle.wu_frames.specs.Links.{IsLinkChange, KeepRanges, kept_unshown};
 ghost use Rattle.wu_frames.specs.Mending.{KeepsRight};
 
+use crate::links::{self, LinkChanges};
 use crate::{Frames, making, mending, permissions};
 use lru::LruCache;
 use std::alloc::Global;
@@ -131,6 +133,29 @@ impl FrameCache {
     {
         tree.keeps_the_rules();
         match permissions::forget_changed(self.alloc, &mut self.kept, tree, ino, before) {
+            Ok(()) => Ok(()),
+            Err(error) => {
+                self.clear();
+                Err(error)
+            }
+        }
+    }
+
+    /// Forgets the frames of each user to whom one of the links is shown that an event made or removed: whose view has
+    /// or had a path through it. That is, the link's directory and each above it, the root included, grant her execute,
+    /// and the node that it names grants her read, where it is a file, or execute, where it is a directory. The frames
+    /// of others stay, so that a file in a closed directory, and an empty directory anywhere, comes and goes without
+    /// effect on them. Out of memory, which is the only error, all frames are forgotten.
+    ///
+    /// Takes memory for the groups of one user, as `recheck` does, and for each user at most three ways up to the root.
+    pub fn relink(&mut self, tree: &Tree, links: LinkChanges) -> Result<(), NoMemory>
+        ensures right { (fs : FileSystem) (live now : Ranges) → IsLinkChange fs links tree.now → KeepRanges fs tree.now live now
+            → AreFor fs live self.old → AreFor tree.now now self.new }
+        ensures stays { OnOk result (self.new ≡ kept_unshown tree.now links self.old) }
+        ensures none { OnErr result (self.new ≡ []) }
+    {
+        tree.keeps_the_rules();
+        match links::forget_shown(self.alloc, &mut self.kept, tree, links) {
             Ok(()) => Ok(()),
             Err(error) => {
                 self.clear();

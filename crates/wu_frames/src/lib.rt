@@ -2,11 +2,13 @@
 #![tactic(auto)]
 
 mod caches;
+mod links;
 mod making;
 mod mending;
 mod permissions;
 
 pub use caches::{FrameCache, USERS_KEPT};
+pub use links::{ChangedLink, LinkChanges, links_changed};
 use wu_base::{Ino, Range, Sequence};
 use wu_view::Seen;
 

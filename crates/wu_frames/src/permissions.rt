@@ -70,7 +70,7 @@ fn grants_as_before(
 }
 
 /// What a view asks of a node of that kind.
-fn want_of(kind: Kind) -> Want
+pub(crate) fn want_of(kind: Kind) -> Want
     ensures { result ≡ want_of kind }
 {
     match kind {
@@ -80,7 +80,7 @@ fn want_of(kind: Kind) -> Want
 }
 
 /// The user of that number with her groups; one who was never given has none.
-fn user_of(alloc: Global, tree: &Tree, uid: Uid) -> Result<UserRec, NoMemory>
+pub(crate) fn user_of(alloc: Global, tree: &Tree, uid: Uid) -> Result<UserRec, NoMemory>
     ensures user { IfOk result (λ user. user ≡ user_in tree.now uid) }
     ensures ascend { IfOk result (λ user. IsStrictlySortedBy nat_cmp user.groups) }
 {

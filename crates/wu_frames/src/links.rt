@@ -1,0 +1,209 @@
+//! Which frames stay as they are when links are made, removed or moved.
+ghost use Rattle.std.specs.Prelude.{◌≡◌, true, false, IfOk, IsSome, MatchOption, OnOk};
+ghost use Rattle.std.specs.List.{AllByRecursion};
+ghost use Rattle.std.specs.List.Sorted.{IsStrictlySortedBy};
+ghost use Rattle.std.specs.Ordering.{nat_cmp};
+ghost use Rattle.wu_tree.specs.FileSystems.{is_directory};
+ghost use Rattle.wu_view.specs.Views.{is_open, may};
+ghost use Rattle.wu_access.specs.declared.Want.TheVariants.{Execute};
+ghost use Rattle.wu_frames.specs.UserFrames.{frames_for};
+ghost use Rattle.wu_frames.specs.Links.{is_shown, is_some_shown, kept_unshown, link_at, link_to, links_changed, no_links, sees_none};
+
+use crate::Frames;
+use crate::permissions::{user_of, want_of};
+use lru::LruCache;
+use std::alloc::Global;
+use wu_access::{UserRec, Want, allows};
+use wu_base::{Ino, NoMemory, ROOT, Uid};
+use wu_tree::{Event, Kind, Node, Tree};
+
+/// A link that an event makes or removes.
+#[derive(Clone, Copy, Debug, PartialEq, Eq)]
+pub struct ChangedLink {
+    /// The directory in which it stands.
+    pub directory: Ino,
+    /// The node that it names.
+    pub node: Node,
+}
+
+/// The links that an event makes and removes. One to a directory that it makes or removes isn't among them: the
+/// directory is empty, so no file is seen through it.
+#[derive(Clone, Copy, Debug, PartialEq, Eq)]
+pub struct LinkChanges {
+    /// The one that it makes.
+    pub made: Option<ChangedLink>,
+    /// The one that it removes.
+    pub removed: Option<ChangedLink>,
+    /// The one whose place is taken by the one that it makes.
+    pub replaced: Option<ChangedLink>,
+}
+
+/// The links that the event makes and removes, if the tree accepts it. Takes no memory, and a few look-ups.
+pub fn links_changed(tree: &Tree, event: &Event) -> LinkChanges
+    ensures { result ≡ links_changed tree.now event.now }
+{
+    match event {
+        Event::Create { parent, perm, .. } => LinkChanges {
+            made: Some(ChangedLink {
+                directory: *parent,
+                node: Node {
+                    kind: Kind::File,
+                    perm: *perm,
+                },
+            }),
+            ..no_links()
+        },
+        Event::Link { ino, parent, .. } => LinkChanges {
+            made: link_to(*parent, tree.node(*ino)),
+            ..no_links()
+        },
+        Event::Unlink { parent, name } => LinkChanges {
+            removed: link_at(tree, *parent, name.as_slice(), *parent),
+            ..no_links()
+        },
+        Event::Rename {
+            parent,
+            name,
+            new_parent,
+            new_name,
+        } => LinkChanges {
+            made: link_at(tree, *parent, name.as_slice(), *new_parent),
+            removed: link_at(tree, *parent, name.as_slice(), *parent),
+            replaced: link_at(tree, *new_parent, new_name.as_slice(), *new_parent),
+        },
+        _ => no_links(),
+    }
+}
+
+fn no_links() -> LinkChanges
+    ensures { result ≡ no_links }
+{
+    LinkChanges {
+        made: None,
+        removed: None,
+        replaced: None,
+    }
+}
+
+/// The link in that directory to that node, if there is one.
+fn link_to(directory: Ino, node: Option<Node>) -> Option<ChangedLink>
+    ensures { result ≡ link_to directory node }
+{
+    Some(ChangedLink {
+        directory,
+        node: node?,
+    })
+}
+
+/// A link in that directory to the node that has that name in `parent`, if there is one.
+fn link_at(tree: &Tree, parent: Ino, name: &[u8], directory: Ino) -> Option<ChangedLink>
+    ensures { result ≡ link_at tree.now parent name.now directory }
+{
+    link_to(directory, tree.node(tree.child(parent, name)?))
+}
+
+/// Forgets the frames of each user to whom one of the links is shown. The only error is out of memory.
+pub(crate) fn forget_shown(
+    alloc: Global,
+    kept: &mut LruCache<Uid, Frames>,
+    tree: &Tree,
+    links: LinkChanges,
+) -> Result<(), NoMemory>
+    ensures { OnOk result (kept.new.entries ≡ kept_unshown tree.now links kept.old.entries) }
+{
+    while let Some(uid) = first_shown(alloc, kept, tree, links)? {
+        kept.pop(&uid);
+    }
+    Ok(())
+}
+
+/// The first user to whom one of the links is shown, among those whose frames are kept.
+fn first_shown(
+    alloc: Global,
+    kept: &LruCache<Uid, Frames>,
+    tree: &Tree,
+    links: LinkChanges,
+) -> Result<Option<Uid>, NoMemory>
+    ensures { IfOk result (λ found. MatchOption found
+        (AllByRecursion (λ entry. sees_none tree.now links entry.0 ≡ true) kept.now.entries)
+        (λ uid. IsSome (frames_for kept.now.entries uid) × (sees_none tree.now links uid ≡ false))) }
+{
+    for (uid, _) in kept.iter() {
+        if !sees_none(alloc, tree, links, *uid)? {
+            return Ok(Some(*uid));
+        }
+    }
+    Ok(None)
+}
+
+/// Whether the user sees none of the links.
+fn sees_none(alloc: Global, tree: &Tree, links: LinkChanges, uid: Uid) -> Result<bool, NoMemory>
+    ensures { IfOk result (λ none. none ≡ sees_none tree.now links uid) }
+{
+    let user = user_of(alloc, tree, uid)?;
+    let sees_one = is_some_shown(tree, &user, links.made)
+        || is_some_shown(tree, &user, links.removed)
+        || is_some_shown(tree, &user, links.replaced);
+    Ok(!sees_one)
+}
+
+/// Whether the link, if there is one, is shown to the user.
+fn is_some_shown(tree: &Tree, user: &UserRec, link: Option<ChangedLink>) -> bool
+    requires { IsStrictlySortedBy nat_cmp user.now.groups }
+    ensures { result ≡ is_some_shown tree.now user.now link }
+{
+    match link {
+        Some(link) => is_shown(tree, user, link),
+        None => false,
+    }
+}
+
+/// Whether the link leads the user to a file that she may read, or to a directory that she may pass through.
+fn is_shown(tree: &Tree, user: &UserRec, link: ChangedLink) -> bool
+    requires { IsStrictlySortedBy nat_cmp user.now.groups }
+    ensures { result ≡ is_shown tree.now user.now link }
+{
+    allows(user, &link.node.perm, want_of(link.node.kind))
+        && is_directory(tree, link.directory)
+        && is_open(tree, user, link.directory)
+}
+
+fn is_directory(tree: &Tree, ino: Ino) -> bool
+    ensures { result ≡ is_directory tree.now ino }
+{
+    match tree.node(ino) {
+        Some(node) => node.kind == Kind::Directory,
+        None => false,
+    }
+}
+
+/// Whether the directory and each above it, the root included, grant the user execute. Goes up from the directory.
+fn is_open(tree: &Tree, user: &UserRec, directory: Ino) -> bool
+    requires directory { is_directory tree.now directory ≡ true }
+    requires ascend { IsStrictlySortedBy nat_cmp user.now.groups }
+    ensures { result ≡ is_open tree.now user.now directory }
+{
+    tree.keeps_the_rules();
+    let mut current = directory;
+    while may_pass(tree, user, current) {
+        if current == ROOT {
+            return true;
+        }
+        match tree.parent(current) {
+            Some(parent) => current = parent,
+            None => return true,
+        }
+    }
+    false
+}
+
+/// Whether the node is there and grants the user execute.
+fn may_pass(tree: &Tree, user: &UserRec, ino: Ino) -> bool
+    requires { IsStrictlySortedBy nat_cmp user.now.groups }
+    ensures { result ≡ may tree.now user.now Execute ino }
+{
+    match tree.node(ino) {
+        Some(node) => allows(user, &node.perm, Want::Execute),
+        None => false,
+    }
+}
