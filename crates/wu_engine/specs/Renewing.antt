@@ -7,8 +7,9 @@ use Rattle.wu_tree.specs.declared.events.Node.{Node}
 use Rattle.wu_tree.specs.FileSystems.{FileSystem, node_of}
 use Rattle.wu_space.specs.Addresses.{Addresses, Ranges, range_of}
 use Rattle.wu_frames.specs.Permissions.{IsGroupChange, IsPermChange}
+use Rattle.wu_frames.specs.Links.{IsLinkChange, KeepRanges, links_changed}
 use Rattle.wu_engine.specs.declared.renewing.Touched.{Touched}
-use Rattle.wu_engine.specs.declared.renewing.Touched.TheVariants.{RangeOf, PermOf, GroupsOf, Other}
+use Rattle.wu_engine.specs.declared.renewing.Touched.TheVariants.{RangeOf, PermOf, GroupsOf, Links, Other}
 use Rattle.wu_engine.specs.Indexing.{GaveText}
 
 abbrev pub range_touched : ℕ → Option Range → Touched
@@ -22,13 +23,13 @@ perm_touched ino (Some node) = PermOf ino node
 -- what the event changes, if it is accepted in that file system, where the files have those live ranges
 abbrev pub touched_of : FileSystem → Ranges → Event → Touched
 touched_of fs live (User uid groups) = GroupsOf uid
-touched_of fs live (Mkdir ino parent name perm) = Other
-touched_of fs live (Create ino parent name perm) = Other
+touched_of fs live (Mkdir ino parent name perm) = Links (links_changed fs (Mkdir ino parent name perm))
+touched_of fs live (Create ino parent name perm) = Links (links_changed fs (Create ino parent name perm))
 touched_of fs live (Text ino) = range_touched ino (range_of live ino)
-touched_of fs live (Link ino parent name) = Other
-touched_of fs live (Unlink parent name) = Other
-touched_of fs live (Rmdir parent name) = Other
-touched_of fs live (Rename parent name new_parent new_name) = Other
+touched_of fs live (Link ino parent name) = Links (links_changed fs (Link ino parent name))
+touched_of fs live (Unlink parent name) = Links (links_changed fs (Unlink parent name))
+touched_of fs live (Rmdir parent name) = Links (links_changed fs (Rmdir parent name))
+touched_of fs live (Rename parent name new_parent new_name) = Links (links_changed fs (Rename parent name new_parent new_name))
 touched_of fs live (Chmod ino mode) = perm_touched ino (node_of fs ino)
 touched_of fs live (Chown ino uid gid) = perm_touched ino (node_of fs ino)
 
@@ -37,4 +38,5 @@ abbrev pub Touches : FileSystem → Addresses → FileSystem → Addresses → T
 Touches fs space after now (RangeOf ino old) = (after ≡ fs) × GaveText space now (ino, old)
 Touches fs space after now (PermOf ino node) = (now ≡ space) × IsPermChange fs ino node after
 Touches fs space after now (GroupsOf uid) = (now ≡ space) × IsGroupChange fs uid after
+Touches fs space after now (Links links) = IsLinkChange fs links after × KeepRanges fs after space.ranges now.ranges
 Touches fs space after now Other = Unit {0}

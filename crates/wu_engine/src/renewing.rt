@@ -2,11 +2,12 @@
 ghost use Rattle.std.specs.Prelude.{◌≡◌};
 ghost use Rattle.wu_space.specs.Addresses.{Addresses};
 ghost use Rattle.wu_tree.specs.FileSystems.{FileSystem, node_of};
+ghost use Rattle.wu_tree.specs.Rules.{IsTree};
 ghost use Rattle.wu_frames.specs.UserFrames.{AreFor};
 ghost use Rattle.wu_engine.specs.Renewing.{Touches, perm_touched, touched_of};
 
 use wu_base::{Ino, Range, Uid};
-use wu_frames::FrameCache;
+use wu_frames::{FrameCache, LinkChanges, links_changed};
 use wu_space::Space;
 use wu_tree::{Event, Node, Tree};
 
@@ -19,14 +20,18 @@ pub(crate) enum Touched {
     PermOf(Ino, Node),
     /// The groups of a user.
     GroupsOf(Uid),
+    /// Links, and the ranges of files that come or go with them.
+    Links(LinkChanges),
     /// Anything else.
     Other,
 }
 
 /// What the event changes, if it is accepted.
 pub(crate) fn touched_by(tree: &Tree, space: &Space, event: &Event) -> Touched
-    ensures { result ≡ touched_of tree.now space.now.ranges event.now }
+    ensures touched { result ≡ touched_of tree.now space.now.ranges event.now }
+    ensures rules { IsTree tree.now }
 {
+    tree.keeps_the_rules();
     match event {
         Event::User { uid, .. } => Touched::GroupsOf(*uid),
         Event::Text { ino } => match space.range_of(*ino) {
@@ -35,7 +40,7 @@ pub(crate) fn touched_by(tree: &Tree, space: &Space, event: &Event) -> Touched
         },
         Event::Chmod { ino, .. } => perm_touched(tree, *ino),
         Event::Chown { ino, .. } => perm_touched(tree, *ino),
-        _ => Touched::Other,
+        _ => Touched::Links(links_changed(tree, event)),
     }
 }
 
@@ -50,8 +55,8 @@ fn perm_touched(tree: &Tree, ino: Ino) -> Touched
 }
 
 /// Brings the frames that are kept up to an event that happened. They are mended after a text; after other
-/// permissions of a node or other groups of a user those stay that it doesn't change; and after anything else
-/// all are forgotten.
+/// permissions of a node, other groups of a user, or links that were made, removed or moved those stay that it
+/// doesn't change.
 pub(crate) fn renew_frames(frames: &mut FrameCache, tree: &Tree, space: &Space, touched: Touched)
     ensures { (fs : FileSystem) (before : Addresses) → Touches fs before tree.now space.now touched
         → AreFor fs before.ranges frames.old → AreFor tree.now space.now.ranges frames.new }
@@ -66,6 +71,10 @@ pub(crate) fn renew_frames(frames: &mut FrameCache, tree: &Tree, space: &Space, 
             let _ = frames.recheck(tree, ino, before);
         }
         Touched::GroupsOf(uid) => frames.forget(uid),
+        Touched::Links(links) => {
+            // Out of memory, all frames are forgotten.
+            let _ = frames.relink(tree, links);
+        }
         Touched::Other => frames.clear(),
     }
 }

@@ -3,7 +3,7 @@ use Rattle.wu_space.specs.Addresses.{Addresses}
 use Rattle.wu_frames.specs.UserFrames.{AreFor}
 use Rattle.wu_engine.specs.Renewing.{Touches}
 use Rattle.wu_engine.specs.declared.renewing.Touched.{Touched}
-use Rattle.wu_engine.specs.declared.renewing.Touched.TheVariants.{RangeOf, PermOf, GroupsOf}
+use Rattle.wu_engine.specs.declared.renewing.Touched.TheVariants.{RangeOf, PermOf, GroupsOf, Links}
 use Rattle.wu_engine.proofs.KeptFrames.{renewed}
 use Rattle.wu_engine.proofs.renewing.renew_frames.Goals as goal
 
@@ -34,3 +34,11 @@ returns-in-GroupsOf c = λ fs before touches right.
     subst (λ (t : Touched). Touches fs before tree now t) c.in-GroupsOf.is touches in
     subst (λ (s : Addresses). AreFor tree s.ranges c.forget.new.self) (sym changed.0)
     (c.forget.ensures.right fs tree before.ranges changed.1 right)
+
+pub returns-in-Links : goal.returns-in-Links
+returns-in-Links c = λ fs before touches right.
+    let now = c.args.space.now in
+    let tree = c.args.tree.now in
+    let changed : Touches fs before tree now (Links c.in-Links.links) =
+    subst (λ (t : Touched). Touches fs before tree now t) c.in-Links.is touches in
+    c.relink.ensures.right fs before.ranges now.ranges changed.0 changed.1 right

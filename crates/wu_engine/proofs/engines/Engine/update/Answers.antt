@@ -45,8 +45,10 @@ invariant_of-self-in-Ok-followed g c =
     let sound = old.sound c.in_default.is in
     let rules = c.keeps_the_rules.ensures in
     let touched : Touches old.tree old.space tree space c.touched_by-touched.result =
-    rw c.touched_by-touched.ensures
-    (touches old.tree old.space text rules event tree effect step space (ap (λ (k : Catalog). k.space) done.catalog)) in
+    rw c.touched_by-touched.ensures.touched
+    (touches old.tree old.space text c.touched_by-touched.ensures.rules rules event tree effect step
+    (c.effects_tell_files.ensures event tree effect step) (changes old.tree event tree effect step).1 space
+    (ap (λ (k : Catalog). k.space) done.catalog)) in
     record {
       sound = λ _.
           sound_prepared tree space parts parts files [] c.renew_frames.new.frames refl
