@@ -9,8 +9,8 @@ use Rattle.wu_solve.proofs.Results.{hits_listed}
 use Rattle.wu_cursor.specs.declared.directions.Direction.{Direction}
 use Rattle.wu_cursor.specs.declared.directions.Direction.TheVariants.{Forward, Backward}
 use Rattle.wu_cursor.specs.Directions.{opposite, Reaches, near, far, between}
-use Rattle.wu_cursor.specs.Within.{IsMember, IsNearest, NoneReached, IsFarEnd}
-use Rattle.wu_cursor.proofs.Orders.{between_is, holds_between, not_before_end, reached_back}
+use Rattle.wu_cursor.specs.Within.{IsMember, IsNearest, IsFarEnd}
+use Rattle.wu_cursor.proofs.Orders.{between_is, holds_between, reached_back}
 
 -- no extent of the set holds another
 pub record IsFlat (n : ℕ) (set : Extent → Bool) : Type 0 where
@@ -56,13 +56,6 @@ starts_before n set flat x y mx my before =
     let cases : (x.start < y.start) ⊎ (y.start ≤ x.start) = grind arith in
     elim cases [ inl good ↦ good | inr bad ↦ absurd (omega (arith, back bad)) ]
 
-pub ends_before : (n : ℕ) (set : Extent → Bool) → IsFlat n set → (x y : Extent) → IsMember n set x → IsMember n set y → x.start < y.start
-    → x.end < y.end
-ends_before n set flat x y mx my before =
-    let back : y.end ≤ x.end → y.start ≤ x.start = starts_rise n set flat y x my mx in
-    let cases : (x.end < y.end) ⊎ (y.end ≤ x.end) = grind arith in
-    elim cases [ inl good ↦ good | inr bad ↦ absurd (omega (arith, back bad)) ]
-
 -- what is done no later starts no later and ends no later
 pub rise : (d : Direction) (n : ℕ) (set : Extent → Bool) → IsFlat n set → (x y : Extent) → IsMember n set x → IsMember n set y
     → Reaches d (far d x) (far d y) → Reaches d x.start y.start × Reaches d x.end y.end
@@ -90,10 +83,6 @@ nearest_whole d n set place first end flat f l =
     })
 
 -- there is one in the other direction too
-pub nearest_there : (d : Direction) (n : ℕ) (set : Extent → Bool) (place end : ℕ) → IsFarEnd d n set place end
-    → NoneReached (opposite d) n set end → ⊥
-nearest_there d n set place end f none = not_before_end d end f.extent f.same (none.none f.extent f.member)
-
 -- where the nearest extent is known
 pub far_end_of : (d : Direction) (n : ℕ) (set : Extent → Bool) (place : ℕ) (x : Extent) → IsNearest d n set place x
     → IsFarEnd d n set place (far d x)

@@ -12,7 +12,7 @@ use Rattle.wu_solve.proofs.Sets.{Holds, holds_means, holds_from}
 use Rattle.wu_solve.proofs.Order.{some_found, some_from}
 use Rattle.wu_cursor.specs.declared.directions.Direction.{Direction}
 use Rattle.wu_cursor.specs.Directions.{Reaches, Precedes, next_place, near}
-use Rattle.wu_cursor.specs.Within.{IsMember, IsNearest, NoneReached, IsFirst, NoneStarts, NoneEnds, IsFirstEnd, IsLastStart, IsFirstEnding, NoneEndsFrom, IsContainment, AreKept, keeps}
+use Rattle.wu_cursor.specs.Within.{IsMember, IsNearest, NoneReached, IsFirst, NoneStarts, IsFirstEnd, IsLastStart, IsFirstEnding, NoneEndsFrom, IsContainment, AreKept, keeps}
 use Rattle.wu_cursor.proofs.Flat.{IsFlat, starts_before}
 use Rattle.wu_cursor.proofs.Orders.{before_or_reached, holds_near, next_none, next_reached, not_both, through}
 
@@ -149,24 +149,6 @@ held_by_none n set x none = sym (false_from_ne_true (some_extent n (λ y. holds 
     omega (arith, none.none s.0 (record { extent = s.1; passes = b.1 }), h.last)))
 
 -- the first that ends at a place or after it is the first behind the last that ends before
-
-pub ending_at_start : (n : ℕ) (set : Extent → Bool) (from : ℕ) (x : Extent) → from ≡ 0 → IsFirst n set 0 x → IsFirstEnding n set from x
-ending_at_start n set from x zero f = record {
-  member = f.member;
-  low = omega arith;
-  starts = λ y my low. f.starts y my (omega arith);
-}
-
-pub none_ending_at_start : (n : ℕ) (set : Extent → Bool) (from : ℕ) → NoneStarts n set 0 → NoneEndsFrom n set from
-none_ending_at_start n set from none = record { none = λ y my. absurd (omega (arith, none.none y my)) }
-
-pub ending_behind_none : (n : ℕ) (set : Extent → Bool) (from : ℕ) (x : Extent) → 0 < from → NoneEnds n set (from - 1) → IsFirst n set 0 x
-    → IsFirstEnding n set from x
-ending_behind_none n set from x some none f = record {
-  member = f.member;
-  low = omega (arith, none.none x f.member);
-  starts = λ y my low. f.starts y my (omega arith);
-}
 
 module _ (n : ℕ) (set : Extent → Bool) (from start : ℕ) (flat : IsFlat n set) (some : 0 < from) (l : IsLastStart n set
     (from - 1) start) where

@@ -1,5 +1,5 @@
 -- What holds of places and extents in either direction.
-use Rattle.std.proofs.Common.{◌≡◌, ℕ, zero, suc, ◌+◌, ◌-◌, ◌<◌, ◌≤◌, ◌⊎◌, refl, ap, arith}
+use Rattle.std.proofs.Common.{◌≡◌, ℕ, zero, suc, ◌+◌, ◌-◌, ◌<◌, ◌⊎◌, refl, ap, arith}
 use Rattle.std.specs.Prelude.{Some, None}
 use Rattle.wu_base.specs.declared.addresses.Extent.{Extent}
 use Rattle.wu_solve.specs.Merging.{cover}
@@ -58,21 +58,7 @@ abbrev pub left_below : Direction → ℕ → ℕ → ℕ
 left_below Forward n place = n - place
 left_below Backward n place = place
 
-pub next_fewer : (d : Direction) (n from a next : ℕ) → next_place d a ≡ Some next → Reaches d from a → a < n
-    → left_below d n next < left_below d n from
-next_fewer Forward n from a next is reached within = let same : a + 1 ≡ next = cc in omega arith
-next_fewer Backward n from zero next is reached within = cc
-next_fewer Backward n from (suc a) next is reached within = let same : a ≡ next = cc in omega arith
-
 -- extents
-
-pub near_low : (d : Direction) (x : Extent) → x.start ≤ x.end → near d x ≤ x.end
-near_low Forward x ordered = omega arith
-near_low Backward x ordered = omega arith
-
-pub far_low : (d : Direction) (x : Extent) → x.start ≤ x.end → far d x ≤ x.end
-far_low Forward x ordered = omega arith
-far_low Backward x ordered = omega arith
 
 pub between_is : (d : Direction) (x : Extent) (a b : ℕ) → far (opposite d) x ≡ a → far d x ≡ b → x ≡ between d a b
 between_is Forward x a b first last = same_ends _ _ first last
@@ -111,11 +97,6 @@ holds_between Backward first end x z ends starts last before = record { start = 
 pub reached_back : (d : Direction) (end : ℕ) (x : Extent) → far d x ≡ end → Reaches (opposite d) end (near (opposite d) x)
 reached_back Forward end x same = omega arith
 reached_back Backward end x same = omega arith
-
--- there is one in the other direction too
-pub not_before_end : (d : Direction) (end : ℕ) (x : Extent) → far d x ≡ end → Precedes (opposite d) (near (opposite d) x) end → ⊥
-not_before_end Forward end x same before = omega arith
-not_before_end Backward end x same before = omega arith
 
 -- the nearer of two places, and the farther
 

@@ -85,9 +85,3 @@ module _ (xs : List ℕ) (up : IsStrictlyIncreasing xs) (start n : ℕ) where
         let within : index - 1 < length xs = omega (arith, ends.within) in
         omega (arith, increasing_not_below xs up k.0 (index - 1) (omega arith) within, k.2, before (omega arith)));
   }
-
-  pub none_far : (from : ℕ) → n ≤ from → HasNoneFrom n Test from
-  none_far from far = record { none = λ p low within. absurd (omega arith) }
-
-  pub none_empty : (to : ℕ) → n ≡ 0 → HasNoneTo n Test to
-  none_empty to empty = record { none = λ p upto within. absurd (omega arith) }

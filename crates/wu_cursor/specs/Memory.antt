@@ -9,7 +9,7 @@ use Rattle.wu_cursor.specs.declared.directions.Direction.TheVariants.{Forward, B
 use Rattle.wu_cursor.specs.declared.memory.Answers.{Answers}
 use Rattle.wu_cursor.specs.declared.memory.Found.{Found}
 use Rattle.wu_cursor.specs.declared.memory.Slot.{Slot}
-use Rattle.wu_cursor.specs.Within.{set_in, IsNearest, NoneReached}
+use Rattle.wu_cursor.specs.Within.{set_in, IsNearest, NoneReached, IsFarEnd}
 
 -- the nearest extent of the set from the place on, or none
 abbrev pub IsNearestIn : Direction → ℕ → (Extent → Bool) → ℕ → Option Extent → Type 0
@@ -18,6 +18,12 @@ IsNearestIn direction n set place extent = MatchOption extent (NoneReached direc
 -- the nearest extent of the expression from the place on, or none
 abbrev pub IsNearestOf : Direction → Region → List TermList → Range → ℕ → Option Extent → Type 0
 IsNearestOf direction region lists frame place extent = IsNearestIn direction frame.len (set_in region lists frame) place extent
+
+-- the far end of the nearest extent of the expression from the place on, or none
+abbrev pub IsFarEndOf : Direction → Region → List TermList → Range → ℕ → Option ℕ → Type 0
+IsFarEndOf direction region lists frame place end =
+    MatchOption end (NoneReached direction frame.len (set_in region lists frame) place)
+    (IsFarEnd direction frame.len (set_in region lists frame) place)
 
 -- both answers are right for the set
 pub record AreAnswers (direction : Direction) (n : ℕ) (set : Extent → Bool) (answers : Answers) : Type 0 where

@@ -1,7 +1,7 @@
 //! The access functions of an expression in one frame, with places counted from the frame's start.
 ghost use Rattle.std.specs.Prelude.{◌≡◌, ◌&&◌, MatchOption};
-ghost use Rattle.wu_cursor.specs.Memory.{AreRight, IsNearestOf};
-ghost use Rattle.wu_cursor.specs.Within.{set_in, keeps, NoneReached, IsFarEnd, IsFirstEnding, NoneEndsFrom, AreKept};
+ghost use Rattle.wu_cursor.specs.Memory.{AreRight, IsNearestOf, IsFarEndOf};
+ghost use Rattle.wu_cursor.specs.Within.{set_in, keeps, IsFirstEnding, NoneEndsFrom, AreKept};
 ghost use Rattle.wu_gcl.specs.Extents.{holds, some_extent};
 ghost use Rattle.wu_gcl.specs.Regions.{region_of};
 ghost use Rattle.wu_solve.specs.Addresses.{AreLists};
@@ -11,9 +11,16 @@ ghost use Rattle.wu_solve.specs.Solving.{IsFrame};
 use crate::directions::{Direction, between, far, farther, near, nearer, next_place, opposite};
 use crate::memory::{Slot, note, recall};
 use crate::operands::operand;
-use crate::slots::{asks_again, operators_in, right_at};
+use crate::slots::{NO_SLOT, asks_again, operators_in, right_at};
 use wu_base::{Extent, OPERATORS_MAX, Range, TermList};
 use wu_gcl::{Expr, Op};
+
+/// The text in a frame: where its terms stand, and the frame's addresses.
+#[derive(Clone, Copy)]
+struct Text<'t> {
+    lists: &'t [TermList],
+    frame: Range,
+}
 
 /// As many slots as most expressions need: a slot costs some time in each frame, used or not.
 const FEW_SLOTS: usize = 8;
@@ -31,29 +38,14 @@ pub fn nearest_at(
     requires frame { IsFrame frame }
     ensures { IsNearestOf direction (region_of expr.now) lists.now frame place result }
 {
+    let text = &Text { lists, frame };
     if !asks_again(expr) {
-        return nearest(direction, expr, lists, frame, place, &mut [], 0);
+        return nearest(direction, expr, text, place, &mut [], NO_SLOT);
     }
     if operators_in(expr) <= FEW_SLOTS {
-        return nearest(
-            direction,
-            expr,
-            lists,
-            frame,
-            place,
-            &mut [None; FEW_SLOTS],
-            0,
-        );
+        return nearest(direction, expr, text, place, &mut [None; FEW_SLOTS], 0);
     }
-    nearest(
-        direction,
-        expr,
-        lists,
-        frame,
-        place,
-        &mut [None; OPERATORS_MAX],
-        0,
-    )
+    nearest(direction, expr, text, place, &mut [None; OPERATORS_MAX], 0)
 }
 
 /// The same, with what was remembered in the frame. The expression's slot is `at`, if
@@ -62,30 +54,29 @@ pub fn nearest_at(
 fn nearest<'a>(
     direction: Direction,
     expr: &'a Expr,
-    lists: &[TermList],
-    frame: Range,
+    text: &Text<'_>,
     place: u64,
     memory: &mut [Option<Slot<'a>>],
     at: usize,
 ) -> Option<Extent>
-    requires lists { AreLists lists.now }
-    requires frame { IsFrame frame }
-    requires memory { AreRight lists.now frame memory.old }
-    ensures memory { AreRight lists.now frame memory.new }
-    ensures found { IsNearestOf direction (region_of expr.now) lists.now frame place result }
+    requires lists { AreLists text.now.lists.now }
+    requires frame { IsFrame text.now.frame }
+    requires memory { AreRight text.now.lists.now text.now.frame memory.old }
+    ensures memory { AreRight text.now.lists.now text.now.frame memory.new }
+    ensures found { IsNearestOf direction (region_of expr.now) text.now.lists.now text.now.frame place result }
 {
     match expr {
         Expr::Both(op, ..) => match op {
             Op::Containing | Op::ContainedIn | Op::NotContaining | Op::NotContainedIn => {
-                kept(direction, expr, lists, frame, place, memory, at)
+                kept(direction, expr, text, place, memory, at)
             }
             Op::OneOf | Op::BothOf | Op::FollowedBy => {
-                let last = far_end(direction, expr, lists, frame, place, memory, at)?;
-                let first = far_end(opposite(direction), expr, lists, frame, last, memory, at)?;
+                let last = far_end(direction, expr, text, place, memory, at)?;
+                let first = far_end(opposite(direction), expr, text, last, memory, at)?;
                 Some(between(direction, first, last))
             }
         },
-        _ => operand(direction, expr, lists, frame, place),
+        _ => operand(direction, expr, text.lists, text.frame, place),
     }
 }
 
@@ -95,115 +86,49 @@ fn nearest<'a>(
 fn far_end<'a>(
     direction: Direction,
     expr: &'a Expr,
-    lists: &[TermList],
-    frame: Range,
+    text: &Text<'_>,
     place: u64,
     memory: &mut [Option<Slot<'a>>],
     at: usize,
 ) -> Option<u64>
-    requires lists { AreLists lists.now }
-    requires frame { IsFrame frame }
-    requires memory { AreRight lists.now frame memory.old }
-    ensures memory { AreRight lists.now frame memory.new }
-    ensures found { MatchOption result (NoneReached direction frame.len (set_in (region_of expr.now) lists.now frame) place)
-        (IsFarEnd direction frame.len (set_in (region_of expr.now) lists.now frame) place) }
+    requires lists { AreLists text.now.lists.now }
+    requires frame { IsFrame text.now.frame }
+    requires memory { AreRight text.now.lists.now text.now.frame memory.old }
+    ensures memory { AreRight text.now.lists.now text.now.frame memory.new }
+    ensures found { IsFarEndOf direction (region_of expr.now) text.now.lists.now text.now.frame place result }
 {
     match expr {
         Expr::Both(op, left, right) => match op {
             Op::OneOf => {
-                let one = far_end(
-                    direction,
-                    left,
-                    lists,
-                    frame,
-                    place,
-                    memory,
-                    at.saturating_add(1),
-                );
-                let other = far_end(
-                    direction,
-                    right,
-                    lists,
-                    frame,
-                    place,
-                    memory,
-                    right_at(at, left),
-                );
+                let one = far_end(direction, left, text, place, memory, at.saturating_add(1));
+                let other = far_end(direction, right, text, place, memory, right_at(at, left));
                 nearer(direction, one, other)
             }
             Op::BothOf => {
-                let one = far_end(
-                    direction,
-                    left,
-                    lists,
-                    frame,
-                    place,
-                    memory,
-                    at.saturating_add(1),
-                )?;
-                let other = far_end(
-                    direction,
-                    right,
-                    lists,
-                    frame,
-                    place,
-                    memory,
-                    right_at(at, left),
-                )?;
+                let one = far_end(direction, left, text, place, memory, at.saturating_add(1))?;
+                let other = far_end(direction, right, text, place, memory, right_at(at, left))?;
                 Some(farther(direction, one, other))
             }
             Op::FollowedBy => match direction {
                 Direction::Forward => {
-                    let end = far_end(
-                        direction,
-                        left,
-                        lists,
-                        frame,
-                        place,
-                        memory,
-                        at.saturating_add(1),
-                    )?;
+                    let end = far_end(direction, left, text, place, memory, at.saturating_add(1))?;
                     let next = next_place(direction, end)?;
-                    far_end(
-                        direction,
-                        right,
-                        lists,
-                        frame,
-                        next,
-                        memory,
-                        right_at(at, left),
-                    )
+                    far_end(direction, right, text, next, memory, right_at(at, left))
                 }
                 Direction::Backward => {
-                    let start = far_end(
-                        direction,
-                        right,
-                        lists,
-                        frame,
-                        place,
-                        memory,
-                        right_at(at, left),
-                    )?;
+                    let start = far_end(direction, right, text, place, memory, right_at(at, left))?;
                     let next = next_place(direction, start)?;
-                    far_end(
-                        direction,
-                        left,
-                        lists,
-                        frame,
-                        next,
-                        memory,
-                        at.saturating_add(1),
-                    )
+                    far_end(direction, left, text, next, memory, at.saturating_add(1))
                 }
             },
             Op::Containing | Op::ContainedIn | Op::NotContaining | Op::NotContainedIn => {
-                Some(far(
-                    direction,
-                    kept(direction, expr, lists, frame, place, memory, at)?,
-                ))
+                Some(far(direction, kept(direction, expr, text, place, memory, at)?))
             }
         },
-        _ => Some(far(direction, operand(direction, expr, lists, frame, place)?)),
+        _ => Some(far(
+            direction,
+            operand(direction, expr, text.lists, text.frame, place)?,
+        )),
     }
 }
 
@@ -212,23 +137,22 @@ fn far_end<'a>(
 fn kept<'a>(
     direction: Direction,
     expr: &'a Expr,
-    lists: &[TermList],
-    frame: Range,
+    text: &Text<'_>,
     place: u64,
     memory: &mut [Option<Slot<'a>>],
     at: usize,
 ) -> Option<Extent>
     requires containment { AreKept (region_of expr.now) }
-    requires lists { AreLists lists.now }
-    requires frame { IsFrame frame }
-    requires memory { AreRight lists.now frame memory.old }
-    ensures memory { AreRight lists.now frame memory.new }
-    ensures found { IsNearestOf direction (region_of expr.now) lists.now frame place result }
+    requires lists { AreLists text.now.lists.now }
+    requires frame { IsFrame text.now.frame }
+    requires memory { AreRight text.now.lists.now text.now.frame memory.old }
+    ensures memory { AreRight text.now.lists.now text.now.frame memory.new }
+    ensures found { IsNearestOf direction (region_of expr.now) text.now.lists.now text.now.frame place result }
 {
     if let Some(known) = recall(direction, memory, at, expr, place) {
         return known;
     }
-    let found = sought(direction, expr, lists, frame, place, memory, at);
+    let found = sought(direction, expr, text, place, memory, at);
     note(direction, memory, at, expr, place, found);
     found
 }
@@ -238,37 +162,29 @@ fn kept<'a>(
 fn sought<'a>(
     direction: Direction,
     expr: &'a Expr,
-    lists: &[TermList],
-    frame: Range,
+    text: &Text<'_>,
     place: u64,
     memory: &mut [Option<Slot<'a>>],
     at: usize,
 ) -> Option<Extent>
     requires containment { AreKept (region_of expr.now) }
-    requires lists { AreLists lists.now }
-    requires frame { IsFrame frame }
-    requires memory { AreRight lists.now frame memory.old }
-    ensures memory { AreRight lists.now frame memory.new }
-    ensures found { IsNearestOf direction (region_of expr.now) lists.now frame place result }
+    requires lists { AreLists text.now.lists.now }
+    requires frame { IsFrame text.now.frame }
+    requires memory { AreRight text.now.lists.now text.now.frame memory.old }
+    ensures memory { AreRight text.now.lists.now text.now.frame memory.new }
+    ensures found { IsNearestOf direction (region_of expr.now) text.now.lists.now text.now.frame place result }
 {
     let Expr::Both(op, left, right) = expr else {
         return None;
     };
+    let right_at = right_at(at, left);
     let mut from = place;
     loop {
         if let Some(known) = recall(direction, memory, at, expr, from) {
             return known;
         }
-        let extent = nearest(
-            direction,
-            left,
-            lists,
-            frame,
-            from,
-            memory,
-            at.saturating_add(1),
-        )?;
-        if is_kept(*op, right, lists, frame, extent, memory, right_at(at, left)) {
+        let extent = nearest(direction, left, text, from, memory, at.saturating_add(1))?;
+        if is_kept(*op, right, text, extent, memory, right_at) {
             return Some(extent);
         }
         from = next_place(direction, near(direction, extent))?;
@@ -280,24 +196,23 @@ fn sought<'a>(
 fn is_kept<'a>(
     op: Op,
     right: &'a Expr,
-    lists: &[TermList],
-    frame: Range,
+    text: &Text<'_>,
     extent: Extent,
     memory: &mut [Option<Slot<'a>>],
     at: usize,
 ) -> bool
-    requires extent { IsExtentIn frame.len extent }
-    requires lists { AreLists lists.now }
-    requires frame { IsFrame frame }
-    requires memory { AreRight lists.now frame memory.old }
-    ensures memory { AreRight lists.now frame memory.new }
-    ensures found { result ≡ keeps op frame.len (set_in (region_of right.now) lists.now frame) extent }
+    requires extent { IsExtentIn text.now.frame.len extent }
+    requires lists { AreLists text.now.lists.now }
+    requires frame { IsFrame text.now.frame }
+    requires memory { AreRight text.now.lists.now text.now.frame memory.old }
+    ensures memory { AreRight text.now.lists.now text.now.frame memory.new }
+    ensures found { result ≡ keeps op text.now.frame.len (set_in (region_of right.now) text.now.lists.now text.now.frame) extent }
 {
     match op {
-        Op::Containing => holds_one(right, lists, frame, extent, memory, at),
-        Op::ContainedIn => is_held(right, lists, frame, extent, memory, at),
-        Op::NotContaining => !holds_one(right, lists, frame, extent, memory, at),
-        Op::NotContainedIn => !is_held(right, lists, frame, extent, memory, at),
+        Op::Containing => holds_one(right, text, extent, memory, at),
+        Op::ContainedIn => is_held(right, text, extent, memory, at),
+        Op::NotContaining => !holds_one(right, text, extent, memory, at),
+        Op::NotContainedIn => !is_held(right, text, extent, memory, at),
         Op::OneOf | Op::BothOf | Op::FollowedBy => false,
     }
 }
@@ -306,28 +221,20 @@ fn is_kept<'a>(
 #[cycle(access)]
 fn holds_one<'a>(
     expr: &'a Expr,
-    lists: &[TermList],
-    frame: Range,
+    text: &Text<'_>,
     extent: Extent,
     memory: &mut [Option<Slot<'a>>],
     at: usize,
 ) -> bool
-    requires extent { IsExtentIn frame.len extent }
-    requires lists { AreLists lists.now }
-    requires frame { IsFrame frame }
-    requires memory { AreRight lists.now frame memory.old }
-    ensures memory { AreRight lists.now frame memory.new }
-    ensures found { result ≡ some_extent frame.len (λ y. holds extent y && set_in (region_of expr.now) lists.now frame y) }
+    requires extent { IsExtentIn text.now.frame.len extent }
+    requires lists { AreLists text.now.lists.now }
+    requires frame { IsFrame text.now.frame }
+    requires memory { AreRight text.now.lists.now text.now.frame memory.old }
+    ensures memory { AreRight text.now.lists.now text.now.frame memory.new }
+    ensures found { result ≡ some_extent text.now.frame.len
+        (λ y. holds extent y && set_in (region_of expr.now) text.now.lists.now text.now.frame y) }
 {
-    match far_end(
-        Direction::Forward,
-        expr,
-        lists,
-        frame,
-        extent.start,
-        memory,
-        at,
-    ) {
+    match far_end(Direction::Forward, expr, text, extent.start, memory, at) {
         Some(end) => end <= extent.end,
         None => false,
     }
@@ -337,20 +244,20 @@ fn holds_one<'a>(
 #[cycle(access)]
 fn is_held<'a>(
     expr: &'a Expr,
-    lists: &[TermList],
-    frame: Range,
+    text: &Text<'_>,
     extent: Extent,
     memory: &mut [Option<Slot<'a>>],
     at: usize,
 ) -> bool
-    requires extent { IsExtentIn frame.len extent }
-    requires lists { AreLists lists.now }
-    requires frame { IsFrame frame }
-    requires memory { AreRight lists.now frame memory.old }
-    ensures memory { AreRight lists.now frame memory.new }
-    ensures found { result ≡ some_extent frame.len (λ y. holds y extent && set_in (region_of expr.now) lists.now frame y) }
+    requires extent { IsExtentIn text.now.frame.len extent }
+    requires lists { AreLists text.now.lists.now }
+    requires frame { IsFrame text.now.frame }
+    requires memory { AreRight text.now.lists.now text.now.frame memory.old }
+    ensures memory { AreRight text.now.lists.now text.now.frame memory.new }
+    ensures found { result ≡ some_extent text.now.frame.len
+        (λ y. holds y extent && set_in (region_of expr.now) text.now.lists.now text.now.frame y) }
 {
-    match first_ending(expr, lists, frame, extent.end, memory, at) {
+    match first_ending(expr, text, extent.end, memory, at) {
         Some(holder) => holder.start <= extent.start,
         None => false,
     }
@@ -360,40 +267,24 @@ fn is_held<'a>(
 #[cycle(access)]
 fn first_ending<'a>(
     expr: &'a Expr,
-    lists: &[TermList],
-    frame: Range,
+    text: &Text<'_>,
     from: u64,
     memory: &mut [Option<Slot<'a>>],
     at: usize,
 ) -> Option<Extent>
-    requires lists { AreLists lists.now }
-    requires frame { IsFrame frame }
-    requires memory { AreRight lists.now frame memory.old }
-    ensures memory { AreRight lists.now frame memory.new }
-    ensures found { MatchOption result (NoneEndsFrom frame.len (set_in (region_of expr.now) lists.now frame) from)
-        (IsFirstEnding frame.len (set_in (region_of expr.now) lists.now frame) from) }
+    requires lists { AreLists text.now.lists.now }
+    requires frame { IsFrame text.now.frame }
+    requires memory { AreRight text.now.lists.now text.now.frame memory.old }
+    ensures memory { AreRight text.now.lists.now text.now.frame memory.new }
+    ensures found { MatchOption result
+        (NoneEndsFrom text.now.frame.len (set_in (region_of expr.now) text.now.lists.now text.now.frame) from)
+        (IsFirstEnding text.now.frame.len (set_in (region_of expr.now) text.now.lists.now text.now.frame) from) }
 {
     if from == 0 {
-        return nearest(Direction::Forward, expr, lists, frame, 0, memory, at);
+        return nearest(Direction::Forward, expr, text, 0, memory, at);
     }
-    match far_end(
-        Direction::Backward,
-        expr,
-        lists,
-        frame,
-        from - 1,
-        memory,
-        at,
-    ) {
-        Some(start) => nearest(
-            Direction::Forward,
-            expr,
-            lists,
-            frame,
-            start + 1,
-            memory,
-            at,
-        ),
-        None => nearest(Direction::Forward, expr, lists, frame, 0, memory, at),
+    match far_end(Direction::Backward, expr, text, from - 1, memory, at) {
+        Some(start) => nearest(Direction::Forward, expr, text, start + 1, memory, at),
+        None => nearest(Direction::Forward, expr, text, 0, memory, at),
     }
 }

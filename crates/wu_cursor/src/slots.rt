@@ -1,6 +1,9 @@
 //! Which slots of the memory an expression and its operands take.
 use wu_gcl::{Expr, Op};
 
+/// The place of a slot where there are none: nothing is counted then.
+pub const NO_SLOT: usize = usize::MAX;
+
 /// Whether the expression has a containment.
 fn has_containment(expr: &Expr) -> bool {
     match expr {
@@ -34,5 +37,8 @@ pub fn operators_in(expr: &Expr) -> usize {
 
 /// The slot of an operator's right operand, behind its own and those of its left operand.
 pub fn right_at(at: usize, left: &Expr) -> usize {
+    if at == NO_SLOT {
+        return NO_SLOT;
+    }
     at.saturating_add(1).saturating_add(operators_in(left))
 }

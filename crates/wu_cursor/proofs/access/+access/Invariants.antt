@@ -8,10 +8,10 @@ use Rattle.wu_cursor.proofs.access.+access.Given as goal
 
 abbrev pub invariant-sought-loop-known : goal.invariant-sought-loop-known
 invariant-sought-loop-known l = record {
-  memory : AreRight l.lists l.frame l.memory;
+  memory : AreRight l.text.lists.now l.text.frame l.memory;
   on : Reaches l.direction l.place l.from;
-  passed : ArePassed l.direction l.frame.len (set_in (region_of l.expr) l.lists l.frame) l.place l.from;
+  passed : ArePassed l.direction l.text.frame.len (set_in (region_of l.expr) l.text.lists.now l.text.frame) l.place l.from;
 }
 
 abbrev pub decreases-sought-loop-known : goal.decreases-sought-loop-known
-decreases-sought-loop-known l = left_below l.direction l.frame.len l.from
+decreases-sought-loop-known l = left_below l.direction l.text.frame.len l.from
