@@ -1,24 +1,35 @@
-//! Compares the answers of public calls of the lower crates with those of the table on standard input.
+//! Compares the answers of public calls of the lower crates with those of the table on standard input, and those of long and random runs
+//! with plain ones.
 #![tactic(auto)]
 
 mod access;
+mod demos;
+mod extents;
 mod fields;
 mod lists;
 mod logarithms;
 mod numbers;
+mod outside;
+mod snips;
 mod tokens;
 
 use std::alloc::Global;
 use std::io;
+use std::rt::Files;
 use wu_rows::{NoAnswer, compare};
 
 fn main(rt: HostRuntime) -> io::Result<()> {
-    compare(&rt, answer)?;
-    numbers::compare_powers(&rt)
+    let files = &rt;
+    compare(&rt, |alloc, library, call, arguments| {
+        answer(files, alloc, library, call, arguments)
+    })?;
+    numbers::compare_powers(&rt)?;
+    outside::compare_runs(&rt)
 }
 
 /// The answer of the library's call to the arguments.
-fn answer(
+fn answer<R: Files + AllocGlobal>(
+    files: &R,
     alloc: Global,
     library: &str,
     call: &str,
@@ -31,6 +42,8 @@ fn answer(
         "wu_token" => tokens::answer(alloc, call, arguments),
         "wu_fields" => fields::answer(alloc, call, arguments),
         "wu_log2" => logarithms::answer(alloc, call, arguments),
-        _ => Err(NoAnswer::BadRow),
+        "wu_snip" => snips::answer(alloc, call, arguments),
+        "wu_demo" => demos::answer(alloc, call, arguments),
+        _ => outside::answer(files, alloc, library, call, arguments),
     }
 }

@@ -1,10 +1,10 @@
 //! Texts in one space of addresses, and the lists of their terms.
-ghost use Rattle.std.specs.Prelude.{All, IfOk};
+ghost use Rattle.std.specs.Prelude.{All, IfOk, IsTrue, ◌↔◌};
 ghost use Rattle.std.specs.List.Sorted.{IsStrictlyIncreasing, IsStrictlySortedBy};
 ghost use Rattle.std.specs.Cmp.Lexicographic.{slice_cmp};
 ghost use Rattle.std.specs.Ordering.{nat_cmp};
 ghost use Rattle.wu_solve.specs.Addresses.{AreLists};
-ghost use Rattle.wu_solve.specs.Solving.{IsFrame};
+ghost use Rattle.wu_solve.specs.Solving.{IsFrame, AreApart};
 
 use std::alloc::Global;
 use wu_base::{Bytes, Extent, NoMemory, Range, Sequence, TEXT_MAX, TermList};
@@ -123,6 +123,20 @@ pub fn frames_of(alloc: Global, corpus: &Corpus, field: &str) -> Result<Vec<Rang
         frames.push(frame_of(corpus, *number as usize))?;
     }
     Ok(frames)
+}
+
+/// Whether each frame ends before the next one starts.
+pub fn are_apart(frames: &[Range]) -> bool
+    requires { All IsFrame frames.now }
+    ensures { IsTrue result ↔ AreApart frames.now }
+{
+    for i in 1..frames.len() {
+        let last = frames[i - 1];
+        if frames[i].start < last.start + last.len {
+            return false;
+        }
+    }
+    true
 }
 
 /// What the expression means over the terms, frame by frame.

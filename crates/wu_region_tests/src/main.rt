@@ -1,7 +1,8 @@
-//! Compares the answers of public calls on region expressions, on the regions that they mean and on rankings with those of the table on
-//! standard input.
+//! Compares the answers of public calls on region expressions, on the regions that they mean, on cursors over these and on rankings with
+//! those of the table on standard input.
 #![tactic(auto)]
 
+mod cursors;
 mod expressions;
 mod fixtures;
 mod plain;
@@ -27,6 +28,7 @@ fn answer(
     match library {
         "wu_gcl" => expressions::answer(alloc, call, arguments),
         "wu_solve" => regions::answer(alloc, call, arguments),
+        "wu_cursor" => cursors::answer(alloc, call, arguments),
         "wu_rank" => rankings::answer(alloc, call, arguments),
         "wu_ask" => questions::answer(alloc, call, arguments),
         _ => Err(NoAnswer::BadRow),

@@ -1,7 +1,7 @@
 //! Sessions over scripts.
 use crate::statuses::name_of;
 use std::alloc::{AllocError, Global};
-use wu_outside::{MemSink, MemSource, PlainSource, PlainStore};
+use wu_outside::{MemSink, MemSource, PlainStore};
 use wu_rows::{NoAnswer, numbers, script, shown, words};
 use wumpus_run::{Status, run};
 
@@ -68,7 +68,7 @@ impl Session {
     fn own_reply(&mut self, alloc: Global, command: &str) -> Result<String, NoAnswer> {
         let mut script = script(alloc, command)?;
         script.push(b'\n')?;
-        let mut source = PlainSource::new(script);
+        let mut source = MemSource::new(script, Vec::new(alloc));
         let mut sink = MemSink::new(alloc, Vec::new(alloc));
         match run(alloc, &["run"], &mut source, &mut sink, &mut self.store) {
             Status::Done => shown(alloc, sink.gained()),

@@ -1,7 +1,7 @@
 //! Sessions over stores that fail or lose what they are given.
 use crate::statuses::name_of;
 use std::alloc::Global;
-use wu_outside::{Fault, MemSink, MemStore, PlainSource, Store};
+use wu_outside::{Fault, MemSink, MemSource, MemStore, Store};
 use wu_rows::{NoAnswer, numbers, script, shown, words};
 use wumpus_run::run;
 
@@ -160,7 +160,7 @@ fn ending<D: Store>(
     store: &mut D,
     field: &str,
 ) -> Result<String, NoAnswer> {
-    let mut source = PlainSource::new(script(alloc, field)?);
+    let mut source = MemSource::new(script(alloc, field)?, Vec::new(alloc));
     let mut sink = MemSink::new(alloc, Vec::new(alloc));
     let status = run(alloc, words, &mut source, &mut sink, store);
     let name = name_of(alloc, status)?;

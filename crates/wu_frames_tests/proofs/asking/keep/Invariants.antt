@@ -1,5 +1,0 @@
-use Rattle.wu_frames.specs.UserFrames.{AreFor}
-use Rattle.wu_frames_tests.proofs.asking.keep.Given as goal
-
-abbrev pub invariant-loop-uid : goal.invariant-loop-uid
-invariant-loop-uid l = AreFor l.tree l.space.ranges l.cache

@@ -1,0 +1,92 @@
+//! Each call of a store failing in turn, and all from one on.
+use crate::outside::calls::Call::{Put, Read, Remove, Root, SetRoot, Size, Sync};
+use crate::outside::calls::{Call, answer};
+use std::alloc::Global;
+use std::io;
+use wu_outside::{MemStore, PlainStore};
+use wu_rows::NoAnswer;
+
+/// Calls that touch all methods.
+const CALLS: &[Call<'static>] = &[
+    Root(8),
+    Size(1),
+    Read(1, 0, 8),
+    Put(1, b"apple"),
+    Size(1),
+    Read(1, 0, 8),
+    Read(1, 3, 8),
+    Read(1, 5, 8),
+    Read(1, 2, 1),
+    SetRoot(b"root"),
+    Root(2),
+    Sync,
+    Remove(1),
+    Size(1),
+];
+
+/// Prints in how many runs with a fault all other calls answer as without it.
+pub fn compare_failing(rt: &(impl Print + AllocGlobal)) -> io::Result<()> {
+    let mut single = 0u64;
+    let mut stopped = 0u64;
+    for number in 0..CALLS.len() {
+        single = single.saturating_add(u64::from(fails_alone(rt.alloc(), number)?));
+    }
+    for stop in 0..=CALLS.len() {
+        stopped = stopped.saturating_add(u64::from(fails_from(rt.alloc(), stop)?));
+    }
+    println!(rt;
+        "one call failing: {single} of {} runs answer the others as a plain store",
+        CALLS.len()
+    )?;
+    println!(rt;
+        "all calls failing from one on: {stopped} of {} runs answer those before it as a plain store",
+        CALLS.len() + 1
+    )
+}
+
+/// Whether the call with this number fails alone, and the others answer as a plain store to which it isn't made.
+fn fails_alone(alloc: Global, failing: usize) -> Result<bool, NoAnswer> {
+    let mut fails = Vec::new(alloc);
+    fails.push(failing as u64)?;
+    let mut store = MemStore::new(alloc, fails, u64::MAX);
+    let mut plain = PlainStore::new(alloc);
+    let mut same = true;
+    for (number, call) in CALLS.iter().enumerate() {
+        let given = answer(alloc, &mut store, *call)?;
+        let is_wanted = if number == failing {
+            given.as_str() == "failed"
+        } else {
+            is_answer(alloc, &mut plain, *call, given.as_str())?
+        };
+        same = same && is_wanted;
+    }
+    let counted = store.calls() == CALLS.len() as u64 && store.faults() == 1;
+    Ok(same && counted && store.reads() == plain.reads())
+}
+
+/// Whether the plain store answers the call so.
+fn is_answer(
+    alloc: Global,
+    plain: &mut PlainStore,
+    call: Call,
+    given: &str,
+) -> Result<bool, NoAnswer> {
+    Ok(answer(alloc, plain, call)?.as_str() == given)
+}
+
+/// Whether the calls from the stop on fail, and the others answer as a plain store.
+fn fails_from(alloc: Global, stop: usize) -> Result<bool, NoAnswer> {
+    let mut store = MemStore::new(alloc, Vec::new(alloc), stop as u64);
+    let mut plain = PlainStore::new(alloc);
+    let mut same = true;
+    for (number, call) in CALLS.iter().enumerate() {
+        let given = answer(alloc, &mut store, *call)?;
+        let is_wanted = if number >= stop {
+            given.as_str() == "failed"
+        } else {
+            is_answer(alloc, &mut plain, *call, given.as_str())?
+        };
+        same = same && is_wanted;
+    }
+    Ok(same && store.faults() == CALLS.len().saturating_sub(stop) as u64)
+}

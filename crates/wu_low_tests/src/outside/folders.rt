@@ -1,0 +1,134 @@
+//! The store in a folder of the disk.
+use crate::outside::calls::answers_of;
+use std::alloc::Global;
+use std::os::unix::fs::PermissionsExt;
+use std::rt::Files;
+use std::{fs, io};
+use wu_outside::{DirStore, Store};
+use wu_rows::{NoAnswer, bytes_text, plain_text};
+
+/// The answer of the call to the arguments.
+pub fn answer<R: Files + AllocGlobal>(
+    files: &R,
+    alloc: Global,
+    call: &str,
+    arguments: &[&str],
+) -> Result<String, NoAnswer> {
+    match (call, arguments) {
+        ("DirStore", [folder, calls]) => answers_in(files, folder, calls),
+        ("DirStore", [folder, calls, file, text, later]) => {
+            answers_around_a_cut(files, folder, calls, file, text, later)
+        }
+        ("fs::mode", [path]) => mode_of(files, path),
+        ("fs::read", [path]) => content_of(files, path),
+        ("fs::write", [path, text]) => outcome(alloc, fs::write(files, *path, *text)),
+        ("fs::create_dir", [path]) => outcome(alloc, fs::create_dir(files, *path)),
+        ("fs::remove_file", [path]) => outcome(alloc, fs::remove_file(files, *path)),
+        ("fs::remove_dir_all", [path]) => outcome(alloc, fs::remove_dir_all(files, *path)),
+        _ => Err(NoAnswer::BadRow),
+    }
+}
+
+/// The answers of the calls on the store in the folder, and how many failed.
+fn answers_in<R: Files + AllocGlobal>(
+    files: &R,
+    folder: &str,
+    calls: &str,
+) -> Result<String, NoAnswer> {
+    let mut store = DirStore::new(files, folder)?;
+    let mut text = answers_of(files.alloc(), &mut store, calls)?;
+    put_faults(&mut text, store.faults())?;
+    Ok(text)
+}
+
+fn put_faults(text: &mut String, faults: u64) -> Result<(), NoAnswer> {
+    Ok(write!(text, " {faults} failed")?)
+}
+
+/// The same, where between two lists of calls the file gets this text.
+fn answers_around_a_cut<R: Files + AllocGlobal>(
+    files: &R,
+    folder: &str,
+    calls: &str,
+    file: &str,
+    text: &str,
+    later: &str,
+) -> Result<String, NoAnswer> {
+    let mut store = DirStore::new(files, folder)?;
+    let mut answers = answers_of(files.alloc(), &mut store, calls)?;
+    if fs::write(files, file, text).is_err() {
+        return Err(NoAnswer::BadRow);
+    }
+    answers.push_str(answers_of(files.alloc(), &mut store, later)?.as_str())?;
+    put_faults(&mut answers, store.faults())?;
+    Ok(answers)
+}
+
+/// The permission bits of the file, or `absent`.
+fn mode_of<R: Files + AllocGlobal>(files: &R, path: &str) -> Result<String, NoAnswer> {
+    match fs::metadata(files, path) {
+        Ok(metadata) => {
+            let mode = metadata.permissions().mode() & 0o777;
+            Ok(format!(in files.alloc(); "{mode:o}")?)
+        }
+        Err(_) => plain_text(files.alloc(), "absent"),
+    }
+}
+
+fn content_of<R: Files + AllocGlobal>(files: &R, path: &str) -> Result<String, NoAnswer> {
+    match fs::read(files, path) {
+        Ok(bytes) => bytes_text(files.alloc(), &bytes),
+        Err(_) => plain_text(files.alloc(), "absent"),
+    }
+}
+
+fn outcome(alloc: Global, done: io::Result<()>) -> Result<String, NoAnswer> {
+    match done {
+        Ok(()) => plain_text(alloc, "ok"),
+        Err(_) => plain_text(alloc, "failed"),
+    }
+}
+
+/// How many bytes are read at once.
+const STEP: usize = 997;
+
+/// Reads ten long blobs in turn, of which eight stay open, and prints how many reads give the bytes that were put.
+pub fn compare_long_reads<R: Files + Print + AllocGlobal>(rt: &R) -> io::Result<()> {
+    let bytes = long_bytes(rt.alloc())?;
+    let mut store = DirStore::new(rt, "long").map_err(NoAnswer::from)?;
+    let same = same_reads(&mut store, &bytes);
+    println!(rt; "long blobs in a folder: {same} of 410 reads give what was put")?;
+    fs::remove_dir_all(rt, "long")
+}
+
+fn long_bytes(alloc: Global) -> Result<Vec<u8>, NoAnswer> {
+    let mut bytes = Vec::new(alloc);
+    for number in 0..40_000u32 {
+        bytes.push((number % 251) as u8)?;
+    }
+    Ok(bytes)
+}
+
+/// How many reads give the bytes that were put.
+fn same_reads<D: Store>(store: &mut D, bytes: &[u8]) -> u64 {
+    for blob in 0..10u64 {
+        let _ = store.put(blob, bytes);
+    }
+    let mut same = 0u64;
+    for (step, wanted) in bytes.chunks(STEP).enumerate() {
+        let at = (step as u64).saturating_mul(STEP as u64);
+        for blob in 0..10u64 {
+            same = same.saturating_add(u64::from(is_read(store, blob, at, wanted)));
+        }
+    }
+    same
+}
+
+/// Whether a read from the place gives these bytes.
+fn is_read<D: Store>(store: &mut D, blob: u64, at: u64, wanted: &[u8]) -> bool {
+    let mut buf = [0u8; STEP];
+    match store.read(blob, at, &mut buf) {
+        Ok(Some(count)) => count <= STEP && &buf[..count] == wanted,
+        _ => false,
+    }
+}

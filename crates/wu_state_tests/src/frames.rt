@@ -1,0 +1,181 @@
+//! The rows of a table: events of one tree, and questions for the frames of users.
+ghost use Rattle.std.specs.Prelude.{IfOk};
+ghost use Rattle.wu_tree.specs.Steps.{IsEvent};
+
+mod asking;
+
+use crate::trees::events;
+use std::alloc::Global;
+use wu_base::{ADDRESSES_MAX, Ino, Range, Sequence};
+use wu_frames::{FrameCache, LinkChanges, links_changed};
+use wu_rows::{NoAnswer, number, plain_text, small_number, small_numbers};
+use wu_space::Space;
+use wu_tree::{Event, Node, Tree};
+
+/// The tree and the space to which the rows of a table are put, and the frames that rows have kept. A table
+/// begins with the root alone.
+#[derive(Drop)]
+pub struct Rows {
+    tree: Tree,
+    space: Space,
+    kept: FrameCache,
+}
+
+impl Rows {
+    pub fn new(alloc: Global) -> Result<Rows, NoAnswer> {
+        Ok(Rows {
+            tree: Tree::new(alloc)?,
+            space: Space::new(alloc, 0),
+            kept: FrameCache::new(alloc)?,
+        })
+    }
+
+    /// The answer to the row of these fields.
+    pub fn answer(&mut self, alloc: Global, fields: &[&str]) -> Result<String, NoAnswer> {
+        match fields {
+            ["frames", uid] => asking::frames(alloc, &self.tree, &self.space, small_number(uid)?),
+            ["view", uid] => asking::view(alloc, &self.tree, &self.space, small_number(uid)?),
+            ["total", uid] => asking::total(alloc, &self.tree, &self.space, small_number(uid)?),
+            ["in turn", users, times] => asking::in_turn(
+                alloc,
+                &self.tree,
+                &self.space,
+                small_number(users)?,
+                small_number(times)?,
+            ),
+            ["keep", users] => {
+                self.kept = asking::keep(alloc, &self.tree, &self.space, users)?;
+                plain_text(alloc, "done")
+            }
+            ["kept", uid] => {
+                let uid = small_number(uid)?;
+                asking::kept(alloc, &self.tree, &self.space, uid, self.kept.kept(uid))
+            }
+            ["texts", ino, len, times] => {
+                self.give_texts(
+                    alloc,
+                    small_number(ino)?,
+                    number(len)?,
+                    small_number(times)?,
+                )
+            }
+            ["text", ino, len] => {
+                let event = Event::Text {
+                    ino: small_number(ino)?,
+                };
+                self.apply(alloc, event, number(len)?)
+            }
+            _ => {
+                let event = event_of(alloc, fields)?;
+                self.apply(alloc, event, 10)
+            }
+        }
+    }
+
+    /// What the tree answers to the event. A file that it makes or that gets a text is given `len`
+    /// addresses, and a file that it drops loses its range.
+    fn apply(&mut self, alloc: Global, event: Event, len: u64) -> Result<String, NoAnswer>
+        requires { IsEvent event }
+    {
+        let before = node_before(&self.tree, &event);
+        let links = links_changed(&self.tree, &event);
+        match self.tree.apply(&event)? {
+            Ok(effect) => {
+                if let Some(ino) = effect.dropped {
+                    release(&mut self.space, ino);
+                }
+                if let Some(ino) = effect.made {
+                    place(&mut self.space, ino, len)?;
+                }
+                match effect.texted {
+                    Some(ino) => self.give_text(ino, len)?,
+                    None => self.renew(&event, before, links)?,
+                }
+                plain_text(alloc, "done")
+            }
+            Err(_) => plain_text(alloc, "refused"),
+        }
+    }
+
+    /// Forgets the kept frames that the event may have changed, where `before` is the node to which it gave other
+    /// permissions, and `links` are those that it made and removed.
+    fn renew(
+        &mut self,
+        event: &Event,
+        before: Option<(Ino, Node)>,
+        links: LinkChanges,
+    ) -> Result<(), NoAnswer> {
+        match (event, before) {
+            (Event::User { uid, .. }, _) => self.kept.forget(*uid),
+            (_, Some((ino, node))) => self.kept.recheck(&self.tree, ino, node)?,
+            _ => self.kept.relink(&self.tree, links)?,
+        }
+        Ok(())
+    }
+
+    /// Gives the file the next addresses, so many, in place of those that it has.
+    fn give_text(&mut self, ino: Ino, len: u64) -> Result<(), NoAnswer> {
+        let old = self.space.range_of(ino);
+        release(&mut self.space, ino);
+        let new = place(&mut self.space, ino, len)?;
+        match old {
+            Some(old) => self.kept.move_range(ino, old, new),
+            None => self.kept.clear(),
+        }
+        Ok(())
+    }
+
+    /// Gives the file so many texts in turn, each of `len` addresses.
+    fn give_texts(
+        &mut self,
+        alloc: Global,
+        ino: Ino,
+        len: u64,
+        times: u32,
+    ) -> Result<String, NoAnswer> {
+        for _ in 0..times {
+            let answer = self.apply(alloc, Event::Text { ino }, len)?;
+            if answer.as_str() != "done" {
+                return Ok(answer);
+            }
+        }
+        plain_text(alloc, "done")
+    }
+}
+
+/// The event that the fields write. The groups of a user stand in one field.
+fn event_of(alloc: Global, fields: &[&str]) -> Result<Event, NoAnswer>
+    ensures { IfOk result (λ event. IsEvent event) }
+{
+    match fields {
+        ["user", uid, groups] => Ok(Event::User {
+            uid: small_number(uid)?,
+            groups: Sequence::from(small_numbers(alloc, groups)?),
+        }),
+        _ => events::event(alloc, fields),
+    }
+}
+
+/// The node to which the event gives other permissions, as it is before.
+fn node_before(tree: &Tree, event: &Event) -> Option<(Ino, Node)> {
+    match event {
+        Event::Chmod { ino, .. } | Event::Chown { ino, .. } => Some((*ino, tree.node(*ino)?)),
+        _ => None,
+    }
+}
+
+fn release(space: &mut Space, ino: Ino) {
+    if space.range_of(ino).is_some() {
+        space.release(ino);
+    }
+}
+
+fn place(space: &mut Space, ino: Ino, len: u64) -> Result<Range, NoAnswer> {
+    if len == 0 || len > ADDRESSES_MAX || space.next() > ADDRESSES_MAX - len {
+        return Err(NoAnswer::BadRow);
+    }
+    if space.range_of(ino).is_some() {
+        return Err(NoAnswer::BadRow);
+    }
+    Ok(space.place(ino, len)?)
+}

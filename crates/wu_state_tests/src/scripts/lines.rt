@@ -1,0 +1,74 @@
+//! What lines say.
+use crate::scripts::reasons::name_of;
+use std::alloc::Global;
+use wu_ask::{Ask, Query};
+use wu_base::Bytes;
+use wu_gcl::Expr;
+use wu_rows::{NoAnswer, bytes_text, list_text, plain_text, script};
+use wu_script::{Command, Line, read_command};
+use wu_tree::Event;
+
+/// What the line says: why it is refused, the name of the file that it makes, what it finds, how it ranks,
+/// or the operation that it is.
+pub fn said(alloc: Global, field: &str) -> Result<String, NoAnswer> {
+    let line = script(alloc, field)?;
+    match read_command(alloc, line.as_slice())? {
+        Line::Refused(why) => {
+            let name = name_of(why);
+            Ok(format!(in alloc; "refused {name}")?)
+        }
+        Line::Command(Command::Update(event)) => event_text(alloc, &event),
+        Line::Command(Command::Ask(query)) => query_text(alloc, &query),
+        Line::Command(Command::Flush) => plain_text(alloc, "flush"),
+        Line::Command(Command::Work(units)) => Ok(format!(in alloc; "work {units}")?),
+        Line::Command(Command::Stat) => plain_text(alloc, "stat"),
+        Line::Command(Command::Save) => plain_text(alloc, "save"),
+        Line::TextHead { ino, len } => Ok(format!(in alloc; "text {ino} {len}")?),
+        Line::Blank => plain_text(alloc, "blank"),
+    }
+}
+
+fn event_text(alloc: Global, event: &Event) -> Result<String, NoAnswer> {
+    match event {
+        Event::Create { name, .. } => {
+            let name = bytes_text(alloc, name.as_slice())?;
+            Ok(format!(in alloc; "create {name}")?)
+        }
+        _ => plain_text(alloc, "update"),
+    }
+}
+
+fn query_text(alloc: Global, query: &Query) -> Result<String, NoAnswer> {
+    match &query.ask {
+        Ask::Find { k, expr } => finding_text(alloc, query.uid, *k, expr),
+        Ask::Rank { k, unit, words } => {
+            ranking_text(alloc, query.uid, *k, unit, words.as_slice())
+        }
+        _ => plain_text(alloc, "ask"),
+    }
+}
+
+fn finding_text(alloc: Global, uid: u32, k: u32, expr: &Expr) -> Result<String, NoAnswer> {
+    let expr = expr_name(expr);
+    Ok(format!(in alloc; "find {uid} {k} {expr}")?)
+}
+
+fn ranking_text(
+    alloc: Global,
+    uid: u32,
+    k: u32,
+    unit: &Expr,
+    words: &[Bytes],
+) -> Result<String, NoAnswer> {
+    let unit = expr_name(unit);
+    let words = list_text(alloc, words)?;
+    Ok(format!(in alloc; "rank {uid} {k} {unit} {words}")?)
+}
+
+/// A name for the expression.
+fn expr_name(expr: &Expr) -> &'static str {
+    match expr {
+        Expr::Line => "line",
+        _ => "other",
+    }
+}

@@ -1,0 +1,95 @@
+//! Nodes, links and users of which a tree is rebuilt.
+use crate::trees::events::{name_of_word, numbers_of};
+use crate::trees::nodes::node;
+use std::alloc::Global;
+use wu_access::{Perm, UserRec};
+use wu_base::{Bytes, Ino};
+use wu_rows::{NoAnswer, flag_text, small_number, words};
+use wu_tree::{Kind, LinkRec, Node, Tree};
+
+/// Whether the nodes, links and users make a tree. Each is a list, with a comma between each two.
+pub fn made(alloc: Global, nodes: &str, links: &str, users: &str) -> Result<String, NoAnswer> {
+    let nodes = nodes_of(alloc, nodes)?;
+    let links = links_of(alloc, links)?;
+    let users = users_of(alloc, users)?;
+    let tree = Tree::rebuild(alloc, nodes.as_slice(), links.as_slice(), users.as_slice())?;
+    flag_text(alloc, tree.is_some())
+}
+
+fn nodes_of(alloc: Global, field: &str) -> Result<Vec<(Ino, Node)>, NoAnswer> {
+    let mut nodes = Vec::new(alloc);
+    for item in field.split(',') {
+        let words = words(alloc, item)?;
+        if !words.is_empty() {
+            nodes.push(node(words.as_slice())?)?;
+        }
+    }
+    Ok(nodes)
+}
+
+fn links_of(alloc: Global, field: &str) -> Result<Vec<LinkRec>, NoAnswer> {
+    let mut links = Vec::new(alloc);
+    for item in field.split(',') {
+        let words = words(alloc, item)?;
+        if !words.is_empty() {
+            links.push(link(alloc, words.as_slice())?)?;
+        }
+    }
+    Ok(links)
+}
+
+/// The link that the words spell: a directory, a name in it and what has it.
+fn link(alloc: Global, words: &[&str]) -> Result<LinkRec, NoAnswer> {
+    let [parent, name, child] = words else {
+        return Err(NoAnswer::BadRow);
+    };
+    Ok(LinkRec {
+        parent: small_number(parent)?,
+        name: name_of_word(alloc, name)?,
+        child: small_number(child)?,
+    })
+}
+
+fn users_of(alloc: Global, field: &str) -> Result<Vec<UserRec>, NoAnswer> {
+    let mut users = Vec::new(alloc);
+    for item in field.split(',') {
+        let words = words(alloc, item)?;
+        if let [uid, groups @ ..] = words.as_slice() {
+            users.push(UserRec {
+                uid: small_number(uid)?,
+                groups: numbers_of(alloc, groups)?,
+            })?;
+        }
+    }
+    Ok(users)
+}
+
+/// Whether a chain of as many directories makes a tree, where each has a name of each of the letters in the one before.
+pub fn chain_made(alloc: Global, depth: &str, letters: &str) -> Result<String, NoAnswer> {
+    let depth = small_number(depth)?;
+    let mut nodes = Vec::new(alloc);
+    let mut links = Vec::new(alloc);
+    for parent in 1..depth {
+        nodes.push(directory(parent))?;
+        for letter in letters.as_bytes() {
+            links.push(LinkRec {
+                parent,
+                name: Bytes::from_slice(alloc, &[*letter])?,
+                child: parent.saturating_add(1),
+            })?;
+        }
+    }
+    nodes.push(directory(depth))?;
+    let tree = Tree::rebuild(alloc, nodes.as_slice(), links.as_slice(), &[])?;
+    flag_text(alloc, tree.is_some())
+}
+
+fn directory(ino: Ino) -> (Ino, Node) {
+    let perm = Perm {
+        uid: 0,
+        gid: 0,
+        mode: 0o755,
+    };
+    let kind = Kind::Directory;
+    (ino, Node { kind, perm })
+}
