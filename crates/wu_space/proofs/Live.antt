@@ -10,6 +10,7 @@ use Rattle.std.specs.Map.{keys_of, lookup, remove_entry}
 use Rattle.std.specs.BTreeMap.{is_at, insert_entry}
 use Rattle.std.specs.Cmp.{nat_cmp_total}
 use Rattle.std.proofs.lemmas.Bool.{cases_lt, lt-ltb, ltb-true, ltb-false, leb-true, and_parts, false_from_ne_true, eqb-true, ne_eqb, le-leb, le-ltb}
+use Rattle.std.proofs.lemmas.List.{length_push}
 use Rattle.std.proofs.lemmas.List.Elements.{Contains-get_or}
 use Rattle.std.proofs.lemmas.List.Sums.{sum_by-cons, sum_by_push, sum_by_more, sum_by-take-le}
 use Rattle.wu_base.specs.declared.addresses.Range.{Range}
@@ -17,10 +18,10 @@ use Rattle.wu_base.proofs.MapEntries.{ascend-insert_entry, ascend-remove_entry}
 use Rattle.wu_base.proofs.Members.{Has, Has-from_Contains, all_from_has}
 use Rattle.wu_space.specs.declared.slots.Slot.{Slot}
 use Rattle.wu_space.specs.Addresses.{Ranges, AreLive, IsSpace, is_in, owner_at, live_in, live_ranges, shared}
-use Rattle.wu_space.specs.Slots.{AreInOrder, Parts, SameFiles, IsSound, KeepsLive, Releases, below, count_below, file_of, is_live, length_of, meets, range_of_slot, weight}
-use Rattle.wu_space.proofs.Files.{mark, mark-itself, marked_file, sum_by-same, sum_by-map, sum_by-filter, sum-insert_entry, sum-remove_entry, sum-positive, positive-has, find-none, find-is, IsPermutation-from_sums, same_range, alike_range, exact_range}
+use Rattle.wu_space.specs.Slots.{AreInOrder, Parts, SameFiles, IsSound, Releases, below, count_below, file_of, is_live, length_of, meets, range_of_slot, tidied, weight}
+use Rattle.wu_space.proofs.Files.{mark, mark-itself, marked_file, sum_by-same, sum_by-one, sum_by-map, sum_by-filter, sum-insert_entry, sum-remove_entry, sum-positive, positive-has, find-none, find-is, IsPermutation-from_sums, same_range, alike_range, exact_range}
 use Rattle.wu_space.proofs.Order.{below-none, below-sum, holder-is, holder-none, order-push, slot-ends}
-use Rattle.wu_space.proofs.Kept.{length-if_live}
+use Rattle.wu_space.proofs.Kept.{KeepsLive-tidied, length-if_live, tidied-few}
 
 pub parts-start : (address : ℕ) (slots : List Slot) (place : ℕ) (d : Slot) → Parts address slots (suc place) → (get_or slots place d).start ≤ address
 parts-start address [] place d p = absurd p
@@ -345,6 +346,14 @@ module _ (slots : List Slot) (files : Ranges) (next total : ℕ) (s : IsSound sl
             let one : weight f slot ≡ f (ino, range) = rw (lt-ltb 0 len some) refl in
             omega (arith, sum_by_push (weight f) slots slot, one, s.same f, sum-insert_entry f ino files range free);
         sum = omega (arith, s.sum, sum_by_push (λ (x : Slot). x.len) slots slot);
+        few = omega (
+          arith,
+          s.few,
+          length_push slots slot,
+          sum-insert_entry (λ file. 1) ino files range free,
+          sum_by-one files,
+          sum_by-one (insert_entry nat_cmp files ino range),
+        );
       }
 
   pub length-of_file : (ino : ℕ) (range : Range) → lookup (is_at (nat_cmp ino)) files ≡ Some range → range.len ≤ total
@@ -353,20 +362,28 @@ module _ (slots : List Slot) (files : Ranges) (next total : ℕ) (s : IsSound sl
       let a : sum_by (weight f) slots ≡ length_of slots = sum_by-same (weight f) (λ (x : Slot). x.len) length-if_live slots in
       omega (arith, sum-remove_entry f ino files range h, s.same f, s.sum, a)
 
-  pub sound-released : (ino : ℕ) (range : Range) (fewer kept : List Slot) (left : ℕ) → lookup (is_at (nat_cmp ino)) files ≡ Some range
-      → Releases range.start slots fewer → KeepsLive fewer kept → left ≡ total - range.len
-      → IsSound kept (remove_entry (is_at (nat_cmp ino)) files) next left
-  sound-released ino range fewer kept left h r k e =
+  pub sound-released : (ino : ℕ) (range : Range) (fewer : List Slot) (live left : ℕ) → lookup (is_at (nat_cmp ino)) files ≡ Some range
+      → Releases range.start slots fewer → live ≡ length (remove_entry (is_at (nat_cmp ino)) files) → left ≡ total - range.len
+      → IsSound (tidied live fewer) (remove_entry (is_at (nat_cmp ino)) files) next left
+  sound-released ino range fewer live left h r n e =
+      let k = KeepsLive-tidied live fewer in
       let file = has_from_lookup ino files range h in
       let slot = slot-of_file slots files s.same (ino, range) file in
       let is : file_of slot.0 ≡ (ino, range) = slot.1.1.1 in
       let begin : slot.0.start ≡ range.start = ap (λ (x : ℕ × Range). x.1.start) is in
       let len : slot.0.len ≡ range.len = ap (λ (x : ℕ × Range). x.1.len) is in
       let filled : 0 < slot.0.len = ltb-true 0 slot.0.len slot.1.1.0 in
+      let same : SameFiles (tidied live fewer) (remove_entry (is_at (nat_cmp ino)) files) = λ f.
+      let fewer_files = r.same slot.0 slot.1.0 begin filled 0 next s.by_address f in
+      omega (arith, k.same f, fewer_files, ap f is, s.same f, sum-remove_entry f ino files range h) in
       record {
         by_number = ascend-remove_entry nat_cmp (is_at (nat_cmp ino)) files s.by_number;
         by_address = k.order 0 next (r.order slot.0 slot.1.0 begin filled 0 next s.by_address);
-        same = λ f.
-            omega (arith, k.same f, r.same slot.0 slot.1.0 begin filled 0 next s.by_address f, ap f is, s.same f, sum-remove_entry f ino files range h);
+        same = same;
+        few = omega (
+          arith,
+          n,
+          tidied-few live fewer (same (λ file. 1) ∙ sum_by-one (remove_entry (is_at (nat_cmp ino)) files) ∙ sym n),
+        );
         sum = omega (arith, k.sum, r.sum slot.0 slot.1.0 begin filled 0 next s.by_address, s.sum);
       }

@@ -18,7 +18,7 @@ use Rattle.wu_space.specs.declared.slots.Slot.{Slot}
 use Rattle.wu_space.specs.Addresses.{Ranges, AreLive, is_in}
 use Rattle.wu_space.specs.Slots.{AreInOrder, IsSound, file_of, length_of, range_of_slot, weight}
 use Rattle.wu_space.specs.Rebuilding.{HasOnce, IsFiles, IsOrderedTo, slot_of}
-use Rattle.wu_space.proofs.Files.{sum_by-map, sum-insert_entry, sum-positive, has-from_sums, IsPermutation-from_sums, same_file, alike_file, exact_file}
+use Rattle.wu_space.proofs.Files.{sum_by-map, sum_by-one, sum-insert_entry, sum-positive, has-from_sums, IsPermutation-from_sums, same_file, alike_file, exact_file}
 use Rattle.wu_space.proofs.Order.{total-le}
 use Rattle.wu_space.proofs.Live.{once-from_sorted, has_from_lookup}
 
@@ -185,6 +185,7 @@ module _ (ranges : Ranges) (slots : List Slot) (moved : IsPermutation (map slot_
     by_address = o;
     same = λ g. omega (arith, weights-filled g slots f, sums-moved (λ slot. g (file_of slot)), s.same g);
     sum = e;
+    few = omega (arith, sums-moved (λ slot. 1), s.same (λ file. 1), sum_by-one slots, sum_by-one files);
   }
 
 pub live-from_files : (next : ℕ) (ranges files : Ranges) → IsFiles ranges files → AreLive next files → AreLive next ranges

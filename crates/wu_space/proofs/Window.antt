@@ -41,13 +41,13 @@ module _ (low high : ℕ) where
       let e : 0 - suc from ≡ 0 - from = omega arith in rw e (Parts-drop slots from 0 p.1)
   Parts-drop (s ∷ slots) (suc from) (suc to) p = let e : suc to - suc from ≡ to - from = omega arith in rw e (Parts-drop slots from to p.1)
 
-  pub window-is : (first : ℕ) (slots : List Slot) (end from to : ℕ) → AreInOrder first slots end → (from ≡ 0) ⊎ Parts low slots (suc from)
-      → Parts high slots to
+  pub window-is : (first : ℕ) (slots : List Slot) (end from to : ℕ) → AreInOrder first slots end
+      → ((from ≡ 0) × Parts low slots 0) ⊎ Parts low slots (suc from) → Parts high slots to
       → filter (meets low high) (take (to - from) (drop from slots)) ≡ filter (meets low high) slots
   window-is first slots end from to o p q =
       back-misses (drop from slots) (to - from) (Parts-drop slots from to q)
       ∙ ⊎_elim
-      (λ (e : from ≡ 0). ap (λ (n : ℕ). filter (meets low high) (drop n slots)) e)
+      (λ e. ap (λ (n : ℕ). filter (meets low high) (drop n slots)) e.0)
       (λ h. front-misses first slots end from o h)
       p
 

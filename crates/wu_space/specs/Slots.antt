@@ -1,5 +1,6 @@
 -- Slots: one for each range that a file was given, by address. A slot whose range was released has no addresses.
-use Rattle.std.specs.Prelude.{◌≡◌, ℕ, zero, suc, ◌+◌, ◌-◌, ◌*◌, ◌<◌, ◌≤◌, ◌^◌, min, cond, nat_lt, Bool, List, [], ◌∷◌, sum, sum_by, length, take, filter}
+use Rattle.std.specs.Prelude.{◌≡◌, ℕ, zero, suc, ◌+◌, ◌-◌, ◌*◌, ◌/◌, ◌<◌, ◌≤◌, ◌^◌, min, cond, nat_lt, Bool, List, [], ◌∷◌, sum, sum_by, length, take, filter}
+use Rattle.std.specs.Int.{div_ceil}
 use Rattle.std.specs.Ordering.{nat_cmp}
 use Rattle.std.specs.List.{AllByRecursion}
 use Rattle.std.specs.List.Sorted.{IsStrictlySortedBy}
@@ -41,6 +42,11 @@ pub record AreSums (slots : List Slot) (sums : List ℕ) : Type 0 where
   pub so_far : (c : ℕ) → c ≤ length sums → sum (take c sums) ≡ length_of (take (CHUNK * c) slots)
   pub small : length_of slots < 2 ^ 64
 
+-- the same, with no sum beyond those of the chunks that have slots
+pub record HasSums (slots : List Slot) (sums : List ℕ) : Type 0 where
+  pub each : AreSums slots sums
+  pub count : length sums ≡ div_ceil (length slots) CHUNK
+
 -- how many of the addresses below that one are live
 abbrev pub count_below : ℕ → Ranges → ℕ
 count_below address ranges = sum_by (λ file. min file.1.len (address - file.1.start)) ranges
@@ -81,9 +87,15 @@ pub record KeepsLive (old new : List Slot) : Type 0 where
   pub same : (f : ℕ × Range → ℕ) → sum_by (weight f) new ≡ sum_by (weight f) old
   pub sum : length_of new ≡ length_of old
 
+-- the slots without addresses are left out where they are more than half, if so many slots have addresses
+abbrev pub tidied : ℕ → List Slot → List Slot
+tidied live slots = cond (nat_lt live (length slots / 2)) (filter is_live slots) slots
+
 -- what the fields of a space keep
 pub record IsSound (slots : List Slot) (files : Ranges) (next total : ℕ) : Type 0 where
   pub by_number : IsStrictlySortedBy nat_cmp (keys_of files)
   pub by_address : AreInOrder 0 slots next
   pub same : SameFiles slots files
   pub sum : total ≡ length_of slots
+  -- the slots without addresses are at most one more than those with some
+  pub few : length slots ≤ 2 * length files + 1

@@ -1,8 +1,8 @@
 //! The ranges that files were given, by address, with the sums of their lengths.
-ghost use Rattle.std.specs.Prelude.{◌≡◌, ◌-◌, ◌+◌, if◌then◌else◌, None, ◌<◌, ◌≤◌, ◌^◌, ◌∷◌, ◌++◌, [], length, take, filter, sum, sum_by, nat_lt, slice_set, slice_index_or, Some, suc, zero, ◌*◌, OnOk, OnErr, List, vec_len, IfOk, IfSome, IfNone, map};
+ghost use Rattle.std.specs.Prelude.{◌≡◌, ◌-◌, ◌+◌, if◌then◌else◌, None, ◌<◌, ◌≤◌, ◌^◌, ◌∷◌, ◌++◌, [], length, take, filter, sum, sum_by, nat_lt, slice_set, slice_index_or, Some, suc, zero, ◌*◌, OnOk, OnErr, List, vec_len, IfOk, IfSome, IfNone, map, max};
 ghost use Rattle.std.specs.List.Sorted.{IsNonDecreasingBy};
 ghost use Rattle.wu_space.specs.Addresses.{shared};
-ghost use Rattle.wu_space.specs.Slots.{length_of, is_live, range_of_slot, dead, below, AreSums, KeepsLive, Parts, Releases};
+ghost use Rattle.wu_space.specs.Slots.{length_of, is_live, range_of_slot, dead, below, AreSums, Parts, Releases, tidied};
 
 use std::alloc::Global;
 use std::marker::Model;
@@ -72,11 +72,11 @@ impl Model for Slots {
 
     ghost Value = { List Slot };
 
-    ghost use Rattle.wu_space.specs.Slots.{AreSums};
+    ghost use Rattle.wu_space.specs.Slots.{HasSums};
 
     ghost view = { λ s. s.slots.items };
 
-    ghost invariant = { λ s. AreSums s.slots.items s.sums.items };
+    ghost invariant = { λ s. HasSums s.slots.items s.sums.items };
 }
 
 impl Slots {
@@ -116,10 +116,17 @@ impl Slots {
         ensures err { OnErr result (self.new ≡ self.old) }
     {
         let chunk = self.slots.len() / CHUNK;
-        make_room(&mut self.sums, chunk)?;
         self.slots.push(slot)?;
-        self.sums[chunk] += slot.len;
-        Ok(())
+        match make_room(&mut self.sums, chunk) {
+            Ok(()) => {
+                self.sums[chunk] += slot.len;
+                Ok(())
+            }
+            Err(error) => {
+                self.slots.pop();
+                Err(error)
+            }
+        }
     }
 
     /// Takes its addresses from the slot that begins at `start`.
@@ -155,7 +162,7 @@ impl Slots {
     /// Leaves out the slots without addresses where they are more than half of the slots, of which so many
     /// have addresses. Takes no memory.
     pub(crate) fn tidy(&mut self, live: usize)
-        ensures { KeepsLive self.old self.new }
+        ensures { self.new ≡ tidied live self.old }
     {
         if self.slots.len() / 2 > live {
             self.drop_dead();
@@ -167,13 +174,15 @@ impl Slots {
         ensures { self.new ≡ filter is_live self.old }
     {
         self.slots.retain(|slot| slot.len > 0);
+        self.sums.truncate(self.slots.len().div_ceil(CHUNK));
         sum_up(self.slots.as_slice(), self.sums.as_mut_slice());
     }
 }
 
 /// Has a sum for the chunk, where there are sums for those before it.
 fn make_room(sums: &mut Vec<u64>, chunk: usize) -> Result<(), NoMemory>
-    ensures ok { OnOk result (chunk ≤ vec_len sums.old → chunk < vec_len sums.new) }
+    ensures ok { OnOk result (chunk ≤ vec_len sums.old → vec_len sums.new ≡ max (vec_len sums.old) (chunk + 1)) }
+    ensures err { OnErr result (vec_len sums.new ≡ vec_len sums.old) }
     ensures sums { (slots : List Slot) → AreSums slots sums.old.items → AreSums slots sums.new.items }
 {
     if chunk >= sums.len() {

@@ -208,10 +208,10 @@ fn around(slots: &[Slot], low: u64, high: u64) -> &[Slot]
     if from < to { &slots[from..to] } else { &[] }
 }
 
-/// The place of the last slot that starts up to the address, or 0.
+/// The place of the last slot that starts up to the address, or 0 where none does.
 fn first_around(slots: &[Slot], address: u64) -> usize
     requires { IsNonDecreasingBy (λ slot. slot.start) slots.now }
-    ensures { (result ≡ 0) ⊎ Parts address slots.now (suc result) }
+    ensures { ((result ≡ 0) × Parts address slots.now 0) ⊎ Parts address slots.now (suc result) }
 {
     match last_up_to(slots, address) {
         Some(place) => place,

@@ -15,7 +15,7 @@ sum_up-requires-clause-small c =
       ap (λ (l : List Slot). length_of l) c.as_slice.ensures.value,
       ap (λ (l : List Slot). length_of l) e,
       length-filter_live c.self.inside.slots.items,
-      c.self.invariant.small,
+      c.self.invariant.each.small,
     )
 
 pub returns : goal.returns
