@@ -1,5 +1,5 @@
 -- Lemmas on spelled blocks.
-use Rattle.std.proofs.Common.{◌≡◌, ℕ, suc, ◌+◌, ◌-◌, ◌<◌, ◌≤◌, List, [], ◌∷◌, ◌++◌, length, get_or, drop, Option, Some, None, refl, ap, sym}
+use Rattle.std.proofs.Common.{◌≡◌, ℕ, suc, ◌+◌, ◌-◌, ◌<◌, ◌≤◌, List, [], ◌∷◌, ◌++◌, length, get_or, drop, Option, Some, None, IfNone, refl, ap, sym}
 use Rattle.std.proofs.Common.{◌∙◌, append_assoc, append-nil, length-append, ◌⊎◌, ⊎_elim, arith}
 use Rattle.std.specs.Prelude.{slice_get}
 use Rattle.std.specs.List.{last_or}
@@ -8,6 +8,10 @@ use Rattle.std.proofs.lemmas.List.{drop_more, at_drop_all}
 use Rattle.wu_vbyte.specs.Numbers.{StartsWithNumber, AppendsNumber}
 use Rattle.wu_vbyte.specs.Blocks.{SpellsGaps, SpellsBlock, SpellsAfterFirst, AppendsBlock, AreFromTo}
 use Rattle.wu_vbyte.proofs.NumberLemmas.{one_number, has_spelling, starts_not_empty, code_longer, code_of_value}
+
+pub none_weaker : {X P Q : Type 0} → (block : Option X) → (P → Q) → IfNone block P → IfNone block Q
+none_weaker None weaker h = weaker h
+none_weaker (Some x) weaker h = tt
 
 -- ---- what starts with a number
 
@@ -161,7 +165,7 @@ completes_end old low addresses out before place c over =
 
 -- ---- reading
 
-gaps_length : (before : ℕ) (later bytes : List ℕ) → SpellsGaps before later bytes → length later ≤ length bytes
+pub gaps_length : (before : ℕ) (later bytes : List ℕ) → SpellsGaps before later bytes → length later ≤ length bytes
 gaps_length before [] bytes s = omega arith
 gaps_length before (a ∷ later) bytes s = omega (arith, gaps_length a later s.1 s.3, starts_length bytes (a - before) s.1 s.2)
 
@@ -278,6 +282,17 @@ taken_not_all count first last bytes rest taken before t number other all b f = 
     none (a ∷ later) is g =
         let longer : length all ≡ length taken + length (a ∷ later) = rw is (length-append taken (a ∷ later)) in
         absurd (omega (arith, f.number))
+
+-- no bytes are left, and the addresses that were taken are others
+pub taken_other : (count first limit last : ℕ) (bytes taken : List ℕ) (before : ℕ) → Taken first limit bytes [] taken before
+    → (length taken ≡ count → before ≡ last → ⊥) → (all : List ℕ) → SpellsAfterFirst first all bytes → AreFromTo count first last all → ⊥
+taken_other count first limit last bytes taken before t other all b f = let h = t.back all b in none h.0 h.1 h.2
+  where
+    none : (later : List ℕ) → all ≡ taken ++ later → SpellsGaps before later [] → ⊥
+    none [] is g =
+        let whole : all ≡ taken = is ∙ append-nil taken in
+        other (sym (ap length whole) ∙ f.number) (some_same before last (sym t.end ∙ (ap (last_or None) (sym whole) ∙ f.end)))
+    none (a ∷ later) is g = absurd (starts_not_empty (a - before) g.1 g.2)
 
 -- more addresses are to be taken, and no number of one is next
 pub taken_no_next : (count first last : ℕ) (bytes rest taken : List ℕ) (before : ℕ) → Taken first last bytes rest taken before

@@ -1,11 +1,11 @@
 -- Lemmas on blocks of short numbers.
-use Rattle.std.proofs.Common.{◌≡◌, ℕ, ◌+◌, ◌-◌, ◌*◌, ◌%◌, ◌<◌, ◌≤◌, ◌⊎◌, ⊎_elim, inl, inr, List, [], ◌∷◌, ◌++◌, length, set, take, drop}
+use Rattle.std.proofs.Common.{◌≡◌, ℕ, Bool, true, false, MatchBool, ◌+◌, ◌-◌, ◌*◌, ◌%◌, ◌<◌, ◌≤◌, ◌⊎◌, ⊎_elim, inl, inr, List, [], ◌∷◌, ◌++◌, length, set, take, drop}
 use Rattle.std.proofs.Common.{refl, ap, arith}
 use Rattle.std.proofs.lemmas.Bool.{cases_lt}
 use Rattle.std.proofs.lemmas.List.{at_drop_all, take-set, take_more_set}
-use Rattle.wu_vbyte.specs.Blocks.{SpellsAfterFirst, AreFromTo, AreShort}
-use Rattle.wu_vbyte.proofs.NumberLemmas.{last_starts, more_starts}
-use Rattle.wu_vbyte.proofs.BlockLemmas.{Taken, taken_next, taken_all}
+use Rattle.wu_vbyte.specs.Blocks.{SpellsGaps, SpellsAfterFirst, AreFromTo, AreShort, AreSingle}
+use Rattle.wu_vbyte.proofs.NumberLemmas.{last_starts, more_starts, starts_not_empty, starts_with_last, starts_with_more}
+use Rattle.wu_vbyte.proofs.BlockLemmas.{Taken, taken_next, taken_all, taken_other, starts_length, gaps_length}
 
 -- what was taken, and the sum after the byte before, which is part of a number that goes on where its top bit is set
 abbrev pub Summed : ℕ → ℕ → List ℕ → List ℕ → List ℕ → ℕ → ℕ → Type 0
@@ -66,6 +66,66 @@ summed_all count first limit last bytes items found place taken byte total (inl 
     (rw is at number) same)
 summed_all count first limit last bytes items found place taken byte total (inr s) over small same number is =
     let large = s.0 in absurd (omega arith)
+
+-- no block is spelled where a number goes on at the end, or what was summed is another one
+pub summed_other : (count first limit last : ℕ) (bytes items : List ℕ) (place taken byte total : ℕ)
+    → Summed first limit bytes (drop place bytes) (take taken items) byte total → length bytes ≤ place
+    → (byte < 128 → length (take taken items) ≡ count → total ≡ last → ⊥)
+    → (all : List ℕ) → SpellsAfterFirst first all bytes → AreFromTo count first last all → ⊥
+summed_other count first limit last bytes items place taken byte total (inl s) over other all b f =
+    taken_other count first limit last bytes (take taken items) total (rw (at_drop_all (λ left. left) bytes place over) at s.1)
+    (other s.0) all b f
+summed_other count first limit last bytes items place taken byte total (inr (large, top, sum, e, t)) over other all b f =
+    let end = rw (at_drop_all (λ left. left) bytes place over) at t in
+    let h = end.back all b in
+    half_number sum byte h.0 large h.2
+  where
+    half_number : (sum byte : ℕ) (later : List ℕ) → 128 ≤ byte → SpellsGaps sum later (byte ∷ []) → ⊥
+    half_number sum byte [] large g = absurd cc
+    half_number sum byte (a ∷ later) large g =
+        let more = starts_with_more byte (a - sum) [] g.1 large g.2 in
+        starts_not_empty more.0 g.1 more.3
+
+-- as many numbers as bytes: each byte is one
+gaps_single : (before start : ℕ) (later bytes : List ℕ) → SpellsGaps start later bytes → length later ≡ length bytes → AreShort before bytes
+    → AreSingle bytes
+gaps_single before start later [] s number short = tt
+gaps_single before start [] (byte ∷ left) s number short = absurd (omega arith)
+gaps_single before start (a ∷ later) (byte ∷ left) s number short =
+    ⊎_elim
+    (λ (small : byte < 128).
+    let one = starts_with_last byte (a - start) left s.1 small s.2 in
+    (short.0, small, gaps_single byte a later left (rw one.1 s.3) (omega arith) short.2))
+    (λ (large : 128 ≤ byte).
+    let more = starts_with_more byte (a - start) left s.1 large s.2 in
+    absurd (omega (arith, starts_length left more.0 s.1 more.3, gaps_length a later s.1 s.3)))
+    (cases_lt byte 128)
+
+pub block_single : (count first last : ℕ) (all bytes : List ℕ) → SpellsAfterFirst first all bytes → AreFromTo count first last all
+    → length bytes + 1 ≡ count → AreShort 0 bytes → AreSingle bytes
+block_single count first last [] bytes b f number short = absurd b
+block_single count first last (address ∷ later) bytes b f number short =
+    gaps_single 0 first later bytes b.1 (omega (arith, f.number)) short
+
+-- what is said of all bytes, after those that were looked at, where the rest is what is said of those that are left
+pub record Passed (passed : Bool) (All Rest : Type 0) : Type 0 where
+  pub on : MatchBool passed (Rest → All) (All → ⊥)
+  pub back : All → Rest
+
+pub passed_first : (All : Type 0) → Passed true All All
+passed_first All = record { on = λ all. all; back = λ all. all }
+
+pub passed_next : (passed next : Bool) (All Some Small Later : Type 0) → Passed passed All (Some × Small × Later)
+    → MatchBool next ((passed ≡ true) × Some × Small) (passed ≡ true → Some × Small → ⊥) → Passed next All Later
+passed_next true true All Some Small Later p h = record { on = λ later. p.on (h.1, h.2, later); back = λ all. (p.back all).2 }
+passed_next true false All Some Small Later p h =
+    record { on = λ all. h refl ((p.back all).0, (p.back all).1); back = λ all. (p.back all).2 }
+passed_next false true All Some Small Later p h = let e = h.0 in absurd cc
+passed_next false false All Some Small Later p h = record { on = p.on; back = λ all. (p.back all).2 }
+
+pub passed_all : (passed : Bool) (All Rest : Type 0) → Passed passed All Rest → Rest → MatchBool passed All (All → ⊥)
+passed_all true All Rest p rest = p.on rest
+passed_all false All Rest p rest = p.on
 
 -- a byte that is a number
 pub single_next : (first last : ℕ) (bytes left items : List ℕ) (place byte total more : ℕ)

@@ -1,6 +1,6 @@
 //! Blocks whose numbers take one byte or two each, as those of a frequent word: they are read byte by byte with no branch on where a
 //! number ends, which can't be foretold.
-ghost use Rattle.std.specs.Prelude.{◌≡◌, ◌+◌, ◌*◌, ◌%◌, ◌^◌, ◌<◌, ◌≤◌, ◌⊎◌, ⊤, ℕ, true, IfOk, IfSome, MatchBool, length};
+ghost use Rattle.std.specs.Prelude.{◌≡◌, ◌+◌, ◌*◌, ◌%◌, ◌^◌, ◌<◌, ◌≤◌, ◌⊎◌, ℕ, List, true, IfOk, IfSome, IfNone, MatchBool, length};
 ghost use Rattle.wu_vbyte.specs.declared.short.TheConstants.{SHORT_LEN, FIRST_MAX};
 ghost use Rattle.wu_vbyte.specs.Blocks.{SpellsAfterFirst, AreFromTo, AreShort, AreSingle};
 
@@ -13,8 +13,8 @@ const SHORT_LEN: usize = 255;
 /// The most that the first address of such a block is, so that no sum is above 2^64 - 1.
 const FIRST_MAX: u64 = 1 << 63;
 
-/// The block of `count` addresses from `first` to `last`, where its numbers are short. `None` says
-/// nothing of the bytes.
+/// The block of `count` addresses from `first` to `last`, where its numbers are short. `None` comes exactly
+/// where the bytes are no such block, are more than 255 or not short, or the first address is above 2^63.
 pub fn take_short(
     alloc: Global,
     bytes: &[u8],
@@ -22,8 +22,10 @@ pub fn take_short(
     first: u64,
     last: u64,
 ) -> Result<Option<Vec<u64>>, NoMemory>
-    ensures { IfOk result (λ block. IfSome block (λ found. SpellsAfterFirst first found.items bytes.now
+    ensures found { IfOk result (λ block. IfSome block (λ found. SpellsAfterFirst first found.items bytes.now
         × AreFromTo count first last found.items)) }
+    ensures none { IfOk result (λ block. IfNone block (length bytes.now ≤ 255 → first ≤ 2 ^ 63 → AreShort 0 bytes.now →
+        (addresses : List ℕ) → SpellsAfterFirst first addresses bytes.now → AreFromTo count first last addresses → ⊥)) }
 {
     if bytes.len() > SHORT_LEN || first > FIRST_MAX {
         return Ok(None);
@@ -55,8 +57,8 @@ pub fn take_short(
     }
 }
 
-/// The block of an address more than bytes, from `first` to `last`, each byte a number. `None` says
-/// nothing of the bytes.
+/// The block of an address more than bytes, from `first` to `last`, each byte a number. `None` comes exactly
+/// where the bytes are no such block.
 fn take_single(
     alloc: Global,
     bytes: &[u8],
@@ -65,8 +67,10 @@ fn take_single(
 ) -> Result<Option<Vec<u64>>, NoMemory>
     requires short { length bytes.now ≤ SHORT_LEN }
     requires first { first ≤ FIRST_MAX }
-    ensures { IfOk result (λ block. IfSome block (λ found. SpellsAfterFirst first found.items bytes.now
+    ensures found { IfOk result (λ block. IfSome block (λ found. SpellsAfterFirst first found.items bytes.now
         × AreFromTo (length bytes.now + 1) first last found.items)) }
+    ensures none { IfOk result (λ block. IfNone block (AreSingle bytes.now → (addresses : List ℕ) →
+        SpellsAfterFirst first addresses bytes.now → AreFromTo (length bytes.now + 1) first last addresses → ⊥)) }
 {
     if !are_single(bytes) {
         return Ok(None);
@@ -89,7 +93,7 @@ fn take_single(
 
 /// Whether no byte is 0, and none goes on with a number.
 fn are_single(bytes: &[u8]) -> bool
-    ensures { MatchBool result (AreSingle bytes.now) ⊤ }
+    ensures { MatchBool result (AreSingle bytes.now) (AreSingle bytes.now → ⊥) }
 {
     let mut single = true;
     for at in 0..bytes.len() {
@@ -102,14 +106,14 @@ fn are_single(bytes: &[u8]) -> bool
 /// says so.
 #[inline(always)]
 fn stays_single(single: bool, byte: u8) -> bool
-    ensures { MatchBool result ((single ≡ true) × (0 < byte) × (byte < 128)) ⊤ }
+    ensures { MatchBool result ((single ≡ true) × (0 < byte) × (byte < 128)) (single ≡ true → (0 < byte) × (byte < 128) → ⊥) }
 {
     single && byte > 0 && byte < 128
 }
 
 /// Whether no byte is 0, and none of two neighbours but one goes on with a number.
 fn are_short(bytes: &[u8]) -> bool
-    ensures { MatchBool result (AreShort 0 bytes.now) ⊤ }
+    ensures { MatchBool result (AreShort 0 bytes.now) (AreShort 0 bytes.now → ⊥) }
 {
     let mut short = true;
     let mut before = 0;
@@ -124,7 +128,8 @@ fn are_short(bytes: &[u8]) -> bool
 /// Whether the bytes up to this one are short, where those before it were if `short` says so.
 #[inline(always)]
 fn stays_short(short: bool, before: u8, byte: u8) -> bool
-    ensures { MatchBool result ((short ≡ true) × (0 < byte) × ((before < 128) ⊎ (byte < 128))) ⊤ }
+    ensures { MatchBool result ((short ≡ true) × (0 < byte) × ((before < 128) ⊎ (byte < 128)))
+        (short ≡ true → (0 < byte) × ((before < 128) ⊎ (byte < 128)) → ⊥) }
 {
     short && byte > 0 && (before < 128 || byte < 128)
 }

@@ -1,5 +1,5 @@
-use Rattle.std.proofs.Common.{Option, Some, None, IfNone, arith}
-use Rattle.wu_vbyte.proofs.BlockLemmas.{not_enough, block_first, block_of_later, later_of_block}
+use Rattle.std.proofs.Common.{arith}
+use Rattle.wu_vbyte.proofs.BlockLemmas.{none_weaker, not_enough, block_first, block_of_later, later_of_block}
 use Rattle.std.proofs.lemmas.Option.{IfSome_then}
 use Rattle.std.proofs.lemmas.Result.{IfOk-weaker}
 use Rattle.wu_vbyte.proofs.blocks.take_block.Goals as goal
@@ -26,7 +26,3 @@ returns-in-Some-clause-none c =
     IfOk-weaker c.take_later.result _ _
     (λ block h. none_weaker block (λ none addresses b f. none addresses (later_of_block _ _ _ _ _ _ _ first.1 b f) f) h)
     c.take_later.ensures.none
-  where
-    none_weaker : {X P Q : Type 0} → (block : Option X) → (P → Q) → IfNone block P → IfNone block Q
-    none_weaker None weaker h = weaker h
-    none_weaker (Some x) weaker h = tt

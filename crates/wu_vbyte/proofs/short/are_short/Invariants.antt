@@ -1,7 +1,7 @@
-use Rattle.std.proofs.Common.{MatchBool, drop}
-use Rattle.std.specs.Prelude.{⊤}
+use Rattle.std.proofs.Common.{drop}
 use Rattle.wu_vbyte.specs.Blocks.{AreShort}
+use Rattle.wu_vbyte.proofs.ShortLemmas.{Passed}
 use Rattle.wu_vbyte.proofs.short.are_short.Given as goal
 
 abbrev pub invariant-loop-at : goal.invariant-loop-at
-invariant-loop-at l = MatchBool l.short (AreShort l.before (drop l.at l.bytes) → AreShort 0 l.bytes) ⊤
+invariant-loop-at l = Passed l.short (AreShort 0 l.bytes) (AreShort l.before (drop l.at l.bytes))

@@ -1,7 +1,7 @@
-use Rattle.std.proofs.Common.{MatchBool, drop}
-use Rattle.std.specs.Prelude.{⊤}
+use Rattle.std.proofs.Common.{drop}
 use Rattle.wu_vbyte.specs.Blocks.{AreSingle}
+use Rattle.wu_vbyte.proofs.ShortLemmas.{Passed}
 use Rattle.wu_vbyte.proofs.short.are_single.Given as goal
 
 abbrev pub invariant-loop-at : goal.invariant-loop-at
-invariant-loop-at l = MatchBool l.single (AreSingle (drop l.at l.bytes) → AreSingle l.bytes) ⊤
+invariant-loop-at l = Passed l.single (AreSingle l.bytes) (AreSingle (drop l.at l.bytes))

@@ -16,8 +16,8 @@ loop-at-preserved c =
           (omega (arith, c.loop-at.auto.total-fits)) (omega (arith, i.room));
     }
 
-pub returns-in_ok-extend_from_slice : goal.returns-in_ok-extend_from_slice
-returns-in_ok-extend_from_slice c =
+pub returns-in_ok-extend_from_slice-clause-found : goal.returns-in_ok-extend_from_slice-clause-found
+returns-in_ok-extend_from_slice-clause-found c =
     let i = c.loop-at.invariant in
     let is = rw c.in_ok-found.ensures.items at c.in_ok-extend_from_slice.ensures.items in
     let places : c.loop-at.at ≡ length c.args.bytes.now = omega arith in
