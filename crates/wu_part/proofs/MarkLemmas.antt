@@ -1,14 +1,19 @@
 -- Lemmas on marks in a directory's bytes.
-use Rattle.std.proofs.Common.{◌≡◌, ℕ, zero, suc, ◌+◌, ◌-◌, ◌<◌, ◌≤◌, ◌⊎◌, inl, inr, ⊎_elim, List, [], ◌∷◌, ◌++◌, length, drop, get_or, refl, ap, sym, subst, ◌∙◌, append_assoc, length-append, Contains, MatchOption, Option, None, Some, true, false, arith}
-use Rattle.std.proofs.lemmas.Bool.{cases_lt}
+use Rattle.std.proofs.Common.{◌≡◌, ℕ, Bool, MatchBool, zero, suc, ◌+◌, ◌-◌, ◌<◌, ◌≤◌, ◌⊎◌, inl, inr, ⊎_elim, List, [], ◌∷◌, ◌++◌, length, take, drop, get_or, refl, ap, sym, subst, ◌∙◌, append_assoc, length-append, cond, nat_le, ◌||◌, Contains, MatchOption, Option, None, Some, true, false, arith}
+use Rattle.std.proofs.lemmas.Bool.{cases_lt, leb-false}
 use Rattle.std.proofs.Math.Seq.{drop-append_seam, drop-length}
-use Rattle.std.proofs.lemmas.List.{drop-append-le, get_or-drop, length-drop}
+use Rattle.std.proofs.lemmas.List.{drop-append-le, get_or-drop, get_or_default, length-drop, take_all}
+use Rattle.std.proofs.lemmas.Option.{get_or_from_slice_get, unwrap_or-slice_get}
+use Rattle.std.specs.Prelude.{slice_get, unwrap_or}
 use Rattle.std.proofs.lemmas.List.Elements.{Contains-append_cases}
-use Rattle.std.specs.declared.cmp.Ordering.TheVariants.{Less, Greater}
-use Rattle.std.specs.Ordering.{nat_cmp, ordering_reverse}
+use Rattle.std.specs.declared.cmp.Ordering.{Ordering}
+use Rattle.std.specs.declared.cmp.Ordering.TheVariants.{Less, Equal, Greater}
+use Rattle.std.specs.Ordering.{is_le, nat_cmp, ordering_reverse}
 use Rattle.std.specs.Cmp.Lexicographic.{slice_cmp, nat_list_cmp_total}
 use Rattle.std.specs.List.{flat_map}
 use Rattle.std.specs.List.Sorted.{IsStrictlySortedBy}
+use Rattle.wu_base.specs.declared.limits.TheConstants.{WORD_MAX}
+use Rattle.wu_vbyte.specs.Numbers.{StartsWithNumber}
 use Rattle.wu_vbyte.proofs.NumberLemmas.{one_number, starts_not_empty}
 use Rattle.wu_part.specs.declared.entries.TermEntry.{TermEntry}
 use Rattle.wu_part.specs.declared.marks.Mark.{Mark}
@@ -16,7 +21,7 @@ use Rattle.wu_part.specs.declared.reading.Head.{Head}
 use Rattle.wu_part.specs.declared.reading.Reached.{Reached}
 use Rattle.wu_part.specs.Directories.{StartsWithNumbers, block_numbers}
 use Rattle.wu_part.specs.Entries.{IsNextEntry, AreEntries, PassesEntry}
-use Rattle.wu_part.specs.Marks.{mark_of, IsMark, IsAtMost, HasEntries, entries_from}
+use Rattle.wu_part.specs.Marks.{mark_of, AreNear, IsLast, IsMark, IsAtMost, HasEntries, NoneAt, StandsBefore, entries_from, is_far, last_from, with_mark}
 use Rattle.wu_part.proofs.DecodingLemmas.{entries_are}
 use Rattle.wu_part.proofs.ReadingLemmas.{TakenEntries, entries_none_taken, entries_taken, entries_all_taken, same_front}
 use Rattle.wu_part.proofs.TermLemmas.{ascends, terms}
@@ -75,18 +80,79 @@ pub none_marked : (head : Head) (size : ℕ) (bytes : List ℕ) (taken : List Te
     → AreMarked head size bytes taken left rest end []
 none_marked head size bytes taken left rest end mark has = absurd (omega (arith, has.1))
 
+near_grow : (start : Mark) (marks : List Mark) (number more : ℕ) → AreNear start.number marks number → number ≤ more
+    → more ≤ (last_from start marks).number + 8 → AreNear start.number marks more
+near_grow start [] number more a up near = (omega (arith, a.0), near)
+near_grow start (mark ∷ later) number more a up near = (a.0, a.1, near_grow mark later number more a.2 up near)
+
+near_put : (start : Mark) (marks : List Mark) (mark : Mark) → AreNear start.number marks mark.number
+    → AreNear start.number (marks ++ mark ∷ []) (mark.number + 1)
+near_put start [] mark a = (a.0, a.1, (omega arith, omega arith))
+near_put start (next ∷ later) mark a = (a.0, a.1, near_put next later mark a.2)
+
+near_more : (marks : List Mark) (number offset place : ℕ) → AreNear 0 marks number
+    → AreNear 0 (with_mark marks number offset place) (number + 1)
+near_more marks number offset place a =
+    let last = last_from (mark_of 0 0 0) marks in
+    let put = near_put (mark_of 0 0 0) marks (mark_of number offset place) a in
+    elim (nat_le 8 (number - last.number))
+    as (λ far. nat_le 8 (number - last.number) ≡ far
+    → AreNear 0 (cond (far || nat_le 512 (offset - last.offset)) (marks ++ mark_of number offset place ∷ []) marks) (number + 1)) [
+      | true ↦ λ e. put
+      | false ↦ λ e.
+          elim (nat_le 512 (offset - last.offset))
+          as (λ far. AreNear 0 (cond far (marks ++ mark_of number offset place ∷ []) marks) (number + 1)) [
+            | true ↦ put
+            | false ↦ near_grow (mark_of 0 0 0) marks number (number + 1) a (omega arith)
+                (omega (arith, leb-false 8 (number - last.number) e))
+          ]
+    ] refl
+
+last_moved : (start mark : Mark) (later : List Mark)
+    → get_or later (length later - 1) mark ≡ get_or (mark ∷ later) (length (mark ∷ later) - 1) start
+last_moved start mark [] = refl
+last_moved start mark (next ∷ later) =
+    let before : length (next ∷ later) - 1 ≡ length later = omega arith in
+    let place : length (mark ∷ next ∷ later) - 1 ≡ suc (length later) = omega arith in
+    rw (before, place) (get_or_default (next ∷ later) (length later) mark start (omega arith))
+
+-- the last mark, as it is read
+last_is : (start : Mark) (marks : List Mark) → last_from start marks ≡ get_or marks (length marks - 1) start
+last_is start [] = refl
+last_is start (mark ∷ later) = last_is mark later ∙ last_moved start mark later
+
+pub last_read : (start : Mark) (marks : List Mark) (last : Mark) → Some last ≡ slice_get marks (length marks - 1)
+    → last_from start marks ≡ last
+last_read start marks last e = last_is start marks ∙ get_or_from_slice_get marks (length marks - 1) last start (sym e)
+
+pub none_read : (start : Mark) (marks : List Mark) → None ≡ slice_get marks (length marks - 1) → last_from start marks ≡ start
+none_read start marks e =
+    last_is start marks
+    ∙ (sym (unwrap_or-slice_get marks (length marks - 1) start) ∙ ap (λ (o : Option Mark). unwrap_or o start) (sym e))
+
+near_next : (start : Mark) (marks : List Mark) (number place : ℕ) (d : Mark) → AreNear start.number marks number → place < length marks
+    → (get_or marks place d).number ≤ (get_or (start ∷ marks) place d).number + 8
+near_next start [] number place d a inside = absurd (omega arith)
+near_next start (mark ∷ later) number zero d a inside = a.1
+near_next start (mark ∷ later) number (suc place) d a inside = near_next mark later number place d a.2 (omega arith)
+
+near_end : (start : Mark) (marks : List Mark) (number : ℕ) (d : Mark) → AreNear start.number marks number
+    → number ≤ (get_or (start ∷ marks) (length marks) d).number + 8
+near_end start [] number d a = a.1
+near_end start (mark ∷ later) number d a = near_end mark later number d a.2
+
 -- a mark is put where the next entry begins, or not
 pub mark_put : (head : Head) (size : ℕ) (bytes : List ℕ) (taken : List TermEntry) (left : ℕ) (rest : List ℕ) (end : ℕ)
-    (marks new : List Mark) (number offset : ℕ) → end ≤ size → EndsWith bytes rest → offset ≡ length bytes - length rest
-    → length taken ≡ number → number + left ≡ head.terms
-    → (new ≡ marks) ⊎ (new ≡ marks ++ mark_of number offset end ∷ [])
-    → AreMarked head size bytes taken left rest end marks → AreMarked head size bytes taken left rest end new
-mark_put head size bytes taken left rest end marks new number offset within e at_offset long sum put m =
-    elim put [
-      | inl same ↦ rw same m
-      | inr more ↦ rw more (λ mark has.
+    (marks : List Mark) (number offset : ℕ) → end ≤ size → EndsWith bytes rest → offset ≡ length bytes - length rest
+    → length taken ≡ number → number + left ≡ head.terms → AreMarked head size bytes taken left rest end marks
+    → AreMarked head size bytes taken left rest end (with_mark marks number offset end)
+mark_put head size bytes taken left rest end marks number offset within e at_offset long sum m =
+    elim (is_far marks number offset)
+    as (λ b. AreMarked head size bytes taken left rest end (cond b (marks ++ mark_of number offset end ∷ []) marks)) [
+      | true ↦ λ mark has.
           ⊎_elim (λ before. m mark before) (λ own. subst (λ x. TakenSince head size bytes taken left rest end x) (only mark own) here)
-          (Contains-append_cases marks (mark_of number offset end ∷ []) mark has))
+          (Contains-append_cases marks (mark_of number offset end ∷ []) mark has)
+      | false ↦ m
     ]
   where
     only : (mark : Mark) → Contains (mark_of number offset end ∷ []) mark → mark_of number offset end ≡ mark
@@ -153,6 +219,32 @@ has_from_drop all n entry has =
     let long = length-drop n all in
     (n + has.0, omega (arith, has.1), sym (get_or-drop n all has.0 entry) ∙ has.2)
 
+pub rest_taken : (bytes : List ℕ) (offset : ℕ) → take (length bytes - offset) (drop offset bytes) ≡ drop offset bytes
+rest_taken bytes offset = take_all (length bytes - offset) (drop offset bytes) (omega (arith, length-drop offset bytes))
+
+greater_from : (order : Ordering) → false ≡ is_le order → order ≡ Greater
+greater_from Less e = absurd cc
+greater_from Equal e = absurd cc
+greater_from Greater e = refl
+
+-- the bytes start with one term alone
+pub at_most_is : (bytes first left term : List ℕ) (order : Ordering) (most : Bool) → StartsWithNumber bytes (length first) (first ++ left)
+    → 0 < length first → length first ≤ WORD_MAX → order ≡ slice_cmp nat_cmp first term → most ≡ is_le order
+    → MatchBool most (IsAtMost bytes term) (IsAtMost bytes term → ⊥)
+at_most_is bytes first left term order true s some few e is = record {
+  first = first;
+  left = left;
+  some = some;
+  few = few;
+  starts = s;
+  most = λ greater. let wrong : true ≡ false = is ∙ ap is_le (e ∙ greater) in absurd cc;
+}
+at_most_is bytes first left term order false s some few e is = λ m.
+    let one = one_number bytes (length m.first) (length first) (m.first ++ m.left) (first ++ left) m.starts s in
+    let front = same_front m.first first m.left left one.0 one.1 in
+    let fails = rw front.0 at m.most in
+    fails (sym e ∙ greater_from order is)
+
 -- the entry of the term stands at the mark or after it, where the term at the mark isn't after it
 at_or_after : (all : List TermEntry) (n : ℕ) (first : TermEntry) (later : List TermEntry) (term : List ℕ)
     → IsStrictlySortedBy (slice_cmp nat_cmp) (terms all) → drop n all ≡ first ∷ later
@@ -204,6 +296,7 @@ pub record ReadEntries (head : Head) (size : ℕ) (bytes : List ℕ) (place : �
   pub whole : TakenWhole head size bytes place taken (head.terms - number) reached.rest.now reached.place reached.term.now reached.left
       reached.begun reached.ended
   pub marked : AreMarked head size bytes taken (head.terms - number) reached.rest.now reached.place marks
+  pub near : AreNear 0 marks number
 
 pub nothing_read : (head : Head) (size : ℕ) (bytes : List ℕ) (place : ℕ) (reached : Reached) → place ≤ size → reached.rest.now ≡ bytes
     → reached.place ≡ place → reached.term.now ≡ [] → reached.left ≡ head.stored → reached.begun ≡ false → reached.ended ≡ false
@@ -217,20 +310,20 @@ nothing_read head size bytes place reached within rest at_place term left first 
       ends = rw rest (ends_with_all bytes);
       whole = rw (rest, at_place, term, left, first, last) (nothing_taken head size bytes place (head.terms - 0) within all);
       marked = none_marked head size bytes [] (head.terms - 0) reached.rest.now reached.place;
+      near = (omega arith, omega arith);
     }
 
 -- an entry more was read, where a mark was put or not
 pub entry_more : (head : Head) (size : ℕ) (bytes : List ℕ) (place : ℕ) (marks new : List Mark) (number offset more : ℕ)
     (reached next : Reached) → ReadEntries head size bytes place marks number reached → number < head.terms → more ≡ number + 1
     → offset ≡ length bytes - length reached.rest.now
-    → (new ≡ marks) ⊎ (new ≡ marks ++ mark_of number offset reached.place ∷ [])
-    → PassesEntry head size reached next
+    → new ≡ with_mark marks number offset reached.place → PassesEntry head size reached next
     → ReadEntries head size bytes place new more next
 entry_more head size bytes place marks new number offset more reached next r some one at_offset put p =
     let few = r.few in
     let long = r.long in
     let fewer : head.terms - more ≡ head.terms - number - 1 = omega arith in
-    record {
+    rw put (record {
       taken = r.taken ++ p.entry ∷ [];
       long = omega (arith, length-append r.taken (p.entry ∷ []));
       few = omega arith;
@@ -239,10 +332,11 @@ entry_more head size bytes place marks new number offset more reached next r som
           reached.place next.place reached.term.now reached.left next.left reached.begun reached.ended next.begun next.ended p.entry
           next.term.now r.whole (omega arith) p.is fewer p.ascending p.last p.counted p.begins p.ends;
       marked = marks_kept head size bytes r.taken (head.terms - number) (head.terms - more) reached.rest.now next.rest.now reached.place
-          next.place p.entry new (omega arith) p.is fewer
-          (mark_put head size bytes r.taken (head.terms - number) reached.rest.now reached.place marks new number offset
-          r.whole.entries.within r.ends at_offset r.long (omega arith) put r.marked);
-    }
+          next.place p.entry (with_mark marks number offset reached.place) (omega arith) p.is fewer
+          (mark_put head size bytes r.taken (head.terms - number) reached.rest.now reached.place marks number offset
+          r.whole.entries.within r.ends at_offset r.long (omega arith) r.marked);
+      near = rw one (near_more marks number offset reached.place r.near);
+    })
 
 pub all_read : (head : Head) (size : ℕ) (bytes : List ℕ) (place : ℕ) (marks : List Mark) (number : ℕ) (reached : Reached)
     → ReadEntries head size bytes place marks number reached → head.terms ≤ number → reached.rest.now ≡ [] → reached.place ≡ size
@@ -256,12 +350,93 @@ all_read head size bytes place marks number reached r over empty full none first
       whole = all_is_whole head size bytes place r.taken (head.terms - number) reached.rest.now reached.place reached.term.now reached.left
           reached.begun reached.ended r.whole none first last;
       marked = marks_stand head size bytes r.taken (head.terms - number) reached.rest.now reached.place marks left empty full r.marked;
+      near = let all : number ≡ head.terms = omega (arith, r.few) in rw all at r.near;
     }
 
 -- ---- what a directory's marks are for
 
 pub has_mark : (marks : List Mark) (place : ℕ) (mark : Mark) → mark ≡ get_or marks place mark → place < length marks → Contains marks mark
 has_mark marks place mark is inside = (place, inside, sym is)
+
+pub last_found : (Passes : Mark → Type 0) (marks : List Mark) (start mark : Mark) → IsLast Passes marks start mark
+    → (mark ≡ start) ⊎ (Contains marks mark × Passes mark)
+last_found Passes marks start mark l =
+    ⊎_elim
+    (λ (first, is). inl is)
+    (λ (some, within, is, passes). inr (has_mark marks (l.place - 1) mark is (omega arith), passes))
+    l.before
+
+before_is : (Passes : Mark → Type 0) (marks : List Mark) (start mark : Mark) (place : ℕ) → StandsBefore Passes marks start mark place
+    → get_or (start ∷ marks) place mark ≡ mark
+before_is Passes marks start mark place (inl (first, is)) = ap (λ k. get_or (start ∷ marks) k mark) first ∙ sym is
+before_is Passes marks start mark place (inr (some, within, is, passes)) =
+    let next : place ≡ suc (place - 1) = omega arith in
+    ap (λ k. get_or (start ∷ marks) k mark) next ∙ sym is
+
+before_within : (Passes : Mark → Type 0) (marks : List Mark) (start mark : Mark) (place : ℕ) → StandsBefore Passes marks start mark place
+    → place ≤ length marks
+before_within Passes marks start mark place (inl (first, is)) = omega arith
+before_within Passes marks start mark place (inr (some, within, is, passes)) = within
+
+-- from the last mark up to a number it is less than TERMS_BETWEEN entries, or it is no more to the end
+pub walk_short : (marks : List Mark) (start mark : Mark) (terms number : ℕ) → start.number ≡ 0 → AreNear 0 marks terms
+    → IsLast (λ mark. mark.number ≤ number) marks start mark → (number - mark.number < 8) ⊎ (terms - mark.number ≤ 8)
+walk_short marks start mark terms number zero_is near l =
+    let near : AreNear start.number marks terms = rw zero_is near in
+    let own = before_is (λ (m : Mark). m.number ≤ number) marks start mark l.place l.before in
+    let within = before_within (λ (m : Mark). m.number ≤ number) marks start mark l.place l.before in
+    let at_end : l.place ≡ length marks → (number - mark.number < 8) ⊎ (terms - mark.number ≤ 8) = λ end.
+    let most = near_end start marks terms mark near in
+    let last : (get_or (start ∷ marks) (length marks) mark).number ≡ mark.number =
+    ap (λ (m : Mark). m.number) (ap (λ k. get_or (start ∷ marks) k mark) (sym end) ∙ own) in
+    inr (omega arith) in
+    ⊎_elim at_end
+    (λ (after, is, fails).
+    ⊎_elim
+    (λ (inside : l.place < length marks).
+    let most = near_next start marks terms l.place mark near inside in
+    let same = ap (λ (m : Mark). m.number) (is ∙ get_or_default marks l.place after mark inside) in
+    let before = ap (λ (m : Mark). m.number) own in
+    ⊎_elim (λ (low : number < after.number). inl (omega arith)) (λ (high : after.number ≤ number). absurd (fails high))
+    (cases_lt number after.number))
+    (λ (outside : length marks ≤ l.place). at_end (omega arith))
+    (cases_lt l.place (length marks)))
+    l.after
+
+-- a binary search among the marks: the mark before `from` passes, and that at `to` doesn't
+pub record Narrowed (Passes : Mark → Type 0) (marks : List Mark) (start mark : Mark) (from to : ℕ) : Type 0 where
+  pub order : from ≤ to
+  pub within : to ≤ length marks
+  pub before : StandsBefore Passes marks start mark from
+  pub after : NoneAt Passes marks to
+
+pub narrowed_low : (Passes : Mark → Type 0) (marks : List Mark) (start mark new : Mark) (from to middle : ℕ)
+    → Narrowed Passes marks start mark from to → middle < to → new ≡ get_or marks middle new → Passes new
+    → Narrowed Passes marks start new (middle + 1) to
+narrowed_low Passes marks start mark new from to middle n below is passes =
+    let place : middle + 1 - 1 ≡ middle = omega arith in
+    record {
+      order = omega arith;
+      within = n.within;
+      before = inr (omega arith, omega (arith, n.within), rw place is, passes);
+      after = n.after;
+    }
+
+pub narrowed_high : (Passes : Mark → Type 0) (marks : List Mark) (start mark other : Mark) (from to middle : ℕ)
+    → Narrowed Passes marks start mark from to → from ≤ middle → middle < to → other ≡ get_or marks middle other → (Passes other → ⊥)
+    → Narrowed Passes marks start mark from middle
+narrowed_high Passes marks start mark other from to middle n above below is fails = record {
+  order = above;
+  within = omega (arith, n.within);
+  before = n.before;
+  after = inr (other, is, fails);
+}
+
+pub narrowed_all : (Passes : Mark → Type 0) (marks : List Mark) (start mark : Mark) (from to : ℕ) → Narrowed Passes marks start mark from to
+    → to ≤ from → IsLast Passes marks start mark
+narrowed_all Passes marks start mark from to n over =
+    let same : to ≡ from = omega (arith, n.order) in
+    record { place = from; before = n.before; after = rw same at n.after }
 
 -- the first entry's mark, or one of the others
 pub mark_found : (head : Head) (size : ℕ) (bytes : List ℕ) (place : ℕ) (marks : List Mark) (all : List TermEntry) (start mark : Mark)

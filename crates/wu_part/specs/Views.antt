@@ -5,7 +5,7 @@ use Rattle.wu_part.specs.declared.marks.Mark.{Mark}
 use Rattle.wu_part.specs.Decoding.{entries_in}
 use Rattle.wu_part.specs.Directories.{PartDirectory, IsSpelled}
 use Rattle.wu_part.specs.Entries.{AreEntries}
-use Rattle.wu_part.specs.Marks.{IsMark}
+use Rattle.wu_part.specs.Marks.{AreNear, IsMark}
 
 abbrev pub directory_of : inside.Inside → PartDirectory
 directory_of d = record {
@@ -23,3 +23,4 @@ pub record IsKept (d : inside.Inside) : Type 0 where
   pub entries : AreEntries d.head d.size d.head.terms d.bytes.items d.place (directory_of d).terms
   pub marked : (mark : Mark) → Contains d.marks.items mark
       → IsMark d.head d.size d.bytes.items mark (drop mark.number (directory_of d).terms)
+  pub near : AreNear 0 d.marks.items d.head.terms

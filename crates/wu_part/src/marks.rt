@@ -1,7 +1,8 @@
 //! Marks in a directory's bytes.
-ghost use Rattle.std.specs.Prelude.{◌≡◌, ◌∷◌, [], ◌++◌, ◌<◌, ◌≤◌, ◌⊎◌, ⊤, Contains, MatchBool, OnOk, drop, get_or, length};
+ghost use Rattle.std.specs.Prelude.{◌≡◌, ◌<◌, ◌≤◌, ◌||◌, Contains, MatchBool, OnOk, drop, get_or, length, nat_le};
+ghost use Rattle.wu_part.specs.declared.marks.TheConstants.{TERMS_BETWEEN, BYTES_BETWEEN};
 ghost use Rattle.wu_part.specs.declared.marks.Mark.{Mark};
-ghost use Rattle.wu_part.specs.Marks.{IsAtMost, IsUpTo, mark_of};
+ghost use Rattle.wu_part.specs.Marks.{IsAtMost, IsLast, NoneAt, StandsBefore, is_far, with_mark};
 
 use crate::reading::take_term;
 use wu_base::NoMemory;
@@ -31,7 +32,7 @@ pub(crate) fn put_mark(
     offset: usize,
     place: u64,
 ) -> Result<(), NoMemory>
-    ensures { OnOk result ((marks.new.items ≡ marks.old.items) ⊎ (marks.new.items ≡ marks.old.items ++ mark_of number offset place ∷ [])) }
+    ensures { OnOk result (marks.new.items ≡ with_mark marks.old.items number offset place) }
 {
     if is_far(marks, number, offset) {
         marks.push(Mark {
@@ -45,20 +46,30 @@ pub(crate) fn put_mark(
 
 /// Whether the last mark is far enough away for another one.
 #[inline]
-fn is_far(marks: &[Mark], number: u64, offset: usize) -> bool {
+fn is_far(marks: &[Mark], number: u64, offset: usize) -> bool
+    ensures { result ≡ is_far marks.now number offset }
+{
     match marks.last() {
-        Some(last) => {
-            number.saturating_sub(last.number) >= TERMS_BETWEEN
-                || offset.saturating_sub(last.offset) >= BYTES_BETWEEN
-        }
-        None => number >= TERMS_BETWEEN || offset >= BYTES_BETWEEN,
+        Some(last) => is_distance(
+            number.saturating_sub(last.number),
+            offset.saturating_sub(last.offset),
+        ),
+        None => is_distance(number, offset),
     }
 }
 
-/// A mark of an entry whose term isn't after this one: one of the marks, or else `start`.
+/// Whether two marks are far enough from each other, with so many terms and bytes between.
+#[inline]
+fn is_distance(terms: u64, bytes: usize) -> bool
+    ensures { result ≡ (nat_le TERMS_BETWEEN terms || nat_le BYTES_BETWEEN bytes) }
+{
+    terms >= TERMS_BETWEEN || bytes >= BYTES_BETWEEN
+}
+
+/// The last mark of an entry whose term isn't after this one: one of the marks, or else `start`.
 pub(crate) fn mark_before(bytes: &[u8], marks: &[Mark], start: Mark, term: &[u8]) -> Mark
     requires { (mark : Mark) → Contains marks.now mark → mark.offset ≤ length bytes.now }
-    ensures { (result ≡ start) ⊎ (Contains marks.now result × IsAtMost (drop result.offset bytes.now) term.now) }
+    ensures { IsLast (λ mark. IsAtMost (drop mark.offset bytes.now) term.now) marks.now start result }
 {
     let mut best = start;
     let mut from = 0;
@@ -87,7 +98,8 @@ fn mark_at(marks: &[Mark], place: usize) -> Mark
 /// Whether the term of the mark's entry isn't after this one.
 fn is_at_most(bytes: &[u8], mark: &Mark, term: &[u8]) -> bool
     requires { mark.now.offset ≤ length bytes.now }
-    ensures { MatchBool result (IsAtMost (drop mark.now.offset bytes.now) term.now) ⊤ }
+    ensures { MatchBool result (IsAtMost (drop mark.now.offset bytes.now) term.now)
+        (IsAtMost (drop mark.now.offset bytes.now) term.now → ⊥) }
 {
     match take_term(&bytes[mark.offset..]) {
         Some((first, _)) => first.cmp(&term).is_le(),
@@ -100,7 +112,7 @@ fn is_at_most(bytes: &[u8], mark: &Mark, term: &[u8]) -> bool
 /// From mark to mark the number grows by `TERMS_BETWEEN` at most, and mostly by that. So the mark is
 /// guessed first, and a search is for those terms that long entries come before.
 pub(crate) fn mark_up_to(marks: &[Mark], start: Mark, number: u64) -> Mark
-    ensures { IsUpTo marks.now start number result }
+    ensures { IsLast (λ mark. mark.number ≤ number) marks.now start result }
 {
     let guess = guessed(marks, number);
     let (mut best, mut from) = mark_near(marks, guess, start, number);
@@ -135,7 +147,8 @@ fn guessed(marks: &[Mark], number: u64) -> usize
 /// and 0: where a search begins.
 fn mark_near(marks: &[Mark], guess: usize, start: Mark, number: u64) -> (Mark, usize)
     requires { guess ≤ length marks.now }
-    ensures { IsUpTo marks.now start number result.0 }
+    ensures found { StandsBefore (λ mark. mark.number ≤ number) marks.now start result.0 result.1 }
+    ensures low { result.1 ≤ guess }
 {
     if guess == 0 {
         return (start, 0);
@@ -151,7 +164,9 @@ fn mark_near(marks: &[Mark], guess: usize, start: Mark, number: u64) -> (Mark, u
 /// Where a search ends: at the guess, where the mark there has a higher number.
 fn end_near(marks: &[Mark], guess: usize, number: u64) -> usize
     requires { guess ≤ length marks.now }
-    ensures { result ≤ length marks.now }
+    ensures none { NoneAt (λ mark. mark.number ≤ number) marks.now result }
+    ensures high { guess ≤ result }
+    ensures within { result ≤ length marks.now }
 {
     if guess < marks.len() && mark_at(marks, guess).number > number {
         guess

@@ -1,10 +1,11 @@
 //! Walks over a directory's entries.
-ghost use Rattle.std.specs.Prelude.{◌≡◌, [], ◌<◌, ◌≤◌, ℕ, List, Contains, MatchOption, get_or, length, map};
+ghost use Rattle.std.specs.Prelude.{◌≡◌, [], ◌<◌, ◌≤◌, ◌⊎◌, ℕ, List, Contains, MatchOption, get_or, length, map};
 ghost use Rattle.std.specs.List.Sorted.{IsStrictlySortedBy};
 ghost use Rattle.std.specs.Cmp.Lexicographic.{slice_cmp};
 ghost use Rattle.std.specs.Ordering.{nat_cmp};
 ghost use Rattle.wu_base.specs.declared.limits.TheConstants.{ADDRESSES_MAX};
 ghost use Rattle.wu_part.specs.declared.entries.TermEntry.{TermEntry};
+ghost use Rattle.wu_part.specs.declared.marks.TheConstants.{TERMS_BETWEEN};
 ghost use Rattle.wu_part.specs.Marks.{IsMark, entries_from};
 
 use crate::cursors::Entry;
@@ -90,8 +91,9 @@ pub(crate) fn entry_among<'a>(terms: Terms<'a>, term: &[u8]) -> Option<Entry<'a>
     None
 }
 
-/// The entry after so many others.
+/// The entry after so many others: few of them, or else few are left.
 pub(crate) fn entry_after<'a>(mut terms: Terms<'a>, count: u64) -> Option<Entry<'a>>
+    requires { (count < TERMS_BETWEEN) ⊎ (length terms ≤ TERMS_BETWEEN) }
     ensures { MatchOption result (length terms.entry ≤ count) (λ entry. (count < length terms.entry) ×
         (entry ≡ get_or terms.entry count entry)) }
 {

@@ -26,6 +26,7 @@ invariant_of-result c =
       spelled = rw (bytes, read) (c.args.bytes.now, directory_of_entries _ _ _ _ _ _ c.in-Some.ensures.found refl h.are h.whole);
       entries = rw (bytes, read) h.are;
       marked = rw (bytes, read) h.marked;
+      near = h.near;
     }
 
 pub returns-clause-found : goal.returns-clause-found

@@ -9,4 +9,5 @@ invariant_of-result c =
       spelled = rw (bytes, c.deref.ensures.value) k.spelled;
       entries = rw (bytes, c.deref.ensures.value) k.entries;
       marked = rw (bytes, c.deref.ensures.value, marks, c.deref-2.ensures.value) k.marked;
+      near = rw (marks, c.deref-2.ensures.value) k.near;
     }
