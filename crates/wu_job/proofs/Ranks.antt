@@ -1,5 +1,5 @@
 -- Live ranges in order, and how many live addresses are below one.
-use Rattle.std.proofs.Common.{◌≡◌, ℕ, zero, suc, ◌+◌, ◌-◌, ◌<◌, ◌≤◌, min, nat_le, nat_lt, Bool, true, false, cond, List, [], ◌∷◌, ◌++◌, length, map, take, drop, get_or, filter, sum_by, All, refl, ap, ap₂, sym, ◌∙◌, subst, arith, ⊎_elim, append_assoc}
+use Rattle.std.proofs.Common.{◌≡◌, ℕ, zero, suc, ◌+◌, ◌-◌, ◌<◌, ◌≤◌, max, min, nat_le, nat_lt, Bool, true, false, cond, List, [], ◌∷◌, ◌++◌, length, map, take, drop, get_or, filter, sum_by, All, refl, ap, ap₂, sym, ◌∙◌, subst, arith, ⊎_elim, append_assoc}
 use Rattle.std.specs.Prelude.{Option, None, Some}
 use Rattle.std.specs.List.{AllByRecursion}
 use Rattle.std.specs.List.Sorted.{IsNonDecreasingBy}
@@ -12,7 +12,7 @@ use Rattle.wu_base.specs.declared.addresses.Range.{Range}
 use Rattle.wu_layout.specs.Postings.{is_in, is_live}
 use Rattle.wu_space.specs.Addresses.{AreApart}
 use Rattle.wu_job.specs.declared.live.LiveRange.{LiveRange}
-use Rattle.wu_job.specs.Live.{AscendBetween, AreInOrder, AreRanked, FirstEndsAfter, find_place, live_below, ranges_alone, ranked_from, total_of, with_place, place_alone}
+use Rattle.wu_job.specs.Live.{AscendBetween, AreInOrder, AreRanked, FirstEndsAfter, find_place, first_from, live_below, ranges_alone, ranked_from, total_of, with_place, place_alone}
 
 abbrev pub len_of : Range → ℕ
 len_of range = range.len
@@ -203,6 +203,19 @@ place_dropped (suc n) a [] e = refl
 place_dropped (suc n) a (r ∷ rs) e =
     let ends : nat_lt a (r.start + r.len) ≡ false = le-ltb a (r.start + r.len) e.0 in
     rw ends (place_dropped n a rs e.1)
+
+pub first_dropped : (n a : ℕ) (rs : List LiveRange) → AllByRecursion (λ r. r.start + r.len ≤ a) (take n rs)
+    → first_from (ranges_alone (drop n rs)) a ≡ first_from (ranges_alone rs) a
+first_dropped zero a rs e = refl
+first_dropped (suc n) a [] e = refl
+first_dropped (suc n) a (r ∷ rs) e =
+    let ends : nat_lt a (r.start + r.len) ≡ false = le-ltb a (r.start + r.len) e.0 in
+    rw ends (first_dropped n a rs e.1)
+
+pub first_is : (a : ℕ) (rs : List LiveRange) (d : LiveRange) → FirstEndsAfter a rs → 0 < length rs
+    → first_from (ranges_alone rs) a ≡ max (get_or rs 0 d).start a
+first_is a [] d f some = absurd (omega arith)
+first_is a (r ∷ rs) d f some = rw (lt-ltb a (r.start + r.len) f.0) refl
 
 pub all_end : (address a : ℕ) (rs : List LiveRange) → address ≤ a → AllByRecursion (λ r. r.start + r.len ≤ address) rs
     → AllByRecursion (λ r. r.start + r.len ≤ a) rs

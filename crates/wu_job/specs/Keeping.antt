@@ -12,7 +12,7 @@ use Rattle.wu_part.specs.Parts.{IsList}
 use Rattle.wu_part.specs.declared.entries.TermEntry.{TermEntry}
 use Rattle.wu_job.specs.Jobs.{JobPart, JobState, StandWithin, lowest, terms_of_part}
 use Rattle.wu_job.specs.Reading.{IsFound}
-use Rattle.wu_job.specs.Live.{AreRanked, AscendBetween, live_below, ranges_alone, total_of}
+use Rattle.wu_job.specs.Live.{AreRanked, AscendBetween, first_from, live_below, ranges_alone, total_of}
 use Rattle.wu_job.specs.Sources.{AreAllPassed, ArePassed, AreSources, merged, parts_of, terms_from}
 use Rattle.wu_job.specs.declared.jobs.Job.TheInside as inside
 use Rattle.wu_job.specs.declared.live.Cut.{Cut}
@@ -51,6 +51,7 @@ pub record IsSound (fields : inside.Inside) : Type 0 where
   pub units : fields.units_left ≡ length (terms_from fields.left fields.right fields.places)
   pub generation : fields.generation ≤ GENERATION_MAX
   pub low : IsFrom (ranges_alone fields.live.items) (parts_of fields.left fields.right) fields.done.low
+  pub least : fields.done.low ≡ first_from (ranges_alone fields.live.items) (lowest (parts_of fields.left fields.right))
   pub within : StandWithin (parts_of fields.left fields.right) (addresses_in fields.done.lists)
 
 -- what contracts see of a job

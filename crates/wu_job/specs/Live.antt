@@ -1,5 +1,5 @@
 -- Live ranges in order, and which of the live addresses one is.
-use Rattle.std.specs.Prelude.{◌≡◌, ℕ, ◌+◌, ◌-◌, ◌<◌, ◌≤◌, min, nat_le, nat_lt, if◌then◌else◌, Option, None, Some, List, [], ◌∷◌, map, filter, sum_by}
+use Rattle.std.specs.Prelude.{◌≡◌, ℕ, ◌+◌, ◌-◌, ◌<◌, ◌≤◌, max, min, nat_le, nat_lt, if◌then◌else◌, Option, None, Some, List, [], ◌∷◌, map, filter, sum_by}
 use Rattle.wu_base.specs.declared.addresses.Range.{Range}
 use Rattle.wu_layout.specs.Postings.{is_live}
 use Rattle.wu_job.specs.declared.live.LiveRange.{LiveRange}
@@ -54,6 +54,12 @@ find_place (range ∷ ranges) address =
     if nat_lt address (range.start + range.len)
     then (if nat_le range.start address then Some (range.before + (address - range.start)) else None)
     else find_place ranges address
+
+-- where the first range begins that ends after the address, if not before the address; or the address, where none ends after it
+abbrev pub first_from : List Range → ℕ → ℕ
+first_from [] address = address
+first_from (range ∷ ranges) address =
+    if nat_lt address (range.start + range.len) then max range.start address else first_from ranges address
 
 -- an address that has a place, and the place
 abbrev pub with_place : ℕ → Option ℕ → List ℕ

@@ -1,6 +1,6 @@
 -- Marks, one bit each.
-use Rattle.std.specs.Prelude.{ℕ, zero, suc, ◌*◌, ◌/◌, ◌%◌, ◌<◌, ◌==◌, Bool, List, [], ◌∷◌, length, get_or}
-use Rattle.std.specs.Int.{bit_at}
+use Rattle.std.specs.Prelude.{ℕ, zero, suc, ◌/◌, ◌%◌, ◌≡◌, ◌==◌, Bool, List, [], ◌∷◌, length, get_or}
+use Rattle.std.specs.Int.{bit_at, div_ceil}
 use Rattle.wu_job.specs.declared.marks.Marks.TheInside as inside
 
 -- whether the bit of the place is set, where each word has 64 of them
@@ -15,6 +15,6 @@ marks_from words place (suc count) = is_set words place ∷ marks_from words (su
 abbrev pub marks_of : inside.Inside → List Bool
 marks_of marks = marks_from marks.words.items 0 marks.count
 
--- there is a word for each place
+-- there are as many words as the places need
 abbrev pub HasWords : inside.Inside → Type 0
-HasWords marks = marks.count < 64 * length marks.words.items
+HasWords marks = length marks.words.items ≡ div_ceil marks.count 64

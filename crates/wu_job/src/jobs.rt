@@ -1,5 +1,5 @@
 //! Jobs.
-ghost use Rattle.std.specs.Prelude.{◌≡◌, ◌+◌, ◌<◌, ◌≤◌, ◌∷◌, ◌++◌, [], length, All, IfOk, IfErr, OnOk, OnErr};
+ghost use Rattle.std.specs.Prelude.{◌≡◌, ◌+◌, ◌-◌, ◌^◌, ◌<◌, ◌≤◌, ◌∷◌, ◌++◌, [], length, min, sum_by, All, IfOk, IfErr, OnOk, OnErr};
 ghost use Rattle.std.specs.List.{AllByRecursion, flat_map};
 ghost use Rattle.wu_base.specs.declared.limits.TheConstants.{ADDRESSES_MAX, GENERATION_MAX};
 ghost use Rattle.wu_part.specs.Parts.{IsList, IsRecorded};
@@ -296,7 +296,9 @@ fn started(
 }
 
 /// How many bytes the parts have, which the new part mostly has too at most.
-fn size_of_parts(left: &Source, right: &Option<Source>) -> usize {
+fn size_of_parts(left: &Source, right: &Option<Source>) -> usize
+    ensures { result ≡ min (sum_by (λ part. part.recorded.size) (parts_of left.now right.now)) (2 ^ 64 - 1) }
+{
     let other = match right {
         Some(source) => source.recorded.size,
         None => 0,

@@ -4,7 +4,7 @@ ghost use Rattle.std.specs.Prelude.{◌≡◌, ℕ, ◌+◌, ◌<◌, ◌≤◌,
 ghost use Rattle.std.specs.List.{AllByRecursion};
 ghost use Rattle.wu_space.specs.Addresses.{AreApart};
 ghost use Rattle.wu_layout.specs.Postings.{is_live};
-ghost use Rattle.wu_job.specs.Live.{AscendBetween, AreInOrder, AreRanked, FirstEndsAfter, IsCut, find_place, place_alone, ranges_alone, with_place};
+ghost use Rattle.wu_job.specs.Live.{AscendBetween, AreInOrder, AreRanked, FirstEndsAfter, IsCut, find_place, first_from, place_alone, ranges_alone, with_place};
 
 use std::alloc::Global;
 use wu_base::{ADDRESSES_MAX, NoMemory, Range};
@@ -117,10 +117,12 @@ pub(crate) fn cut_to_live(
     Ok(cut)
 }
 
-/// The first live address from that one on, where there is one: no live one is between.
+/// Where the first range begins that ends after the address, if not before it: no live address is between. Or
+/// the address, where no range ends after it.
 pub(crate) fn first_live(live: &[LiveRange], from: u64) -> u64
     requires { AreRanked live.now ADDRESSES_MAX }
-    ensures { (address : ℕ) → is_live (ranges_alone live.now) address ≡ true → from ≤ address → result ≤ address }
+    ensures first { result ≡ first_from (ranges_alone live.now) from }
+    ensures low { (address : ℕ) → is_live (ranges_alone live.now) address ≡ true → from ≤ address → result ≤ address }
 {
     match from_address(live, from) {
         [first, ..] => first.start.max(from),
@@ -146,6 +148,7 @@ fn from_address(ranges: &[LiveRange], address: u64) -> &[LiveRange]
     ensures order { AreInOrder 0 ADDRESSES_MAX result.now }
     ensures ends { FirstEndsAfter address result.now }
     ensures same { (a : ℕ) → address ≤ a → find_place result.now a ≡ find_place ranges.now a }
+    ensures first { first_from (ranges_alone result.now) address ≡ first_from (ranges_alone ranges.now) address }
 {
     ranges.split_at(count_ended(ranges, address)).1
 }

@@ -31,7 +31,7 @@ impl Marks {
         ensures { IfOk result (λ marks. marks ≡ replicate count false) }
     {
         Ok(Marks {
-            words: vec![in alloc; 0u64; (count / 64) as usize + 1]?,
+            words: vec![in alloc; 0u64; count.div_ceil(64) as usize]?,
             count,
         })
     }

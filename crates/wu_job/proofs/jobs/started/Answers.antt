@@ -3,7 +3,7 @@ use Rattle.wu_base.specs.declared.addresses.TermList.{TermList}
 use Rattle.wu_base.specs.declared.limits.TheConstants.{ADDRESSES_MAX}
 use Rattle.wu_job.specs.Jobs.{StandWithin}
 use Rattle.wu_job.specs.Keeping.{AreMarks, AreWritable, addresses_in}
-use Rattle.wu_job.specs.Live.{ranges_alone, total_of}
+use Rattle.wu_job.specs.Live.{first_from, ranges_alone, total_of}
 use Rattle.wu_job.specs.Sources.{parts_of, terms_from, terms_of, terms_of_other}
 use Rattle.wu_part.specs.Buildings.{Building}
 use Rattle.wu_job.proofs.Joining.{lowest_left}
@@ -45,6 +45,7 @@ invariant_of-result c =
       units = c.count_terms-units_left.ensures.count;
       generation = c.requires.generation;
       low = λ address alive within.
-          let from : c.first_live-low.result ≤ address = first address alive (omega (arith, c.low.ensures, least)) in omega arith;
+          let from : c.first_live-low.result ≤ address = first.low address alive (omega (arith, c.low.ensures, least)) in omega arith;
+      least = low ∙ first.first ∙ ap (first_from live) (c.low.ensures ∙ sym least);
       within = subst (λ (lists : List TermList). StandWithin (parts_of c.args.left c.args.right) (addresses_in lists)) none tt;
     }

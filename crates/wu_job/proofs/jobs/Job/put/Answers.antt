@@ -7,7 +7,7 @@ use Rattle.wu_layout.proofs.EachLemmas.{each-append}
 use Rattle.wu_job.specs.Jobs.{JobPart, JobState, StandWithin, highest, list_for, lowest}
 use Rattle.wu_part.specs.Buildings.{Building}
 use Rattle.wu_job.specs.Keeping.{AreMarks, AreWritable, IsFrom, IsNext, addresses_in, has, state_of, terms_at}
-use Rattle.wu_job.specs.Live.{live_below, ranges_alone, total_of}
+use Rattle.wu_job.specs.Live.{first_from, live_below, ranges_alone, total_of}
 use Rattle.wu_job.specs.Sources.{parts_of, terms_from}
 use Rattle.wu_job.proofs.Marking.{addresses_more, marks_more, places_within}
 use Rattle.wu_job.proofs.Sound.{list_from, lists_for, writable_more}
@@ -44,6 +44,7 @@ invariant_of-self c =
       units = inv.units;
       generation = inv.generation;
       low = subst (λ (b : Building). IsFrom live parts b.low) same inv.low;
+      least = subst (λ (b : Building). b.low ≡ first_from live (lowest parts)) same inv.least;
       within = subst (λ (b : Building). StandWithin parts (addresses_in b.lists)) same inv.within;
     }
 
@@ -101,6 +102,7 @@ invariant_of-self-2 c =
       units = omega (arith, inv.units, ap (λ (ts : List (List ℕ)). length ts) first);
       generation = inv.generation;
       low = subst (IsFrom live parts) low inv.low;
+      least = subst (λ (address : ℕ). address ≡ first_from live (lowest parts)) low inv.least;
       within =
           subst (λ (ls : List TermList). StandWithin parts (addresses_in ls)) made
           (subst (StandWithin parts) (sym (addresses_more i.done.lists term kept))
