@@ -1,12 +1,15 @@
 -- What is kept of users after one asked or was put in.
-use Rattle.std.proofs.Common.{◌≡◌, ℕ, zero, suc, ◌-◌, true, false, cond, List, [], ◌∷◌, length, take, nat_eq, refl, ap, sym, subst, Option}
-use Rattle.std.specs.Prelude.{None, Some, Ok, Err, IsSome, OnOk, OnErr, Result, is_some, slice_get}
+use Rattle.std.proofs.Common.{◌≡◌, ℕ, zero, suc, ◌-◌, ◌<◌, ◌≤◌, true, false, cond, List, [], ◌∷◌, length, take, nat_eq, refl, ap, sym, subst, arith}
+use Rattle.std.specs.Prelude.{None, Some, IsSome, is_some}
 use Rattle.std.specs.Option.{option_map_or}
 use Rattle.std.specs.List.{AllByRecursion}
 use Rattle.std.specs.Map.{lookup, lookup_entry, remove_entry, set_value}
 use Rattle.std.specs.Cmp.{nat_eq_equiv}
 use Rattle.std.proofs.lemmas.Bool.{eqb-true}
-use Rattle.lru.specs.LruCache.{LruCache, last_entry, lru_cache, promoted, put_entries}
+use Rattle.std.proofs.lemmas.List.{take_all}
+use Rattle.std.proofs.lemmas.Map.{none_passes_from_lookup}
+use Rattle.std.proofs.lemmas.Option.{none-some}
+use Rattle.lru.specs.LruCache.{LruCache, promoted, put_entries}
 use Rattle.lru.proofs.CallerLemmas.{Contains-lookup_entry, lookup-put_entries}
 use Rattle.lru.proofs.Pairs.{lookup-lookup_entry}
 use Rattle.wu_base.proofs.Members.{Has-from_Contains, all_has}
@@ -14,7 +17,9 @@ use Rattle.wu_base.proofs.MapEntries.{All-remove_entry, All-found, All-set_value
 use Rattle.wu_tree.specs.FileSystems.{FileSystem}
 use Rattle.wu_space.specs.Addresses.{Ranges}
 use Rattle.wu_frames.specs.declared.Frames.{Frames}
-use Rattle.wu_frames.specs.UserFrames.{AreFor, AreFrames, AskedLast, Kept, frames_for}
+use Rattle.wu_frames.specs.declared.caches.TheConstants.{USERS_KEPT}
+use Rattle.wu_frames.specs.UserFrames.{AreFor, AreFrames, AskedLast, HasAsked, Kept, after_asked, frames_for}
+use Rattle.wu_frames.proofs.Turns.{passed-none}
 
 All-take : {X : Type 0} (P : X → Type 0) (n : ℕ) (xs : List X) → AllByRecursion P xs → AllByRecursion P (take n xs)
 All-take P zero xs a = tt
@@ -56,27 +61,6 @@ module _ (fs : FileSystem) (live : Ranges) where
   right-found uid kept frames a h =
       let r = All-found IsRight (nat_eq uid) kept frames a (sym h) in
       subst (λ (n : ℕ). AreFrames fs live n frames) (sym (eqb-true uid r.0 r.1)) r.2
-
-  -- where the put may fail
-  pub right-tried : {E : Type 0} (old now : LruCache ℕ Frames) (uid : ℕ) (frames : Frames) (result : Result (Option Frames) E)
-      → OnOk result (now ≡ lru_cache (put_entries nat_eq old uid frames) old.cap) → OnErr result (now ≡ old)
-      → AreFor fs live old.entries → AreFrames fs live uid frames → AreFor fs live now.entries
-  right-tried old now uid frames (Ok before) done failed a p = rw done (right-put old uid frames a p)
-  right-tried old now uid frames (Err error) done failed a p = rw failed a
-
-  right-at : (i uid : ℕ) (kept : Kept) (frames : Frames) → AreFor fs live kept
-      → slice_get kept i ≡ Some (uid, frames) → AreFrames fs live uid frames
-  right-at i uid [] frames a h = cc
-  right-at zero uid (entry ∷ kept) frames a h = let same : entry ≡ (uid, frames) = cc in subst IsRight same a.0
-  right-at (suc i) uid (entry ∷ kept) frames a h = right-at i uid kept frames a.1 h
-
-  -- the one who asked longest ago, and the others
-  pub right-last : (uid : ℕ) (kept : Kept) (frames : Frames) → AreFor fs live kept → last_entry kept ≡ Some (uid, frames)
-      → AreFrames fs live uid frames
-  right-last uid kept frames = right-at (length kept - 1) uid kept frames
-
-  pub right-others : (kept : Kept) → AreFor fs live kept → AreFor fs live (take (length kept - 1) kept)
-  right-others kept = All-take IsRight (length kept - 1) kept
 
   -- frames that were right, with another count of changes
   right-counted : (uid mends : ℕ) (frames : Frames) → AreFrames fs live uid frames → AreFrames fs live uid (record frames { mends = mends })
@@ -142,3 +126,51 @@ asked-again uid kept frames now h anew =
           let same = (Contains-lookup_entry (nat_eq uid) kept entry e).1 in
           rw same (sym (eqb-true uid entry.0 same), anew)
     ] refl
+
+-- exactly what is kept then
+
+shorter-without : (uid : ℕ) (kept : Kept) (frames : Frames) → Some frames ≡ frames_for kept uid
+    → length (remove_entry (nat_eq uid) kept) < length kept
+shorter-without uid [] frames h = absurd (none-some frames (sym h))
+shorter-without uid (entry ∷ kept) frames h =
+    elim (nat_eq uid entry.0) as
+    (λ b. Some frames ≡ cond b (Some entry.1) (frames_for kept uid)
+    → length (cond b kept (entry ∷ remove_entry (nat_eq uid) kept)) < suc (length kept)) [
+      | true ↦ λ g. omega arith
+      | false ↦ λ g. omega (arith, shorter-without uid kept frames g)
+    ] h
+
+promoted-is : (uid : ℕ) (kept : Kept) (frames now : Frames) → Some frames ≡ frames_for kept uid → length kept ≤ USERS_KEPT
+    → set_value (nat_eq uid) (promoted (nat_eq uid) kept) now ≡ after_asked uid now kept
+promoted-is uid kept frames now h few =
+    let rest : Kept = remove_entry (nat_eq uid) kept in
+    elim (lookup_entry (nat_eq uid) kept) as
+    (λ o. lookup_entry (nat_eq uid) kept ≡ o
+    → set_value (nat_eq uid) (option_map_or (λ (e : ℕ × Frames). e ∷ rest) o kept) now ≡ after_asked uid now kept) [
+      | None ↦ λ e. let none = lookup-lookup_entry (nat_eq uid) kept in let none' = rw e at none in cc
+      | Some entry ↦ λ e.
+          let same = (Contains-lookup_entry (nat_eq uid) kept entry e).1 in
+          let all : take (USERS_KEPT - 1) rest ≡ rest =
+          take_all (USERS_KEPT - 1) rest (omega (arith, few, shorter-without uid kept frames h)) in
+          rw (same, all) (ap (λ (n : ℕ). (n, now) ∷ rest) (sym (eqb-true uid entry.0 same)))
+    ] refl
+
+pub has-asked-again : (uid : ℕ) (kept : Kept) (frames : Frames) → Some frames ≡ frames_for kept uid → length kept ≤ USERS_KEPT
+    → HasAsked uid kept (set_value (nat_eq uid) (promoted (nat_eq uid) kept) (record frames { mends = 0 }))
+has-asked-again uid kept frames h few = record {
+  hers = record frames { mends = 0 };
+  entries = promoted-is uid kept frames (record frames { mends = 0 }) h few;
+  unmended = refl;
+  same = rw (← h) refl;
+}
+
+pub has-asked-put : (cache : LruCache ℕ Frames) (uid : ℕ) (frames : Frames) → cache.cap ≡ USERS_KEPT → frames.mends ≡ 0
+    → None ≡ frames_for cache.entries uid → HasAsked uid cache.entries (put_entries nat_eq cache uid frames)
+has-asked-put cache uid frames room anew h =
+    let none = passed-none (nat_eq uid) cache.entries (none_passes_from_lookup (nat_eq uid) cache.entries (sym h)) in
+    record {
+      hers = frames;
+      entries = rw (none.0, none.1, room) refl;
+      unmended = anew;
+      same = rw (← h) tt;
+    }

@@ -9,3 +9,5 @@ pub mod SeenLinks
 pub mod OpenDirectories
 pub mod Relinking
 pub mod LinkEvents
+pub mod Turns
+pub mod Bringing

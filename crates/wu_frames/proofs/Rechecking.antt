@@ -1,11 +1,9 @@
 -- Which frames are left after those that may have changed are forgotten.
-use Rattle.std.proofs.Common.{◌≡◌, ℕ, zero, suc, ◌<◌, Bool, true, false, cond, List, [], ◌∷◌, length, nat_eq, refl, ap, sym, ◌∙◌, subst, Bor, arith}
-use Rattle.std.specs.Prelude.{None, Some, IsPermutation, IsSome, MatchOption, Option, filter, map, slice_get}
+use Rattle.std.proofs.Common.{◌≡◌, ℕ, Bool, true, false, cond, List, [], ◌∷◌, nat_eq, refl, ap, sym, ◌∙◌, subst}
+use Rattle.std.specs.Prelude.{Some, IsPermutation, Option, filter}
 use Rattle.std.specs.Cmp.{booleans_Decides, nat_eq_equiv}
 use Rattle.std.specs.List.{AllByRecursion, IsDistinct}
 use Rattle.std.specs.Map.{keys_of, remove_entry}
-use Rattle.std.specs.Map.Iter.{deref_pair}
-use Rattle.std.proofs.lemmas.Bool.{eqb-true}
 use Rattle.std.proofs.lemmas.Map.{NonePasses}
 use Rattle.std.proofs.lemmas.Map.Entries.{none_past_head}
 use Rattle.wu_access.specs.declared.Perm.{Perm}
@@ -18,63 +16,14 @@ use Rattle.wu_view.specs.declared.Seen.{Seen}
 use Rattle.wu_view.specs.Views.{is_granted_node, view_of}
 use Rattle.wu_space.specs.Addresses.{Ranges}
 use Rattle.wu_frames.specs.declared.Frames.{Frames}
-use Rattle.wu_frames.specs.UserFrames.{AreFor, AreFrames, Kept, frames_for, frames_in}
+use Rattle.wu_frames.specs.UserFrames.{AreFor, AreFrames, Kept, frames_in}
 use Rattle.wu_frames.specs.Permissions.{IsGroupChange, IsPermChange, grants_as_before, kept_as_before, user_in, want_of}
 use Rattle.wu_frames.proofs.SameViews.{node_of-here, view_of-permitted, view_of-regrouped}
 
--- ---- the walk over what is kept
-
-pub of-entries : (P : ℕ → Type 0) (xs : List (Bor ℕ × Bor Frames)) → AllByRecursion (λ entry. P entry.0.now) xs
-    → AllByRecursion (λ entry. P entry.0) (map deref_pair xs)
-of-entries P [] a = tt
-of-entries P (x ∷ xs) a = (a.0, of-entries P xs a.1)
-
-pub found-at : (i uid : ℕ) (kept : Kept) (frames : Frames) → slice_get kept i ≡ Some (uid, frames) → IsSome (frames_for kept uid)
-found-at i uid [] frames h = absurd cc
-found-at zero uid (entry ∷ kept) frames h =
-    let same : uid ≡ entry.0 = cc in
-    let first : nat_eq uid entry.0 ≡ true = subst (λ (n : ℕ). nat_eq uid n ≡ true) same (nat_eq_equiv.refl uid) in
-    rw first refl
-found-at (suc i) uid (entry ∷ kept) frames h =
-    elim (nat_eq uid entry.0) as (λ b. IsSome (cond b (Some entry.1) (frames_for kept uid))) [
-      | true ↦ refl
-      | false ↦ found-at i uid kept frames h
-    ]
-
-pub of-some : {X : Type 0} (N : Type 0) (P : X → Type 0) (o : Option X) (x : X) → o ≡ Some x → MatchOption o N P → P x
-of-some N P o x e m = subst (λ o. MatchOption o N P) e m
-
-pub of-none : {X : Type 0} (N : Type 0) (P : X → Type 0) (o : Option X) → o ≡ None → MatchOption o N P → N
-of-none N P o e m = subst (λ o. MatchOption o N P) e m
-
--- ---- what is taken out
-
-pub pop-kept : (p : ℕ → Bool) (uid : ℕ) (kept : Kept) → p uid ≡ false
-    → filter (λ entry. p entry.0) (remove_entry (nat_eq uid) kept) ≡ filter (λ entry. p entry.0) kept
-pop-kept p uid [] f = refl
-pop-kept p uid (entry ∷ kept) f =
-    elim (nat_eq uid entry.0) as
-    (λ b. nat_eq uid entry.0 ≡ b
-    → filter (λ (x : ℕ × Frames). p x.0) (cond b kept (entry ∷ remove_entry (nat_eq uid) kept))
-    ≡ filter (λ (x : ℕ × Frames). p x.0) (entry ∷ kept)) [
-      | true ↦ λ h. let n : p entry.0 ≡ false = subst (λ (k : ℕ). p k ≡ false) (eqb-true uid entry.0 h) f in rw n refl
-      | false ↦ λ h.
-          ap (λ (l : Kept). cond (p entry.0) (entry ∷ l) l) (pop-kept p uid kept f)
-    ] refl
-
+-- where all pass the test, all are left
 pub all-kept : (p : ℕ → Bool) (kept : Kept) → AllByRecursion (λ entry. p entry.0 ≡ true) kept → filter (λ entry. p entry.0) kept ≡ kept
 all-kept p [] a = refl
 all-kept p (entry ∷ kept) a = rw a.0 (ap (λ (l : Kept). entry ∷ l) (all-kept p kept a.1))
-
-pub pop-shorter : (uid : ℕ) (kept : Kept) → IsSome (frames_for kept uid) → length (remove_entry (nat_eq uid) kept) < length kept
-pop-shorter uid [] h = absurd cc
-pop-shorter uid (entry ∷ kept) h =
-    elim (nat_eq uid entry.0) as
-    (λ b. IsSome (cond b (Some entry.1) (frames_for kept uid))
-    → length (cond b kept (entry ∷ remove_entry (nat_eq uid) kept)) < suc (length kept)) [
-      | true ↦ λ g. omega arith
-      | false ↦ λ g. omega (arith, pop-shorter uid kept g)
-    ] h
 
 -- ---- what is left is right
 

@@ -1,6 +1,6 @@
 -- Frames of users who see none of the links that an event changed.
 use Rattle.std.proofs.Common.{◌≡◌, ℕ, ◌+◌, true, false, cond, List, [], ◌∷◌, refl, sym, ◌∙◌, subst}
-use Rattle.std.specs.Prelude.{IsPermutation, filter_map, option_map}
+use Rattle.std.specs.Prelude.{None, IsPermutation, filter_map, option_map}
 use Rattle.std.specs.List.{AllByRecursion, cons_option, enumerate_from}
 use Rattle.wu_base.proofs.Members.{Has, all_from_has}
 use Rattle.wu_tree.specs.FileSystems.{FileSystem}
@@ -13,6 +13,7 @@ use Rattle.wu_frames.specs.declared.Frames.{Frames}
 use Rattle.wu_frames.specs.declared.links.LinkChanges.{LinkChanges}
 use Rattle.wu_frames.specs.UserFrames.{AreFor, AreFrames, Kept, frame_of, frame_with, frames_in}
 use Rattle.wu_frames.specs.Links.{IsLinkChange, KeepRanges, kept_unshown, sees_none}
+use Rattle.wu_frames.proofs.Rechecking.{all-kept}
 use Rattle.wu_frames.proofs.SeenLinks.{file-of_view, view_of-relinked}
 
 module _ (live now : Ranges) where
@@ -58,3 +59,12 @@ module _ (live now : Ranges) where
           | true ↦ λ h. (frames-relinked entry.0 entry.1 h a.0, right-unshown kept a.1)
           | false ↦ λ h. right-unshown kept a.1
         ] refl
+
+-- where no link changes, all are left
+pub unshown-none : (fs : FileSystem) (links : LinkChanges) (kept : Kept) → links.made ≡ None → links.removed ≡ None
+    → links.replaced ≡ None → kept_unshown fs links kept ≡ kept
+unshown-none fs links kept m r p = all-kept (sees_none fs links) kept (all-see-none kept)
+  where
+    all-see-none : (l : Kept) → AllByRecursion (λ (entry : ℕ × Frames). sees_none fs links entry.0 ≡ true) l
+    all-see-none [] = tt
+    all-see-none (entry ∷ l) = (rw (m, r, p) refl, all-see-none l)

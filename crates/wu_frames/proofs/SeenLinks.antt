@@ -1,16 +1,15 @@
 -- A view depends on the links that lead to readable files from directories that are open.
 use Rattle.std.proofs.Common.{◌≡◌, ℕ, zero, suc, ◌≤◌, Bool, true, false, ◌&&◌, ◌||◌, not, List, [], ◌∷◌, ◌++◌, refl, ap, sym, ◌∙◌, subst, ⊎_elim, arith}
-use Rattle.std.specs.Prelude.{◌==◌, Option, None, Some, IfSome, is_some, map, filter, unwrap_or}
+use Rattle.std.specs.Prelude.{◌==◌, Option, None, Some, IfSome, is_some, unwrap_or}
 use Rattle.std.specs.Ordering.{nat_cmp}
 use Rattle.std.specs.List.{AllByRecursion}
 use Rattle.std.specs.Map.{lookup}
 use Rattle.std.specs.BTreeMap.{is_at}
 use Rattle.std.proofs.lemmas.Bool.{and_from, and_parts, eq-eqb, eqb-true, eqb-false}
 use Rattle.std.proofs.lemmas.Cmp.{nat_list_cmp_total}
-use Rattle.std.proofs.lemmas.Map.Lookups.{exact_bytes, exact_unsigned}
-use Rattle.std.proofs.lemmas.Map.Views.{Contains-from_lookup, tells_apart}
-use Rattle.wu_base.proofs.Members.{Has, Has-filter, Has-from_Contains, Has-map, all_has, filter_has, has_any, map_has}
-use Rattle.wu_base.proofs.SortedLists.{has-sorted_once, same-sorted_once, sorted_once_has}
+use Rattle.std.proofs.lemmas.Map.Lookups.{exact_bytes}
+use Rattle.wu_base.proofs.Members.{Has, Has-from_Contains, all_has, has_any}
+use Rattle.wu_base.proofs.SortedLists.{same-sorted_once, sorted_once_has}
 use Rattle.wu_access.specs.declared.UserRec.{UserRec}
 use Rattle.wu_access.specs.declared.Want.{Want}
 use Rattle.wu_access.specs.declared.Want.TheVariants.{Read, Execute}
@@ -22,9 +21,9 @@ use Rattle.wu_tree.specs.FileSystems.{FileSystem, Link, depth, groups_of, has_en
 use Rattle.wu_tree.specs.Rules.{IsTree}
 use Rattle.wu_tree.proofs.ParentPaths.{directory_found}
 use Rattle.wu_view.specs.declared.Seen.{Seen}
-use Rattle.wu_view.specs.Views.{directory_path, is_empty, is_granted_node, is_open, is_readable, may, open_paths, path_of, seen_as, user_with, view_for, view_of}
+use Rattle.wu_view.specs.Views.{directory_path, is_granted_node, is_open, is_readable, may, path_of, seen_as, user_with, view_for, view_of}
 use Rattle.wu_view.proofs.LinkPaths.{depth_below, depth_range, link_facts, linked_once, open_below, open_root, path_below_is, root_open, root_path, some_link}
-use Rattle.wu_view.proofs.ShownFiles.{has_seen, opened_paths, seen_exact, seen_total, unsorted}
+use Rattle.wu_view.proofs.ShownFiles.{has_opened, has_seen, opened_has, opened_paths, seen_exact, seen_has, seen_total, unsorted}
 use Rattle.wu_frames.specs.declared.links.ChangedLink.{ChangedLink}
 use Rattle.wu_frames.specs.declared.links.LinkChanges.{LinkChanges}
 use Rattle.wu_frames.specs.Permissions.{user_in, want_of}
@@ -57,41 +56,6 @@ pub record IsSeen (fs : FileSystem) (user : UserRec) (link : Link) : Type 0 wher
   pub opened : is_open fs user link.0.0 ≡ true
 
 module _ (fs : FileSystem) (t : IsTree fs) (user : UserRec) where
-  opened_has : (link : Link) → IsSeen fs user link → Has (path_of fs.links link.0) (opened_paths fs t user link.1)
-  opened_has link s =
-      Has-map (λ (l : Link). path_of fs.links l.0) link (filter (λ l. l.1 == link.1 && is_open fs user l.0.0) fs.links)
-      (Has-filter (λ l. l.1 == link.1 && is_open fs user l.0.0) link fs.links s.within
-      (and_from (link.1 == link.1) (is_open fs user link.0.0) (eq-eqb link.1 link.1 refl) s.opened))
-
-  has_opened : (q : ℕ) (path : List ℕ) → is_readable fs user q ≡ true → Has path (opened_paths fs t user q)
-      → (link : Link) × IsSeen fs user link × (link.1 ≡ q) × (path_of fs.links link.0 ≡ path)
-  has_opened q path r h =
-      let m = map_has (λ (l : Link). path_of fs.links l.0) path (filter (λ l. l.1 == q && is_open fs user l.0.0) fs.links) h in
-      let f = filter_has (λ l. l.1 == q && is_open fs user l.0.0) m.0 fs.links m.1.0 in
-      let b = and_parts (m.0.1 == q) (is_open fs user m.0.0.0) f.1 in
-      let e : m.0.1 ≡ q = eqb-true m.0.1 q b.0 in (
-        m.0,
-        record { within = f.0; readable = subst (λ (n : ℕ). is_readable fs user n ≡ true) (sym e) r; opened = b.1 },
-        e,
-        m.1.1,
-      )
-
-  not_empty : (path : List ℕ) (paths : List (List ℕ)) → Has path paths → not (is_empty paths) ≡ true
-  not_empty path [] h = absurd h
-  not_empty path (p ∷ paths) h = refl
-
-  seen_has : (q : ℕ) (path : List ℕ) → is_readable fs user q ≡ true → Has path (opened_paths fs t user q)
-      → Has (seen_as fs user q) (unsorted fs t user)
-  seen_has q path r h =
-      let node = file-found (node_of fs q) (and_parts (is_file fs q) (may fs user Read q) r).0 in
-      let there : Has (q, node.0) fs.nodes =
-      Has-from_Contains (q, node.0) fs.nodes (Contains-from_lookup (tells_apart exact_unsigned) q node.0 fs.nodes node.1) in
-      Has-filter (λ s. not (is_empty s.paths)) (seen_as fs user q)
-      (map (λ node. seen_as fs user node.0) (filter (λ node. is_readable fs user node.0) fs.nodes))
-      (Has-map (λ (node : ℕ × Node). seen_as fs user node.0) (q, node.0) (filter (λ node. is_readable fs user node.0) fs.nodes)
-      (Has-filter (λ node. is_readable fs user node.0) (q, node.0) fs.nodes there r))
-      (not_empty path (open_paths fs user q) (has-sorted_once nat_list_cmp_total exact_bytes path (opened_paths fs t user q) h))
-
   file-seen : (file : Seen) → Has file (view_for fs user) → is_file fs file.ino ≡ true
   unfolding view_for
   file-seen file h =
@@ -107,12 +71,13 @@ module _ (a b : FileSystem) (s : IsTree a) (t : IsTree b) (user : UserRec) where
   opened-within : Carries a b user → (q : ℕ) (path : List ℕ) → is_readable a user q ≡ true → Has path (opened_paths a s user q)
       → (is_readable b user q ≡ true) × Has path (opened_paths b t user q)
   opened-within there q path r h =
-      let o = has_opened a s user q path r h in
-      let c = there o.0 o.1 in
-      let at : Has (path_of b.links o.0.0) (opened_paths b t user q) =
-      subst (λ (n : ℕ). Has (path_of b.links o.0.0) (opened_paths b t user n)) o.2 (opened_has b t user o.0 c.0) in (
+      let o = has_opened a s user q path h in
+      let seen : IsSeen a user o.0 =
+      record { within = o.1; readable = subst (λ (n : ℕ). is_readable a user n ≡ true) (sym o.2) r; opened = o.3 } in
+      let c = there o.0 seen in (
         subst (λ (n : ℕ). is_readable b user n ≡ true) o.2 c.0.readable,
-        subst (λ (p : List ℕ). Has p (opened_paths b t user q)) (sym c.1 ∙ o.3) at,
+        subst (λ (p : List ℕ). Has p (opened_paths b t user q)) (sym c.1 ∙ o.4)
+            (opened_has b t user q o.0 c.0.within o.2 c.0.opened),
       )
 
 module _ (a b : FileSystem) (s : IsTree a) (t : IsTree b) (user : UserRec) (there : Carries a b user) (back : Carries b a user) where

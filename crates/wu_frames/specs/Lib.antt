@@ -7,3 +7,5 @@ pub mod Links
 
 pub mod Making
 pub mod Mending
+pub mod Changes
+pub mod Walks

@@ -6,7 +6,7 @@ use Rattle.wu_tree.specs.FileSystems.{FileSystem}
 use Rattle.wu_space.specs.Addresses.{Addresses}
 use Rattle.wu_frames.specs.declared.Frame.{Frame}
 use Rattle.wu_frames.specs.declared.Frames.{Frames}
-use Rattle.wu_frames.specs.UserFrames.{AreFor, AreFrames, IsMove, Kept, with_range}
+use Rattle.wu_frames.specs.UserFrames.{AreFor, IsMove, Kept, StayOrMove, with_range}
 
 -- the frame at that place, which is the file's, comes last, with the new range
 pub record IsMoved (place ino : ℕ) (new : Range) (before after : Frames) : Type 0 where
@@ -18,13 +18,13 @@ pub record IsMoved (place ino : ℕ) (new : Range) (before after : Frames) : Typ
   pub ranges : after.ranges ≡ remove before.ranges place ++ new ∷ []
   pub total : after.total + frame.range.len ≡ before.total + new.len
 
--- frames that were right for a space are right once the file's range went from the old one to the new one
-abbrev pub StaysRight : ℕ → Range → Range → Frames → Frames → Type 0
-StaysRight ino old new before after = (fs : FileSystem) (space : Addresses) (uid : ℕ) → IsMove space ino old new
-    → AreFrames fs space.ranges uid before → AreFrames fs (with_range ino new space.ranges) uid after
+-- what is kept after a file went from the old range to the new one
+pub record IsBrought (ino : ℕ) (old new : Range) (before after : Kept) : Type 0 where
+  pub stays : StayOrMove old before after
+  pub right : (fs : FileSystem) (space : Addresses) → IsMove space ino old new → AreFor fs space.ranges before
+      → AreFor fs (with_range ino new space.ranges) after
 
--- the same of kept ones, of which some were mended already
-abbrev pub KeepsRight : ℕ → Range → Range → Kept → Kept → Kept → Type 0
-KeepsRight ino old new left before after = (fs : FileSystem) (space : Addresses) → IsMove space ino old new
-    → AreFor fs space.ranges left → AreFor fs (with_range ino new space.ranges) before
-    → AreFor fs (with_range ino new space.ranges) after
+-- the user who asked longest ago stands before all others now, or is forgotten
+abbrev pub MendsLast : ℕ → Range → Range → Kept → Kept → Type 0
+MendsLast ino old new before after = (rest : Kept) (entry : ℕ × Frames) → before ≡ rest ++ entry ∷ []
+    → (first : Kept) × (after ≡ first ++ rest) × IsBrought ino old new (entry ∷ []) first

@@ -1,7 +1,7 @@
 -- A user's frames: the live ranges of the files of her view, each with the file's number and its place in the view.
-use Rattle.std.specs.Prelude.{◌≡◌, ℕ, ◌≤◌, Option, Some, List, [], ◌∷◌, map, sum_by, option_map, nat_eq, IsPermutation, filter_map}
+use Rattle.std.specs.Prelude.{◌≡◌, ◌⊎◌, ℕ, ◌+◌, ◌-◌, ◌<◌, ◌≤◌, Option, Some, IfSome, List, [], ◌∷◌, map, take, sum_by, option_map, nat_eq, IsPermutation, filter_map}
 use Rattle.std.specs.Ordering.{nat_cmp}
-use Rattle.std.specs.List.{AllByRecursion, enumerate_from}
+use Rattle.std.specs.List.{AllByRecursion, Any, enumerate_from}
 use Rattle.std.specs.Map.{lookup, remove_entry}
 use Rattle.std.specs.BTreeMap.{is_at, insert_entry}
 use Rattle.wu_base.specs.declared.addresses.Range.{Range}
@@ -9,6 +9,8 @@ use Rattle.wu_tree.specs.FileSystems.{FileSystem}
 use Rattle.wu_view.specs.declared.Seen.{Seen}
 use Rattle.wu_view.specs.Views.{view_of}
 use Rattle.wu_space.specs.Addresses.{Addresses, Ranges, AreApart, IsSpace, range_of}
+use Rattle.wu_frames.specs.declared.caches.TheConstants.{USERS_KEPT}
+use Rattle.wu_frames.specs.declared.mending.TheConstants.{MENDS_MAX}
 use Rattle.wu_frames.specs.declared.Frame.{Frame}
 use Rattle.wu_frames.specs.declared.Frames.{Frames}
 
@@ -52,6 +54,17 @@ abbrev pub AskedLast : ℕ → Kept → Type 0
 AskedLast uid [] = ⊥
 AskedLast uid (entry ∷ kept) = (entry.0 ≡ uid) × (entry.1.mends ≡ 0)
 
+-- the user with these frames, and behind her the others in their order, as many as have room
+abbrev pub after_asked : ℕ → Frames → Kept → Kept
+after_asked uid frames kept = (uid, frames) ∷ take (USERS_KEPT - 1) (remove_entry (nat_eq uid) kept)
+
+-- what is kept once the user asked: her frames are those that she had, with no mend counted, or new ones where she had none
+pub record HasAsked (uid : ℕ) (before after : Kept) : Type 0 where
+  pub hers : Frames
+  pub entries : after ≡ after_asked uid hers before
+  pub unmended : hers.mends ≡ 0
+  pub same : IfSome (frames_for before uid) (λ frames. hers ≡ record frames { mends = 0 })
+
 -- ---- a file that has a new text
 
 -- the live ranges with that one of the file in place of the one before
@@ -63,3 +76,21 @@ pub record IsMove (space : Addresses) (ino : ℕ) (old new : Range) : Type 0 whe
   pub rules : IsSpace space
   pub from : range_of space.ranges ino ≡ Some old
   pub to : space.next ≤ new.start
+
+-- one of the frames starts at the address
+abbrev pub HasFrameAt : ℕ → Frames → Type 0
+HasFrameAt start frames = Any (λ frame. frame.range.start ≡ start) frames.by_address
+
+-- one mend more is counted
+abbrev pub IsMended : Frames → Frames → Type 0
+IsMended before after = (before.mends < MENDS_MAX) × (after.mends ≡ before.mends + 1)
+
+-- what is kept once a file has left the old range: users in their old order. One with no frame that starts there has the frames that
+-- she had; one with such a frame has mended ones, or isn't kept
+abbrev pub StayOrMove : Range → Kept → Kept → Type 0
+StayOrMove old [] now = now ≡ []
+StayOrMove old (entry ∷ kept) [] = HasFrameAt old.start entry.1 × StayOrMove old kept []
+StayOrMove old (entry ∷ kept) (first ∷ now) =
+    ((first ≡ entry) × StayOrMove old kept now)
+    ⊎ (HasFrameAt old.start entry.1
+    × (((first.0 ≡ entry.0) × IsMended entry.1 first.1 × StayOrMove old kept now) ⊎ StayOrMove old kept (first ∷ now)))

@@ -1,19 +1,18 @@
 //! The frames of the users who asked last.
-ghost use Rattle.std.specs.Prelude.{◌≡◌, [], nat_eq, IfOk, OnOk, OnErr, IsSome, Some, option_copied};
+ghost use Rattle.std.specs.Prelude.{◌≡◌, [], nat_eq, IfOk, OnOk, OnErr, IsSome, MatchResult, Some, option_copied};
 ghost use Rattle.std.specs.Map.{remove_entry};
 ghost use Rattle.wu_tree.specs.FileSystems.{FileSystem};
 ghost use Rattle.wu_space.specs.Addresses.{Addresses, Ranges};
-ghost use Rattle.wu_frames.specs.UserFrames.{AreFor, AreFrames, AskedLast, IsMove, frames_for, with_range};
+ghost use Rattle.wu_frames.specs.UserFrames.{AreFor, AreFrames, AskedLast, HasAsked, IsMove, StayOrMove, frames_for, with_range};
 ghost use Rattle.wu_frames.specs.Permissions.{IsGroupChange, IsPermChange, kept_as_before};
 ghost use Rattle.wu_frames.specs.Links.{IsLinkChange, KeepRanges, kept_unshown};
-ghost use Rattle.wu_frames.specs.Mending.{KeepsRight};
 
-use crate::links::{self, LinkChanges};
-use crate::{Frames, making, mending, permissions};
+use crate::changes::Change;
+use crate::links::LinkChanges;
+use crate::{Frames, making, walks};
 use lru::LruCache;
 use std::alloc::Global;
 use std::marker::Model;
-use std::mem;
 use std::num::NonZeroUsize;
 use wu_base::{Ino, NoMemory, Range, Uid};
 use wu_space::Space;
@@ -31,11 +30,16 @@ pub struct FrameCache {
 }
 
 impl Model for FrameCache {
+    ghost use Rattle.std.specs.Prelude.{◌≡◌};
+    ghost use Rattle.wu_frames.specs.declared.caches.TheConstants.{USERS_KEPT};
     ghost use Rattle.wu_frames.specs.UserFrames.{Kept};
 
     ghost Value = { Kept };
 
     ghost view = { λ c. c.kept.entries };
+
+    // An `LruCache` has no user twice, and no more users than this.
+    ghost invariant = { λ c. c.kept.cap ≡ USERS_KEPT };
 }
 
 impl FrameCache {
@@ -64,7 +68,8 @@ impl FrameCache {
         ensures frames { IfOk result (λ frames. AreFrames tree.now space.now.ranges uid frames.now) }
         // What is kept once the answer is let go.
         ensures* right { sem 𝓛 (Rests the_row self.entry (λ kept. AreFor tree.now space.now.ranges kept
-            × IfOk result (λ frames. AskedLast uid kept × (frames_for kept uid ≡ Some frames.now)))) }
+            × MatchResult result (λ frames. AskedLast uid kept × (frames_for kept uid ≡ Some frames.now) × HasAsked uid self.old kept)
+            (λ _. kept ≡ self.old))) }
     {
         self.prepare(tree, space, uid)?;
         match self.kept(uid) {
@@ -73,13 +78,18 @@ impl FrameCache {
         }
     }
 
-    /// Has the frames of the user kept, as `frames_of` does. Out of memory, those of others may be gone.
+    /// Has the frames of the user kept, as `frames_of` does. She is the first then, and the others follow in their
+    /// order, without the one who asked longest ago where there is no room. Out of memory, nothing changes.
     pub fn prepare(&mut self, tree: &Tree, space: &Space, uid: Uid) -> Result<(), NoMemory>
         requires { AreFor tree.now space.now.ranges self.old }
         ensures right { AreFor tree.now space.now.ranges self.new }
         ensures kept { OnOk result (IsSome (frames_for self.new uid)) }
         ensures asked { OnOk result (AskedLast uid self.new) }
+        ensures entries { OnOk result (HasAsked uid self.old self.new) }
+        ensures same { OnErr result (self.new ≡ self.old) }
     {
+        // That no user is there twice, and no more than have room, is said of the length.
+        let _ = self.kept.len();
         if let Some(frames) = self.kept.get_mut(&uid) {
             frames.mends = 0;
             return Ok(());
@@ -99,32 +109,23 @@ impl FrameCache {
     /// Brings the frames up to date after a file had a new text: who had a frame with its old range has one
     /// with the new range instead, behind her others. Nothing else may have changed since the frames were
     /// right, and the new range lies behind all addresses that were given before. Frames for which memory runs
-    /// out are forgotten, and so are those of a user whose files had more than 64 new texts since she asked.
+    /// out are forgotten, and so are those of a user whose files had `MENDS_MAX` new texts since she asked. Who had no
+    /// frame with the old range keeps hers as they are, whatever memory there is, and all who are kept keep their order.
     ///
     /// Takes time linear in the frames behind the old ones.
     pub fn move_range(&mut self, ino: Ino, old: Range, new: Range)
-        ensures { (fs : FileSystem) (space : Addresses) → IsMove space ino old new
+        ensures right { (fs : FileSystem) (space : Addresses) → IsMove space ino old new
             → AreFor fs space.ranges self.old → AreFor fs (with_range ino new space.ranges) self.new }
+        ensures stays { StayOrMove old self.old self.new }
     {
-        if self.kept.is_empty() {
-            return;
-        }
-        let users = NonZeroUsize::new(USERS_KEPT).unwrap();
-        match LruCache::new(self.alloc, users) {
-            Ok(empty) => {
-                let before = mem::replace(&mut self.kept, empty);
-                mend_each(&mut self.kept, before, ino, old, new);
-            }
-            Err(_) => self.kept.clear(),
-        }
+        walks::mend_each(&mut self.kept, ino, old, new);
     }
 
     /// Forgets the frames of each user to whom a node that has other permissions doesn't grant what it granted her
     /// before: to read it, where it is a file, or to pass through it, where it is a directory. The frames of others
     /// stay. `before` is the node that it was. Out of memory, which is the only error, all frames are forgotten.
     ///
-    /// Takes memory for the groups of one user, which are copied once for each user that is kept, and again for
-    /// those before each one that is forgotten: at most 136 times in all.
+    /// Takes memory for the groups of one user, which are copied once for each user that is kept.
     pub fn recheck(&mut self, tree: &Tree, ino: Ino, before: Node) -> Result<(), NoMemory>
         ensures right { (fs : FileSystem) (live : Ranges) → IsPermChange fs ino before tree.now
             → AreFor fs live self.old → AreFor tree.now live self.new }
@@ -132,7 +133,12 @@ impl FrameCache {
         ensures none { OnErr result (self.new ≡ []) }
     {
         tree.keeps_the_rules();
-        match permissions::forget_changed(self.alloc, &mut self.kept, tree, ino, before) {
+        match walks::forget_changed(
+            self.alloc,
+            &mut self.kept,
+            tree,
+            Change::PermOf(ino, before),
+        ) {
             Ok(()) => Ok(()),
             Err(error) => {
                 self.clear();
@@ -147,7 +153,8 @@ impl FrameCache {
     /// of others stay, so that a file in a closed directory, and an empty directory anywhere, comes and goes without
     /// effect on them. Out of memory, which is the only error, all frames are forgotten.
     ///
-    /// Takes memory for the groups of one user, as `recheck` does, and for each user at most three ways up to the root.
+    /// Takes memory for the groups of one user, as `recheck` does, and for each user at most three ways up to the root;
+    /// where no link changes, neither memory nor time.
     pub fn relink(&mut self, tree: &Tree, links: LinkChanges) -> Result<(), NoMemory>
         ensures right { (fs : FileSystem) (live now : Ranges) → IsLinkChange fs links tree.now → KeepRanges fs tree.now live now
             → AreFor fs live self.old → AreFor tree.now now self.new }
@@ -155,7 +162,15 @@ impl FrameCache {
         ensures none { OnErr result (self.new ≡ []) }
     {
         tree.keeps_the_rules();
-        match links::forget_shown(self.alloc, &mut self.kept, tree, links) {
+        if let LinkChanges {
+            made: None,
+            removed: None,
+            replaced: None,
+        } = links
+        {
+            return Ok(());
+        }
+        match walks::forget_changed(self.alloc, &mut self.kept, tree, Change::Links(links)) {
             Ok(()) => Ok(()),
             Err(error) => {
                 self.clear();
@@ -175,29 +190,10 @@ impl FrameCache {
         self.kept.pop(&uid);
     }
 
-    /// Forgets all frames: called at each other change of the tree or the space. Takes no memory.
+    /// Forgets all frames: called where a file has a new text and had no range, or has none now. Takes no memory.
     pub fn clear(&mut self)
         ensures { self.new ≡ [] }
     {
         self.kept.clear();
-    }
-}
-
-/// Puts what is left of the frames, mended, before what was mended already, from the user on who asked for
-/// hers longest ago.
-fn mend_each(
-    mended: &mut LruCache<Uid, Frames>,
-    mut left: LruCache<Uid, Frames>,
-    ino: Ino,
-    old: Range,
-    new: Range,
-)
-    ensures { KeepsRight ino old new left.entries mended.old.entries mended.new.entries }
-{
-    while let Some((uid, frames)) = left.pop_lru() {
-        if let Some(frames) = mending::mended(frames, ino, old, new) {
-            // Out of memory, the user's frames are made anew when she asks.
-            let _ = mended.put(uid, frames);
-        }
     }
 }

@@ -2,13 +2,16 @@
 #![tactic(auto)]
 
 mod caches;
+mod changes;
 mod links;
 mod making;
 mod mending;
 mod permissions;
+mod walks;
 
 pub use caches::{FrameCache, USERS_KEPT};
 pub use links::{ChangedLink, LinkChanges, links_changed};
+pub use mending::MENDS_MAX;
 use wu_base::{Ino, Range, Sequence};
 use wu_view::Seen;
 

@@ -1,17 +1,13 @@
-//! Which frames stay as they are when links are made, removed or moved.
-ghost use Rattle.std.specs.Prelude.{◌≡◌, true, false, IfOk, IsSome, MatchOption, OnOk};
-ghost use Rattle.std.specs.List.{AllByRecursion};
+//! The links that an event makes, removes or moves, and who sees them.
+ghost use Rattle.std.specs.Prelude.{◌≡◌, true, IfOk};
 ghost use Rattle.std.specs.List.Sorted.{IsStrictlySortedBy};
 ghost use Rattle.std.specs.Ordering.{nat_cmp};
 ghost use Rattle.wu_tree.specs.FileSystems.{is_directory};
 ghost use Rattle.wu_view.specs.Views.{is_open, may};
 ghost use Rattle.wu_access.specs.declared.Want.TheVariants.{Execute};
-ghost use Rattle.wu_frames.specs.UserFrames.{frames_for};
-ghost use Rattle.wu_frames.specs.Links.{is_shown, is_some_shown, kept_unshown, link_at, link_to, links_changed, no_links, sees_none};
+ghost use Rattle.wu_frames.specs.Links.{is_shown, is_some_shown, link_at, link_to, links_changed, no_links, sees_none};
 
-use crate::Frames;
 use crate::permissions::{user_of, want_of};
-use lru::LruCache;
 use std::alloc::Global;
 use wu_access::{UserRec, Want, allows};
 use wu_base::{Ino, NoMemory, ROOT, Uid};
@@ -102,42 +98,13 @@ fn link_at(tree: &Tree, parent: Ino, name: &[u8], directory: Ino) -> Option<Chan
     link_to(directory, tree.node(tree.child(parent, name)?))
 }
 
-/// Forgets the frames of each user to whom one of the links is shown. The only error is out of memory.
-pub(crate) fn forget_shown(
-    alloc: Global,
-    kept: &mut LruCache<Uid, Frames>,
-    tree: &Tree,
-    links: LinkChanges,
-) -> Result<(), NoMemory>
-    ensures { OnOk result (kept.new.entries ≡ kept_unshown tree.now links kept.old.entries) }
-{
-    while let Some(uid) = first_shown(alloc, kept, tree, links)? {
-        kept.pop(&uid);
-    }
-    Ok(())
-}
-
-/// The first user to whom one of the links is shown, among those whose frames are kept.
-fn first_shown(
-    alloc: Global,
-    kept: &LruCache<Uid, Frames>,
-    tree: &Tree,
-    links: LinkChanges,
-) -> Result<Option<Uid>, NoMemory>
-    ensures { IfOk result (λ found. MatchOption found
-        (AllByRecursion (λ entry. sees_none tree.now links entry.0 ≡ true) kept.now.entries)
-        (λ uid. IsSome (frames_for kept.now.entries uid) × (sees_none tree.now links uid ≡ false))) }
-{
-    for (uid, _) in kept.iter() {
-        if !sees_none(alloc, tree, links, *uid)? {
-            return Ok(Some(*uid));
-        }
-    }
-    Ok(None)
-}
-
 /// Whether the user sees none of the links.
-fn sees_none(alloc: Global, tree: &Tree, links: LinkChanges, uid: Uid) -> Result<bool, NoMemory>
+pub(crate) fn sees_none(
+    alloc: Global,
+    tree: &Tree,
+    links: LinkChanges,
+    uid: Uid,
+) -> Result<bool, NoMemory>
     ensures { IfOk result (λ none. none ≡ sees_none tree.now links uid) }
 {
     let user = user_of(alloc, tree, uid)?;

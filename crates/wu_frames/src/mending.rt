@@ -1,30 +1,20 @@
 //! Frames, mended after a file had a new text.
 ghost use Rattle.std.specs.Prelude.{◌≡◌, ◌≢◌, ◌<◌, ◌++◌, [], ◌∷◌, IfSome, IfNone, length};
-ghost use Rattle.std.specs.List.{AllByRecursion, remove};
+ghost use Rattle.std.specs.List.{AllByRecursion, Any, remove};
 ghost use Rattle.std.specs.List.Sorted.{IsNonDecreasingBy};
-ghost use Rattle.wu_frames.specs.Mending.{IsMoved, StaysRight};
+ghost use Rattle.wu_frames.specs.UserFrames.{IsMended};
+ghost use Rattle.wu_frames.specs.Mending.{IsMoved};
 
 use crate::{Frame, Frames};
 use wu_base::{Ino, Range, Sequence};
 
 /// How often the frames of a user are mended, at most, from one time that she asks to the next.
-const MENDS_MAX: u32 = 64;
-
-/// The frames after the file went from its old range to the new one. None where they are to be forgotten: memory
-/// ran out, or they were mended `MENDS_MAX` times since their user asked. They are made anew when she asks again.
-pub(crate) fn mended(frames: Frames, ino: Ino, old: Range, new: Range) -> Option<Frames>
-    ensures { IfSome result (λ after. StaysRight ino old new frames after) }
-{
-    match place_of(frames.by_address.as_slice(), old.start) {
-        None => Some(frames),
-        Some(place) if frames.mends < MENDS_MAX => moved(frames, place, ino, new),
-        Some(_) => None,
-    }
-}
+pub const MENDS_MAX: u32 = 64;
 
 /// The place of the frame that starts at the address.
-fn place_of(frames: &[Frame], start: u64) -> Option<usize>
+pub(crate) fn place_of(frames: &[Frame], start: u64) -> Option<usize>
     ensures found { IfSome result (λ place. place < length frames.now) }
+    ensures there { IfSome result (λ _. Any (λ frame. frame.range.start ≡ start) frames.now) }
     ensures none { IfNone result (IsNonDecreasingBy (λ frame. frame.range.start) frames.now
         → AllByRecursion (λ frame. frame.range.start ≢ start) frames.now) }
 {
@@ -35,14 +25,16 @@ fn place_of(frames: &[Frame], start: u64) -> Option<usize>
     }
 }
 
-/// The frames with the one at that place, which is the file's, behind all others, with the new range. None where
-/// it isn't the file's, and out of memory.
-fn moved(frames: Frames, place: usize, ino: Ino, new: Range) -> Option<Frames>
+/// The frames with the one at that place, which is the file's, behind all others, with the new range. None where it
+/// isn't the file's, where the frames were mended `MENDS_MAX` times since their user asked, and out of memory: they are
+/// made anew when she asks again.
+pub(crate) fn mended(frames: Frames, place: usize, ino: Ino, new: Range) -> Option<Frames>
     requires { place < length frames.by_address }
-    ensures { IfSome result (λ after. IsMoved place ino new frames after) }
+    ensures moved { IfSome result (λ after. IsMoved place ino new frames after) }
+    ensures mends { IfSome result (λ after. IsMended frames after) }
 {
     let frame = frames.by_address.as_slice()[place];
-    if frame.ino != ino {
+    if frame.ino != ino || frames.mends >= MENDS_MAX {
         return None;
     }
     let Frames {
@@ -67,7 +59,7 @@ fn moved(frames: Frames, place: usize, ino: Ino, new: Range) -> Option<Frames>
         seen,
         ranges,
         total,
-        mends: mends.saturating_add(1),
+        mends: mends + 1,
     })
 }
 

@@ -1,57 +1,16 @@
-//! Which frames stay as they are when a node has other permissions.
-ghost use Rattle.std.specs.Prelude.{◌≡◌, true, false, IfOk, IsSome, MatchOption, OnOk};
-ghost use Rattle.std.specs.List.{AllByRecursion};
+//! What a node grants a user.
+ghost use Rattle.std.specs.Prelude.{◌≡◌, IfOk};
 ghost use Rattle.std.specs.List.Sorted.{IsStrictlySortedBy};
 ghost use Rattle.std.specs.Ordering.{nat_cmp};
-ghost use Rattle.wu_frames.specs.UserFrames.{frames_for};
-ghost use Rattle.wu_frames.specs.Permissions.{grants_as_before, kept_as_before, user_in, want_of};
+ghost use Rattle.wu_frames.specs.Permissions.{grants_as_before, user_in, want_of};
 
-use crate::Frames;
-use lru::LruCache;
 use std::alloc::Global;
 use wu_access::{UserRec, Want, allows};
 use wu_base::{Ino, NoMemory, Sequence, Uid};
 use wu_tree::{Kind, Node, Tree};
 
-/// Forgets the frames of each user to whom the node of that number doesn't grant what it granted when it was
-/// the one given. The only error is out of memory.
-pub(crate) fn forget_changed(
-    alloc: Global,
-    kept: &mut LruCache<Uid, Frames>,
-    tree: &Tree,
-    ino: Ino,
-    before: Node,
-) -> Result<(), NoMemory>
-    ensures { OnOk result (kept.new.entries ≡ kept_as_before tree.now ino before kept.old.entries) }
-{
-    while let Some(uid) = first_changed(alloc, kept, tree, ino, before)? {
-        kept.pop(&uid);
-    }
-    Ok(())
-}
-
-/// The first user to whom the node doesn't grant what it granted before, among those whose frames are kept.
-fn first_changed(
-    alloc: Global,
-    kept: &LruCache<Uid, Frames>,
-    tree: &Tree,
-    ino: Ino,
-    before: Node,
-) -> Result<Option<Uid>, NoMemory>
-    ensures { IfOk result (λ found. MatchOption found
-        (AllByRecursion (λ entry. grants_as_before tree.now ino before entry.0 ≡ true) kept.now.entries)
-        (λ uid. IsSome (frames_for kept.now.entries uid) × (grants_as_before tree.now ino before uid ≡ false))) }
-{
-    for (uid, _) in kept.iter() {
-        if !grants_as_before(alloc, tree, ino, before, *uid)? {
-            return Ok(Some(*uid));
-        }
-    }
-    Ok(None)
-}
-
 /// Whether the node grants the user what it granted her when it was the one given.
-fn grants_as_before(
+pub(crate) fn grants_as_before(
     alloc: Global,
     tree: &Tree,
     ino: Ino,

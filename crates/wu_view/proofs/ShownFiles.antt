@@ -94,23 +94,31 @@ module _ (fs : FileSystem) (t : IsTree fs) (user : UserRec) where
   abbrev pub opened_paths : ℕ → List (List ℕ)
   opened_paths q = map (λ link. path_of fs.links link.0) (filter (λ link. link.1 == q && is_open fs user link.0.0) fs.links)
 
+  pub opened_has : (q : ℕ) (link : Link) → Has link fs.links → link.1 ≡ q → is_open fs user link.0.0 ≡ true
+      → Has (path_of fs.links link.0) (opened_paths q)
+  opened_has q link h e o =
+      Has-map (λ (l : Link). path_of fs.links l.0) link (filter (λ l. l.1 == q && is_open fs user l.0.0) fs.links)
+      (Has-filter (λ l. l.1 == q && is_open fs user l.0.0) link fs.links h
+      (and_from (link.1 == q) (is_open fs user link.0.0) (eq-eqb link.1 q e) o))
+
+  pub has_opened : (q : ℕ) (path : List ℕ) → Has path (opened_paths q)
+      → (link : Link) × Has link fs.links × (link.1 ≡ q) × (is_open fs user link.0.0 ≡ true) × (path_of fs.links link.0 ≡ path)
+  has_opened q path h =
+      let m = map_has (λ (l : Link). path_of fs.links l.0) path (filter (λ l. l.1 == q && is_open fs user l.0.0) fs.links) h in
+      let f = filter_has (λ l. l.1 == q && is_open fs user l.0.0) m.0 fs.links m.1.0 in
+      let b = and_parts (m.0.1 == q) (is_open fs user m.0.0.0) f.1 in
+      (m.0, f.0, eqb-true m.0.1 q b.0, b.1, m.1.1)
+
   path_opened : (q : ℕ) (path : List ℕ) → Has (q, path) (walked_whole fs user) → Has path (opened_paths q) × (is_readable fs user q ≡ true)
   path_opened q path h =
       let o = opened_found fs t user (q, path) h in
       let i = o.1 in
-      let l : Has (path_of fs.links o.0.0) (opened_paths q) =
-      Has-map (λ (link : Link). path_of fs.links link.0) o.0 (filter (λ link. link.1 == q && is_open fs user link.0.0) fs.links)
-      (Has-filter (λ link. link.1 == q && is_open fs user link.0.0) o.0 fs.links i.within
-      (and_from (o.0.1 == q) (is_open fs user o.0.0.0) (eq-eqb o.0.1 q i.file) i.opened)) in
-      (subst (λ (p : List ℕ). Has p (opened_paths q)) i.path l, i.readable)
+      (subst (λ (p : List ℕ). Has p (opened_paths q)) i.path (opened_has q o.0 i.within i.file i.opened), i.readable)
 
   opened_path : (q : ℕ) (path : List ℕ) → is_readable fs user q ≡ true → Has path (opened_paths q) → Has (q, path) (walked_whole fs user)
   opened_path q path r h =
-      let m = map_has (λ (link : Link). path_of fs.links link.0) path
-      (filter (λ link. link.1 == q && is_open fs user link.0.0) fs.links) h in
-      let f = filter_has (λ link. link.1 == q && is_open fs user link.0.0) m.0 fs.links m.1.0 in
-      let b = and_parts (m.0.1 == q) (is_open fs user m.0.0.0) f.1 in
-      found_opened fs t user (q, path) (m.0, record { within = f.0; file = eqb-true m.0.1 q b.0; readable = r; opened = b.1; path = m.1.1 })
+      let o = has_opened q path h in
+      found_opened fs t user (q, path) (o.0, record { within = o.1; file = o.2; readable = r; opened = o.3; path = o.4 })
 
   open_paths_are : (q : ℕ) → is_readable fs user q ≡ true → sorted_once path_cmp (paths_of q (walked_whole fs user)) ≡ open_paths fs user q
   open_paths_are q r =
@@ -131,7 +139,7 @@ module _ (fs : FileSystem) (t : IsTree fs) (user : UserRec) where
       (map (λ node. seen_as fs user node.0) (filter (λ node. is_readable fs user node.0) fs.nodes))
 
   -- a file with an open path
-  seen_has : (q : ℕ) (path : List ℕ) → is_readable fs user q ≡ true → Has path (opened_paths q) → Has (seen_as fs user q) unsorted
+  pub seen_has : (q : ℕ) (path : List ℕ) → is_readable fs user q ≡ true → Has path (opened_paths q) → Has (seen_as fs user q) unsorted
   seen_has q path r h =
       let n = node_there q r in
       Has-filter (λ s. not (is_empty s.paths)) (seen_as fs user q)

@@ -1,6 +1,8 @@
-use Rattle.std.proofs.Common.{refl, sym, subst}
-use Rattle.wu_frames.specs.UserFrames.{AreFor, Kept}
-use Rattle.wu_frames.proofs.Keeping.{asked-again, asked-put, kept-asked, kept-put, right-asked, right-put}
+use Rattle.std.proofs.Common.{ℕ, ◌≤◌, length, nat_eq, refl, sym, subst}
+use Rattle.std.specs.Map.{set_value}
+use Rattle.lru.specs.LruCache.{promoted, put_entries}
+use Rattle.wu_frames.specs.UserFrames.{AreFor, HasAsked, Kept}
+use Rattle.wu_frames.proofs.Keeping.{asked-again, asked-put, has-asked-again, has-asked-put, kept-asked, kept-put, right-asked, right-put}
 use Rattle.wu_frames.proofs.caches.FrameCache.prepare.Goals as goal
 
 pub returns-in-Some-clause-right : goal.returns-in-Some-clause-right
@@ -36,3 +38,18 @@ returns-in-Some-clause-asked c = asked-again c.args.uid _ c.in-Some.frames.now _
 pub returns-clause-asked : goal.returns-clause-asked
 returns-clause-asked c =
     rw c.in_ok-put.ensures.entries (asked-put c.self.inside.kept c.args.uid c.in_ok-frames.frames c.in_ok-frames.ensures.anew)
+
+pub returns-in-Some-clause-entries : goal.returns-in-Some-clause-entries
+returns-in-Some-clause-entries c =
+    let old = c.self.inside.kept.entries in
+    let hers = record c.in-Some.frames.now { mends = 0 } in
+    subst (λ (k : Kept). HasAsked c.args.uid k (set_value (nat_eq c.args.uid) (promoted (nat_eq c.args.uid) old) hers)) c.self.view_is
+    (has-asked-again c.args.uid old c.in-Some.frames.now c.in-Some.ensures.value
+    (subst (λ (n : ℕ). length old ≤ n) c.self.invariant c.len.ensures.valid.1))
+
+pub returns-clause-entries : goal.returns-clause-entries
+returns-clause-entries c =
+    let cache = c.self.inside.kept in
+    rw c.in_ok-put.ensures.entries
+    (subst (λ (k : Kept). HasAsked c.args.uid k (put_entries nat_eq cache c.args.uid c.in_ok-frames.frames)) c.self.view_is
+    (has-asked-put cache c.args.uid c.in_ok-frames.frames c.self.invariant c.in_ok-frames.ensures.anew c.in_default.ensures.value))

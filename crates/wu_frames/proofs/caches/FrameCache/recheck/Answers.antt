@@ -6,5 +6,5 @@ use Rattle.wu_frames.proofs.caches.FrameCache.recheck.Goals as goal
 pub returns-in-Ok-clause-right : goal.returns-in-Ok-clause-right
 returns-in-Ok-clause-right c = λ fs live change right.
     let old : AreFor fs live c.self.inside.kept.entries = subst (λ (k : Kept). AreFor fs live k) (sym c.self.view_is) right in
-    rw c.in-Ok.ensures
+    rw c.in-Ok.ensures.entries
     (right-rechecked fs c.args.tree.now live c.args.ino c.args.before c.self.inside.kept.entries c.keeps_the_rules.ensures change old)
