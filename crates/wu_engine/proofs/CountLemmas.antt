@@ -21,7 +21,8 @@ use Rattle.wu_engine.specs.Answer.{answer}
 use Rattle.wu_engine.specs.Hits.{hits_in, has_hit}
 use Rattle.wu_engine.specs.Rankings.{tokens_at}
 use Rattle.wu_engine.specs.States.{State}
-use Rattle.wu_engine.specs.Units.{Indexes, found_in, list_at, range_at}
+use Rattle.wu_engine.specs.Searched.{Indexes}
+use Rattle.wu_engine.specs.Units.{found_in, list_at, range_at}
 use Rattle.wu_engine.specs.View.{view_of}
 use Rattle.wu_engine.proofs.FramesOfFiles.{IsCounted, frames_counted}
 use Rattle.wu_engine.proofs.FramesOfView.{AreOfView, are_of_view}

@@ -22,7 +22,8 @@ use Rattle.wu_frames.specs.declared.Frame.{Frame}
 use Rattle.wu_frames.specs.declared.Frames.{Frames}
 use Rattle.wu_engine.specs.Rankings.{tokens_at, unit_at}
 use Rattle.wu_engine.specs.States.{State}
-use Rattle.wu_engine.specs.Units.{AreUnitsIn, CanBeRanked, CanBeSearched, Indexes, file_unit, file_units, found_in, list_at, range_at, units_in}
+use Rattle.wu_engine.specs.Searched.{Indexes}
+use Rattle.wu_engine.specs.Units.{AreUnitsIn, CanBeRanked, CanBeSearched, file_unit, file_units, found_in, list_at, range_at, units_in}
 use Rattle.wu_engine.specs.View.{Shown, view_of}
 use Rattle.wu_engine.proofs.FramesOfFiles.{HasTerms, IsFrameOf, frame_of_file}
 use Rattle.wu_engine.proofs.FramesOfView.{are_of_view}

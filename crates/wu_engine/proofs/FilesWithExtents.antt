@@ -19,7 +19,7 @@ use Rattle.wu_gcl.specs.Extents.{token_hits}
 use Rattle.wu_gcl.specs.Regions.{Region}
 use Rattle.wu_gcl.specs.Terms.{AreTerms}
 use Rattle.wu_image.specs.declared.records.FileRec.{FileRec}
-use Rattle.wu_outside.specs.Content.{Content}
+use Rattle.wu_outside.specs.Content.{Content, no_content}
 use Rattle.wu_outside.specs.declared.ranges.ReadRange.{ReadRange}
 use Rattle.wu_rank.specs.declared.results.Unit.{Unit as RankedUnit}
 use Rattle.wu_rank.proofs.Shifting.{shifted}
@@ -30,13 +30,14 @@ use Rattle.wu_view.specs.Views.{view_of as files_of}
 use Rattle.wu_frames.specs.declared.Frame.{Frame}
 use Rattle.wu_frames.specs.declared.Frames.{Frames}
 use Rattle.wu_engine.specs.Answer.{answer, found_line}
-use Rattle.wu_engine.specs.Finding.{KeepsTexts, extents_of, hits_at, hits_recorded, is_at_place, lines_at, lines_recorded, looked_through, record_at, text_at, text_held, with_units}
+use Rattle.wu_engine.specs.Finding.{KeepsTexts, extents_of, hits_at, hits_recorded, is_at_place, lines_at, lines_recorded, looked_through, text_at, text_held, with_units}
+use Rattle.wu_engine.specs.Records.{Records, record_at, records_of}
 use Rattle.wu_engine.specs.Hits.{hits_in}
 use Rattle.wu_engine.specs.Rankings.{tokens_at, unit_at}
 use Rattle.wu_engine.specs.Reads.{texts_read, texts_shown}
-use Rattle.wu_engine.specs.Records.{Records}
 use Rattle.wu_engine.specs.States.{State}
-use Rattle.wu_engine.specs.Units.{Indexes, found_in, list_at, range_at, units_in}
+use Rattle.wu_engine.specs.Searched.{Indexes}
+use Rattle.wu_engine.specs.Units.{found_in, list_at, range_at, units_in}
 use Rattle.wu_engine.specs.View.{shown_of, view_of}
 use Rattle.wu_engine.proofs.FoundLines.{IsShownAlike, all_alike, found_answer, found_texts}
 use Rattle.wu_engine.proofs.FramesOfView.{are_of_view}
@@ -156,7 +157,7 @@ module _ (frames : Frames) (live : Ranges) (s : State) (uid : ℕ) (is : Indexes
       (sym (places_kept (start_of (range_at live (files_of s.tree uid))) place (units_at extents places))
       ∙ sym (ap (list_any (is_at_place place)) same) ∙ none)))
 
-  module _ (files : Records) (content : Content) (keeps : KeepsTexts files (Some content) s) where
+  module _ (files : Records) (content : Content) (records : files ≡ records_of s.texts s.layout.files) where
     abbrev IsAlike : Seen → Type 0
     IsAlike = IsShownAlike content files region lists_of_terms s
 
@@ -182,7 +183,7 @@ module _ (frames : Frames) (live : Ranges) (s : State) (uid : ℕ) (is : Indexes
     all_covered =
         let view = files_of s.tree uid in
         covers_from view 0 view (λ i. let e : 0 + i ≡ i = omega arith in ap (slice_get view) e)
-        (all_alike frames live s uid is region terms are files content keeps)
+        (all_alike frames live s uid is region terms are files content records)
         (subst (λ (n : ℕ). AllByRecursion (λ place. list_any (is_at_place place) units ≡ false
         → length (token_hits region (tokens_at (map (shown_of s.texts) view) place)) ≡ 0) (range_with_len 0 n))
         (length-map view (shown_of s.texts)) none_in_view)
@@ -235,21 +236,18 @@ module _ (frames : Frames) (live : Ranges) (s : State) (uid : ℕ) (is : Indexes
       ∙ ap (take k)
       (subst (λ (ls : List TermList). flat_map (lines_at content files region ls) (looked_through few region ls frames)
       ≡ flat_map (lines_at content files region ls) frames.seen) (sym lists_are)
-      (lines_looked frames live s uid is region terms are files content keeps few)))
+      (lines_looked frames live s uid is region terms are files content keeps.records few)))
 
-  pub looked_shown : (holds : Option Content) → KeepsTexts files holds s
+  pub looked_shown : files ≡ records_of s.texts s.layout.files
       → texts_shown (hits_at files region lists) (text_at files) k (looked_through few region lists frames)
       ≡ texts_shown (hits_at files region lists) (text_at files) k frames.seen
-  looked_shown None keeps = absurd keeps.texts
-  looked_shown (Some content) keeps =
+  looked_shown records =
       subst (λ (ls : List TermList). texts_shown (hits_at files region ls) (text_at files) k (looked_through few region ls frames)
       ≡ texts_shown (hits_at files region ls) (text_at files) k frames.seen) (sym lists_are)
-      (texts_looked frames live s uid is region terms are files content keeps few k)
+      (texts_looked frames live s uid is region terms are files no_content records few k)
 
-  pub looked_texts : (holds : Option Content) → KeepsTexts files holds s
+  pub looked_texts : files ≡ records_of s.texts s.layout.files
       → texts_shown (hits_at files region lists) (text_at files) k (looked_through few region lists frames)
       ≡ texts_read s uid (Finding k region)
-  looked_texts holds keeps =
-      looked_shown holds keeps
-      ∙ found_texts frames live s uid is region terms are files lists lists_are k frames.seen refl holds
-      (texts_shown (hits_at files region lists) (text_at files) k frames.seen) keeps refl
+  looked_texts records =
+      looked_shown records ∙ found_texts frames live s uid is region terms are files lists lists_are k frames.seen refl records

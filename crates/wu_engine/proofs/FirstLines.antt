@@ -15,8 +15,8 @@ use Rattle.wu_layout.proofs.EntryLemmas.{IfSome-map2}
 use Rattle.wu_image.specs.declared.records.FileRec.{FileRec}
 use Rattle.wu_view.specs.declared.Seen.{Seen}
 use Rattle.wu_engine.specs.Answer.{found_line}
-use Rattle.wu_engine.specs.Finding.{extents_of, lines_at, lines_of_record, lines_recorded, record_at, text_held}
-use Rattle.wu_engine.specs.Records.{Records}
+use Rattle.wu_engine.specs.Finding.{extents_of, lines_at, lines_of_record, lines_recorded, text_held}
+use Rattle.wu_engine.specs.Records.{Records, record_at}
 use Rattle.wu_engine.specs.Reads.{texts_read, texts_shown}
 use Rattle.wu_engine.specs.States.{State}
 

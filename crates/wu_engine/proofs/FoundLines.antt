@@ -16,7 +16,7 @@ use Rattle.wu_base.specs.declared.addresses.Range.{Range}
 use Rattle.wu_base.specs.declared.addresses.TermList.{TermList}
 use Rattle.wu_base.proofs.MapEntries.{is_equal}
 use Rattle.wu_base.proofs.Members.{Has-from_Contains, Contains-from_Has, all_has, all_from_has}
-use Rattle.wu_outside.specs.Content.{Content}
+use Rattle.wu_outside.specs.Content.{Content, no_content}
 use Rattle.wu_outside.specs.declared.ranges.ReadRange.{ReadRange}
 use Rattle.wu_ask.specs.declared.FindLine.{FindLine}
 use Rattle.wu_ask.specs.declared.Answered.TheVariants.{Find}
@@ -37,13 +37,15 @@ use Rattle.wu_frames.specs.declared.Frame.{Frame}
 use Rattle.wu_frames.specs.declared.Frames.{Frames}
 use Rattle.wu_solve.specs.Solving.{frame_hits, frames_hits}
 use Rattle.wu_engine.specs.Answer.{answer, found_line, lines_in}
-use Rattle.wu_engine.specs.Finding.{KeepsTexts, counted_from, extents_of, hits_at, lines_at, lines_recorded, hits_recorded, text_recorded, record_at, text_at, text_held}
+use Rattle.wu_engine.specs.Finding.{KeepsTexts, counted_from, extents_of, hits_at, lines_at, lines_recorded, hits_recorded, text_recorded, text_at, text_held}
+use Rattle.wu_engine.specs.Records.{Records, record_at, record_of, records_of}
 use Rattle.wu_engine.specs.Hits.{hits_in, has_hit}
 use Rattle.wu_engine.specs.Rankings.{tokens_at}
 use Rattle.wu_engine.specs.Reads.{AreTexts, IsTextOf, text_of_file, text_at_entry, texts_read, texts_shown}
-use Rattle.wu_engine.specs.Records.{Records, record_of, records_of}
 use Rattle.wu_engine.specs.States.{State, Texts, indexed, text_in}
-use Rattle.wu_engine.specs.Units.{Indexes, found_in, list_at, no_range, range_at}
+use Rattle.wu_engine.specs.Searched.{Indexes}
+use Rattle.wu_engine.specs.Stands.{HoldsTexts}
+use Rattle.wu_engine.specs.Units.{found_in, list_at, no_range, range_at}
 use Rattle.wu_engine.specs.View.{shown_of, view_of}
 use Rattle.wu_engine.proofs.CountLemmas.{hits_counted, files_counted}
 use Rattle.wu_engine.proofs.FoundExtents.{counted_back}
@@ -125,10 +127,16 @@ module _ (frames : Frames) (live : Ranges) (s : State) (uid : ℕ) (is : Indexes
 
 -- ---- one file
 
+-- the content has the file's text, if it has bytes
+abbrev pub IsHeldIn : Content → State → ℕ → Type 0
+IsHeldIn content s ino =
+    IfSome (entry_of s.layout.files ino) (λ entry. 0 < entry.blob → content.blobs entry.blob ≡ Some (text_in s.texts ino))
+
 -- what is recorded of a file is what it is in the view
 pub record IsShownAlike (content : Content) (files : Records) (region : Region) (lists : List TermList)
     (s : State) (file : Seen) : Type 0 where
-  pub lines : lines_at content files region lists file ≡ lines_in region (shown_of s.texts file)
+  -- where the content holds the text
+  pub lines : IsHeldIn content s file.ino → lines_at content files region lists file ≡ lines_in region (shown_of s.texts file)
   pub hits : hits_at files region lists file ≡ length (hits_in region (shown_of s.texts file))
   pub text : text_at files file ≡ text_of_file s file
 
@@ -144,7 +152,6 @@ module _ (content : Content) (live : Ranges) (s : State) (region : Region) (addr
 
   -- with that entry
   module _ (entry : FileEntry) (kept : (entry.blob == 0) ≡ not (has_bytes text))
-      (held : 0 < entry.blob → content.blobs entry.blob ≡ Some text)
       (framed : IsFrameOf addresses (tokens_of text) entry.range) where
     abbrev kept_of : FileRec
     kept_of = record_of s.texts (file.ino, entry)
@@ -154,8 +161,8 @@ module _ (content : Content) (live : Ranges) (s : State) (region : Region) (addr
         ap (map (counted_from entry.range.start)) (frame_of_file region addresses terms (tokens_of text) entry.range are.all framed)
         ∙ counted_back entry.range.start (token_hits region (tokens_of text))
 
-    text_alike : text_held content kept_of ≡ text
-    text_alike =
+    text_alike : (0 < entry.blob → content.blobs entry.blob ≡ Some text) → text_held content kept_of ≡ text
+    text_alike held =
         elim (entry.blob == 0) as
         (λ b. (entry.blob == 0) ≡ b → cond b [] (unwrap_or (content.blobs entry.blob) []) ≡ text) [
           | true ↦ λ e. no_bytes text (sym e ∙ kept)
@@ -167,9 +174,11 @@ module _ (content : Content) (live : Ranges) (s : State) (region : Region) (addr
         → IsShownAlike content files region (map (list_at addresses) terms) s file
     unfolding hits_in
     entry_alike files there known = record {
-      lines =
+      lines = λ held.
           ap (lines_recorded content region (map (list_at addresses) terms) file.paths) there
-          ∙ ap₂ (λ (t : List ℕ) (xs : List Extent). map (found_line (record { paths = file.paths; text = t })) xs) text_alike extents_alike;
+          ∙ ap₂ (λ (t : List ℕ) (xs : List Extent). map (found_line (record { paths = file.paths; text = t })) xs)
+          (text_alike (subst (λ (o : Option FileEntry). IfSome o (λ e. 0 < e.blob → content.blobs e.blob ≡ Some text)) known held))
+          extents_alike;
       hits = ap (hits_recorded region (map (list_at addresses) terms)) there ∙ ap length extents_alike;
       text = ap text_recorded there ∙ sym (ap (text_at_entry (length text)) known);
     }
@@ -178,7 +187,7 @@ module _ (content : Content) (live : Ranges) (s : State) (region : Region) (addr
 
 module _ (frames : Frames) (live : Ranges) (s : State) (uid : ℕ) (is : Indexes frames live s uid)
     (region : Region) (terms : List (List ℕ)) (are : AreTerms region terms) (files : Records) (content : Content)
-    (keeps : KeepsTexts files (Some content) s) where
+    (records : files ≡ records_of s.texts s.layout.files) where
   abbrev addresses : List ℕ → List ℕ
   addresses = found_in frames.ranges s
 
@@ -190,20 +199,20 @@ module _ (frames : Frames) (live : Ranges) (s : State) (uid : ℕ) (is : Indexes
 
   one_alike : (file : Seen) → is_some (range_of live file.ino) ≡ true → IsFramed addresses live s.texts file → IsAlike file
   one_alike file some framed =
-      by (entry_of s.layout.files file.ino) refl (is.index.is_state.layout.texts.each file.ino) (keeps.texts file.ino) where
+      by (entry_of s.layout.files file.ino) refl (is.index.is_state.layout.texts.each file.ino) where
         by : (o : Option FileEntry) → entry_of s.layout.files file.ino ≡ o
             → IfSome o (λ entry. IsIndexed (indexed (text_in s.texts file.ino)) entry (homes_of s.layout.parts s.layout.memory)
             (postings_of s.layout.parts s.layout.memory))
-            → IfSome o (λ entry. 0 < entry.blob → content.blobs entry.blob ≡ Some (text_in s.texts file.ino)) → IsAlike file
-        by None e at_range at_blob = absurd (let none : range_of live file.ino ≡ None =
+            → IsAlike file
+        by None e at_range = absurd (let none : range_of live file.ino ≡ None =
             range_in file.ino ∙ ap (λ (o : Option FileEntry). option_map (λ (entry : FileEntry). entry.range) o) e in cc)
-        by (Some entry) e at_range at_blob =
+        by (Some entry) e at_range =
             let range : range_of live file.ino ≡ Some entry.range =
             range_in file.ino ∙ ap (λ (o : Option FileEntry). option_map (λ (entry : FileEntry). entry.range) o) e in
             let there : record_at files file.ino ≡ Some (record_of s.texts (file.ino, entry)) =
-            ap (λ (rs : Records). record_at rs file.ino) keeps.records ∙ record_found s.texts s.layout.files file.ino
+            ap (λ (rs : Records). record_at rs file.ino) records ∙ record_found s.texts s.layout.files file.ino
             ∙ ap (λ (o : Option FileEntry). option_map (λ (x : FileEntry). record_of s.texts (file.ino, x)) o) e in
-            entry_alike content live s region addresses terms are file entry at_range.kept at_blob
+            entry_alike content live s region addresses terms are file entry at_range.kept
             (subst (λ (o : Option Range). IsFrameOf addresses (tokens_of (text_in s.texts file.ino)) (unwrap_or o no_range)) range framed)
             files there e
 
@@ -216,11 +225,12 @@ module _ (frames : Frames) (live : Ranges) (s : State) (uid : ℕ) (is : Indexes
       (view_has_ranges live s is.index uid) has)
       (all_has (IsFramed addresses live s.texts) file (files_of s.tree uid) (all_framed frames live s uid is) has))
 
-  lines_alike : (view : List Seen) → AllByRecursion IsAlike view
+  lines_alike : HoldsTexts (Some content) s.texts s.layout.files → (view : List Seen) → AllByRecursion IsAlike view
       → flat_map (lines_at content files region (map (list_at addresses) terms)) view
       ≡ flat_map (lines_in region) (map (shown_of s.texts) view)
-  lines_alike [] all = refl
-  lines_alike (file ∷ view) all = ap₂ (λ (xs ys : List FindLine). xs ++ ys) all.0.lines (lines_alike view all.1)
+  lines_alike held [] all = refl
+  lines_alike held (file ∷ view) all =
+      ap₂ (λ (xs ys : List FindLine). xs ++ ys) (all.0.lines (held file.ino)) (lines_alike held view all.1)
 
   texts_alike : (view : List Seen) (k : ℕ) → AllByRecursion IsAlike view
       → texts_shown (hits_at files region (map (list_at addresses) terms)) (text_at files) k view
@@ -235,14 +245,14 @@ module _ (frames : Frames) (live : Ranges) (s : State) (uid : ℕ) (is : Indexes
       (texts_alike view (k - length (hits_in region (shown_of s.texts file))) all.1)
 
   -- the first lines are those of her view
-  pub lines_found : (k : ℕ) (seen : List Seen) → seen ≡ frames.seen
+  pub lines_found : HoldsTexts (Some content) s.texts s.layout.files → (k : ℕ) (seen : List Seen) → seen ≡ frames.seen
       → take k (flat_map (lines_at content files region (map (list_at addresses) terms)) seen)
       ≡ take k (flat_map (lines_in region) (view_of s uid))
   unfolding view_of
-  lines_found k seen same =
+  lines_found held k seen same =
       ap (λ (view : List Seen). take k (flat_map (lines_at content files region (map (list_at addresses) terms)) view))
       (same ∙ is.hers.view)
-      ∙ ap (take k) (lines_alike (files_of s.tree uid) all_alike)
+      ∙ ap (take k) (lines_alike held (files_of s.tree uid) all_alike)
 
   -- and the texts that are read for them
   pub texts_found : (k : ℕ) (seen : List Seen) → seen ≡ frames.seen
@@ -274,19 +284,17 @@ module _ (frames : Frames) (live : Ranges) (s : State) (uid : ℕ) (is : Indexes
       ∙ ap (λ (lines : List FindLine).
       Find (length (flat_map (hits_in region) (view_of s uid))) (count_by (has_hit region) (view_of s uid)) lines)
       (shown_is ∙ ap (λ (ls : List TermList). take k (flat_map (lines_at content files region ls) seen)) lists_are
-      ∙ lines_found frames live s uid is region terms are files content keeps k seen same)
+      ∙ lines_found frames live s uid is region terms are files content keeps.records keeps.texts k seen same)
 
-  pub found_texts : (holds : Option Content) (texts : List ReadRange) → KeepsTexts files holds s
-      → texts ≡ texts_shown (hits_at files region lists) (text_at files) k seen → texts ≡ texts_read s uid (Finding k region)
-  found_texts None texts keeps is_read = absurd keeps.texts
-  found_texts (Some content) texts keeps is_read =
-      is_read
-      ∙ ap (λ (ls : List TermList). texts_shown (hits_at files region ls) (text_at files) k seen) lists_are
-      ∙ texts_found frames live s uid is region terms are files content keeps k seen same
+  pub found_texts : files ≡ records_of s.texts s.layout.files
+      → texts_shown (hits_at files region lists) (text_at files) k seen ≡ texts_read s uid (Finding k region)
+  found_texts records =
+      ap (λ (ls : List TermList). texts_shown (hits_at files region ls) (text_at files) k seen) lists_are
+      ∙ texts_found frames live s uid is region terms are files no_content records k seen same
 
 -- ---- what is read, whatever the state
 
-none_shown : (files : Records) (hits : Seen → ℕ) (k : ℕ) (view : List Seen) → k ≡ 0 → texts_shown hits (text_at files) k view ≡ []
+pub none_shown : (files : Records) (hits : Seen → ℕ) (k : ℕ) (view : List Seen) → k ≡ 0 → texts_shown hits (text_at files) k view ≡ []
 none_shown files hits k [] none = refl
 none_shown files hits k (file ∷ view) none =
     let least : min k (hits file) ≡ 0 = omega (arith, none) in

@@ -36,7 +36,8 @@ use Rattle.wu_rank.specs.declared.results.Unit.{Unit as RankedUnit}
 use Rattle.wu_solve.specs.Solving.{frame_hits}
 use Rattle.wu_engine.specs.Rankings.{tokens_at, unit_at}
 use Rattle.wu_engine.specs.States.{State, indexed, text_in}
-use Rattle.wu_engine.specs.Units.{found_in, range_at, no_range, units_in, IsIndexOf, Indexes}
+use Rattle.wu_engine.specs.Searched.{IsIndexOf, Indexes}
+use Rattle.wu_engine.specs.Units.{found_in, range_at, no_range, units_in}
 use Rattle.wu_engine.specs.View.{shown_of, view_of}
 use Rattle.wu_engine.proofs.FramesOfFiles.{IsFrameOf, FramesOf}
 use Rattle.wu_engine.proofs.Places.{all_places, tokens_of_file}

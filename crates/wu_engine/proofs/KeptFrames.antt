@@ -1,6 +1,6 @@
 -- Frames that are kept when an event changes one live range, the permissions of a node, the groups of a user, or links.
-use Rattle.std.proofs.Common.{◌≡◌, ℕ, Bool, true, false, cond, List, [], length, refl, ap, sym, ◌∙◌, subst, arith}
-use Rattle.std.specs.Prelude.{Option, Some, None, Ok}
+use Rattle.std.proofs.Common.{◌≡◌, ℕ, Bool, true, false, cond, List, [], length, refl, ap, sym, ◌∙◌, subst, inl, inr, arith}
+use Rattle.std.specs.Prelude.{◌⊎◌, Option, Some, None, Result, Ok, Err, OnOk, OnErr}
 use Rattle.std.specs.Ordering.{nat_cmp}
 use Rattle.std.specs.BTreeMap.{is_at}
 use Rattle.std.specs.Cmp.{nat_cmp_total}
@@ -19,7 +19,7 @@ use Rattle.wu_tree.specs.Steps.{step as tree_step}
 use Rattle.wu_tree.proofs.EventRules.{accepted}
 use Rattle.wu_tree.proofs.LinkRemovals.{apart_from}
 use Rattle.wu_tree.proofs.ParentPaths.{other_number}
-use Rattle.wu_space.specs.Addresses.{Addresses, IsSpace, Ranges, placed, range_of, released}
+use Rattle.wu_space.specs.Addresses.{Addresses, IsSpace, Ranges, range_of, released}
 use Rattle.wu_frames.specs.UserFrames.{AreFor, IsMove, Kept, with_range}
 use Rattle.wu_frames.specs.declared.links.LinkChanges.{LinkChanges}
 use Rattle.wu_frames.specs.Links.{IsLinkChange, links_changed}
@@ -128,6 +128,14 @@ module _ (fs : FileSystem) (space : Addresses) (text : List ℕ) where
       rw (← a.1.0, told)
       (touches_next t rules event a.0 tells_next (subst (λ (e : Effect). ChangesFiles fs e) (sym a.1.1) files))
 
+-- the range that the file was given
+pub given_range : (before now : Addresses) (ino : ℕ) (old : Range) (gave : GaveText before now (ino, old))
+    → range_of now.ranges ino ≡ Some (record { start = before.next; len = gave.len })
+given_range before now ino old gave =
+    ap (λ (s : Addresses). range_of s.ranges ino) gave.has
+    ∙ lookup-insert_entry nat_cmp_total (released before ino).ranges ino (record { start = before.next; len = gave.len }) ino
+    ∙ rw (number_itself ino) refl
+
 -- what was mended is right for the new space
 module _ (fs : FileSystem) (before now : Addresses) (ino : ℕ) (old new : Range) (kept kept_now : Kept)
     (gave : GaveText before now (ino, old))
@@ -139,11 +147,7 @@ module _ (fs : FileSystem) (before now : Addresses) (ino : ℕ) (old new : Range
 
   is_given : new ≡ given
   is_given =
-      let a : range_of now.ranges ino ≡ range_of (placed (released before ino) ino gave.len).ranges ino =
-      ap (λ (s : Addresses). range_of s.ranges ino) gave.has in
-      let b : range_of (placed (released before ino) ino gave.len).ranges ino ≡ Some given =
-      lookup-insert_entry nat_cmp_total (released before ino).ranges ino given ino ∙ rw (number_itself ino) refl in
-      let c : Some new ≡ Some given = sym has ∙ a ∙ b in
+      let c : Some new ≡ Some given = sym has ∙ given_range before now ino old gave in
       cc
 
   pub renewed : AreFor fs before.ranges kept → AreFor fs now.ranges kept_now
@@ -154,3 +158,8 @@ module _ (fs : FileSystem) (before now : Addresses) (ino : ℕ) (old new : Range
       let same : with_range ino new before.ranges ≡ now.ranges =
       ap (λ (r : Range). with_range ino r before.ranges) is_given ∙ sym (ap (λ (s : Addresses). s.ranges) gave.has) in
       subst (λ (l : Ranges). AreFor fs l kept_now) same moved
+
+-- those that stay, or out of memory none
+pub or_none : {T E : Type 0} {Stay Gone : Type 0} (r : Result T E) → OnOk r Stay → OnErr r Gone → Stay ⊎ Gone
+or_none (Ok value) stay none = inl stay
+or_none (Err error) stay none = inr none

@@ -42,6 +42,7 @@ pub mod FoundLines
 pub mod FirstLines
 pub mod WholeTexts
 pub mod FilesWithExtents
+pub mod DamagedTexts
 pub mod QueryReads
 pub mod QueryStands
 pub mod PermittedBlocks

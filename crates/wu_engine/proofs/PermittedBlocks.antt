@@ -1,5 +1,5 @@
 -- Where blocks are asked for, only blocks of these are read, and those that a user's frames need are blocks that her query may read.
-use Rattle.std.proofs.Common.{◌≡◌, ℕ, ◌+◌, true, false, cond, List, [], ◌∷◌, ◌++◌, map, filter, refl, sym, ap, ◌∙◌, subst, inl, inr, ⊎_elim, append_assoc}
+use Rattle.std.proofs.Common.{◌≡◌, ℕ, ◌+◌, true, false, cond, List, [], ◌∷◌, ◌++◌, map, filter, refl, sym, ap, ◌∙◌, subst, inl, inr, ⊎_elim, append-nil, append_assoc}
 use Rattle.std.proofs.Math.Bool.{Bool-set}
 use Rattle.std.proofs.Math.Logic.{∥∥₁_elim}
 use Rattle.std.specs.Prelude.{Option, None, Some, option_map, filter_map, zip, Result, Ok, Err, OnOk, IfErr}
@@ -21,6 +21,7 @@ use Rattle.wu_part.specs.Directories.{PartDirectory}
 use Rattle.wu_lists.specs.declared.blocks.Block.{Block}
 use Rattle.wu_lists.specs.Blocks.{blocks_of, meets, needed, overlaps, range_of}
 use Rattle.wu_lists.specs.Keeping.{Asks, Kept, all_missing, asked, is_same, missing}
+use Rattle.wu_lists.proofs.Asking.{ranges-none}
 use Rattle.wu_view.specs.declared.Seen.{Seen}
 use Rattle.wu_view.specs.Views.{view_of as files_of}
 use Rattle.wu_space.specs.Addresses.{Ranges, range_of as live_range_of}
@@ -30,9 +31,11 @@ use Rattle.wu_frames.specs.declared.Frame.{Frame}
 use Rattle.wu_frames.specs.declared.Frames.{Frames}
 use Rattle.wu_frames.specs.UserFrames.{frame_of, frame_with, frames_in}
 use Rattle.wu_engine.specs.Asked.{blocks_for, terms_asked}
-use Rattle.wu_engine.specs.Permitted.{IsNeededBlockOf, IsOneOf, MayReadForQuery, ReadsOnly, live_ranges_of}
+use Rattle.wu_engine.specs.Permitted.{AreReadForQuery, IsBlockForQuery, IsNeededBlockOf, IsOneOf, ReadsOnly, ReadsSuch, live_ranges_of}
+use Rattle.wu_engine.specs.Reads.{texts_read}
 use Rattle.wu_engine.specs.States.{State}
-use Rattle.wu_engine.specs.Units.{Indexes, IsCauseFor, TellsPostings}
+use Rattle.wu_engine.specs.Searched.{Indexes, TellsPostings}
+use Rattle.wu_engine.specs.Units.{IsCauseFor}
 
 -- ---- what is read
 
@@ -56,6 +59,26 @@ only_then MayRead first second third a b = (
 pub only_of : (Fewer More : ReadRange → Type 0) (before after : Option (List ReadRange)) → ((range : ReadRange) → Fewer range → More range)
     → ReadsOnly Fewer before after → ReadsOnly More before after
 only_of Fewer More before after more only = (only.0, each-map Fewer More only.0 more only.1, only.2)
+
+-- a query may read blocks alone, and nothing
+blocks_alone : (s : State) (uid : ℕ) (question : Question) (before after : Option (List ReadRange))
+    → ReadsOnly (IsBlockForQuery s uid question) before after → ReadsSuch (AreReadForQuery s uid question) before after
+blocks_alone s uid question before after only = (
+  only.0,
+  record {
+    blocks = only.0;
+    needed = only.1;
+    texts = [];
+    left = texts_read s uid question;
+    front = refl;
+    in_turn = sym (append-nil only.0);
+  },
+  only.2,
+)
+
+pub nothing_permitted : (s : State) (uid : ℕ) (question : Question) (reads : Option (List ReadRange))
+    → ReadsSuch (AreReadForQuery s uid question) reads reads
+nothing_permitted s uid question reads = blocks_alone s uid question reads reads ([], tt, ranges-none reads)
 
 -- ---- blocks that are asked for
 
@@ -186,34 +209,39 @@ module _ (frames : Frames) (live : Ranges) (s : State) (uid : ℕ) (is : Indexes
   -- the blocks that her frames need of a question's terms are those that her query may read
   block_permitted : (contents : Contents) (holds : Option Content) → TellsPostings contents holds s
       → (question : Question) (range : ReadRange) → IsOneOf (blocks_for contents frames.ranges (terms_asked question)) range
-      → MayReadForQuery s uid question range
+      → IsBlockForQuery s uid question range
   block_permitted contents None tells question range one = let told = tells.told in absurd (cc)
   block_permitted contents (Some content) tells question range one =
-      inl (in_terms content range contents tells.parts (terms_asked question) one)
+      in_terms content range contents tells.parts (terms_asked question) one
 
   module _ (contents : Contents) (holds : Option Content) (tells : TellsPostings contents holds s) (question : Question)
       (terms : List (List ℕ)) (same : terms ≡ terms_asked question) (before after : Option (List ReadRange)) where
     blocks_permitted : ReadsOnly (IsOneOf (blocks_for contents frames.ranges terms)) before after
-        → ReadsOnly (MayReadForQuery s uid question) before after
+        → ReadsOnly (IsBlockForQuery s uid question) before after
     blocks_permitted only =
-        only_of (IsOneOf (blocks_for contents frames.ranges (terms_asked question))) (MayReadForQuery s uid question) before after
+        only_of (IsOneOf (blocks_for contents frames.ranges (terms_asked question))) (IsBlockForQuery s uid question) before after
         (block_permitted contents holds tells question)
         (subst (λ (ts : List (List ℕ)). ReadsOnly (IsOneOf (blocks_for contents frames.ranges ts)) before after) same only)
 
-    -- fetching the question's terms reads only what her query may read, also where it fails
+    -- fetching the question's terms reads only blocks that her query may read, also where it fails
+    pub asked_blocks : (kept : Kept) → Asks (blocks_for contents frames.ranges terms) holds contents.kept kept before after
+        → ReadsOnly (IsBlockForQuery s uid question) before after
+    asked_blocks kept asks = blocks_permitted (asked_only contents frames.ranges terms holds before after kept asks)
+
     pub asked_permitted : (kept : Kept) → Asks (blocks_for contents frames.ranges terms) holds contents.kept kept before after
-        → ReadsOnly (MayReadForQuery s uid question) before after
-    asked_permitted kept asks = blocks_permitted (asked_only contents frames.ranges terms holds before after kept asks)
+        → ReadsSuch (AreReadForQuery s uid question) before after
+    asked_permitted kept asks = blocks_alone s uid question before after (asked_blocks kept asks)
 
     pub failed_permitted : (faults now : ℕ) (trouble : Trouble)
         → IsCauseFor contents frames.ranges terms holds faults now before after trouble
-        → ReadsOnly (MayReadForQuery s uid question) before after
+        → ReadsSuch (AreReadForQuery s uid question) before after
     failed_permitted faults now trouble cause =
-        blocks_permitted (failed_only contents frames.ranges terms holds before after faults now trouble cause)
+        blocks_alone s uid question before after
+        (blocks_permitted (failed_only contents frames.ranges terms holds before after faults now trouble cause))
 
     pub fetched_permitted : {T : Type 0} (r : Result T Trouble) (kept : Kept) (faults now : ℕ)
         → OnOk r (Asks (blocks_for contents frames.ranges terms) holds contents.kept kept before after)
         → IfErr r (IsCauseFor contents frames.ranges terms holds faults now before after)
-        → ReadsOnly (MayReadForQuery s uid question) before after
+        → ReadsSuch (AreReadForQuery s uid question) before after
     fetched_permitted (Ok value) kept faults now asks cause = asked_permitted kept asks
     fetched_permitted (Err trouble) kept faults now asks cause = failed_permitted faults now trouble cause

@@ -1,5 +1,5 @@
--- Of texts a query reads only those of the files of which a line is shown, also where it fails on the way.
-use Rattle.std.proofs.Common.{◌≡◌, ℕ, ◌+◌, ◌-◌, ◌<◌, cond, List, [], ◌∷◌, ◌++◌, length, drop, map, min, get_or, refl, sym, ◌∙◌, subst, inl, inr, arith}
+-- Of texts a query reads those of the files of which a line is shown, in turn, and where it fails on the way the first ones of them.
+use Rattle.std.proofs.Common.{◌≡◌, ℕ, ◌+◌, ◌-◌, ◌<◌, cond, List, [], ◌++◌, length, drop, map, min, get_or, refl, sym, ap, ◌∙◌, subst, arith, append-nil, append_assoc}
 use Rattle.std.specs.Prelude.{Option, nat_lt, option_map}
 use Rattle.wu_outside.specs.declared.ranges.ReadRange.{ReadRange}
 use Rattle.wu_ask.specs.Questions.{Finding}
@@ -7,70 +7,95 @@ use Rattle.wu_base.specs.declared.addresses.TermList.{TermList}
 use Rattle.wu_frames.specs.declared.Frames.{Frames}
 use Rattle.wu_gcl.specs.Regions.{Region}
 use Rattle.wu_gcl.specs.Terms.{AreTerms}
-use Rattle.wu_layout.proofs.KeptLemmas.{SomeOf-left, SomeOf-right}
 use Rattle.wu_view.specs.declared.Seen.{Seen}
 use Rattle.wu_lists.specs.Keeping.{Asks, Kept}
+use Rattle.wu_lists.proofs.Asking.{ranges-none}
 use Rattle.wu_outside.specs.Content.{Content}
 use Rattle.wu_parts.specs.Contents.{Contents}
 use Rattle.wu_space.specs.Addresses.{Ranges}
 use Rattle.wu_engine.specs.Asked.{blocks_for}
-use Rattle.wu_engine.specs.Finding.{KeepsTexts, hits_at, text_at}
-use Rattle.wu_engine.specs.Permitted.{IsOneOfTexts, MayReadForQuery, ReadsOnly}
+use Rattle.wu_engine.specs.Causes.{IsBlobOf}
+use Rattle.wu_engine.specs.Finding.{AreFirstOf, KeepsTexts, hits_at, text_at}
+use Rattle.wu_engine.specs.Permitted.{AreReadForQuery, ReadsSuch}
 use Rattle.wu_engine.specs.Records.{Records}
 use Rattle.wu_engine.specs.States.{State}
-use Rattle.wu_engine.specs.Units.{Indexes, TellsPostings, found_in, list_at}
+use Rattle.wu_engine.specs.Searched.{Indexes, TellsPostings}
+use Rattle.wu_engine.specs.Units.{found_in, list_at}
 use Rattle.wu_engine.specs.Reads.{texts_shown}
 use Rattle.wu_engine.proofs.AskedTerms.{terms_named}
 use Rattle.wu_engine.proofs.FirstLines.{at_place}
 use Rattle.wu_engine.proofs.FoundLines.{found_texts}
-use Rattle.wu_engine.proofs.PermittedBlocks.{asked_permitted, only_of, only_then}
+use Rattle.wu_engine.proofs.PermittedBlocks.{asked_blocks, reads_joined}
+use Rattle.wu_layout.proofs.KeptLemmas.{SomeOf-left, SomeOf-right}
+use Rattle.wu_layout.specs.Invariants.{SomeOf}
 
--- a text that was read
-pub one_read : (text : ReadRange) (before after : Option (List ReadRange)) → after ≡ option_map (λ earlier. earlier ++ text ∷ []) before
-    → ReadsOnly (IsOneOfTexts (text ∷ [])) before after
-one_read text before after is_read = (text ∷ [], (inl refl, tt), is_read)
+-- all of these texts were read
+pub all_read : (texts : List ReadRange) (before after : Option (List ReadRange)) → after ≡ option_map (λ earlier. earlier ++ texts) before
+    → ReadsSuch (AreFirstOf texts) before after
+all_read texts before after is_read = (texts, ([], append-nil texts), is_read)
 
--- each of these texts is one of all
-abbrev pub AreAmong : List ReadRange → List ReadRange → Type 0
-AreAmong texts all = (range : ReadRange) → IsOneOfTexts texts range → IsOneOfTexts all range
+-- none of them was
+pub none_read : (texts : List ReadRange) (reads : Option (List ReadRange)) → ReadsSuch (AreFirstOf texts) reads reads
+none_read texts reads = ([], (texts, refl), ranges-none reads)
+
+-- those that were read come before those to come
+pub first_read : (texts later : List ReadRange) (before after : Option (List ReadRange))
+    → ReadsSuch (λ read. read ++ later ≡ texts) before after → ReadsSuch (AreFirstOf texts) before after
+first_read texts later before after reads = (reads.0, (later, reads.1), reads.2)
 
 module _ (hits : Seen → ℕ) (text : Seen → List ReadRange) where
   module _ (k i : ℕ) (view : List Seen) (file : Seen) (within : i < length view) (is : file ≡ get_or view i file)
-      (all : List ReadRange) (count before : ℕ) (counted : count ≡ before)
-      (left : AreAmong (texts_shown hits text (k - before) (drop i view)) all) where
+      (all : List ReadRange) (count before : ℕ) (counted : count ≡ before) (first middle last : Option (List ReadRange))
+      (earlier : ReadsSuch (λ read. read ++ texts_shown hits text (k - before) (drop i view) ≡ all) first middle) where
     abbrev here : List ReadRange
     here = cond (nat_lt 0 (min (k - count) (hits file))) (text file) []
 
     abbrev later : List ReadRange
     later = texts_shown hits text ((k - count) - hits file) (drop (i + 1) view)
 
-    left_here : AreAmong (here ++ later) all
-    left_here = λ range one.
-        left range
-        (subst (λ (n : ℕ). IsOneOfTexts (texts_shown hits text (k - n) (drop i view)) range) counted
-        (subst (λ (files : List Seen). IsOneOfTexts (texts_shown hits text (k - count) files) range) (sym (at_place view i file within is))
-        one))
+    to_come : texts_shown hits text (k - before) (drop i view) ≡ here ++ later
+    to_come =
+        ap (λ (n : ℕ). texts_shown hits text (k - n) (drop i view)) (sym counted)
+        ∙ ap (λ (files : List Seen). texts_shown hits text (k - count) files) (at_place view i file within is)
 
-    -- the text of the next file, where it is read, is one of all
-    pub file_only : (first middle last : Option (List ReadRange)) → ReadsOnly (IsOneOfTexts all) first middle
-        → ReadsOnly (IsOneOfTexts here) middle last → ReadsOnly (IsOneOfTexts all) first last
-    file_only first middle last earlier only =
-        only_then (IsOneOfTexts all) first middle last earlier
-        (only_of (IsOneOfTexts here) (IsOneOfTexts all) middle last
-        (λ range one. left_here range (SomeOf-left (λ (t : ReadRange). t ≡ range) here later one)) only)
+    all_in_turn : earlier.0 ++ (here ++ later) ≡ all
+    all_in_turn = ap (λ (texts : List ReadRange). earlier.0 ++ texts) (sym to_come) ∙ earlier.1
 
-    -- and so are those that are left then
-    pub left_next : (after : ℕ) → after ≡ before + min (k - count) (hits file)
-        → AreAmong (texts_shown hits text (k - after) (drop (i + 1) view)) all
-    left_next after more =
-        let fewer : k - after ≡ (k - count) - hits file = omega (arith, more, counted) in
-        λ range one.
-        left_here range
-        (SomeOf-right (λ (t : ReadRange). t ≡ range) here later
-        (subst (λ (n : ℕ). IsOneOfTexts (texts_shown hits text n (drop (i + 1) view)) range) fewer one))
+    -- where the call for the next file reads some of its texts, the first ones of all were read
+    pub file_only : ReadsSuch (AreFirstOf here) middle last → ReadsSuch (AreFirstOf all) first last
+    file_only only = (
+      earlier.0 ++ only.0,
+      (
+        only.1.0 ++ later,
+        append_assoc earlier.0 only.0 (only.1.0 ++ later)
+            ∙ ap (λ (texts : List ReadRange). earlier.0 ++ texts)
+            (sym (append_assoc only.0 only.1.0 later) ∙ ap (λ (texts : List ReadRange). texts ++ later) only.1.1)
+            ∙ all_in_turn,
+      ),
+      only.2 ∙ ap (option_map (λ (ranges : List ReadRange). ranges ++ only.0)) earlier.2 ∙ reads_joined first earlier.0 only.0,
+    )
 
--- A search that has fetched the lists of its terms, and then read only texts that it shows a line of by these lists, has read only what
--- it may read.
+    -- a blob of its texts is one of all
+    pub file_blob : (blob : ℕ) → IsBlobOf (here ++ []) blob → IsBlobOf all blob
+    file_blob blob one =
+        let Is : ReadRange → Type 0 = λ range. range.blob ≡ blob in
+        subst (SomeOf Is) all_in_turn
+        (SomeOf-right Is earlier.0 (here ++ later) (SomeOf-left Is here later (subst (SomeOf Is) (append-nil here) one)))
+
+    -- and where it reads all of them, those of the files behind it are to come
+    pub file_read : (after : ℕ) → after ≡ before + min (k - count) (hits file) → last ≡ option_map (λ ranges. ranges ++ here) middle
+        → ReadsSuch (λ read. read ++ texts_shown hits text (k - after) (drop (i + 1) view) ≡ all) first last
+    file_read after more is_read =
+        let fewer : k - after ≡ (k - count) - hits file = omega (arith, more, counted) in (
+          earlier.0 ++ here,
+          ap (λ (n : ℕ). (earlier.0 ++ here) ++ texts_shown hits text n (drop (i + 1) view)) fewer
+              ∙ append_assoc earlier.0 here later
+              ∙ all_in_turn,
+          is_read ∙ ap (option_map (λ (ranges : List ReadRange). ranges ++ here)) earlier.2 ∙ reads_joined first earlier.0 here,
+        )
+
+-- A search that has fetched the lists of its terms, and then read the first ones of the texts that it shows a line of by these lists, has
+-- read what it may read.
 pub shown_permitted : (frames : Frames) (live : Ranges) (s : State) (uid : ℕ) → Indexes frames live s uid
     → (region : Region) (terms : List (List ℕ)) → AreTerms region terms
     → (files : Records) (lists : List TermList) → lists ≡ map (list_at (found_in frames.ranges s)) terms
@@ -78,14 +103,22 @@ pub shown_permitted : (frames : Frames) (live : Ranges) (s : State) (uid : ℕ) 
     → (asked : List (List ℕ)) → asked ≡ terms → (kept : Kept) (first middle last : Option (List ReadRange))
     → Asks (blocks_for contents frames.ranges asked) holds contents.kept kept first middle
     → (k : ℕ) (seen : List Seen) → seen ≡ frames.seen
-    → ReadsOnly (IsOneOfTexts (texts_shown (hits_at files region lists) (text_at files) k seen)) middle last
-    → ReadsOnly (MayReadForQuery s uid (Finding k region)) first last
+    → ReadsSuch (AreFirstOf (texts_shown (hits_at files region lists) (text_at files) k seen)) middle last
+    → ReadsSuch (AreReadForQuery s uid (Finding k region)) first last
 shown_permitted frames live s uid is region terms are files lists lists_are contents holds tells keeps asked asked_are kept
-    first middle last asks k seen same only =
-    let texts = texts_shown (hits_at files region lists) (text_at files) k seen in
-    only_then (MayReadForQuery s uid (Finding k region)) first middle last
-    (asked_permitted frames live s uid is contents holds tells (Finding k region) asked (asked_are ∙ terms_named region terms are)
-    first middle kept asks)
-    (only_of (IsOneOfTexts texts) (MayReadForQuery s uid (Finding k region)) middle last
-    (λ range one. inr (subst (λ (ts : List ReadRange). IsOneOfTexts ts range)
-    (found_texts frames live s uid is region terms are files lists lists_are k seen same holds texts keeps refl) one)) only)
+    first middle last asks k seen same texts =
+    let blocks = asked_blocks frames live s uid is contents holds tells (Finding k region) asked
+    (asked_are ∙ terms_named region terms are) first middle kept asks in (
+      blocks.0 ++ texts.0,
+      record {
+        blocks = blocks.0;
+        needed = blocks.1;
+        texts = texts.0;
+        left = texts.1.0;
+        front =
+            texts.1.1
+            ∙ found_texts frames live s uid is region terms are files lists lists_are k seen same keeps.records;
+        in_turn = refl;
+      },
+      texts.2 ∙ ap (option_map (λ (ranges : List ReadRange). ranges ++ texts.0)) blocks.2 ∙ reads_joined first blocks.0 texts.0,
+    )

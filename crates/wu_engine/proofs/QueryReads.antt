@@ -1,6 +1,6 @@
 -- What a query reads, and why it fails.
-use Rattle.std.proofs.Common.{◌≡◌, ℕ, List, [], refl, sym, subst, inl, inr, arith}
-use Rattle.std.specs.Prelude.{Option, zip, Result, IfErr, IsErrAnd}
+use Rattle.std.proofs.Common.{◌≡◌, ℕ, List, [], refl, sym, subst, inl, arith}
+use Rattle.std.specs.Prelude.{Option, Result, IfErr, IsErrAnd}
 use Rattle.wu_base.specs.declared.troubles.Trouble.{Trouble}
 use Rattle.wu_base.specs.declared.troubles.Trouble.TheVariants.{NoMemory}
 use Rattle.wu_outside.specs.Content.{Content}
@@ -10,20 +10,21 @@ use Rattle.wu_tree.specs.FileSystems.{FileSystem}
 use Rattle.wu_space.specs.Addresses.{Ranges}
 use Rattle.wu_frames.specs.declared.Frames.{Frames}
 use Rattle.wu_frames.specs.UserFrames.{AreFrames}
+use Rattle.wu_layout.specs.Invariants.{SomeOf}
+use Rattle.wu_layout.proofs.KeptLemmas.{SomeOf-left}
 use Rattle.wu_lists.specs.declared.blocks.Block.{Block}
 use Rattle.wu_lists.specs.Keeping.{Asks, Kept}
 use Rattle.wu_lists.proofs.Asking.{ranges-none}
-use Rattle.wu_parts.specs.Causes.{IsFetchCause}
 use Rattle.wu_parts.specs.Contents.{Contents}
-use Rattle.wu_engine.specs.Causes.{IsDamagedAt, IsDamagedIn}
-use Rattle.wu_engine.specs.Asked.{blocks_for, terms_asked}
+use Rattle.wu_engine.specs.Causes.{IsDamagedOver}
+use Rattle.wu_engine.specs.Asked.{blocks_for, blocks_read, terms_asked}
 use Rattle.wu_engine.specs.Finding.{AreTextsOf, IsCause, KeepsTexts}
 use Rattle.wu_engine.specs.Reads.{AreTexts, ReadsForQuery, ReadsInTurn, texts_read}
 use Rattle.wu_engine.specs.Records.{Records}
 use Rattle.wu_engine.specs.States.{State}
-use Rattle.wu_engine.specs.Units.{IsIndexOf, TellsPostings}
+use Rattle.wu_engine.specs.Searched.{IsIndexOf, TellsPostings}
+use Rattle.wu_engine.specs.Units.{IsCauseFor}
 use Rattle.wu_engine.proofs.PassedCauses.{err_from}
-use Rattle.wu_engine.proofs.ReadCauses.{cause_after}
 
 -- a question that has no text shown reads blocks alone
 pub blocks_alone : (question : Question) (blocks : List Block) (frames : Frames) (contents : Contents) (files : Records)
@@ -41,16 +42,23 @@ blocks_alone question blocks frames contents files holds old new before after no
   read = ranges-none after;
 }
 
--- what a fetch answers is damage that the engine may answer
-pub cause_fetched : (files : Records) (contents : Contents) (holds : Option Content) (missing : List Block) (before now : ℕ)
-    (ranges ranges_now : Option (List ReadRange)) (trouble : Trouble)
-    → IsFetchCause (zip contents.parts contents.directories) missing holds before now ranges ranges_now trouble
-    → IsCause (IsDamagedIn files contents holds) before now trouble
-cause_fetched files contents holds missing before now ranges ranges_now trouble cause = record {
+-- what a fetch answers is damage that the question may find
+pub cause_fetched : (frames : Frames) (question : Question) (contents : Contents) (files : Records) (holds : Option Content)
+    (terms : List (List ℕ)) → terms ≡ terms_asked question → (before now : ℕ) (ranges ranges_now : Option (List ReadRange))
+    (trouble : Trouble) → IsCauseFor contents frames.ranges terms holds before now ranges ranges_now trouble
+    → IsCause (IsDamagedOver frames question contents files holds) before now trouble
+cause_fetched frames question contents files holds terms same before now ranges ranges_now trouble cause = record {
   kept = cause.counted;
   store_fault = cause.store_fault;
   calm = cause.calm;
-  damaged = λ blob h. inr (cause.damaged blob h).1;
+  damaged = λ blob h.
+      let IsThere : Block → Type 0 = λ block. block.blob ≡ blob in
+      let found = cause.damaged blob h in
+      inl (
+        subst (λ (ts : List (List ℕ)). SomeOf IsThere (blocks_read contents frames.ranges ts)) same
+            (subst (SomeOf IsThere) (sym cause.front) (SomeOf-left IsThere cause.added cause.unread found.0)),
+        found.1,
+      );
 }
 
 -- over the frames that were made for the user
@@ -93,19 +101,11 @@ module _ {T : Type 0} (r : Result T Trouble) (before now : ℕ) where
       err_from (IsCause Broken before now) r NoMemory is
       (subst (λ (n : ℕ). IsCause Broken before n NoMemory) (sym calm) (no_memory Broken before))
 
-  module _ (files : Records) (contents : Contents) (holds : Option Content) (trouble : Trouble) (is : IsErrAnd r (λ e. e ≡ trouble)) where
-    -- a trouble of the fetch
-    pub cause_of_fetch : (missing : List Block) (ranges ranges_now : Option (List ReadRange))
-        → IsFetchCause (zip contents.parts contents.directories) missing holds before now ranges ranges_now trouble
-        → IfErr r (IsCause (IsDamagedIn files contents holds) before now)
-    cause_of_fetch missing ranges ranges_now cause =
-        err_from (IsCause (IsDamagedIn files contents holds) before now) r trouble is
-        (cause_fetched files contents holds missing before now ranges ranges_now trouble cause)
-
-    -- a trouble with a text, after calls that changed nothing of the store
-    pub cause_of_text : (holds_then : Option Content) (middle : ℕ) → holds_then ≡ holds → middle ≡ before
-        → IsCause (IsDamagedAt files holds_then) middle now trouble → IfErr r (IsCause (IsDamagedIn files contents holds) before now)
-    cause_of_text holds_then middle same calm cause =
-        err_from (IsCause (IsDamagedIn files contents holds) before now) r trouble is
-        (cause_after (IsDamagedAt files holds_then) (IsDamagedIn files contents holds) before middle now trouble calm
-        (λ blob damaged. inl (subst (λ (o : Option Content). IsDamagedAt files o blob) same damaged)) cause)
+  -- a trouble of the fetch
+  pub cause_of_fetch : (frames : Frames) (question : Question) (contents : Contents) (files : Records) (holds : Option Content)
+      (trouble : Trouble) → IsErrAnd r (λ e. e ≡ trouble) → (terms : List (List ℕ)) → terms ≡ terms_asked question
+      → (ranges ranges_now : Option (List ReadRange)) → IsCauseFor contents frames.ranges terms holds before now ranges ranges_now trouble
+      → IfErr r (IsCause (IsDamagedOver frames question contents files holds) before now)
+  cause_of_fetch frames question contents files holds trouble is terms same ranges ranges_now cause =
+      err_from (IsCause (IsDamagedOver frames question contents files holds) before now) r trouble is
+      (cause_fetched frames question contents files holds terms same before now ranges ranges_now trouble cause)

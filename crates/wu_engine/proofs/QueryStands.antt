@@ -17,7 +17,7 @@ use Rattle.wu_engine.specs.Reads.{AreTexts, ReadsForQuery, texts_read}
 use Rattle.wu_engine.specs.Records.{Records}
 use Rattle.wu_engine.specs.Stands.{HoldsTexts, IsEngineOf, KeepsJob, Stands}
 use Rattle.wu_engine.specs.States.{State, Texts}
-use Rattle.wu_engine.specs.Units.{IsIndexOf, TellsPostings}
+use Rattle.wu_engine.specs.Searched.{IsIndexOf, TellsPostings}
 use Rattle.wu_engine.proofs.ToldPostings.{blocks_kept}
 
 is_told : (holds : Option Content) (texts : Texts) (files : List (ℕ × FileEntry)) → HoldsTexts holds texts files → IsSome holds

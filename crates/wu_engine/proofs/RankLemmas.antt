@@ -21,7 +21,8 @@ use Rattle.wu_frames.specs.declared.Frames.{Frames}
 use Rattle.wu_engine.specs.Answer.{answer, line_of}
 use Rattle.wu_engine.specs.Rankings.{frequency_in, ranking_of, tokens_at}
 use Rattle.wu_engine.specs.States.{State, Texts}
-use Rattle.wu_engine.specs.Units.{AreUnitsIn, Indexes, found_in, in_its_file, list_at, range_at, unshifted}
+use Rattle.wu_engine.specs.Searched.{Indexes}
+use Rattle.wu_engine.specs.Units.{AreUnitsIn, found_in, in_its_file, list_at, range_at, unshifted}
 use Rattle.wu_engine.specs.View.{Shown, shown_of, view_of}
 use Rattle.wu_engine.proofs.FramesOfView.{are_of_view}
 use Rattle.wu_engine.proofs.Places.{all_places, units_of-places}

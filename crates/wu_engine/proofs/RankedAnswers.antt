@@ -10,7 +10,8 @@ use Rattle.wu_rank.specs.declared.results.Unit.{Unit as RankedUnit}
 use Rattle.wu_space.specs.Addresses.{Ranges}
 use Rattle.wu_engine.specs.Answer.{answer}
 use Rattle.wu_engine.specs.States.{State}
-use Rattle.wu_engine.specs.Units.{AreUnitsIn, Indexes, IsAmong, found_in, list_at}
+use Rattle.wu_engine.specs.Searched.{Indexes}
+use Rattle.wu_engine.specs.Units.{AreUnitsIn, IsAmong, found_in, list_at}
 use Rattle.wu_engine.specs.View.{view_of}
 
 module _ (frames : Frames) (live : Ranges) (k : ℕ) where

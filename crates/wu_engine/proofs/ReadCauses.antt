@@ -9,9 +9,9 @@ use Rattle.wu_base.specs.declared.troubles.Trouble.{Trouble}
 use Rattle.std.specs.List.{AllByRecursion}
 use Rattle.wu_outside.specs.Content.{Content}
 use Rattle.wu_image.specs.declared.records.FileRec.{FileRec}
-use Rattle.wu_engine.specs.Causes.{IsDamagedAt}
-use Rattle.wu_engine.specs.Records.{Records}
-use Rattle.wu_engine.specs.Finding.{CanBeRead, IsBrokenIn, IsCause, record_at}
+use Rattle.wu_engine.specs.Causes.{IsBrokenIn, IsDamagedAt}
+use Rattle.wu_engine.specs.Records.{Records, record_at}
+use Rattle.wu_engine.specs.Finding.{CanBeRead, IsCause}
 
 -- what follows for each error holds of the error of a result
 pub if_err : {T E : Type 0} (P Q : E → Type 0) (r : Result T E) → ((error : E) → P error → Q error) → IfErr r P → IfErr r Q

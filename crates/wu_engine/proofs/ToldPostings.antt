@@ -24,7 +24,8 @@ use Rattle.wu_parts.specs.Memory.{held}
 use Rattle.wu_engine.specs.Asked.{blocks_for}
 use Rattle.wu_engine.specs.Stands.{KeepsBlocks}
 use Rattle.wu_engine.specs.States.{State}
-use Rattle.wu_engine.specs.Units.{TellsPostings, found_in}
+use Rattle.wu_engine.specs.Searched.{TellsPostings}
+use Rattle.wu_engine.specs.Units.{found_in}
 use Rattle.wu_parts.proofs.HeldParts.{parts_below}
 
 -- ---- what is fetched

@@ -15,9 +15,9 @@ use Rattle.wu_outside.specs.Content.{Content}
 use Rattle.wu_outside.specs.declared.ranges.ReadRange.{ReadRange}
 use Rattle.wu_token.specs.Tokens.{tokens_of}
 use Rattle.wu_view.specs.declared.Seen.{Seen}
-use Rattle.wu_engine.specs.Finding.{extents_of, hits_at, hits_recorded, record_at, text_at, text_recorded}
+use Rattle.wu_engine.specs.Finding.{extents_of, hits_at, hits_recorded, text_at, text_recorded}
+use Rattle.wu_engine.specs.Records.{Records, record_at}
 use Rattle.wu_engine.specs.Reads.{HasWholeText, IsTextOf, IsWholeText, texts_shown}
-use Rattle.wu_engine.specs.Records.{Records}
 use Rattle.wu_engine.proofs.FirstLines.{IsEnough, at_place, none_to_show}
 
 -- what was read of the blob has the recorded length and number of tokens

@@ -2,6 +2,7 @@
 use Rattle.std.specs.Prelude.{ℕ, List, [], ◌∷◌, ◌++◌, nat_eq, zip, if◌then◌else◌}
 use Rattle.std.specs.Cmp.Lexicographic.{pointwise, slice_cmp}
 use Rattle.std.specs.List.{flat_map, list_any}
+use Rattle.std.specs.Map.{keys_of}
 use Rattle.std.specs.Ordering.{nat_cmp}
 use Rattle.wu_base.specs.SortedOnce.{sorted_once}
 use Rattle.wu_base.specs.declared.addresses.Range.{Range}
@@ -9,6 +10,7 @@ use Rattle.wu_gcl.specs.Regions.{Region}
 use Rattle.wu_gcl.specs.Terms.{terms_in}
 use Rattle.wu_ask.specs.Questions.{Question, Counting, Finding, Ranking, ListingPaths}
 use Rattle.wu_lists.specs.declared.blocks.Block.{Block}
+use Rattle.wu_lists.specs.Keeping.{all_missing}
 use Rattle.wu_parts.specs.Contents.{Contents}
 use Rattle.wu_parts.specs.Holdings.{all_needed}
 
@@ -36,3 +38,7 @@ terms_asked ListingPaths = []
 -- the blocks that frames need of these terms: term by term, and part by part from left to right
 abbrev pub blocks_for : Contents → List Range → List (List ℕ) → List Block
 blocks_for parts frames terms = flat_map (λ term. all_needed (zip parts.parts parts.directories) term frames) terms
+
+-- those of them that are read: they aren't kept when their turn comes
+abbrev pub blocks_read : Contents → List Range → List (List ℕ) → List Block
+blocks_read parts frames terms = all_missing parts.kept.cap (keys_of parts.kept.entries) (blocks_for parts frames terms)

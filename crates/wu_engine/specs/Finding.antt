@@ -1,9 +1,6 @@
 -- The lines that are shown of extents, by what is recorded of files and what the store holds of their texts.
-use Rattle.std.specs.Prelude.{◌≡◌, ◌≢◌, ℕ, ◌+◌, ◌-◌, ◌<◌, ◌≤◌, ◌==◌, Bool, List, [], ◌∷◌, length, map, Option, None, Some, IfSome, unwrap_or, if◌then◌else◌}
-use Rattle.std.specs.Ordering.{nat_cmp}
+use Rattle.std.specs.Prelude.{◌≡◌, ◌≢◌, ℕ, ◌+◌, ◌-◌, ◌<◌, ◌≤◌, ◌==◌, Bool, List, [], ◌∷◌, ◌++◌, length, map, Option, None, Some, unwrap_or, if◌then◌else◌}
 use Rattle.std.specs.List.{list_any}
-use Rattle.std.specs.Map.{lookup}
-use Rattle.std.specs.BTreeMap.{is_at}
 use Rattle.wu_base.specs.declared.addresses.Extent.{Extent}
 use Rattle.wu_base.specs.declared.addresses.TermList.{TermList}
 use Rattle.wu_base.specs.declared.limits.TheConstants.{ADDRESSES_MAX}
@@ -19,26 +16,23 @@ use Rattle.wu_parts.specs.Contents.{Contents}
 use Rattle.wu_space.specs.Addresses.{Ranges}
 use Rattle.wu_gcl.specs.Regions.{Region}
 use Rattle.wu_image.specs.declared.records.FileRec.{FileRec}
-use Rattle.wu_image.specs.Texts.{IsBrokenText}
 use Rattle.wu_rank.specs.declared.results.Unit.{Unit as RankedUnit}
 use Rattle.wu_solve.specs.Solving.{frame_hits}
 use Rattle.wu_view.specs.declared.Seen.{Seen}
 use Rattle.wu_engine.specs.Answer.{found_line}
-use Rattle.wu_engine.specs.Reads.{AreTexts, texts_read, whole_text}
-use Rattle.wu_engine.specs.Records.{Records, records_of}
+use Rattle.wu_engine.specs.Causes.{IsBlobOf, IsDamagedOf}
+use Rattle.wu_engine.specs.Reads.{AreTexts, texts_read, texts_shown, whole_text}
+use Rattle.wu_engine.specs.Records.{Records, record_at, records_of}
 use Rattle.wu_engine.specs.Soundness.{IsRecord}
 use Rattle.wu_engine.specs.Stands.{HoldsTexts}
 use Rattle.wu_engine.specs.States.{State}
-use Rattle.wu_engine.specs.Units.{Indexes, TellsPostings, units_in}
+use Rattle.wu_engine.specs.Searched.{Indexes, TellsPostings}
+use Rattle.wu_engine.specs.Units.{units_in}
 
 -- a record as it is kept, whose range ends below the greatest address
 pub record CanBeRead (file : ℕ × FileRec) : Type 0 where
   pub recorded : IsRecord file
   pub bounded : file.1.range.start + file.1.range.len ≤ ADDRESSES_MAX
-
--- the record of the file of that number
-abbrev pub record_at : Records → ℕ → Option FileRec
-record_at files ino = lookup (is_at (nat_cmp ino)) files
 
 -- ---- extents
 
@@ -86,6 +80,10 @@ hits_at files region lists seen = hits_recorded region lists (record_at files se
 abbrev pub text_at : Records → Seen → List ReadRange
 text_at files seen = text_recorded (record_at files seen.ino)
 
+-- the first ones of these texts
+abbrev pub AreFirstOf : List ReadRange → List ReadRange → Type 0
+AreFirstOf texts read = (left : List ReadRange) × (read ++ left ≡ texts)
+
 -- ---- the files that are looked through
 
 abbrev pub is_at_place : ℕ → RankedUnit → Bool
@@ -104,9 +102,10 @@ looked_through few region lists frames =
 
 -- ---- troubles
 
--- what the store tells of a text isn't what was recorded
-abbrev pub IsBrokenIn : Option Content → FileRec → ℕ → Type 0
-IsBrokenIn holds file blob = (file.blob ≡ blob) × (0 < blob) × IfSome holds (λ content. IsBrokenText file (content.blobs blob))
+-- a text that is read to show so many lines of these files is broken
+abbrev pub IsBrokenShown : Records → Option Content → Region → List TermList → ℕ → List Seen → ℕ → Type 0
+IsBrokenShown files holds region lists lines view blob =
+    IsBlobOf (texts_shown (hits_at files region lists) (text_at files) lines view) blob × IsDamagedOf view files holds blob
 
 -- Why a call that reads texts answers a trouble: a store fault only where the count of faults rose, which else is as it was, and a
 -- damaged blob only where that blob is broken.

@@ -10,6 +10,7 @@ pub mod Reads
 pub mod Records
 pub mod Soundness
 pub mod Stands
+pub mod Searched
 pub mod Reports
 pub mod Causes
 pub mod Opening
@@ -18,10 +19,10 @@ pub mod Saving
 pub mod Naming
 pub mod Permitted
 pub mod Going
+pub mod Renewing
 -- ---- What only private functions and proofs need
 
 pub mod Indexing
-pub mod Renewing
 pub mod Units
 pub mod Finding
 pub mod Opened

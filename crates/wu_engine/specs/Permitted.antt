@@ -1,5 +1,5 @@
 -- Which ranges of the store a call may read. A range is the whole of a block or of a text.
-use Rattle.std.specs.Prelude.{◌≡◌, ◌⊎◌, ℕ, ◌<◌, List, [], ◌∷◌, ◌++◌, Option, None, Some, filter_map, option_map}
+use Rattle.std.specs.Prelude.{◌≡◌, ℕ, ◌<◌, List, [], ◌∷◌, ◌++◌, Option, None, Some, filter_map, option_map}
 use Rattle.std.specs.List.{AllByRecursion}
 use Rattle.wu_base.specs.declared.addresses.PartRec.{PartRec}
 use Rattle.wu_base.specs.declared.addresses.Range.{Range}
@@ -18,10 +18,13 @@ use Rattle.wu_engine.specs.Asked.{terms_asked}
 use Rattle.wu_engine.specs.Reads.{texts_read}
 use Rattle.wu_engine.specs.States.{State}
 
+-- such ranges were read, in this order
+abbrev pub ReadsSuch : (List ReadRange → Type 0) → Option (List ReadRange) → Option (List ReadRange) → Type 0
+ReadsSuch Are before after = (read : List ReadRange) × Are read × (after ≡ option_map (λ earlier. earlier ++ read) before)
+
 -- nothing but such ranges was read
 abbrev pub ReadsOnly : (ReadRange → Type 0) → Option (List ReadRange) → Option (List ReadRange) → Type 0
-ReadsOnly MayRead before after =
-    (read : List ReadRange) × AllByRecursion MayRead read × (after ≡ option_map (λ earlier. earlier ++ read) before)
+ReadsOnly MayRead before after = ReadsSuch (AllByRecursion MayRead) before after
 
 -- ---- blocks
 
@@ -53,16 +56,19 @@ IsNeededBlockOf ranges term range part =
 abbrev pub live_ranges_of : State → ℕ → List Range
 live_ranges_of s uid = filter_map (λ file. live_range_of (ranges_by_number s.layout.files) file.ino) (files_of s.tree uid)
 
--- it is one of these texts
-abbrev pub IsOneOfTexts : List ReadRange → ReadRange → Type 0
-IsOneOfTexts texts range = SomeOf (λ text. text ≡ range) texts
-
--- For a query, the blocks of its terms that meet a live range of a file of the user's view, and of texts those of the files of which a
--- line is shown.
-abbrev pub MayReadForQuery : State → ℕ → Question → ReadRange → Type 0
-MayReadForQuery s uid question range =
+-- a block of one of the question's terms that meets a live range of a file of the user's view
+abbrev pub IsBlockForQuery : State → ℕ → Question → ReadRange → Type 0
+IsBlockForQuery s uid question range =
     SomeOf (λ term. SomeOf (IsNeededBlockOf (live_ranges_of s uid) term range) s.layout.parts) (terms_asked question)
-    ⊎ IsOneOfTexts (texts_read s uid question) range
+
+-- For a query: such blocks, and then the texts of the files of which a line is shown, each once, or the first ones of these.
+pub record AreReadForQuery (s : State) (uid : ℕ) (question : Question) (read : List ReadRange) : Type 0 where
+  pub blocks : List ReadRange
+  pub needed : AllByRecursion (IsBlockForQuery s uid question) blocks
+  pub texts : List ReadRange
+  pub left : List ReadRange
+  pub front : texts ++ left ≡ texts_read s uid question
+  pub in_turn : read ≡ blocks ++ texts
 
 -- ---- background work
 

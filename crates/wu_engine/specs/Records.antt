@@ -1,5 +1,8 @@
 -- What an engine records of the regular files.
-use Rattle.std.specs.Prelude.{ℕ, List, length, map}
+use Rattle.std.specs.Prelude.{ℕ, List, length, map, Option}
+use Rattle.std.specs.Ordering.{nat_cmp}
+use Rattle.std.specs.Map.{lookup}
+use Rattle.std.specs.BTreeMap.{is_at}
 use Rattle.wu_layout.specs.Layouts.{FileEntry}
 use Rattle.wu_space.specs.Addresses.{Ranges}
 use Rattle.wu_image.specs.declared.records.FileRec.{FileRec}
@@ -21,6 +24,10 @@ record_of texts file = record {
 -- the records of the files
 abbrev pub records_of : Texts → List (ℕ × FileEntry) → Records
 records_of texts files = map (λ file. (file.0, record_of texts file)) files
+
+-- the record of the file of that number
+abbrev pub record_at : Records → ℕ → Option FileRec
+record_at files ino = lookup (is_at (nat_cmp ino)) files
 
 -- the live ranges that are recorded, by number
 abbrev pub recorded_ranges : Records → Ranges

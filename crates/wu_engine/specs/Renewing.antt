@@ -1,23 +1,27 @@
--- What an event may change of the frames that are kept.
-use Rattle.std.specs.Prelude.{◌≡◌, ℕ, Option, None, Some}
+-- What an event changes of that of which frames are made, and what is left of those that are kept.
+use Rattle.std.specs.Prelude.{◌≡◌, ◌⊎◌, ℕ, [], nat_eq, Option, None, Some}
+use Rattle.std.specs.Map.{remove_entry}
 use Rattle.wu_base.specs.declared.addresses.Range.{Range}
 use Rattle.wu_tree.specs.declared.events.Event.{Event}
 use Rattle.wu_tree.specs.declared.events.Event.TheVariants.{User, Mkdir, Create, Text, Link, Unlink, Rmdir, Rename, Chmod, Chown}
 use Rattle.wu_tree.specs.declared.events.Node.{Node}
 use Rattle.wu_tree.specs.FileSystems.{FileSystem, node_of}
 use Rattle.wu_space.specs.Addresses.{Addresses, Ranges, range_of}
-use Rattle.wu_frames.specs.Permissions.{IsGroupChange, IsPermChange}
-use Rattle.wu_frames.specs.Links.{IsLinkChange, KeepRanges, links_changed}
+use Rattle.wu_frames.specs.Permissions.{IsGroupChange, IsPermChange, kept_as_before}
+use Rattle.wu_frames.specs.Links.{IsLinkChange, KeepRanges, kept_unshown, links_changed}
+use Rattle.wu_frames.specs.UserFrames.{Kept, StayOrMove}
 use Rattle.wu_engine.specs.declared.renewing.Touched.{Touched}
-use Rattle.wu_engine.specs.declared.renewing.Touched.TheVariants.{RangeOf, PermOf, GroupsOf, Links, Other}
+use Rattle.wu_engine.specs.declared.renewing.Touched.TheVariants.{RangeOf, PermOf, GroupsOf, Links, Nothing}
+use Rattle.wu_engine.specs.declared.verdicts.Verdict.{Verdict}
+use Rattle.wu_engine.specs.declared.verdicts.Verdict.TheVariants.{Made, Refused}
 use Rattle.wu_engine.specs.Indexing.{GaveText}
 
 abbrev pub range_touched : ℕ → Option Range → Touched
-range_touched ino None = Other
+range_touched ino None = Nothing
 range_touched ino (Some range) = RangeOf ino range
 
 abbrev pub perm_touched : ℕ → Option Node → Touched
-perm_touched ino None = Other
+perm_touched ino None = Nothing
 perm_touched ino (Some node) = PermOf ino node
 
 -- what the event changes, if it is accepted in that file system, where the files have those live ranges
@@ -39,4 +43,20 @@ Touches fs space after now (RangeOf ino old) = (after ≡ fs) × GaveText space 
 Touches fs space after now (PermOf ino node) = (now ≡ space) × IsPermChange fs ino node after
 Touches fs space after now (GroupsOf uid) = (now ≡ space) × IsGroupChange fs uid after
 Touches fs space after now (Links links) = IsLinkChange fs links after × KeepRanges fs after space.ranges now.ranges
-Touches fs space after now Other = Unit {0}
+Touches fs space after now Nothing = Unit {0}
+
+-- ---- what is left of the frames that are kept
+
+-- What is left once that changed, in the file system after it: the frames of the users whom it doesn't concern, as they were. Out of memory
+-- for a user's groups, none.
+abbrev pub AreLeft : FileSystem → Touched → Kept → Kept → Type 0
+AreLeft fs (RangeOf ino old) before after = StayOrMove old before after
+AreLeft fs (PermOf ino node) before after = (after ≡ kept_as_before fs ino node before) ⊎ (after ≡ [])
+AreLeft fs (GroupsOf uid) before after = after ≡ remove_entry (nat_eq uid) before
+AreLeft fs (Links links) before after = (after ≡ kept_unshown fs links before) ⊎ (after ≡ [])
+AreLeft fs Nothing before after = after ≡ []
+
+-- what an event leaves, by its answer
+abbrev pub LeavesFrames : Verdict → FileSystem → Touched → Kept → Kept → Type 0
+LeavesFrames Made fs touched before after = AreLeft fs touched before after
+LeavesFrames (Refused refusal) fs touched before after = after ≡ before

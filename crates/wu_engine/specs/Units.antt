@@ -1,9 +1,8 @@
 -- A search over a user's frames: where terms stand in them, the extents of an expression with the places of their files, and how
 -- frames and postings stand for the user's view.
-use Rattle.std.specs.Prelude.{◌≡◌, ℕ, suc, ◌+◌, ◌-◌, ◌<◌, ◌≤◌, ◌^◌, Contains, List, [], ◌∷◌, ◌++◌, length, map, take, drop, nat_eq, nat_le, nat_lt, true, filter, find, option_map, if◌then◌else◌, slice_get, option_and_then, unwrap_or, zip, Option, IfSome, IsSome}
+use Rattle.std.specs.Prelude.{◌≡◌, ℕ, suc, ◌+◌, ◌-◌, ◌<◌, ◌≤◌, ◌^◌, Contains, List, [], ◌∷◌, ◌++◌, length, map, take, drop, nat_eq, nat_le, nat_lt, true, filter, find, option_map, if◌then◌else◌, slice_get, option_and_then, unwrap_or, zip, Option}
 use Rattle.std.specs.List.{All, AllByRecursion, flat_map, list_any}
 use Rattle.std.specs.Cmp.Lexicographic.{pointwise}
-use Rattle.std.specs.Map.{keys_of}
 use Rattle.wu_base.specs.declared.addresses.Extent.{Extent}
 use Rattle.wu_base.specs.declared.addresses.Range.{Range}
 use Rattle.wu_base.specs.declared.addresses.TermList.{TermList}
@@ -11,8 +10,8 @@ use Rattle.wu_base.specs.declared.limits.TheConstants.{ADDRESSES_MAX}
 use Rattle.wu_base.specs.declared.troubles.Trouble.{Trouble}
 use Rattle.wu_outside.specs.Content.{Content}
 use Rattle.wu_outside.specs.declared.ranges.ReadRange.{ReadRange}
-use Rattle.wu_layout.specs.Layouts.{postings_of, ranges_by_number}
-use Rattle.wu_layout.specs.Postings.{addresses_of, fetched}
+use Rattle.wu_layout.specs.Layouts.{postings_of}
+use Rattle.wu_layout.specs.Postings.{fetched}
 use Rattle.wu_gcl.specs.Regions.{Region}
 use Rattle.wu_gcl.specs.Terms.{terms_in}
 use Rattle.wu_view.specs.declared.Seen.{Seen}
@@ -21,18 +20,13 @@ use Rattle.wu_rank.specs.declared.results.Ranked.{Ranked}
 use Rattle.wu_rank.specs.Scores.{length_of}
 use Rattle.wu_solve.specs.Solving.{frame_hits}
 use Rattle.wu_space.specs.Addresses.{Ranges, AreApart, range_of}
-use Rattle.wu_lists.specs.Keeping.{all_missing}
 use Rattle.wu_parts.specs.Causes.{IsFetchCause}
 use Rattle.wu_parts.specs.Contents.{Contents}
-use Rattle.wu_parts.specs.Holdings.{HoldParts}
-use Rattle.wu_parts.specs.Memory.{held}
 use Rattle.wu_frames.specs.declared.Frame.{Frame}
 use Rattle.wu_frames.specs.declared.Frames.{Frames}
-use Rattle.wu_frames.specs.UserFrames.{AreFrames}
-use Rattle.wu_engine.specs.Asked.{blocks_for}
+use Rattle.wu_engine.specs.Asked.{blocks_read}
 use Rattle.wu_engine.specs.Rankings.{unit_at}
-use Rattle.wu_engine.specs.Stands.{KeepsBlocks}
-use Rattle.wu_engine.specs.States.{State, IsState}
+use Rattle.wu_engine.specs.States.{State}
 
 -- What a search asks of frames: they lie apart, by address, and below the greatest address, and each is shorter than a ranking may
 -- have units.
@@ -134,24 +128,6 @@ in_its_file live view ranked = unshifted (λ place. (range_at live view place).s
 
 -- ---- the state
 
--- The live ranges are those of the state.
-pub record IsIndexOf (live : Ranges) (s : State) : Type 0 where
-  pub is_state : IsState s
-  pub ranges : live ≡ ranges_by_number s.layout.files
-
--- And these are the user's frames in it.
-pub record Indexes (frames : Frames) (live : Ranges) (s : State) (uid : ℕ) : Type 0 where
-  pub index : IsIndexOf live s
-  pub hers : AreFrames s.tree live uid frames
-
--- The postings of the state are in memory and in the parts that the store holds, of which blocks are kept.
-pub record TellsPostings (contents : Contents) (holds : Option Content) (s : State) : Type 0 where
-  pub is_state : IsState s
-  pub memory : (term : List ℕ) → held contents.memory term ≡ addresses_of term s.layout.memory
-  pub told : IsSome holds
-  pub parts : IfSome holds (λ content. HoldParts content contents.parts contents.directories s.layout.parts)
-  pub kept : IfSome holds (λ content. KeepsBlocks content s.layout.blob contents.kept)
-
 -- The units of the expression in the frames, by the addresses that the state has.
 pub record AreUnitsIn (region : Region) (frames : Frames) (s : State) (units : List RankedUnit) : Type 0 where
   pub terms : List (List ℕ)
@@ -162,6 +138,4 @@ pub record AreUnitsIn (region : Region) (frames : Frames) (s : State) (units : L
 abbrev pub IsCauseFor : Contents → List Range → List (List ℕ) → Option Content → ℕ → ℕ → Option (List ReadRange) → Option (List ReadRange)
     → Trouble → Type 0
 IsCauseFor contents frames terms holds before now ranges ranges_now trouble =
-    IsFetchCause (zip contents.parts contents.directories)
-    (all_missing contents.kept.cap (keys_of contents.kept.entries) (blocks_for contents frames terms))
-    holds before now ranges ranges_now trouble
+    IsFetchCause (zip contents.parts contents.directories) (blocks_read contents frames terms) holds before now ranges ranges_now trouble

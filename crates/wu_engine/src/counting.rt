@@ -7,7 +7,8 @@ ghost use Rattle.wu_space.specs.Addresses.{Ranges};
 ghost use Rattle.wu_engine.specs.Answer.{answer};
 ghost use Rattle.wu_engine.specs.Asked.{blocks_for, terms_of as named_in};
 ghost use Rattle.wu_engine.specs.States.{State};
-ghost use Rattle.wu_engine.specs.Units.{CanBeSearched, Indexes, IsCauseFor, TellsPostings};
+ghost use Rattle.wu_engine.specs.Searched.{Indexes, TellsPostings};
+ghost use Rattle.wu_engine.specs.Units.{CanBeSearched, IsCauseFor};
 ghost use Rattle.wu_engine.specs.View.{view_of};
 
 use crate::fetching::lists_of;

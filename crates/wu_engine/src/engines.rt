@@ -58,7 +58,7 @@ impl Engine {
     ghost use Rattle.wu_engine.specs.States.{State, after_event, flushed_state, rested_state, saved_state, step, worked_state};
     ghost use Rattle.wu_engine.specs.Reports.{stat_of, worked_in};
     ghost use Rattle.wu_engine.specs.Stands.{KeepsOthers, Stands, leaves_store, taken_by, verdict_of};
-    ghost use Rattle.wu_engine.specs.Causes.{HasTroubleCause, IsDamagedIn};
+    ghost use Rattle.wu_engine.specs.Causes.{HasTroubleCause, IsDamagedFor};
     ghost use Rattle.wu_engine.specs.View.{view_of};
     ghost use Rattle.wu_engine.specs.Answer.{answer};
     ghost use Rattle.wu_engine.specs.Reads.{AreTexts, ReadsForQuery, texts_read};
@@ -68,7 +68,9 @@ impl Engine {
     ghost use Rattle.wu_engine.specs.Naming.{AddsNamed};
     ghost use Rattle.wu_engine.specs.Crashes.{IsImageOf, IsImageOfEither, IsSavedLast};
     ghost use Rattle.wu_engine.specs.Going.{Goes, HasBroken};
-    ghost use Rattle.wu_engine.specs.Permitted.{MayReadForQuery, MayReadForWork, ReadsOnly};
+    ghost use Rattle.wu_engine.specs.Renewing.{LeavesFrames, touched_of};
+    ghost use Rattle.wu_frames.specs.UserFrames.{HasAsked};
+    ghost use Rattle.wu_engine.specs.Permitted.{AreReadForQuery, MayReadForWork, ReadsOnly, ReadsSuch};
     ghost use Rattle.wu_engine.specs.declared.faults.BeginFault.TheVariants.{Damaged as SavedIsDamaged};
 
     /// An engine that goes on where the last save left the store: memory is full at `flush_at` postings. A store
@@ -152,6 +154,9 @@ impl Engine {
             (self.new.parts.flushes + self.old.parts.next_blob ≤ self.old.parts.flushes + self.new.parts.next_blob) }
         ensures flush_at { OnOk result (self.new.parts.flush_at ≡ self.old.parts.flush_at) }
         ensures kept { OnOk result (self.new.parts.kept ≡ self.old.parts.kept) }
+        // What is left of the kept frames: a refused event leaves all, another those of all users whom it doesn't concern.
+        ensures frames { IfOk result (λ verdict. LeavesFrames verdict self.new.tree
+            (touched_of self.old.tree self.old.space.ranges event.now) self.old.frames self.new.frames) }
 
         // What the store holds changes only at the two blobs that may be drawn, also where the call fails. No call
         // of the store is made but for a text that isn't empty and for a flush.
@@ -177,6 +182,7 @@ impl Engine {
         }
         self.ended = Some(Trouble::NoMemory);
         effects_tell_files(&self.tree);
+        self.tree.keeps_the_rules();
         self.space.keeps_the_rules();
         let touched = touched_by(&self.tree, &self.space, event);
         match self.tree.apply(event)? {
@@ -222,6 +228,7 @@ impl Engine {
             (self.new.parts.flushes + self.old.parts.next_blob ≤ self.old.parts.flushes + self.new.parts.next_blob) }
         ensures flush_at { OnOk result (self.new.parts.flush_at ≡ self.old.parts.flush_at) }
         ensures kept { OnOk result (self.new.parts.kept ≡ self.old.parts.kept) }
+        ensures frames { OnOk result (self.new.frames ≡ self.old.frames) }
 
         // What the store holds changes only at the blob that may be drawn, also where the call fails.
         ensures elsewhere { KeepsOthers self.old.parts.next_blob (self.old.parts.next_blob + 1) (D.holds store.old) (D.holds store.new) }
@@ -276,6 +283,7 @@ impl Engine {
         ensures counted { OnOk result (self.new.parts.flushes ≡ self.old.parts.flushes) }
         ensures flush_at { OnOk result (self.new.parts.flush_at ≡ self.old.parts.flush_at) }
         ensures kept { OnOk result (self.new.parts.kept ≡ self.old.parts.kept) }
+        ensures frames { OnOk result (self.new.frames ≡ self.old.frames) }
 
         // What the store holds changes only at the blobs that may be drawn, also where the call fails.
         ensures elsewhere { KeepsOthers self.old.parts.next_blob (self.old.parts.next_blob + n) (D.holds store.old) (D.holds store.new) }
@@ -339,6 +347,7 @@ impl Engine {
             (self.new.parts.flushes + self.old.parts.next_blob ≤ self.old.parts.flushes + self.new.parts.next_blob) }
         ensures flush_at { OnOk result (self.new.parts.flush_at ≡ self.old.parts.flush_at) }
         ensures kept { OnOk result (self.new.parts.kept ≡ self.old.parts.kept) }
+        ensures frames { OnOk result (self.new.frames ≡ self.old.frames) }
 
         // The checkpoint is synced before the root is set, and that is synced before anything is removed.
         ensures order { OnOk result (Saves self.old.tree self.old.space self.old.files.entries self.old.checkpoint self.new.checkpoint
@@ -432,6 +441,8 @@ impl Engine {
             (answered ≡ answer (view_of s query.now.uid) (question_of query.now.ask)) × Stands self.new (D.holds store.new) s) }
         ensures space { self.new.space ≡ self.old.space }
         ensures parts { self.new.parts ≡ record self.old.parts { kept = self.new.parts.kept } }
+        // Her frames are the first that are kept then, and those of the others are as they were, as far as there is room.
+        ensures frames { OnOk result (HasAsked query.now.uid self.old.frames self.new.frames) }
 
         ensures holds { D.holds store.new ≡ D.holds store.old }
         ensures moments { D.moments store.new ≡ D.moments store.old }
@@ -442,17 +453,20 @@ impl Engine {
             (λ texts. AreTexts (D.holds store.old) self.old.files.entries (question_of query.now.ask) texts × ((s : State)
             → Stands self.old (D.holds store.old) s → texts ≡ texts_read s query.now.uid (question_of query.now.ask)))
             (D.holds store.old) (D.reads store.old) (D.reads store.new)) }
-        // Then nothing is read but what a query of hers may read in that state, whatever the answer.
+        // Then nothing is read but what a query of hers may read in that state, in this order, whatever the answer.
         ensures permitted { (s : State) → Stands self.old (D.holds store.old) s
-            → ReadsOnly (MayReadForQuery s query.now.uid (question_of query.now.ask)) (D.reads store.old) (D.reads store.new) }
+            → ReadsSuch (AreReadForQuery s query.now.uid (question_of query.now.ask)) (D.reads store.old) (D.reads store.new) }
 
         ensures goes_on { OnOk result (self.new.ended ≡ None) }
         ensures ends { IfErr result (λ trouble. self.new.ended ≡ Some trouble) }
         ensures again { (trouble : Trouble) → self.old.ended ≡ Some trouble
             → (result ≡ Err trouble) × (self.new ≡ self.old) × (store.new ≡ store.old) }
         ensures cause { HasTroubleCause self.old.ended (D.faults store.old) (D.faults store.new) result }
-        ensures damaged { (blob : ℕ) → result ≡ Err (Damaged blob)
-            → (self.old.ended ≡ Some (Damaged blob)) ⊎ IsDamagedIn self.old.files.entries self.old.parts (D.holds store.old) blob }
+        // A blob is called damaged only where this query of hers needs it: a part of which her frames need a block of the
+        // terms, or the text of a file of hers of which a line is shown.
+        ensures damaged { (blob : ℕ) → result ≡ Err (Damaged blob) → (self.old.ended ≡ Some (Damaged blob))
+            ⊎ IsDamagedFor self.old.tree self.old.space.ranges query.now.uid (question_of query.now.ask) self.old.parts self.old.files.entries
+            (D.holds store.old) blob }
         // Over whatever the store held at opening, the engine goes on, and a blob that is called damaged was broken then.
         ensures goes { (start : Content) → Goes self.old start (D.holds store.old) → OnOk result (Goes self.new start (D.holds store.new)) }
         ensures broken { (start : Content) → Goes self.old start (D.holds store.old) → (blob : ℕ) → result ≡ Err (Damaged blob)

@@ -6,7 +6,8 @@ ghost use Rattle.std.specs.List.Sorted.{IsStrictlyIncreasing};
 ghost use Rattle.wu_lists.specs.Keeping.{Asks};
 ghost use Rattle.wu_engine.specs.Asked.{blocks_for};
 ghost use Rattle.wu_engine.specs.States.{State};
-ghost use Rattle.wu_engine.specs.Units.{CanBeSearched, IsCauseFor, TellsPostings, found_in, list_at, wanted};
+ghost use Rattle.wu_engine.specs.Searched.{TellsPostings};
+ghost use Rattle.wu_engine.specs.Units.{CanBeSearched, IsCauseFor, found_in, list_at, wanted};
 
 use std::alloc::Global;
 use wu_base::{Bytes, TermList, Trouble};

@@ -1,5 +1,5 @@
 //! Where an expression has its extents over a user's frames, and the lines that are shown of them.
-ghost use Rattle.std.specs.Prelude.{◌≡◌, ◌<◌, ◌≤◌, ◌+◌, ◌++◌, ℕ, List, nat_lt, min, [], map, take, length, option_map, All, if◌then◌else◌, IfOk, IfErr, IfSome, OnOk};
+ghost use Rattle.std.specs.Prelude.{◌≡◌, ◌<◌, ◌≤◌, ◌+◌, ◌++◌, ℕ, List, nat_lt, min, [], map, take, length, option_map, All, if◌then◌else◌, IfOk, IfErr, IfSome, OnOk, ◌∷◌};
 ghost use Rattle.std.specs.List.{AllByRecursion, flat_map};
 ghost use Rattle.wu_ask.specs.Questions.{Finding as AskedFinding};
 ghost use Rattle.wu_base.specs.declared.limits.TheConstants.{TEXT_MAX};
@@ -9,12 +9,13 @@ ghost use Rattle.wu_solve.specs.Addresses.{AreLists};
 ghost use Rattle.wu_space.specs.Addresses.{Ranges};
 ghost use Rattle.wu_engine.specs.Answer.{answer, found_line};
 ghost use Rattle.wu_engine.specs.Asked.{blocks_for, terms_of as named_in};
-ghost use Rattle.wu_engine.specs.Causes.{IsDamagedAt, IsDamagedIn};
-ghost use Rattle.wu_engine.specs.Finding.{AreTextsOf, CanBeRead, IsBelow, IsBrokenIn, IsCause, KeepsTexts, counted_from, extents_of, hits_at, lines_at, lines_of_record, looked_through, text_at};
-ghost use Rattle.wu_engine.specs.Permitted.{IsOneOfTexts, MayReadForQuery, ReadsOnly};
+ghost use Rattle.wu_engine.specs.Causes.{IsBrokenIn, IsDamagedOver};
+ghost use Rattle.wu_engine.specs.Finding.{AreFirstOf, AreTextsOf, CanBeRead, IsBelow, IsCause, KeepsTexts, counted_from, extents_of, hits_at, lines_at, lines_of_record, looked_through, text_at, IsBrokenShown};
+ghost use Rattle.wu_engine.specs.Permitted.{AreReadForQuery, ReadsSuch};
 ghost use Rattle.wu_engine.specs.Reads.{HasWholeText, IsTextOf, ReadsInTurn, texts_shown, whole_text};
 ghost use Rattle.wu_engine.specs.States.{State};
-ghost use Rattle.wu_engine.specs.Units.{CanBeSearched, Indexes, TellsPostings};
+ghost use Rattle.wu_engine.specs.Searched.{Indexes, TellsPostings};
+ghost use Rattle.wu_engine.specs.Units.{CanBeSearched};
 ghost use Rattle.wu_engine.specs.View.{view_of};
 
 use crate::fetching::lists_of;
@@ -58,13 +59,13 @@ pub fn find<D: Store>(
         (D.holds store.old) parts.old.kept parts.new.kept (D.reads store.old) (D.reads store.new)) }
     ensures permitted { (live : Ranges) (s : State) (uid : ℕ) → Indexes frames.now live s uid
         → TellsPostings parts.old (D.holds store.old) s → KeepsTexts files.now.entries (D.holds store.old) s
-        → ReadsOnly (MayReadForQuery s uid (AskedFinding k (region_of expr.now))) (D.reads store.old) (D.reads store.new) }
+        → ReadsSuch (AreReadForQuery s uid (AskedFinding k (region_of expr.now))) (D.reads store.old) (D.reads store.new) }
     ensures others { parts.new ≡ record parts.old { kept = parts.new.kept } }
     ensures holds { D.holds store.new ≡ D.holds store.old }
     ensures moments { D.moments store.new ≡ D.moments store.old }
     ensures calm { OnOk result (D.faults store.new ≡ D.faults store.old) }
-    ensures cause { IfErr result (IsCause (IsDamagedIn files.now.entries parts.old (D.holds store.old))
-        (D.faults store.old) (D.faults store.new)) }
+    ensures cause { IfErr result (IsCause (IsDamagedOver frames.now (AskedFinding k (region_of expr.now)) parts.old files.now.entries
+        (D.holds store.old)) (D.faults store.old) (D.faults store.new)) }
 {
     let _untouched = &*store;
     let terms = terms_of(alloc, expr)?;
@@ -113,11 +114,12 @@ fn lines_shown<D: Store>(
     ensures reads { OnOk result (D.reads store.new ≡ option_map (λ ranges. ranges
         ++ texts_shown (hits_at files.now.entries (region_of expr.now) lists.now)
         (text_at files.now.entries) k (looked_through few (region_of expr.now) lists.now frames.now)) (D.reads store.old)) }
-    ensures only { ReadsOnly (IsOneOfTexts (texts_shown (hits_at files.now.entries (region_of expr.now) lists.now)
+    ensures only { ReadsSuch (AreFirstOf (texts_shown (hits_at files.now.entries (region_of expr.now) lists.now)
         (text_at files.now.entries) k (looked_through few (region_of expr.now) lists.now frames.now)))
         (D.reads store.old) (D.reads store.new) }
     ensures calm { OnOk result (D.faults store.new ≡ D.faults store.old) }
-    ensures cause { IfErr result (IsCause (IsDamagedAt files.now.entries (D.holds store.old)) (D.faults store.old) (D.faults store.new)) }
+    ensures cause { IfErr result (IsCause (IsBrokenShown files.now.entries (D.holds store.old) (region_of expr.now) lists.now
+        k (looked_through few (region_of expr.now) lists.now frames.now)) (D.faults store.old) (D.faults store.new)) }
 {
     let _untouched = &*store;
     if !few {
@@ -150,11 +152,12 @@ fn first_lines<D: Store>(
     ensures reads { OnOk result (D.reads store.new ≡ option_map (λ ranges. ranges
         ++ texts_shown (hits_at files.now.entries (region_of expr.now) lists.now)
         (text_at files.now.entries) k view.now) (D.reads store.old)) }
-    ensures only { ReadsOnly (IsOneOfTexts (texts_shown (hits_at files.now.entries (region_of expr.now) lists.now)
+    ensures only { ReadsSuch (AreFirstOf (texts_shown (hits_at files.now.entries (region_of expr.now) lists.now)
         (text_at files.now.entries) k view.now)) (D.reads store.old) (D.reads store.new) }
     ensures none { k ≡ 0 → store.new ≡ store.old }
     ensures calm { OnOk result (D.faults store.new ≡ D.faults store.old) }
-    ensures cause { IfErr result (IsCause (IsDamagedAt files.now.entries (D.holds store.old)) (D.faults store.old) (D.faults store.new)) }
+    ensures cause { IfErr result (IsCause (IsBrokenShown files.now.entries (D.holds store.old) (region_of expr.now) lists.now
+        k view.now) (D.faults store.old) (D.faults store.new)) }
 {
     let mut shown = Vec::new(alloc);
     for seen in view {
@@ -193,10 +196,11 @@ fn put_file<D: Store>(
         ++ (if nat_lt 0 (min left (hits_at files.now.entries (region_of expr.now) lists.now seen.now))
         then text_at files.now.entries seen.now else []))
         (D.reads store.old)) }
-    ensures only { ReadsOnly (IsOneOfTexts (if nat_lt 0 (min left (hits_at files.now.entries (region_of expr.now) lists.now seen.now))
+    ensures only { ReadsSuch (AreFirstOf (if nat_lt 0 (min left (hits_at files.now.entries (region_of expr.now) lists.now seen.now))
         then text_at files.now.entries seen.now else [])) (D.reads store.old) (D.reads store.new) }
     ensures calm { OnOk result (D.faults store.new ≡ D.faults store.old) }
-    ensures cause { IfErr result (IsCause (IsDamagedAt files.now.entries (D.holds store.old)) (D.faults store.old) (D.faults store.new)) }
+    ensures cause { IfErr result (IsCause (IsBrokenShown files.now.entries (D.holds store.old) (region_of expr.now) lists.now
+        left (seen.now ∷ [])) (D.faults store.old) (D.faults store.new)) }
 {
     match files.get(&seen.ino) {
         Some(file) => {
@@ -260,10 +264,11 @@ fn put_lines<D: Store>(
     ensures moments { D.moments store.new ≡ D.moments store.old }
     ensures reads { OnOk result (D.reads store.new ≡ option_map (λ ranges. ranges
         ++ (if nat_lt 0 (length extents.now) then whole_text file.now.blob file.now.len else [])) (D.reads store.old)) }
-    ensures only { ReadsOnly (IsOneOfTexts (if nat_lt 0 (length extents.now) then whole_text file.now.blob file.now.len else []))
+    ensures only { ReadsSuch (AreFirstOf (if nat_lt 0 (length extents.now) then whole_text file.now.blob file.now.len else []))
         (D.reads store.old) (D.reads store.new) }
     ensures calm { OnOk result (D.faults store.new ≡ D.faults store.old) }
-    ensures cause { IfErr result (IsCause (IsBrokenIn (D.holds store.old) file.now) (D.faults store.old) (D.faults store.new)) }
+    ensures cause { IfErr result (IsCause (λ blob. (0 < length extents.now) × IsBrokenIn (D.holds store.old) file.now blob)
+        (D.faults store.old) (D.faults store.new)) }
 {
     if extents.is_empty() {
         return Ok(());

@@ -2,15 +2,17 @@
 ghost use Rattle.std.specs.Prelude.{◌≡◌, ℕ, IfOk, IfErr, OnOk};
 ghost use Rattle.std.specs.List.{AllByRecursion};
 ghost use Rattle.wu_ask.specs.Questions.{question_of, IsSoundAsk};
+ghost use Rattle.wu_frames.specs.UserFrames.{HasAsked};
 ghost use Rattle.wu_engine.specs.Answer.{answer};
 ghost use Rattle.wu_engine.specs.Asked.{blocks_for, terms_asked};
-ghost use Rattle.wu_engine.specs.Causes.{IsDamagedIn};
+ghost use Rattle.wu_engine.specs.Causes.{IsDamagedFor, IsDamagedOver};
 ghost use Rattle.wu_engine.specs.Finding.{AreTextsOf, CanBeRead, IsCause, KeepsTexts};
-ghost use Rattle.wu_engine.specs.Permitted.{MayReadForQuery, ReadsOnly};
+ghost use Rattle.wu_engine.specs.Permitted.{AreReadForQuery, ReadsSuch};
 ghost use Rattle.wu_engine.specs.Reads.{AreTexts, ReadsForQuery, ReadsInTurn, texts_read};
 ghost use Rattle.wu_engine.specs.Soundness.{IsSound};
 ghost use Rattle.wu_engine.specs.States.{State};
-ghost use Rattle.wu_engine.specs.Units.{CanBeSearched, Indexes, IsIndexOf, TellsPostings};
+ghost use Rattle.wu_engine.specs.Searched.{Indexes, IsIndexOf, TellsPostings};
+ghost use Rattle.wu_engine.specs.Units.{CanBeSearched};
 ghost use Rattle.wu_engine.specs.View.{view_of};
 
 use crate::counting::count;
@@ -53,13 +55,14 @@ pub fn answered<D: Store>(
         (D.holds store.old) (D.reads store.old) (D.reads store.new)) }
     ensures permitted { (s : State) → tree.now ≡ s.tree → IsIndexOf space.now.ranges s
         → TellsPostings parts.old (D.holds store.old) s → KeepsTexts files.now.entries (D.holds store.old) s
-        → ReadsOnly (MayReadForQuery s query.now.uid (question_of query.now.ask)) (D.reads store.old) (D.reads store.new) }
+        → ReadsSuch (AreReadForQuery s query.now.uid (question_of query.now.ask)) (D.reads store.old) (D.reads store.new) }
     ensures others { parts.new ≡ record parts.old { kept = parts.new.kept } }
+    ensures frames { OnOk result (HasAsked query.now.uid kept.old kept.new) }
     ensures holds { D.holds store.new ≡ D.holds store.old }
     ensures moments { D.moments store.new ≡ D.moments store.old }
     ensures calm { OnOk result (D.faults store.new ≡ D.faults store.old) }
-    ensures cause { IfErr result (IsCause (IsDamagedIn files.now.entries parts.old (D.holds store.old))
-        (D.faults store.old) (D.faults store.new)) }
+    ensures cause { IfErr result (IsCause (IsDamagedFor tree.now space.now.ranges query.now.uid (question_of query.now.ask)
+        parts.old files.now.entries (D.holds store.old)) (D.faults store.old) (D.faults store.new)) }
 {
     let _untouched = &*store;
     space.keeps_the_rules();
@@ -91,12 +94,12 @@ fn answer<D: Store>(
         (D.holds store.old) parts.old.kept parts.new.kept (D.reads store.old) (D.reads store.new)) }
     ensures permitted { (s : State) (uid : ℕ) → Indexes frames.now space.now.ranges s uid
         → TellsPostings parts.old (D.holds store.old) s → KeepsTexts files.now.entries (D.holds store.old) s
-        → ReadsOnly (MayReadForQuery s uid (question_of ask.now)) (D.reads store.old) (D.reads store.new) }
+        → ReadsSuch (AreReadForQuery s uid (question_of ask.now)) (D.reads store.old) (D.reads store.new) }
     ensures others { parts.new ≡ record parts.old { kept = parts.new.kept } }
     ensures holds { D.holds store.new ≡ D.holds store.old }
     ensures moments { D.moments store.new ≡ D.moments store.old }
     ensures calm { OnOk result (D.faults store.new ≡ D.faults store.old) }
-    ensures cause { IfErr result (IsCause (IsDamagedIn files.now.entries parts.old (D.holds store.old))
+    ensures cause { IfErr result (IsCause (IsDamagedOver frames.now (question_of ask.now) parts.old files.now.entries (D.holds store.old))
         (D.faults store.old) (D.faults store.new)) }
 {
     let _untouched = &*store;

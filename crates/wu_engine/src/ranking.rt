@@ -13,7 +13,8 @@ ghost use Rattle.wu_rank.specs.Order.{listed};
 ghost use Rattle.wu_engine.specs.Answer.{answer};
 ghost use Rattle.wu_engine.specs.Asked.{blocks_for, terms_of as named_in, with_word, with_words};
 ghost use Rattle.wu_engine.specs.States.{State};
-ghost use Rattle.wu_engine.specs.Units.{AreUnitsIn, CanBeRanked, CanBeSearched, Indexes, IsAmong, IsCauseFor, TellsPostings, found_in, list_at, list_in};
+ghost use Rattle.wu_engine.specs.Searched.{Indexes, TellsPostings};
+ghost use Rattle.wu_engine.specs.Units.{AreUnitsIn, CanBeRanked, CanBeSearched, IsAmong, IsCauseFor, found_in, list_at, list_in};
 ghost use Rattle.wu_engine.specs.View.{view_of};
 
 use crate::fetching::{is_among, lists_of, lists_of_words};

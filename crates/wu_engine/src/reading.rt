@@ -2,8 +2,9 @@
 ghost use Rattle.std.specs.Prelude.{◌≡◌, ◌<◌, ◌≤◌, ◌++◌, [], ◌∷◌, Some, length, option_map, IfOk, IfErr, IfSome, OnOk};
 ghost use Rattle.wu_base.specs.declared.limits.TheConstants.{TEXT_MAX};
 ghost use Rattle.wu_token.specs.Tokens.{tokens_of};
-ghost use Rattle.wu_engine.specs.Finding.{IsBrokenIn, IsCause, text_held};
-ghost use Rattle.wu_engine.specs.Permitted.{IsOneOfTexts, ReadsOnly};
+ghost use Rattle.wu_engine.specs.Finding.{AreFirstOf, IsCause, text_held};
+ghost use Rattle.wu_engine.specs.Causes.{IsBrokenIn};
+ghost use Rattle.wu_engine.specs.Permitted.{ReadsSuch};
 ghost use Rattle.wu_engine.specs.Reads.{HasWholeText, whole_text};
 ghost use Rattle.wu_engine.specs.Soundness.{IsRecord};
 
@@ -26,7 +27,7 @@ pub fn read_text<D: Store>(alloc: Global, store: &mut D, file: &FileRec) -> Resu
     ensures moments { D.moments store.new ≡ D.moments store.old }
     ensures reads { OnOk result (D.reads store.new
         ≡ option_map (λ ranges. ranges ++ whole_text file.now.blob file.now.len) (D.reads store.old)) }
-    ensures only { ReadsOnly (IsOneOfTexts (whole_text file.now.blob file.now.len)) (D.reads store.old) (D.reads store.new) }
+    ensures only { ReadsSuch (AreFirstOf (whole_text file.now.blob file.now.len)) (D.reads store.old) (D.reads store.new) }
     ensures calm { OnOk result (D.faults store.new ≡ D.faults store.old) }
     ensures cause { IfErr result (IsCause (IsBrokenIn (D.holds store.old) file.now) (D.faults store.old) (D.faults store.new)) }
 {
@@ -50,7 +51,7 @@ fn read_blob<D: Store>(alloc: Global, store: &mut D, file: &FileRec) -> Result<V
     ensures moments { D.moments store.new ≡ D.moments store.old }
     ensures reads { OnOk result (D.reads store.new
         ≡ option_map (λ ranges. ranges ++ record { blob = file.now.blob; at = 0; len = file.now.len } ∷ []) (D.reads store.old)) }
-    ensures only { ReadsOnly (IsOneOfTexts (record { blob = file.now.blob; at = 0; len = file.now.len } ∷ []))
+    ensures only { ReadsSuch (AreFirstOf (record { blob = file.now.blob; at = 0; len = file.now.len } ∷ []))
         (D.reads store.old) (D.reads store.new) }
     ensures calm { OnOk result (D.faults store.new ≡ D.faults store.old) }
     ensures cause { IfErr result (IsCause (IsBrokenIn (D.holds store.old) file.now) (D.faults store.old) (D.faults store.new)) }

@@ -2,9 +2,8 @@
 ghost use Rattle.std.specs.Prelude.{◌≡◌};
 ghost use Rattle.wu_space.specs.Addresses.{Addresses};
 ghost use Rattle.wu_tree.specs.FileSystems.{FileSystem, node_of};
-ghost use Rattle.wu_tree.specs.Rules.{IsTree};
 ghost use Rattle.wu_frames.specs.UserFrames.{AreFor};
-ghost use Rattle.wu_engine.specs.Renewing.{Touches, perm_touched, touched_of};
+ghost use Rattle.wu_engine.specs.Renewing.{AreLeft, Touches, perm_touched, touched_of};
 
 use wu_base::{Ino, Range, Uid};
 use wu_frames::{FrameCache, LinkChanges, links_changed};
@@ -22,21 +21,19 @@ pub(crate) enum Touched {
     GroupsOf(Uid),
     /// Links, and the ranges of files that come or go with them.
     Links(LinkChanges),
-    /// Anything else.
-    Other,
+    /// Nothing: there is no such file or node, and the event is refused.
+    Nothing,
 }
 
 /// What the event changes, if it is accepted.
 pub(crate) fn touched_by(tree: &Tree, space: &Space, event: &Event) -> Touched
-    ensures touched { result ≡ touched_of tree.now space.now.ranges event.now }
-    ensures rules { IsTree tree.now }
+    ensures { result ≡ touched_of tree.now space.now.ranges event.now }
 {
-    tree.keeps_the_rules();
     match event {
         Event::User { uid, .. } => Touched::GroupsOf(*uid),
         Event::Text { ino } => match space.range_of(*ino) {
             Some(range) => Touched::RangeOf(*ino, range),
-            None => Touched::Other,
+            None => Touched::Nothing,
         },
         Event::Chmod { ino, .. } => perm_touched(tree, *ino),
         Event::Chown { ino, .. } => perm_touched(tree, *ino),
@@ -50,7 +47,7 @@ fn perm_touched(tree: &Tree, ino: Ino) -> Touched
 {
     match tree.node(ino) {
         Some(node) => Touched::PermOf(ino, node),
-        None => Touched::Other,
+        None => Touched::Nothing,
     }
 }
 
@@ -58,8 +55,10 @@ fn perm_touched(tree: &Tree, ino: Ino) -> Touched
 /// permissions of a node, other groups of a user, or links that were made, removed or moved those stay that it
 /// doesn't change.
 pub(crate) fn renew_frames(frames: &mut FrameCache, tree: &Tree, space: &Space, touched: Touched)
-    ensures { (fs : FileSystem) (before : Addresses) → Touches fs before tree.now space.now touched
+    ensures right { (fs : FileSystem) (before : Addresses) → Touches fs before tree.now space.now touched
         → AreFor fs before.ranges frames.old → AreFor tree.now space.now.ranges frames.new }
+    ensures left { (fs : FileSystem) (before : Addresses) → Touches fs before tree.now space.now touched
+        → AreLeft tree.now touched frames.old frames.new }
 {
     match touched {
         Touched::RangeOf(ino, old) => match space.range_of(ino) {
@@ -75,6 +74,6 @@ pub(crate) fn renew_frames(frames: &mut FrameCache, tree: &Tree, space: &Space, 
             // Out of memory, all frames are forgotten.
             let _ = frames.relink(tree, links);
         }
-        Touched::Other => frames.clear(),
+        Touched::Nothing => frames.clear(),
     }
 }

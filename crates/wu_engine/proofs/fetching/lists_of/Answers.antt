@@ -6,7 +6,8 @@ use Rattle.wu_outside.specs.Content.{Content}
 use Rattle.wu_parts.specs.Contents.{Contents}
 use Rattle.wu_engine.specs.Asked.{blocks_for}
 use Rattle.wu_engine.specs.States.{State}
-use Rattle.wu_engine.specs.Units.{IsCauseFor, TellsPostings, found_in}
+use Rattle.wu_engine.specs.Searched.{TellsPostings}
+use Rattle.wu_engine.specs.Units.{IsCauseFor, found_in}
 use Rattle.wu_engine.proofs.FetchedLists.{ascending_next, asked_next, cause_next, fails_on_the_way, lists_next, named_next, others_next}
 use Rattle.wu_engine.proofs.PassedCauses.{cause_at_once, err_from}
 use Rattle.wu_engine.proofs.ToldPostings.{still_told}

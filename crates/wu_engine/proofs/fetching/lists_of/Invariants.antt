@@ -4,7 +4,8 @@ use Rattle.std.specs.List.Sorted.{IsStrictlyIncreasing}
 use Rattle.wu_lists.specs.Keeping.{Asks}
 use Rattle.wu_engine.specs.Asked.{blocks_for}
 use Rattle.wu_engine.specs.States.{State}
-use Rattle.wu_engine.specs.Units.{TellsPostings, found_in, list_at}
+use Rattle.wu_engine.specs.Searched.{TellsPostings}
+use Rattle.wu_engine.specs.Units.{found_in, list_at}
 use Rattle.wu_engine.proofs.fetching.lists_of.Given as goal
 
 -- the terms so far have their lists, and were asked for in turn

@@ -5,7 +5,8 @@ use Rattle.wu_outside.specs.Content.{Content}
 use Rattle.wu_parts.specs.Contents.{Contents}
 use Rattle.wu_engine.specs.Asked.{blocks_for}
 use Rattle.wu_engine.specs.States.{State}
-use Rattle.wu_engine.specs.Units.{IsCauseFor, TellsPostings, found_in}
+use Rattle.wu_engine.specs.Searched.{TellsPostings}
+use Rattle.wu_engine.specs.Units.{IsCauseFor, found_in}
 use Rattle.wu_engine.proofs.FetchedLists.{asked_next, cause_next, others_next, wanted_next}
 use Rattle.wu_engine.proofs.PassedCauses.{err_from}
 use Rattle.wu_engine.proofs.ToldPostings.{still_told}

@@ -4,7 +4,8 @@ use Rattle.std.specs.List.Sorted.{IsStrictlyIncreasing}
 use Rattle.wu_lists.specs.Keeping.{Asks}
 use Rattle.wu_engine.specs.Asked.{blocks_for}
 use Rattle.wu_engine.specs.States.{State}
-use Rattle.wu_engine.specs.Units.{TellsPostings, found_in, list_at, wanted}
+use Rattle.wu_engine.specs.Searched.{TellsPostings}
+use Rattle.wu_engine.specs.Units.{found_in, list_at, wanted}
 use Rattle.wu_engine.proofs.fetching.lists_of_words.Given as goal
 
 -- those of the terms so far that are words have their lists, and all of them were asked for in turn

@@ -9,16 +9,17 @@ use Rattle.wu_lists.specs.Keeping.{Asks}
 use Rattle.wu_outside.specs.Content.{Content}
 use Rattle.wu_outside.specs.declared.ranges.ReadRange.{ReadRange}
 use Rattle.wu_engine.specs.Asked.{blocks_for}
-use Rattle.wu_engine.specs.Causes.{IsDamagedIn}
-use Rattle.wu_engine.specs.Finding.{hits_at, lines_at, looked_through, text_at}
-use Rattle.wu_engine.specs.Permitted.{IsOneOfTexts, ReadsOnly}
+use Rattle.wu_engine.specs.Causes.{IsDamagedOver}
+use Rattle.wu_engine.specs.Finding.{AreFirstOf, hits_at, lines_at, looked_through, text_at}
+use Rattle.wu_engine.specs.Permitted.{ReadsSuch}
 use Rattle.wu_engine.specs.Reads.{IsTextOf, texts_shown}
 use Rattle.wu_engine.specs.Units.{found_in, list_at}
 use Rattle.wu_engine.proofs.AskedTerms.{terms_named}
 use Rattle.wu_engine.proofs.FilesWithExtents.{looked_answer, looked_shown, looked_texts}
 use Rattle.wu_engine.proofs.FoundLines.{are_texts}
 use Rattle.wu_engine.proofs.FramesOfFiles.{are_lists}
-use Rattle.wu_engine.proofs.QueryReads.{cause_of_fetch, cause_of_memory, cause_of_text}
+use Rattle.wu_engine.proofs.DamagedTexts.{cause_of_text}
+use Rattle.wu_engine.proofs.QueryReads.{cause_of_fetch, cause_of_memory}
 use Rattle.wu_engine.proofs.PermittedBlocks.{asked_permitted, failed_permitted}
 use Rattle.wu_engine.proofs.PermittedTexts.{shown_permitted}
 use Rattle.wu_engine.proofs.UnitLemmas.{apart, searched_few}
@@ -94,7 +95,7 @@ returns-clause-reads g c =
         shown = λ live s uid is tells keeps.
             looked_texts c.args.frames.now live s uid is region terms c.in_ok-terms.ensures files lists
             (c.in_ok-lists.ensures.lists s tells ∙ ap (map (list_at (found_in c.args.frames.now.ranges s))) c.deref.ensures.value)
-            c.args.k few (g.D.Store.holds c.args.store.now) keeps;
+            c.args.k few keeps.records;
       };
       read = subst (λ (ls : List TermList). reads c.lines_shown.new.store
           ≡ option_map (λ ranges. ranges ++ texts_shown (hits_at files region ls) (text_at files) c.args.k
@@ -106,26 +107,33 @@ pub returns-in_err-terms-clause-cause : goal.returns-in_err-terms-clause-cause
 returns-in_err-terms-clause-cause g c =
     let faults = g.D.Store.faults c.args.store.now in
     cause_of_memory c.from_residual.result faults faults
-    (IsDamagedIn c.args.files.now.entries c.args.parts.now (g.D.Store.holds c.args.store.now)) refl c.from_residual.ensures.1
+    (IsDamagedOver c.args.frames.now (Finding c.args.k (region_of c.args.expr.now)) c.args.parts.now c.args.files.now.entries
+    (g.D.Store.holds c.args.store.now)) refl c.from_residual.ensures.1
 
 pub returns-in_err-lists-clause-cause : goal.returns-in_err-lists-clause-cause
 returns-in_err-lists-clause-cause g c =
     cause_of_fetch c.from_residual-in_err-lists.result (g.D.Store.faults c.args.store.now) (g.D.Store.faults c.lists_of.new.store)
-    c.args.files.now.entries c.args.parts.now (g.D.Store.holds c.args.store.now)
-    c.in_err-lists.field-0.0 c.from_residual-in_err-lists.ensures.1
-    _ _ _ c.in_err-lists.ensures.cause
+    c.args.frames.now (Finding c.args.k (region_of c.args.expr.now)) c.args.parts.now c.args.files.now.entries
+    (g.D.Store.holds c.args.store.now) c.in_err-lists.field-0.0 c.from_residual-in_err-lists.ensures.1 c.deref.result.now
+    (c.deref.ensures.value ∙ terms_named (region_of c.args.expr.now) c.in_ok-terms.terms.items c.in_ok-terms.ensures)
+    _ _ c.in_err-lists.ensures.cause
 
 pub returns-in_err-counts-clause-cause : goal.returns-in_err-counts-clause-cause
 returns-in_err-counts-clause-cause g c =
     cause_of_memory c.from_residual-in_err-counts.result (g.D.Store.faults c.args.store.now) (g.D.Store.faults c.lists_of.new.store)
-    (IsDamagedIn c.args.files.now.entries c.args.parts.now (g.D.Store.holds c.args.store.now)) c.in_ok-lists.ensures.calm
+    (IsDamagedOver c.args.frames.now (Finding c.args.k (region_of c.args.expr.now)) c.args.parts.now c.args.files.now.entries
+    (g.D.Store.holds c.args.store.now)) c.in_ok-lists.ensures.calm
     c.from_residual-in_err-counts.ensures.1
 
 pub returns-in_err-shown-clause-cause : goal.returns-in_err-shown-clause-cause
 returns-in_err-shown-clause-cause g c =
     cause_of_text c.from_residual-in_err-shown.result (g.D.Store.faults c.args.store.now) (g.D.Store.faults c.lines_shown.new.store)
-    c.args.files.now.entries c.args.parts.now (g.D.Store.holds c.args.store.now)
+    c.args.frames.now c.args.parts.now c.args.files.now.entries (g.D.Store.holds c.args.store.now)
     c.in_err-shown.field-0.0 c.from_residual-in_err-shown.ensures.1
+    (region_of c.args.expr.now) c.in_ok-terms.terms.items c.in_ok-terms.ensures c.deref-3.result.now
+    (λ s tells. c.deref-3.ensures.value ∙ c.in_ok-lists.ensures.lists s tells
+    ∙ ap (map (list_at (found_in c.args.frames.now.ranges s))) c.deref.ensures.value)
+    c.args.k (nat_le c.in_ok-counts.counts.hits 4096)
     (g.D.Store.holds c.lists_of.new.store) (g.D.Store.faults c.lists_of.new.store) c.lists_of.ensures.holds c.in_ok-lists.ensures.calm
     c.in_err-shown.ensures.cause
 
@@ -152,12 +160,12 @@ returns-in_err-shown-clause-permitted g c = λ live s uid is tells keeps.
     c.args.parts.now (g.D.Store.holds c.args.store.now) tells keeps c.deref.result.now c.deref.ensures.value c.lists_of.new.parts.kept
     (g.D.Store.reads c.args.store.now) (g.D.Store.reads c.lists_of.new.store) (g.D.Store.reads c.lines_shown.new.store)
     c.in_ok-lists.ensures.blocks c.args.k c.args.frames.now.seen refl
-    (subst (λ (texts : List ReadRange). ReadsOnly (IsOneOfTexts texts) (g.D.Store.reads c.lists_of.new.store)
+    (subst (λ (texts : List ReadRange). ReadsSuch (AreFirstOf texts) (g.D.Store.reads c.lists_of.new.store)
     (g.D.Store.reads c.lines_shown.new.store))
     (looked_shown c.args.frames.now live s uid is (region_of c.args.expr.now) c.in_ok-terms.terms.items c.in_ok-terms.ensures
     c.args.files.now.entries c.deref-3.result.now
     (c.deref-3.ensures.value ∙ c.in_ok-lists.ensures.lists s tells ∙ ap (map (list_at found)) c.deref.ensures.value)
-    c.args.k (nat_le c.in_ok-counts.counts.hits 4096) (g.D.Store.holds c.args.store.now) keeps)
+    c.args.k (nat_le c.in_ok-counts.counts.hits 4096) keeps.records)
     c.in_err-shown.ensures.only)
 
 pub returns-clause-permitted : goal.returns-clause-permitted
@@ -169,10 +177,10 @@ returns-clause-permitted g c = λ live s uid is tells keeps.
     c.args.parts.now (g.D.Store.holds c.args.store.now) tells keeps c.deref.result.now c.deref.ensures.value c.lists_of.new.parts.kept
     (g.D.Store.reads c.args.store.now) (g.D.Store.reads c.lists_of.new.store) (g.D.Store.reads c.lines_shown.new.store)
     c.in_ok-lists.ensures.blocks c.args.k c.args.frames.now.seen refl
-    (subst (λ (texts : List ReadRange). ReadsOnly (IsOneOfTexts texts) (g.D.Store.reads c.lists_of.new.store)
+    (subst (λ (texts : List ReadRange). ReadsSuch (AreFirstOf texts) (g.D.Store.reads c.lists_of.new.store)
     (g.D.Store.reads c.lines_shown.new.store))
     (looked_shown c.args.frames.now live s uid is (region_of c.args.expr.now) c.in_ok-terms.terms.items c.in_ok-terms.ensures
     c.args.files.now.entries c.deref-3.result.now
     (c.deref-3.ensures.value ∙ c.in_ok-lists.ensures.lists s tells ∙ ap (map (list_at found)) c.deref.ensures.value)
-    c.args.k (nat_le c.in_ok-counts.counts.hits 4096) (g.D.Store.holds c.args.store.now) keeps)
+    c.args.k (nat_le c.in_ok-counts.counts.hits 4096) keeps.records)
     c.in_ok-shown.ensures.only)

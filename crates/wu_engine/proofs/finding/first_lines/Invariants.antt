@@ -3,9 +3,8 @@ use Rattle.std.specs.Prelude.{IfSome, option_map}
 use Rattle.std.specs.List.{AllByRecursion, flat_map}
 use Rattle.wu_gcl.specs.Regions.{region_of}
 use Rattle.wu_engine.specs.Finding.{hits_at, lines_at, text_at}
-use Rattle.wu_engine.specs.Permitted.{IsOneOfTexts, ReadsOnly}
+use Rattle.wu_engine.specs.Permitted.{ReadsSuch}
 use Rattle.wu_engine.specs.Reads.{IsTextOf, texts_shown}
-use Rattle.wu_engine.proofs.PermittedTexts.{AreAmong}
 use Rattle.wu_engine.proofs.finding.first_lines.Given as goal
 
 -- with those of the files to come, the lines so far are the first ones, and so are the texts read so far
@@ -29,9 +28,8 @@ invariant-loop-seen g l = record {
       (l.k - length l.shown.items) (drop l.seen-index l.view))
       → AllByRecursion (IsTextOf (g.D.Store.holds l.fn.store) l.files.entries)
       (texts_shown (hits_at l.files.entries (region_of l.expr) l.lists) (text_at l.files.entries) l.k l.view);
-  only : ReadsOnly (IsOneOfTexts (texts_shown (hits_at l.files.entries (region_of l.expr) l.lists) (text_at l.files.entries) l.k l.view))
+  only : ReadsSuch (λ read. read ++ texts_shown (hits_at l.files.entries (region_of l.expr) l.lists) (text_at l.files.entries)
+      (l.k - length l.shown.items) (drop l.seen-index l.view)
+      ≡ texts_shown (hits_at l.files.entries (region_of l.expr) l.lists) (text_at l.files.entries) l.k l.view)
       (g.D.Store.reads l.fn.store) (g.D.Store.reads l.store);
-  left : AreAmong (texts_shown (hits_at l.files.entries (region_of l.expr) l.lists) (text_at l.files.entries)
-      (l.k - length l.shown.items) (drop l.seen-index l.view))
-      (texts_shown (hits_at l.files.entries (region_of l.expr) l.lists) (text_at l.files.entries) l.k l.view);
 }

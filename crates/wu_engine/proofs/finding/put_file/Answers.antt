@@ -1,16 +1,17 @@
-use Rattle.std.proofs.Common.{◌≡◌, ◌++◌, ◌∙◌, ap, take, refl, sym}
+use Rattle.std.proofs.Common.{◌≡◌, ◌<◌, ◌∷◌, [], ◌++◌, ◌∙◌, ap, length, take, refl, sym}
 use Rattle.std.proofs.lemmas.Result.{on_ok_weaker}
 use Rattle.std.specs.Prelude.{IfSome}
 use Rattle.wu_ask.specs.declared.FindLine.{FindLine}
 use Rattle.std.specs.Prelude.{List}
 use Rattle.wu_gcl.specs.Regions.{region_of}
 use Rattle.wu_layout.proofs.EntryLemmas.{IfSome-map}
-use Rattle.wu_engine.specs.Causes.{IsDamagedAt}
-use Rattle.wu_engine.specs.Finding.{IsBrokenIn, IsCause, lines_at, lines_of_record}
+use Rattle.wu_engine.specs.Causes.{IsBrokenIn}
+use Rattle.wu_engine.specs.Finding.{IsCause, lines_at, lines_of_record, IsBrokenShown}
 use Rattle.wu_engine.proofs.AnswerLemmas.{if_ok}
 use Rattle.wu_engine.proofs.FirstLines.{lines_of_file}
 use Rattle.wu_engine.proofs.WholeTexts.{whole_shown}
-use Rattle.wu_engine.proofs.ReadCauses.{broken_file, cause_after, if_err, recorded}
+use Rattle.wu_engine.proofs.ReadCauses.{cause_after, if_err, recorded}
+use Rattle.wu_engine.proofs.DamagedTexts.{file_shown}
 use Rattle.wu_engine.proofs.finding.put_file.Goals as goal
 
 pub first_extents-requires-clause-record : goal.first_extents-requires-clause-record
@@ -43,13 +44,19 @@ returns-in_ok-extents-in-Some-clause-lines g c =
 pub returns-in_ok-extents-in-Some-clause-cause : goal.returns-in_ok-extents-in-Some-clause-cause
 returns-in_ok-extents-in-Some-clause-cause g c =
     let files = c.args.files.now.entries in
+    let region = region_of c.args.expr.now in
+    let lists = c.args.lists.now in
     let file = c.in-Some.file.now in
     let holds = g.D.Store.holds c.args.store.now in
     let before = g.D.Store.faults c.args.store.now in
     let now = g.D.Store.faults c.put_lines.new.store in
-    if_err (IsCause (IsBrokenIn holds file) before now) (IsCause (IsDamagedAt files holds) before now) c.put_lines.result
-    (λ trouble. cause_after (IsBrokenIn holds file) (IsDamagedAt files holds) before before now trouble refl
-    (broken_file holds c.args.seen.now.ino file files (sym c.in-Some.ensures.value)))
+    let extents = c.deref.result.now in
+    if_err (IsCause (λ blob. (0 < length extents) × IsBrokenIn holds file blob) before now)
+    (IsCause (IsBrokenShown files holds region lists c.args.left (c.args.seen.now ∷ [])) before now) c.put_lines.result
+    (λ trouble. cause_after (λ blob. (0 < length extents) × IsBrokenIn holds file blob)
+    (IsBrokenShown files holds region lists c.args.left (c.args.seen.now ∷ [])) before before now trouble refl
+    (file_shown files holds region lists c.args.seen.now file c.args.left extents (sym c.in-Some.ensures.value)
+    (c.deref.ensures.value ∙ c.in_ok-extents-in-Some.ensures.extents)))
     c.put_lines.ensures.cause
 
 pub returns-in_ok-extents-in-Some-clause-sound : goal.returns-in_ok-extents-in-Some-clause-sound

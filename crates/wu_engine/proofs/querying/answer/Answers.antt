@@ -1,5 +1,5 @@
 use Rattle.std.proofs.Common.{◌≡◌, ◌∙◌, ℕ, [], ap, refl, subst, sym}
-use Rattle.std.specs.Prelude.{OnOk}
+use Rattle.std.specs.Prelude.{IfErr, OnOk}
 use Rattle.std.proofs.lemmas.Result.{on_ok_weaker}
 use Rattle.wu_ask.specs.declared.Answered.{Answered}
 use Rattle.wu_ask.specs.declared.Ask.{Ask}
@@ -9,12 +9,13 @@ use Rattle.wu_lists.proofs.Asking.{asks-none}
 use Rattle.wu_space.specs.Addresses.{Ranges}
 use Rattle.wu_engine.specs.Answer.{answer}
 use Rattle.wu_engine.specs.Asked.{blocks_for, terms_asked}
-use Rattle.wu_engine.specs.Causes.{IsDamagedIn}
+use Rattle.wu_engine.specs.Causes.{IsDamagedOver}
 use Rattle.wu_engine.specs.Finding.{AreTextsOf, IsCause, KeepsTexts}
-use Rattle.wu_engine.specs.Permitted.{MayReadForQuery, ReadsOnly}
+use Rattle.wu_engine.specs.Permitted.{AreReadForQuery, ReadsSuch}
 use Rattle.wu_engine.specs.Reads.{ReadsInTurn}
 use Rattle.wu_engine.specs.States.{State}
-use Rattle.wu_engine.specs.Units.{Indexes, IsCauseFor, TellsPostings}
+use Rattle.wu_engine.specs.Searched.{Indexes, TellsPostings}
+use Rattle.wu_engine.specs.Units.{IsCauseFor}
 use Rattle.wu_engine.specs.View.{view_of}
 use Rattle.wu_engine.proofs.AnswerLemmas.{if_ok, paths_listed}
 use Rattle.wu_engine.proofs.FirstLines.{none_counted, none_listed, none_ranked}
@@ -58,7 +59,7 @@ returns-in-Count-clause-permitted g c = λ s uid is tells keeps.
     let question = Counting (region_of c.in-Count.expr) in
     let before = g.D.Store.reads c.args.store.now in
     let after = g.D.Store.reads c.count.new.store in
-    subst (λ (ask : Ask). ReadsOnly (MayReadForQuery s uid (question_of ask)) before after) (sym c.in-Count.is)
+    subst (λ (ask : Ask). ReadsSuch (AreReadForQuery s uid (question_of ask)) before after) (sym c.in-Count.is)
     (fetched_permitted c.args.frames.now c.args.space.now.ranges s uid is c.args.parts.now (g.D.Store.holds c.args.store.now) tells
     question (terms_asked question) refl before after c.count.result c.count.new.parts.kept _ _ c.count.ensures.blocks
     c.count.ensures.cause)
@@ -72,9 +73,14 @@ returns-in-Count-clause-cause g c =
     let now = g.D.Store.faults c.count.new.store in
     let before = g.D.Store.reads c.args.store.now in
     let after = g.D.Store.reads c.count.new.store in
-    if_err (IsCauseFor parts c.args.frames.now.ranges (terms_asked (Counting (region_of c.in-Count.expr))) holds faults now before after)
-    (IsCause (IsDamagedIn files parts holds) faults now) c.count.result
-    (λ trouble. cause_fetched files parts holds _ faults now before after trouble) c.count.ensures.cause
+    let frames = c.args.frames.now in
+    let question = Counting (region_of c.in-Count.expr) in
+    subst (λ (ask : Ask). IfErr c.count.result (IsCause (IsDamagedOver frames (question_of ask) parts files holds) faults now))
+    (sym c.in-Count.is)
+    (if_err (IsCauseFor parts frames.ranges (terms_asked question) holds faults now before after)
+    (IsCause (IsDamagedOver frames question parts files holds) faults now) c.count.result
+    (λ trouble. cause_fetched frames question parts files holds (terms_asked question) refl faults now before after trouble)
+    c.count.ensures.cause)
 
 pub returns-in-Find-clause-answer : goal.returns-in-Find-clause-answer
 returns-in-Find-clause-answer g c =
@@ -137,7 +143,7 @@ returns-in-Rank-clause-permitted g c = λ s uid is tells keeps.
     let question = Ranking c.in-Rank.k (region_of c.in-Rank.unit) c.in-Rank.words in
     let before = g.D.Store.reads c.args.store.now in
     let after = g.D.Store.reads c.ranked.new.store in
-    subst (λ (ask : Ask). ReadsOnly (MayReadForQuery s uid (question_of ask)) before after) (sym c.in-Rank.is)
+    subst (λ (ask : Ask). ReadsSuch (AreReadForQuery s uid (question_of ask)) before after) (sym c.in-Rank.is)
     (fetched_permitted c.args.frames.now c.args.space.now.ranges s uid is c.args.parts.now (g.D.Store.holds c.args.store.now) tells
     question (terms_asked question) refl before after c.ranked.result c.ranked.new.parts.kept _ _
     (rw c.as_slice.ensures at c.ranked.ensures.blocks) (rw c.as_slice.ensures at c.ranked.ensures.cause))
@@ -151,10 +157,14 @@ returns-in-Rank-clause-cause g c =
     let now = g.D.Store.faults c.ranked.new.store in
     let before = g.D.Store.reads c.args.store.now in
     let after = g.D.Store.reads c.ranked.new.store in
-    if_err (IsCauseFor parts c.args.frames.now.ranges
-    (terms_asked (Ranking c.in-Rank.k (region_of c.in-Rank.unit) c.as_slice.result.now)) holds faults now before after)
-    (IsCause (IsDamagedIn files parts holds) faults now) c.ranked.result
-    (λ trouble. cause_fetched files parts holds _ faults now before after trouble) c.ranked.ensures.cause
+    let frames = c.args.frames.now in
+    let question = Ranking c.in-Rank.k (region_of c.in-Rank.unit) c.in-Rank.words in
+    subst (λ (ask : Ask). IfErr c.ranked.result (IsCause (IsDamagedOver frames (question_of ask) parts files holds) faults now))
+    (sym c.in-Rank.is)
+    (if_err (IsCauseFor parts frames.ranges (terms_asked question) holds faults now before after)
+    (IsCause (IsDamagedOver frames question parts files holds) faults now) c.ranked.result
+    (λ trouble. cause_fetched frames question parts files holds (terms_asked question) refl faults now before after trouble)
+    (rw c.as_slice.ensures at c.ranked.ensures.cause))
 
 pub returns-in_ok-paths-in-Paths-clause-answer : goal.returns-in_ok-paths-in-Paths-clause-answer
 returns-in_ok-paths-in-Paths-clause-answer g c = λ s uid is tells texts.
@@ -178,4 +188,5 @@ pub returns-in_err-paths-in-Paths-clause-cause : goal.returns-in_err-paths-in-Pa
 returns-in_err-paths-in-Paths-clause-cause g c =
     let faults = g.D.Store.faults c.args.store.now in
     cause_of_memory c.from_residual.result faults faults
-    (IsDamagedIn c.args.files.now.entries c.args.parts.now (g.D.Store.holds c.args.store.now)) refl c.from_residual.ensures.1
+    (IsDamagedOver c.args.frames.now (question_of c.args.ask.now) c.args.parts.now c.args.files.now.entries
+    (g.D.Store.holds c.args.store.now)) refl c.from_residual.ensures.1

@@ -6,13 +6,14 @@ use Rattle.wu_frames.specs.UserFrames.{AreFrames}
 use Rattle.wu_frames.proofs.Keeping.{right-found}
 use Rattle.wu_tree.specs.FileSystems.{FileSystem}
 use Rattle.wu_engine.specs.Answer.{answer}
-use Rattle.wu_engine.specs.Causes.{IsDamagedIn}
-use Rattle.wu_engine.specs.Finding.{KeepsTexts}
+use Rattle.wu_engine.specs.Causes.{IsDamagedFor, IsDamagedOver}
+use Rattle.wu_engine.specs.Finding.{IsCause, KeepsTexts}
 use Rattle.wu_engine.specs.States.{State}
-use Rattle.wu_engine.specs.Units.{Indexes, IsIndexOf, TellsPostings}
+use Rattle.wu_engine.specs.Searched.{Indexes, IsIndexOf, TellsPostings}
 use Rattle.wu_engine.specs.View.{view_of}
 use Rattle.wu_engine.proofs.AnswerLemmas.{if_ok}
 use Rattle.wu_engine.proofs.QueryReads.{cause_of_memory, no_memory, reads_for}
+use Rattle.wu_engine.proofs.ReadCauses.{cause_after, if_err}
 use Rattle.wu_engine.proofs.Searching.{can_be_read, can_be_searched, sound_prepared}
 use Rattle.wu_engine.proofs.querying.answered.Goals as goal
 
@@ -85,13 +86,34 @@ returns-in-None-clause-sound g c =
     sound_prepared c.args.tree.now c.args.space.now c.args.parts.now c.args.parts.now c.args.files.now.entries c.args.kept.now
     c.prepare.new.self refl c.prepare.ensures.right c.requires.sound
 
+pub returns-in-Some-clause-cause : goal.returns-in-Some-clause-cause
+returns-in-Some-clause-cause g c =
+    let fs = c.args.tree.now in
+    let live = c.args.space.now.ranges in
+    let uid = c.args.query.now.uid in
+    let question = question_of c.args.query.now.ask in
+    let parts = c.args.parts.now in
+    let files = c.args.files.now.entries in
+    let frames = c.in-Some.frames.now in
+    let holds = g.D.Store.holds c.args.store.now in
+    let faults = g.D.Store.faults c.args.store.now in
+    let now = g.D.Store.faults c.answer.new.store in
+    let hers = right-found fs live uid c.prepare.new.self frames c.prepare.ensures.right c.in-Some.ensures in
+    if_err (IsCause (IsDamagedOver frames question parts files holds) faults now)
+    (IsCause (IsDamagedFor fs live uid question parts files holds) faults now) c.answer.result
+    (λ trouble. cause_after (IsDamagedOver frames question parts files holds) (IsDamagedFor fs live uid question parts files holds)
+    faults faults now trouble refl (λ blob needed. record { frames = frames; hers = hers; needed = needed }))
+    c.answer.ensures.cause
+
 pub returns-in_err-prepare-clause-cause : goal.returns-in_err-prepare-clause-cause
 returns-in_err-prepare-clause-cause g c =
     let faults = g.D.Store.faults c.args.store.now in
     cause_of_memory c.from_residual.result faults faults
-    (IsDamagedIn c.args.files.now.entries c.args.parts.now (g.D.Store.holds c.args.store.now)) refl c.from_residual.ensures.1
+    (IsDamagedFor c.args.tree.now c.args.space.now.ranges c.args.query.now.uid (question_of c.args.query.now.ask) c.args.parts.now
+    c.args.files.now.entries (g.D.Store.holds c.args.store.now)) refl c.from_residual.ensures.1
 
 pub returns-in-None-clause-cause : goal.returns-in-None-clause-cause
 returns-in-None-clause-cause g c =
-    no_memory (IsDamagedIn c.args.files.now.entries c.args.parts.now (g.D.Store.holds c.args.store.now))
+    no_memory (IsDamagedFor c.args.tree.now c.args.space.now.ranges c.args.query.now.uid (question_of c.args.query.now.ask) c.args.parts.now
+    c.args.files.now.entries (g.D.Store.holds c.args.store.now))
     (g.D.Store.faults c.args.store.now)

@@ -2,6 +2,7 @@ use Rattle.std.proofs.Common.{◌≡◌, refl}
 use Rattle.wu_base.specs.declared.troubles.Trouble.TheVariants.{Damaged}
 use Rattle.wu_ask.specs.Questions.{question_of}
 use Rattle.wu_engine.proofs.BrokenBlobs.{found_is_broken}
+use Rattle.wu_engine.proofs.DamagedTexts.{damaged_in}
 use Rattle.wu_engine.proofs.QueryStands.{postings_told, ranges_told, reads_of_engine, stands_on, texts_kept}
 use Rattle.wu_engine.proofs.engines.Engine.query.Goals as goal
 
@@ -26,4 +27,5 @@ returns-in-Err-clause-broken g c = λ start goes blob e.
     let same : c.in-Err.trouble ≡ Damaged blob = cc in
     found_is_broken start (g.D.Store.holds c.args.store.now) c.args.self.now.files.entries c.args.self.now.parts
     c.args.self.now.checkpoint blob goes.sound
-    (c.in-Err.ensures.cause.damaged blob same)
+    (damaged_in (g.D.Store.holds c.args.store.now) blob c.args.self.now.files.entries c.args.self.now.tree c.args.self.now.space.ranges
+    c.args.query.now.uid (question_of c.args.query.now.ask) c.args.self.now.parts (c.in-Err.ensures.cause.damaged blob same))

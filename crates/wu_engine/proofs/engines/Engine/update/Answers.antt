@@ -1,7 +1,7 @@
 use Rattle.std.proofs.Common.{[], ◌+◌, ap, refl, arith}
 use Rattle.wu_parts.specs.Flushing.{Told}
 use Rattle.wu_engine.specs.Indexing.{Catalog}
-use Rattle.wu_engine.specs.Renewing.{Touches}
+use Rattle.wu_engine.specs.Renewing.{Touches, touched_of}
 use Rattle.wu_engine.specs.States.{after_event}
 use Rattle.wu_engine.proofs.AddedBlobs.{draws_named, event_draws, none_added}
 use Rattle.wu_engine.proofs.FileChanges.{changes}
@@ -25,7 +25,7 @@ follow-followed-requires-clause-indexable g c =
     let taken = length-terms_after old.tree event text c.apply.new.self effect step in
     indexable old.tree c.apply.new.self effect (c.effects_tell_files.ensures event c.apply.new.self effect step)
     (changes old.tree event c.apply.new.self effect step).1 old.space old.parts old.files.entries old.frames (old.sound c.in_default.is)
-    c.keeps_the_rules.ensures.by_number text c.requires.short (omega (arith, taken))
+    c.keeps_the_rules-2.ensures.by_number text c.requires.short (omega (arith, taken))
 
 pub invariant_of-self-in-Ok-followed : goal.invariant_of-self-in-Ok-followed
 invariant_of-self-in-Ok-followed g c =
@@ -43,16 +43,16 @@ invariant_of-self-in-Ok-followed g c =
     let taken = length-terms_after old.tree event text tree effect step in
     let done = c.in-Ok-followed.ensures.done in
     let sound = old.sound c.in_default.is in
-    let rules = c.keeps_the_rules.ensures in
+    let rules = c.keeps_the_rules-2.ensures in
     let touched : Touches old.tree old.space tree space c.touched_by-touched.result =
-    rw c.touched_by-touched.ensures.touched
-    (touches old.tree old.space text c.touched_by-touched.ensures.rules rules event tree effect step
+    rw c.touched_by-touched.ensures
+    (touches old.tree old.space text c.keeps_the_rules.ensures rules event tree effect step
     (c.effects_tell_files.ensures event tree effect step) (changes old.tree event tree effect step).1 space
     (ap (λ (k : Catalog). k.space) done.catalog)) in
     record {
       sound = λ _.
           sound_prepared tree space parts parts files [] c.renew_frames.new.frames refl
-          (c.renew_frames.ensures old.tree old.space touched sound.frames)
+          (c.renew_frames.ensures.right old.tree old.space touched sound.frames)
           (sound_followed effect text old.space space old.files.entries files old.parts parts before after done old.tree tree
           (c.effects_tell_files.ensures event tree effect step) (changes old.tree event tree effect step).1
           old.frames sound rules.by_number c.requires.short (omega (arith, taken)));
@@ -135,7 +135,7 @@ returns-in-Ok-followed-clause-goes g c = λ start goes.
     let taken = length-terms_after old.tree c.args.event.now text c.apply.new.self effect step in
     let done = c.in-Ok-followed.ensures.done in
     let sound = old.sound c.in_default.is in
-    let sorted = c.keeps_the_rules.ensures.by_number in
+    let sorted = c.keeps_the_rules-2.ensures.by_number in
     let indexed =
     indexable old.tree c.apply.new.self effect (c.effects_tell_files.ensures c.args.event.now c.apply.new.self effect step)
     (changes old.tree c.args.event.now c.apply.new.self effect step).1 old.space old.parts old.files.entries old.frames sound sorted text
@@ -183,3 +183,17 @@ returns-in-Err-followed-clause-survives g c = λ s last stands saved.
     let next = c.args.self.now.parts.next_blob in
     puts_left c.args.self.now (g.D.Store.holds c.args.store.now) s last (g.D.Store.moments c.args.store.now)
     (g.D.Store.moments c.follow-followed.new.store) stands saved (next + 2) 2 c.follow-followed.ensures.tried
+
+pub returns-in-Ok-followed-clause-frames : goal.returns-in-Ok-followed-clause-frames
+returns-in-Ok-followed-clause-frames g c =
+    let old = c.args.self.now in
+    let event = c.args.event.now in
+    let tree = c.apply.new.self in
+    let space = c.follow-followed.new.space in
+    let step = rw c.in-Ok.is at c.in_ok-effect.ensures.step in
+    let is = c.touched_by-touched.ensures in
+    let touched : Touches old.tree old.space tree space (touched_of old.tree old.space.ranges event) =
+    touches old.tree old.space c.args.body.now c.keeps_the_rules.ensures c.keeps_the_rules-2.ensures event tree c.in-Ok.effect step
+    (c.effects_tell_files.ensures event tree c.in-Ok.effect step) (changes old.tree event tree c.in-Ok.effect step).1 space
+    (ap (λ (k : Catalog). k.space) c.in-Ok-followed.ensures.done.catalog) in
+    (rw is at c.renew_frames.ensures.left) old.tree old.space touched
