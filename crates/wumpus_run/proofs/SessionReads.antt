@@ -1,97 +1,232 @@
--- What a session reads: nothing but what opening may read, and what its items may read in the states that they meet.
-use Rattle.std.proofs.Common.{◌≡◌, ℕ, List, [], ◌∷◌, ◌++◌, map, Option, None, Some, sym, ap, ◌∙◌, subst, inl, inr}
+-- What a session reads: what its opening reads, and then what each of its items reads in the state that it meets.
+use Rattle.std.proofs.Common.{◌≡◌, ℕ, false, List, [], ◌∷◌, ◌++◌, Option, None, Some, refl, sym, ap, ◌∙◌, subst, append_assoc, append-nil}
+use Rattle.std.specs.Prelude.{option_map}
+use Rattle.std.specs.List.{AllByRecursion}
 use Rattle.std.specs.Io.KnownBytes.{prepend_known}
 use Rattle.wu_outside.specs.Content.{Content}
 use Rattle.wu_outside.specs.declared.ranges.ReadRange.{ReadRange}
 use Rattle.wu_lists.proofs.Asking.{ranges-none}
-use Rattle.wu_layout.specs.Invariants.{SomeOf}
-use Rattle.wu_script.specs.Commands.{Entry}
+use Rattle.wu_script.specs.Commands.{Flush, Save, Stat, Work}
 use Rattle.wu_script.specs.declared.types.Item.{Item}
 use Rattle.wu_script.specs.Holding.{Held}
 use Rattle.wu_script.specs.Items.{IsBeforeEnd, IsFirstItem, IsNext, first_of, items_of}
-use Rattle.wu_script.specs.Said.{said_by, said_of}
+use Rattle.wu_script.specs.Said.{Asks, Happens, IsReading, IsRefused, Operates, Said, SaysNothing, said_by, said_of}
 use Rattle.wu_script.proofs.ItemListLemmas.{items_of-some}
 use Rattle.wu_options.specs.declared.command_lines.Settings.{Settings}
 use Rattle.wu_engine.specs.declared.engines.Engine.{Engine}
 use Rattle.wu_engine.specs.Opening.{IsOpeningRange, ReadsAtOpening}
-use Rattle.wu_engine.specs.Permitted.{ReadsOnly}
+use Rattle.wu_engine.specs.Permitted.{ReadsSuch}
+use Rattle.wu_engine.specs.Reads.{texts_read}
 use Rattle.wu_engine.specs.Stands.{Stands}
 use Rattle.wu_engine.specs.States.{State}
-use Rattle.wu_engine.proofs.PermittedBlocks.{only_of, only_then}
-use Rattle.wumpus_run.specs.Permitted.{MayReadFor, MayReadInSession, ReadsPermitted}
-use Rattle.wumpus_run.specs.Replies.{Met, AreRules, Rules, after, met, state_after}
-use Rattle.wumpus_run.specs.Session.{FromImage, Moment}
-use Rattle.wumpus_run.proofs.StartedStates.{IsUnderWay}
-use Rattle.wumpus_run.proofs.SessionLemmas.{HasAnswered, HasAnsweredItems, first_item}
+use Rattle.wu_engine.proofs.OpenedStates.{reads_nothing as unread_at_opening}
+use Rattle.wu_engine.proofs.PermittedBlocks.{reads_joined}
+use Rattle.wumpus_run.specs.Crashes.{met_by}
+use Rattle.wumpus_run.specs.Permitted.{AreReadFor, AreReadInTurn, ReadsInSession, ReadsPermitted}
+use Rattle.wumpus_run.specs.Replies.{AreRules, Met, Rules, after}
+use Rattle.wumpus_run.specs.Session.{Moment}
+use Rattle.wumpus_run.proofs.SessionLemmas.{first_item}
+
+-- ---- one item
+
+-- for an item that isn't reached nothing is read
+unreached : (s : State) (said : Said) → AreReadFor s said []
+unreached s (Happens event text) = refl
+unreached s (Asks uid question) = record {
+  blocks = [];
+  needed = tt;
+  texts = [];
+  left = texts_read s uid question;
+  front = refl;
+  in_turn = refl;
+}
+unreached s (Operates Flush) = refl
+unreached s (Operates (Work units)) = tt
+unreached s (Operates Stat) = refl
+unreached s (Operates Save) = refl
+unreached s (IsRefused why) = refl
+unreached s SaysNothing = refl
 
 -- what reads nothing
-pub reads_nothing : (MayRead : ReadRange → Type 0) (before after : Option (List ReadRange)) → after ≡ before
-    → ReadsOnly MayRead before after
-reads_nothing MayRead before after same = ([], tt, same ∙ ranges-none before)
+pub reads_nothing : (s : State) (said : Said) (before after : Option (List ReadRange)) → after ≡ before
+    → ReadsSuch (AreReadFor s said) before after
+reads_nothing s said before after same = ([], unreached s said, same ∙ ranges-none before)
+
+all_unreached : (items : List Met) → AreReadInTurn items []
+all_unreached [] = refl
+all_unreached (m ∷ later) = ([], [], unreached m.0 m.1, all_unreached later, refl)
+
+-- ---- items one after the other
+
+-- what items read that begin with this one: what it reads, and then what the others read
+in_turn-first : (rules : Rules) → IsReading rules.read → (s : State) (bytes rest : List ℕ) (item : Item) → IsBeforeEnd item
+    → IsFirstItem bytes rest item → (first later : List ReadRange) → AreReadFor s (said_by item) first
+    → AreReadInTurn (met_by rules (after rules.flush_at s (said_by item)) (items_of rest)) later
+    → AreReadInTurn (met_by rules s (items_of bytes)) (first ++ later)
+in_turn-first rules are s bytes rest item other is first later for_item for_rest =
+    let one = first_item bytes rest item other is in
+    let says : said_by item ≡ said_of rules.read (first_of bytes).entry = one.1 rules.read are in
+    subst (λ entries. AreReadInTurn (met_by rules s entries) (first ++ later)) (sym (items_of-some bytes one.0))
+    (subst (λ (said : Said).
+    AreReadInTurn ((s, said) ∷ met_by rules (after rules.flush_at s said) (items_of (first_of bytes).rest)) (first ++ later)) says (
+      first,
+      later,
+      for_item,
+      subst (λ bs. AreReadInTurn (met_by rules (after rules.flush_at s (said_by item)) (items_of bs)) later) one.2 for_rest,
+      refl,
+    ))
+
+module _ (rules : Rules) (start : State) where
+  -- What the opening read, and what the items did that were answered: what those of the bytes that are left read from the state on, if it
+  -- comes after that, makes what the items of the input read.
+  pub record HasReadItems (content : Content) (input left : List ℕ) (s : State) (before now : Option (List ReadRange)) : Type 0 where
+    pub opening : List ReadRange
+    pub of_content : AllByRecursion (IsOpeningRange content) opening
+    pub read : List ReadRange
+    pub goes_on : (later : List ReadRange) → AreReadInTurn (met_by rules s (items_of left)) later
+        → AreReadInTurn (met_by rules start (items_of input)) (read ++ later)
+    pub in_turn : now ≡ option_map (λ earlier. earlier ++ (opening ++ read)) before
+
+  -- the same where store and source tell what they have
+  abbrev pub HasReadSoFar : Option Content → Option (List ℕ) → Option (List ℕ) → State → Option (List ReadRange)
+      → Option (List ReadRange) → Type 0
+  HasReadSoFar None input left s before now = Unit {0}
+  HasReadSoFar (Some content) None left s before now = Unit {0}
+  HasReadSoFar (Some content) (Some input) None s before now = ⊥
+  HasReadSoFar (Some content) (Some input) (Some left) s before now = HasReadItems content input left s before now
+
+  -- the store was opened
+  at_start : (holds : Option Content) (input : Option (List ℕ)) (before now : Option (List ReadRange)) → ReadsAtOpening holds before now
+      → HasReadSoFar holds input (prepend_known [] input) start before now
+  at_start None input before now opening = tt
+  at_start (Some content) None before now opening = tt
+  at_start (Some content) (Some input) before now opening = record {
+    opening = opening.0;
+    of_content = opening.1;
+    read = [];
+    goes_on = λ later for_later. for_later;
+    in_turn = opening.2
+        ∙ ap (λ (rs : List ReadRange). option_map (λ earlier. earlier ++ rs) before) (sym (append-nil opening.0));
+  }
+
+  -- an item more
+  one_more : IsReading rules.read → (content : Content) (input left rest : List ℕ) (s : State) (item : Item)
+      (before between now : Option (List ReadRange)) → IsBeforeEnd item → IsFirstItem left rest item
+      → ReadsSuch (AreReadFor s (said_by item)) between now → HasReadItems content input left s before between
+      → HasReadItems content input rest (after rules.flush_at s (said_by item)) before now
+  one_more are content input left rest s item before between now other next reads so_far = record {
+    opening = so_far.opening;
+    of_content = so_far.of_content;
+    read = so_far.read ++ reads.0;
+    goes_on = λ later for_later.
+        subst (AreReadInTurn (met_by rules start (items_of input))) (sym (append_assoc so_far.read reads.0 later))
+        (so_far.goes_on (reads.0 ++ later) (in_turn-first rules are s left rest item other next reads.0 later reads.1 for_later));
+    in_turn = reads.2 ∙ ap (option_map (λ (earlier : List ReadRange). earlier ++ reads.0)) so_far.in_turn
+        ∙ reads_joined before (so_far.opening ++ so_far.read) reads.0
+        ∙ ap (λ (rs : List ReadRange). option_map (λ earlier. earlier ++ rs) before) (append_assoc so_far.opening so_far.read reads.0);
+  }
+
+  turn : IsReading rules.read → (holds : Option Content) (input left rest : Option (List ℕ)) (s : State) (item : Item)
+      (before between now : Option (List ReadRange)) → IsBeforeEnd item → IsNext left rest item
+      → ReadsSuch (AreReadFor s (said_by item)) between now → HasReadSoFar holds input left s before between
+      → HasReadSoFar holds input rest (after rules.flush_at s (said_by item)) before now
+  turn are None input left rest s item before between now other next reads so_far = tt
+  turn are (Some content) None left rest s item before between now other next reads so_far = tt
+  turn are (Some content) (Some input) None rest s item before between now other next reads so_far = absurd so_far
+  turn are (Some content) (Some input) (Some left) None s item before between now other next reads so_far = absurd next
+  turn are (Some content) (Some input) (Some left) (Some rest) s item before between now other next reads so_far =
+      one_more are content input left rest s item before between now other next reads so_far
+
+  -- no other item is reached
+  none_later : (content : Content) (input : List ℕ) (left : Option (List ℕ)) (s : State) (before now : Option (List ReadRange))
+      → HasReadSoFar (Some content) (Some input) left s before now
+      → ReadsInSession content (met_by rules start (items_of input)) before now
+  none_later content input None s before now so_far = absurd so_far
+  none_later content input (Some left) s before now so_far = record {
+    opening = so_far.opening;
+    of_content = so_far.of_content;
+    read = so_far.read;
+    for_items = subst (AreReadInTurn (met_by rules start (items_of input))) (append-nil so_far.read)
+        (so_far.goes_on [] (all_unreached (met_by rules s (items_of left))));
+    in_turn = so_far.in_turn;
+  }
 
 -- ---- a session
 
--- what is so of an item in the state that it meets is so of one of the items that are met
-met_there : (P : Met → Type 0) (rules : Rules) (s : State) (earlier : List Entry) (entry : Entry) (later : List Entry)
-    → P (state_after rules s earlier, said_of rules.read entry)
-    → SomeOf P (met rules.flush_at s (map (said_of rules.read) (earlier ++ entry ∷ later)))
-met_there P rules s [] entry later is = inl is
-met_there P rules s (first ∷ earlier) entry later is =
-    inr (met_there P rules (after rules.flush_at s (said_of rules.read first)) earlier entry later is)
-
 module _ (told : Settings) (start : State) where
+  -- a session that goes no further
+  ended : (holds : Option Content) (input left : Option (List ℕ)) (s : Rules → State) (before now : Option (List ReadRange))
+      → ((rules : Rules) → AreRules holds told rules → HasReadSoFar rules start holds input left (s rules) before now)
+      → ReadsPermitted start (Some told) holds input before now
+  ended holds None left s before now so_far = tt
+  ended None (Some input) left s before now so_far = tt
+  ended (Some content) (Some input) left s before now so_far = λ rules are.
+      none_later rules start content input left (s rules) before now (so_far rules are)
+
   -- what an engine read to go on from what the store holds
-  pub permitted_at_opening : (holds : Option Content) (left : Option (List ℕ)) (before now : Option (List ReadRange))
-      → ReadsAtOpening holds before now → ReadsPermitted start (Some told) holds left before now
-  permitted_at_opening holds None before now opening = tt
-  permitted_at_opening None (Some input) before now opening = tt
-  permitted_at_opening (Some content) (Some input) before now opening = λ rules are.
-      only_of (IsOpeningRange content) _ before now (λ range is. inl is) opening
+  pub permitted_at_opening : (holds : Option Content) (input : Option (List ℕ)) (before now : Option (List ReadRange))
+      → ReadsAtOpening holds before now → ReadsPermitted start (Some told) holds input before now
+  permitted_at_opening holds input before now opening =
+      ended holds input (prepend_known [] input) (λ rules. start) before now
+      (λ rules are. at_start rules start holds input before now opening)
 
-  -- the item is one of the input's, and it meets that state
-  is_met : (rules : Rules) (holds : Option Content) → AreRules holds told rules → (P : Met → Type 0)
-      (before now : Option (List ℕ)) (input left rest : List ℕ) (s : State) (item : Item) → IsBeforeEnd item → IsFirstItem left rest item
-      → HasAnsweredItems told start rules before now input left s → P (s, said_by item)
-      → SomeOf P (met rules.flush_at start (map (said_of rules.read) (items_of input)))
-  is_met rules holds are P before now input left rest s item other next sent is =
-      let first = first_item left rest item other next in
-      let entry : Entry = (first_of left).entry in
-      let later : List Entry = items_of (first_of left).rest in
-      let split : items_of input ≡ sent.answered ++ entry ∷ later =
-      sent.split ∙ ap (λ (es : List Entry). sent.answered ++ es) (items_of-some left first.0) in
-      subst (λ (es : List Entry). SomeOf P (met rules.flush_at start (map (said_of rules.read) es))) (sym split)
-      (met_there P rules start sent.answered entry later
-      (subst (λ (t : State). P (t, said_of rules.read entry)) sent.state
-      (subst (λ said. P (s, said)) (first.1 rules.read are.0) is)))
+  -- engine and store stand for a state; the opening was read, and then what the items read that led to it
+  pub record HasRead (before now : Moment) (engine : Engine) (held : Held) (old new : Option (List ReadRange)) : Type 0 where
+    pub state : State
+    pub stands : Stands engine now.holds state
+    pub reads : (rules : Rules) → AreRules before.holds told rules
+        → HasReadSoFar rules start before.holds before.left (prepend_known held.bytes now.left) state old new
 
-  -- an item more was answered, or wasn't: what was read for it is permitted
-  pub permitted_then : (holds : Option Content) (gained gained_now input left rest : Option (List ℕ)) (s : State) (item : Item)
-      (before between now : Option (List ReadRange)) → IsBeforeEnd item → IsNext left rest item
-      → HasAnswered told start holds gained gained_now input left s → ReadsOnly (MayReadFor s (said_by item)) between now
-      → ReadsPermitted start (Some told) holds input before between → ReadsPermitted start (Some told) holds input before now
-  permitted_then holds gained gained_now None left rest s item before between now other next sent reads so_far = tt
-  permitted_then None gained gained_now (Some input) left rest s item before between now other next sent reads so_far = tt
-  permitted_then (Some content) gained gained_now (Some input) None rest s item before between now other next sent reads so_far =
-      λ rules are. absurd (sent rules are)
-  permitted_then (Some content) gained gained_now (Some input) (Some left) None s item before between now other next sent reads so_far =
-      absurd next
-  permitted_then (Some content) gained gained_now (Some input) (Some left) (Some rest) s item before between now other next sent reads
-      so_far = λ rules are.
-      let MayRead : ReadRange → Type 0 =
-      MayReadInSession content (met rules.flush_at start (map (said_of rules.read) (items_of input))) in
-      only_then MayRead before between now (so_far rules are)
-      (only_of (MayReadFor s (said_by item)) MayRead between now
-      (λ range is. inr (is_met rules (Some content) are (λ m. MayReadFor m.0 m.1 range) gained gained_now input left rest s item other next
-      (sent rules are) is)) reads)
+  -- the store was opened
+  pub HasRead-none : (before : Moment) (holds : Option Content) (faults : ℕ) (engine : Engine) (old new : Option (List ReadRange))
+      → Stands engine holds start → ReadsAtOpening before.holds old new
+      → HasRead before (record before { holds = holds; store_faults = faults }) engine
+      (record { bytes = []; spare = told.max_input; ended = false }) old new
+  HasRead-none before holds faults engine old new stands opening = record {
+    state = start;
+    stands = stands;
+    reads = λ rules are. at_start rules start before.holds before.left old new opening;
+  }
 
--- an item more was answered, or wasn't, in a session under way
-pub permitted_turn : (told : Settings) (before between : Moment) (engine : Engine) (old : Held) (rest : Option (List ℕ)) (item : Item)
-    (first reads now : Option (List ReadRange)) → IsUnderWay told before between engine old → IsBeforeEnd item
-    → IsNext (prepend_known old.bytes between.left) rest item
-    → ((s : State) → Stands engine between.holds s → ReadsOnly (MayReadFor s (said_by item)) reads now)
-    → FromImage before.holds (λ s. ReadsPermitted s (Some told) before.holds before.left first reads)
-    → FromImage before.holds (λ s. ReadsPermitted s (Some told) before.holds before.left first now)
-permitted_turn told before between engine old rest item first reads now i other next permitted so_far = λ s image.
-    let gone = i.from s image in
-    permitted_then told s before.holds before.gained between.gained before.left (prepend_known old.bytes between.left) rest gone.state item
-    first reads now other next gone.answered (permitted gone.state gone.stands) (so_far s image)
+  pub permitted_so_far : (before now : Moment) (engine : Engine) (held : Held) (old new : Option (List ReadRange))
+      → HasRead before now engine held old new → ReadsPermitted start (Some told) before.holds before.left old new
+  permitted_so_far before now engine held old new so_far =
+      ended before.holds before.left (prepend_known held.bytes now.left) (λ rules. so_far.state) old new so_far.reads
+
+  module _ (before between : Moment) (engine : Engine) (held : Held) (rest : Option (List ℕ)) (item : Item)
+      (old mid new : Option (List ReadRange)) (other : IsBeforeEnd item) (next : IsNext (prepend_known held.bytes between.left) rest item)
+      (reads : (s : State) → Stands engine between.holds s → ReadsSuch (AreReadFor s (said_by item)) mid new)
+      (so_far : HasRead before between engine held old mid) where
+    and_then : (rules : Rules) → AreRules before.holds told rules
+        → HasReadSoFar rules start before.holds before.left rest (after rules.flush_at so_far.state (said_by item)) old new
+    and_then rules are =
+        turn rules start are.0 before.holds before.left (prepend_known held.bytes between.left) rest so_far.state item old mid new other
+        next (reads so_far.state so_far.stands) (so_far.reads rules are)
+
+    -- an item more was answered, or wasn't
+    pub permitted_then : ReadsPermitted start (Some told) before.holds before.left old new
+    permitted_then =
+        ended before.holds before.left rest (λ rules. after rules.flush_at so_far.state (said_by item)) old new and_then
+
+  -- an item was read and answered
+  pub HasRead-turn : (before between now : Moment) (engine later : Engine) (held new_held : Held) (item : Item)
+      (old mid new : Option (List ReadRange)) → IsBeforeEnd item
+      → IsNext (prepend_known held.bytes between.left) (prepend_known new_held.bytes now.left) item
+      → ((s : State) → Stands engine between.holds s → Stands later now.holds (after told.flush_at s (said_by item)))
+      → ((s : State) → Stands engine between.holds s → ReadsSuch (AreReadFor s (said_by item)) mid new)
+      → HasRead before between engine held old mid → HasRead before now later new_held old new
+  HasRead-turn before between now engine later held new_held item old mid new other next stands reads so_far = record {
+    state = after told.flush_at so_far.state (said_by item);
+    stands = stands so_far.state so_far.stands;
+    reads = λ rules are.
+        subst (λ (n : ℕ). HasReadSoFar rules start before.holds before.left (prepend_known new_held.bytes now.left)
+        (after n so_far.state (said_by item)) old new) are.1
+        (and_then before between engine held (prepend_known new_held.bytes now.left) item old mid new other next reads so_far rules are);
+  }
+
+-- nothing was read
+pub permitted_untouched : (start : State) (settings : Option Settings) (holds : Option Content) (input : Option (List ℕ))
+    (reads : Option (List ReadRange)) → ReadsPermitted start settings holds input reads reads
+permitted_untouched start None holds input reads = tt
+permitted_untouched start (Some told) holds input reads =
+    permitted_at_opening told start holds input reads reads (unread_at_opening holds reads reads refl)

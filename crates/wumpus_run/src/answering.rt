@@ -10,12 +10,13 @@ ghost use Rattle.wu_script.specs.Commands.{Flush, Save, Stat, Work};
 ghost use Rattle.wu_script.specs.Said.{Asks, Happens, IsSoundItem, Operates, said_by, tokens_given};
 ghost use Rattle.wu_engine.specs.Causes.{HasTroubleCause};
 ghost use Rattle.wu_engine.specs.Crashes.{IsImageOf, IsImageOfEither, IsSavedLast};
-ghost use Rattle.wu_engine.specs.Permitted.{ReadsOnly};
+ghost use Rattle.wu_engine.specs.Permitted.{ReadsSuch};
 ghost use Rattle.wu_engine.specs.Going.{Goes, HasBroken};
+ghost use Rattle.wu_engine.specs.Reads.{AreTexts, ReadsForQuery, texts_read};
 ghost use Rattle.wu_engine.specs.Stands.{Stands};
 ghost use Rattle.wu_engine.specs.States.{State, flushed_state, saved_state, worked_state};
 ghost use Rattle.wumpus_run.specs.Crashes.{IsImageOfOne, last_or, left_to_next, saved_for};
-ghost use Rattle.wumpus_run.specs.Permitted.{MayReadFor};
+ghost use Rattle.wumpus_run.specs.Permitted.{AreReadFor};
 ghost use Rattle.wumpus_run.specs.Replies.{after, reply_to, said_bytes, verdict_reply};
 ghost use Rattle.wumpus_run.specs.Strays.{AddsNoStray};
 
@@ -28,7 +29,7 @@ use wu_tree::Event;
 
 /// Appends the bytes that answer the item, after which the state is the one that it leaves. The engine is one
 /// that goes on, with addresses left for the item's text, a blob for each unit of work, and a flush. Over an engine and a store that
-/// stand for a state, no blob is called damaged, no stray blob is left, and only what the item may read is read. Over any other
+/// stand for a state, no blob is called damaged, no stray blob is left, and what is read is read for the item, in turn. Over any other
 /// store a blob is called damaged only where it was broken when the store was opened.
 pub fn answer<D: Store>(
     engine: &mut Engine,
@@ -47,7 +48,7 @@ pub fn answer<D: Store>(
     ensures named { (s : State) → Stands engine.old (D.holds store.old) s → OnOk result
         (AddsNoStray s.layout (D.holds store.old) (after engine.old.parts.flush_at s (said_by item)).layout (D.holds store.new)) }
     ensures permitted { (s : State) → Stands engine.old (D.holds store.old) s
-        → ReadsOnly (MayReadFor s (said_by item)) (D.reads store.old) (D.reads store.new) }
+        → ReadsSuch (AreReadFor s (said_by item)) (D.reads store.old) (D.reads store.new) }
     ensures survives { (s last : State) → Stands engine.old (D.holds store.old) s → IsSavedLast (D.moments store.old) s last
         → Leaves (D.moments store.old) (D.moments store.new) (IsImageOfOne (last ∷ saved_for s (said_by item))) }
     ensures durable { (s last : State) → Stands engine.old (D.holds store.old) s → IsSavedLast (D.moments store.old) s last
@@ -72,7 +73,7 @@ pub fn answer<D: Store>(
 
 /// The reply to the item, if it has one, after which the state is the one that it leaves. The engine is one
 /// that goes on, with addresses left for the item's text, a blob for each unit of work, and a flush. Over an engine and a store that
-/// stand for a state, no blob is called damaged, no stray blob is left, and only what the item may read is read. Over any other
+/// stand for a state, no blob is called damaged, no stray blob is left, and what is read is read for the item, in turn. Over any other
 /// store a blob is called damaged only where it was broken when the store was opened.
 pub fn reply_to<D: Store>(
     engine: &mut Engine,
@@ -89,7 +90,7 @@ pub fn reply_to<D: Store>(
     ensures named { (s : State) → Stands engine.old (D.holds store.old) s → OnOk result
         (AddsNoStray s.layout (D.holds store.old) (after engine.old.parts.flush_at s (said_by item)).layout (D.holds store.new)) }
     ensures permitted { (s : State) → Stands engine.old (D.holds store.old) s
-        → ReadsOnly (MayReadFor s (said_by item)) (D.reads store.old) (D.reads store.new) }
+        → ReadsSuch (AreReadFor s (said_by item)) (D.reads store.old) (D.reads store.new) }
     ensures survives { (s last : State) → Stands engine.old (D.holds store.old) s → IsSavedLast (D.moments store.old) s last
         → Leaves (D.moments store.old) (D.moments store.new) (IsImageOfOne (last ∷ saved_for s (said_by item))) }
     ensures durable { (s last : State) → Stands engine.old (D.holds store.old) s → IsSavedLast (D.moments store.old) s last
@@ -168,7 +169,12 @@ fn reply_to_query<D: Store>(
     ensures holds { D.holds store.new ≡ D.holds store.old }
     ensures moments { D.moments store.new ≡ D.moments store.old }
     ensures permitted { (s : State) → Stands engine.old (D.holds store.old) s
-        → ReadsOnly (MayReadFor s (Asks query.now.uid (question_of query.now.ask))) (D.reads store.old) (D.reads store.new) }
+        → ReadsSuch (AreReadFor s (Asks query.now.uid (question_of query.now.ask))) (D.reads store.old) (D.reads store.new) }
+    ensures reads { OnOk result (ReadsForQuery engine.old.tree engine.old.space.ranges query.now.uid (question_of query.now.ask)
+        engine.old.parts engine.new.parts.kept
+        (λ texts. AreTexts (D.holds store.old) engine.old.files.entries (question_of query.now.ask) texts × ((s : State)
+        → Stands engine.old (D.holds store.old) s → texts ≡ texts_read s query.now.uid (question_of query.now.ask)))
+        (D.holds store.old) (D.reads store.old) (D.reads store.new)) }
     ensures space { engine.new.space ≡ engine.old.space }
     ensures parts { engine.new.parts ≡ record engine.old.parts { kept = engine.new.parts.kept } }
     ensures goes { (start : Content) → Goes engine.old start (D.holds store.old) → OnOk result (Goes engine.new start (D.holds store.new)) }
@@ -221,7 +227,7 @@ fn reply_to_work<D: Store>(
     ensures named { (s : State) → Stands engine.old (D.holds store.old) s → OnOk result
         (AddsNoStray s.layout (D.holds store.old) (worked_state units s).layout (D.holds store.new)) }
     ensures permitted { (s : State) → Stands engine.old (D.holds store.old) s
-        → ReadsOnly (MayReadFor s (Operates (Work units))) (D.reads store.old) (D.reads store.new) }
+        → ReadsSuch (AreReadFor s (Operates (Work units))) (D.reads store.old) (D.reads store.new) }
     ensures survives { (s last : State) → Stands engine.old (D.holds store.old) s → IsSavedLast (D.moments store.old) s last
         → Leaves (D.moments store.old) (D.moments store.new) (IsImageOf last) }
     ensures space { engine.new.space ≡ engine.old.space }

@@ -11,7 +11,7 @@ ghost use Rattle.wu_options.specs.CommandLines.{command_line_of, texts_of};
 ghost use Rattle.wu_engine.specs.Crashes.{IsImageOf, IsImageOfEither, IsSavedLast};
 ghost use Rattle.wu_engine.specs.Going.{Goes, HasBroken};
 ghost use Rattle.wu_engine.specs.Stands.{Stands};
-ghost use Rattle.wu_engine.specs.Opening.{HoldsImage, IsBeginCause, IsSpentWhere, ReadsAtOpening};
+ghost use Rattle.wu_engine.specs.Opening.{HoldsImage, IsBeginCause, IsOpen, IsSpentWhere, ReadsAtOpening};
 ghost use Rattle.wu_engine.specs.States.{State, rested_state, saved_state};
 ghost use Rattle.wu_engine.specs.declared.faults.BeginFault.TheVariants.{Damaged as SavedIsDamaged};
 ghost use Rattle.wumpus_run.specs.Demo.{IfDemo, IsShown};
@@ -75,8 +75,9 @@ pub fn run<I: Source, O: Sink, D: Store>(
         (moment (I.left source.new) (I.last_read source.new) (I.faults source.new)
         (O.gained sink.new) (O.faults sink.new) (D.holds store.new) (D.faults store.new))) }
 
-    // Of the store only this was read: the root's checkpoint and the fronts of its parts at opening, for a query blocks of its
-    // terms where her files are and the texts of which a line is shown, and for background work the blocks of its terms.
+    // Of the store this was read, in turn: at opening the root's checkpoint and the fronts of its parts, and then item by item for a
+    // query blocks of its terms where her files are and then the texts of which a line is shown, from the first one on, each once, and
+    // for background work blocks of its terms. For an item that wasn't reached nothing was.
     ensures permitted { FromImage (D.holds store.old) (λ s. ReadsPermitted s (settings_of (texts_of words.now))
         (D.holds store.old) (I.left source.old) (D.reads store.old) (D.reads store.new)) }
 
@@ -219,6 +220,7 @@ fn start<D: Store>(
     ensures holds { D.holds store.new ≡ D.holds store.old }
     ensures survives { Leaves (D.moments store.old) (D.moments store.new) (IsLeft (D.moments store.old)) }
     ensures durable { (s : State) → HoldsImage (D.holds store.old) s → OnOk result (LeavesNow (D.moments store.new) (IsImageOf s)) }
+    ensures open { OnOk result (IsOpen (D.holds store.old) (D.reads store.old) (D.reads store.new)) }
     ensures reads { ReadsAtOpening (D.holds store.old) (D.reads store.old) (D.reads store.new) }
     ensures calm { OnOk result (D.faults store.new ≡ D.faults store.old) }
     ensures cause { IfErr result (IsBeginCause (D.holds store.old) (D.faults store.old) (D.faults store.new)) }

@@ -1,12 +1,19 @@
 use Rattle.std.proofs.Common.{Err, ap, ⊎_elim}
 use Rattle.wu_base.specs.declared.troubles.Trouble.TheVariants.{Damaged}
+use Rattle.wu_ask.specs.Questions.{question_of}
+use Rattle.wu_engine.proofs.DamagedTexts.{damaged_in}
 use Rattle.wumpus_run.proofs.SoundBlobs.{same_trouble, undamaged}
 use Rattle.wumpus_run.proofs.answering.reply_to_query.Goals as goal
 
 pub returns-in_err-answered-clause-damaged : goal.returns-in_err-answered-clause-damaged
 returns-in_err-answered-clause-damaged g c = λ s stands blob e.
     let trouble = c.in_err-answered.field-0.0 in
-    ⊎_elim (λ had. cc (had, c.requires.goes_on)) (undamaged c.args.engine.now (g.D.Store.holds c.args.store.now) s blob stands)
+    let engine = c.args.engine.now in
+    let holds = g.D.Store.holds c.args.store.now in
+    ⊎_elim (λ had. cc (had, c.requires.goes_on))
+    (λ found. undamaged engine holds s blob stands
+    (damaged_in holds blob engine.files.entries engine.tree engine.space.ranges c.args.query.now.uid
+    (question_of c.args.query.now.ask) engine.parts found))
     (c.in_err-answered.ensures.damaged blob
     (ap Err (same_trouble c.from_residual.result trouble (Damaged blob) c.from_residual.ensures.1 e)))
 

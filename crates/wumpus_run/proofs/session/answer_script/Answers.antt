@@ -2,7 +2,8 @@ use Rattle.std.proofs.Common.{◌+◌, Err, ap, refl, subst, arith}
 use Rattle.std.specs.Io.KnownBytes.{prepend_known}
 use Rattle.wu_script.specs.Items.{IsNext, TakesItem}
 use Rattle.wu_script.specs.Said.{said_by, tokens_given}
-use Rattle.wumpus_run.specs.Replies.{said_bytes}
+use Rattle.wu_engine.specs.Stands.{Stands}
+use Rattle.wumpus_run.specs.Replies.{after, said_bytes}
 use Rattle.wumpus_run.specs.Session.{moment}
 use Rattle.wumpus_run.proofs.SessionLemmas.{appended, takes_one}
 use Rattle.wumpus_run.proofs.AddressRoom.{HasRoom-item, HasRoom-few, StaysLow-few}
@@ -13,7 +14,7 @@ use Rattle.wumpus_run.proofs.CrashesUnderWay.{HasKept-none, HasKept-turn, IsAnsw
 use Rattle.wumpus_run.proofs.EndLemmas.{IsUnspent-opened, answering, damaged_so, reading, saving, writing}
 use Rattle.wumpus_run.proofs.StartedStates.{IsUnderWay-none, IsUnderWay-turn, IsSession-saved, IsSession-stopped, IsSession-unanswered}
 use Rattle.wumpus_run.proofs.StartedStates.{IsSession-unopened, IsSession-unwritten}
-use Rattle.wumpus_run.proofs.SessionReads.{permitted_at_opening, permitted_turn}
+use Rattle.wumpus_run.proofs.SessionReads.{HasRead-none, HasRead-turn, permitted_at_opening, permitted_so_far, permitted_then}
 use Rattle.wumpus_run.proofs.session.answer_script.Goals as goal
 
 pub returns-in-Err-clause-session : goal.returns-in-Err-clause-session
@@ -163,9 +164,11 @@ items-preserved g c =
             answers.1,
             done.named s stands,
           )) c.as_slice.ensures.value c.in-Ok-write_reply.ensures.ok;
-      permitted = permitted_turn told before between c.items.engine c.items.reader (prepend_known c.next.new.self.bytes now.left)
-          item (g.D.Store.reads c.args.store.now) (g.D.Store.reads c.items.store) (g.D.Store.reads c.answer.new.store) i c.if-is_end.ensures
-          (c.in-Ok-next.ensures.first i.at_end) done.permitted c.items.invariant.permitted;
+      permitted = λ s image. HasRead-turn told s before between now c.items.engine c.answer.new.engine c.items.reader c.next.new.self item
+          (g.D.Store.reads c.args.store.now) (g.D.Store.reads c.items.store) (g.D.Store.reads c.answer.new.store) c.if-is_end.ensures
+          (c.in-Ok-next.ensures.first i.at_end)
+          (λ t stands. subst (λ n. Stands c.answer.new.engine now.holds (after n t (said_by item))) i.flush_at (done.answer t stands).1)
+          done.permitted (c.items.invariant.permitted s image);
       crash = λ s image. HasKept-turn told s before between now c.items.engine c.answer.new.engine c.items.reader c.next.new.self item
           c.answer.new.out.items c.as_slice.result.now (g.D.Store.moments c.args.store.now) (g.D.Store.moments c.items.store)
           (g.D.Store.moments c.answer.new.store) c.if-is_end.ensures (c.in-Ok-next.ensures.first i.at_end) i.flush_at
@@ -215,8 +218,9 @@ items-init g c =
           (IsUnderWay-none told before (g.D.Store.holds c.start.new.store) (g.D.Store.faults c.start.new.store) c.in-Ok.start.1 e.stands
           (IsUnspent-opened before.holds c.in-Ok.start e.spent) e.goes_on e.next e.next_blob e.flushes e.flush_at e.calm
           e.holds);
-      permitted = λ s image. permitted_at_opening told s before.holds before.left (g.D.Store.reads c.args.store.now)
-          (g.D.Store.reads c.start.new.store) e.reads;
+      permitted = λ s image. rw e.reader
+          (HasRead-none told s before (g.D.Store.holds c.start.new.store) (g.D.Store.faults c.start.new.store) c.in-Ok.start.1
+          (g.D.Store.reads c.args.store.now) (g.D.Store.reads c.start.new.store) (e.stands s image) e.reads);
       crash = λ s image. rw e.reader
           (HasKept-none told s before (g.D.Store.holds c.start.new.store) (g.D.Store.faults c.start.new.store) c.in-Ok.start.1
           (g.D.Store.moments c.args.store.now) (g.D.Store.moments c.start.new.store) (e.stands s image) e.survives (e.durable s image));
@@ -231,11 +235,25 @@ returns-in-Err-clause-permitted g c =
 
 pub returns-in-Err-next-clause-permitted : goal.returns-in-Err-next-clause-permitted
 returns-in-Err-next-clause-permitted g c =
-    c.items.invariant.permitted
+    let before = moment (g.I.Source.left c.args.source.now) (g.I.Source.last_read c.args.source.now) (g.I.Source.faults c.args.source.now)
+    (g.O.Sink.gained c.args.sink.now) (g.O.Sink.faults c.args.sink.now)
+    (g.D.Store.holds c.args.store.now) (g.D.Store.faults c.args.store.now) in
+    let between = moment (g.I.Source.left c.items.source) (g.I.Source.last_read c.items.source) (g.I.Source.faults c.items.source)
+    (g.O.Sink.gained c.items.sink) (g.O.Sink.faults c.items.sink)
+    (g.D.Store.holds c.items.store) (g.D.Store.faults c.items.store) in
+    λ s image. permitted_so_far c.args.settings s before between c.items.engine c.items.reader (g.D.Store.reads c.args.store.now)
+    (g.D.Store.reads c.items.store) (c.items.invariant.permitted s image)
 
 pub returns-then-is_end-clause-permitted : goal.returns-then-is_end-clause-permitted
 returns-then-is_end-clause-permitted g c =
-    rw c.save.ensures.reads c.items.invariant.permitted
+    let before = moment (g.I.Source.left c.args.source.now) (g.I.Source.last_read c.args.source.now) (g.I.Source.faults c.args.source.now)
+    (g.O.Sink.gained c.args.sink.now) (g.O.Sink.faults c.args.sink.now)
+    (g.D.Store.holds c.args.store.now) (g.D.Store.faults c.args.store.now) in
+    let between = moment (g.I.Source.left c.items.source) (g.I.Source.last_read c.items.source) (g.I.Source.faults c.items.source)
+    (g.O.Sink.gained c.items.sink) (g.O.Sink.faults c.items.sink)
+    (g.D.Store.holds c.items.store) (g.D.Store.faults c.items.store) in
+    rw c.save.ensures.reads (λ s image. permitted_so_far c.args.settings s before between c.items.engine c.items.reader
+    (g.D.Store.reads c.args.store.now) (g.D.Store.reads c.items.store) (c.items.invariant.permitted s image))
 
 pub returns-in-Err-answer-clause-permitted : goal.returns-in-Err-answer-clause-permitted
 returns-in-Err-answer-clause-permitted g c =
@@ -246,10 +264,10 @@ returns-in-Err-answer-clause-permitted g c =
     let between = moment (g.I.Source.left c.items.source) (g.I.Source.last_read c.items.source) (g.I.Source.faults c.items.source)
     (g.O.Sink.gained c.items.sink) (g.O.Sink.faults c.items.sink)
     (g.D.Store.holds c.items.store) (g.D.Store.faults c.items.store) in
-    permitted_turn c.args.settings before between c.items.engine c.items.reader
+    λ s image. permitted_then c.args.settings s before between c.items.engine c.items.reader
     (prepend_known c.next.new.self.bytes (g.I.Source.left c.next.new.source)) c.in-Ok-next.item (g.D.Store.reads c.args.store.now)
-    (g.D.Store.reads c.items.store) (g.D.Store.reads c.answer.new.store) i c.if-is_end.ensures
-    (c.in-Ok-next.ensures.first i.at_end) c.in-Err-answer.ensures.permitted c.items.invariant.permitted
+    (g.D.Store.reads c.items.store) (g.D.Store.reads c.answer.new.store) c.if-is_end.ensures
+    (c.in-Ok-next.ensures.first i.at_end) c.in-Err-answer.ensures.permitted (c.items.invariant.permitted s image)
 
 pub returns-in-Err-write_reply-clause-permitted : goal.returns-in-Err-write_reply-clause-permitted
 returns-in-Err-write_reply-clause-permitted g c =
@@ -260,10 +278,10 @@ returns-in-Err-write_reply-clause-permitted g c =
     let between = moment (g.I.Source.left c.items.source) (g.I.Source.last_read c.items.source) (g.I.Source.faults c.items.source)
     (g.O.Sink.gained c.items.sink) (g.O.Sink.faults c.items.sink)
     (g.D.Store.holds c.items.store) (g.D.Store.faults c.items.store) in
-    permitted_turn c.args.settings before between c.items.engine c.items.reader
+    λ s image. permitted_then c.args.settings s before between c.items.engine c.items.reader
     (prepend_known c.next.new.self.bytes (g.I.Source.left c.next.new.source)) c.in-Ok-next.item (g.D.Store.reads c.args.store.now)
-    (g.D.Store.reads c.items.store) (g.D.Store.reads c.answer.new.store) i c.if-is_end.ensures
-    (c.in-Ok-next.ensures.first i.at_end) c.in-Ok-answer.ensures.permitted c.items.invariant.permitted
+    (g.D.Store.reads c.items.store) (g.D.Store.reads c.answer.new.store) c.if-is_end.ensures
+    (c.in-Ok-next.ensures.first i.at_end) c.in-Ok-answer.ensures.permitted (c.items.invariant.permitted s image)
 
 pub returns-in-Err-clause-broken : goal.returns-in-Err-clause-broken
 returns-in-Err-clause-broken g c =

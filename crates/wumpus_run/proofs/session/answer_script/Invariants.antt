@@ -2,9 +2,9 @@ use Rattle.std.proofs.Common.{◌≡◌, ◌+◌, length, Some}
 use Rattle.wu_outside.specs.Content.{Content}
 use Rattle.wu_script.specs.Holding.{Follows}
 use Rattle.wu_engine.specs.Going.{Goes}
-use Rattle.wumpus_run.specs.Permitted.{ReadsPermitted}
 use Rattle.wumpus_run.specs.Session.{FromImage, moment}
 use Rattle.wumpus_run.proofs.CrashesUnderWay.{HasKept}
+use Rattle.wumpus_run.proofs.SessionReads.{HasRead}
 use Rattle.wumpus_run.proofs.StartedStates.{IsUnderWay}
 use Rattle.wumpus_run.proofs.session.answer_script.Given as goal
 
@@ -18,8 +18,14 @@ invariant-items g l = record {
       (g.O.Sink.gained l.sink) (g.O.Sink.faults l.sink)
       (g.D.Store.holds l.store) (g.D.Store.faults l.store))
       l.engine l.reader;
-  permitted : FromImage (g.D.Store.holds l.fn.store) (λ s. ReadsPermitted s (Some l.fn.settings)
-      (g.D.Store.holds l.fn.store) (g.I.Source.left l.fn.source) (g.D.Store.reads l.fn.store) (g.D.Store.reads l.store));
+  permitted : FromImage (g.D.Store.holds l.fn.store) (λ s. HasRead l.fn.settings s
+      (moment (g.I.Source.left l.fn.source) (g.I.Source.last_read l.fn.source) (g.I.Source.faults l.fn.source)
+      (g.O.Sink.gained l.fn.sink) (g.O.Sink.faults l.fn.sink)
+      (g.D.Store.holds l.fn.store) (g.D.Store.faults l.fn.store))
+      (moment (g.I.Source.left l.source) (g.I.Source.last_read l.source) (g.I.Source.faults l.source)
+      (g.O.Sink.gained l.sink) (g.O.Sink.faults l.sink)
+      (g.D.Store.holds l.store) (g.D.Store.faults l.store))
+      l.engine l.reader (g.D.Store.reads l.fn.store) (g.D.Store.reads l.store));
   crash : FromImage (g.D.Store.holds l.fn.store) (λ s. HasKept l.fn.settings s
       (moment (g.I.Source.left l.fn.source) (g.I.Source.last_read l.fn.source) (g.I.Source.faults l.fn.source)
       (g.O.Sink.gained l.fn.sink) (g.O.Sink.faults l.fn.sink)

@@ -8,6 +8,7 @@ use Rattle.wumpus_run.proofs.SettingLimits.{input_within, settings_asked}
 use Rattle.wumpus_run.proofs.EndLemmas.{Completes-all, IsTooLong-none}
 use Rattle.wumpus_run.proofs.PromptLemmas.{AnswersAllButOneRead-untouched}
 use Rattle.wumpus_run.proofs.RootRoom.{has_room}
+use Rattle.wumpus_run.proofs.SessionReads.{permitted_untouched}
 use Rattle.wumpus_run.proofs.session.run.Goals as goal
 
 pub answer_script-requires-clause-within : goal.answer_script-requires-clause-within
@@ -54,6 +55,11 @@ returns-in-Err-clause-prompt g c =
     (moment (g.I.Source.left c.args.source.now) (g.I.Source.last_read c.args.source.now) (g.I.Source.faults c.args.source.now)
     (g.O.Sink.gained c.args.sink.now) (g.O.Sink.faults c.args.sink.now)
     (g.D.Store.holds c.args.store.now) (g.D.Store.faults c.args.store.now))
+
+pub returns-in-Err-clause-permitted : goal.returns-in-Err-clause-permitted
+returns-in-Err-clause-permitted g c = λ s image.
+    permitted_untouched s (settings_of (texts_of c.args.words.now)) (g.D.Store.holds c.args.store.now) (g.I.Source.left c.args.source.now)
+    (g.D.Store.reads c.args.store.now)
 
 pub returns-in-Err-clause-crash : goal.returns-in-Err-clause-crash
 returns-in-Err-clause-crash g c = λ s image.
