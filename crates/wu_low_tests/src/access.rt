@@ -13,16 +13,27 @@ use wu_rows::{NoAnswer, flag_text, small_number, small_numbers};
 pub fn answer(alloc: Global, call: &str, arguments: &[&str]) -> Result<String, NoAnswer> {
     match (call, arguments) {
         ("allows", [uid, groups, owner, group, mode, want]) => {
-            let user = user(alloc, uid, groups)?;
             let node = Perm {
                 uid: small_number(owner)?,
                 gid: small_number(group)?,
                 mode: mode_of(mode)?,
             };
-            flag_text(alloc, allows(&user, &node, want_of(want)?))
+            allowed(alloc, &node, want_of(want)?, uid, groups)
         }
         _ => Err(NoAnswer::BadRow),
     }
+}
+
+/// Whether the user of these groups may do that with the node.
+fn allowed(
+    alloc: Global,
+    node: &Perm,
+    want: Want,
+    uid: &str,
+    groups: &str,
+) -> Result<String, NoAnswer> {
+    let user = user(alloc, uid, groups)?;
+    flag_text(alloc, allows(&user, node, want))
 }
 
 #[tactic(auto, using(std::proofs::lemmas::Map::Lookups::exact_unsigned))]

@@ -6,13 +6,14 @@ use wu_rows::{NoAnswer, bytes_text, flag_text, number, number_text};
 /// The answer of the call to the arguments.
 pub fn answer(alloc: Global, call: &str, arguments: &[&str]) -> Result<String, NoAnswer> {
     match (call, arguments) {
-        ("make_script", [of, asked]) => told(alloc, number(of)?, asked),
+        ("make_script", [of, asked]) => told(alloc, of, asked),
         _ => Err(NoAnswer::BadRow),
     }
 }
 
 /// What is asked of the script of the number.
-fn told(alloc: Global, of: u64, asked: &str) -> Result<String, NoAnswer> {
+fn told(alloc: Global, of: &str, asked: &str) -> Result<String, NoAnswer> {
+    let of = number(of)?;
     let script = make_script(alloc, of)?;
     match asked {
         "bytes" => number_text(alloc, script.len() as u64),

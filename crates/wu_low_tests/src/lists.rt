@@ -19,9 +19,13 @@ pub fn answer(alloc: Global, call: &str, arguments: &[&str]) -> Result<String, N
         ("Sequence::cmp", [left, right]) => order_of_sequences(alloc, left, right),
         ("sorted_once", [items]) => ascending(alloc, items),
         ("is_among", [items]) => digits_among(alloc, items),
-        ("NoMemory", []) => Ok(format!(in alloc; "{NoMemory}")?),
+        ("NoMemory", []) => text_of_error(alloc),
         _ => Err(NoAnswer::BadRow),
     }
+}
+
+fn text_of_error(alloc: Global) -> Result<String, NoAnswer> {
+    Ok(format!(in alloc; "{NoMemory}")?)
 }
 
 fn order_of_bytes(alloc: Global, left: &str, right: &str) -> Result<String, NoAnswer> {

@@ -11,14 +11,7 @@ pub fn answer(alloc: Global, call: &str, arguments: &[&str]) -> Result<String, N
         ("take_number", [bytes, place]) => number_read(alloc, bytes, place),
         ("put_block", [low, addresses]) => written_block(alloc, low, addresses),
         ("take_block", [bytes, low, count, first, last]) => {
-            block_read(
-                alloc,
-                bytes,
-                number(low)?,
-                number(count)?,
-                number(first)?,
-                number(last)?,
-            )
+            block_read(alloc, bytes, [low, count, first, last])
         }
         _ => Err(NoAnswer::BadRow),
     }
@@ -53,14 +46,11 @@ fn written_block(alloc: Global, low: &str, addresses: &str) -> Result<String, No
     bytes_text(alloc, &out)
 }
 
-fn block_read(
-    alloc: Global,
-    field: &str,
-    low: u64,
-    count: u64,
-    first: u64,
-    last: u64,
-) -> Result<String, NoAnswer> {
+/// The block that is read, where low, count, first and last are given.
+fn block_read(alloc: Global, field: &str, given: [&str; 4]) -> Result<String, NoAnswer> {
+    let [low, count, first, last] = given;
+    let (low, count) = (number(low)?, number(count)?);
+    let (first, last) = (number(first)?, number(last)?);
     let bytes = bytes(alloc, field)?;
     match take_block(alloc, &bytes, low, count as usize, first, last)? {
         Some(addresses) => numbers_text(alloc, &addresses),

@@ -12,16 +12,20 @@ use wu_snip::{Snip, snippet, snippets};
 /// The answer of the call to the arguments.
 pub fn answer(alloc: Global, call: &str, arguments: &[&str]) -> Result<String, NoAnswer> {
     match (call, arguments) {
-        ("snippet", [text, place]) => of_one(alloc, &bytes(alloc, text)?, extent(place)?),
-        ("snippets", [text, places]) => {
-            of_several(alloc, &bytes(alloc, text)?, &extents(alloc, places)?)
-        }
+        ("snippet", [text, place]) => of_one(alloc, text, place),
+        ("snippets", [text, places]) => of_several(alloc, text, places),
         _ => Err(NoAnswer::BadRow),
     }
 }
 
 /// The number of the line that is shown, and its bytes.
-fn of_one(alloc: Global, text: &[u8], extent: Extent) -> Result<String, NoAnswer> {
+fn of_one(alloc: Global, text: &str, place: &str) -> Result<String, NoAnswer> {
+    let extent = extent(place)?;
+    let text = bytes(alloc, text)?;
+    shown(alloc, &text, extent)
+}
+
+fn shown(alloc: Global, text: &[u8], extent: Extent) -> Result<String, NoAnswer> {
     if text.len() > TEXT_MAX || !is_within(text, extent) {
         return Err(NoAnswer::BadRow);
     }
@@ -29,17 +33,28 @@ fn of_one(alloc: Global, text: &[u8], extent: Extent) -> Result<String, NoAnswer
 }
 
 /// The snippets of the extents, where each of them is that of its extent alone.
-fn of_several(alloc: Global, text: &[u8], extents: &[Extent]) -> Result<String, NoAnswer> {
+fn of_several(alloc: Global, text: &str, places: &str) -> Result<String, NoAnswer> {
+    let text = bytes(alloc, text)?;
+    let extents = extents(alloc, places)?;
+    all_shown(alloc, &text, &extents)
+}
+
+fn all_shown(alloc: Global, text: &[u8], extents: &[Extent]) -> Result<String, NoAnswer> {
     if text.len() > TEXT_MAX || !are_within(text, extents) || !are_ascending(extents) {
         return Err(NoAnswer::BadRow);
     }
     let together = snippets(alloc, text, extents)?;
     let alone = each_alone(alloc, text, extents)?;
-    if together != alone {
-        return plain_text(alloc, "not those of each extent alone");
+    if together == alone {
+        snips_text(alloc, together.as_slice())
+    } else {
+        plain_text(alloc, "not those of each extent alone")
     }
+}
+
+fn snips_text(alloc: Global, snips: &[Snip]) -> Result<String, NoAnswer> {
     let mut line = String::new(alloc);
-    for snip in &together {
+    for snip in snips {
         if !line.is_empty() {
             line.push(' ')?;
         }

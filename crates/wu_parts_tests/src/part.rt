@@ -1,5 +1,5 @@
 //! Answers of the calls on the bytes of parts.
-mod blobs;
+pub mod blobs;
 pub mod changes;
 mod lists;
 pub mod trips;

@@ -1,116 +1,75 @@
 //! The calls of a Parts.
-mod fixtures;
-pub mod many;
-mod openings;
-mod stores;
+ghost use Rattle.std.specs.Prelude.{◌≤◌};
 
-use crate::parts::fixtures::{By, fetch_live, put_texts, release_others};
-use crate::parts::openings::loaded;
-use crate::parts::stores::{fetched as fetched_after, fullness, held, recorded, worked};
+mod fixtures;
+mod indexes;
+pub mod many;
+mod memory;
+mod openings;
+mod questions;
+mod steps;
+
+use crate::parts::fixtures::By;
+use crate::parts::indexes::{Index, Stop, empty_index, stopped_text};
 use std::alloc::Global;
-use wu_base::PartRec;
-use wu_parts::Parts;
-use wu_rows::{
-    NoAnswer, byte_strings, bytes, number, number_text, numbers, numbers_text, optional_text,
-    small_numbers,
-};
-use wu_space::Space;
+use wu_rows::{NoAnswer, number};
 
 /// The answer of the call to the arguments.
 pub fn answer(alloc: Global, call: &str, arguments: &[&str]) -> Result<String, NoAnswer> {
+    let (flush_at, next_blob, fails) = start_of(call, arguments)?;
+    let mut index = empty_index(alloc, flush_at, next_blob, fails)?;
+    stopped_text(alloc, told(alloc, &mut index, call, arguments))
+}
+
+/// At how many postings the memory of the row's index is full, the number of its next blob, and which calls of its store fail.
+fn start_of<'a>(call: &str, arguments: &[&'a str]) -> Result<(u64, u64, &'a str), NoAnswer> {
+    match (call, arguments) {
+        ("Parts::draw_blob", [next_blob]) => Ok((1, number(next_blob)?, "")),
+        ("Parts::full", [flush_at, ..]) => Ok((number(flush_at)?, 1, "")),
+        ("Parts::fetch" | "Parts::work" | "Parts::load", [fails, ..]) => Ok((1, 1, fails)),
+        ("Parts::flush", [fails, _]) => Ok((1, 1, fails)),
+        _ => Ok((1, 1, "")),
+    }
+}
+
+/// What the index tells at the row.
+fn told(alloc: Global, index: &mut Index, call: &str, arguments: &[&str]) -> Result<String, Stop>
+    requires { index.old.parts.memory.end ≤ index.old.space.next }
+{
+    match (call, arguments) {
+        ("Parts::full", [_, steps]) => questions::fullness(alloc, index, steps),
+        ("Parts::flush", [_, steps]) => questions::recorded(alloc, index, steps),
+        ("Parts::flush", [steps, "holds", blob]) => questions::held(alloc, index, steps, blob),
+        ("Parts::fetch", [_, steps, term]) => questions::fetched(alloc, index, steps, term),
+        ("Parts::work", [_, steps, units]) => questions::worked(alloc, index, steps, units),
+        ("Parts::load", [_, steps, records, more, term]) => {
+            openings::loaded(alloc, index, steps, records, more, term)
+        }
+        _ => Ok(told_of_memory(alloc, index, call, arguments)?),
+    }
+}
+
+/// What the memory of the index tells at the row.
+fn told_of_memory(
+    alloc: Global,
+    index: &mut Index,
+    call: &str,
+    arguments: &[&str],
+) -> Result<String, NoAnswer>
+    requires { index.old.parts.memory.end ≤ index.old.space.next }
+{
     match (call, arguments) {
         ("Parts::add", [texts, skipped, seen, term]) => {
-            fetched(alloc, By::Tokens, texts, skipped, seen, term)
+            memory::fetched(alloc, index, By::Tokens, texts, skipped, seen, term)
         }
         ("Parts::add_text", [texts, skipped, seen, term]) => {
-            fetched(alloc, By::Text, texts, skipped, seen, term)
+            memory::fetched(alloc, index, By::Text, texts, skipped, seen, term)
         }
-        ("Parts::stored", [texts]) => stored(alloc, texts),
-        ("Parts::full", [flush_at, steps]) => fullness(alloc, flush_at, steps),
-        ("Parts::draw_blob", [next_blob]) => drawn(alloc, next_blob),
-        ("Parts::retire", [blobs]) => retired(alloc, blobs),
-        ("Parts::clear_stale", [blobs]) => cleared(alloc, blobs),
-        ("Parts::part", []) => parts_of_none(alloc),
-        ("Parts::flush", [fails, steps]) => recorded(alloc, fails, steps),
-        ("Parts::flush", [steps, "holds", blob]) => held(alloc, steps, blob),
-        ("Parts::fetch", [fails, steps, term]) => fetched_after(alloc, fails, steps, term),
-        ("Parts::work", [fails, steps, units]) => worked(alloc, fails, steps, units),
-        ("Parts::load", [fails, steps, records, more, term]) => {
-            loaded(alloc, fails, steps, records, more, term)
-        }
+        ("Parts::stored", [texts]) => memory::stored(alloc, index, texts),
+        ("Parts::draw_blob", [_]) => memory::drawn(alloc, &mut index.parts),
+        ("Parts::retire", [blobs]) => memory::retired(alloc, &mut index.parts, blobs),
+        ("Parts::clear_stale", [blobs]) => memory::cleared(alloc, &mut index.parts, blobs),
+        ("Parts::part", []) => memory::parts_of_none(alloc, &index.parts),
         _ => Err(NoAnswer::BadRow),
     }
-}
-
-/// The addresses of the term in the seen ones of the texts' files, where memory has no postings of the
-/// skipped ones.
-fn fetched(
-    alloc: Global,
-    by: By,
-    texts: &str,
-    skipped: &str,
-    seen: &str,
-    term: &str,
-) -> Result<String, NoAnswer> {
-    let texts = byte_strings(alloc, texts)?;
-    let skipped = small_numbers(alloc, skipped)?;
-    let seen = small_numbers(alloc, seen)?;
-    let term = bytes(alloc, term)?;
-    let mut parts = Parts::new(alloc, 1, 1)?;
-    let mut space = Space::new(alloc, 0);
-    put_texts(alloc, by, &mut parts, &mut space, &texts, &skipped)?;
-    release_others(&mut space, 100, &seen);
-    let found = fetch_live(&parts, &space, &term)?;
-    numbers_text(alloc, found.as_slice())
-}
-
-fn stored(alloc: Global, texts: &str) -> Result<String, NoAnswer> {
-    let texts = byte_strings(alloc, texts)?;
-    let mut parts = Parts::new(alloc, 1, 1)?;
-    let mut space = Space::new(alloc, 0);
-    put_texts(alloc, By::Text, &mut parts, &mut space, &texts, &[])?;
-    number_text(alloc, parts.stored())
-}
-
-/// A number that is drawn, the next one, and the one after it.
-fn drawn(alloc: Global, next_blob: &str) -> Result<String, NoAnswer> {
-    let mut parts = Parts::new(alloc, 1, number(next_blob)?)?;
-    let mut found = Vec::new(alloc);
-    for _turn in 0..2 {
-        if parts.next_blob() >= 1_000_000 {
-            return Err(NoAnswer::BadRow);
-        }
-        found.push(parts.draw_blob())?;
-    }
-    found.push(parts.next_blob())?;
-    numbers_text(alloc, &found)
-}
-
-/// A Parts that no longer needs the blobs.
-fn without(alloc: Global, blobs: &str) -> Result<Parts, NoAnswer> {
-    let mut parts = Parts::new(alloc, 1, 1)?;
-    for blob in numbers(alloc, blobs)? {
-        parts.retire(blob)?;
-    }
-    Ok(parts)
-}
-
-fn retired(alloc: Global, blobs: &str) -> Result<String, NoAnswer> {
-    let parts = without(alloc, blobs)?;
-    numbers_text(alloc, parts.stale())
-}
-
-fn cleared(alloc: Global, blobs: &str) -> Result<String, NoAnswer> {
-    let mut parts = without(alloc, blobs)?;
-    parts.clear_stale();
-    numbers_text(alloc, parts.stale())
-}
-
-/// The blob of the first part of a new Parts, where it has neither parts nor flushes.
-fn parts_of_none(alloc: Global) -> Result<String, NoAnswer> {
-    let parts = Parts::new(alloc, 1, 1)?;
-    if parts.count() > 0 || parts.flushes() > 0 {
-        return Err(NoAnswer::BadRow);
-    }
-    optional_text(alloc, parts.part(0).map(|part: PartRec| part.blob))
 }

@@ -6,94 +6,97 @@ mod asking;
 
 use crate::trees::events;
 use std::alloc::Global;
-use wu_base::{ADDRESSES_MAX, Ino, Range, Sequence};
+use wu_base::{ADDRESSES_MAX, Ino, Range, Sequence, Uid};
 use wu_frames::{FrameCache, LinkChanges, links_changed};
 use wu_rows::{NoAnswer, number, plain_text, small_number, small_numbers};
 use wu_space::Space;
-use wu_tree::{Event, Node, Tree};
+use wu_tree::{Effect, Event, Node, Tree};
 
 /// The tree and the space to which the rows of a table are put, and the frames that rows have kept. A table
 /// begins with the root alone.
 #[derive(Drop)]
 pub struct Rows {
-    tree: Tree,
-    space: Space,
+    pub tree: Tree,
+    pub space: Space,
     kept: FrameCache,
 }
 
 impl Rows {
     pub fn new(alloc: Global) -> Result<Rows, NoAnswer> {
+        let kept = FrameCache::new(alloc)?;
         Ok(Rows {
             tree: Tree::new(alloc)?,
             space: Space::new(alloc, 0),
-            kept: FrameCache::new(alloc)?,
+            kept,
         })
     }
 
     /// The answer to the row of these fields.
     pub fn answer(&mut self, alloc: Global, fields: &[&str]) -> Result<String, NoAnswer> {
         match fields {
-            ["frames", uid] => asking::frames(alloc, &self.tree, &self.space, small_number(uid)?),
-            ["view", uid] => asking::view(alloc, &self.tree, &self.space, small_number(uid)?),
-            ["total", uid] => asking::total(alloc, &self.tree, &self.space, small_number(uid)?),
-            ["in turn", users, times] => asking::in_turn(
-                alloc,
-                &self.tree,
-                &self.space,
-                small_number(users)?,
-                small_number(times)?,
-            ),
+            ["frames" | "view" | "total" | "in turn", ..] => {
+                asking::told(alloc, &self.tree, &self.space, fields)
+            }
             ["keep", users] => {
-                self.kept = asking::keep(alloc, &self.tree, &self.space, users)?;
-                plain_text(alloc, "done")
+                asking::keep(alloc, &mut self.kept, &self.tree, &self.space, users)
             }
-            ["kept", uid] => {
-                let uid = small_number(uid)?;
-                asking::kept(alloc, &self.tree, &self.space, uid, self.kept.kept(uid))
-            }
-            ["texts", ino, len, times] => {
-                self.give_texts(
-                    alloc,
-                    small_number(ino)?,
-                    number(len)?,
-                    small_number(times)?,
-                )
-            }
-            ["text", ino, len] => {
-                let event = Event::Text {
-                    ino: small_number(ino)?,
-                };
-                self.apply(alloc, event, number(len)?)
-            }
-            _ => {
-                let event = event_of(alloc, fields)?;
-                self.apply(alloc, event, 10)
-            }
+            ["kept", uid] => self.kept_of(alloc, small_number(uid)?),
+            ["texts", ino, len, times] => self.give_texts(alloc, ino, len, times),
+            ["text", ino, len] => self.text(alloc, small_number(ino)?, number(len)?),
+            _ => self.apply_written(alloc, fields),
         }
+    }
+
+    fn kept_of(&self, alloc: Global, uid: Uid) -> Result<String, NoAnswer> {
+        asking::kept(alloc, &self.tree, &self.space, uid, self.kept.kept(uid))
+    }
+
+    /// What the tree answers to the event that the fields write.
+    fn apply_written(&mut self, alloc: Global, fields: &[&str]) -> Result<String, NoAnswer> {
+        let event = event_of(alloc, fields)?;
+        self.apply(alloc, &event, 10)
+    }
+
+    /// What the tree answers where the file gets a text of `len` addresses.
+    fn text(&mut self, alloc: Global, ino: Ino, len: u64) -> Result<String, NoAnswer> {
+        let event = Event::Text { ino };
+        self.apply(alloc, &event, len)
     }
 
     /// What the tree answers to the event. A file that it makes or that gets a text is given `len`
     /// addresses, and a file that it drops loses its range.
-    fn apply(&mut self, alloc: Global, event: Event, len: u64) -> Result<String, NoAnswer>
-        requires { IsEvent event }
+    fn apply(&mut self, alloc: Global, event: &Event, len: u64) -> Result<String, NoAnswer>
+        requires { IsEvent event.now }
     {
-        let before = node_before(&self.tree, &event);
-        let links = links_changed(&self.tree, &event);
-        match self.tree.apply(&event)? {
+        let before = node_before(&self.tree, event);
+        let links = links_changed(&self.tree, event);
+        match self.tree.apply(event)? {
             Ok(effect) => {
-                if let Some(ino) = effect.dropped {
-                    release(&mut self.space, ino);
-                }
-                if let Some(ino) = effect.made {
-                    place(&mut self.space, ino, len)?;
-                }
-                match effect.texted {
-                    Some(ino) => self.give_text(ino, len)?,
-                    None => self.renew(&event, before, links)?,
-                }
+                self.follow(event, effect, before, links, len)?;
                 plain_text(alloc, "done")
             }
             Err(_) => plain_text(alloc, "refused"),
+        }
+    }
+
+    /// Gives and takes addresses as the effect of the event asks for.
+    fn follow(
+        &mut self,
+        event: &Event,
+        effect: Effect,
+        before: Option<(Ino, Node)>,
+        links: LinkChanges,
+        len: u64,
+    ) -> Result<(), NoAnswer> {
+        if let Some(ino) = effect.dropped {
+            release(&mut self.space, ino);
+        }
+        if let Some(ino) = effect.made {
+            place(&mut self.space, ino, len)?;
+        }
+        match effect.texted {
+            Some(ino) => self.give_text(ino, len),
+            None => self.renew(event, before, links),
         }
     }
 
@@ -129,12 +132,15 @@ impl Rows {
     fn give_texts(
         &mut self,
         alloc: Global,
-        ino: Ino,
-        len: u64,
-        times: u32,
+        ino: &str,
+        len: &str,
+        times: &str,
     ) -> Result<String, NoAnswer> {
+        let ino = small_number(ino)?;
+        let len = number(len)?;
+        let times = small_number(times)?;
         for _ in 0..times {
-            let answer = self.apply(alloc, Event::Text { ino }, len)?;
+            let answer = self.text(alloc, ino, len)?;
             if answer.as_str() != "done" {
                 return Ok(answer);
             }

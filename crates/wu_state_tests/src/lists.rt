@@ -1,13 +1,17 @@
 //! The rows of a table: parts that are put into a store, and terms that are fetched.
+ghost use Rattle.std.specs.Prelude.{◌+◌, ◌≤◌, All};
+ghost use Rattle.wu_base.specs.declared.limits.TheConstants.{ADDRESSES_MAX};
+ghost use Rattle.wu_space.specs.Addresses.{AreApart};
+
 mod fixtures;
 
 use crate::lists::fixtures::{directory_of, frames_of};
 use std::alloc::Global;
-use wu_base::Trouble;
+use wu_base::{Range, Trouble};
 use wu_lists::Lists;
-use wu_outside::{MemStore, ReadRange, Store};
+use wu_outside::{Fault, MemStore, ReadRange, Store};
 use wu_part::Directory;
-use wu_rows::{NoAnswer, bytes, number, number_text, numbers, plain_text};
+use wu_rows::{NoAnswer, bytes, number, number_text, numbers, numbers_text, plain_text};
 
 /// How many blocks are kept at the begin of a table.
 const CAPACITY: usize = 16;
@@ -24,111 +28,125 @@ pub struct Rows {
 impl Rows {
     pub fn new(alloc: Global) -> Result<Rows, NoAnswer> {
         Ok(Rows {
+            lists: Lists::new(alloc, CAPACITY)?,
             store: MemStore::new(alloc, Vec::new(alloc), u64::MAX),
             directories: Vec::new(alloc),
-            lists: Lists::new(alloc, CAPACITY)?,
         })
     }
 
     /// The answer to the row of these fields.
     pub fn answer(&mut self, alloc: Global, fields: &[&str]) -> Result<String, NoAnswer> {
         match fields {
-            ["keep", capacity] => {
-                let capacity = number(capacity)?.max(1);
-                self.lists = Lists::new(alloc, capacity as usize)?;
-                plain_text(alloc, "none kept")
-            }
-            ["fail", fails] => {
-                self.store = MemStore::new(alloc, numbers(alloc, fails)?, u64::MAX);
-                plain_text(alloc, "empty")
-            }
-            ["directory", blob, part] => {
-                let directory = directory_of(alloc, &bytes(alloc, part)?)?;
-                let count = directory.term_count();
-                let blob = number(blob)?;
-                self.directories.retain(|held| held.0 != blob);
-                self.directories.push((blob, directory))?;
-                number_text(alloc, count as u64)
-            }
-            ["put", blob, part] => self.put(alloc, number(blob)?, &bytes(alloc, part)?),
-            ["remove", blob] => self.remove(alloc, number(blob)?),
-            ["fetch", blob, term, frames] => {
-                self.fetch(alloc, number(blob)?, &bytes(alloc, term)?, frames)
-            }
-            ["touch", blob, term, frames] => {
-                self.touch(alloc, number(blob)?, &bytes(alloc, term)?, frames)
+            ["keep", capacity] => self.keep(alloc, capacity),
+            ["fail", fails] => self.fail(alloc, fails),
+            ["directory", blob, part] => self.hold(alloc, blob, part),
+            ["put", blob, part] => self.put(alloc, blob, part),
+            ["remove", blob] => outcome(alloc, self.store.remove(number(blob)?), "removed"),
+            ["fetch" | "touch", blob, term, frames] => {
+                let before = self.store.reads().len();
+                let asked = self.asked(alloc, fields[0] == "fetch", blob, term, frames);
+                with_ranges(asked, self.store.reads(), before)
             }
             _ => Err(NoAnswer::BadRow),
         }
     }
 
-    /// What is fetched of the term in the frames, and the ranges that were read for it.
-    fn fetch(
-        &mut self,
-        alloc: Global,
-        blob: u64,
-        term: &[u8],
-        frames: &str,
-    ) -> Result<String, NoAnswer> {
-        let frames = frames_of(alloc, frames)?;
-        let before = self.store.reads().len();
-        let mut text = match directory_at(&self.directories, blob) {
-            Some(directory) => {
-                match self
-                    .lists
-                    .fetch(&mut self.store, blob, directory, term, &frames)
-                {
-                    Ok(found) => {
-                        let found = found.as_slice();
-                        format!(in alloc; "{found:?}")?
-                    }
-                    Err(trouble) => trouble_text(alloc, trouble)?,
-                }
-            }
-            None => return Err(NoAnswer::BadRow),
-        };
-        put_ranges(&mut text, self.store.reads(), before)?;
-        Ok(text)
+    /// Keeps so many blocks from now on, and none of those before.
+    fn keep(&mut self, alloc: Global, capacity: &str) -> Result<String, NoAnswer> {
+        let capacity = number(capacity)?.max(1);
+        self.lists = Lists::new(alloc, capacity as usize)?;
+        plain_text(alloc, "none kept")
     }
 
-    /// The ranges that are read where the term is touched in the frames.
-    fn touch(
-        &mut self,
-        alloc: Global,
-        blob: u64,
-        term: &[u8],
-        frames: &str,
-    ) -> Result<String, NoAnswer> {
-        let frames = frames_of(alloc, frames)?;
-        let before = self.store.reads().len();
-        let mut text = match directory_at(&self.directories, blob) {
-            Some(directory) => {
-                match self
-                    .lists
-                    .touch(&mut self.store, blob, directory, term, &frames)
-                {
-                    Ok(()) => String::from_str(alloc, "touched")?,
-                    Err(trouble) => trouble_text(alloc, trouble)?,
-                }
-            }
-            None => return Err(NoAnswer::BadRow),
-        };
-        put_ranges(&mut text, self.store.reads(), before)?;
-        Ok(text)
+    /// Goes on with an empty store of which these calls fail.
+    fn fail(&mut self, alloc: Global, fails: &str) -> Result<String, NoAnswer> {
+        let fails = numbers(alloc, fails)?;
+        self.store = MemStore::new(alloc, fails, u64::MAX);
+        plain_text(alloc, "empty")
     }
 
-    fn put(&mut self, alloc: Global, blob: u64, part: &[u8]) -> Result<String, NoAnswer> {
-        match self.store.put(blob, part) {
-            Ok(()) => plain_text(alloc, "put"),
-            Err(_) => plain_text(alloc, "failed"),
+    /// Holds the directory of a part, and gives the number of its terms.
+    fn hold(&mut self, alloc: Global, blob: &str, part: &str) -> Result<String, NoAnswer> {
+        let blob = number(blob)?;
+        let part = bytes(alloc, part)?;
+        self.directories.retain(|held| held.0 != blob);
+        self.directories.push((blob, directory_of(alloc, &part)?))?;
+        match directory_at(&self.directories, blob) {
+            Some(directory) => number_text(alloc, directory.term_count() as u64),
+            None => Err(NoAnswer::BadRow),
         }
     }
 
-    fn remove(&mut self, alloc: Global, blob: u64) -> Result<String, NoAnswer> {
-        match self.store.remove(blob) {
-            Ok(()) => plain_text(alloc, "removed"),
-            Err(_) => plain_text(alloc, "failed"),
+    fn put(&mut self, alloc: Global, blob: &str, part: &str) -> Result<String, NoAnswer> {
+        let blob = number(blob)?;
+        let part = bytes(alloc, part)?;
+        outcome(alloc, self.store.put(blob, &part), "put")
+    }
+
+    /// What is fetched of the term in the frames, or that it was touched there; or the trouble.
+    fn asked(
+        &mut self,
+        alloc: Global,
+        is_fetch: bool,
+        blob: &str,
+        term: &str,
+        frames: &str,
+    ) -> Result<String, NoAnswer> {
+        let blob = number(blob)?;
+        let term = bytes(alloc, term)?;
+        let frames = frames_of(alloc, frames)?;
+        let Some(directory) = directory_at(&self.directories, blob) else {
+            return Err(NoAnswer::BadRow);
+        };
+        let (lists, store) = (&mut self.lists, &mut self.store);
+        if is_fetch {
+            fetched(alloc, lists, store, (blob, directory), &term, &frames)
+        } else {
+            touched(alloc, lists, store, (blob, directory), &term, &frames)
         }
+    }
+}
+
+/// What is fetched of the term in the frames from the part in that blob.
+fn fetched(
+    alloc: Global,
+    lists: &mut Lists,
+    store: &mut MemStore,
+    part: (u64, &Directory),
+    term: &[u8],
+    frames: &[Range],
+) -> Result<String, NoAnswer>
+    requires apart { AreApart frames.now }
+    requires bounded { All (λ frame. frame.start + frame.len ≤ ADDRESSES_MAX) frames.now }
+{
+    match lists.fetch(store, part.0, part.1, term, frames) {
+        Ok(found) => numbers_text(alloc, found.as_slice()),
+        Err(trouble) => trouble_text(alloc, trouble),
+    }
+}
+
+fn touched(
+    alloc: Global,
+    lists: &mut Lists,
+    store: &mut MemStore,
+    part: (u64, &Directory),
+    term: &[u8],
+    frames: &[Range],
+) -> Result<String, NoAnswer>
+    requires apart { AreApart frames.now }
+    requires bounded { All (λ frame. frame.start + frame.len ≤ ADDRESSES_MAX) frames.now }
+{
+    match lists.touch(store, part.0, part.1, term, frames) {
+        Ok(()) => plain_text(alloc, "touched"),
+        Err(trouble) => trouble_text(alloc, trouble),
+    }
+}
+
+/// The word where the change was done.
+fn outcome(alloc: Global, done: Result<(), Fault>, word: &str) -> Result<String, NoAnswer> {
+    match done {
+        Ok(()) => plain_text(alloc, word),
+        Err(_) => plain_text(alloc, "failed"),
     }
 }
 
@@ -150,13 +168,18 @@ fn trouble_text(alloc: Global, trouble: Trouble) -> Result<String, NoAnswer> {
     }
 }
 
-/// Appends the ranges that were read since, each as a blob, a place and a length.
-fn put_ranges(text: &mut String, ranges: &[ReadRange], before: usize) -> Result<(), NoAnswer> {
+/// The text with the ranges that were read since, each as a blob, a place and a length.
+fn with_ranges(
+    text: Result<String, NoAnswer>,
+    ranges: &[ReadRange],
+    before: usize,
+) -> Result<String, NoAnswer> {
+    let mut text = text?;
     for range in ranges.iter().skip(before) {
         let blob = range.blob;
         let at = range.at;
         let len = range.len;
         write!(text, " {blob}:{at}+{len}")?;
     }
-    Ok(())
+    Ok(text)
 }

@@ -7,7 +7,6 @@ mod scripts;
 mod spaces;
 mod trees;
 
-use crate::trees::Trees;
 use std::alloc::Global;
 use std::io;
 use wu_rows::{NoAnswer, Subject, compare_tables};
@@ -16,7 +15,7 @@ use wu_view::open_paths_lead_from_the_root;
 
 fn main(rt: HostRuntime) -> io::Result<()> {
     let mut tables = Tables::new(rt.alloc())?;
-    laws(&tables.trees.tree);
+    laws(&tables.files.tree);
     compare_tables(&rt, &mut tables)
 }
 
@@ -27,22 +26,19 @@ fn laws(tree: &Tree) {
     open_paths_lead_from_the_root(tree);
 }
 
-/// The tables of this program. What the rows of one are put to is new at its beginning.
+/// What the tables of this program are put to, new at the beginning of each.
 #[derive(Drop)]
 struct Tables {
-    trees: Trees,
-    spaces: spaces::Rows,
-    frames: frames::Rows,
+    files: frames::Rows,
     lists: lists::Rows,
 }
 
 impl Tables {
     fn new(alloc: Global) -> Result<Tables, NoAnswer> {
+        let lists = lists::Rows::new(alloc)?;
         Ok(Tables {
-            trees: Trees::new(alloc)?,
-            spaces: spaces::Rows::new(alloc),
-            frames: frames::Rows::new(alloc)?,
-            lists: lists::Rows::new(alloc)?,
+            files: frames::Rows::new(alloc)?,
+            lists,
         })
     }
 }
@@ -55,10 +51,12 @@ impl Subject for Tables {
 
     fn answer(&mut self, alloc: Global, kind: &str, fields: &[&str]) -> Result<String, NoAnswer> {
         match kind {
-            "space" => self.spaces.answer(alloc, fields),
-            "frames" | "kept" => self.frames.answer(alloc, fields),
+            "space" => spaces::answer(alloc, &mut self.files.space, fields),
+            "frames" | "kept" => self.files.answer(alloc, fields),
             "lists" => self.lists.answer(alloc, fields),
-            "events" | "rebuild" | "chain" | "refusal" => self.trees.answer(alloc, kind, fields),
+            "events" | "rebuild" | "chain" | "refusal" => {
+                trees::answer(alloc, &mut self.files.tree, kind, fields)
+            }
             _ => scripts::answer(alloc, kind, fields),
         }
     }

@@ -6,46 +6,34 @@ use wu_base::{ADDRESSES_MAX, Ino, Range};
 use wu_rows::{NoAnswer, number, number_text, plain_text, small_number};
 use wu_space::Space;
 
-/// The space to which the rows of a table are put. A table begins with a space of next address 0.
-#[derive(Drop)]
-pub struct Rows {
-    space: Space,
-}
-
-impl Rows {
-    pub fn new(alloc: Global) -> Rows {
-        Rows {
-            space: Space::new(alloc, 0),
-        }
+/// The answer to the row of these fields.
+pub fn answer(alloc: Global, space: &mut Space, fields: &[&str]) -> Result<String, NoAnswer> {
+    match fields {
+        ["place", ino, len] => placed(alloc, space, ino, len),
+        ["release", ino] => released(alloc, space, small_number(ino)?),
+        ["rebuild", next, ranges] => rebuilt(alloc, space, next, ranges),
+        ["random", seed, steps] => agreement(alloc, seed, steps),
+        _ => told(alloc, space, fields),
     }
 }
 
-impl Rows {
-    /// The answer to the row of these fields.
-    pub fn answer(&mut self, alloc: Global, fields: &[&str]) -> Result<String, NoAnswer> {
-        match fields {
-            ["place", ino, len] => {
-                placed(alloc, &mut self.space, small_number(ino)?, number(len)?)
-            }
-            ["release", ino] => released(alloc, &mut self.space, small_number(ino)?),
-            ["rebuild", next, ranges] => self.rebuilt(alloc, number(next)?, ranges),
-            ["random", seed, steps] => {
-                number_text(alloc, plain::agreed(alloc, number(seed)?, number(steps)?)?)
-            }
-            _ => told(alloc, &self.space, fields),
-        }
-    }
+/// After how many of so many random changes the space tells what a plain list does.
+fn agreement(alloc: Global, seed: &str, steps: &str) -> Result<String, NoAnswer> {
+    let seed = number(seed)?;
+    let steps = number(steps)?;
+    number_text(alloc, plain::agreed(alloc, seed, steps)?)
+}
 
-    /// Goes on with the space that is rebuilt from the ranges, if there is one.
-    fn rebuilt(&mut self, alloc: Global, next: u64, ranges: &str) -> Result<String, NoAnswer> {
-        let files = files_of(alloc, ranges)?;
-        match Space::rebuild(alloc, next, files.as_slice())? {
-            Some(space) => {
-                self.space = space;
-                plain_text(alloc, "some")
-            }
-            None => plain_text(alloc, "none"),
+/// Goes on with the space that is rebuilt from the ranges, if there is one.
+fn rebuilt(alloc: Global, space: &mut Space, next: &str, ranges: &str) -> Result<String, NoAnswer> {
+    let next = number(next)?;
+    let files = files_of(alloc, ranges)?;
+    match Space::rebuild(alloc, next, files.as_slice())? {
+        Some(rebuilt) => {
+            *space = rebuilt;
+            plain_text(alloc, "some")
         }
+        None => plain_text(alloc, "none"),
     }
 }
 
@@ -65,7 +53,9 @@ fn told(alloc: Global, space: &Space, fields: &[&str]) -> Result<String, NoAnswe
     }
 }
 
-fn placed(alloc: Global, space: &mut Space, ino: Ino, len: u64) -> Result<String, NoAnswer> {
+fn placed(alloc: Global, space: &mut Space, ino: &str, len: &str) -> Result<String, NoAnswer> {
+    let ino = small_number(ino)?;
+    let len = number(len)?;
     if len == 0 || len > ADDRESSES_MAX || space.next() > ADDRESSES_MAX - len {
         return Err(NoAnswer::BadRow);
     }

@@ -9,39 +9,25 @@ use std::alloc::Global;
 use wu_rows::{NoAnswer, words};
 use wu_tree::Tree;
 
-/// The tree to which the events of a table happen. A table begins with the root alone.
-#[derive(Drop)]
-pub struct Trees {
-    pub tree: Tree,
-}
-
-impl Trees {
-    pub fn new(alloc: Global) -> Result<Trees, NoAnswer> {
-        Ok(Trees {
-            tree: Tree::new(alloc)?,
-        })
-    }
-
-    /// The answer to the row of these fields, in a table of this kind.
-    pub fn answer(
-        &mut self,
-        alloc: Global,
-        kind: &str,
-        fields: &[&str],
-    ) -> Result<String, NoAnswer> {
-        match (kind, fields) {
-            ("events", [event]) => {
-                let words = words(alloc, event)?;
-                events::answered(alloc, &mut self.tree, words.as_slice())
-            }
-            ("events", [call, arguments]) => {
-                let words = words(alloc, arguments)?;
-                told::answered(alloc, &self.tree, call, words.as_slice())
-            }
-            ("rebuild", [nodes, links, users]) => rebuilding::made(alloc, nodes, links, users),
-            ("chain", [depth, letters]) => rebuilding::chain_made(alloc, depth, letters),
-            ("refusal", [name]) => refusals::text(alloc, name),
-            _ => Err(NoAnswer::BadRow),
+/// The answer to the row of these fields, in a table of this kind.
+pub fn answer(
+    alloc: Global,
+    tree: &mut Tree,
+    kind: &str,
+    fields: &[&str],
+) -> Result<String, NoAnswer> {
+    match (kind, fields) {
+        ("events", [event]) => {
+            let words = words(alloc, event)?;
+            events::answered(alloc, tree, words.as_slice())
         }
+        ("events", [call, arguments]) => {
+            let words = words(alloc, arguments)?;
+            told::answered(alloc, tree, call, words.as_slice())
+        }
+        ("rebuild", [nodes, links, users]) => rebuilding::made(alloc, nodes, links, users),
+        ("chain", [depth, letters]) => rebuilding::chain_made(alloc, depth, letters),
+        ("refusal", [name]) => refusals::text(alloc, name),
+        _ => Err(NoAnswer::BadRow),
     }
 }

@@ -3,6 +3,7 @@ use crate::outside::calls::Call::{Put, Read, Remove, Root, SetRoot, Size, Sync};
 use crate::outside::calls::{Call, answer};
 use std::alloc::Global;
 use std::io;
+use std::ops::Range;
 use wu_outside::{MemStore, PlainStore};
 use wu_rows::NoAnswer;
 
@@ -46,21 +47,45 @@ pub fn compare_failing(rt: &(impl Print + AllocGlobal)) -> io::Result<()> {
 
 /// Whether the call with this number fails alone, and the others answer as a plain store to which it isn't made.
 fn fails_alone(alloc: Global, failing: usize) -> Result<bool, NoAnswer> {
-    let mut fails = Vec::new(alloc);
-    fails.push(failing as u64)?;
-    let mut store = MemStore::new(alloc, fails, u64::MAX);
+    let fails = Vec::from_slice(alloc, &[failing as u64])?;
+    fail(alloc, fails, u64::MAX, failing..failing.saturating_add(1))
+}
+
+/// Whether the calls from the stop on fail, and the others answer as a plain store.
+fn fails_from(alloc: Global, stop: usize) -> Result<bool, NoAnswer> {
+    fail(alloc, Vec::new(alloc), stop as u64, stop..CALLS.len())
+}
+
+/// Whether those calls fail of a store of which the named calls fail, and all from the stop on; and whether the others answer as a plain
+/// store.
+fn fail(
+    alloc: Global,
+    fails: Vec<u64>,
+    stop: u64,
+    failing: Range<usize>,
+) -> Result<bool, NoAnswer> {
+    let mut store = MemStore::new(alloc, fails, stop);
     let mut plain = PlainStore::new(alloc);
+    are_failing(alloc, &mut store, &mut plain, failing)
+}
+
+fn are_failing(
+    alloc: Global,
+    store: &mut MemStore,
+    plain: &mut PlainStore,
+    failing: Range<usize>,
+) -> Result<bool, NoAnswer> {
     let mut same = true;
     for (number, call) in CALLS.iter().enumerate() {
-        let given = answer(alloc, &mut store, *call)?;
-        let is_wanted = if number == failing {
+        let given = answer(alloc, store, *call)?;
+        let is_wanted = if failing.contains(&number) {
             given.as_str() == "failed"
         } else {
-            is_answer(alloc, &mut plain, *call, given.as_str())?
+            is_answer(alloc, plain, *call, given.as_str())?
         };
         same = same && is_wanted;
     }
-    let counted = store.calls() == CALLS.len() as u64 && store.faults() == 1;
+    let counted = store.calls() == CALLS.len() as u64 && store.faults() == failing.len() as u64;
     Ok(same && counted && store.reads() == plain.reads())
 }
 
@@ -72,21 +97,4 @@ fn is_answer(
     given: &str,
 ) -> Result<bool, NoAnswer> {
     Ok(answer(alloc, plain, call)?.as_str() == given)
-}
-
-/// Whether the calls from the stop on fail, and the others answer as a plain store.
-fn fails_from(alloc: Global, stop: usize) -> Result<bool, NoAnswer> {
-    let mut store = MemStore::new(alloc, Vec::new(alloc), stop as u64);
-    let mut plain = PlainStore::new(alloc);
-    let mut same = true;
-    for (number, call) in CALLS.iter().enumerate() {
-        let given = answer(alloc, &mut store, *call)?;
-        let is_wanted = if number >= stop {
-            given.as_str() == "failed"
-        } else {
-            is_answer(alloc, &mut plain, *call, given.as_str())?
-        };
-        same = same && is_wanted;
-    }
-    Ok(same && store.faults() == CALLS.len().saturating_sub(stop) as u64)
 }

@@ -36,13 +36,14 @@ fn answers_in<R: Files + AllocGlobal>(
     calls: &str,
 ) -> Result<String, NoAnswer> {
     let mut store = DirStore::new(files, folder)?;
-    let mut text = answers_of(files.alloc(), &mut store, calls)?;
-    put_faults(&mut text, store.faults())?;
-    Ok(text)
+    let answers = answers_of(files.alloc(), &mut store, calls);
+    with_faults(answers, store.faults())
 }
 
-fn put_faults(text: &mut String, faults: u64) -> Result<(), NoAnswer> {
-    Ok(write!(text, " {faults} failed")?)
+fn with_faults(answers: Result<String, NoAnswer>, faults: u64) -> Result<String, NoAnswer> {
+    let mut text = answers?;
+    write!(text, " {faults} failed")?;
+    Ok(text)
 }
 
 /// The same, where between two lists of calls the file gets this text.
@@ -55,12 +56,23 @@ fn answers_around_a_cut<R: Files + AllocGlobal>(
     later: &str,
 ) -> Result<String, NoAnswer> {
     let mut store = DirStore::new(files, folder)?;
-    let mut answers = answers_of(files.alloc(), &mut store, calls)?;
-    if fs::write(files, file, text).is_err() {
+    let before = answers_of(files.alloc(), &mut store, calls);
+    let cut = fs::write(files, file, text).is_ok();
+    let after = answers_of(files.alloc(), &mut store, later);
+    with_faults(joined(before, cut, after), store.faults())
+}
+
+/// The answers before and after the cut, if it was made.
+fn joined(
+    before: Result<String, NoAnswer>,
+    cut: bool,
+    after: Result<String, NoAnswer>,
+) -> Result<String, NoAnswer> {
+    if !cut {
         return Err(NoAnswer::BadRow);
     }
-    answers.push_str(answers_of(files.alloc(), &mut store, later)?.as_str())?;
-    put_faults(&mut answers, store.faults())?;
+    let mut answers = before?;
+    answers.push_str(after?.as_str())?;
     Ok(answers)
 }
 
@@ -94,11 +106,16 @@ const STEP: usize = 997;
 
 /// Reads ten long blobs in turn, of which eight stay open, and prints how many reads give the bytes that were put.
 pub fn compare_long_reads<R: Files + Print + AllocGlobal>(rt: &R) -> io::Result<()> {
-    let bytes = long_bytes(rt.alloc())?;
-    let mut store = DirStore::new(rt, "long").map_err(NoAnswer::from)?;
-    let same = same_reads(&mut store, &bytes);
+    let same = long_reads(rt)?;
     println!(rt; "long blobs in a folder: {same} of 410 reads give what was put")?;
     fs::remove_dir_all(rt, "long")
+}
+
+/// How many reads give the bytes that were put.
+fn long_reads<R: Files + AllocGlobal>(files: &R) -> Result<u64, NoAnswer> {
+    let bytes = long_bytes(files.alloc())?;
+    let mut store = DirStore::new(files, "long")?;
+    Ok(same_reads(&mut store, &bytes))
 }
 
 fn long_bytes(alloc: Global) -> Result<Vec<u8>, NoAnswer> {

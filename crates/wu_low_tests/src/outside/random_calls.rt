@@ -154,9 +154,16 @@ pub fn compare_stores<R: Files + Print + AllocGlobal>(rt: &R) -> io::Result<()> 
 fn agreeing_in_memory(alloc: Global, seed: u64) -> Result<u64, NoAnswer> {
     let mut memory = MemStore::new(alloc, Vec::new(alloc), u64::MAX);
     let mut plain = PlainStore::new(alloc);
-    let same = agreeing(alloc, &mut memory, seed)?.saturating_add(agreeing(
-        alloc, &mut plain, seed,
-    )?);
+    agreeing_both(alloc, &mut memory, &mut plain, seed)
+}
+
+fn agreeing_both(
+    alloc: Global,
+    memory: &mut MemStore,
+    plain: &mut PlainStore,
+    seed: u64,
+) -> Result<u64, NoAnswer> {
+    let same = agreeing(alloc, memory, seed)?.saturating_add(agreeing(alloc, plain, seed)?);
     if memory.faults() == 0 && memory.reads() == plain.reads() {
         Ok(same)
     } else {
@@ -167,9 +174,9 @@ fn agreeing_in_memory(alloc: Global, seed: u64) -> Result<u64, NoAnswer> {
 /// How many calls on a store in a folder agree; none where one fails.
 fn agreeing_on_disk<R: Files + AllocGlobal>(files: &R, seed: u64) -> Result<u64, NoAnswer> {
     let mut store = DirStore::new(files, "random")?;
-    let same = agreeing(files.alloc(), &mut store, seed)?;
+    let same = agreeing(files.alloc(), &mut store, seed);
     let _ = fs::remove_dir_all(files, "random");
-    Ok(if store.faults() == 0 { same } else { 0 })
+    if store.faults() == 0 { same } else { Ok(0) }
 }
 
 /// What a place may be after a crash: what it was at the last sync, or what a change since then
@@ -203,47 +210,71 @@ fn whole(alloc: Global, store: &mut MemStore, number: u64) -> Result<Option<Vec<
     }
 }
 
-/// What was made of a store: what it had at its last sync, the calls since then, and what a crash left.
+/// What is known of a store: what it holds, what it held at its last sync, and the calls since then.
 #[derive(Drop)]
-struct Crash {
+struct Known {
+    map: Map,
     synced: Map,
     since: Vec<Call<'static>>,
-    left: MemStore,
 }
 
-/// A crash after 30 random calls.
-fn crash_after_calls(alloc: Global, seed: u64) -> Result<Crash, NoAnswer> {
-    let mut dice = Dice { state: seed };
-    let mut map = Vec::new(alloc);
-    let mut synced = Vec::new(alloc);
-    let mut since = Vec::new(alloc);
+impl Known {
+    fn note(&mut self, alloc: Global, call: Call<'static>) -> Result<(), NoAnswer> {
+        map_answer(alloc, &mut self.map, call)?;
+        self.since.push(call)?;
+        if let Sync = call {
+            self.since.clear();
+            self.synced = copied(alloc, &self.map)?;
+        }
+        Ok(())
+    }
+}
+
+/// How many of seven places hold what the definition of a crash allows, after 30 random calls.
+fn allowed_places(alloc: Global, seed: u64) -> Result<u64, NoAnswer> {
     let mut store = MemStore::new(alloc, Vec::new(alloc), u64::MAX);
+    let mut known = Known {
+        map: Vec::new(alloc),
+        synced: Vec::new(alloc),
+        since: Vec::new(alloc),
+    };
+    let mut dice = Dice { state: seed };
+    let made = make_calls(alloc, &mut store, &mut known, &mut dice);
+    allowed_after(alloc, made, &store, &known, dice.below(1 << 31))
+}
+
+fn make_calls(
+    alloc: Global,
+    store: &mut MemStore,
+    known: &mut Known,
+    dice: &mut Dice,
+) -> Result<(), NoAnswer> {
     for _ in 0..30u32 {
         let call = dice.call();
-        answer(alloc, &mut store, call)?;
-        map_answer(alloc, &mut map, call)?;
-        since.push(call)?;
-        if let Sync = call {
-            since.clear();
-            synced = copied(alloc, &map)?;
-        }
+        answer(alloc, store, call)?;
+        known.note(alloc, call)?;
     }
-    let left = store.crashed(dice.below(1 << 31))?;
-    Ok(Crash {
-        synced,
-        since,
-        left,
-    })
+    Ok(())
 }
 
-/// How many of seven places hold what the definition of a crash allows.
-fn allowed_places(alloc: Global, seed: u64) -> Result<u64, NoAnswer> {
-    let mut crash = crash_after_calls(alloc, seed)?;
+fn allowed_after(
+    alloc: Global,
+    made: Result<(), NoAnswer>,
+    store: &MemStore,
+    known: &Known,
+    choice: u64,
+) -> Result<u64, NoAnswer> {
+    made?;
+    let mut left = store.crashed(choice)?;
+    allowed_in(alloc, &mut left, known)
+}
+
+fn allowed_in(alloc: Global, left: &mut MemStore, known: &Known) -> Result<u64, NoAnswer> {
     let mut allowed = 0u64;
     for number in [0, 1, 2, 3, 4, 5, 99u64] {
-        let bytes = whole(alloc, &mut crash.left, number)?;
+        let bytes = whole(alloc, left, number)?;
         let bytes = bytes.as_ref().map(|bytes| bytes.as_slice());
-        let is_allowed = may_be(&crash.synced, crash.since.as_slice(), number, bytes);
+        let is_allowed = may_be(&known.synced, known.since.as_slice(), number, bytes);
         allowed = allowed.saturating_add(u64::from(is_allowed));
     }
     Ok(allowed)

@@ -7,57 +7,98 @@ use wu_rows::{NoAnswer, number, numbers, numbers_text};
 /// The answer of the call to the arguments.
 pub fn answer(alloc: Global, call: &str, arguments: &[&str]) -> Result<String, NoAnswer> {
     match (call, arguments) {
-        ("PlainStore", [calls]) => answers_of(alloc, &mut PlainStore::new(alloc), calls),
-        ("PlainStore::reads", [calls]) => ranges_read(alloc, calls),
-        ("MemStore", [fails, stop, calls]) => {
-            described(alloc, &mut store_of(alloc, fails, stop)?, calls)
-        }
-        ("MemStore::crashed", [fails, stop, calls, choice, later]) => {
-            let store = store_after(alloc, fails, stop, calls)?;
-            described(alloc, &mut store.crashed(number(choice)?)?, later)
+        ("PlainStore" | "PlainStore::reads", [calls]) => plainly(alloc, call, calls),
+        ("MemStore", [fails, stop, _]) | ("MemStore::crashed", [fails, stop, _, _, _]) => {
+            in_memory(alloc, fails, stop, arguments)
         }
         ("MemStore::crashed", [puts, choice, later]) => {
-            let store = store_of_puts(alloc, number(puts)?)?;
-            described(alloc, &mut store.crashed(number(choice)?)?, later)
+            after_puts(alloc, number(puts)?, choice, later)
         }
         _ => Err(NoAnswer::BadRow),
     }
 }
 
-/// The ranges that the calls read, each as a blob, a place and a length.
-fn ranges_read(alloc: Global, calls: &str) -> Result<String, NoAnswer> {
+/// What a plain store answers to the calls, or the ranges that they read.
+fn plainly(alloc: Global, call: &str, calls: &str) -> Result<String, NoAnswer> {
     let mut store = PlainStore::new(alloc);
-    answers_of(alloc, &mut store, calls)?;
+    let answers = answers_of(alloc, &mut store, calls);
+    if call == "PlainStore" {
+        answers
+    } else {
+        ranges_after(alloc, answers, store.reads())
+    }
+}
+
+/// The ranges that were read for the answers, each as a blob, a place and a length.
+fn ranges_after(
+    alloc: Global,
+    answers: Result<String, NoAnswer>,
+    ranges: &[ReadRange],
+) -> Result<String, NoAnswer> {
+    answers?;
     let mut numbers = Vec::new(alloc);
-    for range in store.reads() {
+    for range in ranges {
         let ReadRange { blob, at, len } = *range;
         numbers.extend_from_slice(&[blob, at, len])?;
     }
     numbers_text(alloc, &numbers)
 }
 
-/// A store in which the named calls fail, and all from the stop on.
-fn store_of(alloc: Global, fails: &str, stop: &str) -> Result<MemStore, NoAnswer> {
+/// What a store answers in which the named calls fail, and all from the stop on.
+fn in_memory(
+    alloc: Global,
+    fails: &str,
+    stop: &str,
+    arguments: &[&str],
+) -> Result<String, NoAnswer> {
     let stop = match stop {
         "never" => u64::MAX,
         _ => number(stop)?,
     };
-    Ok(MemStore::new(alloc, numbers(alloc, fails)?, stop))
+    let fails = numbers(alloc, fails)?;
+    let mut store = MemStore::new(alloc, fails, stop);
+    told(alloc, &mut store, arguments)
 }
 
-fn store_after(alloc: Global, fails: &str, stop: &str, calls: &str) -> Result<MemStore, NoAnswer> {
-    let mut store = store_of(alloc, fails, stop)?;
-    answers_of(alloc, &mut store, calls)?;
-    Ok(store)
-}
-
-/// A store with so many blobs, none of them synced.
-fn store_of_puts(alloc: Global, puts: u64) -> Result<MemStore, NoAnswer> {
-    let mut store = store_of(alloc, "", "never")?;
-    for blob in 0..puts {
-        answer_of_call(alloc, &mut store, Call::Put(blob, b"x"))?;
+fn told(alloc: Global, store: &mut MemStore, arguments: &[&str]) -> Result<String, NoAnswer> {
+    match arguments {
+        [_, _, calls] => described(alloc, store, calls),
+        [_, _, calls, choice, later] => {
+            answers_of(alloc, store, calls)?;
+            after_crash(alloc, store, choice, later)
+        }
+        _ => Err(NoAnswer::BadRow),
     }
-    Ok(store)
+}
+
+/// What is left of a store with so many blobs, none of them synced.
+fn after_puts(alloc: Global, puts: u64, choice: &str, later: &str) -> Result<String, NoAnswer> {
+    let mut store = MemStore::new(alloc, Vec::new(alloc), u64::MAX);
+    put_and_crash(alloc, &mut store, puts, choice, later)
+}
+
+fn put_and_crash(
+    alloc: Global,
+    store: &mut MemStore,
+    puts: u64,
+    choice: &str,
+    later: &str,
+) -> Result<String, NoAnswer> {
+    for blob in 0..puts {
+        answer_of_call(alloc, store, Call::Put(blob, b"x"))?;
+    }
+    after_crash(alloc, store, choice, later)
+}
+
+/// What is answered to the calls by what a crash leaves of the store.
+fn after_crash(
+    alloc: Global,
+    store: &MemStore,
+    choice: &str,
+    later: &str,
+) -> Result<String, NoAnswer> {
+    let mut left = store.crashed(number(choice)?)?;
+    described(alloc, &mut left, later)
 }
 
 /// The answers of the calls, and how many calls there were then and how many of them failed.

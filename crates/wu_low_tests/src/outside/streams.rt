@@ -12,19 +12,28 @@ use wu_rows::{NoAnswer, byte_strings, bytes, bytes_text, number, numbers};
 /// The answer of the call to the arguments.
 pub fn answer(alloc: Global, call: &str, arguments: &[&str]) -> Result<String, NoAnswer> {
     match (call, arguments) {
-        ("PlainSource", [text]) => {
-            let mut source = PlainSource::new(bytes(alloc, text)?);
-            bytes_text(alloc, &read_all(alloc, &mut source)?)
-        }
+        ("PlainSource", [text]) => bytes_given_plainly(alloc, text),
         ("MemSource", [text, fails]) => bytes_given(alloc, text, fails),
         ("PlainSink", [pieces, last]) => bytes_gained(alloc, pieces, last),
         ("MemSink", [pieces, fails]) => bytes_gained_with_faults(alloc, pieces, fails),
-        ("write_all", [pieces, writes]) => byte_by_byte(alloc, pieces, number(writes)?),
-        ("Failed", []) => Ok(format!(in alloc; "{Failed}")?),
-        ("Fault::Failed", []) => Ok(format!(in alloc; "{}", Fault::Failed)?),
-        ("Fault::NoMemory", []) => Ok(format!(in alloc; "{}", Fault::NoMemory)?),
+        ("write_all", [pieces, writes]) => byte_by_byte(alloc, pieces, writes),
+        ("Failed" | "Fault::Failed" | "Fault::NoMemory", []) => text_of_error(alloc, call),
         _ => Err(NoAnswer::BadRow),
     }
+}
+
+fn text_of_error(alloc: Global, name: &str) -> Result<String, NoAnswer> {
+    match name {
+        "Failed" => Ok(format!(in alloc; "{Failed}")?),
+        "Fault::Failed" => Ok(format!(in alloc; "{}", Fault::Failed)?),
+        _ => Ok(format!(in alloc; "{}", Fault::NoMemory)?),
+    }
+}
+
+fn bytes_given_plainly(alloc: Global, text: &str) -> Result<String, NoAnswer> {
+    let mut source = PlainSource::new(bytes(alloc, text)?);
+    let given = read_all(alloc, &mut source)?;
+    bytes_text(alloc, &given)
 }
 
 /// The bytes that a source gives up to its end, read three at a time, `!` for each read that failed.
@@ -45,32 +54,57 @@ fn read_all<I: Source>(alloc: Global, source: &mut I) -> Result<Vec<u8>, NoAnswe
 
 /// The bytes given, how many calls there were and how many of them failed.
 fn bytes_given(alloc: Global, text: &str, fails: &str) -> Result<String, NoAnswer> {
-    let mut source = MemSource::new(bytes(alloc, text)?, numbers(alloc, fails)?);
-    let mut text = bytes_text(alloc, &read_all(alloc, &mut source)?)?;
-    put_counts(&mut text, source.calls(), source.faults())?;
+    let text = bytes(alloc, text)?;
+    let fails = numbers(alloc, fails)?;
+    let mut source = MemSource::new(text, fails);
+    let given = read_all(alloc, &mut source);
+    given_text(alloc, given, source.calls(), source.faults())
+}
+
+fn given_text(
+    alloc: Global,
+    given: Result<Vec<u8>, NoAnswer>,
+    calls: u64,
+    faults: u64,
+) -> Result<String, NoAnswer> {
+    let given = given?;
+    counted_text(alloc, &given, calls, faults)
+}
+
+fn counted_text(alloc: Global, bytes: &[u8], calls: u64, faults: u64) -> Result<String, NoAnswer> {
+    let mut text = bytes_text(alloc, bytes)?;
+    put_counts(&mut text, calls, faults)?;
     Ok(text)
+}
+
+/// Writes the pieces whole, each after the one before it, also where that one failed.
+fn write_each<O: Sink>(sink: &mut O, pieces: &[Bytes]) {
+    for piece in pieces {
+        let _ = write_all(sink, piece.as_slice());
+    }
 }
 
 /// What a sink gained of the pieces, written whole, and of one write; how much of that it took.
 fn bytes_gained(alloc: Global, pieces: &str, last: &str) -> Result<String, NoAnswer> {
+    let pieces = byte_strings(alloc, pieces)?;
     let mut sink = PlainSink::new(alloc);
-    for piece in &byte_strings(alloc, pieces)? {
-        let _ = write_all(&mut sink, piece.as_slice());
-    }
+    write_each(&mut sink, &pieces);
     let count = sink.write(last.as_bytes()).unwrap_or(0);
-    let gained = bytes_text(alloc, sink.gained())?;
+    gained_text(alloc, sink.gained(), count)
+}
+
+fn gained_text(alloc: Global, gained: &[u8], count: usize) -> Result<String, NoAnswer> {
+    let gained = bytes_text(alloc, gained)?;
     Ok(format!(in alloc; "{gained} {count}")?)
 }
 
 /// The same of the pieces, where the named calls fail; how many calls there were and how many failed.
 fn bytes_gained_with_faults(alloc: Global, pieces: &str, fails: &str) -> Result<String, NoAnswer> {
-    let mut sink = MemSink::new(alloc, numbers(alloc, fails)?);
-    for piece in &byte_strings(alloc, pieces)? {
-        let _ = write_all(&mut sink, piece.as_slice());
-    }
-    let mut text = bytes_text(alloc, sink.gained())?;
-    put_counts(&mut text, sink.calls(), sink.faults())?;
-    Ok(text)
+    let pieces = byte_strings(alloc, pieces)?;
+    let fails = numbers(alloc, fails)?;
+    let mut sink = MemSink::new(alloc, fails);
+    write_each(&mut sink, &pieces);
+    counted_text(alloc, sink.gained(), sink.calls(), sink.faults())
 }
 
 /// A sink that takes one byte at a time, and from one write on nothing.
@@ -101,7 +135,8 @@ impl Sink for OneByte {
 
 /// What a sink that takes so many bytes, one by one, gained of the pieces up to the first fault, whether all were written, and how many
 /// writes failed.
-fn byte_by_byte(alloc: Global, pieces: &str, writes: u64) -> Result<String, NoAnswer> {
+fn byte_by_byte(alloc: Global, pieces: &str, writes: &str) -> Result<String, NoAnswer> {
+    let writes = number(writes)?;
     let mut sink = OneByte {
         plain: PlainSink::new(alloc),
         writes,

@@ -2,7 +2,7 @@
 use crate::images::checkpoints::is_written_back;
 use std::alloc::Global;
 use std::io;
-use wu_image::read_checkpoint;
+use wu_image::{Checkpoint, read_checkpoint};
 use wu_rows::NoAnswer;
 
 /// A file with the text `apple`, in one part.
@@ -52,14 +52,24 @@ fn changed(alloc: Global) -> Result<Counts, NoAnswer> {
 
 fn count(alloc: Global, bytes: &[u8], counts: &mut Counts) -> Result<(), NoAnswer> {
     match read_checkpoint(alloc, bytes)? {
-        Some(checkpoint) => {
-            if is_written_back(alloc, &checkpoint, bytes)? {
-                counts.same = counts.same.saturating_add(1);
-            } else {
-                counts.other = counts.other.saturating_add(1);
-            }
+        Some(checkpoint) => count_checkpoint(alloc, &checkpoint, bytes, counts),
+        None => {
+            counts.none = counts.none.saturating_add(1);
+            Ok(())
         }
-        None => counts.none = counts.none.saturating_add(1),
+    }
+}
+
+fn count_checkpoint(
+    alloc: Global,
+    checkpoint: &Checkpoint,
+    bytes: &[u8],
+    counts: &mut Counts,
+) -> Result<(), NoAnswer> {
+    if is_written_back(alloc, checkpoint, bytes)? {
+        counts.same = counts.same.saturating_add(1);
+    } else {
+        counts.other = counts.other.saturating_add(1);
     }
     Ok(())
 }

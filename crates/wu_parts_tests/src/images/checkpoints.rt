@@ -8,16 +8,18 @@ use wu_tree::{Kind, Node, Tree};
 /// What the checkpoint tells, and `another` in front where it is written back as other bytes.
 pub fn read(alloc: Global, bytes: &[u8]) -> Result<String, NoAnswer> {
     match read_checkpoint(alloc, bytes)? {
-        Some(checkpoint) => {
-            let mut text = String::new(alloc);
-            if !is_written_back(alloc, &checkpoint, bytes)? {
-                text.push_str("another ")?;
-            }
-            put_checkpoint(&mut text, alloc, &checkpoint)?;
-            Ok(text)
-        }
+        Some(checkpoint) => text_of(alloc, &checkpoint, bytes),
         None => plain_text(alloc, "none"),
     }
+}
+
+fn text_of(alloc: Global, checkpoint: &Checkpoint, bytes: &[u8]) -> Result<String, NoAnswer> {
+    let mut text = String::new(alloc);
+    if !is_written_back(alloc, checkpoint, bytes)? {
+        text.push_str("another ")?;
+    }
+    put_checkpoint(&mut text, alloc, checkpoint)?;
+    Ok(text)
 }
 
 /// Whether the checkpoint is written as these bytes.

@@ -18,14 +18,16 @@ pub fn reached_in(alloc: Global, blob: &[u8]) -> Result<Reached, NoAnswer> {
         return Ok(Reached::Nothing);
     };
     match directory_of(alloc, blob, length)? {
-        Some(directory) => {
-            if are_blocks_read(alloc, blob, &directory)? {
-                Ok(Reached::Blocks)
-            } else {
-                Ok(Reached::Directory)
-            }
-        }
+        Some(directory) => reached_by(alloc, blob, &directory),
         None => Ok(Reached::Header),
+    }
+}
+
+fn reached_by(alloc: Global, blob: &[u8], directory: &Directory) -> Result<Reached, NoAnswer> {
+    if are_blocks_read(alloc, blob, directory)? {
+        Ok(Reached::Blocks)
+    } else {
+        Ok(Reached::Directory)
     }
 }
 
@@ -36,12 +38,16 @@ fn header_of(blob: &[u8]) -> Option<u64> {
     }
 }
 
+/// The directory of a part.
+pub fn directory_in(alloc: Global, blob: &[u8]) -> Result<Option<Directory>, NoAnswer> {
+    match header_of(blob) {
+        Some(length) => directory_of(alloc, blob, length),
+        None => Ok(None),
+    }
+}
+
 /// The directory of so many bytes that follows the header.
-pub fn directory_of(
-    alloc: Global,
-    blob: &[u8],
-    length: u64,
-) -> Result<Option<Directory>, NoAnswer> {
+fn directory_of(alloc: Global, blob: &[u8], length: u64) -> Result<Option<Directory>, NoAnswer> {
     match bytes_at(blob, HEADER_LEN as u64, length) {
         Some(code) => Ok(read_directory(alloc, code, blob.len() as u64)?),
         None => Ok(None),

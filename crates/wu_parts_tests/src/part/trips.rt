@@ -1,10 +1,10 @@
 //! Lists that are written and read back.
-use crate::part::blobs::{addresses_in, directory_of};
+use crate::part::blobs::{addresses_in, directory_in};
 use crate::part::lists::lists_of;
 use std::alloc::Global;
 use std::io;
 use wu_base::TermList;
-use wu_part::{Directory, HEADER_LEN, encode, read_header};
+use wu_part::{Directory, encode};
 use wu_rows::NoAnswer;
 
 /// Writes two lists of each of these lengths as a part and reads them back, and prints how many are the same.
@@ -22,10 +22,7 @@ pub fn compare_trips(rt: &(impl Print + AllocGlobal)) -> io::Result<()> {
 fn read_back(alloc: Global, count: u32) -> Result<u64, NoAnswer> {
     let lists = lists_of(alloc, "a|b", drawn(alloc, count)?.as_str())?;
     let blob = encode(alloc, &lists, 3)?;
-    let Some(length) = read_header(blob.get(..HEADER_LEN).unwrap_or(&[])) else {
-        return Ok(0);
-    };
-    match directory_of(alloc, &blob, length)? {
+    match directory_in(alloc, &blob)? {
         Some(directory) => same_lists(alloc, &blob, &directory, &lists),
         None => Ok(0),
     }

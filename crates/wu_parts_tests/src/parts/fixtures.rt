@@ -3,17 +3,18 @@ ghost use Rattle.std.specs.Prelude.{◌≡◌, ◌+◌, ◌<◌, ◌≤◌, ◌�
 ghost use Rattle.wu_token.specs.Tokens.{tokens_of};
 
 use std::alloc::Global;
-use wu_base::{ADDRESSES_MAX, Bytes, Ino, Range, Sequence, TEXT_MAX};
+use wu_base::{ADDRESSES_MAX, Ino, Range, Sequence, TEXT_MAX};
 use wu_parts::Parts;
-use wu_rows::NoAnswer;
+use wu_rows::{NoAnswer, bytes, pieces, small_numbers};
 use wu_space::Space;
 use wu_token::{token_count, tokens};
 
-/// How the postings of a text are put into memory.
+/// How the postings of a text are put into memory, if at all.
 #[derive(Clone, Copy, Debug, PartialEq, Eq)]
 pub enum By {
     Text,
     Tokens,
+    Nothing,
 }
 
 /// Gives the file as many addresses as its text has tokens.
@@ -56,18 +57,8 @@ pub fn put_text(
             parts.add_text(text, range.start)?;
         }
         By::Tokens => put_tokens(alloc, parts, range, text)?,
+        By::Nothing => {}
     }
-    Ok(())
-}
-
-/// Gives the file the addresses of its text alone.
-fn skip_text(space: &mut Space, ino: Ino, text: &[u8]) -> Result<(), NoAnswer>
-    ensures { OnOk result (space.old.next ≤ space.new.next) }
-{
-    if text.len() > TEXT_MAX {
-        return Err(NoAnswer::BadRow);
-    }
-    place(space, ino, text)?;
     Ok(())
 }
 
@@ -84,29 +75,47 @@ fn put_tokens(alloc: Global, parts: &mut Parts, range: Range, text: &[u8]) -> Re
     Ok(())
 }
 
-/// Puts the postings of the texts into memory, whose files are numbered from 1 on. Those of the skipped
-/// files are left out, so that their addresses have none.
+/// Puts the postings of the texts into memory, which have a bar between each two and whose files are numbered from 1 on. Those of the
+/// skipped files are left out, so that their addresses have none.
 pub fn put_texts(
     alloc: Global,
     by: By,
     parts: &mut Parts,
     space: &mut Space,
-    texts: &[Bytes],
-    skipped: &[u32],
+    texts: &str,
+    skipped: &str,
 ) -> Result<(), NoAnswer>
     requires { parts.old.memory.end ≤ space.old.next }
     ensures { OnOk result (parts.new.memory.end ≤ space.new.next) }
 {
+    let skipped = small_numbers(alloc, skipped)?;
     let mut ino = 0;
-    for text in texts {
+    for text in &pieces(alloc, texts)? {
         ino = next_number(ino)?;
-        if skipped.contains(&ino) {
-            skip_text(space, ino, text.as_slice())?;
+        let by = if skipped.contains(&ino) {
+            By::Nothing
         } else {
-            put_text(alloc, by, parts, space, ino, text.as_slice())?;
-        }
+            by
+        };
+        put_field(alloc, by, parts, space, ino, text)?;
     }
     Ok(())
+}
+
+/// Puts the postings of the text into memory that the field is written for.
+pub fn put_field(
+    alloc: Global,
+    by: By,
+    parts: &mut Parts,
+    space: &mut Space,
+    ino: Ino,
+    field: &str,
+) -> Result<(), NoAnswer>
+    requires { parts.old.memory.end ≤ space.old.next }
+    ensures { OnOk result (parts.new.memory.end ≤ space.new.next) }
+{
+    let text = bytes(alloc, field)?;
+    put_text(alloc, by, parts, space, ino, &text)
 }
 
 /// The number after that one.
@@ -118,12 +127,19 @@ pub fn next_number(ino: Ino) -> Result<Ino, NoAnswer> {
 }
 
 /// Gives up the files up to that number that aren't among the seen ones.
-pub fn release_others(space: &mut Space, last: u32, seen: &[u32]) {
+pub fn release_others(
+    alloc: Global,
+    space: &mut Space,
+    last: u32,
+    seen: &str,
+) -> Result<(), NoAnswer> {
+    let seen = small_numbers(alloc, seen)?;
     for ino in 0..last {
         if !seen.contains(&ino) {
             release(space, ino);
         }
     }
+    Ok(())
 }
 
 /// Gives up the file, if it has addresses.

@@ -1,7 +1,8 @@
 //! Fetching of many postings over many frames.
-ghost use Rattle.std.specs.Prelude.{◌≤◌, ◌≡◌, IfOk, OnOk};
+ghost use Rattle.std.specs.Prelude.{◌≤◌, OnOk};
 
 use crate::parts::fixtures::{By, fetch_all, fetch_live, put_text, release};
+use crate::parts::indexes::{Index, empty_index};
 use std::alloc::Global;
 use std::io;
 use wu_parts::Parts;
@@ -16,23 +17,54 @@ const COMMON_TEXT: &[u8] = b"w w w w w\nw w w w w\n";
 
 const RARE_TEXT: &[u8] = b"w w w w w\nw w w rare w w\n";
 
+/// What was fetched of a term over so many frames, out of all its addresses.
+#[derive(Clone, Copy)]
+struct Fetched {
+    term: &'static str,
+    frames: u32,
+    count: usize,
+    of: usize,
+    agrees: bool,
+}
+
 /// Compares what is fetched over 10,000, 10 and 1 frames with a plain filter of all addresses.
 pub fn compare_fetches(rt: &(impl Print + AllocGlobal)) -> io::Result<()> {
-    let mut parts = empty_parts(rt.alloc())?;
-    let mut space = Space::new(rt.alloc(), 0);
-    put_files(rt.alloc(), &mut parts, &mut space)?;
-    for step in [1, 1000, FILES] {
-        keep_each(&mut space, step);
-        compare_term(rt, &parts, &space, "w", FILES / step)?;
-        compare_term(rt, &parts, &space, "rare", FILES / step)?;
+    let mut index = empty_index(rt.alloc(), 1, 1, "")?;
+    print_all(rt, fetches(rt.alloc(), &mut index))
+}
+
+fn print_all(rt: &impl Print, fetches: Result<Vec<Fetched>, NoAnswer>) -> io::Result<()> {
+    for fetched in &fetches? {
+        print(rt, *fetched)?;
     }
     Ok(())
 }
 
-fn empty_parts(alloc: Global) -> Result<Parts, NoAnswer>
-    ensures { IfOk result (λ parts. parts.memory.end ≡ 0) }
+fn print(rt: &impl Print, fetched: Fetched) -> io::Result<()> {
+    let (term, frames) = (fetched.term, fetched.frames);
+    let (count, of) = (fetched.count, fetched.of);
+    let which = if fetched.agrees {
+        "those"
+    } else {
+        "other ones than those"
+    };
+    println!(rt;
+        "{term} over {frames} frames: {count} of {of} addresses, {which} of a plain filter"
+    )
+}
+
+fn fetches(alloc: Global, index: &mut Index) -> Result<Vec<Fetched>, NoAnswer>
+    requires { index.old.parts.memory.end ≤ index.old.space.next }
 {
-    Ok(Parts::new(alloc, 1, 1)?)
+    put_files(alloc, &mut index.parts, &mut index.space)?;
+    let mut fetches = Vec::new(alloc);
+    for step in [1, 1000, FILES] {
+        keep_each(&mut index.space, step);
+        for term in ["w", "rare"] {
+            fetches.push(compared(&index.parts, &index.space, term, FILES / step)?)?;
+        }
+    }
+    Ok(fetches)
 }
 
 /// Puts the texts of all files into memory; the one numbered 5,000 has the rare term.
@@ -56,26 +88,21 @@ fn keep_each(space: &mut Space, step: u32) {
     }
 }
 
-fn compare_term(
-    rt: &(impl Print + AllocGlobal),
+fn compared(
     parts: &Parts,
     space: &Space,
-    term: &str,
+    term: &'static str,
     frames: u32,
-) -> io::Result<()> {
+) -> Result<Fetched, NoAnswer> {
     let all = fetch_all(parts, term.as_bytes())?;
     let found = fetch_live(parts, space, term.as_bytes())?;
-    let count = found.len();
-    let of = all.len();
-    if agrees(space, all.as_slice(), found.as_slice()) {
-        println!(rt;
-            "{term} over {frames} frames: {count} of {of} addresses, those of a plain filter"
-        )
-    } else {
-        println!(rt;
-            "{term} over {frames} frames: {count} of {of} addresses, other ones than those of a plain filter"
-        )
-    }
+    Ok(Fetched {
+        term,
+        frames,
+        count: found.len(),
+        of: all.len(),
+        agrees: agrees(space, all.as_slice(), found.as_slice()),
+    })
 }
 
 /// Whether those are found of all the addresses that a file has.

@@ -1,97 +1,92 @@
 //! Parts that are opened in place of those that steps made.
-ghost use Rattle.std.specs.Prelude.{◌+◌, ◌<◌, ◌≤◌, IfOk, IsTrue, OnOk};
+ghost use Rattle.std.specs.Prelude.{◌+◌, ◌<◌, ◌≤◌, [], ◌∷◌, IfOk, IsTrue, OnOk};
+ghost use Rattle.wu_parts.specs.Loading.{AreLoadable};
 
-use crate::parts::stores::{Index, Outcome, after, fetch, go_on, records_text, trouble_text};
+use crate::parts::indexes::{Index, Stop, stopped_text};
+use crate::parts::questions::{fetched, records_text};
+use crate::parts::steps::go_on;
 use std::alloc::Global;
-use wu_base::{ADDRESSES_MAX, PartRec, Trouble};
+use wu_base::{ADDRESSES_MAX, PartRec};
 use wu_outside::ReadRange;
 use wu_parts::Parts;
-use wu_rows::{NoAnswer, bytes, numbers, pieces};
+use wu_rows::{NoAnswer, numbers, pieces};
 
-/// The parts of two records are opened after the steps, and then further steps are done. Gives the ranges that the
-/// opening read, and the trouble, or else what is recorded at the end and the term's addresses in the files that are
-/// live.
+/// After the steps the parts of two records are opened, and then further steps are done. Gives the ranges that the opening read, and the
+/// trouble, or else what is recorded at the end and the term's addresses in the files that are live.
 pub fn loaded(
     alloc: Global,
-    fails: &str,
+    index: &mut Index,
     steps: &str,
     records: &str,
     more: &str,
     term: &str,
-) -> Result<String, NoAnswer> {
-    let mut index = match after(alloc, 1, fails, steps)? {
-        Outcome::Index(index) => index,
-        Outcome::Trouble(trouble) => return trouble_text(alloc, trouble),
-    };
-    let before = index.store.reads().len();
-    let (first, second) = two_records(alloc, records)?;
-    let opened = open_two(alloc, &mut index, first, second)?;
-    let ranges = ranges_text(alloc, index.store.reads(), before)?;
-    let outcome = match opened {
-        Ok(()) => outcome_after(alloc, &mut index, more, term)?,
-        Err(trouble) => trouble_text(alloc, trouble)?,
-    };
-    Ok(format!(in alloc; "{ranges}{outcome}")?)
-}
-
-/// What is recorded after the steps, and the term's addresses then; or the trouble.
-fn outcome_after(
-    alloc: Global,
-    index: &mut Index,
-    steps: &str,
-    term: &str,
-) -> Result<String, NoAnswer>
+) -> Result<String, Stop>
     requires { index.old.parts.memory.end ≤ index.old.space.next }
 {
-    if let Err(trouble) = go_on(alloc, index, steps)? {
-        return trouble_text(alloc, trouble);
+    go_on(alloc, index, steps)?;
+    let before = index.store.reads().len();
+    let opened = open_two(alloc, index, records);
+    let mut text = ranges_text(alloc, index.store.reads(), before)?;
+    let outcome = outcome(alloc, index, opened, more, term);
+    put_text(&mut text, stopped_text(alloc, outcome))?;
+    Ok(text)
+}
+
+fn put_text(text: &mut String, more: Result<String, NoAnswer>) -> Result<(), NoAnswer> {
+    Ok(text.push_str(more?.as_str())?)
+}
+
+/// What is recorded after the opening and the steps, and the term's addresses then.
+fn outcome(
+    alloc: Global,
+    index: &mut Index,
+    opened: Result<(), Stop>,
+    steps: &str,
+    term: &str,
+) -> Result<String, Stop>
+    requires { OnOk opened (index.old.parts.memory.end ≤ index.old.space.next) }
+{
+    opened?;
+    let found = fetched(alloc, index, steps, term)?;
+    Ok(with_records(alloc, &index.parts, found.as_str())?)
+}
+
+fn with_records(alloc: Global, parts: &Parts, found: &str) -> Result<String, NoAnswer> {
+    let records = records_text(alloc, parts)?;
+    Ok(format!(in alloc; "{records} {found}")?)
+}
+
+/// Opens the parts of the two records in place of those that there are. The next blob is then 100, and 9 flushes made a part.
+fn open_two(alloc: Global, index: &mut Index, records: &str) -> Result<(), Stop>
+    ensures { OnOk result (index.new.parts.memory.end ≤ index.new.space.next) }
+{
+    let (first, second) = two_records(alloc, records)?;
+    if second.high >= index.space.next() {
+        return Err(Stop::NoAnswer(NoAnswer::BadRow));
     }
-    let term = bytes(alloc, term)?;
-    match fetch(&mut index.parts, &mut index.store, &index.space, &term)? {
-        Ok(found) => {
-            let found = found.as_slice();
-            let records = records_text(alloc, &index.parts)?;
-            Ok(format!(in alloc; "{records} {found:?}")?)
-        }
-        Err(trouble) => trouble_text(alloc, trouble),
+    index.parts = Parts::load(alloc, &mut index.store, &[first, second], 1, 100, 9)?;
+    index.earlier = 100;
+    Ok(())
+}
+
+/// The two records, which have a bar between them, if their parts may be opened.
+fn two_records(alloc: Global, records: &str) -> Result<(PartRec, PartRec), NoAnswer>
+    ensures { IfOk result (λ two. AreLoadable (two.0 ∷ two.1 ∷ []) 100 9) }
+{
+    let (first, second) = both(alloc, records)?;
+    if are_loadable(&first, &second) {
+        Ok((first, second))
+    } else {
+        Err(NoAnswer::BadRow)
     }
 }
 
-/// The two records, which have a bar between them.
-fn two_records(alloc: Global, records: &str) -> Result<(PartRec, PartRec), NoAnswer> {
+fn both(alloc: Global, records: &str) -> Result<(PartRec, PartRec), NoAnswer> {
     match pieces(alloc, records)?.as_slice() {
         [first, second] => Ok((record(alloc, first)?, record(alloc, second)?)),
         _ => Err(NoAnswer::BadRow),
     }
 }
-
-/// Opens the parts of the two records in place of those that there are. The next blob is then 100, and 9 flushes
-/// made a part.
-fn open_two(
-    alloc: Global,
-    index: &mut Index,
-    first: PartRec,
-    second: PartRec,
-) -> Result<Result<(), Trouble>, NoAnswer>
-    ensures { IfOk result (λ opened. OnOk opened (index.new.parts.memory.end ≤ index.new.space.next)) }
-{
-    if !are_loadable(&first, &second) {
-        return Err(NoAnswer::BadRow);
-    }
-    if second.high >= index.space.next() {
-        return Err(NoAnswer::BadRow);
-    }
-    match Parts::load(alloc, &mut index.store, &[first, second], 1, 100, 9) {
-        Ok(parts) => {
-            index.parts = parts;
-            index.earlier = 100;
-            Ok(Ok(()))
-        }
-        Err(Trouble::NoMemory) => Err(NoAnswer::NoMemory),
-        Err(trouble) => Ok(Err(trouble)),
-    }
-}
-
 /// The record with these numbers: blob, size, generation, lowest address, highest address, postings.
 fn record(alloc: Global, text: &str) -> Result<PartRec, NoAnswer> {
     match numbers(alloc, text)?.as_slice() {

@@ -1,4 +1,6 @@
 //! Questions for the frames of users.
+ghost use Rattle.wu_frames.specs.UserFrames.{AreFor};
+
 use std::alloc::Global;
 use wu_base::Uid;
 use wu_frames::{FrameCache, Frames};
@@ -6,12 +8,47 @@ use wu_rows::{NoAnswer, number_text, plain_text, small_number};
 use wu_space::Space;
 use wu_tree::Tree;
 
-/// The frames as `START+LENGTH of INO at PLACE`, asked for twice.
-pub fn frames(alloc: Global, tree: &Tree, space: &Space, uid: Uid) -> Result<String, NoAnswer> {
+/// What the frames tell that are made for users anew.
+pub fn told(
+    alloc: Global,
+    tree: &Tree,
+    space: &Space,
+    fields: &[&str],
+) -> Result<String, NoAnswer> {
     let mut cache = FrameCache::new(alloc)?;
+    told_by(alloc, &mut cache, tree, space, fields)
+}
+
+fn told_by(
+    alloc: Global,
+    cache: &mut FrameCache,
+    tree: &Tree,
+    space: &Space,
+    fields: &[&str],
+) -> Result<String, NoAnswer>
+    requires { AreFor tree.now space.now.ranges cache.old }
+{
+    match fields {
+        ["frames", uid] => frames(alloc, cache, tree, space, small_number(uid)?),
+        ["view", uid] => view(alloc, cache.frames_of(tree, space, small_number(uid)?)?),
+        ["total", uid] => total(alloc, cache.frames_of(tree, space, small_number(uid)?)?),
+        ["in turn", users, times] => in_turn(alloc, cache, tree, space, users, times),
+        _ => Err(NoAnswer::BadRow),
+    }
+}
+
+/// The frames as `START+LENGTH of INO at PLACE`, asked for twice.
+fn frames(
+    alloc: Global,
+    cache: &mut FrameCache,
+    tree: &Tree,
+    space: &Space,
+    uid: Uid,
+) -> Result<String, NoAnswer>
+    requires { AreFor tree.now space.now.ranges cache.old }
+{
     cache.prepare(tree, space, uid)?;
-    let frames = cache.frames_of(tree, space, uid)?;
-    written(alloc, frames)
+    written(alloc, cache.frames_of(tree, space, uid)?)
 }
 
 fn written(alloc: Global, frames: &Frames) -> Result<String, NoAnswer> {
@@ -29,18 +66,19 @@ fn written(alloc: Global, frames: &Frames) -> Result<String, NoAnswer> {
     Ok(text)
 }
 
-/// A cache that has frames of these users, whose numbers have a space between each two, the last first.
+/// Keeps frames of these users alone, whose numbers have a space between each two, the last first.
 pub fn keep(
     alloc: Global,
+    cache: &mut FrameCache,
     tree: &Tree,
     space: &Space,
     users: &str,
-) -> Result<FrameCache, NoAnswer> {
-    let mut cache = FrameCache::new(alloc)?;
+) -> Result<String, NoAnswer> {
+    cache.clear();
     for uid in users.split_whitespace() {
         cache.prepare(tree, space, small_number(uid)?)?;
     }
-    Ok(cache)
+    plain_text(alloc, "done")
 }
 
 /// The frames that are kept of the user, or `none`; `stale` where they aren't those that are made anew.
@@ -59,9 +97,7 @@ pub fn kept(
 }
 
 /// The numbers of the files of the view.
-pub fn view(alloc: Global, tree: &Tree, space: &Space, uid: Uid) -> Result<String, NoAnswer> {
-    let mut cache = FrameCache::new(alloc)?;
-    let frames = cache.frames_of(tree, space, uid)?;
+fn view(alloc: Global, frames: &Frames) -> Result<String, NoAnswer> {
     let mut text = String::new(alloc);
     for file in frames.seen.as_slice() {
         let ino = file.ino;
@@ -74,34 +110,39 @@ pub fn view(alloc: Global, tree: &Tree, space: &Space, uid: Uid) -> Result<Strin
 }
 
 /// How many addresses the frames have, and how many ranges there are.
-pub fn total(alloc: Global, tree: &Tree, space: &Space, uid: Uid) -> Result<String, NoAnswer> {
-    let mut cache = FrameCache::new(alloc)?;
-    let frames = cache.frames_of(tree, space, uid)?;
+fn total(alloc: Global, frames: &Frames) -> Result<String, NoAnswer> {
     let total = frames.total;
     let count = frames.ranges.len();
     Ok(format!(in alloc; "{total} in {count}")?)
 }
 
 /// How often so many users, who ask in turn, get the frames that are made for them anew.
-pub fn in_turn(
+fn in_turn(
     alloc: Global,
+    cache: &mut FrameCache,
     tree: &Tree,
     space: &Space,
-    users: Uid,
-    times: u32,
-) -> Result<String, NoAnswer> {
-    let agreed = agreed(alloc, tree, space, users.max(1), times)?;
+    users: &str,
+    times: &str,
+) -> Result<String, NoAnswer>
+    requires { AreFor tree.now space.now.ranges cache.old }
+{
+    let users = small_number(users)?.max(1);
+    let times = small_number(times)?;
+    let agreed = agreed(alloc, cache, tree, space, users, times)?;
     number_text(alloc, u64::from(agreed))
 }
 
 fn agreed(
     alloc: Global,
+    cache: &mut FrameCache,
     tree: &Tree,
     space: &Space,
     users: Uid,
     times: u32,
-) -> Result<u32, NoAnswer> {
-    let mut cache = FrameCache::new(alloc)?;
+) -> Result<u32, NoAnswer>
+    requires { AreFor tree.now space.now.ranges cache.old }
+{
     let mut agreed: u32 = 0;
     for time in 0..times {
         let uid = time.checked_rem(users).unwrap_or(0);
@@ -122,14 +163,26 @@ fn is_anew(
     kept: Option<&Frames>,
 ) -> Result<bool, NoAnswer> {
     let mut cache = FrameCache::new(alloc)?;
-    let anew = cache.frames_of(tree, space, uid)?;
     match kept {
-        Some(frames) => Ok(
-            frames.total == anew.total
-                && frames.ranges.as_slice() == anew.ranges.as_slice()
-                && frames.by_address.as_slice() == anew.by_address.as_slice()
-                && frames.seen.as_slice() == anew.seen.as_slice(),
-        ),
+        Some(frames) => is_same(&mut cache, tree, space, uid, frames),
         None => Ok(false),
     }
+}
+
+fn is_same(
+    cache: &mut FrameCache,
+    tree: &Tree,
+    space: &Space,
+    uid: Uid,
+    frames: &Frames,
+) -> Result<bool, NoAnswer>
+    requires { AreFor tree.now space.now.ranges cache.old }
+{
+    let anew = cache.frames_of(tree, space, uid)?;
+    Ok(
+        frames.total == anew.total
+            && frames.ranges.as_slice() == anew.ranges.as_slice()
+            && frames.by_address.as_slice() == anew.by_address.as_slice()
+            && frames.seen.as_slice() == anew.seen.as_slice(),
+    )
 }

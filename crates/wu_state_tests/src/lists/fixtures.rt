@@ -33,14 +33,15 @@ pub fn frames_of(alloc: Global, field: &str) -> Result<Vec<Range>, NoAnswer>
     ensures bounded { IfOk result (λ frames. All (λ frame. frame.start + frame.len ≤ ADDRESSES_MAX) frames.items) }
 {
     let mut space = Space::new(alloc, 0);
+    frames_in(alloc, &mut space, field)
+}
+
+fn frames_in(alloc: Global, space: &mut Space, field: &str) -> Result<Vec<Range>, NoAnswer>
+    ensures apart { IfOk result (λ frames. AreApart frames.items) }
+    ensures bounded { IfOk result (λ frames. All (λ frame. frame.start + frame.len ≤ ADDRESSES_MAX) frames.items) }
+{
     for (ino, frame) in field.split_whitespace().enumerate() {
-        let Some((start, len)) = frame.split_once('+') else {
-            return Err(NoAnswer::BadRow);
-        };
-        let Ok(ino) = u32::try_from(ino) else {
-            return Err(NoAnswer::BadRow);
-        };
-        place(&mut space, ino, number(start)?, number(len)?)?;
+        place_written(space, ino, frame)?;
     }
     let frames = space.live_ranges(0, ADDRESSES_MAX)?;
     if are_bounded(&frames) {
@@ -48,6 +49,17 @@ pub fn frames_of(alloc: Global, field: &str) -> Result<Vec<Range>, NoAnswer>
     } else {
         Err(NoAnswer::BadRow)
     }
+}
+
+/// Gives the file of that number the frame.
+fn place_written(space: &mut Space, ino: usize, frame: &str) -> Result<(), NoAnswer> {
+    let Some((start, len)) = frame.split_once('+') else {
+        return Err(NoAnswer::BadRow);
+    };
+    let Ok(ino) = u32::try_from(ino) else {
+        return Err(NoAnswer::BadRow);
+    };
+    place(space, ino, number(start)?, number(len)?)
 }
 
 /// Gives the file so many addresses from `start` on.

@@ -8,14 +8,14 @@ use wu_rows::{NoAnswer, numbers, script};
 /// The words for the items of the script. They are the same where it comes in pieces of so many bytes each.
 pub fn read(alloc: Global, pieces: &str, field: &str) -> Result<String, NoAnswer> {
     let script = script(alloc, field)?;
+    let whole = read_whole(alloc, script.as_slice())?;
     for most in &numbers(alloc, pieces)? {
         let other = read_in_pieces(alloc, script.as_slice(), *most)?;
-        let whole = read_whole(alloc, script.as_slice())?;
         if other.as_str() != whole.as_str() {
             return Ok(format!(in alloc; "in pieces of {most}: {other}")?);
         }
     }
-    read_whole(alloc, script.as_slice())
+    Ok(whole)
 }
 
 fn read_whole(alloc: Global, script: &[u8]) -> Result<String, NoAnswer> {

@@ -12,19 +12,30 @@ use wu_tree::Event;
 /// or the operation that it is.
 pub fn said(alloc: Global, field: &str) -> Result<String, NoAnswer> {
     let line = script(alloc, field)?;
-    match read_command(alloc, line.as_slice())? {
+    let line = read_command(alloc, line.as_slice())?;
+    line_text(alloc, &line)
+}
+
+fn line_text(alloc: Global, line: &Line) -> Result<String, NoAnswer> {
+    match line {
         Line::Refused(why) => {
-            let name = name_of(why);
+            let name = name_of(*why);
             Ok(format!(in alloc; "refused {name}")?)
         }
-        Line::Command(Command::Update(event)) => event_text(alloc, &event),
-        Line::Command(Command::Ask(query)) => query_text(alloc, &query),
-        Line::Command(Command::Flush) => plain_text(alloc, "flush"),
-        Line::Command(Command::Work(units)) => Ok(format!(in alloc; "work {units}")?),
-        Line::Command(Command::Stat) => plain_text(alloc, "stat"),
-        Line::Command(Command::Save) => plain_text(alloc, "save"),
+        Line::Command(command) => command_text(alloc, command),
         Line::TextHead { ino, len } => Ok(format!(in alloc; "text {ino} {len}")?),
         Line::Blank => plain_text(alloc, "blank"),
+    }
+}
+
+fn command_text(alloc: Global, command: &Command) -> Result<String, NoAnswer> {
+    match command {
+        Command::Update(event) => event_text(alloc, event),
+        Command::Ask(query) => query_text(alloc, query),
+        Command::Flush => plain_text(alloc, "flush"),
+        Command::Work(units) => Ok(format!(in alloc; "work {units}")?),
+        Command::Stat => plain_text(alloc, "stat"),
+        Command::Save => plain_text(alloc, "save"),
     }
 }
 

@@ -9,8 +9,12 @@ use wu_script::{Reply, put_reply};
 /// The bytes of the reply of these fields.
 pub fn written(alloc: Global, fields: &[&str]) -> Result<String, NoAnswer> {
     let reply = reply(alloc, fields)?;
+    reply_text(alloc, &reply)
+}
+
+fn reply_text(alloc: Global, reply: &Reply) -> Result<String, NoAnswer> {
     let mut out = Vec::new(alloc);
-    put_reply(&mut out, &reply)?;
+    put_reply(&mut out, reply)?;
     shown(alloc, out.as_slice())
 }
 

@@ -1,5 +1,6 @@
 //! Sources that give a script in their own ways, and the words for the items that were read.
-ghost use Rattle.std.specs.Prelude.{◌≡◌, Some, false};
+ghost use Rattle.std.specs.Prelude.{◌≡◌, OnOk, Some, false};
+ghost use Rattle.wu_script.specs.Holding.{Follows};
 
 use std::alloc::Global;
 use wu_outside::{Failed, PlainSource, Source};
@@ -86,24 +87,47 @@ pub fn words_of_items<I: Source>(
     requires { I.ended source.old ≡ false }
 {
     let mut reader = Reader::new(alloc, max_input)?;
+    words_read(alloc, &mut reader, source)
+}
+
+fn words_read<I: Source>(
+    alloc: Global,
+    reader: &mut Reader,
+    source: &mut I,
+) -> Result<String, NoAnswer>
+    requires { Follows (I.ended source.old) (I.last_read source.old) reader.old }
+{
     let mut words = String::new(alloc);
     for _ in 0..20 {
-        match reader.next(source) {
-            Ok(item) => {
-                words.push_str(word_of(&item))?;
-                if matches!(item, Item::End) {
+        match next_word(reader, source) {
+            Ok(word) => {
+                words.push_str(word)?;
+                if word == "end" {
                     return Ok(words);
                 }
             }
             Err(end) => {
-                words.push_str(match end {
-                    ReadEnd::ReadFault => "fault",
-                    ReadEnd::InputTooLong => "too long",
-                    ReadEnd::NoMemory => "no memory",
-                })?;
+                words.push_str(word_of_end(end))?;
                 return Ok(words);
             }
         }
     }
     Ok(words)
+}
+
+/// A word for the next item.
+fn next_word<I: Source>(reader: &mut Reader, source: &mut I) -> Result<&'static str, ReadEnd>
+    requires { Follows (I.ended source.old) (I.last_read source.old) reader.old }
+    ensures { OnOk result (Follows (I.ended source.new) (I.last_read source.new) reader.new) }
+{
+    let item = reader.next(source)?;
+    Ok(word_of(&item))
+}
+
+fn word_of_end(end: ReadEnd) -> &'static str {
+    match end {
+        ReadEnd::ReadFault => "fault",
+        ReadEnd::InputTooLong => "too long",
+        ReadEnd::NoMemory => "no memory",
+    }
 }

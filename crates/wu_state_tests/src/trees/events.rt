@@ -16,17 +16,28 @@ pub fn answered(alloc: Global, tree: &mut Tree, words: &[&str]) -> Result<String
         return make_chain(alloc, tree, small_number(depth)?);
     }
     let event = event(alloc, words)?;
-    answer_text(alloc, tree.apply(&event)?)
+    happened(alloc, tree, &event)
+}
+
+fn happened(alloc: Global, tree: &mut Tree, event: &Event) -> Result<String, NoAnswer>
+    requires { IsEvent event.now }
+{
+    answer_text(alloc, tree.apply(event)?)
 }
 
 fn make_chain(alloc: Global, tree: &mut Tree, depth: Ino) -> Result<String, NoAnswer> {
     for parent in 1..depth {
-        let event = directory(alloc, parent)?;
-        if let Err(refusal) = tree.apply(&event)? {
-            return answer_text(alloc, Err(refusal));
+        let answer = make_directory(alloc, tree, parent)?;
+        if answer.as_str().starts_with("refused") {
+            return Ok(answer);
         }
     }
     plain_text(alloc, "done")
+}
+
+fn make_directory(alloc: Global, tree: &mut Tree, parent: Ino) -> Result<String, NoAnswer> {
+    let event = directory(alloc, parent)?;
+    happened(alloc, tree, &event)
 }
 
 /// The event that makes the directory `d` in the one of this number, with the number after it.

@@ -10,9 +10,27 @@ use wu_tree::{Kind, LinkRec, Node, Tree};
 /// Whether the nodes, links and users make a tree. Each is a list, with a comma between each two.
 pub fn made(alloc: Global, nodes: &str, links: &str, users: &str) -> Result<String, NoAnswer> {
     let nodes = nodes_of(alloc, nodes)?;
-    let links = links_of(alloc, links)?;
+    made_with(alloc, nodes.as_slice(), links, users)
+}
+
+fn made_with(
+    alloc: Global,
+    nodes: &[(Ino, Node)],
+    links: &str,
+    users: &str,
+) -> Result<String, NoAnswer> {
     let users = users_of(alloc, users)?;
-    let tree = Tree::rebuild(alloc, nodes.as_slice(), links.as_slice(), users.as_slice())?;
+    let links = links_of(alloc, links)?;
+    made_of(alloc, nodes, links.as_slice(), users.as_slice())
+}
+
+fn made_of(
+    alloc: Global,
+    nodes: &[(Ino, Node)],
+    links: &[LinkRec],
+    users: &[UserRec],
+) -> Result<String, NoAnswer> {
+    let tree = Tree::rebuild(alloc, nodes, links, users)?;
     flag_text(alloc, tree.is_some())
 }
 
@@ -71,17 +89,27 @@ pub fn chain_made(alloc: Global, depth: &str, letters: &str) -> Result<String, N
     let mut links = Vec::new(alloc);
     for parent in 1..depth {
         nodes.push(directory(parent))?;
-        for letter in letters.as_bytes() {
-            links.push(LinkRec {
-                parent,
-                name: Bytes::from_slice(alloc, &[*letter])?,
-                child: parent.saturating_add(1),
-            })?;
-        }
+        put_links(alloc, &mut links, parent, letters)?;
     }
     nodes.push(directory(depth))?;
-    let tree = Tree::rebuild(alloc, nodes.as_slice(), links.as_slice(), &[])?;
-    flag_text(alloc, tree.is_some())
+    made_of(alloc, nodes.as_slice(), links.as_slice(), &[])
+}
+
+/// Appends a link of each letter to the directory after the parent.
+fn put_links(
+    alloc: Global,
+    links: &mut Vec<LinkRec>,
+    parent: Ino,
+    letters: &str,
+) -> Result<(), NoAnswer> {
+    for letter in letters.as_bytes() {
+        links.push(LinkRec {
+            parent,
+            name: Bytes::from_slice(alloc, &[*letter])?,
+            child: parent.saturating_add(1),
+        })?;
+    }
+    Ok(())
 }
 
 fn directory(ino: Ino) -> (Ino, Node) {

@@ -3,7 +3,7 @@ use crate::trees::events::name_of_word;
 use crate::trees::nodes;
 use std::alloc::{AllocError, Global};
 use wu_access::UserRec;
-use wu_base::{Ino, Uid};
+use wu_base::{Bytes, Ino, Uid};
 use wu_rows::{NoAnswer, flag_text, number, number_text, plain_text, shown, small_number};
 use wu_tree::Tree;
 use wu_view::searchable;
@@ -154,10 +154,15 @@ fn groups_text(alloc: Global, groups: &[u32]) -> Result<String, NoAnswer> {
 fn paths(alloc: Global, tree: &Tree, uid: Uid) -> Result<String, NoAnswer> {
     let mut out = Vec::new(alloc);
     for seen in &searchable(alloc, tree, uid)? {
-        for path in seen.paths.as_slice() {
-            out.extend_from_slice(path.as_slice())?;
-            out.push(b'\n')?;
-        }
+        put_paths(&mut out, seen.paths.as_slice())?;
     }
     shown(alloc, out.as_slice())
+}
+
+fn put_paths(out: &mut Vec<u8>, paths: &[Bytes]) -> Result<(), NoAnswer> {
+    for path in paths {
+        out.extend_from_slice(path.as_slice())?;
+        out.push(b'\n')?;
+    }
+    Ok(())
 }

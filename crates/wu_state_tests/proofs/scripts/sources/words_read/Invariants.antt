@@ -1,5 +1,5 @@
 use Rattle.wu_script.specs.Holding.{Follows}
-use Rattle.wu_state_tests.proofs.scripts.sources.words_of_items.Given as goal
+use Rattle.wu_state_tests.proofs.scripts.sources.words_read.Given as goal
 
 -- the source is the one that the reader read from
 abbrev pub invariant-loop : goal.invariant-loop

@@ -7,7 +7,7 @@ use Rattle.wu_layout.specs.Layouts.{Part}
 use Rattle.wu_layout.specs.Invariants.{flushes_for}
 use Rattle.wu_parts.specs.Loading.{AreLoadable}
 use Rattle.wu_parts.specs.Units.{bare, bares}
-use Rattle.wu_parts_tests.proofs.parts.openings.open_two.Goals as goal
+use Rattle.wu_parts_tests.proofs.parts.openings.two_records.Goals as goal
 
 loadable_two : (first second : PartRec)
     → (first.low + first.stored ≤ first.high + 1) × (first.high < second.low) × (second.low + second.stored ≤ second.high + 1)
@@ -28,6 +28,7 @@ loadable_two first second h =
       few = omega arith;
     }
 
-pub load-requires : goal.load-requires
-load-requires c =
-    let fits : IsTrue c.are_loadable.result = search rules in loadable_two c.args.first c.args.second (c.are_loadable.ensures fits)
+pub returns-then-are_loadable : goal.returns-then-are_loadable
+returns-then-are_loadable c =
+    let fits : IsTrue c.are_loadable.result = search rules in
+    loadable_two c.in_ok-first.first c.in_ok-first.second (c.are_loadable.ensures fits)
