@@ -21,7 +21,7 @@ module _ {X : Type 0} where
   filter-same p q [] a = refl
   filter-same p q (x ∷ xs) a = rw a.0 (ap (λ (l : List X). cond (q x) (x ∷ l) l) (filter-same p q xs a.1))
 
-  all_weaker : (P Q : X → Type 0) (xs : List X) → ((x : X) → P x → Q x) → AllByRecursion P xs → AllByRecursion Q xs
+  pub all_weaker : (P Q : X → Type 0) (xs : List X) → ((x : X) → P x → Q x) → AllByRecursion P xs → AllByRecursion Q xs
   all_weaker P Q [] h a = tt
   all_weaker P Q (x ∷ xs) h a = (h x a.0, all_weaker P Q xs h a.1)
 
@@ -30,12 +30,12 @@ module _ {X : Type 0} where
   all_both P Q R [] h a b = tt
   all_both P Q R (x ∷ xs) h a b = (h x a.0 b.0, all_both P Q R xs h a.1 b.1)
 
-  all_front : (P : X → Type 0) (xs ys : List X) → AllByRecursion P (xs ++ ys) → AllByRecursion P xs
+  pub all_front : (P : X → Type 0) (xs ys : List X) → AllByRecursion P (xs ++ ys) → AllByRecursion P xs
   all_front P [] ys a = tt
   all_front P (x ∷ xs) ys a = (a.0, all_front P xs ys a.1)
 
 -- before the first frame there is none
-dead_below : (low high address : ℕ) (frames : List Range) → address < low → AreInOrder low high frames → is_live frames address ≡ false
+pub dead_below : (low high address : ℕ) (frames : List Range) → address < low → AreInOrder low high frames → is_live frames address ≡ false
 dead_below low high address [] l o = refl
 dead_below low high address (f ∷ fs) l o =
     let away : is_in f address ≡ false = and_left _ _ (lt-leb f.start address (omega (arith, o.0))) in

@@ -11,7 +11,8 @@ use Rattle.wu_vbyte.proofs.BlockLemmas.{block_same}
 use Rattle.wu_lists.specs.declared.blocks.Block.{Block}
 use Rattle.wu_lists.specs.Ascending.{AscendBetween}
 use Rattle.wu_lists.specs.Blocks.{HasBytes, IsSpelledIn, IsSpelling, bytes_of, meets}
-use Rattle.wu_lists.specs.Fetching.{AreFetched, HasBlock, Puts}
+use Rattle.wu_lists.specs.Fetching.{AreFetched, HasBlock}
+use Rattle.wu_lists.specs.Gaining.{Gains}
 use Rattle.wu_lists.specs.Keeping.{AreHeld, Asks, Kept, all_missing, asked, is_same}
 use Rattle.wu_lists.proofs.Ascending.{ascend-filter}
 use Rattle.wu_lists.proofs.Asking.{with_ranges}
@@ -20,15 +21,16 @@ use Rattle.wu_lists.proofs.Spans.{none_live, spelled_ascend}
 
 -- ---- what is found
 
-module _ (block : Block) (frames : List Range) (holds : Option Content) (kept : Kept) where
+module _ (X : Type 0) (Gain : List ℕ → X → X → Type 0) (block : Block) (frames : List Range) (holds : Option Content) (kept : Kept) where
   abbrev Found : List ℕ → Type 0
   Found = AreFetched (HasBlock block) frames block.blob block.first (block.last + 1) holds kept
 
   -- of a block that frames don't need
-  pub fetched-none : (found : List ℕ) → block.first ≤ block.last → meets frames block ≡ false → Puts Found found found
-  fetched-none found span missed = record {
+  pub fetched-none : (found : X) → Gain [] found found → block.first ≤ block.last → meets frames block ≡ false
+      → Gains Gain Found found found
+  fetched-none found none span missed = record {
     more = [];
-    put = sym (append-nil found);
+    gained = none;
     kind = record { ascend = omega arith; live = tt; told = nothing holds };
   }
     where
@@ -48,13 +50,13 @@ module _ (block : Block) (frames : List Range) (holds : Option Content) (kept : 
       ] refl
 
   -- of one whose addresses these are
-  pub fetched-some : (found after addresses : List ℕ) → AscendBetween block.first (block.last + 1) addresses
+  pub fetched-some : (found after : X) (addresses : List ℕ) → AscendBetween block.first (block.last + 1) addresses
       → IfSome holds (λ content. (bytes : List ℕ) → content.blobs block.blob ≡ Some bytes → AreHeld block.blob bytes kept
       → IsSpelling block addresses (bytes_of block bytes))
-      → after ≡ found ++ filter (is_live frames) addresses → Puts Found found after
-  fetched-some found after addresses up told put = record {
+      → Gain (filter (is_live frames) addresses) found after → Gains Gain Found found after
+  fetched-some found after addresses up told gained = record {
     more = filter (is_live frames) addresses;
-    put = put;
+    gained = gained;
     kind = record {
       ascend = ascend-filter (is_live frames) block.first (block.last + 1) addresses up;
       live = all-filter (is_live frames) addresses;

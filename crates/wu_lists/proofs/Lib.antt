@@ -1,6 +1,7 @@
 pub mod Ascending
 pub mod Parting
 pub mod Cutting
+pub mod Tallying
 pub mod Spans
 pub mod Caching
 pub mod Asking

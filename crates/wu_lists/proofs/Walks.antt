@@ -19,7 +19,8 @@ use Rattle.wu_part.specs.Parts.{HoldBlocks, HoldsBlock}
 use Rattle.wu_lists.specs.declared.blocks.Block.{Block}
 use Rattle.wu_lists.specs.Ascending.{AscendBetween, AreInOrder}
 use Rattle.wu_lists.specs.Blocks.{IsSpelling, IsSpelledIn, blocks_from, bytes_of, meets}
-use Rattle.wu_lists.specs.Fetching.{AreFetched, HasBlock, HasBlocks, Puts}
+use Rattle.wu_lists.specs.Fetching.{AreFetched, HasBlock, HasBlocks}
+use Rattle.wu_lists.specs.Gaining.{Gains, OpenAlike}
 use Rattle.wu_lists.specs.Keeping.{AreHeld, Asks, Kept}
 use Rattle.wu_lists.specs.Walking.{IsFound, IsRest, IsWalked}
 use Rattle.wu_lists.proofs.Ascending.{all_from, ascend-higher, ascend-lower}
@@ -37,25 +38,25 @@ passes-alike : (p q : ℕ → Bool) (low : ℕ) (xs : List ℕ) → ((x : ℕ) �
 passes-alike p q low [] same a t = tt
 passes-alike p q low (x ∷ xs) same a t = (sym (same x a.0) ∙ t.0, passes-alike p q low xs same a.1 t.1)
 
--- ---- what was put at the end
+-- ---- what was gained
 
-pub puts-none : (Kind : List ℕ → Type 0) (before : List ℕ) → Kind [] → Puts Kind before before
-puts-none Kind before k = record { more = []; put = sym (append-nil before); kind = k }
+module _ {X : Type 0} (Gain : List ℕ → X → X → Type 0) where
+  pub gains-none : (Kind : List ℕ → Type 0) (before : X) → Gain [] before before → Kind [] → Gains Gain Kind before before
+  gains-none Kind before none k = record { more = []; gained = none; kind = k }
 
-pub puts-step : (Kind Other : List ℕ → Type 0) (before after : List ℕ) → ((more : List ℕ) → Kind more → Other more)
-    → Puts Kind before after → Puts Other before after
-puts-step Kind Other before after step p = record { more = p.more; put = p.put; kind = step p.more p.kind }
+  pub gains-step : (Kind Other : List ℕ → Type 0) (before after : X) → ((more : List ℕ) → Kind more → Other more)
+      → Gains Gain Kind before after → Gains Gain Other before after
+  gains-step Kind Other before after step g = record { more = g.more; gained = g.gained; kind = step g.more g.kind }
 
-puts-join : (First Next Both : List ℕ → Type 0) (before middle after : List ℕ)
-    → ((xs ys : List ℕ) → First xs → Next ys → Both (xs ++ ys)) → Puts First before middle → Puts Next middle after
-    → Puts Both before after
-puts-join First Next Both before middle after join p q = record {
-  more = p.more ++ q.more;
-  put =
-      q.put ∙ ap (λ (l : List ℕ). l ++ q.more) p.put
-      ∙ append_assoc before p.more q.more;
-  kind = join p.more q.more p.kind q.kind;
-}
+  gains-join : (First Next Both : List ℕ → Type 0) (before middle after : X)
+      → ((xs ys : List ℕ) (a b c : X) → Gain xs a b → Gain ys b c → Gain (xs ++ ys) a c)
+      → ((xs ys : List ℕ) → First xs → Next ys → Both (xs ++ ys)) → Gains Gain First before middle → Gains Gain Next middle after
+      → Gains Gain Both before after
+  gains-join First Next Both before middle after joins both g h = record {
+    more = g.more ++ h.more;
+    gained = joins g.more h.more before middle after g.gained h.gained;
+    kind = both g.more h.more g.kind h.kind;
+  }
 
 -- ---- the block of an entry
 
@@ -74,11 +75,11 @@ spelled-block blob low count entry bytes addresses n h = record {
 
 -- ---- none yet
 
-module _ (AreWanted : Type 0) (frames : List Range) (blob low high : ℕ) (all : TermEntry) (holds : Option Content) (old : Kept)
-    (ranges : Option (List ReadRange)) (before : List ℕ) where
-  pub walked-none : AreBlocks low high all.count all.blocks → low ≤ high → AreInOrder 0 (2 ^ 64 - 1) frames
-      → IsWalked AreWanted frames frames blob low high all all holds old old ranges ranges before before
-  walked-none blocks span order = record {
+module _ (X : Type 0) (Gain : List ℕ → X → X → Type 0) (AreWanted : Type 0) (frames : List Range) (blob low high : ℕ) (all : TermEntry)
+    (holds : Option Content) (old : Kept) (ranges : Option (List ReadRange)) (before : X) where
+  pub walked-none : Gain [] before before → AreBlocks low high all.count all.blocks → low ≤ high → AreInOrder 0 (2 ^ 64 - 1) frames
+      → IsWalked Gain AreWanted frames frames blob low high all all holds old old ranges ranges before before
+  walked-none none blocks span order = record {
     from = low;
     above = omega arith;
     within = omega arith;
@@ -86,10 +87,11 @@ module _ (AreWanted : Type 0) (frames : List Range) (blob low high : ℕ) (all :
     order = order;
     live = λ address l. refl;
     needed = λ block l. refl;
+    opened = λ after address l. refl;
     gone = [];
     split = refl;
     asks = asks-none holds old ranges;
-    found_of = λ wanted. puts-none (IsFound frames blob low low all all holds old) before
+    found_of = λ wanted. gains-none Gain (IsFound frames blob low low all all holds old) before none
         (record { ascend = omega arith; in_frames = tt; told = all-rest holds });
   }
     where
@@ -100,8 +102,8 @@ module _ (AreWanted : Type 0) (frames : List Range) (blob low high : ℕ) (all :
 
   -- ---- all of them
 
-  module _ (left : List Range) (rest : TermEntry) (now : Kept) (ranges_now : Option (List ReadRange)) (found : List ℕ)
-      (w : IsWalked AreWanted frames left blob low high all rest holds old now ranges ranges_now before found) where
+  module _ (left : List Range) (rest : TermEntry) (now : Kept) (ranges_now : Option (List ReadRange)) (found : X)
+      (w : IsWalked Gain AreWanted frames left blob low high all rest holds old now ranges ranges_now before found) where
     pub walked-asks : rest.blocks ≡ []
         → Asks (filter (meets frames) (blocks_from blob low all.count all.blocks)) holds old now ranges ranges_now
     walked-asks none =
@@ -111,9 +113,9 @@ module _ (AreWanted : Type 0) (frames : List Range) (blob low high : ℕ) (all :
         subst (λ (bs : List Block). Asks (filter (meets frames) bs) holds old now ranges ranges_now) whole w.asks
 
     pub walked-found : AreWanted → rest.blocks ≡ []
-        → Puts (AreFetched (HasBlocks low all.count all.blocks) frames blob low (high + 1) holds old) before found
+        → Gains Gain (AreFetched (HasBlocks low all.count all.blocks) frames blob low (high + 1) holds old) before found
     walked-found wanted none =
-        puts-step (IsFound frames blob low w.from all rest holds old)
+        gains-step Gain (IsFound frames blob low w.from all rest holds old)
         (AreFetched (HasBlocks low all.count all.blocks) frames blob low (high + 1) holds old) before found
         (λ more f. record {
           ascend = ascend-higher low w.from (high + 1) more w.within f.ascend;
@@ -192,7 +194,8 @@ module _ (AreWanted : Type 0) (frames : List Range) (blob low high : ℕ) (all :
 
       module _ (nearer : List Range) (order : AreInOrder 0 (2 ^ 64 - 1) nearer)
           (live : (address : ℕ) → entry.first ≤ address → is_live nearer address ≡ is_live left address)
-          (needed : (other : Block) → entry.first ≤ other.first → meets nearer other ≡ meets left other) where
+          (needed : (other : Block) → entry.first ≤ other.first → meets nearer other ≡ meets left other)
+          (opened : OpenAlike entry.first nearer left) where
         alike : (address : ℕ) → entry.first ≤ address → is_live nearer address ≡ is_live frames address
         alike address l = live address l ∙ w.live address (omega (arith, next-blocks.1.begin))
 
@@ -266,31 +269,49 @@ module _ (AreWanted : Type 0) (frames : List Range) (blob low high : ℕ) (all :
             told = next-told holds w.asks.held g.told f.told;
           }
 
-        pub walked-next : (then : Kept) (ranges_then : Option (List ReadRange)) (more_found : List ℕ)
-            → Asks (filter (meets nearer) (block ∷ [])) holds now then ranges_now ranges_then
-            → (AreWanted → Puts (AreFetched (HasBlock block) nearer blob entry.first (entry.last + 1) holds now) found more_found)
-            → IsWalked AreWanted frames nearer blob low high all next holds old then ranges ranges_then before more_found
-        walked-next then ranges_then more_found asks puts = record {
-          from = entry.last + 1;
-          above = omega (arith, w.above, next-blocks.1.begin, ends-later);
-          within = omega (arith, next-blocks.1.end);
-          blocks = subst (λ (n : ℕ). AreBlocks (entry.last + 1) high n next.blocks) (sym fewer) next-blocks.2;
-          order = order;
-          live = λ address l. alike address (omega (arith, ends-later));
-          needed = λ other l.
-              needed other (omega (arith, ends-later))
-              ∙ w.needed other (omega (arith, ends-later, next-blocks.1.begin));
-          gone = w.gone ++ block ∷ [];
-          split = all-split;
-          asks =
-              subst (λ (bs : List Block). Asks bs holds old then ranges ranges_then)
-              (ap (λ (bs : List Block). filter (meets frames) w.gone ++ bs) needed-alike
-              ∙ sym (filter-append (meets frames) w.gone (block ∷ [])))
-              (asks-join holds old now then ranges ranges_now ranges_then (filter (meets frames) w.gone)
-              (filter (meets nearer) (block ∷ [])) w.asks asks);
-          found_of = λ wanted.
-              puts-join (IsFound frames blob low w.from all rest holds old)
-              (AreFetched (HasBlock block) nearer blob entry.first (entry.last + 1) holds now)
-              (IsFound frames blob low (entry.last + 1) all next holds old) before found more_found found-next
-              (w.found_of wanted) (puts wanted);
-        }
+        opened_alike : OpenAlike entry.first nearer frames
+        opened_alike = λ after address l.
+            opened after address l ∙ w.opened after address (omega (arith, next-blocks.1.begin))
+
+        module _ (Near : List ℕ → X → X → Type 0)
+            (joins : (xs ys : List ℕ) (a b c : X) → Gain xs a b → Gain ys b c → Gain (xs ++ ys) a c)
+            (nearby : (xs : List ℕ) (a b : X) → OpenAlike entry.first nearer frames → AllByRecursion (λ x. entry.first ≤ x) xs
+            → Near xs a b → Gain xs a b) where
+          gained_in_all : (more_found : X)
+              → Gains Near (AreFetched (HasBlock block) nearer blob entry.first (entry.last + 1) holds now) found more_found
+              → Gains Gain (AreFetched (HasBlock block) nearer blob entry.first (entry.last + 1) holds now) found more_found
+          gained_in_all more_found g = record {
+            more = g.more;
+            gained = nearby g.more found more_found opened_alike (all_from entry.first (entry.last + 1) g.more g.kind.ascend) g.gained;
+            kind = g.kind;
+          }
+
+          pub walked-next : (then : Kept) (ranges_then : Option (List ReadRange)) (more_found : X)
+              → Asks (filter (meets nearer) (block ∷ [])) holds now then ranges_now ranges_then
+              → (AreWanted → Gains Near (AreFetched (HasBlock block) nearer blob entry.first (entry.last + 1) holds now) found more_found)
+              → IsWalked Gain AreWanted frames nearer blob low high all next holds old then ranges ranges_then before more_found
+          walked-next then ranges_then more_found asks gains = record {
+            from = entry.last + 1;
+            above = omega (arith, w.above, next-blocks.1.begin, ends-later);
+            within = omega (arith, next-blocks.1.end);
+            blocks = subst (λ (n : ℕ). AreBlocks (entry.last + 1) high n next.blocks) (sym fewer) next-blocks.2;
+            order = order;
+            live = λ address l. alike address (omega (arith, ends-later));
+            needed = λ other l.
+                needed other (omega (arith, ends-later))
+                ∙ w.needed other (omega (arith, ends-later, next-blocks.1.begin));
+            gone = w.gone ++ block ∷ [];
+            split = all-split;
+            asks =
+                subst (λ (bs : List Block). Asks bs holds old then ranges ranges_then)
+                (ap (λ (bs : List Block). filter (meets frames) w.gone ++ bs) needed-alike
+                ∙ sym (filter-append (meets frames) w.gone (block ∷ [])))
+                (asks-join holds old now then ranges ranges_now ranges_then (filter (meets frames) w.gone)
+                (filter (meets nearer) (block ∷ [])) w.asks asks);
+            opened = λ after address l. opened_alike after address (omega (arith, ends-later));
+            found_of = λ wanted.
+                gains-join Gain (IsFound frames blob low w.from all rest holds old)
+                (AreFetched (HasBlock block) nearer blob entry.first (entry.last + 1) holds now)
+                (IsFound frames blob low (entry.last + 1) all next holds old) before found more_found joins found-next
+                (w.found_of wanted) (gained_in_all more_found (gains wanted));
+          }

@@ -7,6 +7,8 @@ pub mod Keeping
 pub mod Causes
 pub mod Ascending
 pub mod Fetching
+pub mod Tallying
 -- ---- What only private functions and proofs need
 
+pub mod Gaining
 pub mod Walking

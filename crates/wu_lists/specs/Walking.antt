@@ -10,7 +10,8 @@ use Rattle.wu_part.specs.Directories.{AreBlocks}
 use Rattle.wu_lists.specs.declared.blocks.Block.{Block}
 use Rattle.wu_lists.specs.Ascending.{AscendBetween, AreInOrder}
 use Rattle.wu_lists.specs.Blocks.{blocks_from, meets}
-use Rattle.wu_lists.specs.Fetching.{HasBlocks, Puts}
+use Rattle.wu_lists.specs.Fetching.{HasBlocks}
+use Rattle.wu_lists.specs.Gaining.{Gains, OpenAlike}
 use Rattle.wu_lists.specs.Keeping.{AreHeld, Asks, Kept}
 
 -- of all the addresses, those that were found and those of the rest of the blocks are in the frames
@@ -27,10 +28,11 @@ pub record IsFound (frames : List Range) (blob low from : ℕ) (all rest : TermE
   pub told : IfSome holds (λ content. (bytes addresses : List ℕ) → content.blobs blob ≡ Some bytes → AreHeld blob bytes kept
       → HasBlocks low all.count all.blocks bytes addresses → IsRest frames low rest bytes addresses found)
 
--- The first blocks were asked for, as far as frames need them, and where they were wanted, the addresses in frames were put at the end of
--- those found before. The rest of the blocks begin at an address or after it, and the frames that are left are all that they need.
-pub record IsWalked (AreWanted : Type 0) (frames left : List Range) (blob low high : ℕ) (all rest : TermEntry) (holds : Option Content)
-    (old now : Kept) (ranges ranges_now : Option (List ReadRange)) (before found : List ℕ) : Type 0 where
+-- The first blocks were asked for, as far as frames need them, and where they are wanted, their addresses in frames were gained. The rest
+-- of the blocks begin at an address or after it, and the frames that are left are all that they need.
+pub record IsWalked {X : Type 0} (Gain : List ℕ → X → X → Type 0) (AreWanted : Type 0) (frames left : List Range) (blob low high : ℕ)
+    (all rest : TermEntry) (holds : Option Content) (old now : Kept) (ranges ranges_now : Option (List ReadRange)) (before found : X)
+    : Type 0 where
   pub from : ℕ
   pub above : low ≤ from
   pub within : from ≤ high + 1
@@ -38,7 +40,8 @@ pub record IsWalked (AreWanted : Type 0) (frames left : List Range) (blob low hi
   pub order : AreInOrder 0 (2 ^ 64 - 1) left
   pub live : (address : ℕ) → from ≤ address → is_live left address ≡ is_live frames address
   pub needed : (block : Block) → from ≤ block.first → meets left block ≡ meets frames block
+  pub opened : OpenAlike from left frames
   pub gone : List Block
   pub split : gone ++ blocks_from blob low rest.count rest.blocks ≡ blocks_from blob low all.count all.blocks
   pub asks : Asks (filter (meets frames) gone) holds old now ranges ranges_now
-  pub found_of : AreWanted → Puts (IsFound frames blob low from all rest holds old) before found
+  pub found_of : AreWanted → Gains Gain (IsFound frames blob low from all rest holds old) before found

@@ -2,7 +2,7 @@
 ghost use Rattle.std.proofs.Common.{rules};
 ghost use Rattle.std.specs.Cmp.Rules.{hashing};
 ghost use Rattle.std.specs.Hash as fed;
-ghost use Rattle.std.specs.Prelude.{◌≡◌, ◌++◌, ℕ, List, [], ◌∷◌, option_map, IfOk, IfErr, IfSome, IfNone, OnOk};
+ghost use Rattle.std.specs.Prelude.{◌≡◌, ◌++◌, ℕ, List, [], ◌∷◌, length, option_map, IfOk, IfErr, IfSome, IfNone, OnOk};
 ghost use Rattle.wu_lists.specs.Blocks.{HasBytes, IsSpelledIn, IsSpelling, range_of};
 ghost use Rattle.wu_lists.specs.Causes.{IsCause};
 
@@ -74,9 +74,18 @@ pub(crate) fn read_bytes<D: Store>(
         (IfSome (D.holds store.old) (λ content. IsSpelledIn content block.now → ⊥))
         (D.faults store.old) (D.faults store.new) (D.reads store.old) (D.reads store.new)) }
 {
-    bytes.resize(block.len as usize, 0)?;
+    set_len(&mut bytes, block.len as usize)?;
     match store.read(block.blob, block.at, &mut bytes)? {
         Some(count) if count == bytes.len() => Ok(bytes),
         _ => Err(Trouble::Damaged { blob: block.blob }),
     }
+}
+
+/// Gives the vector that length. Where it had less room it has no more than that, since it is kept with a block.
+fn set_len(bytes: &mut Vec<u8>, len: usize) -> Result<(), NoMemory>
+    ensures { OnOk result (length bytes.new.items ≡ len) }
+{
+    bytes.reserve_exact(len.saturating_sub(bytes.len()))?;
+    bytes.resize(len, 0)?;
+    Ok(())
 }

@@ -5,9 +5,13 @@ ghost use Rattle.std.specs.List.{AllByRecursion};
 ghost use Rattle.wu_layout.specs.Postings.{is_live};
 ghost use Rattle.wu_lists.specs.Ascending.{AscendBetween, AreInOrder};
 ghost use Rattle.wu_lists.specs.Blocks.{meets};
+ghost use Rattle.wu_lists.specs.Gaining.{opens, tally_on};
+ghost use Rattle.wu_lists.specs.Tallying.{Counts};
 ghost use Rattle.wu_lists.specs.declared.blocks.Block.{Block};
+ghost use Rattle.wu_lists.specs.declared.tallies.Tally.{Tally};
 
 use crate::blocks::Block;
+use crate::tallies::Tally;
 use wu_base::{NoMemory, Range};
 
 /// Appends the addresses that lie in one of the frames. Takes a number of steps that is at most that of the
@@ -28,6 +32,33 @@ pub fn put_within(found: &mut Vec<u64>, addresses: &[u64], frames: &[Range]) -> 
         left = frames_for(later, after);
     }
     Ok(())
+}
+
+/// Counts the addresses that lie in one of the frames, and the frames that have one, as [`put_within`] walks
+/// them. Takes no memory. That is exact as long as the addresses that are counted ascend.
+pub fn tally_within(tally: &mut Tally, addresses: &[u64], frames: &[Range])
+    requires ascend { AscendBetween 0 (2 ^ 64 - 1) addresses.now }
+    requires order { AreInOrder 0 (2 ^ 64 - 1) frames.now }
+    ensures { Counts frames.now (filter (is_live frames.now) addresses.now) tally.old tally.new }
+{
+    count_within(tally, addresses, frames)
+}
+
+/// The same. The addresses in a frame are passed over, and not looked at.
+pub(crate) fn count_within(tally: &mut Tally, addresses: &[u64], frames: &[Range])
+    requires ascend { AscendBetween 0 (2 ^ 64 - 1) addresses.now }
+    requires order { AreInOrder 0 (2 ^ 64 - 1) frames.now }
+    ensures { tally.new ≡ tally_on frames.now tally.old (filter (is_live frames.now) addresses.now) }
+{
+    let mut rest = addresses;
+    let mut left = frames;
+    while let [frame, later @ ..] = left {
+        let (_, from_start) = split_below(rest, frame.start);
+        let (inside, after) = split_below(from_start, frame.start + frame.len);
+        tally.count(frame.start, inside);
+        rest = after;
+        left = frames_for(later, after);
+    }
 }
 
 /// Whether one of the frames, none of which ends before the block, overlaps with the block's span.
@@ -53,6 +84,7 @@ pub(crate) fn frames_from(frames: &[Range], address: u64) -> &[Range]
     ensures after { AllByRecursion (λ frame. address < frame.start + frame.len) result.now }
     ensures live { (other : ℕ) → address ≤ other → is_live result.now other ≡ is_live frames.now other }
     ensures needed { (block : Block) → address ≤ block.first → meets result.now block ≡ meets frames.now block }
+    ensures opens { (after other : ℕ) → address ≤ other → opens result.now after other ≡ opens frames.now after other }
 {
     frames.split_at(count_ended(frames, address)).1
 }
@@ -136,6 +168,8 @@ fn frames_for<'a>(frames: &'a [Range], addresses: &[u64]) -> &'a [Range]
     ensures within { length result.now ≤ length frames.now }
     ensures order { AreInOrder 0 (2 ^ 64 - 1) result.now }
     ensures same { filter (is_live result.now) addresses.now ≡ filter (is_live frames.now) addresses.now }
+    ensures counted { (tally : Tally) → tally_on result.now tally (filter (is_live result.now) addresses.now)
+        ≡ tally_on frames.now tally (filter (is_live frames.now) addresses.now) }
 {
     match addresses {
         [first, ..] => frames_from(frames, *first),

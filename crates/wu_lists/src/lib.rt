@@ -5,7 +5,10 @@
 mod blocks;
 mod frames;
 mod lists;
+mod sinks;
+mod tallies;
 
 pub use blocks::Block;
-pub use frames::put_within;
+pub use frames::{put_within, tally_within};
 pub use lists::Lists;
+pub use tallies::Tally;

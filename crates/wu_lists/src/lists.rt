@@ -10,11 +10,14 @@ ghost use Rattle.wu_lists.specs.Ascending.{AscendBetween, AreInOrder};
 ghost use Rattle.wu_lists.specs.Blocks.{HasBytes, IsSpelledIn, IsSpelling, blocks_from, bytes_of, meets, needed};
 ghost use Rattle.wu_lists.specs.Causes.{IsCause, IsTermCause};
 ghost use Rattle.wu_lists.specs.Fetching.{AreFetched, HasBlock, HasBlocks, HasTerm, Puts};
-ghost use Rattle.wu_lists.specs.declared.lists.Purpose.TheVariants.{Fetch};
+ghost use Rattle.wu_lists.specs.Gaining.{Gains};
 ghost use Rattle.wu_lists.specs.Keeping.{AreHeld, Asks, IsChecked, all_missing, asked, is_same};
+ghost use Rattle.wu_lists.specs.Tallying.{Tallies};
 
 use crate::blocks::{Block, read_bytes};
-use crate::frames::{frames_from, is_needed, put_within};
+use crate::frames::{frames_from, is_needed};
+use crate::sinks::{Sink, Unasked};
+use crate::tallies::Tally;
 use lru::LruCache;
 use std::alloc::Global;
 use std::marker::Model;
@@ -23,15 +26,6 @@ use std::num::NonZeroUsize;
 use wu_base::{Bytes, NoMemory, Range, Sequence, Trouble};
 use wu_outside::Store;
 use wu_part::{Directory, Entry};
-
-/// What the blocks of a term are asked for.
-#[derive(Clone, Copy)]
-enum Purpose {
-    /// For their addresses.
-    Fetch,
-    /// For the reads alone.
-    Touch,
-}
 
 /// Reads the lists of terms in parts, and keeps blocks of them. Contracts see the blocks that are kept, the one
 /// that was asked for last first, each with its bytes, and how many may be kept. A block that is kept was found
@@ -125,7 +119,36 @@ impl Lists {
         ensures cause { IfErr result (IsTermCause self.old blob dir.now term.now frames.now (D.holds store.old)
             (D.faults store.old) (D.faults store.new) (D.reads store.old) (D.reads store.new)) }
     {
-        self.walk(store, blob, dir, term, frames, Purpose::Fetch, found)
+        self.walk(store, blob, dir, term, frames, found)
+    }
+
+    /// Counts the addresses that [`Lists::fetch`] gives, and the frames that have one. Asks for the same blocks, and
+    /// takes memory for them alone. That is exact as long as the addresses that are counted ascend, those of several
+    /// calls together. After an error some of them may have been counted.
+    ///
+    /// The blob is damaged where [`Lists::fetch`] would find it so.
+    pub fn tally_into<D: Store>(
+        &mut self,
+        store: &mut D,
+        blob: u64,
+        dir: &Directory,
+        term: &[u8],
+        frames: &[Range],
+        tally: &mut Tally,
+    ) -> Result<(), Trouble>
+        requires apart { AreApart frames.now }
+        requires bounded { All (λ frame. frame.start + frame.len ≤ ADDRESSES_MAX) frames.now }
+        ensures addresses { OnOk result (Tallies frames.now (AreFetched (HasTerm dir.now term.now) frames.now blob
+            dir.now.low (dir.now.high + 1) (D.holds store.old) self.old) tally.old tally.new) }
+        ensures blocks { OnOk result (Asks (needed blob dir.now term.now frames.now) (D.holds store.old) self.old self.new
+            (D.reads store.old) (D.reads store.new)) }
+        ensures holds { D.holds store.new ≡ D.holds store.old }
+        ensures moments { D.moments store.new ≡ D.moments store.old }
+        ensures calm { OnOk result (D.faults store.new ≡ D.faults store.old) }
+        ensures cause { IfErr result (IsTermCause self.old blob dir.now term.now frames.now (D.holds store.old)
+            (D.faults store.old) (D.faults store.new) (D.reads store.old) (D.reads store.new)) }
+    {
+        self.walk(store, blob, dir, term, frames, tally)
     }
 
     /// Asks for the blocks of the term in the part with that blob and that directory that the frames need, as
@@ -151,26 +174,24 @@ impl Lists {
         ensures cause { IfErr result (IsTermCause self.old blob dir.now term.now frames.now (D.holds store.old)
             (D.faults store.old) (D.faults store.new) (D.reads store.old) (D.reads store.new)) }
     {
-        let mut none = Vec::new(self.alloc);
-        self.walk(store, blob, dir, term, frames, Purpose::Touch, &mut none)
+        self.walk(store, blob, dir, term, frames, &mut Unasked)
     }
 
-    /// Asks for the blocks of the term that the frames need, and for a fetch appends the addresses that lie in
+    /// Asks for the blocks of the term that the frames need. A sink that wants them gains the addresses that lie in
     /// the frames.
-    fn walk<D: Store>(
+    fn walk<D: Store, S: Sink>(
         &mut self,
         store: &mut D,
         blob: u64,
         dir: &Directory,
         term: &[u8],
         frames: &[Range],
-        purpose: Purpose,
-        found: &mut Vec<u64>,
+        found: &mut S,
     ) -> Result<(), Trouble>
         requires apart { AreApart frames.now }
         requires bounded { All (λ frame. frame.start + frame.len ≤ ADDRESSES_MAX) frames.now }
-        ensures addresses { OnOk result (purpose ≡ Fetch → Puts (AreFetched (HasTerm dir.now term.now) frames.now blob
-            dir.now.low (dir.now.high + 1) (D.holds store.old) self.old) found.old.items found.new.items) }
+        ensures addresses { OnOk result (S.wanted ≡ true → Gains (S.gained frames.now) (AreFetched (HasTerm dir.now term.now)
+            frames.now blob dir.now.low (dir.now.high + 1) (D.holds store.old) self.old) found.old found.new) }
         ensures blocks { OnOk result (Asks (needed blob dir.now term.now frames.now) (D.holds store.old) self.old self.new
             (D.reads store.old) (D.reads store.new)) }
         ensures holds { D.holds store.new ≡ D.holds store.old }
@@ -182,7 +203,7 @@ impl Lists {
         dir.is_spelled();
         match dir.entry_of(term) {
             Some(entry) => {
-                self.walk_blocks(store, blob, dir, entry, frames, purpose, found)?;
+                self.walk_blocks(store, blob, dir, entry, frames, found)?;
                 Ok(())
             }
             None => Ok(()),
@@ -190,22 +211,22 @@ impl Lists {
     }
 
     /// The same of the entry's blocks.
-    fn walk_blocks<D: Store>(
+    fn walk_blocks<D: Store, S: Sink>(
         &mut self,
         store: &mut D,
         blob: u64,
         dir: &Directory,
         mut entry: Entry,
         frames: &[Range],
-        purpose: Purpose,
-        found: &mut Vec<u64>,
+        found: &mut S,
     ) -> Result<(), Trouble>
         requires order { AreInOrder 0 (2 ^ 64 - 1) frames.now }
         requires cut { AreBlocks dir.now.low dir.now.high entry.count entry.blocks }
         requires bounded { dir.now.high < ADDRESSES_MAX }
         requires span { dir.now.low ≤ dir.now.high }
-        ensures addresses { OnOk result (purpose ≡ Fetch → Puts (AreFetched (HasBlocks dir.now.low entry.entry.count entry.entry.blocks)
-            frames.now blob dir.now.low (dir.now.high + 1) (D.holds store.old) self.old) found.old.items found.new.items) }
+        ensures addresses { OnOk result (S.wanted ≡ true → Gains (S.gained frames.now)
+            (AreFetched (HasBlocks dir.now.low entry.entry.count entry.entry.blocks)
+            frames.now blob dir.now.low (dir.now.high + 1) (D.holds store.old) self.old) found.old found.new) }
         ensures blocks { OnOk result (Asks
             (filter (meets frames.now) (blocks_from blob dir.now.low entry.entry.count entry.entry.blocks))
             (D.holds store.old) self.old self.new (D.reads store.old) (D.reads store.new)) }
@@ -231,28 +252,27 @@ impl Lists {
                 at: block.at,
                 len: block.len,
             };
-            self.visit(store, &block, left, purpose, found)?;
+            self.visit(store, &block, left, found)?;
         }
         Ok(())
     }
 
-    /// Asks for the block if a frame overlaps with it, and for a fetch appends its addresses that lie in the
+    /// Asks for the block if a frame overlaps with it. A sink that wants them gains its addresses that lie in the
     /// frames.
     #[inline]
-    fn visit<D: Store>(
+    fn visit<D: Store, S: Sink>(
         &mut self,
         store: &mut D,
         block: &Block,
         frames: &[Range],
-        purpose: Purpose,
-        found: &mut Vec<u64>,
+        found: &mut S,
     ) -> Result<(), Trouble>
         requires order { AreInOrder 0 (2 ^ 64 - 1) frames.now }
         requires after { AllByRecursion (λ frame. block.now.first < frame.start + frame.len) frames.now }
         requires span { block.now.first ≤ block.now.last }
         requires bounded { block.now.last < ADDRESSES_MAX }
-        ensures addresses { OnOk result (purpose ≡ Fetch → Puts (AreFetched (HasBlock block.now) frames.now block.now.blob
-            block.now.first (block.now.last + 1) (D.holds store.old) self.old) found.old.items found.new.items) }
+        ensures addresses { OnOk result (S.wanted ≡ true → Gains (S.gained frames.now) (AreFetched (HasBlock block.now) frames.now
+            block.now.blob block.now.first (block.now.last + 1) (D.holds store.old) self.old) found.old found.new) }
         ensures blocks { OnOk result (Asks (filter (meets frames.now) (block.now ∷ [])) (D.holds store.old) self.old self.new
             (D.reads store.old) (D.reads store.new)) }
         ensures holds { D.holds store.new ≡ D.holds store.old }
@@ -263,9 +283,10 @@ impl Lists {
             (IfSome (D.holds store.old) (λ content. IsSpelledIn content block.now → ⊥))
             (D.faults store.old) (D.faults store.new) (D.reads store.old) (D.reads store.new)) }
     {
-        match purpose {
-            Purpose::Fetch => self.put_block(store, block, frames, found),
-            Purpose::Touch => self.touch_block(store, block, frames),
+        if found.wants() {
+            self.put_block(store, block, frames, found)
+        } else {
+            self.touch_block(store, block, frames)
         }
     }
 
@@ -299,22 +320,22 @@ impl Lists {
         Ok(())
     }
 
-    /// Appends the addresses of the block that lie in the frames. A block that no frame overlaps with isn't
+    /// The sink gains the addresses of the block that lie in the frames. A block that no frame overlaps with isn't
     /// asked for.
     #[inline]
-    fn put_block<D: Store>(
+    fn put_block<D: Store, S: Sink>(
         &mut self,
         store: &mut D,
         block: &Block,
         frames: &[Range],
-        found: &mut Vec<u64>,
+        found: &mut S,
     ) -> Result<(), Trouble>
         requires order { AreInOrder 0 (2 ^ 64 - 1) frames.now }
         requires after { AllByRecursion (λ frame. block.now.first < frame.start + frame.len) frames.now }
         requires span { block.now.first ≤ block.now.last }
         requires bounded { block.now.last < ADDRESSES_MAX }
-        ensures addresses { OnOk result (Puts (AreFetched (HasBlock block.now) frames.now block.now.blob
-            block.now.first (block.now.last + 1) (D.holds store.old) self.old) found.old.items found.new.items) }
+        ensures addresses { OnOk result (Gains (S.gained frames.now) (AreFetched (HasBlock block.now) frames.now block.now.blob
+            block.now.first (block.now.last + 1) (D.holds store.old) self.old) found.old found.new) }
         ensures blocks { OnOk result (Asks (filter (meets frames.now) (block.now ∷ [])) (D.holds store.old) self.old self.new
             (D.reads store.old) (D.reads store.new)) }
         ensures holds { D.holds store.new ≡ D.holds store.old }
@@ -329,7 +350,7 @@ impl Lists {
             return Ok(());
         }
         let addresses = self.addresses(store, block)?;
-        put_within(found, &addresses, frames)?;
+        found.gain(&addresses, frames)?;
         Ok(())
     }
 

@@ -1,8 +1,8 @@
 -- Counting one term from its addresses.
-use Rattle.std.proofs.Common.{◌≡◌, ℕ, suc, ◌+◌, ◌<◌, ◌≤◌, Bool, true, false, cond, List, [], ◌∷◌, length, get_or, map, refl, sym, ap, ◌∙◌, subst, inl, inr, arith, nat_lt, nat_le, leb-true, leb-false, le-leb, lt-ltb, ltb-true, leb, ltb, eqb, eqb-true}
+use Rattle.std.proofs.Common.{◌≡◌, ℕ, suc, ◌+◌, ◌-◌, ◌<◌, ◌≤◌, Bool, true, false, ◌&&◌, ◌||◌, cond, List, [], ◌∷◌, length, get_or, map, refl, sym, ap, ap₂, ◌∙◌, subst, inl, inr, arith, nat_lt, nat_le, leb-true, leb-false, le-leb, lt-ltb, ltb-true, leb, ltb, eqb, eqb-true}
 use Rattle.std.specs.Cmp.{both_ways}
 use Rattle.std.specs.Prelude.{filter, count_by}
-use Rattle.std.specs.List.{list_any}
+use Rattle.std.specs.List.{AllByRecursion, list_any}
 use Rattle.std.proofs.lemmas.Bool.{false≢true, false_from_ne_true, and_parts, and_from, or_cases, or_left, or_right}
 use Rattle.std.proofs.lemmas.List.Elements.{filter_agree}
 use Rattle.std.proofs.lemmas.List.Sums.{length-filter}
@@ -73,6 +73,35 @@ pub term_hits : (lists : List TermList) (frames : List Range) → AreApart frame
 term_hits lists frames apart term addresses are =
     ap (λ (xs : List ℕ). length (filter (lies_in_one frames) (map (run_around 0 0) xs))) (sym (from_zero addresses))
     ∙ ap length (term_whole lists frames apart term addresses are)
+
+-- ---- addresses that lie in the frames
+
+abbrev extent_with : ℕ → ℕ → Extent
+extent_with start end = record { start = start; end = end }
+
+around_itself : (a : ℕ) → run_around 0 0 a ≡ record { start = a; end = a }
+around_itself a =
+    let first : a - 0 ≡ a = omega arith in
+    let last : a + 0 ≡ a = omega arith in
+    ap₂ extent_with first last
+
+and_again : (b c : Bool) → ((b && c) && c) ≡ (b && c)
+and_again true true = refl
+and_again true false = refl
+and_again false c = refl
+
+lies_at : (frames : List Range) (a : ℕ) → lies_in_one frames (record { start = a; end = a }) ≡ list_any (λ f. is_place_of f a) frames
+lies_at [] a = refl
+lies_at (f ∷ frames) a =
+    ap₂ (λ (b c : Bool). b || c) (and_again (leb f.start a) (ltb a (f.start + f.len))) (lies_at frames a)
+
+-- each of them is an extent of the term
+pub all_lie : (frames : List Range) (addresses : List ℕ) → AllByRecursion (λ a. list_any (λ f. is_place_of f a) frames ≡ true) addresses
+    → length (filter (lies_in_one frames) (map (run_around 0 0) addresses)) ≡ length addresses
+all_lie frames [] a = refl
+all_lie frames (x ∷ xs) a =
+    let lies : lies_in_one frames (run_around 0 0 x) ≡ true = ap (lies_in_one frames) (around_itself x) ∙ lies_at frames x ∙ a.0 in
+    rw lies (ap suc (all_lie frames xs a.1))
 
 -- an address of the list that passes
 any_found : (p : ℕ → Bool) (xs : List ℕ) → list_any p xs ≡ true → (a : ℕ) × (is_among xs a ≡ true) × (p a ≡ true)

@@ -4,6 +4,7 @@ ghost use Rattle.std.specs.List.Sorted.{IsStrictlyIncreasing};
 ghost use Rattle.wu_base.specs.declared.addresses.TermList.{TermList};
 ghost use Rattle.wu_gcl.specs.Extents.{hits};
 ghost use Rattle.wu_gcl.specs.Regions.{Region, region_of, Phrase};
+ghost use Rattle.wu_gcl.specs.Terms.{terms_in};
 ghost use Rattle.wu_solve.specs.Addresses.{AreLists};
 ghost use Rattle.wu_solve.specs.Frames.{lies_in_one, has_one_of};
 ghost use Rattle.wu_solve.specs.Operands.{run_around};
@@ -125,9 +126,10 @@ fn frames_of(extents: &[Extent], frames: &[Range]) -> u64
     files
 }
 
-/// The term, if the expression is one word or one tag alone.
-fn only_term(expr: &Expr) -> Option<&[u8]>
-    ensures { IfSome result (λ term. (stands : List ℕ → ℕ → Bool) (n : ℕ) → hits (Phrase (term.now ∷ [])) stands n ≡ hits (region_of expr.now) stands n) }
+/// The term, if the expression is one word or one tag alone: its extents are those of the word.
+pub fn only_term(expr: &Expr) -> Option<&[u8]>
+    ensures named { IfSome result (λ term. terms_in (region_of expr.now) ≡ term.now ∷ []) }
+    ensures same { IfSome result (λ term. (stands : List ℕ → ℕ → Bool) (n : ℕ) → hits (Phrase (term.now ∷ [])) stands n ≡ hits (region_of expr.now) stands n) }
 {
     match expr {
         Expr::Phrase(words) => match words.as_slice() {

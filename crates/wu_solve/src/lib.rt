@@ -20,7 +20,7 @@ mod overlaps;
 mod solving;
 mod windows;
 
-pub use counting::{Counts, count, count_apart};
+pub use counting::{Counts, count, count_apart, only_term};
 pub use laws::{extents_ascend, frames_of_texts, needed_terms_stand};
 pub use lookup::find_term;
 pub use needed::needed_terms;

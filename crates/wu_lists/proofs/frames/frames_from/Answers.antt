@@ -1,6 +1,7 @@
 use Rattle.std.proofs.Common.{◌-◌, ◌^◌}
 use Rattle.wu_lists.proofs.Ascending.{order-drop}
 use Rattle.wu_lists.proofs.Spans.{live-drop, meets-drop}
+use Rattle.wu_lists.proofs.Tallying.{opens-drop}
 use Rattle.wu_lists.proofs.frames.frames_from.Goals as goal
 
 pub returns-clause-order : goal.returns-clause-order
@@ -17,3 +18,7 @@ returns-clause-live c = rw c.split_at.ensures.back
 pub returns-clause-needed : goal.returns-clause-needed
 returns-clause-needed c = rw c.split_at.ensures.back
     (meets-drop c.count_ended.result c.args.address c.args.frames.now c.count_ended.ensures.ended)
+
+pub returns-clause-opens : goal.returns-clause-opens
+returns-clause-opens c = rw c.split_at.ensures.back
+    (opens-drop c.count_ended.result c.args.address c.args.frames.now c.count_ended.ensures.ended)

@@ -12,7 +12,7 @@ returns-in-Some-clause-hits c =
     let frames = c.args.frames.now in
     let region = region_of c.args.expr.now in
     let term = c.in-Some.term.now in
-    let same : (stands : List ℕ → ℕ → Bool) (n : ℕ) → hits (Phrase (term ∷ [])) stands n ≡ hits region stands n = c.in-Some.ensures in
+    let same : (stands : List ℕ → ℕ → Bool) (n : ℕ) → hits (Phrase (term ∷ [])) stands n ≡ hits region stands n = c.in-Some.ensures.same in
     let are : AreAddressesOf lists term c.addresses_of.result.now =
     record { ascending = c.addresses_of.ensures.ascending; same = c.addresses_of.ensures.same } in
     c.count_term.ensures.hits ∙ term_hits lists frames c.requires.apart term c.addresses_of.result.now are
@@ -24,7 +24,7 @@ returns-in-Some-clause-files c =
     let frames = c.args.frames.now in
     let region = region_of c.args.expr.now in
     let term = c.in-Some.term.now in
-    let same : (stands : List ℕ → ℕ → Bool) (n : ℕ) → hits (Phrase (term ∷ [])) stands n ≡ hits region stands n = c.in-Some.ensures in
+    let same : (stands : List ℕ → ℕ → Bool) (n : ℕ) → hits (Phrase (term ∷ [])) stands n ≡ hits region stands n = c.in-Some.ensures.same in
     let are : AreAddressesOf lists term c.addresses_of.result.now =
     record { ascending = c.addresses_of.ensures.ascending; same = c.addresses_of.ensures.same } in
     c.count_term.ensures.files ∙ term_files lists term c.addresses_of.result.now are frames

@@ -1,4 +1,4 @@
-use Rattle.std.proofs.Common.{◌-◌, ◌^◌, ◌≡◌, ◌+◌, ℕ, List, ◌++◌, true, false, filter, sym, ◌∙◌, ap, subst, arith, rules}
+use Rattle.std.proofs.Common.{◌-◌, ◌^◌, ◌≡◌, ◌+◌, List, true, false, filter, sym, ◌∙◌, subst, arith, rules}
 use Rattle.wu_layout.specs.Postings.{is_live}
 use Rattle.wu_lists.specs.declared.blocks.Block.{Block}
 use Rattle.wu_lists.specs.Keeping.{Asks}
@@ -10,8 +10,9 @@ use Rattle.wu_lists.proofs.lists.Lists.put_block.Goals as goal
 pub returns-then-not-is_needed-clause-addresses : goal.returns-then-not-is_needed-clause-addresses
 returns-then-not-is_needed-clause-addresses g c =
     let missed : c.is_needed.result ≡ false = search rules in
-    fetched-none c.args.block.now c.args.frames.now (g.D.Store.holds c.args.store.now) c.args.self.now c.args.found.now.items
-    c.requires.span (sym c.is_needed.ensures ∙ missed)
+    fetched-none _ (g.S.Sink.gained c.args.frames.now) c.args.block.now c.args.frames.now (g.D.Store.holds c.args.store.now)
+    c.args.self.now c.args.found.now (g.met.S.Sink.none c.args.frames.now c.args.found.now) c.requires.span
+    (sym c.is_needed.ensures ∙ missed)
 
 pub returns-then-not-is_needed-clause-blocks : goal.returns-then-not-is_needed-clause-blocks
 returns-then-not-is_needed-clause-blocks g c =
@@ -21,8 +22,8 @@ returns-then-not-is_needed-clause-blocks g c =
     (sym (needed-nothing c.args.frames.now c.args.block.now (sym c.is_needed.ensures ∙ missed)))
     (asks-none (g.D.Store.holds c.args.store.now) c.args.self.now (g.D.Store.reads c.args.store.now))
 
-pub put_within-requires-clause-ascend : goal.put_within-requires-clause-ascend
-put_within-requires-clause-ascend g c =
+pub gain-requires-clause-ascend : goal.gain-requires-clause-ascend
+gain-requires-clause-ascend g c =
     rw c.deref.ensures.value
     (ascend-lower 0 c.args.block.now.first (2 ^ 64 - 1) c.in_ok-addresses.addresses.items (omega arith)
     (ascend-higher c.args.block.now.first (c.args.block.now.last + 1) (2 ^ 64 - 1) c.in_ok-addresses.addresses.items
@@ -31,10 +32,10 @@ put_within-requires-clause-ascend g c =
 pub returns-clause-addresses : goal.returns-clause-addresses
 returns-clause-addresses g c =
     let frames = c.args.frames.now in
-    fetched-some c.args.block.now frames (g.D.Store.holds c.args.store.now) c.args.self.now c.args.found.now.items
-    c.put_within.new.found.items c.in_ok-addresses.addresses.items c.in_ok-addresses.ensures.ascend c.in_ok-addresses.ensures.told
-    (c.in_ok-put_within.ensures
-    ∙ ap (λ (l : List ℕ). c.args.found.now.items ++ filter (is_live frames) l) c.deref.ensures.value)
+    let gained : g.S.Sink.gained frames (filter (is_live frames) c.in_ok-addresses.addresses.items) c.args.found.now c.gain.new.self =
+    rw c.deref.ensures.value at c.in_ok-gain.ensures in
+    fetched-some _ (g.S.Sink.gained frames) c.args.block.now frames (g.D.Store.holds c.args.store.now) c.args.self.now c.args.found.now
+    c.gain.new.self c.in_ok-addresses.addresses.items c.in_ok-addresses.ensures.ascend c.in_ok-addresses.ensures.told gained
 
 pub returns-clause-blocks : goal.returns-clause-blocks
 returns-clause-blocks g c =

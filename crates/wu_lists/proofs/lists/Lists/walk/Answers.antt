@@ -13,7 +13,7 @@ use Rattle.wu_lists.proofs.Ascending.{order-from_apart, all_from_zero}
 use Rattle.wu_lists.proofs.Asking.{asks-none, cause-step}
 use Rattle.wu_lists.proofs.Fetches.{if_err}
 use Rattle.wu_lists.proofs.Terms.{entry-absent, entry-blocks, entry-found, fetched-absent, fetched-term, needed-absent, needed-found, no-part}
-use Rattle.wu_lists.proofs.Walks.{puts-none, puts-step}
+use Rattle.wu_lists.proofs.Walks.{gains-none, gains-step}
 use Rattle.wu_lists.proofs.lists.Lists.walk.Goals as goal
 
 pub walk_blocks-requires-clause-order : goal.walk_blocks-requires-clause-order
@@ -66,12 +66,12 @@ returns-in_ok-walk_blocks-in-Some-clause-addresses g c = λ wanted.
     let entry = c.in-Some.entry in
     let there = entry-found directory.terms entry c.args.term.now c.is_spelled.ensures.1.holds.ascending c.in-Some.ensures.0
     c.in-Some.ensures.1 in
-    puts-step
+    gains-step (g.S.Sink.gained c.args.frames.now)
     (AreFetched (HasBlocks directory.low entry.count entry.blocks) c.args.frames.now c.args.blob directory.low (directory.high + 1)
     (g.D.Store.holds c.args.store.now) c.args.self.now)
     (AreFetched (HasTerm directory c.args.term.now) c.args.frames.now c.args.blob directory.low (directory.high + 1)
     (g.D.Store.holds c.args.store.now) c.args.self.now)
-    c.args.found.now.items c.walk_blocks.new.found.items
+    c.args.found.now c.walk_blocks.new.found
     (λ more f.
     fetched-term directory c.args.term.now c.args.frames.now c.args.blob directory.low (directory.high + 1)
     (g.D.Store.holds c.args.store.now) c.args.self.now entry more there f)
@@ -91,10 +91,10 @@ pub returns-in-None-clause-addresses : goal.returns-in-None-clause-addresses
 returns-in-None-clause-addresses g c = λ wanted.
     let directory = c.args.dir.now in
     let span = c.is_spelled.ensures.1.holds.span in
-    puts-none
+    gains-none (g.S.Sink.gained c.args.frames.now)
     (AreFetched (HasTerm directory c.args.term.now) c.args.frames.now c.args.blob directory.low (directory.high + 1)
     (g.D.Store.holds c.args.store.now) c.args.self.now)
-    c.args.found.now.items
+    c.args.found.now (g.met.S.Sink.none c.args.frames.now c.args.found.now)
     (fetched-absent directory c.args.term.now c.args.frames.now c.args.blob directory.low (directory.high + 1)
     (g.D.Store.holds c.args.store.now) c.args.self.now (entry-absent directory.terms c.args.term.now c.in-None.ensures)
     (omega (arith, span)))

@@ -1,13 +1,13 @@
-use Rattle.std.proofs.Common.{◌≡◌, ◌+◌, List, [], ◌∷◌, filter, refl, ◌∙◌, subst, rules}
+use Rattle.std.proofs.Common.{◌≡◌, ◌+◌, List, [], ◌∷◌, true, filter, refl, ◌∙◌, subst, rules}
 use Rattle.std.specs.Prelude.{IfErr, IfSome}
 use Rattle.std.specs.List.{AllByRecursion}
 use Rattle.std.specs.Map.{keys_of}
 use Rattle.wu_base.specs.declared.troubles.Trouble.{Trouble}
 use Rattle.wu_lists.specs.Blocks.{IsSpelledIn, blocks_from, meets}
 use Rattle.wu_lists.specs.declared.blocks.Block.{Block}
-use Rattle.wu_lists.specs.declared.lists.Purpose.TheVariants.{Fetch}
 use Rattle.wu_lists.specs.Causes.{IsCause}
-use Rattle.wu_lists.specs.Fetching.{AreFetched, HasBlock, Puts}
+use Rattle.wu_lists.specs.Fetching.{AreFetched, HasBlock}
+use Rattle.wu_lists.specs.Gaining.{Gains}
 use Rattle.wu_lists.specs.Keeping.{Asks, all_missing}
 use Rattle.wu_lists.proofs.Asking.{cause-join}
 use Rattle.wu_lists.proofs.Fetches.{if_err}
@@ -20,9 +20,9 @@ loop-block-init g c = record {
   moments = refl;
   calm = refl;
   walked =
-      walked-none (c.args.purpose ≡ Fetch) c.args.frames.now c.args.blob c.args.dir.now.low c.args.dir.now.high c.args.entry
-      (g.D.Store.holds c.args.store.now) c.args.self.now (g.D.Store.reads c.args.store.now) c.args.found.now.items
-      c.requires.cut c.requires.span c.requires.order;
+      walked-none _ (g.S.Sink.gained c.args.frames.now) (g.S.Sink.wanted ≡ true) c.args.frames.now c.args.blob c.args.dir.now.low
+      c.args.dir.now.high c.args.entry (g.D.Store.holds c.args.store.now) c.args.self.now (g.D.Store.reads c.args.store.now)
+      c.args.found.now (g.met.S.Sink.none c.args.frames.now c.args.found.now) c.requires.cut c.requires.span c.requires.order;
 }
 
 pub loop-block-preserved : goal.loop-block-preserved
@@ -37,21 +37,23 @@ loop-block-preserved g c =
     let asks : Asks (filter (meets nearer) (block ∷ [])) holds c.loop-block.self c.visit.new.self (g.D.Store.reads c.loop-block.store)
     (g.D.Store.reads c.visit.new.store) =
     rw (c.low.ensures, c.loop-block.invariant.holds) at c.in_ok-visit.ensures.blocks in
-    let puts : c.args.purpose ≡ Fetch
-    → Puts (AreFetched (HasBlock block) nearer blob entry.first (entry.last + 1) holds c.loop-block.self) c.loop-block.found.items
-    c.visit.new.found.items =
+    let gains : g.S.Sink.wanted ≡ true
+    → Gains (g.S.Sink.gained nearer) (AreFetched (HasBlock block) nearer blob entry.first (entry.last + 1) holds c.loop-block.self)
+    c.loop-block.found c.visit.new.found =
     rw (c.low.ensures, c.loop-block.invariant.holds) at c.in_ok-visit.ensures.addresses in
     record {
       holds = c.in_ok-visit.ensures.holds ∙ c.loop-block.invariant.holds;
       moments = c.in_ok-visit.ensures.moments ∙ c.loop-block.invariant.moments;
       calm = c.in_ok-visit.ensures.calm ∙ c.loop-block.invariant.calm;
       walked =
-          walked-next (c.args.purpose ≡ Fetch) frames blob low c.args.dir.now.high c.args.entry holds c.args.self.now
-          (g.D.Store.reads c.args.store.now) c.args.found.now.items c.loop-block.left.now c.loop-block.entry c.loop-block.self
-          (g.D.Store.reads c.loop-block.store) c.loop-block.found.items
+          walked-next _ (g.S.Sink.gained frames) (g.S.Sink.wanted ≡ true) frames blob low c.args.dir.now.high c.args.entry holds
+          c.args.self.now (g.D.Store.reads c.args.store.now) c.args.found.now c.loop-block.left.now c.loop-block.entry c.loop-block.self
+          (g.D.Store.reads c.loop-block.store) c.loop-block.found
           c.loop-block.invariant.walked entry c.next_block.new.self c.in-Some.count c.in-Some.ensures.0 c.in-Some.ensures.1
           c.in-Some.ensures.2 nearer c.frames_from-left.ensures.order c.frames_from-left.ensures.live c.frames_from-left.ensures.needed
-          c.visit.new.self (g.D.Store.reads c.visit.new.store) c.visit.new.found.items asks puts;
+          c.frames_from-left.ensures.opens (g.S.Sink.gained nearer) (g.met.S.Sink.joins frames)
+          (g.met.S.Sink.nearer nearer frames entry.first)
+          c.visit.new.self (g.D.Store.reads c.visit.new.store) c.visit.new.found asks gains;
     }
 
 pub returns-in_err-visit-clause-cause : goal.returns-in_err-visit-clause-cause
@@ -89,25 +91,26 @@ returns-in_err-visit-clause-cause g c =
     (λ trouble is.
     subst (λ (bs : List Block). IsCause (all_missing c.args.self.now.cap (keys_of c.args.self.now.entries) bs) blob Other
     (faults c.args.store.now) (faults c.visit.new.store) (reads c.args.store.now) (reads c.visit.new.store) trouble)
-    (asked-split (c.args.purpose ≡ Fetch) frames blob low c.args.dir.now.high all holds c.args.self.now (reads c.args.store.now)
-    c.args.found.now.items c.loop-block.left.now
-    c.loop-block.entry now (reads c.loop-block.store) c.loop-block.found.items w entry next c.in-Some.count c.in-Some.ensures.0
+    (asked-split _ (g.S.Sink.gained frames) (g.S.Sink.wanted ≡ true) frames blob low c.args.dir.now.high all holds c.args.self.now
+    (reads c.args.store.now) c.args.found.now c.loop-block.left.now
+    c.loop-block.entry now (reads c.loop-block.store) c.loop-block.found w entry next c.in-Some.count c.in-Some.ensures.0
     c.in-Some.ensures.1 c.in-Some.ensures.2 nearer c.frames_from-left.ensures.order c.frames_from-left.ensures.live
-    c.frames_from-left.ensures.needed)
+    c.frames_from-left.ensures.needed c.frames_from-left.ensures.opens)
     (cause-join holds c.args.self.now now (filter (meets frames) w.gone) (filter (meets nearer) (block ∷ []))
     (filter (meets frames) (blocks_from blob low next.count next.blocks)) blob Broken Other (faults c.args.store.now)
     (faults c.loop-block.store) (faults c.visit.new.store) (reads c.args.store.now) (reads c.loop-block.store)
     (reads c.visit.new.store) trouble
-    (block-broken (c.args.purpose ≡ Fetch) frames blob low c.args.dir.now.high all holds c.args.self.now (reads c.args.store.now)
-    c.args.found.now.items c.loop-block.left.now
-    c.loop-block.entry now (reads c.loop-block.store) c.loop-block.found.items w entry next c.in-Some.count c.in-Some.ensures.0
+    (block-broken _ (g.S.Sink.gained frames) (g.S.Sink.wanted ≡ true) frames blob low c.args.dir.now.high all holds c.args.self.now
+    (reads c.args.store.now) c.args.found.now c.loop-block.left.now
+    c.loop-block.entry now (reads c.loop-block.store) c.loop-block.found w entry next c.in-Some.count c.in-Some.ensures.0
     c.in-Some.ensures.1 c.in-Some.ensures.2)
     c.loop-block.invariant.calm w.asks is))
     cause
 
 pub returns-clause-addresses : goal.returns-clause-addresses
 returns-clause-addresses g c = λ wanted.
-    walked-found (c.args.purpose ≡ Fetch) c.args.frames.now c.args.blob c.args.dir.now.low c.args.dir.now.high c.args.entry
-    (g.D.Store.holds c.args.store.now) c.args.self.now (g.D.Store.reads c.args.store.now) c.args.found.now.items c.loop-block.left.now
-    c.loop-block.entry c.loop-block.self (g.D.Store.reads c.loop-block.store) c.loop-block.found.items c.loop-block.invariant.walked
+    walked-found _ (g.S.Sink.gained c.args.frames.now) (g.S.Sink.wanted ≡ true) c.args.frames.now c.args.blob c.args.dir.now.low
+    c.args.dir.now.high c.args.entry (g.D.Store.holds c.args.store.now) c.args.self.now (g.D.Store.reads c.args.store.now)
+    c.args.found.now c.loop-block.left.now
+    c.loop-block.entry c.loop-block.self (g.D.Store.reads c.loop-block.store) c.loop-block.found c.loop-block.invariant.walked
     wanted c.in_default.ensures.0

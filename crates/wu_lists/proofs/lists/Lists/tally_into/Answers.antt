@@ -1,0 +1,18 @@
+use Rattle.std.proofs.Common.{◌+◌, ◌-◌, ◌^◌, refl, arith}
+use Rattle.wu_lists.specs.Fetching.{AreFetched, HasTerm}
+use Rattle.wu_lists.proofs.Ascending.{all_from_zero, order-from_apart}
+use Rattle.wu_lists.proofs.Tallying.{on_ok, tallied}
+use Rattle.wu_lists.proofs.lists.Lists.tally_into.Goals as goal
+
+pub returns-clause-addresses : goal.returns-clause-addresses
+returns-clause-addresses g c =
+    let frames = c.args.frames.now in
+    on_ok _ _ c.walk.result
+    (λ gains.
+    tallied frames
+    (order-from_apart 0 (2 ^ 64 - 1) frames (omega arith) (all_from_zero frames) c.requires.apart
+    (λ k d l. let within = c.requires.bounded k d l in omega arith))
+    (AreFetched (HasTerm c.args.dir.now c.args.term.now) frames c.args.blob c.args.dir.now.low (c.args.dir.now.high + 1)
+    (g.D.Store.holds c.args.store.now) c.args.self.now)
+    c.args.tally.now c.walk.new.found (gains refl))
+    c.walk.ensures.addresses

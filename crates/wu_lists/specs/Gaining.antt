@@ -1,0 +1,60 @@
+-- What is gained of addresses: they are put at the end of others, or counted.
+use Rattle.std.specs.Prelude.{ℕ, ◌≡◌, ◌+◌, ◌-◌, ◌≤◌, ◌^◌, ◌&&◌, Bool, min, nat_le, length, List, [], ◌∷◌, ◌++◌, if◌then◌else◌}
+use Rattle.std.specs.List.{AllByRecursion, list_any}
+use Rattle.std.proofs.Common.{refl, ap, ◌∙◌, cond}
+use Rattle.wu_base.specs.declared.addresses.Range.{Range}
+use Rattle.wu_layout.specs.Postings.{is_in}
+use Rattle.wu_lists.specs.declared.tallies.Tally.{Tally}
+use Rattle.wu_lists.specs.Tallying.{after_last}
+
+-- addresses of a kind were gained
+pub record Gains {X : Type 0} (Gain : List ℕ → X → X → Type 0) (Kind : List ℕ → Type 0) (before after : X) : Type 0 where
+  pub more : List ℕ
+  pub gained : Gain more before after
+  pub kind : Kind more
+
+-- some frame has the address, and begins at `after` or later
+abbrev pub opens : List Range → ℕ → ℕ → Bool
+opens frames after address = list_any (λ frame. is_in frame address && nat_le after frame.start) frames
+
+-- from an address on the frames that are left open as all frames do
+abbrev pub OpenAlike : ℕ → List Range → List Range → Type 0
+OpenAlike low left frames = (after address : ℕ) → low ≤ address → opens left after address ≡ opens frames after address
+
+-- one more address; sums stand still at 2^64 - 1
+abbrev pub with_address : List Range → Tally → ℕ → Tally
+with_address frames tally address = record {
+  hits = min (tally.hits + 1) (2 ^ 64 - 1);
+  frames = (if opens frames tally.after address then min (tally.frames + 1) (2 ^ 64 - 1) else tally.frames);
+  after = address + 1;
+}
+
+-- several, in turn
+abbrev pub tally_on : List Range → Tally → List ℕ → Tally
+tally_on frames tally [] = tally
+tally_on frames tally (address ∷ later) = tally_on frames (with_address frames tally address) later
+
+pub tally_on-append : (frames : List Range) (tally : Tally) (xs ys : List ℕ)
+    → tally_on frames tally (xs ++ ys) ≡ tally_on frames (tally_on frames tally xs) ys
+tally_on-append frames tally [] ys = refl
+tally_on-append frames tally (x ∷ xs) ys = tally_on-append frames (with_address frames tally x) xs ys
+
+pub tally_on-alike : (left frames : List Range) (low : ℕ) → OpenAlike low left frames → (tally : Tally) (xs : List ℕ)
+    → AllByRecursion (λ x. low ≤ x) xs → tally_on left tally xs ≡ tally_on frames tally xs
+tally_on-alike left frames low alike tally [] a = refl
+tally_on-alike left frames low alike tally (x ∷ xs) a =
+    tally_on-alike left frames low alike (with_address left tally x) xs a.1
+    ∙ ap (λ (b : Bool). tally_on frames (record {
+      hits = min (tally.hits + 1) (2 ^ 64 - 1);
+      frames = cond b (min (tally.frames + 1) (2 ^ 64 - 1)) tally.frames;
+      after = x + 1;
+    }) xs) (alike tally.after x a.0)
+
+-- the addresses of a frame that begins at `start`, all at once
+abbrev pub with_frame : ℕ → Tally → List ℕ → Tally
+with_frame start tally [] = tally
+with_frame start tally (address ∷ later) = record {
+  hits = min (tally.hits + length (address ∷ later)) (2 ^ 64 - 1);
+  frames = (if nat_le tally.after start then min (tally.frames + 1) (2 ^ 64 - 1) else tally.frames);
+  after = after_last (address + 1) later;
+}
