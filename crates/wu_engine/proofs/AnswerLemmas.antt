@@ -50,6 +50,6 @@ pub lines_all : (line_for : Ranked → RankLine) (lines : List RankLine) (top : 
 lines_all line_for lines top i all is = is ∙ ap (map line_for) (take_all i top all)
 
 -- what follows for each value holds of the value of a result
-pub if_ok : {T E : Type 0} (P Q : T → Type 0) (r : Result T E) → ((value : T) → P value → Q value) → IfOk r P → IfOk r Q
-if_ok P Q (Ok value) step h = step value h
-if_ok P Q (Err error) step h = h
+pub if_ok : {T E : Type 0} (r : Result T E) {P Q : T → Type 0} → IfOk r P → ((value : T) → P value → Q value) → IfOk r Q
+if_ok (Ok value) h step = step value h
+if_ok (Err error) h step = h

@@ -20,12 +20,12 @@ some_after [] ys blob some = some
 some_after (x ∷ xs) ys blob some = inr (some_after xs ys blob some)
 
 -- the call after those that were done failed, and others were to come
-pub fails_after : (xs ys zs : List Block) (a b : Kept) (first second third : Option (List ReadRange))
-    (parts : List (PartRec × PartDirectory)) (holds : Option Content) (before middle now : ℕ) (trouble : Trouble)
+pub fails_after : {xs : List Block} (ys zs : List Block) {a b : Kept} {first second third : Option (List ReadRange)}
+    {parts : List (PartRec × PartDirectory)} {holds : Option Content} {before middle now : ℕ} {trouble : Trouble}
     → Asks xs holds a b first second → middle ≡ before
     → IsFetchCause parts (all_missing b.cap (keys_of b.entries) ys) holds middle now second third trouble
     → IsFetchCause parts (all_missing a.cap (keys_of a.entries) (xs ++ (ys ++ zs))) holds before now first third trouble
-fails_after xs ys zs a b first second third parts holds before middle now trouble p calm cause =
+fails_after {xs} ys zs {a} {b} {first} {now} p calm cause =
     let here : List Block = all_missing a.cap (keys_of a.entries) xs in
     let later : List Block = all_missing b.cap (all_asked b.cap (keys_of b.entries) ys) zs in
     let split : all_missing a.cap (keys_of a.entries) (xs ++ (ys ++ zs)) ≡ here ++ all_missing b.cap (keys_of b.entries) (ys ++ zs) =
@@ -50,10 +50,10 @@ fails_after xs ys zs a b first second third parts holds before middle now troubl
     }
 
 -- a call ran out of memory after the first of them were asked for
-pub fails_then : (xs zs : List Block) (a b : Kept) (first second : Option (List ReadRange)) (parts : List (PartRec × PartDirectory))
-    (holds : Option Content) (before now : ℕ) → Asks xs holds a b first second → now ≡ before
+pub fails_then : {xs : List Block} (zs : List Block) {a b : Kept} {first second : Option (List ReadRange)}
+    {parts : List (PartRec × PartDirectory)} {holds : Option Content} {before now : ℕ} → Asks xs holds a b first second → now ≡ before
     → IsFetchCause parts (all_missing a.cap (keys_of a.entries) (xs ++ zs)) holds before now first second NoMemory
-fails_then xs zs a b first second parts holds before now p calm = record {
+fails_then {xs} zs {a} p calm = record {
   counted = omega (arith, calm);
   store_fault = λ h. absurd (cc);
   calm = λ h. calm;
@@ -65,17 +65,15 @@ fails_then xs zs a b first second parts holds before now p calm = record {
 }
 
 -- and after all of them
-pub fails_last : (xs : List Block) (a b : Kept) (first second : Option (List ReadRange)) (parts : List (PartRec × PartDirectory))
-    (holds : Option Content) (before now : ℕ) → Asks xs holds a b first second → now ≡ before
+pub fails_last : {xs : List Block} {a b : Kept} {first second : Option (List ReadRange)} {parts : List (PartRec × PartDirectory)}
+    {holds : Option Content} {before now : ℕ} → Asks xs holds a b first second → now ≡ before
     → IsFetchCause parts (all_missing a.cap (keys_of a.entries) xs) holds before now first second NoMemory
-fails_last xs a b first second parts holds before now p calm =
-    subst (λ (bs : List Block). IsFetchCause parts (all_missing a.cap (keys_of a.entries) bs) holds before now first second NoMemory)
-    (append-nil xs) (fails_then xs [] a b first second parts holds before now p calm)
+fails_last {xs} p calm = rw (← (append-nil xs)) (fails_then [] p calm)
 
 -- a call ran out of memory before any was asked for
-pub fails_at_once : (missing : List Block) (ranges : Option (List ReadRange)) (parts : List (PartRec × PartDirectory))
-    (holds : Option Content) (before now : ℕ) → now ≡ before → IsFetchCause parts missing holds before now ranges ranges NoMemory
-fails_at_once missing ranges parts holds before now calm = record {
+pub fails_at_once : {missing : List Block} {ranges : Option (List ReadRange)} {parts : List (PartRec × PartDirectory)}
+    {holds : Option Content} {before now : ℕ} → now ≡ before → IsFetchCause parts missing holds before now ranges ranges NoMemory
+fails_at_once {missing} {ranges} calm = record {
   counted = omega (arith, calm);
   store_fault = λ h. absurd (cc);
   calm = λ h. calm;

@@ -102,22 +102,17 @@ module _ (frames : Frames) (contents : Contents) (files : Records) (holds : Opti
   }
 
 -- a trouble with a text, after calls that changed nothing of the store
-pub cause_of_text : {T : Type 0} (r : Result T Trouble) (before now : ℕ) (frames : Frames) (contents : Contents) (files : Records)
-    (holds : Option Content) (trouble : Trouble) → IsErrAnd r (λ e. e ≡ trouble)
+pub cause_of_text : {T : Type 0} (r : Result T Trouble) (frames : Frames) (contents : Contents) (files : Records)
+    (holds : Option Content) {trouble : Trouble} → IsErrAnd r (λ error. error ≡ trouble)
     → (region : Region) (terms : List (List ℕ)) → AreTerms region terms → (lists : List TermList)
     → ((s : State) → TellsPostings contents holds s → lists ≡ map (list_at (found_in frames.ranges s)) terms)
-    → (k : ℕ) (few : Bool) (holds_then : Option Content) (middle : ℕ) → holds_then ≡ holds → middle ≡ before
+    → (k : ℕ) (few : Bool) {holds_then : Option Content} {before middle now : ℕ} → holds_then ≡ holds → middle ≡ before
     → IsCause (IsBrokenShown files holds_then region lists k (looked_through few region lists frames)) middle now trouble
     → IfErr r (IsCause (IsDamagedOver frames (Finding k region) contents files holds) before now)
-cause_of_text r before now frames contents files holds trouble is region terms are lists lists_are k few holds_then middle same calm
-    cause =
-    let looked = looked_through few region lists frames in
-    err_from (IsCause (IsDamagedOver frames (Finding k region) contents files holds) before now) r trouble is
-    (cause_after (IsBrokenShown files holds_then region lists k looked) (IsDamagedOver frames (Finding k region) contents files holds)
-    before middle now trouble calm
-    (λ blob broken. inr (text_needed frames contents files holds region terms are lists lists_are k few blob
-    (subst (λ (o : Option Content). IsBrokenShown files o region lists k looked blob) same broken)))
-    cause)
+cause_of_text r frames contents files holds {trouble} is region terms are lists lists_are k few same calm cause =
+    err_from _ r trouble is
+    (cause_after calm cause
+    (λ blob broken. inr (text_needed frames contents files holds region terms are lists lists_are k few blob (rw same at broken))))
 
 -- ---- any damage of a query
 

@@ -194,8 +194,7 @@ module _ (frames : Frames) (live : Ranges) (s : State) (uid : ℕ) (is : Indexes
         ≡ flat_map (lines_at content files region lists_of_terms) frames.seen
     lines_looked false = refl
     lines_looked true =
-        subst (λ (view : List Seen). flat_map (lines_at content files region lists_of_terms) (with_units units 0 view)
-        ≡ flat_map (lines_at content files region lists_of_terms) view) (sym is.hers.view)
+        rw is.hers.view
         (lines_left (hits_at files region lists_of_terms) units (lines_at content files region lists_of_terms)
         (λ file none. no_lines content region lists_of_terms file.paths (record_at files file.ino) none) 0 (files_of s.tree uid)
         all_covered)
@@ -206,15 +205,14 @@ module _ (frames : Frames) (live : Ranges) (s : State) (uid : ℕ) (is : Indexes
         ≡ texts_shown (hits_at files region lists_of_terms) (text_at files) k frames.seen
     texts_looked false k = refl
     texts_looked true k =
-        subst (λ (view : List Seen). texts_shown (hits_at files region lists_of_terms) (text_at files) k (with_units units 0 view)
-        ≡ texts_shown (hits_at files region lists_of_terms) (text_at files) k view) (sym is.hers.view)
+        rw is.hers.view
         (texts_left (hits_at files region lists_of_terms) units (text_at files) 0 k (files_of s.tree uid) all_covered)
 
 -- where there are few, they are those with a unit
-pub looked_few : (few : Bool) (region : Region) (lists : List TermList) (frames : Frames) (found : List RankedUnit) (view seen : List Seen)
+pub looked_few : (region : Region) (lists : List TermList) (frames : Frames) {few : Bool} {found : List RankedUnit} {view seen : List Seen}
     → few ≡ true → found ≡ units_in region lists frames.by_address → view ≡ frames.seen → seen ≡ with_units found 0 view
     → seen ≡ looked_through few region lists frames
-looked_few few region lists frames found view seen is found_is view_is seen_is =
+looked_few region lists frames is found_is view_is seen_is =
     seen_is ∙ ap₂ (λ (us : List RankedUnit) (v : List Seen). with_units us 0 v) found_is view_is
     ∙ sym (ap (λ (b : Bool). cond b (with_units (units_in region lists frames.by_address) 0 frames.seen) frames.seen) is)
 
@@ -238,13 +236,11 @@ module _ (frames : Frames) (live : Ranges) (s : State) (uid : ℕ) (is : Indexes
       ≡ flat_map (lines_at content files region ls) frames.seen) (sym lists_are)
       (lines_looked frames live s uid is region terms are files content keeps.records few)))
 
-  pub looked_shown : files ≡ records_of s.texts s.layout.files
+  looked_shown : files ≡ records_of s.texts s.layout.files
       → texts_shown (hits_at files region lists) (text_at files) k (looked_through few region lists frames)
       ≡ texts_shown (hits_at files region lists) (text_at files) k frames.seen
   looked_shown records =
-      subst (λ (ls : List TermList). texts_shown (hits_at files region ls) (text_at files) k (looked_through few region ls frames)
-      ≡ texts_shown (hits_at files region ls) (text_at files) k frames.seen) (sym lists_are)
-      (texts_looked frames live s uid is region terms are files no_content records few k)
+      rw lists_are (texts_looked frames live s uid is region terms are files no_content records few k)
 
   pub looked_texts : files ≡ records_of s.texts s.layout.files
       → texts_shown (hits_at files region lists) (text_at files) k (looked_through few region lists frames)

@@ -1,5 +1,5 @@
 -- The first lines of files, and the texts that are read for them, file by file.
-use Rattle.std.proofs.Common.{◌≡◌, ℕ, zero, suc, ◌+◌, ◌-◌, ◌<◌, cond, List, [], ◌∷◌, ◌++◌, length, take, drop, min, get_or, refl, sym, ap, ap₂, ◌∙◌, ◌⊎◌, inl, inr, subst, arith, append_assoc, append-nil, length-append}
+use Rattle.std.proofs.Common.{◌≡◌, ℕ, zero, suc, ◌+◌, ◌-◌, ◌<◌, cond, List, [], ◌∷◌, ◌++◌, length, take, drop, min, get_or, refl, sym, ap, ap₂, ◌∙◌, ◌⊎◌, inl, inr, arith, append_assoc, length-append}
 use Rattle.std.specs.Prelude.{Option, Some, None, IfSome, nat_lt, option_map}
 use Rattle.std.specs.List.{flat_map}
 use Rattle.std.proofs.lemmas.List.{length-take, drop_more, take-map}
@@ -7,7 +7,7 @@ use Rattle.wu_outside.specs.Content.{Content}
 use Rattle.wu_outside.specs.declared.ranges.ReadRange.{ReadRange}
 use Rattle.wu_lists.proofs.Asking.{ranges-none}
 use Rattle.wu_ask.specs.declared.FindLine.{FindLine}
-use Rattle.wu_ask.specs.Questions.{Question, Counting, Ranking, ListingPaths}
+use Rattle.wu_ask.specs.Questions.{Counting, Ranking, ListingPaths}
 use Rattle.wu_base.specs.declared.addresses.Extent.{Extent}
 use Rattle.wu_base.specs.declared.addresses.TermList.{TermList}
 use Rattle.wu_gcl.specs.Regions.{Region}
@@ -34,7 +34,8 @@ first_of_both (suc n) (x ∷ xs) ys =
     ∙ sym (ap (λ (m : ℕ). x ∷ (take n xs ++ take m ys)) e)
 
 -- the file of this place comes before those that are left
-pub at_place : (view : List Seen) (i : ℕ) (file : Seen) → i < length view → file ≡ get_or view i file → drop i view ≡ file ∷ drop (i + 1) view
+pub at_place : (view : List Seen) (i : ℕ) (file : Seen) → i < length view → file ≡ get_or view i file
+    → drop i view ≡ file ∷ drop (i + 1) view
 at_place view i file within is = drop_more view i file within ∙ ap (λ (f : Seen). f ∷ drop (i + 1) view) (sym is)
 
 module _ (k i : ℕ) (view : List Seen) (file : Seen) (within : i < length view) (is : file ≡ get_or view i file)
@@ -74,28 +75,20 @@ module _ (k i : ℕ) (view : List Seen) (file : Seen) (within : i < length view)
         ∙ ap (λ (files : List Seen). Some (ranges ++ texts_shown hits text left files)) (sym (at_place view i file within is))
 
   -- what is read of the store is as it was, and so many lines there were
-  pub lines_kept : (holds here : Option Content) (lines : Content → Seen → List FindLine) (all : Content → List FindLine) (count : ℕ)
+  pub lines_kept : (lines : Content → Seen → List FindLine) (all : Content → List FindLine) {count : ℕ} {holds here : Option Content}
       → count ≡ length before → here ≡ holds → IfSome here (λ content. after ≡ before ++ take (k - count) (lines content file))
       → IfSome holds (λ content. before ++ take (k - length before) (flat_map (lines content) (drop i view)) ≡ all content)
       → IfSome holds (λ content. after ++ take (k - length after) (flat_map (lines content) (drop (i + 1) view)) ≡ all content)
-  lines_kept holds here lines all count counted same put kept =
-      IfSome-map2 (λ content. after ≡ before ++ take (k - count) (lines content file))
-      (λ content. before ++ take (k - length before) (flat_map (lines content) (drop i view)) ≡ all content)
-      (λ content. after ++ take (k - length after) (flat_map (lines content) (drop (i + 1) view)) ≡ all content) holds
-      (λ content p q. lines_on (lines content) (subst (λ (n : ℕ). after ≡ before ++ take (k - n) (lines content file)) counted p) ∙ q)
-      (subst (λ (h : Option Content). IfSome h (λ content. after ≡ before ++ take (k - count) (lines content file))) same put) kept
+  lines_kept lines all {holds = holds} counted same put kept =
+      IfSome-map2 _ _ _ holds (λ content p q. lines_on (lines content) (rw counted at p) ∙ q) (rw same at put) kept
 
-  pub texts_kept : (hits : Seen → ℕ) (text : Seen → List ReadRange) (old now all : Option (List ReadRange)) (count : ℕ)
-      → count ≡ length before → length after ≡ length before + min (k - count) (hits file)
+  pub texts_kept : (hits : Seen → ℕ) (text : Seen → List ReadRange) (old : Option (List ReadRange)) {now all : Option (List ReadRange)}
+      {count : ℕ} → count ≡ length before → length after ≡ length before + min (k - count) (hits file)
       → now ≡ option_map (λ ranges. ranges ++ cond (nat_lt 0 (min (k - count) (hits file))) (text file) []) old
       → option_map (λ ranges. ranges ++ texts_shown hits text (k - length before) (drop i view)) old ≡ all
       → option_map (λ ranges. ranges ++ texts_shown hits text (k - length after) (drop (i + 1) view)) now ≡ all
-  texts_kept hits text old now all count counted more is_read kept =
-      texts_on hits text old now (subst (λ (n : ℕ). length after ≡ length before + min (k - n) (hits file)) counted more)
-      (subst (λ (n : ℕ). now ≡ option_map (λ (ranges : List ReadRange).
-      ranges ++ cond (nat_lt 0 (min (k - n) (hits file))) (text file) []) old)
-      counted is_read)
-      ∙ kept
+  texts_kept hits text old {now} counted more is_read kept =
+      texts_on hits text old now (rw counted at more) (rw counted at is_read) ∙ kept
 
 -- ---- one file
 
@@ -119,12 +112,6 @@ no_texts hits text (file ∷ files) =
     let still : 0 - hits file ≡ 0 = omega arith in
     ap₂ (λ (m n : ℕ). cond (nat_lt 0 m) (text file) [] ++ texts_shown hits text n files) none still ∙ no_texts hits text files
 
--- what reads nothing leaves what was read
-pub none_read : (s : State) (uid : ℕ) (question : Question) (old : Option (List ReadRange)) → texts_read s uid question ≡ []
-    → old ≡ option_map (λ ranges. ranges ++ texts_read s uid question) old
-none_read s uid question old none =
-    sym (ap (λ (texts : List ReadRange). option_map (λ (ranges : List ReadRange). ranges ++ texts) old) none ∙ sym (ranges-none old))
-
 pub none_counted : (s : State) (uid : ℕ) (region : Region) → texts_read s uid (Counting region) ≡ []
 unfolding texts_read
 none_counted s uid region = refl
@@ -140,14 +127,6 @@ none_listed s uid = refl
 -- where there are as many lines as are asked for, or no file is left
 abbrev pub IsEnough : ℕ → List FindLine → List Seen → Type 0
 IsEnough k shown files = (k - length shown ≡ 0) ⊎ (files ≡ [])
-
-pub lines_done : (k : ℕ) (shown : List FindLine) (files : List Seen) (lines : Seen → List FindLine) (all : List FindLine)
-    → IsEnough k shown files → shown ++ take (k - length shown) (flat_map lines files) ≡ all → shown ≡ all
-lines_done k shown files lines all enough is =
-    sym (append-nil shown) ∙ ap (λ (xs : List FindLine). shown ++ xs) (sym (nothing enough)) ∙ is where
-      nothing : IsEnough k shown files → take (k - length shown) (flat_map lines files) ≡ []
-      nothing (inl full) = ap (λ (n : ℕ). take n (flat_map lines files)) full
-      nothing (inr last) = ap (λ (fs : List Seen). take (k - length shown) (flat_map lines fs)) last ∙ none_of (k - length shown)
 
 pub none_to_show : (k : ℕ) (shown : List FindLine) (files : List Seen) (hits : Seen → ℕ) (text : Seen → List ReadRange)
     → IsEnough k shown files → texts_shown hits text (k - length shown) files ≡ []

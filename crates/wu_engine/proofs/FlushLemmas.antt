@@ -20,8 +20,7 @@ use Rattle.wu_parts.specs.Contents.{Contents, with_part, without_postings}
 use Rattle.wu_parts.specs.Flushing.{Flushes, Told}
 use Rattle.wu_parts.specs.Holdings.{HoldParts}
 use Rattle.wu_parts.specs.Memory.{HasPostings}
-use Rattle.wu_parts.specs.Units.{IsRunning}
-use Rattle.wu_parts.specs.Working.{Tells, TellsJobs, TellsParts}
+use Rattle.wu_parts.specs.Working.{Tells, TellsParts}
 use Rattle.wu_parts.proofs.KeptJobs.{tells_flushed}
 use Rattle.wu_engine.specs.Indexing.{FlushesFull, FlushesIfFull}
 use Rattle.wu_engine.specs.Records.{Records}
@@ -50,16 +49,12 @@ pub nothing_held : (holds : Option Content) (records : List PartRec) (directorie
     → IfSome holds (λ content. HoldParts content records directories [])
 nothing_held None records directories none no_directory = tt
 nothing_held (Some content) records directories none no_directory =
-    subst (λ (rs : List PartRec). HoldParts content rs directories []) (sym none)
-    (subst (λ (ds : List PartDirectory). HoldParts content [] ds []) (sym no_directory) tt)
+    rw (none, no_directory) tt
 
 pub no_job : (holds : Option Content) (contents : Contents) → contents.job ≡ None
     → IfSome holds (λ content. KeepsJob content first_layout contents)
 no_job None contents none = tt
-no_job (Some content) contents none = record {
-  same = subst (λ job. TellsJobs content [] job None) (sym none) tt;
-  running = subst (λ job. IfSome job (IsRunning contents.parts contents.directories)) (sym none) tt;
-}
+no_job (Some content) contents none = record { same = rw none tt; running = rw none tt }
 
 pub nothing_kept : (holds : Option Content) (kept : Kept) → kept.entries ≡ [] → IfSome holds (λ content. KeepsBlocks content 1 kept)
 nothing_kept None kept none = tt
@@ -182,9 +177,8 @@ module _ (fs : FileSystem) (space : Addresses) (parts : Contents) (files : Recor
       flushed_by [] is done =
           let next : State = with_layout s (flushed [] s.layout) in
           let told : IsStored before.0 (without_postings parts) next = still_stored before.0 stored in (
-            subst (λ (p : Contents). IsEngineOf fs space p files next) (sym done.0) (index_without is),
-            subst (λ (t : Told). IsStored t.0 parts_now next) (sym done.1)
-                (subst (λ (p : Contents). IsStored before.0 p next) (sym done.0) told),
+            rw done.0 (index_without is),
+            rw (done.1, done.0) told,
           )
       flushed_by (posting ∷ postings) is done =
           let next : State = with_layout s (flushed (posting ∷ postings) s.layout) in
@@ -193,15 +187,10 @@ module _ (fs : FileSystem) (space : Addresses) (parts : Contents) (files : Recor
           ∙ ap (λ (n : ℕ). option_map (with_blob n (Some done.bytes)) before.0) index.next_blob in
           let told : Tells (option_map (with_blob s.layout.blob (Some done.bytes)) before.0)
           (with_part done.recorded done.directory parts) next.layout =
-          subst (λ (o : Option Content). Tells o (with_part done.recorded done.directory parts) next.layout) holds
-          (subst (λ (p : Contents). Tells after.0 p next.layout) done.contents
-          (told_flushed (posting ∷ postings) parts_now before after stored done)) in (
-            subst (λ (p : Contents). IsEngineOf fs space p files next) (sym done.contents)
-                (index_with done.recorded done.directory done.bytes posting postings is),
-            subst (λ (o : Option Content). IsStored o parts_now next) (sym holds)
-                (subst (λ (p : Contents). IsStored (option_map (with_blob s.layout.blob (Some done.bytes)) before.0) p next)
-                (sym done.contents)
-                (stored_with done.recorded done.directory done.bytes posting postings before.0 stored told)),
+          rw (done.contents, holds) at (told_flushed (posting ∷ postings) parts_now before after stored done) in (
+            rw done.contents (index_with done.recorded done.directory done.bytes posting postings is),
+            rw (holds, done.contents)
+                (stored_with done.recorded done.directory done.bytes posting postings before.0 stored told),
           )
 
       -- the live postings are those of the state
@@ -227,8 +216,8 @@ module _ (fs : FileSystem) (space : Addresses) (parts : Contents) (files : Recor
           flushed_by (live_of (ranges_of s.layout.files) s.layout.memory) (flushed_kept s index.is_state)
           (subst (λ (kept : List Posting). Flushes kept parts parts_now before after) live_there done)
       by_fullness false done = (
-        subst (λ (p : Contents). IsEngineOf fs space p files s) (sym done.0) index,
-        subst (λ (t : Told). IsStored t.0 parts_now s) (sym done.1) (subst (λ (p : Contents). IsStored before.0 p s) (sym done.0) stored),
+        rw done.0 index,
+        rw (done.1, done.0) stored,
       )
 
       -- a flush that follows where memory is full

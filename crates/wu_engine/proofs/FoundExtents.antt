@@ -1,21 +1,20 @@
 -- The extents in a file's range, counted from its first address.
-use Rattle.std.proofs.Common.{◌≡◌, ℕ, zero, suc, ◌+◌, ◌-◌, ◌≤◌, List, [], ◌∷◌, length, take, map, min, refl, sym, ap, ap₂, ◌∙◌, subst, arith, append-nil}
+use Rattle.std.proofs.Common.{◌≡◌, ℕ, zero, suc, ◌+◌, ◌-◌, List, [], ◌∷◌, length, take, map, min, refl, sym, ap, ap₂, ◌∙◌, subst, arith, append-nil}
 use Rattle.std.specs.Prelude.{All}
 use Rattle.std.specs.List.{AllByRecursion}
 use Rattle.std.proofs.lemmas.List.{take-map, take_min}
-use Rattle.std.proofs.lemmas.List.Elements.{All-from_recursion, recursion_from_All}
+use Rattle.std.proofs.lemmas.List.Elements.{All-from_recursion}
 use Rattle.wu_base.specs.declared.addresses.Extent.{Extent}
 use Rattle.wu_base.specs.declared.addresses.TermList.{TermList}
 use Rattle.wu_gcl.specs.Extents.{hits}
 use Rattle.wu_gcl.specs.Regions.{Region}
 use Rattle.wu_image.specs.declared.records.FileRec.{FileRec}
-use Rattle.wu_snip.specs.Snippets.{IsAscending, IsBefore, IsWithin}
+use Rattle.wu_snip.specs.Snippets.{IsAscending, IsBefore}
 use Rattle.wu_solve.specs.Addresses.{stands_by}
 use Rattle.wu_solve.specs.Listing.{IsAscending as Ascend, IsBefore as Before}
 use Rattle.wu_solve.specs.Solving.{frame_hits, frames_hits, moved}
 use Rattle.wu_solve.proofs.Results.{hits_ascend, hits_in}
 use Rattle.wu_solve.proofs.Sets.{all_from}
-use Rattle.wu_token.specs.Tokens.{tokens_of}
 use Rattle.wu_engine.specs.Finding.{IsBelow, counted_from, extents_of}
 
 back : (start : ℕ) (x : Extent) → counted_from start (moved start x) ≡ x
@@ -60,7 +59,7 @@ first_ascend (suc n) [] up = tt
 first_ascend (suc n) (x ∷ xs) up = (first_all (IsBefore x) n xs (snips_before x xs up.0), first_ascend n xs up.1)
 
 -- What the extents that are shown of a file are: the first ones of its range, inside it, ascending.
-module _ (region : Region) (lists : List TermList) (file : FileRec) (left count : ℕ) (found shown : List Extent)
+module _ (region : Region) (lists : List TermList) (file : FileRec) (left : ℕ) {count : ℕ} {found shown : List Extent}
     (found_is : found ≡ frames_hits region lists (file.range ∷ [])) (count_is : count ≡ min (length found) left)
     (shown_is : shown ≡ map (counted_from file.range.start) (take count found)) where
   pub first_are : shown ≡ take left (extents_of region lists file)
@@ -80,12 +79,3 @@ module _ (region : Region) (lists : List TermList) (file : FileRec) (left count 
 
   pub first_rise : IsAscending shown
   first_rise = subst IsAscending (sym first_are) (first_ascend left (extents_of region lists file) (all_ascend region lists file))
-
--- they are extents of a text that has so many tokens, or more
-pub within_text : (text : List ℕ) (len : ℕ) (xs : List Extent) → len ≤ length (tokens_of text)
-    → All (IsBelow len) xs → All (IsWithin text) xs
-within_text text len xs long all =
-    All-from_recursion (IsWithin text) xs (each xs (recursion_from_All (IsBelow len) xs all)) where
-      each : (ys : List Extent) → AllByRecursion (IsBelow len) ys → AllByRecursion (IsWithin text) ys
-      each [] below = tt
-      each (y ∷ ys) below = ((below.0.0, omega (arith, below.0.1)), each ys below.1)

@@ -1,6 +1,6 @@
 -- What an engine records is sound when it is opened.
 use Rattle.std.proofs.Common.{◌≡◌, ◌≢◌, inl, inr, ⊎_elim, ℕ, ◌+◌, ◌<◌, ◌≤◌, ◌==◌, nat_lt, eqb, true, false, cond, List, [], ◌∷◌, length, map, filter, count_by, refl, ap, sym, ◌∙◌, subst, arith}
-use Rattle.std.specs.Prelude.{Option, Some, None, IfOk, IfSome, Result, zip}
+use Rattle.std.specs.Prelude.{Option, Some, None, IfSome, zip}
 use Rattle.std.specs.List.{AllByRecursion, IsDistinct}
 use Rattle.std.proofs.lemmas.Bool.{cases_eq, eq-eqb}
 use Rattle.wu_base.specs.declared.addresses.PartRec.{PartRec}
@@ -22,7 +22,6 @@ use Rattle.wu_image.specs.declared.records.FileRec.{FileRec}
 use Rattle.wu_image.specs.declared.roots.Root.{Root}
 use Rattle.wu_image.specs.LayoutRules.{AreLayoutRules, named_blobs}
 use Rattle.wu_engine.specs.declared.engines.Engine.{Engine}
-use Rattle.wu_engine.specs.declared.faults.BeginFault.{BeginFault}
 use Rattle.wu_engine.specs.Going.{Goes, HasSaved, IsSoundIn, IsSoundPart, IsSoundText, entries_of, entry_for}
 use Rattle.wu_engine.specs.Opened.{IsEngineFor, IsFirstEngine, numbered}
 use Rattle.wu_engine.specs.Opening.{HasCheckpoint, HasOpenRoot, HasRoot}
@@ -272,29 +271,21 @@ first_goes engine flush_at is before opened same content told =
     (nothing_sound content flush_at))
 
 -- and so does one of what was saved
-module _ (root : Root) (checkpoint : Checkpoint) (before between : Option Content) (same : between ≡ before) (records : List PartRec)
+module _ (root : Root) (checkpoint : Checkpoint) {before between : Option Content} (same : between ≡ before) {records : List PartRec}
     (recorded : records ≡ checkpoint.parts) (roomy : IfSome before (λ content. HasOpenRoot content root))
-    (has : IfSome before (λ content. HasCheckpoint content root checkpoint)) (parts : Contents) (flush_at : ℕ)
-    (first middle last : Option (List ReadRange))
+    (has : IfSome before (λ content. HasCheckpoint content root checkpoint)) {parts : Contents} {flush_at : ℕ}
+    {middle last : Option (List ReadRange)}
     (loaded : IsLoaded between records flush_at checkpoint.next_blob checkpoint.flushes middle last parts) where
-  pub saved_goes : (engine : Engine) → IsEngineFor root.checkpoint checkpoint parts engine → (after : Option Content) → after ≡ between
+  pub saved_goes : {engine : Engine} → IsEngineFor root.checkpoint checkpoint parts engine → {after : Option Content} → after ≡ between
       → (content : Content) → before ≡ Some content → Goes engine content after
-  saved_goes engine is after unchanged content told =
-      let load = its_load root checkpoint before between same records recorded roomy has parts flush_at first middle last loaded in
-      let found : HasOpenRoot content root = subst (λ (h : Option Content). IfSome h (λ held. HasOpenRoot held root)) told roomy in
-      let saved : HasCheckpoint content root checkpoint =
-      subst (λ (h : Option Content). IfSome h (λ held. HasCheckpoint held root checkpoint)) told has in
+  saved_goes {engine} is unchanged content told =
+      let load = its_load root checkpoint same recorded roomy has loaded in
+      let found : HasOpenRoot content root = rw told at roomy in
+      let saved : HasCheckpoint content root checkpoint = rw told at has in
       let opened : AreOpened (Some content) checkpoint.parts parts.directories load.read =
       subst (λ (h : Option Content). AreOpened h checkpoint.parts parts.directories load.read) told load.opened in
-      subst (Goes engine content) (sym (unchanged ∙ same ∙ told))
+      rw (unchanged ∙ same ∙ told)
       (at_first engine content (numbered checkpoint.files)
       (loaded_contents checkpoint.parts parts.directories flush_at checkpoint.next_blob checkpoint.flushes) root.checkpoint is.goes_on
       is.files (is.parts_kept ∙ load.kept) is.of_blob refl refl
       (saved_sound content root found.has checkpoint saved parts.directories load.read flush_at opened))
-
--- what was opened is what the store held at first
-pub begins_going : (before opened after : Option Content) → opened ≡ before → (r : Result Engine BeginFault)
-    → IfOk r (λ engine. (content : Content) → opened ≡ Some content → Goes engine content after)
-    → IfOk r (λ engine. (content : Content) → before ≡ Some content → Goes engine content after)
-begins_going before opened after same r h =
-    subst (λ (o : Option Content). IfOk r (λ engine. (content : Content) → o ≡ Some content → Goes engine content after)) same h

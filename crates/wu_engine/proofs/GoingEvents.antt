@@ -23,7 +23,8 @@ use Rattle.wu_parts.specs.Memory.{HasPostings, Memory, emptied}
 use Rattle.wu_parts.specs.Units.{bare, bares}
 use Rattle.wu_parts.proofs.HeldParts.{put_there}
 use Rattle.wu_parts.proofs.RunningJobs.{running_more, zip-append}
-use Rattle.wu_engine.specs.Going.{IsSoundIn, IsSoundJob, IsSoundOver, IsSoundPart, entries_of}
+use Rattle.wu_engine.specs.declared.engines.Engine.{Engine}
+use Rattle.wu_engine.specs.Going.{Goes, IsSoundIn, IsSoundJob, IsSoundOver, IsSoundPart, entries_of}
 use Rattle.wu_engine.specs.Indexing.{Follows, FlushesIfFull, catalog_of, drawn_for, is_stored, stored_at, terms_after, without_file}
 use Rattle.wu_engine.specs.Records.{Records, recorded_ranges}
 use Rattle.wu_engine.proofs.GoingBlobs.{sound_after_put}
@@ -41,6 +42,20 @@ pub record HasSome (next : ℕ) (memory : Memory) : Type 0 where
   pub postings : List Posting
   pub has : HasPostings low high memory postings
 
+-- with them in memory an engine goes on, where the rest is sound
+pub goes_with : {engine : Engine} {start : Content} {holds : Option Content} → engine.ended ≡ None
+    → HasSome engine.space.next engine.parts.memory → IsSoundOver start holds engine.files.entries engine.parts engine.checkpoint
+    → Goes engine start holds
+goes_with on some sound = record {
+  goes_on = on;
+  low = some.low;
+  high = some.high;
+  below = some.below;
+  postings = some.postings;
+  memory = some.has;
+  sound = sound;
+}
+
 emptied_has : (next : ℕ) (memory : Memory) → HasSome next (emptied memory)
 emptied_has next memory = record {
   low = 0;
@@ -52,8 +67,8 @@ emptied_has next memory = record {
 
 -- a flush leaves none
 pub has_none : (next : ℕ) (old new : Contents) → EmptiesMemory old new → HasSome next new.memory
-has_none next old new (inl none) = subst (λ (c : Contents). HasSome next c.memory) (sym none) (emptied_has next old.memory)
-has_none next old new (inr made) = subst (λ (c : Contents). HasSome next c.memory) (sym made.2) (emptied_has next old.memory)
+has_none next old new (inl none) = rw none (emptied_has next old.memory)
+has_none next old new (inr made) = rw made.2 (emptied_has next old.memory)
 
 -- ---- a part more
 
@@ -121,14 +136,12 @@ module _ (start : Content) (files : Records) (checkpoint : ℕ) where
       → IsSoundOver start after.0 files new checkpoint
   flush_told live old new before after done None e sound = absurd sound
   flush_told [] old new before after done (Some content) e sound =
-      subst (λ (o : Option Content). IsSoundOver start o files new checkpoint) (sym (ap (λ (t : Told). t.0) done.1 ∙ e))
-      (subst (λ (c : Contents). IsSoundIn start content files c checkpoint) (sym done.0) (without_sound content old sound))
+      rw (ap (λ (t : Told). t.0) done.1 ∙ e, done.0) (without_sound content old sound)
   flush_told (posting ∷ postings) old new before after done (Some content) e sound =
       let held : after.0 ≡ Some (with_blob old.next_blob (Some done.bytes) content) =
       ap (λ (t : Told). t.0) done.stored ∙ ap (λ (o : Option Content). option_map (with_blob old.next_blob (Some done.bytes)) o) e in
-      subst (λ (o : Option Content). IsSoundOver start o files new checkpoint) (sym held)
-      (subst (λ (c : Contents). IsSoundIn start (with_blob old.next_blob (Some done.bytes) content) files c checkpoint) (sym done.contents)
-      (part_sound content old done.recorded done.directory _ done.bytes done.record_of.blob done.told done.spelled sound))
+      rw (held, done.contents)
+      (part_sound content old done.recorded done.directory _ done.bytes done.record_of.blob done.told done.spelled sound)
 
 pub flush_sound : (start : Content) (files : Records) (checkpoint : ℕ) (live : List Posting) (old new : Contents) (before after : Told)
     → Flushes live old new before after → IsSoundOver start before.0 files old checkpoint → IsSoundOver start after.0 files new checkpoint
@@ -164,11 +177,10 @@ full_sound : (start : Content) (files : Records) (checkpoint : ℕ) (full : Bool
 full_sound start files checkpoint true live old new before after done sound =
     flush_sound start files checkpoint live old new before after done sound
 full_sound start files checkpoint false live old new before after done sound =
-    subst (λ (t : Told). IsSoundOver start t.0 files new checkpoint) (sym done.1)
-    (subst (λ (c : Contents). IsSoundOver start before.0 files c checkpoint) (sym done.0) sound)
+    rw (done.1, done.0) sound
 
 full_has : (next : ℕ) (old new : Contents) → (new ≡ old) ⊎ EmptiesMemory old new → HasSome next old.memory → HasSome next new.memory
-full_has next old new (inl same) has = subst (λ (c : Contents). HasSome next c.memory) (sym same) has
+full_has next old new (inl same) has = rw same has
 full_has next old new (inr done) has = has_none next old new done
 
 module _ (start : Content) (checkpoint : ℕ) (effect : Effect) (text : List ℕ) (space space_now : Addresses) (files files_now : Records)

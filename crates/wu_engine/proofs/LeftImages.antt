@@ -55,36 +55,37 @@ pub changed_once : {X : Type 0} (step : ℕ → Option (List ℕ) → X → X) (
     → (written : Option (List ℕ)) × MayDo (step blob written) old new → MayChange step low high 1 old new
 changed_once step low high blob old new l h may = (old, blob, may.0, refl, (l, h), may.1)
 
-pub changed_first : {X : Type 0} (step : ℕ → Option (List ℕ) → X → X) (low high blob : ℕ) (old new : Option X) → low ≤ blob → blob < high
+pub changed_first : {X : Type 0} (step : ℕ → Option (List ℕ) → X → X) (low high blob : ℕ) {old new : Option X} → low ≤ blob → blob < high
     → (written : Option (List ℕ)) × MayDo (step blob written) old new → MayChange step low high 2 old new
-changed_first step low high blob old new l h may = (new, blob, None, changed_once step low high blob old new l h may, (l, h), inl refl)
+changed_first step low high blob {old} {new} l h may =
+    (new, blob, None, changed_once step low high blob old new l h may, (l, h), inl refl)
 
-pub changed_twice : {X : Type 0} (step : ℕ → Option (List ℕ) → X → X) (low high first second : ℕ) (old between new : Option X)
+pub changed_twice : {X : Type 0} (step : ℕ → Option (List ℕ) → X → X) (low high first second : ℕ) {old between new : Option X}
     → low ≤ first → first < high → low ≤ second → second < high
     → (written : Option (List ℕ)) × MayDo (step first written) old between
     → (written : Option (List ℕ)) × MayDo (step second written) between new → MayChange step low high 2 old new
-changed_twice step low high first second old between new l h l2 h2 one two =
+changed_twice step low high first second {old} {between} l h l2 h2 one two =
     (between, second, two.0, changed_once step low high first old between l h one, (l2, h2), two.1)
 
 -- ---- an engine's calls
 
-module _ (old : Engine) (holds : Option Content) (s last : State) (before after : Option Moments) (stands : Stands old holds s)
+module _ {old : Engine} {holds : Option Content} {s last : State} {before : Option Moments} (stands : Stands old holds s)
     (saved : IsSavedLast before s last) where
   -- nothing was tried
-  pub still_left : after ≡ before → Leaves before after (IsImageOf last)
-  still_left same = kept before after (IsImageOf last) same saved.left
+  pub still_left : {after : Option Moments} → after ≡ before → Leaves before after (IsImageOf last)
+  still_left {after} same = kept before after (IsImageOf last) same saved.left
 
-  pub put_left : (written : Option (List ℕ))
+  pub put_left : {after : Option Moments} → (written : Option (List ℕ))
       × MayDo (try_change (Put old.parts.next_blob) (with_blob old.parts.next_blob written)) before after
       → Leaves before after (IsImageOf last)
-  put_left may =
+  put_left {after} may =
       tried_put before after old.parts.next_blob (IsImageOf last)
       (image_ignores last old.parts.next_blob (omega (arith, saved.below, stands.index.next_blob))) may saved.left
 
-  pub puts_left : (high n : ℕ)
+  pub puts_left : (high n : ℕ) (after : Option Moments)
       → MayChange (λ blob written. try_change (Put blob) (with_blob blob written)) old.parts.next_blob high n before after
       → Leaves before after (IsImageOf last)
-  puts_left high n may =
+  puts_left high n after may =
       tried_puts old.parts.next_blob high n before after last may (omega (arith, saved.below, stands.index.next_blob)) saved.left
 
 -- ---- an opening
@@ -93,9 +94,6 @@ pub opened_left : (old new : Option Moments) → new ≡ option_map settle old �
 opened_left old new settled =
     let ended : Result ℕ ℕ = Ok 0 in
     sync_leaves old new ended (IsLeft old) settled (left_now old)
-
-pub unopened_left : (old new : Option Moments) → new ≡ old → Leaves old new (IsLeft old)
-unopened_left old new same = kept old new (IsLeft old) same (left_now old)
 
 -- after the sync of an image only images are left
 pub opened_durable : (holds : Option Content) (old new : Option Moments) → AreAlike holds old → new ≡ option_map settle old

@@ -32,7 +32,6 @@ pub mod WholeFiles
 pub mod FileUnits
 pub mod CountLemmas
 pub mod RankLemmas
-pub mod RankedAnswers
 pub mod AnswerLemmas
 pub mod Searching
 pub mod ReadCauses

@@ -6,7 +6,7 @@ use Rattle.std.specs.Ordering.{nat_cmp}
 use Rattle.std.specs.List.Sorted.{IsStrictlySortedBy}
 use Rattle.std.specs.Map.{keys_of}
 use Rattle.std.specs.BTreeMap.{is_at, insert_entry}
-use Rattle.std.proofs.lemmas.Bool.{cases_eq, cases_lt, eq-eqb, false≢true, ne_eqb}
+use Rattle.std.proofs.lemmas.Bool.{cases_eq, cases_lt, false≢true}
 use Rattle.std.proofs.lemmas.Map.{none_passes_from_lookup}
 use Rattle.wu_base.proofs.MapEntries.{counted-insert_entry}
 use Rattle.wu_outside.specs.Content.{Content}
@@ -30,6 +30,7 @@ use Rattle.wu_engine.specs.Saving.{AreRemoved, checkpoint_blob, removed_by_save}
 use Rattle.wu_engine.specs.States.{State, IsState, after_event, flushed_state, indexed, layout_after, layout_with, layout_without, saved_state, worked_state}
 use Rattle.wu_engine.proofs.FileChanges.{ChangesFiles, changes}
 use Rattle.wu_engine.proofs.KeptStates.{after_cases}
+use Rattle.wu_engine.proofs.SavedContents.{checkpoint_count}
 use Rattle.wu_engine.proofs.StateLayouts.{left_kept, made_absent, made_kept}
 
 -- ---- what names a blob
@@ -372,14 +373,6 @@ kept_by_save [] layout number named = omega (arith, named)
 kept_by_save (posting ∷ postings) layout number named =
     let part : Part = record { blob = layout.blob; generation = 0; postings = posting ∷ postings } in
     omega (arith, named, count-append (λ (p : Part). p.blob == number) layout.parts (part ∷ []))
-
--- the checkpoint's number, if there is one
-checkpoint_count : (check number : ℕ) → 0 < number → count_by (λ other. other == number) (checkpoint_blob check) ≡ once check number
-checkpoint_count check number l =
-    ⊎_elim
-    (λ e. rw (eq-eqb check 0 e) (sym (once_other check number (λ same. omega arith))))
-    (λ h. rw (ne_eqb check 0 h) (omega (arith, count-cons (λ (other : ℕ). other == number) check [])))
-    (cases_eq check 0)
 
 -- what is removed is absent
 removed_absent : (content : Content) (gone : List ℕ) (number : ℕ) → AllByRecursion (λ blob. content.blobs blob ≡ None) gone

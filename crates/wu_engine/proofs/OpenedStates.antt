@@ -1,6 +1,6 @@
 -- What is found at opening, and the state that an engine stands for then.
 use Rattle.std.proofs.Common.{◌≡◌, ℕ, ◌<◌, true, false, cond, nat_le, List, [], ◌∷◌, ◌++◌, length, refl, ap, sym, ◌∙◌, subst, arith, ◌⊎◌, inl, inr, ⊎_elim}
-use Rattle.std.specs.Prelude.{Option, Some, None, IfErr, IfNone, IfOk, IfSome, IsErrAnd, OnErr, OnOk, Result, Ok, Err, option_map}
+use Rattle.std.specs.Prelude.{Option, Some, None, IfErr, IfNone, IfSome, IsErrAnd, OnErr, OnOk, Result, Ok, Err, option_map}
 use Rattle.std.specs.Ordering.{is_eq, nat_cmp}
 use Rattle.std.specs.List.{AllByRecursion, AllZip}
 use Rattle.std.proofs.lemmas.Bool.{leb-false}
@@ -15,23 +15,18 @@ use Rattle.wu_layout.specs.Postings.{Posting, addresses_of}
 use Rattle.wu_tree.specs.FileSystems.{FileSystem}
 use Rattle.wu_tree.proofs.ParentPaths.{same_number}
 use Rattle.wu_space.specs.Addresses.{Addresses, Ranges}
-use Rattle.wu_lists.specs.declared.blocks.Block.{Block}
-use Rattle.wu_lists.specs.Blocks.{bytes_of}
 use Rattle.wu_lists.specs.Keeping.{Kept}
 use Rattle.wu_lists.proofs.Asking.{ranges-none}
 use Rattle.wu_part.specs.Directories.{PartDirectory}
 use Rattle.wu_parts.specs.Contents.{Contents}
-use Rattle.wu_parts.specs.Holdings.{HoldParts}
 use Rattle.wu_parts.specs.Memory.{held}
 use Rattle.wu_parts.specs.Loading.{AreOpened, IsFirstBroken, IsFrontOf, IsLoaded, ReadsFronts, loaded_contents}
-use Rattle.wu_parts.specs.Units.{IsRunning}
-use Rattle.wu_parts.specs.Working.{TellsJobs}
 use Rattle.wu_image.specs.declared.checkpoints.Checkpoint.{Checkpoint}
 use Rattle.wu_image.specs.declared.records.FileRec.{FileRec}
 use Rattle.wu_image.specs.declared.roots.Root.{Root}
 use Rattle.wu_image.specs.Breakage.{IsBrokenCheckpoint, IsBrokenRoot}
 use Rattle.wu_image.specs.Checkpoints.{SpellsCheckpoint}
-use Rattle.wu_image.specs.Images.{HasSaved, HoldsPart, HoldsText, IsCheckpointOf, IsFirst, IsImage, IsSaved}
+use Rattle.wu_image.specs.Images.{HasSaved, HoldsText, IsCheckpointOf, IsFirst, IsImage, IsSaved}
 use Rattle.wu_image.proofs.ListedLemmas.{same_checkpoint}
 use Rattle.wu_image.proofs.RootLemmas.{same_root}
 use Rattle.wu_engine.specs.declared.engines.Engine.{Engine}
@@ -99,34 +94,6 @@ damage_cause holds before now blob same damaged =
     (λ other e. subst (λ (b : ℕ). IfSome holds (λ content. IsDamagedAtOpening content b)) (ap damaged_blob e) damaged)
 
 -- ---- the checkpoint
-
--- of what was found in the root's blob, what it is
-module _ (root : Root) (checkpoint : Checkpoint) where
-  checkpoint_there : (content : Content) → IsFoundIn root.size (content.blobs root.checkpoint) (Some checkpoint) → IsOf root checkpoint
-      → HasCheckpoint content root checkpoint
-  checkpoint_there content found own =
-      elim (content.blobs root.checkpoint) as
-      (λ o. content.blobs root.checkpoint ≡ o → IsFoundIn root.size o (Some checkpoint) → HasCheckpoint content root checkpoint) [
-        | None ↦ λ e h. absurd h
-        | Some bytes ↦ λ e h. record {
-          bytes = bytes;
-          held = e;
-          spelled = record {
-            size = h.0;
-            spelled = h.1;
-            next_address = own.next_address;
-            next_blob = own.next_blob;
-            of_no_text = own.of_no_text;
-            of_no_part = own.of_no_part;
-          };
-        }
-      ] refl found
-
-  pub checkpoint_found : (holds : Option Content)
-      → IfSome holds (λ content. IsFoundIn root.size (content.blobs root.checkpoint) (Some checkpoint)) → IsOf root checkpoint
-      → IfSome holds (λ content. HasCheckpoint content root checkpoint)
-  checkpoint_found None found own = tt
-  checkpoint_found (Some content) found own = checkpoint_there content found own
 
 none_of_it : (root : Root) (held : Option (List ℕ)) (found : Option Checkpoint) → IsFoundIn root.size held found
     → IfSome found (λ checkpoint. IsOf root checkpoint → ⊥) → IsBrokenCheckpoint root held
@@ -295,7 +262,7 @@ module _ (content : Content) (tree : FileSystem) (texts : Texts) (layout : Layou
   its_bytes = ap (λ (r : Root). content.blobs r.checkpoint) (sym root_is) ∙ saved.held
 
   its_spelling : IsCheckpointOf root saved.bytes saved.checkpoint
-  its_spelling = subst (λ (r : Root). IsCheckpointOf r saved.bytes saved.checkpoint) root_is saved.spelled
+  its_spelling = rw root_is at saved.spelled
 
   -- the checkpoint is the image's
   checkpoint_is : (checkpoint : Checkpoint) → HasCheckpoint content root checkpoint → saved.checkpoint ≡ checkpoint
@@ -338,8 +305,7 @@ pub first_stands : (engine : Engine) (flush_at : ℕ) → IsFirstEngine flush_at
     → IfSome holds (FindsRoot None) → (s : State) → HoldsImage holds s → Stands engine holds s
 first_stands engine flush_at is None none s image = absurd image
 first_stands engine flush_at is (Some content) none s image =
-    let first : IsFirst s.tree s.texts s.layout =
-    subst (λ (r : Option (List ℕ)). IsSaved content r s.tree s.texts s.layout) none image.1.saved in
+    let first : IsFirst s.tree s.texts s.layout = rw none at image.1.saved in
     record {
       goes_on = is.goes_on;
       index = record {
@@ -355,14 +321,13 @@ first_stands engine flush_at is (Some content) none s image =
         stored = ap (λ (p : Contents). p.memory.stored) is.parts ∙ sym (ap (λ (l : Layout). length l.memory) first.layout_empty);
         flushes = ap (λ (p : Contents). p.flushes) is.parts ∙ sym (ap (λ l. l.flushes) first.layout_empty);
       };
-      texts = subst (λ (l : Layout). HoldsTexts (Some content) s.texts l.files) (sym first.layout_empty)
-          (subst (λ (t : Texts). HoldsTexts (Some content) t []) (sym first.no_texts) (λ ino. tt));
-      parts = subst (λ (l : Layout). HoldParts content engine.parts.parts engine.parts.directories l.parts) (sym first.layout_empty)
+      texts = rw first.layout_empty (λ ino. tt);
+      parts = rw first.layout_empty
           (nothing_held (Some content) engine.parts.parts engine.parts.directories (ap (λ (p : Contents). p.parts) is.parts)
           (ap (λ (p : Contents). p.directories) is.parts));
-      job = subst (λ (l : Layout). KeepsJob content l engine.parts) (sym first.layout_empty)
+      job = rw first.layout_empty
           (no_job (Some content) engine.parts (ap (λ (p : Contents). p.job) is.parts));
-      kept = subst (λ (l : Layout). KeepsBlocks content l.blob engine.parts.kept) (sym first.layout_empty)
+      kept = rw first.layout_empty
           (nothing_kept (Some content) engine.parts.kept (ap (λ (p : Contents). p.kept.entries) is.parts));
       check = is.checkpoint ∙ sym (ap (λ l. l.check) first.layout_empty);
     }
@@ -370,18 +335,10 @@ first_stands engine flush_at is (Some content) none s image =
 -- no job on either side
 resting : (content : Content) (layout : Layout) (contents : Contents) → contents.job ≡ None → layout.job ≡ None
     → KeepsJob content layout contents
-resting content layout contents none rests = record {
-  same = subst (λ job. TellsJobs content layout.parts contents.job job) (sym rests)
-      (subst (λ job. TellsJobs content layout.parts job None) (sym none) tt);
-  running = subst (λ job. IfSome job (IsRunning contents.parts contents.directories)) (sym none) tt;
-}
+resting content layout contents none rests = record { same = rw (rests, none) tt; running = rw none tt }
 
 none_kept : (content : Content) (next : ℕ) (kept : Kept) → kept.entries ≡ [] → KeepsBlocks content next kept
-none_kept content next kept none = record {
-  below = subst (AllByRecursion (λ (entry : Block × List ℕ). entry.0.blob < next)) (sym none) tt;
-  same = λ blob bytes there.
-      subst (AllByRecursion (λ (entry : Block × List ℕ). entry.0.blob ≡ blob → entry.1 ≡ bytes_of entry.0 bytes)) (sym none) tt;
-}
+none_kept content next kept none = record { below = rw none tt; same = λ blob bytes there. rw none tt }
 
 module _ (engine : Engine) (root : Root) (checkpoint : Checkpoint) (parts : Contents) (flush_at : ℕ) (read : List ReadRange)
     (is : IsEngineFor root.checkpoint checkpoint parts engine)
@@ -419,9 +376,8 @@ module _ (engine : Engine) (root : Root) (checkpoint : Checkpoint) (parts : Cont
           flushes = ap (λ (p : Contents). p.flushes) parts_are ∙ (ap (λ (c : Checkpoint). c.flushes) same ∙ its.flushes);
         };
         texts = texts_there content s.texts s.layout.files its.checkpoint.files its.files;
-        parts = subst (λ (p : Contents). HoldParts content p.parts p.directories s.layout.parts) (sym parts_are)
-            (opened_held content checkpoint.parts parts.directories read s.layout.parts opened
-            (subst (λ (c : Checkpoint). AllZip (HoldsPart content) s.layout.parts c.parts) (sym same) its.parts));
+        parts = rw parts_are
+            (opened_held content checkpoint.parts parts.directories read s.layout.parts opened (rw same its.parts));
         job = resting content s.layout engine.parts (ap (λ (p : Contents). p.job) parts_are) image.1.job;
         kept = none_kept content s.layout.blob engine.parts.kept (ap (λ (p : Contents). p.kept.entries) parts_are);
         check = is.of_blob ∙ (ap (λ (r : Root). r.checkpoint) named ∙ its.check);
@@ -448,38 +404,33 @@ pub checkpoint_read : (holds : Option Content) (root : Root) (buffer given : Lis
     → IfSome holds (λ content. IsFoundIn root.size (content.blobs root.checkpoint) found)
 checkpoint_read None root buffer given found e there long spelled none = tt
 checkpoint_read (Some content) root buffer given found e there long spelled none =
-    subst (λ (o : Option (List ℕ)). IsFoundIn root.size o found) (sym (there ∙ ap (λ (b : List ℕ). Some b) (sym e)))
+    rw (there ∙ ap (λ (b : List ℕ). Some b) (sym e))
     (found_in root given found (ap length e ∙ long) spelled none)
 
 -- ---- after the checkpoint was read
 
-module _ (root : Root) (checkpoint : Checkpoint) (before between : Option Content) (same : between ≡ before) (records : List PartRec)
+module _ (root : Root) (checkpoint : Checkpoint) {before between : Option Content} (same : between ≡ before) {records : List PartRec}
     (recorded : records ≡ checkpoint.parts) (roomy : IfSome before (λ content. HasOpenRoot content root))
     (has : IfSome before (λ content. HasCheckpoint content root checkpoint)) where
   pub opening_reads : (first middle last : Option (List ReadRange)) → ReadsCheckpoint root first middle
       → ReadsFronts between records middle last → ReadsAtOpening before first last
   opening_reads first middle last read fronts =
-      reads_fronts root checkpoint before first middle last roomy has read
-      (subst (λ (h : Option Content). ReadsFronts h checkpoint.parts middle last) same
-      (subst (λ (rs : List PartRec). ReadsFronts between rs middle last) recorded fronts))
+      reads_fronts root checkpoint before first middle last roomy has read (rw (recorded, same) at fronts)
 
-  module _ (parts : Contents) (flush_at : ℕ) (first middle last : Option (List ReadRange))
+  module _ {parts : Contents} {flush_at : ℕ} {middle last : Option (List ReadRange)}
       (loaded : IsLoaded between records flush_at checkpoint.next_blob checkpoint.flushes middle last parts) where
     pub its_load : IsLoaded before checkpoint.parts flush_at checkpoint.next_blob checkpoint.flushes middle last parts
-    its_load =
-        subst (λ (h : Option Content). IsLoaded h checkpoint.parts flush_at checkpoint.next_blob checkpoint.flushes middle last parts) same
-        (subst (λ (rs : List PartRec). IsLoaded between rs flush_at checkpoint.next_blob checkpoint.flushes middle last parts) recorded
-        loaded)
+    its_load = rw (recorded, same) at loaded
 
-    pub opening_done : ReadsCheckpoint root first middle → IsOpen before first last
-    opening_done read =
+    pub opening_done : (first : Option (List ReadRange)) → ReadsCheckpoint root first middle → IsOpen before first last
+    opening_done first read =
         opens_saved root checkpoint before first middle last parts.directories its_load.read roomy has read its_load.opened
         its_load.read_are
 
-    pub opening_stands : (engine : Engine) → IsEngineFor root.checkpoint checkpoint parts engine → (after : Option Content)
+    pub opening_stands : {engine : Engine} → IsEngineFor root.checkpoint checkpoint parts engine → {after : Option Content}
         → after ≡ between → (s : State) → HoldsImage before s → Stands engine after s
-    opening_stands engine is after unchanged s image =
-        subst (λ (h : Option Content). Stands engine h s) (sym (unchanged ∙ same))
+    opening_stands {engine} is unchanged s image =
+        rw (unchanged ∙ same)
         (saved_stands engine root checkpoint parts flush_at its_load.read is its_load.kept before roomy has its_load.opened s image)
 
 -- ---- an opening, whole
@@ -497,37 +448,6 @@ on_any_ok P (Err e) p = tt
 pub on_any_err : {T E : Type 0} (P : Type 0) (r : Result T E) → P → OnErr r P
 on_any_err P (Ok x) p = tt
 on_any_err P (Err e) p = p
-
--- the root was read of what the store held at first
-module _ (before opened : Option Content) (same : opened ≡ before) where
-  pub begins_first : (engine : Engine) (flush_at : ℕ) → IsFirstEngine flush_at engine → IfSome before (FindsRoot None) → (s : State)
-      → HoldsImage before s → Stands engine opened s
-  begins_first engine flush_at is none s image =
-      subst (λ (h : Option Content). Stands engine h s) (sym same) (first_stands engine flush_at is before none s image)
-
-  module _ (r : Result Engine BeginFault) where
-    pub begins_saved : (after : Option Content) → IfOk r (λ engine. (s : State) → HoldsImage opened s → Stands engine after s)
-        → IfOk r (λ engine. (s : State) → HoldsImage before s → Stands engine after s)
-    begins_saved after h =
-        subst (λ (o : Option Content). IfOk r (λ engine. (s : State) → HoldsImage o s → Stands engine after s)) same h
-
-    pub begins_open : (first middle last : Option (List ReadRange)) → middle ≡ first → OnOk r (IsOpen opened middle last)
-        → OnOk r (IsOpen before first last)
-    begins_open first middle last unread h =
-        subst (λ (o : Option Content). OnOk r (IsOpen o first last)) same
-        (subst (λ (m : Option (List ReadRange)). OnOk r (IsOpen opened m last)) unread h)
-
-    pub begins_cause : (first middle last : ℕ) → middle ≡ first → IfErr r (IsBeginCause opened middle last)
-        → IfErr r (IsBeginCause before first last)
-    begins_cause first middle last calm h =
-        subst (λ (o : Option Content). IfErr r (IsBeginCause o first last)) same
-        (subst (λ (n : ℕ). IfErr r (IsBeginCause opened n last)) calm h)
-
-  pub begins_reads : (first middle last : Option (List ReadRange)) → middle ≡ first → ReadsAtOpening opened middle last
-      → ReadsAtOpening before first last
-  begins_reads first middle last unread h =
-      subst (λ (o : Option Content). ReadsAtOpening o first last) same
-      (subst (λ (m : Option (List ReadRange)). ReadsAtOpening opened m last) unread h)
 
 -- ---- a root that couldn't be opened
 

@@ -60,9 +60,9 @@ one_or_none true = omega arith
 one_or_none false = omega arith
 
 -- a blob was drawn where a text is stored, and then other things changed
-pub drawn_once : (file : Option ℕ) (text : List ℕ) (old between now : Contents) → between ≡ drawn_for file text old → KeepsParts between now
-    → IsDrawn old now
-drawn_once file text old between now drawn kept =
+pub drawn_once : (file : Option ℕ) (text : List ℕ) (old : Contents) {between now : Contents} → between ≡ drawn_for file text old
+    → KeepsParts between now → IsDrawn old now
+drawn_once file text old {now = now} drawn kept =
     let next : now.next_blob ≡ old.next_blob + cond {A = ℕ} (is_stored file text) 1 0 =
     ap (λ (c : Contents). c.next_blob) kept ∙ ap (λ (c : Contents). c.next_blob) drawn in
     let flushes : now.flushes ≡ old.flushes = ap (λ (c : Contents). c.flushes) kept ∙ ap (λ (c : Contents). c.flushes) drawn in
@@ -72,17 +72,17 @@ drawn_once file text old between now drawn kept =
       flushes = flushes;
     }
 
-pub others_twice : (old now : Contents) (before between after : Option Content) → IsDrawn old now
+pub others_twice : {old now : Contents} {before between : Option Content} (after : Option Content) → IsDrawn old now
     → (written : Option (List ℕ)) × MayDo (with_blob old.next_blob written) before between
     → KeepsOthers now.next_blob (now.next_blob + 1) between after → KeepsOthers old.next_blob (old.next_blob + 2) before after
-others_twice old now before between after drawn first second =
+others_twice {old} {now} {before} {between} after drawn first second =
     others_then old.next_blob (old.next_blob + 2) before between after
     (others_put old.next_blob (old.next_blob + 2) old.next_blob before between (omega arith) (omega arith) first)
     (others_wider now.next_blob (now.next_blob + 1) old.next_blob (old.next_blob + 2) between after drawn.least
     (omega (arith, drawn.most)) second)
 
-pub others_once : (old : Contents) (before after : Option Content)
+pub others_once : (old : Contents) {before after : Option Content}
     → (written : Option (List ℕ)) × MayDo (with_blob old.next_blob written) before after
     → KeepsOthers old.next_blob (old.next_blob + 2) before after
-others_once old before after first =
+others_once old {before} {after} first =
     others_put old.next_blob (old.next_blob + 2) old.next_blob before after (omega arith) (omega arith) first

@@ -21,7 +21,6 @@ use Rattle.wu_part.specs.Directories.{PartDirectory}
 use Rattle.wu_lists.specs.declared.blocks.Block.{Block}
 use Rattle.wu_lists.specs.Blocks.{blocks_of, meets, needed, overlaps, range_of}
 use Rattle.wu_lists.specs.Keeping.{Asks, Kept, all_missing, asked, is_same, missing}
-use Rattle.wu_lists.proofs.Asking.{ranges-none}
 use Rattle.wu_view.specs.declared.Seen.{Seen}
 use Rattle.wu_view.specs.Views.{view_of as files_of}
 use Rattle.wu_space.specs.Addresses.{Ranges, range_of as live_range_of}
@@ -46,21 +45,12 @@ pub reads_joined : (ranges : Option (List ReadRange)) (xs ys : List ReadRange)
 reads_joined None xs ys = refl
 reads_joined (Some earlier) xs ys = ap (λ (rs : List ReadRange). Some rs) (append_assoc earlier xs ys)
 
--- reading only such ranges, twice
-pub only_then : (MayRead : ReadRange → Type 0) (first second third : Option (List ReadRange)) → ReadsOnly MayRead first second
-    → ReadsOnly MayRead second third → ReadsOnly MayRead first third
-only_then MayRead first second third a b = (
-  a.0 ++ b.0,
-  each-append MayRead a.0 b.0 a.1 b.1,
-  b.2 ∙ ap (option_map (λ (earlier : List ReadRange). earlier ++ b.0)) a.2 ∙ reads_joined first a.0 b.0,
-)
-
 -- where each range of one kind is of another too, what reads only ranges of the one reads only ranges of the other
 pub only_of : (Fewer More : ReadRange → Type 0) (before after : Option (List ReadRange)) → ((range : ReadRange) → Fewer range → More range)
     → ReadsOnly Fewer before after → ReadsOnly More before after
 only_of Fewer More before after more only = (only.0, each-map Fewer More only.0 more only.1, only.2)
 
--- a query may read blocks alone, and nothing
+-- a query may read blocks alone
 blocks_alone : (s : State) (uid : ℕ) (question : Question) (before after : Option (List ReadRange))
     → ReadsOnly (IsBlockForQuery s uid question) before after → ReadsSuch (AreReadForQuery s uid question) before after
 blocks_alone s uid question before after only = (
@@ -75,10 +65,6 @@ blocks_alone s uid question before after only = (
   },
   only.2,
 )
-
-pub nothing_permitted : (s : State) (uid : ℕ) (question : Question) (reads : Option (List ReadRange))
-    → ReadsSuch (AreReadForQuery s uid question) reads reads
-nothing_permitted s uid question reads = blocks_alone s uid question reads reads ([], tt, ranges-none reads)
 
 -- ---- blocks that are asked for
 
@@ -118,13 +104,13 @@ module _ (contents : Contents) (frames : List Range) (terms : List (List ℕ)) (
       (all_unmap range_of (IsOneOf blocks) blocks (each_one blocks))
 
   -- fetching the terms reads only blocks of theirs
-  asked_only : (kept : Kept) → Asks blocks holds contents.kept kept before after → ReadsOnly (IsOneOf blocks) before after
-  asked_only kept asks = (map range_of unkept, all_map range_of (IsOneOf blocks) unkept unkept_there, asks.read)
+  asked_only : {kept : Kept} → Asks blocks holds contents.kept kept before after → ReadsOnly (IsOneOf blocks) before after
+  asked_only asks = (map range_of unkept, all_map range_of (IsOneOf blocks) unkept unkept_there, asks.read)
 
   -- where fetching them fails too
-  failed_only : (faults now : ℕ) (trouble : Trouble) → IsCauseFor contents frames terms holds faults now before after trouble
+  failed_only : {faults now : ℕ} {trouble : Trouble} → IsCauseFor contents frames terms holds faults now before after trouble
       → ReadsOnly (IsOneOf blocks) before after
-  failed_only faults now trouble cause = (
+  failed_only cause = (
     map range_of cause.added,
     all_map range_of (IsOneOf blocks) cause.added
         (each_left IsThere cause.added cause.unread (subst (AllByRecursion IsThere) cause.front unkept_there)),
@@ -215,33 +201,32 @@ module _ (frames : Frames) (live : Ranges) (s : State) (uid : ℕ) (is : Indexes
       in_terms content range contents tells.parts (terms_asked question) one
 
   module _ (contents : Contents) (holds : Option Content) (tells : TellsPostings contents holds s) (question : Question)
-      (terms : List (List ℕ)) (same : terms ≡ terms_asked question) (before after : Option (List ReadRange)) where
+      {terms : List (List ℕ)} (same : terms ≡ terms_asked question) (before after : Option (List ReadRange)) where
     blocks_permitted : ReadsOnly (IsOneOf (blocks_for contents frames.ranges terms)) before after
         → ReadsOnly (IsBlockForQuery s uid question) before after
     blocks_permitted only =
         only_of (IsOneOf (blocks_for contents frames.ranges (terms_asked question))) (IsBlockForQuery s uid question) before after
         (block_permitted contents holds tells question)
-        (subst (λ (ts : List (List ℕ)). ReadsOnly (IsOneOf (blocks_for contents frames.ranges ts)) before after) same only)
+        (rw same at only)
 
     -- fetching the question's terms reads only blocks that her query may read, also where it fails
-    pub asked_blocks : (kept : Kept) → Asks (blocks_for contents frames.ranges terms) holds contents.kept kept before after
+    pub asked_blocks : {kept : Kept} → Asks (blocks_for contents frames.ranges terms) holds contents.kept kept before after
         → ReadsOnly (IsBlockForQuery s uid question) before after
-    asked_blocks kept asks = blocks_permitted (asked_only contents frames.ranges terms holds before after kept asks)
+    asked_blocks asks = blocks_permitted (asked_only contents frames.ranges terms holds before after asks)
 
-    pub asked_permitted : (kept : Kept) → Asks (blocks_for contents frames.ranges terms) holds contents.kept kept before after
+    pub asked_permitted : {kept : Kept} → Asks (blocks_for contents frames.ranges terms) holds contents.kept kept before after
         → ReadsSuch (AreReadForQuery s uid question) before after
-    asked_permitted kept asks = blocks_alone s uid question before after (asked_blocks kept asks)
+    asked_permitted asks = blocks_alone s uid question before after (asked_blocks asks)
 
-    pub failed_permitted : (faults now : ℕ) (trouble : Trouble)
+    pub failed_permitted : {faults now : ℕ} {trouble : Trouble}
         → IsCauseFor contents frames.ranges terms holds faults now before after trouble
         → ReadsSuch (AreReadForQuery s uid question) before after
-    failed_permitted faults now trouble cause =
-        blocks_alone s uid question before after
-        (blocks_permitted (failed_only contents frames.ranges terms holds before after faults now trouble cause))
+    failed_permitted cause =
+        blocks_alone s uid question before after (blocks_permitted (failed_only contents frames.ranges terms holds before after cause))
 
     pub fetched_permitted : {T : Type 0} (r : Result T Trouble) (kept : Kept) (faults now : ℕ)
         → OnOk r (Asks (blocks_for contents frames.ranges terms) holds contents.kept kept before after)
         → IfErr r (IsCauseFor contents frames.ranges terms holds faults now before after)
         → ReadsSuch (AreReadForQuery s uid question) before after
-    fetched_permitted (Ok value) kept faults now asks cause = asked_permitted kept asks
-    fetched_permitted (Err trouble) kept faults now asks cause = failed_permitted faults now trouble cause
+    fetched_permitted (Ok value) kept faults now asks cause = asked_permitted asks
+    fetched_permitted (Err trouble) kept faults now asks cause = failed_permitted cause

@@ -17,7 +17,7 @@ use Rattle.wu_lists.specs.Keeping.{Asks, Kept}
 use Rattle.wu_lists.proofs.Asking.{ranges-none}
 use Rattle.wu_parts.specs.Contents.{Contents}
 use Rattle.wu_engine.specs.Causes.{IsDamagedOver}
-use Rattle.wu_engine.specs.Asked.{blocks_for, blocks_read, terms_asked}
+use Rattle.wu_engine.specs.Asked.{blocks_for, terms_asked}
 use Rattle.wu_engine.specs.Finding.{AreTextsOf, IsCause, KeepsTexts}
 use Rattle.wu_engine.specs.Reads.{AreTexts, ReadsForQuery, ReadsInTurn, texts_read}
 use Rattle.wu_engine.specs.Records.{Records}
@@ -44,10 +44,10 @@ blocks_alone question blocks frames contents files holds old new before after no
 
 -- what a fetch answers is damage that the question may find
 pub cause_fetched : (frames : Frames) (question : Question) (contents : Contents) (files : Records) (holds : Option Content)
-    (terms : List (List ℕ)) → terms ≡ terms_asked question → (before now : ℕ) (ranges ranges_now : Option (List ReadRange))
-    (trouble : Trouble) → IsCauseFor contents frames.ranges terms holds before now ranges ranges_now trouble
+    {terms : List (List ℕ)} → terms ≡ terms_asked question → {before now : ℕ} {ranges ranges_now : Option (List ReadRange)}
+    {trouble : Trouble} → IsCauseFor contents frames.ranges terms holds before now ranges ranges_now trouble
     → IsCause (IsDamagedOver frames question contents files holds) before now trouble
-cause_fetched frames question contents files holds terms same before now ranges ranges_now trouble cause = record {
+cause_fetched frames question contents files holds same cause = record {
   kept = cause.counted;
   store_fault = cause.store_fault;
   calm = cause.calm;
@@ -55,8 +55,7 @@ cause_fetched frames question contents files holds terms same before now ranges 
       let IsThere : Block → Type 0 = λ block. block.blob ≡ blob in
       let found = cause.damaged blob h in
       inl (
-        subst (λ (ts : List (List ℕ)). SomeOf IsThere (blocks_read contents frames.ranges ts)) same
-            (subst (SomeOf IsThere) (sym cause.front) (SomeOf-left IsThere cause.added cause.unread found.0)),
+        rw same at (subst (SomeOf IsThere) (sym cause.front) (SomeOf-left IsThere cause.added cause.unread found.0)),
         found.1,
       );
 }
@@ -86,26 +85,25 @@ reads_for fs live uid question contents kept files holds before after frames her
 
 -- ---- troubles of a query
 
--- want of memory, where no fault rose
-pub no_memory : (Broken : ℕ → Type 0) (faults : ℕ) → IsCause Broken faults faults NoMemory
-no_memory Broken faults = record {
+-- memory ran out, and no fault rose
+pub no_memory : {Broken : ℕ → Type 0} {faults : ℕ} → IsCause Broken faults faults NoMemory
+no_memory = record {
   kept = omega arith;
   store_fault = λ h. absurd (cc);
   calm = λ h. refl;
   damaged = λ blob h. absurd (cc);
 }
 
-module _ {T : Type 0} (r : Result T Trouble) (before now : ℕ) where
-  pub cause_of_memory : (Broken : ℕ → Type 0) → now ≡ before → IsErrAnd r (λ e. e ≡ NoMemory) → IfErr r (IsCause Broken before now)
-  cause_of_memory Broken calm is =
-      err_from (IsCause Broken before now) r NoMemory is
-      (subst (λ (n : ℕ). IsCause Broken before n NoMemory) (sym calm) (no_memory Broken before))
+module _ {T : Type 0} (r : Result T Trouble) where
+  pub cause_of_memory : (Broken : ℕ → Type 0) {before now : ℕ} → now ≡ before → IsErrAnd r (λ error. error ≡ NoMemory)
+      → IfErr r (IsCause Broken before now)
+  cause_of_memory Broken {before} {now} calm is = err_from (IsCause Broken before now) r NoMemory is (rw calm no_memory)
 
   -- a trouble of the fetch
   pub cause_of_fetch : (frames : Frames) (question : Question) (contents : Contents) (files : Records) (holds : Option Content)
-      (trouble : Trouble) → IsErrAnd r (λ e. e ≡ trouble) → (terms : List (List ℕ)) → terms ≡ terms_asked question
-      → (ranges ranges_now : Option (List ReadRange)) → IsCauseFor contents frames.ranges terms holds before now ranges ranges_now trouble
+      {trouble : Trouble} → IsErrAnd r (λ error. error ≡ trouble) → {terms : List (List ℕ)} → terms ≡ terms_asked question
+      → {before now : ℕ} {ranges ranges_now : Option (List ReadRange)}
+      → IsCauseFor contents frames.ranges terms holds before now ranges ranges_now trouble
       → IfErr r (IsCause (IsDamagedOver frames question contents files holds) before now)
-  cause_of_fetch frames question contents files holds trouble is terms same ranges ranges_now cause =
-      err_from (IsCause (IsDamagedOver frames question contents files holds) before now) r trouble is
-      (cause_fetched frames question contents files holds terms same before now ranges ranges_now trouble cause)
+  cause_of_fetch frames question contents files holds {trouble} is same cause =
+      err_from _ r trouble is (cause_fetched frames question contents files holds same cause)

@@ -1,21 +1,16 @@
 -- The engine stands for the same state after a query.
-use Rattle.std.proofs.Common.{◌≡◌, ℕ, List, refl, sym, ◌∙◌, subst}
+use Rattle.std.proofs.Common.{◌≡◌, ℕ, List, refl, ◌∙◌}
 use Rattle.std.specs.Prelude.{Option, Some, None, IfSome, IsSome}
 use Rattle.wu_outside.specs.Content.{Content}
 use Rattle.wu_outside.specs.declared.ranges.ReadRange.{ReadRange}
-use Rattle.wu_tree.specs.FileSystems.{FileSystem}
 use Rattle.wu_layout.specs.Layouts.{FileEntry}
 use Rattle.wu_lists.specs.Keeping.{Kept}
-use Rattle.wu_space.specs.Addresses.{Addresses}
-use Rattle.wu_parts.specs.Contents.{Contents}
-use Rattle.wu_parts.specs.Holdings.{HoldParts}
 use Rattle.wu_ask.specs.Questions.{Question}
 use Rattle.wu_engine.specs.declared.engines.Engine.{Engine}
 use Rattle.wu_engine.specs.Asked.{terms_asked}
 use Rattle.wu_engine.specs.Finding.{KeepsTexts}
 use Rattle.wu_engine.specs.Reads.{AreTexts, ReadsForQuery, texts_read}
-use Rattle.wu_engine.specs.Records.{Records}
-use Rattle.wu_engine.specs.Stands.{HoldsTexts, IsEngineOf, KeepsJob, Stands}
+use Rattle.wu_engine.specs.Stands.{HoldsTexts, KeepsJob, Stands}
 use Rattle.wu_engine.specs.States.{State, Texts}
 use Rattle.wu_engine.specs.Searched.{IsIndexOf, TellsPostings}
 use Rattle.wu_engine.proofs.ToldPostings.{blocks_kept}
@@ -54,13 +49,10 @@ module _ (engine : Engine) (holds : Option Content) (s : State) (stands : Stands
       → ReadsForQuery engine.tree engine.space.ranges uid question engine.parts new.parts.kept Are holds before after
       → Stands new holds_now s
   stands_on new holds_now uid question Are before after ended same tree space files check parts reads =
-      subst (λ (o : Option Content). Stands new o s) (sym same)
+      rw same
       (record {
         goes_on = ended;
-        index = subst (λ (t : FileSystem). IsEngineOf t new.space new.parts new.files.entries s) (sym tree)
-            (subst (λ (a : Addresses). IsEngineOf engine.tree a new.parts new.files.entries s) (sym space)
-            (subst (λ (c : Contents). IsEngineOf engine.tree engine.space c new.files.entries s) (sym parts)
-            (subst (λ (r : Records). IsEngineOf engine.tree engine.space (record engine.parts { kept = new.parts.kept }) r s) (sym files)
+        index = rw (tree, space, parts, files)
             (record {
               is_state = stands.index.is_state;
               tree = stands.index.tree;
@@ -72,13 +64,10 @@ module _ (engine : Engine) (holds : Option Content) (s : State) (stands : Stands
               memory = stands.index.memory;
               stored = stands.index.stored;
               flushes = stands.index.flushes;
-            }))));
+            });
         texts = stands.texts;
-        parts = subst (λ (c : Contents). IfSome holds (λ content. HoldParts content c.parts c.directories s.layout.parts)) (sym parts)
-            stands.parts;
-        job =
-            subst (λ (c : Contents). IfSome holds (λ content. KeepsJob content s.layout c)) (sym parts)
-            (job_on new.parts.kept holds stands.job);
+        parts = rw parts stands.parts;
+        job = rw parts (job_on new.parts.kept holds stands.job);
         kept = blocks_kept engine.parts reads.frames.ranges (terms_asked question) new.parts.kept s holds before reads.reads.between
             postings_told reads.reads.asks;
         check = check ∙ stands.check;

@@ -14,15 +14,15 @@ use Rattle.wu_engine.specs.Records.{Records, record_at}
 use Rattle.wu_engine.specs.Finding.{CanBeRead, IsCause}
 
 -- what follows for each error holds of the error of a result
-pub if_err : {T E : Type 0} (P Q : E → Type 0) (r : Result T E) → ((error : E) → P error → Q error) → IfErr r P → IfErr r Q
-if_err P Q (Ok value) step h = h
-if_err P Q (Err error) step h = step error h
+pub if_err : {T E : Type 0} (r : Result T E) {P Q : E → Type 0} → IfErr r P → ((error : E) → P error → Q error) → IfErr r Q
+if_err (Ok value) h step = h
+if_err (Err error) h step = step error h
 
 -- a broken text is damage of another kind too, and the calls before it left the count of faults as it was
-pub cause_after : (Broken Other : ℕ → Type 0) (before middle now : ℕ) (trouble : Trouble) → middle ≡ before
-    → ((blob : ℕ) → Broken blob → Other blob) → IsCause Broken middle now trouble → IsCause Other before now trouble
-cause_after Broken Other before middle now trouble same step cause =
-    subst (λ (n : ℕ). IsCause Other n now trouble) same
+pub cause_after : {Broken Other : ℕ → Type 0} {before middle now : ℕ} {trouble : Trouble} → middle ≡ before
+    → IsCause Broken middle now trouble → ((blob : ℕ) → Broken blob → Other blob) → IsCause Other before now trouble
+cause_after same cause step =
+    rw (← same)
     (record {
       kept = cause.kept;
       store_fault = cause.store_fault;

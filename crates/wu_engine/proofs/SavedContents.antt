@@ -2,14 +2,14 @@
 use Rattle.std.proofs.Common.{◌≡◌, ◌⊎◌, inl, inr, ℕ, ◌+◌, ◌<◌, ◌≤◌, ◌==◌, true, false, cond, List, [], ◌∷◌, ◌++◌, length, get_or, drop, refl, ap, sym, ◌∙◌, subst, arith, ⊎_elim}
 use Rattle.std.specs.Prelude.{Option, Some, None, Result, Ok, Err, OnErr, option_map, count_by}
 use Rattle.std.specs.List.{AllByRecursion}
-use Rattle.std.proofs.lemmas.Bool.{eq-eqb}
+use Rattle.std.proofs.lemmas.Bool.{cases_eq, eq-eqb, ne_eqb}
 use Rattle.std.proofs.lemmas.List.{drop_more}
 use Rattle.wu_base.proofs.Members.{Contains-from_Has, Has-from_Contains}
 use Rattle.wu_outside.specs.Content.{Content, MayDo, with_blob, with_root}
-use Rattle.wu_layout.proofs.BlobLemmas.{count-cons, once_same}
+use Rattle.wu_layout.proofs.BlobLemmas.{count-cons, once, once_other, once_same}
 use Rattle.wu_parts.proofs.HeldParts.{put_elsewhere}
 use Rattle.wu_engine.specs.Stands.{KeepsOthers}
-use Rattle.wu_engine.specs.Saving.{AreRemoved, KeepsNamed}
+use Rattle.wu_engine.specs.Saving.{AreRemoved, KeepsNamed, checkpoint_blob}
 use Rattle.wu_engine.specs.SavedStores.{SomeDone, all_done, remove_blob}
 use Rattle.wu_engine.proofs.OtherBlobs.{others_put}
 
@@ -72,6 +72,15 @@ pub are_removed : (gone : List ℕ) (before after : Option Content) → after �
 are_removed gone None after done = subst (AreRemoved gone) (sym (done ∙ none_removed gone)) tt
 are_removed gone (Some content) after done = subst (AreRemoved gone) (sym (done ∙ all_removed gone content)) (all_absent gone content)
 
+-- the checkpoint's number is removed once, if there is one
+pub checkpoint_count : (check number : ℕ) → 0 < number
+    → count_by (λ other. other == number) (checkpoint_blob check) ≡ once check number
+checkpoint_count check number l =
+    ⊎_elim
+    (λ e. rw (eq-eqb check 0 e) (sym (once_other check number (λ same. omega arith))))
+    (λ h. rw (ne_eqb check 0 h) (omega (arith, count-cons (λ (other : ℕ). other == number) check [])))
+    (cases_eq check 0)
+
 -- where a step was done for all blobs, it was for the first ones
 pub all_some : {X : Type 0} (step : ℕ → X → X) (gone : List ℕ) (old : Option X) → SomeDone step gone old (all_done step gone old)
 all_some step [] old = refl
@@ -82,9 +91,9 @@ none_done step [] old = refl
 none_done step (blob ∷ gone) old = inl refl
 
 -- the next step of the first ones was done, or not
-pub next_some : {X : Type 0} (step : ℕ → X → X) (stale rest : List ℕ) (i : ℕ) (old new : Option X) → i < length stale
+pub next_some : {X : Type 0} (step : ℕ → X → X) (stale rest : List ℕ) (i : ℕ) {old new : Option X} → i < length stale
     → MayDo (step (get_or stale i 0)) old new → SomeDone step (drop i stale ++ rest) old new
-next_some step stale rest i old new within may =
+next_some step stale rest i {old} {new} within may =
     subst (λ (gone : List ℕ). SomeDone step (gone ++ rest) old new) (sym (drop_more stale i 0 within))
     (⊎_elim (λ same. inl same)
     (λ done. inr (subst (SomeDone step (drop (i + 1) stale ++ rest) (option_map (step (get_or stale i 0)) old)) (sym done)
@@ -154,19 +163,19 @@ named_some low high (blob ∷ gone) before after some =
 
 -- ---- what may differ after each call of a save
 
-module _ (low : ℕ) (gone : List ℕ) (before flushed : Option Content)
+module _ (low : ℕ) (gone : List ℕ) {before flushed : Option Content}
     (first : (written : Option (List ℕ)) × MayDo (with_blob low written) before flushed) where
   pub named_flush : KeepsNamed low (low + 2) gone before flushed
   named_flush = named_put low (low + 2) low gone before flushed (omega arith) (omega arith) first
 
-  module _ (next : ℕ) (least : low ≤ next) (most : next ≤ low + 1) (put : Option Content)
+  module _ (next : ℕ) (least : low ≤ next) (most : next ≤ low + 1) {put : Option Content}
       (second : (written : Option (List ℕ)) × MayDo (with_blob next written) flushed put) where
     pub named_checkpoint : KeepsNamed low (low + 2) gone before put
     named_checkpoint =
         named_then low (low + 2) gone before flushed put named_flush
         (named_put low (low + 2) next gone flushed put least (omega (arith, most)) second)
 
-    module _ (root : List ℕ) (rooted : Option Content) (third : MayDo (with_root root) put rooted) where
+    module _ (root : List ℕ) {rooted : Option Content} (third : MayDo (with_root root) put rooted) where
       pub named_rooted : KeepsNamed low (low + 2) gone before rooted
       named_rooted =
           named_then low (low + 2) gone before put rooted named_checkpoint (named_root low (low + 2) gone root put rooted third)

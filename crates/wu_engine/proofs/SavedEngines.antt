@@ -105,11 +105,9 @@ module _ (tree : FileSystem) (space : Addresses) (contents : Contents) (files : 
   rules : AreLayoutRules space.next (contents.next_blob + 1) contents.flushes (recorded_files files) contents.parts
   rules =
       let next = contents.next_blob + 1 in
-      subst (λ (n : ℕ). AreLayoutRules n next contents.flushes (recorded_files files) contents.parts) (sym index.next)
-      (subst (λ (n : ℕ). AreLayoutRules s.layout.next next n (recorded_files files) contents.parts) (sym index.flushes)
-      (subst (λ (rs : Records). AreLayoutRules s.layout.next next s.layout.flushes (recorded_files rs) contents.parts) (sym index.files)
+      rw (index.next, index.flushes, index.files)
       (saved_rules s content contents.parts contents.directories next index.is_state empty (omega (arith, few, index.next))
-      (omega (arith, index.next_blob)) stored.parts)))
+      (omega (arith, index.next_blob)) stored.parts)
 
   abbrev checkpoint : Checkpoint
   checkpoint = record {
@@ -123,9 +121,7 @@ module _ (tree : FileSystem) (space : Addresses) (contents : Contents) (files : 
 
   no_text : AllByRecursion (λ file. file.blob ≢ contents.next_blob) (recorded_files files)
   no_text =
-      subst (λ (n : ℕ). AllByRecursion (λ (file : FileRec). file.blob ≢ n) (recorded_files files)) (sym index.next_blob)
-      (subst (λ (rs : Records). AllByRecursion (λ (file : FileRec). file.blob ≢ s.layout.blob) (recorded_files rs)) (sym index.files)
-      (of_no_text s.layout d content bytes root s.texts))
+      rw (index.next_blob, index.files) (of_no_text s.layout d content bytes root s.texts)
 
   has_saved : HasSaved after root s.tree s.texts (rest (checkpointed s.layout))
   has_saved = record {
@@ -299,10 +295,7 @@ saved_on old new s before after stands few saves ended tree space files =
     stored_now old new.checkpoint new.parts s before after stands few saves in
     record {
       goes_on = ended;
-      index = subst (λ (t : FileSystem). IsEngineOf t new.space new.parts new.files.entries (saved_state s)) (sym tree)
-          (subst (λ (a : Addresses). IsEngineOf old.tree a new.parts new.files.entries (saved_state s)) (sym space)
-          (subst (λ (r : Records). IsEngineOf old.tree old.space new.parts r (saved_state s)) (sym files)
-          (index_now old new.checkpoint new.parts s before after stands few saves)));
+      index = rw (tree, space, files) (index_now old new.checkpoint new.parts s before after stands few saves);
       texts = stored.texts;
       parts = stored.parts;
       job = stored.job;

@@ -6,7 +6,7 @@ use Rattle.std.specs.List.{AllByRecursion, AllZip}
 use Rattle.std.specs.List.Sorted.{IsStrictlySortedBy}
 use Rattle.std.specs.Map.{keys_of}
 use Rattle.std.specs.BTreeMap.{is_at}
-use Rattle.std.proofs.lemmas.Bool.{cases_eq, eq-eqb, ne_eqb}
+use Rattle.std.proofs.lemmas.Bool.{cases_eq, eq-eqb}
 use Rattle.wu_base.specs.declared.addresses.PartRec.{PartRec}
 use Rattle.wu_base.proofs.MapEntries.{all_found, counted-remove_entry}
 use Rattle.wu_base.proofs.Members.{Has, all_from_has, all_has}
@@ -15,7 +15,7 @@ use Rattle.wu_layout.specs.Layouts.{FileEntry, Job, Layout, Part, Text, entry_of
 use Rattle.wu_layout.specs.Invariants.{BlobsAreDistinct, IsLayoutOf}
 use Rattle.wu_layout.specs.Postings.{Posting, live_of}
 use Rattle.wu_layout.specs.Steps.{checkpointed, flush, flushed}
-use Rattle.wu_layout.proofs.BlobLemmas.{count-append, count-cons, once, once_other, once_same}
+use Rattle.wu_layout.proofs.BlobLemmas.{count-append, once, once_same}
 use Rattle.wu_layout.proofs.EachLemmas.{each-drop, each-take}
 use Rattle.wu_layout.proofs.EntryLemmas.{IfSome-found}
 use Rattle.wu_layout.proofs.Flushes.{blobs_after_checkpoint}
@@ -37,7 +37,7 @@ use Rattle.wu_engine.specs.Saving.{checkpoint_blob}
 use Rattle.wu_engine.specs.SavedStores.{recorded_files}
 use Rattle.wu_engine.proofs.FlushedStates.{flushed_kept}
 use Rattle.wu_engine.proofs.HeldParts.{blocks_stay, put_agrees}
-use Rattle.wu_engine.proofs.SavedContents.{gone_or_same, others_stay, root_stays, without}
+use Rattle.wu_engine.proofs.SavedContents.{checkpoint_count, gone_or_same, others_stay, root_stays, without}
 
 -- ---- the layout after a checkpoint
 
@@ -104,20 +104,13 @@ module _ (layout : Layout) (d : BlobsAreDistinct layout.blob layout.files layout
   abbrev pub left : Content
   left = without gone put
 
-  check_counted : (check number : ℕ) → 0 < number → count_by (λ other. other == number) (checkpoint_blob check) ≡ once check number
-  check_counted check number l =
-      ⊎_elim
-      (λ e. rw (eq-eqb check 0 e) (sym (once_other check number (λ same. omega arith))))
-      (λ h. rw (ne_eqb check 0 h) (omega (arith, count-cons (λ (other : ℕ). other == number) check [])))
-      (cases_eq check 0)
-
   pub gone_counted : (number : ℕ) → 0 < number
       → count_by (λ other. other == number) gone ≡ once layout.check number + count_by (λ other. other == number) layout.stale
   gone_counted number l =
       omega (
         arith,
         count-append (λ (other : ℕ). other == number) layout.stale (checkpoint_blob layout.check),
-        check_counted layout.check number l,
+        checkpoint_count layout.check number l,
       )
 
   -- a text's or a part's blob stays

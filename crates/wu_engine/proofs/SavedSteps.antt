@@ -1,10 +1,10 @@
 -- What a save does, from what its calls do.
-use Rattle.std.proofs.Common.{◌≡◌, ℕ, ◌+◌, ◌<◌, List, [], ◌∷◌, ◌++◌, length, map, take, take_all, get_or, ap, sym, ◌∙◌, subst, arith, ⊎_elim}
+use Rattle.std.proofs.Common.{◌≡◌, ℕ, ◌+◌, ◌<◌, List, [], ◌∷◌, ◌++◌, length, map, take, take_all, get_or, ap, sym, ◌∙◌, arith, ⊎_elim}
 use Rattle.std.specs.Prelude.{Option, None, Some, option_map, slice_get, unwrap_or}
 use Rattle.std.proofs.lemmas.List.{length_push, take_more}
 use Rattle.std.proofs.lemmas.Option.{slice_get-get_or, slice_get_cases, slice_get_within}
 use Rattle.wu_outside.specs.Content.{with_blob, with_root}
-use Rattle.wu_outside.specs.Crash.{Moments, Put, SetRoot, settle, try_change}
+use Rattle.wu_outside.specs.Crash.{Put, SetRoot, settle, try_change}
 use Rattle.wu_layout.specs.Postings.{Posting, live_of}
 use Rattle.wu_tree.specs.FileSystems.{FileSystem}
 use Rattle.wu_space.specs.Addresses.{Addresses}
@@ -14,7 +14,7 @@ use Rattle.wu_parts.specs.Memory.{HasPostings}
 use Rattle.wu_image.specs.declared.roots.Root.{Root}
 use Rattle.wu_image.specs.Roots.{SpellsRoot}
 use Rattle.wu_engine.specs.Records.{Records}
-use Rattle.wu_engine.specs.Saving.{checkpoint_blob, removed_by_save}
+use Rattle.wu_engine.specs.Saving.{checkpoint_blob}
 use Rattle.wu_engine.specs.SavedStores.{IsSpelledOf, Saves, all_done, remove_blob, try_removal, with_drawn}
 
 -- ---- a walk by place
@@ -59,12 +59,12 @@ pub stale_drawn : (old flushed drawn : Contents) (stale : List ℕ) → stale �
 stale_drawn old flushed drawn stale is drew empties =
     is ∙ ap (λ (c : Contents). c.stale) drew ∙ stale_stays old flushed empties
 
-pub saves_from : (tree : FileSystem) (space : Addresses) (files : Records) (checkpoint blob : ℕ) (old flushed drawn new : Contents)
-    (before between put rooted after : Told)
+pub saves_from : (tree : FileSystem) (space : Addresses) (files : Records) (checkpoint : ℕ) {blob : ℕ} (old : Contents)
+    {flushed drawn new : Contents} (before between put rooted after : Told)
     → ((low high : ℕ) (postings : List Posting) → HasPostings low high old.memory postings
     → Flushes (live_of (map (λ file. file.1) space.ranges) postings) old flushed before between)
     → EmptiesMemory old flushed → blob ≡ flushed.next_blob → drawn ≡ with_drawn flushed
-    → (bytes written root : List ℕ) (size address next_blob : ℕ)
+    → {bytes written root : List ℕ} {size address next_blob : ℕ}
     → IsSpelledOf tree space files drawn bytes → written ≡ bytes → size ≡ length bytes → address ≡ space.next
     → next_blob ≡ drawn.next_blob
     → SpellsRoot (root_of blob size address next_blob) root
@@ -72,22 +72,15 @@ pub saves_from : (tree : FileSystem) (space : Addresses) (files : Records) (chec
     → put.1 ≡ option_map settle (option_map (try_change (Put blob) (with_blob blob (Some written))) between.1)
     → rooted.0 ≡ option_map (with_root root) put.0
     → rooted.1 ≡ option_map settle (option_map (try_change (SetRoot root) (with_root root)) put.1)
-    → (stale : List ℕ) → stale ≡ drawn.stale
+    → {stale : List ℕ} → stale ≡ drawn.stale
     → after.0 ≡ all_done remove_blob (stale ++ checkpoint_blob checkpoint) rooted.0
     → after.1 ≡ all_done try_removal (stale ++ checkpoint_blob checkpoint) rooted.1
     → new ≡ record drawn { stale = [] }
     → Saves tree space files checkpoint blob old new before after
-saves_from tree space files checkpoint blob old flushed drawn new before between put rooted after flush changes number drew bytes written
-    root size address next_blob spelled wrote sized addressed numbered root_spelled put_is put_settled rooted_is rooted_settled stale
-    stale_is removed removed_settled cleared =
-    let gone : List ℕ = removed_by_save flushed checkpoint in
-    let stale_same : stale ≡ flushed.stale = stale_is ∙ ap (λ (c : Contents). c.stale) drew in
-    let first : SpellsRoot (root_of flushed.next_blob size address next_blob) root =
-    subst (λ (n : ℕ). SpellsRoot (root_of n size address next_blob) root) number root_spelled in
-    let second : SpellsRoot (root_of flushed.next_blob (length bytes) address next_blob) root =
-    subst (λ (n : ℕ). SpellsRoot (root_of flushed.next_blob n address next_blob) root) sized first in
-    let third : SpellsRoot (root_of flushed.next_blob (length bytes) space.next next_blob) root =
-    subst (λ (n : ℕ). SpellsRoot (root_of flushed.next_blob (length bytes) n next_blob) root) addressed second in
+saves_from tree space files checkpoint old {flushed} before between put rooted after flush changes number drew {bytes} {root}
+    spelled wrote sized addressed numbered root_spelled put_is put_settled rooted_is rooted_settled {stale} stale_is removed
+    removed_settled cleared =
+    let same : stale ≡ flushed.stale = stale_is ∙ ap (λ (c : Contents). c.stale) drew in
     record {
       flushed = flushed;
       between = between;
@@ -95,26 +88,10 @@ saves_from tree space files checkpoint blob old flushed drawn new before between
       changes = changes;
       drawn = number;
       bytes = bytes;
-      spelled = subst (λ (c : Contents). IsSpelledOf tree space files c bytes) drew spelled;
+      spelled = rw drew at spelled;
       root = root;
-      root_spelled =
-          subst (λ (n : ℕ). SpellsRoot (root_of flushed.next_blob (length bytes) space.next n) root)
-          (numbered ∙ ap (λ (c : Contents). c.next_blob) drew) third;
-      contents = cleared ∙ ap (λ (c : Contents). let left : Contents = record c { stale = [] } in left) drew;
-      stored =
-          removed
-          ∙ ap (λ (l : List ℕ). all_done remove_blob (l ++ checkpoint_blob checkpoint) rooted.0) stale_same
-          ∙ ap (all_done remove_blob gone)
-          (rooted_is ∙ ap (option_map (with_root root))
-          (put_is
-          ∙ ap (λ (l : List ℕ). option_map (with_blob blob (Some l)) between.0) wrote
-          ∙ ap (λ (n : ℕ). option_map (with_blob n (Some bytes)) between.0) number));
-      tried =
-          removed_settled
-          ∙ ap (λ (l : List ℕ). all_done try_removal (l ++ checkpoint_blob checkpoint) rooted.1) stale_same
-          ∙ ap (all_done try_removal gone)
-          (rooted_settled ∙ ap (λ (o : Option Moments). option_map settle (option_map (try_change (SetRoot root) (with_root root)) o))
-          (put_settled
-          ∙ ap (λ (l : List ℕ). option_map settle (option_map (try_change (Put blob) (with_blob blob (Some l))) between.1)) wrote
-          ∙ ap (λ (n : ℕ). option_map settle (option_map (try_change (Put n) (with_blob n (Some bytes))) between.1)) number));
+      root_spelled = rw (number, sized, addressed, numbered ∙ ap (λ (c : Contents). c.next_blob) drew) at root_spelled;
+      contents = rw drew at cleared;
+      stored = rw (same, rooted_is, put_is, wrote, number) at removed;
+      tried = rw (same, rooted_settled, put_settled, wrote, number) at removed_settled;
     }

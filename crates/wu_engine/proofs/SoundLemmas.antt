@@ -25,7 +25,7 @@ use Rattle.wu_frames.specs.UserFrames.{Kept}
 use Rattle.wu_engine.specs.Records.{Records, recorded_ranges}
 use Rattle.wu_engine.specs.Soundness.{IsSound, IsRecord}
 use Rattle.wu_engine.specs.Stands.{taken_by}
-use Rattle.wu_engine.specs.Indexing.{Follows, IsIndexable, Catalog, KeepsParts, blob_for, is_stored, drawn_for, catalog_of, catalog_made, catalog_after, catalog_without, terms_given, terms_after, with_file, without_file, space_made, space_after}
+use Rattle.wu_engine.specs.Indexing.{Follows, IsIndexable, Catalog, KeepsParts, blob_for, drawn_for, catalog_of, catalog_made, catalog_after, catalog_without, terms_given, terms_after, with_file, without_file, space_made, space_after}
 use Rattle.wu_engine.proofs.NumberedEntries.{is_that, has, has-put, has-removed}
 use Rattle.wu_engine.proofs.KeptStates.{taken_with, taken-effect}
 use Rattle.wu_engine.proofs.FileChanges.{ChangesFiles, changes, files_without, files-after, files-texted}
@@ -218,33 +218,10 @@ numbers_full parts parts_now (inr done) = numbers_left parts parts_now done
 
 -- ---- what follows an event
 
-one_at_most : (b : Bool) → cond {A = ℕ} b 1 0 ≤ 1
-one_at_most true = omega arith
-one_at_most false = omega arith
-
--- what it leaves of some numbers
-pub record LeavesCounts (parts parts_now : Contents) : Type 0 where
-  pub drawn : parts_now.next_blob ≤ parts.next_blob + 2
-  pub counted : parts_now.flushes + parts.next_blob ≤ parts.flushes + parts_now.next_blob
-  pub flush_at : parts_now.flush_at ≡ parts.flush_at
-  pub kept : parts_now.kept ≡ parts.kept
-
 module _ (effect : Effect) (text : List ℕ) (space space_now : Addresses) (files files_now : Records) (parts parts_now : Contents)
     (told told_now : Told) (f : Follows effect text space space_now files files_now parts parts_now told told_now) where
   left : LeavesNumbers f.indexed parts_now
   left = numbers_full f.indexed parts_now f.flushed.changes
-
-  pub counts_left : LeavesCounts parts parts_now
-  counts_left =
-      let next : f.indexed.next_blob ≡ parts.next_blob + cond {A = ℕ} (is_stored effect.texted text) 1 0 =
-      ap (λ (c : Contents). c.next_blob) f.others in
-      let flushes : f.indexed.flushes ≡ parts.flushes = ap (λ (c : Contents). c.flushes) f.others in
-      record {
-        drawn = omega (arith, left.most, next, one_at_most (is_stored effect.texted text));
-        counted = omega (arith, left.counted, next, flushes);
-        flush_at = left.flush_at ∙ ap (λ (c : Contents). c.flush_at) f.others;
-        kept = left.kept ∙ ap (λ (c : Contents). c.kept) f.others;
-      }
 
   pub next_followed : space_now.next ≡ space.next + length (terms_after effect text)
   next_followed = ap (λ (k : Catalog). k.space.next) f.catalog ∙ next-after effect text space

@@ -23,7 +23,7 @@ use Rattle.wu_layout.proofs.PostingLemmas.{length-placed}
 use Rattle.wu_layout.proofs.EntryLemmas.{none_after_removal}
 use Rattle.wu_layout.proofs.NumberedRanges.{ranges_by_number-put, ranges_by_number-removal}
 use Rattle.wu_layout.proofs.Fetches.{placed-append}
-use Rattle.wu_space.specs.Addresses.{Addresses, Ranges}
+use Rattle.wu_space.specs.Addresses.{Ranges}
 use Rattle.wu_parts.specs.Flushing.{Flushes, Told}
 use Rattle.wu_parts.specs.Memory.{HasPostings}
 use Rattle.wu_parts.specs.Holdings.{HoldParts}
@@ -243,15 +243,11 @@ stands_still : (old new : Engine) (s : State) → new.ended ≡ None → (holds 
     → new.checkpoint ≡ old.checkpoint → Stands new holds s
 stands_still old new s ended holds stands tree space parts files check = record {
   goes_on = ended;
-  index = subst (λ (t : FileSystem). IsEngineOf t new.space new.parts new.files.entries s) (sym tree)
-      (subst (λ (a : Addresses). IsEngineOf old.tree a new.parts new.files.entries s) (sym space)
-      (subst (λ (c : Contents). IsEngineOf old.tree old.space c new.files.entries s) (sym parts)
-      (subst (λ (r : Records). IsEngineOf old.tree old.space old.parts r s) (sym files) stands.index)));
+  index = rw (tree, space, parts, files) stands.index;
   texts = stands.texts;
-  parts = subst (λ (c : Contents). IfSome holds (λ content. HoldParts content c.parts c.directories s.layout.parts)) (sym parts)
-      stands.parts;
-  job = subst (λ (c : Contents). IfSome holds (λ content. KeepsJob content s.layout c)) (sym parts) stands.job;
-  kept = subst (λ (c : Contents). IfSome holds (λ content. KeepsBlocks content s.layout.blob c.kept)) (sym parts) stands.kept;
+  parts = rw parts stands.parts;
+  job = rw parts stands.job;
+  kept = rw parts stands.kept;
   check = check ∙ stands.check;
 }
 
@@ -423,9 +419,7 @@ flushed_on old new s ended before after stands tree space files check done =
     let both = flush_stands old.tree old.space old.parts old.files.entries s stands.index new.parts before after stored done in
     record {
       goes_on = ended;
-      index = subst (λ (t : FileSystem). IsEngineOf t new.space new.parts new.files.entries (flushed_state s)) (sym tree)
-          (subst (λ (a : Addresses). IsEngineOf old.tree a new.parts new.files.entries (flushed_state s)) (sym space)
-          (subst (λ (r : Records). IsEngineOf old.tree old.space new.parts r (flushed_state s)) (sym files) both.0));
+      index = rw (tree, space, files) both.0;
       texts = both.1.texts;
       parts = both.1.parts;
       job = both.1.job;

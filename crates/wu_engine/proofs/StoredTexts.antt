@@ -1,6 +1,6 @@
 -- The texts of files that a store holds, after an event.
 use Rattle.std.proofs.Common.{◌≡◌, ◌≢◌, ℕ, ◌<◌, ◌≤◌, ◌==◌, Bool, true, false, cond, List, [], length, refl, ap, sym, ◌∙◌, subst, arith, ⊎_elim}
-use Rattle.std.specs.Prelude.{Option, Some, None, IfSome, IsSome}
+use Rattle.std.specs.Prelude.{Option, Some, None, IfSome}
 use Rattle.std.specs.Ordering.{nat_cmp}
 use Rattle.std.specs.List.Sorted.{IsStrictlySortedBy}
 use Rattle.std.specs.Map.{keys_of, remove_entry}
@@ -17,11 +17,6 @@ use Rattle.wu_engine.specs.States.{Texts, text_in, without_text, with_text, layo
 use Rattle.wu_engine.specs.Stands.{HoldsTexts}
 use Rattle.wu_engine.specs.Indexing.{is_stored, stored_at}
 use Rattle.wu_engine.proofs.StateTexts.{text-there, text-elsewhere, text-left}
-
--- before there is a file
-pub none_yet : (holds : Option Content) → IsSome holds → HoldsTexts holds [] []
-none_yet None told = absurd cc
-none_yet (Some content) told = λ ino. tt
 
 -- ---- a blob that was never drawn is no text's
 

@@ -1,6 +1,6 @@
 -- A text of which a line is shown is in the store as it was recorded.
 use Rattle.std.proofs.Common.{◌≡◌, ◌==◌, ℕ, zero, suc, ◌+◌, ◌-◌, ◌<◌, Bool, true, false, cond, List, [], ◌∷◌, ◌++◌, length, drop, get_or, take, min, inl, inr, refl, sym, ap, ◌∙◌, subst, arith}
-use Rattle.std.specs.Prelude.{Option, None, Some, IfSome, nat_lt}
+use Rattle.std.specs.Prelude.{Option, Some, IfSome, nat_lt}
 use Rattle.std.specs.List.{AllByRecursion}
 use Rattle.std.specs.Ordering.{nat_cmp}
 use Rattle.std.specs.BTreeMap.{is_at}
@@ -13,19 +13,11 @@ use Rattle.wu_gcl.specs.Regions.{Region}
 use Rattle.wu_image.specs.declared.records.FileRec.{FileRec}
 use Rattle.wu_outside.specs.Content.{Content}
 use Rattle.wu_outside.specs.declared.ranges.ReadRange.{ReadRange}
-use Rattle.wu_token.specs.Tokens.{tokens_of}
 use Rattle.wu_view.specs.declared.Seen.{Seen}
 use Rattle.wu_engine.specs.Finding.{extents_of, hits_at, hits_recorded, text_at, text_recorded}
 use Rattle.wu_engine.specs.Records.{Records, record_at}
-use Rattle.wu_engine.specs.Reads.{HasWholeText, IsTextOf, IsWholeText, texts_shown}
+use Rattle.wu_engine.specs.Reads.{HasWholeText, IsTextOf, texts_shown}
 use Rattle.wu_engine.proofs.FirstLines.{IsEnough, at_place, none_to_show}
-
--- what was read of the blob has the recorded length and number of tokens
-pub whole_read : (holds : Option Content) (file : FileRec) (text : List ℕ)
-    → IfSome holds (λ content. content.blobs file.blob ≡ Some text) → length text ≡ file.len → length (tokens_of text) ≡ file.range.len
-    → HasWholeText holds file
-whole_read None file text is len tokens = tt
-whole_read (Some content) file text is len tokens = subst (IsWholeText file) (sym is) (len, tokens)
 
 positive : (n : ℕ) → (n == 0) ≡ false → 0 < n
 positive zero e = absurd (cc)
@@ -55,7 +47,8 @@ whole_recorded holds (file ∷ files) ino whole =
           ]) refl
       | false ↦ λ there. weaken (text_recorded (record_at files ino)) (whole_recorded holds files ino there)
     ]) whole where
-      weaken : (ranges : List ReadRange) → AllByRecursion (IsTextOf holds files) ranges → AllByRecursion (IsTextOf holds (file ∷ files)) ranges
+      weaken : (ranges : List ReadRange) → AllByRecursion (IsTextOf holds files) ranges
+          → AllByRecursion (IsTextOf holds (file ∷ files)) ranges
       weaken [] all = tt
       weaken (range ∷ ranges) all = (inr all.0, weaken ranges all.1)
 
@@ -88,14 +81,14 @@ both : (Is : ReadRange → Type 0) (xs ys : List ReadRange) → AllByRecursion I
 both Is [] ys a b = b
 both Is (x ∷ xs) ys a b = (a.0, both Is xs ys a.1 b)
 
-module _ (Is : ReadRange → Type 0) (Whole : Type 0) (hits : Seen → ℕ) (text : Seen → List ReadRange) (k : ℕ) where
+module _ (Is : ReadRange → Type 0) {Whole : Type 0} (hits : Seen → ℕ) (text : Seen → List ReadRange) (k : ℕ) where
   -- with the text of the next file
-  pub whole_next : (i : ℕ) (view : List Seen) (file : Seen) → i < length view → file ≡ get_or view i file → (count before after : ℕ)
+  pub whole_next : (i : ℕ) (view : List Seen) (file : Seen) → i < length view → file ≡ get_or view i file → {count before after : ℕ}
       → count ≡ before → after ≡ before + min (k - count) (hits file)
       → (AllByRecursion Is (texts_shown hits text (k - before) (drop i view)) → Whole)
       → AllByRecursion Is (cond (nat_lt 0 (min (k - count) (hits file))) (text file) [])
       → AllByRecursion Is (texts_shown hits text (k - after) (drop (i + 1) view)) → Whole
-  whole_next i view file within is count before after counted more left here later =
+  whole_next i view file within is {count} {before} {after} counted more left here later =
       let fewer : k - after ≡ (k - count) - hits file = omega (arith, more, counted) in
       left
       (subst (λ (n : ℕ). AllByRecursion Is (texts_shown hits text (k - n) (drop i view))) counted

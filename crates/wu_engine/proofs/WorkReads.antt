@@ -223,7 +223,7 @@ module _ (engine : Engine) (s : State) (n : ℕ) (before : Told) (stands : Stand
     does.read,
     units_read _ _ s.layout stands.index.is_state.layout does.units n engine.parts new before after does.read does.within
         (parts_told engine before.0 s stands)
-        (subst (λ (rs : Ranges). DoUnits rs does.units engine.parts new before after does.read) stands.index.live does.done),
+        (rw stands.index.live at does.done),
     does.read_are,
   )
 
@@ -233,8 +233,7 @@ module _ (engine : Engine) (s : State) (n : ℕ) (before : Told) (stands : Stand
       → ReadsOnly (MayReadForWork s.layout n) reads reads_now
   stop_permitted faults faults_now trouble stops =
       let tells : Tells before.0 engine.parts s.layout = parts_told engine before.0 s stands in
-      let units = subst (λ (rs : Ranges). DoUnits rs stops.done engine.parts stops.reached before stops.stored stops.read)
-      stands.index.live stops.units_done in
+      let units = rw stands.index.live at stops.units_done in
       let reached : Tells stops.stored.0 stops.reached (work stops.done s.layout) =
       tells_work _ _ s.layout stands.index.is_state.layout stops.done engine.parts stops.reached before stops.stored stops.read units
       tells in (
@@ -243,6 +242,6 @@ module _ (engine : Engine) (s : State) (n : ℕ) (before : Told) (stands : Stand
             (units_read _ _ s.layout stands.index.is_state.layout stops.done n engine.parts stops.reached before stops.stored stops.read
             (omega (arith, stops.fewer)) tells units)
             (some_read _ _ s.layout stands.index.is_state.layout stops.done n stops.stored.0 stops.reached stops.last stops.fewer reached
-            (subst (λ (rs : Ranges). ReadsSome rs stops.reached stops.last) stands.index.live stops.some)),
+            (rw stands.index.live at stops.some)),
         stops.read_are,
       )

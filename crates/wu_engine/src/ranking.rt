@@ -63,48 +63,19 @@ pub fn ranked<D: Store>(
     let count = terms.len();
     let asked = with_words(terms, words)?;
     match unit {
-        Expr::File => rank_files(alloc, store, frames, space, parts, k, words, &asked),
+        Expr::File => {
+            // Of terms that are no words only the reads are owed.
+            let lists = lists_of_words(alloc, store, &asked, words, frames, parts)?;
+            Ok(rank_file_lists(alloc, frames, space, k, words, &lists)?)
+        }
         _ => {
-            rank_extents(
-                alloc, store, frames, space, parts, k, unit, words, &asked, count,
-            )
+            let lists = lists_of(alloc, store, &asked, frames, parts)?;
+            Ok(rank_lists(alloc, frames, space, k, unit, words, &lists, count)?)
         }
     }
 }
 
-/// The same of whole files, where `asked` are the unit's terms and the words, in turn. Of terms that are no
-/// words only the reads are owed.
-fn rank_files<D: Store>(
-    alloc: Global,
-    store: &mut D,
-    frames: &Frames,
-    space: &Space,
-    parts: &mut Parts,
-    k: u32,
-    words: &[Bytes],
-    asked: &[Bytes],
-) -> Result<Answered, Trouble>
-    requires fit { CanBeSearched frames.now }
-    requires few { length words.now ≤ RANK_WORDS_MAX }
-    requires among { AllByRecursion (IsAmong asked.now) words.now }
-    ensures answer { IfOk result (λ answered. (s : State) (uid : ℕ) → Indexes frames.now space.now.ranges s uid
-        → TellsPostings parts.old (D.holds store.old) s
-        → answered ≡ answer (view_of s uid) (AskedRanking k WholeFile words.now)) }
-    ensures blocks { OnOk result (Asks (blocks_for parts.old frames.now.ranges asked.now) (D.holds store.old)
-        parts.old.kept parts.new.kept (D.reads store.old) (D.reads store.new)) }
-    ensures others { parts.new ≡ record parts.old { kept = parts.new.kept } }
-    ensures holds { D.holds store.new ≡ D.holds store.old }
-    ensures moments { D.moments store.new ≡ D.moments store.old }
-    ensures calm { OnOk result (D.faults store.new ≡ D.faults store.old) }
-    ensures cause { IfErr result (IsCauseFor parts.old frames.now.ranges asked.now
-        (D.holds store.old) (D.faults store.old) (D.faults store.new) (D.reads store.old) (D.reads store.new)) }
-{
-    let _untouched = &*store;
-    let lists = lists_of_words(alloc, store, asked, words, frames, parts)?;
-    Ok(rank_file_lists(alloc, frames, space, k, words, &lists)?)
-}
-
-/// The same, by the lists of the words.
+/// The same of whole files, by the lists of the words.
 fn rank_file_lists(
     alloc: Global,
     frames: &Frames,
@@ -125,42 +96,7 @@ fn rank_file_lists(
     rank_units(alloc, frames, space, k, &units, words, lists, lists)
 }
 
-/// The same of other extents, where the first `count` terms that are asked for are the unit's.
-fn rank_extents<D: Store>(
-    alloc: Global,
-    store: &mut D,
-    frames: &Frames,
-    space: &Space,
-    parts: &mut Parts,
-    k: u32,
-    unit: &Expr,
-    words: &[Bytes],
-    asked: &[Bytes],
-    count: usize,
-) -> Result<Answered, Trouble>
-    requires fit { CanBeSearched frames.now }
-    requires few { length words.now ≤ RANK_WORDS_MAX }
-    requires among { AllByRecursion (IsAmong asked.now) words.now }
-    requires within { count ≤ length asked.now }
-    requires of_unit { AreTerms (region_of unit.now) (take count asked.now) }
-    ensures answer { IfOk result (λ answered. (s : State) (uid : ℕ) → Indexes frames.now space.now.ranges s uid
-        → TellsPostings parts.old (D.holds store.old) s
-        → answered ≡ answer (view_of s uid) (AskedRanking k (region_of unit.now) words.now)) }
-    ensures blocks { OnOk result (Asks (blocks_for parts.old frames.now.ranges asked.now) (D.holds store.old)
-        parts.old.kept parts.new.kept (D.reads store.old) (D.reads store.new)) }
-    ensures others { parts.new ≡ record parts.old { kept = parts.new.kept } }
-    ensures holds { D.holds store.new ≡ D.holds store.old }
-    ensures moments { D.moments store.new ≡ D.moments store.old }
-    ensures calm { OnOk result (D.faults store.new ≡ D.faults store.old) }
-    ensures cause { IfErr result (IsCauseFor parts.old frames.now.ranges asked.now
-        (D.holds store.old) (D.faults store.old) (D.faults store.new) (D.reads store.old) (D.reads store.new)) }
-{
-    let _untouched = &*store;
-    let lists = lists_of(alloc, store, asked, frames, parts)?;
-    Ok(rank_lists(alloc, frames, space, k, unit, words, &lists, count)?)
-}
-
-/// The same, by the lists of the unit's terms, which are the first `count` ones, and of the words.
+/// The same of other extents, by the lists of the unit's terms, which are the first `count` ones, and of the words.
 fn rank_lists(
     alloc: Global,
     frames: &Frames,

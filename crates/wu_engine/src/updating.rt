@@ -84,7 +84,8 @@ pub(crate) fn store_text<D: Store>(
     ensures blob { IfOk result (λ blob. blob ≡ blob_for file text.now parts.old.next_blob) }
     ensures parts { OnOk result (parts.new ≡ drawn_for file text.now parts.old) }
     ensures stored { OnOk result (D.holds store.new ≡ option_map (stored_at parts.old.next_blob file text.now) (D.holds store.old)) }
-    ensures elsewhere { (written : Option (List ℕ)) × MayDo (with_blob parts.old.next_blob written) (D.holds store.old) (D.holds store.new) }
+    ensures elsewhere { (written : Option (List ℕ))
+        × MayDo (with_blob parts.old.next_blob written) (D.holds store.old) (D.holds store.new) }
     ensures tried { (written : Option (List ℕ))
         × MayDo (try_change (Put parts.old.next_blob) (with_blob parts.old.next_blob written))
         (D.moments store.old) (D.moments store.new) }
@@ -143,7 +144,8 @@ fn release(
     file: Option<Ino>,
 ) -> Result<(), NoMemory>
     requires { IfSome file (λ ino. IsSome (range_of space.old.ranges ino)) }
-    ensures catalog { OnOk result (catalog_of space.new files.new.entries parts.new ≡ catalog_without file (catalog_of space.old files.old.entries parts.old)) }
+    ensures catalog { OnOk result (catalog_of space.new files.new.entries parts.new
+        ≡ catalog_without file (catalog_of space.old files.old.entries parts.old)) }
     ensures none { OnOk result (IfSome file (λ ino. range_of space.new.ranges ino ≡ None)) }
     ensures memory { OnOk result (parts.new.memory ≡ parts.old.memory) }
     ensures others { OnOk result (KeepsParts parts.old parts.new) }
@@ -183,7 +185,8 @@ fn place_text(
     requires short { length text.now ≤ TEXT_MAX }
     requires below { parts.old.memory.end ≤ space.old.next }
     requires room { space.old.next + length (terms_given file text.now) ≤ ADDRESSES_MAX }
-    ensures catalog { OnOk result (catalog_of space.new files.new.entries parts.new ≡ catalog_with file text.now blob (catalog_of space.old files.old.entries parts.old)) }
+    ensures catalog { OnOk result (catalog_of space.new files.new.entries parts.new
+        ≡ catalog_with file text.now blob (catalog_of space.old files.old.entries parts.old)) }
     ensures memory { OnOk result (Gains space.old.next (terms_given file text.now) parts.old.memory parts.new.memory) }
     ensures others { OnOk result (KeepsParts parts.old parts.new) }
 {

@@ -1,7 +1,6 @@
-use Rattle.std.proofs.Common.{◌∙◌, List, ℕ, ap, map, subst}
+use Rattle.std.proofs.Common.{◌∙◌, ap, map}
 use Rattle.wu_gcl.specs.Regions.{region_of}
-use Rattle.wu_lists.specs.Keeping.{Asks}
-use Rattle.wu_engine.specs.Asked.{blocks_for, terms_of}
+use Rattle.wu_engine.specs.Asked.{terms_of}
 use Rattle.wu_engine.specs.Units.{found_in, list_at}
 use Rattle.wu_engine.proofs.AskedTerms.{terms_named}
 use Rattle.wu_engine.proofs.CountLemmas.{counted}
@@ -30,34 +29,26 @@ returns-clause-answer g c = λ live s uid is tells.
 
 pub returns-clause-blocks : goal.returns-clause-blocks
 returns-clause-blocks g c =
-    subst (λ (ts : List (List ℕ)). Asks (blocks_for c.args.parts.now c.args.frames.now.ranges ts) (g.D.Store.holds c.args.store.now)
-    c.args.parts.now.kept c.lists_of.new.parts.kept (g.D.Store.reads c.args.store.now) (g.D.Store.reads c.lists_of.new.store))
-    (c.deref.ensures.value ∙ terms_named (region_of c.args.expr.now) c.in_ok-terms.terms.items c.in_ok-terms.ensures)
-    c.in_ok-lists.ensures.blocks
+    rw (c.deref.ensures.value ∙ terms_named (region_of c.args.expr.now) c.in_ok-terms.terms.items c.in_ok-terms.ensures)
+    at c.in_ok-lists.ensures.blocks
 
 pub returns-in_err-terms-clause-cause : goal.returns-in_err-terms-clause-cause
 returns-in_err-terms-clause-cause g c =
-    cause_at_once c.from_residual.result c.args.parts.now c.args.frames.now.ranges (terms_of (region_of c.args.expr.now))
-    (g.D.Store.holds c.args.store.now) (g.D.Store.faults c.args.store.now) (g.D.Store.reads c.args.store.now) c.from_residual.ensures.1
+    cause_at_once c.from_residual.result c.args.parts.now c.args.frames.now.ranges (terms_of (region_of c.args.expr.now)) _ _ _
+    c.from_residual.ensures.1
 
 pub returns-in_err-lists-clause-cause : goal.returns-in_err-lists-clause-cause
 returns-in_err-lists-clause-cause g c =
     cause_passed c.from_residual-in_err-lists.result c.args.parts.now c.args.frames.now.ranges (terms_of (region_of c.args.expr.now))
-    (g.D.Store.holds c.args.store.now) c.deref.result.now (g.D.Store.faults c.args.store.now) (g.D.Store.faults c.lists_of.new.store)
-    (g.D.Store.reads c.args.store.now) (g.D.Store.reads c.lists_of.new.store) c.in_err-lists.field-0.0
     (c.deref.ensures.value ∙ terms_named (region_of c.args.expr.now) c.in_ok-terms.terms.items c.in_ok-terms.ensures)
     c.in_err-lists.ensures.cause c.from_residual-in_err-lists.ensures.1
 
 pub returns-in_err-counts-clause-cause : goal.returns-in_err-counts-clause-cause
 returns-in_err-counts-clause-cause g c =
     cause_at_last c.from_residual-in_err-counts.result c.args.parts.now c.args.frames.now.ranges (terms_of (region_of c.args.expr.now))
-    (g.D.Store.holds c.args.store.now) c.lists_of.new.parts.kept (g.D.Store.faults c.args.store.now)
-    (g.D.Store.faults c.lists_of.new.store) (g.D.Store.reads c.args.store.now) (g.D.Store.reads c.lists_of.new.store)
     c.in_ok-lists.ensures.calm
-    (subst (λ (ts : List (List ℕ)). Asks (blocks_for c.args.parts.now c.args.frames.now.ranges ts) (g.D.Store.holds c.args.store.now)
-    c.args.parts.now.kept c.lists_of.new.parts.kept (g.D.Store.reads c.args.store.now) (g.D.Store.reads c.lists_of.new.store))
-    (c.deref.ensures.value ∙ terms_named (region_of c.args.expr.now) c.in_ok-terms.terms.items c.in_ok-terms.ensures)
-    c.in_ok-lists.ensures.blocks)
+    (rw (c.deref.ensures.value ∙ terms_named (region_of c.args.expr.now) c.in_ok-terms.terms.items c.in_ok-terms.ensures)
+    at c.in_ok-lists.ensures.blocks)
     c.from_residual-in_err-counts.ensures.1
 
 pub count_apart-requires-clause-apart : goal.count_apart-requires-clause-apart

@@ -1,21 +1,12 @@
-use Rattle.std.proofs.Common.{◌≡◌, ◌++◌, ◌∙◌, List, ℕ, ap, map, refl, subst, sym, take}
-use Rattle.std.specs.Prelude.{IfSome, Option, nat_le, option_map}
-use Rattle.std.specs.List.{AllByRecursion, flat_map}
-use Rattle.wu_base.specs.declared.addresses.TermList.{TermList}
-use Rattle.wu_ask.specs.declared.FindLine.{FindLine}
+use Rattle.std.proofs.Common.{◌∙◌, ap, map, refl}
+use Rattle.std.specs.Prelude.{nat_le}
 use Rattle.wu_ask.specs.Questions.{Finding}
 use Rattle.wu_gcl.specs.Regions.{region_of}
-use Rattle.wu_lists.specs.Keeping.{Asks}
-use Rattle.wu_outside.specs.Content.{Content}
-use Rattle.wu_outside.specs.declared.ranges.ReadRange.{ReadRange}
-use Rattle.wu_engine.specs.Asked.{blocks_for}
-use Rattle.wu_engine.specs.Causes.{IsDamagedOver}
-use Rattle.wu_engine.specs.Finding.{AreFirstOf, hits_at, lines_at, looked_through, text_at}
-use Rattle.wu_engine.specs.Permitted.{ReadsSuch}
-use Rattle.wu_engine.specs.Reads.{IsTextOf, texts_shown}
+use Rattle.wu_engine.specs.Finding.{hits_at, looked_through, text_at}
+use Rattle.wu_engine.specs.Reads.{texts_shown}
 use Rattle.wu_engine.specs.Units.{found_in, list_at}
 use Rattle.wu_engine.proofs.AskedTerms.{terms_named}
-use Rattle.wu_engine.proofs.FilesWithExtents.{looked_answer, looked_shown, looked_texts}
+use Rattle.wu_engine.proofs.FilesWithExtents.{looked_answer, looked_texts}
 use Rattle.wu_engine.proofs.FoundLines.{are_texts}
 use Rattle.wu_engine.proofs.FramesOfFiles.{are_lists}
 use Rattle.wu_engine.proofs.DamagedTexts.{cause_of_text}
@@ -46,27 +37,14 @@ lines_shown-requires-clause-lists g c =
 
 pub returns-clause-answer : goal.returns-clause-answer
 returns-clause-answer g c = λ live s uid is tells keeps.
-    let found = found_in c.args.frames.now.ranges s in
-    let files = c.args.files.now.entries in
-    let region = region_of c.args.expr.now in
-    let lists = c.in_ok-lists.lists.items in
-    let holds = g.D.Store.holds c.args.store.now in
-    let few = nat_le c.in_ok-counts.counts.hits 4096 in
-    looked_answer c.args.frames.now live s uid is region c.in_ok-terms.terms.items c.in_ok-terms.ensures files lists
-    (c.in_ok-lists.ensures.lists s tells ∙ ap (map (list_at found)) c.deref.ensures.value)
-    c.args.k few holds c.in_ok-counts.counts.hits c.in_ok-counts.counts.files _ keeps
+    looked_answer c.args.frames.now live s uid is (region_of c.args.expr.now) c.in_ok-terms.terms.items c.in_ok-terms.ensures
+    c.args.files.now.entries c.in_ok-lists.lists.items
+    (c.in_ok-lists.ensures.lists s tells ∙ ap (map (list_at (found_in c.args.frames.now.ranges s))) c.deref.ensures.value)
+    c.args.k (nat_le c.in_ok-counts.counts.hits 4096) (g.D.Store.holds c.args.store.now) c.in_ok-counts.counts.hits
+    c.in_ok-counts.counts.files _ keeps
     (rw (c.deref-2.ensures.value, c.as_slice.ensures) at c.in_ok-counts.ensures.hits)
     (rw (c.deref-2.ensures.value, c.as_slice.ensures) at c.in_ok-counts.ensures.files)
-    (subst (λ (lines : List FindLine). IfSome holds (λ content. lines
-    ≡ take c.args.k (flat_map (lines_at content files region lists) (looked_through few region lists c.args.frames.now))))
-    (sym c.from.ensures)
-    (subst (λ (ls : List TermList). IfSome holds (λ content. c.in_ok-shown.shown.items
-    ≡ take c.args.k (flat_map (lines_at content files region ls) (looked_through few region ls c.args.frames.now))))
-    c.deref-3.ensures.value
-    (subst (λ (o : Option Content). IfSome o (λ content. c.in_ok-shown.shown.items
-    ≡ take c.args.k (flat_map (lines_at content files region c.deref-3.result.now)
-    (looked_through few region c.deref-3.result.now c.args.frames.now))))
-    c.lists_of.ensures.holds c.in_ok-shown.ensures.lines)))
+    (rw (c.deref-3.ensures.value, c.lists_of.ensures.holds, ← c.from.ensures) at c.in_ok-shown.ensures.lines)
 
 pub returns-clause-reads : goal.returns-clause-reads
 returns-clause-reads g c =
@@ -74,113 +52,74 @@ returns-clause-reads g c =
     let region = region_of c.args.expr.now in
     let lists = c.in_ok-lists.lists.items in
     let terms = c.in_ok-terms.terms.items in
-    let reads = g.D.Store.reads in
     let few = nat_le c.in_ok-counts.counts.hits 4096 in
     let looked = looked_through few region lists c.args.frames.now in
     record {
-      between = reads c.lists_of.new.store;
-      asks = subst (λ (ts : List (List ℕ)). Asks (blocks_for c.args.parts.now c.args.frames.now.ranges ts)
-          (g.D.Store.holds c.args.store.now) c.args.parts.now.kept c.lists_of.new.parts.kept (reads c.args.store.now)
-          (reads c.lists_of.new.store))
-          (c.deref.ensures.value ∙ terms_named region terms c.in_ok-terms.ensures) c.in_ok-lists.ensures.blocks;
+      between = g.D.Store.reads c.lists_of.new.store;
+      asks = rw (c.deref.ensures.value ∙ terms_named region terms c.in_ok-terms.ensures) at c.in_ok-lists.ensures.blocks;
       texts = texts_shown (hits_at files region lists) (text_at files) c.args.k looked;
       are = record {
-        are =
-            are_texts (g.D.Store.holds c.args.store.now) files region lists c.args.k looked
-            (subst (λ (o : Option Content). AllByRecursion (IsTextOf o files)
-            (texts_shown (hits_at files region lists) (text_at files) c.args.k looked)) c.lists_of.ensures.holds
-            (subst (λ (ls : List TermList). AllByRecursion (IsTextOf (g.D.Store.holds c.lists_of.new.store) files)
-            (texts_shown (hits_at files region ls) (text_at files) c.args.k (looked_through few region ls c.args.frames.now)))
-            c.deref-3.ensures.value c.in_ok-shown.ensures.sound));
+        are = are_texts (g.D.Store.holds c.args.store.now) files region lists c.args.k looked
+            (rw (c.deref-3.ensures.value, c.lists_of.ensures.holds) at c.in_ok-shown.ensures.sound);
         shown = λ live s uid is tells keeps.
             looked_texts c.args.frames.now live s uid is region terms c.in_ok-terms.ensures files lists
             (c.in_ok-lists.ensures.lists s tells ∙ ap (map (list_at (found_in c.args.frames.now.ranges s))) c.deref.ensures.value)
             c.args.k few keeps.records;
       };
-      read = subst (λ (ls : List TermList). reads c.lines_shown.new.store
-          ≡ option_map (λ ranges. ranges ++ texts_shown (hits_at files region ls) (text_at files) c.args.k
-          (looked_through few region ls c.args.frames.now))
-          (reads c.lists_of.new.store)) c.deref-3.ensures.value c.in_ok-shown.ensures.reads;
+      read = rw c.deref-3.ensures.value at c.in_ok-shown.ensures.reads;
     }
 
 pub returns-in_err-terms-clause-cause : goal.returns-in_err-terms-clause-cause
-returns-in_err-terms-clause-cause g c =
-    let faults = g.D.Store.faults c.args.store.now in
-    cause_of_memory c.from_residual.result faults faults
-    (IsDamagedOver c.args.frames.now (Finding c.args.k (region_of c.args.expr.now)) c.args.parts.now c.args.files.now.entries
-    (g.D.Store.holds c.args.store.now)) refl c.from_residual.ensures.1
+returns-in_err-terms-clause-cause g c = cause_of_memory c.from_residual.result _ refl c.from_residual.ensures.1
 
 pub returns-in_err-lists-clause-cause : goal.returns-in_err-lists-clause-cause
 returns-in_err-lists-clause-cause g c =
-    cause_of_fetch c.from_residual-in_err-lists.result (g.D.Store.faults c.args.store.now) (g.D.Store.faults c.lists_of.new.store)
-    c.args.frames.now (Finding c.args.k (region_of c.args.expr.now)) c.args.parts.now c.args.files.now.entries
-    (g.D.Store.holds c.args.store.now) c.in_err-lists.field-0.0 c.from_residual-in_err-lists.ensures.1 c.deref.result.now
+    cause_of_fetch c.from_residual-in_err-lists.result c.args.frames.now (Finding c.args.k (region_of c.args.expr.now)) c.args.parts.now
+    c.args.files.now.entries (g.D.Store.holds c.args.store.now) c.from_residual-in_err-lists.ensures.1
     (c.deref.ensures.value ∙ terms_named (region_of c.args.expr.now) c.in_ok-terms.terms.items c.in_ok-terms.ensures)
-    _ _ c.in_err-lists.ensures.cause
+    c.in_err-lists.ensures.cause
 
 pub returns-in_err-counts-clause-cause : goal.returns-in_err-counts-clause-cause
 returns-in_err-counts-clause-cause g c =
-    cause_of_memory c.from_residual-in_err-counts.result (g.D.Store.faults c.args.store.now) (g.D.Store.faults c.lists_of.new.store)
-    (IsDamagedOver c.args.frames.now (Finding c.args.k (region_of c.args.expr.now)) c.args.parts.now c.args.files.now.entries
-    (g.D.Store.holds c.args.store.now)) c.in_ok-lists.ensures.calm
-    c.from_residual-in_err-counts.ensures.1
+    cause_of_memory c.from_residual-in_err-counts.result _ c.in_ok-lists.ensures.calm c.from_residual-in_err-counts.ensures.1
 
 pub returns-in_err-shown-clause-cause : goal.returns-in_err-shown-clause-cause
 returns-in_err-shown-clause-cause g c =
-    cause_of_text c.from_residual-in_err-shown.result (g.D.Store.faults c.args.store.now) (g.D.Store.faults c.lines_shown.new.store)
-    c.args.frames.now c.args.parts.now c.args.files.now.entries (g.D.Store.holds c.args.store.now)
-    c.in_err-shown.field-0.0 c.from_residual-in_err-shown.ensures.1
-    (region_of c.args.expr.now) c.in_ok-terms.terms.items c.in_ok-terms.ensures c.deref-3.result.now
+    cause_of_text c.from_residual-in_err-shown.result c.args.frames.now c.args.parts.now c.args.files.now.entries
+    (g.D.Store.holds c.args.store.now) c.from_residual-in_err-shown.ensures.1 (region_of c.args.expr.now) c.in_ok-terms.terms.items
+    c.in_ok-terms.ensures c.deref-3.result.now
     (λ s tells. c.deref-3.ensures.value ∙ c.in_ok-lists.ensures.lists s tells
     ∙ ap (map (list_at (found_in c.args.frames.now.ranges s))) c.deref.ensures.value)
-    c.args.k (nat_le c.in_ok-counts.counts.hits 4096)
-    (g.D.Store.holds c.lists_of.new.store) (g.D.Store.faults c.lists_of.new.store) c.lists_of.ensures.holds c.in_ok-lists.ensures.calm
-    c.in_err-shown.ensures.cause
+    c.args.k (nat_le c.in_ok-counts.counts.hits 4096) c.lists_of.ensures.holds c.in_ok-lists.ensures.calm c.in_err-shown.ensures.cause
 
 pub returns-in_err-lists-clause-permitted : goal.returns-in_err-lists-clause-permitted
 returns-in_err-lists-clause-permitted g c = λ live s uid is tells keeps.
     failed_permitted c.args.frames.now live s uid is c.args.parts.now (g.D.Store.holds c.args.store.now) tells
-    (Finding c.args.k (region_of c.args.expr.now)) c.deref.result.now
+    (Finding c.args.k (region_of c.args.expr.now))
     (c.deref.ensures.value ∙ terms_named (region_of c.args.expr.now) c.in_ok-terms.terms.items c.in_ok-terms.ensures)
-    (g.D.Store.reads c.args.store.now) (g.D.Store.reads c.lists_of.new.store) _ _ _ c.in_err-lists.ensures.cause
+    (g.D.Store.reads c.args.store.now) (g.D.Store.reads c.lists_of.new.store) c.in_err-lists.ensures.cause
 
 pub returns-in_err-counts-clause-permitted : goal.returns-in_err-counts-clause-permitted
 returns-in_err-counts-clause-permitted g c = λ live s uid is tells keeps.
     asked_permitted c.args.frames.now live s uid is c.args.parts.now (g.D.Store.holds c.args.store.now) tells
-    (Finding c.args.k (region_of c.args.expr.now)) c.deref.result.now
+    (Finding c.args.k (region_of c.args.expr.now))
     (c.deref.ensures.value ∙ terms_named (region_of c.args.expr.now) c.in_ok-terms.terms.items c.in_ok-terms.ensures)
-    (g.D.Store.reads c.args.store.now) (g.D.Store.reads c.lists_of.new.store) c.lists_of.new.parts.kept c.in_ok-lists.ensures.blocks
+    (g.D.Store.reads c.args.store.now) (g.D.Store.reads c.lists_of.new.store) c.in_ok-lists.ensures.blocks
 
 pub returns-in_err-shown-clause-permitted : goal.returns-in_err-shown-clause-permitted
 returns-in_err-shown-clause-permitted g c = λ live s uid is tells keeps.
-    let found = found_in c.args.frames.now.ranges s in
     shown_permitted c.args.frames.now live s uid is (region_of c.args.expr.now) c.in_ok-terms.terms.items c.in_ok-terms.ensures
     c.args.files.now.entries c.deref-3.result.now
-    (c.deref-3.ensures.value ∙ c.in_ok-lists.ensures.lists s tells ∙ ap (map (list_at found)) c.deref.ensures.value)
-    c.args.parts.now (g.D.Store.holds c.args.store.now) tells keeps c.deref.result.now c.deref.ensures.value c.lists_of.new.parts.kept
-    (g.D.Store.reads c.args.store.now) (g.D.Store.reads c.lists_of.new.store) (g.D.Store.reads c.lines_shown.new.store)
-    c.in_ok-lists.ensures.blocks c.args.k c.args.frames.now.seen refl
-    (subst (λ (texts : List ReadRange). ReadsSuch (AreFirstOf texts) (g.D.Store.reads c.lists_of.new.store)
-    (g.D.Store.reads c.lines_shown.new.store))
-    (looked_shown c.args.frames.now live s uid is (region_of c.args.expr.now) c.in_ok-terms.terms.items c.in_ok-terms.ensures
-    c.args.files.now.entries c.deref-3.result.now
-    (c.deref-3.ensures.value ∙ c.in_ok-lists.ensures.lists s tells ∙ ap (map (list_at found)) c.deref.ensures.value)
-    c.args.k (nat_le c.in_ok-counts.counts.hits 4096) keeps.records)
-    c.in_err-shown.ensures.only)
+    (c.deref-3.ensures.value ∙ c.in_ok-lists.ensures.lists s tells
+    ∙ ap (map (list_at (found_in c.args.frames.now.ranges s))) c.deref.ensures.value)
+    c.args.parts.now (g.D.Store.holds c.args.store.now) tells keeps c.deref.ensures.value c.in_ok-lists.ensures.blocks c.args.k
+    (nat_le c.in_ok-counts.counts.hits 4096) c.in_err-shown.ensures.only
 
 pub returns-clause-permitted : goal.returns-clause-permitted
 returns-clause-permitted g c = λ live s uid is tells keeps.
-    let found = found_in c.args.frames.now.ranges s in
     shown_permitted c.args.frames.now live s uid is (region_of c.args.expr.now) c.in_ok-terms.terms.items c.in_ok-terms.ensures
     c.args.files.now.entries c.deref-3.result.now
-    (c.deref-3.ensures.value ∙ c.in_ok-lists.ensures.lists s tells ∙ ap (map (list_at found)) c.deref.ensures.value)
-    c.args.parts.now (g.D.Store.holds c.args.store.now) tells keeps c.deref.result.now c.deref.ensures.value c.lists_of.new.parts.kept
-    (g.D.Store.reads c.args.store.now) (g.D.Store.reads c.lists_of.new.store) (g.D.Store.reads c.lines_shown.new.store)
-    c.in_ok-lists.ensures.blocks c.args.k c.args.frames.now.seen refl
-    (subst (λ (texts : List ReadRange). ReadsSuch (AreFirstOf texts) (g.D.Store.reads c.lists_of.new.store)
-    (g.D.Store.reads c.lines_shown.new.store))
-    (looked_shown c.args.frames.now live s uid is (region_of c.args.expr.now) c.in_ok-terms.terms.items c.in_ok-terms.ensures
-    c.args.files.now.entries c.deref-3.result.now
-    (c.deref-3.ensures.value ∙ c.in_ok-lists.ensures.lists s tells ∙ ap (map (list_at found)) c.deref.ensures.value)
-    c.args.k (nat_le c.in_ok-counts.counts.hits 4096) keeps.records)
-    c.in_ok-shown.ensures.only)
+    (c.deref-3.ensures.value ∙ c.in_ok-lists.ensures.lists s tells
+    ∙ ap (map (list_at (found_in c.args.frames.now.ranges s))) c.deref.ensures.value)
+    c.args.parts.now (g.D.Store.holds c.args.store.now) tells keeps c.deref.ensures.value c.in_ok-lists.ensures.blocks c.args.k
+    (nat_le c.in_ok-counts.counts.hits 4096) c.in_ok-shown.ensures.only

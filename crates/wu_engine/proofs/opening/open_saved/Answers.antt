@@ -2,10 +2,13 @@ use Rattle.std.proofs.Common.{◌∙◌, ap, arith}
 use Rattle.wu_space.specs.Addresses.{Addresses}
 use Rattle.wu_parts.specs.Contents.{Contents}
 use Rattle.wu_parts.specs.Loading.{end_of}
+use Rattle.wu_engine.specs.Opening.{ReadsAtOpening}
 use Rattle.wu_engine.proofs.GoingAtFirst.{saved_goes}
 use Rattle.wu_engine.proofs.OpenedParts.{loadable}
 use Rattle.wu_engine.proofs.OpenedStates.{opening_done, opening_reads, opening_stands, reads_checkpoint, room_left}
+use Rattle.wu_engine.proofs.opening.open_saved.Given as given
 use Rattle.wu_engine.proofs.opening.open_saved.Goals as goal
+use Rattle.wu_engine.proofs.opening.open_saved.Goals.{After-load}
 
 pub load-requires : goal.load-requires
 load-requires g c =
@@ -30,31 +33,18 @@ engine_of-requires-clause-end g c =
 
 pub returns-clause-stands : goal.returns-clause-stands
 returns-clause-stands g c =
-    let holds = g.D.Store.holds in
-    let reads = g.D.Store.reads in
-    opening_stands c.args.root.now c.in_ok-checkpoint.checkpoint (holds c.args.store.now) (holds c.open_checkpoint.new.store)
-    c.open_checkpoint.ensures.holds c.as_slice.result.now c.as_slice.ensures c.requires.found c.in_ok-checkpoint.ensures.saved
-    c.in_ok-parts.parts c.args.flush_at (reads c.args.store.now) (reads c.open_checkpoint.new.store) (reads c.load.new.store)
-    c.in_ok-parts.ensures.loaded c.in_ok-engine_of.field-0 c.in_ok-engine_of.ensures (holds c.load.new.store) c.load.ensures.holds
+    opening_stands c.args.root.now c.in_ok-checkpoint.checkpoint c.open_checkpoint.ensures.holds c.as_slice.ensures c.requires.found
+    c.in_ok-checkpoint.ensures.saved c.in_ok-parts.ensures.loaded c.in_ok-engine_of.ensures c.load.ensures.holds
 
 pub returns-clause-goes : goal.returns-clause-goes
 returns-clause-goes g c = λ content told.
-    let holds = g.D.Store.holds in
-    let reads = g.D.Store.reads in
-    saved_goes c.args.root.now c.in_ok-checkpoint.checkpoint (holds c.args.store.now) (holds c.open_checkpoint.new.store)
-    c.open_checkpoint.ensures.holds c.as_slice.result.now c.as_slice.ensures c.requires.found c.in_ok-checkpoint.ensures.saved
-    c.in_ok-parts.parts c.args.flush_at (reads c.args.store.now) (reads c.open_checkpoint.new.store) (reads c.load.new.store)
-    c.in_ok-parts.ensures.loaded c.in_ok-engine_of.field-0 c.in_ok-engine_of.ensures (holds c.load.new.store) c.load.ensures.holds
-    content told
+    saved_goes c.args.root.now c.in_ok-checkpoint.checkpoint c.open_checkpoint.ensures.holds c.as_slice.ensures c.requires.found
+    c.in_ok-checkpoint.ensures.saved c.in_ok-parts.ensures.loaded c.in_ok-engine_of.ensures c.load.ensures.holds content told
 
 pub returns-clause-open : goal.returns-clause-open
 returns-clause-open g c =
-    let holds = g.D.Store.holds in
-    let reads = g.D.Store.reads in
-    opening_done c.args.root.now c.in_ok-checkpoint.checkpoint (holds c.args.store.now) (holds c.open_checkpoint.new.store)
-    c.open_checkpoint.ensures.holds c.as_slice.result.now c.as_slice.ensures c.requires.found c.in_ok-checkpoint.ensures.saved
-    c.in_ok-parts.parts c.args.flush_at (reads c.args.store.now) (reads c.open_checkpoint.new.store) (reads c.load.new.store)
-    c.in_ok-parts.ensures.loaded c.in_ok-checkpoint.ensures.read
+    opening_done c.args.root.now c.in_ok-checkpoint.checkpoint c.open_checkpoint.ensures.holds c.as_slice.ensures c.requires.found
+    c.in_ok-checkpoint.ensures.saved c.in_ok-parts.ensures.loaded (g.D.Store.reads c.args.store.now) c.in_ok-checkpoint.ensures.read
 
 pub returns-clause-next : goal.returns-clause-next
 returns-clause-next g c =
@@ -102,14 +92,16 @@ returns-clause-holds g c = c.load.ensures.holds ∙ c.open_checkpoint.ensures.ho
 pub returns-clause-moments : goal.returns-clause-moments
 returns-clause-moments g c = c.load.ensures.moments ∙ c.open_checkpoint.ensures.moments
 
+-- once the parts were asked for, what was read are the checkpoint and some of their fronts
+reads_then : (g : given.Over) (c : After-load g)
+    → ReadsAtOpening (g.D.Store.holds c.args.store.now) (g.D.Store.reads c.args.store.now) (g.D.Store.reads c.load.new.store)
+reads_then g c =
+    opening_reads c.args.root.now c.in_ok-checkpoint.checkpoint c.open_checkpoint.ensures.holds c.as_slice.ensures c.requires.found
+    c.in_ok-checkpoint.ensures.saved (g.D.Store.reads c.args.store.now) (g.D.Store.reads c.open_checkpoint.new.store)
+    (g.D.Store.reads c.load.new.store) c.in_ok-checkpoint.ensures.read c.load.ensures.fronts
+
 pub returns-clause-reads : goal.returns-clause-reads
-returns-clause-reads g c =
-    let holds = g.D.Store.holds in
-    let reads = g.D.Store.reads in
-    opening_reads c.args.root.now c.in_ok-checkpoint.checkpoint (holds c.args.store.now) (holds c.open_checkpoint.new.store)
-    c.open_checkpoint.ensures.holds c.as_slice.result.now c.as_slice.ensures c.requires.found c.in_ok-checkpoint.ensures.saved
-    (reads c.args.store.now) (reads c.open_checkpoint.new.store) (reads c.load.new.store) c.in_ok-checkpoint.ensures.read
-    c.load.ensures.fronts
+returns-clause-reads g c = reads_then g (goal.at.returns-clause-reads g c).After-load
 
 pub returns-clause-calm : goal.returns-clause-calm
 returns-clause-calm g c = c.in_ok-parts.ensures.calm ∙ c.in_ok-checkpoint.ensures.calm
@@ -120,19 +112,7 @@ returns-in_err-checkpoint-clause-reads g c =
     (g.D.Store.reads c.open_checkpoint.new.store) c.requires.found c.open_checkpoint.ensures.reads
 
 pub returns-in_err-parts-clause-reads : goal.returns-in_err-parts-clause-reads
-returns-in_err-parts-clause-reads g c =
-    let holds = g.D.Store.holds in
-    let reads = g.D.Store.reads in
-    opening_reads c.args.root.now c.in_ok-checkpoint.checkpoint (holds c.args.store.now) (holds c.open_checkpoint.new.store)
-    c.open_checkpoint.ensures.holds c.as_slice.result.now c.as_slice.ensures c.requires.found c.in_ok-checkpoint.ensures.saved
-    (reads c.args.store.now) (reads c.open_checkpoint.new.store) (reads c.load.new.store) c.in_ok-checkpoint.ensures.read
-    c.load.ensures.fronts
+returns-in_err-parts-clause-reads g c = reads_then g (goal.at.returns-in_err-parts-clause-reads g c).After-load
 
 pub returns-in_err-engine_of-clause-reads : goal.returns-in_err-engine_of-clause-reads
-returns-in_err-engine_of-clause-reads g c =
-    let holds = g.D.Store.holds in
-    let reads = g.D.Store.reads in
-    opening_reads c.args.root.now c.in_ok-checkpoint.checkpoint (holds c.args.store.now) (holds c.open_checkpoint.new.store)
-    c.open_checkpoint.ensures.holds c.as_slice.result.now c.as_slice.ensures c.requires.found c.in_ok-checkpoint.ensures.saved
-    (reads c.args.store.now) (reads c.open_checkpoint.new.store) (reads c.load.new.store) c.in_ok-checkpoint.ensures.read
-    c.load.ensures.fronts
+returns-in_err-engine_of-clause-reads g c = reads_then g (goal.at.returns-in_err-engine_of-clause-reads g c).After-load

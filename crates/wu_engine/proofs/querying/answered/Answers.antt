@@ -1,16 +1,7 @@
-use Rattle.std.proofs.Common.{◌≡◌, ℕ, refl, subst}
+use Rattle.std.proofs.Common.{refl}
 use Rattle.std.proofs.lemmas.Result.{on_ok_weaker}
-use Rattle.wu_ask.specs.declared.Answered.{Answered}
 use Rattle.wu_ask.specs.Questions.{question_of}
-use Rattle.wu_frames.specs.UserFrames.{AreFrames}
 use Rattle.wu_frames.proofs.Keeping.{right-found}
-use Rattle.wu_tree.specs.FileSystems.{FileSystem}
-use Rattle.wu_engine.specs.Answer.{answer}
-use Rattle.wu_engine.specs.Causes.{IsDamagedFor, IsDamagedOver}
-use Rattle.wu_engine.specs.Finding.{IsCause, KeepsTexts}
-use Rattle.wu_engine.specs.States.{State}
-use Rattle.wu_engine.specs.Searched.{Indexes, IsIndexOf, TellsPostings}
-use Rattle.wu_engine.specs.View.{view_of}
 use Rattle.wu_engine.proofs.AnswerLemmas.{if_ok}
 use Rattle.wu_engine.proofs.QueryReads.{cause_of_memory, no_memory, reads_for}
 use Rattle.wu_engine.proofs.ReadCauses.{cause_after, if_err}
@@ -34,21 +25,9 @@ pub returns-in-Some-clause-answer : goal.returns-in-Some-clause-answer
 returns-in-Some-clause-answer g c =
     let hers = right-found c.args.tree.now c.args.space.now.ranges c.args.query.now.uid c.prepare.new.self c.in-Some.frames.now
     c.prepare.ensures.right c.in-Some.ensures in
-    let holds = g.D.Store.holds c.args.store.now in
-    if_ok (λ (answered : Answered). (s : State) (uid : ℕ)
-    → Indexes c.in-Some.frames.now c.args.space.now.ranges s uid → TellsPostings c.args.parts.now holds s
-    → KeepsTexts c.args.files.now.entries holds s
-    → answered ≡ answer (view_of s uid) (question_of c.args.query.now.ask))
-    (λ (answered : Answered). (s : State) → c.args.tree.now ≡ s.tree → IsIndexOf c.args.space.now.ranges s
-    → TellsPostings c.args.parts.now holds s → KeepsTexts c.args.files.now.entries holds s
-    → answered ≡ answer (view_of s c.args.query.now.uid) (question_of c.args.query.now.ask)) c.answer.result
-    (λ answered for_all s tree index tells texts.
-    for_all s c.args.query.now.uid
-    (record {
-      index = index;
-      hers = subst (λ (fs : FileSystem). AreFrames fs c.args.space.now.ranges c.args.query.now.uid c.in-Some.frames.now) tree hers;
-    }) tells texts)
-    c.answer.ensures.answer
+    if_ok c.answer.result c.answer.ensures.answer
+    (λ answered known. λ s tree index tells texts.
+    known s c.args.query.now.uid (record { index = index; hers = rw tree at hers }) tells texts)
 
 pub returns-in-Some-clause-reads : goal.returns-in-Some-clause-reads
 returns-in-Some-clause-reads g c =
@@ -67,8 +46,8 @@ returns-in-Some-clause-permitted g c = λ s tree index tells texts.
     c.answer.ensures.permitted s uid
     (record {
       index = index;
-      hers = subst (λ (fs : FileSystem). AreFrames fs live uid c.in-Some.frames.now) tree
-          (right-found c.args.tree.now live uid c.prepare.new.self c.in-Some.frames.now c.prepare.ensures.right c.in-Some.ensures);
+      hers = rw tree
+          at (right-found c.args.tree.now live uid c.prepare.new.self c.in-Some.frames.now c.prepare.ensures.right c.in-Some.ensures);
     }) tells texts
 
 pub returns-in-Some-clause-sound : goal.returns-in-Some-clause-sound
@@ -88,32 +67,14 @@ returns-in-None-clause-sound g c =
 
 pub returns-in-Some-clause-cause : goal.returns-in-Some-clause-cause
 returns-in-Some-clause-cause g c =
-    let fs = c.args.tree.now in
-    let live = c.args.space.now.ranges in
-    let uid = c.args.query.now.uid in
-    let question = question_of c.args.query.now.ask in
-    let parts = c.args.parts.now in
-    let files = c.args.files.now.entries in
     let frames = c.in-Some.frames.now in
-    let holds = g.D.Store.holds c.args.store.now in
-    let faults = g.D.Store.faults c.args.store.now in
-    let now = g.D.Store.faults c.answer.new.store in
-    let hers = right-found fs live uid c.prepare.new.self frames c.prepare.ensures.right c.in-Some.ensures in
-    if_err (IsCause (IsDamagedOver frames question parts files holds) faults now)
-    (IsCause (IsDamagedFor fs live uid question parts files holds) faults now) c.answer.result
-    (λ trouble. cause_after (IsDamagedOver frames question parts files holds) (IsDamagedFor fs live uid question parts files holds)
-    faults faults now trouble refl (λ blob needed. record { frames = frames; hers = hers; needed = needed }))
-    c.answer.ensures.cause
+    let hers = right-found c.args.tree.now c.args.space.now.ranges c.args.query.now.uid c.prepare.new.self frames
+    c.prepare.ensures.right c.in-Some.ensures in
+    if_err c.answer.result c.answer.ensures.cause
+    (λ trouble cause. cause_after refl cause (λ blob needed. record { frames = frames; hers = hers; needed = needed }))
 
 pub returns-in_err-prepare-clause-cause : goal.returns-in_err-prepare-clause-cause
-returns-in_err-prepare-clause-cause g c =
-    let faults = g.D.Store.faults c.args.store.now in
-    cause_of_memory c.from_residual.result faults faults
-    (IsDamagedFor c.args.tree.now c.args.space.now.ranges c.args.query.now.uid (question_of c.args.query.now.ask) c.args.parts.now
-    c.args.files.now.entries (g.D.Store.holds c.args.store.now)) refl c.from_residual.ensures.1
+returns-in_err-prepare-clause-cause g c = cause_of_memory c.from_residual.result _ refl c.from_residual.ensures.1
 
 pub returns-in-None-clause-cause : goal.returns-in-None-clause-cause
-returns-in-None-clause-cause g c =
-    no_memory (IsDamagedFor c.args.tree.now c.args.space.now.ranges c.args.query.now.uid (question_of c.args.query.now.ask) c.args.parts.now
-    c.args.files.now.entries (g.D.Store.holds c.args.store.now))
-    (g.D.Store.faults c.args.store.now)
+returns-in-None-clause-cause g c = no_memory

@@ -8,7 +8,6 @@ use Rattle.wu_engine.specs.Units.{AreUnits, found_in, list_at}
 use Rattle.wu_engine.proofs.AnswerLemmas.{if_ok}
 use Rattle.wu_engine.proofs.AskedTerms.{front_told}
 use Rattle.wu_engine.proofs.FramesOfFiles.{are_lists}
-use Rattle.wu_engine.proofs.RankedAnswers.{IsByLists, IsOfExtents}
 use Rattle.wu_engine.proofs.UnitLemmas.{units_told}
 use Rattle.wu_engine.proofs.ranking.rank_lists.Goals as goal
 
@@ -23,20 +22,15 @@ units_of-requires-clause-lists c =
 pub returns : goal.returns
 returns c =
     let frames = c.args.frames.now in
-    let live = c.args.space.now.ranges in
-    let units = c.deref.result.now in
-    let words = c.args.words.now in
     let lists = c.args.lists.now in
     let count = c.args.count in
-    let own = c.split_at.result.1.now in
     let region = region_of c.args.unit.now in
     let found_units : AreUnits region frames (take count lists) c.in_ok-units.units.items =
     subst (λ (ls : List TermList). AreUnits region frames ls c.in_ok-units.units.items) c.split_at.ensures.front c.in_ok-units.ensures in
-    if_ok (IsByLists frames live c.args.k units words lists own) (IsOfExtents frames live c.args.k region words lists) c.rank_units.result
+    if_ok c.rank_units.result c.rank_units.ensures
     (λ answered known. λ s uid is terms told among.
     known s uid is region
-    (units_told region frames s (take count lists) c.in_ok-units.units.items units c.requires.of_unit found_units
+    (units_told region frames s (take count lists) c.in_ok-units.units.items c.deref.result.now c.requires.of_unit found_units
     (front_told (found_in frames.ranges s) terms lists count told) c.deref.ensures.value)
     terms (drop count terms) told
     (c.split_at.ensures.back ∙ ap (drop count) told ∙ drop-map (list_at (found_in frames.ranges s)) count terms) among)
-    c.rank_units.ensures

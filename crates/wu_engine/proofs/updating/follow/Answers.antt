@@ -1,8 +1,7 @@
-use Rattle.std.proofs.Common.{◌≡◌, ◌+◌, ◌<◌, ◌∙◌, ℕ, List, Option, Bool, cond, ap, subst, sym, arith}
+use Rattle.std.proofs.Common.{◌≡◌, ◌+◌, ◌<◌, ◌∙◌, ℕ, List, Option, Bool, cond, ap, arith}
 use Rattle.std.proofs.lemmas.Result.{on_ok_weaker}
 use Rattle.wu_parts.specs.Contents.{Contents}
-use Rattle.wu_parts.specs.Memory.{Gains}
-use Rattle.wu_engine.specs.Indexing.{FlushesFull, IsIndexable, KeepsParts, catalog_after, catalog_of, is_stored, terms_after}
+use Rattle.wu_engine.specs.Indexing.{FlushesFull, is_stored}
 use Rattle.wu_outside.specs.Content.{with_blob}
 use Rattle.wu_outside.specs.Crash.{Moments, Put, try_change}
 use Rattle.wu_engine.proofs.LeftImages.{changed_first, changed_twice}
@@ -10,14 +9,10 @@ use Rattle.wu_engine.proofs.OtherBlobs.{drawn_once, others_once, others_twice}
 use Rattle.wu_engine.proofs.updating.follow.Goals as goal
 
 pub index-requires : goal.index-requires
-index-requires g c =
-    subst (λ (parts : Contents). IsIndexable c.args.effect c.args.text.now c.args.space.now parts) (sym c.in_ok-blob.ensures.parts)
-    c.requires.indexable
+index-requires g c = rw c.in_ok-blob.ensures.parts c.requires.indexable
 
 pub returns-clause-done : goal.returns-clause-done
 returns-clause-done g c =
-    let effect = c.args.effect in
-    let text = c.args.text.now in
     on_ok_weaker c.flush_if_full.result
     (λ (flushed : FlushesFull c.index.new.space.ranges c.index.new.parts c.flush_if_full.new.parts
     (g.D.Store.holds c.store_text.new.store, g.D.Store.moments c.store_text.new.store)
@@ -27,43 +22,34 @@ returns-clause-done g c =
       between = (g.D.Store.holds c.store_text.new.store, g.D.Store.moments c.store_text.new.store);
       drawn = c.in_ok-blob.ensures.blob;
       stored = c.in_ok-blob.ensures.stored;
-      catalog = subst (λ (p : Contents). catalog_of c.index.new.space c.index.new.files.entries c.index.new.parts
-          ≡ catalog_after effect text c.in_ok-blob.blob (catalog_of c.args.space.now c.args.files.now.entries p))
-          c.in_ok-blob.ensures.parts c.in_ok-index.ensures.catalog;
-      gained = subst (λ (p : Contents). Gains c.args.space.now.next (terms_after effect text) p.memory c.index.new.parts.memory)
-          c.in_ok-blob.ensures.parts c.in_ok-index.ensures.memory;
-      others = subst (λ (p : Contents). KeepsParts p c.index.new.parts) c.in_ok-blob.ensures.parts c.in_ok-index.ensures.others;
+      catalog = rw c.in_ok-blob.ensures.parts at c.in_ok-index.ensures.catalog;
+      gained = rw c.in_ok-blob.ensures.parts at c.in_ok-index.ensures.memory;
+      others = rw c.in_ok-blob.ensures.parts at c.in_ok-index.ensures.others;
       flushed = flushed;
     })
     c.flush_if_full.ensures.flushed
 
 pub flush_if_full-requires-clause-blob : goal.flush_if_full-requires-clause-blob
 flush_if_full-requires-clause-blob g c =
-    let drawn = drawn_once c.args.effect.texted c.args.text.now c.args.parts.now c.store_text.new.parts c.index.new.parts
-    c.in_ok-blob.ensures.parts c.in_ok-index.ensures.others in
+    let drawn = drawn_once c.args.effect.texted c.args.text.now c.args.parts.now c.in_ok-blob.ensures.parts c.in_ok-index.ensures.others in
     omega (arith, drawn.most, c.requires.blobs)
 
 pub flush_if_full-requires-clause-flushes : goal.flush_if_full-requires-clause-flushes
 flush_if_full-requires-clause-flushes g c =
-    let drawn = drawn_once c.args.effect.texted c.args.text.now c.args.parts.now c.store_text.new.parts c.index.new.parts
-    c.in_ok-blob.ensures.parts c.in_ok-index.ensures.others in
+    let drawn = drawn_once c.args.effect.texted c.args.text.now c.args.parts.now c.in_ok-blob.ensures.parts c.in_ok-index.ensures.others in
     omega (arith, drawn.flushes, c.requires.flushes)
 
 pub returns-clause-elsewhere : goal.returns-clause-elsewhere
 returns-clause-elsewhere g c =
-    others_twice c.args.parts.now c.index.new.parts (g.D.Store.holds c.args.store.now) (g.D.Store.holds c.store_text.new.store)
-    (g.D.Store.holds c.flush_if_full.new.store)
-    (drawn_once c.args.effect.texted c.args.text.now c.args.parts.now c.store_text.new.parts c.index.new.parts
-    c.in_ok-blob.ensures.parts c.in_ok-index.ensures.others)
+    others_twice (g.D.Store.holds c.flush_if_full.new.store)
+    (drawn_once c.args.effect.texted c.args.text.now c.args.parts.now c.in_ok-blob.ensures.parts c.in_ok-index.ensures.others)
     c.store_text.ensures.elsewhere c.flush_if_full.ensures.elsewhere
 
 pub returns-in_err-blob-clause-elsewhere : goal.returns-in_err-blob-clause-elsewhere
-returns-in_err-blob-clause-elsewhere g c =
-    others_once c.args.parts.now (g.D.Store.holds c.args.store.now) (g.D.Store.holds c.store_text.new.store) c.store_text.ensures.elsewhere
+returns-in_err-blob-clause-elsewhere g c = others_once c.args.parts.now c.store_text.ensures.elsewhere
 
 pub returns-in_err-index-clause-elsewhere : goal.returns-in_err-index-clause-elsewhere
-returns-in_err-index-clause-elsewhere g c =
-    others_once c.args.parts.now (g.D.Store.holds c.args.store.now) (g.D.Store.holds c.store_text.new.store) c.store_text.ensures.elsewhere
+returns-in_err-index-clause-elsewhere g c = others_once c.args.parts.now c.store_text.ensures.elsewhere
 
 pub returns-clause-untouched : goal.returns-clause-untouched
 returns-clause-untouched g c =
@@ -96,24 +82,15 @@ tried blob written moments = try_change (Put blob) (with_blob blob written) mome
 
 pub returns-clause-tried : goal.returns-clause-tried
 returns-clause-tried g c =
-    let moments = g.D.Store.moments in
     let next = c.args.parts.now.next_blob in
-    let drawn = drawn_once c.args.effect.texted c.args.text.now c.args.parts.now c.store_text.new.parts c.index.new.parts
-    c.in_ok-blob.ensures.parts c.in_ok-index.ensures.others in
-    changed_twice tried next (next + 2) next c.index.new.parts.next_blob (moments c.args.store.now) (moments c.store_text.new.store)
-    (moments c.flush_if_full.new.store) (omega arith) (omega arith) drawn.least (omega (arith, drawn.most))
+    let drawn = drawn_once c.args.effect.texted c.args.text.now c.args.parts.now c.in_ok-blob.ensures.parts c.in_ok-index.ensures.others in
+    changed_twice tried next (next + 2) next c.index.new.parts.next_blob (omega arith) (omega arith) drawn.least (omega (arith, drawn.most))
     c.store_text.ensures.tried c.flush_if_full.ensures.tried
 
 pub returns-in_err-blob-clause-tried : goal.returns-in_err-blob-clause-tried
 returns-in_err-blob-clause-tried g c =
-    let moments = g.D.Store.moments in
-    let next = c.args.parts.now.next_blob in
-    changed_first tried next (next + 2) next (moments c.args.store.now) (moments c.store_text.new.store) (omega arith) (omega arith)
-    c.store_text.ensures.tried
+    let next = c.args.parts.now.next_blob in changed_first tried next (next + 2) next (omega arith) (omega arith) c.store_text.ensures.tried
 
 pub returns-in_err-index-clause-tried : goal.returns-in_err-index-clause-tried
 returns-in_err-index-clause-tried g c =
-    let moments = g.D.Store.moments in
-    let next = c.args.parts.now.next_blob in
-    changed_first tried next (next + 2) next (moments c.args.store.now) (moments c.store_text.new.store) (omega arith) (omega arith)
-    c.store_text.ensures.tried
+    let next = c.args.parts.now.next_blob in changed_first tried next (next + 2) next (omega arith) (omega arith) c.store_text.ensures.tried

@@ -1,32 +1,20 @@
-use Rattle.std.proofs.Common.{◌∙◌, inr, subst, sym}
-use Rattle.std.specs.Prelude.{IfErr, IfSome, None}
+use Rattle.std.proofs.Common.{◌∙◌, inr}
 use Rattle.std.proofs.lemmas.Result.{on_ok_weaker}
-use Rattle.wu_engine.specs.Opened.{FindsRoot}
-use Rattle.wu_engine.specs.Opening.{IsBeginCause}
-use Rattle.wu_engine.proofs.GoingAtFirst.{begins_going, first_goes}
+use Rattle.wu_engine.proofs.GoingAtFirst.{first_goes}
 use Rattle.wu_engine.proofs.LeftImages.{opened_durable, opened_left}
-use Rattle.wu_engine.proofs.OpenedStates.{begins_cause, begins_first, begins_open, begins_reads, begins_saved, error_passed, never_damaged, on_any_err, on_any_ok, opens_nothing, reads_nothing, spent_on}
+use Rattle.wu_engine.proofs.OpenedStates.{error_passed, first_stands, never_damaged, on_any_err, on_any_ok, opens_nothing, reads_nothing, spent_on}
+use Rattle.wu_engine.proofs.PassedCauses.{err_from}
 use Rattle.wu_engine.proofs.engines.Engine.begin.Goals as goal
 
 pub returns-in-Some-clause-stands : goal.returns-in-Some-clause-stands
-returns-in-Some-clause-stands g c =
-    let holds = g.D.Store.holds in
-    begins_saved (holds c.args.store.now) (holds c.open_root.new.store) (c.open_root.ensures.holds ∙ c.sync.ensures.same)
-    c.open_saved.result (holds c.open_saved.new.store) c.open_saved.ensures.stands
+returns-in-Some-clause-stands g c = rw (c.open_root.ensures.holds ∙ c.sync.ensures.same) at c.open_saved.ensures.stands
 
 pub returns-in-Some-clause-goes : goal.returns-in-Some-clause-goes
-returns-in-Some-clause-goes g c =
-    let holds = g.D.Store.holds in
-    begins_going (holds c.args.store.now) (holds c.open_root.new.store) (holds c.open_saved.new.store)
-    (c.open_root.ensures.holds ∙ c.sync.ensures.same) c.open_saved.result c.open_saved.ensures.goes
+returns-in-Some-clause-goes g c = rw (c.open_root.ensures.holds ∙ c.sync.ensures.same) at c.open_saved.ensures.goes
 
 pub returns-in-Some-clause-open : goal.returns-in-Some-clause-open
 returns-in-Some-clause-open g c =
-    let holds = g.D.Store.holds in
-    let reads = g.D.Store.reads in
-    begins_open (holds c.args.store.now) (holds c.open_root.new.store) (c.open_root.ensures.holds ∙ c.sync.ensures.same)
-    c.open_saved.result (reads c.args.store.now) (reads c.open_root.new.store) (reads c.open_saved.new.store)
-    (c.open_root.ensures.reads ∙ c.sync.ensures.unread) c.open_saved.ensures.open
+    rw (c.open_root.ensures.holds ∙ c.sync.ensures.same, c.open_root.ensures.reads ∙ c.sync.ensures.unread) at c.open_saved.ensures.open
 
 pub returns-in-Some-clause-holds : goal.returns-in-Some-clause-holds
 returns-in-Some-clause-holds g c = c.open_saved.ensures.holds ∙ (c.open_root.ensures.holds ∙ c.sync.ensures.same)
@@ -41,11 +29,7 @@ returns-in-Some-clause-still g c =
 
 pub returns-in-Some-clause-reads : goal.returns-in-Some-clause-reads
 returns-in-Some-clause-reads g c =
-    let holds = g.D.Store.holds in
-    let reads = g.D.Store.reads in
-    begins_reads (holds c.args.store.now) (holds c.open_root.new.store) (c.open_root.ensures.holds ∙ c.sync.ensures.same)
-    (reads c.args.store.now) (reads c.open_root.new.store) (reads c.open_saved.new.store)
-    (c.open_root.ensures.reads ∙ c.sync.ensures.unread) c.open_saved.ensures.reads
+    rw (c.open_root.ensures.holds ∙ c.sync.ensures.same, c.open_root.ensures.reads ∙ c.sync.ensures.unread) at c.open_saved.ensures.reads
 
 pub returns-in-Some-clause-calm : goal.returns-in-Some-clause-calm
 returns-in-Some-clause-calm g c =
@@ -53,20 +37,14 @@ returns-in-Some-clause-calm g c =
 
 pub returns-in-Some-clause-cause : goal.returns-in-Some-clause-cause
 returns-in-Some-clause-cause g c =
-    let holds = g.D.Store.holds in
-    let faults = g.D.Store.faults in
-    begins_cause (holds c.args.store.now) (holds c.open_root.new.store) (c.open_root.ensures.holds ∙ c.sync.ensures.same)
-    c.open_saved.result (faults c.args.store.now) (faults c.open_root.new.store) (faults c.open_saved.new.store)
-    (c.in_ok-open_root.ensures.calm ∙ c.in_ok-sync.ensures.cause.calm) c.open_saved.ensures.cause
+    rw (c.open_root.ensures.holds ∙ c.sync.ensures.same, c.in_ok-open_root.ensures.calm ∙ c.in_ok-sync.ensures.cause.calm)
+    at c.open_saved.ensures.cause
 
 pub returns-in-Some-clause-undamaged : goal.returns-in-Some-clause-undamaged
 returns-in-Some-clause-undamaged g c =
-    let holds = g.D.Store.holds in
-    let faults = g.D.Store.faults in
-    never_damaged (holds c.args.store.now) (faults c.args.store.now) (faults c.open_saved.new.store) c.open_saved.result
-    (begins_cause (holds c.args.store.now) (holds c.open_root.new.store) (c.open_root.ensures.holds ∙ c.sync.ensures.same)
-    c.open_saved.result (faults c.args.store.now) (faults c.open_root.new.store) (faults c.open_saved.new.store)
-    (c.in_ok-open_root.ensures.calm ∙ c.in_ok-sync.ensures.cause.calm) c.open_saved.ensures.cause)
+    never_damaged _ _ _ c.open_saved.result
+    (rw (c.open_root.ensures.holds ∙ c.sync.ensures.same, c.in_ok-open_root.ensures.calm ∙ c.in_ok-sync.ensures.cause.calm)
+    at c.open_saved.ensures.cause)
 
 pub returns-in_err-open_root-clause-spent : goal.returns-in_err-open_root-clause-spent
 returns-in_err-open_root-clause-spent g c =
@@ -79,21 +57,16 @@ returns-in_err-open_root-clause-spent g c =
 pub returns-in_err-open_root-clause-undamaged : goal.returns-in_err-open_root-clause-undamaged
 returns-in_err-open_root-clause-undamaged g c =
     let r = c.from_residual-in_err-open_root.result in
-    let fault = c.in_err-open_root.field-0.0 in
-    let holds = g.D.Store.holds in
     let faults = g.D.Store.faults in
-    never_damaged (holds c.args.store.now) (faults c.args.store.now) (faults c.open_root.new.store) r
-    (begins_cause (holds c.args.store.now) (holds c.sync.new.self) c.sync.ensures.same r (faults c.args.store.now) (faults c.sync.new.self)
-    (faults c.open_root.new.store) c.in_ok-sync.ensures.cause.calm
-    (subst (λ q. IfErr q (IsBeginCause (holds c.sync.new.self) (faults c.sync.new.self) (faults c.open_root.new.store)))
-    (sym (error_passed r fault c.from_residual-in_err-open_root.ensures.1)) c.in_err-open_root.ensures.cause))
+    never_damaged _ (faults c.args.store.now) (faults c.open_root.new.store) r
+    (err_from _ r c.in_err-open_root.field-0.0 c.from_residual-in_err-open_root.ensures.1
+    (rw (c.sync.ensures.same, c.in_ok-sync.ensures.cause.calm) at c.in_err-open_root.ensures.cause))
 
 pub returns-in_ok-open_first-in-None-clause-stands : goal.returns-in_ok-open_first-in-None-clause-stands
-returns-in_ok-open_first-in-None-clause-stands g c =
-    let holds = g.D.Store.holds in
-    begins_first (holds c.args.store.now) (holds c.open_root.new.store) (c.open_root.ensures.holds ∙ c.sync.ensures.same)
-    c.in_ok-open_first-in-None.field-0 c.args.flush_at c.in_ok-open_first-in-None.ensures
-    (subst (λ h. IfSome h (FindsRoot None)) c.sync.ensures.same (rw c.in-None.is at c.in_ok-open_root.ensures.found))
+returns-in_ok-open_first-in-None-clause-stands g c = λ s image.
+    rw (c.open_root.ensures.holds ∙ c.sync.ensures.same)
+    (first_stands c.in_ok-open_first-in-None.field-0 c.args.flush_at c.in_ok-open_first-in-None.ensures (g.D.Store.holds c.args.store.now)
+    (rw (c.sync.ensures.same, c.in-None.is) at c.in_ok-open_root.ensures.found) s image)
 
 pub returns-in_ok-open_first-in-None-clause-goes : goal.returns-in_ok-open_first-in-None-clause-goes
 returns-in_ok-open_first-in-None-clause-goes g c = λ content told.
@@ -103,22 +76,18 @@ returns-in_ok-open_first-in-None-clause-goes g c = λ content told.
 
 pub returns-in_ok-open_first-in-None-clause-open : goal.returns-in_ok-open_first-in-None-clause-open
 returns-in_ok-open_first-in-None-clause-open g c =
-    let holds = g.D.Store.holds in
     let reads = g.D.Store.reads in
-    opens_nothing (holds c.args.store.now) (reads c.args.store.now) (reads c.open_root.new.store)
-    (c.open_root.ensures.reads ∙ c.sync.ensures.unread)
-    (subst (λ h. IfSome h (FindsRoot None)) c.sync.ensures.same (rw c.in-None.is at c.in_ok-open_root.ensures.found))
+    opens_nothing (g.D.Store.holds c.args.store.now) (reads c.args.store.now) (reads c.open_root.new.store)
+    (c.open_root.ensures.reads ∙ c.sync.ensures.unread) (rw (c.sync.ensures.same, c.in-None.is) at c.in_ok-open_root.ensures.found)
 
 pub returns-in_ok-open_first-in-None-clause-reads : goal.returns-in_ok-open_first-in-None-clause-reads
 returns-in_ok-open_first-in-None-clause-reads g c =
-    let reads = g.D.Store.reads in
-    reads_nothing (g.D.Store.holds c.args.store.now) (reads c.args.store.now) (reads c.open_root.new.store)
+    reads_nothing (g.D.Store.holds c.args.store.now) (g.D.Store.reads c.args.store.now) (g.D.Store.reads c.open_root.new.store)
     (c.open_root.ensures.reads ∙ c.sync.ensures.unread)
 
 pub returns-in-Some-clause-survives : goal.returns-in-Some-clause-survives
 returns-in-Some-clause-survives g c =
-    opened_left (g.D.Store.moments c.args.store.now) (g.D.Store.moments c.open_saved.new.store)
-    (c.open_saved.ensures.moments ∙ (c.open_root.ensures.moments ∙ c.in_ok-sync.ensures.settled))
+    opened_left _ _ (c.open_saved.ensures.moments ∙ (c.open_root.ensures.moments ∙ c.in_ok-sync.ensures.settled))
 
 pub returns-in-Some-clause-durable : goal.returns-in-Some-clause-durable
 returns-in-Some-clause-durable g c = λ s image.
@@ -133,16 +102,10 @@ returns-in_ok-open_first-in-None-clause-durable g c = λ s image.
     (g.met.D.Store.told_alike c.args.store.now) (c.open_root.ensures.moments ∙ c.in_ok-sync.ensures.settled) s image
 
 pub returns-in_ok-open_first-in-None-clause-survives : goal.returns-in_ok-open_first-in-None-clause-survives
-returns-in_ok-open_first-in-None-clause-survives g c =
-    opened_left (g.D.Store.moments c.args.store.now) (g.D.Store.moments c.open_root.new.store)
-    (c.open_root.ensures.moments ∙ c.in_ok-sync.ensures.settled)
+returns-in_ok-open_first-in-None-clause-survives g c = opened_left _ _ (c.open_root.ensures.moments ∙ c.in_ok-sync.ensures.settled)
 
 pub returns-in_err-open_root-clause-survives : goal.returns-in_err-open_root-clause-survives
-returns-in_err-open_root-clause-survives g c =
-    opened_left (g.D.Store.moments c.args.store.now) (g.D.Store.moments c.open_root.new.store)
-    (c.open_root.ensures.moments ∙ c.in_ok-sync.ensures.settled)
+returns-in_err-open_root-clause-survives g c = opened_left _ _ (c.open_root.ensures.moments ∙ c.in_ok-sync.ensures.settled)
 
 pub returns-in_err-open_first-in-None-clause-survives : goal.returns-in_err-open_first-in-None-clause-survives
-returns-in_err-open_first-in-None-clause-survives g c =
-    opened_left (g.D.Store.moments c.args.store.now) (g.D.Store.moments c.open_root.new.store)
-    (c.open_root.ensures.moments ∙ c.in_ok-sync.ensures.settled)
+returns-in_err-open_first-in-None-clause-survives g c = opened_left _ _ (c.open_root.ensures.moments ∙ c.in_ok-sync.ensures.settled)

@@ -2,7 +2,7 @@ use Rattle.std.proofs.Common.{ℕ, map, refl}
 use Rattle.wu_base.specs.declared.addresses.Range.{Range}
 use Rattle.wu_layout.specs.Postings.{live_of}
 use Rattle.wu_engine.proofs.AddedBlobs.{draws_named, flushed_draws}
-use Rattle.wu_engine.proofs.GoingEvents.{flush_sound, has_none}
+use Rattle.wu_engine.proofs.GoingEvents.{flush_sound, goes_with, has_none}
 use Rattle.wu_engine.proofs.LeftImages.{put_left}
 use Rattle.wu_engine.proofs.NamedBlobs.{flush_names}
 use Rattle.wu_engine.proofs.SoundLemmas.{numbers_left}
@@ -33,29 +33,16 @@ returns-in-Ok-clause-goes g c = λ start goes.
     let old = c.args.self.now in
     let holds = g.D.Store.holds in
     let moments = g.D.Store.moments in
-    let memory = has_none old.space.next old.parts c.flush.new.self c.in-Ok.ensures.changes in
-    record {
-      goes_on = refl;
-      low = memory.low;
-      high = memory.high;
-      below = memory.below;
-      postings = memory.postings;
-      memory = memory.has;
-      sound =
-          flush_sound start old.files.entries old.checkpoint (live_of (map (λ (file : ℕ × Range). file.1) old.space.ranges) goes.postings)
-          old.parts c.flush.new.self (holds c.args.store.now, moments c.args.store.now) (holds c.flush.new.store, moments c.flush.new.store)
-          (c.in-Ok.ensures.flushed goes.low goes.high goes.postings goes.memory) goes.sound;
-    }
+    goes_with refl (has_none old.space.next old.parts c.flush.new.self c.in-Ok.ensures.changes)
+    (flush_sound start old.files.entries old.checkpoint (live_of (map (λ (file : ℕ × Range). file.1) old.space.ranges) goes.postings)
+    old.parts c.flush.new.self (holds c.args.store.now, moments c.args.store.now) (holds c.flush.new.store, moments c.flush.new.store)
+    (c.in-Ok.ensures.flushed goes.low goes.high goes.postings goes.memory) goes.sound)
 
 pub returns-in-Ok-clause-onward : goal.returns-in-Ok-clause-onward
 returns-in-Ok-clause-onward g c = (numbers_left c.args.self.now.parts c.flush.new.self c.in-Ok.ensures.changes).least
 
 pub returns-in-Ok-clause-survives : goal.returns-in-Ok-clause-survives
-returns-in-Ok-clause-survives g c = λ s last stands saved.
-    put_left c.args.self.now (g.D.Store.holds c.args.store.now) s last (g.D.Store.moments c.args.store.now)
-    (g.D.Store.moments c.flush.new.store) stands saved c.flush.ensures.tried
+returns-in-Ok-clause-survives g c = λ s last stands saved. put_left stands saved c.flush.ensures.tried
 
 pub returns-in-Err-clause-survives : goal.returns-in-Err-clause-survives
-returns-in-Err-clause-survives g c = λ s last stands saved.
-    put_left c.args.self.now (g.D.Store.holds c.args.store.now) s last (g.D.Store.moments c.args.store.now)
-    (g.D.Store.moments c.flush.new.store) stands saved c.flush.ensures.tried
+returns-in-Err-clause-survives g c = λ s last stands saved. put_left stands saved c.flush.ensures.tried

@@ -1,5 +1,6 @@
 use Rattle.std.proofs.Common.{refl}
 use Rattle.wu_parts.specs.Flushing.{Told}
+use Rattle.wu_engine.proofs.GoingEvents.{goes_with}
 use Rattle.wu_engine.proofs.GoingSaves.{none_in_memory, save_sound}
 use Rattle.wu_engine.proofs.SavedCrashes.{saved_durable, saved_left, stopped_left}
 use Rattle.wu_engine.proofs.SavedEngines.{LeavesSaved, gone_saved, image_on, named_on, numbers_saved, saved_on, sound_saved}
@@ -73,20 +74,11 @@ returns-in-Ok-clause-kept g c = (numbers g c).kept
 pub returns-in-Ok-clause-goes : goal.returns-in-Ok-clause-goes
 returns-in-Ok-clause-goes g c = λ start goes.
     let old = c.args.self.now in
-    let memory =
-    none_in_memory old.tree old.space old.files.entries old.checkpoint c.in-Ok.checkpoint old.parts c.save.new.parts (before g c)
-    (after g c) c.in-Ok.ensures.saved in
-    record {
-      goes_on = refl;
-      low = memory.low;
-      high = memory.high;
-      below = memory.below;
-      postings = memory.postings;
-      memory = memory.has;
-      sound =
-          save_sound old.tree old.space old.files.entries old.checkpoint c.in-Ok.checkpoint old.parts c.save.new.parts (before g c)
-          (after g c) c.in-Ok.ensures.saved start goes.low goes.high goes.postings goes.memory goes.sound;
-    }
+    goes_with refl
+    (none_in_memory old.tree old.space old.files.entries old.checkpoint c.in-Ok.checkpoint old.parts c.save.new.parts (before g c)
+    (after g c) c.in-Ok.ensures.saved)
+    (save_sound old.tree old.space old.files.entries old.checkpoint c.in-Ok.checkpoint old.parts c.save.new.parts (before g c)
+    (after g c) c.in-Ok.ensures.saved start goes.low goes.high goes.postings goes.memory goes.sound)
 
 pub returns-in-Ok-clause-onward : goal.returns-in-Ok-clause-onward
 returns-in-Ok-clause-onward g c = (numbers g c).least

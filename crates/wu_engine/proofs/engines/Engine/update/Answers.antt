@@ -5,7 +5,7 @@ use Rattle.wu_engine.specs.Renewing.{Touches, touched_of}
 use Rattle.wu_engine.specs.States.{after_event}
 use Rattle.wu_engine.proofs.AddedBlobs.{draws_named, event_draws, none_added}
 use Rattle.wu_engine.proofs.FileChanges.{changes}
-use Rattle.wu_engine.proofs.GoingEvents.{HasSome, goes_followed, has_followed}
+use Rattle.wu_engine.proofs.GoingEvents.{HasSome, goes_followed, goes_with, has_followed}
 use Rattle.wu_engine.proofs.KeptFrames.{touches}
 use Rattle.wu_engine.proofs.LeftImages.{puts_left, still_left}
 use Rattle.wu_engine.proofs.LeftStores.{left_alone}
@@ -142,19 +142,10 @@ returns-in-Ok-followed-clause-goes g c = λ start goes.
     c.requires.short (omega (arith, taken)) in
     let some : HasSome old.space.next old.parts.memory =
     record { low = goes.low; high = goes.high; below = goes.below; postings = goes.postings; has = goes.memory } in
-    let memory =
-    has_followed start old.checkpoint effect text old.space space old.files.entries files old.parts parts before after done some in
-    record {
-      goes_on = refl;
-      low = memory.low;
-      high = memory.high;
-      below = memory.below;
-      postings = memory.postings;
-      memory = memory.has;
-      sound =
-          goes_followed start old.checkpoint effect text old.space space old.files.entries files old.parts parts before after done
-          sound.ranges sorted indexed.made some goes.sound;
-    }
+    goes_with refl
+    (has_followed start old.checkpoint effect text old.space space old.files.entries files old.parts parts before after done some)
+    (goes_followed start old.checkpoint effect text old.space space old.files.entries files old.parts parts before after done sound.ranges
+    sorted indexed.made some goes.sound)
 
 pub returns-in-Err-clause-goes : goal.returns-in-Err-clause-goes
 returns-in-Err-clause-goes g c = λ start goes. record {
@@ -169,20 +160,14 @@ returns-in-Err-clause-goes g c = λ start goes. record {
 
 pub returns-in-Ok-followed-clause-survives : goal.returns-in-Ok-followed-clause-survives
 returns-in-Ok-followed-clause-survives g c = λ s last stands saved.
-    let next = c.args.self.now.parts.next_blob in
-    puts_left c.args.self.now (g.D.Store.holds c.args.store.now) s last (g.D.Store.moments c.args.store.now)
-    (g.D.Store.moments c.follow-followed.new.store) stands saved (next + 2) 2 c.follow-followed.ensures.tried
+    puts_left stands saved (c.args.self.now.parts.next_blob + 2) 2 _ c.follow-followed.ensures.tried
 
 pub returns-in-Err-clause-survives : goal.returns-in-Err-clause-survives
-returns-in-Err-clause-survives g c = λ s last stands saved.
-    still_left c.args.self.now (g.D.Store.holds c.args.store.now) s last (g.D.Store.moments c.args.store.now)
-    (g.D.Store.moments c.args.store.now) stands saved refl
+returns-in-Err-clause-survives g c = λ s last stands saved. still_left stands saved refl
 
 pub returns-in-Err-followed-clause-survives : goal.returns-in-Err-followed-clause-survives
 returns-in-Err-followed-clause-survives g c = λ s last stands saved.
-    let next = c.args.self.now.parts.next_blob in
-    puts_left c.args.self.now (g.D.Store.holds c.args.store.now) s last (g.D.Store.moments c.args.store.now)
-    (g.D.Store.moments c.follow-followed.new.store) stands saved (next + 2) 2 c.follow-followed.ensures.tried
+    puts_left stands saved (c.args.self.now.parts.next_blob + 2) 2 _ c.follow-followed.ensures.tried
 
 pub returns-in-Ok-followed-clause-frames : goal.returns-in-Ok-followed-clause-frames
 returns-in-Ok-followed-clause-frames g c =

@@ -96,12 +96,8 @@ returns-in-Err-clause-broken g c = λ start goes blob e.
 
 pub returns-in-Ok-clause-survives : goal.returns-in-Ok-clause-survives
 returns-in-Ok-clause-survives g c = λ s last stands saved.
-    let next = c.args.self.now.parts.next_blob in
-    puts_left c.args.self.now (g.D.Store.holds c.args.store.now) s last (g.D.Store.moments c.args.store.now)
-    (g.D.Store.moments c.work.new.store) stands saved (next + c.args.n) c.args.n c.work.ensures.tried
+    puts_left stands saved (c.args.self.now.parts.next_blob + c.args.n) c.args.n _ c.work.ensures.tried
 
 pub returns-in-Err-clause-survives : goal.returns-in-Err-clause-survives
 returns-in-Err-clause-survives g c = λ s last stands saved.
-    let next = c.args.self.now.parts.next_blob in
-    puts_left c.args.self.now (g.D.Store.holds c.args.store.now) s last (g.D.Store.moments c.args.store.now)
-    (g.D.Store.moments c.work.new.store) stands saved (next + c.args.n) c.args.n c.work.ensures.tried
+    puts_left stands saved (c.args.self.now.parts.next_blob + c.args.n) c.args.n _ c.work.ensures.tried
