@@ -25,7 +25,7 @@ use Rattle.wu_engine.specs.declared.faults.BeginFault.{BeginFault}
 use Rattle.wu_engine.specs.declared.faults.BeginFault.TheVariants as opening
 use Rattle.wu_engine.specs.Stands.{Stands}
 use Rattle.wu_engine.specs.States.{State}
-use Rattle.wumpus_run.specs.Crashes.{Acknowledges, IsImageOfOne, LeavesAcknowledged, LeavesSaves, Survives}
+use Rattle.wumpus_run.specs.Crashes.{Acknowledges, IsImageOfOne, IsUnopened, LeavesAcknowledged, LeavesSaves, Survives}
 use Rattle.wumpus_run.specs.Crashes.{last_or, last_save, left_to_next, next_save, saved_for, saves_of}
 use Rattle.wumpus_run.specs.Replies.{AreRules, Rules, after, output_of, said_bytes, state_after}
 use Rattle.wumpus_run.specs.Session.{Moment, status_of, status_of_fault, status_of_opening, status_of_trouble}
@@ -230,7 +230,14 @@ opening_ended opening.StoreFault undamaged = inr (inl refl)
 opening_ended (opening.Damaged blob) undamaged = absurd (undamaged blob refl)
 opening_ended (opening.Spent next) undamaged = inr (inr (next, refl))
 
--- the store couldn't be opened
+-- the store couldn't be opened: nothing was taken or written
+pub IsUnopened-fault : (before : Moment) (fault : BeginFault) (holds : Option Content) (faults : ℕ)
+    → ((blob : ℕ) → fault ≡ opening.Damaged blob → ⊥)
+    → IsUnopened (status_of_opening fault) before (record before { holds = holds; store_faults = faults })
+IsUnopened-fault before fault holds faults undamaged =
+    record { ended = opening_ended fault undamaged; untaken = refl; unwritten = refl }
+
+-- and a crash leaves only what could be left before
 pub Survives-unopened : (told : Settings) (start : State) (before : Moment) (fault : BeginFault) (holds : Option Content) (faults : ℕ)
     (old new : Option Moments) → ((blob : ℕ) → fault ≡ opening.Damaged blob → ⊥) → Leaves old new (IsLeft old)
     → Survives start (status_of_opening fault) told before (record before { holds = holds; store_faults = faults }) old new
@@ -239,7 +246,7 @@ Survives-unopened told start before fault holds faults old new undamaged leaves 
       (leaves_more old new (IsLeft old) (IsLeftOrSaved rules start input old) (λ content is. inl is) leaves).since);
   durable = λ done. absurd ((unopened fault).done done);
   acknowledged = if_given _ before.left (λ input e rules are.
-      inl (record { ended = opening_ended fault undamaged; untaken = refl; unwritten = refl }, leaves.now));
+      inl (IsUnopened-fault before fault holds faults undamaged, leaves.now));
 }
 
 module _ (told : Settings) (start : State) (before between : Moment) (engine : Engine) (held : Held) (old mid : Option Moments)
@@ -306,6 +313,10 @@ module _ (told : Settings) (start : State) (before between : Moment) (engine : E
 
 -- ---- where nothing was done
 
+-- there was no memory to read the arguments
+pub IsUnopened-untouched : (before : Moment) → IsUnopened NoMemory before before
+IsUnopened-untouched before = record { ended = inl refl; untaken = refl; unwritten = refl }
+
 -- nothing was read of the arguments, or there was no memory for it
 pub LeavesSaves-untouched : (start : State) (settings : Option Settings) (holds : Option Content) (left : Option (List ℕ))
     (old : Option Moments) → LeavesSaves start settings holds left old old
@@ -318,4 +329,4 @@ pub LeavesAcknowledged-untouched : (start : State) (settings : Option Settings) 
     → LeavesAcknowledged start NoMemory settings before before old old
 LeavesAcknowledged-untouched start None before old = tt
 LeavesAcknowledged-untouched start (Some told) before old = if_given _ before.left (λ input e rules are.
-    inl (record { ended = inl refl; untaken = refl; unwritten = refl }, left_now old))
+    inl (IsUnopened-untouched before, left_now old))

@@ -10,6 +10,7 @@ pub mod SessionReads
 pub mod RootRoom
 pub mod EndLemmas
 pub mod BrokenBlobs
+pub mod ShutStores
 pub mod ShortTexts
 pub mod StateLemmas
 pub mod ViewLemmas

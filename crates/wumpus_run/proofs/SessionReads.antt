@@ -1,7 +1,7 @@
 -- What a session reads: what its opening reads, and then what each of its items reads in the state that it meets.
 use Rattle.std.proofs.Common.{◌≡◌, ℕ, false, List, [], ◌∷◌, ◌++◌, Option, None, Some, refl, sym, ap, ◌∙◌, subst, append_assoc, append-nil}
-use Rattle.std.specs.Prelude.{option_map}
-use Rattle.std.specs.List.{AllByRecursion}
+use Rattle.std.proofs.Common.{inl, inr}
+use Rattle.std.specs.Prelude.{IfSome, option_map}
 use Rattle.std.specs.Io.KnownBytes.{prepend_known}
 use Rattle.wu_outside.specs.Content.{Content}
 use Rattle.wu_outside.specs.declared.ranges.ReadRange.{ReadRange}
@@ -14,17 +14,20 @@ use Rattle.wu_script.specs.Said.{Asks, Happens, IsReading, IsRefused, Operates, 
 use Rattle.wu_script.proofs.ItemListLemmas.{items_of-some}
 use Rattle.wu_options.specs.declared.command_lines.Settings.{Settings}
 use Rattle.wu_engine.specs.declared.engines.Engine.{Engine}
-use Rattle.wu_engine.specs.Opening.{IsOpeningRange, ReadsAtOpening}
+use Rattle.wu_engine.specs.Opening.{IsOpen, Opens, ReadsAtOpening}
 use Rattle.wu_engine.specs.Permitted.{ReadsSuch}
 use Rattle.wu_engine.specs.Reads.{texts_read}
 use Rattle.wu_engine.specs.Stands.{Stands}
 use Rattle.wu_engine.specs.States.{State}
 use Rattle.wu_engine.proofs.OpenedStates.{reads_nothing as unread_at_opening}
 use Rattle.wu_engine.proofs.PermittedBlocks.{reads_joined}
-use Rattle.wumpus_run.specs.Crashes.{met_by}
+use Rattle.wumpus_run.specs.declared.statuses.Status.{Status}
+use Rattle.wumpus_run.specs.declared.statuses.Status.TheVariants.{NoMemory}
+use Rattle.wumpus_run.specs.Crashes.{IsUnopened, met_by}
 use Rattle.wumpus_run.specs.Permitted.{AreReadFor, AreReadInTurn, ReadsInSession, ReadsPermitted}
 use Rattle.wumpus_run.specs.Replies.{AreRules, Met, Rules, after}
 use Rattle.wumpus_run.specs.Session.{Moment}
+use Rattle.wumpus_run.proofs.CrashesAtEnd.{IsUnopened-untouched}
 use Rattle.wumpus_run.proofs.SessionLemmas.{first_item}
 
 -- ---- one item
@@ -56,6 +59,11 @@ all_unreached : (items : List Met) → AreReadInTurn items []
 all_unreached [] = refl
 all_unreached (m ∷ later) = ([], [], unreached m.0 m.1, all_unreached later, refl)
 
+-- what was read, and then nothing
+then_nothing : (old new : Option (List ReadRange)) (read : List ReadRange) → new ≡ option_map (λ earlier. earlier ++ read) old
+    → new ≡ option_map (λ earlier. earlier ++ (read ++ [])) old
+then_nothing old new read same = same ∙ ap (λ (rs : List ReadRange). option_map (λ earlier. earlier ++ rs) old) (sym (append-nil read))
+
 -- ---- items one after the other
 
 -- what items read that begin with this one: what it reads, and then what the others read
@@ -81,7 +89,7 @@ module _ (rules : Rules) (start : State) where
   -- comes after that, makes what the items of the input read.
   pub record HasReadItems (content : Content) (input left : List ℕ) (s : State) (before now : Option (List ReadRange)) : Type 0 where
     pub opening : List ReadRange
-    pub of_content : AllByRecursion (IsOpeningRange content) opening
+    pub opened : Opens content opening
     pub read : List ReadRange
     pub goes_on : (later : List ReadRange) → AreReadInTurn (met_by rules s (items_of left)) later
         → AreReadInTurn (met_by rules start (items_of input)) (read ++ later)
@@ -96,17 +104,16 @@ module _ (rules : Rules) (start : State) where
   HasReadSoFar (Some content) (Some input) (Some left) s before now = HasReadItems content input left s before now
 
   -- the store was opened
-  at_start : (holds : Option Content) (input : Option (List ℕ)) (before now : Option (List ReadRange)) → ReadsAtOpening holds before now
+  at_start : (holds : Option Content) (input : Option (List ℕ)) (before now : Option (List ReadRange)) → IsOpen holds before now
       → HasReadSoFar holds input (prepend_known [] input) start before now
   at_start None input before now opening = tt
   at_start (Some content) None before now opening = tt
   at_start (Some content) (Some input) before now opening = record {
     opening = opening.0;
-    of_content = opening.1;
+    opened = opening.1;
     read = [];
     goes_on = λ later for_later. for_later;
-    in_turn = opening.2
-        ∙ ap (λ (rs : List ReadRange). option_map (λ earlier. earlier ++ rs) before) (sym (append-nil opening.0));
+    in_turn = then_nothing before now opening.0 opening.2;
   }
 
   -- an item more
@@ -116,7 +123,7 @@ module _ (rules : Rules) (start : State) where
       → HasReadItems content input rest (after rules.flush_at s (said_by item)) before now
   one_more are content input left rest s item before between now other next reads so_far = record {
     opening = so_far.opening;
-    of_content = so_far.of_content;
+    opened = so_far.opened;
     read = so_far.read ++ reads.0;
     goes_on = λ later for_later.
         subst (AreReadInTurn (met_by rules start (items_of input))) (sym (append_assoc so_far.read reads.0 later))
@@ -138,14 +145,14 @@ module _ (rules : Rules) (start : State) where
       one_more are content input left rest s item before between now other next reads so_far
 
   -- no other item is reached
-  none_later : (content : Content) (input : List ℕ) (left : Option (List ℕ)) (s : State) (before now : Option (List ReadRange))
-      → HasReadSoFar (Some content) (Some input) left s before now
-      → ReadsInSession content (met_by rules start (items_of input)) before now
-  none_later content input None s before now so_far = absurd so_far
-  none_later content input (Some left) s before now so_far = record {
+  none_later : (content : Content) (input : List ℕ) (left : Option (List ℕ)) (s : State) (status : Status) (before now : Moment)
+      (old new : Option (List ReadRange)) → HasReadSoFar (Some content) (Some input) left s old new
+      → ReadsInSession content (met_by rules start (items_of input)) status before now old new
+  none_later content input None s status before now old new so_far = absurd so_far
+  none_later content input (Some left) s status before now old new so_far = record {
     opening = so_far.opening;
-    of_content = so_far.of_content;
     read = so_far.read;
+    once = inl so_far.opened;
     for_items = subst (AreReadInTurn (met_by rules start (items_of input))) (append-nil so_far.read)
         (so_far.goes_on [] (all_unreached (met_by rules s (items_of left))));
     in_turn = so_far.in_turn;
@@ -154,21 +161,41 @@ module _ (rules : Rules) (start : State) where
 -- ---- a session
 
 module _ (told : Settings) (start : State) where
-  -- a session that goes no further
-  ended : (holds : Option Content) (input left : Option (List ℕ)) (s : Rules → State) (before now : Option (List ReadRange))
-      → ((rules : Rules) → AreRules holds told rules → HasReadSoFar rules start holds input left (s rules) before now)
-      → ReadsPermitted start (Some told) holds input before now
-  ended holds None left s before now so_far = tt
-  ended None (Some input) left s before now so_far = tt
-  ended (Some content) (Some input) left s before now so_far = λ rules are.
-      none_later rules start content input left (s rules) before now (so_far rules are)
+  module _ (status : Status) (before now : Moment) (old new : Option (List ReadRange)) where
+    -- what is permitted, by what store and source told at the start
+    abbrev Permits : Option Content → Option (List ℕ) → Type 0
+    Permits holds input = IfSome input (λ bytes. IfSome holds (λ content. (rules : Rules) → AreRules holds told rules
+        → ReadsInSession content (met_by rules start (items_of bytes)) status before now old new))
 
-  -- what an engine read to go on from what the store holds
-  pub permitted_at_opening : (holds : Option Content) (input : Option (List ℕ)) (before now : Option (List ReadRange))
-      → ReadsAtOpening holds before now → ReadsPermitted start (Some told) holds input before now
-  permitted_at_opening holds input before now opening =
-      ended holds input (prepend_known [] input) (λ rules. start) before now
-      (λ rules are. at_start rules start holds input before now opening)
+    -- a session that goes no further
+    ended : (left : Option (List ℕ)) (s : Rules → State) → ((rules : Rules) → AreRules before.holds told rules
+        → HasReadSoFar rules start before.holds before.left left (s rules) old new)
+        → ReadsPermitted start status (Some told) before now old new
+    ended left s so_far = by_case before.holds before.left so_far
+      where
+        by_case : (holds : Option Content) (input : Option (List ℕ))
+            → ((rules : Rules) → AreRules holds told rules → HasReadSoFar rules start holds input left (s rules) old new)
+            → Permits holds input
+        by_case holds None so_far = tt
+        by_case None (Some bytes) so_far = tt
+        by_case (Some content) (Some bytes) so_far = λ rules are.
+            none_later rules start content bytes left (s rules) status before now old new (so_far rules are)
+
+    -- one whose opening stopped
+    pub permitted_unopened : ReadsAtOpening before.holds old new → IsUnopened status before now
+        → ReadsPermitted start status (Some told) before now old new
+    permitted_unopened reads unopened = by_case before.holds before.left reads
+      where
+        by_case : (holds : Option Content) (input : Option (List ℕ)) → ReadsAtOpening holds old new → Permits holds input
+        by_case holds None reads = tt
+        by_case None (Some bytes) reads = tt
+        by_case (Some content) (Some bytes) reads = λ rules are. record {
+          opening = reads.0;
+          read = [];
+          once = inr (reads.1, refl, unopened);
+          for_items = all_unreached (met_by rules start (items_of bytes));
+          in_turn = then_nothing old new reads.0 reads.2;
+        }
 
   -- engine and store stand for a state; the opening was read, and then what the items read that led to it
   pub record HasRead (before now : Moment) (engine : Engine) (held : Held) (old new : Option (List ReadRange)) : Type 0 where
@@ -179,7 +206,7 @@ module _ (told : Settings) (start : State) where
 
   -- the store was opened
   pub HasRead-none : (before : Moment) (holds : Option Content) (faults : ℕ) (engine : Engine) (old new : Option (List ReadRange))
-      → Stands engine holds start → ReadsAtOpening before.holds old new
+      → Stands engine holds start → IsOpen before.holds old new
       → HasRead before (record before { holds = holds; store_faults = faults }) engine
       (record { bytes = []; spare = told.max_input; ended = false }) old new
   HasRead-none before holds faults engine old new stands opening = record {
@@ -188,10 +215,11 @@ module _ (told : Settings) (start : State) where
     reads = λ rules are. at_start rules start before.holds before.left old new opening;
   }
 
-  pub permitted_so_far : (before now : Moment) (engine : Engine) (held : Held) (old new : Option (List ReadRange))
-      → HasRead before now engine held old new → ReadsPermitted start (Some told) before.holds before.left old new
-  permitted_so_far before now engine held old new so_far =
-      ended before.holds before.left (prepend_known held.bytes now.left) (λ rules. so_far.state) old new so_far.reads
+  pub permitted_so_far : (status : Status) (before between now : Moment) (engine : Engine) (held : Held)
+      (old new : Option (List ReadRange)) → HasRead before between engine held old new
+      → ReadsPermitted start status (Some told) before now old new
+  permitted_so_far status before between now engine held old new so_far =
+      ended status before now old new (prepend_known held.bytes between.left) (λ rules. so_far.state) so_far.reads
 
   module _ (before between : Moment) (engine : Engine) (held : Held) (rest : Option (List ℕ)) (item : Item)
       (old mid new : Option (List ReadRange)) (other : IsBeforeEnd item) (next : IsNext (prepend_known held.bytes between.left) rest item)
@@ -204,9 +232,9 @@ module _ (told : Settings) (start : State) where
         next (reads so_far.state so_far.stands) (so_far.reads rules are)
 
     -- an item more was answered, or wasn't
-    pub permitted_then : ReadsPermitted start (Some told) before.holds before.left old new
-    permitted_then =
-        ended before.holds before.left rest (λ rules. after rules.flush_at so_far.state (said_by item)) old new and_then
+    pub permitted_then : (status : Status) (now : Moment) → ReadsPermitted start status (Some told) before now old new
+    permitted_then status now =
+        ended status before now old new rest (λ rules. after rules.flush_at so_far.state (said_by item)) and_then
 
   -- an item was read and answered
   pub HasRead-turn : (before between now : Moment) (engine later : Engine) (held new_held : Held) (item : Item)
@@ -224,9 +252,10 @@ module _ (told : Settings) (start : State) where
         (and_then before between engine held (prepend_known new_held.bytes now.left) item old mid new other next reads so_far rules are);
   }
 
--- nothing was read
-pub permitted_untouched : (start : State) (settings : Option Settings) (holds : Option Content) (input : Option (List ℕ))
-    (reads : Option (List ReadRange)) → ReadsPermitted start settings holds input reads reads
-permitted_untouched start None holds input reads = tt
-permitted_untouched start (Some told) holds input reads =
-    permitted_at_opening told start holds input reads reads (unread_at_opening holds reads reads refl)
+-- there was no memory to read the arguments
+pub permitted_untouched : (start : State) (settings : Option Settings) (before : Moment) (reads : Option (List ReadRange))
+    → ReadsPermitted start NoMemory settings before before reads reads
+permitted_untouched start None before reads = tt
+permitted_untouched start (Some told) before reads =
+    permitted_unopened told start NoMemory before before reads reads (unread_at_opening before.holds reads reads refl)
+    (IsUnopened-untouched before)

@@ -6,6 +6,7 @@ use Rattle.wu_base.specs.declared.troubles.Trouble.{Trouble}
 use Rattle.wu_base.specs.declared.troubles.Trouble.TheVariants as troubles
 use Rattle.wu_outside.specs.Content.{Content}
 use Rattle.wu_outside.specs.Faults.{Rose}
+use Rattle.wu_outside.specs.declared.ranges.ReadRange.{ReadRange}
 use Rattle.wu_outside.specs.declared.traits.Fault.{Fault}
 use Rattle.wu_outside.specs.declared.traits.Fault.TheVariants.{Failed}
 use Rattle.wu_outside.specs.declared.traits.Fault.TheVariants as faults
@@ -24,7 +25,7 @@ use Rattle.wu_engine.specs.declared.faults.BeginFault.{BeginFault}
 use Rattle.wu_engine.specs.declared.faults.BeginFault.TheVariants as opening
 use Rattle.wu_engine.specs.Naming.{HasNoStray}
 use Rattle.wu_engine.specs.States.{State, rested_state, saved_state}
-use Rattle.wu_engine.specs.Opening.{HoldsImage, IsSpentAt}
+use Rattle.wu_engine.specs.Opening.{HoldsImage, IsSpentAt, Opens}
 use Rattle.wu_script.specs.Commands.{Entry}
 use Rattle.wumpus_run.specs.Replies.{Rules, AreRules, output_of, state_after}
 use Rattle.wumpus_run.specs.Taking.{TakesExactly, TakesAtMost, GainsAtLeast}
@@ -66,6 +67,14 @@ settings_of arguments = option_and_then session_settings (command_line_of argume
 pub record IsUsage (status : Status) (line : Option CommandLine) : Type 0 where
   pub only : status ≡ Usage → line ≡ None
   pub comes : line ≡ None → (status ≡ Usage) ⊎ (status ≡ NoMemory)
+
+-- ---- a store that can't be opened
+
+-- Where what the store holds can't be opened, as it is damaged or leaves no room, it holds the same afterwards, and no byte was taken or
+-- written.
+abbrev pub StaysShut : Option Settings → Moment → Moment → Type 0
+StaysShut settings before now = IfSome settings (λ told. IfSome before.holds (λ content. ((read : List ReadRange) → Opens content read → ⊥)
+    → (now.left ≡ before.left) × (now.gained ≡ before.gained) × (now.holds ≡ before.holds)))
 
 -- ---- what was taken, and which fault came
 

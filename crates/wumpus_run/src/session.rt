@@ -16,7 +16,7 @@ ghost use Rattle.wu_engine.specs.States.{State, rested_state, saved_state};
 ghost use Rattle.wu_engine.specs.declared.faults.BeginFault.TheVariants.{Damaged as SavedIsDamaged};
 ghost use Rattle.wumpus_run.specs.Demo.{IfDemo, IsShown};
 ghost use Rattle.wumpus_run.specs.Permitted.{ReadsPermitted};
-ghost use Rattle.wumpus_run.specs.Session.{LeavesNoStray, settings_of, moment, status_of, status_of_fault, status_of_opening, status_of_trouble, IsUsage, IsCounted, IsSpent, AnswersAll, AnswersPrefix, FromImage, HasRoom, SavesAll, StaysWithin, IsSession, IsTooLong, HoldsNothingBack, Completes, TakesAll};
+ghost use Rattle.wumpus_run.specs.Session.{AnswersAll, AnswersPrefix, Completes, FromImage, HasRoom, HoldsNothingBack, IsCounted, IsSession, IsSpent, IsTooLong, IsUsage, LeavesNoStray, SavesAll, StaysShut, StaysWithin, TakesAll, moment, settings_of, status_of, status_of_fault, status_of_opening, status_of_trouble};
 ghost use Rattle.wumpus_run.specs.Strays.{AddsNoStray};
 ghost use Rattle.wumpus_run.specs.Crashes.{LeavesAcknowledged, LeavesLast, LeavesSaves, Survives, left_to_next};
 
@@ -75,11 +75,16 @@ pub fn run<I: Source, O: Sink, D: Store>(
         (moment (I.left source.new) (I.last_read source.new) (I.faults source.new)
         (O.gained sink.new) (O.faults sink.new) (D.holds store.new) (D.faults store.new))) }
 
-    // Of the store this was read, in turn: at opening the root's checkpoint and the fronts of its parts, and then item by item for a
-    // query blocks of its terms where her files are and then the texts of which a line is shown, from the first one on, each once, and
-    // for background work blocks of its terms. For an item that wasn't reached nothing was.
-    ensures permitted { FromImage (D.holds store.old) (λ s. ReadsPermitted s (settings_of (texts_of words.now))
-        (D.holds store.old) (I.left source.old) (D.reads store.old) (D.reads store.new)) }
+    // Of the store this was read, in turn: at opening the root's checkpoint and the fronts of its parts, each once, and then item by item
+    // for a query blocks of its terms where her files are and then the texts of which a line is shown, from the first one on, each once,
+    // and for background work blocks of its terms. For an item that wasn't reached nothing was. A session that ended at its opening,
+    // before it took or wrote a byte, read nothing but some of what an opening reads.
+    ensures permitted { FromImage (D.holds store.old) (λ s. ReadsPermitted s result (settings_of (texts_of words.now))
+        (moment (I.left source.old) (I.last_read source.old) (I.faults source.old)
+        (O.gained sink.old) (O.faults sink.old) (D.holds store.old) (D.faults store.old))
+        (moment (I.left source.new) (I.last_read source.new) (I.faults source.new)
+        (O.gained sink.new) (O.faults sink.new) (D.holds store.new) (D.faults store.new))
+        (D.reads store.old) (D.reads store.new)) }
 
     // A crash while the session goes on leaves what one could leave before it, or an image of one of its saves. After it a crash
     // leaves the last save whose reply the sink has, or the next one; after Done what the items leave.
@@ -95,6 +100,12 @@ pub fn run<I: Source, O: Sink, D: Store>(
         (D.moments store.old) (D.moments store.new)) }
     // Where the store leaves no room it holds what it held.
     ensures unopened { (next : ℕ) → result ≡ Status.Spent next → D.holds store.new ≡ D.holds store.old }
+    // Where what it holds can't be opened, it holds the same afterwards, and no byte was taken or written.
+    ensures shut { StaysShut (settings_of (texts_of words.now))
+        (moment (I.left source.old) (I.last_read source.old) (I.faults source.old)
+        (O.gained sink.old) (O.faults sink.old) (D.holds store.old) (D.faults store.old))
+        (moment (I.left source.new) (I.last_read source.new) (I.faults source.new)
+        (O.gained sink.new) (O.faults sink.new) (D.holds store.new) (D.faults store.new)) }
 
     // A fault of the source, the sink or the store ends the session, exactly where its count of faults rose.
     ensures read_fault { IsCounted Status.ReadFault result (I.faults source.old) (I.faults source.new) }
@@ -166,8 +177,12 @@ fn answer_script<I: Source, O: Sink, D: Store>(
         (O.gained sink.old) (O.faults sink.old) (D.holds store.old) (D.faults store.old))
         (moment (I.left source.new) (I.last_read source.new) (I.faults source.new)
         (O.gained sink.new) (O.faults sink.new) (D.holds store.new) (D.faults store.new)) }
-    ensures permitted { FromImage (D.holds store.old) (λ s. ReadsPermitted s (Some settings)
-        (D.holds store.old) (I.left source.old) (D.reads store.old) (D.reads store.new)) }
+    ensures permitted { FromImage (D.holds store.old) (λ s. ReadsPermitted s result (Some settings)
+        (moment (I.left source.old) (I.last_read source.old) (I.faults source.old)
+        (O.gained sink.old) (O.faults sink.old) (D.holds store.old) (D.faults store.old))
+        (moment (I.left source.new) (I.last_read source.new) (I.faults source.new)
+        (O.gained sink.new) (O.faults sink.new) (D.holds store.new) (D.faults store.new))
+        (D.reads store.old) (D.reads store.new)) }
     ensures survives { FromImage (D.holds store.old) (λ s. Survives s result settings
         (moment (I.left source.old) (I.last_read source.old) (I.faults source.old)
         (O.gained sink.old) (O.faults sink.old) (D.holds store.old) (D.faults store.old))
@@ -175,6 +190,11 @@ fn answer_script<I: Source, O: Sink, D: Store>(
         (O.gained sink.new) (O.faults sink.new) (D.holds store.new) (D.faults store.new))
         (D.moments store.old) (D.moments store.new)) }
     ensures unopened { (next : ℕ) → result ≡ Status.Spent next → D.holds store.new ≡ D.holds store.old }
+    ensures shut { StaysShut (Some settings)
+        (moment (I.left source.old) (I.last_read source.old) (I.faults source.old)
+        (O.gained sink.old) (O.faults sink.old) (D.holds store.old) (D.faults store.old))
+        (moment (I.left source.new) (I.last_read source.new) (I.faults source.new)
+        (O.gained sink.new) (O.faults sink.new) (D.holds store.new) (D.faults store.new)) }
     ensures broken { (content : Content) → D.holds store.old ≡ Some content → (blob : ℕ) → result ≡ Status.Damaged blob
         → HasBroken content blob }
 {

@@ -1,4 +1,4 @@
-use Rattle.std.proofs.Common.{◌+◌, Err, ap, refl, subst, arith}
+use Rattle.std.proofs.Common.{◌+◌, Err, Some, ap, refl, subst, arith}
 use Rattle.std.specs.Io.KnownBytes.{prepend_known}
 use Rattle.wu_script.specs.Items.{IsNext, TakesItem}
 use Rattle.wu_script.specs.Said.{said_by, tokens_given}
@@ -9,12 +9,14 @@ use Rattle.wumpus_run.proofs.SessionLemmas.{appended, takes_one}
 use Rattle.wumpus_run.proofs.AddressRoom.{HasRoom-item, HasRoom-few, StaysLow-few}
 use Rattle.wumpus_run.specs.declared.statuses.Status.TheVariants.{Damaged, Spent}
 use Rattle.wumpus_run.proofs.BrokenBlobs.{opening_broken}
-use Rattle.wumpus_run.proofs.CrashesAtEnd.{Survives-saved, Survives-stopped, Survives-unanswered, Survives-unopened, Survives-unwritten}
+use Rattle.wumpus_run.proofs.CrashesAtEnd.{IsUnopened-fault, Survives-saved, Survives-stopped, Survives-unanswered, Survives-unopened}
+use Rattle.wumpus_run.proofs.CrashesAtEnd.{Survives-unwritten}
 use Rattle.wumpus_run.proofs.CrashesUnderWay.{HasKept-none, HasKept-turn, IsAnswered-appended}
 use Rattle.wumpus_run.proofs.EndLemmas.{IsUnspent-opened, answering, damaged_so, reading, saving, writing}
 use Rattle.wumpus_run.proofs.StartedStates.{IsUnderWay-none, IsUnderWay-turn, IsSession-saved, IsSession-stopped, IsSession-unanswered}
 use Rattle.wumpus_run.proofs.StartedStates.{IsSession-unopened, IsSession-unwritten}
-use Rattle.wumpus_run.proofs.SessionReads.{HasRead-none, HasRead-turn, permitted_at_opening, permitted_so_far, permitted_then}
+use Rattle.wumpus_run.proofs.SessionReads.{HasRead-none, HasRead-turn, permitted_so_far, permitted_then, permitted_unopened}
+use Rattle.wumpus_run.proofs.ShutStores.{shut-opened, shut-told}
 use Rattle.wumpus_run.proofs.session.answer_script.Goals as goal
 
 pub returns-in-Err-clause-session : goal.returns-in-Err-clause-session
@@ -220,7 +222,7 @@ items-init g c =
           e.holds);
       permitted = λ s image. rw e.reader
           (HasRead-none told s before (g.D.Store.holds c.start.new.store) (g.D.Store.faults c.start.new.store) c.in-Ok.start.1
-          (g.D.Store.reads c.args.store.now) (g.D.Store.reads c.start.new.store) (e.stands s image) e.reads);
+          (g.D.Store.reads c.args.store.now) (g.D.Store.reads c.start.new.store) (e.stands s image) e.open);
       crash = λ s image. rw e.reader
           (HasKept-none told s before (g.D.Store.holds c.start.new.store) (g.D.Store.faults c.start.new.store) c.in-Ok.start.1
           (g.D.Store.moments c.args.store.now) (g.D.Store.moments c.start.new.store) (e.stands s image) e.survives (e.durable s image));
@@ -230,8 +232,14 @@ items-init g c =
 
 pub returns-in-Err-clause-permitted : goal.returns-in-Err-clause-permitted
 returns-in-Err-clause-permitted g c =
-    λ s image. permitted_at_opening c.args.settings s (g.D.Store.holds c.args.store.now) (g.I.Source.left c.args.source.now)
-    (g.D.Store.reads c.args.store.now) (g.D.Store.reads c.start.new.store) c.in-Err.ensures.reads
+    let before = moment (g.I.Source.left c.args.source.now) (g.I.Source.last_read c.args.source.now) (g.I.Source.faults c.args.source.now)
+    (g.O.Sink.gained c.args.sink.now) (g.O.Sink.faults c.args.sink.now)
+    (g.D.Store.holds c.args.store.now) (g.D.Store.faults c.args.store.now) in
+    rw c.status_of_opening.ensures (λ s image.
+    permitted_unopened c.args.settings s _ before _ (g.D.Store.reads c.args.store.now) (g.D.Store.reads c.start.new.store)
+    c.in-Err.ensures.reads
+    (IsUnopened-fault before c.in-Err.fault (g.D.Store.holds c.start.new.store) (g.D.Store.faults c.start.new.store)
+    (λ blob e. c.in-Err.ensures.undamaged s image blob (ap Err e))))
 
 pub returns-in-Err-next-clause-permitted : goal.returns-in-Err-next-clause-permitted
 returns-in-Err-next-clause-permitted g c =
@@ -241,7 +249,7 @@ returns-in-Err-next-clause-permitted g c =
     let between = moment (g.I.Source.left c.items.source) (g.I.Source.last_read c.items.source) (g.I.Source.faults c.items.source)
     (g.O.Sink.gained c.items.sink) (g.O.Sink.faults c.items.sink)
     (g.D.Store.holds c.items.store) (g.D.Store.faults c.items.store) in
-    λ s image. permitted_so_far c.args.settings s before between c.items.engine c.items.reader (g.D.Store.reads c.args.store.now)
+    λ s image. permitted_so_far c.args.settings s _ before between _ c.items.engine c.items.reader (g.D.Store.reads c.args.store.now)
     (g.D.Store.reads c.items.store) (c.items.invariant.permitted s image)
 
 pub returns-then-is_end-clause-permitted : goal.returns-then-is_end-clause-permitted
@@ -252,7 +260,7 @@ returns-then-is_end-clause-permitted g c =
     let between = moment (g.I.Source.left c.items.source) (g.I.Source.last_read c.items.source) (g.I.Source.faults c.items.source)
     (g.O.Sink.gained c.items.sink) (g.O.Sink.faults c.items.sink)
     (g.D.Store.holds c.items.store) (g.D.Store.faults c.items.store) in
-    rw c.save.ensures.reads (λ s image. permitted_so_far c.args.settings s before between c.items.engine c.items.reader
+    rw c.save.ensures.reads (λ s image. permitted_so_far c.args.settings s _ before between _ c.items.engine c.items.reader
     (g.D.Store.reads c.args.store.now) (g.D.Store.reads c.items.store) (c.items.invariant.permitted s image))
 
 pub returns-in-Err-answer-clause-permitted : goal.returns-in-Err-answer-clause-permitted
@@ -267,7 +275,7 @@ returns-in-Err-answer-clause-permitted g c =
     λ s image. permitted_then c.args.settings s before between c.items.engine c.items.reader
     (prepend_known c.next.new.self.bytes (g.I.Source.left c.next.new.source)) c.in-Ok-next.item (g.D.Store.reads c.args.store.now)
     (g.D.Store.reads c.items.store) (g.D.Store.reads c.answer.new.store) c.if-is_end.ensures
-    (c.in-Ok-next.ensures.first i.at_end) c.in-Err-answer.ensures.permitted (c.items.invariant.permitted s image)
+    (c.in-Ok-next.ensures.first i.at_end) c.in-Err-answer.ensures.permitted (c.items.invariant.permitted s image) _ _
 
 pub returns-in-Err-write_reply-clause-permitted : goal.returns-in-Err-write_reply-clause-permitted
 returns-in-Err-write_reply-clause-permitted g c =
@@ -281,7 +289,7 @@ returns-in-Err-write_reply-clause-permitted g c =
     λ s image. permitted_then c.args.settings s before between c.items.engine c.items.reader
     (prepend_known c.next.new.self.bytes (g.I.Source.left c.next.new.source)) c.in-Ok-next.item (g.D.Store.reads c.args.store.now)
     (g.D.Store.reads c.items.store) (g.D.Store.reads c.answer.new.store) c.if-is_end.ensures
-    (c.in-Ok-next.ensures.first i.at_end) c.in-Ok-answer.ensures.permitted (c.items.invariant.permitted s image)
+    (c.in-Ok-next.ensures.first i.at_end) c.in-Ok-answer.ensures.permitted (c.items.invariant.permitted s image) _ _
 
 pub returns-in-Err-clause-broken : goal.returns-in-Err-clause-broken
 returns-in-Err-clause-broken g c =
@@ -408,3 +416,22 @@ returns-in-Err-answer-clause-unopened g c =
 pub returns-in-Err-write_reply-clause-unopened : goal.returns-in-Err-write_reply-clause-unopened
 returns-in-Err-write_reply-clause-unopened g c =
     rw c.status_of_fault.ensures (λ next e. absurd ((writing c.in-Err-write_reply.fault).spent next e))
+
+pub returns-in-Err-clause-shut : goal.returns-in-Err-clause-shut
+returns-in-Err-clause-shut g c = shut-told _ (g.D.Store.holds c.args.store.now) (refl, refl, c.in-Err.ensures.holds)
+
+pub returns-in-Err-next-clause-shut : goal.returns-in-Err-next-clause-shut
+returns-in-Err-next-clause-shut g c =
+    shut-opened _ (g.D.Store.holds c.args.store.now) c.in-Ok.ensures.open.0 c.in-Ok.ensures.open.1
+
+pub returns-then-is_end-clause-shut : goal.returns-then-is_end-clause-shut
+returns-then-is_end-clause-shut g c =
+    shut-opened _ (g.D.Store.holds c.args.store.now) c.in-Ok.ensures.open.0 c.in-Ok.ensures.open.1
+
+pub returns-in-Err-answer-clause-shut : goal.returns-in-Err-answer-clause-shut
+returns-in-Err-answer-clause-shut g c =
+    shut-opened _ (g.D.Store.holds c.args.store.now) c.in-Ok.ensures.open.0 c.in-Ok.ensures.open.1
+
+pub returns-in-Err-write_reply-clause-shut : goal.returns-in-Err-write_reply-clause-shut
+returns-in-Err-write_reply-clause-shut g c =
+    shut-opened _ (g.D.Store.holds c.args.store.now) c.in-Ok.ensures.open.0 c.in-Ok.ensures.open.1

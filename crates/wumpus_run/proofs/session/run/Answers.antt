@@ -1,4 +1,4 @@
-use Rattle.std.proofs.Common.{Option, Some, sym, ap, ◌∙◌, subst}
+use Rattle.std.proofs.Common.{Option, Some, refl, sym, ap, ◌∙◌, subst}
 use Rattle.wu_options.specs.CommandLines.{texts_of}
 use Rattle.wu_options.specs.declared.command_lines.Settings.{Settings}
 use Rattle.wumpus_run.specs.Session.{moment, settings_of, Completes}
@@ -9,6 +9,7 @@ use Rattle.wumpus_run.proofs.EndLemmas.{Completes-all, IsTooLong-none}
 use Rattle.wumpus_run.proofs.PromptLemmas.{AnswersAllButOneRead-untouched}
 use Rattle.wumpus_run.proofs.RootRoom.{has_room}
 use Rattle.wumpus_run.proofs.SessionReads.{permitted_untouched}
+use Rattle.wumpus_run.proofs.ShutStores.{shut-unread}
 use Rattle.wumpus_run.proofs.session.run.Goals as goal
 
 pub answer_script-requires-clause-within : goal.answer_script-requires-clause-within
@@ -58,8 +59,10 @@ returns-in-Err-clause-prompt g c =
 
 pub returns-in-Err-clause-permitted : goal.returns-in-Err-clause-permitted
 returns-in-Err-clause-permitted g c = λ s image.
-    permitted_untouched s (settings_of (texts_of c.args.words.now)) (g.D.Store.holds c.args.store.now) (g.I.Source.left c.args.source.now)
-    (g.D.Store.reads c.args.store.now)
+    permitted_untouched s (settings_of (texts_of c.args.words.now))
+    (moment (g.I.Source.left c.args.source.now) (g.I.Source.last_read c.args.source.now) (g.I.Source.faults c.args.source.now)
+    (g.O.Sink.gained c.args.sink.now) (g.O.Sink.faults c.args.sink.now)
+    (g.D.Store.holds c.args.store.now) (g.D.Store.faults c.args.store.now)) (g.D.Store.reads c.args.store.now)
 
 pub returns-in-Err-clause-crash : goal.returns-in-Err-clause-crash
 returns-in-Err-clause-crash g c = λ s image.
@@ -72,3 +75,7 @@ returns-in-Err-clause-acknowledged g c = λ s image.
     (moment (g.I.Source.left c.args.source.now) (g.I.Source.last_read c.args.source.now) (g.I.Source.faults c.args.source.now)
     (g.O.Sink.gained c.args.sink.now) (g.O.Sink.faults c.args.sink.now)
     (g.D.Store.holds c.args.store.now) (g.D.Store.faults c.args.store.now)) (g.D.Store.moments c.args.store.now)
+
+pub returns-in-Err-clause-shut : goal.returns-in-Err-clause-shut
+returns-in-Err-clause-shut g c =
+    shut-unread _ (settings_of (texts_of c.args.words.now)) (g.D.Store.holds c.args.store.now) (refl, refl, refl)
