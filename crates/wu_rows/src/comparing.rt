@@ -48,6 +48,7 @@ pub struct Tally {
 }
 
 impl Tally {
+    /// No rows yet, of a call or of a table with this title. Fails only where there is no memory.
     pub fn of_call(alloc: Global, call: &str) -> Result<Tally, AllocError> {
         Ok(Tally {
             call: String::from_str(alloc, call)?,
@@ -56,11 +57,13 @@ impl Tally {
         })
     }
 
+    /// Counts a row, and whether it agrees. The counts stand still at 2^64 - 1.
     pub fn add(&mut self, agrees: bool) {
         self.rows = self.rows.saturating_add(1);
         self.agreed = self.agreed.saturating_add(u64::from(agrees));
     }
 
+    /// Prints how many rows there are and how many of them agree; nothing where there are none. Fails only where printing does.
     pub fn print(&self, rt: &impl Print) -> io::Result<()> {
         let call = self.call.as_str();
         let rows = self.rows;

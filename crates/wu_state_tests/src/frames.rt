@@ -22,6 +22,7 @@ pub struct Rows {
 }
 
 impl Rows {
+    /// The root alone, a space without files, and no kept frames. Fails only where there is no memory.
     pub fn new(alloc: Global) -> Result<Rows, NoAnswer> {
         let kept = FrameCache::new(alloc)?;
         Ok(Rows {

@@ -8,7 +8,7 @@ mod fixtures;
 use crate::lists::fixtures::{directory_of, frames_of};
 use std::alloc::Global;
 use wu_base::{Range, Trouble};
-use wu_lists::Lists;
+use wu_lists::{Lists, Tally};
 use wu_outside::{Fault, MemStore, ReadRange, Store};
 use wu_part::Directory;
 use wu_rows::{NoAnswer, bytes, number, number_text, numbers, numbers_text, plain_text};
@@ -26,6 +26,7 @@ pub struct Rows {
 }
 
 impl Rows {
+    /// An empty store in which no call fails, and neither directories nor kept blocks. Fails only where there is no memory.
     pub fn new(alloc: Global) -> Result<Rows, NoAnswer> {
         Ok(Rows {
             lists: Lists::new(alloc, CAPACITY)?,
@@ -42,9 +43,9 @@ impl Rows {
             ["directory", blob, part] => self.hold(alloc, blob, part),
             ["put", blob, part] => self.put(alloc, blob, part),
             ["remove", blob] => outcome(alloc, self.store.remove(number(blob)?), "removed"),
-            ["fetch" | "touch", blob, term, frames] => {
+            ["fetch" | "tally" | "touch", blob, term, frames] => {
                 let before = self.store.reads().len();
-                let asked = self.asked(alloc, fields[0] == "fetch", blob, term, frames);
+                let asked = self.asked(alloc, fields[0], blob, term, frames);
                 with_ranges(asked, self.store.reads(), before)
             }
             _ => Err(NoAnswer::BadRow),
@@ -83,11 +84,12 @@ impl Rows {
         outcome(alloc, self.store.put(blob, &part), "put")
     }
 
-    /// What is fetched of the term in the frames, or that it was touched there; or the trouble.
+    /// What is fetched of the term in the frames, or how much of it there is, or that it was touched there; or the
+    /// trouble.
     fn asked(
         &mut self,
         alloc: Global,
-        is_fetch: bool,
+        kind: &str,
         blob: &str,
         term: &str,
         frames: &str,
@@ -99,10 +101,10 @@ impl Rows {
             return Err(NoAnswer::BadRow);
         };
         let (lists, store) = (&mut self.lists, &mut self.store);
-        if is_fetch {
-            fetched(alloc, lists, store, (blob, directory), &term, &frames)
-        } else {
-            touched(alloc, lists, store, (blob, directory), &term, &frames)
+        match kind {
+            "fetch" => fetched(alloc, lists, store, (blob, directory), &term, &frames),
+            "tally" => tallied(alloc, lists, store, (blob, directory), &term, &frames),
+            _ => touched(alloc, lists, store, (blob, directory), &term, &frames),
         }
     }
 }
@@ -123,6 +125,32 @@ fn fetched(
         Ok(found) => numbers_text(alloc, found.as_slice()),
         Err(trouble) => trouble_text(alloc, trouble),
     }
+}
+
+/// How many addresses that are, and in how many of the frames.
+fn tallied(
+    alloc: Global,
+    lists: &mut Lists,
+    store: &mut MemStore,
+    part: (u64, &Directory),
+    term: &[u8],
+    frames: &[Range],
+) -> Result<String, NoAnswer>
+    requires apart { AreApart frames.now }
+    requires bounded { All (λ frame. frame.start + frame.len ≤ ADDRESSES_MAX) frames.now }
+{
+    let mut tally = Tally::new();
+    match lists.tally_into(store, part.0, part.1, term, frames, &mut tally) {
+        Ok(()) => tally_text(alloc, tally),
+        Err(trouble) => trouble_text(alloc, trouble),
+    }
+}
+
+/// The two numbers of a tally.
+fn tally_text(alloc: Global, tally: Tally) -> Result<String, NoAnswer> {
+    let hits = tally.hits;
+    let frames = tally.frames;
+    Ok(format!(in alloc; "{hits} in {frames}")?)
 }
 
 fn touched(

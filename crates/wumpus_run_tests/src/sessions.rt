@@ -43,6 +43,7 @@ pub struct Session {
 }
 
 impl Session {
+    /// A session without commands, over a store that holds nothing.
     pub fn new(alloc: Global) -> Session {
         Session {
             script: Vec::new(alloc),
