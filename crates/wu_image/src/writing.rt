@@ -1,5 +1,5 @@
 //! Writing of checkpoints.
-ghost use Rattle.std.specs.Prelude.{◌≡◌, [], ◌∷◌, ◌+◌, List, IfOk, OnOk, length, map};
+ghost use Rattle.std.specs.Prelude.{◌≡◌, [], ◌∷◌, ◌+◌, ◌^◌, ◌≤◌, List, IfOk, OnErr, OnOk, length, map};
 ghost use Rattle.std.specs.List.{flat_map};
 ghost use Rattle.wu_tree.specs.Lists.{user_of};
 ghost use Rattle.wu_tree.specs.FileSystems.{entries_of};
@@ -67,7 +67,8 @@ fn put_users(alloc: Global, out: &mut Vec<u8>, tree: &Tree) -> Result<(), NoMemo
 
 /// The count with one more. There is no memory for so many that they can't be counted.
 fn one_more(count: u64) -> Result<u64, NoMemory>
-    ensures { IfOk result (λ more. more ≡ count + 1) }
+    ensures more { IfOk result (λ more. more ≡ count + 1) }
+    ensures err { OnErr result (2 ^ 64 ≤ count + 1) }
 {
     count.checked_add(1).ok_or(NoMemory)
 }

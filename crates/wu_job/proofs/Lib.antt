@@ -14,3 +14,4 @@ pub mod Parting
 pub mod Joining
 pub mod Whole
 pub mod Bits
+pub mod Putting

@@ -8,6 +8,7 @@ use Rattle.wu_base.specs.declared.addresses.Range.{Range}
 use Rattle.wu_base.specs.declared.addresses.TermList.{TermList}
 use Rattle.wu_base.specs.declared.limits.TheConstants.{ADDRESSES_MAX, GENERATION_MAX, WORD_MAX}
 use Rattle.wu_layout.specs.Postings.{is_live}
+use Rattle.wu_part.specs.Buildings.{Building}
 use Rattle.wu_part.specs.Parts.{IsList}
 use Rattle.wu_part.specs.declared.entries.TermEntry.{TermEntry}
 use Rattle.wu_job.specs.Jobs.{JobPart, JobState, StandWithin, lowest, terms_of_part}
@@ -41,18 +42,24 @@ pub record AreWritable (live : List Range) (lists : List TermList) (left : List 
 abbrev pub IsFrom : List Range → List JobPart → ℕ → Type 0
 IsFrom live parts low = (address : ℕ) → is_live live address ≡ true → lowest parts ≤ address → low ≤ address
 
+-- The builder has the lists, and its lowest address is that of the parts' span that was live first.
+pub record HasLists (live : List Range) (parts : List JobPart) (lists : List TermList) (builder : Building) : Type 0 where
+  pub added : builder.lists ≡ lists
+  pub low : IsFrom live parts builder.low
+  pub least : builder.low ≡ first_from live (lowest parts)
+
 -- what the fields of a job keep
 pub record IsSound (fields : inside.Inside) : Type 0 where
   pub sources : AreSources fields.left fields.right
   pub passed : AreAllPassed fields.left fields.right fields.places
   pub live : AreRanked fields.live.items ADDRESSES_MAX
-  pub marks : AreMarks (ranges_alone fields.live.items) fields.marks fields.done.lists
-  pub writable : AreWritable (ranges_alone fields.live.items) fields.done.lists (terms_from fields.left fields.right fields.places)
+  pub marks : AreMarks (ranges_alone fields.live.items) fields.marks fields.made.lists
+  pub writable : AreWritable (ranges_alone fields.live.items) fields.made.lists (terms_from fields.left fields.right fields.places)
   pub units : fields.units_left ≡ length (terms_from fields.left fields.right fields.places)
   pub generation : fields.generation ≤ GENERATION_MAX
-  pub low : IsFrom (ranges_alone fields.live.items) (parts_of fields.left fields.right) fields.done.low
-  pub least : fields.done.low ≡ first_from (ranges_alone fields.live.items) (lowest (parts_of fields.left fields.right))
-  pub within : StandWithin (parts_of fields.left fields.right) (addresses_in fields.done.lists)
+  pub within : StandWithin (parts_of fields.left fields.right) (addresses_in fields.made.lists)
+  pub going : 0 < fields.units_left
+      → HasLists (ranges_alone fields.live.items) (parts_of fields.left fields.right) fields.made.lists fields.done
 
 -- what contracts see of a job
 abbrev pub state_of : inside.Inside → JobState
@@ -60,7 +67,7 @@ state_of fields = record {
   parts = parts_of fields.left fields.right;
   live = ranges_alone fields.live.items;
   generation = fields.generation;
-  done = fields.done.lists;
+  done = fields.made.lists;
   terms_left = terms_from fields.left fields.right fields.places;
 }
 

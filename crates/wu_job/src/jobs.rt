@@ -1,11 +1,16 @@
 //! Jobs.
-ghost use Rattle.std.specs.Prelude.{◌≡◌, ◌+◌, ◌-◌, ◌^◌, ◌<◌, ◌≤◌, ◌∷◌, ◌++◌, [], length, min, sum_by, All, IfOk, IfErr, OnOk, OnErr};
-ghost use Rattle.std.specs.List.{AllByRecursion, flat_map};
+ghost use Rattle.std.specs.Prelude.{◌≡◌, ◌+◌, ◌-◌, ◌^◌, ◌<◌, ◌≤◌, ◌∷◌, ◌++◌, [], eqb, length, map, min, sum_by, All, IfOk, IfErr, IfSome, IfNone, OnOk, OnErr};
+ghost use Rattle.std.specs.Ordering.{nat_cmp};
+ghost use Rattle.std.specs.Cmp.Lexicographic.{slice_cmp};
+ghost use Rattle.std.specs.List.{AllByRecursion, IsDistinct, flat_map};
+ghost use Rattle.std.specs.List.Sorted.{IsStrictlySortedBy};
 ghost use Rattle.wu_base.specs.declared.limits.TheConstants.{ADDRESSES_MAX, GENERATION_MAX};
-ghost use Rattle.wu_part.specs.Parts.{IsList, IsRecorded};
+ghost use Rattle.wu_part.specs.Directories.{PartDirectory};
+ghost use Rattle.wu_part.specs.Parts.{IsList, IsRecorded, SpellsPart};
 ghost use Rattle.wu_part.specs.Writing.{first_of};
 ghost use Rattle.wu_space.specs.Addresses.{AreApart};
 ghost use Rattle.wu_job.specs.Jobs.{Answers, DoesTerm, StandWithin, list_for, started};
+ghost use Rattle.wu_job.specs.Keeping.{addresses_in};
 ghost use Rattle.wu_job.specs.Sources.{AreSources, parts_of};
 ghost use Rattle.wu_job.specs.Steps.{IsCause, IsDamaged, ReadsFront, adds, step_ranges};
 
@@ -15,11 +20,12 @@ use crate::marks::{Marks, mark_all};
 use crate::sources::{First, Front, Places, Source, are_whole, count_terms, first_of, front_at};
 use std::alloc::Global;
 use std::marker::Model;
+use std::mem;
 use wu_base::{
     ADDRESSES_MAX, Bytes, GENERATION_MAX, NoMemory, PartRec, Range, Sequence, TermList, Trouble,
 };
 use wu_outside::Store;
-use wu_part::{Builder, Directory};
+use wu_part::{Builder, Directory, History};
 
 /// What a step of a job answers.
 #[derive(Debug, Drop)]
@@ -50,7 +56,10 @@ pub struct Job {
     /// A mark for each live address: whether it stands in a list that was made.
     marks: Marks,
     generation: u32,
+    /// Writes the lists that are made. Where no term is left, it was taken for the new part.
     done: Builder,
+    /// The lists that were made, which only clauses read.
+    made: History,
     units_left: u64,
 }
 
@@ -67,7 +76,6 @@ impl Model for Job {
 }
 
 impl Job {
-    ghost use Rattle.std.specs.Prelude.{IfSome};
     ghost use Rattle.wu_job.specs.Jobs.{AreKept, IsRight, MakesList};
     ghost use Rattle.wu_job.specs.Keeping.{AreFound, IsFirst, IsNewCut, IsNext};
 
@@ -158,8 +166,7 @@ impl Job {
         ensures cause { IfErr result (IsCause (IsDamaged (D.holds store.old) self.old) (D.faults store.old) (D.faults store.new)) }
     {
         let list = self.read_first(store)?;
-        self.put(list.first, list.cut)?;
-        Ok(self.progress()?)
+        Ok(self.put(list.first, list.cut)?)
     }
 
     /// The first term that is left, and its live addresses. Its entries are found in the parts' directories once.
@@ -233,32 +240,24 @@ impl Job {
         }
     }
 
-    /// Keeps the term's list, where it has an address, and goes on to the next term.
-    fn put(&mut self, first: First, cut: Cut) -> Result<(), NoMemory>
+    /// Keeps the term's list, where it has an address, and goes on to the next term. After the last one the part is
+    /// handed out.
+    fn put(&mut self, first: First, cut: Cut) -> Result<Progress, NoMemory>
         requires next { IsNext self.old first.term first.after }
         requires new { IsNewCut self.old cut }
-        ensures { OnOk result (MakesList first.term cut.addresses.items self.old self.new) }
+        ensures made { OnOk result (MakesList first.term cut.addresses.items self.old self.new) }
+        ensures answer { IfOk result (Answers self.new) }
     {
-        put_list(&mut self.done, first.term, cut.addresses)?;
+        put_list(&mut self.done, &mut self.made, first.term, cut.addresses)?;
         mark_all(&mut self.marks, &cut.places);
         self.places = first.after;
         self.units_left -= 1;
-        Ok(())
-    }
-
-    /// What the step answers that has left the job so.
-    fn progress(&mut self) -> Result<Progress, NoMemory>
-        ensures answer { IfOk result (Answers self.new) }
-        ensures kept { self.new ≡ self.old }
-    {
         if self.units_left > 0 {
             return Ok(Progress::More);
         }
-        if self.done.is_empty() {
-            return Ok(Progress::Done(None));
-        }
-        let bytes = self.done.finish(self.generation)?;
-        Ok(Progress::Done(Some(bytes)))
+        let done = mem::replace(&mut self.done, Builder::new(self.alloc, 0));
+        let made = part_of(done, self.generation)?;
+        Ok(Progress::Done(made))
     }
 }
 
@@ -291,6 +290,7 @@ fn started(
         marks,
         generation,
         done,
+        made: History::new(),
         units_left,
     })
 }
@@ -307,11 +307,17 @@ fn size_of_parts(left: &Source, right: &Option<Source>) -> usize
 }
 
 /// Adds the term's list, where it has an address. Out of memory, the lists are as they were.
-fn put_list(lists: &mut Builder, term: Bytes, addresses: Vec<u64>) -> Result<(), NoMemory>
+fn put_list(
+    lists: &mut Builder,
+    made: &mut History,
+    term: Bytes,
+    addresses: Vec<u64>,
+) -> Result<(), NoMemory>
     requires lists { AllByRecursion IsList (list_for term addresses.items) }
     requires low { AllByRecursion (λ list. lists.old.low ≤ first_of list.at) (list_for term addresses.items) }
     ensures ok { OnOk result (lists.new ≡ record lists.old { lists = lists.old.lists ++ list_for term addresses.items }) }
-    ensures err { OnErr result (lists.new ≡ lists.old) }
+    ensures made { OnOk result (made.new.lists ≡ made.old.lists ++ list_for term addresses.items) }
+    ensures err { OnErr result ((lists.new ≡ lists.old) × (made.new.lists ≡ made.old.lists)) }
 {
     if addresses.is_empty() {
         return Ok(());
@@ -321,5 +327,22 @@ fn put_list(lists: &mut Builder, term: Bytes, addresses: Vec<u64>) -> Result<(),
         at: Sequence::from(addresses),
     };
     lists.add(&list)?;
+    *made = History::with(made, &list);
     Ok(())
+}
+
+/// The bytes of the part of the lists, or None where there are none.
+fn part_of(lists: Builder, generation: u32) -> Result<Option<Vec<u8>>, NoMemory>
+    requires ascending { IsStrictlySortedBy (slice_cmp nat_cmp) (map (λ list. list.term) lists.lists) }
+    requires distinct { IsDistinct eqb (addresses_in lists.lists) }
+    requires generation { generation ≤ GENERATION_MAX }
+    ensures some { IfOk result (λ part. IfSome part (λ bytes. (0 < length lists.lists) × (directory : PartDirectory)
+        × (directory.generation ≡ generation) × SpellsPart directory lists.lists bytes.items)) }
+    ensures none { IfOk result (λ part. IfNone part (lists.lists ≡ [])) }
+{
+    if lists.is_empty() {
+        return Ok(None);
+    }
+    let bytes = lists.finish(generation)?;
+    Ok(Some(bytes))
 }

@@ -2,7 +2,9 @@
 use std::alloc::Global;
 use std::io;
 use wu_rows::{NoAnswer, ascending_numbers, bytes, bytes_text, number, numbers_text, plain_text};
-use wu_vbyte::{BLOCK_LEN, next_number, put_block, put_number, take_block, take_number};
+use wu_vbyte::{
+    BLOCK_LEN, next_large, next_number, put_block, put_number, take_block, take_number,
+};
 
 /// The answer of the call to the arguments.
 pub fn answer(alloc: Global, call: &str, arguments: &[&str]) -> Result<String, NoAnswer> {
@@ -75,13 +77,15 @@ pub fn compare_powers(rt: &(impl Print + AllocGlobal)) -> io::Result<()> {
 fn is_read_back(alloc: Global, number: u64) -> Result<bool, NoAnswer> {
     let mut out = Vec::new(alloc);
     put_number(&mut out, number)?;
-    Ok(is_whole(&out, number))
+    let alone = is_read(next_number(&out), number, 0) && is_read(next_large(&out), number, 0);
+    put_number(&mut out, 0)?;
+    Ok(alone && is_read(next_number(&out), number, 1) && is_read(next_large(&out), number, 1))
 }
 
-/// Whether the bytes are read as this number, all of them.
-fn is_whole(bytes: &[u8], number: u64) -> bool {
-    match next_number(bytes) {
-        Some((found, rest)) => found == number && rest.is_empty(),
+/// Whether this number was read, and so many bytes are left.
+fn is_read(next: Option<(u64, &[u8])>, number: u64, left: usize) -> bool {
+    match next {
+        Some((found, rest)) => found == number && rest.len() == left,
         None => false,
     }
 }

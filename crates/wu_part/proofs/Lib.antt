@@ -5,6 +5,7 @@ pub mod DirectoryLemmas
 pub mod HeaderLemmas
 pub mod LawLemmas
 pub mod MarkLemmas
+pub mod OrderLemmas
 pub mod PartLemmas
 pub mod ReadBackLemmas
 pub mod ReadingLemmas

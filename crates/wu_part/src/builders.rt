@@ -17,12 +17,11 @@ use crate::totals::Totals;
 use crate::writing::{lowest, move_to_end, put_head, put_list};
 use std::alloc::Global;
 use std::marker::Model;
-use std::mem;
 use wu_base::{NoMemory, TermList};
 
 /// A part that is being built, one term after another: each list is written as it comes. Contracts see the lowest
-/// address that may come, and the lists that were added. After a list that there was no memory for, and once the
-/// part's bytes were handed out, a builder answers that it is out of memory.
+/// address that may come, and the lists that were added. After a list that there was no memory for, a builder answers
+/// that it is out of memory. Its part is handed out once, since that takes the builder.
 #[derive(Drop)]
 pub struct Builder {
     alloc: Global,
@@ -47,19 +46,28 @@ impl Model for Builder {
 }
 
 impl Builder {
-    /// No list yet, where no address below `low` will come. Takes memory for `room` bytes of blocks: a part's blocks
-    /// then come to lie in one piece, which the rest of the part is put to.
-    pub fn with_room(alloc: Global, low: u64, room: usize) -> Result<Builder, NoMemory>
-        ensures { IfOk result (λ builder. builder ≡ record { low = low; lists = [] }) }
+    /// No list yet, where no address below `low` will come. Takes no memory.
+    pub fn new(alloc: Global, low: u64) -> Builder
+        ensures { result ≡ record { low = low; lists = [] } }
     {
-        Ok(Builder {
+        Builder {
             alloc,
             totals: Totals::none(low),
             whole: true,
             entries: Vec::new(alloc),
-            blocks: Vec::with_capacity(alloc, room)?,
+            blocks: Vec::new(alloc),
             added: History::new(),
-        })
+        }
+    }
+
+    /// The same, with memory for `room` bytes of blocks: a part's blocks then come to lie in one piece, which the
+    /// rest of the part is put to.
+    pub fn with_room(alloc: Global, low: u64, room: usize) -> Result<Builder, NoMemory>
+        ensures { IfOk result (λ builder. builder ≡ record { low = low; lists = [] }) }
+    {
+        let mut builder = Builder::new(alloc, low);
+        builder.blocks.reserve(room)?;
+        Ok(builder)
     }
 
     /// Whether no list was added.
@@ -88,17 +96,16 @@ impl Builder {
         Ok(())
     }
 
-    /// The bytes of the part of the lists that were added, as `encode` gives them: handed out once. The lists' terms
-    /// ascend, and no address is that of two terms. Where no list begins at the lowest address that might have come,
-    /// the lists are read back and written anew.
-    pub fn finish(&mut self, generation: u32) -> Result<Vec<u8>, NoMemory>
-        requires some { 0 < length self.old.lists }
-        requires ascending { IsStrictlySortedBy (slice_cmp nat_cmp) (map (λ list. list.term) self.old.lists) }
-        requires distinct { IsDistinct eqb (flat_map (λ list. list.at) self.old.lists) }
+    /// The bytes of the part of the lists that were added, as `encode` gives them. The lists' terms ascend, and no address is
+    /// that of two terms. Where no list begins at the lowest address that might have come, the lists are read back and
+    /// written anew.
+    pub fn finish(self, generation: u32) -> Result<Vec<u8>, NoMemory>
+        requires some { 0 < length self.lists }
+        requires ascending { IsStrictlySortedBy (slice_cmp nat_cmp) (map (λ list. list.term) self.lists) }
+        requires distinct { IsDistinct eqb (flat_map (λ list. list.at) self.lists) }
         requires generation { generation ≤ GENERATION_MAX }
         ensures part { IfOk result (λ blob. (directory : PartDirectory) × (directory.generation ≡ generation)
-            × SpellsPart directory self.old.lists blob.items) }
-        ensures kept { self.new ≡ self.old }
+            × SpellsPart directory self.lists blob.items) }
     {
         if self.totals.reached {
             Ok(self.close(generation)?)
@@ -109,23 +116,21 @@ impl Builder {
     }
 
     /// The bytes of the part, where a list begins at the lowest address.
-    fn close(&mut self, generation: u32) -> Result<Vec<u8>, NoMemory>
-        requires some { 0 < length self.old.lists }
-        requires reached { list_any (λ list. first_of list.at == self.old.low) self.old.lists ≡ true }
-        requires ascending { IsStrictlySortedBy (slice_cmp nat_cmp) (map (λ list. list.term) self.old.lists) }
-        requires distinct { IsDistinct eqb (flat_map (λ list. list.at) self.old.lists) }
+    fn close(self, generation: u32) -> Result<Vec<u8>, NoMemory>
+        requires some { 0 < length self.lists }
+        requires reached { list_any (λ list. first_of list.at == self.low) self.lists ≡ true }
+        requires ascending { IsStrictlySortedBy (slice_cmp nat_cmp) (map (λ list. list.term) self.lists) }
+        requires distinct { IsDistinct eqb (flat_map (λ list. list.at) self.lists) }
         requires generation { generation ≤ GENERATION_MAX }
         ensures part { IfOk result (λ blob. (directory : PartDirectory) × (directory.generation ≡ generation)
-            × SpellsPart directory self.old.lists blob.items) }
-        ensures kept { self.new ≡ self.old }
+            × SpellsPart directory self.lists blob.items) }
     {
         if !self.whole {
             return Err(NoMemory);
         }
-        self.whole = false;
         let mut head = Vec::new(self.alloc);
         put_head(&mut head, generation, &self.totals)?;
-        let mut blob = mem::replace(&mut self.blocks, Vec::new(self.alloc));
+        let mut blob = self.blocks;
         let blocks = blob.len();
         put_header(&mut blob, (head.len() + self.entries.len()) as u64)?;
         blob.extend_from_slice(&head)?;

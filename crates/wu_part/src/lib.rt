@@ -20,6 +20,7 @@ pub use cursors::Entry;
 pub use directories::Directory;
 pub use entries::{BlockEntry, TermEntry};
 pub use headers::{HEADER_LEN, read_header};
+pub use histories::History;
 pub use laws::{each_directory_has_one_spelling, each_part_has_one_spelling};
 pub use reading::{read_block, read_directory};
 pub use walks::Terms;

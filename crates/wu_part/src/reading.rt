@@ -20,7 +20,7 @@ use crate::headers::HEADER_LEN;
 use crate::marks::{Mark, put_mark};
 use std::alloc::Global;
 use wu_base::{ADDRESSES_MAX, GENERATION_MAX, NoMemory, WORD_MAX};
-use wu_vbyte::{next_number, take_block};
+use wu_vbyte::{next_large, next_number, take_block};
 
 /// The directory of a part of `size` bytes whose spelling the bytes are. `None` exactly where they are
 /// no such spelling. Takes memory only for entries that the bytes were found to hold.
@@ -67,17 +67,17 @@ pub fn read_block(
     take_block(alloc, bytes, low, count, entry.first, entry.last)
 }
 
-/// The three numbers that the bytes start with, and the rest.
+/// The three numbers that the bytes start with, and the rest. The first two are mostly large.
 #[inline(always)]
 pub(crate) fn three_numbers(bytes: &[u8]) -> Option<(u64, u64, u64, &[u8])>
     ensures found { IfSome result (λ next. StartsWithNumbers bytes.now (next.0 ∷ next.1 ∷ next.2 ∷ []) next.3.now) }
     ensures none { IfNone result ((a b c : ℕ) (rest : List ℕ) → a < 2 ^ 64 → b < 2 ^ 64 → c < 2 ^ 64
         → StartsWithNumbers bytes.now (a ∷ b ∷ c ∷ []) rest → ⊥) }
 {
-    let Some((first, rest)) = next_number(bytes) else {
+    let Some((first, rest)) = next_large(bytes) else {
         return None;
     };
-    let Some((second, rest)) = next_number(rest) else {
+    let Some((second, rest)) = next_large(rest) else {
         return None;
     };
     let Some((third, rest)) = next_number(rest) else {
@@ -205,7 +205,7 @@ fn is_all(reached: &Reached<'_>) -> bool
 
 /// How far the entries are read with one entry more. `None` exactly where no entry that may follow
 /// comes next.
-#[inline]
+#[inline(always)]
 fn pass_entry<'a>(head: &Head, size: u64, from: &Reached<'a>) -> Option<Reached<'a>>
     requires high { head.now.high < ADDRESSES_MAX }
     requires place { from.now.place ≤ size }
@@ -234,10 +234,17 @@ fn pass_entry<'a>(head: &Head, size: u64, from: &Reached<'a>) -> Option<Reached<
 }
 
 /// Whether the term stands after the one before it.
+#[inline(always)]
 fn ascends(before: &[u8], term: &[u8]) -> bool
     ensures { MatchBool result (slice_cmp nat_cmp before.now term.now ≡ Less) (slice_cmp nat_cmp before.now term.now ≡ Less → ⊥) }
 {
-    before.cmp(&term).is_lt()
+    // Neighbours mostly differ within a few bytes, where a call of `cmp` costs more than the bytes do.
+    for at in 0..before.len().min(term.len()) {
+        if before[at] != term[at] {
+            return before[at] < term[at];
+        }
+    }
+    before.len() < term.len()
 }
 
 /// An entry that bytes start with, the rest of the bytes, where its blocks end, and whether some block
@@ -253,7 +260,7 @@ pub(crate) struct NextEntry<'a> {
 
 /// The entry that the bytes start with; its blocks begin at `place`. `None` exactly where the bytes
 /// start with no entry whose blocks end at `size` at the latest.
-#[inline]
+#[inline(always)]
 pub(crate) fn take_entry<'a>(
     bytes: &'a [u8],
     head: &Head,
@@ -343,7 +350,7 @@ struct AfterBlocks<'a> {
 
 /// What comes after the blocks of so many addresses that the bytes start with, which begin at `place`.
 /// `None` exactly where the bytes start with no such blocks that end at `size` at the latest.
-#[inline]
+#[inline(always)]
 fn take_blocks<'a>(
     bytes: &'a [u8],
     head: &Head,

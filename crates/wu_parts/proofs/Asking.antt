@@ -35,7 +35,7 @@ use Rattle.wu_parts.specs.Causes.{IsFetchCause}
 use Rattle.wu_parts.specs.Contents.{Contents}
 use Rattle.wu_parts.specs.Holdings.{AreKept, HoldParts, all_needed}
 use Rattle.wu_lists.specs.Ascending.{AscendBetween}
-use Rattle.wu_parts.specs.StoredParts.{AreFetchedFrom, directories_of, pairs_of, records_of}
+use Rattle.wu_parts.specs.StoredParts.{AreFetchedFrom, SpansAscend, directories_of, pairs_of, records_of}
 use Rattle.wu_parts.specs.declared.writing.StoredPart.{StoredPart}
 use Rattle.wu_lists.proofs.Ascending.{ascend-lower}
 
@@ -551,6 +551,50 @@ seen-parts old fields parts slice e p d s =
     ∙ ap (λ ps. zip ps (directories_of parts)) (sym p)
     ∙ ap (zip fields.parts) (sym d)
     ∙ ap (λ (k : Contents). zip k.parts k.directories) e
+
+-- what is asked for and answered of the parts, as contracts see them
+module _ (old fields : Contents) (parts slice : List StoredPart) (is : fields ≡ old) (records : fields.parts ≡ records_of parts)
+    (directories : fields.directories ≡ directories_of parts) (sliced : slice ≡ parts) (term : List ℕ) (frames : List Range)
+    (holds : Option Content) where
+  abbrev told_missing : List (PartRec × PartDirectory) → Kept → List Block
+  told_missing pairs kept = all_missing kept.cap (keys_of kept.entries) (all_needed pairs term frames)
+
+  pub asks-told : (new : Kept) (ranges ranges_now : Option (List ReadRange))
+      → Asks (all_needed (pairs_of slice) term frames) holds fields.kept new ranges ranges_now
+      → Asks (all_needed (zip old.parts old.directories) term frames) holds old.kept new ranges ranges_now
+  asks-told new ranges ranges_now a =
+      asks-seen (pairs_of slice) (zip old.parts old.directories) fields.kept old.kept new term frames holds ranges ranges_now
+      (seen-parts old fields parts slice is records directories sliced) (ap (λ (k : Contents). k.kept) is) a
+
+  pub cause-told : {T : Type 0} (r : Result T Trouble) (trouble : Trouble) (before now : ℕ) (ranges ranges_now : Option (List ReadRange))
+      → IsErrAnd r (λ t. t ≡ trouble)
+      → IsFetchCause (pairs_of slice) (told_missing (pairs_of slice) fields.kept) holds before now ranges ranges_now trouble
+      → IfErr r (IsFetchCause (zip old.parts old.directories) (told_missing (zip old.parts old.directories) old.kept) holds before now
+      ranges ranges_now)
+  cause-told r trouble before now ranges ranges_now e c =
+      answered
+      (IsFetchCause (zip old.parts old.directories) (told_missing (zip old.parts old.directories) old.kept) holds before now ranges
+      ranges_now)
+      r trouble e
+      (cause-seen (pairs_of slice) (zip old.parts old.directories) fields.kept old.kept term frames holds before now ranges ranges_now
+      trouble (seen-parts old fields parts slice is records directories sliced) (ap (λ (k : Contents). k.kept) is) c)
+
+  -- all blocks were asked for, and memory ran out then
+  pub cause-after : {T : Type 0} (r : Result T Trouble) (new : Kept) (before now : ℕ) (ranges ranges_now : Option (List ReadRange))
+      → IsErrAnd r (λ t. t ≡ NoMemory) → Asks (all_needed (pairs_of slice) term frames) holds fields.kept new ranges ranges_now
+      → now ≡ before
+      → IfErr r (IsFetchCause (zip old.parts old.directories) (told_missing (zip old.parts old.directories) old.kept) holds before now
+      ranges ranges_now)
+  cause-after r new before now ranges ranges_now e a calm =
+      cause-told r NoMemory before now ranges ranges_now e
+      (cause-done (pairs_of slice) (all_needed (pairs_of slice) term frames) holds fields.kept new before now ranges ranges_now a calm)
+
+-- the addresses in parts, and then those in memory
+pub ascend-both : (parts slice : List StoredPart) (low end : ℕ) (found more : List ℕ) → slice ≡ parts → SpansAscend 0 low parts
+    → ((from to : ℕ) → SpansAscend from to slice → AscendBetween from to found) → AscendBetween low end more
+    → AscendBetween 0 end (found ++ more)
+ascend-both parts slice low end found more sliced spans first last =
+    ascend-append 0 low end found more (first 0 low (subst (SpansAscend 0 low) (sym sliced) spans)) last
 
 pub filter_passes : (test : ℕ → Bool) (xs : List ℕ) → AllByRecursion (λ x. test x ≡ true) (filter test xs)
 filter_passes test [] = tt

@@ -7,6 +7,7 @@ pub mod LeadingLemmas
 pub mod LiveTerms
 pub mod NewParts
 pub mod Asking
+pub mod Counting
 pub mod ReadingBack
 pub mod Spans
 pub mod MemoryLists

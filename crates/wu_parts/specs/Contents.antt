@@ -5,7 +5,6 @@ use Rattle.lru.specs.LruCache.{lru_cache}
 use Rattle.wu_part.specs.Directories.{PartDirectory}
 use Rattle.wu_lists.specs.Keeping.{Kept}
 use Rattle.wu_job.specs.Jobs.{JobState}
-use Rattle.wu_parts.specs.declared.parts.TheConstants.{BLOCKS_KEPT}
 use Rattle.wu_parts.specs.Memory.{Memory, no_postings, emptied, Gains}
 
 -- a job that is under way: how many parts stand left of its first, and how far it has gone
@@ -33,7 +32,7 @@ no_contents flush_at next_blob = record {
   memory = no_postings;
   parts = [];
   directories = [];
-  kept = lru_cache [] BLOCKS_KEPT;
+  kept = lru_cache [] 1024;
   flush_at = flush_at;
   next_blob = next_blob;
   flushes = 0;

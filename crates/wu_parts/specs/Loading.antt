@@ -14,7 +14,6 @@ use Rattle.wu_part.specs.Directories.{PartDirectory}
 use Rattle.wu_part.specs.Headers.{SpellsHeader}
 use Rattle.wu_part.specs.Parts.{IsDirectoryOf, IsRecorded}
 use Rattle.wu_job.specs.Steps.{adds}
-use Rattle.wu_parts.specs.declared.parts.TheConstants.{BLOCKS_KEPT}
 use Rattle.wu_parts.specs.Contents.{Contents}
 use Rattle.wu_parts.specs.Units.{bares}
 
@@ -101,7 +100,7 @@ loaded_contents records directories flush_at next_blob flushes = record {
   memory = record { lists = []; stored = 0; low = end_of records; end = end_of records };
   parts = records;
   directories = directories;
-  kept = lru_cache [] BLOCKS_KEPT;
+  kept = lru_cache [] 1024;
   flush_at = flush_at;
   next_blob = next_blob;
   flushes = flushes;

@@ -114,6 +114,7 @@ fn make_room(links: &mut Vec<u32>) -> Result<(), NoMemory>
 fn next_place(places: usize) -> Result<u32, NoMemory>
     ensures place { IfOk result (λ place. place ≡ places) }
     ensures bounded { IfOk result (λ place. place + 1 < 2 ^ 32) }
+    ensures err { OnErr result (2 ^ 32 ≤ places + 1) }
 {
     match u32::try_from(places) {
         Ok(place) if place < u32::MAX => Ok(place),

@@ -1,5 +1,5 @@
 //! Postings in memory.
-ghost use Rattle.std.specs.Prelude.{◌≡◌, ℕ, List, [], ◌+◌, ◌++◌, ◌^◌, ◌<◌, ◌≤◌, All, length, map, filter, OnOk, OnErr, IfOk};
+ghost use Rattle.std.specs.Prelude.{◌≡◌, ℕ, List, [], ◌+◌, ◌-◌, ◌++◌, ◌^◌, ◌<◌, ◌≤◌, All, length, map, filter, OnOk, OnErr, IfOk};
 ghost use Rattle.wu_layout.specs.Layouts.{lists_of};
 ghost use Rattle.wu_layout.specs.Postings.{Posting, is_live, live_of};
 ghost use Rattle.wu_space.specs.Addresses.{AreApart};
@@ -7,7 +7,8 @@ ghost use Rattle.wu_token.specs.Words.{IsTerm};
 ghost use Rattle.wu_token.specs.Tokens.{tokens_of};
 ghost use Rattle.wu_token.specs.Pieces.{line_terms, piece_of};
 ghost use Rattle.wu_parts.specs.Memory.{HasPostings, emptied, held, no_postings};
-ghost use Rattle.wu_lists.specs.Ascending.{AscendBetween};
+ghost use Rattle.wu_lists.specs.Ascending.{AscendBetween, AreInOrder};
+ghost use Rattle.wu_lists.specs.Tallying.{Counts};
 ghost use Rattle.wu_parts.specs.Lists.{with_posting, with_terms};
 ghost use Rattle.wu_parts.specs.LiveLists.{AreEncodable};
 
@@ -18,7 +19,7 @@ use indexmap::IndexMap;
 use std::alloc::Global;
 use std::marker::Model;
 use wu_base::{ADDRESSES_MAX, NoMemory, Range, Sequence, TEXT_MAX};
-use wu_lists::put_within;
+use wu_lists::{Tally, put_within, tally_within};
 use wu_part::Builder;
 use wu_space::Space;
 use wu_token::{FILE_END, FILE_START, LINE_END, LINE_START, Lines, Piece, Token, Word};
@@ -226,13 +227,47 @@ impl MemoryPostings {
         ensures addresses { OnOk result (found.new.items ≡ found.old.items ++ filter (is_live frames.now) (held self.now term.now)) }
         ensures ascend { AscendBetween self.now.low self.now.end (filter (is_live frames.now) (held self.now term.now)) }
     {
+        let addresses = self.addresses_near(term, frames)?;
+        put_within(found, &addresses, frames)
+    }
+
+    /// Counts the addresses that [`MemoryPostings::fetch`] gives, and the frames that have one. That is exact as long
+    /// as the addresses that are counted ascend. Out of memory, nothing was counted.
+    pub(crate) fn tally_into(
+        &self,
+        term: &[u8],
+        frames: &[Range],
+        tally: &mut Tally,
+    ) -> Result<(), NoMemory>
+        requires apart { AreApart frames.now }
+        requires bounded { All (λ frame. frame.start + frame.len ≤ ADDRESSES_MAX) frames.now }
+        ensures addresses { OnOk result (Counts frames.now (filter (is_live frames.now) (held self.now term.now)) tally.old tally.new) }
+        ensures ascend { AscendBetween self.now.low self.now.end (filter (is_live frames.now) (held self.now term.now)) }
+        ensures bounded { self.now.end ≤ ADDRESSES_MAX }
+        ensures unchanged { OnErr result (tally.new ≡ tally.old) }
+    {
+        // A list is made here too, since a chain is walked backwards.
+        let addresses = self.addresses_near(term, frames)?;
+        tally_within(tally, &addresses, frames);
+        Ok(())
+    }
+
+    /// The addresses of the term from the start of the first frame on, ascending.
+    fn addresses_near(&self, term: &[u8], frames: &[Range]) -> Result<Vec<u64>, NoMemory>
+        requires apart { AreApart frames.now }
+        requires bounded { All (λ frame. frame.start + frame.len ≤ ADDRESSES_MAX) frames.now }
+        ensures order { AreInOrder 0 (2 ^ 64 - 1) frames.now }
+        ensures live { IfOk result (λ near. filter (is_live frames.now) near.items ≡ filter (is_live frames.now) (held self.now term.now)) }
+        ensures near { IfOk result (λ near. AscendBetween 0 (2 ^ 64 - 1) near.items) }
+        ensures ascend { AscendBetween self.now.low self.now.end (filter (is_live frames.now) (held self.now term.now)) }
+        ensures bounded { self.now.end ≤ ADDRESSES_MAX }
+    {
         match self.chains.get(term) {
             Some(chain) => {
                 let low = first_start(frames);
-                let addresses = addresses_from(self.alloc, *chain, &self.before, self.start, low)?;
-                put_within(found, &addresses, frames)
+                addresses_from(self.alloc, *chain, &self.before, self.start, low)
             }
-            None => Ok(()),
+            None => Ok(Vec::new(self.alloc)),
         }
     }
 }
@@ -242,6 +277,7 @@ fn places_between(start: u64, end: u64) -> Result<usize, NoMemory>
     requires { start ≤ end }
     ensures places { IfOk result (λ places. start + places ≡ end) }
     ensures bounded { IfOk result (λ places. places < 2 ^ 32) }
+    ensures err { OnErr result (start + 2 ^ 32 ≤ end) }
 {
     match u32::try_from(end - start) {
         Ok(places) => Ok(places as usize),

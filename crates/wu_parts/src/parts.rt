@@ -1,5 +1,5 @@
 //! The parts of the index, and the postings in memory.
-ghost use Rattle.std.specs.Prelude.{◌≡◌, ◌≢◌, ℕ, ◌+◌, ◌<◌, ◌≤◌, ◌^◌, ◌∷◌, ◌++◌, Bool, List, Option, None, [], true, Err, All, IsTrue, ◌↔◌, length, map, filter, slice_get, zip, IfOk, IfErr, IfSome, OnOk, OnErr, option_map};
+ghost use Rattle.std.specs.Prelude.{◌≡◌, ◌≢◌, ◌⊎◌, ℕ, ◌+◌, ◌<◌, ◌≤◌, ◌^◌, ◌∷◌, ◌++◌, Bool, List, Option, None, [], true, Err, All, IsTrue, ◌↔◌, length, map, filter, slice_get, zip, IfOk, IfErr, IfSome, OnOk, OnErr, option_map};
 ghost use Rattle.std.specs.List.{AllByRecursion};
 ghost use Rattle.std.specs.List.Sorted.{IsStrictlyIncreasing};
 ghost use Rattle.wu_base.specs.declared.reports.Worked.TheVariants.{Idle as NothingLeft};
@@ -15,6 +15,7 @@ ghost use Rattle.wu_token.specs.Words.{IsTerm};
 ghost use Rattle.wu_token.specs.Tokens.{tokens_of};
 ghost use Rattle.wu_parts.specs.Memory.{HasPostings, held};
 ghost use Rattle.wu_lists.specs.Keeping.{Asks};
+ghost use Rattle.wu_lists.specs.Tallying.{tally_of};
 ghost use Rattle.wu_parts.specs.Causes.{IsPartsCause, IsStoreCause};
 ghost use Rattle.wu_parts.specs.Contents.{GainsTerms, no_contents, stored_in, stored_in_parts};
 ghost use Rattle.wu_parts.specs.Flushing.{EmptiesMemory, Flushes};
@@ -24,14 +25,14 @@ ghost use Rattle.wu_parts.specs.StoredParts.{records_of};
 
 use crate::loading::{end_of, open_parts};
 use crate::memory::MemoryPostings;
-use crate::reading::{fetch_from_parts, touch_parts};
+use crate::reading::{fetch_from_parts, tally_parts, touch_parts};
 use crate::working::{Running, next_job, start, take_out};
 use crate::writing::{StoredPart, put_bytes, put_part};
 use std::alloc::Global;
 use std::marker::Model;
 use wu_base::{ADDRESSES_MAX, NoMemory, PartRec, Range, Sequence, TEXT_MAX, Trouble, Worked};
 use wu_job::Progress;
-use wu_lists::Lists;
+use wu_lists::{Lists, Tally};
 use wu_outside::Store;
 use wu_space::Space;
 use wu_token::Token;
@@ -208,6 +209,41 @@ impl Parts {
         Ok(Sequence::from(found))
     }
 
+    /// How many addresses [`Parts::fetch`] gives, and in how many of the frames one lies. Asks for the same blocks.
+    /// Of the addresses in parts no list is made but a block's at a time; of those in memory one is, from the start
+    /// of the first frame on.
+    ///
+    /// A part is damaged where [`Parts::fetch`] would find it so.
+    pub fn tally<D: Store>(
+        &mut self,
+        store: &mut D,
+        term: &[u8],
+        frames: &[Range],
+    ) -> Result<Tally, Trouble>
+        requires apart { AreApart frames.now }
+        requires bounded { All (λ frame. frame.start + frame.len ≤ ADDRESSES_MAX) frames.now }
+        ensures tally { IfOk result (λ tally. IfSome (D.holds store.old) (λ content. (parts : List Part)
+            → HoldParts content self.old.parts self.old.directories parts → AreKept content self.old.parts self.old.kept
+            → tally ≡ tally_of frames.now
+            (fetched frames.now (postings_in parts) term.now ++ filter (is_live frames.now) (held self.old.memory term.now)))) }
+
+        ensures blocks { OnOk result (Asks (all_needed (zip self.old.parts self.old.directories) term.now frames.now) (D.holds store.old)
+            self.old.kept self.new.kept (D.reads store.old) (D.reads store.new)) }
+        ensures others { self.new ≡ record self.old { kept = self.new.kept } }
+
+        ensures holds { D.holds store.new ≡ D.holds store.old }
+        ensures moments { D.moments store.new ≡ D.moments store.old }
+        ensures calm { OnOk result (D.faults store.new ≡ D.faults store.old) }
+        ensures cause { IfErr result (IsPartsCause self.old.kept (zip self.old.parts self.old.directories) term.now frames.now
+            (D.holds store.old) (D.faults store.old) (D.faults store.new) (D.reads store.old) (D.reads store.new)) }
+    {
+        let mut tally = Tally::new();
+        let parts = self.parts.as_slice();
+        tally_parts(store, &mut self.lists, parts, term, frames, &mut tally)?;
+        self.memory.tally_into(term, frames, &mut tally)?;
+        Ok(tally)
+    }
+
     /// Asks for the blocks of the term that the frames need in the parts, from left to right, as [`Parts::fetch`]
     /// does, and gives no addresses: for a caller who knows them and owes the reads. Memory isn't asked.
     ///
@@ -247,6 +283,7 @@ impl Parts {
             (D.holds store.old, D.moments store.old) (D.holds store.new, D.moments store.new)) }
         ensures changes { OnOk result (EmptiesMemory self.old self.new) }
         ensures unchanged { OnErr result (self.new ≡ record self.old { next_blob = self.new.next_blob }) }
+        ensures drawn { OnErr result ((self.new.next_blob ≡ self.old.next_blob + 1) ⊎ ((self.new ≡ self.old) × (store.new ≡ store.old))) }
 
         // Whatever is answered, only the blob of the next number may differ.
         ensures elsewhere { (written : Option (List ℕ))
@@ -259,7 +296,7 @@ impl Parts {
         ensures cause { IfErr result (IsStoreCause (D.faults store.old) (D.faults store.new)) }
     {
         let _untouched = &*store;
-        let mut lists = self.memory.live_lists(space)?;
+        let lists = self.memory.live_lists(space)?;
         if lists.is_empty() {
             self.memory.clear();
             return Ok(());
@@ -267,7 +304,7 @@ impl Parts {
         self.parts.reserve(1)?;
         let blob = self.next_blob;
         self.next_blob = blob + 1;
-        let part = put_part(self.alloc, store, blob, &mut lists)?;
+        let part = put_part(self.alloc, store, blob, lists)?;
         self.parts.push(part)?;
         self.flushes += 1;
         self.memory.clear();

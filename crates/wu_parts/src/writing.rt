@@ -26,11 +26,11 @@ pub(crate) fn put_part<D: Store>(
     alloc: Global,
     store: &mut D,
     blob: u64,
-    lists: &mut Builder,
+    lists: Builder,
 ) -> Result<StoredPart, Trouble>
-    requires some { 0 < length lists.old.lists }
-    requires lists { AreEncodable lists.old.lists }
-    ensures put { IfOk result (λ part. IsPut lists.old.lists blob part.recorded part.directory
+    requires some { 0 < length lists.lists }
+    requires lists { AreEncodable lists.lists }
+    ensures put { IfOk result (λ part. IsPut lists.lists blob part.recorded part.directory
         (D.holds store.old, D.moments store.old) (D.holds store.new, D.moments store.new)) }
     ensures elsewhere { (written : Option (List ℕ)) × MayDo (with_blob blob written) (D.holds store.old) (D.holds store.new) }
     ensures tried { (written : Option (List ℕ))

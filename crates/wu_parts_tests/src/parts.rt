@@ -26,7 +26,8 @@ fn start_of<'a>(call: &str, arguments: &[&'a str]) -> Result<(u64, u64, &'a str)
     match (call, arguments) {
         ("Parts::draw_blob", [next_blob]) => Ok((1, number(next_blob)?, "")),
         ("Parts::full", [flush_at, ..]) => Ok((number(flush_at)?, 1, "")),
-        ("Parts::fetch" | "Parts::work" | "Parts::load", [fails, ..]) => Ok((1, 1, fails)),
+        ("Parts::fetch" | "Parts::tally", [fails, ..]) => Ok((1, 1, fails)),
+        ("Parts::work" | "Parts::load", [fails, ..]) => Ok((1, 1, fails)),
         ("Parts::flush", [fails, _]) => Ok((1, 1, fails)),
         _ => Ok((1, 1, "")),
     }
@@ -41,6 +42,7 @@ fn told(alloc: Global, index: &mut Index, call: &str, arguments: &[&str]) -> Res
         ("Parts::flush", [_, steps]) => questions::recorded(alloc, index, steps),
         ("Parts::flush", [steps, "holds", blob]) => questions::held(alloc, index, steps, blob),
         ("Parts::fetch", [_, steps, term]) => questions::fetched(alloc, index, steps, term),
+        ("Parts::tally", [_, steps, term]) => questions::tallied(alloc, index, steps, term),
         ("Parts::work", [_, steps, units]) => questions::worked(alloc, index, steps, units),
         ("Parts::load", [_, steps, records, more, term]) => {
             openings::loaded(alloc, index, steps, records, more, term)

@@ -169,6 +169,39 @@ starts_with_two (low ∷ []) some more large byte above small = absurd (omega ar
 starts_with_two (low ∷ high ∷ left) some more large byte above small =
     reads_end (low ∷ high ∷ left) left high (low % 128) 7 (reads_first low (high ∷ left) large byte) small above
 
+-- a number of three bytes
+pub starts_with_three : (bytes : List ℕ) → 3 ≤ length bytes → 128 ≤ get_or bytes 0 0 → get_or bytes 0 0 < 256
+    → 128 ≤ get_or bytes 1 0 → get_or bytes 1 0 < 256 → 0 < get_or bytes 2 0 → get_or bytes 2 0 < 128
+    → StartsWithNumber bytes (get_or bytes 0 0 % 128 + get_or bytes 1 0 % 128 * 2 ^ 7 + get_or bytes 2 0 * 2 ^ 14) (drop 3 bytes)
+starts_with_three [] some large byte more next above small = absurd (omega arith)
+starts_with_three (low ∷ []) some large byte more next above small = absurd (omega arith)
+starts_with_three (low ∷ middle ∷ []) some large byte more next above small = absurd (omega arith)
+starts_with_three (low ∷ middle ∷ high ∷ left) some large byte more next above small =
+    let whole = low ∷ middle ∷ high ∷ left in
+    let one = reads_first low (middle ∷ high ∷ left) large byte in
+    let two = reads_next whole (high ∷ left) middle (low % 128) (low % 128 + middle % 128 * 2 ^ 7) 7 14 one more next (omega arith) refl refl in
+    reads_end whole left high (low % 128 + middle % 128 * 2 ^ 7) 14 two small above
+
+-- a number of four bytes
+pub starts_with_four : (bytes : List ℕ) → 4 ≤ length bytes → 128 ≤ get_or bytes 0 0 → get_or bytes 0 0 < 256
+    → 128 ≤ get_or bytes 1 0 → get_or bytes 1 0 < 256 → 128 ≤ get_or bytes 2 0 → get_or bytes 2 0 < 256
+    → 0 < get_or bytes 3 0 → get_or bytes 3 0 < 128
+    → StartsWithNumber bytes
+    (get_or bytes 0 0 % 128 + get_or bytes 1 0 % 128 * 2 ^ 7 + get_or bytes 2 0 % 128 * 2 ^ 14 + get_or bytes 3 0 * 2 ^ 21)
+    (drop 4 bytes)
+starts_with_four [] some large byte more next third wide above small = absurd (omega arith)
+starts_with_four (low ∷ []) some large byte more next third wide above small = absurd (omega arith)
+starts_with_four (low ∷ b ∷ []) some large byte more next third wide above small = absurd (omega arith)
+starts_with_four (low ∷ b ∷ c ∷ []) some large byte more next third wide above small = absurd (omega arith)
+starts_with_four (low ∷ b ∷ c ∷ high ∷ left) some large byte more next third wide above small =
+    let whole = low ∷ b ∷ c ∷ high ∷ left in
+    let n2 = low % 128 + b % 128 * 2 ^ 7 in
+    let n3 = n2 + c % 128 * 2 ^ 14 in
+    let one = reads_first low (b ∷ c ∷ high ∷ left) large byte in
+    let two = reads_next whole (c ∷ high ∷ left) b (low % 128) n2 7 14 one more next (omega arith) refl refl in
+    let three = reads_next whole (high ∷ left) c n2 n3 14 21 two third wide (omega arith) refl refl in
+    reads_end whole left high n3 21 three small above
+
 -- a number that starts at a place
 pub number_at : (bytes : List ℕ) (place number : ℕ) (rest : List ℕ) → place ≤ length bytes → StartsWithNumber (drop place bytes) number rest
     → IsNumberAt bytes place number (length bytes - length rest)

@@ -48,8 +48,8 @@ fn append_gaps(out: &mut Vec<u8>, low: u64, addresses: &[u64]) -> Result<(), NoM
 }
 
 /// The `count` addresses from `first` to `last` of which the bytes are the spelling, all of the bytes.
-/// `None` exactly where they are no such spelling. Takes memory once, and none before the bytes were
-/// found to be enough for so many addresses.
+/// `None` exactly where they are no such spelling. Takes memory once at most, and only where the bytes
+/// are enough for so many addresses and start with the number of the first one.
 pub fn take_block(
     alloc: Global,
     bytes: &[u8],
@@ -61,6 +61,8 @@ pub fn take_block(
     ensures found { IfOk result (λ block. IfSome block (λ found. SpellsBlock low found.items bytes.now × AreFromTo count first last found.items)) }
     ensures none { IfOk result (λ block. IfNone block ((addresses : List ℕ) → SpellsBlock low addresses bytes.now →
         AreFromTo count first last addresses → ⊥)) }
+    ensures err { OnErr result ((0 < count) × (count ≤ length bytes.now) × (first ≤ last) × (low ≤ first)
+        × ((rest : List ℕ) × StartsWithNumber bytes.now (first - low) rest)) }
 {
     if !is_enough(bytes.len(), count) {
         return Ok(None);

@@ -83,7 +83,28 @@ pub fn next_number(bytes: &[u8]) -> Option<(u64, &[u8])>
     next_groups(bytes)
 }
 
-/// Whether the byte ends a spelling of two bytes.
+/// The number that the bytes start with, and the rest, as `next_number` tells them: for numbers most of
+/// which take three bytes or four. `None` exactly where they start with no spelling of a number below
+/// 2^64. Takes no memory.
+#[inline(always)]
+pub fn next_large(bytes: &[u8]) -> Option<(u64, &[u8])>
+    ensures found { IfSome result (λ next. StartsWithNumber bytes.now next.0 next.1.now) }
+    ensures none { IfNone result ((number : ℕ) (rest : List ℕ) → number < 2 ^ 64 → StartsWithNumber bytes.now number rest → ⊥) }
+{
+    // One test of the length serves four bytes.
+    if bytes.len() >= 4 && !is_last(bytes[0]) && !is_last(bytes[1]) {
+        if is_second(bytes[2]) {
+            return Some((three_groups(bytes[0], bytes[1], bytes[2]), &bytes[3..]));
+        }
+        if !is_last(bytes[2]) && is_second(bytes[3]) {
+            let number = four_groups(bytes[0], bytes[1], bytes[2], bytes[3]);
+            return Some((number, &bytes[4..]));
+        }
+    }
+    next_number(bytes)
+}
+
+/// Whether the byte ends a spelling of two bytes, or of three or four.
 #[inline(always)]
 fn is_second(byte: u8) -> bool
     ensures { MatchBool result ((0 < byte) × (byte < 128)) ⊤ }
@@ -98,6 +119,24 @@ fn two_groups(low: u8, high: u8) -> u64
     ensures { result ≡ low % 128 + high * 2 ^ 7 }
 {
     u64::from(low % 128) + (u64::from(high) << GROUP_BITS)
+}
+
+/// The number of three bytes, of which the first one has the lowest seven bits.
+#[inline(always)]
+fn three_groups(low: u8, middle: u8, high: u8) -> u64
+    requires { high < 128 }
+    ensures { result ≡ low % 128 + middle % 128 * 2 ^ 7 + high * 2 ^ 14 }
+{
+    two_groups(low, middle % 128) + (u64::from(high) << (2 * GROUP_BITS))
+}
+
+/// The number of four bytes, of which the first one has the lowest seven bits.
+#[inline(always)]
+fn four_groups(low: u8, second: u8, third: u8, high: u8) -> u64
+    requires { high < 128 }
+    ensures { result ≡ low % 128 + second % 128 * 2 ^ 7 + third % 128 * 2 ^ 14 + high * 2 ^ 21 }
+{
+    three_groups(low, second, third % 128) + (u64::from(high) << (3 * GROUP_BITS))
 }
 
 /// The number of two bytes or more that the bytes start with, and the rest. `None` exactly where they

@@ -1,9 +1,10 @@
 //! A Parts over a store in memory, with the space of its files.
-ghost use Rattle.std.specs.Prelude.{◌≡◌, ◌≤◌, IfOk, OnOk};
+ghost use Rattle.std.specs.Prelude.{◌≡◌, ◌+◌, ◌≤◌, All, IfOk, OnOk};
+ghost use Rattle.wu_space.specs.Addresses.{AreApart};
 
 use crate::parts::fixtures::are_bounded;
-use std::alloc::Global;
-use wu_base::{ADDRESSES_MAX, Ino, NoMemory, Sequence, Trouble, Worked};
+use std::alloc::{AllocError, Global};
+use wu_base::{ADDRESSES_MAX, Ino, NoMemory, Range, Sequence, Trouble, Worked};
 use wu_outside::MemStore;
 use wu_parts::Parts;
 use wu_rows::{NoAnswer, bytes, numbers, plain_text};
@@ -51,6 +52,12 @@ impl From<NoAnswer> for Stop {
 
 impl From<NoMemory> for Stop {
     fn from(_error: NoMemory) -> Stop {
+        Stop::NoAnswer(NoAnswer::NoMemory)
+    }
+}
+
+impl From<AllocError> for Stop {
+    fn from(_error: AllocError) -> Stop {
         Stop::NoAnswer(NoAnswer::NoMemory)
     }
 }
@@ -107,9 +114,36 @@ pub fn fetch(
     ensures { OnOk result (parts.new.memory.end ≡ parts.old.memory.end) }
 {
     let term = bytes(alloc, term)?;
+    let frames = live_frames(space)?;
+    Ok(parts.fetch(store, &term, &frames)?)
+}
+
+/// How many addresses the term has in the files that are live, and how many of these have one.
+pub fn tally(
+    alloc: Global,
+    parts: &mut Parts,
+    store: &mut MemStore,
+    space: &Space,
+    term: &str,
+) -> Result<String, Stop>
+    ensures { OnOk result (parts.new.memory.end ≡ parts.old.memory.end) }
+{
+    let term = bytes(alloc, term)?;
+    let frames = live_frames(space)?;
+    let tally = parts.tally(store, &term, &frames)?;
+    let hits = tally.hits;
+    let files = tally.frames;
+    Ok(format!(in alloc; "{hits} in {files}")?)
+}
+
+/// The ranges of the files that are live.
+fn live_frames(space: &Space) -> Result<Vec<Range>, Stop>
+    ensures apart { IfOk result (λ frames. AreApart frames.items) }
+    ensures bounded { IfOk result (λ frames. All (λ frame. frame.start + frame.len ≤ ADDRESSES_MAX) frames.items) }
+{
     let frames = space.live_ranges(0, ADDRESSES_MAX)?;
     if !are_bounded(&frames) {
         return Err(Stop::NoAnswer(NoAnswer::BadRow));
     }
-    Ok(parts.fetch(store, &term, &frames)?)
+    Ok(frames)
 }

@@ -1,7 +1,7 @@
 //! What rows ask for of an index after steps.
 ghost use Rattle.std.specs.Prelude.{◌≤◌};
 
-use crate::parts::indexes::{Index, Stop, fetch, work};
+use crate::parts::indexes::{Index, Stop, fetch, tally, work};
 use crate::parts::steps::go_on;
 use std::alloc::{AllocError, Global};
 use wu_base::{PartRec, Worked};
@@ -56,6 +56,20 @@ pub fn fetched(alloc: Global, index: &mut Index, steps: &str, term: &str) -> Res
         term,
     )?;
     Ok(numbers_text(alloc, found.as_slice())?)
+}
+
+/// How many addresses the term has after the steps in the files that are live then, and how many of these have one.
+pub fn tallied(alloc: Global, index: &mut Index, steps: &str, term: &str) -> Result<String, Stop>
+    requires { index.old.parts.memory.end ≤ index.old.space.next }
+{
+    go_on(alloc, index, steps)?;
+    tally(
+        alloc,
+        &mut index.parts,
+        &mut index.store,
+        &index.space,
+        term,
+    )
 }
 
 /// What so many units answer after the steps, what is recorded then, and which blobs are no longer needed.

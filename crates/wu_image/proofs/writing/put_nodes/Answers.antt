@@ -11,7 +11,7 @@ loop-ino-init c =
 pub loop-ino-preserved : goal.loop-ino-preserved
 loop-ino-preserved c =
     node_put _ _ _ _ _ _ _ _ _ _ _ _ c.loop-ino.invariant c.in-Some.ensures.steps c.in_ok-put_node.ensures
-    c.in_ok-files_left.ensures.appends c.in_ok-files_left.ensures.later c.in_ok-count.ensures
+    c.in_ok-files_left.ensures.appends c.in_ok-files_left.ensures.later c.in_ok-count.ensures.more
 
 pub returns : goal.returns
 returns c =

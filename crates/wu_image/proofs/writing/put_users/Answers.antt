@@ -15,7 +15,7 @@ loop-user-init c =
 pub loop-user-preserved : goal.loop-user-preserved
 loop-user-preserved c =
     putting_one user_items _ _ _ _ _ _ _ _ c.loop-user.invariant (ap (λ (l : List UserRec). map user_of l) c.in-Some.ensures.steps)
-    c.in_ok-put_user.ensures c.in_ok-count.ensures
+    c.in_ok-put_user.ensures c.in_ok-count.ensures.more
 
 pub returns : goal.returns
 returns c =

@@ -30,7 +30,7 @@ invariant_of-result c =
     let left = terms_from c.args.left c.args.right (record { left = 0; right = 0 }) in
     let total : c.total.result ≡ total_of live =
     (rw c.deref.ensures.value at c.total.ensures) ∙ sum_alone c.in_ok-live.live.items in
-    let none = sym (ap (λ (b : Building). b.lists) c.in_ok-done.ensures) in
+    let none = sym c.new.ensures in
     let low = ap (λ (b : Building). b.low) c.in_ok-done.ensures in
     let least = lowest_left c.args.left c.args.right in
     let first = rw c.deref-2.ensures.value at c.first_live-low.ensures in
@@ -44,8 +44,11 @@ invariant_of-result c =
           (writable_none live left (merged_up (terms_of c.args.left) (terms_of_other c.args.right)));
       units = c.count_terms-units_left.ensures.count;
       generation = c.requires.generation;
-      low = λ address alive within.
-          let from : c.first_live-low.result ≤ address = first.low address alive (omega (arith, c.low.ensures, least)) in omega arith;
-      least = low ∙ first.first ∙ ap (first_from live) (c.low.ensures ∙ sym least);
       within = subst (λ (lists : List TermList). StandWithin (parts_of c.args.left c.args.right) (addresses_in lists)) none tt;
+      going = λ some. record {
+        added = ap (λ (b : Building). b.lists) c.in_ok-done.ensures ∙ none;
+        low = λ address alive within.
+            let from : c.first_live-low.result ≤ address = first.low address alive (omega (arith, c.low.ensures, least)) in omega arith;
+        least = low ∙ first.first ∙ ap (first_from live) (c.low.ensures ∙ sym least);
+      };
     }

@@ -18,7 +18,7 @@ returns-clause-put g c =
       blob_of = put.blob_of;
       told = put.told;
       new = ap (λ (d : PartDirectory). d.generation) same ∙ made.1;
-      spelled = subst (λ (d : PartDirectory). SpellsPart d c.args.lists.now.lists bytes) (sym same) made.2;
+      spelled = subst (λ (d : PartDirectory). SpellsPart d c.args.lists.lists bytes) (sym same) made.2;
       stored =
           put.stored
           ∙ ap (λ (l : List ℕ). put_into c.args.blob l (g.D.Store.holds c.args.store.now, g.D.Store.moments c.args.store.now))

@@ -1,4 +1,3 @@
-use Rattle.std.proofs.Common.{sym, subst}
 use Rattle.std.proofs.lemmas.Result.{err_from_is_err_and}
 use Rattle.wu_layout.proofs.EntryLemmas.{IfSome-map}
 use Rattle.wu_job.specs.Jobs.{AreKept, IsRight, MakesList}
@@ -14,30 +13,21 @@ returns-in_err-put-clause-front g c =
     (front_all (step_ranges c.args.self.now.terms_left c.args.self.now.parts) (g.D.Store.reads c.args.store.now)
     (g.D.Store.reads c.read_first.new.store) _ c.in_ok-list.ensures.reads (λ blob e. absurd (no_memory blob e)))
 
-pub returns-in_err-progress-clause-front : goal.returns-in_err-progress-clause-front
-returns-in_err-progress-clause-front g c =
-    let p = err_from_is_err_and c.from_residual-in_err-progress.result c.from_residual-in_err-progress.ensures.1 in
-    rw (p.1, p.2)
-    (front_all (step_ranges c.args.self.now.terms_left c.args.self.now.parts) (g.D.Store.reads c.args.store.now)
-    (g.D.Store.reads c.read_first.new.store) _ c.in_ok-list.ensures.reads (λ blob e. absurd (no_memory blob e)))
-
 pub returns-clause-term : goal.returns-clause-term
 returns-clause-term g c = record {
   term = c.in_ok-list.list.first.term;
   kept = c.in_ok-list.list.cut.addresses.items;
-  makes = subst (MakesList c.in_ok-list.list.first.term c.in_ok-list.list.cut.addresses.items c.args.self.now)
-      (sym c.in_ok-progress.ensures.kept)
-      c.in_ok-put.ensures;
+  makes = c.in_ok-put.ensures.made;
   held = c.in_ok-list.ensures.held;
 }
 
 pub returns-clause-right : goal.returns-clause-right
 returns-clause-right g c =
     let old = c.args.self.now in
-    let new = c.progress.new.self in
+    let new = c.put.new.self in
     let term = c.in_ok-list.list.first.term in
     let kept = c.in_ok-list.list.cut.addresses.items in
-    let makes : MakesList term kept old new = subst (MakesList term kept old) (sym c.in_ok-progress.ensures.kept) c.in_ok-put.ensures in
+    let makes : MakesList term kept old new = c.in_ok-put.ensures.made in
     IfSome-map (λ content. AreKept content old.parts old.live term kept) (λ content. IsRight content old → IsRight content new)
     (g.D.Store.holds c.args.store.now)
     (λ content k r. right_after content old new term kept makes.first makes.made makes.others k r)

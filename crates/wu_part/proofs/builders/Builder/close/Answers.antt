@@ -1,4 +1,4 @@
-use Rattle.std.proofs.Common.{◌≡◌, ◌<◌, ◌+◌, ◌-◌, ◌∙◌, ◌++◌, ◌∷◌, [], ◌==◌, ℕ, List, true, eqb, length, map, ap, sym, subst, arith, rules}
+use Rattle.std.proofs.Common.{◌≡◌, ◌<◌, ◌+◌, ◌-◌, ◌++◌, ◌∷◌, [], ◌==◌, ℕ, List, true, eqb, length, map, sym, subst, arith, rules}
 use Rattle.std.specs.List.{IsDistinct, flat_map, list_any, sum_by}
 use Rattle.std.specs.List.Sorted.{IsStrictlySortedBy}
 use Rattle.std.specs.Cmp.Lexicographic.{slice_cmp}
@@ -20,8 +20,8 @@ put_head-requires c =
     let some : 0 < length i.added.lists = subst (λ (b : Building). 0 < length b.lists) (sym c.self.view_is) c.requires.some in
     (high_below i.totals.low i.totals.high i.added.lists t.each t.begin (t.last some)).0
 
-pub returns-clause-part : goal.returns-clause-part
-returns-clause-part c =
+pub returns : goal.returns
+returns c =
     let i = c.self.inside in
     let t = c.self.invariant.totals in
     let back = sym c.self.view_is in
@@ -43,16 +43,17 @@ returns-clause-part c =
     subst (λ (n : ℕ). AppendsNumbers [] (c.args.generation ∷ low ∷ (high - low) ∷ stored ∷ n ∷ []) head) t.count
     (subst (λ (n : ℕ). AppendsNumbers [] (c.args.generation ∷ low ∷ (high - low) ∷ n ∷ i.totals.count ∷ []) head) t.stored appended) in
     let header = c.in_ok-put_header.ensures in
-    let blocks : c.replace-blob.result.items ≡ i.blocks.items = search rules in
     let long : c.len.result + c.len-2.result ≡ length head + length i.entries.items = omega arith in
-    subst (λ (b : Building). (directory : PartDirectory) × (directory.generation ≡ c.args.generation)
-    × SpellsPart directory b.lists c.move_to_end.new.bytes.items) c.self.view_is
-    (part_of_lists lists c.args.generation low high header.0 head i.entries.items i.blocks.items c.move_to_end.new.bytes.items some t.each
-    ascending distinct c.requires.generation t.begin first t.greatest (t.last some)
-    (written_all low lists i.entries.items i.blocks.items (c.self.invariant.written whole)) numbers
-    (subst (λ (n : ℕ). SpellsHeader n header.0) long header.1)
-    (blob_turned i.blocks.items c.put_header.new.out.items c.extend_from_slice.new.self.items c.extend_from_slice-2.new.self.items
-    c.move_to_end.new.bytes.items header.0 head i.entries.items c.deref.result.now c.deref-2.result.now c.len-blocks.result
-    (omega (arith, ap (λ (xs : List ℕ). length xs) blocks))
-    (header.2 ∙ ap (λ (xs : List ℕ). xs ++ header.0) blocks) c.in_ok-extend_from_slice.ensures.items c.deref.ensures.value
-    c.in_ok-extend_from_slice-2.ensures.items c.deref-2.ensures.value c.move_to_end.ensures))
+    record {
+      part =
+          subst (λ (b : Building). (directory : PartDirectory) × (directory.generation ≡ c.args.generation)
+          × SpellsPart directory b.lists c.move_to_end.new.bytes.items) c.self.view_is
+          (part_of_lists lists c.args.generation low high header.0 head i.entries.items i.blocks.items c.move_to_end.new.bytes.items some t.each
+          ascending distinct c.requires.generation t.begin first t.greatest (t.last some)
+          (written_all low lists i.entries.items i.blocks.items (c.self.invariant.written whole)) numbers
+          (subst (λ (n : ℕ). SpellsHeader n header.0) long header.1)
+          (blob_turned i.blocks.items c.put_header.new.out.items c.extend_from_slice.new.self.items c.extend_from_slice-2.new.self.items
+          c.move_to_end.new.bytes.items header.0 head i.entries.items c.deref.result.now c.deref-2.result.now c.len-blocks.result
+          (omega arith) header.2 c.in_ok-extend_from_slice.ensures.items c.deref.ensures.value
+          c.in_ok-extend_from_slice-2.ensures.items c.deref-2.ensures.value c.move_to_end.ensures));
+    }
