@@ -1,8 +1,9 @@
 -- What is kept of users after a file had a new text, put together from what becomes of each.
-use Rattle.std.proofs.Common.{◌≡◌, ◌≢◌, ℕ, ◌<◌, [], ◌∷◌, ◌++◌, length, refl, ap, sym, ◌∙◌, subst, inl, inr, ⊎_elim}
+use Rattle.std.proofs.Common.{◌≡◌, ◌≢◌, ℕ, ◌<◌, List, [], ◌∷◌, ◌++◌, length, get_or, refl, ap, sym, ◌∙◌, subst, inl, inr, ⊎_elim, arith}
 use Rattle.std.specs.Prelude.{OnErr, OnOk, Ok, Err, Option, Result, nat_eq, take, ◌-◌, ◌≤◌}
-use Rattle.std.specs.List.{AllByRecursion, IsDistinct}
+use Rattle.std.specs.List.{AllByRecursion, Any, HoldsAt, IsDistinct}
 use Rattle.std.specs.Map.{keys_of}
+use Rattle.std.proofs.lemmas.List.{get_or_default}
 use Rattle.lru.specs.LruCache.{LruCache, lru_cache, put_entries}
 use Rattle.wu_base.specs.declared.addresses.Range.{Range}
 use Rattle.wu_tree.specs.FileSystems.{FileSystem}
@@ -38,6 +39,14 @@ stay-both old (entry ∷ kept) (first ∷ now) more after s t =
 for-both : (fs : FileSystem) (live : Ranges) (kept more : Kept) → AreFor fs live kept → AreFor fs live more → AreFor fs live (kept ++ more)
 for-both fs live [] more a b = b
 for-both fs live (entry ∷ kept) more a b = (a.0, for-both fs live kept more a.1 b)
+
+-- the one at that place is one of the frames
+pub any-at : (start place : ℕ) (frames : List Frame) → place < length frames
+    → HoldsAt (λ (x : Frame). x.range.start ≡ start) frames place → Any (λ (x : Frame). x.range.start ≡ start) frames
+any-at start place [] inside there = absurd (omega (arith, inside))
+any-at start place (first ∷ frames) inside there =
+    let frame : Frame = get_or (first ∷ frames) place first in
+    (place, frame, inside, get_or_default (first ∷ frames) place frame first inside, there first)
 
 module _ (ino : ℕ) (old new : Range) where
   pub brought-none : IsBrought ino old new [] []

@@ -26,35 +26,41 @@ All-take P zero xs a = tt
 All-take P (suc n) [] a = tt
 All-take P (suc n) (x ∷ xs) a = (a.0, All-take P n xs a.1)
 
+-- what holds of each entry
+module _ (P : ℕ × Frames → Type 0) where
+  pub all-promoted : (uid : ℕ) (kept : Kept) → AllByRecursion P kept → AllByRecursion P (promoted (nat_eq uid) kept)
+  all-promoted uid kept a =
+      elim (lookup_entry (nat_eq uid) kept) as
+      (λ o. lookup_entry (nat_eq uid) kept ≡ o
+      → AllByRecursion P (option_map_or (λ (e : ℕ × Frames). e ∷ remove_entry (nat_eq uid) kept) o kept)) [
+        | None ↦ λ e. a
+        | Some entry ↦ λ e.
+            let there = Contains-lookup_entry (nat_eq uid) kept entry e in
+            (all_has P entry kept a (Has-from_Contains entry kept there.0), All-remove_entry P (nat_eq uid) kept a)
+      ] refl
+
+  pub all-put : (cache : LruCache ℕ Frames) (uid : ℕ) (frames : Frames) → AllByRecursion P cache.entries → P (uid, frames)
+      → AllByRecursion P (put_entries nat_eq cache uid frames)
+  all-put cache uid frames a p =
+      elim (lookup_entry (nat_eq uid) cache.entries) as
+      (λ o. lookup_entry (nat_eq uid) cache.entries ≡ o
+      → AllByRecursion P
+      (option_map_or (λ (e : ℕ × Frames). (e.0, frames) ∷ remove_entry (nat_eq uid) cache.entries) o
+      ((uid, frames) ∷ take (cache.cap - 1) cache.entries))) [
+        | None ↦ λ e. (p, All-take P (cache.cap - 1) cache.entries a)
+        | Some entry ↦ λ e.
+            let there = Contains-lookup_entry (nat_eq uid) cache.entries entry e in
+            let same : uid ≡ entry.0 = eqb-true uid entry.0 there.1 in
+            (subst (λ (n : ℕ). P (n, frames)) same p, All-remove_entry P (nat_eq uid) cache.entries a)
+      ] refl
+
 module _ (fs : FileSystem) (live : Ranges) where
   abbrev IsRight : ℕ × Frames → Type 0
   IsRight entry = AreFrames fs live entry.0 entry.1
 
-  pub right-promoted : (uid : ℕ) (kept : Kept) → AreFor fs live kept → AreFor fs live (promoted (nat_eq uid) kept)
-  right-promoted uid kept a =
-      elim (lookup_entry (nat_eq uid) kept) as
-      (λ o. lookup_entry (nat_eq uid) kept ≡ o
-      → AllByRecursion IsRight (option_map_or (λ (e : ℕ × Frames). e ∷ remove_entry (nat_eq uid) kept) o kept)) [
-        | None ↦ λ e. a
-        | Some entry ↦ λ e.
-            let there = Contains-lookup_entry (nat_eq uid) kept entry e in
-            (all_has IsRight entry kept a (Has-from_Contains entry kept there.0), All-remove_entry IsRight (nat_eq uid) kept a)
-      ] refl
-
   pub right-put : (cache : LruCache ℕ Frames) (uid : ℕ) (frames : Frames) → AreFor fs live cache.entries → AreFrames fs live uid frames
       → AreFor fs live (put_entries nat_eq cache uid frames)
-  right-put cache uid frames a p =
-      elim (lookup_entry (nat_eq uid) cache.entries) as
-      (λ o. lookup_entry (nat_eq uid) cache.entries ≡ o
-      → AllByRecursion IsRight
-      (option_map_or (λ (e : ℕ × Frames). (e.0, frames) ∷ remove_entry (nat_eq uid) cache.entries) o
-      ((uid, frames) ∷ take (cache.cap - 1) cache.entries))) [
-        | None ↦ λ e. (p, All-take IsRight (cache.cap - 1) cache.entries a)
-        | Some entry ↦ λ e.
-            let there = Contains-lookup_entry (nat_eq uid) cache.entries entry e in
-            let same : uid ≡ entry.0 = eqb-true uid entry.0 there.1 in
-            (subst (λ (n : ℕ). AreFrames fs live n frames) same p, All-remove_entry IsRight (nat_eq uid) cache.entries a)
-      ] refl
+  right-put cache uid frames a p = all-put IsRight cache uid frames a p
 
   pub right-found : (uid : ℕ) (kept : Kept) (frames : Frames) → AreFor fs live kept → Some frames ≡ frames_for kept uid
       → AreFrames fs live uid frames
@@ -70,7 +76,7 @@ module _ (fs : FileSystem) (live : Ranges) where
   pub right-asked : (uid : ℕ) (kept : Kept) (frames : Frames) → AreFor fs live kept → Some frames ≡ frames_for kept uid
       → AreFor fs live (set_value (nat_eq uid) (promoted (nat_eq uid) kept) (record frames { mends = 0 }))
   right-asked uid kept frames a h =
-      All-set_value IsRight (nat_eq uid) (promoted (nat_eq uid) kept) (record frames { mends = 0 }) (right-promoted uid kept a)
+      All-set_value IsRight (nat_eq uid) (promoted (nat_eq uid) kept) (record frames { mends = 0 }) (all-promoted IsRight uid kept a)
       (λ n q. subst (λ (k : ℕ). AreFrames fs live k (record frames { mends = 0 })) (eqb-true uid n q)
       (right-counted uid 0 frames (right-found uid kept frames a h)))
 

@@ -11,3 +11,4 @@ pub mod Relinking
 pub mod LinkEvents
 pub mod Turns
 pub mod Bringing
+pub mod SeldomMended

@@ -49,6 +49,10 @@ frames_for kept uid = lookup (nat_eq uid) kept
 abbrev pub AreFor : FileSystem → Ranges → Kept → Type 0
 AreFor fs live kept = AllByRecursion (λ entry. AreFrames fs live entry.0 entry.1) kept
 
+-- nobody's frames were mended more often than that since she asked
+abbrev pub AreSeldomMended : Kept → Type 0
+AreSeldomMended kept = AllByRecursion (λ entry. entry.1.mends ≤ MENDS_MAX) kept
+
 -- the user is the one who asked last: her frames come first, and no mend of them is counted
 abbrev pub AskedLast : ℕ → Kept → Type 0
 AskedLast uid [] = ⊥

@@ -1,9 +1,9 @@
 //! The frames of the users who asked last.
-ghost use Rattle.std.specs.Prelude.{◌≡◌, [], nat_eq, IfOk, OnOk, OnErr, IsSome, MatchResult, Some, option_copied};
+ghost use Rattle.std.specs.Prelude.{◌≡◌, [], nat_eq, IfOk, IsOk, OnOk, OnErr, IsSome, MatchResult, None, Some, option_copied};
 ghost use Rattle.std.specs.Map.{remove_entry};
 ghost use Rattle.wu_tree.specs.FileSystems.{FileSystem};
 ghost use Rattle.wu_space.specs.Addresses.{Addresses, Ranges};
-ghost use Rattle.wu_frames.specs.UserFrames.{AreFor, AreFrames, AskedLast, HasAsked, IsMove, StayOrMove, frames_for, with_range};
+ghost use Rattle.wu_frames.specs.UserFrames.{AreFor, AreFrames, AreSeldomMended, AskedLast, HasAsked, IsMove, StayOrMove, frames_for, with_range};
 ghost use Rattle.wu_frames.specs.Permissions.{IsGroupChange, IsPermChange, kept_as_before};
 ghost use Rattle.wu_frames.specs.Links.{IsLinkChange, KeepRanges, kept_unshown};
 
@@ -32,14 +32,14 @@ pub struct FrameCache {
 impl Model for FrameCache {
     ghost use Rattle.std.specs.Prelude.{◌≡◌};
     ghost use Rattle.wu_frames.specs.declared.caches.TheConstants.{USERS_KEPT};
-    ghost use Rattle.wu_frames.specs.UserFrames.{Kept};
+    ghost use Rattle.wu_frames.specs.UserFrames.{AreSeldomMended, Kept};
 
     ghost Value = { Kept };
 
     ghost view = { λ c. c.kept.entries };
 
-    // An `LruCache` has no user twice, and no more users than this.
-    ghost invariant = { λ c. c.kept.cap ≡ USERS_KEPT };
+    // An `LruCache` has no user twice, and no more users than its `cap`.
+    ghost invariant = { λ c. (c.kept.cap ≡ USERS_KEPT) × AreSeldomMended c.kept.entries };
 }
 
 impl FrameCache {
@@ -117,6 +117,7 @@ impl FrameCache {
         ensures right { (fs : FileSystem) (space : Addresses) → IsMove space ino old new
             → AreFor fs space.ranges self.old → AreFor fs (with_range ino new space.ranges) self.new }
         ensures stays { StayOrMove old self.old self.new }
+        ensures few { AreSeldomMended self.new }
     {
         walks::mend_each(&mut self.kept, ino, old, new);
     }
@@ -141,7 +142,7 @@ impl FrameCache {
         ) {
             Ok(()) => Ok(()),
             Err(error) => {
-                self.clear();
+                self.kept.clear();
                 Err(error)
             }
         }
@@ -160,6 +161,7 @@ impl FrameCache {
             → AreFor fs live self.old → AreFor tree.now now self.new }
         ensures stays { OnOk result (self.new ≡ kept_unshown tree.now links self.old) }
         ensures none { OnErr result (self.new ≡ []) }
+        ensures quiet { links.made ≡ None → links.removed ≡ None → links.replaced ≡ None → IsOk result × (self.new ≡ self.old) }
     {
         tree.keeps_the_rules();
         if let LinkChanges {
@@ -173,7 +175,7 @@ impl FrameCache {
         match walks::forget_changed(self.alloc, &mut self.kept, tree, Change::Links(links)) {
             Ok(()) => Ok(()),
             Err(error) => {
-                self.clear();
+                self.kept.clear();
                 Err(error)
             }
         }

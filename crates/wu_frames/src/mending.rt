@@ -1,6 +1,6 @@
 //! Frames, mended after a file had a new text.
 ghost use Rattle.std.specs.Prelude.{◌≡◌, ◌≢◌, ◌<◌, ◌++◌, [], ◌∷◌, IfSome, IfNone, length};
-ghost use Rattle.std.specs.List.{AllByRecursion, Any, remove};
+ghost use Rattle.std.specs.List.{AllByRecursion, HoldsAt, remove};
 ghost use Rattle.std.specs.List.Sorted.{IsNonDecreasingBy};
 ghost use Rattle.wu_frames.specs.UserFrames.{IsMended};
 ghost use Rattle.wu_frames.specs.Mending.{IsMoved};
@@ -14,7 +14,7 @@ pub const MENDS_MAX: u32 = 64;
 /// The place of the frame that starts at the address.
 pub(crate) fn place_of(frames: &[Frame], start: u64) -> Option<usize>
     ensures found { IfSome result (λ place. place < length frames.now) }
-    ensures there { IfSome result (λ _. Any (λ frame. frame.range.start ≡ start) frames.now) }
+    ensures there { IfSome result (HoldsAt (λ frame. frame.range.start ≡ start) frames.now) }
     ensures none { IfNone result (IsNonDecreasingBy (λ frame. frame.range.start) frames.now
         → AllByRecursion (λ frame. frame.range.start ≢ start) frames.now) }
 {

@@ -4,6 +4,7 @@
 ghost use Rattle.std.specs.Prelude.{◌≡◌, OnOk, filter};
 ghost use Rattle.wu_frames.specs.Changes.{is_spared};
 ghost use Rattle.wu_frames.specs.Mending.{IsBrought, MendsLast};
+ghost use Rattle.wu_frames.specs.UserFrames.{AreSeldomMended};
 ghost use Rattle.wu_frames.specs.Walks.{MovesLast};
 
 use crate::changes::{Change, is_spared};
@@ -39,6 +40,7 @@ pub(crate) fn forget_changed(
 /// Brings the frames up to date after the file went from the old range to the new one.
 pub(crate) fn mend_each(kept: &mut LruCache<Uid, Frames>, ino: Ino, old: Range, new: Range)
     ensures entries { IsBrought ino old new kept.old.entries kept.new.entries }
+    ensures few { AreSeldomMended kept.old.entries → AreSeldomMended kept.new.entries }
     ensures cap { kept.new.cap ≡ kept.old.cap }
 {
     for _ in 0..kept.len() {

@@ -2,6 +2,7 @@ use Rattle.std.proofs.Common.{refl, ◌∙◌, arith}
 use Rattle.wu_frames.specs.Mending.{IsBrought}
 use Rattle.wu_frames.proofs.Turns.{next-turn, turned-all, turned-none}
 use Rattle.wu_frames.proofs.Bringing.{brought-both, brought-none}
+use Rattle.wu_frames.proofs.SeldomMended.{seldom-moved}
 use Rattle.wu_frames.proofs.walks.mend_each.Goals as goal
 
 pub loop-init : goal.loop-init
@@ -29,3 +30,10 @@ pub returns-clause-entries : goal.returns-clause-entries
 returns-clause-entries c =
     turned-all (IsBrought c.args.ino c.args.old c.args.new) c.args.kept.now.entries c.loop.kept.entries c.loop.counter
     c.loop.invariant.turned (omega (arith, c.loop-test.false, c.len-end.ensures.len))
+
+pub returns-clause-few : goal.returns-clause-few
+returns-clause-few c =
+    let brought =
+    turned-all (IsBrought c.args.ino c.args.old c.args.new) c.args.kept.now.entries c.loop.kept.entries c.loop.counter
+    c.loop.invariant.turned (omega (arith, c.loop-test.false, c.len-end.ensures.len)) in
+    seldom-moved c.args.old c.args.kept.now.entries c.loop.kept.entries brought.stays

@@ -4,7 +4,7 @@ use Rattle.wu_frames.specs.declared.Frames.{Frames}
 use Rattle.wu_frames.specs.UserFrames.{HasFrameAt, Kept}
 use Rattle.wu_frames.specs.Mending.{IsBrought}
 use Rattle.wu_frames.proofs.Turns.{last-is, last-same}
-use Rattle.wu_frames.proofs.Bringing.{brought-forgotten, brought-moved, brought-same, put-tried}
+use Rattle.wu_frames.proofs.Bringing.{any-at, brought-forgotten, brought-moved, brought-same, put-tried}
 use Rattle.wu_frames.proofs.walks.mend_last.Goals as goal
 
 pub returns-in-None-clause-entries : goal.returns-in-None-clause-entries
@@ -26,7 +26,9 @@ returns-in-Some-mended-clause-entries c = λ rest entry e.
     let popped = last-same now rest entry uid frames e c.in-Some-pop_lru.ensures.value in
     let same = ap (λ (x : ℕ × Frames). x.1) (peeked ∙ sym popped) in
     let there : HasFrameAt c.args.old.start frames =
-    subst (λ (f : Frames). HasFrameAt c.args.old.start f) same (rw (← c.as_slice.ensures) c.in-Some-place_of.ensures.there) in
+    subst (λ (f : Frames). HasFrameAt c.args.old.start f) same
+    (rw (← c.as_slice.ensures)
+    (any-at c.args.old.start c.in-Some-place_of.place _ c.in-Some-place_of.ensures.found c.in-Some-place_of.ensures.there)) in
     let inside : c.in-Some-place_of.place < length frames.by_address =
     subst (λ (f : Frames). c.in-Some-place_of.place < length f.by_address) same
     (rw (← c.as_slice.ensures) c.in-Some-place_of.ensures.found) in
@@ -48,7 +50,9 @@ pub returns-in_default-mended-clause-entries : goal.returns-in_default-mended-cl
 returns-in_default-mended-clause-entries c = λ rest entry e.
     let now = c.args.kept.now.entries in
     let peeked = last-same now rest entry c.in-Some.field-0-0.now c.in-Some.frames.now e c.in-Some.ensures in
-    let there : HasFrameAt c.args.old.start c.in-Some.frames.now = rw (← c.as_slice.ensures) c.in-Some-place_of.ensures.there in (
+    let there : HasFrameAt c.args.old.start c.in-Some.frames.now =
+    rw (← c.as_slice.ensures)
+    (any-at c.args.old.start c.in-Some-place_of.place _ c.in-Some-place_of.ensures.found c.in-Some-place_of.ensures.there) in (
       [],
       ap (λ (k : LruCache ℕ Frames). k.entries) c.pop_lru.ensures.entries ∙ (last-is now rest entry e).1,
       subst (λ (x : ℕ × Frames). IsBrought c.args.ino c.args.old c.args.new (x ∷ []) []) peeked

@@ -3,6 +3,7 @@ use Rattle.std.specs.Map.{set_value}
 use Rattle.lru.specs.LruCache.{promoted, put_entries}
 use Rattle.wu_frames.specs.UserFrames.{AreFor, HasAsked, Kept}
 use Rattle.wu_frames.proofs.Keeping.{asked-again, asked-put, has-asked-again, has-asked-put, kept-asked, kept-put, right-asked, right-put}
+use Rattle.wu_frames.proofs.SeldomMended.{seldom-asked, seldom-put}
 use Rattle.wu_frames.proofs.caches.FrameCache.prepare.Goals as goal
 
 pub returns-in-Some-clause-right : goal.returns-in-Some-clause-right
@@ -45,11 +46,24 @@ returns-in-Some-clause-entries c =
     let hers = record c.in-Some.frames.now { mends = 0 } in
     subst (λ (k : Kept). HasAsked c.args.uid k (set_value (nat_eq c.args.uid) (promoted (nat_eq c.args.uid) old) hers)) c.self.view_is
     (has-asked-again c.args.uid old c.in-Some.frames.now c.in-Some.ensures.value
-    (subst (λ (n : ℕ). length old ≤ n) c.self.invariant c.len.ensures.valid.1))
+    (subst (λ (n : ℕ). length old ≤ n) c.self.invariant.0 c.len.ensures.valid.1))
 
 pub returns-clause-entries : goal.returns-clause-entries
 returns-clause-entries c =
     let cache = c.self.inside.kept in
     rw c.in_ok-put.ensures.entries
     (subst (λ (k : Kept). HasAsked c.args.uid k (put_entries nat_eq cache c.args.uid c.in_ok-frames.frames)) c.self.view_is
-    (has-asked-put cache c.args.uid c.in_ok-frames.frames c.self.invariant c.in_ok-frames.ensures.anew c.in_default.ensures.value))
+    (has-asked-put cache c.args.uid c.in_ok-frames.frames c.self.invariant.0 c.in_ok-frames.ensures.anew c.in_default.ensures.value))
+
+pub invariant_of-self : goal.invariant_of-self
+invariant_of-self c = (
+  c.self.invariant.0,
+  seldom-asked c.args.uid c.self.inside.kept.entries c.in-Some.frames.now c.self.invariant.1,
+)
+
+pub invariant_of-self-2 : goal.invariant_of-self-2
+invariant_of-self-2 c =
+    rw c.in_ok-put.ensures.entries (
+      c.self.invariant.0,
+      seldom-put c.self.inside.kept c.args.uid c.in_ok-frames.frames c.self.invariant.1 c.in_ok-frames.ensures.anew,
+    )

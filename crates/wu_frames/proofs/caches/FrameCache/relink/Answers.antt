@@ -1,6 +1,8 @@
-use Rattle.std.proofs.Common.{rules, sym, subst}
+use Rattle.std.proofs.Common.{rules, sym, ◌∙◌, subst}
 use Rattle.wu_frames.specs.UserFrames.{AreFor, Kept}
+use Rattle.wu_frames.specs.Links.{sees_none}
 use Rattle.wu_frames.proofs.Relinking.{right-unshown, unshown-none}
+use Rattle.wu_frames.proofs.SeldomMended.{seldom-filtered}
 use Rattle.wu_frames.proofs.caches.FrameCache.relink.Goals as goal
 
 pub returns-in-Ok-clause-right : goal.returns-in-Ok-clause-right
@@ -18,3 +20,10 @@ returns-in-None-clause-right c = λ fs live now change same right.
 pub returns-in-None-clause-stays : goal.returns-in-None-clause-stays
 returns-in-None-clause-stays c =
     sym (unshown-none c.args.tree.now c.args.links c.args.self.now (search rules) (search rules) (search rules))
+
+pub invariant_of-self : goal.invariant_of-self
+invariant_of-self c = (
+  c.in-Ok.ensures.cap ∙ c.self.invariant.0,
+  rw c.in-Ok.ensures.entries
+      (seldom-filtered (sees_none c.args.tree.now c.args.links) c.self.inside.kept.entries c.self.invariant.1),
+)
