@@ -191,7 +191,7 @@ module _ (live : Ranges) (s : State) (is : IsIndexOf live s) where
             × HasText (indexed (text_in s.texts ino)) r (postings_of s.layout.parts s.layout.memory)) same (h.long, h.whole)
 
   module _ (ranges : List Range) where
-    found_ascend : (term : List ℕ) → IsStrictlyIncreasing (found_in ranges s term)
+    pub found_ascend : (term : List ℕ) → IsStrictlyIncreasing (found_in ranges s term)
     found_ascend term =
         IsStrictlyIncreasing-filter (is_live ranges) (addresses_of term (postings_of s.layout.parts s.layout.memory))
         (addresses_of-increasing term 0 s.layout.next (postings_of s.layout.parts s.layout.memory) is.is_state.layout.addresses.ascend)

@@ -31,6 +31,7 @@ pub mod UnitLemmas
 pub mod WholeFiles
 pub mod FileUnits
 pub mod CountLemmas
+pub mod CountedTerm
 pub mod RankLemmas
 pub mod AnswerLemmas
 pub mod Searching
@@ -68,4 +69,5 @@ pub mod GoingSaves
 pub mod GoingAtFirst
 pub mod LeftImages
 pub mod StoppedSaves
+pub mod EarlierBlobs
 pub mod SavedCrashes

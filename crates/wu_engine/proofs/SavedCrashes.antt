@@ -322,7 +322,7 @@ module _ (old : Engine) (s : State) (before : Told) (stands : Stands old before.
 
 -- ---- a save that was done
 
-abbrev prepared_of : (tree : FileSystem) (space : Addresses) (files : Records) (checkpoint blob : ℕ) (old new : Contents)
+abbrev pub prepared_of : (tree : FileSystem) (space : Addresses) (files : Records) (checkpoint blob : ℕ) (old new : Contents)
     (before after : Told) → Saves tree space files checkpoint blob old new before after → IsPrepared tree space files old before
 prepared_of tree space files checkpoint blob old new before after saves = record {
   first = record { flushed = saves.flushed; between = saves.between; flush = saves.flush; changes = saves.changes };

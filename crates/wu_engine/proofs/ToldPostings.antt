@@ -36,19 +36,21 @@ are_kept content next [] kept keeps = tt
 are_kept content next (recorded ∷ records) kept keeps =
     ((λ bytes there. keeps.same recorded.blob bytes there), are_kept content next records kept keeps)
 
-pub found_told : (contents : Contents) (holds : Option Content) (s : State) (frames : List Range) (term found : List ℕ)
-    → TellsPostings contents holds s
+-- what is told of all that is fetched of a term, by any function of it, is told of the state's postings
+pub found_told : {T : Type 0} (told_of : List ℕ → T) (contents : Contents) (holds : Option Content) (s : State) (frames : List Range)
+    (term : List ℕ) (told : T) → TellsPostings contents holds s
     → IfSome holds (λ content. (parts : List Part) → HoldParts content contents.parts contents.directories parts
     → AreKept content contents.parts contents.kept
-    → found ≡ fetched frames (stored_in parts) term ++ filter (is_live frames) (held contents.memory term))
-    → found ≡ found_in frames s term
-found_told contents None s frames term found tells is = let told = tells.told in absurd (cc)
-found_told contents (Some content) s frames term found tells is =
+    → told ≡ told_of (fetched frames (stored_in parts) term ++ filter (is_live frames) (held contents.memory term)))
+    → told ≡ told_of (found_in frames s term)
+found_told told_of contents None s frames term told tells is = let known = tells.told in absurd (cc)
+found_told told_of contents (Some content) s frames term told tells is =
     is s.layout.parts tells.parts (are_kept content s.layout.blob contents.parts contents.kept tells.kept)
-    ∙ ap (λ (xs : List ℕ). fetched frames (stored_in s.layout.parts) term ++ filter (is_live frames) xs) (tells.memory term)
+    ∙ ap told_of
+    (ap (λ (xs : List ℕ). fetched frames (stored_in s.layout.parts) term ++ filter (is_live frames) xs) (tells.memory term)
     ∙ sym (filter-append (is_live frames) (addresses_of term (stored_in s.layout.parts)) (addresses_of term s.layout.memory))
     ∙ ap (filter (is_live frames)) (sym (addresses_of-append term (stored_in s.layout.parts) s.layout.memory))
-    ∙ ap (λ (ps : List Posting). fetched frames ps term) (sym (postings_split s.layout.parts s.layout.memory))
+    ∙ ap (λ (ps : List Posting). fetched frames ps term) (sym (postings_split s.layout.parts s.layout.memory)))
 
 -- ---- the blocks that are asked for are of blobs that were drawn
 

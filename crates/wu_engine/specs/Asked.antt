@@ -1,12 +1,13 @@
 -- Which terms a query asks for, and which blocks of parts these need.
-use Rattle.std.specs.Prelude.{ℕ, List, [], ◌∷◌, ◌++◌, nat_eq, zip, if◌then◌else◌}
+use Rattle.std.specs.Prelude.{◌≡◌, ℕ, Bool, List, [], ◌∷◌, ◌++◌, nat_eq, zip, if◌then◌else◌}
 use Rattle.std.specs.Cmp.Lexicographic.{pointwise, slice_cmp}
 use Rattle.std.specs.List.{flat_map, list_any}
 use Rattle.std.specs.Map.{keys_of}
 use Rattle.std.specs.Ordering.{nat_cmp}
 use Rattle.wu_base.specs.SortedOnce.{sorted_once}
 use Rattle.wu_base.specs.declared.addresses.Range.{Range}
-use Rattle.wu_gcl.specs.Regions.{Region}
+use Rattle.wu_gcl.specs.Extents.{hits}
+use Rattle.wu_gcl.specs.Regions.{Region, Phrase}
 use Rattle.wu_gcl.specs.Terms.{terms_in}
 use Rattle.wu_ask.specs.Questions.{Question, Counting, Finding, Ranking, ListingPaths}
 use Rattle.wu_lists.specs.declared.blocks.Block.{Block}
@@ -17,6 +18,11 @@ use Rattle.wu_parts.specs.Holdings.{all_needed}
 -- the terms of an expression, ascending by their bytes, each once
 abbrev pub terms_of : Region → List (List ℕ)
 terms_of region = sorted_once (slice_cmp nat_cmp) (terms_in region)
+
+-- the term is the expression's only one, and its extents are those of the phrase of that term
+pub record IsTermAlone (region : Region) (term : List ℕ) : Type 0 where
+  pub named : terms_in region ≡ term ∷ []
+  pub same : (stands : List ℕ → ℕ → Bool) (n : ℕ) → hits (Phrase (term ∷ [])) stands n ≡ hits region stands n
 
 -- the word after the terms, where it isn't one of them
 abbrev pub with_word : List (List ℕ) → List ℕ → List (List ℕ)

@@ -20,6 +20,7 @@ pub mod Naming
 pub mod Permitted
 pub mod Going
 pub mod Renewing
+pub mod Earlier
 -- ---- What only private functions and proofs need
 
 pub mod Indexing

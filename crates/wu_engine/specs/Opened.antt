@@ -71,6 +71,7 @@ pub record IsFirstEngine (flush_at : ℕ) (engine : Engine) : Type 0 where
   pub space : engine.space ≡ record { next = 0; ranges = [] }
   pub parts : engine.parts ≡ no_contents flush_at 1
   pub files : engine.files.entries ≡ []
+  pub frames : engine.frames ≡ []
   pub checkpoint : engine.checkpoint ≡ 0
   pub goes_on : engine.ended ≡ None
 
@@ -80,5 +81,6 @@ pub record IsEngineFor (blob : ℕ) (checkpoint : Checkpoint) (parts : Contents)
   pub space : engine.space ≡ record { next = checkpoint.next_address; ranges = ranges_recorded checkpoint.files }
   pub files : engine.files.entries ≡ numbered checkpoint.files
   pub parts_kept : engine.parts ≡ parts
+  pub frames : engine.frames ≡ []
   pub of_blob : engine.checkpoint ≡ blob
   pub goes_on : engine.ended ≡ None

@@ -1,5 +1,5 @@
 //! The engine, and what is asked of it.
-ghost use Rattle.std.specs.Prelude.{◌≡◌, ◌≢◌, ◌⊎◌, ℕ, [], ◌+◌, ◌<◌, ◌≤◌, ◌^◌, Option, None, Some, Ok, Err, true, length, IsSome, IfOk, IfErr, OnErr, OnOk, option_map};
+ghost use Rattle.std.specs.Prelude.{◌≡◌, ◌≢◌, ◌⊎◌, ℕ, [], ◌+◌, ◌<◌, ◌≤◌, ◌^◌, Option, None, Some, Ok, Err, true, length, IsSome, IfSome, IfOk, IfErr, OnErr, OnOk, option_map};
 ghost use Rattle.wu_base.specs.declared.limits.TheConstants.{ADDRESSES_MAX, BLOBS_SPENT_AT, SPENT_AT, TEXT_MAX};
 ghost use Rattle.wu_base.specs.declared.reports.Worked.TheVariants.{Idle};
 ghost use Rattle.wu_base.specs.declared.troubles.Trouble.TheVariants.{Damaged};
@@ -10,7 +10,6 @@ ghost use Rattle.wu_space.specs.Addresses.{live_total};
 ghost use Rattle.wu_parts.specs.Contents.{stored_in};
 ghost use Rattle.wu_parts.specs.Working.{AreFew, DoesWork, IsDamaged, StopsWork, answer_of, is_idle};
 ghost use Rattle.lru.specs.LruCache.{lru_cache};
-ghost use Rattle.wu_parts.specs.declared.parts.TheConstants.{BLOCKS_KEPT};
 ghost use Rattle.wu_ask.specs.Questions.{question_of, IsSoundAsk};
 ghost use Rattle.wu_tree.specs.Steps.{IsEvent};
 ghost use Rattle.wu_base.specs.declared.troubles.Trouble.{Trouble};
@@ -62,7 +61,9 @@ impl Engine {
     ghost use Rattle.wu_engine.specs.View.{view_of};
     ghost use Rattle.wu_engine.specs.Answer.{answer};
     ghost use Rattle.wu_engine.specs.Reads.{AreTexts, ReadsForQuery, texts_read};
-    ghost use Rattle.wu_engine.specs.Opening.{HoldsImage, IsBeginCause, IsOpen, IsSpentWhere, ReadsAtOpening};
+    ghost use Rattle.wu_engine.specs.Opening.{HasRoot, HoldsImage, IsBeginCause, IsOpen, IsSpentWhere, ReadsAtOpening};
+    ghost use Rattle.wu_engine.specs.Earlier.{LeavesEarlier};
+    ghost use Rattle.wu_image.specs.declared.roots.Root.{Root};
     ghost use Rattle.wu_engine.specs.Saving.{AreRemoved, KeepsNamed, removed_by_save};
     ghost use Rattle.wu_engine.specs.SavedStores.{Saves};
     ghost use Rattle.wu_engine.specs.Naming.{AddsNamed};
@@ -98,8 +99,12 @@ impl Engine {
         ensures next_blob { IfOk result (λ engine. engine.parts.next_blob < BLOBS_SPENT_AT) }
         ensures flushes { IfOk result (λ engine. engine.parts.flushes < 2 ^ 62) }
         ensures flush_at { IfOk result (λ engine. engine.parts.flush_at ≡ flush_at) }
-        ensures kept { IfOk result (λ engine. engine.parts.kept ≡ lru_cache [] BLOCKS_KEPT) }
+        ensures kept { IfOk result (λ engine. engine.parts.kept ≡ lru_cache [] 1024) }
+        ensures frames { IfOk result (λ engine. engine.frames ≡ []) }
         ensures goes_on { IfOk result (λ engine. engine.ended ≡ None) }
+        // The next blob that is drawn is the one that the root says.
+        ensures drawn { IfOk result (λ engine. IfSome (D.holds store.old) (λ content. (root : Root) → HasRoot content root
+            → engine.parts.next_blob ≡ root.next_blob)) }
 
         ensures holds { D.holds store.new ≡ D.holds store.old }
         ensures settled { OnOk result (D.moments store.new ≡ option_map settle (D.moments store.old)) }
@@ -356,6 +361,9 @@ impl Engine {
         ensures elsewhere { KeepsNamed self.old.parts.next_blob (self.old.parts.next_blob + 2)
             (removed_by_save self.old.parts self.old.checkpoint) (D.holds store.old) (D.holds store.new) }
         ensures removed { OnOk result (AreRemoved (removed_by_save self.old.parts self.old.checkpoint) (D.holds store.new)) }
+        // Over whatever the store holds, no blob that was drawn before is written over, and some are gone only where the root was set.
+        ensures earlier { (start : Content) → Goes self.old start (D.holds store.old)
+            → LeavesEarlier self.old.parts.next_blob (D.holds store.old) (D.holds store.new) }
         ensures reads { D.reads store.new ≡ D.reads store.old }
         // A crash in the call or after it leaves the state that was saved last, or this one; after Ok only this one.
         ensures survives { (s last : State) → Stands self.old (D.holds store.old) s → IsSavedLast (D.moments store.old) s last

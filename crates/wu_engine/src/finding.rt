@@ -258,6 +258,7 @@ fn put_lines<D: Store>(
     requires ascending { IsAscending extents.now }
     ensures lines { OnOk result (IfSome (D.holds store.old) (λ content.
         shown.new.items ≡ shown.old.items ++ lines_of_record content paths.now extents.now file.now)) }
+    ensures unasked { length extents.now ≡ 0 → store.new ≡ store.old }
     ensures count { OnOk result (length shown.new.items ≡ length shown.old.items + length extents.now) }
     ensures sound { OnOk result (0 < length extents.now → 0 < file.now.blob → HasWholeText (D.holds store.old) file.now) }
     ensures holds { D.holds store.new ≡ D.holds store.old }

@@ -9,7 +9,6 @@ ghost use Rattle.wu_outside.specs.Content.{Content};
 ghost use Rattle.wu_outside.specs.Faults.{HasFaultCause};
 ghost use Rattle.wu_space.specs.Addresses.{AreLive};
 ghost use Rattle.wu_parts.specs.Loading.{end_of};
-ghost use Rattle.wu_parts.specs.declared.parts.TheConstants.{BLOCKS_KEPT};
 ghost use Rattle.wu_image.specs.Checkpoints.{IsCheckpoint};
 ghost use Rattle.wu_engine.specs.Going.{Goes};
 ghost use Rattle.wu_engine.specs.Opened.{FindsRoot, HasRoom, IsEngineFor, IsFirstEngine, IsFoundIn, IsOf, IsSpentBy, ReadsCheckpoint, numbered, ranges_recorded};
@@ -104,7 +103,9 @@ pub(crate) fn open_saved<D: Store>(
     ensures next_blob { IfOk result (λ engine. engine.parts.next_blob < BLOBS_SPENT_AT) }
     ensures flushes { IfOk result (λ engine. engine.parts.flushes < 2 ^ 62) }
     ensures flush_at { IfOk result (λ engine. engine.parts.flush_at ≡ flush_at) }
-    ensures kept { IfOk result (λ engine. engine.parts.kept ≡ lru_cache [] BLOCKS_KEPT) }
+    ensures kept { IfOk result (λ engine. engine.parts.kept ≡ lru_cache [] 1024) }
+    ensures frames { IfOk result (λ engine. engine.frames ≡ []) }
+    ensures drawn { IfOk result (λ engine. engine.parts.next_blob ≡ root.now.next_blob) }
     ensures goes_on { IfOk result (λ engine. engine.ended ≡ None) }
     ensures holds { D.holds store.new ≡ D.holds store.old }
     ensures moments { D.moments store.new ≡ D.moments store.old }

@@ -10,7 +10,8 @@ made term found = record { term = term; at = found }
 pub returns-clause-list : goal.returns-clause-list
 returns-clause-list g c = λ s tells.
     ap₂ made c.in_ok-clone.ensures.cases
-    (found_told c.args.parts.now (g.D.Store.holds c.args.store.now) s c.args.frames.now.ranges c.args.term.now c.in_ok-at.at tells
+    (found_told (λ (found : List ℕ). found) c.args.parts.now (g.D.Store.holds c.args.store.now) s c.args.frames.now.ranges
+    c.args.term.now c.in_ok-at.at tells
     (rw (c.as_slice.ensures, c.as_slice-2.ensures) at c.in_ok-at.ensures.addresses))
 
 pub returns-clause-blocks : goal.returns-clause-blocks

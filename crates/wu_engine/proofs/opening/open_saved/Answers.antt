@@ -83,6 +83,12 @@ pub returns-clause-kept : goal.returns-clause-kept
 returns-clause-kept g c =
     ap (λ (p : Contents). p.kept) c.in_ok-engine_of.ensures.parts_kept ∙ ap (λ (p : Contents). p.kept) c.in_ok-parts.ensures.loaded.kept
 
+pub returns-clause-drawn : goal.returns-clause-drawn
+returns-clause-drawn g c =
+    ap (λ (p : Contents). p.next_blob) c.in_ok-engine_of.ensures.parts_kept
+    ∙ ap (λ (p : Contents). p.next_blob) c.in_ok-parts.ensures.loaded.kept
+    ∙ c.in_ok-checkpoint.ensures.own.next_blob
+
 pub returns-clause-goes_on : goal.returns-clause-goes_on
 returns-clause-goes_on g c = c.in_ok-engine_of.ensures.goes_on
 

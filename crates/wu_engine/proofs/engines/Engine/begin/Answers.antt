@@ -1,5 +1,6 @@
 use Rattle.std.proofs.Common.{◌∙◌, inr}
-use Rattle.std.proofs.lemmas.Result.{on_ok_weaker}
+use Rattle.std.proofs.lemmas.Result.{IfOk-weaker, on_ok_weaker}
+use Rattle.wu_engine.proofs.EarlierBlobs.{drawn_by_root, drawn_without}
 use Rattle.wu_engine.proofs.GoingAtFirst.{first_goes}
 use Rattle.wu_engine.proofs.LeftImages.{opened_durable, opened_left}
 use Rattle.wu_engine.proofs.OpenedStates.{error_passed, first_stands, never_damaged, on_any_err, on_any_ok, opens_nothing, reads_nothing, spent_on}
@@ -109,3 +110,14 @@ returns-in_err-open_root-clause-survives g c = opened_left _ _ (c.open_root.ensu
 
 pub returns-in_err-open_first-in-None-clause-survives : goal.returns-in_err-open_first-in-None-clause-survives
 returns-in_err-open_first-in-None-clause-survives g c = opened_left _ _ (c.open_root.ensures.moments ∙ c.in_ok-sync.ensures.settled)
+
+pub returns-in-Some-clause-drawn : goal.returns-in-Some-clause-drawn
+returns-in-Some-clause-drawn g c =
+    IfOk-weaker c.open_saved.result _ _
+    (λ engine same. drawn_by_root (g.D.Store.holds c.args.store.now) c.in-Some.root engine.parts.next_blob
+    (rw (c.sync.ensures.same, c.in-Some.is) at c.in_ok-open_root.ensures.found) same) c.open_saved.ensures.drawn
+
+pub returns-in_ok-open_first-in-None-clause-drawn : goal.returns-in_ok-open_first-in-None-clause-drawn
+returns-in_ok-open_first-in-None-clause-drawn g c =
+    drawn_without (g.D.Store.holds c.args.store.now) c.in_ok-open_first-in-None.field-0.parts.next_blob
+    (rw (c.sync.ensures.same, c.in-None.is) at c.in_ok-open_root.ensures.found)

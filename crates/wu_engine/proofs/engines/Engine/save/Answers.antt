@@ -1,5 +1,6 @@
 use Rattle.std.proofs.Common.{refl}
 use Rattle.wu_parts.specs.Flushing.{Told}
+use Rattle.wu_engine.proofs.EarlierBlobs.{saved_earlier, stopped_earlier}
 use Rattle.wu_engine.proofs.GoingEvents.{goes_with}
 use Rattle.wu_engine.proofs.GoingSaves.{none_in_memory, save_sound}
 use Rattle.wu_engine.proofs.SavedCrashes.{saved_durable, saved_left, stopped_left}
@@ -105,3 +106,17 @@ returns-in-Err-clause-survives g c = λ s last stands saved.
     let moments = g.D.Store.moments in
     stopped_left old s (holds c.args.store.now, moments c.args.store.now) stands (g.met.D.Store.told_alike c.args.store.now) last saved
     (old.sound c.in_default.is).few (holds c.save.new.store, moments c.save.new.store) c.in-Err.ensures.stops
+
+pub returns-in-Ok-clause-earlier : goal.returns-in-Ok-clause-earlier
+returns-in-Ok-clause-earlier g c = λ start goes.
+    let old = c.args.self.now in
+    saved_earlier old.tree old.space old.files.entries old.checkpoint old.parts (before g c) goes.low goes.high goes.postings goes.memory
+    c.in-Ok.checkpoint c.save.new.parts (after g c) c.in-Ok.ensures.saved
+
+pub returns-in-Err-clause-earlier : goal.returns-in-Err-clause-earlier
+returns-in-Err-clause-earlier g c = λ start goes.
+    let old = c.args.self.now in
+    let holds = g.D.Store.holds in
+    let moments = g.D.Store.moments in
+    stopped_earlier old.tree old.space old.files.entries old.checkpoint old.parts (holds c.args.store.now, moments c.args.store.now)
+    goes.low goes.high goes.postings goes.memory (holds c.save.new.store, moments c.save.new.store) c.in-Err.ensures.stops
