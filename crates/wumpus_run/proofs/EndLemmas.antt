@@ -1,6 +1,7 @@
 -- How a session ends.
 use Rattle.std.proofs.Common.{◌≡◌, ◌⊎◌, ℕ, ◌+◌, ◌≤◌, List, [], ◌++◌, length, Option, None, Some, Result, Ok, Err, IfSome, IsErrAnd, refl}
 use Rattle.std.proofs.Common.{sym, ap, ◌∙◌, subst, inl, inr, ⊎_elim, arith, length-append}
+use Rattle.std.specs.Prelude.{OnOk}
 use Rattle.std.specs.Io.KnownBytes.{Appends, IsAtEnd, prepend_known}
 use Rattle.std.proofs.KnownBytes.{Appends-nil, Consumes-nil, Consumes-trans}
 use Rattle.wu_base.specs.declared.troubles.Trouble.{Trouble}
@@ -31,7 +32,7 @@ use Rattle.wumpus_run.specs.Replies.{AreRules, Rules, output_of, said_bytes, sta
 use Rattle.wumpus_run.specs.Taking.{TakesAtMost, TakesExactly}
 use Rattle.wumpus_run.specs.Session.{Moment, AnswersAll, AnswersAllButOneRead, AnswersItems, AnswersPrefix, IsTooLong, HoldsNothingBack}
 use Rattle.wumpus_run.specs.Session.{Ends, Completes, IsCounted, IsSpent, StaysWithin, TakesAll, status_of, status_of_fault}
-use Rattle.wumpus_run.specs.Session.{status_of_opening, status_of_trouble}
+use Rattle.wumpus_run.specs.Session.{status_of_opening, status_of_saving, status_of_trouble}
 use Rattle.wumpus_run.proofs.SessionLemmas.{IsOnTheWay, HasAnswered, HasTaken, IsPrefix-part, IsPrefix-sent, AreItems-sent, all_answered}
 use Rattle.wumpus_run.proofs.PromptLemmas.{HasReplied, AnswersAllButOneRead-ended, AnswersAllButOneRead-none, AnswersAllButOneRead-taken}
 use Rattle.wumpus_run.proofs.PromptLemmas.{HoldsNothingBack-stopped}
@@ -539,6 +540,24 @@ pub trouble_saving : (trouble : Trouble) (ended : Option Trouble) → ended ≡ 
 trouble_saving troubles.NoMemory ended goes_on damaged = inr (inl refl)
 trouble_saving troubles.StoreFault ended goes_on damaged = inr (inr refl)
 trouble_saving (troubles.Damaged blob) ended goes_on damaged = absurd (cc (damaged blob refl, goes_on))
+
+-- how a save ended, by what it answered
+pub ends_saving : (saved : Result (Unit {0}) Trouble) (ended : Option Trouble) → ended ≡ None
+    → ((blob : ℕ) → saved ≡ Err (troubles.Damaged blob) → ended ≡ Some (troubles.Damaged blob)) → IsSaving (status_of_saving saved)
+ends_saving (Ok value) ended goes_on damaged = inl refl
+ends_saving (Err trouble) ended goes_on damaged = trouble_saving trouble ended goes_on (λ blob e. damaged blob (ap Err e))
+
+pub IsCounted-saved : (saved : Result (Unit {0}) Trouble) (ended : Option Trouble) (before now : ℕ) → ended ≡ None
+    → HasTroubleCause ended before now saved → IsCounted StoreFault (status_of_saving saved) before now
+IsCounted-saved (Ok value) ended before now goes_on counted =
+    record { rose = λ e. (cc); calm = λ other. counted.calm (λ e. (cc)) }
+IsCounted-saved (Err trouble) ended before now goes_on counted =
+    IsCounted-answered trouble ended before before now goes_on refl counted
+
+-- it is done where the save was
+pub saved_done : {P : Type 0} (saved : Result (Unit {0}) Trouble) → OnOk saved P → status_of_saving saved ≡ Done → P
+saved_done (Ok value) holds e = holds
+saved_done (Err trouble) holds e = absurd ((answering trouble).done e)
 
 pub saving : (status other : Status) → IsSaving status → (other ≡ Done → ⊥) → (other ≡ NoMemory → ⊥) → (other ≡ StoreFault → ⊥)
     → status ≡ other → ⊥

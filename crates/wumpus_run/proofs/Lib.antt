@@ -11,6 +11,7 @@ pub mod RootRoom
 pub mod EndLemmas
 pub mod BrokenBlobs
 pub mod ShutStores
+pub mod EarlierLemmas
 pub mod ShortTexts
 pub mod StateLemmas
 pub mod ViewLemmas

@@ -1,5 +1,5 @@
 -- What a session did, by what source, sink and store told before and after it.
-use Rattle.std.specs.Prelude.{◌≡◌, ℕ, ◌+◌, ◌≤◌, ◌<◌, ◌⊎◌, ◌↔◌, List, [], ◌++◌, length, take, Option, Some, None, IfSome, option_and_then}
+use Rattle.std.specs.Prelude.{◌≡◌, ℕ, ◌+◌, ◌≤◌, ◌<◌, ◌⊎◌, ◌↔◌, List, [], ◌++◌, length, take, Option, Some, None, Result, Ok, Err, IfSome, option_and_then}
 use Rattle.std.specs.Io.KnownBytes.{Appends, Consumes}
 use Rattle.wu_base.specs.declared.limits.TheConstants.{SPENT_AT, BLOBS_SPENT_AT}
 use Rattle.wu_base.specs.declared.troubles.Trouble.{Trouble}
@@ -7,6 +7,9 @@ use Rattle.wu_base.specs.declared.troubles.Trouble.TheVariants as troubles
 use Rattle.wu_outside.specs.Content.{Content}
 use Rattle.wu_outside.specs.Faults.{Rose}
 use Rattle.wu_outside.specs.declared.ranges.ReadRange.{ReadRange}
+use Rattle.wu_outside.specs.declared.traits.Source as sources
+use Rattle.wu_outside.specs.declared.traits.Sink as sinks
+use Rattle.wu_outside.specs.declared.traits.Store as stores
 use Rattle.wu_outside.specs.declared.traits.Fault.{Fault}
 use Rattle.wu_outside.specs.declared.traits.Fault.TheVariants.{Failed}
 use Rattle.wu_outside.specs.declared.traits.Fault.TheVariants as faults
@@ -41,15 +44,15 @@ pub record Moment : Type 0 where
   pub holds : Option Content
   pub store_faults : ℕ
 
-abbrev pub moment : Option (List ℕ) → ℕ → ℕ → Option (List ℕ) → ℕ → Option Content → ℕ → Moment
-moment left last_read read_faults gained write_faults holds store_faults = record {
-  left = left;
-  last_read = last_read;
-  read_faults = read_faults;
-  gained = gained;
-  write_faults = write_faults;
-  holds = holds;
-  store_faults = store_faults;
+abbrev pub moment : {I O D : Type 0} → sources.Ghosts I → sinks.Ghosts O → stores.Ghosts D → I → O → D → Moment
+moment Source Sink Store source sink store = record {
+  left = Source.left source;
+  last_read = Source.last_read source;
+  read_faults = Source.faults source;
+  gained = Sink.gained sink;
+  write_faults = Sink.faults sink;
+  holds = Store.holds store;
+  store_faults = Store.faults store;
 }
 
 -- ---- which session
@@ -208,6 +211,11 @@ abbrev pub status_of_trouble : Trouble → Status
 status_of_trouble troubles.NoMemory = NoMemory
 status_of_trouble troubles.StoreFault = StoreFault
 status_of_trouble (troubles.Damaged blob) = Damaged blob
+
+-- how it ends with a save
+abbrev pub status_of_saving : Result (Unit {0}) Trouble → Status
+status_of_saving (Ok saved) = Done
+status_of_saving (Err trouble) = status_of_trouble trouble
 
 -- how it ends where a reply couldn't be written
 abbrev pub status_of_fault : Fault → Status

@@ -1,5 +1,5 @@
 //! An item of the script is answered by the engine.
-ghost use Rattle.std.specs.Prelude.{◌≡◌, ℕ, ◌+◌, ◌<◌, ◌≤◌, ◌^◌, ◌∷◌, ◌++◌, None, Option, Err, length, IfErr, IfOk, OnOk};
+ghost use Rattle.std.specs.Prelude.{◌≡◌, ℕ, ◌+◌, ◌<◌, ◌≤◌, ◌^◌, ◌∷◌, ◌++◌, true, None, Option, Err, length, IfErr, IfOk, OnOk};
 ghost use Rattle.wu_base.specs.declared.limits.TheConstants.{ADDRESSES_MAX, TEXT_MAX, WORK_MAX};
 ghost use Rattle.wu_base.specs.declared.troubles.Trouble.TheVariants.{Damaged};
 ghost use Rattle.wu_outside.specs.Content.{Content};
@@ -10,14 +10,15 @@ ghost use Rattle.wu_script.specs.Commands.{Flush, Save, Stat, Work};
 ghost use Rattle.wu_script.specs.Said.{Asks, Happens, IsSoundItem, Operates, said_by, tokens_given};
 ghost use Rattle.wu_engine.specs.Causes.{HasTroubleCause};
 ghost use Rattle.wu_engine.specs.Crashes.{IsImageOf, IsImageOfEither, IsSavedLast};
+ghost use Rattle.wu_engine.specs.Earlier.{LeavesEarlier};
 ghost use Rattle.wu_engine.specs.Permitted.{ReadsSuch};
 ghost use Rattle.wu_engine.specs.Going.{Goes, HasBroken};
 ghost use Rattle.wu_engine.specs.Reads.{AreTexts, ReadsForQuery, texts_read};
-ghost use Rattle.wu_engine.specs.Stands.{Stands};
+ghost use Rattle.wu_engine.specs.Stands.{KeepsOthers, Stands};
 ghost use Rattle.wu_engine.specs.States.{State, flushed_state, saved_state, worked_state};
 ghost use Rattle.wumpus_run.specs.Crashes.{IsImageOfOne, last_or, left_to_next, saved_for};
 ghost use Rattle.wumpus_run.specs.Permitted.{AreReadFor};
-ghost use Rattle.wumpus_run.specs.Replies.{after, reply_to, said_bytes, verdict_reply};
+ghost use Rattle.wumpus_run.specs.Replies.{after, is_unasked, reply_to, said_bytes, verdict_reply};
 ghost use Rattle.wumpus_run.specs.Strays.{AddsNoStray};
 
 use wu_ask::Query;
@@ -30,7 +31,7 @@ use wu_tree::Event;
 /// Appends the bytes that answer the item, after which the state is the one that it leaves. The engine is one
 /// that goes on, with addresses left for the item's text, a blob for each unit of work, and a flush. Over an engine and a store that
 /// stand for a state, no blob is called damaged, no stray blob is left, and what is read is read for the item, in turn. Over any other
-/// store a blob is called damaged only where it was broken when the store was opened.
+/// store a blob is called damaged only where it was broken when the store was opened, and no blob that was drawn before is written over.
 pub fn answer<D: Store>(
     engine: &mut Engine,
     store: &mut D,
@@ -53,6 +54,9 @@ pub fn answer<D: Store>(
         → Leaves (D.moments store.old) (D.moments store.new) (IsImageOfOne (last ∷ saved_for s (said_by item))) }
     ensures durable { (s last : State) → Stands engine.old (D.holds store.old) s → IsSavedLast (D.moments store.old) s last
         → OnOk result (LeavesNow (D.moments store.new) (IsImageOf (last_or last (saved_for s (said_by item))))) }
+    ensures unasked { is_unasked (said_by item) ≡ true → (engine.new ≡ engine.old) × (store.new ≡ store.old) }
+    ensures earlier { (start : Content) → Goes engine.old start (D.holds store.old)
+        → LeavesEarlier engine.old.parts.next_blob (D.holds store.old) (D.holds store.new) }
     ensures taken { OnOk result (engine.new.space.next ≤ engine.old.space.next + tokens_given (said_by item)) }
     ensures drawn { OnOk result (engine.new.parts.next_blob ≤ engine.old.parts.next_blob + WORK_MAX) }
     ensures onward { OnOk result (engine.old.parts.next_blob ≤ engine.new.parts.next_blob) }
@@ -74,7 +78,7 @@ pub fn answer<D: Store>(
 /// The reply to the item, if it has one, after which the state is the one that it leaves. The engine is one
 /// that goes on, with addresses left for the item's text, a blob for each unit of work, and a flush. Over an engine and a store that
 /// stand for a state, no blob is called damaged, no stray blob is left, and what is read is read for the item, in turn. Over any other
-/// store a blob is called damaged only where it was broken when the store was opened.
+/// store a blob is called damaged only where it was broken when the store was opened, and no blob that was drawn before is written over.
 pub fn reply_to<D: Store>(
     engine: &mut Engine,
     store: &mut D,
@@ -95,6 +99,9 @@ pub fn reply_to<D: Store>(
         → Leaves (D.moments store.old) (D.moments store.new) (IsImageOfOne (last ∷ saved_for s (said_by item))) }
     ensures durable { (s last : State) → Stands engine.old (D.holds store.old) s → IsSavedLast (D.moments store.old) s last
         → OnOk result (LeavesNow (D.moments store.new) (IsImageOf (last_or last (saved_for s (said_by item))))) }
+    ensures unasked { is_unasked (said_by item) ≡ true → (engine.new ≡ engine.old) × (store.new ≡ store.old) }
+    ensures earlier { (start : Content) → Goes engine.old start (D.holds store.old)
+        → LeavesEarlier engine.old.parts.next_blob (D.holds store.old) (D.holds store.new) }
     ensures taken { OnOk result (engine.new.space.next ≤ engine.old.space.next + tokens_given (said_by item)) }
     ensures drawn { OnOk result (engine.new.parts.next_blob ≤ engine.old.parts.next_blob + WORK_MAX) }
     ensures onward { OnOk result (engine.old.parts.next_blob ≤ engine.new.parts.next_blob) }
@@ -142,6 +149,7 @@ fn reply_to_event<D: Store>(
     ensures reads { D.reads store.new ≡ D.reads store.old }
     ensures survives { (s last : State) → Stands engine.old (D.holds store.old) s → IsSavedLast (D.moments store.old) s last
         → Leaves (D.moments store.old) (D.moments store.new) (IsImageOf last) }
+    ensures elsewhere { KeepsOthers engine.old.parts.next_blob (engine.old.parts.next_blob + 2) (D.holds store.old) (D.holds store.new) }
     ensures taken { OnOk result (engine.new.space.next ≤ engine.old.space.next + tokens_given (Happens event.now body.now)) }
     ensures drawn { OnOk result (engine.new.parts.next_blob ≤ engine.old.parts.next_blob + 2) }
     ensures onward { OnOk result (engine.old.parts.next_blob ≤ engine.new.parts.next_blob) }
@@ -200,6 +208,7 @@ fn reply_to_flush<D: Store>(engine: &mut Engine, store: &mut D) -> Result<Option
     ensures reads { D.reads store.new ≡ D.reads store.old }
     ensures survives { (s last : State) → Stands engine.old (D.holds store.old) s → IsSavedLast (D.moments store.old) s last
         → Leaves (D.moments store.old) (D.moments store.new) (IsImageOf last) }
+    ensures elsewhere { KeepsOthers engine.old.parts.next_blob (engine.old.parts.next_blob + 1) (D.holds store.old) (D.holds store.new) }
     ensures space { engine.new.space ≡ engine.old.space }
     ensures drawn { OnOk result (engine.new.parts.next_blob ≤ engine.old.parts.next_blob + 1) }
     ensures onward { OnOk result (engine.old.parts.next_blob ≤ engine.new.parts.next_blob) }
@@ -230,6 +239,8 @@ fn reply_to_work<D: Store>(
         → ReadsSuch (AreReadFor s (Operates (Work units))) (D.reads store.old) (D.reads store.new) }
     ensures survives { (s last : State) → Stands engine.old (D.holds store.old) s → IsSavedLast (D.moments store.old) s last
         → Leaves (D.moments store.old) (D.moments store.new) (IsImageOf last) }
+    ensures elsewhere { KeepsOthers engine.old.parts.next_blob (engine.old.parts.next_blob + units)
+        (D.holds store.old) (D.holds store.new) }
     ensures space { engine.new.space ≡ engine.old.space }
     ensures drawn { OnOk result (engine.new.parts.next_blob ≤ engine.old.parts.next_blob + units) }
     ensures onward { OnOk result (engine.old.parts.next_blob ≤ engine.new.parts.next_blob) }
@@ -271,6 +282,8 @@ fn reply_to_save<D: Store>(engine: &mut Engine, store: &mut D) -> Result<Option<
         → Leaves (D.moments store.old) (D.moments store.new) (IsImageOfEither last (left_to_next s)) }
     ensures durable { (s : State) → Stands engine.old (D.holds store.old) s
         → OnOk result (LeavesNow (D.moments store.new) (IsImageOf (left_to_next s))) }
+    ensures earlier { (start : Content) → Goes engine.old start (D.holds store.old)
+        → LeavesEarlier engine.old.parts.next_blob (D.holds store.old) (D.holds store.new) }
     ensures space { engine.new.space ≡ engine.old.space }
     ensures drawn { OnOk result (engine.new.parts.next_blob ≤ engine.old.parts.next_blob + 2) }
     ensures onward { OnOk result (engine.old.parts.next_blob ≤ engine.new.parts.next_blob) }

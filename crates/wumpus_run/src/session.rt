@@ -1,5 +1,5 @@
 //! A session: the script is read as it comes, and each item is answered in turn.
-ghost use Rattle.std.specs.Prelude.{◌≡◌, ◌≢◌, ◌⊎◌, ℕ, ◌+◌, ◌<◌, ◌≤◌, ◌^◌, [], None, Some, Err, false, IfOk, IfErr, OnErr, OnOk, MatchBool};
+ghost use Rattle.std.specs.Prelude.{◌≡◌, ◌≢◌, ◌⊎◌, ℕ, ◌+◌, ◌<◌, ◌≤◌, ◌^◌, [], None, Some, Err, false, IfOk, IfErr, IfSome, OnErr, OnOk, MatchBool};
 ghost use Rattle.std.specs.Io.KnownBytes.{Appends};
 ghost use Rattle.wu_base.specs.declared.limits.TheConstants.{BLOBS_SPENT_AT, INPUT_MAX, SPENT_AT};
 ghost use Rattle.wu_outside.specs.Content.{Content};
@@ -7,16 +7,18 @@ ghost use Rattle.wu_outside.specs.Faults.{HasFaultCause, Rose};
 ghost use Rattle.wu_outside.specs.Gains.{GainsPrefix};
 ghost use Rattle.wu_outside.specs.Surviving.{IsLeft, Leaves, LeavesNow};
 ghost use Rattle.wu_script.specs.Items.{IsBeforeEnd};
+ghost use Rattle.wu_image.specs.declared.roots.Root.{Root};
 ghost use Rattle.wu_options.specs.CommandLines.{command_line_of, texts_of};
 ghost use Rattle.wu_engine.specs.Crashes.{IsImageOf, IsImageOfEither, IsSavedLast};
 ghost use Rattle.wu_engine.specs.Going.{Goes, HasBroken};
 ghost use Rattle.wu_engine.specs.Stands.{Stands};
-ghost use Rattle.wu_engine.specs.Opening.{HoldsImage, IsBeginCause, IsOpen, IsSpentWhere, ReadsAtOpening};
+ghost use Rattle.wu_engine.specs.Earlier.{LeavesEarlier};
+ghost use Rattle.wu_engine.specs.Opening.{HasRoot, HoldsImage, IsBeginCause, IsOpen, IsSpentWhere, ReadsAtOpening};
 ghost use Rattle.wu_engine.specs.States.{State, rested_state, saved_state};
 ghost use Rattle.wu_engine.specs.declared.faults.BeginFault.TheVariants.{Damaged as SavedIsDamaged};
 ghost use Rattle.wumpus_run.specs.Demo.{IfDemo, IsShown};
 ghost use Rattle.wumpus_run.specs.Permitted.{ReadsPermitted};
-ghost use Rattle.wumpus_run.specs.Session.{AnswersAll, AnswersPrefix, Completes, FromImage, HasRoom, HoldsNothingBack, IsCounted, IsSession, IsSpent, IsTooLong, IsUsage, LeavesNoStray, SavesAll, StaysShut, StaysWithin, TakesAll, moment, settings_of, status_of, status_of_fault, status_of_opening, status_of_trouble};
+ghost use Rattle.wumpus_run.specs.Session.{AnswersAll, AnswersPrefix, Completes, FromImage, HasRoom, HoldsNothingBack, IsCounted, IsSession, IsSpent, IsTooLong, IsUsage, LeavesNoStray, SavesAll, StaysShut, StaysWithin, TakesAll, moment, settings_of, status_of, status_of_fault, status_of_opening, status_of_saving, status_of_trouble};
 ghost use Rattle.wumpus_run.specs.Strays.{AddsNoStray};
 ghost use Rattle.wumpus_run.specs.Crashes.{LeavesAcknowledged, LeavesLast, LeavesSaves, Survives, left_to_next};
 
@@ -55,35 +57,25 @@ pub fn run<I: Source, O: Sink, D: Store>(
     // The input was read to its end, the sink gained the replies to its items, and nothing else, and the store holds an
     // image of the state after them.
     ensures all_taken { result ≡ Status.Done → TakesAll (settings_of (texts_of words.now))
-        (moment (I.left source.old) (I.last_read source.old) (I.faults source.old)
-        (O.gained sink.old) (O.faults sink.old) (D.holds store.old) (D.faults store.old))
-        (moment (I.left source.new) (I.last_read source.new) (I.faults source.new)
-        (O.gained sink.new) (O.faults sink.new) (D.holds store.new) (D.faults store.new)) }
+        (moment I.Source O.Sink D.Store source.old sink.old store.old)
+        (moment I.Source O.Sink D.Store source.new sink.new store.new) }
     ensures done { result ≡ Status.Done → FromImage (D.holds store.old) (λ s. AnswersAll s (settings_of (texts_of words.now))
-        (moment (I.left source.old) (I.last_read source.old) (I.faults source.old)
-        (O.gained sink.old) (O.faults sink.old) (D.holds store.old) (D.faults store.old))
-        (moment (I.left source.new) (I.last_read source.new) (I.faults source.new)
-        (O.gained sink.new) (O.faults sink.new) (D.holds store.new) (D.faults store.new))) }
+        (moment I.Source O.Sink D.Store source.old sink.old store.old)
+        (moment I.Source O.Sink D.Store source.new sink.new store.new)) }
     ensures saved { result ≡ Status.Done → FromImage (D.holds store.old) (λ s. SavesAll s (settings_of (texts_of words.now))
-        (moment (I.left source.old) (I.last_read source.old) (I.faults source.old)
-        (O.gained sink.old) (O.faults sink.old) (D.holds store.old) (D.faults store.old))
-        (moment (I.left source.new) (I.last_read source.new) (I.faults source.new)
-        (O.gained sink.new) (O.faults sink.new) (D.holds store.new) (D.faults store.new))) }
+        (moment I.Source O.Sink D.Store source.old sink.old store.old)
+        (moment I.Source O.Sink D.Store source.new sink.new store.new)) }
     ensures named { result ≡ Status.Done → FromImage (D.holds store.old) (λ s. LeavesNoStray s (settings_of (texts_of words.now))
-        (moment (I.left source.old) (I.last_read source.old) (I.faults source.old)
-        (O.gained sink.old) (O.faults sink.old) (D.holds store.old) (D.faults store.old))
-        (moment (I.left source.new) (I.last_read source.new) (I.faults source.new)
-        (O.gained sink.new) (O.faults sink.new) (D.holds store.new) (D.faults store.new))) }
+        (moment I.Source O.Sink D.Store source.old sink.old store.old)
+        (moment I.Source O.Sink D.Store source.new sink.new store.new)) }
 
     // Of the store this was read, in turn: at opening the root's checkpoint and the fronts of its parts, each once, and then item by item
     // for a query blocks of its terms where her files are and then the texts of which a line is shown, from the first one on, each once,
     // and for background work blocks of its terms. For an item that wasn't reached nothing was. A session that ended at its opening,
     // before it took or wrote a byte, read nothing but some of what an opening reads.
     ensures permitted { FromImage (D.holds store.old) (λ s. ReadsPermitted s result (settings_of (texts_of words.now))
-        (moment (I.left source.old) (I.last_read source.old) (I.faults source.old)
-        (O.gained sink.old) (O.faults sink.old) (D.holds store.old) (D.faults store.old))
-        (moment (I.left source.new) (I.last_read source.new) (I.faults source.new)
-        (O.gained sink.new) (O.faults sink.new) (D.holds store.new) (D.faults store.new))
+        (moment I.Source O.Sink D.Store source.old sink.old store.old)
+        (moment I.Source O.Sink D.Store source.new sink.new store.new)
         (D.reads store.old) (D.reads store.new)) }
 
     // A crash while the session goes on leaves what one could leave before it, or an image of one of its saves. After it a crash
@@ -93,29 +85,27 @@ pub fn run<I: Source, O: Sink, D: Store>(
     ensures durable { result ≡ Status.Done → FromImage (D.holds store.old) (λ s. LeavesLast s (settings_of (texts_of words.now))
         (D.holds store.old) (I.left source.old) (D.moments store.new)) }
     ensures acknowledged { FromImage (D.holds store.old) (λ s. LeavesAcknowledged s result (settings_of (texts_of words.now))
-        (moment (I.left source.old) (I.last_read source.old) (I.faults source.old)
-        (O.gained sink.old) (O.faults sink.old) (D.holds store.old) (D.faults store.old))
-        (moment (I.left source.new) (I.last_read source.new) (I.faults source.new)
-        (O.gained sink.new) (O.faults sink.new) (D.holds store.new) (D.faults store.new))
+        (moment I.Source O.Sink D.Store source.old sink.old store.old)
+        (moment I.Source O.Sink D.Store source.new sink.new store.new)
         (D.moments store.old) (D.moments store.new)) }
+    // Whatever it held, no blob below the root's next one is written over: as long as the root is the one from before all are as they
+    // were, and some are gone only where a save of this session set the root.
+    ensures earlier { (content : Content) → D.holds store.old ≡ Some content → (root : Root) → HasRoot content root
+        → LeavesEarlier root.next_blob (D.holds store.old) (D.holds store.new) }
     // Where the store leaves no room it holds what it held.
     ensures unopened { (next : ℕ) → result ≡ Status.Spent next → D.holds store.new ≡ D.holds store.old }
     // Where what it holds can't be opened, it holds the same afterwards, and no byte was taken or written.
     ensures shut { StaysShut (settings_of (texts_of words.now))
-        (moment (I.left source.old) (I.last_read source.old) (I.faults source.old)
-        (O.gained sink.old) (O.faults sink.old) (D.holds store.old) (D.faults store.old))
-        (moment (I.left source.new) (I.last_read source.new) (I.faults source.new)
-        (O.gained sink.new) (O.faults sink.new) (D.holds store.new) (D.faults store.new)) }
+        (moment I.Source O.Sink D.Store source.old sink.old store.old)
+        (moment I.Source O.Sink D.Store source.new sink.new store.new) }
 
     // A fault of the source, the sink or the store ends the session, exactly where its count of faults rose.
     ensures read_fault { IsCounted Status.ReadFault result (I.faults source.old) (I.faults source.new) }
     ensures write_fault { IsCounted Status.WriteFault result (O.faults sink.old) (O.faults sink.new) }
     ensures store_fault { IsCounted Status.StoreFault result (D.faults store.old) (D.faults store.new) }
     ensures too_long { IsTooLong result (settings_of (texts_of words.now))
-        (moment (I.left source.old) (I.last_read source.old) (I.faults source.old)
-        (O.gained sink.old) (O.faults sink.old) (D.holds store.old) (D.faults store.old))
-        (moment (I.left source.new) (I.last_read source.new) (I.faults source.new)
-        (O.gained sink.new) (O.faults sink.new) (D.holds store.new) (D.faults store.new)) }
+        (moment I.Source O.Sink D.Store source.old sink.old store.old)
+        (moment I.Source O.Sink D.Store source.new sink.new store.new) }
 
     // A blob is called damaged only where it is broken in what the store held, by the root and by the checkpoint there. A store
     // that holds an image of a state is never called damaged; it is called spent exactly where it is.
@@ -127,32 +117,25 @@ pub fn run<I: Source, O: Sink, D: Store>(
     // Whatever the status, no byte after the one past the limit was taken, and the sink gained a
     // prefix of the output.
     ensures taken { StaysWithin (settings_of (texts_of words.now))
-        (moment (I.left source.old) (I.last_read source.old) (I.faults source.old)
-        (O.gained sink.old) (O.faults sink.old) (D.holds store.old) (D.faults store.old))
-        (moment (I.left source.new) (I.last_read source.new) (I.faults source.new)
-        (O.gained sink.new) (O.faults sink.new) (D.holds store.new) (D.faults store.new)) }
+        (moment I.Source O.Sink D.Store source.old sink.old store.old)
+        (moment I.Source O.Sink D.Store source.new sink.new store.new) }
     ensures prefix { FromImage (D.holds store.old) (λ s. AnswersPrefix s (settings_of (texts_of words.now))
-        (moment (I.left source.old) (I.last_read source.old) (I.faults source.old)
-        (O.gained sink.old) (O.faults sink.old) (D.holds store.old) (D.faults store.old))
-        (moment (I.left source.new) (I.last_read source.new) (I.faults source.new)
-        (O.gained sink.new) (O.faults sink.new) (D.holds store.new) (D.faults store.new))) }
+        (moment I.Source O.Sink D.Store source.old sink.old store.old)
+        (moment I.Source O.Sink D.Store source.new sink.new store.new)) }
 
     // No reply was held back: where the source failed or gave too much, the sink gained exactly the
     // replies to the whole items that the source gave; where sink or store failed or there was no memory,
     // at least those to the whole items before the bytes of the source's last read. Where the store
     // failed, or is damaged, no reply was cut.
     ensures prompt { FromImage (D.holds store.old) (λ s. HoldsNothingBack s result (settings_of (texts_of words.now))
-        (moment (I.left source.old) (I.last_read source.old) (I.faults source.old)
-        (O.gained sink.old) (O.faults sink.old) (D.holds store.old) (D.faults store.old))
-        (moment (I.left source.new) (I.last_read source.new) (I.faults source.new)
-        (O.gained sink.new) (O.faults sink.new) (D.holds store.new) (D.faults store.new))) }
+        (moment I.Source O.Sink D.Store source.old sink.old store.old)
+        (moment I.Source O.Sink D.Store source.new sink.new store.new)) }
 
     // Without a fault the session is done, unless there was no memory or the input is too long.
     ensures complete { ¬ Rose (I.faults source.old) (I.faults source.new) → ¬ Rose (O.faults sink.old) (O.faults sink.new)
         → ¬ Rose (D.faults store.old) (D.faults store.new)
         → FromImage (D.holds store.old) (λ s. HasRoom s → Completes result (settings_of (texts_of words.now))
-        (moment (I.left source.old) (I.last_read source.old) (I.faults source.old)
-        (O.gained sink.old) (O.faults sink.old) (D.holds store.old) (D.faults store.old))) }
+        (moment I.Source O.Sink D.Store source.old sink.old store.old)) }
 {
     match read_command_line(alloc, words) {
         Ok(Some(CommandLine::Run(settings))) => answer_script(alloc, settings, source, sink, store),
@@ -173,28 +156,22 @@ fn answer_script<I: Source, O: Sink, D: Store>(
     requires goes_on { I.ended source.old ≡ false }
     requires within { settings.max_input ≤ INPUT_MAX }
     ensures session { IsSession result settings
-        (moment (I.left source.old) (I.last_read source.old) (I.faults source.old)
-        (O.gained sink.old) (O.faults sink.old) (D.holds store.old) (D.faults store.old))
-        (moment (I.left source.new) (I.last_read source.new) (I.faults source.new)
-        (O.gained sink.new) (O.faults sink.new) (D.holds store.new) (D.faults store.new)) }
+        (moment I.Source O.Sink D.Store source.old sink.old store.old)
+        (moment I.Source O.Sink D.Store source.new sink.new store.new) }
     ensures permitted { FromImage (D.holds store.old) (λ s. ReadsPermitted s result (Some settings)
-        (moment (I.left source.old) (I.last_read source.old) (I.faults source.old)
-        (O.gained sink.old) (O.faults sink.old) (D.holds store.old) (D.faults store.old))
-        (moment (I.left source.new) (I.last_read source.new) (I.faults source.new)
-        (O.gained sink.new) (O.faults sink.new) (D.holds store.new) (D.faults store.new))
+        (moment I.Source O.Sink D.Store source.old sink.old store.old)
+        (moment I.Source O.Sink D.Store source.new sink.new store.new)
         (D.reads store.old) (D.reads store.new)) }
     ensures survives { FromImage (D.holds store.old) (λ s. Survives s result settings
-        (moment (I.left source.old) (I.last_read source.old) (I.faults source.old)
-        (O.gained sink.old) (O.faults sink.old) (D.holds store.old) (D.faults store.old))
-        (moment (I.left source.new) (I.last_read source.new) (I.faults source.new)
-        (O.gained sink.new) (O.faults sink.new) (D.holds store.new) (D.faults store.new))
+        (moment I.Source O.Sink D.Store source.old sink.old store.old)
+        (moment I.Source O.Sink D.Store source.new sink.new store.new)
         (D.moments store.old) (D.moments store.new)) }
+    ensures earlier { (content : Content) → D.holds store.old ≡ Some content → (root : Root) → HasRoot content root
+        → LeavesEarlier root.next_blob (D.holds store.old) (D.holds store.new) }
     ensures unopened { (next : ℕ) → result ≡ Status.Spent next → D.holds store.new ≡ D.holds store.old }
     ensures shut { StaysShut (Some settings)
-        (moment (I.left source.old) (I.last_read source.old) (I.faults source.old)
-        (O.gained sink.old) (O.faults sink.old) (D.holds store.old) (D.faults store.old))
-        (moment (I.left source.new) (I.last_read source.new) (I.faults source.new)
-        (O.gained sink.new) (O.faults sink.new) (D.holds store.new) (D.faults store.new)) }
+        (moment I.Source O.Sink D.Store source.old sink.old store.old)
+        (moment I.Source O.Sink D.Store source.new sink.new store.new) }
     ensures broken { (content : Content) → D.holds store.old ≡ Some content → (blob : ℕ) → result ≡ Status.Damaged blob
         → HasBroken content blob }
 {
@@ -237,6 +214,8 @@ fn start<D: Store>(
     ensures flushes { IfOk result (λ start. start.1.parts.flushes < 2 ^ 62) }
     ensures flush_at { IfOk result (λ start. start.1.parts.flush_at ≡ settings.flush_at) }
     ensures goes_on { IfOk result (λ start. start.1.ended ≡ None) }
+    ensures drawn { IfOk result (λ start. IfSome (D.holds store.old) (λ content. (root : Root) → HasRoot content root
+        → start.1.parts.next_blob ≡ root.next_blob)) }
     ensures holds { D.holds store.new ≡ D.holds store.old }
     ensures survives { Leaves (D.moments store.old) (D.moments store.new) (IsLeft (D.moments store.old)) }
     ensures durable { (s : State) → HoldsImage (D.holds store.old) s → OnOk result (LeavesNow (D.moments store.new) (IsImageOf s)) }
@@ -267,10 +246,19 @@ fn save<D: Store>(engine: &mut Engine, store: &mut D) -> Status
     ensures durable { (s : State) → Stands engine.old (D.holds store.old) s → result ≡ Status.Done
         → LeavesNow (D.moments store.new) (IsImageOf (left_to_next s)) }
     ensures reads { D.reads store.new ≡ D.reads store.old }
+    ensures earlier { (start : Content) → Goes engine.old start (D.holds store.old)
+        → LeavesEarlier engine.old.parts.next_blob (D.holds store.old) (D.holds store.new) }
     ensures ends { (result ≡ Status.Done) ⊎ ((result ≡ Status.NoMemory) ⊎ (result ≡ Status.StoreFault)) }
     ensures store_fault { IsCounted Status.StoreFault result (D.faults store.old) (D.faults store.new) }
 {
-    match engine.save(store) {
+    status_of_saving(engine.save(store))
+}
+
+/// How a session ends with a save.
+fn status_of_saving(saved: Result<(), Trouble>) -> Status
+    ensures { result ≡ status_of_saving saved }
+{
+    match saved {
         Ok(()) => Status::Done,
         Err(trouble) => status_of_trouble(trouble),
     }

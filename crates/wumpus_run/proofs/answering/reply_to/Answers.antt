@@ -1,10 +1,12 @@
-use Rattle.std.proofs.Common.{◌≡◌, [], ◌∷◌, ap, ◌∙◌, refl, ⊎_elim}
+use Rattle.std.proofs.Common.{◌≡◌, [], ◌∷◌, ap, ◌∙◌, refl, sym, subst, ⊎_elim}
 use Rattle.wu_outside.specs.Surviving.{LeavesNow}
 use Rattle.wu_outside.proofs.Survival.{kept}
 use Rattle.wu_script.specs.declared.types.Item.{Item}
 use Rattle.wu_script.specs.declared.types.Item.TheVariants as items
 use Rattle.wu_script.specs.Said.{said_by}
 use Rattle.wu_engine.specs.Crashes.{IsImageOf}
+use Rattle.wu_engine.specs.Earlier.{LeavesEarlier}
+use Rattle.wu_engine.proofs.EarlierBlobs.{earlier_others, earlier_same}
 use Rattle.wu_engine.proofs.OpenedStates.{on_any_ok}
 use Rattle.wumpus_run.specs.Crashes.{last_or, left_to_next, saved_for}
 use Rattle.wumpus_run.proofs.CrashesUnderWay.{saves_none, saves_one, stays_saved}
@@ -100,3 +102,38 @@ returns-in-Blank-clause-survives g c = λ s last stands saved.
     ⊎_elim (λ e. ap (λ (item : Item). saved_for s (said_by item)) e)
     (λ e. ap (λ (item : Item). saved_for s (said_by item)) e) c.in-Blank.is in
     saves_none s (said_by c.args.item) moments moments last none (kept moments moments (IsImageOf last) refl saved.left)
+
+pub returns-in-Command-Update-clause-earlier : goal.returns-in-Command-Update-clause-earlier
+returns-in-Command-Update-clause-earlier g c = λ start goes.
+    earlier_others c.args.engine.now.parts.next_blob _ (g.D.Store.holds c.args.store.now) (g.D.Store.holds c.reply_to_event.new.store)
+    c.reply_to_event.ensures.elsewhere
+
+pub returns-in-Text-clause-earlier : goal.returns-in-Text-clause-earlier
+returns-in-Text-clause-earlier g c = λ start goes.
+    earlier_others c.args.engine.now.parts.next_blob _ (g.D.Store.holds c.args.store.now) (g.D.Store.holds c.reply_to_event-in-Text.new.store)
+    c.reply_to_event-in-Text.ensures.elsewhere
+
+pub returns-in-Command-Flush-clause-earlier : goal.returns-in-Command-Flush-clause-earlier
+returns-in-Command-Flush-clause-earlier g c = λ start goes.
+    earlier_others c.args.engine.now.parts.next_blob _ (g.D.Store.holds c.args.store.now) (g.D.Store.holds c.reply_to_flush.new.store)
+    c.reply_to_flush.ensures.elsewhere
+
+pub returns-in-Command-Work-clause-earlier : goal.returns-in-Command-Work-clause-earlier
+returns-in-Command-Work-clause-earlier g c = λ start goes.
+    earlier_others c.args.engine.now.parts.next_blob _ (g.D.Store.holds c.args.store.now) (g.D.Store.holds c.reply_to_work.new.store)
+    c.reply_to_work.ensures.elsewhere
+
+pub returns-in-Command-Ask-clause-earlier : goal.returns-in-Command-Ask-clause-earlier
+returns-in-Command-Ask-clause-earlier g c = λ start goes.
+    let low = c.args.engine.now.parts.next_blob in
+    let holds = g.D.Store.holds c.args.store.now in
+    subst (LeavesEarlier low holds) (sym c.reply_to_query.ensures.holds) (earlier_same low holds)
+
+pub returns-in-Command-Stat-clause-earlier : goal.returns-in-Command-Stat-clause-earlier
+returns-in-Command-Stat-clause-earlier g c = λ start goes. earlier_same c.args.engine.now.parts.next_blob (g.D.Store.holds c.args.store.now)
+
+pub returns-in-Refused-clause-earlier : goal.returns-in-Refused-clause-earlier
+returns-in-Refused-clause-earlier g c = λ start goes. earlier_same c.args.engine.now.parts.next_blob (g.D.Store.holds c.args.store.now)
+
+pub returns-in-Blank-clause-earlier : goal.returns-in-Blank-clause-earlier
+returns-in-Blank-clause-earlier g c = λ start goes. earlier_same c.args.engine.now.parts.next_blob (g.D.Store.holds c.args.store.now)

@@ -1,4 +1,4 @@
-use Rattle.std.proofs.Common.{◌+◌, Err, Some, ap, refl, subst, arith}
+use Rattle.std.proofs.Common.{◌+◌, Err, ap, refl, subst, arith}
 use Rattle.std.specs.Io.KnownBytes.{prepend_known}
 use Rattle.wu_script.specs.Items.{IsNext, TakesItem}
 use Rattle.wu_script.specs.Said.{said_by, tokens_given}
@@ -12,6 +12,7 @@ use Rattle.wumpus_run.proofs.BrokenBlobs.{opening_broken}
 use Rattle.wumpus_run.proofs.CrashesAtEnd.{IsUnopened-fault, Survives-saved, Survives-stopped, Survives-unanswered, Survives-unopened}
 use Rattle.wumpus_run.proofs.CrashesAtEnd.{Survives-unwritten}
 use Rattle.wumpus_run.proofs.CrashesUnderWay.{HasKept-none, HasKept-turn, IsAnswered-appended}
+use Rattle.wumpus_run.proofs.EarlierLemmas.{HasLeft-none, HasLeft-turn, left_alone, left_so_far, left_then}
 use Rattle.wumpus_run.proofs.EndLemmas.{IsUnspent-opened, answering, damaged_so, reading, saving, writing}
 use Rattle.wumpus_run.proofs.StartedStates.{IsUnderWay-none, IsUnderWay-turn, IsSession-saved, IsSession-stopped, IsSession-unanswered}
 use Rattle.wumpus_run.proofs.StartedStates.{IsSession-unopened, IsSession-unwritten}
@@ -21,9 +22,7 @@ use Rattle.wumpus_run.proofs.session.answer_script.Goals as goal
 
 pub returns-in-Err-clause-session : goal.returns-in-Err-clause-session
 returns-in-Err-clause-session g c =
-    let before = moment (g.I.Source.left c.args.source.now) (g.I.Source.last_read c.args.source.now) (g.I.Source.faults c.args.source.now)
-    (g.O.Sink.gained c.args.sink.now) (g.O.Sink.faults c.args.sink.now)
-    (g.D.Store.holds c.args.store.now) (g.D.Store.faults c.args.store.now) in
+    let before = moment g.I.Source g.O.Sink g.D.Store c.args.source.now c.args.sink.now c.args.store.now in
     rw c.status_of_opening.ensures
     (IsSession-unopened c.args.settings before _ c.in-Err.fault (g.D.Store.holds c.start.new.store) (g.D.Store.faults c.start.new.store)
     c.in-Err.ensures.cause c.in-Err.ensures.spent (λ s image blob e. c.in-Err.ensures.undamaged s image blob (ap Err e)))
@@ -32,12 +31,8 @@ pub returns-in-Err-next-clause-session : goal.returns-in-Err-next-clause-session
 returns-in-Err-next-clause-session g c =
     let told = c.args.settings in
     let i = c.items.invariant.under_way in
-    let before = moment (g.I.Source.left c.args.source.now) (g.I.Source.last_read c.args.source.now) (g.I.Source.faults c.args.source.now)
-    (g.O.Sink.gained c.args.sink.now) (g.O.Sink.faults c.args.sink.now)
-    (g.D.Store.holds c.args.store.now) (g.D.Store.faults c.args.store.now) in
-    let between = moment (g.I.Source.left c.items.source) (g.I.Source.last_read c.items.source) (g.I.Source.faults c.items.source)
-    (g.O.Sink.gained c.items.sink) (g.O.Sink.faults c.items.sink)
-    (g.D.Store.holds c.items.store) (g.D.Store.faults c.items.store) in
+    let before = moment g.I.Source g.O.Sink g.D.Store c.args.source.now c.args.sink.now c.args.store.now in
+    let between = moment g.I.Source g.O.Sink g.D.Store c.items.source c.items.sink c.items.store in
     rw c.status_of.ensures
     (IsSession-stopped told before between c.items.engine c.items.reader i c.in-Err-next.end
     (g.I.Source.left c.next.new.source) (g.I.Source.last_read c.next.new.source)
@@ -63,12 +58,8 @@ pub returns-then-is_end-clause-session : goal.returns-then-is_end-clause-session
 returns-then-is_end-clause-session g c =
     let told = c.args.settings in
     let i = c.items.invariant.under_way in
-    let before = moment (g.I.Source.left c.args.source.now) (g.I.Source.last_read c.args.source.now) (g.I.Source.faults c.args.source.now)
-    (g.O.Sink.gained c.args.sink.now) (g.O.Sink.faults c.args.sink.now)
-    (g.D.Store.holds c.args.store.now) (g.D.Store.faults c.args.store.now) in
-    let between = moment (g.I.Source.left c.items.source) (g.I.Source.last_read c.items.source) (g.I.Source.faults c.items.source)
-    (g.O.Sink.gained c.items.sink) (g.O.Sink.faults c.items.sink)
-    (g.D.Store.holds c.items.store) (g.D.Store.faults c.items.store) in
+    let before = moment g.I.Source g.O.Sink g.D.Store c.args.source.now c.args.sink.now c.args.store.now in
+    let between = moment g.I.Source g.O.Sink g.D.Store c.items.source c.items.sink c.items.store in
     let known = prepend_known c.items.reader.bytes between.left in
     let rest = prepend_known c.next.new.self.bytes (g.I.Source.left c.next.new.source) in
     IsSession-saved told before between c.items.engine c.items.reader i c.save.result c.next.new.self
@@ -83,12 +74,8 @@ pub returns-in-Err-answer-clause-session : goal.returns-in-Err-answer-clause-ses
 returns-in-Err-answer-clause-session g c =
     let told = c.args.settings in
     let i = c.items.invariant.under_way in
-    let before = moment (g.I.Source.left c.args.source.now) (g.I.Source.last_read c.args.source.now) (g.I.Source.faults c.args.source.now)
-    (g.O.Sink.gained c.args.sink.now) (g.O.Sink.faults c.args.sink.now)
-    (g.D.Store.holds c.args.store.now) (g.D.Store.faults c.args.store.now) in
-    let between = moment (g.I.Source.left c.items.source) (g.I.Source.last_read c.items.source) (g.I.Source.faults c.items.source)
-    (g.O.Sink.gained c.items.sink) (g.O.Sink.faults c.items.sink)
-    (g.D.Store.holds c.items.store) (g.D.Store.faults c.items.store) in
+    let before = moment g.I.Source g.O.Sink g.D.Store c.args.source.now c.args.sink.now c.args.store.now in
+    let between = moment g.I.Source g.O.Sink g.D.Store c.items.source c.items.sink c.items.store in
     rw c.status_of_trouble.ensures
     (IsSession-unanswered told before between c.items.engine c.items.reader i c.in-Err-answer.trouble c.next.new.self c.in-Ok-next.item
     (g.I.Source.left c.next.new.source) (g.I.Source.last_read c.next.new.source)
@@ -138,15 +125,9 @@ pub items-preserved : goal.items-preserved
 items-preserved g c =
     let told = c.args.settings in
     let i = c.items.invariant.under_way in
-    let before = moment (g.I.Source.left c.args.source.now) (g.I.Source.last_read c.args.source.now) (g.I.Source.faults c.args.source.now)
-    (g.O.Sink.gained c.args.sink.now) (g.O.Sink.faults c.args.sink.now)
-    (g.D.Store.holds c.args.store.now) (g.D.Store.faults c.args.store.now) in
-    let between = moment (g.I.Source.left c.items.source) (g.I.Source.last_read c.items.source) (g.I.Source.faults c.items.source)
-    (g.O.Sink.gained c.items.sink) (g.O.Sink.faults c.items.sink)
-    (g.D.Store.holds c.items.store) (g.D.Store.faults c.items.store) in
-    let now = moment (g.I.Source.left c.next.new.source) (g.I.Source.last_read c.next.new.source) (g.I.Source.faults c.next.new.source)
-    (g.O.Sink.gained c.write_reply.new.sink) (g.O.Sink.faults c.write_reply.new.sink)
-    (g.D.Store.holds c.answer.new.store) (g.D.Store.faults c.answer.new.store) in
+    let before = moment g.I.Source g.O.Sink g.D.Store c.args.source.now c.args.sink.now c.args.store.now in
+    let between = moment g.I.Source g.O.Sink g.D.Store c.items.source c.items.sink c.items.store in
+    let now = moment g.I.Source g.O.Sink g.D.Store c.next.new.source c.write_reply.new.sink c.answer.new.store in
     let item = c.in-Ok-next.item in
     let done = c.in-Ok-answer.ensures in
     record {
@@ -178,6 +159,8 @@ items-preserved g c =
           c.clear.new.self.items (g.D.Store.moments c.items.store) (g.D.Store.moments c.answer.new.store) c.clear.ensures.items
           done.answer done.onward done.survives done.durable) c.as_slice.ensures.value c.in-Ok-write_reply.ensures.ok (c.items.invariant.crash s image);
       goes = λ content e. done.goes content (c.items.invariant.goes content e);
+      earlier = HasLeft-turn before.holds between.holds now.holds c.items.engine.parts.next_blob c.answer.new.engine.parts.next_blob
+          c.items.invariant.earlier (λ content e. done.earlier content (c.items.invariant.goes content e)) done.onward;
       follows = c.in-Ok-next.ensures.follows;
     }
 
@@ -185,15 +168,9 @@ pub returns-in-Err-write_reply-clause-session : goal.returns-in-Err-write_reply-
 returns-in-Err-write_reply-clause-session g c =
     let told = c.args.settings in
     let i = c.items.invariant.under_way in
-    let before = moment (g.I.Source.left c.args.source.now) (g.I.Source.last_read c.args.source.now) (g.I.Source.faults c.args.source.now)
-    (g.O.Sink.gained c.args.sink.now) (g.O.Sink.faults c.args.sink.now)
-    (g.D.Store.holds c.args.store.now) (g.D.Store.faults c.args.store.now) in
-    let between = moment (g.I.Source.left c.items.source) (g.I.Source.last_read c.items.source) (g.I.Source.faults c.items.source)
-    (g.O.Sink.gained c.items.sink) (g.O.Sink.faults c.items.sink)
-    (g.D.Store.holds c.items.store) (g.D.Store.faults c.items.store) in
-    let now = moment (g.I.Source.left c.next.new.source) (g.I.Source.last_read c.next.new.source) (g.I.Source.faults c.next.new.source)
-    (g.O.Sink.gained c.write_reply.new.sink) (g.O.Sink.faults c.write_reply.new.sink)
-    (g.D.Store.holds c.answer.new.store) (g.D.Store.faults c.answer.new.store) in
+    let before = moment g.I.Source g.O.Sink g.D.Store c.args.source.now c.args.sink.now c.args.store.now in
+    let between = moment g.I.Source g.O.Sink g.D.Store c.items.source c.items.sink c.items.store in
+    let now = moment g.I.Source g.O.Sink g.D.Store c.next.new.source c.write_reply.new.sink c.answer.new.store in
     let item = c.in-Ok-next.item in
     rw c.status_of_fault.ensures
     (IsSession-unwritten told before between c.items.engine c.items.reader i c.in-Err-write_reply.fault now c.answer.new.engine
@@ -212,9 +189,7 @@ pub items-init : goal.items-init
 items-init g c =
     let e = c.in-Ok.ensures in
     let told = c.args.settings in
-    let before = moment (g.I.Source.left c.args.source.now) (g.I.Source.last_read c.args.source.now) (g.I.Source.faults c.args.source.now)
-    (g.O.Sink.gained c.args.sink.now) (g.O.Sink.faults c.args.sink.now)
-    (g.D.Store.holds c.args.store.now) (g.D.Store.faults c.args.store.now) in
+    let before = moment g.I.Source g.O.Sink g.D.Store c.args.source.now c.args.sink.now c.args.store.now in
     record {
       under_way = rw e.reader
           (IsUnderWay-none told before (g.D.Store.holds c.start.new.store) (g.D.Store.faults c.start.new.store) c.in-Ok.start.1 e.stands
@@ -227,14 +202,13 @@ items-init g c =
           (HasKept-none told s before (g.D.Store.holds c.start.new.store) (g.D.Store.faults c.start.new.store) c.in-Ok.start.1
           (g.D.Store.moments c.args.store.now) (g.D.Store.moments c.start.new.store) (e.stands s image) e.survives (e.durable s image));
       goes = e.goes;
+      earlier = HasLeft-none before.holds (g.D.Store.holds c.start.new.store) c.in-Ok.start.1.parts.next_blob e.holds e.drawn;
       follows = rw e.reader (record { going = λ h. c.requires.goes_on; recent = omega arith });
     }
 
 pub returns-in-Err-clause-permitted : goal.returns-in-Err-clause-permitted
 returns-in-Err-clause-permitted g c =
-    let before = moment (g.I.Source.left c.args.source.now) (g.I.Source.last_read c.args.source.now) (g.I.Source.faults c.args.source.now)
-    (g.O.Sink.gained c.args.sink.now) (g.O.Sink.faults c.args.sink.now)
-    (g.D.Store.holds c.args.store.now) (g.D.Store.faults c.args.store.now) in
+    let before = moment g.I.Source g.O.Sink g.D.Store c.args.source.now c.args.sink.now c.args.store.now in
     rw c.status_of_opening.ensures (λ s image.
     permitted_unopened c.args.settings s _ before _ (g.D.Store.reads c.args.store.now) (g.D.Store.reads c.start.new.store)
     c.in-Err.ensures.reads
@@ -243,35 +217,23 @@ returns-in-Err-clause-permitted g c =
 
 pub returns-in-Err-next-clause-permitted : goal.returns-in-Err-next-clause-permitted
 returns-in-Err-next-clause-permitted g c =
-    let before = moment (g.I.Source.left c.args.source.now) (g.I.Source.last_read c.args.source.now) (g.I.Source.faults c.args.source.now)
-    (g.O.Sink.gained c.args.sink.now) (g.O.Sink.faults c.args.sink.now)
-    (g.D.Store.holds c.args.store.now) (g.D.Store.faults c.args.store.now) in
-    let between = moment (g.I.Source.left c.items.source) (g.I.Source.last_read c.items.source) (g.I.Source.faults c.items.source)
-    (g.O.Sink.gained c.items.sink) (g.O.Sink.faults c.items.sink)
-    (g.D.Store.holds c.items.store) (g.D.Store.faults c.items.store) in
+    let before = moment g.I.Source g.O.Sink g.D.Store c.args.source.now c.args.sink.now c.args.store.now in
+    let between = moment g.I.Source g.O.Sink g.D.Store c.items.source c.items.sink c.items.store in
     λ s image. permitted_so_far c.args.settings s _ before between _ c.items.engine c.items.reader (g.D.Store.reads c.args.store.now)
     (g.D.Store.reads c.items.store) (c.items.invariant.permitted s image)
 
 pub returns-then-is_end-clause-permitted : goal.returns-then-is_end-clause-permitted
 returns-then-is_end-clause-permitted g c =
-    let before = moment (g.I.Source.left c.args.source.now) (g.I.Source.last_read c.args.source.now) (g.I.Source.faults c.args.source.now)
-    (g.O.Sink.gained c.args.sink.now) (g.O.Sink.faults c.args.sink.now)
-    (g.D.Store.holds c.args.store.now) (g.D.Store.faults c.args.store.now) in
-    let between = moment (g.I.Source.left c.items.source) (g.I.Source.last_read c.items.source) (g.I.Source.faults c.items.source)
-    (g.O.Sink.gained c.items.sink) (g.O.Sink.faults c.items.sink)
-    (g.D.Store.holds c.items.store) (g.D.Store.faults c.items.store) in
+    let before = moment g.I.Source g.O.Sink g.D.Store c.args.source.now c.args.sink.now c.args.store.now in
+    let between = moment g.I.Source g.O.Sink g.D.Store c.items.source c.items.sink c.items.store in
     rw c.save.ensures.reads (λ s image. permitted_so_far c.args.settings s _ before between _ c.items.engine c.items.reader
     (g.D.Store.reads c.args.store.now) (g.D.Store.reads c.items.store) (c.items.invariant.permitted s image))
 
 pub returns-in-Err-answer-clause-permitted : goal.returns-in-Err-answer-clause-permitted
 returns-in-Err-answer-clause-permitted g c =
     let i = c.items.invariant.under_way in
-    let before = moment (g.I.Source.left c.args.source.now) (g.I.Source.last_read c.args.source.now) (g.I.Source.faults c.args.source.now)
-    (g.O.Sink.gained c.args.sink.now) (g.O.Sink.faults c.args.sink.now)
-    (g.D.Store.holds c.args.store.now) (g.D.Store.faults c.args.store.now) in
-    let between = moment (g.I.Source.left c.items.source) (g.I.Source.last_read c.items.source) (g.I.Source.faults c.items.source)
-    (g.O.Sink.gained c.items.sink) (g.O.Sink.faults c.items.sink)
-    (g.D.Store.holds c.items.store) (g.D.Store.faults c.items.store) in
+    let before = moment g.I.Source g.O.Sink g.D.Store c.args.source.now c.args.sink.now c.args.store.now in
+    let between = moment g.I.Source g.O.Sink g.D.Store c.items.source c.items.sink c.items.store in
     λ s image. permitted_then c.args.settings s before between c.items.engine c.items.reader
     (prepend_known c.next.new.self.bytes (g.I.Source.left c.next.new.source)) c.in-Ok-next.item (g.D.Store.reads c.args.store.now)
     (g.D.Store.reads c.items.store) (g.D.Store.reads c.answer.new.store) c.if-is_end.ensures
@@ -280,12 +242,8 @@ returns-in-Err-answer-clause-permitted g c =
 pub returns-in-Err-write_reply-clause-permitted : goal.returns-in-Err-write_reply-clause-permitted
 returns-in-Err-write_reply-clause-permitted g c =
     let i = c.items.invariant.under_way in
-    let before = moment (g.I.Source.left c.args.source.now) (g.I.Source.last_read c.args.source.now) (g.I.Source.faults c.args.source.now)
-    (g.O.Sink.gained c.args.sink.now) (g.O.Sink.faults c.args.sink.now)
-    (g.D.Store.holds c.args.store.now) (g.D.Store.faults c.args.store.now) in
-    let between = moment (g.I.Source.left c.items.source) (g.I.Source.last_read c.items.source) (g.I.Source.faults c.items.source)
-    (g.O.Sink.gained c.items.sink) (g.O.Sink.faults c.items.sink)
-    (g.D.Store.holds c.items.store) (g.D.Store.faults c.items.store) in
+    let before = moment g.I.Source g.O.Sink g.D.Store c.args.source.now c.args.sink.now c.args.store.now in
+    let between = moment g.I.Source g.O.Sink g.D.Store c.items.source c.items.sink c.items.store in
     λ s image. permitted_then c.args.settings s before between c.items.engine c.items.reader
     (prepend_known c.next.new.self.bytes (g.I.Source.left c.next.new.source)) c.in-Ok-next.item (g.D.Store.reads c.args.store.now)
     (g.D.Store.reads c.items.store) (g.D.Store.reads c.answer.new.store) c.if-is_end.ensures
@@ -317,9 +275,7 @@ returns-in-Err-write_reply-clause-broken g c =
 
 pub returns-in-Err-clause-survives : goal.returns-in-Err-clause-survives
 returns-in-Err-clause-survives g c =
-    let before = moment (g.I.Source.left c.args.source.now) (g.I.Source.last_read c.args.source.now) (g.I.Source.faults c.args.source.now)
-    (g.O.Sink.gained c.args.sink.now) (g.O.Sink.faults c.args.sink.now)
-    (g.D.Store.holds c.args.store.now) (g.D.Store.faults c.args.store.now) in
+    let before = moment g.I.Source g.O.Sink g.D.Store c.args.source.now c.args.sink.now c.args.store.now in
     rw c.status_of_opening.ensures (λ s image.
     Survives-unopened c.args.settings s before c.in-Err.fault (g.D.Store.holds c.start.new.store) (g.D.Store.faults c.start.new.store)
     (g.D.Store.moments c.args.store.now) (g.D.Store.moments c.start.new.store)
@@ -327,12 +283,8 @@ returns-in-Err-clause-survives g c =
 
 pub returns-in-Err-next-clause-survives : goal.returns-in-Err-next-clause-survives
 returns-in-Err-next-clause-survives g c =
-    let before = moment (g.I.Source.left c.args.source.now) (g.I.Source.last_read c.args.source.now) (g.I.Source.faults c.args.source.now)
-    (g.O.Sink.gained c.args.sink.now) (g.O.Sink.faults c.args.sink.now)
-    (g.D.Store.holds c.args.store.now) (g.D.Store.faults c.args.store.now) in
-    let between = moment (g.I.Source.left c.items.source) (g.I.Source.last_read c.items.source) (g.I.Source.faults c.items.source)
-    (g.O.Sink.gained c.items.sink) (g.O.Sink.faults c.items.sink)
-    (g.D.Store.holds c.items.store) (g.D.Store.faults c.items.store) in
+    let before = moment g.I.Source g.O.Sink g.D.Store c.args.source.now c.args.sink.now c.args.store.now in
+    let between = moment g.I.Source g.O.Sink g.D.Store c.items.source c.items.sink c.items.store in
     rw c.status_of.ensures (λ s image.
     Survives-stopped c.args.settings s before between c.items.engine c.items.reader (g.D.Store.moments c.args.store.now)
     (g.D.Store.moments c.items.store) (c.items.invariant.crash s image) c.in-Err-next.end (g.I.Source.left c.next.new.source)
@@ -340,15 +292,9 @@ returns-in-Err-next-clause-survives g c =
 
 pub returns-then-is_end-clause-survives : goal.returns-then-is_end-clause-survives
 returns-then-is_end-clause-survives g c =
-    let before = moment (g.I.Source.left c.args.source.now) (g.I.Source.last_read c.args.source.now) (g.I.Source.faults c.args.source.now)
-    (g.O.Sink.gained c.args.sink.now) (g.O.Sink.faults c.args.sink.now)
-    (g.D.Store.holds c.args.store.now) (g.D.Store.faults c.args.store.now) in
-    let between = moment (g.I.Source.left c.items.source) (g.I.Source.last_read c.items.source) (g.I.Source.faults c.items.source)
-    (g.O.Sink.gained c.items.sink) (g.O.Sink.faults c.items.sink)
-    (g.D.Store.holds c.items.store) (g.D.Store.faults c.items.store) in
-    let now = moment (g.I.Source.left c.next.new.source) (g.I.Source.last_read c.next.new.source) (g.I.Source.faults c.next.new.source)
-    (g.O.Sink.gained c.items.sink) (g.O.Sink.faults c.items.sink)
-    (g.D.Store.holds c.save.new.store) (g.D.Store.faults c.save.new.store) in
+    let before = moment g.I.Source g.O.Sink g.D.Store c.args.source.now c.args.sink.now c.args.store.now in
+    let between = moment g.I.Source g.O.Sink g.D.Store c.items.source c.items.sink c.items.store in
+    let now = moment g.I.Source g.O.Sink g.D.Store c.next.new.source c.items.sink c.save.new.store in
     let known = prepend_known c.items.reader.bytes between.left in
     let rest = prepend_known c.next.new.self.bytes (g.I.Source.left c.next.new.source) in
     λ s image.
@@ -359,15 +305,9 @@ returns-then-is_end-clause-survives g c =
 
 pub returns-in-Err-answer-clause-survives : goal.returns-in-Err-answer-clause-survives
 returns-in-Err-answer-clause-survives g c =
-    let before = moment (g.I.Source.left c.args.source.now) (g.I.Source.last_read c.args.source.now) (g.I.Source.faults c.args.source.now)
-    (g.O.Sink.gained c.args.sink.now) (g.O.Sink.faults c.args.sink.now)
-    (g.D.Store.holds c.args.store.now) (g.D.Store.faults c.args.store.now) in
-    let between = moment (g.I.Source.left c.items.source) (g.I.Source.last_read c.items.source) (g.I.Source.faults c.items.source)
-    (g.O.Sink.gained c.items.sink) (g.O.Sink.faults c.items.sink)
-    (g.D.Store.holds c.items.store) (g.D.Store.faults c.items.store) in
-    let now = moment (g.I.Source.left c.next.new.source) (g.I.Source.last_read c.next.new.source) (g.I.Source.faults c.next.new.source)
-    (g.O.Sink.gained c.items.sink) (g.O.Sink.faults c.items.sink)
-    (g.D.Store.holds c.answer.new.store) (g.D.Store.faults c.answer.new.store) in
+    let before = moment g.I.Source g.O.Sink g.D.Store c.args.source.now c.args.sink.now c.args.store.now in
+    let between = moment g.I.Source g.O.Sink g.D.Store c.items.source c.items.sink c.items.store in
+    let now = moment g.I.Source g.O.Sink g.D.Store c.next.new.source c.items.sink c.answer.new.store in
     rw c.status_of_trouble.ensures (λ s image.
     Survives-unanswered c.args.settings s before between c.items.engine c.items.reader (g.D.Store.moments c.args.store.now)
     (g.D.Store.moments c.items.store) (c.items.invariant.crash s image) c.in-Ok-next.item
@@ -378,15 +318,9 @@ returns-in-Err-answer-clause-survives g c =
 pub returns-in-Err-write_reply-clause-survives : goal.returns-in-Err-write_reply-clause-survives
 returns-in-Err-write_reply-clause-survives g c =
     let i = c.items.invariant.under_way in
-    let before = moment (g.I.Source.left c.args.source.now) (g.I.Source.last_read c.args.source.now) (g.I.Source.faults c.args.source.now)
-    (g.O.Sink.gained c.args.sink.now) (g.O.Sink.faults c.args.sink.now)
-    (g.D.Store.holds c.args.store.now) (g.D.Store.faults c.args.store.now) in
-    let between = moment (g.I.Source.left c.items.source) (g.I.Source.last_read c.items.source) (g.I.Source.faults c.items.source)
-    (g.O.Sink.gained c.items.sink) (g.O.Sink.faults c.items.sink)
-    (g.D.Store.holds c.items.store) (g.D.Store.faults c.items.store) in
-    let now = moment (g.I.Source.left c.next.new.source) (g.I.Source.last_read c.next.new.source) (g.I.Source.faults c.next.new.source)
-    (g.O.Sink.gained c.write_reply.new.sink) (g.O.Sink.faults c.write_reply.new.sink)
-    (g.D.Store.holds c.answer.new.store) (g.D.Store.faults c.answer.new.store) in
+    let before = moment g.I.Source g.O.Sink g.D.Store c.args.source.now c.args.sink.now c.args.store.now in
+    let between = moment g.I.Source g.O.Sink g.D.Store c.items.source c.items.sink c.items.store in
+    let now = moment g.I.Source g.O.Sink g.D.Store c.next.new.source c.write_reply.new.sink c.answer.new.store in
     let item = c.in-Ok-next.item in
     let done = c.in-Ok-answer.ensures in
     rw c.status_of_fault.ensures (λ s image.
@@ -435,3 +369,30 @@ returns-in-Err-answer-clause-shut g c =
 pub returns-in-Err-write_reply-clause-shut : goal.returns-in-Err-write_reply-clause-shut
 returns-in-Err-write_reply-clause-shut g c =
     shut-opened _ (g.D.Store.holds c.args.store.now) c.in-Ok.ensures.open.0 c.in-Ok.ensures.open.1
+
+pub returns-in-Err-clause-earlier : goal.returns-in-Err-clause-earlier
+returns-in-Err-clause-earlier g c =
+    left_alone (g.D.Store.holds c.args.store.now) (g.D.Store.holds c.start.new.store) c.in-Err.ensures.holds
+
+pub returns-in-Err-next-clause-earlier : goal.returns-in-Err-next-clause-earlier
+returns-in-Err-next-clause-earlier g c =
+    left_so_far (g.D.Store.holds c.args.store.now) (g.D.Store.holds c.items.store) c.items.engine.parts.next_blob
+    c.items.invariant.earlier
+
+pub returns-then-is_end-clause-earlier : goal.returns-then-is_end-clause-earlier
+returns-then-is_end-clause-earlier g c =
+    left_then (g.D.Store.holds c.args.store.now) (g.D.Store.holds c.items.store) (g.D.Store.holds c.save.new.store)
+    c.items.engine.parts.next_blob c.items.invariant.earlier
+    (λ content told. c.save.ensures.earlier content (c.items.invariant.goes content told))
+
+pub returns-in-Err-answer-clause-earlier : goal.returns-in-Err-answer-clause-earlier
+returns-in-Err-answer-clause-earlier g c =
+    left_then (g.D.Store.holds c.args.store.now) (g.D.Store.holds c.items.store) (g.D.Store.holds c.answer.new.store)
+    c.items.engine.parts.next_blob c.items.invariant.earlier
+    (λ content told. c.answer.ensures.earlier content (c.items.invariant.goes content told))
+
+pub returns-in-Err-write_reply-clause-earlier : goal.returns-in-Err-write_reply-clause-earlier
+returns-in-Err-write_reply-clause-earlier g c =
+    left_then (g.D.Store.holds c.args.store.now) (g.D.Store.holds c.items.store) (g.D.Store.holds c.answer.new.store)
+    c.items.engine.parts.next_blob c.items.invariant.earlier
+    (λ content told. c.answer.ensures.earlier content (c.items.invariant.goes content told))

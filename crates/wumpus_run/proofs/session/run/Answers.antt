@@ -5,6 +5,7 @@ use Rattle.wumpus_run.specs.Session.{moment, settings_of, Completes}
 use Rattle.wumpus_run.specs.declared.statuses.Status.TheVariants.{NoMemory}
 use Rattle.wumpus_run.proofs.CrashesAtEnd.{LeavesAcknowledged-untouched, LeavesSaves-untouched}
 use Rattle.wumpus_run.proofs.SettingLimits.{input_within, settings_asked}
+use Rattle.wumpus_run.proofs.EarlierLemmas.{left_alone}
 use Rattle.wumpus_run.proofs.EndLemmas.{Completes-all, IsTooLong-none}
 use Rattle.wumpus_run.proofs.PromptLemmas.{AnswersAllButOneRead-untouched}
 use Rattle.wumpus_run.proofs.RootRoom.{has_room}
@@ -24,16 +25,10 @@ returns-in-Ok-Some-Run-clause-complete g c =
     let asked = settings_asked ran.field-0 (texts_of c.args.words.now) ran.settings
     (ran.field-0-is ∙ ap Some ran.field-0-0-is) ran.ensures in
     subst (λ (told : Option Settings). Completes c.answer_script.result told
-    (moment (g.I.Source.left c.args.source.now) (g.I.Source.last_read c.args.source.now) (g.I.Source.faults c.args.source.now)
-    (g.O.Sink.gained c.args.sink.now) (g.O.Sink.faults c.args.sink.now)
-    (g.D.Store.holds c.args.store.now) (g.D.Store.faults c.args.store.now))) (sym asked)
+    (moment g.I.Source g.O.Sink g.D.Store c.args.source.now c.args.sink.now c.args.store.now)) (sym asked)
     (Completes-all ran.settings c.answer_script.result
-    (moment (g.I.Source.left c.args.source.now) (g.I.Source.last_read c.args.source.now) (g.I.Source.faults c.args.source.now)
-    (g.O.Sink.gained c.args.sink.now) (g.O.Sink.faults c.args.sink.now)
-    (g.D.Store.holds c.args.store.now) (g.D.Store.faults c.args.store.now))
-    (moment (g.I.Source.left c.answer_script.new.source) (g.I.Source.last_read c.answer_script.new.source)
-    (g.I.Source.faults c.answer_script.new.source) (g.O.Sink.gained c.answer_script.new.sink) (g.O.Sink.faults c.answer_script.new.sink)
-    (g.D.Store.holds c.answer_script.new.store) (g.D.Store.faults c.answer_script.new.store))
+    (moment g.I.Source g.O.Sink g.D.Store c.args.source.now c.args.sink.now c.args.store.now)
+    (moment g.I.Source g.O.Sink g.D.Store c.answer_script.new.source c.answer_script.new.sink c.answer_script.new.store)
     (record {
       usage = c.answer_script.ensures.session.usage;
       read = λ e. read (c.answer_script.ensures.session.read_fault.rose e);
@@ -46,23 +41,17 @@ returns-in-Ok-Some-Run-clause-complete g c =
 pub returns-in-Err-clause-too_long : goal.returns-in-Err-clause-too_long
 returns-in-Err-clause-too_long g c =
     IsTooLong-none NoMemory (settings_of (texts_of c.args.words.now))
-    (moment (g.I.Source.left c.args.source.now) (g.I.Source.last_read c.args.source.now) (g.I.Source.faults c.args.source.now)
-    (g.O.Sink.gained c.args.sink.now) (g.O.Sink.faults c.args.sink.now)
-    (g.D.Store.holds c.args.store.now) (g.D.Store.faults c.args.store.now)) (λ e. (cc))
+    (moment g.I.Source g.O.Sink g.D.Store c.args.source.now c.args.sink.now c.args.store.now) (λ e. (cc))
 
 pub returns-in-Err-clause-prompt : goal.returns-in-Err-clause-prompt
 returns-in-Err-clause-prompt g c =
     λ s image. AnswersAllButOneRead-untouched s (settings_of (texts_of c.args.words.now))
-    (moment (g.I.Source.left c.args.source.now) (g.I.Source.last_read c.args.source.now) (g.I.Source.faults c.args.source.now)
-    (g.O.Sink.gained c.args.sink.now) (g.O.Sink.faults c.args.sink.now)
-    (g.D.Store.holds c.args.store.now) (g.D.Store.faults c.args.store.now))
+    (moment g.I.Source g.O.Sink g.D.Store c.args.source.now c.args.sink.now c.args.store.now)
 
 pub returns-in-Err-clause-permitted : goal.returns-in-Err-clause-permitted
 returns-in-Err-clause-permitted g c = λ s image.
     permitted_untouched s (settings_of (texts_of c.args.words.now))
-    (moment (g.I.Source.left c.args.source.now) (g.I.Source.last_read c.args.source.now) (g.I.Source.faults c.args.source.now)
-    (g.O.Sink.gained c.args.sink.now) (g.O.Sink.faults c.args.sink.now)
-    (g.D.Store.holds c.args.store.now) (g.D.Store.faults c.args.store.now)) (g.D.Store.reads c.args.store.now)
+    (moment g.I.Source g.O.Sink g.D.Store c.args.source.now c.args.sink.now c.args.store.now) (g.D.Store.reads c.args.store.now)
 
 pub returns-in-Err-clause-crash : goal.returns-in-Err-clause-crash
 returns-in-Err-clause-crash g c = λ s image.
@@ -72,10 +61,17 @@ returns-in-Err-clause-crash g c = λ s image.
 pub returns-in-Err-clause-acknowledged : goal.returns-in-Err-clause-acknowledged
 returns-in-Err-clause-acknowledged g c = λ s image.
     LeavesAcknowledged-untouched s (settings_of (texts_of c.args.words.now))
-    (moment (g.I.Source.left c.args.source.now) (g.I.Source.last_read c.args.source.now) (g.I.Source.faults c.args.source.now)
-    (g.O.Sink.gained c.args.sink.now) (g.O.Sink.faults c.args.sink.now)
-    (g.D.Store.holds c.args.store.now) (g.D.Store.faults c.args.store.now)) (g.D.Store.moments c.args.store.now)
+    (moment g.I.Source g.O.Sink g.D.Store c.args.source.now c.args.sink.now c.args.store.now) (g.D.Store.moments c.args.store.now)
 
 pub returns-in-Err-clause-shut : goal.returns-in-Err-clause-shut
 returns-in-Err-clause-shut g c =
     shut-unread _ (settings_of (texts_of c.args.words.now)) (g.D.Store.holds c.args.store.now) (refl, refl, refl)
+
+pub returns-in-Err-clause-earlier : goal.returns-in-Err-clause-earlier
+returns-in-Err-clause-earlier g c = left_alone (g.D.Store.holds c.args.store.now) (g.D.Store.holds c.args.store.now) refl
+
+pub returns-in-Ok-None-clause-earlier : goal.returns-in-Ok-None-clause-earlier
+returns-in-Ok-None-clause-earlier g c = left_alone (g.D.Store.holds c.args.store.now) (g.D.Store.holds c.args.store.now) refl
+
+pub returns-in-Ok-Some-Demo-clause-earlier : goal.returns-in-Ok-Some-Demo-clause-earlier
+returns-in-Ok-Some-Demo-clause-earlier g c = left_alone (g.D.Store.holds c.args.store.now) (g.D.Store.holds c.args.store.now) refl
