@@ -6,5 +6,6 @@ pub mod Kept
 pub mod Window
 pub mod Live
 pub mod Released
+pub mod Collected
 pub mod Rebuilt
 pub mod Apart

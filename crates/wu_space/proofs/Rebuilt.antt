@@ -1,26 +1,31 @@
 -- Ranges that were written down: which keep the rules, and the slots and entries made of them.
-use Rattle.std.proofs.Common.{◌≡◌, ℕ, suc, ◌+◌, ◌<◌, ◌≤◌, cond, List, [], ◌∷◌, length, get_or, take, drop, refl, ap, sym, ◌∙◌, subst, ⊎_elim, arith}
-use Rattle.std.specs.Prelude.{◌==◌, Some, None, sum_by, map, IsPermutation}
-use Rattle.std.specs.Ordering.{nat_cmp}
-use Rattle.std.specs.List.{AllByRecursion}
-use Rattle.std.specs.List.Sorted.{IsNonDecreasingBy}
-use Rattle.std.specs.Map.{lookup}
-use Rattle.std.specs.BTreeMap.{is_at, insert_entry}
-use Rattle.std.specs.Cmp.{nat_cmp_total}
+use Rattle.std.proofs.Common.{◌≡◌, ℕ, suc, ◌+◌, ◌<◌, ◌≤◌, cond, List, [], ◌∷◌, length, get_or, drop, refl, ap, sym, ◌∙◌, subst, ⊎_elim, Bool, true, false, arith}
+use Rattle.std.specs.Prelude.{◌==◌, Option, Some, None, sum_by, count_by, map, IsPermutation}
+use Rattle.std.specs.Ordering.{eq_by_cmp, is_eq, nat_cmp}
+use Rattle.std.specs.Cmp.{nat_cmp_total, eq_by_cmp_equiv}
+use Rattle.std.specs.List.{AllByRecursion, IsDistinct}
+use Rattle.std.specs.List.Sorted.{IsNonDecreasingBy, IsStrictlySortedBy}
+use Rattle.std.specs.Map.{keys_of, lookup, remove_entry}
+use Rattle.std.specs.BTreeMap.{BTreeMap, IsFromIterResult, btree_map_len, is_at}
 use Rattle.std.proofs.lemmas.Bool.{cases_lt, lt-ltb, le-leb, eq-eqb}
 use Rattle.std.proofs.lemmas.List.{drop_all}
-use Rattle.std.proofs.lemmas.List.Sums.{sum_by-cons, sum_by_more, sum_by-take-le}
+use Rattle.std.proofs.lemmas.List.Sums.{sum_by-cons}
 use Rattle.std.proofs.lemmas.List.Sorted.{sum_by-IsPermutation, Contains-permutation, IsPermutation-sym}
+use Rattle.std.proofs.lemmas.Map.{lookup-remove_entry}
+use Rattle.std.proofs.lemmas.Map.Keys.{IsDistinct-from_sorted, IsDistinct-tail}
+use Rattle.std.proofs.lemmas.Map.Lookups.{exact_unsigned}
+use Rattle.std.proofs.lemmas.Map.Made.{nil_from_lookup}
 use Rattle.wu_base.specs.declared.addresses.Range.{Range}
-use Rattle.wu_base.proofs.MapEntries.{ascend-insert_entry}
+use Rattle.wu_base.proofs.MapEntries.{ascend-remove_entry, is_equal, number_itself}
 use Rattle.wu_base.proofs.Members.{Has, Has-map, map_has, Has-from_Contains, Contains-from_Has, all_has, all_from_has}
 use Rattle.wu_space.specs.declared.slots.Slot.{Slot}
 use Rattle.wu_space.specs.Addresses.{Ranges, AreLive, is_in}
 use Rattle.wu_space.specs.Slots.{AreInOrder, IsSound, file_of, length_of, range_of_slot, weight}
 use Rattle.wu_space.specs.Rebuilding.{HasOnce, IsFiles, IsOrderedTo, slot_of}
-use Rattle.wu_space.proofs.Files.{sum_by-map, sum_by-one, sum-insert_entry, sum-positive, has-from_sums, IsPermutation-from_sums, same_file, alike_file, exact_file}
+use Rattle.wu_space.proofs.Collected.{distinct_from_len, found-distinct, len-distinct}
+use Rattle.wu_space.proofs.Files.{sum_by-map, sum_by-one, sum-remove_entry, has-from_sums, IsPermutation-from_sums, same_file, alike_file, exact_file}
 use Rattle.wu_space.proofs.Order.{total-le}
-use Rattle.wu_space.proofs.Live.{once-from_sorted, has_from_lookup}
+use Rattle.wu_space.proofs.Live.{once-from_sorted}
 
 abbrev pub AreFilled : List Slot → Type 0
 AreFilled slots = AllByRecursion (λ slot. 0 < slot.len) slots
@@ -65,39 +70,62 @@ ordered-stops slots place low next slot s e out f o =
 
 -- ---- by number
 
-pub files-more : (ranges files : Ranges) (place : ℕ) (d : ℕ × Range) → IsFiles (take place ranges) files → place < length ranges
-    → lookup (is_at (nat_cmp (get_or ranges place d).0)) files ≡ None
-    → IsFiles (take (place + 1) ranges) (insert_entry nat_cmp files (get_or ranges place d).0 (get_or ranges place d).1)
-files-more ranges files place d s h free = record {
-  by_number = ascend-insert_entry nat_cmp_total files (get_or ranges place d).0 (get_or ranges place d).1 s.by_number;
-  same = λ f.
-      omega (
-        arith,
-        s.same f,
-        sum_by_more f ranges place d h,
-        sum-insert_entry f (get_or ranges place d).0 files (get_or ranges place d).1 free,
-      );
-}
-
 one-of : (ino : ℕ) (file : ℕ × Range) → file.0 ≡ ino → cond {A = ℕ} (file.0 == ino) 1 0 ≡ 1
 one-of ino file e = rw (eq-eqb file.0 ino e) refl
 
-pub twice-found : (ranges files : Ranges) (place : ℕ) (d : ℕ × Range) (range : Range) → IsFiles (take place ranges) files → place < length ranges
-    → lookup (is_at (nat_cmp (get_or ranges place d).0)) files ≡ Some range → HasOnce ranges → ⊥
-twice-found ranges files place d range s h found once =
-    let ino : ℕ = (get_or ranges place d).0 in
-    let f : ℕ × Range → ℕ = λ file. cond (file.0 == ino) 1 0 in
-    let there : 0 < sum_by f files =
-    sum-positive f (ino, range) files (has_from_lookup ino files range found) (omega (arith, one-of ino (ino, range) refl)) in
-    omega (
-      arith,
-      there,
-      s.same f,
-      sum_by_more f ranges place d h,
-      one-of ino (get_or ranges place d) refl,
-      sum_by-take-le f ranges (place + 1),
-      once ino,
+numbers_apart : (ino : ℕ) (ranges : Ranges) → count_by (λ file. file.0 == ino) ranges ≡ 0
+    → AllByRecursion (λ other. eq_by_cmp nat_cmp ino other ≡ false) (keys_of ranges)
+numbers_apart ino [] h = tt
+numbers_apart ino (file ∷ ranges) h =
+    let count = sum_by-cons (λ (other : ℕ × Range). cond {A = ℕ} (other.0 == ino) 1 0) file ranges in (
+      elim (is_eq (nat_cmp ino file.0)) as (λ b. is_eq (nat_cmp ino file.0) ≡ b → b ≡ false) [
+        | true ↦ λ e. absurd (omega (arith, h, count, one-of ino file (sym (exact_unsigned ino file.0 (is_equal _ e)))))
+        | false ↦ λ e. refl
+      ] refl,
+      numbers_apart ino ranges (omega (arith, h, count)),
     )
+
+distinct-from_once : (ranges : Ranges) → HasOnce ranges → IsDistinct (eq_by_cmp nat_cmp) (keys_of ranges)
+unfolding IsDistinct
+distinct-from_once [] once = tt
+distinct-from_once (file ∷ ranges) once =
+    let count : (ino : ℕ) → count_by (λ other. other.0 == ino) (file ∷ ranges)
+    ≡ cond {A = ℕ} (file.0 == ino) 1 0 + count_by (λ other. other.0 == ino) ranges
+    = λ ino. sum_by-cons (λ (other : ℕ × Range). cond {A = ℕ} (other.0 == ino) 1 0) file ranges in (
+      numbers_apart file.0 ranges (omega (arith, once file.0, count file.0, one-of file.0 file refl)),
+      distinct-from_once ranges (λ ino. omega (arith, once ino, count ino)),
+    )
+
+sums-same : (f : ℕ × Range → ℕ) (ranges files : Ranges) → IsDistinct (eq_by_cmp nat_cmp) (keys_of ranges)
+    → IsStrictlySortedBy nat_cmp (keys_of files)
+    → ((q : ℕ) → lookup (is_at (nat_cmp q)) files ≡ lookup (is_at (nat_cmp q)) ranges) → sum_by f files ≡ sum_by f ranges
+sums-same f [] files d s h = ap (sum_by f) (nil_from_lookup (eq_by_cmp_equiv nat_cmp_total) files h)
+sums-same f (file ∷ ranges) files d s h =
+    let ino : ℕ = file.0 in
+    let test : ℕ → Bool = is_at (nat_cmp ino) in
+    let laws = eq_by_cmp_equiv nat_cmp_total in
+    let here : lookup test files ≡ Some file.1 = h ino ∙ rw (number_itself ino) refl in
+    let gone : remove_entry test (file ∷ ranges) ≡ ranges = rw (number_itself ino) refl in
+    let rest =
+    sums-same f ranges (remove_entry test files) (IsDistinct-tail (eq_by_cmp nat_cmp) ino (keys_of ranges) d)
+    (ascend-remove_entry nat_cmp test files s)
+    (λ q. lookup-remove_entry laws test (laws.congr ino) q files (IsDistinct-from_sorted nat_cmp (keys_of files) s)
+    ∙ (ap (λ (o : Option Range). cond (test q) None o) (h q)
+    ∙ (sym (lookup-remove_entry laws test (laws.congr ino) q (file ∷ ranges) d)
+    ∙ ap (λ (l : Ranges). lookup (is_at (nat_cmp q)) l) gone))) in
+    omega (arith, sum-remove_entry f ino files file.1 here, rest, sum_by-cons f file ranges)
+
+module _ (ranges : Ranges) (by_number : BTreeMap ℕ Range) (collected : IsFromIterResult nat_cmp ranges by_number) where
+  pub len-once : HasOnce ranges → btree_map_len by_number ≡ length ranges
+  len-once once = len-distinct ranges by_number collected (distinct-from_once ranges once)
+
+  pub files-collected : length ranges ≤ btree_map_len by_number → IsFiles ranges by_number.entries
+  files-collected h = record {
+    by_number = collected.1;
+    same = λ f.
+        let distinct = distinct_from_len ranges by_number collected h in
+        sums-same f ranges by_number.entries distinct collected.1 (found-distinct ranges by_number collected distinct);
+  }
 
 pub once-from_files : (ranges files : Ranges) → IsFiles ranges files → HasOnce ranges
 once-from_files ranges files s ino = omega (arith, s.same (λ file. cond (file.0 == ino) 1 0), once-from_sorted files s.by_number ino)

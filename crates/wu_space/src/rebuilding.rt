@@ -35,7 +35,7 @@ pub(crate) fn rebuilt(
     let total = length(slots.as_slice());
     Ok(Some(Space {
         alloc,
-        slots: Slots::with(alloc, slots.as_slice())?,
+        slots: Slots::with(alloc, slots)?,
         ranges: by_number,
         next,
         total,
@@ -51,12 +51,9 @@ fn by_number(
     ensures some { IfOk result (λ found. OnSome found (HasOnce ranges.now)) }
     ensures entries { IfOk result (λ found. IfSome found (λ map. IsFiles ranges.now map.entries)) }
 {
-    let mut by_number = BTreeMap::new(alloc);
-    for (ino, range) in ranges {
-        if by_number.contains_key(ino) {
-            return Ok(None);
-        }
-        by_number.insert(*ino, *range)?;
+    let by_number: BTreeMap<Ino, Range> = ranges.iter().copied().collect(alloc)?;
+    if by_number.len() < ranges.len() {
+        return Ok(None);
     }
     Ok(Some(by_number))
 }

@@ -91,15 +91,13 @@ impl Slots {
     }
 
     /// These slots.
-    pub(crate) fn with(alloc: Global, slots: &[Slot]) -> Result<Slots, NoMemory>
-        requires { length_of slots.now < 2 ^ 64 }
-        ensures { IfOk result (λ made. made ≡ slots.now) }
+    pub(crate) fn with(alloc: Global, slots: Vec<Slot>) -> Result<Slots, NoMemory>
+        requires { length_of slots.items < 2 ^ 64 }
+        ensures { IfOk result (λ made. made ≡ slots.items) }
     {
-        let mut made = Slots::new(alloc);
-        for slot in slots {
-            made.push(*slot)?;
-        }
-        Ok(made)
+        let mut sums = vec![in alloc; 0u64; slots.len().div_ceil(CHUNK)]?;
+        sum_up(slots.as_slice(), sums.as_mut_slice());
+        Ok(Slots { slots, sums })
     }
 
     pub(crate) fn as_slice(&self) -> &[Slot]

@@ -27,7 +27,7 @@ invariant_of-result c =
     let filled : AreFilled c.in_ok-slots.slots.items = subst AreFilled c.as_slice.ensures.value c.if-not-are_in_order.ensures.0 in
     let order : AreInOrder 0 c.in_ok-slots.slots.items c.args.next =
     subst (λ (l : List Slot). AreInOrder 0 l c.args.next) c.as_slice.ensures.value c.if-not-are_in_order.ensures.1 in
-    let same : c.in_ok-with.field-0 ≡ c.in_ok-slots.slots.items = c.in_ok-with.ensures ∙ c.as_slice-3.ensures.value in
+    let same : c.in_ok-with.field-0 ≡ c.in_ok-slots.slots.items = c.in_ok-with.ensures in
     let total : c.length-total.result ≡ length_of c.in_ok-slots.slots.items =
     c.length-total.ensures ∙ ap (λ (l : List Slot). length_of l) c.as_slice-2.ensures.value in
     rw same (sound-rebuilt c.args.ranges.now c.in_ok-slots.slots.items c.in_ok-slots.ensures.slots _ _ _ files filled order total)
