@@ -12,7 +12,8 @@ use Rattle.wu_part.specs.declared.reading.Head.{Head}
 use Rattle.wu_part.specs.Directories.{AreBlocks, StandFrom, StartsWithNumbers, all_blocks, block_numbers}
 use Rattle.wu_part.specs.Entries.{AreNextBlocks, IsNextEntry, AreEntries}
 use Rattle.wu_part.specs.Decoding.{code_length, number_in, after_numbers, block_in, blocks_in, after_term, entry_in, entries_in}
-use Rattle.wu_part.proofs.ReadingLemmas.{block_same, entry_same, stand_split, stand_within}
+use Rattle.wu_part.proofs.EntryReadingLemmas.{entry_same}
+use Rattle.wu_part.proofs.ReadingLemmas.{block_same, stand_split, stand_within}
 
 code_length_is : (code rest : List ℕ) → IsCode code → code_length (code ++ rest) ≡ length code
 code_length_is [] rest c = absurd c

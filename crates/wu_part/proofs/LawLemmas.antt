@@ -18,7 +18,8 @@ use Rattle.wu_part.specs.Headers.{SpellsHeader}
 use Rattle.wu_part.specs.Directories.{PartDirectory, SpellsDirectory, StartsWithNumbers, StartsWithEntry, SpellsEntries, block_numbers}
 use Rattle.wu_part.specs.Parts.{HoldBlocks, HoldsList, IsDirectoryOf, SpellsPart}
 use Rattle.wu_part.specs.Entries.{StartsWithHead}
-use Rattle.wu_part.proofs.ReadingLemmas.{same_front, same_entries}
+use Rattle.wu_part.proofs.EntryReadingLemmas.{same_entries}
+use Rattle.wu_part.proofs.ReadingLemmas.{same_front}
 use Rattle.wu_part.proofs.DirectoryLemmas.{head_of_directory, entries_of_directory}
 
 -- ---- a directory's spelling

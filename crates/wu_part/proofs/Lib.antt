@@ -2,9 +2,11 @@ pub mod BoundLemmas
 pub mod BuilderLemmas
 pub mod DecodingLemmas
 pub mod DirectoryLemmas
+pub mod EntryReadingLemmas
 pub mod HeaderLemmas
 pub mod LawLemmas
 pub mod MarkLemmas
+pub mod MarkSearchLemmas
 pub mod OrderLemmas
 pub mod PartLemmas
 pub mod ReadBackLemmas

@@ -21,8 +21,8 @@ decides place before term found one other from is =
     (rw (drop_more before place 0 one, drop_more term place 0 other) at from) ∙ ap (λ first. ordering_then first left) (sym is)
 
 -- past an equal pair
-pub past_equal : (place : ℕ) (before term : List ℕ) → place < length before → place < length term → get_or before place 0 ≡ get_or term place 0
-    → CompareFrom place before term → CompareFrom (place + 1) before term
+pub past_equal : (place : ℕ) (before term : List ℕ) → place < length before → place < length term
+    → get_or before place 0 ≡ get_or term place 0 → CompareFrom place before term → CompareFrom (place + 1) before term
 past_equal place before term one other same from =
     decides place before term Equal one other from (nat_cmp_is (get_or before place 0) (get_or term place 0) Equal same)
 

@@ -337,6 +337,7 @@ blob_turned blocks b1 b2 b3 b4 header head entries h e count long p1 p2 ph p3 pe
     p3 ∙ (ap (λ x. b2 ++ x) pe ∙ (ap (λ x. x ++ entries) (p2 ∙ (ap (λ x. b1 ++ x) ph ∙ ap (λ x. x ++ head) p1))
     ∙ (append_assoc (blocks ++ header) head entries ∙ append_assoc blocks header (head ++ entries)))) in
     let later : drop count b3 ≡ front = ap (λ n. drop n b3) long ∙ (ap (λ x. drop (length blocks) x) all ∙ drop-append_seam blocks front) in
-    let first : take count b3 ≡ blocks = ap (λ n. take n b3) long ∙ (ap (λ x. take (length blocks) x) all ∙ take-append_seam blocks front) in
+    let first : take count b3 ≡ blocks =
+    ap (λ n. take n b3) long ∙ (ap (λ x. take (length blocks) x) all ∙ take-append_seam blocks front) in
     p4 ∙ (ap (λ x. x ++ take count b3) later ∙ (ap (λ x. front ++ x) first
     ∙ (append_assoc header (head ++ entries) blocks ∙ ap (λ x. header ++ x) (append_assoc head entries blocks))))

@@ -15,7 +15,8 @@ use Rattle.wu_part.specs.Decoding.{blocks_in, entries_in}
 use Rattle.wu_part.specs.Directories.{StartsWithNumbers, all_blocks, block_numbers}
 use Rattle.wu_part.specs.Entries.{IsNextBlock, AreNextBlocks, IsNextEntry, AreEntries}
 use Rattle.wu_part.proofs.DecodingLemmas.{blocks_are, blocks_few, entries_are}
-use Rattle.wu_part.proofs.ReadingLemmas.{after_three, block_of_numbers, block_same, entries_uncons, stand_within}
+use Rattle.wu_part.proofs.EntryReadingLemmas.{entries_uncons}
+use Rattle.wu_part.proofs.ReadingLemmas.{after_three, block_of_numbers, block_same, stand_within}
 use Rattle.wu_part.proofs.TermLemmas.{terms}
 
 -- ---- blocks

@@ -15,7 +15,7 @@ use Rattle.wu_part.specs.Directories.{IsEntry, all_blocks}
 use Rattle.wu_part.specs.Entries.{IsNextBlock, IsNextEntry, AreEntries, IsWhole}
 use Rattle.wu_vbyte.specs.declared.blocks.TheConstants.{BLOCK_LEN}
 use Rattle.wu_part.proofs.ReadingLemmas.{TakenBlocks, blocks_taken, stand_split, stand_within}
-use Rattle.wu_part.proofs.ReadingLemmas.{TakenEntries, entries_none_taken, entries_taken}
+use Rattle.wu_part.proofs.EntryReadingLemmas.{TakenEntries, entries_none_taken, entries_taken}
 
 -- ---- the blocks of an entry
 

@@ -8,7 +8,7 @@ use Rattle.std.specs.Ordering.{nat_cmp}
 use Rattle.wu_base.specs.declared.limits.TheConstants.{ADDRESSES_MAX, GENERATION_MAX}
 use Rattle.wu_part.specs.declared.entries.BlockEntry.{BlockEntry}
 use Rattle.wu_part.specs.declared.entries.TermEntry.{TermEntry}
-use Rattle.wu_part.specs.declared.reading.AfterBlocks.{AfterBlocks}
+use Rattle.wu_part.specs.declared.entry_reading.AfterBlocks.{AfterBlocks}
 use Rattle.wu_part.specs.declared.reading.Head.{Head}
 use Rattle.wu_part.specs.declared.reading.Reached.{Reached}
 use Rattle.wu_part.specs.Directories.{IsBlock, AreBlocks, IsEntry, StandFrom, all_blocks}

@@ -14,13 +14,13 @@ directory_of d = record {
   high = d.head.high;
   stored = d.head.stored;
   size = d.size;
-  terms = entries_in d.head.terms d.head.low d.place d.bytes.items;
+  terms = entries_in d.head.terms d.head.low d.place d.bytes;
 }
 
 -- The bytes are those of the entries, and each mark is that of the entry whose number it has.
 pub record IsKept (d : inside.Inside) : Type 0 where
   pub spelled : IsSpelled (directory_of d)
-  pub entries : AreEntries d.head d.size d.head.terms d.bytes.items d.place (directory_of d).terms
+  pub entries : AreEntries d.head d.size d.head.terms d.bytes d.place (directory_of d).terms
   pub marked : (mark : Mark) → Contains d.marks.items mark
-      → IsMark d.head d.size d.bytes.items mark (drop mark.number (directory_of d).terms)
+      → IsMark d.head d.size d.bytes mark (drop mark.number (directory_of d).terms)
   pub near : AreNear 0 d.marks.items d.head.terms

@@ -3,7 +3,7 @@ ghost use Rattle.std.specs.Prelude.{◌≡◌, [], ◌∷◌, ◌-◌, MatchOpti
 ghost use Rattle.wu_vbyte.specs.declared.blocks.TheConstants.{BLOCK_LEN};
 
 use crate::entries::{BlockEntry, first_count};
-use crate::reading::three_numbers;
+use crate::entry_reading::three_numbers;
 use std::marker::Model;
 
 /// The entry of a term, and how far its blocks have been gone through: contracts see the entry of

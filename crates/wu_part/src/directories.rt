@@ -5,6 +5,7 @@ ghost use Rattle.wu_part.specs.declared.entries.TermEntry.{TermEntry};
 ghost use Rattle.wu_part.specs.Marks.{mark_of};
 
 use crate::cursors::Entry;
+use crate::entry_bytes::EntryBytes;
 use crate::marks::{Mark, mark_before, mark_up_to};
 use crate::reading::Head;
 use crate::walks::{Terms, entry_after, entry_among, terms_from};
@@ -23,7 +24,7 @@ pub struct Directory {
     pub(crate) head: Head,
     pub(crate) size: u64,
     pub(crate) place: u64,
-    pub(crate) bytes: Vec<u8>,
+    pub(crate) bytes: EntryBytes,
     pub(crate) marks: Vec<Mark>,
 }
 
@@ -89,7 +90,7 @@ impl Directory {
             (entry ≡ get_or self.now.terms place entry)) }
     {
         let mark = mark_up_to(&self.marks, first_mark(self.place), place as u64);
-        let terms = terms_from(&self.head, self.size, &self.bytes, mark);
+        let terms = terms_from(&self.head, self.size, self.bytes.as_slice(), mark);
         entry_after(terms, place as u64 - mark.number)
     }
 
@@ -97,7 +98,8 @@ impl Directory {
     pub fn terms(&self) -> Terms<'_>
         ensures { result ≡ self.now.terms }
     {
-        terms_from(&self.head, self.size, &self.bytes, first_mark(self.place))
+        let first = first_mark(self.place);
+        terms_from(&self.head, self.size, self.bytes.as_slice(), first)
     }
 
     /// The entry of the term. `None` exactly where the part has no such term. Takes time logarithmic
@@ -106,8 +108,9 @@ impl Directory {
         ensures { MatchOption result ((entry : TermEntry) → Contains self.now.terms entry → entry.term ≡ term.now → ⊥)
             (λ entry. Contains self.now.terms entry × (entry.term ≡ term.now)) }
     {
-        let mark = mark_before(&self.bytes, &self.marks, first_mark(self.place), term);
-        entry_among(terms_from(&self.head, self.size, &self.bytes, mark), term)
+        let bytes = self.bytes.as_slice();
+        let mark = mark_before(bytes, &self.marks, first_mark(self.place), term);
+        entry_among(terms_from(&self.head, self.size, bytes, mark), term)
     }
 
     /// A copy of the directory.
@@ -118,7 +121,7 @@ impl Directory {
             head: self.head,
             size: self.size,
             place: self.place,
-            bytes: Vec::from_slice(alloc, &self.bytes)?,
+            bytes: EntryBytes::new(Vec::from_slice(alloc, self.bytes.as_slice())?, 0),
             marks: Vec::from_slice(alloc, &self.marks)?,
         })
     }

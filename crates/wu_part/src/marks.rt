@@ -4,7 +4,7 @@ ghost use Rattle.wu_part.specs.declared.marks.TheConstants.{TERMS_BETWEEN, BYTES
 ghost use Rattle.wu_part.specs.declared.marks.Mark.{Mark};
 ghost use Rattle.wu_part.specs.Marks.{IsAtMost, IsLast, NoneAt, StandsBefore, is_far, with_mark};
 
-use crate::reading::take_term;
+use crate::entry_reading::take_term;
 use wu_base::NoMemory;
 
 /// A place in the bytes of a directory's entries: the entry of the term of this number, counted from 0,

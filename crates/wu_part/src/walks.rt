@@ -9,8 +9,9 @@ ghost use Rattle.wu_part.specs.declared.marks.TheConstants.{TERMS_BETWEEN};
 ghost use Rattle.wu_part.specs.Marks.{IsMark, entries_from};
 
 use crate::cursors::Entry;
+use crate::entry_reading::take_entry;
 use crate::marks::Mark;
-use crate::reading::{Head, take_entry};
+use crate::reading::Head;
 use std::cmp::Ordering;
 use std::marker::Model;
 

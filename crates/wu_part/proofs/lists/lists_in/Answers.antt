@@ -1,5 +1,5 @@
 use Rattle.std.proofs.Common.{length}
-use Rattle.wu_part.proofs.MarkLemmas.{from_mark}
+use Rattle.wu_part.proofs.MarkSearchLemmas.{from_mark}
 use Rattle.wu_part.proofs.ReadBackLemmas.{one_list_read_back, start_mark}
 use Rattle.wu_part.proofs.lists.lists_in.Goals as goal
 

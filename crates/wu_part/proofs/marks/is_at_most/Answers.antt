@@ -1,4 +1,4 @@
-use Rattle.wu_part.proofs.MarkLemmas.{at_most_is, rest_taken}
+use Rattle.wu_part.proofs.MarkSearchLemmas.{at_most_is, rest_taken}
 use Rattle.wu_part.proofs.marks.is_at_most.Goals as goal
 
 pub returns-in-Some : goal.returns-in-Some

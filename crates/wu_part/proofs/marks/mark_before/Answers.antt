@@ -1,5 +1,5 @@
 use Rattle.std.proofs.Common.{inl, refl, arith}
-use Rattle.wu_part.proofs.MarkLemmas.{has_mark, narrowed_all, narrowed_high, narrowed_low}
+use Rattle.wu_part.proofs.MarkSearchLemmas.{has_mark, narrowed_all, narrowed_high, narrowed_low}
 use Rattle.wu_part.proofs.marks.mark_before.Goals as goal
 
 pub loop-from-init : goal.loop-from-init

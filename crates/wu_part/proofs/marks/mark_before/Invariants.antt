@@ -1,6 +1,6 @@
 use Rattle.std.proofs.Common.{◌-◌, drop}
 use Rattle.wu_part.specs.Marks.{IsAtMost}
-use Rattle.wu_part.proofs.MarkLemmas.{Narrowed}
+use Rattle.wu_part.proofs.MarkSearchLemmas.{Narrowed}
 use Rattle.wu_part.proofs.marks.mark_before.Given as goal
 
 abbrev pub invariant-loop-from : goal.invariant-loop-from

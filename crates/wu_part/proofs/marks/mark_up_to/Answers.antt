@@ -1,5 +1,5 @@
 use Rattle.std.proofs.Common.{arith}
-use Rattle.wu_part.proofs.MarkLemmas.{narrowed_all, narrowed_high, narrowed_low}
+use Rattle.wu_part.proofs.MarkSearchLemmas.{narrowed_all, narrowed_high, narrowed_low}
 use Rattle.wu_part.proofs.marks.mark_up_to.Goals as goal
 
 pub loop-from-init : goal.loop-from-init

@@ -1,5 +1,5 @@
 use Rattle.std.proofs.Common.{◌≤◌, ◌-◌}
-use Rattle.wu_part.proofs.MarkLemmas.{Narrowed}
+use Rattle.wu_part.proofs.MarkSearchLemmas.{Narrowed}
 use Rattle.wu_part.proofs.marks.mark_up_to.Given as goal
 
 abbrev pub invariant-loop-from : goal.invariant-loop-from

@@ -1,6 +1,6 @@
 use Rattle.std.proofs.Common.{ap, sym, arith}
 use Rattle.wu_part.specs.declared.entries.TermEntry.{TermEntry}
-use Rattle.wu_part.proofs.ReadingLemmas.{same_entry}
+use Rattle.wu_part.proofs.EntryReadingLemmas.{same_entry}
 use Rattle.wu_part.proofs.reading.pass_entry.Goals as goal
 use Rattle.wu_part.proofs.reading.pass_entry.Goals.{else-ascends-via-then-ascends+else-count-from, else-ascends-via-else-ascends}
 

@@ -1,37 +1,4 @@
-use Rattle.std.proofs.Common.{refl, arith}
-use Rattle.wu_part.proofs.DecodingLemmas.{entries_are}
-use Rattle.wu_part.proofs.DirectoryLemmas.{entries_of_directory, directory_of_entries, whole_of_directory}
-use Rattle.wu_part.proofs.ReadingLemmas.{stand_within}
 use Rattle.wu_part.proofs.reading.read_directory.Goals as goal
 
-pub returns-in-None-clause-none : goal.returns-in-None-clause-none
-returns-in-None-clause-none c d s size = c.in-None.ensures.none d s
-
-pub returns-then-size-place-clause-none : goal.returns-then-size-place-clause-none
-returns-then-size-place-clause-none c d s size =
-    let within = stand_within _ _ _ s.holds.places in absurd (omega (arith, c.if-size-place.true, size))
-
-pub returns-in-None-2-clause-none : goal.returns-in-None-2-clause-none
-returns-in-None-2-clause-none c d s size =
-    let none = rw c.in-None-2.is at c.in_ok-marks.ensures.none in
-    none d.terms (entries_of_directory d _ _ _ _ _ s c.in-Some.ensures.found refl size)
-    (whole_of_directory d _ _ _ d.terms s c.in-Some.ensures.found refl)
-
-pub invariant_of-result : goal.invariant_of-result
-invariant_of-result c =
-    let h = rw c.in-Some-2.is at c.in_ok-marks.ensures.found in
-    let bytes = c.in_ok-from_slice.ensures.items in
-    let read = entries_are _ _ _ _ _ _ h.are in
-    record {
-      spelled = rw (bytes, read) (c.args.bytes.now, directory_of_entries _ _ _ _ _ _ c.in-Some.ensures.found refl h.are h.whole);
-      entries = rw (bytes, read) h.are;
-      marked = rw (bytes, read) h.marked;
-      near = h.near;
-    }
-
-pub returns-clause-found : goal.returns-clause-found
-returns-clause-found c =
-    let h = rw c.in-Some-2.is at c.in_ok-marks.ensures.found in
-    let bytes = c.in_ok-from_slice.ensures.items in
-    let read = entries_are _ _ _ _ _ _ h.are in
-    (rw (bytes, read) (directory_of_entries _ _ _ _ _ _ c.in-Some.ensures.found refl h.are h.whole), refl)
+pub returns-clause-none : goal.returns-clause-none
+returns-clause-none c = rw c.in_ok-bytes.ensures.items at c.keep_directory.ensures.none

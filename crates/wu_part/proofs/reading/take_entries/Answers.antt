@@ -1,6 +1,6 @@
 use Rattle.std.proofs.Common.{refl, arith}
 use Rattle.wu_part.proofs.MarkLemmas.{nothing_read, entry_more, all_read}
-use Rattle.wu_part.proofs.ReadingLemmas.{entries_not_all}
+use Rattle.wu_part.proofs.EntryReadingLemmas.{entries_not_all}
 use Rattle.wu_part.proofs.WholeLemmas.{none_may_follow, all_not_whole}
 use Rattle.wu_part.proofs.reading.take_entries.Goals as goal
 use Rattle.wu_part.proofs.reading.take_entries.Goals.{else-is_end-via-then-is_end+else-is_all, else-is_end-via-else-is_end}

@@ -1,5 +1,6 @@
 use Rattle.std.proofs.Common.{◌≡◌, ◌-◌, [], ◌∷◌, length, refl, arith}
-use Rattle.wu_part.proofs.ReadingLemmas.{after_first, after_three, numbers_length, entries_length}
+use Rattle.wu_part.proofs.EntryReadingLemmas.{entries_length}
+use Rattle.wu_part.proofs.ReadingLemmas.{after_first, after_three, numbers_length}
 use Rattle.wu_part.proofs.reading.take_head.Goals as goal
 
 pub returns-in_default-clause-none : goal.returns-in_default-clause-none

@@ -1,4 +1,4 @@
-use Rattle.std.proofs.Common.{◌≡◌, ◌<◌, ◌+◌, ◌-◌, ◌++◌, ◌∷◌, [], ◌==◌, ℕ, List, true, eqb, length, map, sym, subst, arith, rules}
+use Rattle.std.proofs.Common.{◌≡◌, ◌<◌, ◌+◌, ◌-◌, ◌∷◌, [], ◌==◌, ℕ, true, eqb, length, map, sym, subst, arith, rules}
 use Rattle.std.specs.List.{IsDistinct, flat_map, list_any, sum_by}
 use Rattle.std.specs.List.Sorted.{IsStrictlySortedBy}
 use Rattle.std.specs.Cmp.Lexicographic.{slice_cmp}
@@ -48,8 +48,8 @@ returns c =
       part =
           subst (λ (b : Building). (directory : PartDirectory) × (directory.generation ≡ c.args.generation)
           × SpellsPart directory b.lists c.move_to_end.new.bytes.items) c.self.view_is
-          (part_of_lists lists c.args.generation low high header.0 head i.entries.items i.blocks.items c.move_to_end.new.bytes.items some t.each
-          ascending distinct c.requires.generation t.begin first t.greatest (t.last some)
+          (part_of_lists lists c.args.generation low high header.0 head i.entries.items i.blocks.items c.move_to_end.new.bytes.items
+          some t.each ascending distinct c.requires.generation t.begin first t.greatest (t.last some)
           (written_all low lists i.entries.items i.blocks.items (c.self.invariant.written whole)) numbers
           (subst (λ (n : ℕ). SpellsHeader n header.0) long header.1)
           (blob_turned i.blocks.items c.put_header.new.out.items c.extend_from_slice.new.self.items c.extend_from_slice-2.new.self.items

@@ -1,13 +1,14 @@
+use Rattle.std.proofs.Common.{◌∙◌}
 use Rattle.wu_part.proofs.directories.Directory.copy.Goals as goal
 
 pub invariant_of-result : goal.invariant_of-result
 invariant_of-result c =
-    let bytes = c.in_ok-from_slice.ensures.items in
+    let bytes = c.new.ensures ∙ c.in_ok-from_slice.ensures.items ∙ c.as_slice.ensures in
     let marks = c.in_ok-from_slice-2.ensures.items in
     let k = c.self.invariant in
     record {
-      spelled = rw (bytes, c.deref.ensures.value) k.spelled;
-      entries = rw (bytes, c.deref.ensures.value) k.entries;
-      marked = rw (bytes, c.deref.ensures.value, marks, c.deref-2.ensures.value) k.marked;
-      near = rw (marks, c.deref-2.ensures.value) k.near;
+      spelled = rw bytes k.spelled;
+      entries = rw bytes k.entries;
+      marked = rw (bytes, marks, c.deref.ensures.value) k.marked;
+      near = rw (marks, c.deref.ensures.value) k.near;
     }

@@ -1,5 +1,5 @@
 use Rattle.std.proofs.Common.{length, ap, refl, arith, rules}
-use Rattle.wu_part.proofs.ReadingLemmas.{next_of_entries}
+use Rattle.wu_part.proofs.EntryReadingLemmas.{next_of_entries}
 use Rattle.wu_part.proofs.WalkLemmas.{entry_read, walk_within}
 use Rattle.wu_part.proofs.walks.TermsIterator.next.Goals as goal
 

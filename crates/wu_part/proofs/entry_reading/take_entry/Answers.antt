@@ -1,8 +1,9 @@
 use Rattle.std.proofs.Common.{ap, sym, ◌∙◌, refl, arith}
-use Rattle.wu_part.proofs.ReadingLemmas.{entry_of_blocks, blocks_of_entry, count_within, after_term, after_count}
+use Rattle.wu_part.proofs.EntryReadingLemmas.{entry_of_blocks, blocks_of_entry, after_term, after_count}
+use Rattle.wu_part.proofs.ReadingLemmas.{count_within}
 use Rattle.wu_part.proofs.WalkLemmas.{own_blocks}
 use Rattle.wu_part.proofs.WholeLemmas.{begins, ends}
-use Rattle.wu_part.proofs.reading.take_entry.Goals as goal
+use Rattle.wu_part.proofs.entry_reading.take_entry.Goals as goal
 
 pub returns-in_default-clause-none : goal.returns-in_default-clause-none
 returns-in_default-clause-none c entry rest end e =

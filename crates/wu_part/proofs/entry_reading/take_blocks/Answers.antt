@@ -1,7 +1,7 @@
 use Rattle.std.proofs.Common.{arith}
 use Rattle.wu_part.proofs.ReadingLemmas.{blocks_all_taken, blocks_not_taken}
 use Rattle.wu_part.proofs.WholeLemmas.{block_noted}
-use Rattle.wu_part.proofs.reading.take_blocks.Goals as goal
+use Rattle.wu_part.proofs.entry_reading.take_blocks.Goals as goal
 
 pub returns-in_default-clause-none : goal.returns-in_default-clause-none
 returns-in_default-clause-none c blocks rest end b =

@@ -1,6 +1,6 @@
 use Rattle.std.proofs.Common.{◌++◌, ap, length, length-append, arith}
 use Rattle.wu_vbyte.proofs.NumberLemmas.{one_number}
-use Rattle.wu_part.proofs.reading.take_term.Goals as goal
+use Rattle.wu_part.proofs.entry_reading.take_term.Goals as goal
 
 pub returns-in_default-clause-none : goal.returns-in_default-clause-none
 returns-in_default-clause-none c term rest some short s = c.in_default.ensures.none (length term) (term ++ rest) (omega arith) s

@@ -1,5 +1,5 @@
 use Rattle.wu_part.proofs.WholeLemmas.{NotedBlocks}
-use Rattle.wu_part.proofs.reading.take_blocks.Given as goal
+use Rattle.wu_part.proofs.entry_reading.take_blocks.Given as goal
 
 abbrev pub invariant-loop-left : goal.invariant-loop-left
 invariant-loop-left l =

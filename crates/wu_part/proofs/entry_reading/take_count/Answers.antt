@@ -1,6 +1,6 @@
 use Rattle.std.proofs.Common.{arith}
 use Rattle.wu_vbyte.proofs.NumberLemmas.{one_number}
-use Rattle.wu_part.proofs.reading.take_count.Goals as goal
+use Rattle.wu_part.proofs.entry_reading.take_count.Goals as goal
 
 pub returns-in_default-clause-none : goal.returns-in_default-clause-none
 returns-in_default-clause-none c number rest some small s = c.in_default.ensures.none number rest small s

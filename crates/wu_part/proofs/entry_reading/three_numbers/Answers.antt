@@ -1,6 +1,6 @@
 use Rattle.std.proofs.Common.{[], ◌∷◌}
 use Rattle.wu_part.proofs.ReadingLemmas.{after_first}
-use Rattle.wu_part.proofs.reading.three_numbers.Goals as goal
+use Rattle.wu_part.proofs.entry_reading.three_numbers.Goals as goal
 
 pub returns-in_default-clause-none : goal.returns-in_default-clause-none
 returns-in_default-clause-none c x y z rest la lb ld s = c.in_default.ensures.none x s.0 la s.1
