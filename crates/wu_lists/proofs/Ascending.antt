@@ -1,11 +1,12 @@
 -- Addresses that ascend, and frames in order.
-use Rattle.std.proofs.Common.{◌≡◌, ℕ, zero, suc, ◌+◌, ◌<◌, ◌≤◌, Bool, true, false, cond, List, [], ◌∷◌, ◌++◌, length, get_or, take, drop, filter, refl, arith, All, Less}
+use Rattle.std.proofs.Common.{◌≡◌, ℕ, zero, suc, ◌+◌, ◌-◌, ◌^◌, ◌<◌, ◌≤◌, Bool, true, false, cond, List, [], ◌∷◌, ◌++◌, length, get_or, take, drop, filter, refl, arith, All, Less}
 use Rattle.std.specs.Ordering.{nat_cmp}
 use Rattle.std.specs.List.{AllByRecursion}
 use Rattle.std.specs.List.Sorted.{IsNonDecreasingBy, IsStrictlySortedBy, IsStrictlyIncreasing}
 use Rattle.std.proofs.lemmas.Bool.{lt-ltb}
 use Rattle.std.proofs.lemmas.Map.Keys.{IsStrictlyIncreasing-from_sorted}
 use Rattle.wu_base.specs.declared.addresses.Range.{Range}
+use Rattle.wu_base.specs.declared.limits.TheConstants.{ADDRESSES_MAX}
 use Rattle.wu_space.specs.Addresses.{AreApart}
 use Rattle.wu_lists.specs.Ascending.{AscendBetween, AreInOrder}
 
@@ -22,6 +23,11 @@ ascend-lower least low high (x ∷ xs) l a = (omega (arith, a.0), a.1)
 pub ascend-higher : (low high most : ℕ) (xs : List ℕ) → high ≤ most → AscendBetween low high xs → AscendBetween low most xs
 ascend-higher low high most [] l a = omega arith
 ascend-higher low high most (x ∷ xs) l a = (a.0, ascend-higher (x + 1) high most xs l a.1)
+
+pub ascend-join : (low mid high : ℕ) (xs ys : List ℕ) → AscendBetween low mid xs → AscendBetween mid high ys
+    → AscendBetween low high (xs ++ ys)
+ascend-join low mid high [] ys a b = ascend-lower low mid high ys a b
+ascend-join low mid high (x ∷ xs) ys a b = (a.0, ascend-join (x + 1) mid high xs ys a.1 b)
 
 -- one more address at the end
 pub ascend-push : (low high x : ℕ) (xs : List ℕ) → high ≤ x → AscendBetween low high xs → AscendBetween low (x + 1) (xs ++ x ∷ [])
@@ -178,3 +184,10 @@ order-from_apart low high (f ∷ fs) l s a b =
 pub all_from_zero : (frames : List Range) → AllByRecursion (λ f. 0 ≤ f.start) frames
 all_from_zero [] = tt
 all_from_zero (f ∷ fs) = (omega arith, all_from_zero fs)
+
+-- so are those that end where addresses do
+pub frames_in_order : (frames : List Range) → AreApart frames → All (λ frame. frame.start + frame.len ≤ ADDRESSES_MAX) frames
+    → AreInOrder 0 (2 ^ 64 - 1) frames
+frames_in_order frames apart bounded =
+    order-from_apart 0 (2 ^ 64 - 1) frames (omega arith) (all_from_zero frames) apart
+    (λ k d l. let within = bounded k d l in omega arith)

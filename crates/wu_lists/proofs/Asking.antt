@@ -8,6 +8,7 @@ use Rattle.wu_base.specs.declared.troubles.Trouble.{Trouble}
 use Rattle.wu_base.specs.declared.troubles.Trouble.TheVariants.{NoMemory}
 use Rattle.wu_outside.specs.Content.{Content}
 use Rattle.wu_outside.specs.declared.ranges.ReadRange.{ReadRange}
+use Rattle.wu_layout.proofs.EachLemmas.{each-append}
 use Rattle.wu_lists.specs.declared.blocks.Block.{Block}
 use Rattle.wu_lists.specs.Blocks.{IsSpelledIn, range_of}
 use Rattle.wu_lists.specs.Keeping.{AreHeld, Asks, Kept, all_asked, all_missing, asked, missing}
@@ -26,14 +27,6 @@ all_missing-append cap kept (x ∷ xs) ys =
     ap (λ (bs : List Block). missing kept x ++ bs) (all_missing-append cap (asked cap kept x) xs ys)
     ∙ sym (append_assoc (missing kept x) (all_missing cap (asked cap kept x) xs)
     (all_missing cap (all_asked cap (asked cap kept x) xs) ys))
-
-pub all-append : {X : Type 0} (P : X → Type 0) (xs ys : List X) → AllByRecursion P xs → AllByRecursion P ys → AllByRecursion P (xs ++ ys)
-all-append P [] ys a b = b
-all-append P (x ∷ xs) ys a b = (a.0, all-append P xs ys a.1 b)
-
-pub all-back : {X : Type 0} (P : X → Type 0) (xs ys : List X) → AllByRecursion P (xs ++ ys) → AllByRecursion P ys
-all-back P [] ys a = a
-all-back P (x ∷ xs) ys a = all-back P xs ys a.1
 
 -- ---- ranges
 
@@ -101,7 +94,7 @@ module _ (holds : Option Content) (old mid new : Kept) (ranges between ranges_no
           → IfSome holds (λ content. AllByRecursion (IsSpelledIn content) ns)
           → IfSome holds (λ content. AllByRecursion (IsSpelledIn content) all)
       both None ms ns all e p q = tt
-      both (Some content) ms ns all e p q = subst (AllByRecursion (IsSpelledIn content)) e (all-append (IsSpelledIn content) ms ns p q)
+      both (Some content) ms ns all e p q = subst (AllByRecursion (IsSpelledIn content)) e (each-append (IsSpelledIn content) ms ns p q)
 
       through : (holds : Option Content)
           → IfSome holds (λ content. (blob : ℕ) (bytes : List ℕ) → content.blobs blob ≡ Some bytes

@@ -17,21 +17,18 @@ use Rattle.wu_part.specs.declared.entries.TermEntry.{TermEntry}
 use Rattle.wu_part.specs.Directories.{AreBlocks, IsBlock}
 use Rattle.wu_part.specs.Parts.{HoldBlocks, HoldsBlock}
 use Rattle.wu_lists.specs.declared.blocks.Block.{Block}
-use Rattle.wu_lists.specs.Ascending.{AscendBetween, AreInOrder}
+use Rattle.wu_lists.specs.Ascending.{AreInOrder}
 use Rattle.wu_lists.specs.Blocks.{IsSpelling, IsSpelledIn, blocks_from, bytes_of, meets}
 use Rattle.wu_lists.specs.Fetching.{AreFetched, HasBlock, HasBlocks}
 use Rattle.wu_lists.specs.Gaining.{Gains, OpenAlike}
 use Rattle.wu_lists.specs.Keeping.{AreHeld, Asks, Kept}
 use Rattle.wu_lists.specs.Walking.{IsFound, IsRest, IsWalked}
-use Rattle.wu_lists.proofs.Ascending.{all_from, ascend-higher, ascend-lower}
-use Rattle.wu_lists.proofs.Asking.{all-append, all-back, asks-join, asks-none}
+use Rattle.wu_lists.proofs.Ascending.{all_from, ascend-higher, ascend-join}
+use Rattle.wu_layout.proofs.EachLemmas.{each-append, each_right}
+use Rattle.wu_lists.proofs.Asking.{asks-join, asks-none}
 use Rattle.wu_lists.proofs.Spans.{filter-alike, spelled_ascend}
 
 -- ---- lists
-
-ascend-join : (low mid high : ℕ) (xs ys : List ℕ) → AscendBetween low mid xs → AscendBetween mid high ys → AscendBetween low high (xs ++ ys)
-ascend-join low mid high [] ys a b = ascend-lower low mid high ys a b
-ascend-join low mid high (x ∷ xs) ys a b = (a.0, ascend-join (x + 1) mid high xs ys a.1 b)
 
 passes-alike : (p q : ℕ → Bool) (low : ℕ) (xs : List ℕ) → ((x : ℕ) → low ≤ x → p x ≡ q x) → AllByRecursion (λ x. low ≤ x) xs
     → AllByRecursion (λ x. p x ≡ true) xs → AllByRecursion (λ x. q x ≡ true) xs
@@ -179,7 +176,7 @@ module _ (X : Type 0) (Gain : List ℕ → X → X → Type 0) (AreWanted : Type
           → IsSpelledIn content block
       block-spelled content a =
           let later : AllByRecursion (IsSpelledIn content) (block ∷ blocks_from blob low next.count next.blocks) =
-          all-back (IsSpelledIn content) w.gone (block ∷ blocks_from blob low next.count next.blocks)
+          each_right (IsSpelledIn content) w.gone (block ∷ blocks_from blob low next.count next.blocks)
           (subst (AllByRecursion (IsSpelledIn content))
           (sym (ap (λ (bs : List Block). w.gone ++ bs) (sym rest-split) ∙ w.split)) a) in
           later.0
@@ -264,7 +261,7 @@ module _ (X : Type 0) (Gain : List ℕ → X → X → Type 0) (AreWanted : Type
                 ascend-join low entry.first (entry.last + 1) found_before more
                 (ascend-higher low w.from entry.first found_before next-blocks.1.begin f.ascend) g.ascend;
             in_frames =
-                all-append (λ (x : ℕ). is_live frames x ≡ true) found_before more f.in_frames
+                each-append (λ (x : ℕ). is_live frames x ≡ true) found_before more f.in_frames
                 (passes-alike (is_live nearer) (is_live frames) entry.first more alike starts g.live);
             told = next-told holds w.asks.held g.told f.told;
           }

@@ -4,11 +4,14 @@
 
 mod blocks;
 mod frames;
+mod keeping;
 mod lists;
 mod sinks;
 mod tallies;
+mod walking;
 
 pub use blocks::Block;
 pub use frames::{put_within, tally_within};
 pub use lists::Lists;
+pub use sinks::{Sink, Unasked};
 pub use tallies::Tally;

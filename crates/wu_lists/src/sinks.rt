@@ -13,7 +13,7 @@ use crate::tallies::Tally;
 use wu_base::{NoMemory, Range};
 
 /// What gains the addresses that lie in frames.
-pub(crate) trait Sink {
+pub trait Sink {
     /// Whether it does. Else the blocks are asked for alone.
     ghost wanted: { Bool };
 
@@ -86,7 +86,7 @@ impl Sink for Tally {
 
 /// Wants none.
 #[derive(Clone, Copy)]
-pub(crate) struct Unasked;
+pub struct Unasked;
 
 impl Sink for Unasked {
     ghost wanted = { false };

@@ -1,6 +1,6 @@
-use Rattle.std.proofs.Common.{◌+◌, ◌-◌, ◌^◌, refl, arith}
+use Rattle.std.proofs.Common.{◌+◌, refl}
 use Rattle.wu_lists.specs.Fetching.{AreFetched, HasTerm}
-use Rattle.wu_lists.proofs.Ascending.{all_from_zero, order-from_apart}
+use Rattle.wu_lists.proofs.Ascending.{frames_in_order}
 use Rattle.wu_lists.proofs.Tallying.{on_ok, tallied}
 use Rattle.wu_lists.proofs.lists.Lists.tally_into.Goals as goal
 
@@ -10,8 +10,7 @@ returns-clause-addresses g c =
     on_ok _ _ c.walk.result
     (λ gains.
     tallied frames
-    (order-from_apart 0 (2 ^ 64 - 1) frames (omega arith) (all_from_zero frames) c.requires.apart
-    (λ k d l. let within = c.requires.bounded k d l in omega arith))
+    (frames_in_order frames c.requires.apart c.requires.bounded)
     (AreFetched (HasTerm c.args.dir.now c.args.term.now) frames c.args.blob c.args.dir.now.low (c.args.dir.now.high + 1)
     (g.D.Store.holds c.args.store.now) c.args.self.now)
     c.args.tally.now c.walk.new.found (gains refl))

@@ -1,4 +1,4 @@
-use Rattle.std.proofs.Common.{◌+◌, ◌-◌, ◌^◌, List, filter, subst, arith, rules}
+use Rattle.std.proofs.Common.{◌+◌, List, filter, subst, arith, rules}
 use Rattle.std.specs.Prelude.{IfErr, IfSome}
 use Rattle.std.specs.List.{AllByRecursion}
 use Rattle.std.specs.Map.{keys_of}
@@ -9,7 +9,7 @@ use Rattle.wu_lists.specs.declared.blocks.Block.{Block}
 use Rattle.wu_lists.specs.Causes.{IsCause, IsNoPart}
 use Rattle.wu_lists.specs.Fetching.{AreFetched, HasBlocks, HasTerm}
 use Rattle.wu_lists.specs.Keeping.{Asks, all_missing}
-use Rattle.wu_lists.proofs.Ascending.{order-from_apart, all_from_zero}
+use Rattle.wu_lists.proofs.Ascending.{frames_in_order}
 use Rattle.wu_lists.proofs.Asking.{asks-none, cause-step}
 use Rattle.wu_lists.proofs.Fetches.{if_err}
 use Rattle.wu_lists.proofs.Terms.{entry-absent, entry-blocks, entry-found, fetched-absent, fetched-term, needed-absent, needed-found, no-part}
@@ -18,8 +18,7 @@ use Rattle.wu_lists.proofs.lists.Lists.walk.Goals as goal
 
 pub walk_blocks-requires-clause-order : goal.walk_blocks-requires-clause-order
 walk_blocks-requires-clause-order g c =
-    order-from_apart 0 (2 ^ 64 - 1) c.args.frames.now (omega arith) (all_from_zero c.args.frames.now) c.requires.apart
-    (λ k d l. let within = c.requires.bounded k d l in omega arith)
+    frames_in_order c.args.frames.now c.requires.apart c.requires.bounded
 
 pub walk_blocks-requires-clause-cut : goal.walk_blocks-requires-clause-cut
 walk_blocks-requires-clause-cut g c =

@@ -1,0 +1,144 @@
+//! The blocks that are kept, and those that are read to be kept.
+ghost use Rattle.std.specs.Prelude.{◌≡◌, ◌+◌, ℕ, List, [], ◌∷◌, true, false, IfOk, IfErr, IfSome, IfNone, OnOk, Some, None};
+ghost use Rattle.std.specs.List.{list_any};
+ghost use Rattle.std.specs.Map.{keys_of, lookup};
+ghost use Rattle.lru.specs.LruCache.{IsValid};
+ghost use Rattle.wu_lists.specs.Ascending.{AscendBetween};
+ghost use Rattle.wu_lists.specs.Blocks.{HasBytes, IsSpelledIn, IsSpelling, bytes_of};
+ghost use Rattle.wu_lists.specs.Causes.{IsCause};
+ghost use Rattle.wu_lists.specs.Keeping.{AreHeld, Asks, IsChecked, all_missing, asked, is_same};
+
+use crate::blocks::{Block, read_bytes};
+use crate::lists::Lists;
+use std::alloc::Global;
+use std::mem;
+use wu_base::{Bytes, NoMemory, Trouble};
+use wu_outside::Store;
+
+impl Lists {
+    /// The addresses of the block, which is read where it isn't kept.
+    #[inline]
+    pub(crate) fn addresses<D: Store>(
+        &mut self,
+        store: &mut D,
+        block: &Block,
+    ) -> Result<Vec<u64>, Trouble>
+        ensures ascend { IfOk result (λ found. AscendBetween block.now.first (block.now.last + 1) found.items) }
+        ensures told { IfOk result (λ found. IfSome (D.holds store.old) (λ content. (bytes : List ℕ)
+            → content.blobs block.now.blob ≡ Some bytes → AreHeld block.now.blob bytes self.old
+            → IsSpelling block.now found.items (bytes_of block.now bytes))) }
+        ensures blocks { OnOk result (Asks (block.now ∷ []) (D.holds store.old) self.old self.new
+            (D.reads store.old) (D.reads store.new)) }
+        ensures holds { D.holds store.new ≡ D.holds store.old }
+        ensures moments { D.moments store.new ≡ D.moments store.old }
+        ensures calm { OnOk result (D.faults store.new ≡ D.faults store.old) }
+        ensures cause { IfErr result (IsCause (all_missing self.old.cap (keys_of self.old.entries) (block.now ∷ [])) block.now.blob
+            (IfSome (D.holds store.old) (λ content. IsSpelledIn content block.now → ⊥))
+            (D.faults store.old) (D.faults store.new) (D.reads store.old) (D.reads store.new)) }
+    {
+        match self.kept_addresses(block)? {
+            Some(addresses) => Ok(addresses),
+            None => self.read(store, block),
+        }
+    }
+
+    /// Whether the block is kept. It is then the one that was asked for last.
+    #[inline]
+    pub(crate) fn is_kept(&mut self, block: &Block) -> bool
+        ensures kept { result ≡ list_any (is_same block.now) (keys_of self.old.entries) }
+        ensures asked { result ≡ true → keys_of self.new.entries ≡ asked self.old.cap (keys_of self.old.entries) block.now }
+        ensures absent { result ≡ false → self.new ≡ self.old }
+        ensures capacity { self.new.cap ≡ self.old.cap }
+        ensures held { (blob : ℕ) (bytes : List ℕ) → AreHeld blob bytes self.old → AreHeld blob bytes self.new }
+    {
+        self.is_valid();
+        self.kept.promote(block)
+    }
+
+    /// A law: no block is kept twice, and not more than there may be.
+    fn is_valid(&self)
+        ensures { IsValid is_same self.now }
+    {
+        let _count = self.kept.len();
+    }
+
+    /// The addresses of the block where it is kept. It is then the one that was asked for last.
+    #[inline]
+    fn kept_addresses(&mut self, block: &Block) -> Result<Option<Vec<u64>>, NoMemory>
+        ensures spelled { IfOk result (λ kept. IfSome kept (λ found. (bytes : List ℕ)
+            × (lookup (is_same block.now) self.old.entries ≡ Some bytes) × IsSpelling block.now found.items bytes)) }
+        ensures asked { IfOk result (λ kept. IfSome kept (λ _.
+            keys_of self.new.entries ≡ asked self.old.cap (keys_of self.old.entries) block.now)) }
+        ensures absent { IfOk result (λ kept. IfNone kept
+            ((lookup (is_same block.now) self.old.entries ≡ None) × (self.new ≡ self.old))) }
+        ensures capacity { self.new.cap ≡ self.old.cap }
+        ensures held { (blob : ℕ) (bytes : List ℕ) → AreHeld blob bytes self.old → AreHeld blob bytes self.new }
+    {
+        self.is_valid();
+        let Some(bytes) = self.kept.get(block) else {
+            return Ok(None);
+        };
+        // They were checked before they were kept.
+        block.addresses(self.alloc, bytes.as_slice())
+    }
+
+    /// The addresses of a block that isn't kept: it is read, checked and kept.
+    pub(crate) fn read<D: Store>(
+        &mut self,
+        store: &mut D,
+        block: &Block,
+    ) -> Result<Vec<u64>, Trouble>
+        requires { list_any (is_same block.now) (keys_of self.old.entries) ≡ false }
+        ensures spelled { IfOk result (λ found. (bytes : List ℕ) × IsSpelling block.now found.items bytes
+            × IfSome (D.holds store.old) (λ content. HasBytes content block.now bytes)) }
+        ensures blocks { OnOk result (Asks (block.now ∷ []) (D.holds store.old) self.old self.new
+            (D.reads store.old) (D.reads store.new)) }
+        ensures holds { D.holds store.new ≡ D.holds store.old }
+        ensures moments { D.moments store.new ≡ D.moments store.old }
+        ensures calm { OnOk result (D.faults store.new ≡ D.faults store.old) }
+        ensures cause { IfErr result (IsCause (block.now ∷ []) block.now.blob
+            (IfSome (D.holds store.old) (λ content. IsSpelledIn content block.now → ⊥))
+            (D.faults store.old) (D.faults store.new) (D.reads store.old) (D.reads store.new)) }
+    {
+        let room = self.take_room();
+        let bytes = read_bytes(store, block, room)?;
+        match block.addresses(self.alloc, &bytes)? {
+            Some(addresses) => {
+                self.keep(block, bytes)?;
+                Ok(addresses)
+            }
+            None => Err(Trouble::Damaged { blob: block.blob }),
+        }
+    }
+
+    /// A vector to read a block to.
+    #[inline]
+    fn take_room(&mut self) -> Vec<u8>
+        ensures { self.new ≡ self.old }
+    {
+        mem::replace(&mut self.room, Vec::new(self.alloc))
+    }
+
+    /// Keeps a block that isn't kept yet, of which these are the bytes.
+    fn keep(&mut self, block: &Block, bytes: Vec<u8>) -> Result<(), NoMemory>
+        requires absent { list_any (is_same block.now) (keys_of self.old.entries) ≡ false }
+        requires checked { IsChecked (block.now, bytes.items) }
+        ensures asked { OnOk result (keys_of self.new.entries ≡ asked self.old.cap (keys_of self.old.entries) block.now) }
+        ensures capacity { OnOk result (self.new.cap ≡ self.old.cap) }
+        ensures held { OnOk result ((blob : ℕ) (others : List ℕ) → (block.now.blob ≡ blob → bytes.items ≡ bytes_of block.now others)
+            → AreHeld blob others self.old → AreHeld blob others self.new) }
+    {
+        self.is_valid();
+        let given_up = self.kept.push(*block, Bytes::from(bytes))?;
+        self.room = room_of(self.alloc, given_up);
+        Ok(())
+    }
+}
+
+/// The vector of the block that was given up, if one was.
+fn room_of(alloc: Global, given_up: Option<(Block, Bytes)>) -> Vec<u8> {
+    match given_up {
+        Some((_, bytes)) => bytes.into_vec(),
+        None => Vec::new(alloc),
+    }
+}

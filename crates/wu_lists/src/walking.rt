@@ -1,0 +1,202 @@
+//! The blocks of a term that frames need, one after another.
+ghost use Rattle.std.specs.Prelude.{◌≡◌, ◌+◌, ◌-◌, ◌^◌, ◌<◌, ◌≤◌, [], ◌∷◌, All, filter, true, IfErr, IfSome, OnOk};
+ghost use Rattle.std.specs.List.{AllByRecursion};
+ghost use Rattle.std.specs.Map.{keys_of};
+ghost use Rattle.wu_base.specs.declared.limits.TheConstants.{ADDRESSES_MAX};
+ghost use Rattle.wu_space.specs.Addresses.{AreApart};
+ghost use Rattle.wu_part.specs.Directories.{AreBlocks};
+ghost use Rattle.wu_lists.specs.Ascending.{AreInOrder};
+ghost use Rattle.wu_lists.specs.Blocks.{IsSpelledIn, blocks_from, meets, needed};
+ghost use Rattle.wu_lists.specs.Causes.{IsCause, IsTermCause};
+ghost use Rattle.wu_lists.specs.Fetching.{AreFetched, HasBlock, HasBlocks, HasTerm};
+ghost use Rattle.wu_lists.specs.Gaining.{Gains};
+ghost use Rattle.wu_lists.specs.Keeping.{Asks, all_missing};
+
+use crate::blocks::Block;
+use crate::frames::{frames_from, is_needed};
+use crate::lists::Lists;
+use crate::sinks::Sink;
+use wu_base::{Range, Trouble};
+use wu_outside::Store;
+use wu_part::{Directory, Entry};
+
+impl Lists {
+    /// Asks for the blocks of the term that the frames need, as [`Lists::fetch`] does. A sink that wants them gains the
+    /// addresses that lie in the frames; after an error it may have gained some of them.
+    ///
+    /// The blob is damaged where [`Lists::fetch`] would find it so.
+    pub fn walk<D: Store, S: Sink>(
+        &mut self,
+        store: &mut D,
+        blob: u64,
+        dir: &Directory,
+        term: &[u8],
+        frames: &[Range],
+        found: &mut S,
+    ) -> Result<(), Trouble>
+        requires apart { AreApart frames.now }
+        requires bounded { All (λ frame. frame.start + frame.len ≤ ADDRESSES_MAX) frames.now }
+        ensures addresses { OnOk result (S.wanted ≡ true → Gains (S.gained frames.now) (AreFetched (HasTerm dir.now term.now)
+            frames.now blob dir.now.low (dir.now.high + 1) (D.holds store.old) self.old) found.old found.new) }
+        ensures blocks { OnOk result (Asks (needed blob dir.now term.now frames.now) (D.holds store.old) self.old self.new
+            (D.reads store.old) (D.reads store.new)) }
+        ensures holds { D.holds store.new ≡ D.holds store.old }
+        ensures moments { D.moments store.new ≡ D.moments store.old }
+        ensures calm { OnOk result (D.faults store.new ≡ D.faults store.old) }
+        ensures cause { IfErr result (IsTermCause self.old blob dir.now term.now frames.now (D.holds store.old)
+            (D.faults store.old) (D.faults store.new) (D.reads store.old) (D.reads store.new)) }
+    {
+        dir.is_spelled();
+        match dir.entry_of(term) {
+            Some(entry) => {
+                self.walk_blocks(store, blob, dir, entry, frames, found)?;
+                Ok(())
+            }
+            None => Ok(()),
+        }
+    }
+
+    /// The same of the entry's blocks.
+    fn walk_blocks<D: Store, S: Sink>(
+        &mut self,
+        store: &mut D,
+        blob: u64,
+        dir: &Directory,
+        mut entry: Entry,
+        frames: &[Range],
+        found: &mut S,
+    ) -> Result<(), Trouble>
+        requires order { AreInOrder 0 (2 ^ 64 - 1) frames.now }
+        requires cut { AreBlocks dir.now.low dir.now.high entry.count entry.blocks }
+        requires bounded { dir.now.high < ADDRESSES_MAX }
+        requires span { dir.now.low ≤ dir.now.high }
+        ensures addresses { OnOk result (S.wanted ≡ true → Gains (S.gained frames.now)
+            (AreFetched (HasBlocks dir.now.low entry.entry.count entry.entry.blocks)
+            frames.now blob dir.now.low (dir.now.high + 1) (D.holds store.old) self.old) found.old found.new) }
+        ensures blocks { OnOk result (Asks
+            (filter (meets frames.now) (blocks_from blob dir.now.low entry.entry.count entry.entry.blocks))
+            (D.holds store.old) self.old self.new (D.reads store.old) (D.reads store.new)) }
+        ensures holds { D.holds store.new ≡ D.holds store.old }
+        ensures moments { D.moments store.new ≡ D.moments store.old }
+        ensures calm { OnOk result (D.faults store.new ≡ D.faults store.old) }
+        ensures cause { IfErr result (IsCause
+            (all_missing self.old.cap (keys_of self.old.entries)
+            (filter (meets frames.now) (blocks_from blob dir.now.low entry.entry.count entry.entry.blocks))) blob
+            (IfSome (D.holds store.old) (λ content.
+            AllByRecursion (IsSpelledIn content) (blocks_from blob dir.now.low entry.entry.count entry.entry.blocks) → ⊥))
+            (D.faults store.old) (D.faults store.new) (D.reads store.old) (D.reads store.new)) }
+    {
+        let mut left = frames;
+        while let Some((block, count)) = entry.next_block() {
+            left = frames_from(left, block.first);
+            let block = Block {
+                blob,
+                low: dir.low(),
+                count,
+                first: block.first,
+                last: block.last,
+                at: block.at,
+                len: block.len,
+            };
+            self.visit(store, &block, left, found)?;
+        }
+        Ok(())
+    }
+
+    /// Asks for the block if a frame overlaps with it. A sink that wants them gains its addresses that lie in the
+    /// frames.
+    #[inline]
+    fn visit<D: Store, S: Sink>(
+        &mut self,
+        store: &mut D,
+        block: &Block,
+        frames: &[Range],
+        found: &mut S,
+    ) -> Result<(), Trouble>
+        requires order { AreInOrder 0 (2 ^ 64 - 1) frames.now }
+        requires after { AllByRecursion (λ frame. block.now.first < frame.start + frame.len) frames.now }
+        requires span { block.now.first ≤ block.now.last }
+        requires bounded { block.now.last < ADDRESSES_MAX }
+        ensures addresses { OnOk result (S.wanted ≡ true → Gains (S.gained frames.now) (AreFetched (HasBlock block.now) frames.now
+            block.now.blob block.now.first (block.now.last + 1) (D.holds store.old) self.old) found.old found.new) }
+        ensures blocks { OnOk result (Asks (filter (meets frames.now) (block.now ∷ [])) (D.holds store.old) self.old self.new
+            (D.reads store.old) (D.reads store.new)) }
+        ensures holds { D.holds store.new ≡ D.holds store.old }
+        ensures moments { D.moments store.new ≡ D.moments store.old }
+        ensures calm { OnOk result (D.faults store.new ≡ D.faults store.old) }
+        ensures cause { IfErr result (IsCause
+            (all_missing self.old.cap (keys_of self.old.entries) (filter (meets frames.now) (block.now ∷ []))) block.now.blob
+            (IfSome (D.holds store.old) (λ content. IsSpelledIn content block.now → ⊥))
+            (D.faults store.old) (D.faults store.new) (D.reads store.old) (D.reads store.new)) }
+    {
+        if found.wants() {
+            self.put_block(store, block, frames, found)
+        } else {
+            self.touch_block(store, block, frames)
+        }
+    }
+
+    /// Asks for the block if a frame overlaps with it.
+    #[inline]
+    fn touch_block<D: Store>(
+        &mut self,
+        store: &mut D,
+        block: &Block,
+        frames: &[Range],
+    ) -> Result<(), Trouble>
+        requires order { AreInOrder 0 (2 ^ 64 - 1) frames.now }
+        requires after { AllByRecursion (λ frame. block.now.first < frame.start + frame.len) frames.now }
+        ensures blocks { OnOk result (Asks (filter (meets frames.now) (block.now ∷ [])) (D.holds store.old) self.old self.new
+            (D.reads store.old) (D.reads store.new)) }
+        ensures holds { D.holds store.new ≡ D.holds store.old }
+        ensures moments { D.moments store.new ≡ D.moments store.old }
+        ensures calm { OnOk result (D.faults store.new ≡ D.faults store.old) }
+        ensures cause { IfErr result (IsCause
+            (all_missing self.old.cap (keys_of self.old.entries) (filter (meets frames.now) (block.now ∷ []))) block.now.blob
+            (IfSome (D.holds store.old) (λ content. IsSpelledIn content block.now → ⊥))
+            (D.faults store.old) (D.faults store.new) (D.reads store.old) (D.reads store.new)) }
+    {
+        if !is_needed(block, frames) {
+            return Ok(());
+        }
+        if self.is_kept(block) {
+            return Ok(());
+        }
+        self.read(store, block)?;
+        Ok(())
+    }
+
+    /// The sink gains the addresses of the block that lie in the frames. A block that no frame overlaps with isn't
+    /// asked for.
+    #[inline]
+    fn put_block<D: Store, S: Sink>(
+        &mut self,
+        store: &mut D,
+        block: &Block,
+        frames: &[Range],
+        found: &mut S,
+    ) -> Result<(), Trouble>
+        requires order { AreInOrder 0 (2 ^ 64 - 1) frames.now }
+        requires after { AllByRecursion (λ frame. block.now.first < frame.start + frame.len) frames.now }
+        requires span { block.now.first ≤ block.now.last }
+        requires bounded { block.now.last < ADDRESSES_MAX }
+        ensures addresses { OnOk result (Gains (S.gained frames.now) (AreFetched (HasBlock block.now) frames.now block.now.blob
+            block.now.first (block.now.last + 1) (D.holds store.old) self.old) found.old found.new) }
+        ensures blocks { OnOk result (Asks (filter (meets frames.now) (block.now ∷ [])) (D.holds store.old) self.old self.new
+            (D.reads store.old) (D.reads store.new)) }
+        ensures holds { D.holds store.new ≡ D.holds store.old }
+        ensures moments { D.moments store.new ≡ D.moments store.old }
+        ensures calm { OnOk result (D.faults store.new ≡ D.faults store.old) }
+        ensures cause { IfErr result (IsCause
+            (all_missing self.old.cap (keys_of self.old.entries) (filter (meets frames.now) (block.now ∷ []))) block.now.blob
+            (IfSome (D.holds store.old) (λ content. IsSpelledIn content block.now → ⊥))
+            (D.faults store.old) (D.faults store.new) (D.reads store.old) (D.reads store.new)) }
+    {
+        if !is_needed(block, frames) {
+            return Ok(());
+        }
+        let addresses = self.addresses(store, block)?;
+        found.gain(&addresses, frames)?;
+        Ok(())
+    }
+}
