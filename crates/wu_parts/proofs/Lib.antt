@@ -7,6 +7,8 @@ pub mod LeadingLemmas
 pub mod LiveTerms
 pub mod NewParts
 pub mod Asking
+pub mod FetchedAddresses
+pub mod PartTurns
 pub mod Counting
 pub mod ReadingBack
 pub mod Spans

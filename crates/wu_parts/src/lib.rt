@@ -1,7 +1,9 @@
 //! The postings of the index: those in memory, and in time those of the parts in the store.
 #![tactic(auto)]
 
+mod background;
 mod chains;
+mod fetching;
 mod flushing;
 mod frames;
 mod loading;

@@ -13,7 +13,7 @@ use crate::writing::StoredPart;
 use std::alloc::Global;
 use wu_base::{PartRec, Trouble};
 use wu_outside::{Fault, Store};
-use wu_part::{Directory, HEADER_LEN, read_directory, read_header};
+use wu_part::{Directory, HEADER_LEN, keep_directory, read_header};
 
 /// The parts of these records, from left to right, each with the directory that its blob has. The leftmost one
 /// that can't be opened is answered as damaged.
@@ -164,7 +164,7 @@ fn directory_after<D: Store>(
     if !fill(store, recorded.blob, HEADER_LEN as u64, &mut bytes)? {
         return Ok(None);
     }
-    Ok(read_directory(alloc, &bytes, recorded.size)?)
+    Ok(keep_directory(alloc, bytes, recorded.size)?)
 }
 
 /// Fills the buffer with the bytes of the blob from that place on, in one read. Answers whether the blob has so

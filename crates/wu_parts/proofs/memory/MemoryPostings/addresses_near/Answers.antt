@@ -1,25 +1,19 @@
-use Rattle.std.proofs.Common.{◌≡◌, ℕ, ◌+◌, ◌-◌, ◌^◌, ◌≤◌, All, List, [], filter, nat_le, ap, sym, subst, ◌∙◌, arith, Vec, Global}
+use Rattle.std.proofs.Common.{◌≡◌, ℕ, ◌-◌, ◌^◌, List, [], filter, nat_le, ap, sym, subst, ◌∙◌, arith, Vec, Global}
 use Rattle.std.proofs.lemmas.Result.{IfOk-weaker}
 use Rattle.wu_base.specs.declared.limits.TheConstants.{ADDRESSES_MAX}
 use Rattle.wu_base.specs.declared.addresses.Range.{Range}
-use Rattle.wu_space.specs.Addresses.{AreApart}
 use Rattle.wu_layout.specs.Postings.{Posting, is_live}
 use Rattle.wu_parts.specs.Memory.{HasPostings, Memory, held}
 use Rattle.wu_parts.specs.Chains.{moved, places_of}
-use Rattle.wu_lists.specs.Ascending.{AscendBetween, AreInOrder}
-use Rattle.wu_lists.proofs.Ascending.{all_from_zero, ascend-filter, ascend-higher, order-from_apart}
+use Rattle.wu_lists.specs.Ascending.{AscendBetween}
+use Rattle.wu_lists.proofs.Ascending.{ascend-filter, ascend-higher, frames_in_order}
 use Rattle.wu_parts.proofs.Moving.{addresses-ascend}
 use Rattle.wu_lists.proofs.Cutting.{filter-from}
 use Rattle.wu_parts.proofs.Chaining.{found_chain, held-found, held-absent}
 use Rattle.wu_parts.proofs.memory.MemoryPostings.addresses_near.Goals as goal
 
--- the frames end below 2^64
-order : (frames : List Range) → AreApart frames → All (λ f. f.start + f.len ≤ ADDRESSES_MAX) frames → AreInOrder 0 (2 ^ 64 - 1) frames
-order frames a b =
-    order-from_apart 0 (2 ^ 64 - 1) frames (omega arith) (all_from_zero frames) a (λ k d l. let r = b k d l in omega arith)
-
 pub first_start-low-requires : goal.first_start-low-requires
-first_start-low-requires c = order c.args.frames.now c.requires.apart c.requires.bounded
+first_start-low-requires c = frames_in_order c.args.frames.now c.requires.apart c.requires.bounded
 
 pub addresses_from-requires-clause-chain : goal.addresses_from-requires-clause-chain
 addresses_from-requires-clause-chain c =
@@ -28,10 +22,10 @@ addresses_from-requires-clause-chain c =
     (sym c.in-Some.ensures.value))
 
 pub returns-in-Some-clause-order : goal.returns-in-Some-clause-order
-returns-in-Some-clause-order c = order c.args.frames.now c.requires.apart c.requires.bounded
+returns-in-Some-clause-order c = frames_in_order c.args.frames.now c.requires.apart c.requires.bounded
 
 pub returns-in-None-clause-order : goal.returns-in-None-clause-order
-returns-in-None-clause-order c = order c.args.frames.now c.requires.apart c.requires.bounded
+returns-in-None-clause-order c = frames_in_order c.args.frames.now c.requires.apart c.requires.bounded
 
 pub returns-in-Some-clause-near : goal.returns-in-Some-clause-near
 returns-in-Some-clause-near c =

@@ -1,8 +1,8 @@
 use Rattle.std.proofs.Common.{◌<◌, length, refl, ◌∙◌, arith}
 use Rattle.std.proofs.lemmas.List.{drop_all}
-use Rattle.wu_parts.proofs.Asking.{answered, leads-end, leads-none, turn-fails, turn-step}
-use Rattle.wu_parts.proofs.Counting.{counts_to-end, counts_to-none, turn-counts}
-use Rattle.wu_parts.proofs.reading.tally_parts.Goals as goal
+use Rattle.wu_parts.proofs.Asking.{answered}
+use Rattle.wu_parts.proofs.PartTurns.{gains_to-end, gains_to-none, leads-end, leads-none, turn-fails, turn-gains, turn-step}
+use Rattle.wu_parts.proofs.reading.walk_parts.Goals as goal
 
 pub loop-part-init : goal.loop-part-init
 loop-part-init g c = record {
@@ -11,43 +11,47 @@ loop-part-init g c = record {
   calm = refl;
   leads = leads-none c.args.parts.now c.args.term.now c.args.frames.now (g.D.Store.holds c.args.store.now) c.args.lists.now
       (g.D.Store.reads c.args.store.now);
-  counts = counts_to-none c.args.parts.now c.args.term.now c.args.frames.now (g.D.Store.holds c.args.store.now) c.args.lists.now
-      c.args.tally.now;
+  gains = λ wanted.
+      gains_to-none c.args.parts.now c.args.term.now c.args.frames.now (g.D.Store.holds c.args.store.now) c.args.lists.now
+      (g.S.Sink.gained c.args.frames.now) c.args.found.now (g.met.S.Sink.none c.args.frames.now c.args.found.now);
 }
 
-pub returns-in_err-tally_into-clause-cause : goal.returns-in_err-tally_into-clause-cause
-returns-in_err-tally_into-clause-cause g c =
+pub returns-in_err-walk-clause-cause : goal.returns-in_err-walk-clause-cause
+returns-in_err-walk-clause-cause g c =
     let within : c.loop-part.part-index < length c.args.parts.now = omega arith in
-    answered _ c.from_residual.result c.in_err-tally_into.field-0.0 c.from_residual.ensures.1
+    answered _ c.from_residual.result c.in_err-walk.field-0.0 c.from_residual.ensures.1
     (turn-fails c.args.parts.now c.loop-part.part-index c.part-item.result c.args.term.now c.args.frames.now
     (g.D.Store.holds c.args.store.now) (g.D.Store.holds c.loop-part.store) c.args.lists.now c.loop-part.lists
     (g.D.Store.reads c.args.store.now) (g.D.Store.reads c.loop-part.store) within c.part-item.is
     c.loop-part.invariant.holds c.loop-part.invariant.leads (g.D.Store.faults c.args.store.now) (g.D.Store.faults c.loop-part.store)
-    (g.D.Store.faults c.tally_into.new.store) (g.D.Store.reads c.tally_into.new.store)
-    c.in_err-tally_into.field-0.0 c.loop-part.invariant.calm c.in_err-tally_into.ensures.cause)
+    (g.D.Store.faults c.walk.new.store) (g.D.Store.reads c.walk.new.store)
+    c.in_err-walk.field-0.0 c.loop-part.invariant.calm c.in_err-walk.ensures.cause)
 
 pub loop-part-preserved : goal.loop-part-preserved
 loop-part-preserved g c =
     let within : c.loop-part.part-index < length c.args.parts.now = omega arith in
     record {
-      holds = c.in_ok-tally_into.ensures.holds ∙ c.loop-part.invariant.holds;
-      moments = c.in_ok-tally_into.ensures.moments ∙ c.loop-part.invariant.moments;
-      calm = c.in_ok-tally_into.ensures.calm ∙ c.loop-part.invariant.calm;
+      holds = c.in_ok-walk.ensures.holds ∙ c.loop-part.invariant.holds;
+      moments = c.in_ok-walk.ensures.moments ∙ c.loop-part.invariant.moments;
+      calm = c.in_ok-walk.ensures.calm ∙ c.loop-part.invariant.calm;
       leads = turn-step c.args.parts.now c.loop-part.part-index c.part-item.result c.args.term.now c.args.frames.now
           (g.D.Store.holds c.args.store.now) (g.D.Store.holds c.loop-part.store) c.args.lists.now c.loop-part.lists
           (g.D.Store.reads c.args.store.now) (g.D.Store.reads c.loop-part.store) within c.part-item.is
-          c.loop-part.invariant.holds c.loop-part.invariant.leads _ _ c.in_ok-tally_into.ensures.blocks;
-      counts = turn-counts c.args.parts.now c.loop-part.part-index c.part-item.result c.args.term.now c.args.frames.now
+          c.loop-part.invariant.holds c.loop-part.invariant.leads _ _ c.in_ok-walk.ensures.blocks;
+      gains = λ wanted.
+          turn-gains c.args.parts.now c.loop-part.part-index c.part-item.result c.args.term.now c.args.frames.now
           (g.D.Store.holds c.args.store.now) (g.D.Store.holds c.loop-part.store) c.args.lists.now c.loop-part.lists
           (g.D.Store.reads c.args.store.now) (g.D.Store.reads c.loop-part.store) within c.part-item.is
-          c.loop-part.invariant.holds c.args.tally.now c.loop-part.tally _ c.loop-part.invariant.counts _ _ c.requires.told
-          c.in_ok-tally_into.ensures.addresses c.in_ok-tally_into.ensures.blocks;
+          c.loop-part.invariant.holds (g.S.Sink.gained c.args.frames.now) (g.met.S.Sink.joins c.args.frames.now) c.args.found.now
+          c.loop-part.found c.walk.new.found (c.loop-part.invariant.gains wanted) _ _ c.requires.told
+          (c.in_ok-walk.ensures.addresses wanted) c.in_ok-walk.ensures.blocks;
     }
 
 pub returns-clause-addresses : goal.returns-clause-addresses
-returns-clause-addresses g c =
-    counts_to-end c.args.parts.now c.args.term.now c.args.frames.now (g.D.Store.holds c.args.store.now) c.args.lists.now c.loop-part.lists
-    c.args.tally.now c.loop-part.tally _ (drop_all c.loop-part.part-index c.args.parts.now (omega arith)) c.loop-part.invariant.counts
+returns-clause-addresses g c = λ wanted.
+    gains_to-end c.args.parts.now c.args.term.now c.args.frames.now (g.D.Store.holds c.args.store.now) c.args.lists.now c.loop-part.lists
+    (g.S.Sink.gained c.args.frames.now) c.args.found.now c.loop-part.found _
+    (drop_all c.loop-part.part-index c.args.parts.now (omega arith)) (c.loop-part.invariant.gains wanted)
 
 pub returns-clause-blocks : goal.returns-clause-blocks
 returns-clause-blocks g c =

@@ -1,0 +1,187 @@
+-- The addresses that are fetched of several parts, one after another, and of memory.
+use Rattle.std.proofs.Common.{◌≡◌, ◌⊎◌, ℕ, ◌+◌, true, false, cond, nat_eq, List, [], ◌∷◌, ◌++◌, map, filter, Option, None, Some, refl, ap, ap₂, sym, ◌∙◌, subst, arith, inl, inr, ⊎_elim}
+use Rattle.std.specs.Prelude.{IfSome}
+use Rattle.std.specs.List.{AllZip}
+use Rattle.std.specs.Cmp.Lexicographic.{pointwise, same_text, nat_list_eq_equiv}
+use Rattle.std.proofs.lemmas.Cmp.{nat_list_cmp_total}
+use Rattle.std.proofs.lemmas.List.Elements.{filter-append}
+use Rattle.std.proofs.lemmas.Map.Lookups.{exact_bytes}
+use Rattle.wu_base.specs.declared.addresses.PartRec.{PartRec}
+use Rattle.wu_base.specs.declared.addresses.Range.{Range}
+use Rattle.wu_base.proofs.Members.{Has}
+use Rattle.wu_base.proofs.SortedLists.{has-sorted_once}
+use Rattle.wu_outside.specs.Content.{Content}
+use Rattle.wu_outside.specs.declared.ranges.ReadRange.{ReadRange}
+use Rattle.wu_layout.specs.Postings.{Posting, addresses_of, fetched, is_live, is_of}
+use Rattle.wu_layout.specs.Layouts.{Part, list_of, lists_of, stored_in, terms_of}
+use Rattle.wu_layout.proofs.ListLemmas.{all_terms}
+use Rattle.wu_layout.proofs.TermLemmas.{addresses_of-append}
+use Rattle.wu_part.specs.declared.entries.TermEntry.{TermEntry}
+use Rattle.wu_part.specs.Directories.{PartDirectory}
+use Rattle.wu_part.specs.Parts.{HoldsList, IsRecorded, SpellsPart}
+use Rattle.wu_lists.specs.declared.blocks.Block.{Block}
+use Rattle.wu_lists.specs.Blocks.{entry_of}
+use Rattle.wu_lists.specs.Fetching.{AreFetched, HasEntry, HasTerm}
+use Rattle.wu_lists.specs.Keeping.{AreHeld, Asks, Kept}
+use Rattle.wu_parts.specs.Contents.{Contents}
+use Rattle.wu_parts.specs.Holdings.{AreKept, HoldParts}
+use Rattle.wu_parts.specs.Memory.{held}
+use Rattle.wu_lists.specs.Ascending.{AscendBetween}
+use Rattle.wu_parts.specs.StoredParts.{AreFetchedFrom, SpansAscend, directories_of, records_of}
+use Rattle.wu_parts.specs.declared.writing.StoredPart.{StoredPart}
+use Rattle.wu_lists.proofs.Ascending.{ascend-join, ascend-lower}
+use Rattle.wu_layout.proofs.EachLemmas.{each-append}
+
+-- a term stands somewhere or nowhere
+in_terms : (term : List ℕ) (ps : List Posting) → Has term (all_terms ps) ⊎ (addresses_of term ps ≡ [])
+in_terms term [] = inr refl
+in_terms term (p ∷ ps) =
+    elim (is_of term p) as
+    (λ b. is_of term p ≡ b
+    → Has term (all_terms (p ∷ ps))
+    ⊎ (map (λ (q : Posting). q.address) (cond b (p ∷ filter (is_of term) ps) (filter (is_of term) ps)) ≡ [])) [
+      | true ↦ λ t. inl (inl (same_text p.term term (sym t)))
+      | false ↦ λ f.
+          ⊎_elim (λ (i : Has term (all_terms ps)). inl (inr i)) (λ (e : addresses_of term ps ≡ []). inr e) (in_terms term ps)
+    ] refl
+
+module _ (low : ℕ) (bytes : List ℕ) (term : List ℕ) (ps : List Posting) where
+  entry_found : (entries : List TermEntry) (terms : List (List ℕ)) → AllZip (HoldsList low bytes) entries (map (list_of ps) terms)
+      → Has term terms ⊎ (addresses_of term ps ≡ []) → HasEntry low bytes term (entry_of entries term) (addresses_of term ps)
+  entry_found [] [] z h = ⊎_elim (λ i. absurd i) (λ e. e) h
+  entry_found [] (t ∷ terms) z h = absurd z
+  entry_found (entry ∷ entries) [] z h = absurd z
+  entry_found (entry ∷ entries) (t ∷ terms) z h =
+      elim (pointwise nat_eq entry.term term) as
+      (λ b. pointwise nat_eq entry.term term ≡ b
+      → HasEntry low bytes term (cond b (Some entry) (entry_of entries term)) (addresses_of term ps)) [
+        | true ↦ λ e.
+            let same : t ≡ term = sym z.0.term ∙ same_text entry.term term (sym e) in
+            subst (λ (x : List ℕ). HoldsList low bytes entry (list_of ps x)) same z.0
+        | false ↦ λ f.
+            entry_found entries terms z.1
+            (⊎_elim
+            (λ (i : (t ≡ term) ⊎ Has term terms).
+            ⊎_elim
+            (λ (e : t ≡ term).
+            let same : pointwise nat_eq entry.term term ≡ true =
+            ap (λ (x : List ℕ). pointwise nat_eq x term) (z.0.term ∙ e) ∙ nat_list_eq_equiv.refl term in absurd cc)
+            (λ (j : Has term terms). inl j)
+            i)
+            (λ (e : addresses_of term ps ≡ []). inr e)
+            h)
+      ] refl
+
+-- a part has each term at the addresses of its postings
+pub has_term : (directory : PartDirectory) (term bytes : List ℕ) (ps : List Posting) → SpellsPart directory (lists_of ps) bytes
+    → HasTerm directory term bytes (addresses_of term ps)
+has_term directory term bytes ps s =
+    entry_found directory.low bytes term ps directory.terms (terms_of ps) s.lists_held
+    (⊎_elim
+    (λ (i : Has term (all_terms ps)). inl (has-sorted_once nat_list_cmp_total exact_bytes term (all_terms ps) i))
+    (λ (e : addresses_of term ps ≡ []). inr e)
+    (in_terms term ps))
+
+kept_after : (content : Content) (records : List PartRec) (old new : Kept)
+    → ((blob : ℕ) (bytes : List ℕ) → content.blobs blob ≡ Some bytes → AreHeld blob bytes old → AreHeld blob bytes new)
+    → AreKept content records old → AreKept content records new
+kept_after content [] old new f a = tt
+kept_after content (recorded ∷ records) old new f a =
+    ((λ bytes e. f recorded.blob bytes e (a.0 bytes e)), kept_after content records old new f a.1)
+
+pub fetched-none : (term : List ℕ) (frames : List Range) (holds : Option Content) (kept : Kept)
+    → AreFetchedFrom [] term frames holds kept []
+fetched-none term frames None kept = record { ascend = λ low high s. s; live = tt; told = tt }
+fetched-none term frames (Some content) kept = record { ascend = λ low high s. s; live = tt; told = none }
+  where
+    none : (stored : List Part) → HoldParts content [] [] stored → AreKept content [] kept → [] ≡ fetched frames (stored_in stored) term
+    none [] h k = refl
+    none (part ∷ parts) h k = absurd h
+
+module _ (part : StoredPart) (later : List StoredPart) (term : List ℕ) (frames : List Range) (old middle : Kept) (more rest : List ℕ)
+    (told : IsRecorded part.recorded part.directory) where
+  told_both : (holds : Option Content)
+      → IfSome holds (λ content. (bytes addresses : List ℕ) → content.blobs part.recorded.blob ≡ Some bytes
+      → AreHeld part.recorded.blob bytes old → HasTerm part.directory term bytes addresses → more ≡ filter (is_live frames) addresses)
+      → IfSome holds (λ content. (stored : List Part) → HoldParts content (records_of later) (directories_of later) stored
+      → AreKept content (records_of later) middle → rest ≡ fetched frames (stored_in stored) term)
+      → IfSome holds (λ content. (blob : ℕ) (bytes : List ℕ) → content.blobs blob ≡ Some bytes → AreHeld blob bytes old
+      → AreHeld blob bytes middle)
+      → IfSome holds (λ content. (stored : List Part)
+      → HoldParts content (records_of (part ∷ later)) (directories_of (part ∷ later)) stored
+      → AreKept content (records_of (part ∷ later)) old → more ++ rest ≡ fetched frames (stored_in stored) term)
+  told_both None a b h = tt
+  told_both (Some content) a b h = both
+    where
+      both : (stored : List Part) → HoldParts content (records_of (part ∷ later)) (directories_of (part ∷ later)) stored
+          → AreKept content (records_of (part ∷ later)) old → more ++ rest ≡ fetched frames (stored_in stored) term
+      both [] p k = absurd p
+      both (first ∷ stored) p k =
+          let there : content.blobs part.recorded.blob ≡ Some p.0.bytes = ap content.blobs p.0.record_of.blob ∙ p.0.held in
+          let mine : more ≡ filter (is_live frames) (addresses_of term first.postings) =
+          a p.0.bytes (addresses_of term first.postings) there (k.0 p.0.bytes there)
+          (has_term part.directory term p.0.bytes first.postings p.0.spelled) in
+          let others : rest ≡ filter (is_live frames) (addresses_of term (stored_in stored)) =
+          b stored p.1 (kept_after content (records_of later) old middle h k.1) in
+          ap₂ (λ (xs ys : List ℕ). xs ++ ys) mine others
+          ∙ sym (filter-append (is_live frames) (addresses_of term first.postings) (addresses_of term (stored_in stored)))
+          ∙ ap (filter (is_live frames)) (sym (addresses_of-append term first.postings (stored_in stored)))
+
+  pub fetched-first : (holds : Option Content) (blocks : List Block) (ranges ranges_now : Option (List ReadRange))
+      → AreFetched (HasTerm part.directory term) frames part.recorded.blob part.directory.low (part.directory.high + 1) holds old more
+      → Asks blocks holds old middle ranges ranges_now
+      → AreFetchedFrom later term frames holds middle rest → AreFetchedFrom (part ∷ later) term frames holds old (more ++ rest)
+  fetched-first holds blocks ranges ranges_now f a b = record {
+    ascend = λ low high s.
+        ascend-join low (part.recorded.high + 1) high more rest
+        (ascend-lower low part.directory.low (part.recorded.high + 1) more (omega (arith, s.0, told.low))
+        (subst (λ (n : ℕ). AscendBetween part.directory.low (n + 1) more) told.high f.ascend))
+        (b.ascend (part.recorded.high + 1) high s.2);
+    live = each-append (λ address. is_live frames address ≡ true) more rest f.live b.live;
+    told = told_both holds f.told b.told a.held;
+  }
+
+-- the addresses in parts, and then those in memory
+pub ascend-both : (parts slice : List StoredPart) (low end : ℕ) (found more : List ℕ) → slice ≡ parts → SpansAscend 0 low parts
+    → ((from to : ℕ) → SpansAscend from to slice → AscendBetween from to found) → AscendBetween low end more
+    → AscendBetween 0 end (found ++ more)
+ascend-both parts slice low end found more sliced spans first last =
+    ascend-join 0 low end found more (first 0 low (subst (SpansAscend 0 low) (sym sliced) spans)) last
+
+-- what is made of the addresses in parts and those in memory, as contracts see it
+pub told-seen : {X : Type 0} (made_of : List ℕ → X) (old fields : Contents) (parts slice : List StoredPart) → fields ≡ old
+    → fields.parts ≡ records_of parts → fields.directories ≡ directories_of parts → slice ≡ parts → (term : List ℕ) (frames : List Range)
+    (holds : Option Content) (more : List ℕ) (all : X)
+    → IfSome holds (λ content. (stored : List Part) → HoldParts content (records_of slice) (directories_of slice) stored
+    → AreKept content (records_of slice) fields.kept → more ≡ fetched frames (stored_in stored) term)
+    → all ≡ made_of (more ++ filter (is_live frames) (held fields.memory term))
+    → IfSome holds (λ content. (stored : List Part) → HoldParts content old.parts old.directories stored
+    → AreKept content old.parts old.kept
+    → all ≡ made_of (fetched frames (stored_in stored) term ++ filter (is_live frames) (held old.memory term)))
+told-seen made_of old fields parts slice e p d s term frames holds more all told is =
+    subst
+    (λ (seen : Contents). IfSome holds (λ content. (stored : List Part) → HoldParts content seen.parts seen.directories stored
+    → AreKept content seen.parts seen.kept
+    → all ≡ made_of (fetched frames (stored_in stored) term ++ filter (is_live frames) (held seen.memory term))))
+    e (of_fields holds told)
+  where
+    of_fields : (told_by : Option Content)
+        → IfSome told_by (λ content. (stored : List Part) → HoldParts content (records_of slice) (directories_of slice) stored
+        → AreKept content (records_of slice) fields.kept → more ≡ fetched frames (stored_in stored) term)
+        → IfSome told_by (λ content. (stored : List Part) → HoldParts content fields.parts fields.directories stored
+        → AreKept content fields.parts fields.kept
+        → all ≡ made_of (fetched frames (stored_in stored) term ++ filter (is_live frames) (held fields.memory term)))
+    of_fields None t = tt
+    of_fields (Some content) t = λ stored h k.
+        let records : fields.parts ≡ records_of slice = p ∙ ap records_of (sym s) in
+        let directories : fields.directories ≡ directories_of slice = d ∙ ap directories_of (sym s) in
+        is
+        ∙ ap (λ (l : List ℕ). made_of (l ++ filter (is_live frames) (held fields.memory term)))
+        (t stored
+        (subst (λ (ds : List PartDirectory). HoldParts content (records_of slice) ds stored) directories
+        (subst (λ (rs : List PartRec). HoldParts content rs fields.directories stored) records h))
+        (subst (λ (rs : List PartRec). AreKept content rs fields.kept) records k))
+
+-- the parts' addresses were put after none, and then those in memory
+pub put_both : (none found all parts more : List ℕ) → none ≡ [] → found ≡ none ++ parts → all ≡ found ++ more → all ≡ parts ++ more
+put_both none found all parts more n f a = a ∙ ap (λ (l : List ℕ). l ++ more) (f ∙ ap (λ (l : List ℕ). l ++ parts) n)

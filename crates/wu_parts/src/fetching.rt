@@ -1,0 +1,133 @@
+//! The addresses of a term, in the parts and in memory, and their number.
+ghost use Rattle.std.specs.Prelude.{◌≡◌, ◌+◌, ◌≤◌, ◌++◌, ℕ, List, true, All, filter, zip, IfOk, IfErr, IfSome, OnOk};
+ghost use Rattle.std.specs.List.{AllByRecursion};
+ghost use Rattle.std.specs.List.Sorted.{IsStrictlyIncreasing};
+ghost use Rattle.wu_layout.specs.Layouts.{Part, stored_in as postings_in};
+ghost use Rattle.wu_layout.specs.Postings.{fetched, is_live};
+ghost use Rattle.wu_space.specs.Addresses.{AreApart};
+ghost use Rattle.wu_parts.specs.Memory.{held};
+ghost use Rattle.wu_lists.specs.Keeping.{Asks};
+ghost use Rattle.wu_lists.specs.Tallying.{tally_of};
+ghost use Rattle.wu_parts.specs.Causes.{IsPartsCause};
+ghost use Rattle.wu_parts.specs.Holdings.{AreKept, HoldParts, all_needed};
+
+use crate::parts::Parts;
+use crate::reading::walk_parts;
+use wu_base::{ADDRESSES_MAX, NoMemory, Range, Sequence, Trouble};
+use wu_lists::{Tally, Unasked};
+use wu_outside::Store;
+
+impl Parts {
+    /// The addresses of the term in memory that lie in the frames, ascending. Frames and addresses are walked
+    /// side by side by galloping: the number of steps is at most that of the frames, and at most that of the
+    /// addresses. The only error is out of memory.
+    pub fn fetch_memory(&self, term: &[u8], frames: &[Range]) -> Result<Sequence<u64>, NoMemory>
+        requires apart { AreApart frames.now }
+        requires bounded { All (λ frame. frame.start + frame.len ≤ ADDRESSES_MAX) frames.now }
+        ensures addresses { IfOk result (λ found. found ≡ filter (is_live frames.now) (held self.now.memory term.now)) }
+        ensures ascending { IfOk result IsStrictlyIncreasing }
+    {
+        self.memory.fetch(term, frames)
+    }
+
+    /// The addresses of the term that lie in the frames, ascending: those in the parts, from left to right, and
+    /// then those in memory. Of the parts only those blocks of the term are read that the frames need and that
+    /// aren't kept, each in one read; they are kept then.
+    ///
+    /// A part is damaged where its blob is absent, or where a block that is read of it isn't one as its
+    /// directory tells.
+    pub fn fetch<D: Store>(
+        &mut self,
+        store: &mut D,
+        term: &[u8],
+        frames: &[Range],
+    ) -> Result<Sequence<u64>, Trouble>
+        requires apart { AreApart frames.now }
+        requires bounded { All (λ frame. frame.start + frame.len ≤ ADDRESSES_MAX) frames.now }
+        ensures addresses { IfOk result (λ found. IfSome (D.holds store.old) (λ content. (parts : List Part)
+            → HoldParts content self.old.parts self.old.directories parts → AreKept content self.old.parts self.old.kept
+            → found ≡ fetched frames.now (postings_in parts) term.now ++ filter (is_live frames.now) (held self.old.memory term.now))) }
+        ensures ascending { IfOk result IsStrictlyIncreasing }
+        ensures live { IfOk result (λ found. AllByRecursion (λ address. is_live frames.now address ≡ true) found) }
+
+        ensures blocks { OnOk result (Asks (all_needed (zip self.old.parts self.old.directories) term.now frames.now) (D.holds store.old)
+            self.old.kept self.new.kept (D.reads store.old) (D.reads store.new)) }
+        ensures others { self.new ≡ record self.old { kept = self.new.kept } }
+
+        ensures holds { D.holds store.new ≡ D.holds store.old }
+        ensures moments { D.moments store.new ≡ D.moments store.old }
+        ensures calm { OnOk result (D.faults store.new ≡ D.faults store.old) }
+        ensures cause { IfErr result (IsPartsCause self.old.kept (zip self.old.parts self.old.directories) term.now frames.now
+            (D.holds store.old) (D.faults store.old) (D.faults store.new) (D.reads store.old) (D.reads store.new)) }
+    {
+        let mut found = Vec::new(self.alloc);
+        let parts = self.parts.as_slice();
+        walk_parts(store, &mut self.lists, parts, term, frames, &mut found)?;
+        self.memory.fetch_into(term, frames, &mut found)?;
+        Ok(Sequence::from(found))
+    }
+
+    /// How many addresses [`Parts::fetch`] gives, and in how many of the frames one lies. Asks for the same blocks.
+    /// Of the addresses in parts no list is made but a block's at a time; of those in memory one is, from the start
+    /// of the first frame on.
+    ///
+    /// A part is damaged where [`Parts::fetch`] would find it so.
+    pub fn tally<D: Store>(
+        &mut self,
+        store: &mut D,
+        term: &[u8],
+        frames: &[Range],
+    ) -> Result<Tally, Trouble>
+        requires apart { AreApart frames.now }
+        requires bounded { All (λ frame. frame.start + frame.len ≤ ADDRESSES_MAX) frames.now }
+        ensures tally { IfOk result (λ tally. IfSome (D.holds store.old) (λ content. (parts : List Part)
+            → HoldParts content self.old.parts self.old.directories parts → AreKept content self.old.parts self.old.kept
+            → tally ≡ tally_of frames.now
+            (fetched frames.now (postings_in parts) term.now ++ filter (is_live frames.now) (held self.old.memory term.now)))) }
+        ensures counted { IfOk result (λ tally. (found : List ℕ) × IsStrictlyIncreasing found
+            × AllByRecursion (λ address. is_live frames.now address ≡ true) found × (tally ≡ tally_of frames.now found)) }
+
+        ensures blocks { OnOk result (Asks (all_needed (zip self.old.parts self.old.directories) term.now frames.now) (D.holds store.old)
+            self.old.kept self.new.kept (D.reads store.old) (D.reads store.new)) }
+        ensures others { self.new ≡ record self.old { kept = self.new.kept } }
+
+        ensures holds { D.holds store.new ≡ D.holds store.old }
+        ensures moments { D.moments store.new ≡ D.moments store.old }
+        ensures calm { OnOk result (D.faults store.new ≡ D.faults store.old) }
+        ensures cause { IfErr result (IsPartsCause self.old.kept (zip self.old.parts self.old.directories) term.now frames.now
+            (D.holds store.old) (D.faults store.old) (D.faults store.new) (D.reads store.old) (D.reads store.new)) }
+    {
+        let mut tally = Tally::new();
+        let parts = self.parts.as_slice();
+        walk_parts(store, &mut self.lists, parts, term, frames, &mut tally)?;
+        self.memory.tally_into(term, frames, &mut tally)?;
+        Ok(tally)
+    }
+
+    /// Asks for the blocks of the term that the frames need in the parts, from left to right, as [`Parts::fetch`]
+    /// does, and gives no addresses: for a caller who knows them and owes the reads. Memory isn't asked.
+    ///
+    /// A part is damaged where [`Parts::fetch`] would find it so.
+    pub fn touch<D: Store>(
+        &mut self,
+        store: &mut D,
+        term: &[u8],
+        frames: &[Range],
+    ) -> Result<(), Trouble>
+        requires apart { AreApart frames.now }
+        requires bounded { All (λ frame. frame.start + frame.len ≤ ADDRESSES_MAX) frames.now }
+        ensures blocks { OnOk result (Asks (all_needed (zip self.old.parts self.old.directories) term.now frames.now) (D.holds store.old)
+            self.old.kept self.new.kept (D.reads store.old) (D.reads store.new)) }
+        ensures others { self.new ≡ record self.old { kept = self.new.kept } }
+
+        ensures holds { D.holds store.new ≡ D.holds store.old }
+        ensures moments { D.moments store.new ≡ D.moments store.old }
+        ensures calm { OnOk result (D.faults store.new ≡ D.faults store.old) }
+        ensures cause { IfErr result (IsPartsCause self.old.kept (zip self.old.parts self.old.directories) term.now frames.now
+            (D.holds store.old) (D.faults store.old) (D.faults store.new) (D.reads store.old) (D.reads store.new)) }
+    {
+        let parts = self.parts.as_slice();
+        walk_parts(store, &mut self.lists, parts, term, frames, &mut Unasked)?;
+        Ok(())
+    }
+}
