@@ -9,11 +9,15 @@ pub mod PathsUp
 pub mod PathsDown
 pub mod ListTests
 pub mod ReachedDirectories
+pub mod HungNodes
+pub mod MadeMaps
+pub mod LinkRuns
 pub mod RebuiltTrees
 pub mod Renames
 pub mod UserGroups
 pub mod DirectoryHeights
 pub mod LowDirectories
+pub mod WalkedDirectories
 pub mod EffectLemmas
 pub mod EventRules
 pub mod KeptTrees

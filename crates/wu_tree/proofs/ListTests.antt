@@ -71,7 +71,7 @@ module _ {X K : Type 0} {cmp : K → K → Ordering} (o : IsTotalOrder cmp) (key
       let first : cmp (key x) (key y) ≡ Less = h 0 x (omega arith) in
       ((first, all_above o (key x) (key y) (map key ys) first later.0), later)
 
-  neighbours : (xs : List X) → IsStrictlySortedBy cmp (map key xs) → (k : ℕ) (d : X) → k + 1 < length xs
+  pub neighbours : (xs : List X) → IsStrictlySortedBy cmp (map key xs) → (k : ℕ) (d : X) → k + 1 < length xs
       → cmp (key (get_or xs k d)) (key (get_or xs (k + 1) d)) ≡ Less
   unfolding IsStrictlySortedBy
   neighbours [] s k d l = absurd (omega arith)
@@ -124,11 +124,6 @@ module _ {X K V : Type 0} {cmp : K → K → Ordering} (o : IsTotalOrder cmp) (f
       rw g (ap (λ (l : List (K × V)). f y ∷ l) (grown ys i x (omega arith) e s.1) ∙ ap (λ (k : ℕ). map f (take k (y ∷ ys))) n)
 
 module _ {X : Type 0} where
-  pub get_again : (xs : List X) (i : ℕ) (d : X) → i < length xs → get_or xs i (get_or xs i d) ≡ get_or xs i d
-  get_again [] i d l = absurd (omega arith)
-  get_again (y ∷ ys) zero d l = refl
-  get_again (y ∷ ys) (suc i) d l = get_again ys i d (omega arith)
-
   pub more_mapped : {Y : Type 0} (f : X → Y) (xs : List X) (i : ℕ) (x : X) → i < length xs → get_or xs i x ≡ x
       → map f (take i xs) ++ f x ∷ [] ≡ map f (take (i + 1) xs)
   more_mapped f [] i x l e = absurd (omega arith)

@@ -19,7 +19,7 @@ use Rattle.wu_tree.specs.Steps.{is_too_deep}
 use Rattle.wu_tree.specs.Rules.{IsLink, Hangs, IsTree}
 use Rattle.wu_base.proofs.MapEntries.{All-found, all_found}
 use Rattle.wu_tree.proofs.ParentPaths.{same_number, has_root, path_is, reached, directory_found, climb}
-use Rattle.wu_tree.proofs.PathsUp.{step_up, same_climb, no_climb, walk_met, steps_and_rest}
+use Rattle.wu_tree.proofs.PathsUp.{step_up, same_climb, no_climb, short, walk_met, steps_and_rest}
 
 pub no_first : (a b : Bool) → a ≡ false → (a && b) ≡ false
 no_first true b h = absurd cc
@@ -227,6 +227,21 @@ module _ (fs : FileSystem) (t : IsTree fs) where
       let w : through d (ancestors fs.links 255 i.0)
       ≡ true = through_parent fs.links f.0 d 255 i.0 (root_up i.0 i.1.0) (sym (up_path f.0 i.0) ∙ i.1.1.0) p.0 p.1 in
       (i.0, (i.1.0, (up_path d i.0 ∙ w, omega (arith, i.1.1.1, one_deeper d f.0 b.0 h p.0 p.1))))
+
+  -- no directory lies so many levels below the root
+  pub no_deeper : reaches fs 255 1 ≡ false
+  no_deeper =
+      elim (reaches fs 255 1) as (λ b. reaches fs 255 1 ≡ b → b ≡ false) [
+        | true ↦ λ r.
+            let f = reaches_deeper 255 1 t.root r in
+            let root : 1 ≤ length (ancestors fs.links 255 1) = some_step (ancestors fs.links 255 1) (root_up 1 t.root) in
+            absurd (omega (arith, f.1.1.1, short fs.links 255 f.0, root, ap length (path_is fs.links f.0), ap length (path_is fs.links 1)))
+        | false ↦ λ r. refl
+      ] refl
+    where
+      some_step : (path : List ℕ) → has_root path ≡ true → 1 ≤ length path
+      some_step [] h = absurd cc
+      some_step (q ∷ path) h = omega arith
 
   deeper_reaches : (n d q : ℕ) → is_directory fs d ≡ true → Deeper n d q → reaches fs n d ≡ true
   unfolding reaches

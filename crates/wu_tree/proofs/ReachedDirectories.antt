@@ -1,28 +1,25 @@
 -- Which directories a walk from the root reaches, and how nodes hang.
-use Rattle.std.proofs.Common.{◌≡◌, ◌≢◌, ℕ, zero, suc, ◌+◌, ◌-◌, ◌≤◌, List, [], ◌∷◌, ◌++◌, length, refl, ap, sym, ◌∙◌, subst, Bool, true, false, cond, not, ◌||◌, arith, inl, inr, ⊎_elim}
-use Rattle.std.specs.Prelude.{Option, None, Some, map, ◌==◌}
-use Rattle.std.specs.declared.cmp.Ordering.TheVariants.{Less, Equal, Greater}
-use Rattle.std.specs.Ordering.{nat_cmp, is_eq, match_ordering}
-use Rattle.std.specs.List.{AllByRecursion, list_any, list_all, flat_map, fold}
+use Rattle.std.proofs.Common.{◌≡◌, ◌≢◌, ℕ, zero, suc, ◌+◌, ◌-◌, ◌≤◌, List, [], ◌∷◌, ◌++◌, length, refl, ap, sym, ◌∙◌, subst, Bool, true, false, cond, not, arith, inl, inr, ⊎_elim}
+use Rattle.std.specs.Prelude.{Option, None, Some, ◌==◌}
+use Rattle.std.specs.Ordering.{nat_cmp}
+use Rattle.std.specs.List.{AllByRecursion, list_any, list_all, flat_map}
 use Rattle.std.specs.List.Sorted.{IsStrictlySortedBy}
 use Rattle.std.specs.Map.{keys_of}
-use Rattle.std.specs.BTreeMap.{is_at}
-use Rattle.std.specs.BTreeSet.{insert_key}
 use Rattle.std.proofs.lemmas.List.Sums.{sum_by-cons}
-use borrow.Author.Tests.{eqb-true, eq-eqb, ne_eqb}
+use borrow.Author.Tests.{eqb-true, eq-eqb}
 use Rattle.std.proofs.lemmas.Bool.{and_parts, and_from, or_cases, or_right}
 use Rattle.std.specs.Cmp.{both_ways}
 use Rattle.wu_base.proofs.Members.{Has, any_has, has_any, all_has, Has-flat_map, flat_map_has}
 use Rattle.wu_tree.specs.declared.events.Kind.{Kind}
 use Rattle.wu_tree.specs.declared.events.Kind.TheVariants.{Directory, File}
 use Rattle.wu_tree.specs.declared.events.Node.{Node}
-use Rattle.wu_tree.specs.FileSystems.{FileSystem, Link, is_directory, is_directory_node, is_kind_file, node_of, is_within, link_count, parent_of, ancestors, entries_of}
+use Rattle.wu_tree.specs.FileSystems.{FileSystem, Link, is_directory, is_directory_node, is_kind_file, node_of, is_within, link_count, parent_of, ancestors}
 use Rattle.wu_tree.specs.Paths.{children_of}
 use Rattle.wu_tree.specs.Lists.{hung_by, hung_of, one_more, below, hold_of, hung_once, is_hung, linked_test, reached_test}
 use Rattle.wu_tree.specs.Inodes.{IsHeld}
 use Rattle.wu_tree.specs.Rules.{IsLink, Hangs}
-use Rattle.wu_base.proofs.MapEntries.{number_itself, all_found, All-map, All-map2}
-use Rattle.wu_tree.proofs.ParentPaths.{same_number, has_root, path_is, directory_found}
+use Rattle.wu_base.proofs.MapEntries.{all_found, All-map, All-map2}
+use Rattle.wu_tree.proofs.ParentPaths.{has_root, path_is, directory_found}
 use Rattle.wu_tree.proofs.PathsUp.{one_up, stable, short, no_climb, step_up}
 use Rattle.wu_tree.proofs.PathsDown.{has_counted, child_parent, parent_child, parent_has, parent_there, linked_once, found_has}
 
@@ -63,33 +60,25 @@ orphan (k ∷ links) ino h =
     ] refl h
 
 pub hung-append : (links : List Link) (l : Link) (ino : ℕ)
-    → hung_of (links ++ l ∷ []) ino ≡ cond (is_eq (nat_cmp ino l.1)) (Some (one_more (hung_of links l.1) l.0.0)) (hung_of links ino)
+    → hung_of (links ++ l ∷ []) ino ≡ cond (l.1 == ino) (Some (one_more (hung_of links ino) l.0.0)) (hung_of links ino)
 hung-append links l ino =
-    elim (is_eq (nat_cmp ino l.1)) as
-    (λ b. is_eq (nat_cmp ino l.1) ≡ b
-    → hung_of (links ++ l ∷ []) ino ≡ cond b (Some (one_more (hung_of links l.1) l.0.0)) (hung_of links ino)) [
-      | true ↦ λ p.
-          let e : ino ≡ l.1 = same_number ino l.1 p in
-          subst (λ (q : ℕ). hung_of (links ++ l ∷ []) q ≡ Some (one_more (hung_of links l.1) l.0.0)) (sym e)
-          (let t : (l.1 == l.1) ≡ true = eq-eqb l.1 l.1 refl in
-          let n : link_count (links ++ l ∷ []) l.1 ≡ link_count links l.1 + 1 = count-append links l l.1
-          ∙ ap (λ (b : Bool). link_count links l.1 + cond b 1 0) t in
-          ap (λ (k : ℕ). hung_by k (parent_of (links ++ l ∷ []) l.1)) n
-          ∙ ap (hung_by (link_count links l.1 + 1))
-          (parent-append links l l.1 ∙ ap (λ (b : Bool). or_else (parent_of links l.1) (cond b (Some l.0.0) None)) t)
-          ∙ elim (parent_of links l.1) as
-          (λ o. parent_of links l.1 ≡ o
-          → hung_by (link_count links l.1 + 1) (or_else o (Some l.0.0)) ≡ Some (one_more (hung_by (link_count links l.1) o) l.0.0)) [
-            | None ↦ λ g. let z : link_count links l.1 + 1
-                ≡ 1 = omega (arith, orphan links l.1 g) in ap (λ (k : ℕ). Some (record { parent = l.0.0; count = k })) z
+    elim (l.1 == ino) as
+    (λ b. (l.1 == ino) ≡ b
+    → hung_of (links ++ l ∷ []) ino ≡ cond b (Some (one_more (hung_of links ino) l.0.0)) (hung_of links ino)) [
+      | true ↦ λ t.
+          let n : link_count (links ++ l ∷ []) ino ≡ link_count links ino + 1 = count-append links l ino
+          ∙ ap (λ (b : Bool). link_count links ino + cond b 1 0) t in
+          ap (λ (k : ℕ). hung_by k (parent_of (links ++ l ∷ []) ino)) n
+          ∙ ap (hung_by (link_count links ino + 1))
+          (parent-append links l ino ∙ ap (λ (b : Bool). or_else (parent_of links ino) (cond b (Some l.0.0) None)) t)
+          ∙ elim (parent_of links ino) as
+          (λ o. parent_of links ino ≡ o
+          → hung_by (link_count links ino + 1) (or_else o (Some l.0.0)) ≡ Some (one_more (hung_by (link_count links ino) o) l.0.0)) [
+            | None ↦ λ g. let z : link_count links ino + 1
+                ≡ 1 = omega (arith, orphan links ino g) in ap (λ (k : ℕ). Some (record { parent = l.0.0; count = k })) z
             | Some parent ↦ λ g. refl
-          ] refl)
-      | false ↦ λ p.
-          let t : (l.1 == ino)
-          ≡ false = ne_eqb l.1 ino
-          (λ e. let g : is_eq (nat_cmp ino ino)
-          ≡ false = subst (λ (q : ℕ). is_eq (nat_cmp ino q) ≡ false) e p in let f : is_eq (nat_cmp ino ino)
-          ≡ true = number_itself ino in cc) in
+          ] refl
+      | false ↦ λ t.
           let n : link_count (links ++ l ∷ []) ino ≡ link_count links ino = count-append links l ino
           ∙ ap (λ (b : Bool). link_count links ino + cond b 1 0) t ∙ omega arith in
           ap (λ (k : ℕ). hung_by k (parent_of (links ++ l ∷ []) ino)) n
@@ -103,92 +92,34 @@ module _ (fs : FileSystem) where
   abbrev pub further : ℕ → ℕ → List ℕ
   further n child = cond (is_directory fs child) (below fs n child) []
 
-  pub below-zero : (n directory : ℕ) → n ≡ 0 → below fs n directory ≡ []
-  unfolding below
-  below-zero zero directory h = refl
-  below-zero (suc n) directory h = absurd (omega arith)
-
   pub below-suc : (n directory : ℕ) → n ≢ 0 → below fs n directory ≡ directory ∷ flat_map (further (n - 1)) (children_of fs.links directory)
   unfolding below
   below-suc zero directory h = absurd (h refl)
   below-suc (suc n) directory h = let e : suc n - 1 ≡ n = omega arith in rw e refl
 
-  pub below-none : (n directory : ℕ) → n ≢ 0 → entries_of fs.links directory ≡ [] → below fs n directory ≡ directory ∷ []
-  below-none n directory h g = below-suc n directory h
-      ∙ ap (λ (l : List (List ℕ × ℕ)). directory ∷ flat_map (further (n - 1)) (map (λ e. e.1) l)) g
-
 pub flat_skip : (test : ℕ → Bool) (f : ℕ → List ℕ) (x : ℕ) (xs : List ℕ) → test x ≡ false
     → flat_map (λ child. cond (test child) (f child) []) (x ∷ xs) ≡ flat_map (λ child. cond (test child) (f child) []) xs
 flat_skip test f x xs h = ap (λ (b : Bool). cond b (f x) [] ++ flat_map (λ child. cond (test child) (f child) []) xs) h
 
--- ---- what stands in a set
-or_turned : (a b : Bool) → (a || b) ≡ (b || a)
-or_turned true true = refl
-or_turned true false = refl
-or_turned false true = refl
-or_turned false false = refl
-
-or_grouped : (a b c : Bool) → (a || (b || c)) ≡ ((a || b) || c)
-or_grouped true b c = refl
-or_grouped false b c = refl
-
-or_nothing : (a : Bool) → a ≡ (a || false)
-or_nothing true = refl
-or_nothing false = refl
-
-or_within : (a b c : Bool) → (c ≡ true → a ≡ true) → (a || b) ≡ ((a || b) || c)
-or_within true b c h = refl
-or_within false true c h = refl
-or_within false false true h = absurd (let f : false ≡ true = h refl in cc)
-or_within false false false h = refl
-
-at_is : (q k : ℕ) → is_at (nat_cmp q) k ≡ (k == q)
-at_is q k = both_ways (is_at (nat_cmp q) k) (k == q) (λ h. eq-eqb k q (sym (same_number q k h)))
-    (λ h. subst (λ (x : ℕ). is_at (nat_cmp q) x ≡ true) (sym (eqb-true k q h)) (number_itself q))
-
-insert_any : (ks : List ℕ) (k q : ℕ)
-    → list_any (is_at (nat_cmp q)) (insert_key nat_cmp ks k) ≡ (list_any (is_at (nat_cmp q)) ks || (k == q))
-insert_any [] k q = sym (or_nothing (is_at (nat_cmp q) k)) ∙ at_is q k
-insert_any (x ∷ ks) k q =
-    elim (nat_cmp k x) as
-    (λ o. nat_cmp k x ≡ o
-    → list_any (is_at (nat_cmp q)) (match_ordering o (k ∷ x ∷ ks) (x ∷ ks) (x ∷ insert_key nat_cmp ks k))
-    ≡ (list_any (is_at (nat_cmp q)) (x ∷ ks) || (k == q))) [
-      | Less ↦ λ p. or_turned (is_at (nat_cmp q) k) (list_any (is_at (nat_cmp q)) (x ∷ ks))
-          ∙ ap (λ (b : Bool). list_any (is_at (nat_cmp q)) (x ∷ ks) || b) (at_is q k)
-      | Equal ↦ λ p.
-          or_within (is_at (nat_cmp q) x) (list_any (is_at (nat_cmp q)) ks) (k == q)
-          (λ h. let e : k ≡ x = same_number k x (ap is_eq p) in subst (λ (v : ℕ). is_at (nat_cmp q) v ≡ true) e (at_is q k ∙ h))
-      | Greater ↦ λ p. ap (λ (b : Bool). is_at (nat_cmp q) x || b) (insert_any ks k q)
-          ∙ or_grouped (is_at (nat_cmp q) x) (list_any (is_at (nat_cmp q)) ks) (k == q)
-    ] refl
-
-pub reached_any : (xs ks : List ℕ) (q : ℕ)
-    → list_any (is_at (nat_cmp q)) (fold (insert_key nat_cmp) ks xs) ≡ (list_any (is_at (nat_cmp q)) ks || list_any (λ x. x == q) xs)
-reached_any [] ks q = or_nothing (list_any (is_at (nat_cmp q)) ks)
-reached_any (x ∷ xs) ks q =
-    reached_any xs (insert_key nat_cmp ks x) q ∙ ap (λ (b : Bool). b || list_any (λ x. x == q) xs) (insert_any ks x q)
-    ∙ sym (or_grouped (list_any (is_at (nat_cmp q)) ks) (x == q) (list_any (λ x. x == q) xs))
-
 -- ---- what stands in lists of lists
 module _ {X : Type 0} where
-  all_tested : (p : X → Bool) (xs : List X) → list_all p xs ≡ true → AllByRecursion (λ x. p x ≡ true) xs
+  pub all_tested : (p : X → Bool) (xs : List X) → list_all p xs ≡ true → AllByRecursion (λ x. p x ≡ true) xs
   all_tested p [] h = tt
   all_tested p (x ∷ xs) h = let b = and_parts (p x) (list_all p xs) h in (b.0, all_tested p xs b.1)
 
-  tested_all : (p : X → Bool) (xs : List X) → AllByRecursion (λ x. p x ≡ true) xs → list_all p xs ≡ true
+  pub tested_all : (p : X → Bool) (xs : List X) → AllByRecursion (λ x. p x ≡ true) xs → list_all p xs ≡ true
   tested_all p [] a = refl
   tested_all p (x ∷ xs) a = and_from (p x) (list_all p xs) a.0 (tested_all p xs a.1)
 
 -- ---- what a walk down from the root reaches
 module _ (fs : FileSystem) where
-  further_has : (n c q : ℕ) → Has q (further fs n c) → (is_directory fs c ≡ true) × Has q (below fs n c)
+  pub further_has : (n c q : ℕ) → Has q (further fs n c) → (is_directory fs c ≡ true) × Has q (below fs n c)
   further_has n c q h =
       elim (is_directory fs c) as
       (λ b. is_directory fs c ≡ b → Has q (cond b (below fs n c) [])
       → (is_directory fs c ≡ true) × Has q (below fs n c)) [ true ↦ λ p g. (p, g) | false ↦ λ p g. absurd g ] refl h
 
-  has_further : (n c q : ℕ) → is_directory fs c ≡ true → Has q (below fs n c) → Has q (further fs n c)
+  pub has_further : (n c q : ℕ) → is_directory fs c ≡ true → Has q (below fs n c) → Has q (further fs n c)
   has_further n c q h g = rw h g
 
   to_more_levels : (n m d q : ℕ) → n ≤ m → Has q (below fs n d) → Has q (below fs m d)
@@ -280,12 +211,15 @@ hung_is links ino h =
     (λ o. parent_of links ino ≡ o → is_hung (hung_by (link_count links ino) o) ≡ true
     → 1 ≤ link_count links ino) [ None ↦ λ p g. absurd cc | Some parent ↦ λ p g. counted links ino parent p ] refl h
 
-is_held : (links : List Link) (ino : ℕ) (k : Kind) → Hangs links ino k → IsHeld links ino (hold_of k (hung_of links ino))
+is_held : (links : List Link) (ino : ℕ) (k : Kind) → linked_test ino k (hung_of links ino) ≡ true
+    → IsHeld links ino (hold_of k (hung_of links ino))
 is_held links ino Directory h =
-    elim (parent_of links ino) as (λ o. parent_of links ino ≡ o → IsHeld links ino (hold_of Directory (hung_by (link_count links ino) o))) [
-      | None ↦ λ p. ⊎_elim (λ e. inl e) (λ g. absurd (omega (arith, orphan links ino p, g.0))) h
-      | Some parent ↦ λ p. inr p
-    ] refl
+    elim (parent_of links ino) as
+    (λ o. linked_test ino Directory (hung_by (link_count links ino) o) ≡ true → parent_of links ino ≡ o
+    → IsHeld links ino (hold_of Directory (hung_by (link_count links ino) o))) [
+      | None ↦ λ t p. ⊎_elim (λ e. inl (eqb-true ino 1 e)) (λ g. absurd cc) (or_cases (ino == 1) false t)
+      | Some parent ↦ λ t p. inr p
+    ] h refl
 is_held links ino File h =
     elim (parent_of links ino) as (λ o. parent_of links ino ≡ o → IsHeld links ino (hold_of File (hung_by (link_count links ino) o))) [
       | None ↦ λ p. orphan links ino p
@@ -298,7 +232,7 @@ module _ (fs : FileSystem) (a : AllByRecursion (IsLink fs) fs.links) (s : IsStri
   links_tested e = linked_test e.0 e.1.kind (hung_of fs.links e.0)
 
   abbrev pub walk_meets : ℕ → Bool
-  walk_meets ino = list_any (is_at (nat_cmp ino)) (fold (insert_key nat_cmp) [] (below fs 255 1))
+  walk_meets ino = list_any (λ x. x == ino) (below fs 255 1)
 
   abbrev pub walk_tested : ℕ × Node → Bool
   walk_tested e = reached_test e.1.kind (walk_meets e.0)
@@ -334,7 +268,7 @@ module _ (fs : FileSystem) (a : AllByRecursion (IsLink fs) fs.links) (s : IsStri
           → linked_test q k (hung_of fs.links q) ≡ true → reached_test k (walk_meets q) ≡ true → Hangs fs.links q k
       by_kind once q Directory f t r =
           ⊎_elim (λ e. inl (eqb-true q 1 e))
-          (λ g. inr (once_is fs.links q g, sym (reached_any (below fs 255 1) [] q ∙ reached_is_within fs a once q (f refl)) ∙ r))
+          (λ g. inr (once_is fs.links q g, sym (reached_is_within fs a once q (f refl)) ∙ r))
           (or_cases (q == 1) _ t)
       by_kind once q File f t r = hung_is fs.links q t
 
@@ -348,8 +282,7 @@ module _ (fs : FileSystem) (a : AllByRecursion (IsLink fs) fs.links) (s : IsStri
 
   -- the walk begins at the root
   root_met : walk_meets 1 ≡ true
-  root_met = reached_any (below fs 255 1) [] 1
-      ∙ has_any (λ x. x == 1) 1 (below fs 255 1) (to_more_levels fs 1 255 1 1 (omega arith) (one_level fs 1)) refl
+  root_met = has_any (λ x. x == 1) 1 (below fs 255 1) (to_more_levels fs 1 255 1 1 (omega arith) (one_level fs 1)) refl
 
   pub walk_from_hang : AllByRecursion (λ e. Hangs fs.links e.0 e.1.kind) fs.nodes → list_all walk_tested fs.nodes ≡ true
   walk_from_hang h =
@@ -362,10 +295,10 @@ module _ (fs : FileSystem) (a : AllByRecursion (IsLink fs) fs.links) (s : IsStri
           → reached_test k (walk_meets q) ≡ true
       by_kind once q Directory f t =
           ⊎_elim (λ e. subst (λ x. walk_meets x ≡ true) (sym e) root_met)
-          (λ g. reached_any (below fs 255 1) [] q ∙ reached_is_within fs a once q (f refl) ∙ g.1) t
+          (λ g. reached_is_within fs a once q (f refl) ∙ g.1) t
       by_kind once q File f t = refl
 
-  pub each_held : AllByRecursion (λ e. Hangs fs.links e.0 e.1.kind) fs.nodes
+  pub each_held : list_all links_tested fs.nodes ≡ true
       → AllByRecursion (λ e. IsHeld fs.links e.0 (hold_of e.1.kind (hung_of fs.links e.0))) fs.nodes
-  each_held h = All-map (λ e. Hangs fs.links e.0 e.1.kind) (λ e. IsHeld fs.links e.0 (hold_of e.1.kind (hung_of fs.links e.0))) fs.nodes
-      (λ e g. is_held fs.links e.0 e.1.kind g) h
+  each_held h = All-map (λ e. links_tested e ≡ true) (λ e. IsHeld fs.links e.0 (hold_of e.1.kind (hung_of fs.links e.0))) fs.nodes
+      (λ e g. is_held fs.links e.0 e.1.kind g) (all_tested links_tested fs.nodes h)

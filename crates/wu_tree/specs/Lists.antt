@@ -1,10 +1,11 @@
 -- A file system told as lists, and what is counted and walked to see whether it is a tree.
-use Rattle.std.specs.Prelude.{ℕ, zero, suc, ◌+◌, Bool, true, false, ◌&&◌, ◌||◌, not, cond, ◌==◌, nat_le, Option, None, Some, List, [], ◌∷◌, map}
+use Rattle.std.specs.Prelude.{◌≡◌, ◌⊎◌, ◌<◌, ◌++◌, length, ℕ, zero, suc, ◌+◌, Bool, true, false, ◌&&◌, ◌||◌, not, cond, ◌==◌, nat_le, nat_lt, Option, None, Some, List, [], ◌∷◌, map}
 use Rattle.std.specs.declared.cmp.Ordering.{Ordering}
 use Rattle.std.specs.declared.cmp.Ordering.TheVariants.{Less, Equal, Greater}
 use Rattle.std.specs.Ordering.{nat_cmp}
-use Rattle.std.specs.List.{flat_map, list_all}
+use Rattle.std.specs.List.{AllByRecursion, Contains, flat_map, list_all, list_any}
 use Rattle.std.specs.Map.{keys_of}
+use Rattle.std.specs.BTreeMap.{is_at}
 use Rattle.wu_base.specs.declared.limits.TheConstants.{DEPTH_MAX}
 use Rattle.wu_access.specs.declared.UserRec.{UserRec}
 use Rattle.wu_tree.specs.declared.events.Kind.{Kind}
@@ -15,8 +16,10 @@ use Rattle.wu_tree.specs.declared.inodes.Inode.{Inode}
 use Rattle.wu_tree.specs.declared.inodes.Hold.{Hold}
 use Rattle.wu_tree.specs.declared.inodes.Hold.TheVariants.{Entries, Links}
 use Rattle.wu_tree.specs.declared.tallies.Hung.{Hung}
+use Rattle.wu_tree.specs.declared.tallies.HungNode.{HungNode}
 use Rattle.wu_tree.specs.FileSystems.{FileSystem, Link, place_cmp, is_directory, is_there, is_name, link_count, parent_of}
-use Rattle.wu_tree.specs.Paths.{children_of}
+use Rattle.wu_tree.specs.Paths.{children_of, reaches}
+use Rattle.wu_tree.specs.Inodes.{height_at}
 
 abbrev pub link_of : LinkRec → Link
 link_of link = ((link.parent, link.name), link.child)
@@ -27,6 +30,17 @@ user_of user = (user.uid, user.groups)
 -- the file system of these nodes, links and users
 abbrev pub listed : List (ℕ × Node) → List LinkRec → List UserRec → FileSystem
 listed nodes links users = record { nodes = nodes; links = map link_of links; users = map user_of users }
+
+-- a link's name, and the number of the node that it names
+abbrev pub named_child : LinkRec → List ℕ × ℕ
+named_child link = (link.name, link.child)
+
+-- the links begin with those of a directory, and the others stand in later ones
+pub record IsFirstRun (links : List LinkRec) (directory : ℕ) (these others : List LinkRec) : Type 0 where
+  pub all : links ≡ these ++ others
+  pub some : 0 < length these
+  pub here : AllByRecursion (λ l. l.parent ≡ directory) these
+  pub later : AllByRecursion (λ l. directory < l.parent) others
 
 abbrev pub is_less : Ordering → Bool
 is_less Less = true
@@ -61,6 +75,18 @@ abbrev pub one_more : Option Hung → ℕ → Hung
 one_more None parent = record { parent = parent; count = 1 }
 one_more (Some hung) parent = record { parent = hung.parent; count = hung.count + 1 }
 
+-- a node with how it hangs by the links
+abbrev pub hung_node : List Link → ℕ × Node → HungNode
+hung_node links node = record { ino = node.0; node = node.1; hung = hung_of links node.0 }
+
+-- the same with one more link, of that child in that parent
+abbrev pub with_link : ℕ → ℕ → HungNode → HungNode
+with_link parent child n = record n { hung = cond (child == n.ino) (Some (one_more n.hung parent)) n.hung }
+
+-- whether one of the nodes has that number
+abbrev pub has_number : List HungNode → ℕ → Bool
+has_number nodes ino = list_any (is_at (nat_cmp ino)) (map (λ n. n.ino) nodes)
+
 -- how a node that hangs so is held. The root counts as its own parent.
 abbrev pub hold_of : Kind → Option Hung → Hold
 hold_of Directory None = Entries 1
@@ -76,16 +102,26 @@ first_height File = 0
 abbrev pub inode_of : Option Hung → Node → Inode
 inode_of hung node = record { perm = node.perm; hold = hold_of node.kind hung; height = first_height node.kind }
 
--- the rules of a link, as a test
+-- the node is there and isn't the root
 abbrev pub child_test : FileSystem → ℕ → Bool
 child_test fs ino = is_there fs ino && not (ino == 1)
 
-abbrev pub link_test : FileSystem → Link → Bool
-link_test fs link = is_directory fs link.0.0 && child_test fs link.1 && is_name link.0.1
+-- each link names a node that is there and isn't the root
+abbrev pub children_test : List (ℕ × Node) → List LinkRec → Bool
+children_test nodes links = list_all (λ link. child_test (listed nodes [] []) link.child) links
 
--- there is a root, and each link keeps the rules of a link
+-- each node with how it hangs by the links, none of which names the root or no node
+pub record AreHung (nodes : List (ℕ × Node)) (links : List LinkRec) (hung : List HungNode) : Type 0 where
+  pub children : children_test nodes links ≡ true
+  pub nodes_hung : hung ≡ map (hung_node (map link_of links)) nodes
+
+-- a link stands in a directory, by a name
+abbrev pub stand_test : FileSystem → Link → Bool
+stand_test fs link = is_directory fs link.0.0 && is_name link.0.1
+
+-- there is a root, and each link stands in a directory, by a name
 abbrev pub place_test : FileSystem → List LinkRec → Bool
-place_test fs links = is_directory fs 1 && list_all (λ link. link_test fs (link_of link)) links
+place_test fs links = is_directory fs 1 && list_all (λ link. stand_test fs (link_of link)) links
 
 -- the directories at or below that one, to n levels
 unfoldable pub below : FileSystem → ℕ → ℕ → List ℕ
@@ -110,3 +146,13 @@ linked_test ino File hung = is_hung hung
 abbrev pub reached_test : Kind → Bool → Bool
 reached_test Directory is_reached = is_reached
 reached_test File is_reached = true
+
+-- a directory is less high than can be
+abbrev pub low_test : List (ℕ × Inode) → ℕ × Node → Bool
+low_test inodes node = reached_test node.1.kind (nat_lt (height_at inodes node.0) DEPTH_MAX)
+
+-- after a walk down from a directory, to n levels: no node but those it came to has another height, and those
+-- are low where none lies deeper
+pub record WasWalked (fs : FileSystem) (before after : List (ℕ × Inode)) (n directory : ℕ) : Type 0 where
+  pub alone : (ino : ℕ) → Contains (below fs n directory) ino ⊎ (height_at after ino ≡ height_at before ino)
+  pub low : reaches fs n directory ≡ false → (ino : ℕ) → Contains (below fs n directory) ino → height_at after ino < n

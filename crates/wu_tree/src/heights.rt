@@ -1,12 +1,13 @@
 //! Heights of directories, by which most renamings are checked without a walk down. A height may be more than
 //! how many levels of directories lie below, and is never less: it is raised where a directory comes to lie
 //! below, and falls no sooner than the directories below are looked at.
-ghost use Rattle.std.specs.Prelude.{◌≡◌, ◌≤◌, ℕ, true, is_some};
+ghost use Rattle.std.specs.Prelude.{◌≡◌, ◌≤◌, [], ℕ, true, is_some};
 ghost use Rattle.std.specs.Ordering.{nat_cmp};
 ghost use Rattle.std.specs.List.{AllByRecursion};
 ghost use Rattle.std.specs.Map.{lookup};
 ghost use Rattle.std.specs.BTreeMap.{get, is_at};
-ghost use Rattle.wu_tree.specs.Inodes.{AreHeights, IsHeld, height_at, height_over_at, higher_of, with_height, without_heights};
+ghost use Rattle.wu_tree.specs.Lists.{WasWalked};
+ghost use Rattle.wu_tree.specs.Inodes.{AreHeights, IsHeld, file_system, height_at, height_over_at, higher_of, with_height, without_heights};
 
 use crate::inodes::Inode;
 use crate::links::Links;
@@ -74,13 +75,14 @@ pub(crate) fn raise(inodes: &mut BTreeMap<Ino, Inode>, directory: Ino, height: u
 }
 
 /// Lowers a directory and those below it, down to so many levels: each to what the directories in it ask, where
-/// that is less than its height. Looks at each entry once.
-fn lower(inodes: &mut BTreeMap<Ino, Inode>, links: &Links, directory: Ino, levels: usize)
+/// that is less than its height. Looks at each entry once, and no further where it is a file.
+pub(crate) fn lower(inodes: &mut BTreeMap<Ino, Inode>, links: &Links, directory: Ino, levels: usize)
     requires held { AllByRecursion (λ e. IsHeld links.now e.0 e.1.hold) inodes.old.entries }
     requires heights { AreHeights inodes.old.entries }
     ensures nodes { without_heights inodes.new.entries ≡ without_heights inodes.old.entries }
     ensures heights { AreHeights inodes.new.entries }
     ensures lower { (ino : ℕ) → height_at inodes.new.entries ino ≤ height_at inodes.old.entries ino }
+    ensures walked { WasWalked (file_system inodes.old.entries links.now []) inodes.old.entries inodes.new.entries levels directory }
 {
     if levels == 0 {
         return;
@@ -91,8 +93,11 @@ fn lower(inodes: &mut BTreeMap<Ino, Inode>, links: &Links, directory: Ino, level
     };
     let mut height = 0;
     for child in names.values() {
-        lower(inodes, links, *child, levels - 1);
-        height = height_over(inodes, *child).max(height);
+        // A file asks for no height, and none stands below it.
+        if height_over(inodes, *child) > 0 {
+            lower(inodes, links, *child, levels - 1);
+            height = height_over(inodes, *child).max(height);
+        }
     }
     let height = height_of(inodes, directory).min(height);
     set_height(inodes, directory, height);

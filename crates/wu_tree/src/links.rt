@@ -1,9 +1,14 @@
 //! The links of a tree: in each directory the names and what they name.
-ghost use Rattle.std.specs.Prelude.{◌≡◌, [], true, false, map, MatchOption, OnOk, OnErr};
-ghost use Rattle.std.specs.Map.{lookup, remove_entry};
+ghost use Rattle.std.specs.Prelude.{◌≡◌, [], true, false, map, IfOk, MatchOption, OnOk, OnErr};
+ghost use Rattle.std.specs.Ordering.{nat_cmp};
+ghost use Rattle.std.specs.Cmp.Lexicographic.{slice_cmp};
+ghost use Rattle.std.specs.List.Sorted.{IsStrictlySortedBy};
+ghost use Rattle.std.specs.Map.{keys_of, lookup, remove_entry};
 ghost use Rattle.std.specs.BTreeMap.{is_at, insert_entry};
 ghost use Rattle.wu_tree.specs.FileSystems.{entries_of, place_cmp, has_entries};
+ghost use Rattle.wu_tree.specs.Lists.{IsFirstRun, link_of, named_child};
 
+use crate::events::LinkRec;
 use std::alloc::Global;
 use std::collections::BTreeMap;
 use std::marker::Model;
@@ -37,6 +42,21 @@ impl Links {
         Links {
             directories: BTreeMap::new(alloc),
         }
+    }
+
+    /// These links, which ascend by directory and then by name, with copies of the names.
+    pub(crate) fn from_sorted(alloc: Global, links: &[LinkRec]) -> Result<Links, NoMemory>
+        requires { IsStrictlySortedBy place_cmp (keys_of (map link_of links.now)) }
+        ensures { IfOk result (λ kept. kept ≡ map link_of links.now) }
+    {
+        let mut directories = Vec::new(alloc);
+        let mut rest = links;
+        while let Some((directory, here, others)) = first_directory(rest) {
+            directories.push((directory, names_of(alloc, here)?))?;
+            rest = others;
+        }
+        let directories = directories.into_iter().collect(alloc)?;
+        Ok(Links { directories })
     }
 
     /// What the name in the directory names. Takes no memory.
@@ -141,4 +161,27 @@ impl Links {
             self.directories.remove(&directory);
         }
     }
+}
+
+/// The directory of the first link, the links in it, and the others.
+fn first_directory(links: &[LinkRec]) -> Option<(Ino, &[LinkRec], &[LinkRec])>
+    requires { IsStrictlySortedBy place_cmp (keys_of (map link_of links.now)) }
+    ensures { MatchOption result (links.now ≡ []) (λ it. IsFirstRun links.now it.0 it.1.now it.2.now) }
+{
+    let directory = links.first()?.parent;
+    let (here, others) = links.split_at(links.partition_point(|link| link.parent <= directory));
+    Some((directory, here, others))
+}
+
+/// Copies of the links' names, which ascend, with what they name.
+fn names_of(alloc: Global, links: &[LinkRec]) -> Result<BTreeMap<Vec<u8>, Ino>, NoMemory>
+    requires { IsStrictlySortedBy (slice_cmp nat_cmp) (map (λ l. l.name) links.now) }
+    ensures { IfOk result (λ names. map (λ e. (e.0.items, e.1)) names.entries ≡ map named_child links.now) }
+{
+    let mut names = Vec::with_capacity(alloc, links.len())?;
+    for link in links {
+        names.push((Vec::from_slice(alloc, link.name.as_slice())?, link.child))?;
+    }
+    let names = names.into_iter().collect(alloc)?;
+    Ok(names)
 }

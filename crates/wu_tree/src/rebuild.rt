@@ -1,24 +1,23 @@
 //! A tree from lists of all that it is made of.
-ghost use Rattle.std.specs.Prelude.{◌≡◌, IfOk, OnOk, MatchOption, map, []};
+ghost use Rattle.std.specs.Prelude.{◌≡◌, true, IfOk, MatchOption, map, []};
 ghost use Rattle.std.specs.Ordering.{nat_cmp};
-ghost use Rattle.std.specs.List.{fold, list_all};
+ghost use Rattle.std.specs.List.{list_all};
 ghost use Rattle.std.specs.List.Sorted.{IsStrictlySortedBy};
 ghost use Rattle.std.specs.Map.{keys_of};
-ghost use Rattle.std.specs.BTreeMap.{get};
-ghost use Rattle.std.specs.BTreeSet.{insert_key, contains};
 ghost use Rattle.wu_tree.specs.FileSystems.{is_directory, place_cmp};
 ghost use Rattle.wu_tree.specs.Inodes.{file_system};
-ghost use Rattle.wu_tree.specs.Lists.{ascends, below, child_test, first_height, hold_of, inode_of, is_less, link_of, link_test, linked_test, listed, number_test, order_test, place_test, reached_test, user_of};
+ghost use Rattle.wu_tree.specs.Lists.{ascends, first_height, hold_of, inode_of, is_less, link_of, linked_test, listed, low_test, number_test, order_test, place_test, stand_test, user_of};
 ghost use Rattle.wu_tree.specs.Rules.{IsTree};
 
 use crate::events::{Kind, LinkRec, Node};
+use crate::heights::{height_of, lower};
 use crate::inodes::{Hold, Inode};
 use crate::links::Links;
 use crate::names::is_name;
-use crate::tallies::{Hung, tally};
+use crate::tallies::{Hung, HungNode, tally};
 use crate::trees::Tree;
 use std::alloc::Global;
-use std::collections::{BTreeMap, BTreeSet};
+use std::collections::BTreeMap;
 use wu_access::UserRec;
 use wu_base::{DEPTH_MAX, Gid, Ino, NoMemory, ROOT, Sequence, Uid};
 
@@ -29,7 +28,7 @@ impl Tree {
     /// at most 7777 octal; node 1 is a directory, and no link names it; a link stands in a directory that is
     /// there and names a node that is there, and its name is a name; any other directory has one link, and is
     /// reached from node 1 at a depth of at most 255; and a file has a link. The only error is out of memory.
-    /// The time is near linear: for each node, link and user a few look-ups.
+    /// The time is near linear: for each link a binary search and a look-up, and for each directory and user a few.
     pub fn rebuild(
         alloc: Global,
         nodes: &[(Ino, Node)],
@@ -41,30 +40,30 @@ impl Tree {
         if !are_in_order(nodes, links, users) {
             return Ok(None);
         }
-        let tally = tally(alloc, links)?;
-        let inodes = inodes_of(alloc, nodes, &tally)?;
+        let Some(hung) = tally(alloc, nodes, links)? else {
+            return Ok(None);
+        };
+        let mut inodes = inodes_of(alloc, hung.as_slice())?;
         if !are_placed(&inodes, links) {
             return Ok(None);
         }
         // Asked before the walk down: with one link to each directory it comes to none twice.
-        if !are_linked(nodes, &tally) {
+        if !are_linked(hung.as_slice()) {
             return Ok(None);
         }
-        let kept = links_of(alloc, links)?;
-        let mut reached = BTreeSet::new(alloc);
-        reach(&inodes, &kept, ROOT, DEPTH_MAX, &mut reached)?;
-        if !are_reached(nodes, &reached) {
+        let links = Links::from_sorted(alloc, links)?;
+        // Each directory is as high as can be, until the walk comes to it.
+        lower(&mut inodes, &links, ROOT, DEPTH_MAX);
+        if !are_low(nodes, &inodes) {
             return Ok(None);
         }
         let users = users_of(alloc, users)?;
-        let mut tree = Tree {
+        Ok(Some(Tree {
             alloc,
             inodes,
-            links: kept,
+            links,
             users,
-        };
-        tree.lower_heights(ROOT);
-        Ok(Some(tree))
+        }))
     }
 }
 
@@ -132,18 +131,14 @@ fn are_numbered(nodes: &[(Ino, Node)]) -> bool
 }
 
 /// The nodes by number, each with what ties it to the links.
-fn inodes_of(
-    alloc: Global,
-    nodes: &[(Ino, Node)],
-    tally: &BTreeMap<Ino, Hung>,
-) -> Result<BTreeMap<Ino, Inode>, NoMemory>
-    requires { IsStrictlySortedBy nat_cmp (keys_of nodes.now) }
-    ensures { IfOk result (λ inodes. inodes.entries ≡ map (λ node. (node.0, inode_of (get nat_cmp tally.now node.0) node.1)) nodes.now) }
+fn inodes_of(alloc: Global, nodes: &[HungNode]) -> Result<BTreeMap<Ino, Inode>, NoMemory>
+    requires { IsStrictlySortedBy nat_cmp (map (λ n. n.ino) nodes.now) }
+    ensures { IfOk result (λ inodes. inodes.entries ≡ map (λ n. (n.ino, inode_of n.hung n.node)) nodes.now) }
 {
-    let mut inodes = BTreeMap::new(alloc);
-    for (ino, node) in nodes {
-        inodes.insert(*ino, inode(*node, tally.get(ino).copied()))?;
-    }
+    let inodes = nodes
+        .iter()
+        .map(|it| (it.ino, inode(it.node, it.hung)))
+        .collect(alloc)?;
     Ok(inodes)
 }
 
@@ -195,49 +190,29 @@ fn is_directory(inodes: &BTreeMap<Ino, Inode>, ino: Ino) -> bool
     }
 }
 
-/// Whether there is a root, and each link stands in a directory and names a node.
+/// Whether there is a root, and each link stands in a directory, by a name.
 fn are_placed(inodes: &BTreeMap<Ino, Inode>, links: &[LinkRec]) -> bool
     ensures { result ≡ place_test (file_system inodes.now.entries [] []) links.now }
 {
-    is_directory(inodes, ROOT) && are_links(inodes, links)
+    is_directory(inodes, ROOT) && they_stand(inodes, links)
 }
 
-/// Whether each link keeps the rules of a link.
-fn are_links(inodes: &BTreeMap<Ino, Inode>, links: &[LinkRec]) -> bool
-    ensures { result ≡ list_all (λ link. link_test (file_system inodes.now.entries [] []) (link_of link)) links.now }
+/// Whether each link stands in a directory, by a name. Looks a directory up but once for all the links in it.
+fn they_stand(inodes: &BTreeMap<Ino, Inode>, links: &[LinkRec]) -> bool
+    requires { is_directory (file_system inodes.now.entries [] []) 1 ≡ true }
+    ensures { result ≡ list_all (λ link. stand_test (file_system inodes.now.entries [] []) (link_of link)) links.now }
 {
-    links.iter().all(|link| is_link(inodes, link))
-}
-
-/// Whether a link stands in a directory and names a node that is there and isn't the root, by a name.
-fn is_link(inodes: &BTreeMap<Ino, Inode>, link: &LinkRec) -> bool
-    ensures { result ≡ link_test (file_system inodes.now.entries [] []) (link_of link.now) }
-{
-    is_directory(inodes, link.parent)
-        && is_child(inodes, link.child)
-        && is_name(link.name.as_slice())
-}
-
-/// Whether a node is there and isn't the root.
-fn is_child(inodes: &BTreeMap<Ino, Inode>, ino: Ino) -> bool
-    ensures { result ≡ child_test (file_system inodes.now.entries [] []) ino }
-{
-    match inodes.get(&ino) {
-        Some(_) => ino != ROOT,
-        None => false,
-    }
-}
-
-/// The links by directory and name.
-fn links_of(alloc: Global, links: &[LinkRec]) -> Result<Links, NoMemory>
-    requires { IsStrictlySortedBy place_cmp (keys_of (map link_of links.now)) }
-    ensures { IfOk result (λ kept. kept ≡ map link_of links.now) }
-{
-    let mut kept = Links::new(alloc);
+    let mut directory = ROOT;
     for link in links {
-        kept.insert(alloc, link.parent, link.name.as_slice(), link.child)?;
+        if link.parent != directory && !is_directory(inodes, link.parent) {
+            return false;
+        }
+        directory = link.parent;
+        if !is_name(link.name.as_slice()) {
+            return false;
+        }
     }
-    Ok(kept)
+    true
 }
 
 /// The users by number.
@@ -262,36 +237,13 @@ fn copy(alloc: Global, user: &UserRec) -> Result<UserRec, NoMemory>
     })
 }
 
-/// Adds a directory and the directories below it, to so many levels.
-fn reach(
-    inodes: &BTreeMap<Ino, Inode>,
-    links: &Links,
-    directory: Ino,
-    levels: usize,
-    reached: &mut BTreeSet<Ino>,
-) -> Result<(), NoMemory>
-    ensures { OnOk result (reached.new.keys ≡ fold (insert_key nat_cmp) reached.old.keys (below (file_system inodes.now.entries links.now []) levels directory)) }
-{
-    if levels == 0 {
-        return Ok(());
-    }
-    reached.insert(directory)?;
-    let Some(names) = links.names(directory) else {
-        return Ok(());
-    };
-    for child in names.values() {
-        if is_directory(inodes, *child) {
-            reach(inodes, links, *child, levels - 1, reached)?;
-        }
-    }
-    Ok(())
-}
-
 /// Whether each node has as many links as its kind has to.
-fn are_linked(nodes: &[(Ino, Node)], tally: &BTreeMap<Ino, Hung>) -> bool
-    ensures { result ≡ list_all (λ node. linked_test node.0 node.1.kind (get nat_cmp tally.now node.0)) nodes.now }
+fn are_linked(nodes: &[HungNode]) -> bool
+    ensures { result ≡ list_all (λ n. linked_test n.ino n.node.kind n.hung) nodes.now }
 {
-    nodes.iter().all(|(ino, node)| is_linked(*ino, node.kind, tally.get(ino).copied()))
+    nodes
+        .iter()
+        .all(|it| is_linked(it.ino, it.node.kind, it.hung))
 }
 
 /// Whether a node has as many links as its kind has to: a directory but the root one, a file any.
@@ -310,12 +262,12 @@ fn is_linked(ino: Ino, kind: Kind, hung: Option<Hung>) -> bool
     }
 }
 
-/// Whether the walk down from the root came to each directory.
-fn are_reached(nodes: &[(Ino, Node)], reached: &BTreeSet<Ino>) -> bool
-    ensures { result ≡ list_all (λ node. reached_test node.1.kind (contains nat_cmp reached.now node.0)) nodes.now }
+/// Whether no directory is as high as can be: the walk down from the root came to each, and none lies too deep.
+fn are_low(nodes: &[(Ino, Node)], inodes: &BTreeMap<Ino, Inode>) -> bool
+    ensures { result ≡ list_all (low_test inodes.now.entries) nodes.now }
 {
     nodes.iter().all(|(ino, node)| match node.kind {
-        Kind::Directory => reached.contains(ino),
+        Kind::Directory => height_of(inodes, *ino) < u8::MAX,
         Kind::File => true,
     })
 }
