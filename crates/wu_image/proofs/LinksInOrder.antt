@@ -1,6 +1,6 @@
 -- The links of a tree, directory by directory, are its links in order.
-use Rattle.std.proofs.Common.{◌≡◌, ℕ, ◌+◌, ◌<◌, ◌≤◌, Bool, true, false, cond, eqb, List, [], ◌∷◌, ◌++◌, length, refl, ap, sym, subst, ◌∙◌, append_assoc, arith, inl, inr, ⊎_elim}
-use Rattle.std.specs.Prelude.{◌==◌, ◌⊎◌, Option, None, Some, map, filter}
+use Rattle.std.proofs.Common.{◌≡◌, ℕ, ◌+◌, ◌<◌, ◌≤◌, Bool, true, false, cond, List, [], ◌∷◌, ◌++◌, refl, ap, sym, subst, ◌∙◌, arith, inl, inr, ⊎_elim}
+use Rattle.std.specs.Prelude.{◌==◌, ◌⊎◌, Option, None, Some, map, filter, not}
 use Rattle.std.specs.declared.cmp.Ordering.{Ordering}
 use Rattle.std.specs.declared.cmp.Ordering.TheVariants.{Less, Equal, Greater}
 use Rattle.std.specs.Ordering.{nat_cmp, ordering_then, MatchOrdering}
@@ -12,11 +12,13 @@ use Rattle.std.specs.BTreeMap.{is_at}
 use Rattle.std.proofs.lemmas.Bool.{eqb-true, eq-eqb, ne_eqb}
 use Rattle.std.proofs.lemmas.Cmp.{ranked}
 use Rattle.wu_base.proofs.Members.{Has}
+use Rattle.wu_tree.specs.declared.events.Kind.{Kind}
+use Rattle.wu_tree.specs.declared.events.Kind.TheVariants.{Directory, File}
 use Rattle.wu_tree.specs.declared.events.Node.{Node}
-use Rattle.wu_tree.specs.FileSystems.{FileSystem, Link, Place, place_cmp, entries_of, is_directory, is_directory_node}
+use Rattle.wu_tree.specs.FileSystems.{FileSystem, Link, place_cmp, entries_of, is_directory_node, is_kind_file}
 use Rattle.wu_tree.specs.Rules.{IsLink, IsTree}
 use Rattle.wu_tree.proofs.PathsDown.{found_has}
-use Rattle.wu_image.specs.Writing.{links_from, links_by_directory}
+use Rattle.wu_image.specs.Writing.{links_from, links_in_node, links_by_directory}
 
 -- ---- the links in one directory
 
@@ -148,29 +150,74 @@ in_order (d ∷ ds) links r p i = first_directory d ds r.0 (λ more q j. in_orde
 
 -- ---- in a tree
 
-keys_have : {X : Type 0} (k : ℕ) (v : X) (es : List (ℕ × X)) → Has (k, v) es → Has k (keys_of es)
-keys_have k v [] h = absurd h
-keys_have {X} k v (e ∷ es) h =
-    ⊎_elim (λ (i : e ≡ (k, v)). inl (ap (λ (x : ℕ × X). x.0) i)) (λ (i : Has (k, v) es). inr (keys_have k v es i)) h
+-- the numbers of the directories
+abbrev directories : List (ℕ × Node) → List ℕ
+directories [] = []
+directories (node ∷ nodes) = cond (is_kind_file node.1.kind) (directories nodes) (node.0 ∷ directories nodes)
+
+directories_above : (d : ℕ) (nodes : List (ℕ × Node)) → AllByRecursion (λ y. d < y) (keys_of nodes)
+    → AllByRecursion (λ y. d < y) (directories nodes)
+directories_above d [] a = tt
+directories_above d (node ∷ nodes) a =
+    elim (is_kind_file node.1.kind) as (λ b. AllByRecursion (λ y. d < y) (cond b (directories nodes) (node.0 ∷ directories nodes))) [
+      | true ↦ directories_above d nodes a.1
+      | false ↦ (a.0, directories_above d nodes a.1)
+    ]
+
+directories_rise : (nodes : List (ℕ × Node)) → Rise (keys_of nodes) → Rise (directories nodes)
+directories_rise [] r = tt
+directories_rise (node ∷ nodes) r =
+    elim (is_kind_file node.1.kind) as (λ b. Rise (cond b (directories nodes) (node.0 ∷ directories nodes))) [
+      | true ↦ directories_rise nodes r.1
+      | false ↦ (directories_above node.0 nodes r.0, directories_rise nodes r.1)
+    ]
+
+among_directories : (ino : ℕ) (node : Node) (nodes : List (ℕ × Node)) → Has (ino, node) nodes → is_kind_file node.kind ≡ false
+    → Has ino (directories nodes)
+among_directories ino node [] h k = absurd h
+among_directories ino node (other ∷ nodes) h k =
+    elim (is_kind_file other.1.kind) as
+    (λ b. is_kind_file other.1.kind ≡ b → Has ino (cond b (directories nodes) (other.0 ∷ directories nodes))) [
+      | true ↦ λ e.
+          ⊎_elim
+          (λ (i : other ≡ (ino, node)). let f = ap (λ (x : ℕ × Node). is_kind_file x.1.kind) i in absurd cc)
+          (λ (i : Has (ino, node) nodes). among_directories ino node nodes i k)
+          h
+      | false ↦ λ e.
+          ⊎_elim
+          (λ (i : other ≡ (ino, node)). inl (ap (λ (x : ℕ × Node). x.0) i))
+          (λ (i : Has (ino, node) nodes). inr (among_directories ino node nodes i k))
+          h
+    ] refl
+
+no_file : (kind : Kind) → not (is_kind_file kind) ≡ true → is_kind_file kind ≡ false
+no_file Directory h = refl
+no_file File h = absurd cc
 
 directory_has : (ino : ℕ) (nodes : List (ℕ × Node)) (found : Option Node) → found ≡ lookup (is_at (nat_cmp ino)) nodes
-    → is_directory_node found ≡ true → Has ino (keys_of nodes)
+    → is_directory_node found ≡ true → Has ino (directories nodes)
 directory_has ino nodes None e h = absurd cc
-directory_has ino nodes (Some node) e h = keys_have ino node nodes (found_has ino node nodes (sym e))
+directory_has ino nodes (Some node) e h = among_directories ino node nodes (found_has ino node nodes (sym e)) (no_file node.kind h)
 
-parents_have : (fs : FileSystem) (links : List Link) → AllByRecursion (IsLink fs) links → AreIn (keys_of fs.nodes) links
+parents_have : (fs : FileSystem) (links : List Link) → AllByRecursion (IsLink fs) links → AreIn (directories fs.nodes) links
 parents_have fs [] a = tt
 parents_have fs (link ∷ links) a =
     (directory_has link.0.0 fs.nodes (lookup (is_at (nat_cmp link.0.0)) fs.nodes) refl a.0.parent, parents_have fs links a.1)
 
-by_node : (nodes : List (ℕ × Node)) (links : List Link) → links_by_directory nodes links ≡ by_directory (keys_of nodes) links
+by_node : (nodes : List (ℕ × Node)) (links : List Link) → links_by_directory nodes links ≡ by_directory (directories nodes) links
 by_node [] links = refl
 by_node (node ∷ nodes) links =
-    ap (λ (l : List Link). l ++ links_by_directory nodes links) (links_from_entries links node.0)
-    ∙ ap (λ (l : List Link). links_in links node.0 ++ l) (by_node nodes links)
+    elim node.1.kind as
+    (λ k. links_in_node k node.0 links ++ links_by_directory nodes links
+    ≡ by_directory (cond (is_kind_file k) (directories nodes) (node.0 ∷ directories nodes)) links) [
+      | Directory ↦
+          ap (λ (l : List Link). l ++ links_by_directory nodes links) (links_from_entries links node.0)
+          ∙ ap (λ (l : List Link). links_in links node.0 ++ l) (by_node nodes links)
+      | File ↦ by_node nodes links
+    ]
 
 pub links_of_tree : (fs : FileSystem) → IsTree fs → links_by_directory fs.nodes fs.links ≡ fs.links
 links_of_tree fs t =
     by_node fs.nodes fs.links
-    ∙ in_order (keys_of fs.nodes) fs.links (rise_of (keys_of fs.nodes) t.nodes_ascend) (parents_rise fs.links t.links_ascend)
-    (parents_have fs fs.links t.links)
+    ∙ in_order (directories fs.nodes) fs.links (directories_rise fs.nodes (rise_of (keys_of fs.nodes) t.nodes_ascend))
+    (parents_rise fs.links t.links_ascend) (parents_have fs fs.links t.links)

@@ -6,7 +6,7 @@ ghost use Rattle.wu_tree.specs.FileSystems.{entries_of};
 ghost use Rattle.wu_image.specs.Items.{Item, Number, StartsWith, Appends, list_items};
 ghost use Rattle.wu_image.specs.LayoutRules.{AreLayoutRules};
 ghost use Rattle.wu_image.specs.Checkpoints.{SpellsCheckpoint, file_numbers, first_text, kind_number, later_files, link_items, node_items, part_items, text_items, tree_items, user_items};
-ghost use Rattle.wu_image.specs.Writing.{links_from};
+ghost use Rattle.wu_image.specs.Writing.{links_from, links_in_node};
 
 use crate::checkpoints::MARK;
 use crate::fields::{put_ids, put_name, put_numbers};
@@ -176,12 +176,29 @@ fn put_links(alloc: Global, out: &mut Vec<u8>, tree: &Tree) -> Result<(), NoMemo
 {
     let mut body = Vec::new(alloc);
     let mut count = 0;
-    for (ino, _) in tree.nodes() {
-        count = put_entries(&mut body, count, tree, ino)?;
+    for (ino, node) in tree.nodes() {
+        count = put_links_in(&mut body, count, tree, ino, node.kind)?;
     }
     tree.keeps_the_rules();
     put_list(out, count, &body)?;
     Ok(())
+}
+
+/// Appends the links in a node, of which a file has none, and gives the count with these added.
+fn put_links_in(
+    out: &mut Vec<u8>,
+    before: u64,
+    tree: &Tree,
+    ino: Ino,
+    kind: Kind,
+) -> Result<u64, NoMemory>
+    ensures appends { OnOk result (Appends out.old.items (flat_map link_items (links_in_node kind ino tree.now.links)) out.new.items) }
+    ensures count { IfOk result (λ count. count ≡ before + length (links_in_node kind ino tree.now.links)) }
+{
+    match kind {
+        Kind::Directory => Ok(put_entries(out, before, tree, ino)?),
+        Kind::File => Ok(before),
+    }
 }
 
 /// Appends the links in a directory, and gives the count with these added.

@@ -1,17 +1,13 @@
-use Rattle.std.proofs.Common.{◌≡◌, ℕ, ◌+◌, List, [], ◌∷◌, length, map, refl, ap, sym, subst, ◌∙◌, arith}
+use Rattle.std.proofs.Common.{ℕ, List, [], ap, sym, subst, ◌∙◌}
 use Rattle.std.specs.List.{flat_map}
 use Rattle.wu_tree.specs.declared.events.Node.{Node}
-use Rattle.wu_tree.specs.FileSystems.{Link, entries_of}
-use Rattle.wu_image.specs.Items.{Number, Appends, StartsWith, list_items}
+use Rattle.wu_tree.specs.FileSystems.{Link}
+use Rattle.wu_image.specs.Items.{Appends, StartsWith, list_items}
 use Rattle.wu_image.specs.Checkpoints.{link_items}
-use Rattle.wu_image.specs.Writing.{links_by_directory, links_from}
+use Rattle.wu_image.specs.Writing.{links_by_directory, links_in_node}
 use Rattle.wu_image.proofs.ItemLemmas.{all_written, putting_all, putting_some}
 use Rattle.wu_image.proofs.LinksInOrder.{links_of_tree}
 use Rattle.wu_image.proofs.writing.put_links.Goals as goal
-
-as_many : (d : ℕ) (entries : List (List ℕ × ℕ)) → length (links_from d entries) ≡ length entries
-as_many d [] = refl
-as_many d (entry ∷ entries) = omega (arith, as_many d entries)
 
 pub loop-ino-init : goal.loop-ino-init
 loop-ino-init c =
@@ -22,10 +18,9 @@ loop-ino-init c =
 pub loop-ino-preserved : goal.loop-ino-preserved
 loop-ino-preserved c =
     let links = c.args.tree.now.links in
-    let long = as_many c.in-Some.ino (entries_of links c.in-Some.ino) in
-    putting_some link_items _ (links_from c.in-Some.ino (entries_of links c.in-Some.ino)) _ _ _ _ _ _ c.loop-ino.invariant
+    putting_some link_items _ (links_in_node c.in-Some.node.kind c.in-Some.ino links) _ _ _ _ _ _ c.loop-ino.invariant
     (ap (λ (l : List (ℕ × Node)). links_by_directory l links) c.in-Some.ensures.steps)
-    c.in_ok-count.ensures.appends (omega (arith, c.in_ok-count.ensures.count))
+    c.in_ok-count.ensures.appends c.in_ok-count.ensures.count
 
 pub returns : goal.returns
 returns c =
