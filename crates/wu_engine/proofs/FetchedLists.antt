@@ -19,7 +19,8 @@ use Rattle.wu_engine.specs.Asked.{blocks_for}
 use Rattle.wu_engine.specs.Searched.{TellsPostings}
 use Rattle.wu_engine.specs.States.{State}
 use Rattle.wu_engine.specs.Units.{IsCauseFor, list_at, wanted}
-use Rattle.wu_lists.proofs.Asking.{all-append, asks-join}
+use Rattle.wu_layout.proofs.EachLemmas.{each-append}
+use Rattle.wu_lists.proofs.Asking.{asks-join}
 use Rattle.wu_engine.proofs.Asking.{fails_after, fails_then}
 use Rattle.wu_engine.proofs.PassedCauses.{err_from}
 use Rattle.wu_engine.proofs.ToldPostings.{for-append, still_told}
@@ -34,7 +35,7 @@ pub ascending_next : (lists now : List TermList) (list : TermList) → All (λ l
 ascending_next lists now list up pushed one =
     subst (All Ascends) (sym pushed)
     (All-from_recursion Ascends (lists ++ list ∷ [])
-    (all-append Ascends lists (list ∷ []) (recursion_from_All Ascends lists up) (one, tt)))
+    (each-append Ascends lists (list ∷ []) (recursion_from_All Ascends lists up) (one, tt)))
 
 pub others_next : (first between now : Contents) → between ≡ record first { kept = between.kept }
     → now ≡ record between { kept = now.kept } → now ≡ record first { kept = now.kept }

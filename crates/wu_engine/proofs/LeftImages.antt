@@ -1,5 +1,5 @@
 -- Calls that put only blobs that were never drawn before leave to a crash the images that could be left before.
-use Rattle.std.proofs.Common.{◌≡◌, ℕ, zero, suc, ◌<◌, ◌≤◌, List, [], inl, refl, sym, subst, arith}
+use Rattle.std.proofs.Common.{◌≡◌, ℕ, zero, suc, ◌+◌, ◌<◌, ◌≤◌, List, [], inl, refl, sym, subst, arith}
 use Rattle.std.specs.Prelude.{Option, Some, None, Result, Ok, Err, option_map}
 use Rattle.wu_outside.specs.declared.traits.Fault.TheVariants.{Failed}
 use Rattle.wu_outside.specs.Content.{Content, MayDo, with_blob}
@@ -49,6 +49,12 @@ tried_puts low high (suc n) old new last may l now =
     let before : Leaves old may.0 (IsImageOf last) = tried_puts low high n old may.0 last may.3 l now in
     leaves_then old may.0 new (IsImageOf last) before
     (tried_put may.0 new may.1 (IsImageOf last) (image_ignores last may.1 (omega (arith, l, may.4.0))) (may.2, may.5) before.now)
+
+-- none was tried
+pub no_puts : (low high n : ℕ) (old : Option Moments) → low + n ≤ high
+    → MayChange (λ blob written. try_change (Put blob) (with_blob blob written)) low high n old old
+no_puts low high zero old l = refl
+no_puts low high (suc n) old l = (old, low, None, no_puts low high n old (omega (arith, l)), (omega arith, omega (arith, l)), inl refl)
 
 -- one, or two in turn
 pub changed_once : {X : Type 0} (step : ℕ → Option (List ℕ) → X → X) (low high blob : ℕ) (old new : Option X) → low ≤ blob → blob < high

@@ -12,6 +12,7 @@ pub mod StoredTexts
 pub mod OtherBlobs
 pub mod HeldParts
 pub mod FlushLemmas
+pub mod ToldCatalogs
 pub mod StandLemmas
 pub mod WorkedStates
 pub mod WorkReads
@@ -51,10 +52,12 @@ pub mod SavedTexts
 pub mod SavedBlobs
 pub mod SavedSpans
 pub mod SavedLayouts
+pub mod BlobNames
 pub mod NamedBlobs
 pub mod AddedBlobs
 pub mod OpenedParts
 pub mod OpenedFiles
+pub mod ImageStates
 pub mod OpenedStates
 pub mod BrokenBlobs
 pub mod GoingBlobs

@@ -13,7 +13,7 @@ pub record KeepsAllBelow (low : ℕ) (before after : Content) : Type 0 where
   pub root : after.root ≡ before.root
   pub blobs : (blob : ℕ) → blob < low → after.blobs blob ≡ before.blobs blob
 
--- The root was set since: its checkpoint has that number or a later one. Only then may some of them be gone.
+-- The root names a checkpoint with that number or a later one. Only then may some of them be gone.
 pub record HasLaterRoot (low : ℕ) (before after : Content) : Type 0 where
   pub root : Root
   pub there : HasRoot after root

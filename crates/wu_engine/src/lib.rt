@@ -1,6 +1,8 @@
 //! The engine: the file tree and one index of all files, from which each user is answered as if there were her files alone.
 #![tactic(auto)]
 
+mod answering;
+mod changing;
 mod counting;
 mod engines;
 mod faults;

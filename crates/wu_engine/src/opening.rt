@@ -74,12 +74,15 @@ fn with_room(root: Root) -> Result<Root, BeginFault>
 pub(crate) fn open_first(alloc: Global, flush_at: u64) -> Result<Engine, NoMemory>
     ensures { IfOk result (IsFirstEngine flush_at) }
 {
+    let frames = FrameCache::new(alloc)?;
+    let tree = Tree::new(alloc)?;
+    let parts = Parts::new(alloc, flush_at, 1)?;
     Ok(Engine {
-        tree: Tree::new(alloc)?,
+        tree,
         space: Space::new(alloc, 0),
-        parts: Parts::new(alloc, flush_at, 1)?,
+        parts,
         files: BTreeMap::new(alloc),
-        frames: FrameCache::new(alloc)?,
+        frames,
         checkpoint: 0,
         ended: None,
         alloc,
@@ -139,17 +142,35 @@ fn engine_of(
     requires end { parts.memory.end ≡ end_of checkpoint.parts }
     ensures { IfOk result (IsEngineFor blob checkpoint parts) }
 {
-    let files = checkpoint.files.as_slice();
+    let (space, files, frames) = index_of(alloc, &checkpoint)?;
     Ok(Engine {
-        space: space_of(alloc, checkpoint.next_address, files)?,
-        files: records_by_number(alloc, files)?,
-        frames: FrameCache::new(alloc)?,
         tree: checkpoint.tree,
+        space,
         parts,
+        files,
+        frames,
         checkpoint: blob,
         ended: None,
         alloc,
     })
+}
+
+/// The space of addresses and the records of the checkpoint's files, and no frames.
+fn index_of(
+    alloc: Global,
+    checkpoint: &Checkpoint,
+) -> Result<(Space, BTreeMap<Ino, FileRec>, FrameCache), NoMemory>
+    requires { IsCheckpoint checkpoint.now }
+    ensures space { IfOk result (λ index. index.0
+        ≡ record { next = checkpoint.now.next_address; ranges = ranges_recorded checkpoint.now.files }) }
+    ensures files { IfOk result (λ index. index.1.entries ≡ numbered checkpoint.now.files) }
+    ensures frames { IfOk result (λ index. index.2 ≡ []) }
+{
+    let files = checkpoint.files.as_slice();
+    let frames = FrameCache::new(alloc)?;
+    let records = records_by_number(alloc, files)?;
+    let space = space_of(alloc, checkpoint.next_address, files)?;
+    Ok((space, records, frames))
 }
 
 /// The checkpoint that the root names.
@@ -278,9 +299,9 @@ fn records_by_number(alloc: Global, files: &[FileRec]) -> Result<BTreeMap<Ino, F
     requires { IsStrictlySortedBy nat_cmp (map (λ file. file.ino) files.now) }
     ensures { IfOk result (λ records. records.entries ≡ numbered files.now) }
 {
-    let mut by_number = BTreeMap::new(alloc);
-    for file in files {
-        by_number.insert(file.ino, *file)?;
-    }
-    Ok(by_number)
+    let records: BTreeMap<Ino, FileRec> = files
+        .iter()
+        .map(|file| (file.ino, *file))
+        .collect(alloc)?;
+    Ok(records)
 }

@@ -1,5 +1,5 @@
-use Rattle.std.proofs.Common.{◌<◌, ◌∙◌, length, rules}
-use Rattle.wu_engine.specs.Units.{found_in}
+use Rattle.std.proofs.Common.{◌≤◌, ◌<◌, ◌∙◌, List, ℕ, ap, length, map, rules, take_all}
+use Rattle.wu_engine.specs.Units.{found_in, list_at, wanted}
 use Rattle.wu_engine.proofs.FetchedLists.{asked_next, cause_next, others_next, tells_then, wanted_next}
 use Rattle.wu_engine.proofs.fetching.lists_of_words.Goals as goal
 
@@ -31,3 +31,15 @@ returns-in_err-put_list-clause-cause g c =
     let told = c.loop-term.invariant in
     cause_next c.args.terms.now c.loop-term.term-index c.term-item.result within c.term-item.is c.args.parts.now c.args.frames.now.ranges
     told.others told.holds told.asked c.from_residual.result c.from_residual.ensures.1 told.calm c.in_err-put_list.ensures.cause
+
+pub returns-clause-lists : goal.returns-clause-lists
+returns-clause-lists g c = λ s tells.
+    let all : length c.args.terms.now ≤ c.loop-term.term-index = search rules in
+    c.loop-term.invariant.lists s tells
+    ∙ ap (λ (terms : List (List ℕ)). map (list_at (found_in c.args.frames.now.ranges s)) (wanted c.args.words.now terms))
+    (take_all c.loop-term.term-index c.args.terms.now all)
+
+pub returns-clause-blocks : goal.returns-clause-blocks
+returns-clause-blocks g c =
+    let all : length c.args.terms.now ≤ c.loop-term.term-index = search rules in
+    rw (take_all c.loop-term.term-index c.args.terms.now all) at c.loop-term.invariant.asked

@@ -1,8 +1,10 @@
-use Rattle.std.proofs.Common.{◌++◌, ◌∙◌, List, ap, refl, sym}
+use Rattle.std.proofs.Common.{◌≡◌, ◌++◌, ◌∙◌, List, ap, length, min, refl, rules, sym}
+use Rattle.std.proofs.lemmas.List.{length-take}
 use Rattle.std.proofs.lemmas.Option.{IfSome_then}
 use Rattle.std.proofs.lemmas.Result.{on_ok_weaker}
 use Rattle.wu_ask.specs.declared.FindLine.{FindLine}
 use Rattle.wu_gcl.specs.Regions.{region_of}
+use Rattle.wu_engine.specs.Finding.{extents_of}
 use Rattle.wu_engine.proofs.FirstLines.{lines_of_file}
 use Rattle.wu_engine.proofs.WholeTexts.{whole_shown}
 use Rattle.wu_engine.proofs.ReadCauses.{cause_after, if_err, recorded}
@@ -44,3 +46,60 @@ returns-in_ok-extents-in-Some-clause-sound g c =
     c.in-Some.file.now c.args.left c.deref.result.now (sym c.in-Some.ensures.value)
     (c.deref.ensures.value ∙ c.in_ok-extents-in-Some.ensures.extents))
     c.put_lines.ensures.sound
+
+pub returns-in_err-extents-in-Some : goal.returns-in_err-extents-in-Some
+returns-in_err-extents-in-Some g c = search rules
+
+pub returns-in_ok-extents-in-Some-clause-holds : goal.returns-in_ok-extents-in-Some-clause-holds
+returns-in_ok-extents-in-Some-clause-holds g c = search rules
+
+pub returns-in_ok-extents-in-Some-clause-moments : goal.returns-in_ok-extents-in-Some-clause-moments
+returns-in_ok-extents-in-Some-clause-moments g c = search rules
+
+pub returns-in_ok-extents-in-Some-clause-calm : goal.returns-in_ok-extents-in-Some-clause-calm
+returns-in_ok-extents-in-Some-clause-calm g c = search rules
+
+pub returns-in-None-clause-count : goal.returns-in-None-clause-count
+returns-in-None-clause-count g c = search rules
+
+pub returns-in-None-clause-sound : goal.returns-in-None-clause-sound
+returns-in-None-clause-sound g c = search rules
+
+pub returns-in-None-clause-holds : goal.returns-in-None-clause-holds
+returns-in-None-clause-holds g c = search rules
+
+pub returns-in-None-clause-moments : goal.returns-in-None-clause-moments
+returns-in-None-clause-moments g c = search rules
+
+pub returns-in-None-clause-reads : goal.returns-in-None-clause-reads
+returns-in-None-clause-reads g c = search rules
+
+pub returns-in-None-clause-only : goal.returns-in-None-clause-only
+returns-in-None-clause-only g c = search rules
+
+pub returns-in-None-clause-calm : goal.returns-in-None-clause-calm
+returns-in-None-clause-calm g c = search rules
+
+pub returns-in-None-clause-cause : goal.returns-in-None-clause-cause
+returns-in-None-clause-cause g c = search rules
+
+pub returns-in_ok-extents-in-Some-clause-count : goal.returns-in_ok-extents-in-Some-clause-count
+returns-in_ok-extents-in-Some-clause-count g c =
+    let first = extents_of (region_of c.args.expr.now) c.args.lists.now c.in-Some.file.now in
+    let many : length c.deref.result.now ≡ min c.args.left (length first) =
+    ap length (c.deref.ensures.value ∙ c.in_ok-extents-in-Some.ensures.extents) ∙ length-take c.args.left first in
+    rw (sym c.in-Some.ensures.value) (rw many at c.put_lines.ensures.count)
+
+pub returns-in_ok-extents-in-Some-clause-reads : goal.returns-in_ok-extents-in-Some-clause-reads
+returns-in_ok-extents-in-Some-clause-reads g c =
+    let first = extents_of (region_of c.args.expr.now) c.args.lists.now c.in-Some.file.now in
+    let many : length c.deref.result.now ≡ min c.args.left (length first) =
+    ap length (c.deref.ensures.value ∙ c.in_ok-extents-in-Some.ensures.extents) ∙ length-take c.args.left first in
+    rw (sym c.in-Some.ensures.value) (rw many at c.put_lines.ensures.reads)
+
+pub returns-in_ok-extents-in-Some-clause-only : goal.returns-in_ok-extents-in-Some-clause-only
+returns-in_ok-extents-in-Some-clause-only g c =
+    let first = extents_of (region_of c.args.expr.now) c.args.lists.now c.in-Some.file.now in
+    let many : length c.deref.result.now ≡ min c.args.left (length first) =
+    ap length (c.deref.ensures.value ∙ c.in_ok-extents-in-Some.ensures.extents) ∙ length-take c.args.left first in
+    rw (sym c.in-Some.ensures.value) (rw many at c.put_lines.ensures.only)

@@ -14,3 +14,9 @@ returns-in_default-clause-cause g c =
     damage_cause holds (g.D.Store.faults c.args.store.now) (g.D.Store.faults c.checkpoint_in.new.store) root.checkpoint
     c.in_ok-checkpoint.ensures.cause.calm
     (checkpoint_broken holds root c.in_ok-checkpoint.field-0 c.requires c.in_ok-checkpoint.ensures.found other)
+
+pub returns-in-Some : goal.returns-in-Some
+returns-in-Some g c = search rules
+
+pub returns-in_err-checkpoint : goal.returns-in_err-checkpoint
+returns-in_err-checkpoint g c = search rules

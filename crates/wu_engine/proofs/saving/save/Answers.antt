@@ -126,3 +126,66 @@ returns-in_err-remove_unneeded-clause-stops g c =
     (holds c.remove_unneeded.new.store, moments c.remove_unneeded.new.store) c.stale.ensures
     c.in_ok-set_root.ensures.set c.in_ok-set_root.ensures.settled c.in_err-remove_unneeded.ensures.failed
     c.in_err-remove_unneeded.ensures.tried)
+
+pub returns-in_err-flush-clause-elsewhere : goal.returns-in_err-flush-clause-elsewhere
+returns-in_err-flush-clause-elsewhere g c = search rules
+
+pub returns-in_err-flush-clause-reads : goal.returns-in_err-flush-clause-reads
+returns-in_err-flush-clause-reads g c = search rules
+
+pub returns-in_err-flush-clause-calm : goal.returns-in_err-flush-clause-calm
+returns-in_err-flush-clause-calm g c = search rules
+
+pub returns-in_err-flush-clause-cause : goal.returns-in_err-flush-clause-cause
+returns-in_err-flush-clause-cause g c = search rules
+
+pub returns-in_err-bytes-clause-elsewhere : goal.returns-in_err-bytes-clause-elsewhere
+returns-in_err-bytes-clause-elsewhere g c = search rules
+
+pub returns-in_err-bytes-clause-reads : goal.returns-in_err-bytes-clause-reads
+returns-in_err-bytes-clause-reads g c = search rules
+
+pub returns-in_err-bytes-clause-calm : goal.returns-in_err-bytes-clause-calm
+returns-in_err-bytes-clause-calm g c = search rules
+
+pub returns-in_err-bytes-clause-cause : goal.returns-in_err-bytes-clause-cause
+returns-in_err-bytes-clause-cause g c = search rules
+
+pub returns-in_err-put_checkpoint-clause-reads : goal.returns-in_err-put_checkpoint-clause-reads
+returns-in_err-put_checkpoint-clause-reads g c = search rules
+
+pub returns-in_err-put_checkpoint-clause-calm : goal.returns-in_err-put_checkpoint-clause-calm
+returns-in_err-put_checkpoint-clause-calm g c = search rules
+
+pub returns-in_err-put_checkpoint-clause-cause : goal.returns-in_err-put_checkpoint-clause-cause
+returns-in_err-put_checkpoint-clause-cause g c = search rules
+
+pub returns-in_err-set_root-clause-reads : goal.returns-in_err-set_root-clause-reads
+returns-in_err-set_root-clause-reads g c = search rules
+
+pub returns-in_err-set_root-clause-calm : goal.returns-in_err-set_root-clause-calm
+returns-in_err-set_root-clause-calm g c = search rules
+
+pub returns-in_err-set_root-clause-cause : goal.returns-in_err-set_root-clause-cause
+returns-in_err-set_root-clause-cause g c = search rules
+
+pub returns-in_err-remove_unneeded-clause-reads : goal.returns-in_err-remove_unneeded-clause-reads
+returns-in_err-remove_unneeded-clause-reads g c = search rules
+
+pub returns-in_err-remove_unneeded-clause-calm : goal.returns-in_err-remove_unneeded-clause-calm
+returns-in_err-remove_unneeded-clause-calm g c = search rules
+
+pub returns-in_err-remove_unneeded-clause-cause : goal.returns-in_err-remove_unneeded-clause-cause
+returns-in_err-remove_unneeded-clause-cause g c = search rules
+
+pub returns-clause-stops : goal.returns-clause-stops
+returns-clause-stops g c = search rules
+
+pub returns-clause-reads : goal.returns-clause-reads
+returns-clause-reads g c = search rules
+
+pub returns-clause-calm : goal.returns-clause-calm
+returns-clause-calm g c = search rules
+
+pub returns-clause-cause : goal.returns-clause-cause
+returns-clause-cause g c = search rules

@@ -1,9 +1,10 @@
-use Rattle.std.proofs.Common.{◌∙◌, inr}
+use Rattle.std.proofs.Common.{◌∙◌, inr, rules}
 use Rattle.std.proofs.lemmas.Result.{IfOk-weaker, on_ok_weaker}
 use Rattle.wu_engine.proofs.EarlierBlobs.{drawn_by_root, drawn_without}
 use Rattle.wu_engine.proofs.GoingAtFirst.{first_goes}
+use Rattle.wu_engine.proofs.ImageStates.{first_stands}
 use Rattle.wu_engine.proofs.LeftImages.{opened_durable, opened_left}
-use Rattle.wu_engine.proofs.OpenedStates.{error_passed, first_stands, never_damaged, on_any_err, on_any_ok, opens_nothing, reads_nothing, spent_on}
+use Rattle.wu_engine.proofs.OpenedStates.{error_passed, never_damaged, on_any_err, on_any_ok, opens_nothing, reads_nothing, spent_on}
 use Rattle.wu_engine.proofs.PassedCauses.{err_from}
 use Rattle.wu_engine.proofs.engines.Engine.begin.Goals as goal
 
@@ -121,3 +122,6 @@ pub returns-in_ok-open_first-in-None-clause-drawn : goal.returns-in_ok-open_firs
 returns-in_ok-open_first-in-None-clause-drawn g c =
     drawn_without (g.D.Store.holds c.args.store.now) c.in_ok-open_first-in-None.field-0.parts.next_blob
     (rw (c.sync.ensures.same, c.in-None.is) at c.in_ok-open_root.ensures.found)
+
+pub returns-in_err-sync : goal.returns-in_err-sync
+returns-in_err-sync g c = search rules

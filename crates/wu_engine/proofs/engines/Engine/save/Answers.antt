@@ -1,4 +1,4 @@
-use Rattle.std.proofs.Common.{refl}
+use Rattle.std.proofs.Common.{refl, rules}
 use Rattle.wu_parts.specs.Flushing.{Told}
 use Rattle.wu_engine.proofs.EarlierBlobs.{saved_earlier, stopped_earlier}
 use Rattle.wu_engine.proofs.GoingEvents.{goes_with}
@@ -120,3 +120,6 @@ returns-in-Err-clause-earlier g c = λ start goes.
     let moments = g.D.Store.moments in
     stopped_earlier old.tree old.space old.files.entries old.checkpoint old.parts (holds c.args.store.now, moments c.args.store.now)
     goes.low goes.high goes.postings goes.memory (holds c.save.new.store, moments c.save.new.store) c.in-Err.ensures.stops
+
+pub returns-in-Some : goal.returns-in-Some
+returns-in-Some g c = search rules

@@ -1,4 +1,4 @@
-use Rattle.std.proofs.Common.{[], ◌+◌, ap, refl, arith}
+use Rattle.std.proofs.Common.{[], ◌+◌, ap, refl, arith, rules}
 use Rattle.wu_parts.specs.Flushing.{Told}
 use Rattle.wu_engine.specs.Indexing.{Catalog}
 use Rattle.wu_engine.specs.Renewing.{Touches, touched_of}
@@ -7,7 +7,7 @@ use Rattle.wu_engine.proofs.AddedBlobs.{draws_named, event_draws, none_added}
 use Rattle.wu_engine.proofs.FileChanges.{changes}
 use Rattle.wu_engine.proofs.GoingEvents.{HasSome, goes_followed, goes_with, has_followed}
 use Rattle.wu_engine.proofs.KeptFrames.{touches}
-use Rattle.wu_engine.proofs.LeftImages.{puts_left, still_left}
+use Rattle.wu_engine.proofs.LeftImages.{no_puts, puts_left, still_left}
 use Rattle.wu_engine.proofs.LeftStores.{left_alone}
 use Rattle.wu_engine.proofs.NamedBlobs.{event_names}
 use Rattle.wu_engine.proofs.Searching.{sound_prepared}
@@ -182,3 +182,16 @@ returns-in-Ok-followed-clause-frames g c =
     (c.effects_tell_files.ensures event tree c.in-Ok.effect step) (changes old.tree event tree c.in-Ok.effect step).1 space
     (ap (λ (k : Catalog). k.space) c.in-Ok-followed.ensures.done.catalog) in
     (rw is at c.renew_frames.ensures.left) old.tree old.space touched
+
+pub returns-in_err-effect-clause-tried : goal.returns-in_err-effect-clause-tried
+returns-in_err-effect-clause-tried g c =
+    let next = c.args.self.now.parts.next_blob in no_puts next (next + 2) 2 (g.D.Store.moments c.args.store.now) (omega arith)
+
+pub returns-in-Err-clause-tried : goal.returns-in-Err-clause-tried
+returns-in-Err-clause-tried g c =
+    let next = c.args.self.now.parts.next_blob in no_puts next (next + 2) 2 (g.D.Store.moments c.args.store.now) (omega arith)
+
+pub returns-in-Some : goal.returns-in-Some
+returns-in-Some g c =
+    let next = c.args.self.now.parts.next_blob in
+    search (rules, no_puts next (next + 2) 2 (g.D.Store.moments c.args.store.now) (omega arith))

@@ -1,11 +1,11 @@
-use Rattle.std.proofs.Common.{◌≡◌, ◌+◌, refl, ap, sym, subst, rules}
+use Rattle.std.proofs.Common.{◌≡◌, ◌+◌, refl, ap, sym, subst, arith, rules}
 use Rattle.wu_base.specs.declared.troubles.Trouble.TheVariants.{Damaged}
 use Rattle.wu_parts.specs.Contents.{Contents}
 use Rattle.wu_parts.specs.Memory.{HasPostings, Memory}
 use Rattle.wu_engine.proofs.AddedBlobs.{draws_named, units_draw}
 use Rattle.wu_engine.proofs.BrokenBlobs.{worked_is_broken}
 use Rattle.wu_engine.proofs.GoingUnits.{units_sound}
-use Rattle.wu_engine.proofs.LeftImages.{puts_left}
+use Rattle.wu_engine.proofs.LeftImages.{no_puts, puts_left}
 use Rattle.wu_engine.proofs.NamedBlobs.{work_names}
 use Rattle.wu_engine.proofs.WorkedStates.{others_worked, parts_told, worked_on}
 use Rattle.wu_engine.proofs.WorkReads.{stop_permitted, work_permitted}
@@ -101,3 +101,9 @@ returns-in-Ok-clause-survives g c = λ s last stands saved.
 pub returns-in-Err-clause-survives : goal.returns-in-Err-clause-survives
 returns-in-Err-clause-survives g c = λ s last stands saved.
     puts_left stands saved (c.args.self.now.parts.next_blob + c.args.n) c.args.n _ c.work.ensures.tried
+
+pub returns-in-Some : goal.returns-in-Some
+returns-in-Some g c =
+    let next = c.args.self.now.parts.next_blob in
+    let n = c.args.n in
+    search (rules, no_puts next (next + n) n (g.D.Store.moments c.args.store.now) (omega arith))

@@ -1,0 +1,244 @@
+//! What changes the index of an engine: events, flushes, and background work.
+ghost use Rattle.std.specs.Prelude.{◌≡◌, ◌≢◌, ◌⊎◌, ℕ, ◌+◌, ◌<◌, ◌≤◌, ◌^◌, List, Option, None, Some, Ok, Err, true, length, IfOk, IfErr, OnOk};
+ghost use Rattle.wu_base.specs.declared.limits.TheConstants.{ADDRESSES_MAX, TEXT_MAX};
+ghost use Rattle.wu_base.specs.declared.reports.Worked.TheVariants.{Idle};
+ghost use Rattle.wu_base.specs.declared.troubles.Trouble.TheVariants.{Damaged};
+ghost use Rattle.wu_outside.specs.Content.{Content, MayDo, with_blob};
+ghost use Rattle.wu_outside.specs.Crash.{Put, try_change};
+ghost use Rattle.wu_outside.specs.Surviving.{Leaves};
+ghost use Rattle.wu_parts.specs.Working.{AreFew, DoesWork, IsDamaged, MayChange, StopsWork, answer_of, is_idle};
+ghost use Rattle.wu_tree.specs.Steps.{IsEvent};
+ghost use Rattle.wu_base.specs.declared.troubles.Trouble.{Trouble};
+
+use crate::engines::Engine;
+use crate::renewing::{renew_frames, touched_by};
+use crate::updating::follow;
+use crate::verdicts::Verdict;
+use wu_base::{Trouble, Worked};
+use wu_outside::Store;
+use wu_tree::{Event, effects_tell_files};
+
+impl Engine {
+    ghost use Rattle.wu_engine.specs.States.{State, after_event, flushed_state, step, worked_state};
+    ghost use Rattle.wu_engine.specs.Reports.{worked_in};
+    ghost use Rattle.wu_engine.specs.Stands.{KeepsOthers, Stands, leaves_store, taken_by, verdict_of};
+    ghost use Rattle.wu_engine.specs.Causes.{HasTroubleCause};
+    ghost use Rattle.wu_engine.specs.Naming.{AddsNamed};
+    ghost use Rattle.wu_engine.specs.Crashes.{IsImageOf, IsSavedLast};
+    ghost use Rattle.wu_engine.specs.Going.{Goes, HasBroken};
+    ghost use Rattle.wu_engine.specs.Renewing.{LeavesFrames, touched_of};
+    ghost use Rattle.wu_engine.specs.Permitted.{MayReadForWork, ReadsOnly};
+
+    /// Applies an event, where `body` is the text that it gives to a file; other events give none. The event
+    /// happens or is refused, and a refused event changes nothing. A text that isn't empty is put into the
+    /// store under the next blob's number. After an event that happened, memory is flushed where it is full:
+    /// its live postings become a part, which is put into the store under the number after that. No other call
+    /// of the store is made, and nothing is read. The next address is at most ADDRESSES_MAX after it.
+    pub fn update<D: Store>(
+        &mut self,
+        store: &mut D,
+        event: &Event,
+        body: &[u8],
+    ) -> Result<Verdict, Trouble>
+        requires event { IsEvent event.now }
+        requires short { length body.now ≤ TEXT_MAX }
+        requires room { self.old.space.next + taken_by event.now body.now ≤ ADDRESSES_MAX }
+        requires blobs { self.old.parts.next_blob + 2 < 2 ^ 63 }
+        requires flushes { self.old.parts.flushes + 1 < 2 ^ 63 }
+        // The answer is the step's, and engine and store stand for the state after it.
+        ensures step { (s : State) → Stands self.old (D.holds store.old) s → IfOk result (λ verdict.
+            (verdict ≡ verdict_of (step s event.now body.now))
+            × Stands self.new (D.holds store.new) (after_event self.old.parts.flush_at s event.now body.now)) }
+        // A blob that wasn't there before is one that the state names.
+        ensures named { (s : State) → Stands self.old (D.holds store.old) s → OnOk result
+            (AddsNamed (after_event self.old.parts.flush_at s event.now body.now).layout (D.holds store.old) (D.holds store.new)) }
+        ensures taken { OnOk result (self.new.space.next ≤ self.old.space.next + taken_by event.now body.now) }
+        ensures drawn { OnOk result (self.new.parts.next_blob ≤ self.old.parts.next_blob + 2) }
+        ensures onward { OnOk result (self.old.parts.next_blob ≤ self.new.parts.next_blob) }
+        // Each flush that is counted drew a blob.
+        ensures counted { OnOk result
+            (self.new.parts.flushes + self.old.parts.next_blob ≤ self.old.parts.flushes + self.new.parts.next_blob) }
+        ensures flush_at { OnOk result (self.new.parts.flush_at ≡ self.old.parts.flush_at) }
+        ensures kept { OnOk result (self.new.parts.kept ≡ self.old.parts.kept) }
+        // What is left of the kept frames: a refused event leaves all, another those of all users whom it doesn't concern.
+        ensures frames { IfOk result (λ verdict. LeavesFrames verdict self.new.tree
+            (touched_of self.old.tree self.old.space.ranges event.now) self.old.frames self.new.frames) }
+
+        // What the store holds changes only at the two blobs that may be drawn, also where the call fails. No call
+        // of the store is made but for a text that isn't empty and for a flush.
+        ensures untouched { IfOk result (λ verdict. leaves_store verdict event.now body.now self.old.parts ≡ true
+            → (store.new ≡ store.old) × (self.new.parts.next_blob ≡ self.old.parts.next_blob)) }
+        ensures elsewhere { KeepsOthers self.old.parts.next_blob (self.old.parts.next_blob + 2) (D.holds store.old) (D.holds store.new) }
+        // At most two puts of these blobs are tried, and the store is not synced.
+        ensures tried { MayChange (λ blob written. try_change (Put blob) (with_blob blob written)) self.old.parts.next_blob
+            (self.old.parts.next_blob + 2) 2 (D.moments store.old) (D.moments store.new) }
+        ensures reads { D.reads store.new ≡ D.reads store.old }
+        // A crash in the call or after it leaves the state that was saved last, whatever the answer.
+        ensures survives { (s last : State) → Stands self.old (D.holds store.old) s → IsSavedLast (D.moments store.old) s last
+            → Leaves (D.moments store.old) (D.moments store.new) (IsImageOf last) }
+
+        ensures goes { (start : Content) → Goes self.old start (D.holds store.old) → OnOk result (Goes self.new start (D.holds store.new)) }
+        ensures goes_on { OnOk result (self.new.ended ≡ None) }
+        ensures ends { IfErr result (λ trouble. self.new.ended ≡ Some trouble) }
+        ensures again { (trouble : Trouble) → self.old.ended ≡ Some trouble
+            → (result ≡ Err trouble) × (self.new ≡ self.old) × (store.new ≡ store.old) }
+        ensures cause { HasTroubleCause self.old.ended (D.faults store.old) (D.faults store.new) result }
+        ensures damaged { (blob : ℕ) → result ≡ Err (Damaged blob) → self.old.ended ≡ Some (Damaged blob) }
+    {
+        let _untouched = &*store;
+        if let Some(trouble) = self.ended {
+            return Err(trouble);
+        }
+        self.ended = Some(Trouble::NoMemory);
+        effects_tell_files(&self.tree);
+        self.tree.keeps_the_rules();
+        self.space.keeps_the_rules();
+        let touched = touched_by(&self.tree, &self.space, event);
+        match self.tree.apply(event)? {
+            Ok(effect) => {
+                let followed = follow(
+                    &mut self.space,
+                    &mut self.parts,
+                    &mut self.files,
+                    store,
+                    effect,
+                    body,
+                );
+                match followed {
+                    Ok(()) => {
+                        renew_frames(&mut self.frames, &self.tree, &self.space, touched);
+                        self.ended = None;
+                        Ok(Verdict::Made)
+                    }
+                    Err(trouble) => Err(self.end_with(trouble)),
+                }
+            }
+            Err(refusal) => {
+                self.ended = None;
+                Ok(Verdict::Refused(refusal))
+            }
+        }
+    }
+
+    /// Makes a part of the live postings in memory, and puts it into the store under the next blob's number;
+    /// memory is empty then. Where no posting in memory is live no part is made, no blob is drawn and the store
+    /// is not touched. Nothing is read.
+    pub fn flush<D: Store>(&mut self, store: &mut D) -> Result<(), Trouble>
+        requires blobs { self.old.parts.next_blob + 1 < 2 ^ 63 }
+        requires flushes { self.old.parts.flushes + 1 < 2 ^ 63 }
+        ensures step { (s : State) → Stands self.old (D.holds store.old) s
+            → OnOk result (Stands self.new (D.holds store.new) (flushed_state s)) }
+        ensures named { (s : State) → Stands self.old (D.holds store.old) s
+            → OnOk result (AddsNamed (flushed_state s).layout (D.holds store.old) (D.holds store.new)) }
+        ensures space { self.new.space ≡ self.old.space }
+        ensures drawn { OnOk result (self.new.parts.next_blob ≤ self.old.parts.next_blob + 1) }
+        ensures onward { OnOk result (self.old.parts.next_blob ≤ self.new.parts.next_blob) }
+        ensures counted { OnOk result
+            (self.new.parts.flushes + self.old.parts.next_blob ≤ self.old.parts.flushes + self.new.parts.next_blob) }
+        ensures flush_at { OnOk result (self.new.parts.flush_at ≡ self.old.parts.flush_at) }
+        ensures kept { OnOk result (self.new.parts.kept ≡ self.old.parts.kept) }
+        ensures frames { OnOk result (self.new.frames ≡ self.old.frames) }
+
+        // What the store holds changes only at the blob that may be drawn, also where the call fails.
+        ensures elsewhere { KeepsOthers self.old.parts.next_blob (self.old.parts.next_blob + 1) (D.holds store.old) (D.holds store.new) }
+        // The only change that may be tried is that blob's put, and the store is not synced.
+        ensures tried { (written : Option (List ℕ))
+            × MayDo (try_change (Put self.old.parts.next_blob) (with_blob self.old.parts.next_blob written))
+            (D.moments store.old) (D.moments store.new) }
+        ensures reads { D.reads store.new ≡ D.reads store.old }
+        // A crash in the call or after it leaves the state that was saved last, whatever the answer.
+        ensures survives { (s last : State) → Stands self.old (D.holds store.old) s → IsSavedLast (D.moments store.old) s last
+            → Leaves (D.moments store.old) (D.moments store.new) (IsImageOf last) }
+
+        ensures goes { (start : Content) → Goes self.old start (D.holds store.old) → OnOk result (Goes self.new start (D.holds store.new)) }
+        ensures goes_on { OnOk result (self.new.ended ≡ None) }
+        ensures ends { IfErr result (λ trouble. self.new.ended ≡ Some trouble) }
+        ensures again { (trouble : Trouble) → self.old.ended ≡ Some trouble
+            → (result ≡ Err trouble) × (self.new ≡ self.old) × (store.new ≡ store.old) }
+        ensures cause { HasTroubleCause self.old.ended (D.faults store.old) (D.faults store.new) result }
+        ensures damaged { (blob : ℕ) → result ≡ Err (Damaged blob) → self.old.ended ≡ Some (Damaged blob) }
+    {
+        let _untouched = &*store;
+        if let Some(trouble) = self.ended {
+            return Err(trouble);
+        }
+        self.ended = Some(Trouble::NoMemory);
+        match self.parts.flush(store, &self.space) {
+            Ok(()) => {
+                self.ended = None;
+                Ok(())
+            }
+            Err(trouble) => Err(self.end_with(trouble)),
+        }
+    }
+
+    /// Does up to `n` units of background work on the parts: each does the first term that is left of the job
+    /// under way, or of the one that is named next. With its last term a job ends: what is left of its parts, if
+    /// anything, is put into the store under the next blob's number, and stands in their place. It stops early
+    /// only where there is nothing to do. It answers Idle exactly where no job is under way then and none is
+    /// named, else Busy.
+    ///
+    /// Of the store only the blocks of these terms in the jobs' parts are read, each in one read. Its errors are a
+    /// damaged part, a fault of the store, and out of memory.
+    pub fn work<D: Store>(&mut self, store: &mut D, n: u32) -> Result<Worked, Trouble>
+        requires blobs { self.old.parts.next_blob + n < 2 ^ 63 }
+        // The answer is that of the state after the units, and engine and store stand for it.
+        ensures step { (s : State) → Stands self.old (D.holds store.old) s → IfOk result (λ worked.
+            (worked ≡ worked_in (worked_state n s)) × Stands self.new (D.holds store.new) (worked_state n s)) }
+        ensures named { (s : State) → Stands self.old (D.holds store.old) s
+            → OnOk result (AddsNamed (worked_state n s).layout (D.holds store.old) (D.holds store.new)) }
+        ensures answer { IfOk result (λ worked. worked ≡ answer_of (is_idle self.new.space.ranges self.new.parts)) }
+        // Where there is nothing to do there are few parts, and most of each is live.
+        ensures few { IfOk result (λ worked. worked ≡ Idle → AreFew self.new.space.ranges self.new.parts) }
+        ensures space { self.new.space ≡ self.old.space }
+        ensures drawn { OnOk result (self.new.parts.next_blob ≤ self.old.parts.next_blob + n) }
+        ensures onward { OnOk result (self.old.parts.next_blob ≤ self.new.parts.next_blob) }
+        ensures counted { OnOk result (self.new.parts.flushes ≡ self.old.parts.flushes) }
+        ensures flush_at { OnOk result (self.new.parts.flush_at ≡ self.old.parts.flush_at) }
+        ensures kept { OnOk result (self.new.parts.kept ≡ self.old.parts.kept) }
+        ensures frames { OnOk result (self.new.frames ≡ self.old.frames) }
+
+        // What the store holds changes only at the blobs that may be drawn, also where the call fails.
+        ensures elsewhere { KeepsOthers self.old.parts.next_blob (self.old.parts.next_blob + n) (D.holds store.old) (D.holds store.new) }
+        // At most one put for each unit is tried, of these blobs, and the store is not synced.
+        ensures tried { MayChange (λ blob written. try_change (Put blob) (with_blob blob written)) self.old.parts.next_blob
+            (self.old.parts.next_blob + n) n (D.moments store.old) (D.moments store.new) }
+        // The units that were done read their terms' blocks, and nothing else is read, also where one of them fails.
+        ensures reads { OnOk result (DoesWork self.old.space.ranges n self.old.parts self.new.parts
+            (D.holds store.old, D.moments store.old) (D.holds store.new, D.moments store.new) (D.reads store.old) (D.reads store.new)) }
+        ensures stops { self.old.ended ≡ None → IfErr result (StopsWork self.old.space.ranges n self.old.parts
+            (D.holds store.old, D.moments store.old) (D.faults store.old) (D.faults store.new) (D.reads store.old) (D.reads store.new)) }
+        // Where engine and store stand for a state, only what these units of its may read is read, whatever the answer.
+        ensures permitted { (s : State) → Stands self.old (D.holds store.old) s
+            → ReadsOnly (MayReadForWork s.layout n) (D.reads store.old) (D.reads store.new) }
+        // A crash in the call or after it leaves the state that was saved last, whatever the answer.
+        ensures survives { (s last : State) → Stands self.old (D.holds store.old) s → IsSavedLast (D.moments store.old) s last
+            → Leaves (D.moments store.old) (D.moments store.new) (IsImageOf last) }
+
+        ensures goes_on { OnOk result (self.new.ended ≡ None) }
+        ensures ends { IfErr result (λ trouble. self.new.ended ≡ Some trouble) }
+        ensures again { (trouble : Trouble) → self.old.ended ≡ Some trouble
+            → (result ≡ Err trouble) × (self.new ≡ self.old) × (store.new ≡ store.old) }
+        ensures cause { HasTroubleCause self.old.ended (D.faults store.old) (D.faults store.new) result }
+        ensures damaged { (blob : ℕ) → result ≡ Err (Damaged blob)
+            → (self.old.ended ≡ Some (Damaged blob)) ⊎ IsDamaged (D.holds store.old) self.old.parts blob }
+        ensures goes { (start : Content) → Goes self.old start (D.holds store.old) → OnOk result (Goes self.new start (D.holds store.new)) }
+        ensures broken { (start : Content) → Goes self.old start (D.holds store.old) → (blob : ℕ) → result ≡ Err (Damaged blob)
+            → HasBroken start blob }
+        // No blob is answered as damaged where engine and store stand for a state.
+        ensures undamaged { (s : State) → Stands self.old (D.holds store.old) s → (blob : ℕ) → result ≢ Err (Damaged blob) }
+    {
+        let _untouched = &*store;
+        if let Some(trouble) = self.ended {
+            return Err(trouble);
+        }
+        self.ended = Some(Trouble::NoMemory);
+        match self.parts.work(store, &self.space, n) {
+            Ok(worked) => {
+                self.ended = None;
+                Ok(worked)
+            }
+            Err(trouble) => Err(self.end_with(trouble)),
+        }
+    }
+}
