@@ -5,12 +5,16 @@ use Rattle.wu_base.specs.declared.limits.TheConstants.{INPUT_MAX, ADDRESSES_MAX,
 use Rattle.wu_gcl.proofs.Existence.{each_text_is_read}
 use Rattle.wu_tree.specs.declared.events.Event.{Event}
 use Rattle.wu_tree.specs.declared.events.Event.TheVariants as events
+use Rattle.wu_script.specs.declared.types.Command.TheVariants as commands
 use Rattle.wu_script.specs.declared.types.Item.{Item}
+use Rattle.wu_script.specs.declared.types.Item.TheVariants as items
+use Rattle.wu_script.specs.Commands.{Work}
 use Rattle.wu_script.specs.Holding.{Held}
 use Rattle.wu_script.specs.Items.{first_of, IsBeforeEnd, IsItem, TakesItem}
-use Rattle.wu_script.specs.Said.{Reading, IsReading, said_by, said_of, event_tokens, tokens_given}
+use Rattle.wu_script.specs.Said.{Said, Operates, Reading, IsReading, IsSoundItem, said_by, said_of, event_tokens, tokens_given}
 use Rattle.wu_script.proofs.TokenLemmas.{first_tokens}
 use Rattle.wu_engine.specs.Stands.{taken_by}
+use Rattle.wumpus_run.specs.Raised.{drawn_by, flushes_by}
 use Rattle.wumpus_run.proofs.SessionLemmas.{one_item, takes_one}
 
 -- an event takes an address for each token of the text that it gives
@@ -83,6 +87,16 @@ pub StaysLow-item : (left left' : Option (List ℕ)) (last_read : ℕ) (old new 
     → StaysLow raised new most
 StaysLow-item left left' last_read old new item number raised most other taken low few =
     omega (arith, takes_one left left' last_read old new item other taken, low, few)
+
+-- a sound item draws no more blobs than that
+pub few_drawn : (item : Item) → IsSoundItem item → drawn_by (said_by item) ≤ WORK_MAX
+few_drawn (items.Command (commands.Work units)) sound = sound.1
+few_drawn _ sound = omega arith
+
+-- at most two flushes are counted for what an item says
+pub few_flushes : (said : Said) → flushes_by said ≤ 2
+few_flushes (Operates (Work units)) = omega arith
+few_flushes _ = omega arith
 
 -- and what is WORK_MAX higher is still a number that there is
 pub StaysLow-few : (number most : ℕ) (held : Held) → StaysLow number held most → most ≤ INPUT_MAX → number + WORK_MAX < 2 ^ 63

@@ -9,7 +9,7 @@ use Rattle.wu_engine.specs.Opening.{IsBeginCause, IsDamagedAtOpening}
 use Rattle.wu_engine.proofs.BrokenBlobs.{opening_is_broken}
 use Rattle.wumpus_run.specs.declared.statuses.Status.TheVariants.{Damaged}
 use Rattle.wumpus_run.specs.Session.{status_of_opening}
-use Rattle.wumpus_run.proofs.EndLemmas.{saved_damaged}
+use Rattle.wumpus_run.proofs.EndStatuses.{saved_damaged}
 
 pub opening_broken : (holds : Option Content) (fault : BeginFault) (before now : ℕ) → IsBeginCause holds before now fault
     → (content : Content) → holds ≡ Some content → (blob : ℕ) → status_of_opening fault ≡ Damaged blob → HasBroken content blob

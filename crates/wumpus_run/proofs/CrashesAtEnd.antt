@@ -33,7 +33,7 @@ use Rattle.wumpus_run.specs.declared.statuses.Status.{Status}
 use Rattle.wumpus_run.specs.declared.statuses.Status.TheVariants.{Done, NoMemory, StoreFault, Spent}
 use Rattle.wumpus_run.proofs.CrashesUnderWay.{HasKept, HasSaved, HasSavedSoFar, IsAnswered, IsLeftOrSaved, LeavesAfterItem, LeavesForItem}
 use Rattle.wumpus_run.proofs.CrashesUnderWay.{blob_onward, leaves_item, one_saved, own_saves, with_item}
-use Rattle.wumpus_run.proofs.EndLemmas.{answering, reading, unopened, writing}
+use Rattle.wumpus_run.proofs.EndStatuses.{answering, reading, unopened, writing}
 use Rattle.wumpus_run.proofs.SavesOfItems.{last_or_next, next_is, one_at_end}
 use Rattle.wumpus_run.proofs.SessionLemmas.{first_item}
 

@@ -65,38 +65,35 @@ fresh_image content none = (
   },
 )
 
-few_at_first : (tally : Tally) → tally ≡ no_reply → IsFew 0 tally
-few_at_first tally none = subst (IsFew 0) (sym none)
-    (record { commands = omega arith; oks = omega arith; refused = omega arith; counts = omega arith; hits = omega arith })
+few_at_first : IsFew 0 no_reply
+few_at_first = record { commands = omega arith; oks = omega arith; refused = omega arith; counts = omega arith; hits = omega arith }
 
-pub IsReady-none : (source : KnownSource) (reader : Held) (engine : Engine) (tally : Tally) → source.ended ≡ false
+pub IsReady-none : (source : KnownSource) (reader : Held) (engine : Engine) → source.ended ≡ false
     → reader ≡ record { bytes = []; spare = SCRIPT_MAX; ended = false } → engine.ended ≡ None → engine.parts.flush_at ≡ FLUSH_DEFAULT
-    → engine.space.next < SPENT_AT → engine.parts.next_blob < BLOBS_SPENT_AT → engine.parts.flushes < 2 ^ 62 → tally ≡ no_reply
-    → IsReady source reader engine tally
-IsReady-none source reader engine tally begins fresh goes_on flush_at next next_blob flushes none =
-    let few = few_at_first tally none in
-    subst (λ (r : Held). IsReady source r engine tally) (sym fresh) (record {
+    → engine.space.next < SPENT_AT → engine.parts.next_blob < BLOBS_SPENT_AT → engine.parts.flushes < 2 ^ 62
+    → IsReady source reader engine no_reply
+IsReady-none source reader engine begins fresh goes_on flush_at next next_blob flushes =
+    subst (λ (r : Held). IsReady source r engine no_reply) (sym fresh) (record {
       goes_on = goes_on;
       flush_at = flush_at;
       addresses = HasRoom-none engine.space.next SCRIPT_MAX next;
       blobs = StaysLow-none engine.parts.next_blob SCRIPT_MAX next_blob;
       flushes = StaysLow-none engine.parts.flushes SCRIPT_MAX (omega (arith, flushes));
       items = 0;
-      few = few;
+      few = few_at_first;
       left = omega arith;
       follows = record { going = λ h. begins; recent = omega arith };
       at_end = λ h. absurd (cc);
     })
 
-pub IsUnderWay-none : (script : List ℕ) (source : KnownSource) (reader : Held) (engine : Engine) (before store : PlainBlobs) (tally : Tally)
+pub IsUnderWay-none : (script : List ℕ) (source : KnownSource) (reader : Held) (engine : Engine) (before store : PlainBlobs)
     → source.left ≡ script → reader ≡ record { bytes = []; spare = SCRIPT_MAX; ended = false } → before.root ≡ None
-    → ((s : State) → HoldsImage (Some (plain_content before)) s → Stands engine (Some (plain_content store)) s) → tally ≡ no_reply
-    → IsUnderWay script source reader engine store tally
-IsUnderWay-none script source reader engine before store tally left fresh rootless stands none = record {
+    → ((s : State) → HoldsImage (Some (plain_content before)) s → Stands engine (Some (plain_content store)) s)
+    → IsUnderWay script source reader engine store no_reply
+IsUnderWay-none script source reader engine before store left fresh rootless stands = record {
   state = first_state;
   stands = stands first_state (fresh_image (plain_content before) rootless);
-  sums = λ read are. ap (λ (t : Tally). tally_from read t first_state (reader.bytes ++ source.left)) none
-      ∙ ap (λ (r : Held). tally_from read no_reply first_state (r.bytes ++ source.left)) fresh
+  sums = λ read are. ap (λ (r : Held). tally_from read no_reply first_state (r.bytes ++ source.left)) fresh
       ∙ ap (λ (bytes : List ℕ). tally_from read no_reply first_state bytes) left;
 }
 

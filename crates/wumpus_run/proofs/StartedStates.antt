@@ -1,7 +1,7 @@
 -- A session under way, from a state of which the store held an image, and how it ends.
-use Rattle.std.proofs.Common.{◌≡◌, ℕ, ◌+◌, ◌<◌, ◌≤◌, ◌^◌, List, [], Option, None, Err, true, false, refl, sym, ◌∙◌, subst, arith}
+use Rattle.std.proofs.Common.{◌≡◌, ℕ, ◌+◌, ◌<◌, ◌^◌, List, [], Option, None, Err, true, false, refl, sym, ◌∙◌, subst, arith}
 use Rattle.std.specs.Io.KnownBytes.{Appends, IsAtEnd, prepend_known}
-use Rattle.wu_base.specs.declared.limits.TheConstants.{BLOBS_SPENT_AT, SPENT_AT, WORK_MAX}
+use Rattle.wu_base.specs.declared.limits.TheConstants.{BLOBS_SPENT_AT, SPENT_AT}
 use Rattle.wu_base.specs.declared.troubles.Trouble.{Trouble}
 use Rattle.wu_base.specs.declared.troubles.Trouble.TheVariants as troubles
 use Rattle.wu_outside.specs.Faults.{HasFaultCause}
@@ -12,7 +12,7 @@ use Rattle.wu_script.specs.declared.ends.ReadEnd.{ReadEnd}
 use Rattle.wu_script.specs.declared.types.Item.{Item}
 use Rattle.wu_script.specs.declared.types.Item.TheVariants as items
 use Rattle.wu_script.specs.Holding.{Held, IsCounted as IsReadCounted}
-use Rattle.wu_script.specs.Said.{said_by, tokens_given}
+use Rattle.wu_script.specs.Said.{IsSoundItem, said_by, tokens_given}
 use Rattle.wu_script.specs.Items.{IsBeforeEnd, IsNext, EndsBeforeItem, TakesItem}
 use Rattle.wu_options.specs.declared.command_lines.Settings.{Settings}
 use Rattle.wu_engine.specs.declared.engines.Engine.{Engine}
@@ -24,7 +24,9 @@ use Rattle.wu_engine.specs.Naming.{HasNoStray}
 use Rattle.wu_engine.specs.Stands.{Stands}
 use Rattle.wu_engine.specs.States.{State, rested_state, saved_state}
 use Rattle.wu_engine.proofs.NamedBlobs.{no_stray_at_first}
+use Rattle.wumpus_run.specs.Raised.{IsRaised}
 use Rattle.wumpus_run.specs.Replies.{after, said_bytes}
+use Rattle.wumpus_run.specs.Started.{IsUnspent}
 use Rattle.wumpus_run.specs.Strays.{AddsNoStray}
 use Rattle.wumpus_run.specs.declared.statuses.Status.{Status}
 use Rattle.wumpus_run.specs.declared.statuses.Status.TheVariants.{Done, Usage, ReadFault, WriteFault, InputTooLong, StoreFault, Damaged}
@@ -34,13 +36,16 @@ use Rattle.wumpus_run.specs.Session.{Moment, FromImage, IsCounted, IsSession, st
 use Rattle.wumpus_run.specs.Session.{status_of_trouble}
 use Rattle.wumpus_run.proofs.SessionLemmas.{HasAnswered, HasAnswered-none, HasAnswered-turn, HasTaken, HasTaken-more}
 use Rattle.wumpus_run.proofs.AddressRoom.{HasRoom, HasRoom-none, HasRoom-item, HasRoom-fewer, StaysLow, StaysLow-none, StaysLow-item}
-use Rattle.wumpus_run.proofs.EndLemmas.{AnswersAll-end, Ends-saved, Ends-stopped, Ends-unanswered, Ends-unopened, Ends-unwritten}
-use Rattle.wumpus_run.proofs.EndLemmas.{HasTaken-none}
-use Rattle.wumpus_run.proofs.EndLemmas.{IsCounted-answered, IsCounted-other, IsCounted-read, IsCounted-since, IsCounted-unopened}
-use Rattle.wumpus_run.proofs.EndLemmas.{IsCounted-written, IsSaving, IsSpent-never, IsSpent-unopened, IsTooLong-short, IsTooLong-stopped}
-use Rattle.wumpus_run.proofs.EndLemmas.{IsUnspent, so_at_end, StaysWithin-short, StaysWithin-stopped, TakesAll-end, TakesAtMost-none}
-use Rattle.wumpus_run.proofs.EndLemmas.{TakesAtMost-taken, answering, damaged_so, reading, saved_damaged, saving, unopened, writing}
-use Rattle.wumpus_run.proofs.PromptLemmas.{HasReplied, HasReplied-none, HasReplied-turn}
+use Rattle.wumpus_run.proofs.AddressRoom.{few_drawn, few_flushes}
+use Rattle.wumpus_run.proofs.WrittenAtEnd.{AnswersAll-end, Ends-saved, Ends-stopped, Ends-unanswered, Ends-unopened, Ends-unwritten}
+use Rattle.wumpus_run.proofs.WrittenAtEnd.{so_at_end}
+use Rattle.wumpus_run.proofs.TakenAtEnd.{HasTaken-none, IsTooLong-short, IsTooLong-stopped, StaysWithin-short, StaysWithin-stopped}
+use Rattle.wumpus_run.proofs.TakenAtEnd.{TakesAll-end, TakesAtMost-none, TakesAtMost-taken}
+use Rattle.wumpus_run.proofs.FaultCounts.{IsCounted-answered, IsCounted-other, IsCounted-read, IsCounted-since, IsCounted-unopened}
+use Rattle.wumpus_run.proofs.FaultCounts.{IsCounted-written}
+use Rattle.wumpus_run.proofs.EndStatuses.{IsSaving, answering, damaged_so, reading, saved_damaged, saving, unopened, writing}
+use Rattle.wumpus_run.proofs.SpentStores.{IsSpent-never, IsSpent-unopened}
+use Rattle.wumpus_run.proofs.SentReplies.{HasReplied, HasReplied-none, HasReplied-turn}
 
 -- engine and store stand for a state, and the store has no stray blob; what was sent, and what answers the rest of the input from that
 -- state on, is all that answers the input from the start on
@@ -122,14 +127,6 @@ module _ (told : Settings) (before : Moment) where
     store_calm = calm;
   }
 
-  -- what a call on an item left of an engine
-  pub record IsRaised (engine later : Engine) (item : Item) : Type 0 where
-    pub taken : later.space.next ≤ engine.space.next + tokens_given (said_by item)
-    pub drawn : later.parts.next_blob ≤ engine.parts.next_blob + WORK_MAX
-    pub counted : later.parts.flushes ≤ engine.parts.flushes + 2
-    pub flush_at : later.parts.flush_at ≡ engine.parts.flush_at
-    pub goes_on : later.ended ≡ None
-
   -- the reply to an item, and engine and store for the state after it, without a stray blob more
   abbrev Replies : Option Content → Option Content → Engine → Engine → Item → List ℕ → Type 0
   Replies holds later_holds engine later item reply = (s : State) → Stands engine holds s
@@ -140,9 +137,10 @@ module _ (told : Settings) (before : Moment) where
       → IsUnderWay between engine old → IsBeforeEnd item → TakesItem between.left now.left now.last_read old new item
       → IsNext (prepend_known old.bytes between.left) (prepend_known new.bytes now.left) item → (new.ended ≡ true → IsAtEnd now.left)
       → now.read_faults ≡ between.read_faults → now.write_faults ≡ between.write_faults → now.store_faults ≡ between.store_faults
-      → IsRaised engine later item → Replies between.holds now.holds engine later item reply → written ≡ reply
+      → IsSoundItem item → IsRaised engine later (said_by item) → Replies between.holds now.holds engine later item reply → written ≡ reply
       → Appends between.gained now.gained written → IsUnderWay now later new
-  IsUnderWay-turn between now engine later old new item reply written i other took next at_end read write store raised replies same wrote =
+  IsUnderWay-turn between now engine later old new item reply written i other took next at_end read write store sound raised replies
+      same wrote =
       record {
         from = λ s image.
             let so_far = i.from s image in
@@ -156,9 +154,9 @@ module _ (told : Settings) (before : Moment) where
         room = HasRoom-fewer later.space.next (engine.space.next + tokens_given (said_by item)) told.max_input new
             (HasRoom-item between.left now.left now.last_read old new item engine.space.next told.max_input other took i.room) raised.taken;
         blobs = StaysLow-item between.left now.left now.last_read old new item engine.parts.next_blob later.parts.next_blob told.max_input
-            other took i.blobs raised.drawn;
+            other took i.blobs (omega (arith, raised.drawn, few_drawn item sound));
         flushes = StaysLow-item between.left now.left now.last_read old new item engine.parts.flushes later.parts.flushes told.max_input
-            other took i.flushes (omega (arith, raised.counted));
+            other took i.flushes (omega (arith, raised.counted, few_flushes (said_by item)));
         flush_at = raised.flush_at ∙ i.flush_at;
         taken = HasTaken-more before.left between.left now.left now.last_read old new item told.max_input i.taken took;
         at_end = at_end;

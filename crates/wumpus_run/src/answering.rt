@@ -1,5 +1,5 @@
 //! An item of the script is answered by the engine.
-ghost use Rattle.std.specs.Prelude.{◌≡◌, ℕ, ◌+◌, ◌<◌, ◌≤◌, ◌^◌, ◌∷◌, ◌++◌, true, None, Option, Err, length, IfErr, IfOk, OnOk};
+ghost use Rattle.std.specs.Prelude.{◌≡◌, ◌⊎◌, ℕ, ◌+◌, ◌<◌, ◌≤◌, ◌^◌, ◌∷◌, ◌++◌, true, None, Option, Some, Err, length, IfErr, IfOk, OnOk};
 ghost use Rattle.wu_base.specs.declared.limits.TheConstants.{ADDRESSES_MAX, TEXT_MAX, WORK_MAX};
 ghost use Rattle.wu_base.specs.declared.troubles.Trouble.TheVariants.{Damaged};
 ghost use Rattle.wu_outside.specs.Content.{Content};
@@ -18,6 +18,7 @@ ghost use Rattle.wu_engine.specs.Stands.{KeepsOthers, Stands};
 ghost use Rattle.wu_engine.specs.States.{State, flushed_state, saved_state, worked_state};
 ghost use Rattle.wumpus_run.specs.Crashes.{IsImageOfOne, last_or, left_to_next, saved_for};
 ghost use Rattle.wumpus_run.specs.Permitted.{AreReadFor};
+ghost use Rattle.wumpus_run.specs.Raised.{IsRaised};
 ghost use Rattle.wumpus_run.specs.Replies.{after, is_unasked, reply_to, said_bytes, verdict_reply};
 ghost use Rattle.wumpus_run.specs.Strays.{AddsNoStray};
 
@@ -57,15 +58,12 @@ pub fn answer<D: Store>(
     ensures unasked { is_unasked (said_by item) ≡ true → (engine.new ≡ engine.old) × (store.new ≡ store.old) }
     ensures earlier { (start : Content) → Goes engine.old start (D.holds store.old)
         → LeavesEarlier engine.old.parts.next_blob (D.holds store.old) (D.holds store.new) }
-    ensures taken { OnOk result (engine.new.space.next ≤ engine.old.space.next + tokens_given (said_by item)) }
-    ensures drawn { OnOk result (engine.new.parts.next_blob ≤ engine.old.parts.next_blob + WORK_MAX) }
-    ensures onward { OnOk result (engine.old.parts.next_blob ≤ engine.new.parts.next_blob) }
-    ensures counted { OnOk result (engine.new.parts.flushes ≤ engine.old.parts.flushes + 2) }
-    ensures flush_at { OnOk result (engine.new.parts.flush_at ≡ engine.old.parts.flush_at) }
+    ensures leaves { OnOk result (IsRaised engine.old engine.new (said_by item)) }
     ensures goes { (start : Content) → Goes engine.old start (D.holds store.old) → OnOk result (Goes engine.new start (D.holds store.new)) }
     ensures broken { (start : Content) → Goes engine.old start (D.holds store.old) → (blob : ℕ) → result ≡ Err (Damaged blob)
         → HasBroken start blob }
-    ensures goes_on { OnOk result (engine.new.ended ≡ None) }
+    ensures ends { IfErr result (λ trouble. (engine.new.ended ≡ Some trouble)
+        ⊎ ((trouble ≡ Trouble.NoMemory) × (engine.new.ended ≡ None))) }
     ensures cause { HasTroubleCause engine.old.ended (D.faults store.old) (D.faults store.new) result }
     ensures damaged { (s : State) → Stands engine.old (D.holds store.old) s → (blob : ℕ) → result ≡ Err (Damaged blob) → ⊥ }
 {
@@ -102,15 +100,11 @@ pub fn reply_to<D: Store>(
     ensures unasked { is_unasked (said_by item) ≡ true → (engine.new ≡ engine.old) × (store.new ≡ store.old) }
     ensures earlier { (start : Content) → Goes engine.old start (D.holds store.old)
         → LeavesEarlier engine.old.parts.next_blob (D.holds store.old) (D.holds store.new) }
-    ensures taken { OnOk result (engine.new.space.next ≤ engine.old.space.next + tokens_given (said_by item)) }
-    ensures drawn { OnOk result (engine.new.parts.next_blob ≤ engine.old.parts.next_blob + WORK_MAX) }
-    ensures onward { OnOk result (engine.old.parts.next_blob ≤ engine.new.parts.next_blob) }
-    ensures counted { OnOk result (engine.new.parts.flushes ≤ engine.old.parts.flushes + 2) }
-    ensures flush_at { OnOk result (engine.new.parts.flush_at ≡ engine.old.parts.flush_at) }
+    ensures leaves { OnOk result (IsRaised engine.old engine.new (said_by item)) }
     ensures goes { (start : Content) → Goes engine.old start (D.holds store.old) → OnOk result (Goes engine.new start (D.holds store.new)) }
     ensures broken { (start : Content) → Goes engine.old start (D.holds store.old) → (blob : ℕ) → result ≡ Err (Damaged blob)
         → HasBroken start blob }
-    ensures goes_on { OnOk result (engine.new.ended ≡ None) }
+    ensures ends { IfErr result (λ trouble. engine.new.ended ≡ Some trouble) }
     ensures cause { HasTroubleCause engine.old.ended (D.faults store.old) (D.faults store.new) result }
     ensures damaged { (s : State) → Stands engine.old (D.holds store.old) s → (blob : ℕ) → result ≡ Err (Damaged blob) → ⊥ }
 {
@@ -150,13 +144,9 @@ fn reply_to_event<D: Store>(
     ensures survives { (s last : State) → Stands engine.old (D.holds store.old) s → IsSavedLast (D.moments store.old) s last
         → Leaves (D.moments store.old) (D.moments store.new) (IsImageOf last) }
     ensures elsewhere { KeepsOthers engine.old.parts.next_blob (engine.old.parts.next_blob + 2) (D.holds store.old) (D.holds store.new) }
-    ensures taken { OnOk result (engine.new.space.next ≤ engine.old.space.next + tokens_given (Happens event.now body.now)) }
-    ensures drawn { OnOk result (engine.new.parts.next_blob ≤ engine.old.parts.next_blob + 2) }
-    ensures onward { OnOk result (engine.old.parts.next_blob ≤ engine.new.parts.next_blob) }
-    ensures counted { OnOk result (engine.new.parts.flushes ≤ engine.old.parts.flushes + 2) }
-    ensures flush_at { OnOk result (engine.new.parts.flush_at ≡ engine.old.parts.flush_at) }
+    ensures leaves { OnOk result (IsRaised engine.old engine.new (Happens event.now body.now)) }
     ensures goes { (start : Content) → Goes engine.old start (D.holds store.old) → OnOk result (Goes engine.new start (D.holds store.new)) }
-    ensures goes_on { OnOk result (engine.new.ended ≡ None) }
+    ensures ends { IfErr result (λ trouble. engine.new.ended ≡ Some trouble) }
     ensures cause { HasTroubleCause engine.old.ended (D.faults store.old) (D.faults store.new) result }
     ensures damaged { (blob : ℕ) → result ≡ Err (Damaged blob) → ⊥ }
 {
@@ -185,10 +175,11 @@ fn reply_to_query<D: Store>(
         (D.holds store.old) (D.reads store.old) (D.reads store.new)) }
     ensures space { engine.new.space ≡ engine.old.space }
     ensures parts { engine.new.parts ≡ record engine.old.parts { kept = engine.new.parts.kept } }
+    ensures leaves { OnOk result (IsRaised engine.old engine.new (Asks query.now.uid (question_of query.now.ask))) }
     ensures goes { (start : Content) → Goes engine.old start (D.holds store.old) → OnOk result (Goes engine.new start (D.holds store.new)) }
     ensures broken { (start : Content) → Goes engine.old start (D.holds store.old) → (blob : ℕ) → result ≡ Err (Damaged blob)
         → HasBroken start blob }
-    ensures goes_on { OnOk result (engine.new.ended ≡ None) }
+    ensures ends { IfErr result (λ trouble. engine.new.ended ≡ Some trouble) }
     ensures cause { HasTroubleCause engine.old.ended (D.faults store.old) (D.faults store.new) result }
     ensures damaged { (s : State) → Stands engine.old (D.holds store.old) s → (blob : ℕ) → result ≡ Err (Damaged blob) → ⊥ }
 {
@@ -210,12 +201,9 @@ fn reply_to_flush<D: Store>(engine: &mut Engine, store: &mut D) -> Result<Option
         → Leaves (D.moments store.old) (D.moments store.new) (IsImageOf last) }
     ensures elsewhere { KeepsOthers engine.old.parts.next_blob (engine.old.parts.next_blob + 1) (D.holds store.old) (D.holds store.new) }
     ensures space { engine.new.space ≡ engine.old.space }
-    ensures drawn { OnOk result (engine.new.parts.next_blob ≤ engine.old.parts.next_blob + 1) }
-    ensures onward { OnOk result (engine.old.parts.next_blob ≤ engine.new.parts.next_blob) }
-    ensures counted { OnOk result (engine.new.parts.flushes ≤ engine.old.parts.flushes + 2) }
-    ensures flush_at { OnOk result (engine.new.parts.flush_at ≡ engine.old.parts.flush_at) }
+    ensures leaves { OnOk result (IsRaised engine.old engine.new (Operates Flush)) }
     ensures goes { (start : Content) → Goes engine.old start (D.holds store.old) → OnOk result (Goes engine.new start (D.holds store.new)) }
-    ensures goes_on { OnOk result (engine.new.ended ≡ None) }
+    ensures ends { IfErr result (λ trouble. engine.new.ended ≡ Some trouble) }
     ensures cause { HasTroubleCause engine.old.ended (D.faults store.old) (D.faults store.new) result }
     ensures damaged { (blob : ℕ) → result ≡ Err (Damaged blob) → ⊥ }
 {
@@ -242,14 +230,12 @@ fn reply_to_work<D: Store>(
     ensures elsewhere { KeepsOthers engine.old.parts.next_blob (engine.old.parts.next_blob + units)
         (D.holds store.old) (D.holds store.new) }
     ensures space { engine.new.space ≡ engine.old.space }
-    ensures drawn { OnOk result (engine.new.parts.next_blob ≤ engine.old.parts.next_blob + units) }
-    ensures onward { OnOk result (engine.old.parts.next_blob ≤ engine.new.parts.next_blob) }
+    ensures leaves { OnOk result (IsRaised engine.old engine.new (Operates (Work units))) }
     ensures counted { OnOk result (engine.new.parts.flushes ≡ engine.old.parts.flushes) }
-    ensures flush_at { OnOk result (engine.new.parts.flush_at ≡ engine.old.parts.flush_at) }
     ensures goes { (start : Content) → Goes engine.old start (D.holds store.old) → OnOk result (Goes engine.new start (D.holds store.new)) }
     ensures broken { (start : Content) → Goes engine.old start (D.holds store.old) → (blob : ℕ) → result ≡ Err (Damaged blob)
         → HasBroken start blob }
-    ensures goes_on { OnOk result (engine.new.ended ≡ None) }
+    ensures ends { IfErr result (λ trouble. engine.new.ended ≡ Some trouble) }
     ensures cause { HasTroubleCause engine.old.ended (D.faults store.old) (D.faults store.new) result }
     ensures damaged { (s : State) → Stands engine.old (D.holds store.old) s → (blob : ℕ) → result ≡ Err (Damaged blob) → ⊥ }
 {
@@ -263,6 +249,7 @@ fn reply_to_stat(engine: &Engine) -> Result<Option<Reply>, Trouble>
     ensures reply { (holds : Option Content) (s : State) → Stands engine.now holds s → IfOk result
         (λ reply. reply ≡ reply_to s (Operates Stat)) }
     ensures error { IfErr result (λ trouble. trouble ≡ Trouble.NoMemory) }
+    ensures ends { IfErr result (λ trouble. engine.now.ended ≡ Some trouble) }
 {
     let stat = engine.stat()?;
     Ok(Some(Reply::Stat(stat)))
@@ -285,12 +272,9 @@ fn reply_to_save<D: Store>(engine: &mut Engine, store: &mut D) -> Result<Option<
     ensures earlier { (start : Content) → Goes engine.old start (D.holds store.old)
         → LeavesEarlier engine.old.parts.next_blob (D.holds store.old) (D.holds store.new) }
     ensures space { engine.new.space ≡ engine.old.space }
-    ensures drawn { OnOk result (engine.new.parts.next_blob ≤ engine.old.parts.next_blob + 2) }
-    ensures onward { OnOk result (engine.old.parts.next_blob ≤ engine.new.parts.next_blob) }
-    ensures counted { OnOk result (engine.new.parts.flushes ≤ engine.old.parts.flushes + 2) }
-    ensures flush_at { OnOk result (engine.new.parts.flush_at ≡ engine.old.parts.flush_at) }
+    ensures leaves { OnOk result (IsRaised engine.old engine.new (Operates Save)) }
     ensures goes { (start : Content) → Goes engine.old start (D.holds store.old) → OnOk result (Goes engine.new start (D.holds store.new)) }
-    ensures goes_on { OnOk result (engine.new.ended ≡ None) }
+    ensures ends { IfErr result (λ trouble. engine.new.ended ≡ Some trouble) }
     ensures cause { HasTroubleCause engine.old.ended (D.faults store.old) (D.faults store.new) result }
     ensures damaged { (blob : ℕ) → result ≡ Err (Damaged blob) → ⊥ }
 {

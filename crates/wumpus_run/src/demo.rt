@@ -1,6 +1,6 @@
 //! A demonstration: the session of a large script that is made from a number, told in one line.
 ghost use Rattle.std.specs.Prelude.{◌≡◌, ℕ, ◌+◌, ◌++◌, ◌∷◌, ◌<◌, ◌^◌, List, [], true, length, decimal, IfOk, MatchBool, OnOk};
-ghost use Rattle.wumpus_run.specs.Demo.{IsDemoLine, IsFew, IsReady, IsShown, IsTallyOf, IsUnderWay, counted, tally_line};
+ghost use Rattle.wumpus_run.specs.Demo.{IsDemoLine, IsFew, IsReady, IsShown, IsTallyOf, IsUnderWay, counted, no_reply, tally_line};
 ghost use Rattle.wumpus_run.specs.Session.{IsCounted};
 
 use crate::answering::reply_to;
@@ -90,14 +90,21 @@ fn tally_of(alloc: Global, script: Vec<u8>) -> Result<Tally, NoMemory>
         Ok(engine) => engine,
         Err(_) => return Err(NoMemory),
     };
+    count_items(&mut source, &mut reader, &mut engine, &mut store)
+}
+
+/// Counts the replies to the items of a script in turn.
+fn count_items(
+    source: &mut PlainSource,
+    reader: &mut Reader,
+    engine: &mut Engine,
+    store: &mut PlainStore,
+) -> Result<Tally, NoMemory>
+    requires { IsReady source.old reader.old engine.old no_reply }
+    ensures { (script : List ℕ) → IsUnderWay script source.old reader.old engine.old store.old no_reply → IfOk result (IsTallyOf script) }
+{
     let mut tally = Tally::new();
-    'items: while count_next(
-        &mut source,
-        &mut reader,
-        &mut engine,
-        &mut store,
-        &mut tally,
-    )? {}
+    'items: while count_next(source, reader, engine, store, &mut tally)? {}
     Ok(tally)
 }
 

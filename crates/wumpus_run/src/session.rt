@@ -1,11 +1,14 @@
 //! A session: the script is read as it comes, and each item is answered in turn.
-ghost use Rattle.std.specs.Prelude.{◌≡◌, ◌≢◌, ◌⊎◌, ℕ, ◌+◌, ◌<◌, ◌≤◌, ◌^◌, [], None, Some, Err, false, IfOk, IfErr, IfSome, OnErr, OnOk, MatchBool};
+ghost use Rattle.std.specs.Prelude.{◌≡◌, ◌≢◌, ◌⊎◌, ℕ, ◌+◌, ◌<◌, ◌≤◌, ◌^◌, List, [], Option, None, Some, Err, false, IfOk, IfErr, IfSome, OnErr, OnOk, MatchBool};
 ghost use Rattle.std.specs.Io.KnownBytes.{Appends};
 ghost use Rattle.wu_base.specs.declared.limits.TheConstants.{BLOBS_SPENT_AT, INPUT_MAX, SPENT_AT};
+ghost use Rattle.wu_base.specs.declared.troubles.Trouble.{Trouble};
 ghost use Rattle.wu_outside.specs.Content.{Content};
+ghost use Rattle.wu_outside.specs.Crash.{Moments};
 ghost use Rattle.wu_outside.specs.Faults.{HasFaultCause, Rose};
 ghost use Rattle.wu_outside.specs.Gains.{GainsPrefix};
 ghost use Rattle.wu_outside.specs.Surviving.{IsLeft, Leaves, LeavesNow};
+ghost use Rattle.wu_outside.specs.declared.ranges.ReadRange.{ReadRange};
 ghost use Rattle.wu_script.specs.Items.{IsBeforeEnd};
 ghost use Rattle.wu_image.specs.declared.roots.Root.{Root};
 ghost use Rattle.wu_options.specs.CommandLines.{command_line_of, texts_of};
@@ -19,6 +22,7 @@ ghost use Rattle.wu_engine.specs.declared.faults.BeginFault.TheVariants.{Damaged
 ghost use Rattle.wumpus_run.specs.Demo.{IfDemo, IsShown};
 ghost use Rattle.wumpus_run.specs.Permitted.{ReadsPermitted};
 ghost use Rattle.wumpus_run.specs.Session.{AnswersAll, AnswersPrefix, Completes, FromImage, HasRoom, HoldsNothingBack, IsCounted, IsSession, IsSpent, IsTooLong, IsUsage, LeavesNoStray, SavesAll, StaysShut, StaysWithin, TakesAll, moment, settings_of, status_of, status_of_fault, status_of_opening, status_of_saving, status_of_trouble};
+ghost use Rattle.wumpus_run.specs.Started.{IsStarted, settings_by};
 ghost use Rattle.wumpus_run.specs.Strays.{AddsNoStray};
 ghost use Rattle.wumpus_run.specs.Crashes.{LeavesAcknowledged, LeavesLast, LeavesSaves, Survives, left_to_next};
 
@@ -89,7 +93,7 @@ pub fn run<I: Source, O: Sink, D: Store>(
         (moment I.Source O.Sink D.Store source.new sink.new store.new)
         (D.moments store.old) (D.moments store.new)) }
     // Whatever it held, no blob below the root's next one is written over: as long as the root is the one from before all are as they
-    // were, and some are gone only where a save of this session set the root.
+    // were, and some are gone only where the root names a checkpoint with a number from that next one on.
     ensures earlier { (content : Content) → D.holds store.old ≡ Some content → (root : Root) → HasRoot content root
         → LeavesEarlier root.next_blob (D.holds store.old) (D.holds store.new) }
     // Where the store leaves no room it holds what it held.
@@ -179,6 +183,40 @@ fn answer_script<I: Source, O: Sink, D: Store>(
         Ok(start) => start,
         Err(fault) => return status_of_opening(fault),
     };
+    answer_items(alloc, source, sink, store, &mut reader, &mut engine)
+}
+
+/// Answers the items of the script in turn, with a reader and an engine that were just made, and saves what they leave.
+fn answer_items<I: Source, O: Sink, D: Store>(
+    alloc: Global,
+    source: &mut I,
+    sink: &mut O,
+    store: &mut D,
+    reader: &mut Reader,
+    engine: &mut Engine,
+) -> Status
+    requires goes_on { I.ended source.old ≡ false }
+    requires started { IsStarted reader.old engine.old (D.holds store.old) (D.moments store.old) }
+    ensures session { IsSession result (settings_by reader.old engine.old)
+        (moment I.Source O.Sink D.Store source.old sink.old store.old)
+        (moment I.Source O.Sink D.Store source.new sink.new store.new) }
+    ensures permitted { (reads : Option (List ReadRange)) → IsOpen (D.holds store.old) reads (D.reads store.old)
+        → FromImage (D.holds store.old) (λ s. ReadsPermitted s result (Some (settings_by reader.old engine.old))
+        (moment I.Source O.Sink D.Store source.old sink.old store.old)
+        (moment I.Source O.Sink D.Store source.new sink.new store.new)
+        reads (D.reads store.new)) }
+    ensures survives { (moments : Option Moments) → Leaves moments (D.moments store.old) (IsLeft moments)
+        → FromImage (D.holds store.old) (λ s. Survives s result (settings_by reader.old engine.old)
+        (moment I.Source O.Sink D.Store source.old sink.old store.old)
+        (moment I.Source O.Sink D.Store source.new sink.new store.new)
+        moments (D.moments store.new)) }
+    ensures earlier { (content : Content) → D.holds store.old ≡ Some content → (root : Root) → HasRoot content root
+        → LeavesEarlier root.next_blob (D.holds store.old) (D.holds store.new) }
+    ensures broken { (content : Content) → D.holds store.old ≡ Some content → (blob : ℕ) → result ≡ Status.Damaged blob
+        → HasBroken content blob }
+    ensures opened { (next : ℕ) → result ≡ Status.Spent next → ⊥ }
+    ensures told { (trouble : Trouble) → engine.new.ended ≡ Some trouble → result ≡ status_of_trouble trouble }
+{
     let mut reply = Vec::new(alloc);
     'items: loop {
         let item = match reader.next(source) {
@@ -186,10 +224,10 @@ fn answer_script<I: Source, O: Sink, D: Store>(
             Err(end) => return status_of(end),
         };
         if is_end(&item) {
-            return save(&mut engine, store);
+            return save(engine, store);
         }
         reply.clear();
-        match answer(&mut engine, store, item, &mut reply) {
+        match answer(engine, store, item, &mut reply) {
             Ok(()) => {}
             Err(trouble) => return status_of_trouble(trouble),
         }
@@ -249,6 +287,7 @@ fn save<D: Store>(engine: &mut Engine, store: &mut D) -> Status
     ensures earlier { (start : Content) → Goes engine.old start (D.holds store.old)
         → LeavesEarlier engine.old.parts.next_blob (D.holds store.old) (D.holds store.new) }
     ensures ends { (result ≡ Status.Done) ⊎ ((result ≡ Status.NoMemory) ⊎ (result ≡ Status.StoreFault)) }
+    ensures told { (trouble : Trouble) → engine.new.ended ≡ Some trouble → result ≡ status_of_trouble trouble }
     ensures store_fault { IsCounted Status.StoreFault result (D.faults store.old) (D.faults store.new) }
 {
     status_of_saving(engine.save(store))

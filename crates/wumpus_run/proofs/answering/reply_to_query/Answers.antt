@@ -1,6 +1,8 @@
-use Rattle.std.proofs.Common.{Err, ap, ⊎_elim}
+use Rattle.std.proofs.Common.{Some, Err, ap, ⊎_elim}
 use Rattle.wu_base.specs.declared.troubles.Trouble.TheVariants.{Damaged}
 use Rattle.wu_ask.specs.Questions.{question_of}
+use Rattle.wu_ask.specs.declared.Answered.{Answered}
+use Rattle.wu_script.specs.declared.types.Reply.TheVariants as replies
 use Rattle.wu_engine.proofs.DamagedTexts.{damaged_in}
 use Rattle.wumpus_run.proofs.SoundBlobs.{same_trouble, undamaged}
 use Rattle.wumpus_run.proofs.answering.reply_to_query.Goals as goal
@@ -21,3 +23,17 @@ pub returns-in_err-answered-clause-broken : goal.returns-in_err-answered-clause-
 returns-in_err-answered-clause-broken g c = λ start goes blob e.
     c.in_err-answered.ensures.broken start goes blob
     (ap Err (same_trouble c.from_residual.result c.in_err-answered.field-0.0 (Damaged blob) c.from_residual.ensures.1 e))
+
+pub returns-clause-reply : goal.returns-clause-reply
+returns-clause-reply g c = λ s stands.
+    let answer = c.in_ok-answered.ensures.answer s stands in
+    (ap (λ (answered : Answered). Some (replies.Answered answered)) answer.0, answer.1)
+
+pub returns-clause-permitted : goal.returns-clause-permitted
+returns-clause-permitted g c = c.in_ok-answered.ensures.permitted
+
+pub returns-in_err-answered-clause-permitted : goal.returns-in_err-answered-clause-permitted
+returns-in_err-answered-clause-permitted g c = c.in_err-answered.ensures.permitted
+
+pub returns-clause-reads : goal.returns-clause-reads
+returns-clause-reads g c = c.in_ok-answered.ensures.reads

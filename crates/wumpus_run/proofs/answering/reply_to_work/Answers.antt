@@ -1,5 +1,7 @@
-use Rattle.std.proofs.Common.{Err, ap}
+use Rattle.std.proofs.Common.{Some, Err, ap}
+use Rattle.wu_base.specs.declared.Worked.{Worked}
 use Rattle.wu_base.specs.declared.troubles.Trouble.TheVariants.{Damaged}
+use Rattle.wu_script.specs.declared.types.Reply.TheVariants as replies
 use Rattle.wu_engine.proofs.NamedBlobs.{no_stray_after_work}
 use Rattle.wumpus_run.proofs.SoundBlobs.{same_trouble}
 use Rattle.wumpus_run.proofs.answering.reply_to_work.Goals as goal
@@ -13,3 +15,20 @@ pub returns-in_err-worked-clause-broken : goal.returns-in_err-worked-clause-brok
 returns-in_err-worked-clause-broken g c = λ start goes blob e.
     c.in_err-worked.ensures.broken start goes blob
     (ap Err (same_trouble c.from_residual.result c.in_err-worked.field-0.0 (Damaged blob) c.from_residual.ensures.1 e))
+
+pub returns-clause-reply : goal.returns-clause-reply
+returns-clause-reply g c = λ s stands.
+    let step = c.in_ok-worked.ensures.step s stands in
+    (ap (λ (worked : Worked). Some (replies.Worked worked)) step.0, step.1)
+
+pub returns-clause-permitted : goal.returns-clause-permitted
+returns-clause-permitted g c = c.in_ok-worked.ensures.permitted
+
+pub returns-in_err-worked-clause-permitted : goal.returns-in_err-worked-clause-permitted
+returns-in_err-worked-clause-permitted g c = c.in_err-worked.ensures.permitted
+
+pub returns-clause-elsewhere : goal.returns-clause-elsewhere
+returns-clause-elsewhere g c = c.in_ok-worked.ensures.elsewhere
+
+pub returns-in_err-worked-clause-elsewhere : goal.returns-in_err-worked-clause-elsewhere
+returns-in_err-worked-clause-elsewhere g c = c.in_err-worked.ensures.elsewhere

@@ -3,7 +3,7 @@ use Rattle.std.specs.Io.KnownBytes.{prepend_known}
 use Rattle.wu_script.specs.Items.{IsNext}
 use Rattle.wu_script.specs.Said.{said_by, tokens_given}
 use Rattle.wumpus_run.proofs.SessionLemmas.{takes_one}
-use Rattle.wumpus_run.proofs.AddressRoom.{HasRoom-item, HasRoom-few, HasRoom-fewer, StaysLow-item, StaysLow-few}
+use Rattle.wumpus_run.proofs.AddressRoom.{HasRoom-item, HasRoom-few, HasRoom-fewer, StaysLow-item, StaysLow-few, few_drawn, few_flushes}
 use Rattle.wumpus_run.proofs.DemoLemmas.{IsTallyOf-end, IsUnderWay-turn}
 use Rattle.wumpus_run.proofs.demo.count_next.Goals as goal
 
@@ -62,15 +62,15 @@ returns-clause-ready c = λ more.
     let old = c.args.engine.now in
     let new = c.reply_to.new.engine in
     record {
-      goes_on = replied.goes_on;
-      flush_at = replied.flush_at ∙ c.requires.flush_at;
+      goes_on = replied.leaves.goes_on;
+      flush_at = replied.leaves.flush_at ∙ c.requires.flush_at;
       addresses = HasRoom-fewer new.space.next (old.space.next + tokens_given (said_by item)) 4194304 c.next.new.self
           (HasRoom-item left now last c.args.reader.now c.next.new.self item old.space.next 4194304 other took c.requires.addresses)
-          replied.taken;
+          replied.leaves.taken;
       blobs = StaysLow-item left now last c.args.reader.now c.next.new.self item old.parts.next_blob new.parts.next_blob 4194304
-          other took c.requires.blobs replied.drawn;
+          other took c.requires.blobs (omega (arith, replied.leaves.drawn, few_drawn item c.in-Ok.ensures.sound));
       flushes = StaysLow-item left now last c.args.reader.now c.next.new.self item old.parts.flushes new.parts.flushes 4194304
-          other took c.requires.flushes (omega (arith, replied.counted));
+          other took c.requires.flushes (omega (arith, replied.leaves.counted, few_flushes (said_by item)));
       items = c.requires.items + 1;
       few = c.count_reply.ensures.few c.requires.items c.requires.few;
       left = omega (arith, c.requires.left, takes_one left now last c.args.reader.now c.next.new.self item other took);

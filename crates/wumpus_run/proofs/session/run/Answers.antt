@@ -1,13 +1,14 @@
 use Rattle.std.proofs.Common.{Option, Some, refl, sym, ap, ◌∙◌, subst}
-use Rattle.wu_options.specs.CommandLines.{texts_of}
+use Rattle.wu_options.specs.CommandLines.{command_line_of, texts_of}
 use Rattle.wu_options.specs.declared.command_lines.Settings.{Settings}
 use Rattle.wumpus_run.specs.Session.{moment, settings_of, Completes}
-use Rattle.wumpus_run.specs.declared.statuses.Status.TheVariants.{NoMemory}
+use Rattle.wumpus_run.specs.declared.statuses.Status.TheVariants.{NoMemory, ReadFault, StoreFault}
+use Rattle.wumpus_run.proofs.DemoLemmas.{nothing-shown, other-calm}
 use Rattle.wumpus_run.proofs.CrashesAtEnd.{LeavesAcknowledged-untouched, LeavesSaves-untouched}
 use Rattle.wumpus_run.proofs.SettingLimits.{input_within, settings_asked}
 use Rattle.wumpus_run.proofs.EarlierLemmas.{left_alone}
-use Rattle.wumpus_run.proofs.EndLemmas.{Completes-all, IsTooLong-none}
-use Rattle.wumpus_run.proofs.PromptLemmas.{AnswersAllButOneRead-untouched}
+use Rattle.wumpus_run.proofs.TakenAtEnd.{Completes-all, IsTooLong-none}
+use Rattle.wumpus_run.proofs.PromptAtEnd.{AnswersAllButOneRead-untouched}
 use Rattle.wumpus_run.proofs.RootRoom.{has_room}
 use Rattle.wumpus_run.proofs.SessionReads.{permitted_untouched}
 use Rattle.wumpus_run.proofs.ShutStores.{shut-unread}
@@ -75,3 +76,16 @@ returns-in-Ok-None-clause-earlier g c = left_alone (g.D.Store.holds c.args.store
 
 pub returns-in-Ok-Some-Demo-clause-earlier : goal.returns-in-Ok-Some-Demo-clause-earlier
 returns-in-Ok-Some-Demo-clause-earlier g c = left_alone (g.D.Store.holds c.args.store.now) (g.D.Store.holds c.args.store.now) refl
+
+pub returns-in-Err-clause-demo : goal.returns-in-Err-clause-demo
+returns-in-Err-clause-demo g c = nothing-shown (command_line_of (texts_of c.args.words.now)) (g.O.Sink.gained c.args.sink.now)
+
+pub returns-in-Ok-Some-Demo-clause-read_fault : goal.returns-in-Ok-Some-Demo-clause-read_fault
+returns-in-Ok-Some-Demo-clause-read_fault g c =
+    other-calm c.in-Ok-Some-Demo.number ReadFault c.demo.result (g.O.Sink.gained c.args.sink.now) (g.O.Sink.gained c.demo.new.sink)
+    (g.I.Source.faults c.args.source.now) c.demo.ensures.shown (λ e. cc) (λ e. cc) (λ e. cc)
+
+pub returns-in-Ok-Some-Demo-clause-store_fault : goal.returns-in-Ok-Some-Demo-clause-store_fault
+returns-in-Ok-Some-Demo-clause-store_fault g c =
+    other-calm c.in-Ok-Some-Demo.number StoreFault c.demo.result (g.O.Sink.gained c.args.sink.now) (g.O.Sink.gained c.demo.new.sink)
+    (g.D.Store.faults c.args.store.now) c.demo.ensures.shown (λ e. cc) (λ e. cc) (λ e. cc)

@@ -1,5 +1,6 @@
 use Rattle.std.proofs.Common.{rules, sym, ◌∙◌}
-use Rattle.wumpus_run.proofs.EndLemmas.{IsCounted-saved, ends_saving, saved_done}
+use Rattle.wumpus_run.proofs.FaultCounts.{IsCounted-saved}
+use Rattle.wumpus_run.proofs.EndStatuses.{ends_saving, saved_done, told_saving}
 use Rattle.wumpus_run.proofs.NamedAtEnd.{none_at_end}
 use Rattle.wumpus_run.proofs.session.save.Goals as goal
 
@@ -23,3 +24,7 @@ pub returns-clause-store_fault : goal.returns-clause-store_fault
 returns-clause-store_fault g c =
     rw c.status_of_saving.ensures
     (IsCounted-saved _ c.args.engine.now.ended (g.D.Store.faults c.args.store.now) _ c.requires.goes_on (search rules))
+
+pub returns-clause-told : goal.returns-clause-told
+returns-clause-told g c = λ trouble e.
+    rw c.status_of_saving.ensures (told_saving _ c.save.new.self.ended (search rules) (search rules) trouble e)

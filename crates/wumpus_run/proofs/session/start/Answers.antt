@@ -1,7 +1,7 @@
 use Rattle.std.proofs.Common.{refl}
 use Rattle.wu_outside.specs.Surviving.{IsLeft}
 use Rattle.wu_outside.proofs.Survival.{kept, left_now}
-use Rattle.wumpus_run.proofs.EndLemmas.{IsSpentWhere-paired, IsSpentWhere-passed}
+use Rattle.wumpus_run.proofs.SpentStores.{IsSpentWhere-paired, IsSpentWhere-passed}
 use Rattle.wumpus_run.proofs.session.start.Goals as goal
 
 pub returns-in_err-begin-clause-spent : goal.returns-in_err-begin-clause-spent

@@ -1,0 +1,359 @@
+use Rattle.std.proofs.Common.{◌+◌, Err, ap, refl, subst, arith}
+use Rattle.std.specs.Io.KnownBytes.{prepend_known}
+use Rattle.wu_script.specs.Items.{IsNext, TakesItem}
+use Rattle.wu_script.specs.Said.{said_by, tokens_given}
+use Rattle.wu_engine.specs.Stands.{Stands}
+use Rattle.wumpus_run.specs.Replies.{after, said_bytes}
+use Rattle.wumpus_run.specs.Session.{moment}
+use Rattle.wumpus_run.specs.Started.{settings_by}
+use Rattle.wumpus_run.proofs.SessionLemmas.{appended, takes_one}
+use Rattle.wumpus_run.proofs.AddressRoom.{HasRoom-item, HasRoom-few, StaysLow-few}
+use Rattle.wumpus_run.specs.declared.statuses.Status.TheVariants.{Damaged, Spent}
+use Rattle.wumpus_run.proofs.CrashesAtEnd.{Survives-saved, Survives-stopped, Survives-unanswered}
+use Rattle.wumpus_run.proofs.CrashesAtEnd.{Survives-unwritten}
+use Rattle.wumpus_run.proofs.CrashesUnderWay.{HasKept-none, HasKept-turn, IsAnswered-appended}
+use Rattle.wumpus_run.proofs.EarlierLemmas.{HasLeft-none, HasLeft-turn, left_so_far, left_then}
+use Rattle.wumpus_run.proofs.EndStatuses.{answering, damaged_so, reading, saving, told_answering, untold, writing}
+use Rattle.wumpus_run.proofs.StartedStates.{IsUnderWay-none, IsUnderWay-turn, IsSession-saved, IsSession-stopped, IsSession-unanswered}
+use Rattle.wumpus_run.proofs.StartedStates.{IsSession-unwritten}
+use Rattle.wumpus_run.proofs.SessionReads.{HasRead-none, HasRead-turn, permitted_so_far, permitted_then}
+use Rattle.wumpus_run.proofs.session.answer_items.Goals as goal
+
+pub returns-in-Err-clause-session : goal.returns-in-Err-clause-session
+returns-in-Err-clause-session g c =
+    let told = settings_by c.args.reader.now c.args.engine.now in
+    let i = c.items.invariant.under_way in
+    let before = moment g.I.Source g.O.Sink g.D.Store c.args.source.now c.args.sink.now c.args.store.now in
+    let between = moment g.I.Source g.O.Sink g.D.Store c.items.source c.items.sink c.items.store in
+    rw c.status_of.ensures
+    (IsSession-stopped told before between c.items.engine c.items.reader i c.in-Err.end
+    (g.I.Source.left c.next.new.source) (g.I.Source.last_read c.next.new.source)
+    (g.I.Source.faults c.next.new.source) c.in-Err.ensures.early c.in-Err.ensures.cause)
+
+pub save-requires-clause-blobs : goal.save-requires-clause-blobs
+save-requires-clause-blobs g c =
+    omega (
+      arith,
+      StaysLow-few c.items.engine.parts.next_blob c.args.reader.now.spare c.items.reader c.items.invariant.under_way.blobs
+          c.requires.started.within,
+    )
+
+pub save-requires-clause-flushes : goal.save-requires-clause-flushes
+save-requires-clause-flushes g c =
+    omega (
+      arith,
+      StaysLow-few c.items.engine.parts.flushes c.args.reader.now.spare c.items.reader c.items.invariant.under_way.flushes
+          c.requires.started.within,
+    )
+
+pub returns-then-is_end-clause-session : goal.returns-then-is_end-clause-session
+returns-then-is_end-clause-session g c =
+    let told = settings_by c.args.reader.now c.args.engine.now in
+    let i = c.items.invariant.under_way in
+    let before = moment g.I.Source g.O.Sink g.D.Store c.args.source.now c.args.sink.now c.args.store.now in
+    let between = moment g.I.Source g.O.Sink g.D.Store c.items.source c.items.sink c.items.store in
+    let known = prepend_known c.items.reader.bytes between.left in
+    let rest = prepend_known c.next.new.self.bytes (g.I.Source.left c.next.new.source) in
+    IsSession-saved told before between c.items.engine c.items.reader i c.save.result c.next.new.self
+    (g.I.Source.left c.next.new.source) (g.I.Source.last_read c.next.new.source)
+    (g.I.Source.faults c.next.new.source) (g.D.Store.holds c.save.new.store) (g.D.Store.faults c.save.new.store) c.save.ensures.ends
+    (subst (λ item. TakesItem between.left (g.I.Source.left c.next.new.source) (g.I.Source.last_read c.next.new.source) c.items.reader
+    c.next.new.self item) c.if-is_end.ensures c.in-Ok.ensures.taken)
+    (subst (IsNext known rest) c.if-is_end.ensures (c.in-Ok.ensures.first i.at_end)) (c.in-Ok.ensures.at_end i.at_end)
+    c.in-Ok.ensures.cause c.save.ensures.store_fault c.save.ensures.image c.save.ensures.named
+
+pub returns-in-Err-answer-clause-session : goal.returns-in-Err-answer-clause-session
+returns-in-Err-answer-clause-session g c =
+    let told = settings_by c.args.reader.now c.args.engine.now in
+    let i = c.items.invariant.under_way in
+    let before = moment g.I.Source g.O.Sink g.D.Store c.args.source.now c.args.sink.now c.args.store.now in
+    let between = moment g.I.Source g.O.Sink g.D.Store c.items.source c.items.sink c.items.store in
+    rw c.status_of_trouble.ensures
+    (IsSession-unanswered told before between c.items.engine c.items.reader i c.in-Err-answer.trouble c.next.new.self c.in-Ok.item
+    (g.I.Source.left c.next.new.source) (g.I.Source.last_read c.next.new.source)
+    (g.I.Source.faults c.next.new.source) (g.D.Store.holds c.answer.new.store) (g.D.Store.faults c.answer.new.store)
+    c.if-is_end.ensures c.in-Ok.ensures.taken c.in-Ok.ensures.cause c.in-Err-answer.ensures.cause
+    (λ s stands blob e. c.in-Err-answer.ensures.damaged s stands blob (ap Err e)))
+
+pub save-requires-clause-goes_on : goal.save-requires-clause-goes_on
+save-requires-clause-goes_on g c =
+    c.items.invariant.under_way.goes_on
+
+pub answer-requires-clause-goes_on : goal.answer-requires-clause-goes_on
+answer-requires-clause-goes_on g c =
+    c.items.invariant.under_way.goes_on
+
+pub answer-requires-clause-room : goal.answer-requires-clause-room
+answer-requires-clause-room g c =
+    let item = c.in-Ok.item in
+    let most = c.args.reader.now.spare in
+    let next = c.items.engine.space.next + tokens_given (said_by item) in
+    HasRoom-few next most c.next.new.self
+    (HasRoom-item (g.I.Source.left c.items.source) (g.I.Source.left c.next.new.source) (g.I.Source.last_read c.next.new.source)
+    c.items.reader c.next.new.self item c.items.engine.space.next most c.if-is_end.ensures c.in-Ok.ensures.taken
+    c.items.invariant.under_way.room)
+    c.requires.started.within
+
+pub answer-requires-clause-blobs : goal.answer-requires-clause-blobs
+answer-requires-clause-blobs g c =
+    StaysLow-few c.items.engine.parts.next_blob c.args.reader.now.spare c.items.reader c.items.invariant.under_way.blobs
+    c.requires.started.within
+
+pub answer-requires-clause-flushes : goal.answer-requires-clause-flushes
+answer-requires-clause-flushes g c =
+    omega (
+      arith,
+      StaysLow-few c.items.engine.parts.flushes c.args.reader.now.spare c.items.reader c.items.invariant.under_way.flushes
+          c.requires.started.within,
+    )
+
+pub items-smaller : goal.items-smaller
+items-smaller g c =
+    takes_one (g.I.Source.left c.items.source) (g.I.Source.left c.next.new.source)
+    (g.I.Source.last_read c.next.new.source) c.items.reader c.next.new.self
+    c.in-Ok.item c.if-is_end.ensures c.in-Ok.ensures.taken
+
+pub items-preserved : goal.items-preserved
+items-preserved g c =
+    let told = settings_by c.args.reader.now c.args.engine.now in
+    let i = c.items.invariant.under_way in
+    let before = moment g.I.Source g.O.Sink g.D.Store c.args.source.now c.args.sink.now c.args.store.now in
+    let between = moment g.I.Source g.O.Sink g.D.Store c.items.source c.items.sink c.items.store in
+    let now = moment g.I.Source g.O.Sink g.D.Store c.next.new.source c.write_reply.new.sink c.answer.new.store in
+    let item = c.in-Ok.item in
+    let done = c.in-Ok-answer.ensures in
+    record {
+      under_way = IsUnderWay-turn told before between now c.items.engine c.answer.new.engine c.items.reader c.next.new.self item
+          c.answer.new.out.items c.as_slice.result.now i c.if-is_end.ensures c.in-Ok.ensures.taken
+          (c.in-Ok.ensures.first i.at_end) (c.in-Ok.ensures.at_end i.at_end) c.in-Ok.ensures.cause
+          c.in-Ok-write_reply.ensures.cause.calm (done.cause.calm (λ e. (cc)))
+          c.in-Ok.ensures.sound done.leaves (λ s stands.
+          let answers = c.in-Ok-answer.ensures.answer s stands in (
+            appended c.answer.new.out.items c.clear.new.self.items (said_bytes s (said_by item)) answers.0 c.clear.ensures.items,
+            answers.1,
+            done.named s stands,
+          )) c.as_slice.ensures.value c.in-Ok-write_reply.ensures.ok;
+      permitted = λ reads opening s image. HasRead-turn told s before between now c.items.engine c.answer.new.engine c.items.reader
+          c.next.new.self item reads (g.D.Store.reads c.items.store) (g.D.Store.reads c.answer.new.store) c.if-is_end.ensures
+          (c.in-Ok.ensures.first i.at_end)
+          (λ t stands. subst (λ n. Stands c.answer.new.engine now.holds (after n t (said_by item))) {y = c.args.engine.now.parts.flush_at}
+          i.flush_at (done.answer t stands).1)
+          done.permitted (c.items.invariant.permitted reads opening s image);
+      crash = λ moments left s image. HasKept-turn told s before between now c.items.engine c.answer.new.engine c.items.reader
+          c.next.new.self item c.answer.new.out.items c.as_slice.result.now moments (g.D.Store.moments c.items.store)
+          (g.D.Store.moments c.answer.new.store) c.if-is_end.ensures (c.in-Ok.ensures.first i.at_end) i.flush_at
+          (IsAnswered-appended c.items.engine c.answer.new.engine between.holds now.holds item c.answer.new.out.items
+          c.clear.new.self.items (g.D.Store.moments c.items.store) (g.D.Store.moments c.answer.new.store) c.clear.ensures.items
+          done.answer done.leaves.onward done.survives done.durable) c.as_slice.ensures.value c.in-Ok-write_reply.ensures.ok
+          (c.items.invariant.crash moments left s image);
+      goes = λ content e. done.goes content (c.items.invariant.goes content e);
+      earlier = HasLeft-turn before.holds between.holds now.holds c.items.engine.parts.next_blob c.answer.new.engine.parts.next_blob
+          c.items.invariant.earlier (λ content e. done.earlier content (c.items.invariant.goes content e)) done.leaves.onward;
+      follows = c.in-Ok.ensures.follows;
+    }
+
+pub returns-in-Err-write_reply-clause-session : goal.returns-in-Err-write_reply-clause-session
+returns-in-Err-write_reply-clause-session g c =
+    let told = settings_by c.args.reader.now c.args.engine.now in
+    let i = c.items.invariant.under_way in
+    let before = moment g.I.Source g.O.Sink g.D.Store c.args.source.now c.args.sink.now c.args.store.now in
+    let between = moment g.I.Source g.O.Sink g.D.Store c.items.source c.items.sink c.items.store in
+    let now = moment g.I.Source g.O.Sink g.D.Store c.next.new.source c.write_reply.new.sink c.answer.new.store in
+    let item = c.in-Ok.item in
+    rw c.status_of_fault.ensures
+    (IsSession-unwritten told before between c.items.engine c.items.reader i c.in-Err-write_reply.fault now c.answer.new.engine
+    c.next.new.self item c.answer.new.out.items c.as_slice.result.now c.if-is_end.ensures c.in-Ok.ensures.taken
+    (c.in-Ok.ensures.first i.at_end) c.in-Ok.ensures.cause c.in-Err-write_reply.ensures.cause
+    (c.in-Ok-answer.ensures.cause.calm (λ e. (cc)))
+    (λ s stands.
+    let answers = c.in-Ok-answer.ensures.answer s stands in (
+      appended c.answer.new.out.items c.clear.new.self.items (said_bytes s (said_by item)) answers.0 c.clear.ensures.items,
+      answers.1,
+      c.in-Ok-answer.ensures.named s stands,
+    ))
+    c.as_slice.ensures.value c.in-Err-write_reply.ensures.err)
+
+pub items-init : goal.items-init
+items-init g c =
+    let i = c.requires.started in
+    let told = settings_by c.args.reader.now c.args.engine.now in
+    let engine = c.args.engine.now in
+    let before = moment g.I.Source g.O.Sink g.D.Store c.args.source.now c.args.sink.now c.args.store.now in
+    record {
+      under_way = rw i.unread
+          (IsUnderWay-none told before before.holds before.store_faults engine i.stands i.unspent i.goes_on i.next i.next_blob i.flushes
+          refl refl refl);
+      permitted = λ reads opening s image. rw i.unread
+          (HasRead-none told s before before.holds before.store_faults engine reads (g.D.Store.reads c.args.store.now) (i.stands s image)
+          opening);
+      crash = λ moments left s image. rw i.unread
+          (HasKept-none told s before before.holds before.store_faults engine moments (g.D.Store.moments c.args.store.now)
+          (i.stands s image) left (i.durable s image));
+      goes = i.goes;
+      earlier = HasLeft-none before.holds before.holds engine.parts.next_blob refl i.drawn;
+      follows = rw i.unread (record { going = λ h. c.requires.goes_on; recent = omega arith });
+    }
+
+pub returns-in-Err-clause-permitted : goal.returns-in-Err-clause-permitted
+returns-in-Err-clause-permitted g c =
+    let told = settings_by c.args.reader.now c.args.engine.now in
+    let before = moment g.I.Source g.O.Sink g.D.Store c.args.source.now c.args.sink.now c.args.store.now in
+    let between = moment g.I.Source g.O.Sink g.D.Store c.items.source c.items.sink c.items.store in
+    λ reads opening s image. permitted_so_far told s _ before between _ c.items.engine c.items.reader reads
+    (g.D.Store.reads c.items.store) (c.items.invariant.permitted reads opening s image)
+
+pub returns-then-is_end-clause-permitted : goal.returns-then-is_end-clause-permitted
+returns-then-is_end-clause-permitted g c =
+    let told = settings_by c.args.reader.now c.args.engine.now in
+    let before = moment g.I.Source g.O.Sink g.D.Store c.args.source.now c.args.sink.now c.args.store.now in
+    let between = moment g.I.Source g.O.Sink g.D.Store c.items.source c.items.sink c.items.store in
+    rw c.save.ensures.reads (λ reads opening s image. permitted_so_far told s _ before between _ c.items.engine c.items.reader
+    reads (g.D.Store.reads c.items.store) (c.items.invariant.permitted reads opening s image))
+
+pub returns-in-Err-answer-clause-permitted : goal.returns-in-Err-answer-clause-permitted
+returns-in-Err-answer-clause-permitted g c =
+    let told = settings_by c.args.reader.now c.args.engine.now in
+    let i = c.items.invariant.under_way in
+    let before = moment g.I.Source g.O.Sink g.D.Store c.args.source.now c.args.sink.now c.args.store.now in
+    let between = moment g.I.Source g.O.Sink g.D.Store c.items.source c.items.sink c.items.store in
+    λ reads opening s image. permitted_then told s before between c.items.engine c.items.reader
+    (prepend_known c.next.new.self.bytes (g.I.Source.left c.next.new.source)) c.in-Ok.item reads
+    (g.D.Store.reads c.items.store) (g.D.Store.reads c.answer.new.store) c.if-is_end.ensures
+    (c.in-Ok.ensures.first i.at_end) c.in-Err-answer.ensures.permitted (c.items.invariant.permitted reads opening s image) _ _
+
+pub returns-in-Err-write_reply-clause-permitted : goal.returns-in-Err-write_reply-clause-permitted
+returns-in-Err-write_reply-clause-permitted g c =
+    let told = settings_by c.args.reader.now c.args.engine.now in
+    let i = c.items.invariant.under_way in
+    let before = moment g.I.Source g.O.Sink g.D.Store c.args.source.now c.args.sink.now c.args.store.now in
+    let between = moment g.I.Source g.O.Sink g.D.Store c.items.source c.items.sink c.items.store in
+    λ reads opening s image. permitted_then told s before between c.items.engine c.items.reader
+    (prepend_known c.next.new.self.bytes (g.I.Source.left c.next.new.source)) c.in-Ok.item reads
+    (g.D.Store.reads c.items.store) (g.D.Store.reads c.answer.new.store) c.if-is_end.ensures
+    (c.in-Ok.ensures.first i.at_end) c.in-Ok-answer.ensures.permitted (c.items.invariant.permitted reads opening s image) _ _
+
+pub returns-in-Err-clause-broken : goal.returns-in-Err-clause-broken
+returns-in-Err-clause-broken g c =
+    rw c.status_of.ensures (λ content told blob e. absurd ((reading c.in-Err.end).damaged blob e))
+
+pub returns-then-is_end-clause-broken : goal.returns-then-is_end-clause-broken
+returns-then-is_end-clause-broken g c = λ content told blob e.
+    absurd (saving c.save.result (Damaged blob) c.save.ensures.ends (λ is. cc) (λ is. cc) (λ is. cc) e)
+
+pub returns-in-Err-answer-clause-broken : goal.returns-in-Err-answer-clause-broken
+returns-in-Err-answer-clause-broken g c =
+    rw c.status_of_trouble.ensures (λ content told blob e.
+    c.in-Err-answer.ensures.broken content (c.items.invariant.goes content told) blob
+    (ap Err (damaged_so c.in-Err-answer.trouble blob e)))
+
+pub returns-in-Err-write_reply-clause-broken : goal.returns-in-Err-write_reply-clause-broken
+returns-in-Err-write_reply-clause-broken g c =
+    rw c.status_of_fault.ensures (λ content told blob e. absurd ((writing c.in-Err-write_reply.fault).damaged blob e))
+
+pub returns-in-Err-clause-survives : goal.returns-in-Err-clause-survives
+returns-in-Err-clause-survives g c =
+    let told = settings_by c.args.reader.now c.args.engine.now in
+    let before = moment g.I.Source g.O.Sink g.D.Store c.args.source.now c.args.sink.now c.args.store.now in
+    let between = moment g.I.Source g.O.Sink g.D.Store c.items.source c.items.sink c.items.store in
+    rw c.status_of.ensures (λ moments left s image.
+    Survives-stopped told s before between c.items.engine c.items.reader moments
+    (g.D.Store.moments c.items.store) (c.items.invariant.crash moments left s image) c.in-Err.end (g.I.Source.left c.next.new.source)
+    (g.I.Source.last_read c.next.new.source) (g.I.Source.faults c.next.new.source))
+
+pub returns-then-is_end-clause-survives : goal.returns-then-is_end-clause-survives
+returns-then-is_end-clause-survives g c =
+    let told = settings_by c.args.reader.now c.args.engine.now in
+    let before = moment g.I.Source g.O.Sink g.D.Store c.args.source.now c.args.sink.now c.args.store.now in
+    let between = moment g.I.Source g.O.Sink g.D.Store c.items.source c.items.sink c.items.store in
+    let now = moment g.I.Source g.O.Sink g.D.Store c.next.new.source c.items.sink c.save.new.store in
+    let known = prepend_known c.items.reader.bytes between.left in
+    let rest = prepend_known c.next.new.self.bytes (g.I.Source.left c.next.new.source) in
+    λ moments left s image.
+    Survives-saved told s before between c.items.engine c.items.reader moments
+    (g.D.Store.moments c.items.store) (c.items.invariant.crash moments left s image) c.save.result now rest
+    (g.D.Store.moments c.save.new.store) refl
+    (subst (IsNext known rest) c.if-is_end.ensures (c.in-Ok.ensures.first c.items.invariant.under_way.at_end))
+    c.save.ensures.survives c.save.ensures.durable
+
+pub returns-in-Err-answer-clause-survives : goal.returns-in-Err-answer-clause-survives
+returns-in-Err-answer-clause-survives g c =
+    let told = settings_by c.args.reader.now c.args.engine.now in
+    let before = moment g.I.Source g.O.Sink g.D.Store c.args.source.now c.args.sink.now c.args.store.now in
+    let between = moment g.I.Source g.O.Sink g.D.Store c.items.source c.items.sink c.items.store in
+    let now = moment g.I.Source g.O.Sink g.D.Store c.next.new.source c.items.sink c.answer.new.store in
+    rw c.status_of_trouble.ensures (λ moments left s image.
+    Survives-unanswered told s before between c.items.engine c.items.reader moments
+    (g.D.Store.moments c.items.store) (c.items.invariant.crash moments left s image) c.in-Ok.item
+    (prepend_known c.next.new.self.bytes (g.I.Source.left c.next.new.source)) c.if-is_end.ensures
+    (c.in-Ok.ensures.first c.items.invariant.under_way.at_end) now (g.D.Store.moments c.answer.new.store) c.in-Err-answer.trouble refl
+    c.in-Err-answer.ensures.survives)
+
+pub returns-in-Err-write_reply-clause-survives : goal.returns-in-Err-write_reply-clause-survives
+returns-in-Err-write_reply-clause-survives g c =
+    let told = settings_by c.args.reader.now c.args.engine.now in
+    let i = c.items.invariant.under_way in
+    let before = moment g.I.Source g.O.Sink g.D.Store c.args.source.now c.args.sink.now c.args.store.now in
+    let between = moment g.I.Source g.O.Sink g.D.Store c.items.source c.items.sink c.items.store in
+    let now = moment g.I.Source g.O.Sink g.D.Store c.next.new.source c.write_reply.new.sink c.answer.new.store in
+    let item = c.in-Ok.item in
+    let done = c.in-Ok-answer.ensures in
+    rw c.status_of_fault.ensures (λ moments left s image.
+    Survives-unwritten told s before between c.items.engine c.items.reader moments
+    (g.D.Store.moments c.items.store) (c.items.invariant.crash moments left s image) item
+    (prepend_known c.next.new.self.bytes (g.I.Source.left c.next.new.source)) c.if-is_end.ensures (c.in-Ok.ensures.first i.at_end) now
+    (g.D.Store.moments c.answer.new.store) c.in-Err-write_reply.fault c.answer.new.engine c.answer.new.out.items c.as_slice.result.now
+    i.flush_at
+    (IsAnswered-appended c.items.engine c.answer.new.engine between.holds now.holds item c.answer.new.out.items c.clear.new.self.items
+    (g.D.Store.moments c.items.store) (g.D.Store.moments c.answer.new.store) c.clear.ensures.items done.answer done.leaves.onward
+    done.survives done.durable) c.as_slice.ensures.value c.in-Err-write_reply.ensures.err)
+
+pub returns-in-Err-clause-opened : goal.returns-in-Err-clause-opened
+returns-in-Err-clause-opened g c = rw c.status_of.ensures (λ next e. (reading c.in-Err.end).spent next e)
+
+pub returns-then-is_end-clause-opened : goal.returns-then-is_end-clause-opened
+returns-then-is_end-clause-opened g c = λ next e.
+    saving c.save.result (Spent next) c.save.ensures.ends (λ is. cc) (λ is. cc) (λ is. cc) e
+
+pub returns-in-Err-answer-clause-opened : goal.returns-in-Err-answer-clause-opened
+returns-in-Err-answer-clause-opened g c =
+    rw c.status_of_trouble.ensures (λ next e. (answering c.in-Err-answer.trouble).spent next e)
+
+pub returns-in-Err-write_reply-clause-opened : goal.returns-in-Err-write_reply-clause-opened
+returns-in-Err-write_reply-clause-opened g c =
+    rw c.status_of_fault.ensures (λ next e. (writing c.in-Err-write_reply.fault).spent next e)
+
+pub returns-in-Err-clause-earlier : goal.returns-in-Err-clause-earlier
+returns-in-Err-clause-earlier g c =
+    left_so_far (g.D.Store.holds c.args.store.now) (g.D.Store.holds c.items.store) c.items.engine.parts.next_blob
+    c.items.invariant.earlier
+
+pub returns-then-is_end-clause-earlier : goal.returns-then-is_end-clause-earlier
+returns-then-is_end-clause-earlier g c =
+    left_then (g.D.Store.holds c.args.store.now) (g.D.Store.holds c.items.store) (g.D.Store.holds c.save.new.store)
+    c.items.engine.parts.next_blob c.items.invariant.earlier
+    (λ content told. c.save.ensures.earlier content (c.items.invariant.goes content told))
+
+pub returns-in-Err-answer-clause-earlier : goal.returns-in-Err-answer-clause-earlier
+returns-in-Err-answer-clause-earlier g c =
+    left_then (g.D.Store.holds c.args.store.now) (g.D.Store.holds c.items.store) (g.D.Store.holds c.answer.new.store)
+    c.items.engine.parts.next_blob c.items.invariant.earlier
+    (λ content told. c.answer.ensures.earlier content (c.items.invariant.goes content told))
+
+pub returns-in-Err-write_reply-clause-earlier : goal.returns-in-Err-write_reply-clause-earlier
+returns-in-Err-write_reply-clause-earlier g c =
+    left_then (g.D.Store.holds c.args.store.now) (g.D.Store.holds c.items.store) (g.D.Store.holds c.answer.new.store)
+    c.items.engine.parts.next_blob c.items.invariant.earlier
+    (λ content told. c.answer.ensures.earlier content (c.items.invariant.goes content told))
+
+pub returns-in-Err-clause-told : goal.returns-in-Err-clause-told
+returns-in-Err-clause-told g c = λ trouble e.
+    untold c.items.engine.ended trouble c.items.invariant.under_way.goes_on e
+
+pub returns-in-Err-answer-clause-told : goal.returns-in-Err-answer-clause-told
+returns-in-Err-answer-clause-told g c =
+    rw c.status_of_trouble.ensures
+    (told_answering c.in-Err-answer.trouble c.answer.new.engine.ended c.in-Err-answer.ensures.ends)
+
+pub returns-in-Err-write_reply-clause-told : goal.returns-in-Err-write_reply-clause-told
+returns-in-Err-write_reply-clause-told g c = λ trouble e.
+    untold c.answer.new.engine.ended trouble c.in-Ok-answer.ensures.leaves.goes_on e
