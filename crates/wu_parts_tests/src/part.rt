@@ -7,7 +7,9 @@ pub mod trips;
 use crate::part::lists::lists_of;
 use std::alloc::Global;
 use wu_base::GENERATION_MAX;
-use wu_part::{BlockEntry, Directory, Entry, encode, read_block, read_directory, read_header};
+use wu_part::{
+    BlockEntry, Directory, Entry, encode, keep_directory, read_block, read_directory, read_header,
+};
 use wu_rows::{
     NoAnswer, bytes, bytes_text, number, numbers_text, optional_text, plain_text, small_number,
 };
@@ -20,6 +22,9 @@ pub fn answer(alloc: Global, call: &str, arguments: &[&str]) -> Result<String, N
         }
         ("read_header", [field]) => optional_text(alloc, read_header(&bytes(alloc, field)?)),
         ("read_directory", [field, size]) => directory_read(alloc, field, number(size)?),
+        ("keep_directory", [field, size]) => directory_kept(alloc, field, number(size)?),
+        ("keep_directory", [field, size, term]) => entry_kept(alloc, field, number(size)?, term),
+        ("Directory::copy", [field, size]) => directory_copied(alloc, field, number(size)?),
         ("Directory::entry_of", [field, size, term]) => {
             entry_found(alloc, field, number(size)?, term)
         }
@@ -55,6 +60,25 @@ fn directory_read(alloc: Global, field: &str, size: u64) -> Result<String, NoAns
     }
 }
 
+fn directory_kept(alloc: Global, field: &str, size: u64) -> Result<String, NoAnswer> {
+    match keep_directory(alloc, bytes(alloc, field)?, size)? {
+        Some(directory) => directory_text(alloc, &directory),
+        None => plain_text(alloc, "none"),
+    }
+}
+
+/// What a copy of the directory that keeps the bytes tells.
+fn directory_copied(alloc: Global, field: &str, size: u64) -> Result<String, NoAnswer> {
+    match keep_directory(alloc, bytes(alloc, field)?, size)? {
+        Some(directory) => copy_text(alloc, &directory),
+        None => Err(NoAnswer::BadRow),
+    }
+}
+
+fn copy_text(alloc: Global, directory: &Directory) -> Result<String, NoAnswer> {
+    directory_text(alloc, &directory.copy(alloc)?)
+}
+
 fn directory_text(alloc: Global, directory: &Directory) -> Result<String, NoAnswer> {
     let numbers = [
         u64::from(directory.generation()),
@@ -87,12 +111,26 @@ fn entry_text(alloc: Global, mut entry: Entry) -> Result<String, NoAnswer> {
 }
 
 fn entry_found(alloc: Global, field: &str, size: u64, term: &str) -> Result<String, NoAnswer> {
+    let term = bytes(alloc, term)?;
     match read_directory(alloc, &bytes(alloc, field)?, size)? {
-        Some(directory) => match directory.entry_of(&bytes(alloc, term)?) {
-            Some(entry) => entry_text(alloc, entry),
-            None => plain_text(alloc, "none"),
-        },
+        Some(directory) => entry_text_of(alloc, &directory, &term),
         None => Err(NoAnswer::BadRow),
+    }
+}
+
+/// What the directory that keeps the bytes tells of the term.
+fn entry_kept(alloc: Global, field: &str, size: u64, term: &str) -> Result<String, NoAnswer> {
+    let term = bytes(alloc, term)?;
+    match keep_directory(alloc, bytes(alloc, field)?, size)? {
+        Some(directory) => entry_text_of(alloc, &directory, &term),
+        None => Err(NoAnswer::BadRow),
+    }
+}
+
+fn entry_text_of(alloc: Global, directory: &Directory, term: &[u8]) -> Result<String, NoAnswer> {
+    match directory.entry_of(term) {
+        Some(entry) => entry_text(alloc, entry),
+        None => plain_text(alloc, "none"),
     }
 }
 

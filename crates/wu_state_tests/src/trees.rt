@@ -17,16 +17,16 @@ pub fn answer(
     fields: &[&str],
 ) -> Result<String, NoAnswer> {
     match (kind, fields) {
-        ("events", [event]) => {
+        ("events" | "rebuild" | "chain", [event]) => {
             let words = words(alloc, event)?;
             events::answered(alloc, tree, words.as_slice())
         }
-        ("events", [call, arguments]) => {
+        ("events" | "rebuild", [call, arguments]) => {
             let words = words(alloc, arguments)?;
             told::answered(alloc, tree, call, words.as_slice())
         }
-        ("rebuild", [nodes, links, users]) => rebuilding::made(alloc, nodes, links, users),
-        ("chain", [depth, letters]) => rebuilding::chain_made(alloc, depth, letters),
+        ("rebuild", [nodes, links, users]) => rebuilding::made(alloc, tree, nodes, links, users),
+        ("chain", [depth, letters]) => rebuilding::chain_made(alloc, tree, depth, letters),
         ("refusal", [name]) => refusals::text(alloc, name),
         _ => Err(NoAnswer::BadRow),
     }

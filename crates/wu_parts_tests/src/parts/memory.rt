@@ -72,6 +72,7 @@ pub fn retired(alloc: Global, parts: &mut Parts, blobs: &str) -> Result<String, 
     numbers_text(alloc, parts.stale())
 }
 
+/// What is left of the blobs that are no longer needed, once they are cleared.
 pub fn cleared(alloc: Global, parts: &mut Parts, blobs: &str) -> Result<String, NoAnswer> {
     retired(alloc, parts, blobs)?;
     parts.clear_stale();

@@ -3,35 +3,61 @@ use crate::trees::events::{name_of_word, numbers_of};
 use crate::trees::nodes::node;
 use std::alloc::Global;
 use wu_access::{Perm, UserRec};
-use wu_base::{Bytes, Ino};
+use wu_base::{Bytes, Ino, NoMemory};
 use wu_rows::{NoAnswer, flag_text, small_number, words};
 use wu_tree::{Kind, LinkRec, Node, Tree};
 
-/// Whether the nodes, links and users make a tree. Each is a list, with a comma between each two.
-pub fn made(alloc: Global, nodes: &str, links: &str, users: &str) -> Result<String, NoAnswer> {
+/// Whether the nodes, links and users make a tree, which then stands in the place of the other. Each is a list, with a comma between
+/// each two.
+pub fn made(
+    alloc: Global,
+    tree: &mut Tree,
+    nodes: &str,
+    links: &str,
+    users: &str,
+) -> Result<String, NoAnswer> {
     let nodes = nodes_of(alloc, nodes)?;
-    made_with(alloc, nodes.as_slice(), links, users)
+    made_with(alloc, tree, nodes.as_slice(), links, users)
 }
 
 fn made_with(
     alloc: Global,
+    tree: &mut Tree,
     nodes: &[(Ino, Node)],
     links: &str,
     users: &str,
 ) -> Result<String, NoAnswer> {
     let users = users_of(alloc, users)?;
     let links = links_of(alloc, links)?;
-    made_of(alloc, nodes, links.as_slice(), users.as_slice())
+    made_of(alloc, tree, nodes, links.as_slice(), users.as_slice())
 }
 
 fn made_of(
     alloc: Global,
+    tree: &mut Tree,
     nodes: &[(Ino, Node)],
     links: &[LinkRec],
     users: &[UserRec],
 ) -> Result<String, NoAnswer> {
-    let tree = Tree::rebuild(alloc, nodes, links, users)?;
-    flag_text(alloc, tree.is_some())
+    let made = put_rebuilt(alloc, tree, nodes, links, users)?;
+    flag_text(alloc, made)
+}
+
+/// Puts the tree that they make in the place of the other. Tells whether they make one.
+fn put_rebuilt(
+    alloc: Global,
+    tree: &mut Tree,
+    nodes: &[(Ino, Node)],
+    links: &[LinkRec],
+    users: &[UserRec],
+) -> Result<bool, NoMemory> {
+    match Tree::rebuild(alloc, nodes, links, users)? {
+        Some(rebuilt) => {
+            *tree = rebuilt;
+            Ok(true)
+        }
+        None => Ok(false),
+    }
 }
 
 fn nodes_of(alloc: Global, field: &str) -> Result<Vec<(Ino, Node)>, NoAnswer> {
@@ -82,8 +108,14 @@ fn users_of(alloc: Global, field: &str) -> Result<Vec<UserRec>, NoAnswer> {
     Ok(users)
 }
 
-/// Whether a chain of as many directories makes a tree, where each has a name of each of the letters in the one before.
-pub fn chain_made(alloc: Global, depth: &str, letters: &str) -> Result<String, NoAnswer> {
+/// Whether a chain of as many directories makes a tree, where each has a name of each of the letters in the one before. It then stands in
+/// the place of the other.
+pub fn chain_made(
+    alloc: Global,
+    tree: &mut Tree,
+    depth: &str,
+    letters: &str,
+) -> Result<String, NoAnswer> {
     let depth = small_number(depth)?;
     let mut nodes = Vec::new(alloc);
     let mut links = Vec::new(alloc);
@@ -92,7 +124,7 @@ pub fn chain_made(alloc: Global, depth: &str, letters: &str) -> Result<String, N
         put_links(alloc, &mut links, parent, letters)?;
     }
     nodes.push(directory(depth))?;
-    made_of(alloc, nodes.as_slice(), links.as_slice(), &[])
+    made_of(alloc, tree, nodes.as_slice(), links.as_slice(), &[])
 }
 
 /// Appends a link of each letter to the directory after the parent.
