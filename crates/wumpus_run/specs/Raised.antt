@@ -1,5 +1,8 @@
 -- What a call on an item leaves of an engine.
-use Rattle.std.specs.Prelude.{◌≡◌, ℕ, ◌+◌, ◌≤◌, None}
+use Rattle.std.specs.Prelude.{◌≡◌, ℕ, ◌+◌, ◌≤◌, Option, None}
+use Rattle.wu_outside.specs.Content.{with_blob}
+use Rattle.wu_outside.specs.Crash.{Moments, Put, try_change}
+use Rattle.wu_parts.specs.Working.{MayChange}
 use Rattle.wu_script.specs.Commands.{Flush, Save, Work}
 use Rattle.wu_script.specs.Said.{Said, Happens, Operates, tokens_given}
 use Rattle.wu_engine.specs.declared.engines.Engine.{Engine}
@@ -25,3 +28,9 @@ pub record IsRaised (engine later : Engine) (said : Said) : Type 0 where
   pub drawn : later.parts.next_blob ≤ engine.parts.next_blob + drawn_by said
   pub onward : engine.parts.next_blob ≤ later.parts.next_blob
   pub counted : later.parts.flushes ≤ engine.parts.flushes + flushes_by said
+
+-- at most n puts of the engine's next n blobs were tried, and the store was not synced
+abbrev pub PutsAtMost : ℕ → Engine → Option Moments → Option Moments → Type 0
+PutsAtMost n engine before after =
+    MayChange (λ blob written. try_change (Put blob) (with_blob blob written)) engine.parts.next_blob (engine.parts.next_blob + n) n
+    before after

@@ -18,7 +18,7 @@ ghost use Rattle.wu_engine.specs.Stands.{KeepsOthers, Stands};
 ghost use Rattle.wu_engine.specs.States.{State, flushed_state, saved_state, worked_state};
 ghost use Rattle.wumpus_run.specs.Crashes.{IsImageOfOne, last_or, left_to_next, saved_for};
 ghost use Rattle.wumpus_run.specs.Permitted.{AreReadFor};
-ghost use Rattle.wumpus_run.specs.Raised.{IsRaised};
+ghost use Rattle.wumpus_run.specs.Raised.{IsRaised, PutsAtMost};
 ghost use Rattle.wumpus_run.specs.Replies.{after, is_unasked, reply_to, said_bytes, verdict_reply};
 ghost use Rattle.wumpus_run.specs.Strays.{AddsNoStray};
 
@@ -144,6 +144,7 @@ fn reply_to_event<D: Store>(
     ensures survives { (s last : State) → Stands engine.old (D.holds store.old) s → IsSavedLast (D.moments store.old) s last
         → Leaves (D.moments store.old) (D.moments store.new) (IsImageOf last) }
     ensures elsewhere { KeepsOthers engine.old.parts.next_blob (engine.old.parts.next_blob + 2) (D.holds store.old) (D.holds store.new) }
+    ensures tried { PutsAtMost 2 engine.old (D.moments store.old) (D.moments store.new) }
     ensures leaves { OnOk result (IsRaised engine.old engine.new (Happens event.now body.now)) }
     ensures goes { (start : Content) → Goes engine.old start (D.holds store.old) → OnOk result (Goes engine.new start (D.holds store.new)) }
     ensures ends { IfErr result (λ trouble. engine.new.ended ≡ Some trouble) }
@@ -201,6 +202,7 @@ fn reply_to_flush<D: Store>(engine: &mut Engine, store: &mut D) -> Result<Option
         → Leaves (D.moments store.old) (D.moments store.new) (IsImageOf last) }
     ensures elsewhere { KeepsOthers engine.old.parts.next_blob (engine.old.parts.next_blob + 1) (D.holds store.old) (D.holds store.new) }
     ensures space { engine.new.space ≡ engine.old.space }
+    ensures tried { PutsAtMost 1 engine.old (D.moments store.old) (D.moments store.new) }
     ensures leaves { OnOk result (IsRaised engine.old engine.new (Operates Flush)) }
     ensures goes { (start : Content) → Goes engine.old start (D.holds store.old) → OnOk result (Goes engine.new start (D.holds store.new)) }
     ensures ends { IfErr result (λ trouble. engine.new.ended ≡ Some trouble) }
@@ -230,6 +232,7 @@ fn reply_to_work<D: Store>(
     ensures elsewhere { KeepsOthers engine.old.parts.next_blob (engine.old.parts.next_blob + units)
         (D.holds store.old) (D.holds store.new) }
     ensures space { engine.new.space ≡ engine.old.space }
+    ensures tried { PutsAtMost units engine.old (D.moments store.old) (D.moments store.new) }
     ensures leaves { OnOk result (IsRaised engine.old engine.new (Operates (Work units))) }
     ensures counted { OnOk result (engine.new.parts.flushes ≡ engine.old.parts.flushes) }
     ensures goes { (start : Content) → Goes engine.old start (D.holds store.old) → OnOk result (Goes engine.new start (D.holds store.new)) }
