@@ -51,7 +51,8 @@ joined op rest waiting_on value waiting left same = ap
 
 pub holds : (syntax : Syntax) → IsGrouped syntax → (waiting : List Waiting) (rest : List Token) → IsBelow (tightness syntax) waiting
     → Holds syntax waiting rest
-holds (Single atom) grouped waiting rest below = record { waiting_on = waiting; value = value_of atom; reached = refl; worth = λ level up. refl }
+holds (Single atom) grouped waiting rest below =
+    record { waiting_on = waiting; value = value_of atom; reached = refl; worth = λ level up. refl }
 holds (Group inner) grouped waiting rest below =
     let inside : Holds inner (Paren ∷ waiting) (Close ∷ rest) = holds inner grouped (Paren ∷ waiting) (Close ∷ rest) tt in
     record {

@@ -1,5 +1,6 @@
 -- The token found from the left is the one that stands there.
-use Rattle.std.proofs.Common.{◌≡◌, ◌≢◌, ℕ, suc, ◌+◌, ◌<◌, Bool, true, false, cond, List, [], ◌∷◌, ◌++◌, length, take, drop, append_assoc, length-append, Some, refl, sym, ◌∙◌, ap, inl, inr, arith, eqb}
+use Rattle.std.proofs.Common.{◌≡◌, ◌≢◌, ℕ, suc, ◌+◌, ◌<◌, Bool, true, false, cond, List, [], ◌∷◌, ◌++◌, length, take, drop, append_assoc}
+use Rattle.std.proofs.Common.{length-append, Some, refl, sym, ◌∙◌, ap, inl, inr, arith, eqb}
 use Rattle.std.specs.Prelude.{◌⊎◌, codes, nat_eq}
 use Rattle.std.specs.Char.{is_ascii_digit, is_ascii_alphabetic, IsAsciiDigit}
 use Rattle.std.specs.List.{prefix_len, AllByRecursion}
@@ -10,9 +11,11 @@ use Rattle.std.proofs.Common.{get_or, length-take}
 use Rattle.std.proofs.lemmas.List.{take-append-drop, take_at, drop_at, length_push}
 use Rattle.std.specs.Prelude.{nat_lt}
 use Rattle.std.proofs.Common.{lt-ltb, ltb-true, eqb-true}
-use Rattle.wu_gcl.specs.declared.expressions.Op.TheVariants.{Containing, ContainedIn, NotContaining, NotContainedIn, OneOf, BothOf, FollowedBy}
+use Rattle.wu_gcl.specs.declared.expressions.Op.TheVariants.{Containing, ContainedIn, NotContaining, NotContainedIn, OneOf, BothOf}
+use Rattle.wu_gcl.specs.declared.expressions.Op.TheVariants.{FollowedBy}
 use Rattle.wu_gcl.specs.Lexical.{Quoted, Bracketed, FileWord, LineWord, Token, Operand, Operator, Open, Close, Stands, starts_with_letter}
-use Rattle.wu_gcl.specs.Scanning.{token_and, is_unquote, quoted_at, closed_by, bracketed_at, word_of, negation_at, dots_at, mark_at, first_token}
+use Rattle.wu_gcl.specs.Scanning.{token_and, is_unquote, quoted_at, closed_by, bracketed_at, word_of, negation_at, dots_at, mark_at}
+use Rattle.wu_gcl.specs.Scanning.{first_token}
 
 -- a run of what passes ends where the next fails
 pub prefix_len-run : (p : ℕ → Bool) (P : ℕ → Type 0) → ((b : ℕ) → P b → p b ≡ true) → (run rest : List ℕ) → AllByRecursion P run

@@ -8,4 +8,6 @@ pub mod Existence
 pub mod TermLists
 pub mod Joining
 pub mod WordLaws
+pub mod ReadableRegions
+pub mod PrintedSyntax
 pub mod Reprint

@@ -12,7 +12,8 @@ use Rattle.wu_gcl.specs.declared.expressions.ExprFault.TheVariants.{NotAnExpress
 use Rattle.wu_gcl.specs.Lexical.{Atom, Quoted, Bracketed, FileWord, LineWord, Token, AreTokens}
 use Rattle.wu_gcl.specs.Grammar.{Syntax, Single, Group, Join, tokens_in, operator_count}
 use Rattle.wu_gcl.specs.Regions.{Region, Window}
-use Rattle.wu_gcl.specs.Reading.{Value, tag_at, quoted_value, phrase_of, window_with, value_of, join, meaning, IsSmall, IsLarge, Says, Reads, seen}
+use Rattle.wu_gcl.specs.Reading.{Value, tag_at, quoted_value, phrase_of, window_with, value_of, join, meaning, IsSmall, IsLarge, Says}
+use Rattle.wu_gcl.specs.Reading.{Reads, seen}
 use Rattle.wu_gcl.specs.Pending.{evaluated, is_large, found, outcome}
 use Rattle.std.proofs.lemmas.Bool.{cases_lt}
 use Rattle.std.proofs.lemmas.Bool.Decides.{nat_tests}
@@ -76,7 +77,14 @@ reads_found text tokens value lexed small found =
     let expresses : Expresses tokens value = expressed tokens value found in
     let is : IsOperandValue value = rw (← expresses.meant) (meaning_is expresses.syntax) in
     reads_said text value is
-    (record { tokens = tokens; lexed = lexed; small = small; syntax = expresses.syntax; written = record { spelled = expresses.spelled; grouped = expresses.grouped }; meant = expresses.meant })
+    (record {
+      tokens = tokens;
+      lexed = lexed;
+      small = small;
+      syntax = expresses.syntax;
+      written = record { spelled = expresses.spelled; grouped = expresses.grouped };
+      meant = expresses.meant;
+    })
 
 not_written : (tokens : List Token) (syntax : Syntax) → evaluated tokens ≡ None → tokens ≡ tokens_in syntax
     → evaluated (tokens_in syntax) ≡ Some (meaning syntax) → ⊥

@@ -3,7 +3,8 @@ use Rattle.std.proofs.Common.{◌≡◌, ◌<◌, ℕ, ◌≤◌, List, [], ◌�
 use Rattle.std.proofs.Common.{inl, inr}
 use Rattle.std.proofs.lemmas.Bool.{cases_lt}
 use Rattle.wu_gcl.specs.declared.expressions.Op.{Op}
-use Rattle.wu_gcl.specs.declared.expressions.Op.TheVariants.{Containing, ContainedIn, NotContaining, NotContainedIn, OneOf, BothOf, FollowedBy}
+use Rattle.wu_gcl.specs.declared.expressions.Op.TheVariants.{Containing, ContainedIn, NotContaining, NotContainedIn, OneOf, BothOf}
+use Rattle.wu_gcl.specs.declared.expressions.Op.TheVariants.{FollowedBy}
 use Rattle.wu_gcl.specs.Lexical.{Atom, Token, Operand, Operator, Open, Close}
 use Rattle.wu_gcl.specs.Grammar.{Syntax, Single, Group, Join, tokens_in, precedence, tightness, IsGrouped}
 use Rattle.wu_gcl.specs.Reading.{Value, value_of, join, meaning}
@@ -86,7 +87,16 @@ LeadsTo waiting (Some value) used = Held 4 waiting value used
 Held-less : (low high : ℕ) (waiting : List Waiting) (value : Value) (used : List Token) → low ≤ high → Held high waiting value used
     → Held low waiting value used
 Held-less low high waiting value used up held =
-    record { before = held.before; syntax = held.syntax; spelled = held.spelled; grouped = held.grouped; tight = omega arith; meant = held.meant; below = held.below; leads = held.leads }
+    record {
+      before = held.before;
+      syntax = held.syntax;
+      spelled = held.spelled;
+      grouped = held.grouped;
+      tight = omega arith;
+      meant = held.meant;
+      below = held.below;
+      leads = held.leads;
+    }
 
 -- where the tokens end, all that waits is joined, and no parenthesis is open
 ended_in : (waiting : List Waiting) (value found : Value) (used : List Token) → Held 0 waiting value used
@@ -129,7 +139,16 @@ IsBelow_all (Left left FollowedBy ∷ waiting) = omega arith
 single : (atom : Atom) (waiting : List Waiting) (used : List Token) → Leads waiting used
     → Held 4 waiting (value_of atom) (used ++ Operand atom ∷ [])
 single atom waiting used leads =
-    record { before = used; syntax = Single atom; spelled = refl; grouped = tt; tight = omega arith; meant = refl; below = IsBelow_all waiting; leads = leads }
+    record {
+      before = used;
+      syntax = Single atom;
+      spelled = refl;
+      grouped = tt;
+      tight = omega arith;
+      meant = refl;
+      below = IsBelow_all waiting;
+      leads = leads;
+    }
 
 -- an operator after what is held
 left_of : (op : Op) (waiting : List Waiting) (value : Value) (used : List Token) → (held : Held (precedence op) waiting value used)

@@ -1,10 +1,13 @@
 -- Texts and their tokens, one token after another.
-use Rattle.std.proofs.Common.{◌≡◌, ℕ, suc, ◌+◌, ◌<◌, ◌≤◌, Bool, true, false, cond, List, [], ◌∷◌, ◌++◌, length, take, drop, append_assoc, append-nil, length-append, Option, Some, None, refl, sym, ◌∙◌, ap, arith}
+use Rattle.std.proofs.Common.{◌≡◌, ℕ, suc, ◌+◌, ◌<◌, ◌≤◌, Bool, true, false, cond, List, [], ◌∷◌, ◌++◌, length, take, drop, append_assoc}
+use Rattle.std.proofs.Common.{append-nil, length-append, Option, Some, None, refl, sym, ◌∙◌, ap, arith}
 use Rattle.std.specs.List.{prefix_len, AllByRecursion}
 use Rattle.std.proofs.lemmas.Bool.Decides.{nat_tests}
 use Rattle.std.proofs.lemmas.List.{drop_at, take-append-drop, length-drop}
-use Rattle.wu_gcl.specs.declared.expressions.Op.TheVariants.{Containing, ContainedIn, NotContaining, NotContainedIn, OneOf, BothOf, FollowedBy}
-use Rattle.wu_gcl.specs.Lexical.{Quoted, Bracketed, FileWord, LineWord, Token, Operand, Operator, Open, Close, token_text, IsBlank, Stands, AreTokens, HasNoTokens}
+use Rattle.wu_gcl.specs.declared.expressions.Op.TheVariants.{Containing, ContainedIn, NotContaining, NotContainedIn, OneOf, BothOf}
+use Rattle.wu_gcl.specs.declared.expressions.Op.TheVariants.{FollowedBy}
+use Rattle.wu_gcl.specs.Lexical.{Quoted, Bracketed, FileWord, LineWord, Token, Operand, Operator, Open, Close, token_text, IsBlank, Stands}
+use Rattle.wu_gcl.specs.Lexical.{AreTokens, HasNoTokens}
 use Rattle.wu_gcl.specs.Scanning.{is_blank, after_blanks, first_token}
 use Rattle.wu_gcl.proofs.FirstTokens.{prefix_len-run, run_passes, stands_at_front, front_stands}
 

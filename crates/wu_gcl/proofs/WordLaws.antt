@@ -1,5 +1,6 @@
 -- Words joined by spaces are those words again.
-use Rattle.std.proofs.Common.{◌≡◌, ◌≢◌, ℕ, zero, suc, ◌+◌, ◌<◌, ◌≤◌, Bool, true, false, cond, List, [], ◌∷◌, ◌++◌, length, take, refl, ◌∙◌, ap, None, length-take, ltb-true, eqb-true, arith, eqb, map}
+use Rattle.std.proofs.Common.{◌≡◌, ◌≢◌, ℕ, zero, suc, ◌+◌, ◌<◌, ◌≤◌, Bool, true, false, cond, List, [], ◌∷◌, ◌++◌, length, take, refl, ◌∙◌}
+use Rattle.std.proofs.Common.{ap, None, length-take, ltb-true, eqb-true, arith, eqb, map}
 use Rattle.std.specs.Prelude.{not, nat_lt, filter}
 use Rattle.std.specs.List.{AllByRecursion, slice_split, onto_first, join_with_byte}
 use Rattle.std.specs.Char.{to_ascii_lowercase}

@@ -1,7 +1,8 @@
 -- The grammar of region expressions: operands, parentheses and operators.
 use Rattle.std.specs.Prelude.{ℕ, ◌+◌, ◌<◌, ◌≤◌, List, [], ◌∷◌, ◌++◌}
 use Rattle.wu_gcl.specs.declared.expressions.Op.{Op}
-use Rattle.wu_gcl.specs.declared.expressions.Op.TheVariants.{Containing, ContainedIn, NotContaining, NotContainedIn, OneOf, BothOf, FollowedBy}
+use Rattle.wu_gcl.specs.declared.expressions.Op.TheVariants.{Containing, ContainedIn, NotContaining, NotContainedIn, OneOf, BothOf}
+use Rattle.wu_gcl.specs.declared.expressions.Op.TheVariants.{FollowedBy}
 use Rattle.wu_gcl.specs.Lexical.{Atom, Token, Operand, Operator, Open, Close}
 
 -- an expression as it is written

@@ -1,5 +1,6 @@
 -- The first units of a ranking, where one more is seen, and where only they are kept.
-use Rattle.std.proofs.Common.{◌≡◌, ℕ, zero, suc, ◌-◌, ◌<◌, ◌≤◌, true, false, cond, eqb, List, [], ◌∷◌, ◌++◌, length, get_or, take, refl, sym, ap, subst, ◌∙◌, ⊎_elim, min, arith}
+use Rattle.std.proofs.Common.{◌≡◌, ℕ, zero, suc, ◌-◌, ◌<◌, ◌≤◌, true, false, cond, eqb, List, [], ◌∷◌, ◌++◌, length, get_or, take, refl}
+use Rattle.std.proofs.Common.{sym, ap, subst, ◌∙◌, ⊎_elim, min, arith}
 use Rattle.std.specs.List.{AllByRecursion, fold}
 use Rattle.std.proofs.lemmas.Bool.{cases_Bool, cases_eq, cases_lt, lt-ltb, eq-eqb, ne_eqb, cond-true, cond-false, false≢true}
 use Rattle.std.proofs.lemmas.List.{get_or_default, take-take, length-take, length-append}

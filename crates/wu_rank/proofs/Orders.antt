@@ -2,12 +2,14 @@
 use Rattle.std.proofs.Common.{◌≡◌, ℕ, zero, suc, ◌≤◌, false, List, [], ◌∷◌, ◌++◌, length, get_or, take, map, sym, ap, ◌∙◌, arith}
 use Rattle.std.specs.List.{All}
 use Rattle.std.specs.List.Sorted.{IsPermutation, IsSortedBy, IsSplitAroundBy}
-use Rattle.std.proofs.lemmas.List.Sorted.{All-permutation, length_permutation, IsPermutation-sym, IsPermutation-trans, IsPermutation-append, IsPermutation-map}
+use Rattle.std.proofs.lemmas.List.Sorted.{All-permutation, length_permutation, IsPermutation-sym, IsPermutation-trans, IsPermutation-append}
+use Rattle.std.proofs.lemmas.List.Sorted.{IsPermutation-map}
 use Rattle.std.proofs.lemmas.List.{take_at, take_all}
 use Rattle.std.proofs.lemmas.List.Elements.{All-head, All-tail}
 use Rattle.wu_rank.specs.declared.results.Ranked.{Ranked}
 use Rattle.wu_rank.specs.Order.{comes_before, IsInOrder, in_order}
-use Rattle.wu_rank.proofs.Sorting.{in_order-is, one_order, NoneBefore, Ascends, NoneBefore-chain, NoneBefore-from_at, Ascends-from_sorted, sorted-from_Ascends}
+use Rattle.wu_rank.proofs.Sorting.{in_order-is, one_order, NoneBefore, Ascends, NoneBefore-chain, NoneBefore-from_at, Ascends-from_sorted}
+use Rattle.wu_rank.proofs.Sorting.{sorted-from_Ascends}
 
 pub is-in_order : (units ranking : List Ranked) → IsInOrder units ranking → ranking ≡ in_order units
 is-in_order units ranking is = one_order units ranking (in_order units) is (in_order-is units)

@@ -1,5 +1,6 @@
 -- What a word adds to a unit's score, and the scores for some words and for others.
-use Rattle.std.proofs.Common.{◌≡◌, ◌==◌, ℕ, zero, suc, ◌+◌, ◌-◌, ◌*◌, ◌^◌, ◌<◌, ◌≤◌, Bool, true, false, cond, eqb, ltb, ◌||◌, Option, Some, None, List, [], ◌∷◌, length, get_or, take, map, ◌++◌, refl, sym, subst, ap, ap₂, ◌∙◌, inr, ⊎_elim, arith}
+use Rattle.std.proofs.Common.{◌≡◌, ◌==◌, ℕ, zero, suc, ◌+◌, ◌-◌, ◌*◌, ◌^◌, ◌<◌, ◌≤◌, Bool, true, false, cond, eqb, ltb, ◌||◌, Option, Some}
+use Rattle.std.proofs.Common.{None, List, [], ◌∷◌, length, get_or, take, map, ◌++◌, refl, sym, subst, ap, ap₂, ◌∙◌, inr, ⊎_elim, arith}
 use Rattle.std.specs.List.{AllByRecursion, list_any, filter}
 use Rattle.std.proofs.lemmas.Bool.{cases_lt, lt-ltb, ltb-false, or_parts}
 use Rattle.std.proofs.lemmas.List.Sums.{get_or-le-sum_by, count_by-le-length, sum_by_more, sum_by-cons, sum_by-append}
@@ -14,7 +15,8 @@ use Rattle.wu_rank.specs.declared.results.Unit.{Unit as RankedUnit}
 use Rattle.wu_rank.specs.declared.results.Ranked.{Ranked}
 use Rattle.wu_rank.specs.Bm25.{weigh}
 use Rattle.wu_rank.specs.Entries.{with_entry, entries, times_in, unit_at, IsWithin, weighed, ranked_at, sparse_sum}
-use Rattle.wu_rank.specs.Scores.{has, count_at, frequency, holders, idf_of, length_of, total_length, part, score, holds, scored, score_if_listed, all_listed}
+use Rattle.wu_rank.specs.Scores.{has, count_at, frequency, holders, idf_of, length_of, total_length, part, score, holds, scored}
+use Rattle.wu_rank.specs.Scores.{score_if_listed, all_listed}
 use Rattle.wu_rank.specs.Sweeps.{AscendFrom}
 use Rattle.wu_rank.proofs.Counts.{frequency-le, times-some, times-none}
 use Rattle.wu_rank.proofs.Sparse.{all_hold, all_mapped, all_listed_by, entries-agree}
@@ -27,7 +29,8 @@ positive-eqb (suc n) h = eqb-suc-zero n
 
 -- ---- how many units hold a word
 
-pub length-times : (list : TermList) (end : ℕ) (us : List RankedUnit) → length (entries (times_in list.at) end us) ≡ holders count_at us list
+pub length-times : (list : TermList) (end : ℕ) (us : List RankedUnit)
+    → length (entries (times_in list.at) end us) ≡ holders count_at us list
 unfolding holders
 length-times list end [] = refl
 length-times list end (u ∷ us) =
@@ -77,7 +80,8 @@ part-nothing units unit word e =
     (λ (h : holders count_at units word ≤ 0). let none : holders count_at units word ≡ 0 = omega arith in rw none refl)
     (cases_lt 0 (holders count_at units word))
 
-score-one : (units : List RankedUnit) (unit : RankedUnit) (word : TermList) → score count_at units (word ∷ []) unit ≡ part count_at units unit word
+score-one : (units : List RankedUnit) (unit : RankedUnit) (word : TermList)
+    → score count_at units (word ∷ []) unit ≡ part count_at units unit word
 unfolding score
 score-one units unit word = sum_by-cons (part count_at units unit) word [] ∙ add-zero (part count_at units unit word)
 
@@ -99,7 +103,8 @@ pub weights_are : (units : List RankedUnit) (list : TermList) (idf n t : ℕ) �
 weights_are units list idf n t e s =
     all_mapped units (times_in list.at) (weighed units idf n t) (score_if_listed count_at units (list ∷ [])) (λ place l. at_place place l)
   where
-    at_place : (place : ℕ) → place < length units → map (weighed units idf n t) (with_entry place (times_in list.at (unit_at units place)) [])
+    at_place : (place : ℕ) → place < length units
+        → map (weighed units idf n t) (with_entry place (times_in list.at (unit_at units place)) [])
         ≡ with_entry place (score_if_listed count_at units (list ∷ []) (unit_at units place)) []
     at_place place l =
         let d : RankedUnit = record { extent = record { start = 0; end = 0 }; place = 0 } in
@@ -223,11 +228,13 @@ unfolding all_listed
 ranked_are units lists =
     all_listed_by units (score_if_listed count_at units lists) (ranked_at units)
     (λ us. map (scored count_at units lists) (filter (holds count_at lists) us)) refl
-    (λ place rest l. by (holds count_at lists (unit_at units place)) place (unit_at units place) (score count_at units lists (unit_at units place)) rest refl refl)
+    (λ place rest l. by (holds count_at lists (unit_at units place)) place (unit_at units place)
+    (score count_at units lists (unit_at units place)) rest refl refl)
   where
     by : (b : Bool) (place : ℕ) (unit : RankedUnit) (points : ℕ) (rest : List RankedUnit) → unit ≡ unit_at units place
         → points ≡ score count_at units lists unit
-        → map (ranked_at units) (with_entry place (cond b (Some points) None) []) ++ map (scored count_at units lists) (filter (holds count_at lists) rest)
+        → map (ranked_at units) (with_entry place (cond b (Some points) None) [])
+        ++ map (scored count_at units lists) (filter (holds count_at lists) rest)
         ≡ map (scored count_at units lists) (cond b (unit ∷ filter (holds count_at lists) rest) (filter (holds count_at lists) rest))
     by true place unit points rest e f =
         ap₂ (λ (n : ℕ) (u : RankedUnit). let r : Ranked = record { score = n; unit = u } in
@@ -237,7 +244,8 @@ ranked_are units lists =
 pub length-listed : (units : List RankedUnit) (lists : List TermList)
     → length (entries (score_if_listed count_at units lists) (length units) units) ≡ length (all_listed count_at units lists)
 length-listed units lists =
-    sym (length-map (entries (score_if_listed count_at units lists) (length units) units) (ranked_at units)) ∙ ap length (ranked_are units lists)
+    sym (length-map (entries (score_if_listed count_at units lists) (length units) units) (ranked_at units))
+    ∙ ap length (ranked_are units lists)
 
 pub listed_within : (units : List RankedUnit) (f : RankedUnit → Option ℕ)
     → AllByRecursion (λ e. e.unit < length units) (entries f (length units) units)

@@ -1,5 +1,6 @@
 -- Sparse vectors over units: what a sweep appends to one, and what each entry says.
-use Rattle.std.proofs.Common.{◌≡◌, ℕ, ◌+◌, ◌-◌, ◌<◌, ◌≤◌, Option, Some, None, cond, ltb, List, [], ◌∷◌, ◌++◌, length, get_or, take, drop, map, refl, sym, ap, ap₂, subst, ◌∙◌, append-nil, append_assoc, arith}
+use Rattle.std.proofs.Common.{◌≡◌, ℕ, ◌+◌, ◌-◌, ◌<◌, ◌≤◌, Option, Some, None, cond, ltb, List, [], ◌∷◌, ◌++◌, length, get_or, take, drop}
+use Rattle.std.proofs.Common.{map, refl, sym, ap, ap₂, subst, ◌∙◌, append-nil, append_assoc, arith}
 use Rattle.std.specs.List.{AllByRecursion}
 use Rattle.std.proofs.lemmas.List.{length-append, get_or_at, take-append-drop}
 use Rattle.wu_rank.specs.declared.entries.Entry.{Entry}
@@ -16,7 +17,8 @@ pub with_entry-append : (place : ℕ) (value : Option ℕ) (xs ys : List Entry)
 with_entry-append place None xs ys = ap (λ (l : List Entry). l ++ ys) (sym (append-nil xs))
 with_entry-append place (Some v) xs ys = sym (append_assoc xs (record { unit = place; value = v } ∷ []) ys)
 
-with_entry-prepend : (place : ℕ) (value : Option ℕ) (xs ys : List Entry) → with_entry place value (xs ++ ys) ≡ with_entry place value xs ++ ys
+with_entry-prepend : (place : ℕ) (value : Option ℕ) (xs ys : List Entry)
+    → with_entry place value (xs ++ ys) ≡ with_entry place value xs ++ ys
 with_entry-prepend place None xs ys = refl
 with_entry-prepend place (Some v) xs ys = refl
 
@@ -148,7 +150,8 @@ module _ (units : List RankedUnit) (f : RankedUnit → Option ℕ) where
       let found = place_of units front us u e in
       let total : length units ≡ length front + length (u ∷ us) = ap length e ∙ length-append front (u ∷ us) in
       let here : map h (with_entry place (f u) []) ≡ with_entry place (g u) [] =
-      subst (λ (v : RankedUnit). map h (with_entry place (f v) []) ≡ with_entry place (g v) []) found.1 (each place (omega (arith, total))) in
+      subst (λ (v : RankedUnit). map h (with_entry place (f v) []) ≡ with_entry place (g v) []) found.1
+      (each place (omega (arith, total))) in
       map_with_entry h place (f u) (entries f (length units) us)
       ∙ ap₂ ◌++◌ here (some_mapped h g (front ++ u ∷ []) us (e ∙ sym (append_assoc front (u ∷ []) us)) each)
       ∙ sym (with_entry-prepend place (g u) [] (entries g (length units) us))

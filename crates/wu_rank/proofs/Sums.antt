@@ -1,5 +1,6 @@
 -- The sum of two sparse vectors over the same units.
-use Rattle.std.proofs.Common.{◌≡◌, ℕ, ◌+◌, ◌-◌, ◌<◌, ◌≤◌, Option, Some, None, cond, leb, ltb, List, [], ◌∷◌, ◌++◌, append-nil, length, drop, refl, sym, ap, ap₂, ◌∙◌, ⊎_elim, arith}
+use Rattle.std.proofs.Common.{◌≡◌, ℕ, ◌+◌, ◌-◌, ◌<◌, ◌≤◌, Option, Some, None, cond, leb, ltb, List, [], ◌∷◌, ◌++◌, append-nil, length, drop}
+use Rattle.std.proofs.Common.{refl, sym, ap, ap₂, ◌∙◌, ⊎_elim, arith}
 use Rattle.std.specs.List.{AllByRecursion}
 use Rattle.std.proofs.lemmas.Bool.{cases_order, lt-ltb, le-ltb, le-leb, lt-leb, cond-true, cond-false, cond_both}
 use Rattle.std.proofs.Math.Nat.{add-zero, zero-add}
@@ -19,7 +20,8 @@ abbrev Later : ℕ → List Entry → Type 0
 Later place [] = Unit {0}
 Later place (e ∷ es) = place < e.unit
 
-later_with : (place other : ℕ) (value : Option ℕ) (rest : List Entry) → place < other → Later place rest → Later place (with_entry other value rest)
+later_with : (place other : ℕ) (value : Option ℕ) (rest : List Entry) → place < other → Later place rest
+    → Later place (with_entry other value rest)
 later_with place other None rest l r = r
 later_with place other (Some v) rest l r = l
 
@@ -173,7 +175,8 @@ module _ (m n : ℕ) where
   behind-small a xs sum l ls each (b ∷ ys) rs = (
     first-small a b l rs.0,
     cond_both (ltb a.unit b.unit) _ _ (λ (es : List Entry). AllByRecursion (λ e. e.value ≤ m + n) es) (λ e. each (b ∷ ys) rs)
-        (λ e. cond_both (ltb b.unit a.unit) _ _ (λ (es : List Entry). AllByRecursion (λ e. e.value ≤ m + n) es) (λ f. behind-small a xs sum l ls each ys rs.1)
+        (λ e. cond_both (ltb b.unit a.unit) _ _ (λ (es : List Entry). AllByRecursion (λ e. e.value ≤ m + n) es)
+        (λ f. behind-small a xs sum l ls each ys rs.1)
         (λ f. each ys rs.1)),
   )
 

@@ -5,7 +5,8 @@ use Rattle.std.specs.Cmp.{both_ways}
 use Rattle.std.proofs.lemmas.Bool.{and_parts}
 use Rattle.wu_base.specs.declared.addresses.Extent.{Extent}
 use Rattle.wu_gcl.specs.declared.expressions.Op.{Op}
-use Rattle.wu_gcl.specs.declared.expressions.Op.TheVariants.{Containing, ContainedIn, NotContaining, NotContainedIn, OneOf, BothOf, FollowedBy}
+use Rattle.wu_gcl.specs.declared.expressions.Op.TheVariants.{Containing, ContainedIn, NotContaining, NotContainedIn, OneOf, BothOf}
+use Rattle.wu_gcl.specs.declared.expressions.Op.TheVariants.{FollowedBy}
 use Rattle.wu_gcl.specs.declared.expressions.Tag.{Tag}
 use Rattle.wu_gcl.specs.declared.expressions.Tag.TheVariants.{FileStart, FileEnd, LineStart, LineEnd}
 use Rattle.wu_gcl.specs.Regions.{Region, Phrase, Mark, WholeFile, WholeLine, Both}

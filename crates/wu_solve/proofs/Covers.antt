@@ -1,5 +1,6 @@
 -- The innermost covers of two ascending lists, by walking them side by side.
-use Rattle.std.proofs.Common.{length, drop, drop_of_length-le, ◌≡◌, ℕ, ◌<◌, ◌≤◌, Bool, true, false, cond, ◌⊎◌, List, [], ◌∷◌, refl, ap, ◌∙◌, subst, inl, inr, arith, ltb-true, ltb-false, leb-true, leb-false}
+use Rattle.std.proofs.Common.{length, drop, drop_of_length-le, ◌≡◌, ℕ, ◌<◌, ◌≤◌, Bool, true, false, cond, ◌⊎◌, List, [], ◌∷◌, refl, ap, ◌∙◌}
+use Rattle.std.proofs.Common.{subst, inl, inr, arith, ltb-true, ltb-false, leb-true, leb-false}
 use Rattle.std.specs.Prelude.{nat_lt, if◌then◌else◌}
 use Rattle.std.proofs.lemmas.Bool.{false≢true}
 use Rattle.wu_base.specs.declared.addresses.Extent.{Extent}

@@ -1,5 +1,6 @@
 -- How many extents frames have, and in how many of them there are any.
-use Rattle.std.proofs.Common.{◌≡◌, ℕ, zero, suc, ◌+◌, ◌≤◌, ◌<◌, Bool, true, false, cond, List, [], ◌∷◌, ◌++◌, length, take, drop, get_or, refl, sym, ap, ◌∙◌, subst, inl, inr, arith, append-nil, length-append, lt-ltb, le-ltb}
+use Rattle.std.proofs.Common.{◌≡◌, ℕ, zero, suc, ◌+◌, ◌≤◌, ◌<◌, Bool, true, false, cond, List, [], ◌∷◌, ◌++◌, length, take, drop, get_or}
+use Rattle.std.proofs.Common.{refl, sym, ap, ◌∙◌, subst, inl, inr, arith, append-nil, length-append, lt-ltb, le-ltb}
 use Rattle.std.specs.Prelude.{count_by, nat_lt}
 use Rattle.std.specs.List.{AllByRecursion}
 use Rattle.std.proofs.lemmas.Bool.Decides.{nat_tests}
@@ -29,7 +30,8 @@ module _ (region : Region) (lists : List TermList) where
       → count_by (has_hits region lists) (one ++ other) ≡ count_by (has_hits region lists) one + count_by (has_hits region lists) other
   files_of_parts one other = sum_by-append (λ f. cond (has_hits region lists f) 1 0) one other
 
-  pub hits_taken : (frames : List Range) (n : ℕ) → length (frames_hits region lists (take n frames)) ≤ length (frames_hits region lists frames)
+  pub hits_taken : (frames : List Range) (n : ℕ)
+      → length (frames_hits region lists (take n frames)) ≤ length (frames_hits region lists frames)
   hits_taken [] zero = omega arith
   hits_taken [] (suc n) = omega arith
   hits_taken (frame ∷ frames) zero = omega arith

@@ -1,5 +1,6 @@
 -- The frames in which one of some addresses lies.
-use Rattle.std.proofs.Common.{◌≡◌, ℕ, zero, suc, ◌+◌, ◌<◌, ◌≤◌, Bool, true, false, cond, ◌||◌, List, [], ◌∷◌, length, get_or, refl, sym, ap, arith, leb, ltb, nat_le, leb-true, leb-false, le-leb, lt-ltb, ltb-true}
+use Rattle.std.proofs.Common.{◌≡◌, ℕ, zero, suc, ◌+◌, ◌<◌, ◌≤◌, Bool, true, false, cond, ◌||◌, List, [], ◌∷◌, length, get_or, refl, sym, ap}
+use Rattle.std.proofs.Common.{arith, leb, ltb, nat_le, leb-true, leb-false, le-leb, lt-ltb, ltb-true}
 use Rattle.std.specs.Prelude.{filter}
 use Rattle.std.specs.List.{list_any, AllByRecursion}
 use Rattle.std.proofs.lemmas.Bool.{false_from_ne_true, and_parts, and_from, or_left}
@@ -140,7 +141,8 @@ met_here [] frames place d apart up some ends within low = absurd (omega arith)
 met_here (x ∷ xs) frames place d apart up some ends within low =
     met_next x xs frames place d apart ends (all_from_first (x ∷ xs) up) within low
 
-pub met_later : (rest : List ℕ) (frames : List Range) (place : ℕ) (d : Range) → AreApart frames → IsStrictlyIncreasing rest → 0 < length rest
+pub met_later : (rest : List ℕ) (frames : List Range) (place : ℕ) (d : Range) → AreApart frames → IsStrictlyIncreasing rest
+    → 0 < length rest
     → EndsAfter frames (get_or rest 0 0) place → place < length frames
     → filter (has_one_of (filter (λ a. nat_le (get_or frames place d).start a) rest)) frames ≡ filter (has_one_of rest) frames
 met_later [] frames place d apart up some ends within = absurd (omega arith)

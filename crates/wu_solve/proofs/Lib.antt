@@ -18,11 +18,14 @@ pub mod WindowLengths
 pub mod OneFrame
 pub mod Moving
 pub mod Whole
+pub mod WindowsWhole
 pub mod SameRegions
 pub mod PhrasesInFrames
 pub mod WordByWord
 pub mod Roomy
 pub mod FramePlaces
+pub mod ExtentsInFrames
+pub mod AddressesInFrames
 pub mod Needing
 pub mod LeavingOut
 pub mod FramesMet

@@ -1,5 +1,6 @@
 -- Extents at places counted from a start, and the same at addresses.
-use Rattle.std.proofs.Common.{◌≡◌, ℕ, ◌+◌, ◌<◌, ◌≤◌, Bool, true, false, cond, List, [], ◌∷◌, map, refl, sym, ap, ap₂, ◌∙◌, subst, inl, inr, arith, leb, leb-true, le-leb}
+use Rattle.std.proofs.Common.{◌≡◌, ℕ, ◌+◌, ◌<◌, ◌≤◌, Bool, true, false, cond, List, [], ◌∷◌, map, refl, sym, ap, ap₂, ◌∙◌, subst, inl, inr}
+use Rattle.std.proofs.Common.{arith, leb, leb-true, le-leb}
 use Rattle.std.specs.Prelude.{filter}
 use Rattle.std.specs.Cmp.{both_ways}
 use Rattle.std.specs.List.{list_any}
@@ -35,7 +36,8 @@ kept_moved s x ys zs false same = same
 pub filter_moved : (s : ℕ) (p q : Extent → Bool) (xs : List Extent) → ((x : Extent) → p (moved s x) ≡ q x)
     → filter p (map (moved s) xs) ≡ map (moved s) (filter q xs)
 filter_moved s p q [] same = refl
-filter_moved s p q (x ∷ xs) same = rw (same x) (kept_moved s x (filter p (map (moved s) xs)) (filter q xs) (q x) (filter_moved s p q xs same))
+filter_moved s p q (x ∷ xs) same =
+    rw (same x) (kept_moved s x (filter p (map (moved s) xs)) (filter q xs) (q x) (filter_moved s p q xs same))
 
 pub any_moved : (s : ℕ) (p q : Extent → Bool) (xs : List Extent) → ((x : Extent) → p (moved s x) ≡ q x)
     → list_any p (map (moved s) xs) ≡ list_any q xs

@@ -6,7 +6,8 @@ use Rattle.std.specs.Cmp.Lexicographic.{pointwise, same_text, nat_list_eq_equiv}
 use Rattle.std.proofs.lemmas.List.Elements.{Contains-append_left, Contains-append_right, Contains-append_cases}
 use Rattle.wu_base.proofs.Members.{Has, Has-from_Contains, Contains-from_Has, Has-filter, filter_has, any_has, has_any}
 use Rattle.wu_gcl.specs.declared.expressions.Op.{Op}
-use Rattle.wu_gcl.specs.declared.expressions.Op.TheVariants.{Containing, ContainedIn, NotContaining, NotContainedIn, OneOf, BothOf, FollowedBy}
+use Rattle.wu_gcl.specs.declared.expressions.Op.TheVariants.{Containing, ContainedIn, NotContaining, NotContainedIn, OneOf, BothOf}
+use Rattle.wu_gcl.specs.declared.expressions.Op.TheVariants.{FollowedBy}
 use Rattle.wu_solve.specs.Needed.{NeedsOf}
 
 pub in_joined : (one other : List (List ℕ)) (term : List ℕ) → Contains (one ++ other) term ↔ (Contains one term ⊎ Contains other term)
@@ -29,7 +30,8 @@ none_there term has = Has-from_Contains term [] has
 
 -- the terms of one list that are among those of the other
 pub in_common : (left right : List (List ℕ)) (term : List ℕ)
-    → Contains (filter (λ term. list_any (λ other. pointwise nat_eq other term) right) left) term ↔ (Contains left term × Contains right term)
+    → Contains (filter (λ term. list_any (λ other. pointwise nat_eq other term) right) left) term
+    ↔ (Contains left term × Contains right term)
 in_common left right term = (
   λ has.
       let f = filter_has (λ term. list_any (λ other. pointwise nat_eq other term) right) term left

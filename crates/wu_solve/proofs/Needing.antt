@@ -1,5 +1,6 @@
 -- Where a needed term stands nowhere, an expression has no extent.
-use Rattle.std.proofs.Common.{◌≡◌, ℕ, zero, suc, ◌+◌, ◌<◌, ◌≤◌, Bool, true, ◌&&◌, ◌⊎◌, List, [], ◌∷◌, length, get_or, map, refl, sym, ap, ◌∙◌, subst, inl, inr, arith, eqb, eqb-true}
+use Rattle.std.proofs.Common.{◌≡◌, ℕ, zero, suc, ◌+◌, ◌<◌, ◌≤◌, Bool, true, ◌&&◌, ◌⊎◌, List, [], ◌∷◌, length, get_or, map, refl, sym, ap}
+use Rattle.std.proofs.Common.{◌∙◌, subst, inl, inr, arith, eqb, eqb-true}
 use Rattle.std.specs.Prelude.{Contains, nat_lt}
 use Rattle.std.proofs.lemmas.Bool.{false≢true, and_parts, or_cases}
 use Rattle.wu_base.specs.declared.addresses.Extent.{Extent}
@@ -7,10 +8,12 @@ use Rattle.wu_base.specs.declared.addresses.Range.{Range}
 use Rattle.wu_base.specs.declared.addresses.TermList.{TermList}
 use Rattle.wu_gcl.specs.declared.expressions.Tag.TheVariants.{FileStart, FileEnd, LineStart, LineEnd}
 use Rattle.wu_gcl.specs.declared.expressions.Op.{Op}
-use Rattle.wu_gcl.specs.declared.expressions.Op.TheVariants.{Containing, ContainedIn, NotContaining, NotContainedIn, OneOf, BothOf, FollowedBy}
+use Rattle.wu_gcl.specs.declared.expressions.Op.TheVariants.{Containing, ContainedIn, NotContaining, NotContainedIn, OneOf, BothOf}
+use Rattle.wu_gcl.specs.declared.expressions.Op.TheVariants.{FollowedBy}
 use Rattle.wu_gcl.specs.Regions.{Region, Phrase, Mark, WholeFile, WholeLine, Window, Both}
 use Rattle.wu_gcl.specs.Reading.{tag_text}
-use Rattle.wu_gcl.specs.Extents.{holds, some_extent, containing, contained_in, not_containing, not_contained_in, innermost, in_either, holds_both, holds_in_order, combined, words_stand, is_term_at, is_in, hits}
+use Rattle.wu_gcl.specs.Extents.{holds, some_extent, containing, contained_in, not_containing, not_contained_in, innermost, in_either}
+use Rattle.wu_gcl.specs.Extents.{holds_both, holds_in_order, combined, words_stand, is_term_at, is_in, hits}
 use Rattle.wu_solve.specs.Addresses.{stands_by}
 use Rattle.wu_solve.specs.Listing.{Has, IsExtentIn}
 use Rattle.wu_solve.specs.Needed.{NeedsOf, Needs, HasNone}
@@ -106,7 +109,8 @@ combined_given FollowedBy n stands term left right gives =
     innermost_given n stands term (holds_in_order n left right) (in_order_given n stands term left right gives)
 
 -- what the operator needs, from what each operand gives
-needs_of : (op : Op) (one other : Type 0) (left right : Type 0) → (one → left) → (other → right) → NeedsOf op one other → NeedsOf op left right
+needs_of : (op : Op) (one other : Type 0) (left right : Type 0) → (one → left) → (other → right) → NeedsOf op one other
+    → NeedsOf op left right
 needs_of Containing one other left right l r (inl n) = inl (l n)
 needs_of Containing one other left right l r (inr n) = inr (r n)
 needs_of ContainedIn one other left right l r (inl n) = inl (l n)

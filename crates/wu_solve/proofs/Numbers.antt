@@ -1,5 +1,7 @@
 -- Ascending numbers, and where a binary search ends in them.
-use Rattle.std.proofs.Common.{◌≡◌, ◌⊎◌, ℕ, zero, suc, ◌+◌, ◌-◌, ◌<◌, ◌≤◌, Bool, true, false, cond, ◌&&◌, ◌||◌, List, [], ◌∷◌, length, take, drop, get_or, filter, nat_lt, nat_le, refl, sym, ap, ◌∙◌, subst, inl, inr, arith, ltb-true, ltb-false, le-leb, leb-true, eq-eqb, eqb-true, eqb}
+use Rattle.std.proofs.Common.{◌≡◌, ◌⊎◌, ℕ, zero, suc, ◌+◌, ◌-◌, ◌<◌, ◌≤◌, Bool, true, false, cond, ◌&&◌, ◌||◌, List, [], ◌∷◌, length, take}
+use Rattle.std.proofs.Common.{drop, get_or, filter, nat_lt, nat_le, refl, sym, ap, ◌∙◌, subst, inl, inr, arith, ltb-true, ltb-false, le-leb}
+use Rattle.std.proofs.Common.{leb-true, eq-eqb, eqb-true, eqb}
 use Rattle.std.specs.Cmp.{both_ways}
 use Rattle.std.proofs.Math.Bool.{and-false}
 use Rattle.std.specs.List.Sorted.{IsStrictlyIncreasing, IsNonDecreasingBy, IsPartitionPoint}
@@ -8,7 +10,8 @@ use Rattle.std.proofs.lemmas.List.Sums.{length-filter, count_by-le-length}
 use Rattle.std.proofs.lemmas.List.Sorted.{IsNonDecreasingBy-take, IsNonDecreasingBy-drop, IsNonDecreasingBy-from_default}
 use Rattle.std.specs.Ordering.{nat_cmp}
 use Rattle.std.proofs.lemmas.List.{get_or-drop, get_or-take, length-take-le, length-drop}
-use Rattle.std.proofs.lemmas.Map.Keys.{below_from_sorted, non_decreasing_from_sorted, sorted_from_strictly_increasing, sorted_tail, IsStrictlyIncreasing-from_sorted}
+use Rattle.std.proofs.lemmas.Map.Keys.{below_from_sorted, non_decreasing_from_sorted, sorted_from_strictly_increasing, sorted_tail}
+use Rattle.std.proofs.lemmas.Map.Keys.{IsStrictlyIncreasing-from_sorted}
 use Rattle.std.proofs.lemmas.Bool.{false≢true, false_from_ne_true, or_cases, or_left, or_right}
 use Rattle.std.proofs.lemmas.Bool.Decides.{nat_tests}
 use Rattle.wu_solve.specs.Addresses.{is_among, EndsBelow}
@@ -116,7 +119,8 @@ rising_stretch xs passed reach up =
 
 -- all that pass are from the bound on
 kept_by_test : (bound x : ℕ) (ys : List ℕ) (test : Bool) → nat_le bound x ≡ test
-    → ((k : ℕ) → k < length ys → bound ≤ get_or ys k 0) → (k : ℕ) → k < length (cond test (x ∷ ys) ys) → bound ≤ get_or (cond test (x ∷ ys) ys) k 0
+    → ((k : ℕ) → k < length ys → bound ≤ get_or ys k 0) → (k : ℕ) → k < length (cond test (x ∷ ys) ys)
+    → bound ≤ get_or (cond test (x ∷ ys) ys) k 0
 kept_by_test bound x ys true is more zero within = leb-true bound x is
 kept_by_test bound x ys true is more (suc k) within = more k (omega arith)
 kept_by_test bound x ys false is more k within = more k within

@@ -1,5 +1,7 @@
 -- Counting one term from its addresses.
-use Rattle.std.proofs.Common.{◌≡◌, ℕ, suc, ◌+◌, ◌-◌, ◌<◌, ◌≤◌, Bool, true, false, ◌&&◌, ◌||◌, cond, List, [], ◌∷◌, length, get_or, map, refl, sym, ap, ap₂, ◌∙◌, subst, inl, inr, arith, nat_lt, nat_le, leb-true, leb-false, le-leb, lt-ltb, ltb-true, leb, ltb, eqb, eqb-true}
+use Rattle.std.proofs.Common.{◌≡◌, ℕ, suc, ◌+◌, ◌-◌, ◌<◌, ◌≤◌, Bool, true, false, ◌&&◌, ◌||◌, cond, List, [], ◌∷◌, length, get_or, map}
+use Rattle.std.proofs.Common.{refl, sym, ap, ap₂, ◌∙◌, subst, inl, inr, arith, nat_lt, nat_le, leb-true, leb-false, le-leb, lt-ltb}
+use Rattle.std.proofs.Common.{ltb-true, leb, ltb, eqb, eqb-true}
 use Rattle.std.specs.Cmp.{both_ways}
 use Rattle.std.specs.Prelude.{filter, count_by}
 use Rattle.std.specs.List.{AllByRecursion, list_any}
@@ -26,7 +28,8 @@ use Rattle.wu_solve.proofs.Results.{extent_lies}
 
 -- ---- addresses from a frame's start on: those before its end lie in it
 
-module _ (frames : List Range) (f : Range) (lies : (a : ℕ) → f.start ≤ a → a < f.start + f.len → lies_in_one frames (run_around 0 0 a) ≡ true) where
+module _ (frames : List Range) (f : Range)
+    (lies : (a : ℕ) → f.start ≤ a → a < f.start + f.len → lies_in_one frames (run_around 0 0 a) ≡ true) where
   abbrev kept : List ℕ → List Extent
   kept xs = filter (lies_in_one frames) (map (run_around 0 0) xs)
 
@@ -36,7 +39,8 @@ module _ (frames : List Range) (f : Range) (lies : (a : ℕ) → f.start ≤ a �
       → lies_in_one frames (run_around 0 0 a) ≡ lie
       → length (cond lie (run_around 0 0 a ∷ kept xs) (kept xs))
       + length (cond behind (a ∷ filter (λ a. nat_le (f.start + f.len) a) xs) (filter (λ a. nat_le (f.start + f.len) a) xs))
-      ≡ suc (length xs) + length (kept (cond behind (a ∷ filter (λ a. nat_le (f.start + f.len) a) xs) (filter (λ a. nat_le (f.start + f.len) a) xs)))
+      ≡ suc (length xs)
+      + length (kept (cond behind (a ∷ filter (λ a. nat_le (f.start + f.len) a) xs) (filter (λ a. nat_le (f.start + f.len) a) xs)))
   counted_step a xs true true must more is = rw is (omega (arith, more))
   counted_step a xs true false must more is = rw is (omega (arith, more))
   counted_step a xs false true must more is = omega (arith, more)
@@ -59,7 +63,8 @@ pub counted_in_frame : (frames : List Range) (place : ℕ) (d : Range) (xs : Lis
     (filter (λ a. nat_le ((get_or frames place d).start + (get_or frames place d).len) a) xs)))
 counted_in_frame frames place d xs within from =
     counted frames (get_or frames place d)
-    (λ a low high. lies_one_by frames (get_or frames place d) (run_around 0 0 a) (place_frame frames place d within) (omega arith) (omega arith) (omega arith))
+    (λ a low high. lies_one_by frames (get_or frames place d) (run_around 0 0 a) (place_frame frames place d within) (omega arith)
+    (omega arith) (omega arith))
     xs from
 
 -- ---- one word or tag
@@ -68,7 +73,8 @@ from_zero : (xs : List ℕ) → filter (λ a. nat_le 0 a) xs ≡ xs
 from_zero [] = refl
 from_zero (x ∷ xs) = rw (le-leb 0 x (omega arith), from_zero xs) refl
 
-pub term_hits : (lists : List TermList) (frames : List Range) → AreApart frames → (term addresses : List ℕ) → AreAddressesOf lists term addresses
+pub term_hits : (lists : List TermList) (frames : List Range) → AreApart frames → (term addresses : List ℕ)
+    → AreAddressesOf lists term addresses
     → length (filter (lies_in_one frames) (map (run_around 0 0) addresses)) ≡ length (frames_hits (Phrase (term ∷ [])) lists frames)
 term_hits lists frames apart term addresses are =
     ap (λ (xs : List ℕ). length (filter (lies_in_one frames) (map (run_around 0 0) xs))) (sym (from_zero addresses))

@@ -8,7 +8,8 @@ use Rattle.wu_base.specs.declared.addresses.Extent.{Extent}
 use Rattle.wu_gcl.specs.Extents.{holds, same_extent, some_extent, containing, contained_in, not_containing, not_contained_in, innermost}
 use Rattle.wu_solve.specs.Listing.{IsBefore, IsAscending, Has, IsExtentIn, Lists}
 use Rattle.wu_solve.specs.Merging.{holding, held}
-use Rattle.wu_solve.proofs.Sets.{Holds, holds_means, holds_from, same_means, same_from, same_ends, found, finds, all_has, all_from, from_filter, to_filter}
+use Rattle.wu_solve.proofs.Sets.{Holds, holds_means, holds_from, same_means, same_from, same_ends, found, finds, all_has, all_from}
+use Rattle.wu_solve.proofs.Sets.{from_filter, to_filter}
 use Rattle.wu_solve.proofs.Order.{some_found, some_from}
 
 kept_ascending : (p : Extent → Bool) (x : Extent) (xs : List Extent) (test : Bool) → AllByRecursion (IsBefore x) xs

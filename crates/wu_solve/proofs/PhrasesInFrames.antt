@@ -1,5 +1,6 @@
 -- A phrase's extents over frames that lie apart, from the addresses of one of its words.
-use Rattle.std.proofs.Common.{◌≡◌, ℕ, zero, suc, ◌+◌, ◌-◌, ◌<◌, ◌≤◌, Bool, true, List, [], ◌∷◌, length, get_or, refl, sym, ap, ◌∙◌, subst, arith, eqb, eqb-true, eq-eqb, leb-true, le-leb, nat_le}
+use Rattle.std.proofs.Common.{◌≡◌, ℕ, zero, suc, ◌+◌, ◌-◌, ◌<◌, ◌≤◌, Bool, true, List, [], ◌∷◌, length, get_or, refl, sym, ap, ◌∙◌, subst}
+use Rattle.std.proofs.Common.{arith, eqb, eqb-true, eq-eqb, leb-true, le-leb, nat_le}
 use Rattle.std.specs.Prelude.{filter}
 use Rattle.std.specs.List.{All}
 use Rattle.std.proofs.lemmas.Bool.{and_parts, and_from}
@@ -140,9 +141,11 @@ known_word lists frames term addresses r after are =
 
 -- one word alone
 pub term_whole : (lists : List TermList) (frames : List Range) → AreApart frames → (term addresses : List ℕ)
-    → AreAddressesOf lists term addresses → filter (lies_in_one frames) (runs_around 0 0 addresses) ≡ frames_hits (Phrase (term ∷ [])) lists frames
+    → AreAddressesOf lists term addresses
+    → filter (lies_in_one frames) (runs_around 0 0 addresses) ≡ frames_hits (Phrase (term ∷ [])) lists frames
 term_whole lists frames apart term addresses are =
-    sym (keeps_all (λ x. words_stand (has_address lists) (term ∷ []) x.start) (filter (lies_in_one frames) (runs_around 0 0 addresses)) each)
+    sym (keeps_all (λ x. words_stand (has_address lists) (term ∷ []) x.start) (filter (lies_in_one frames) (runs_around 0 0 addresses))
+    each)
     ∙ phrase_whole lists frames apart (term ∷ []) 0 0 (omega arith) addresses are
   where
     each : (x : Extent) → Has (filter (lies_in_one frames) (runs_around 0 0 addresses)) x

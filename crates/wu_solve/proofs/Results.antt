@@ -1,5 +1,7 @@
 -- What every answer is like: its order, and what it depends on.
-use Rattle.std.proofs.Common.{◌≡◌, ℕ, zero, suc, ◌+◌, ◌-◌, ◌^◌, ◌<◌, ◌≤◌, Bool, true, false, not, ◌&&◌, ◌⊎◌, List, [], ◌∷◌, ◌++◌, length, map, refl, sym, ap, ◌∙◌, subst, inl, inr, arith, eqb, eqb-true, get_or, drop, drop-cons, add-one, append_assoc}
+use Rattle.std.proofs.Common.{◌≡◌, ℕ, zero, suc, ◌+◌, ◌-◌, ◌^◌, ◌<◌, ◌≤◌, Bool, true, false, not, ◌&&◌, ◌⊎◌, List, [], ◌∷◌, ◌++◌, length}
+use Rattle.std.proofs.Common.{map, refl, sym, ap, ◌∙◌, subst, inl, inr, arith, eqb, eqb-true, get_or, drop, drop-cons, add-one}
+use Rattle.std.proofs.Common.{append_assoc}
 use Rattle.std.specs.Cmp.{both_ways}
 use Rattle.std.specs.Prelude.{filter, Contains, All, nat_lt}
 use Rattle.std.specs.List.{range_with_len, AllByRecursion}
@@ -8,12 +10,15 @@ use Rattle.wu_base.specs.declared.addresses.Extent.{Extent}
 use Rattle.wu_base.specs.declared.addresses.Range.{Range}
 use Rattle.wu_base.specs.declared.addresses.TermList.{TermList}
 use Rattle.wu_gcl.specs.declared.expressions.Op.{Op}
-use Rattle.wu_gcl.specs.declared.expressions.Op.TheVariants.{Containing, ContainedIn, NotContaining, NotContainedIn, OneOf, BothOf, FollowedBy}
+use Rattle.wu_gcl.specs.declared.expressions.Op.TheVariants.{Containing, ContainedIn, NotContaining, NotContainedIn, OneOf, BothOf}
+use Rattle.wu_gcl.specs.declared.expressions.Op.TheVariants.{FollowedBy}
 use Rattle.wu_gcl.specs.declared.expressions.Tag.TheVariants.{FileStart, FileEnd, LineStart, LineEnd}
 use Rattle.wu_gcl.specs.Regions.{Region, Phrase, Mark, WholeFile, WholeLine, Window, Both}
 use Rattle.wu_gcl.specs.Reading.{tag_text}
 use Rattle.wu_gcl.specs.Terms.{terms_in}
-use Rattle.wu_gcl.specs.Extents.{holds, same_extent, some_extent, extents_of, containing, contained_in, not_containing, not_contained_in, innermost, in_either, holds_both, holds_in_order, combined, words_stand, is_term_at, is_in, hits, is_token_at, token_hits}
+use Rattle.wu_gcl.specs.Extents.{holds, same_extent, some_extent, extents_of, containing, contained_in, not_containing, not_contained_in}
+use Rattle.wu_gcl.specs.Extents.{innermost, in_either, holds_both, holds_in_order, combined, words_stand, is_term_at, is_in, hits}
+use Rattle.wu_gcl.specs.Extents.{is_token_at, token_hits}
 use Rattle.wu_solve.specs.Listing.{IsBefore, IsAscending, Has, IsExtentIn, Lists}
 use Rattle.wu_solve.specs.Addresses.{has_address, stands_by}
 use Rattle.wu_solve.specs.Operands.{run_from}
@@ -26,7 +31,9 @@ use Rattle.wu_solve.proofs.Phrases.{windows_listed, no_windows}
 use Rattle.wu_solve.proofs.Unions.{union, union_inner}
 use Rattle.wu_solve.proofs.Covers.{covers, covers_inner}
 use Rattle.wu_solve.proofs.Spans.{spans, spans_inner}
-use Rattle.wu_solve.proofs.Combining.{containing_combined, not_containing_combined, contained_in_combined, not_contained_in_combined, one_of_combined, both_of_combined, followed_by_combined, word_listed, mark_listed, file_listed, line_listed, both_listed}
+use Rattle.wu_solve.proofs.Combining.{containing_combined, not_containing_combined, contained_in_combined, not_contained_in_combined}
+use Rattle.wu_solve.proofs.Combining.{one_of_combined, both_of_combined, followed_by_combined, word_listed, mark_listed, file_listed}
+use Rattle.wu_solve.proofs.Combining.{line_listed, both_listed}
 
 -- each set of an expression has a list
 
@@ -126,7 +133,8 @@ pub record LiesIn (frame : Range) (x : Extent) : Type 0 where
   pub ordered : x.start ≤ x.end
   pub high : x.end < frame.start + frame.len
 
-pub extent_lies : (region : Region) (lists : List TermList) (frame : Range) (x : Extent) → Has (frame_hits region lists frame) x → LiesIn frame x
+pub extent_lies : (region : Region) (lists : List TermList) (frame : Range) (x : Extent) → Has (frame_hits region lists frame) x
+    → LiesIn frame x
 extent_lies region lists frame x has =
     let m = from_moved frame.start (hits region (stands_by lists frame.start) frame.len) x has in
     let is = hits_in region (stands_by lists frame.start) frame.len m.0 m.1 in

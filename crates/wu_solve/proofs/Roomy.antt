@@ -23,7 +23,8 @@ all_roomy size (f ∷ frames) room = rw (le-leb size f.len room.0, all_roomy siz
 pub by_length : (size : ℕ) (frames : List Range) (x : Extent) → All (λ frame. size ≤ frame.len) frames → lies_in_one frames x ≡ true
     → nat_lt (x.end - x.start) size ≡ lies_in_window size frames x
 by_length size frames x room lies =
-    rw (all_roomy size frames (recursion_from_All (λ frame. size ≤ frame.len) frames room), lies) (sym (and-true (nat_lt (x.end - x.start) size)))
+    rw (all_roomy size frames (recursion_from_All (λ frame. size ≤ frame.len) frames room), lies)
+    (sym (and-true (nat_lt (x.end - x.start) size)))
 
 -- the extents of an expression lie in the frames
 pub all_lie : (region : Region) (lists : List TermList) (frames : List Range)

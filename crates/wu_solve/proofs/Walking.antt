@@ -1,5 +1,6 @@
 -- Walking two ascending lists side by side keeps what a filter over all pairs keeps.
-use Rattle.std.proofs.Common.{◌≡◌, ◌<◌, ◌≤◌, Bool, true, false, List, [], ◌∷◌, refl, sym, ap, ◌∙◌, subst, inl, inr, arith, ltb, ltb-false, le-ltb, leb-true, le-leb}
+use Rattle.std.proofs.Common.{◌≡◌, ◌<◌, ◌≤◌, Bool, true, false, List, [], ◌∷◌, refl, sym, ap, ◌∙◌, subst, inl, inr, arith, ltb, ltb-false}
+use Rattle.std.proofs.Common.{le-ltb, leb-true, le-leb}
 use Rattle.std.specs.Cmp.{both_ways}
 use Rattle.std.specs.Prelude.{nat_lt, if◌then◌else◌}
 use Rattle.std.specs.List.{list_any}

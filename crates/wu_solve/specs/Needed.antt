@@ -4,7 +4,8 @@ use Rattle.wu_base.specs.declared.addresses.Range.{Range}
 use Rattle.wu_base.specs.declared.addresses.TermList.{TermList}
 use Rattle.wu_gcl.specs.declared.expressions.Tag.TheVariants.{FileStart, FileEnd, LineStart, LineEnd}
 use Rattle.wu_gcl.specs.declared.expressions.Op.{Op}
-use Rattle.wu_gcl.specs.declared.expressions.Op.TheVariants.{Containing, ContainedIn, NotContaining, NotContainedIn, OneOf, BothOf, FollowedBy}
+use Rattle.wu_gcl.specs.declared.expressions.Op.TheVariants.{Containing, ContainedIn, NotContaining, NotContainedIn, OneOf, BothOf}
+use Rattle.wu_gcl.specs.declared.expressions.Op.TheVariants.{FollowedBy}
 use Rattle.wu_gcl.specs.Regions.{Region, Phrase, Mark, WholeFile, WholeLine, Window, Both}
 use Rattle.wu_gcl.specs.Reading.{tag_text}
 use Rattle.wu_solve.specs.Addresses.{has_address}
@@ -31,4 +32,5 @@ Needs (Both op left right) term = NeedsOf op (Needs left term) (Needs right term
 
 -- no address of the frame is one of the term's
 abbrev pub HasNone : List TermList → List ℕ → Range → Type 0
-HasNone lists term frame = (address : ℕ) → frame.start ≤ address → address < frame.start + frame.len → has_address lists term address ≡ false
+HasNone lists term frame = (address : ℕ) → frame.start ≤ address → address < frame.start + frame.len
+    → has_address lists term address ≡ false

@@ -13,4 +13,5 @@ returns c =
     let named : c.put_terms.new.terms.items
     ≡ terms_in (region_of c.args.expr.now) = rw c.new-terms.ensures.items at c.in_ok-put_terms.ensures in
     are_terms
-    (region_of c.args.expr.now) c.put_terms.new.terms.items c.sorted_once.result.items named c.sorted_once.ensures.ascending c.sorted_once.ensures.members
+    (region_of c.args.expr.now) c.put_terms.new.terms.items c.sorted_once.result.items named c.sorted_once.ensures.ascending
+    c.sorted_once.ensures.members

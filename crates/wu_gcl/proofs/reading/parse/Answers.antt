@@ -5,7 +5,7 @@ use Rattle.wu_gcl.specs.Reading.{seen}
 use Rattle.wu_gcl.specs.Pending.{outcome}
 use Rattle.wu_gcl.specs.Views.{token_of}
 use Rattle.wu_gcl.proofs.Outcomes.{reads_all}
-use Rattle.wu_gcl.proofs.Reprint.{all_proper}
+use Rattle.wu_gcl.proofs.ReadableRegions.{all_proper}
 use Rattle.wu_gcl.proofs.reading.parse.Goals as goal
 
 pub returns-in-Some-clause-reads : goal.returns-in-Some-clause-reads

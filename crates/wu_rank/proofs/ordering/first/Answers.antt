@@ -19,10 +19,12 @@ returns-then-count-len c =
 pub returns : goal.returns
 unfolding comes_before
 returns c =
-    best-is c.args.all.items c.select_nth_unstable_by-front.result.0.now c.select_nth_unstable_by-front.result.2.now _ c.select_nth_unstable_by-front.result.1.now c.args.count
+    best-is c.args.all.items c.select_nth_unstable_by-front.result.0.now c.select_nth_unstable_by-front.result.2.now _
+    c.select_nth_unstable_by-front.result.1.now c.args.count
     (subst (λ xs. IsPermutation xs
     (c.select_nth_unstable_by-front.result.0.now
-    ++ c.select_nth_unstable_by-front.result.1.now ∷ c.select_nth_unstable_by-front.result.2.now)) c.as_mut_slice.ensures.value c.select_nth_unstable_by-front.ensures.permutation)
+    ++ c.select_nth_unstable_by-front.result.1.now ∷ c.select_nth_unstable_by-front.result.2.now)) c.as_mut_slice.ensures.value
+    c.select_nth_unstable_by-front.ensures.permutation)
     c.select_nth_unstable_by-front.ensures.front_len
     (c.select_nth_unstable_by-front.ensures.partitioned comes_before before_order
     (answers_always _ (λ a r. is_lt r ≡ comes_before a.0.now a.1.0.now) _

@@ -14,7 +14,8 @@ returns-in-empty-clause-value g t c =
 pub returns-in-len1-clause-small : goal.returns-in-len1-clause-small
 returns-in-len1-clause-small g t c =
     let one : 2 ^ 24 ≡ length c.args.lists.now * 2 ^ 24 = omega (arith, c.in-len1.len_at_least, c.in-len1.len_below) in
-    IfOk-weaker _ _ _ (λ (es : Vec Entry Global) h. subst (λ (n : ℕ). AllByRecursion (λ (part : Entry). part.value ≤ n) es.items) one h) c.parts_of.ensures.small
+    IfOk-weaker _ _ _ (λ (es : Vec Entry Global) h. subst (λ (n : ℕ). AllByRecursion (λ (part : Entry). part.value ≤ n) es.items) one h)
+    c.parts_of.ensures.small
 
 pub returns-in_ok-other-in_default-clause-value : goal.returns-in_ok-other-in_default-clause-value
 returns-in_ok-other-in_default-clause-value g t c =

@@ -1,4 +1,5 @@
-use Rattle.std.proofs.Common.{◌≡◌, ℕ, ◌-◌, cond, ltb, Option, Some, None, ◌++◌, List, drop, take, length, ap, ap₂, sym, ◌∙◌, subst, refl, arith}
+use Rattle.std.proofs.Common.{◌≡◌, ℕ, ◌-◌, cond, ltb, Option, Some, None, ◌++◌, List, drop, take, length, ap, ap₂, sym, ◌∙◌, subst, refl}
+use Rattle.std.proofs.Common.{arith}
 use Rattle.std.proofs.lemmas.List.{take_rest, length-drop}
 use Rattle.wu_rank.specs.declared.entries.Entry.{Entry}
 use Rattle.wu_rank.specs.declared.results.Unit.{Unit as RankedUnit}

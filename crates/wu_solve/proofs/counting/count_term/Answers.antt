@@ -6,7 +6,7 @@ use Rattle.std.proofs.lemmas.List.Sums.{length-filter, count_by-le-length}
 use Rattle.wu_base.specs.declared.addresses.Range.{Range}
 use Rattle.wu_solve.specs.Frames.{EndsAfter}
 use Rattle.wu_solve.proofs.FramesMet.{all_from_first, met_here, met_later, met_no_more, met_by_none}
-use Rattle.wu_solve.proofs.FramePlaces.{address_gap_passed, no_address_left}
+use Rattle.wu_solve.proofs.AddressesInFrames.{address_gap_passed, no_address_left}
 use Rattle.wu_solve.proofs.Numbers.{fewer_kept}
 use Rattle.wu_solve.proofs.OneTerm.{counted_in_frame}
 use Rattle.wu_solve.proofs.counting.count_term.Goals as goal
@@ -54,7 +54,8 @@ loop-address-smaller-then-address-frame c =
     let some : 0 < length rest = grind (arith, common_steps) in
     let bound = (get_or frames place d).start in
     let fewer = fewer_kept bound rest some (omega (arith, first, c.if-address-frame.true)) in
-    let long : length c.addresses_from-rest.result.now ≡ length (filter (λ a. nat_le bound a) rest) = ap length c.addresses_from-rest.ensures in
+    let long : length c.addresses_from-rest.result.now ≡ length (filter (λ a. nat_le bound a) rest) =
+    ap length c.addresses_from-rest.ensures in
     let small : length c.addresses_from-rest.result.now < length rest = omega (arith, long, fewer) in
     small
 

@@ -23,7 +23,8 @@ loop-frame-preserved c =
     let inv = c.loop-frame.invariant in
     let is : behind ≡ from_start (f.start + f.len) rest =
     c.starting_from-behind.ensures ∙ ap (λ (n : ℕ). from_start n rest) c.end_of.ensures in
-    let counted : c.from-files.result ≡ cond (nat_lt (length behind) (length rest)) 1 0 = c.from-files.ensures ∙ byte_of (nat_lt (length behind) (length rest)) in
+    let counted : c.from-files.result ≡ cond (nat_lt (length behind) (length rest)) 1 0 =
+    c.from-files.ensures ∙ byte_of (nat_lt (length behind) (length rest)) in
     let less = no_more_left (λ y. nat_lt y.start (f.start + f.len)) rest in
     let long = ap length is in
     let fewer : length behind ≤ length rest = omega (arith, less, long) in
@@ -32,7 +33,8 @@ loop-frame-preserved c =
       left = λ region lists all. is ∙ passed_frame region lists frames i e apart within rest (inv.left region lists all);
       files = λ region lists all.
           let one : c.from-files.result ≡ cond (has_hits region lists f) 1 0 =
-          counted ∙ ap (λ (b : Bool). cond b 1 0) (fewer_behind region lists frames i e apart within rest (inv.left region lists all) behind is) in
+          counted ∙ ap (λ (b : Bool). cond b 1 0)
+          (fewer_behind region lists frames i e apart within rest (inv.left region lists all) behind is) in
           let more = sum_by_more (λ g. cond (has_hits region lists g) 1 0) frames i e within in
           omega (arith, inv.files region lists all, one, more);
     }

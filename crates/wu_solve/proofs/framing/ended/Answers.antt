@@ -25,7 +25,8 @@ returns c =
     let m = passed + reach - passed in
     let n = c.partition_point.result in
     let reached : m ≡ reach = omega arith in
-    let point = IsPartitionPoint-from_clause (λ (f : Range). nat_le (min (f.start + f.len) (2 ^ 64 - 1)) place) (take m (drop passed frames)) n
+    let point =
+    IsPartitionPoint-from_clause (λ (f : Range). nat_le (min (f.start + f.len) (2 ^ 64 - 1)) place) (take m (drop passed frames)) n
     c.partition_point.ensures.partitioned
     (IsPartitionedBy-leb (λ (f : Range). min (f.start + f.len) (2 ^ 64 - 1)) (take m (drop passed frames)) place
     (rising_ends frames passed m c.requires.apart)) (λ a r q k. search rules) in

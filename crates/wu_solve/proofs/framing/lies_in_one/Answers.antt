@@ -1,6 +1,6 @@
 use Rattle.std.proofs.Common.{sym, arith}
 use Rattle.wu_base.specs.declared.addresses.Range.{Range}
-use Rattle.wu_solve.proofs.FramePlaces.{lies_nowhere, lies_in_no_gap, lies_here}
+use Rattle.wu_solve.proofs.ExtentsInFrames.{lies_nowhere, lies_in_no_gap, lies_here}
 use Rattle.wu_solve.proofs.framing.lies_in_one.Goals as goal
 
 pub returns-then-place-frames : goal.returns-then-place-frames
@@ -17,5 +17,5 @@ returns-then-extent-frame c =
 pub returns : goal.returns
 returns c =
     let d : Range = record { start = 0; len = 0 } in
-    rw c.end_of.ensures (sym (lies_here c.args.frames.now c.frame_at-place.result c.args.extent.now d c.requires.apart c.frame_at-place.ensures
-    (omega (arith, c.frame_at-place.ensures.within)) c.if-extent-frame.false))
+    rw c.end_of.ensures (sym (lies_here c.args.frames.now c.frame_at-place.result c.args.extent.now d c.requires.apart
+    c.frame_at-place.ensures (omega (arith, c.frame_at-place.ensures.within)) c.if-extent-frame.false))

@@ -8,7 +8,8 @@ use Rattle.wu_solve.proofs.framing.sought_frame.Goals as goal
 
 pub ended-requires-clause-apart : goal.ended-requires-clause-apart
 ended-requires-clause-apart c =
-    rw (take_rest c.args.frames.now c.passed_over-passed.result) (apart_dropped c.passed_over-passed.result c.args.frames.now c.requires.apart)
+    rw (take_rest c.args.frames.now c.passed_over-passed.result)
+    (apart_dropped c.passed_over-passed.result c.args.frames.now c.requires.apart)
 
 pub returns-then-is_in_frame : goal.returns-then-is_in_frame
 returns-then-is_in_frame c =

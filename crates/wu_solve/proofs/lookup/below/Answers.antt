@@ -32,7 +32,8 @@ below_far-requires c =
 
 pub returns : goal.returns
 returns c =
-    ends_in_rest c.args.addresses.now c.args.bound c.loop-passed.passed c.below_far.result (omega (arith, c.loop-passed.invariant.within, c.min-near.ensures))
+    ends_in_rest c.args.addresses.now c.args.bound c.loop-passed.passed c.below_far.result
+    (omega (arith, c.loop-passed.invariant.within, c.min-near.ensures))
     c.loop-passed.invariant.front
     (subst (λ (xs : List ℕ). EndsBelow xs c.args.bound c.below_far.result) (take_rest c.args.addresses.now c.loop-passed.passed)
     c.below_far.ensures)

@@ -22,7 +22,8 @@ returns c =
     let n = c.partition_point.result in
     let reached : m ≡ reach = omega arith in
     let point = IsPartitionPoint-from_clause (λ (a : ℕ). nat_lt a bound) (take m (drop passed xs)) n c.partition_point.ensures.partitioned
-    (IsPartitionedBy-ltb (λ (a : ℕ). a) (take m (drop passed xs)) bound (rising_stretch xs passed m c.requires)) (λ a r q k. search rules) in
+    (IsPartitionedBy-ltb (λ (a : ℕ). a) (take m (drop passed xs)) bound (rising_stretch xs passed m c.requires))
+    (λ a r q k. search rules) in
     let fits : passed + reach ≤ length xs = omega arith in
     let inside : n ≤ reach = omega arith in
     let next : passed + reach < length xs → bound ≤ get_or xs (passed + reach) 0 = λ more. elim c.loop-step-test.branch [

@@ -1,4 +1,5 @@
-use Rattle.std.proofs.Common.{◌≡◌, ◌++◌, ◌∷◌, [], ◌∙◌, ℕ, ◌+◌, ◌<◌, ◌≤◌, List, length, get_or, nat_le, sym, ap, subst, arith, append-nil, append_assoc}
+use Rattle.std.proofs.Common.{◌≡◌, ◌++◌, ◌∷◌, [], ◌∙◌, ℕ, ◌+◌, ◌<◌, ◌≤◌, List, length, get_or, nat_le, sym, ap, subst, arith, append-nil}
+use Rattle.std.proofs.Common.{append_assoc}
 use Rattle.std.specs.Prelude.{filter}
 use Rattle.std.proofs.lemmas.Grind.{common_steps}
 use Rattle.std.proofs.lemmas.List.Kept.{IsStrictlyIncreasing-filter}
@@ -25,7 +26,8 @@ returns c =
     let rest = c.loop-address.rest.now in
     let none : length rest ≡ 0 = grind (arith, common_steps) in
     sym (append-nil c.loop-address.met.items)
-    ∙ ap (λ (fs : List Range). c.loop-address.met.items ++ fs) (sym (met_by_none rest c.args.frames.now none)) ∙ c.loop-address.invariant.same
+    ∙ ap (λ (fs : List Range). c.loop-address.met.items ++ fs) (sym (met_by_none rest c.args.frames.now none))
+    ∙ c.loop-address.invariant.same
 
 pub loop-address-smaller-then-address-frame : goal.loop-address-smaller-then-address-frame
 loop-address-smaller-then-address-frame c =
@@ -39,7 +41,8 @@ loop-address-smaller-then-address-frame c =
     let some : 0 < length rest = grind (arith, common_steps) in
     let bound = (get_or frames place d).start in
     let fewer = fewer_kept bound rest some (omega (arith, first, c.if-address-frame.true)) in
-    let long : length c.addresses_from-rest.result.now ≡ length (filter (λ a. nat_le bound a) rest) = ap length c.addresses_from-rest.ensures in
+    let long : length c.addresses_from-rest.result.now ≡ length (filter (λ a. nat_le bound a) rest) =
+    ap length c.addresses_from-rest.ensures in
     let small : length c.addresses_from-rest.result.now < length rest = omega (arith, long, fewer) in
     small
 
@@ -56,7 +59,8 @@ loop-address-preserved-then-address-frame c =
     let inside : place < length frames = omega (arith, c.frame_at-place.ensures.within) in
     rw c.addresses_from-rest.ensures (record {
       up = IsStrictlyIncreasing-filter (λ a. nat_le (get_or frames place d).start a) rest inv.up;
-      same = ap (λ (fs : List Range). c.loop-address.met.items ++ fs) (met_later rest frames place d c.requires.apart inv.up some ends inside)
+      same = ap (λ (fs : List Range). c.loop-address.met.items ++ fs)
+          (met_later rest frames place d c.requires.apart inv.up some ends inside)
           ∙ inv.same;
     })
 

@@ -21,13 +21,15 @@ loop-term-preserved c =
 
 pub returns-clause-ascending : goal.returns-clause-ascending
 returns-clause-ascending c =
-    let whole : c.loop-term.terms.items ≡ filter (λ term. list_any (λ other. pointwise nat_eq other term) c.args.right.now) c.args.left.now =
+    let whole : c.loop-term.terms.items
+    ≡ filter (λ term. list_any (λ other. pointwise nat_eq other term) c.args.right.now) c.args.left.now =
     grind (arith, common_steps) in
     rw whole (IsStrictlySortedBy-filter (slice_cmp nat_cmp) (λ term. list_any (λ other. pointwise nat_eq other term) c.args.right.now)
     c.args.left.now c.requires.left)
 
 pub returns-clause-members : goal.returns-clause-members
 returns-clause-members c = λ term.
-    let whole : c.loop-term.terms.items ≡ filter (λ term. list_any (λ other. pointwise nat_eq other term) c.args.right.now) c.args.left.now =
+    let whole : c.loop-term.terms.items
+    ≡ filter (λ term. list_any (λ other. pointwise nat_eq other term) c.args.right.now) c.args.left.now =
     grind (arith, common_steps) in
     rw whole (in_common c.args.left.now c.args.right.now term)

@@ -1,7 +1,7 @@
 use Rattle.std.proofs.Common.{◌≡◌, ◌<◌, ◌≤◌, ◌++◌, ◌⊎◌, ◌∙◌, List, sym, ap, subst, inl, inr, append-nil, arith}
 use Rattle.std.specs.Result.{OnOk}
 use Rattle.wu_base.specs.declared.addresses.Extent.{Extent}
-use Rattle.wu_solve.proofs.Whole.{windows_of_frame, no_windows_of_frame}
+use Rattle.wu_solve.proofs.WindowsWhole.{windows_of_frame, no_windows_of_frame}
 use Rattle.wu_solve.proofs.operands.put_windows.Goals as goal
 use Rattle.wu_solve.proofs.operands.put_windows.Goals.{then-size-eq0-via-then-size-eq0, then-size-eq0-via-else-size-eq0+then-frame-size}
 

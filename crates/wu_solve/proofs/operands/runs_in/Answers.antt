@@ -1,4 +1,5 @@
-use Rattle.std.proofs.Common.{◌≡◌, ◌++◌, ◌∙◌, ℕ, ◌+◌, ◌-◌, ◌<◌, ◌≤◌, List, length, get_or, filter, take, drop, map, nat_le, nat_lt, refl, sym, ap, subst, arith, append-nil, append_assoc, length-drop}
+use Rattle.std.proofs.Common.{◌≡◌, ◌++◌, ◌∙◌, ℕ, ◌+◌, ◌-◌, ◌<◌, ◌≤◌, List, length, get_or, filter, take, drop, map, nat_le, nat_lt, refl}
+use Rattle.std.proofs.Common.{sym, ap, subst, arith, append-nil, append_assoc, length-drop}
 use Rattle.std.proofs.lemmas.Grind.{common_steps}
 use Rattle.std.proofs.lemmas.List.Kept.{IsStrictlyIncreasing-filter}
 use Rattle.wu_base.specs.declared.addresses.Extent.{Extent}
@@ -6,7 +7,7 @@ use Rattle.wu_base.specs.declared.addresses.Range.{Range}
 use Rattle.wu_solve.specs.Frames.{lies_in_one, EndsAfter}
 use Rattle.wu_solve.specs.Operands.{run_around}
 use Rattle.wu_solve.proofs.Numbers.{kept_from, kept_all_from, fewer_kept, increasing_dropped, from_behind}
-use Rattle.wu_solve.proofs.FramePlaces.{gap_passed, front_tested, none_left}
+use Rattle.wu_solve.proofs.AddressesInFrames.{gap_passed, front_tested, none_left}
 use Rattle.wu_solve.proofs.operands.runs_in.Goals as goal
 
 pub loop-address-init : goal.loop-address-init

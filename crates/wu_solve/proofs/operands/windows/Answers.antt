@@ -12,5 +12,6 @@ loop-frame-preserved c = λ lists.
     let frames = c.args.frames.now in
     let within : i < length frames = omega arith in
     rw (c.in_ok-put_windows.ensures lists, c.from.ensures)
-    (next_frame (Window c.args.size) lists frames i none c.loop-frame.found.items (frame_hits (Window c.args.size) lists (get_or frames i none))
+    (next_frame (Window c.args.size) lists frames i none c.loop-frame.found.items
+    (frame_hits (Window c.args.size) lists (get_or frames i none))
     within refl ∙ c.loop-frame.invariant lists)

@@ -13,7 +13,8 @@ returns-then-place-known c =
     let words = c.args.words.now in
     let xs = c.args.extents.items in
     sym (all_kept (λ x. has_address lists (get_or words c.args.place []) (x.start + c.args.place)) xs
-    (subst (λ (k : ℕ). All (λ x. has_address lists (get_or words k []) (x.start + k) ≡ true) xs) (sym c.if-place-known.true) c.requires.known))
+    (subst (λ (k : ℕ). All (λ x. has_address lists (get_or words k []) (x.start + k) ≡ true) xs) (sym c.if-place-known.true)
+    c.requires.known))
 
 pub returns : goal.returns
 returns c =

@@ -10,7 +10,8 @@ returns-then-not-has_address-clause-whole c =
     let words = c.args.words.now in
     let count = c.loop-count.count in
     let same : get_or words count [] ≡ c.as_slice-word.result.now =
-    get_or_default words count [] c.index-words-count.result c.loop-count-test.true ∙ sym c.index-words-count.is ∙ sym c.as_slice-word.ensures in
+    get_or_default words count [] c.index-words-count.result c.loop-count-test.true ∙ sym c.index-words-count.is
+    ∙ sym c.as_slice-word.ensures in
     let fails : has_address c.args.lists.now (get_or words count []) (c.args.address + count) ≡ false =
     ap (λ word. has_address c.args.lists.now word (c.args.address + count)) same ∙ sym c.if-not-has_address.ensures in
     let fewer : nat_eq count (length words) ≡ false = grind (arith, nat_tests) in

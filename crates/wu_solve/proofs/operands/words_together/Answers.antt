@@ -7,7 +7,7 @@ use Rattle.wu_gcl.specs.Regions.{Phrase}
 use Rattle.wu_solve.specs.Addresses.{has_address}
 use Rattle.wu_solve.specs.Operands.{runs_around}
 use Rattle.wu_solve.specs.Solving.{frames_hits}
-use Rattle.wu_solve.proofs.FramePlaces.{low_starts}
+use Rattle.wu_solve.proofs.ExtentsInFrames.{low_starts}
 use Rattle.wu_solve.proofs.PhrasesInFrames.{known_word, phrase_whole}
 use Rattle.wu_solve.proofs.operands.words_together.Goals as goal
 

@@ -8,4 +8,5 @@ combine-requires-clause-left_ascends c =
 
 pub combine-requires-clause-right_ascends : goal.combine-requires-clause-right_ascends
 combine-requires-clause-right_ascends c =
-    rw (c.deref-2.ensures.value, c.in_ok-right.ensures) (frames_ascend (Mark c.args.last) c.args.lists.now c.args.frames.now c.requires.apart)
+    rw (c.deref-2.ensures.value, c.in_ok-right.ensures)
+    (frames_ascend (Mark c.args.last) c.args.lists.now c.args.frames.now c.requires.apart)

@@ -1,12 +1,14 @@
 use Rattle.std.proofs.Common.{◌≡◌, true, false, ◌∙◌}
 use Rattle.std.specs.Prelude.{filter}
 use Rattle.std.proofs.lemmas.Result.{IfOk-weaker}
-use Rattle.wu_gcl.specs.declared.expressions.Op.TheVariants.{Containing, ContainedIn, NotContaining, NotContainedIn, OneOf, BothOf, FollowedBy}
+use Rattle.wu_gcl.specs.declared.expressions.Op.TheVariants.{Containing, ContainedIn, NotContaining, NotContainedIn, OneOf, BothOf}
+use Rattle.wu_gcl.specs.declared.expressions.Op.TheVariants.{FollowedBy}
 use Rattle.wu_gcl.specs.Regions.{Both}
 use Rattle.wu_solve.specs.Frames.{lies_in_one}
 use Rattle.wu_solve.specs.Merging.{holding, held, IsOneOf, IsCover, IsSpan, AreInnermost}
 use Rattle.wu_solve.specs.Solving.{frames_hits}
-use Rattle.wu_solve.proofs.Whole.{containing_whole, not_containing_whole, contained_in_whole, not_contained_in_whole, one_of_whole, both_of_whole, followed_by_whole}
+use Rattle.wu_solve.proofs.Whole.{containing_whole, not_containing_whole, contained_in_whole, not_contained_in_whole, one_of_whole}
+use Rattle.wu_solve.proofs.Whole.{both_of_whole, followed_by_whole}
 use Rattle.wu_solve.proofs.solving.combine.Goals as goal
 
 pub returns-in-Containing : goal.returns-in-Containing
@@ -54,7 +56,8 @@ returns-in_ok-both_of-in-BothOf c = λ one other lists is_left is_right.
     rw c.in-BothOf.is
     (IfOk-weaker c.lying_in.result (λ v. v.items ≡ filter (lies_in_one frames) c.deref.result.now)
     (λ v. v.items ≡ frames_hits (Both BothOf one other) lists frames)
-    (λ v same. same ∙ rw c.deref.ensures.value (both_of_whole one other lists frames c.requires.apart found (rw (is_left, is_right) at inner)))
+    (λ v same. same
+    ∙ rw c.deref.ensures.value (both_of_whole one other lists frames c.requires.apart found (rw (is_left, is_right) at inner)))
     c.lying_in.ensures)
 
 pub returns-in_ok-followed_by-in-FollowedBy : goal.returns-in_ok-followed_by-in-FollowedBy
@@ -65,5 +68,6 @@ returns-in_ok-followed_by-in-FollowedBy c = λ one other lists is_left is_right.
     rw c.in-FollowedBy.is
     (IfOk-weaker c.lying_in-in-FollowedBy.result (λ v. v.items ≡ filter (lies_in_one frames) c.deref-in-FollowedBy.result.now)
     (λ v. v.items ≡ frames_hits (Both FollowedBy one other) lists frames)
-    (λ v same. same ∙ rw c.deref-in-FollowedBy.ensures.value (followed_by_whole one other lists frames c.requires.apart found (rw (is_left, is_right) at inner)))
+    (λ v same. same ∙ rw c.deref-in-FollowedBy.ensures.value
+    (followed_by_whole one other lists frames c.requires.apart found (rw (is_left, is_right) at inner)))
     c.lying_in-in-FollowedBy.ensures)

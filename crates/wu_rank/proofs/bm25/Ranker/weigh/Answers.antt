@@ -6,7 +6,8 @@ use Rattle.wu_rank.proofs.bm25.Ranker.weigh.Goals as goal
 pub returns : goal.returns
 returns g c =
     let e : c.weigh.result
-    ≡ weigh c.args.idf c.args.f c.args.l c.args.self.now.n c.args.self.now.t = c.requires.weigher.answers _ _ _ _ c.requires.range c.weigh.ensures in
+    ≡ weigh c.args.idf c.args.f c.args.l c.args.self.now.n c.args.self.now.t =
+    c.requires.weigher.answers _ _ _ _ c.requires.range c.weigh.ensures in
     record {
       value = e;
       bound = omega (arith, weigh-le c.args.idf c.args.f c.args.l c.args.self.now.n c.args.self.now.t);
