@@ -28,14 +28,15 @@ use Rattle.wu_tree.specs.Steps.{with_node, with_user, with_perm, without_link, w
 use Rattle.wu_tree.specs.Steps.{step as tree_step}
 use Rattle.wu_base.proofs.MapEntries.{All-found, All-insert_entry, All-map, ascend-insert_entry}
 use Rattle.wu_tree.proofs.ParentPaths.{reached, leaf_links}
-use Rattle.wu_tree.proofs.EventRules.{NoneApplies, IsPlace, none_applies, accepted, not_false, one_is_false, second_is_false, kind_file, absent, present, same_some, place}
+use Rattle.wu_tree.proofs.EventRules.{NoneApplies, IsPlace, none_applies, accepted, not_false, one_is_false, second_is_false, kind_file}
+use Rattle.wu_tree.proofs.EventRules.{absent, present, same_some, place}
 use Rattle.wu_tree.proofs.NewNodes.{node_keeps}
 use Rattle.wu_tree.proofs.NewLinks.{link_keeps}
 use Rattle.wu_tree.proofs.LinkRemovals.{gone_keeps, kept_keeps, is_gone, is_kept}
 use Rattle.wu_tree.proofs.Permissions.{perm_keeps}
-use Rattle.wu_tree.proofs.PathsUp.{move_keeps}
-use Rattle.wu_tree.proofs.Renames.{Above, conditions, places_apart, left_fs, is_left, left_found, left_free, left_directory, left_path}
-use Rattle.wu_tree.proofs.Renames.{left_above, parent_apart}
+use Rattle.wu_tree.proofs.MovedLinks.{move_keeps}
+use Rattle.wu_tree.proofs.RenameRules.{Above, conditions, places_apart, left_fs, is_left, left_found, left_free, left_directory, left_path}
+use Rattle.wu_tree.proofs.RenameRules.{left_above, parent_apart}
 
 module _ (fs : FileSystem) (t : IsTree fs) where
   -- ---- users

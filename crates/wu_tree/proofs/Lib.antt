@@ -4,7 +4,9 @@ pub mod NewNodes
 pub mod NewLinks
 pub mod LinkRemovals
 pub mod Permissions
+pub mod NodeLookups
 pub mod TreeInvariant
+pub mod LinkChanges
 pub mod PathsUp
 pub mod PathsDown
 pub mod ListTests
@@ -13,6 +15,8 @@ pub mod HungNodes
 pub mod MadeMaps
 pub mod LinkRuns
 pub mod RebuiltTrees
+pub mod MovedLinks
+pub mod RenameRules
 pub mod Renames
 pub mod UserGroups
 pub mod DirectoryHeights

@@ -12,10 +12,12 @@ use Rattle.wu_base.proofs.Members.{Has, any_has}
 use Rattle.wu_tree.specs.declared.inodes.Inode.{Inode}
 use Rattle.wu_tree.specs.FileSystems.{FileSystem, Link, is_directory, is_kind_file, parent_of}
 use Rattle.wu_tree.specs.Paths.{children_of, reaches}
-use Rattle.wu_tree.specs.Inodes.{file_system, IsHeld, IsSound, height_at, height_in, height_over_at, height_over_in, higher_of, kind_of, parent_in, with_height, without_heights, IsLower, AreHeights}
+use Rattle.wu_tree.specs.Inodes.{file_system, IsHeld, IsSound, height_at, height_in, height_over_at, height_over_in, higher_of, kind_of}
+use Rattle.wu_tree.specs.Inodes.{parent_in, with_height, without_heights, IsLower, AreHeights}
 use Rattle.wu_tree.proofs.PathsDown.{child_parent, linked_once, parent_child}
-use Rattle.wu_tree.proofs.DirectoryHeights.{set_here, set_other, set_heights, set_height_alone, higher_is_parent, over_directory, found_again}
-use Rattle.wu_tree.proofs.TreeInvariant.{directory_inode, parent_kept}
+use Rattle.wu_tree.proofs.DirectoryHeights.{set_here, set_other, set_heights, set_height_alone, higher_is_parent, over_directory}
+use Rattle.wu_tree.proofs.DirectoryHeights.{found_again}
+use Rattle.wu_tree.proofs.NodeLookups.{directory_inode, parent_kept}
 
 module _ (inodes : List (ℕ × Inode)) (links : List Link) (users : List (ℕ × UserRec)) (s : IsSound inodes links users) where
   abbrev fs : FileSystem

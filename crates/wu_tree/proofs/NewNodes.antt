@@ -12,11 +12,14 @@ use Rattle.wu_tree.specs.declared.events.Kind.{Kind}
 use Rattle.wu_tree.specs.declared.events.Kind.TheVariants.{Directory, File}
 use Rattle.wu_tree.specs.declared.events.Node.{Node}
 use Rattle.wu_tree.specs.Inodes.{IsHeld, first_hold}
-use Rattle.wu_tree.specs.FileSystems.{FileSystem, Link, place_cmp, is_name, is_directory, is_directory_node, is_there, node_of, child_of, is_within, link_count, parent_of, path_up, depth}
+use Rattle.wu_tree.specs.FileSystems.{FileSystem, Link, place_cmp, is_name, is_directory, is_directory_node, is_there, node_of, child_of}
+use Rattle.wu_tree.specs.FileSystems.{is_within, link_count, parent_of, path_up, depth}
 use Rattle.wu_tree.specs.Steps.{with_node}
 use Rattle.wu_tree.specs.Rules.{IsLink, Hangs, IsNumbered, IsTree}
-use Rattle.wu_base.proofs.MapEntries.{lookup-insert_entry, All-insert_entry, All-map, All-map2, ascend-insert_entry, counted-insert_entry, number_itself}
-use Rattle.wu_tree.proofs.ParentPaths.{place_total, place_exact, other_number, SameElsewhere, same_elsewhere_insert, same_hangs, same_path, path_of_child, count_none, no_parent, absent_child, absent_directory, parent-insert_new}
+use Rattle.wu_base.proofs.MapEntries.{lookup-insert_entry, All-insert_entry, All-map, All-map2, ascend-insert_entry, counted-insert_entry}
+use Rattle.wu_base.proofs.MapEntries.{number_itself}
+use Rattle.wu_tree.proofs.ParentPaths.{place_total, place_exact, other_number, SameElsewhere, same_elsewhere_insert, same_hangs, same_path}
+use Rattle.wu_tree.proofs.ParentPaths.{path_of_child, count_none, no_parent, absent_child, absent_directory, parent-insert_new}
 
 kept_some : {T : Type 0} (b : Bool) (x : T) (o : Option T) → is_some o ≡ true → is_some (cond b (Some x) o) ≡ true
 kept_some true x o h = refl
@@ -100,7 +103,8 @@ module _ (fs : FileSystem) (t : IsTree fs) (ino parent : ℕ) (name : List ℕ) 
     links =
         All-insert_entry (IsLink (with_node fs ino parent name node)) place_cmp fs.links (parent, name) ino
         (All-map (IsLink fs) (IsLink (with_node fs ino parent name node)) fs.links
-        (λ l p. record { parent = kept_directory l.0.0 p.parent; child = kept_there l.1 p.child; no_root = p.no_root; name = p.name }) t.links)
+        (λ l p. record { parent = kept_directory l.0.0 p.parent; child = kept_there l.1 p.child; no_root = p.no_root; name = p.name })
+        t.links)
         (λ q e. subst (λ x. IsLink (with_node fs ino parent name node) (x, ino)) (place_exact (parent, name) q e) (new_link n))
         (new_link n);
     nodes =

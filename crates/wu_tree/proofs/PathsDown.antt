@@ -1,5 +1,6 @@
 -- The ways down from a directory, and how they answer to the ways up.
-use Rattle.std.proofs.Common.{◌≡◌, ◌≢◌, ℕ, zero, suc, ◌+◌, ◌-◌, ◌<◌, ◌≤◌, List, [], ◌∷◌, length, refl, ap, sym, ◌∙◌, subst, Bool, true, false, cond, not, ◌&&◌, arith, inl, inr, ⊎_elim, Vec, Global}
+use Rattle.std.proofs.Common.{◌≡◌, ◌≢◌, ℕ, zero, suc, ◌+◌, ◌-◌, ◌<◌, ◌≤◌, List, [], ◌∷◌, length, refl, ap, sym, ◌∙◌, subst, Bool, true}
+use Rattle.std.proofs.Common.{false, cond, not, ◌&&◌, arith, inl, inr, ⊎_elim, Vec, Global}
 use Rattle.std.specs.Prelude.{Some, map, filter, nat_lt, ◌==◌}
 use Rattle.std.specs.List.{AllByRecursion, list_any}
 use Rattle.std.specs.Ordering.{nat_cmp}
@@ -13,7 +14,8 @@ use Rattle.wu_base.proofs.Members.{Has, any_has, has_any, all_has}
 use Rattle.wu_tree.specs.declared.events.Kind.{Kind}
 use Rattle.wu_tree.specs.declared.events.Kind.TheVariants.{Directory, File}
 use Rattle.wu_tree.specs.declared.events.Node.{Node}
-use Rattle.wu_tree.specs.FileSystems.{FileSystem, Link, is_directory, is_directory_node, is_kind_file, node_of, is_within, link_count, parent_of, ancestors, depth, entries_of}
+use Rattle.wu_tree.specs.FileSystems.{FileSystem, Link, is_directory, is_directory_node, is_kind_file, node_of, is_within, link_count}
+use Rattle.wu_tree.specs.FileSystems.{parent_of, ancestors, depth, entries_of}
 use Rattle.wu_tree.specs.Paths.{through, children_of, reaches}
 use Rattle.wu_tree.specs.Steps.{is_too_deep}
 use Rattle.wu_tree.specs.Rules.{IsLink, Hangs, IsTree}
@@ -89,7 +91,8 @@ parent_has (l ∷ links) q parent h =
       | false ↦ λ p g. let r = parent_has links q parent g in (r.0, (inr r.1.0, r.1.1))
     ] refl h
 
-pub count-cons : (link : Link) (links : List Link) (ino : ℕ) → link_count (link ∷ links) ino ≡ cond (link.1 == ino) 1 0 + link_count links ino
+pub count-cons : (link : Link) (links : List Link) (ino : ℕ)
+    → link_count (link ∷ links) ino ≡ cond (link.1 == ino) 1 0 + link_count links ino
 count-cons link links ino = sum_by-cons (λ (l : Link). cond {A = ℕ} (l.1 == ino) 1 0) link links
 
 pub has_counted : (link : Link) (links : List Link) → Has link links → 1 ≤ link_count links link.1

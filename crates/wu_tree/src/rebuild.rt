@@ -194,11 +194,11 @@ fn is_directory(inodes: &BTreeMap<Ino, Inode>, ino: Ino) -> bool
 fn are_placed(inodes: &BTreeMap<Ino, Inode>, links: &[LinkRec]) -> bool
     ensures { result ≡ place_test (file_system inodes.now.entries [] []) links.now }
 {
-    is_directory(inodes, ROOT) && they_stand(inodes, links)
+    is_directory(inodes, ROOT) && links_stand(inodes, links)
 }
 
 /// Whether each link stands in a directory, by a name. Looks a directory up but once for all the links in it.
-fn they_stand(inodes: &BTreeMap<Ino, Inode>, links: &[LinkRec]) -> bool
+fn links_stand(inodes: &BTreeMap<Ino, Inode>, links: &[LinkRec]) -> bool
     requires { is_directory (file_system inodes.now.entries [] []) 1 ≡ true }
     ensures { result ≡ list_all (λ link. stand_test (file_system inodes.now.entries [] []) (link_of link)) links.now }
 {

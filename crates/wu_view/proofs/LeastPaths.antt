@@ -1,5 +1,6 @@
 -- No two files have a path in common, so the least paths of a view ascend without repeats.
-use Rattle.std.proofs.Common.{◌≡◌, ◌≢◌, ℕ, zero, suc, ◌≤◌, List, [], ◌∷◌, ◌++◌, refl, ap, sym, ◌∙◌, subst, true, false, not, ◌&&◌, arith, inl, inr, ⊎_elim}
+use Rattle.std.proofs.Common.{◌≡◌, ◌≢◌, ℕ, zero, suc, ◌≤◌, List, [], ◌∷◌, ◌++◌, refl, ap, sym, ◌∙◌, subst, true, false, not, ◌&&◌, arith}
+use Rattle.std.proofs.Common.{inl, inr, ⊎_elim}
 use Rattle.std.specs.Prelude.{◌⊎◌, ◌==◌, map, filter}
 use Rattle.std.specs.declared.cmp.Ordering.{Ordering}
 use Rattle.std.specs.declared.cmp.Ordering.TheVariants.{Less, Equal, Greater}
@@ -13,7 +14,8 @@ use Rattle.std.proofs.lemmas.Map.Lookups.{exact_bytes}
 use borrow.Author.Tests.{eqb-true, eq-eqb}
 use Rattle.std.proofs.lemmas.Bool.{and_parts}
 use Rattle.wu_access.specs.declared.UserRec.{UserRec}
-use Rattle.wu_tree.specs.FileSystems.{FileSystem, Link, Place, place_cmp, is_directory, is_name_length, are_name_bytes, is_dots, depth, link_count}
+use Rattle.wu_tree.specs.FileSystems.{FileSystem, Link, Place, place_cmp, is_directory, is_name_length, are_name_bytes, is_dots, depth}
+use Rattle.wu_tree.specs.FileSystems.{link_count}
 use Rattle.wu_tree.specs.Rules.{IsTree}
 use Rattle.wu_tree.proofs.ParentPaths.{place_total}
 use Rattle.wu_view.specs.declared.Seen.{Seen}

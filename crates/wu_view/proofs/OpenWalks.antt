@@ -1,5 +1,6 @@
 -- What a walk from the root finds: the files that grant the user read, by the paths that are open for her.
-use Rattle.std.proofs.Common.{◌≡◌, ◌≢◌, ℕ, zero, suc, ◌+◌, ◌-◌, ◌<◌, ◌≤◌, List, [], ◌∷◌, ◌++◌, refl, ap, sym, ◌∙◌, subst, true, false, cond, not, ◌&&◌, arith, inl, ⊎_elim}
+use Rattle.std.proofs.Common.{◌≡◌, ◌≢◌, ℕ, zero, suc, ◌+◌, ◌-◌, ◌<◌, ◌≤◌, List, [], ◌∷◌, ◌++◌, refl, ap, sym, ◌∙◌, subst, true, false, cond}
+use Rattle.std.proofs.Common.{not, ◌&&◌, arith, inl, ⊎_elim}
 use Rattle.std.specs.Prelude.{Option, None, Some, ◌==◌, filter}
 use borrow.Author.Tests.{eqb-true, eq-eqb}
 use Rattle.std.proofs.lemmas.Bool.{and_parts, and_from}
@@ -8,13 +9,15 @@ use Rattle.wu_access.specs.declared.Want.TheVariants.{Read, Execute}
 use Rattle.wu_access.specs.Access.{is_allowed}
 use Rattle.wu_tree.specs.declared.events.Kind.TheVariants.{Directory, File}
 use Rattle.wu_tree.specs.declared.events.Node.{Node}
-use Rattle.wu_tree.specs.FileSystems.{FileSystem, Link, is_directory, is_directory_node, is_file_node, is_kind_file, link_count, node_of, entries_of, depth}
+use Rattle.wu_tree.specs.FileSystems.{FileSystem, Link, is_directory, is_directory_node, is_file_node, is_kind_file, link_count, node_of}
+use Rattle.wu_tree.specs.FileSystems.{entries_of, depth}
 use Rattle.wu_tree.specs.Rules.{IsTree}
 use Rattle.wu_view.specs.declared.walks.Met.TheVariants.{Readable, Passable, Closed}
 use Rattle.wu_view.specs.Views.{directory_path, path_of, may, is_granted_node, is_open, is_readable}
 use Rattle.wu_view.specs.Walks.{Found, met_as, met_node, met_at, found_at, if_passable, walked, walked_whole}
 use Rattle.wu_base.proofs.Members.{Has, Has-map, map_has, Has-filter, filter_has, Has-flat_map, flat_map_has}
-use Rattle.wu_view.proofs.LinkPaths.{some_link, linked_once, link_facts, depth_range, depth_below, path_below_is, open_below, root_path, root_open, root_depth, open_root}
+use Rattle.wu_view.proofs.LinkPaths.{some_link, linked_once, link_facts, depth_range, depth_below, path_below_is, open_below, root_path}
+use Rattle.wu_view.proofs.LinkPaths.{root_open, root_depth, open_root}
 
 -- ---- what the user meets
 module _ (user : UserRec) where

@@ -15,10 +15,12 @@ use Rattle.wu_access.specs.declared.Want.{Want}
 use Rattle.wu_access.specs.declared.Want.TheVariants.{Read, Execute}
 use Rattle.wu_access.specs.Access.{IsDecidedByCases}
 use Rattle.wu_tree.specs.declared.events.Node.{Node}
-use Rattle.wu_tree.specs.FileSystems.{FileSystem, Link, place_cmp, child_of, is_directory, is_directory_node, is_file, is_file_node, node_of, depth, ancestors}
+use Rattle.wu_tree.specs.FileSystems.{FileSystem, Link, place_cmp, child_of, is_directory, is_directory_node, is_file, is_file_node}
+use Rattle.wu_tree.specs.FileSystems.{node_of, depth, ancestors}
 use Rattle.wu_tree.specs.Rules.{IsTree}
 use Rattle.wu_tree.proofs.ParentPaths.{place_total, place_exact, path_is}
-use Rattle.wu_view.specs.Views.{directory_path, path_of, may, is_open, open_paths, Leads, IsOpenWay, joined, IsOpenPath, is_readable, is_granted_node, Grants, GrantsNode}
+use Rattle.wu_view.specs.Views.{directory_path, path_of, may, is_open, open_paths, Leads, IsOpenWay, joined, IsOpenPath, is_readable}
+use Rattle.wu_view.specs.Views.{is_granted_node, Grants, GrantsNode}
 use Rattle.wu_base.proofs.Members.{Has, Has-from_Contains, Contains-from_Has, Has-map, map_has, Has-filter, filter_has}
 use Rattle.wu_base.proofs.SortedLists.{has-sorted_once, sorted_once_has}
 use Rattle.wu_view.proofs.LinkPaths.{link_facts, depth_range, depth_below, path_below_is, open_below, root_path, root_open}

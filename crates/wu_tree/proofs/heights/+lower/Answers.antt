@@ -10,7 +10,8 @@ use Rattle.wu_tree.specs.Inodes.{file_system, height_at, height_over_at}
 use Rattle.wu_tree.proofs.PathsDown.{children_named}
 use Rattle.wu_tree.proofs.LowDirectories.{IsLowered, lowered, lowered_then, over_falls}
 use Rattle.wu_tree.proofs.TreeInvariant.{same_holds, same_system}
-use Rattle.wu_tree.proofs.WalkedDirectories.{IsWalked, a_directory, no_directory, no_levels, walk_ends, walk_goes_down, walk_skips, walk_starts}
+use Rattle.wu_tree.proofs.WalkedDirectories.{IsWalked, a_directory, no_directory, no_levels, walk_ends, walk_goes_down, walk_skips}
+use Rattle.wu_tree.proofs.WalkedDirectories.{walk_starts}
 use Rattle.wu_tree.proofs.heights.+lower.Goals as goal
 use Rattle.wu_tree.proofs.heights.+lower.Goals.{After-set_height, After-set_height-2, After-next}
 
@@ -63,7 +64,11 @@ loop-child-init t c =
 pub lower-requires : goal.lower-requires
 lower-requires t c = (
   omega arith,
-  (same_holds c.args.inodes.now.entries c.loop-child.inodes.entries c.args.links.now [] c.loop-child.invariant.0.nodes c.requires.held, c.loop-child.invariant.0.heights),
+  (
+    same_holds c.args.inodes.now.entries c.loop-child.inodes.entries c.args.links.now [] c.loop-child.invariant.0.nodes
+        c.requires.held,
+    c.loop-child.invariant.0.heights,
+  ),
 )
 
 -- the file system that the nodes stand for so far
@@ -131,7 +136,8 @@ last t c =
     → height_over_at c.loop-child.inodes.entries child ≤ c.loop-child.height =
     λ child h. ⊎_elim (λ i. absurd (subst (λ l. Has child l) c.in-None.ensures.steps.0 i)) (λ low. low)
     (c.loop-child.invariant.2 child h) in
-    let held = same_holds c.args.inodes.now.entries c.loop-child.inodes.entries c.args.links.now [] c.loop-child.invariant.0.nodes c.requires.held in
+    let held = same_holds c.args.inodes.now.entries c.loop-child.inodes.entries c.args.links.now [] c.loop-child.invariant.0.nodes
+    c.requires.held in
     rw c.set_height-2.ensures
     (lowered c.args.links.now c.loop-child.inodes.entries held c.loop-child.invariant.0.heights c.args.directory c.loop-child.height all
     _ refl c.min-height.result (omega arith))

@@ -24,9 +24,9 @@ below t c =
     let up : min (c.args.height + 1) 255 ≤ height_at c.raise.new.inodes.entries c.in-Some-higher_of.parent = omega
     (arith, c.raise.ensures.raised) in
     rw c.set_height.ensures
-    (raise_below c.args.inodes.now.entries c.raise.new.inodes.entries c.raise.ensures.nodes c.raise.ensures.heights c.args.directory c.args.height c.in-Some.inode f
-    c.in-Some-higher_of.parent (min (c.args.height + 1) 255) c.max-height.result (sym c.higher_of.ensures ∙ c.in-Some-higher_of.is) refl up
-    (omega arith))
+    (raise_below c.args.inodes.now.entries c.raise.new.inodes.entries c.raise.ensures.nodes c.raise.ensures.heights
+    c.args.directory c.args.height c.in-Some.inode f c.in-Some-higher_of.parent (min (c.args.height + 1) 255) c.max-height.result
+    (sym c.higher_of.ensures ∙ c.in-Some-higher_of.is) refl up (omega arith))
 
 pub returns-in-Some-higher_of-clause-nodes : goal.returns-in-Some-higher_of-clause-nodes
 returns-in-Some-higher_of-clause-nodes t c = (below t c).nodes

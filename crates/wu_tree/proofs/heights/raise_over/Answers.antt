@@ -6,7 +6,8 @@ pub loop-inodes-init : goal.loop-inodes-init
 loop-inodes-init c = (refl, c.requires.heights)
 
 pub raise-requires-clause-there : goal.raise-requires-clause-there
-raise-requires-clause-there c = there_again c.args.inodes.now.entries c.loop-inodes.inodes.entries c.loop-inodes.invariant.0 c.args.directory c.requires.there
+raise-requires-clause-there c =
+    there_again c.args.inodes.now.entries c.loop-inodes.inodes.entries c.loop-inodes.invariant.0 c.args.directory c.requires.there
 
 pub raise-requires-clause-heights : goal.raise-requires-clause-heights
 raise-requires-clause-heights c = c.loop-inodes.invariant.1

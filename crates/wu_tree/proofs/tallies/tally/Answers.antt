@@ -45,8 +45,8 @@ loop-link-preserved c =
     let long : c.loop-link.hung.len ≡ length c.hang.new.nodes = omega arith in
     let hung : List HungNode = c.loop-link.hung.items in
     record {
-      children = list_all_more (λ (l : LinkRec). child_test (listed c.args.nodes.now [] []) l.child) c.args.links.now c.loop-link.link-index link
-          c.loop-link-test.true
+      children = list_all_more (λ (l : LinkRec). child_test (listed c.args.nodes.now [] []) l.child) c.args.links.now
+          c.loop-link.link-index link c.loop-link-test.true
           ∙ ap
           (λ (b : Bool). b && child_test (listed c.args.nodes.now [] []) (get_or c.args.links.now c.loop-link.link-index link).child)
           c.loop-link.invariant.children

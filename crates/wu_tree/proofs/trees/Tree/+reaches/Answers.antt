@@ -5,7 +5,8 @@ use Rattle.std.proofs.lemmas.Bool.{and_from}
 use Rattle.wu_tree.specs.FileSystems.{is_directory, entries_of}
 use Rattle.wu_tree.specs.Paths.{reaches}
 use Rattle.wu_tree.proofs.PathsDown.{reaches-zero, reaches-suc, children_named, no_first, no_second, any_first, any_skip}
-use Rattle.wu_tree.proofs.trees.Tree.+reaches.Goals.{else-is_directory-via-then-is_directory+else-reaches, else-is_directory-via-else-is_directory}
+use Rattle.wu_tree.proofs.trees.Tree.+reaches.Goals.{else-is_directory-via-then-is_directory+else-reaches}
+use Rattle.wu_tree.proofs.trees.Tree.+reaches.Goals.{else-is_directory-via-else-is_directory}
 use Rattle.wu_tree.proofs.LowDirectories.{too_low}
 use Rattle.wu_tree.proofs.trees.Tree.+reaches.Goals as goal
 
@@ -53,4 +54,5 @@ returns t c =
 -- the directory is too low
 pub returns-then-from-levels : goal.returns-then-from-levels
 returns-then-from-levels t c =
-    sym (too_low c.self.inside.inodes.entries c.self.inside.links c.self.inside.users.entries c.self.invariant c.args.self.now c.self.view_is c.args.levels c.args.directory c.requires.levels (omega arith))
+    sym (too_low c.self.inside.inodes.entries c.self.inside.links c.self.inside.users.entries c.self.invariant
+    c.args.self.now c.self.view_is c.args.levels c.args.directory c.requires.levels (omega arith))

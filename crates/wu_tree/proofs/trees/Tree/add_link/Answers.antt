@@ -2,7 +2,8 @@ use Rattle.std.proofs.Common.{◌≡◌, ◌+◌, sym, subst, true}
 use Rattle.std.specs.Prelude.{None}
 use Rattle.wu_tree.specs.Inodes.{file_system}
 use Rattle.wu_tree.specs.FileSystems.{FileSystem, child_of, is_file, is_directory, link_count}
-use Rattle.wu_tree.proofs.TreeInvariant.{link_sound, link_view, file_inode}
+use Rattle.wu_tree.proofs.NodeLookups.{file_inode}
+use Rattle.wu_tree.proofs.LinkChanges.{link_sound, link_view}
 use Rattle.wu_tree.proofs.trees.Tree.add_link.Goals as goal
 use Rattle.wu_tree.proofs.trees.Tree.add_link.Goals.{in-Some, in_default}
 

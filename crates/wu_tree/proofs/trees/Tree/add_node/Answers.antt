@@ -1,7 +1,8 @@
 use Rattle.std.proofs.Common.{◌≡◌, ◌≤◌, ◌∙◌, rules, sym, ap, arith}
 use Rattle.wu_tree.specs.declared.inodes.Hold.{Hold}
 use Rattle.wu_tree.specs.Inodes.{file_system, first_hold, height_at, height_over}
-use Rattle.wu_tree.proofs.TreeInvariant.{IsNewNode, directory_kept, node_added, put_back, same_sound, same_system}
+use Rattle.wu_tree.proofs.NodeLookups.{directory_kept}
+use Rattle.wu_tree.proofs.TreeInvariant.{IsNewNode, node_added, put_back, same_sound, same_system}
 use Rattle.wu_tree.proofs.trees.Tree.add_node.Goals as goal
 
 pub raise-requires-clause-there : goal.raise-requires-clause-there
@@ -28,7 +29,8 @@ invariant_of-self-in-Err c =
       c.in_ok-insert.ensures.entries,
       c.in-Err.ensures.err,
       c.first.ensures,
-      put_back _ _ _ _ c.self.invariant c.raise.ensures.nodes c.raise.ensures.heights _ c.self.view_is c.args.ino c.args.parent c.args.node c.requires.new,
+      put_back _ _ _ _ c.self.invariant c.raise.ensures.nodes c.raise.ensures.heights _ c.self.view_is c.args.ino
+          c.args.parent c.args.node c.requires.new,
     )
     (same_sound _ _ _ _ c.raise.ensures.nodes c.self.invariant c.raise.ensures.heights)
 
@@ -39,7 +41,8 @@ returns-in-Err-clause-err c =
       c.in_ok-insert.ensures.entries,
       c.in-Err.ensures.err,
       c.first.ensures,
-      put_back _ _ _ _ c.self.invariant c.raise.ensures.nodes c.raise.ensures.heights _ c.self.view_is c.args.ino c.args.parent c.args.node c.requires.new,
+      put_back _ _ _ _ c.self.invariant c.raise.ensures.nodes c.raise.ensures.heights _ c.self.view_is c.args.ino
+          c.args.parent c.args.node c.requires.new,
     )
     (same_system _ _ c.self.inside.links c.self.inside.users.entries c.raise.ensures.nodes ∙ c.self.view_is)
 
@@ -56,7 +59,8 @@ asked c = record {
 
 room : (c : goal.In_default)
     → height_over
-    (record { perm = c.args.node.perm; hold = first_hold c.args.node.kind c.args.parent; height = 0 }) ≤ height_at c.raise.new.inodes.entries c.args.parent
+    (record { perm = c.args.node.perm; hold = first_hold c.args.node.kind c.args.parent; height = 0 })
+    ≤ height_at c.raise.new.inodes.entries c.args.parent
 room c =
     let e : height_over (record { perm = c.args.node.perm; hold = first_hold c.args.node.kind c.args.parent; height = 0 })
     ≡ c.height_over.result =
@@ -67,9 +71,11 @@ room c =
 pub invariant_of-self-in_default : goal.invariant_of-self-in_default
 invariant_of-self-in_default c =
     rw (c.in_ok-insert.ensures.entries, c.in_default.ensures.ok, c.first.ensures)
-    (node_added _ _ _ _ c.self.invariant c.raise.ensures.nodes c.raise.ensures.heights _ c.self.view_is c.args.ino c.args.parent c.args.node c.args.name.now (asked c) (room c)).0
+    (node_added _ _ _ _ c.self.invariant c.raise.ensures.nodes c.raise.ensures.heights _ c.self.view_is c.args.ino
+    c.args.parent c.args.node c.args.name.now (asked c) (room c)).0
 
 pub returns-clause-ok : goal.returns-clause-ok
 returns-clause-ok c =
     rw (c.in_ok-insert.ensures.entries, c.in_default.ensures.ok, c.first.ensures)
-    (node_added _ _ _ _ c.self.invariant c.raise.ensures.nodes c.raise.ensures.heights _ c.self.view_is c.args.ino c.args.parent c.args.node c.args.name.now (asked c) (room c)).1
+    (node_added _ _ _ _ c.self.invariant c.raise.ensures.nodes c.raise.ensures.heights _ c.self.view_is c.args.ino
+    c.args.parent c.args.node c.args.name.now (asked c) (room c)).1

@@ -1,5 +1,5 @@
 use Rattle.std.proofs.Common.{sym}
-use Rattle.wu_tree.proofs.Renames.{link_lost}
+use Rattle.wu_tree.proofs.LinkChanges.{link_lost}
 use Rattle.wu_tree.proofs.trees.Tree.drop_link.Goals as goal
 
 pub invariant_of-self : goal.invariant_of-self

@@ -6,7 +6,7 @@ use Rattle.std.proofs.lemmas.List.Sums.{length-filter}
 use Rattle.wu_tree.specs.declared.inodes.Inode.{Inode}
 use Rattle.wu_tree.specs.Inodes.{kind_of}
 use Rattle.wu_tree.specs.FileSystems.{is_kind_file}
-use Rattle.wu_tree.proofs.TreeInvariant.{files_by_value}
+use Rattle.wu_tree.proofs.NodeLookups.{files_by_value}
 use Rattle.wu_tree.proofs.trees.Tree.file_count.Goals as goal
 
 pub returns : goal.returns

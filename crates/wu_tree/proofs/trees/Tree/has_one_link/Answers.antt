@@ -1,6 +1,6 @@
 use Rattle.std.proofs.Common.{◌≤◌, ◌∙◌, sym, subst}
 use Rattle.wu_tree.specs.FileSystems.{FileSystem, link_count}
-use Rattle.wu_tree.proofs.TreeInvariant.{has_one, linked_there}
+use Rattle.wu_tree.proofs.NodeLookups.{has_one, linked_there}
 use Rattle.wu_tree.proofs.trees.Tree.has_one_link.Goals as goal
 
 pub returns-in-Some : goal.returns-in-Some

@@ -1,6 +1,6 @@
 use Rattle.std.proofs.Common.{◌-◌, ◌∙◌, ℕ, sym, ap, arith}
 use Rattle.wu_tree.specs.Paths.{reaches}
-use Rattle.wu_tree.proofs.PathsUp.{no_deeper}
+use Rattle.wu_tree.proofs.MovedLinks.{no_deeper}
 use Rattle.wu_tree.proofs.PathsDown.{deep_by_levels}
 use Rattle.wu_tree.proofs.trees.Tree.is_too_deep.Goals as goal
 

@@ -6,8 +6,8 @@ use Rattle.wu_tree.proofs.trees.Tree.move_link.Goals as goal
 pub returns-in_ok-move_onto-in-Some-child-clause-next : goal.returns-in_ok-move_onto-in-Some-child-clause-next
 returns-in_ok-move_onto-in-Some-child-clause-next c =
     c.in_ok-move_onto-in-Some-child.ensures.ok
-    ∙ renamed_onto c.args.self.now c.args.parent c.args.name.now c.args.new_parent c.args.new_name.now c.in-Some.child c.in-Some-child.target
-    (sym c.in-Some.ensures) (sym c.in-Some-child.ensures) (ne_eqb _ _ c.if-target-child.false)
+    ∙ renamed_onto c.args.self.now c.args.parent c.args.name.now c.args.new_parent c.args.new_name.now c.in-Some.child
+    c.in-Some-child.target (sym c.in-Some.ensures) (sym c.in-Some-child.ensures) (ne_eqb _ _ c.if-target-child.false)
 
 pub returns-in_ok-move_to_free-in-None-clause-next : goal.returns-in_ok-move_to_free-in-None-clause-next
 returns-in_ok-move_to_free-in-None-clause-next c =

@@ -1,5 +1,5 @@
 use Rattle.wu_tree.proofs.Renames.{moved_to_free}
-use Rattle.wu_tree.proofs.TreeInvariant.{directory_kept}
+use Rattle.wu_tree.proofs.NodeLookups.{directory_kept}
 use Rattle.wu_tree.proofs.trees.Tree.move_to_free.Goals as goal
 
 pub raise_over-requires-clause-there : goal.raise_over-requires-clause-there

@@ -1,6 +1,6 @@
 use Rattle.std.proofs.Common.{◌≡◌, sym, rules}
 use Rattle.wu_tree.specs.FileSystems.{link_count}
-use Rattle.wu_tree.proofs.TreeInvariant.{file_count_kept}
+use Rattle.wu_tree.proofs.NodeLookups.{file_count_kept}
 use Rattle.wu_tree.proofs.trees.Tree.next_count.Goals as goal
 
 pub returns-in-Links : goal.returns-in-Links

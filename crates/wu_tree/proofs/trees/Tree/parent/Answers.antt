@@ -3,7 +3,7 @@ use Rattle.wu_tree.specs.Inodes.{file_system}
 use Rattle.wu_tree.specs.FileSystems.{FileSystem, is_directory, parent_of}
 use Rattle.std.specs.Prelude.{IfSome}
 use Rattle.wu_tree.proofs.ParentPaths.{parent_directory}
-use Rattle.wu_tree.proofs.TreeInvariant.{parent_kept, directory_inode}
+use Rattle.wu_tree.proofs.NodeLookups.{parent_kept, directory_inode}
 use Rattle.wu_tree.proofs.trees.Tree.parent.Goals as goal
 
 pub returns-clause-parent : goal.returns-clause-parent

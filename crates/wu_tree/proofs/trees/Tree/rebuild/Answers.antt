@@ -9,7 +9,8 @@ use Rattle.wu_tree.specs.Inodes.{file_system}
 use Rattle.wu_tree.specs.Lists.{hung_node, inode_of, link_of, linked_test, hung_of, place_test}
 use Rattle.wu_tree.proofs.HungNodes.{numbers, same_numbers}
 use Rattle.wu_tree.proofs.ListTests.{all_mapped}
-use Rattle.wu_tree.proofs.RebuiltTrees.{in_order, no_order, no_children, no_place, no_linked, no_reach, entries_hung, entry, made_heights, made_held, made_tree, made_sound, made_view}
+use Rattle.wu_tree.proofs.RebuiltTrees.{in_order, no_order, no_children, no_place, no_linked, no_reach, entries_hung, entry, made_heights}
+use Rattle.wu_tree.proofs.RebuiltTrees.{made_held, made_tree, made_sound, made_view}
 use Rattle.wu_tree.proofs.trees.Tree.rebuild.Goals as goal
 use Rattle.wu_tree.proofs.trees.Tree.rebuild.Goals.{In_ok-inodes, After-are_linked}
 
@@ -68,24 +69,24 @@ lower-requires-clause-held c =
     let way = goal.at.lower-requires-clause-held c in
     made_held c.args.links.now c.args.nodes.now c.args.users.now c.in_ok-inodes.inodes.entries (made way.In_ok-inodes)
     c.in_ok-links.links
-    c.in_ok-links.ensures (sym c.if-not-are_in_order.ensures) (rw c.in-Some.is at c.in_ok-hung.ensures).children (sym c.if-not-are_placed.ensures)
-    (linked way.After-are_linked ∙ c.if-not-are_linked.false)
+    c.in_ok-links.ensures (sym c.if-not-are_in_order.ensures) (rw c.in-Some.is at c.in_ok-hung.ensures).children
+    (sym c.if-not-are_placed.ensures) (linked way.After-are_linked ∙ c.if-not-are_linked.false)
 
 pub lower-requires-clause-heights : goal.lower-requires-clause-heights
 lower-requires-clause-heights c =
     let way = goal.at.lower-requires-clause-heights c in
     made_heights c.args.links.now c.args.nodes.now c.args.users.now c.in_ok-inodes.inodes.entries (made way.In_ok-inodes)
     c.in_ok-links.links
-    c.in_ok-links.ensures (sym c.if-not-are_in_order.ensures) (rw c.in-Some.is at c.in_ok-hung.ensures).children (sym c.if-not-are_placed.ensures)
-    (linked way.After-are_linked ∙ c.if-not-are_linked.false)
+    c.in_ok-links.ensures (sym c.if-not-are_in_order.ensures) (rw c.in-Some.is at c.in_ok-hung.ensures).children
+    (sym c.if-not-are_placed.ensures) (linked way.After-are_linked ∙ c.if-not-are_linked.false)
 
 pub returns-then-not-are_low : goal.returns-then-not-are_low
 returns-then-not-are_low c =
     let way = goal.at.returns-then-not-are_low c in
     no_reach c.args.links.now c.args.nodes.now c.args.users.now c.in_ok-inodes.inodes.entries (made way.In_ok-inodes)
     c.in_ok-links.links
-    c.in_ok-links.ensures (sym c.if-not-are_in_order.ensures) (rw c.in-Some.is at c.in_ok-hung.ensures).children (sym c.if-not-are_placed.ensures)
-    (linked way.After-are_linked ∙ c.if-not-are_linked.false)
+    c.in_ok-links.ensures (sym c.if-not-are_in_order.ensures) (rw c.in-Some.is at c.in_ok-hung.ensures).children
+    (sym c.if-not-are_placed.ensures) (linked way.After-are_linked ∙ c.if-not-are_linked.false)
     c.lower.new.inodes.entries c.lower.ensures.nodes c.lower.ensures.heights c.lower.ensures.walked (sym c.if-not-are_low.ensures)
 
 pub users_of-requires : goal.users_of-requires
@@ -97,8 +98,8 @@ invariant_of-result c =
     rw (c.in_ok-links.ensures, c.in_ok-users.ensures)
     (made_sound c.args.links.now c.args.nodes.now c.args.users.now c.in_ok-inodes.inodes.entries (made way.In_ok-inodes)
     c.in_ok-links.links
-    c.in_ok-links.ensures (sym c.if-not-are_in_order.ensures) (rw c.in-Some.is at c.in_ok-hung.ensures).children (sym c.if-not-are_placed.ensures)
-    (linked way.After-are_linked ∙ c.if-not-are_linked.false)
+    c.in_ok-links.ensures (sym c.if-not-are_in_order.ensures) (rw c.in-Some.is at c.in_ok-hung.ensures).children
+    (sym c.if-not-are_placed.ensures) (linked way.After-are_linked ∙ c.if-not-are_linked.false)
     c.lower.new.inodes.entries c.lower.ensures.nodes c.lower.ensures.heights c.lower.ensures.walked (sym c.if-not-are_low.ensures))
 
 pub returns : goal.returns

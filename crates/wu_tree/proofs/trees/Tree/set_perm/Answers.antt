@@ -1,5 +1,6 @@
 use Rattle.std.proofs.Common.{sym, refl}
-use Rattle.wu_tree.proofs.TreeInvariant.{perm_sound, perm_view, node_absent}
+use Rattle.wu_tree.proofs.NodeLookups.{node_absent}
+use Rattle.wu_tree.proofs.TreeInvariant.{perm_sound, perm_view}
 use Rattle.wu_tree.proofs.trees.Tree.set_perm.Goals as goal
 use Rattle.wu_tree.proofs.trees.Tree.set_perm.Goals.{in-Some, in_default}
 

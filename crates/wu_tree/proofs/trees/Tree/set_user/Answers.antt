@@ -1,4 +1,4 @@
-use Rattle.wu_tree.proofs.TreeInvariant.{user_sound, user_view}
+use Rattle.wu_tree.proofs.UserGroups.{user_sound, user_view}
 use Rattle.wu_tree.proofs.trees.Tree.set_user.Goals as goal
 
 pub invariant_of-self-2 : goal.invariant_of-self-2

@@ -5,7 +5,7 @@ use Rattle.std.specs.Map.Iter.{TakesFirst, deref}
 use Rattle.std.proofs.lemmas.Iterator.Consumers.{YieldsList-from_shown, nth_from_yields_List}
 use Rattle.std.proofs.lemmas.Option.{slice_get-map}
 use Rattle.wu_access.specs.declared.UserRec.{UserRec}
-use Rattle.wu_tree.proofs.TreeInvariant.{users_by_value, map_through}
+use Rattle.wu_tree.proofs.UserGroups.{users_by_value, map_through}
 use Rattle.wu_tree.proofs.trees.Tree.user_at.Goals as goal
 
 pub returns : goal.returns

@@ -1,7 +1,7 @@
 use Rattle.std.proofs.Common.{◌∙◌, ap}
 use Rattle.std.specs.Prelude.{map}
 use Rattle.wu_access.specs.declared.UserRec.{UserRec}
-use Rattle.wu_tree.proofs.TreeInvariant.{users_by_value}
+use Rattle.wu_tree.proofs.UserGroups.{users_by_value}
 use Rattle.wu_tree.proofs.trees.Tree.users.Goals as goal
 
 pub returns : goal.returns

@@ -3,7 +3,7 @@ use Rattle.std.specs.List.{list_all}
 use Rattle.wu_tree.specs.FileSystems.{is_directory}
 use Rattle.wu_tree.specs.Inodes.{file_system}
 use Rattle.wu_tree.specs.Lists.{link_of, stand_test}
-use Rattle.wu_tree.proofs.rebuild.they_stand.Given as goal
+use Rattle.wu_tree.proofs.rebuild.links_stand.Given as goal
 
 abbrev pub invariant-loop-link : goal.invariant-loop-link
 invariant-loop-link l =
