@@ -48,17 +48,25 @@ pub fn allows(user: &UserRec, node: &Perm, want: Want) -> bool
     ensures check { result ≡ is_allowed user.now node.now want }
     ensures cases { IsTrue result ↔ Allows user.now node.now want }
 {
-    user.uid == 0 || grants(deciding_digit(user, node), want)
+    allows_by_groups(user.uid, user.groups.as_slice(), node, want)
+}
+
+/// The same as [`allows`], of the user of that number who is in these groups, where they stand.
+pub fn allows_by_groups(uid: Uid, groups: &[Gid], node: &Perm, want: Want) -> bool
+    requires { IsStrictlySortedBy nat_cmp groups.now }
+    ensures check { result ≡ is_allowed (record { uid = uid; groups = groups.now }) node.now want }
+{
+    uid == 0 || grants(deciding_digit(uid, groups, node), want)
 }
 
 /// The octal digit of the node's mode that decides for the user.
-fn deciding_digit(user: &UserRec, node: &Perm) -> u16
-    requires { IsStrictlySortedBy nat_cmp user.now.groups }
-    ensures { result ≡ deciding_digit_of user.now node.now }
+fn deciding_digit(uid: Uid, groups: &[Gid], node: &Perm) -> u16
+    requires { IsStrictlySortedBy nat_cmp groups.now }
+    ensures { result ≡ deciding_digit_of (record { uid = uid; groups = groups.now }) node.now }
 {
-    if user.uid == node.uid {
+    if uid == node.uid {
         node.mode / 0o100 % 0o10
-    } else if is_among(&node.gid, user.groups.as_slice()) {
+    } else if is_among(&node.gid, groups) {
         node.mode / 0o10 % 0o10
     } else {
         node.mode % 0o10

@@ -4,36 +4,31 @@ ghost use Rattle.std.specs.Ordering.{nat_cmp};
 ghost use Rattle.std.specs.List.Sorted.{IsStrictlySortedBy};
 
 use std::alloc::Global;
-use wu_access::{Perm, UserRec, Want, allows};
+use wu_access::{Perm, UserRec, Want, allows, allows_by_groups};
 use wu_base::{Sequence, sorted_once};
 use wu_fields::read_octal_mode;
 use wu_rows::{NoAnswer, flag_text, small_number, small_numbers};
 
 /// The answer of the call to the arguments.
 pub fn answer(alloc: Global, call: &str, arguments: &[&str]) -> Result<String, NoAnswer> {
-    match (call, arguments) {
-        ("allows", [uid, groups, owner, group, mode, want]) => {
-            let node = Perm {
-                uid: small_number(owner)?,
-                gid: small_number(group)?,
-                mode: mode_of(mode)?,
-            };
-            allowed(alloc, &node, want_of(want)?, uid, groups)
+    let [uid, groups, owner, group, mode, want] = arguments else {
+        return Err(NoAnswer::BadRow);
+    };
+    let node = Perm {
+        uid: small_number(owner)?,
+        gid: small_number(group)?,
+        mode: mode_of(mode)?,
+    };
+    let want = want_of(want)?;
+    let user = user(alloc, uid, groups)?;
+    match call {
+        "allows" => flag_text(alloc, allows(&user, &node, want)),
+        "allows_by_groups" => {
+            let groups = user.groups.as_slice();
+            flag_text(alloc, allows_by_groups(user.uid, groups, &node, want))
         }
         _ => Err(NoAnswer::BadRow),
     }
-}
-
-/// Whether the user of these groups may do that with the node.
-fn allowed(
-    alloc: Global,
-    node: &Perm,
-    want: Want,
-    uid: &str,
-    groups: &str,
-) -> Result<String, NoAnswer> {
-    let user = user(alloc, uid, groups)?;
-    flag_text(alloc, allows(&user, node, want))
 }
 
 #[tactic(auto, using(std::proofs::lemmas::Map::Lookups::exact_unsigned))]
