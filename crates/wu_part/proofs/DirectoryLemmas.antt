@@ -1,11 +1,14 @@
 -- Lemmas on the spelling of a directory.
-use Rattle.std.proofs.Common.{◌≡◌, ℕ, ◌+◌, ◌-◌, List, [], ◌∷◌, length, refl, sym, subst, ◌∙◌, true, ◌==◌, arith}
+use Rattle.std.proofs.Common.{◌≡◌, ℕ, ◌+◌, ◌-◌, ◌<◌, List, [], ◌∷◌, length, refl, sym, subst, ◌∙◌, true, ◌==◌, arith}
 use Rattle.std.specs.List.{AllByRecursion, list_any}
 use Rattle.wu_part.specs.declared.entries.TermEntry.{TermEntry}
 use Rattle.wu_part.specs.declared.headers.TheConstants.{HEADER_LEN}
+use Rattle.wu_part.specs.declared.reading.Checked.{Checked}
 use Rattle.wu_part.specs.declared.reading.Head.{Head}
 use Rattle.wu_part.specs.Directories.{PartDirectory, SpellsDirectory, IsEntry, StandFrom, StartsWithNumbers, SpellsEntries, all_blocks}
-use Rattle.wu_part.specs.Entries.{StartsWithHead, AreEntries, IsWhole}
+use Rattle.wu_part.specs.Entries.{StartsWithHead, IsNextEntry, HasAnEntry, AreEntries, IsWhole}
+use Rattle.wu_part.specs.Marks.{IsChecked}
+use Rattle.wu_part.proofs.EntryReadingLemmas.{next_of_entries}
 use Rattle.wu_part.proofs.ReadingLemmas.{after_first, after_three}
 use Rattle.wu_part.proofs.TermLemmas.{any_block}
 
@@ -93,3 +96,27 @@ whole_of_directory d bytes head entries terms s h same =
       end = subst (λ x. list_any (λ entry. list_any (λ block. block.last == x) entry.blocks) d.terms ≡ true) is.0.high
           (sym (any_block (λ block. block.last == d.high) d.terms) ∙ s.holds.end);
     })
+
+has_terms : (head : Head) (terms : List TermEntry) → IsWhole head terms → 0 < head.stored → 0 < length terms
+has_terms head [] w some = absurd (let sum = w.sum in omega arith)
+has_terms head (entry ∷ later) w some = omega arith
+
+-- a directory has an entry
+pub entry_of_checked : (size : ℕ) (bytes : List ℕ) (checked : Checked) → IsChecked size bytes checked → HasAnEntry size bytes
+entry_of_checked size bytes checked k =
+    let some = has_terms checked.head k.are.terms k.are.whole k.head.some in
+    let number = k.are.are.number in
+    let many : 0 < checked.head.terms = omega arith in
+    let next = next_of_entries checked.head size checked.head.terms k.entries checked.place k.are.terms k.are.are many in
+    record {
+      head = checked.head;
+      entries = k.entries;
+      numbers = k.head;
+      first = record {
+        some = many;
+        entry = next.0;
+        rest = next.1;
+        end = next.2;
+        is = subst (λ x. IsNextEntry checked.head size k.entries x next.0 next.1 next.2) k.place next.3;
+      };
+    }

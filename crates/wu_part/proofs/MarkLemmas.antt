@@ -1,6 +1,6 @@
 -- Lemmas on the marks that are put while a directory's entries are read.
-use Rattle.std.proofs.Common.{◌≡◌, ℕ, zero, suc, ◌+◌, ◌-◌, ◌<◌, ◌≤◌, ⊎_elim, List, [], ◌∷◌, ◌++◌, length, drop, get_or, refl, ap, sym, subst, ◌∙◌, append_assoc, length-append, cond, nat_le, ◌||◌, Contains, Option, None, Some, true, false, arith}
-use Rattle.std.proofs.lemmas.Bool.{leb-false}
+use Rattle.std.proofs.Common.{◌≡◌, ℕ, Bool, zero, suc, ◌+◌, ◌-◌, ◌<◌, ◌≤◌, ◌⊎◌, inl, inr, ⊎_elim, List, [], ◌∷◌, ◌++◌, length, drop, get_or, refl, ap, sym, subst, ◌∙◌, append_assoc, length-append, cond, nat_le, ◌||◌, Contains, Option, None, Some, true, false, arith}
+use Rattle.std.proofs.lemmas.Bool.{leb-false, lt-leb}
 use Rattle.std.proofs.Math.Seq.{drop-append_seam, drop-length}
 use Rattle.std.proofs.lemmas.List.{drop-append-le, get_or_default}
 use Rattle.std.proofs.lemmas.Option.{get_or_from_slice_get, unwrap_or-slice_get}
@@ -12,7 +12,7 @@ use Rattle.wu_part.specs.declared.marks.Mark.{Mark}
 use Rattle.wu_part.specs.declared.reading.Head.{Head}
 use Rattle.wu_part.specs.declared.reading.Reached.{Reached}
 use Rattle.wu_part.specs.Directories.{StartsWithNumbers, block_numbers}
-use Rattle.wu_part.specs.Entries.{StartsWithHead, IsNextEntry, PassesEntry}
+use Rattle.wu_part.specs.Entries.{StartsWithHead, IsNextEntry, HasFirstEntry, PassesEntry}
 use Rattle.wu_part.specs.Marks.{mark_of, AreNear, IsMark, HasEntries, is_far, last_from, with_mark}
 use Rattle.wu_part.proofs.EntryReadingLemmas.{TakenEntries, entries_none_taken, entries_taken, entries_all_taken}
 use Rattle.wu_part.proofs.WholeLemmas.{TakenWhole, nothing_taken, one_more_taken, all_is_whole}
@@ -198,6 +198,39 @@ marks_stand head size bytes taken left rest end marks none empty full m mark has
 
 -- ---- the entries of a directory, as they are read
 
+-- nothing was read, or the first entry was
+abbrev pub HasBegun : Head → ℕ → List ℕ → ℕ → ℕ → List ℕ → ℕ → Type 0
+HasBegun head size bytes place number rest end =
+    ((number ≡ 0) × (rest ≡ bytes) × (end ≡ place)) ⊎ HasFirstEntry head size bytes place
+
+first_read : (head : Head) (size : ℕ) (bytes rest after : List ℕ) (place number end stop : ℕ) (entry : TermEntry)
+    → HasBegun head size bytes place number rest end → number < head.terms → IsNextEntry head size rest end entry after stop
+    → HasFirstEntry head size bytes place
+first_read head size bytes rest after place number end stop entry (inl (none, same, start)) more next = record {
+  some = omega arith;
+  entry = entry;
+  rest = after;
+  end = stop;
+  is = rw (same, start) at next;
+}
+first_read head size bytes rest after place number end stop entry (inr has) more next = has
+
+-- no mark stands where the first entry begins
+not_far : (marks : List Mark) (number offset : ℕ) → number ≡ 0 → offset ≡ 0 → is_far marks number offset ≡ false
+not_far marks number offset first start =
+    let last = last_from (mark_of 0 0 0) marks in
+    ap (λ (b : Bool). b || nat_le 512 (offset - last.offset)) (lt-leb 8 (number - last.number) (omega arith))
+    ∙ lt-leb 512 (offset - last.offset) (omega arith)
+
+begun_far : (head : Head) (size : ℕ) (bytes rest : List ℕ) (place number end offset : ℕ) (marks : List Mark)
+    → HasBegun head size bytes place number rest end → offset ≡ length bytes - length rest → is_far marks number offset ≡ true
+    → HasFirstEntry head size bytes place
+begun_far head size bytes rest place number end offset marks (inl (none, same, start)) at_offset far =
+    let long = ap length same in
+    let wrong : false ≡ true = sym (not_far marks number offset none (omega arith)) ∙ far in
+    absurd cc
+begun_far head size bytes rest place number end offset marks (inr has) at_offset far = has
+
 -- so many entries were read, and marks put
 pub record ReadEntries (head : Head) (size : ℕ) (bytes : List ℕ) (place : ℕ) (marks : List Mark) (number : ℕ) (reached : Reached)
     : Type 0 where
@@ -205,6 +238,7 @@ pub record ReadEntries (head : Head) (size : ℕ) (bytes : List ℕ) (place : �
   pub long : length taken ≡ number
   pub few : number ≤ head.terms
   pub ends : EndsWith bytes reached.rest.now
+  pub first : HasBegun head size bytes place number reached.rest.now reached.place
   pub whole : TakenWhole head size bytes place taken (head.terms - number) reached.rest.now reached.place reached.term.now reached.left
       reached.begun reached.ended
   pub marked : AreMarked head size bytes taken (head.terms - number) reached.rest.now reached.place marks
@@ -220,6 +254,7 @@ nothing_read head size bytes place reached within rest at_place term left first 
       long = refl;
       few = omega arith;
       ends = rw rest (ends_with_all bytes);
+      first = inl (refl, rest, at_place);
       whole = rw (rest, at_place, term, left, first, last) (nothing_taken head size bytes place (head.terms - 0) within all);
       marked = none_marked head size bytes [] (head.terms - 0) reached.rest.now reached.place;
       near = (omega arith, omega arith);
@@ -240,6 +275,8 @@ entry_more head size bytes place marks new number offset more reached next r som
       long = omega (arith, length-append r.taken (p.entry ∷ []));
       few = omega arith;
       ends = entry_end head size bytes reached.rest.now reached.place p.entry next.rest.now next.place r.ends p.is;
+      first = inr (first_read head size bytes reached.rest.now next.rest.now place number reached.place next.place p.entry r.first some
+          p.is);
       whole = one_more_taken head size bytes place r.taken (head.terms - number) (head.terms - more) reached.rest.now next.rest.now
           reached.place next.place reached.term.now reached.left next.left reached.begun reached.ended next.begun next.ended p.entry
           next.term.now r.whole (omega arith) p.is fewer p.ascending p.last p.counted p.begins p.ends;
@@ -249,6 +286,13 @@ entry_more head size bytes place marks new number offset more reached next r som
           r.whole.entries.within r.ends at_offset r.long (omega arith) r.marked);
       near = rw one (near_more marks number offset reached.place r.near);
     })
+
+-- where a mark is put, the first entry was read
+pub first_before : (head : Head) (size : ℕ) (bytes : List ℕ) (place : ℕ) (marks : List Mark) (number offset : ℕ) (reached : Reached)
+    → ReadEntries head size bytes place marks number reached → offset ≡ length bytes - length reached.rest.now
+    → is_far marks number offset ≡ true → HasFirstEntry head size bytes place
+first_before head size bytes place marks number offset reached r at_offset far =
+    begun_far head size bytes reached.rest.now place number reached.place offset marks r.first at_offset far
 
 pub all_read : (head : Head) (size : ℕ) (bytes : List ℕ) (place : ℕ) (marks : List Mark) (number : ℕ) (reached : Reached)
     → ReadEntries head size bytes place marks number reached → head.terms ≤ number → reached.rest.now ≡ [] → reached.place ≡ size

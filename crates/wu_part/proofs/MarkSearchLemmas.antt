@@ -1,7 +1,9 @@
 -- Lemmas on searches among the marks in a directory's bytes.
-use Rattle.std.proofs.Common.{◌≡◌, ℕ, Bool, MatchBool, zero, suc, ◌+◌, ◌-◌, ◌<◌, ◌≤◌, ◌⊎◌, inl, inr, ⊎_elim, List, [], ◌∷◌, ◌++◌, length, take, drop, get_or, refl, ap, sym, ◌∙◌, Contains, MatchOption, Option, None, Some, true, false, arith}
+use Rattle.std.proofs.Common.{◌≡◌, ℕ, Bool, MatchBool, zero, suc, ◌+◌, ◌-◌, ◌<◌, ◌≤◌, ◌⊎◌, inl, inr, ⊎_elim, List, [], ◌∷◌, ◌++◌, length, take, drop, get_or, refl, ap, sym, subst, ◌∙◌, Contains, MatchOption, Option, None, Some, true, false, arith}
 use Rattle.std.proofs.lemmas.Bool.{cases_lt}
-use Rattle.std.proofs.lemmas.List.{get_or-drop, get_or_default, length-drop, take_all}
+use Rattle.std.proofs.lemmas.List.{drop-drop, drop_all, get_or-drop, get_or_default, length-drop, take_all}
+use Rattle.std.proofs.lemmas.List.Elements.{All-drop, All-from_recursion, recursion_from_All}
+use Rattle.std.specs.List.{AllByRecursion}
 use Rattle.std.specs.declared.cmp.Ordering.{Ordering}
 use Rattle.std.specs.declared.cmp.Ordering.TheVariants.{Less, Equal, Greater}
 use Rattle.std.specs.Ordering.{is_le, nat_cmp, ordering_reverse}
@@ -14,7 +16,7 @@ use Rattle.wu_part.specs.declared.entries.TermEntry.{TermEntry}
 use Rattle.wu_part.specs.declared.marks.Mark.{Mark}
 use Rattle.wu_part.specs.declared.reading.Head.{Head}
 use Rattle.wu_part.specs.Entries.{AreEntries}
-use Rattle.wu_part.specs.Marks.{mark_of, AreNear, IsLast, IsMark, IsAtMost, NoneAt, StandsBefore, entries_from}
+use Rattle.wu_part.specs.Marks.{mark_of, AreNear, IsAfter, IsLast, IsMark, IsAtMost, NoneAt, StandsBefore, entries_from}
 use Rattle.wu_part.proofs.DecodingLemmas.{entries_are}
 use Rattle.wu_part.proofs.ReadingLemmas.{same_front}
 use Rattle.wu_part.proofs.TermLemmas.{ascends, terms}
@@ -233,3 +235,83 @@ pub entry_found : (r : Option TermEntry) (all from : List TermEntry) (number : �
     → MatchOption r ((entry : TermEntry) → Contains all entry → entry.term ≡ term → ⊥) (λ entry. Contains all entry × (entry.term ≡ term))
 entry_found None all from number term e whole m = λ entry has same. m entry (rw e (whole entry has same)) same
 entry_found (Some entry) all from number term e whole m = (has_from_drop all number entry (rw e at m.0), m.1)
+
+-- ---- the entries that stand after a term
+
+-- a term that isn't at most another one stands after it
+after_unless : (first term : List ℕ) → ((slice_cmp nat_cmp first term ≡ Greater → ⊥) → ⊥) → slice_cmp nat_cmp term first ≡ Less
+after_unless first term fails =
+    nat_list_cmp_total.antisymm term first ∙ ap ordering_reverse (is_greater (slice_cmp nat_cmp first term) fails)
+  where
+    is_greater : (order : Ordering) → ((order ≡ Greater → ⊥) → ⊥) → order ≡ Greater
+    is_greater Less wrong = absurd (wrong (λ e. cc))
+    is_greater Equal wrong = absurd (wrong (λ e. cc))
+    is_greater Greater wrong = refl
+
+all_after : (term : List ℕ) (first : TermEntry) (later : List TermEntry) → IsStrictlySortedBy (slice_cmp nat_cmp) (terms (first ∷ later))
+    → IsAfter term first → AllByRecursion (IsAfter term) (first ∷ later)
+unfolding IsStrictlySortedBy
+all_after term first [] s less = (less, tt)
+all_after term first (second ∷ later) s less =
+    (less, all_after term second later s.1 (nat_list_cmp_total.trans term first.term second.term less s.0.0))
+
+-- from a mark on that isn't at most the term
+after_mark : (head : Head) (size : ℕ) (bytes : List ℕ) (all : List TermEntry) (mark : Mark) (term : List ℕ)
+    → IsStrictlySortedBy (slice_cmp nat_cmp) (terms all) → IsMark head size bytes mark (drop mark.number all)
+    → (IsAtMost (drop mark.offset bytes) term → ⊥) → AllByRecursion (IsAfter term) (drop mark.number all)
+after_mark head size bytes all mark term s m fails = by_first (drop mark.number all) m.entries (sorted_drop all mark.number s)
+  where
+    by_first : (from : List TermEntry) → AreEntries head size (head.terms - mark.number) (drop mark.offset bytes) mark.place from
+        → IsStrictlySortedBy (slice_cmp nat_cmp) (terms from) → AllByRecursion (IsAfter term) from
+    by_first [] a sorted = tt
+    by_first (first ∷ later) a sorted =
+        all_after term first later sorted (after_unless first.term term (λ most. fails (record {
+          first = first.term;
+          left = a.spelled.1.0;
+          some = a.hold.0.some;
+          few = a.hold.0.short;
+          starts = a.spelled.1.1;
+          most = most;
+        })))
+
+after_more : (term : List ℕ) (all : List TermEntry) (n k : ℕ) → n ≤ k + 8 → AllByRecursion (IsAfter term) (drop n all)
+    → AllByRecursion (IsAfter term) (drop 8 (drop k all))
+after_more term all n k few far =
+    let place : n + (k + 8 - n) ≡ k + 8 = omega arith in
+    let same : drop (k + 8 - n) (drop n all) ≡ drop 8 (drop k all) =
+    drop-drop (k + 8 - n) n all ∙ (ap (λ i. drop i all) place ∙ sym (drop-drop 8 k all)) in
+    let each = All-drop (IsAfter term) (k + 8 - n) (drop n all) (All-from_recursion (IsAfter term) (drop n all) far) in
+    subst (λ (x : List TermEntry). AllByRecursion (IsAfter term) x) same
+    (recursion_from_All (IsAfter term) (drop (k + 8 - n) (drop n all)) each)
+
+-- all but the first TERMS_BETWEEN entries from the last mark on that is at most the term
+pub after_near : (head : Head) (size : ℕ) (bytes : List ℕ) (place : ℕ) (marks : List Mark) (all : List TermEntry) (start mark : Mark)
+    (term : List ℕ) → IsStrictlySortedBy (slice_cmp nat_cmp) (terms all) → AreEntries head size head.terms bytes place all
+    → ((other : Mark) → Contains marks other → IsMark head size bytes other (drop other.number all)) → start ≡ mark_of 0 0 place
+    → AreNear 0 marks head.terms → IsLast (λ mark. IsAtMost (drop mark.offset bytes) term) marks start mark
+    → AllByRecursion (IsAfter term) (drop 8 (drop mark.number all))
+after_near head size bytes place marks all start mark term s a m e near l =
+    let first : start.number ≡ 0 = ap (λ (k : Mark). k.number) e in
+    let near : AreNear start.number marks head.terms = rw first near in
+    let own = before_is (λ (k : Mark). IsAtMost (drop k.offset bytes) term) marks start mark l.place l.before in
+    let number = a.number in
+    let at_end : l.place ≡ length marks → AllByRecursion (IsAfter term) (drop 8 (drop mark.number all)) = λ end.
+    let most = near_end start marks head.terms mark near in
+    let last : (get_or (start ∷ marks) (length marks) mark).number ≡ mark.number =
+    ap (λ (k : Mark). k.number) (ap (λ i. get_or (start ∷ marks) i mark) (sym end) ∙ own) in
+    let left = length-drop mark.number all in
+    rw (drop_all 8 (drop mark.number all) (omega arith)) tt in
+    ⊎_elim at_end
+    (λ (after, is, fails).
+    ⊎_elim
+    (λ (inside : l.place < length marks).
+    let most = near_next start marks head.terms l.place mark near inside in
+    let same = ap (λ (k : Mark). k.number) (is ∙ get_or_default marks l.place after mark inside) in
+    let before = ap (λ (k : Mark). k.number) own in
+    after_more term all after.number mark.number (omega arith)
+    (after_mark head size bytes all after term s (m after (has_mark marks l.place after is inside)) fails))
+    (λ (outside : length marks ≤ l.place).
+    let within = before_within (λ (k : Mark). IsAtMost (drop k.offset bytes) term) marks start mark l.place l.before in
+    at_end (omega arith))
+    (cases_lt l.place (length marks)))
+    l.after

@@ -9,6 +9,7 @@ use Rattle.wu_base.specs.declared.limits.TheConstants.{ADDRESSES_MAX, GENERATION
 use Rattle.wu_part.specs.declared.entries.BlockEntry.{BlockEntry}
 use Rattle.wu_part.specs.declared.entries.TermEntry.{TermEntry}
 use Rattle.wu_part.specs.declared.entry_reading.AfterBlocks.{AfterBlocks}
+use Rattle.wu_part.specs.declared.headers.TheConstants.{HEADER_LEN}
 use Rattle.wu_part.specs.declared.reading.Head.{Head}
 use Rattle.wu_part.specs.declared.reading.Reached.{Reached}
 use Rattle.wu_part.specs.Directories.{IsBlock, AreBlocks, IsEntry, StandFrom, all_blocks}
@@ -47,6 +48,21 @@ pub record IsNextEntry (head : Head) (size : ℕ) (bytes : List ℕ) (place : �
   pub holds : IsEntry head.low head.high entry
   pub places : StandFrom place end entry.blocks
   pub within : end ≤ size
+
+-- the bytes start with an entry of a directory with this head
+pub record HasFirstEntry (head : Head) (size : ℕ) (bytes : List ℕ) (place : ℕ) : Type 0 where
+  pub some : 0 < head.terms
+  pub entry : TermEntry
+  pub rest : List ℕ
+  pub end : ℕ
+  pub is : IsNextEntry head size bytes place entry rest end
+
+-- the bytes start with the numbers of a directory of a part of this size, and behind them with an entry
+pub record HasAnEntry (size : ℕ) (bytes : List ℕ) : Type 0 where
+  pub head : Head
+  pub entries : List ℕ
+  pub numbers : StartsWithHead bytes head entries
+  pub first : HasFirstEntry head size entries (HEADER_LEN + length bytes)
 
 -- the bytes are those of so many entries
 pub record AreEntries (head : Head) (size count : ℕ) (bytes : List ℕ) (place : ℕ) (terms : List TermEntry) : Type 0 where

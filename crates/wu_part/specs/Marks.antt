@@ -1,16 +1,18 @@
 -- Marks in the bytes of a directory's entries.
 use Rattle.std.specs.Prelude.{ℕ, Bool, List, [], ◌∷◌, ◌++◌, ◌+◌, ◌-◌, ◌<◌, ◌≤◌, ◌≡◌, ◌⊎◌, ◌||◌, Contains, cond, drop, get_or, length, nat_le}
-use Rattle.std.specs.declared.cmp.Ordering.TheVariants.{Greater}
+use Rattle.std.specs.declared.cmp.Ordering.TheVariants.{Less, Greater}
 use Rattle.std.specs.Cmp.Lexicographic.{slice_cmp}
 use Rattle.std.specs.Ordering.{nat_cmp}
 use Rattle.wu_base.specs.declared.limits.TheConstants.{WORD_MAX}
 use Rattle.wu_vbyte.specs.Numbers.{StartsWithNumber}
 use Rattle.wu_part.specs.declared.entries.TermEntry.{TermEntry}
+use Rattle.wu_part.specs.declared.headers.TheConstants.{HEADER_LEN}
 use Rattle.wu_part.specs.declared.marks.Mark.{Mark}
 use Rattle.wu_part.specs.declared.marks.TheConstants.{TERMS_BETWEEN, BYTES_BETWEEN}
+use Rattle.wu_part.specs.declared.reading.Checked.{Checked}
 use Rattle.wu_part.specs.declared.reading.Head.{Head}
 use Rattle.wu_part.specs.Decoding.{entries_in}
-use Rattle.wu_part.specs.Entries.{AreEntries, IsWhole}
+use Rattle.wu_part.specs.Entries.{AreEntries, IsWhole, StartsWithHead}
 
 abbrev pub mark_of : ℕ → ℕ → ℕ → Mark
 mark_of number offset place = record { number = number; offset = offset; place = place }
@@ -54,6 +56,10 @@ pub record IsAtMost (bytes term : List ℕ) : Type 0 where
   pub starts : StartsWithNumber bytes (length first) (first ++ left)
   pub most : slice_cmp nat_cmp first term ≡ Greater → ⊥
 
+-- the entry's term stands after this one
+abbrev pub IsAfter : List ℕ → TermEntry → Type 0
+IsAfter term entry = slice_cmp nat_cmp term entry.term ≡ Less
+
 -- the mark before the place, which passes; or the start, where the place is the first one
 abbrev pub StandsBefore : (Mark → Type 0) → List Mark → Mark → Mark → ℕ → Type 0
 StandsBefore Passes marks start mark place =
@@ -76,3 +82,11 @@ pub record HasEntries (head : Head) (size : ℕ) (bytes : List ℕ) (place : ℕ
   pub whole : IsWhole head terms
   pub marked : (mark : Mark) → Contains marks mark → IsMark head size bytes mark (drop mark.number terms)
   pub near : AreNear 0 marks head.terms
+
+-- the bytes are a directory's: where its entries begin in them, where the first of their blocks does in the part, and marks
+pub record IsChecked (size : ℕ) (bytes : List ℕ) (checked : Checked) : Type 0 where
+  pub entries : List ℕ
+  pub head : StartsWithHead bytes checked.head entries
+  pub start : checked.start ≡ length bytes - length entries
+  pub place : checked.place ≡ HEADER_LEN + length bytes
+  pub are : HasEntries checked.head size entries checked.place checked.marks.items

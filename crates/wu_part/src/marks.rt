@@ -1,5 +1,5 @@
 //! Marks in a directory's bytes.
-ghost use Rattle.std.specs.Prelude.{◌≡◌, ◌<◌, ◌≤◌, ◌||◌, Contains, MatchBool, OnOk, drop, get_or, length, nat_le};
+ghost use Rattle.std.specs.Prelude.{◌≡◌, ◌<◌, ◌≤◌, ◌||◌, true, Contains, MatchBool, OnErr, OnOk, drop, get_or, length, nat_le};
 ghost use Rattle.wu_part.specs.declared.marks.TheConstants.{TERMS_BETWEEN, BYTES_BETWEEN};
 ghost use Rattle.wu_part.specs.declared.marks.Mark.{Mark};
 ghost use Rattle.wu_part.specs.Marks.{IsAtMost, IsLast, NoneAt, StandsBefore, is_far, with_mark};
@@ -24,7 +24,7 @@ const TERMS_BETWEEN: u64 = 8;
 /// of blocks is passed over once at most.
 const BYTES_BETWEEN: usize = 512;
 
-/// Puts the mark at the end, where the last one is far enough away.
+/// Puts the mark at the end, where the last one is far enough away. Only there it takes memory.
 #[inline]
 pub(crate) fn put_mark(
     marks: &mut Vec<Mark>,
@@ -32,7 +32,8 @@ pub(crate) fn put_mark(
     offset: usize,
     place: u64,
 ) -> Result<(), NoMemory>
-    ensures { OnOk result (marks.new.items ≡ with_mark marks.old.items number offset place) }
+    ensures ok { OnOk result (marks.new.items ≡ with_mark marks.old.items number offset place) }
+    ensures err { OnErr result (is_far marks.old.items number offset ≡ true) }
 {
     if is_far(marks, number, offset) {
         marks.push(Mark {

@@ -1,14 +1,15 @@
 //! Reading of directories and blocks.
-ghost use Rattle.std.specs.Prelude.{◌≡◌, ℕ, List, [], ◌+◌, ◌<◌, ◌≤◌, true, IfOk, IfSome, IfNone, MatchBool};
+ghost use Rattle.std.specs.Prelude.{◌≡◌, ℕ, List, [], ◌+◌, ◌-◌, ◌<◌, ◌≤◌, true, IfOk, IfSome, IfNone, MatchBool, OnErr, length};
 ghost use Rattle.std.specs.declared.cmp.Ordering.TheVariants.{Less};
 ghost use Rattle.std.specs.Cmp.Lexicographic.{slice_cmp};
 ghost use Rattle.std.specs.Ordering.{nat_cmp};
 ghost use Rattle.wu_base.specs.declared.limits.TheConstants.{ADDRESSES_MAX, GENERATION_MAX};
 ghost use Rattle.wu_vbyte.specs.Blocks.{SpellsBlock, AreFromTo};
+ghost use Rattle.wu_vbyte.specs.Numbers.{StartsWithNumber};
 ghost use Rattle.wu_part.specs.declared.entries.TermEntry.{TermEntry};
 ghost use Rattle.wu_part.specs.Directories.{PartDirectory, SpellsDirectory};
-ghost use Rattle.wu_part.specs.Entries.{StartsWithHead, IsNextEntry, AreEntries, PassesEntry, IsWhole};
-ghost use Rattle.wu_part.specs.Marks.{HasEntries};
+ghost use Rattle.wu_part.specs.Entries.{StartsWithHead, IsNextEntry, HasFirstEntry, HasAnEntry, AreEntries, PassesEntry, IsWhole};
+ghost use Rattle.wu_part.specs.Marks.{HasEntries, IsChecked};
 
 use crate::directories::Directory;
 use crate::entries::BlockEntry;
@@ -21,18 +22,24 @@ use wu_base::{ADDRESSES_MAX, GENERATION_MAX, NoMemory};
 use wu_vbyte::{next_number, take_block};
 
 /// The directory of a part of `size` bytes whose spelling the bytes are. `None` exactly where they are
-/// no such spelling. Takes memory only for a copy of the bytes, and for entries that they were found to hold.
+/// no such spelling. Takes memory only where they were found to begin with an entry, and for a copy of them only once
+/// all were checked.
 pub fn read_directory(alloc: Global, bytes: &[u8], size: u64) -> Result<Option<Directory>, NoMemory>
     ensures found { IfOk result (λ read. IfSome read (λ directory. SpellsDirectory directory bytes.now × (directory.size ≡ size))) }
     ensures none { IfOk result (λ read. IfNone read ((directory : PartDirectory) → SpellsDirectory directory bytes.now
         → directory.size ≡ size → ⊥)) }
+    ensures err { OnErr result (HasAnEntry size bytes.now) }
 {
+    let checked = match check_directory(alloc, bytes, size)? {
+        Some(checked) => checked,
+        None => return Ok(None),
+    };
     let bytes = Vec::from_slice(alloc, bytes)?;
-    keep_directory(alloc, bytes, size)
+    Ok(Some(directory_with(checked, bytes, size)))
 }
 
-/// What [`read_directory`] gives of these bytes, which the directory keeps. Takes memory only for entries that they
-/// were found to hold.
+/// What [`read_directory`] gives of these bytes, which the directory keeps. Takes memory only where they were found to
+/// begin with an entry.
 pub fn keep_directory(
     alloc: Global,
     bytes: Vec<u8>,
@@ -41,8 +48,33 @@ pub fn keep_directory(
     ensures found { IfOk result (λ read. IfSome read (λ directory. SpellsDirectory directory bytes.items × (directory.size ≡ size))) }
     ensures none { IfOk result (λ read. IfNone read ((directory : PartDirectory) → SpellsDirectory directory bytes.items
         → directory.size ≡ size → ⊥)) }
+    ensures err { OnErr result (HasAnEntry size bytes.items) }
 {
-    let (head, rest) = match take_head(&bytes) {
+    let checked = match check_directory(alloc, &bytes, size)? {
+        Some(checked) => checked,
+        None => return Ok(None),
+    };
+    Ok(Some(directory_with(checked, bytes, size)))
+}
+
+/// What the bytes of a directory were found to hold: its head, where in them its entries begin, where in the part the
+/// first block does, and marks in the entries.
+#[derive(Drop)]
+struct Checked {
+    head: Head,
+    start: usize,
+    place: u64,
+    marks: Vec<Mark>,
+}
+
+/// What the bytes hold of the directory of a part of `size` bytes. `None` exactly where they are no such spelling.
+fn check_directory(alloc: Global, bytes: &[u8], size: u64) -> Result<Option<Checked>, NoMemory>
+    ensures found { IfOk result (λ read. IfSome read (λ checked. IsChecked size bytes.now checked)) }
+    ensures none { IfOk result (λ read. IfNone read ((directory : PartDirectory) → SpellsDirectory directory bytes.now
+        → directory.size ≡ size → ⊥)) }
+    ensures err { OnErr result (HasAnEntry size bytes.now) }
+{
+    let (head, rest) = match take_head(bytes) {
         Some(taken) => taken,
         None => return Ok(None),
     };
@@ -55,17 +87,31 @@ pub fn keep_directory(
         None => return Ok(None),
     };
     let start = bytes.len() - rest.len();
-    Ok(Some(Directory {
+    Ok(Some(Checked {
         head,
-        size,
+        start,
         place,
-        bytes: EntryBytes::new(bytes, start),
         marks,
     }))
 }
 
+/// The directory of a part of `size` bytes with these bytes, which it keeps.
+fn directory_with(checked: Checked, bytes: Vec<u8>, size: u64) -> Directory
+    requires { IsChecked size bytes.items checked }
+    ensures { SpellsDirectory result bytes.items × (result.size ≡ size) }
+{
+    Directory {
+        head: checked.head,
+        size,
+        place: checked.place,
+        bytes: EntryBytes::new(bytes, checked.start),
+        marks: checked.marks,
+    }
+}
+
 /// The block's `count` addresses, of which the bytes are the spelling, all of the bytes; `low` is the
-/// part's lowest address. `None` exactly where they are no such spelling.
+/// part's lowest address. `None` exactly where they are no such spelling. Takes memory once at most, and only where the
+/// bytes are enough for so many addresses and start with the number of the first one.
 pub fn read_block(
     alloc: Global,
     bytes: &[u8],
@@ -77,6 +123,8 @@ pub fn read_block(
         × AreFromTo count entry.now.first entry.now.last found.items)) }
     ensures none { IfOk result (λ block. IfNone block ((addresses : List ℕ) → SpellsBlock low addresses bytes.now
         → AreFromTo count entry.now.first entry.now.last addresses → ⊥)) }
+    ensures err { OnErr result ((0 < count) × (count ≤ length bytes.now) × (entry.now.first ≤ entry.now.last) × (low ≤ entry.now.first)
+        × ((rest : List ℕ) × StartsWithNumber bytes.now (entry.now.first - low) rest)) }
 {
     take_block(alloc, bytes, low, count, entry.first, entry.last)
 }
@@ -145,7 +193,8 @@ struct Reached<'a> {
 }
 
 /// Marks in the bytes, which spell the entries of a directory with this head, all of the bytes, where
-/// the blocks stand from `place` to `size`. `None` exactly where they spell no such entries.
+/// the blocks stand from `place` to `size`. `None` exactly where they spell no such entries. Takes memory only once the
+/// first entry was read.
 #[inline(never)]
 fn take_entries(
     alloc: Global,
@@ -159,6 +208,7 @@ fn take_entries(
     ensures found { IfOk result (λ read. IfSome read (λ marks. HasEntries head.now size bytes.now place marks.items)) }
     ensures none { IfOk result (λ read. IfNone read ((terms : List TermEntry)
         → AreEntries head.now size head.now.terms bytes.now place terms → IsWhole head.now terms → ⊥)) }
+    ensures err { OnErr result (HasFirstEntry head.now size bytes.now place) }
 {
     let mut marks = Vec::new(alloc);
     let mut reached = Reached {

@@ -1,12 +1,13 @@
 //! Walks over a directory's entries.
-ghost use Rattle.std.specs.Prelude.{◌≡◌, [], ◌<◌, ◌≤◌, ◌⊎◌, ℕ, List, Contains, MatchOption, get_or, length, map};
+ghost use Rattle.std.specs.Prelude.{◌≡◌, [], ◌<◌, ◌≤◌, ◌⊎◌, ℕ, List, Contains, MatchOption, drop, get_or, length, map};
+ghost use Rattle.std.specs.List.{AllByRecursion};
 ghost use Rattle.std.specs.List.Sorted.{IsStrictlySortedBy};
 ghost use Rattle.std.specs.Cmp.Lexicographic.{slice_cmp};
 ghost use Rattle.std.specs.Ordering.{nat_cmp};
 ghost use Rattle.wu_base.specs.declared.limits.TheConstants.{ADDRESSES_MAX};
 ghost use Rattle.wu_part.specs.declared.entries.TermEntry.{TermEntry};
 ghost use Rattle.wu_part.specs.declared.marks.TheConstants.{TERMS_BETWEEN};
-ghost use Rattle.wu_part.specs.Marks.{IsMark, entries_from};
+ghost use Rattle.wu_part.specs.Marks.{IsAfter, IsMark, entries_from};
 
 use crate::cursors::Entry;
 use crate::entry_reading::take_entry;
@@ -76,9 +77,10 @@ pub(crate) fn terms_from<'a>(head: &'a Head, size: u64, bytes: &'a [u8], mark: M
     }
 }
 
-/// The entry of the term, among entries whose terms ascend.
+/// The entry of the term, among entries whose terms ascend: it is one of the first few, if it is there.
 pub(crate) fn entry_among<'a>(terms: Terms<'a>, term: &[u8]) -> Option<Entry<'a>>
-    requires { IsStrictlySortedBy (slice_cmp nat_cmp) (map (λ entry. entry.term) terms) }
+    requires sorted { IsStrictlySortedBy (slice_cmp nat_cmp) (map (λ entry. entry.term) terms) }
+    requires near { AllByRecursion (IsAfter term.now) (drop TERMS_BETWEEN terms) }
     ensures { MatchOption result ((entry : TermEntry) → Contains terms.entry entry → entry.term ≡ term.now → ⊥)
         (λ entry. Contains terms.entry entry × (entry.term ≡ term.now)) }
 {

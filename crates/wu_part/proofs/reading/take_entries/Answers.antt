@@ -1,5 +1,5 @@
-use Rattle.std.proofs.Common.{refl, arith}
-use Rattle.wu_part.proofs.MarkLemmas.{nothing_read, entry_more, all_read}
+use Rattle.std.proofs.Common.{refl, arith, rules}
+use Rattle.wu_part.proofs.MarkLemmas.{nothing_read, entry_more, first_before, all_read}
 use Rattle.wu_part.proofs.EntryReadingLemmas.{entries_not_all}
 use Rattle.wu_part.proofs.WholeLemmas.{none_may_follow, all_not_whole}
 use Rattle.wu_part.proofs.reading.take_entries.Goals as goal
@@ -8,13 +8,17 @@ use Rattle.wu_part.proofs.reading.take_entries.Goals.{else-is_end-via-then-is_en
 pub loop-number-init : goal.loop-number-init
 loop-number-init c = rw c.new-marks.ensures.items (nothing_read _ _ _ _ _ c.requires.place refl refl refl refl refl refl)
 
+pub returns-in_err-put_mark-clause-err : goal.returns-in_err-put_mark-clause-err
+returns-in_err-put_mark-clause-err c =
+    let first = first_before _ _ _ _ _ _ _ _ c.loop-number.invariant refl c.in_err-put_mark.ensures.err in search (first, rules)
+
 pub returns-in-None-clause-none : goal.returns-in-None-clause-none
 returns-in-None-clause-none c terms a whole =
     none_may_follow _ _ _ _ _ _ _ _ _ _ _ _ c.loop-number.invariant.whole (omega arith) c.in-None.ensures.none terms a whole
 
 pub loop-number-preserved : goal.loop-number-preserved
 loop-number-preserved c =
-    entry_more _ _ _ _ _ _ _ _ _ _ _ c.loop-number.invariant c.loop-number-test.true refl refl c.in_ok-put_mark.ensures
+    entry_more _ _ _ _ _ _ _ _ _ _ _ c.loop-number.invariant c.loop-number-test.true refl refl c.in_ok-put_mark.ensures.ok
     c.in-Some.ensures.found
 
 pub returns-then-is_all-clause-found : goal.returns-then-is_all-clause-found
