@@ -5,6 +5,8 @@ use Rattle.std.specs.List.{list_any}
 use Rattle.std.proofs.lemmas.Bool.{eq-eqb}
 use Rattle.std.proofs.lemmas.List.{length-take}
 use Rattle.wu_outside.specs.declared.ranges.ReadRange.{ReadRange}
+use Rattle.wu_layout.specs.Ascending.{AscendBetween}
+use Rattle.wu_layout.proofs.Ascending.{ascend-higher, ascend-join, ascend-lower}
 use Rattle.wu_vbyte.specs.declared.blocks.TheConstants.{BLOCK_LEN}
 use Rattle.wu_part.specs.declared.entries.BlockEntry.{BlockEntry}
 use Rattle.wu_part.specs.declared.entries.TermEntry.{TermEntry}
@@ -12,7 +14,6 @@ use Rattle.wu_part.specs.Directories.{AreBlocks, IsEntry}
 use Rattle.wu_part.specs.Parts.{HoldsBlock, HoldBlocks}
 use Rattle.wu_part.proofs.ReadingLemmas.{count_within}
 use Rattle.wu_job.specs.Jobs.{HoldsEntry}
-use Rattle.wu_job.specs.Live.{AscendBetween}
 use Rattle.wu_job.specs.Reading.{HoldsInBlock, IsNoBlock, AreNoBlocks, LieIn}
 use Rattle.wu_base.specs.declared.troubles.Trouble.{Trouble}
 use Rattle.wu_base.specs.declared.troubles.Trouble.TheVariants.{Damaged}
@@ -76,24 +77,6 @@ no_later_blocks (Some blob) low entry left block is n = λ lie addresses h.
     let lies : LieIn (length blob) (block ∷ left.blocks) = subst (LieIn (length blob)) is.blocks lie in
     n lies.1 (drop BLOCK_LEN addresses)
     (record { term = refl; count = is.count ∙ omega (arith, length-drop BLOCK_LEN addresses, h.count); blocks = held.1 })
-
--- ---- addresses that ascend
-
-pub ascend-bounds : (low high : ℕ) (xs : List ℕ) → AscendBetween low high xs → low ≤ high
-ascend-bounds low high [] a = a
-ascend-bounds low high (x ∷ xs) a = let r : x + 1 ≤ high = ascend-bounds (x + 1) high xs a.1 in omega (arith, a.0)
-
-pub ascend-lower : (least low high : ℕ) (xs : List ℕ) → least ≤ low → AscendBetween low high xs → AscendBetween least high xs
-ascend-lower least low high [] l a = omega arith
-ascend-lower least low high (x ∷ xs) l a = (omega (arith, a.0), a.1)
-
-pub ascend-higher : (low high most : ℕ) (xs : List ℕ) → high ≤ most → AscendBetween low high xs → AscendBetween low most xs
-ascend-higher low high most [] l a = omega arith
-ascend-higher low high most (x ∷ xs) l a = (a.0, ascend-higher (x + 1) high most xs l a.1)
-
-pub ascend-join : (low mid high : ℕ) (xs ys : List ℕ) → AscendBetween low mid xs → AscendBetween mid high ys → AscendBetween low high (xs ++ ys)
-ascend-join low mid high [] ys a b = ascend-lower low mid high ys a b
-ascend-join low mid high (x ∷ xs) ys a b = (a.0, ascend-join (x + 1) mid high xs ys a.1 b)
 
 -- ---- the walk
 

@@ -1,6 +1,6 @@
 -- Ranges that are read one after another, up to a trouble, and why it came.
 use Rattle.std.proofs.Common.{◌≡◌, ◌≢◌, ℕ, ◌+◌, ◌≤◌, ◌==◌, true, List, [], ◌∷◌, ◌++◌, length, take, refl, ap, sym, ◌∙◌, subst, arith, append_assoc, append-nil, length-append}
-use Rattle.std.specs.Prelude.{Option, None, Some, IfSome, Result, Ok, Err, IfErr}
+use Rattle.std.specs.Prelude.{Option, None, Some, IfSome}
 use Rattle.std.specs.List.{list_any}
 use Rattle.std.proofs.lemmas.Bool.{eq-eqb, or_right}
 use Rattle.std.proofs.lemmas.List.{take-append-le}
@@ -104,7 +104,7 @@ cause_after P Q before then now t e f c = record {
   damaged = λ blob is. f blob (c.damaged blob is);
 }
 
--- want of memory, or damage, which leave the count
+-- a trouble that is no store fault leaves the count of faults as it was
 pub cause_calm : (P : ℕ → Type 0) (before now : ℕ) (t : Trouble) → now ≡ before → t ≢ StoreFault
     → ((blob : ℕ) → t ≡ Damaged blob → P blob) → IsCause P before now t
 cause_calm P before now t e n d = record {
@@ -116,18 +116,10 @@ cause_calm P before now t e n d = record {
 
 -- ---- what holds of each content that is told
 
-pub if_some : {X : Type 0} (P : X → Type 0) (o : Option X) → ((x : X) → P x) → IfSome o P
-if_some P None f = tt
-if_some P (Some x) f = f x
-
 -- two facts of what is told at equal moments
 pub if_both : {X : Type 0} (P Q R : X → Type 0) (o p : Option X) → p ≡ o → IfSome o P → IfSome p Q → ((x : X) → P x → Q x → R x) → IfSome o R
 if_both P Q R None p e a b f = tt
 if_both P Q R (Some x) p e a b f = f x a (subst (λ q. IfSome q Q) e b)
-
-pub if_err : {T E : Type 0} (P Q : E → Type 0) (r : Result T E) → ((e : E) → P e → Q e) → IfErr r P → IfErr r Q
-if_err P Q (Ok x) f h = tt
-if_err P Q (Err e) f h = f e h
 
 pub no_memory : (blob : ℕ) → NoMemory ≡ Damaged blob → ⊥
 no_memory blob e = absurd cc

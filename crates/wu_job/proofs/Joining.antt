@@ -10,6 +10,8 @@ use Rattle.wu_base.specs.declared.troubles.Trouble.{Trouble}
 use Rattle.wu_outside.specs.Content.{Content}
 use Rattle.wu_outside.specs.declared.ranges.ReadRange.{ReadRange}
 use Rattle.wu_base.proofs.Members.{Has}
+use Rattle.wu_layout.specs.Ascending.{AscendBetween}
+use Rattle.wu_layout.proofs.Ascending.{ascend-bounds, ascend-higher, ascend-join, ascend-lower}
 use Rattle.wu_layout.specs.Invariants.{SomeOf}
 use Rattle.wu_layout.specs.Postings.{is_live}
 use Rattle.wu_layout.proofs.EachLemmas.{each-append}
@@ -17,11 +19,10 @@ use Rattle.wu_job.specs.declared.live.Cut.{Cut}
 use Rattle.wu_job.specs.declared.sources.Source.{Source}
 use Rattle.wu_job.specs.Jobs.{JobPart, JobState, AreKept, StandWithin, highest, lowest}
 use Rattle.wu_job.specs.Keeping.{AreMarks, IsNewCut, addresses_in, has}
-use Rattle.wu_job.specs.Live.{AscendBetween, live_below}
+use Rattle.wu_job.specs.Live.{live_below}
 use Rattle.wu_job.specs.Reading.{IsCutOf, IsNew}
 use Rattle.wu_job.specs.Sources.{AreSources, part_of, parts_of}
 use Rattle.wu_job.specs.Steps.{ReadsFront, adds, ranges_of, step_ranges}
-use Rattle.wu_job.proofs.Blocks.{ascend-bounds, ascend-higher, ascend-join, ascend-lower}
 use Rattle.wu_job.proofs.Fronts.{adds-more, front_first, front_then}
 use Rattle.wu_job.proofs.Marking.{unmarked_new}
 

@@ -8,10 +8,11 @@ use Rattle.std.proofs.lemmas.Grind.{flat_map-append}
 use Rattle.wu_base.specs.declared.addresses.Range.{Range}
 use Rattle.wu_base.specs.declared.addresses.TermList.{TermList}
 use Rattle.wu_base.proofs.Members.{Has, filter_has}
+use Rattle.wu_layout.specs.Ascending.{AscendBetween}
 use Rattle.wu_layout.specs.Postings.{is_live}
 use Rattle.wu_job.specs.Jobs.{list_for}
 use Rattle.wu_job.specs.Keeping.{AreMarks, addresses_in, has}
-use Rattle.wu_job.specs.Live.{live_below, total_of, AscendBetween}
+use Rattle.wu_job.specs.Live.{live_below, total_of}
 use Rattle.wu_job.specs.Reading.{is_some_marked}
 use Rattle.wu_job.proofs.Ranks.{below_total, same_place}
 

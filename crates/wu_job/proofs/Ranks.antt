@@ -9,10 +9,12 @@ use Rattle.std.proofs.lemmas.List.{map-append}
 use Rattle.std.proofs.lemmas.List.Elements.{filter_more}
 use Rattle.std.proofs.lemmas.List.Sums.{sum_by-cons}
 use Rattle.wu_base.specs.declared.addresses.Range.{Range}
+use Rattle.wu_layout.specs.Ascending.{AscendBetween}
+use Rattle.wu_layout.proofs.Ascending.{ascend-drop}
 use Rattle.wu_layout.specs.Postings.{is_in, is_live}
 use Rattle.wu_space.specs.Addresses.{AreApart}
 use Rattle.wu_job.specs.declared.live.LiveRange.{LiveRange}
-use Rattle.wu_job.specs.Live.{AscendBetween, AreInOrder, AreRanked, FirstEndsAfter, find_place, first_from, live_below, ranges_alone, ranked_from, total_of, with_place, place_alone}
+use Rattle.wu_job.specs.Live.{AreInOrder, AreRanked, FirstEndsAfter, find_place, first_from, live_below, ranges_alone, ranked_from, total_of, with_place, place_alone}
 
 abbrev pub len_of : Range → ℕ
 len_of range = range.len
@@ -237,12 +239,6 @@ put_place high a ranges r =
       | false ↦ (refl, refl)
     ])
 
-ascend-dropped : (n low high : ℕ) (xs : List ℕ) → AscendBetween low high xs → AscendBetween 0 high (drop n xs)
-ascend-dropped zero low high [] a = omega (arith, a)
-ascend-dropped zero low high (x ∷ xs) a = (omega arith, a.1)
-ascend-dropped (suc n) low high [] a = omega (arith, a)
-ascend-dropped (suc n) low high (x ∷ xs) a = ascend-dropped n (x + 1) high xs a.1
-
 -- what some ranges tell of later addresses they tell still without those that ended
 same_later : (x low high : ℕ) (rest : List ℕ) (live left new : List LiveRange) → x < low → AscendBetween low high rest
     → ((a : ℕ) → x ≤ a → find_place new a ≡ find_place left a)
@@ -269,7 +265,7 @@ cut_step high live left new all i addresses places put ranks place r l a c n e p
     let next : drop i all ≡ x ∷ drop (i + 1) all = drop_next all i 0 l in
     let same : AllByRecursion (λ z. find_place left z ≡ find_place live z) (x ∷ drop (i + 1) all) =
     subst (AllByRecursion (λ z. find_place left z ≡ find_place live z)) next c.same in
-    let up : AscendBetween 0 high (x ∷ drop (i + 1) all) = subst (AscendBetween 0 high) next (ascend-dropped i 0 high all a) in
+    let up : AscendBetween 0 high (x ∷ drop (i + 1) all) = subst (AscendBetween 0 high) next (ascend-drop i 0 high all a) in
     let is : place ≡ find_place live x = e ∙ n x (omega arith) ∙ same.0 in
     let found = put_place high x live r in
     let first : with_place x place ≡ one = ap (with_place x) is ∙ found.0 in

@@ -1,43 +1,28 @@
 -- One list more keeps what can be written as a part.
-use Rattle.std.proofs.Common.{◌≡◌, ℕ, ◌+◌, ◌<◌, ◌≤◌, eqb, true, false, List, [], ◌∷◌, ◌++◌, length, map, refl, ap, sym, ◌∙◌, subst, arith, append_assoc, append-nil, Less}
+use Rattle.std.proofs.Common.{◌≡◌, ℕ, ◌+◌, ◌<◌, ◌≤◌, eqb, true, false, List, [], ◌∷◌, ◌++◌, length, map, ap, sym, ◌∙◌, subst, arith, append_assoc, append-nil, Less}
 use Rattle.std.specs.Ordering.{nat_cmp}
 use Rattle.std.specs.Cmp.Lexicographic.{slice_cmp}
 use Rattle.std.specs.List.{AllByRecursion, IsDistinct}
 use Rattle.std.specs.List.Sorted.{IsStrictlySortedBy}
-use Rattle.std.proofs.lemmas.Bool.{lt-ltb}
 use Rattle.std.proofs.lemmas.List.{map-append}
-use Rattle.std.proofs.lemmas.Map.Keys.{IsStrictlyIncreasing-from_sorted}
 use Rattle.wu_base.specs.declared.addresses.Range.{Range}
 use Rattle.wu_base.specs.declared.addresses.TermList.{TermList}
 use Rattle.wu_base.specs.declared.limits.TheConstants.{ADDRESSES_MAX, WORD_MAX}
+use Rattle.wu_layout.specs.Ascending.{AscendBetween}
+use Rattle.wu_layout.proofs.Ascending.{addresses_increase, ascend-bounds}
 use Rattle.wu_layout.specs.Postings.{is_live}
 use Rattle.wu_layout.proofs.EachLemmas.{each-append}
 use Rattle.wu_part.specs.Parts.{IsList}
 use Rattle.wu_part.specs.Writing.{first_of}
 use Rattle.wu_job.specs.Jobs.{JobPart, StandWithin, list_for}
 use Rattle.wu_job.specs.Keeping.{AreWritable, IsFrom, addresses_in, has}
-use Rattle.wu_job.specs.Live.{AscendBetween}
 use Rattle.wu_job.proofs.Marking.{addresses_more, ascending_distinct, distinct_join}
 
 -- ---- a list
 
-later_are_above : (x low high : ℕ) (xs : List ℕ) → x < low → AscendBetween low high xs → AllByRecursion (λ y. nat_cmp x y ≡ Less) xs
-later_are_above x low high [] l a = tt
-later_are_above x low high (y ∷ xs) l a =
-    (rw (lt-ltb x y (omega (arith, a.0))) refl, later_are_above x (y + 1) high xs (omega (arith, a.0)) a.1)
-
-addresses_sorted : (low high : ℕ) (xs : List ℕ) → AscendBetween low high xs → IsStrictlySortedBy nat_cmp xs
-unfolding IsStrictlySortedBy
-addresses_sorted low high [] a = tt
-addresses_sorted low high (x ∷ xs) a = (later_are_above x (x + 1) high xs (omega arith) a.1, addresses_sorted (x + 1) high xs a.1)
-
-bounds : (low high : ℕ) (xs : List ℕ) → AscendBetween low high xs → low ≤ high
-bounds low high [] a = a
-bounds low high (x ∷ xs) a = let r : x + 1 ≤ high = bounds (x + 1) high xs a.1 in omega (arith, a.0)
-
 all_below : (low high : ℕ) (xs : List ℕ) → AscendBetween low high xs → AllByRecursion (λ x. x < high) xs
 all_below low high [] a = tt
-all_below low high (x ∷ xs) a = (omega (arith, bounds (x + 1) high xs a.1), all_below (x + 1) high xs a.1)
+all_below low high (x ∷ xs) a = (omega (arith, ascend-bounds (x + 1) high xs a.1), all_below (x + 1) high xs a.1)
 
 pub lists_for : (term kept : List ℕ) → 0 < length term → length term ≤ WORD_MAX → AscendBetween 0 ADDRESSES_MAX kept
     → AllByRecursion IsList (list_for term kept)
@@ -47,7 +32,7 @@ lists_for term (x ∷ kept) l m a = (
     some = l;
     short = m;
     count = omega arith;
-    ascending = IsStrictlyIncreasing-from_sorted (x ∷ kept) (addresses_sorted 0 ADDRESSES_MAX (x ∷ kept) a);
+    ascending = addresses_increase 0 ADDRESSES_MAX (x ∷ kept) a;
     below = all_below 0 ADDRESSES_MAX (x ∷ kept) a;
   },
   tt,

@@ -3,7 +3,10 @@ use Rattle.std.proofs.Common.{◌≡◌, ℕ, ◌+◌, ◌-◌, ◌<◌, ◌≤�
 use Rattle.std.specs.Prelude.{Option, None, Some}
 use Rattle.std.specs.List.{last_or}
 use Rattle.std.proofs.lemmas.List.{take-append-drop}
+use Rattle.std.proofs.lemmas.Option.{same_Some}
 use Rattle.wu_base.proofs.Members.{Has}
+use Rattle.wu_layout.specs.Ascending.{AscendBetween}
+use Rattle.wu_layout.proofs.Ascending.{ascend-bounds, ascend-join, ascend-lower}
 use Rattle.wu_vbyte.specs.Blocks.{SpellsGaps, SpellsBlock, AreFromTo}
 use Rattle.wu_vbyte.specs.declared.blocks.TheConstants.{BLOCK_LEN}
 use Rattle.wu_vbyte.proofs.BlockLemmas.{block_same}
@@ -13,22 +16,17 @@ use Rattle.wu_part.specs.Directories.{AreBlocks, IsEntry}
 use Rattle.wu_part.specs.Parts.{HoldBlocks}
 use Rattle.wu_part.proofs.ReadingLemmas.{count_within}
 use Rattle.wu_job.specs.Jobs.{HoldsEntry}
-use Rattle.wu_job.specs.Live.{AscendBetween}
-use Rattle.wu_job.proofs.Blocks.{ascend-bounds, ascend-join, ascend-lower}
-
-some_number : (a b : ℕ) → Some a ≡ Some b → a ≡ b
-some_number a b e = cc
 
 gaps_ascend : (before last : ℕ) (later bytes : List ℕ) → SpellsGaps before later bytes → last_or (Some before) later ≡ Some last
     → AscendBetween (before + 1) (last + 1) later
-gaps_ascend before last [] bytes s e = let same = some_number before last e in omega arith
+gaps_ascend before last [] bytes s e = let same = same_Some before last e in omega arith
 gaps_ascend before last (a ∷ later) bytes s e = (omega (arith, s.0), gaps_ascend a last later s.1 s.3 e)
 
 pub block_ascends : (low count first last : ℕ) (addresses bytes : List ℕ) → SpellsBlock low addresses bytes
     → AreFromTo count first last addresses → AscendBetween first (last + 1) addresses
 block_ascends low count first last [] bytes s a = absurd s
 block_ascends low count first last (address ∷ later) bytes s a =
-    let same : address ≡ first = some_number address first a.begin in
+    let same : address ≡ first = same_Some address first a.begin in
     (omega arith, gaps_ascend address last later s.1 s.3 a.end)
 
 blocks_ascend : (low from high count : ℕ) (blob : List ℕ) (blocks : List BlockEntry) (addresses : List ℕ)

@@ -5,6 +5,7 @@ use Rattle.std.specs.declared.cmp.Ordering.TheVariants.{Less}
 use Rattle.std.specs.Cmp.Lexicographic.{pointwise, nat_list_eq_equiv, same_text}
 use Rattle.std.specs.List.{AllByRecursion}
 use Rattle.std.specs.List.Sorted.{IsStrictlySortedBy}
+use Rattle.std.proofs.lemmas.Option.{none-some, same_Some}
 use Rattle.wu_base.proofs.Members.{Has, Has-from_Contains, Contains-from_Has, Has-map, all_has}
 use Rattle.wu_outside.specs.Content.{Content}
 use Rattle.wu_part.specs.declared.entries.BlockEntry.{BlockEntry}
@@ -12,10 +13,8 @@ use Rattle.wu_part.specs.declared.entries.TermEntry.{TermEntry}
 use Rattle.wu_part.specs.Directories.{PartDirectory, IsDirectory, IsEntry, StandFrom, all_blocks}
 use Rattle.wu_part.proofs.ReadingLemmas.{stand_within}
 use Rattle.wu_job.specs.Jobs.{JobPart, HoldsEntry, HoldsTerm}
-use Rattle.wu_job.specs.Live.{AscendBetween}
 use Rattle.wu_job.specs.Reading.{AreNoBlocks, IsFound, LieIn, StandsAt}
 use Rattle.wu_job.specs.Steps.{IsNoPart, block_ranges, ranges_of, ranges_of_entries}
-use Rattle.wu_job.proofs.Blocks.{ascend-lower}
 use Rattle.wu_job.proofs.Made.{list_at_entry}
 use Rattle.wu_job.proofs.Merging.{text_cmp, IsUp, less_itself}
 
@@ -150,16 +149,7 @@ no_part directory entry (Some blob) h n = λ lists is.
     list.0.at
     (record { term = refl; count = list.1.1.count; blocks = list.1.1.blocks })
 
--- ---- live addresses ascend
-
-pub ascend-filter : (p : ℕ → Bool) (low high : ℕ) (xs : List ℕ) → AscendBetween low high xs → AscendBetween low high (filter p xs)
-ascend-filter p low high [] a = a
-ascend-filter p low high (x ∷ xs) a =
-    let rest : AscendBetween (x + 1) high (filter p xs) = ascend-filter p (x + 1) high xs a.1 in
-    elim (p x) as (λ b. AscendBetween low high (cond b (x ∷ filter p xs) (filter p xs))) [
-      | true ↦ (a.0, rest)
-      | false ↦ ascend-lower low (x + 1) high (filter p xs) (omega (arith, a.0)) rest
-    ]
+-- ---- live addresses
 
 pub filter_all : (p : ℕ → Bool) (xs : List ℕ) → AllByRecursion (λ x. p x ≡ true) (filter p xs)
 filter_all p [] = tt
@@ -171,16 +161,10 @@ filter_all p (x ∷ xs) =
 
 -- ---- the entry at a place
 
-some_entry : (a b : TermEntry) → Some a ≡ Some b → a ≡ b
-some_entry a b e = cc
-
-none_entry : (a : TermEntry) → None ≡ Some a → ⊥
-none_entry a e = cc
-
 got_within : (entries : List TermEntry) (place : ℕ) (entry : TermEntry) → slice_get entries place ≡ Some entry
     → (place < length entries) × (get_or entries place entry ≡ entry)
-got_within [] place entry e = absurd (none_entry entry e)
-got_within (x ∷ xs) zero entry e = (omega arith, some_entry x entry e)
+got_within [] place entry e = absurd (none-some entry e)
+got_within (x ∷ xs) zero entry e = (omega arith, same_Some x entry e)
 got_within (x ∷ xs) (suc place) entry e = let r = got_within xs place entry e in (omega (arith, r.0), r.1)
 
 got_there : (entries : List TermEntry) (place : ℕ) (entry : TermEntry) → place < length entries → get_or entries place entry ≡ entry
@@ -204,8 +188,8 @@ found_at entries place term found s is = record {
 
 pub found_has : (entries : List TermEntry) (found : Option TermEntry) (entry : TermEntry) → IfSome found (λ entry. Contains entries entry)
     → found ≡ Some entry → Contains entries entry
-found_has entries None entry h e = absurd (none_entry entry e)
-found_has entries (Some a) entry h e = subst (Contains entries) (some_entry a entry e) h
+found_has entries None entry h e = absurd (none-some entry e)
+found_has entries (Some a) entry h e = subst (Contains entries) (same_Some a entry e) h
 
 -- ---- of a directory
 

@@ -1,6 +1,7 @@
 -- What holds of the directories of one part or two, and the first of their terms.
 use Rattle.std.proofs.Common.{◌≡◌, ℕ, List, [], ◌∷◌, refl, ap, sym, subst, append-nil}
 use Rattle.std.specs.Prelude.{Option, None, Some, slice_get}
+use Rattle.std.proofs.lemmas.Option.{same_Some}
 use Rattle.wu_part.specs.Directories.{IsDirectory}
 use Rattle.wu_job.specs.declared.sources.Source.{Source}
 use Rattle.wu_job.specs.declared.sources.Places.{Places}
@@ -34,16 +35,13 @@ whole_both left right other n m e is its =
           (record { entries = is.entries; below = is.below }, (record { entries = its.entries; below = its.below }, tt));
     })
 
-some_same : (a b : List ℕ) → Some a ≡ Some b → a ≡ b
-some_same a b e = cc
-
 none_some : (a : List ℕ) → None ≡ Some a → ⊥
 none_some a e = cc
 
 -- a list from its first item on
 pub first_and_later : (t : List ℕ) (terms : List (List ℕ)) → slice_get terms 0 ≡ Some t → (later : List (List ℕ)) × (terms ≡ t ∷ later)
 first_and_later t [] e = absurd (none_some t e)
-first_and_later t (x ∷ terms) e = (terms, ap (λ (y : List ℕ). y ∷ terms) (some_same x t e))
+first_and_later t (x ∷ terms) e = (terms, ap (λ (y : List ℕ). y ∷ terms) (same_Some x t e))
 
 same_source : (a b : Source) → Some a ≡ Some b → a ≡ b
 same_source a b e = cc

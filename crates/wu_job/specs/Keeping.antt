@@ -7,13 +7,14 @@ use Rattle.std.specs.List.Sorted.{IsStrictlySortedBy}
 use Rattle.wu_base.specs.declared.addresses.Range.{Range}
 use Rattle.wu_base.specs.declared.addresses.TermList.{TermList}
 use Rattle.wu_base.specs.declared.limits.TheConstants.{ADDRESSES_MAX, GENERATION_MAX, WORD_MAX}
+use Rattle.wu_layout.specs.Ascending.{AscendBetween}
 use Rattle.wu_layout.specs.Postings.{is_live}
 use Rattle.wu_part.specs.Buildings.{Building}
 use Rattle.wu_part.specs.Parts.{IsList}
 use Rattle.wu_part.specs.declared.entries.TermEntry.{TermEntry}
 use Rattle.wu_job.specs.Jobs.{JobPart, JobState, StandWithin, lowest, terms_of_part}
 use Rattle.wu_job.specs.Reading.{IsFound}
-use Rattle.wu_job.specs.Live.{AreRanked, AscendBetween, first_from, live_below, ranges_alone, total_of}
+use Rattle.wu_job.specs.Live.{AreRanked, first_from, live_below, ranges_alone, total_of}
 use Rattle.wu_job.specs.Sources.{AreAllPassed, ArePassed, AreSources, merged, parts_of, terms_from}
 use Rattle.wu_job.specs.declared.jobs.Job.TheInside as inside
 use Rattle.wu_job.specs.declared.live.Cut.{Cut}

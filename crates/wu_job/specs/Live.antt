@@ -5,11 +5,6 @@ use Rattle.wu_layout.specs.Postings.{is_live}
 use Rattle.wu_job.specs.declared.live.LiveRange.{LiveRange}
 use Rattle.wu_job.specs.declared.live.Cut.{Cut}
 
--- the addresses ascend strictly, none below the low one, and all below the high one
-abbrev pub AscendBetween : ℕ → ℕ → List ℕ → Type 0
-AscendBetween low high [] = low ≤ high
-AscendBetween low high (address ∷ addresses) = (low ≤ address) × AscendBetween (address + 1) high addresses
-
 abbrev pub range_alone : LiveRange → Range
 range_alone range = record { start = range.start; len = range.len }
 

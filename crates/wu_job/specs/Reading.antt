@@ -3,12 +3,13 @@ use Rattle.std.specs.Prelude.{◌≡◌, ◌⊎◌, ℕ, ◌+◌, ◌<◌, ◌�
 use Rattle.std.specs.List.{AllByRecursion, list_any}
 use Rattle.wu_base.specs.declared.addresses.Range.{Range}
 use Rattle.wu_outside.specs.Content.{Content}
+use Rattle.wu_layout.specs.Ascending.{AscendBetween}
 use Rattle.wu_layout.specs.Postings.{is_live}
 use Rattle.wu_part.specs.declared.entries.BlockEntry.{BlockEntry}
 use Rattle.wu_part.specs.declared.entries.TermEntry.{TermEntry}
 use Rattle.wu_part.specs.Parts.{HoldsBlock}
 use Rattle.wu_job.specs.Jobs.{JobPart, HoldsEntry, HoldsTerm}
-use Rattle.wu_job.specs.Live.{AscendBetween, live_below}
+use Rattle.wu_job.specs.Live.{live_below}
 use Rattle.wu_job.specs.Steps.{IsNoPart}
 use Rattle.wu_job.specs.declared.live.Cut.{Cut}
 

@@ -1,11 +1,12 @@
 //! A term's addresses in a part, from the store.
-ghost use Rattle.std.specs.Prelude.{◌≡◌, ◌==◌, ◌+◌, ◌<◌, [], ◌∷◌, ◌++◌, true, length, MatchOption, Some, IfOk, IfErr, IfSome, OnOk};
-ghost use Rattle.std.specs.List.{list_any};
+ghost use Rattle.std.specs.Prelude.{◌≡◌, ◌==◌, ◌+◌, ◌<◌, [], ◌∷◌, ◌++◌, true, false, get_or, length, MatchOption, Some, IfOk, IfErr, IfSome, OnOk};
+ghost use Rattle.std.specs.List.{AllByRecursion, list_any};
 ghost use Rattle.wu_base.specs.declared.limits.TheConstants.{ADDRESSES_MAX};
+ghost use Rattle.wu_layout.specs.Ascending.{AscendBetween};
 ghost use Rattle.wu_part.specs.Directories.{IsEntry};
 ghost use Rattle.wu_part.specs.declared.entries.TermEntry.{TermEntry};
 ghost use Rattle.wu_job.specs.Jobs.{HoldsEntry, HoldsTerm};
-ghost use Rattle.wu_job.specs.Live.{AreRanked, AscendBetween, ranges_alone, total_of};
+ghost use Rattle.wu_job.specs.Live.{AreRanked, ranges_alone, total_of};
 ghost use Rattle.wu_job.specs.Reading.{AreNoBlocks, EndsBefore, HasBytes, HoldsInBlock, IsCutOf, IsNew, IsNoBlock, IsFound, IsRefused};
 ghost use Rattle.wu_job.specs.Sources.{part_of};
 ghost use Rattle.wu_job.specs.Steps.{IsCause, IsNoPart, ReadsFront, adds, block_range, block_ranges, ranges_of};
@@ -45,12 +46,21 @@ pub(crate) fn live_addresses<D: Store>(
 {
     let found = read_term(alloc, store, source, entry, term)?;
     let cut = cut_to_live(alloc, live, &found)?;
-    if some_marked(marks, &cut.places) {
-        return Err(Trouble::Damaged {
-            blob: source.recorded.blob,
-        });
-    }
+    check_unmarked(marks, &cut.places, source.recorded.blob)?;
     Ok(cut)
+}
+
+/// Where one of the places is marked, the blob is damaged.
+fn check_unmarked(marks: &Marks, places: &[u64], blob: u64) -> Result<(), Trouble>
+    requires { AllByRecursion (λ place. place < length marks.now) places.now }
+    ensures none { OnOk result (list_any (λ place. get_or marks.now place false) places.now ≡ false) }
+    ensures some { IfErr result (λ trouble. (trouble ≡ Trouble.Damaged blob)
+        × (list_any (λ place. get_or marks.now place false) places.now ≡ true)) }
+{
+    if some_marked(marks, places) {
+        return Err(Trouble::Damaged { blob });
+    }
+    Ok(())
 }
 
 /// The addresses of the term in the part: none where its directory doesn't have the term.
@@ -157,13 +167,23 @@ fn read_one<D: Store>(
         IsNoBlock (content.blobs blob) low count block.now)) (D.faults store.old) (D.faults store.new)) }
 {
     let bytes = read_bytes(alloc, store, blob, block)?;
-    match read_block(alloc, &bytes, low, block, count)? {
+    let found = read_block(alloc, &bytes, low, block, count)?;
+    let addresses = checked(blob, found)?;
+    Ok(addresses)
+}
+
+/// What was found to be a block's addresses. Where none were, the blob is damaged.
+fn checked(blob: u64, found: Option<Vec<u64>>) -> Result<Vec<u64>, Trouble>
+    ensures found { IfOk result (λ addresses. found ≡ Some addresses) }
+    ensures none { IfErr result (λ trouble. (trouble ≡ Trouble.Damaged blob) × (found ≡ None)) }
+{
+    match found {
         Some(addresses) => Ok(addresses),
         None => Err(Trouble::Damaged { blob }),
     }
 }
 
-/// The block's bytes.
+/// The block's bytes. Memory is taken before the store is asked.
 fn read_bytes<D: Store>(
     alloc: Global,
     store: &mut D,
@@ -174,6 +194,7 @@ fn read_bytes<D: Store>(
     ensures holds { D.holds store.new ≡ D.holds store.old }
     ensures still { D.moments store.new ≡ D.moments store.old }
     ensures reads { OnOk result (D.reads store.new ≡ adds (block_range blob block.now ∷ []) (D.reads store.old)) }
+    ensures memory { result ≡ Err Trouble.NoMemory → D.reads store.new ≡ D.reads store.old }
     ensures front { IfErr result (ReadsFront (block_range blob block.now ∷ []) (D.reads store.old) (D.reads store.new)) }
     ensures calm { OnOk result (D.faults store.new ≡ D.faults store.old) }
     ensures cause { IfErr result (IsCause (λ broken. (blob ≡ broken) × IfSome (D.holds store.old) (λ content.

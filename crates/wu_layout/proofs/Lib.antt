@@ -21,3 +21,4 @@ pub mod Garbage
 pub mod Fetches
 pub mod ListLemmas
 pub mod ListTotals
+pub mod Ascending

@@ -3,3 +3,4 @@ pub mod Layouts
 pub mod Invariants
 pub mod Steps
 pub mod Changes
+pub mod Ascending

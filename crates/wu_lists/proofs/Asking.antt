@@ -11,7 +11,7 @@ use Rattle.wu_outside.specs.declared.ranges.ReadRange.{ReadRange}
 use Rattle.wu_layout.proofs.EachLemmas.{each-append}
 use Rattle.wu_lists.specs.declared.blocks.Block.{Block}
 use Rattle.wu_lists.specs.Blocks.{IsSpelledIn, range_of}
-use Rattle.wu_lists.specs.Keeping.{AreHeld, Asks, Kept, all_asked, all_missing, asked, missing}
+use Rattle.wu_lists.specs.Keeping.{AreHeld, Asks, AsksFirst, Kept, StaysHeld, all_asked, all_missing, asked, missing}
 use Rattle.wu_lists.specs.Causes.{IsCause}
 
 -- ---- lists
@@ -44,6 +44,17 @@ ranges-join (Some earlier) xs ys =
     ap Some (append_assoc earlier (map range_of xs) (map range_of ys)
     ∙ ap (λ (rs : List ReadRange). earlier ++ rs) (sym (map-append range_of xs ys)))
 
+-- ---- what is kept stays right
+
+pub stays : (holds : Option Content) (old new : Kept)
+    → ((blob : ℕ) (bytes : List ℕ) → AreHeld blob bytes old → AreHeld blob bytes new) → StaysHeld holds old new
+stays None old new step = tt
+stays (Some content) old new step = λ blob bytes there. step blob bytes
+
+stays-join : (holds : Option Content) (old mid new : Kept) → StaysHeld holds old mid → StaysHeld holds mid new → StaysHeld holds old new
+stays-join None old mid new p q = tt
+stays-join (Some content) old mid new p q = λ blob bytes there held. q blob bytes there (p blob bytes there held)
+
 -- ---- no block, and more blocks
 
 pub asks-none : (holds : Option Content) (kept : Kept) (ranges : Option (List ReadRange)) → Asks [] holds kept kept ranges ranges
@@ -52,17 +63,12 @@ asks-none holds kept ranges = record {
   kept = refl;
   read = ranges-none ranges;
   spelled = nothing holds;
-  held = itself holds;
+  held = stays holds kept kept (λ blob bytes held. held);
 }
   where
     nothing : (holds : Option Content) → IfSome holds (λ content. AllByRecursion (IsSpelledIn content) [])
     nothing None = tt
     nothing (Some content) = tt
-
-    itself : (holds : Option Content) → IfSome holds (λ content. (blob : ℕ) (bytes : List ℕ) → content.blobs blob ≡ Some bytes
-        → AreHeld blob bytes kept → AreHeld blob bytes kept)
-    itself None = tt
-    itself (Some content) = λ blob bytes there held. held
 
 module _ (holds : Option Content) (old mid new : Kept) (ranges between ranges_now : Option (List ReadRange)) where
   pub asks-join : (xs ys : List Block) → Asks xs holds old mid ranges between → Asks ys holds mid new between ranges_now
@@ -86,7 +92,7 @@ module _ (holds : Option Content) (old mid new : Kept) (ranges between ranges_no
             ∙ ranges-join ranges first (all_missing mid.cap (keys_of mid.entries) ys)
             ∙ ap (λ (bs : List Block). with_ranges ranges bs) joined;
         spelled = both holds first (all_missing mid.cap (keys_of mid.entries) ys) _ joined a.spelled b.spelled;
-        held = through holds a.held b.held;
+        held = stays-join holds old mid new a.held b.held;
       }
     where
       both : (holds : Option Content) (ms ns all : List Block) → ms ++ ns ≡ all
@@ -96,15 +102,62 @@ module _ (holds : Option Content) (old mid new : Kept) (ranges between ranges_no
       both None ms ns all e p q = tt
       both (Some content) ms ns all e p q = subst (AllByRecursion (IsSpelledIn content)) e (each-append (IsSpelledIn content) ms ns p q)
 
-      through : (holds : Option Content)
-          → IfSome holds (λ content. (blob : ℕ) (bytes : List ℕ) → content.blobs blob ≡ Some bytes
-          → AreHeld blob bytes old → AreHeld blob bytes mid)
-          → IfSome holds (λ content. (blob : ℕ) (bytes : List ℕ) → content.blobs blob ≡ Some bytes
-          → AreHeld blob bytes mid → AreHeld blob bytes new)
-          → IfSome holds (λ content. (blob : ℕ) (bytes : List ℕ) → content.blobs blob ≡ Some bytes
-          → AreHeld blob bytes old → AreHeld blob bytes new)
-      through None p q = tt
-      through (Some content) p q = λ blob bytes there held. q blob bytes there (p blob bytes there held)
+-- ---- up to an error
+
+module _ (holds : Option Content) (old new : Kept) where
+  -- no block was asked for
+  pub first-none : (blocks : List Block) → new ≡ old → AsksFirst blocks holds old new
+  first-none blocks same =
+      subst (AsksFirst blocks holds old) (sym same)
+      (record {
+        capacity = refl;
+        first = [];
+        later = blocks;
+        parted = refl;
+        kept = refl;
+        held = stays holds old old (λ blob bytes held. held);
+      })
+
+  -- one was, which was kept
+  pub first-kept : (block : Block) → new.cap ≡ old.cap → keys_of new.entries ≡ asked old.cap (keys_of old.entries) block
+      → ((blob : ℕ) (bytes : List ℕ) → AreHeld blob bytes old → AreHeld blob bytes new) → AsksFirst (block ∷ []) holds old new
+  first-kept block capacity keys held = record {
+    capacity = capacity;
+    first = block ∷ [];
+    later = [];
+    parted = refl;
+    kept = keys;
+    held = stays holds old new held;
+  }
+
+  -- all of them were
+  pub first-all : (ranges ranges_now : Option (List ReadRange)) (blocks : List Block) → Asks blocks holds old new ranges ranges_now
+      → AsksFirst blocks holds old new
+  first-all ranges ranges_now blocks a = record {
+    capacity = a.capacity;
+    first = blocks;
+    later = [];
+    parted = append-nil blocks;
+    kept = a.kept;
+    held = a.held;
+  }
+
+-- several were, and the first of others, of which there may be more
+pub first-join : (holds : Option Content) (old mid new : Kept) (ranges between : Option (List ReadRange)) (xs ys zs : List Block)
+    → Asks xs holds old mid ranges between → AsksFirst ys holds mid new → AsksFirst (xs ++ (ys ++ zs)) holds old new
+first-join holds old mid new ranges between xs ys zs a f = record {
+  capacity = f.capacity ∙ a.capacity;
+  first = xs ++ f.first;
+  later = f.later ++ zs;
+  parted =
+      append_assoc xs f.first (f.later ++ zs)
+      ∙ ap (λ (bs : List Block). xs ++ bs) (sym (append_assoc f.first f.later zs) ∙ ap (λ (bs : List Block). bs ++ zs) f.parted);
+  kept =
+      f.kept ∙ ap (λ (n : ℕ). all_asked n (keys_of mid.entries) f.first) a.capacity
+      ∙ ap (λ (ks : List Block). all_asked old.cap ks f.first) a.kept
+      ∙ sym (all_asked-append old.cap (keys_of old.entries) xs f.first);
+  held = stays-join holds old mid new a.held f.held;
+}
 
 -- ---- causes
 

@@ -1,8 +1,9 @@
 -- One block that is asked for: what is found, kept and read.
-use Rattle.std.proofs.Common.{◌≡◌, ℕ, ◌+◌, ◌≤◌, Bool, true, false, cond, List, [], ◌∷◌, ◌++◌, filter, refl, ap, sym, ◌∙◌, subst, arith, append-nil}
-use Rattle.std.specs.Prelude.{Option, None, Some, Result, Ok, Err, IfSome, IfNone, IfOk, IfErr}
+use Rattle.std.proofs.Common.{◌≡◌, ℕ, ◌+◌, ◌≤◌, Bool, true, false, cond, List, [], ◌∷◌, ◌++◌, filter, refl, ap, sym, ◌∙◌, subst, arith}
+use Rattle.std.specs.Prelude.{Option, None, Some, Result, Ok, Err, IfSome, IfNone, OnErr}
 use Rattle.std.specs.List.{AllByRecursion, list_any}
 use Rattle.std.specs.Map.{keys_of, lookup}
+use Rattle.std.proofs.lemmas.Option.{same_Some}
 use Rattle.wu_base.specs.declared.addresses.Range.{Range}
 use Rattle.wu_layout.specs.Postings.{is_live}
 use Rattle.wu_outside.specs.Content.{Content}
@@ -13,9 +14,9 @@ use Rattle.wu_lists.specs.Ascending.{AscendBetween}
 use Rattle.wu_lists.specs.Blocks.{HasBytes, IsSpelledIn, IsSpelling, bytes_of, meets}
 use Rattle.wu_lists.specs.Fetching.{AreFetched, HasBlock}
 use Rattle.wu_lists.specs.Gaining.{Gains}
-use Rattle.wu_lists.specs.Keeping.{AreHeld, Asks, Kept, all_missing, asked, is_same}
+use Rattle.wu_lists.specs.Keeping.{AreHeld, Asks, Kept, StaysHeld, all_missing, asked, is_same}
 use Rattle.wu_lists.proofs.Ascending.{ascend-filter}
-use Rattle.wu_lists.proofs.Asking.{with_ranges}
+use Rattle.wu_lists.proofs.Asking.{ranges-none, stays, with_ranges}
 use Rattle.wu_lists.proofs.Caching.{held-found, missing-none, missing-one}
 use Rattle.wu_lists.proofs.Spans.{none_live, spelled_ascend}
 
@@ -101,25 +102,16 @@ module _ (block : Block) (holds : Option Content) (old new : Kept) (ranges range
     capacity = capacity;
     kept = keys;
     read =
-        same ∙ nothing-read ranges
+        same ∙ ranges-none ranges
         ∙ ap (λ (bs : List Block). with_ranges ranges bs) (sym (missed-none block old there));
     spelled = nothing-spelled holds (all_missing old.cap (keys_of old.entries) (block ∷ [])) (missed-none block old there);
-    held = still holds;
+    held = stays holds old new held;
   }
     where
-      nothing-read : (ranges : Option (List ReadRange)) → ranges ≡ with_ranges ranges []
-      nothing-read None = refl
-      nothing-read (Some earlier) = ap Some (sym (append-nil earlier))
-
       nothing-spelled : (holds : Option Content) (bs : List Block) → bs ≡ []
           → IfSome holds (λ content. AllByRecursion (IsSpelledIn content) bs)
       nothing-spelled None bs e = tt
       nothing-spelled (Some content) bs e = subst (AllByRecursion (IsSpelledIn content)) (sym e) tt
-
-      still : (holds : Option Content) → IfSome holds (λ content. (blob : ℕ) (bytes : List ℕ) → content.blobs blob ≡ Some bytes
-          → AreHeld blob bytes old → AreHeld blob bytes new)
-      still None = tt
-      still (Some content) = λ blob bytes there h. held blob bytes h
 
   -- a block that was read
   pub asks-read : (bytes addresses : List ℕ) → list_any (is_same block) (keys_of old.entries) ≡ false
@@ -143,30 +135,21 @@ module _ (block : Block) (holds : Option Content) (old new : Kept) (ranges range
           subst (AllByRecursion (IsSpelledIn content)) (sym e)
           (record { bytes = bytes; has = h; addresses = addresses; spelled = spelled }, tt)
 
-      some_same : (a b : List ℕ) → Some a ≡ Some b → a ≡ b
-      some_same a b e = cc
-
-      still : (holds : Option Content) → IfSome holds (λ content. HasBytes content block bytes)
-          → IfSome holds (λ content. (blob : ℕ) (others : List ℕ) → content.blobs blob ≡ Some others
-          → AreHeld blob others old → AreHeld blob others new)
+      still : (holds : Option Content) → IfSome holds (λ content. HasBytes content block bytes) → StaysHeld holds old new
       still None h = tt
       still (Some content) h = λ blob others there before.
           held blob others
           (λ same.
           let blobs : h.blob ≡ others =
-          some_same h.blob others (sym h.there ∙ ap content.blobs same ∙ there) in
+          same_Some h.blob others (sym h.there ∙ ap content.blobs same ∙ there) in
           h.same ∙ ap (λ (l : List ℕ). bytes_of block l) blobs)
           before
 
 -- ---- of a result
 
-pub if_ok : {T E : Type 0} (P Q : T → Type 0) (r : Result T E) → ((value : T) → P value → Q value) → IfOk r P → IfOk r Q
-if_ok P Q (Ok value) step h = step value h
-if_ok P Q (Err error) step h = h
-
-pub if_err : {T E : Type 0} (P Q : E → Type 0) (r : Result T E) → ((error : E) → P error → Q error) → IfErr r P → IfErr r Q
-if_err P Q (Ok value) step h = h
-if_err P Q (Err error) step h = step error h
+pub on_err : {T E P : Type 0} (r : Result T E) → P → OnErr r P
+on_err (Ok value) p = tt
+on_err (Err error) p = p
 
 pub if_some : {T : Type 0} (P : Type 0) (o : Option T) → P → IfSome o (λ value. P)
 if_some P None p = tt
@@ -192,8 +175,5 @@ pub told-read : (block : Block) (holds : Option Content) (kept : Kept) (bytes ad
     → IsSpelling block addresses (bytes_of block blob))
 told-read block None kept bytes addresses has spelled = tt
 told-read block (Some content) kept bytes addresses has spelled = λ blob is held.
-    let same : has.blob ≡ blob = found_same has.blob blob (sym has.there ∙ is) in
+    let same : has.blob ≡ blob = same_Some has.blob blob (sym has.there ∙ is) in
     subst (IsSpelling block addresses) (has.same ∙ ap (λ (l : List ℕ). bytes_of block l) same) spelled
-  where
-    found_same : (a b : List ℕ) → Some a ≡ Some b → a ≡ b
-    found_same a b e = cc

@@ -2,6 +2,7 @@
 use Rattle.std.proofs.Common.{◌≡◌, ℕ, ◌+◌, ◌-◌, List, [], ◌∷◌, ◌++◌, length, take, drop, refl, ap, sym, ◌∙◌, subst, arith}
 use Rattle.std.specs.Prelude.{Option, None, Some, Result, Err}
 use Rattle.std.proofs.lemmas.List.{take_all}
+use Rattle.std.proofs.lemmas.Option.{same_Some}
 use Rattle.wu_base.specs.declared.troubles.Trouble.TheVariants.{NoMemory as RanOutOfMemory, Damaged}
 use Rattle.wu_outside.specs.Content.{Content, ReadsFrom}
 use Rattle.wu_outside.specs.Faults.{HasFaultCause, trouble_of}
@@ -12,9 +13,6 @@ use Rattle.wu_lists.specs.declared.blocks.Block.{Block}
 use Rattle.wu_lists.specs.Blocks.{HasBytes, IsSpelledIn, IsSpelling, bytes_of}
 use Rattle.wu_lists.specs.Causes.{IsCause}
 use Rattle.wu_lists.proofs.Asking.{ranges-none, with_ranges}
-
-pub some_same : {X : Type 0} (a b : X) → Some a ≡ Some b → a ≡ b
-some_same a b e = cc
 
 slice-same : (block : Block) (blob : List ℕ) → bytes_of block blob ≡ take block.len (drop block.at blob)
 slice-same block blob =
@@ -36,7 +34,7 @@ module _ (content : Content) (block : Block) (count : Option ℕ) (buffer : List
         | None ↦ λ e r. absurd (let f : Some n ≡ None = sym some ∙ r in cc)
         | Some blob ↦ λ e r.
             let taken : List ℕ = take (length buffer) (drop block.at blob) in
-            let all : n ≡ length taken = some_same n (length taken) (sym some ∙ r.0) in
+            let all : n ≡ length taken = same_Some n (length taken) (sym some ∙ r.0) in
             let same : buffer ≡ taken =
             sym (take_all (length taken) buffer (omega (arith, all, whole))) ∙ r.1 in
             record { blob = blob; there = e; whole = long; same = same ∙ same-given blob }
@@ -56,7 +54,7 @@ module _ (content : Content) (block : Block) (count : Option ℕ) (buffer : List
 pub unspelled : (content : Content) (block : Block) (bytes : List ℕ) → HasBytes content block bytes
     → ((addresses : List ℕ) → IsSpelling block addresses bytes → ⊥) → IsSpelledIn content block → ⊥
 unspelled content block bytes h none s =
-    let blob : s.has.blob ≡ h.blob = some_same s.has.blob h.blob (sym s.has.there ∙ h.there) in
+    let blob : s.has.blob ≡ h.blob = same_Some s.has.blob h.blob (sym s.has.there ∙ h.there) in
     let same : s.bytes ≡ bytes = s.has.same ∙ ap (λ (l : List ℕ). bytes_of block l) blob ∙ sym h.same in
     none s.addresses (subst (IsSpelling block s.addresses) same s.spelled)
 

@@ -4,6 +4,7 @@ use Rattle.std.specs.Prelude.{Some}
 use Rattle.std.specs.List.{AllByRecursion, last_or}
 use Rattle.std.proofs.lemmas.Bool.{cases_lt, le-leb, lt-leb, lt-ltb, le-ltb, and_left, and_right, and_from}
 use Rattle.std.proofs.lemmas.List.{take-append-drop}
+use Rattle.std.proofs.lemmas.Option.{same_Some}
 use Rattle.wu_base.specs.declared.addresses.Range.{Range}
 use Rattle.wu_layout.specs.Postings.{is_in, is_live}
 use Rattle.wu_vbyte.specs.Blocks.{SpellsGaps}
@@ -82,19 +83,16 @@ needed_none (f ∷ fs) block n = absurd (omega arith)
 
 -- ---- the addresses of a block
 
-some_same : (a b : ℕ) → Some a ≡ Some b → a ≡ b
-some_same a b e = cc
-
 gaps_ascend : (before last : ℕ) (later bytes : List ℕ) → SpellsGaps before later bytes → last_or (Some before) later ≡ Some last
     → AscendBetween (before + 1) (last + 1) later
-gaps_ascend before last [] bytes g e = let same : before ≡ last = some_same before last e in omega arith
+gaps_ascend before last [] bytes g e = let same : before ≡ last = same_Some before last e in omega arith
 gaps_ascend before last (a ∷ later) bytes g e = (omega (arith, g.0), gaps_ascend a last later g.1 g.3 e)
 
 pub spelled_ascend : (block : Block) (addresses bytes : List ℕ) → IsSpelling block addresses bytes
     → AscendBetween block.first (block.last + 1) addresses
 spelled_ascend block [] bytes s = absurd s.spelled
 spelled_ascend block (first ∷ later) bytes s =
-    let same : first ≡ block.first = some_same first block.first s.span.begin in
+    let same : first ≡ block.first = same_Some first block.first s.span.begin in
     (omega (arith, same), gaps_ascend first block.last later s.spelled.1 s.spelled.3 s.span.end)
 
 -- ---- a block that no frame overlaps with

@@ -1,6 +1,5 @@
 -- Addresses that are counted beside frames.
 use Rattle.std.proofs.Common.{◌≡◌, ℕ, suc, ◌+◌, ◌-◌, ◌^◌, ◌<◌, ◌≤◌, ◌&&◌, ◌||◌, nat_le, min, not, Bool, true, false, cond, List, [], ◌∷◌, ◌++◌, filter, length, get_or, take, drop, refl, ap, ap₂, sym, ◌∙◌, subst, arith, leb, ltb, append-nil, append_assoc, length-append, ⊎_elim}
-use Rattle.std.specs.Prelude.{Result, Ok, Err, OnOk}
 use Rattle.std.specs.List.{AllByRecursion, list_any}
 use Rattle.std.proofs.lemmas.Bool.{cases_lt, le-leb, lt-leb, lt-ltb, le-ltb, leb-true, ltb-true, and_left, and_right, and_from, and_parts}
 use Rattle.std.proofs.lemmas.List.{take-append-drop}
@@ -295,7 +294,3 @@ module _ (frames : List Range) (order : AreInOrder 0 (2 ^ 64 - 1) frames) where
   pub tallied : (Kind : List ℕ → Type 0) (before after : Tally) → Gains (λ more t u. u ≡ tally_on frames t more) Kind before after
       → Tallies frames Kind before after
   tallied Kind before after g = record { more = g.more; kind = g.kind; told = counts g.more before after g.gained }
-
-pub on_ok : {T E : Type 0} (P Q : Type 0) (r : Result T E) → (P → Q) → OnOk r P → OnOk r Q
-on_ok P Q (Ok value) step p = step p
-on_ok P Q (Err error) step p = p

@@ -19,7 +19,7 @@ use Rattle.wu_part.specs.Parts.{HoldBlocks, HoldsBlock}
 use Rattle.wu_lists.specs.declared.blocks.Block.{Block}
 use Rattle.wu_lists.specs.Ascending.{AreInOrder}
 use Rattle.wu_lists.specs.Blocks.{IsSpelling, IsSpelledIn, blocks_from, bytes_of, meets}
-use Rattle.wu_lists.specs.Fetching.{AreFetched, HasBlock, HasBlocks}
+use Rattle.wu_lists.specs.Fetching.{AreFetched, AreInFrames, HasBlock, HasBlocks}
 use Rattle.wu_lists.specs.Gaining.{Gains, OpenAlike}
 use Rattle.wu_lists.specs.Keeping.{AreHeld, Asks, Kept}
 use Rattle.wu_lists.specs.Walking.{IsFound, IsRest, IsWalked}
@@ -312,3 +312,14 @@ module _ (X : Type 0) (Gain : List ℕ → X → X → Type 0) (AreWanted : Type
                 (IsFound frames blob low (entry.last + 1) all next holds old) before found more_found joins found-next
                 (w.found_of wanted) (gained_in_all more_found (gains wanted));
           }
+
+          -- after a block of which nothing was gained
+          pub gained-before : (found_now : X) → (AreWanted → Near [] found found_now) → AreWanted
+              → Gains Gain (AreInFrames frames) before found_now
+          gained-before found_now none wanted =
+              gains-join Gain (IsFound frames blob low w.from all rest holds old) (λ more. more ≡ []) (AreInFrames frames) before found
+              found_now joins
+              (λ xs ys f nothing.
+              subst (AreInFrames frames) (sym (append-nil xs) ∙ ap (λ (l : List ℕ). xs ++ l) (sym nothing)) f.in_frames)
+              (w.found_of wanted)
+              (record { more = []; gained = nearby [] found found_now opened_alike tt (none wanted); kind = refl })

@@ -1,11 +1,7 @@
--- Addresses that ascend, and frames in order.
+-- Frames in order; and addresses that ascend, as the layout says it.
 use Rattle.std.specs.Prelude.{ℕ, ◌+◌, ◌≤◌, List, [], ◌∷◌}
 use Rattle.wu_base.specs.declared.addresses.Range.{Range}
-
--- the addresses ascend strictly, none below the low one, and all below the high one
-abbrev pub AscendBetween : ℕ → ℕ → List ℕ → Type 0
-AscendBetween low high [] = low ≤ high
-AscendBetween low high (address ∷ addresses) = (low ≤ address) × AscendBetween (address + 1) high addresses
+pub use Rattle.wu_layout.specs.Ascending.{AscendBetween}
 
 -- from low on, each frame ends before the next one starts, and the last one by high
 abbrev pub AreInOrder : ℕ → ℕ → List Range → Type 0

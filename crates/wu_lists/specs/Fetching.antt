@@ -1,5 +1,5 @@
 -- The addresses that are fetched.
-use Rattle.std.specs.Prelude.{ℕ, ◌≡◌, List, [], ◌++◌, Option, None, Some, IfSome, true, filter, length}
+use Rattle.std.specs.Prelude.{ℕ, ◌≡◌, List, [], Option, None, Some, IfSome, true, filter, length}
 use Rattle.std.specs.List.{AllByRecursion}
 use Rattle.wu_base.specs.declared.addresses.Range.{Range}
 use Rattle.wu_layout.specs.Postings.{is_live}
@@ -13,20 +13,18 @@ use Rattle.wu_lists.specs.Ascending.{AscendBetween}
 use Rattle.wu_lists.specs.Blocks.{IsSpelling, bytes_of, entry_of}
 use Rattle.wu_lists.specs.Keeping.{AreHeld, Kept}
 
+-- each of the addresses lies in a frame
+abbrev pub AreInFrames : List Range → List ℕ → Type 0
+AreInFrames frames addresses = AllByRecursion (λ address. is_live frames address ≡ true) addresses
+
 -- The addresses ascend from low up to, but without, high, and lie in the frames. Where the store tells that it has the blob, the blob has
 -- all of some addresses, and what is kept of it is what it has, they are those of these addresses that lie in the frames.
 pub record AreFetched (Has : List ℕ → List ℕ → Type 0) (frames : List Range) (blob low high : ℕ) (holds : Option Content) (kept : Kept)
     (found : List ℕ) : Type 0 where
   pub ascend : AscendBetween low high found
-  pub live : AllByRecursion (λ address. is_live frames address ≡ true) found
+  pub live : AreInFrames frames found
   pub told : IfSome holds (λ content. (bytes addresses : List ℕ) → content.blobs blob ≡ Some bytes → AreHeld blob bytes kept
       → Has bytes addresses → found ≡ filter (is_live frames) addresses)
-
--- addresses of a kind were put at the end
-pub record Puts (Kind : List ℕ → Type 0) (before after : List ℕ) : Type 0 where
-  pub more : List ℕ
-  pub put : after ≡ before ++ more
-  pub kind : Kind more
 
 -- the entry's addresses, by these bytes of its part; none where there is no entry
 abbrev pub HasEntry : ℕ → List ℕ → List ℕ → Option TermEntry → List ℕ → Type 0

@@ -45,6 +45,12 @@ IsChecked entry = (addresses : List ℕ) × IsSpelling entry.0 addresses entry.1
 abbrev pub AreHeld : ℕ → List ℕ → Kept → Type 0
 AreHeld blob bytes kept = AllByRecursion (λ entry. entry.0.blob ≡ blob → entry.1 ≡ bytes_of entry.0 bytes) kept.entries
 
+-- what is kept of a blob stays right
+abbrev pub StaysHeld : Option Content → Kept → Kept → Type 0
+StaysHeld holds old new =
+    IfSome holds (λ content. (blob : ℕ) (bytes : List ℕ) → content.blobs blob ≡ Some bytes → AreHeld blob bytes old
+    → AreHeld blob bytes new)
+
 -- The blocks were asked for in turn. Those that weren't kept were read, each in one read of its range, and spell addresses as the
 -- directory tells. What is kept of a blob stays right.
 pub record Asks (blocks : List Block) (holds : Option Content) (old new : Kept) (ranges ranges_now : Option (List ReadRange)) : Type 0 where
@@ -53,5 +59,13 @@ pub record Asks (blocks : List Block) (holds : Option Content) (old new : Kept) 
   pub read : ranges_now
       ≡ option_map (λ earlier. earlier ++ map range_of (all_missing old.cap (keys_of old.entries) blocks)) ranges
   pub spelled : IfSome holds (λ content. AllByRecursion (IsSpelledIn content) (all_missing old.cap (keys_of old.entries) blocks))
-  pub held : IfSome holds (λ content. (blob : ℕ) (bytes : List ℕ) → content.blobs blob ≡ Some bytes → AreHeld blob bytes old
-      → AreHeld blob bytes new)
+  pub held : StaysHeld holds old new
+
+-- After an error: the first of the blocks were asked for in turn, and none of the later ones. What is kept of a blob stays right.
+pub record AsksFirst (blocks : List Block) (holds : Option Content) (old new : Kept) : Type 0 where
+  pub capacity : new.cap ≡ old.cap
+  pub first : List Block
+  pub later : List Block
+  pub parted : first ++ later ≡ blocks
+  pub kept : keys_of new.entries ≡ all_asked old.cap (keys_of old.entries) first
+  pub held : StaysHeld holds old new

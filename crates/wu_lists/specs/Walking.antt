@@ -1,6 +1,5 @@
 -- How far the blocks of a term were gone through.
-use Rattle.std.specs.Prelude.{ℕ, ◌≡◌, ◌≤◌, ◌+◌, ◌-◌, ◌^◌, ◌++◌, List, Option, Some, IfSome, true, filter}
-use Rattle.std.specs.List.{AllByRecursion}
+use Rattle.std.specs.Prelude.{ℕ, ◌≡◌, ◌≤◌, ◌+◌, ◌-◌, ◌^◌, ◌++◌, List, Option, Some, IfSome, filter}
 use Rattle.wu_base.specs.declared.addresses.Range.{Range}
 use Rattle.wu_layout.specs.Postings.{is_live}
 use Rattle.wu_outside.specs.Content.{Content}
@@ -10,7 +9,7 @@ use Rattle.wu_part.specs.Directories.{AreBlocks}
 use Rattle.wu_lists.specs.declared.blocks.Block.{Block}
 use Rattle.wu_lists.specs.Ascending.{AscendBetween, AreInOrder}
 use Rattle.wu_lists.specs.Blocks.{blocks_from, meets}
-use Rattle.wu_lists.specs.Fetching.{HasBlocks}
+use Rattle.wu_lists.specs.Fetching.{AreInFrames, HasBlocks}
 use Rattle.wu_lists.specs.Gaining.{Gains, OpenAlike}
 use Rattle.wu_lists.specs.Keeping.{AreHeld, Asks, Kept}
 
@@ -24,7 +23,7 @@ pub record IsRest (frames : List Range) (low : ℕ) (rest : TermEntry) (bytes ad
 pub record IsFound (frames : List Range) (blob low from : ℕ) (all rest : TermEntry) (holds : Option Content) (kept : Kept)
     (found : List ℕ) : Type 0 where
   pub ascend : AscendBetween low from found
-  pub in_frames : AllByRecursion (λ address. is_live frames address ≡ true) found
+  pub in_frames : AreInFrames frames found
   pub told : IfSome holds (λ content. (bytes addresses : List ℕ) → content.blobs blob ≡ Some bytes → AreHeld blob bytes kept
       → HasBlocks low all.count all.blocks bytes addresses → IsRest frames low rest bytes addresses found)
 

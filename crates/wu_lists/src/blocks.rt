@@ -2,7 +2,7 @@
 ghost use Rattle.std.proofs.Common.{rules};
 ghost use Rattle.std.specs.Cmp.Rules.{hashing};
 ghost use Rattle.std.specs.Hash as fed;
-ghost use Rattle.std.specs.Prelude.{◌≡◌, ◌++◌, ℕ, List, [], ◌∷◌, length, option_map, IfOk, IfErr, IfSome, IfNone, OnOk};
+ghost use Rattle.std.specs.Prelude.{◌≡◌, ◌<◌, ◌≤◌, ◌++◌, ℕ, List, [], ◌∷◌, length, max, option_map, vec_capacity, IfOk, IfErr, IfSome, IfNone, OnOk, OnErr};
 ghost use Rattle.wu_lists.specs.Blocks.{HasBytes, IsSpelledIn, IsSpelling, range_of};
 ghost use Rattle.wu_lists.specs.Causes.{IsCause};
 
@@ -45,7 +45,7 @@ impl Hash for Block {
 
 impl Block {
     /// The block's addresses, of which the bytes are the spelling. `None` exactly where they are no such
-    /// spelling.
+    /// spelling. Takes memory only where the bytes are enough for so many addresses.
     pub(crate) fn addresses(
         &self,
         alloc: Global,
@@ -53,13 +53,25 @@ impl Block {
     ) -> Result<Option<Vec<u64>>, NoMemory>
         ensures found { IfOk result (λ read. IfSome read (λ found. IsSpelling self.now found.items bytes.now)) }
         ensures none { IfOk result (λ read. IfNone read ((addresses : List ℕ) → IsSpelling self.now addresses bytes.now → ⊥)) }
+        ensures memory { OnErr result (self.now.count ≤ length bytes.now) }
     {
         take_block(alloc, bytes, self.low, self.count, self.first, self.last)
     }
 }
 
+/// What was found to be the block's addresses. Where none were, its blob is damaged.
+pub(crate) fn checked(block: &Block, found: Option<Vec<u64>>) -> Result<Vec<u64>, Trouble>
+    ensures found { IfOk result (λ addresses. found ≡ Some addresses) }
+    ensures none { IfErr result (λ trouble. (trouble ≡ Trouble.Damaged block.now.blob) × (found ≡ None)) }
+{
+    match found {
+        Some(addresses) => Ok(addresses),
+        None => Err(Trouble::Damaged { blob: block.blob }),
+    }
+}
+
 /// The block's bytes, all of them, in one read of that range, in the vector that is given for them. Where the
-/// blob is absent or ends before, it is damaged.
+/// blob is absent or ends before, it is damaged. Memory is taken before the store is asked.
 pub(crate) fn read_bytes<D: Store>(
     store: &mut D,
     block: &Block,
@@ -69,6 +81,7 @@ pub(crate) fn read_bytes<D: Store>(
     ensures holds { D.holds store.new ≡ D.holds store.old }
     ensures moments { D.moments store.new ≡ D.moments store.old }
     ensures reads { OnOk result (D.reads store.new ≡ option_map (λ ranges. ranges ++ range_of block.now ∷ []) (D.reads store.old)) }
+    ensures memory { result ≡ Err Trouble.NoMemory → D.reads store.new ≡ D.reads store.old }
     ensures calm { OnOk result (D.faults store.new ≡ D.faults store.old) }
     ensures cause { IfErr result (IsCause (block.now ∷ []) block.now.blob
         (IfSome (D.holds store.old) (λ content. IsSpelledIn content block.now → ⊥))
@@ -81,11 +94,22 @@ pub(crate) fn read_bytes<D: Store>(
     }
 }
 
-/// Gives the vector that length. Where it had less room it has no more than that, since it is kept with a block.
+/// Gives the vector that length. Out of memory, it had less room.
 fn set_len(bytes: &mut Vec<u8>, len: usize) -> Result<(), NoMemory>
-    ensures { OnOk result (length bytes.new.items ≡ len) }
+    ensures long { OnOk result (length bytes.new.items ≡ len) }
+    ensures full { OnErr result (vec_capacity bytes.old < len) }
+{
+    make_room(bytes, len)?;
+    bytes.resize(len, 0)?;
+    Ok(())
+}
+
+/// Makes room for so many bytes. Where there was less there is no more than that, since a vector is kept with its
+/// block.
+fn make_room(bytes: &mut Vec<u8>, len: usize) -> Result<(), NoMemory>
+    ensures room { OnOk result (vec_capacity bytes.new ≡ max (vec_capacity bytes.old) len) }
+    ensures full { OnErr result (vec_capacity bytes.old < len) }
 {
     bytes.reserve_exact(len.saturating_sub(bytes.len()))?;
-    bytes.resize(len, 0)?;
     Ok(())
 }

@@ -1,6 +1,6 @@
 //! Addresses and blocks beside frames, both walked by galloping: J. L. Bentley and A. C. Yao, An almost optimal
 //! algorithm for unbounded searching, 1976.
-ghost use Rattle.std.specs.Prelude.{◌≡◌, ◌+◌, ◌-◌, ◌^◌, ◌<◌, ◌≤◌, ◌++◌, ℕ, filter, length, take, drop, nat_le, OnOk};
+ghost use Rattle.std.specs.Prelude.{◌≡◌, ◌+◌, ◌-◌, ◌^◌, ◌<◌, ◌≤◌, ◌++◌, ℕ, List, filter, length, take, drop, nat_le, OnOk, OnErr};
 ghost use Rattle.std.specs.List.{AllByRecursion};
 ghost use Rattle.wu_layout.specs.Postings.{is_live};
 ghost use Rattle.wu_lists.specs.Ascending.{AscendBetween, AreInOrder};
@@ -16,11 +16,29 @@ use wu_base::{NoMemory, Range};
 
 /// Appends the addresses that lie in one of the frames. Takes a number of steps that is at most that of the
 /// addresses, and at most that of the frames, each of time logarithmic in what it passes over, and time for
-/// what it appends. Out of memory, some may have been appended.
+/// what it appends. Out of memory, nothing is appended.
 pub fn put_within(found: &mut Vec<u64>, addresses: &[u64], frames: &[Range]) -> Result<(), NoMemory>
     requires ascend { AscendBetween 0 (2 ^ 64 - 1) addresses.now }
     requires order { AreInOrder 0 (2 ^ 64 - 1) frames.now }
-    ensures { OnOk result (found.new.items ≡ found.old.items ++ filter (is_live frames.now) addresses.now) }
+    ensures ok { OnOk result (found.new.items ≡ found.old.items ++ filter (is_live frames.now) addresses.now) }
+    ensures err { OnErr result (found.new.items ≡ found.old.items) }
+{
+    let before = found.len();
+    match append_within(found, addresses, frames) {
+        Ok(()) => Ok(()),
+        Err(error) => {
+            found.truncate(before);
+            Err(error)
+        }
+    }
+}
+
+/// The same, but for this: out of memory, the first of them may have been appended.
+fn append_within(found: &mut Vec<u64>, addresses: &[u64], frames: &[Range]) -> Result<(), NoMemory>
+    requires ascend { AscendBetween 0 (2 ^ 64 - 1) addresses.now }
+    requires order { AreInOrder 0 (2 ^ 64 - 1) frames.now }
+    ensures ok { OnOk result (found.new.items ≡ found.old.items ++ filter (is_live frames.now) addresses.now) }
+    ensures front { OnErr result ((more : List ℕ) × (found.new.items ≡ found.old.items ++ more)) }
 {
     let mut rest = addresses;
     let mut left = frames;

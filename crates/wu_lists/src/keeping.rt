@@ -1,14 +1,14 @@
 //! The blocks that are kept, and those that are read to be kept.
-ghost use Rattle.std.specs.Prelude.{◌≡◌, ◌+◌, ℕ, List, [], ◌∷◌, true, false, IfOk, IfErr, IfSome, IfNone, OnOk, Some, None};
+ghost use Rattle.std.specs.Prelude.{◌≡◌, ◌+◌, ℕ, List, [], ◌∷◌, true, false, IfOk, IfErr, IfSome, IfNone, MatchOption, OnErr, OnOk, Some, None};
 ghost use Rattle.std.specs.List.{list_any};
 ghost use Rattle.std.specs.Map.{keys_of, lookup};
 ghost use Rattle.lru.specs.LruCache.{IsValid};
 ghost use Rattle.wu_lists.specs.Ascending.{AscendBetween};
 ghost use Rattle.wu_lists.specs.Blocks.{HasBytes, IsSpelledIn, IsSpelling, bytes_of};
 ghost use Rattle.wu_lists.specs.Causes.{IsCause};
-ghost use Rattle.wu_lists.specs.Keeping.{AreHeld, Asks, IsChecked, all_missing, asked, is_same};
+ghost use Rattle.wu_lists.specs.Keeping.{AreHeld, Asks, AsksFirst, IsChecked, all_missing, asked, is_same};
 
-use crate::blocks::{Block, read_bytes};
+use crate::blocks::{Block, checked, read_bytes};
 use crate::lists::Lists;
 use std::alloc::Global;
 use std::mem;
@@ -29,6 +29,7 @@ impl Lists {
             → IsSpelling block.now found.items (bytes_of block.now bytes))) }
         ensures blocks { OnOk result (Asks (block.now ∷ []) (D.holds store.old) self.old self.new
             (D.reads store.old) (D.reads store.new)) }
+        ensures kept { OnErr result (AsksFirst (block.now ∷ []) (D.holds store.old) self.old self.new) }
         ensures holds { D.holds store.new ≡ D.holds store.old }
         ensures moments { D.moments store.new ≡ D.moments store.old }
         ensures calm { OnOk result (D.faults store.new ≡ D.faults store.old) }
@@ -71,6 +72,7 @@ impl Lists {
             keys_of self.new.entries ≡ asked self.old.cap (keys_of self.old.entries) block.now)) }
         ensures absent { IfOk result (λ kept. IfNone kept
             ((lookup (is_same block.now) self.old.entries ≡ None) × (self.new ≡ self.old))) }
+        ensures err { OnErr result (keys_of self.new.entries ≡ asked self.old.cap (keys_of self.old.entries) block.now) }
         ensures capacity { self.new.cap ≡ self.old.cap }
         ensures held { (blob : ℕ) (bytes : List ℕ) → AreHeld blob bytes self.old → AreHeld blob bytes self.new }
     {
@@ -82,7 +84,8 @@ impl Lists {
         block.addresses(self.alloc, bytes.as_slice())
     }
 
-    /// The addresses of a block that isn't kept: it is read, checked and kept.
+    /// The addresses of a block that isn't kept: it is read, checked and kept. After an error the same ones are kept
+    /// as before.
     pub(crate) fn read<D: Store>(
         &mut self,
         store: &mut D,
@@ -93,6 +96,7 @@ impl Lists {
             × IfSome (D.holds store.old) (λ content. HasBytes content block.now bytes)) }
         ensures blocks { OnOk result (Asks (block.now ∷ []) (D.holds store.old) self.old self.new
             (D.reads store.old) (D.reads store.new)) }
+        ensures err { OnErr result (self.new ≡ self.old) }
         ensures holds { D.holds store.new ≡ D.holds store.old }
         ensures moments { D.moments store.new ≡ D.moments store.old }
         ensures calm { OnOk result (D.faults store.new ≡ D.faults store.old) }
@@ -102,13 +106,10 @@ impl Lists {
     {
         let room = self.take_room();
         let bytes = read_bytes(store, block, room)?;
-        match block.addresses(self.alloc, &bytes)? {
-            Some(addresses) => {
-                self.keep(block, bytes)?;
-                Ok(addresses)
-            }
-            None => Err(Trouble::Damaged { blob: block.blob }),
-        }
+        let found = block.addresses(self.alloc, &bytes)?;
+        let addresses = checked(block, found)?;
+        self.keep(block, bytes)?;
+        Ok(addresses)
     }
 
     /// A vector to read a block to.
@@ -127,6 +128,7 @@ impl Lists {
         ensures capacity { OnOk result (self.new.cap ≡ self.old.cap) }
         ensures held { OnOk result ((blob : ℕ) (others : List ℕ) → (block.now.blob ≡ blob → bytes.items ≡ bytes_of block.now others)
             → AreHeld blob others self.old → AreHeld blob others self.new) }
+        ensures err { OnErr result (self.new ≡ self.old) }
     {
         self.is_valid();
         let given_up = self.kept.push(*block, Bytes::from(bytes))?;
@@ -136,7 +138,9 @@ impl Lists {
 }
 
 /// The vector of the block that was given up, if one was.
-fn room_of(alloc: Global, given_up: Option<(Block, Bytes)>) -> Vec<u8> {
+fn room_of(alloc: Global, given_up: Option<(Block, Bytes)>) -> Vec<u8>
+    ensures { MatchOption given_up (result.items ≡ []) (λ entry. result.items ≡ entry.1) }
+{
     match given_up {
         Some((_, bytes)) => bytes.into_vec(),
         None => Vec::new(alloc),

@@ -1,12 +1,12 @@
 //! The lists of terms in parts, and the blocks that are kept of them.
-ghost use Rattle.std.specs.Prelude.{◌≡◌, ◌+◌, ◌≤◌, [], All, IfOk, IfErr, OnOk};
+ghost use Rattle.std.specs.Prelude.{◌≡◌, ◌+◌, ◌≤◌, [], All, IfOk, IfErr, OnErr, OnOk};
 ghost use Rattle.lru.specs.LruCache.{lru_cache};
 ghost use Rattle.wu_base.specs.declared.limits.TheConstants.{ADDRESSES_MAX};
 ghost use Rattle.wu_space.specs.Addresses.{AreApart};
 ghost use Rattle.wu_lists.specs.Blocks.{needed};
 ghost use Rattle.wu_lists.specs.Causes.{IsTermCause};
-ghost use Rattle.wu_lists.specs.Fetching.{AreFetched, HasTerm, Puts};
-ghost use Rattle.wu_lists.specs.Keeping.{Asks};
+ghost use Rattle.wu_lists.specs.Fetching.{AreFetched, AreInFrames, HasTerm};
+ghost use Rattle.wu_lists.specs.Keeping.{Asks, AsksFirst};
 ghost use Rattle.wu_lists.specs.Tallying.{Tallies};
 
 use crate::blocks::Block;
@@ -64,7 +64,8 @@ impl Lists {
     /// ago where there are too many.
     ///
     /// The blob is damaged where it is absent, where it ends before a block that is to be read, or where that
-    /// block isn't the spelling of addresses as the directory tells.
+    /// block isn't the spelling of addresses as the directory tells. After an error what was kept is kept, but for what
+    /// was given up for the first of the blocks.
     pub fn fetch<D: Store>(
         &mut self,
         store: &mut D,
@@ -79,6 +80,7 @@ impl Lists {
             (D.holds store.old) self.old) }
         ensures blocks { OnOk result (Asks (needed blob dir.now term.now frames.now) (D.holds store.old) self.old self.new
             (D.reads store.old) (D.reads store.new)) }
+        ensures kept { OnErr result (AsksFirst (needed blob dir.now term.now frames.now) (D.holds store.old) self.old self.new) }
         ensures holds { D.holds store.new ≡ D.holds store.old }
         ensures moments { D.moments store.new ≡ D.moments store.old }
         ensures calm { OnOk result (D.faults store.new ≡ D.faults store.old) }
@@ -86,38 +88,13 @@ impl Lists {
             (D.faults store.old) (D.faults store.new) (D.reads store.old) (D.reads store.new)) }
     {
         let mut found = Vec::new(self.alloc);
-        self.fetch_into(store, blob, dir, term, frames, &mut found)?;
+        self.walk(store, blob, dir, term, frames, &mut found)?;
         Ok(Sequence::from(found))
-    }
-
-    /// Appends the addresses that [`Lists::fetch`] gives. After an error some of them may have been appended.
-    pub fn fetch_into<D: Store>(
-        &mut self,
-        store: &mut D,
-        blob: u64,
-        dir: &Directory,
-        term: &[u8],
-        frames: &[Range],
-        found: &mut Vec<u64>,
-    ) -> Result<(), Trouble>
-        requires apart { AreApart frames.now }
-        requires bounded { All (λ frame. frame.start + frame.len ≤ ADDRESSES_MAX) frames.now }
-        ensures addresses { OnOk result (Puts (AreFetched (HasTerm dir.now term.now) frames.now blob dir.now.low (dir.now.high + 1)
-            (D.holds store.old) self.old) found.old.items found.new.items) }
-        ensures blocks { OnOk result (Asks (needed blob dir.now term.now frames.now) (D.holds store.old) self.old self.new
-            (D.reads store.old) (D.reads store.new)) }
-        ensures holds { D.holds store.new ≡ D.holds store.old }
-        ensures moments { D.moments store.new ≡ D.moments store.old }
-        ensures calm { OnOk result (D.faults store.new ≡ D.faults store.old) }
-        ensures cause { IfErr result (IsTermCause self.old blob dir.now term.now frames.now (D.holds store.old)
-            (D.faults store.old) (D.faults store.new) (D.reads store.old) (D.reads store.new)) }
-    {
-        self.walk(store, blob, dir, term, frames, found)
     }
 
     /// Counts the addresses that [`Lists::fetch`] gives, and the frames that have one. Asks for the same blocks, and
     /// takes memory for them alone. That is exact as long as the addresses that are counted ascend, those of several
-    /// calls together. After an error some of them may have been counted.
+    /// calls together. After an error some addresses in the frames were counted, or none.
     ///
     /// The blob is damaged where [`Lists::fetch`] would find it so.
     pub fn tally_into<D: Store>(
@@ -133,8 +110,10 @@ impl Lists {
         requires bounded { All (λ frame. frame.start + frame.len ≤ ADDRESSES_MAX) frames.now }
         ensures addresses { OnOk result (Tallies frames.now (AreFetched (HasTerm dir.now term.now) frames.now blob
             dir.now.low (dir.now.high + 1) (D.holds store.old) self.old) tally.old tally.new) }
+        ensures some { OnErr result (Tallies frames.now (AreInFrames frames.now) tally.old tally.new) }
         ensures blocks { OnOk result (Asks (needed blob dir.now term.now frames.now) (D.holds store.old) self.old self.new
             (D.reads store.old) (D.reads store.new)) }
+        ensures kept { OnErr result (AsksFirst (needed blob dir.now term.now frames.now) (D.holds store.old) self.old self.new) }
         ensures holds { D.holds store.new ≡ D.holds store.old }
         ensures moments { D.moments store.new ≡ D.moments store.old }
         ensures calm { OnOk result (D.faults store.new ≡ D.faults store.old) }
@@ -161,6 +140,7 @@ impl Lists {
         requires bounded { All (λ frame. frame.start + frame.len ≤ ADDRESSES_MAX) frames.now }
         ensures blocks { OnOk result (Asks (needed blob dir.now term.now frames.now) (D.holds store.old) self.old self.new
             (D.reads store.old) (D.reads store.new)) }
+        ensures kept { OnErr result (AsksFirst (needed blob dir.now term.now frames.now) (D.holds store.old) self.old self.new) }
         ensures holds { D.holds store.new ≡ D.holds store.old }
         ensures moments { D.moments store.new ≡ D.moments store.old }
         ensures calm { OnOk result (D.faults store.new ≡ D.faults store.old) }

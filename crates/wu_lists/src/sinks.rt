@@ -1,5 +1,5 @@
 //! What addresses are gained for.
-ghost use Rattle.std.specs.Prelude.{◌≡◌, ◌-◌, ◌≤◌, ◌^◌, ◌++◌, ℕ, Bool, true, false, List, [], filter, OnOk, refl};
+ghost use Rattle.std.specs.Prelude.{◌≡◌, ◌-◌, ◌≤◌, ◌^◌, ◌++◌, ℕ, Bool, true, false, List, [], filter, OnErr, OnOk, refl};
 ghost use Rattle.std.specs.List.{AllByRecursion};
 ghost use Rattle.std.proofs.Common.{ap, sym, ◌∙◌, append-nil, append_assoc};
 ghost use Rattle.wu_base.specs.declared.addresses.Range.{Range};
@@ -23,11 +23,12 @@ pub trait Sink {
     fn wants(&self) -> bool
         ensures { result ≡ wanted };
 
-    /// Gains those of the addresses that lie in one of the frames. Out of memory, some may have been gained.
+    /// Gains those of the addresses that lie in one of the frames. Out of memory, none is gained.
     fn gain(&mut self, addresses: &[u64], frames: &[Range]) -> Result<(), NoMemory>
         requires ascend { AscendBetween 0 (2 ^ 64 - 1) addresses.now }
         requires order { AreInOrder 0 (2 ^ 64 - 1) frames.now }
-        ensures { OnOk result (gained frames.now (filter (is_live frames.now) addresses.now) self.old self.new) };
+        ensures ok { OnOk result (gained frames.now (filter (is_live frames.now) addresses.now) self.old self.new) }
+        ensures err { OnErr result (gained frames.now [] self.old self.new) };
 
     ghost none: { (frames : List Range) (sink : Self) → gained frames [] sink sink };
 

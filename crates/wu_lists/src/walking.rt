@@ -1,5 +1,5 @@
 //! The blocks of a term that frames need, one after another.
-ghost use Rattle.std.specs.Prelude.{◌≡◌, ◌+◌, ◌-◌, ◌^◌, ◌<◌, ◌≤◌, [], ◌∷◌, All, filter, true, IfErr, IfSome, OnOk};
+ghost use Rattle.std.specs.Prelude.{◌≡◌, ◌+◌, ◌-◌, ◌^◌, ◌<◌, ◌≤◌, [], ◌∷◌, All, filter, true, IfErr, IfSome, OnErr, OnOk};
 ghost use Rattle.std.specs.List.{AllByRecursion};
 ghost use Rattle.std.specs.Map.{keys_of};
 ghost use Rattle.wu_base.specs.declared.limits.TheConstants.{ADDRESSES_MAX};
@@ -8,9 +8,9 @@ ghost use Rattle.wu_part.specs.Directories.{AreBlocks};
 ghost use Rattle.wu_lists.specs.Ascending.{AreInOrder};
 ghost use Rattle.wu_lists.specs.Blocks.{IsSpelledIn, blocks_from, meets, needed};
 ghost use Rattle.wu_lists.specs.Causes.{IsCause, IsTermCause};
-ghost use Rattle.wu_lists.specs.Fetching.{AreFetched, HasBlock, HasBlocks, HasTerm};
+ghost use Rattle.wu_lists.specs.Fetching.{AreFetched, AreInFrames, HasBlock, HasBlocks, HasTerm};
 ghost use Rattle.wu_lists.specs.Gaining.{Gains};
-ghost use Rattle.wu_lists.specs.Keeping.{Asks, all_missing};
+ghost use Rattle.wu_lists.specs.Keeping.{Asks, AsksFirst, all_missing};
 
 use crate::blocks::Block;
 use crate::frames::{frames_from, is_needed};
@@ -22,7 +22,7 @@ use wu_part::{Directory, Entry};
 
 impl Lists {
     /// Asks for the blocks of the term that the frames need, as [`Lists::fetch`] does. A sink that wants them gains the
-    /// addresses that lie in the frames; after an error it may have gained some of them.
+    /// addresses that lie in the frames; after an error it has gained some addresses that do, or none.
     ///
     /// The blob is damaged where [`Lists::fetch`] would find it so.
     pub fn walk<D: Store, S: Sink>(
@@ -38,8 +38,11 @@ impl Lists {
         requires bounded { All (λ frame. frame.start + frame.len ≤ ADDRESSES_MAX) frames.now }
         ensures addresses { OnOk result (S.wanted ≡ true → Gains (S.gained frames.now) (AreFetched (HasTerm dir.now term.now)
             frames.now blob dir.now.low (dir.now.high + 1) (D.holds store.old) self.old) found.old found.new) }
+        ensures some { OnErr result (S.wanted ≡ true
+            → Gains (S.gained frames.now) (AreInFrames frames.now) found.old found.new) }
         ensures blocks { OnOk result (Asks (needed blob dir.now term.now frames.now) (D.holds store.old) self.old self.new
             (D.reads store.old) (D.reads store.new)) }
+        ensures kept { OnErr result (AsksFirst (needed blob dir.now term.now frames.now) (D.holds store.old) self.old self.new) }
         ensures holds { D.holds store.new ≡ D.holds store.old }
         ensures moments { D.moments store.new ≡ D.moments store.old }
         ensures calm { OnOk result (D.faults store.new ≡ D.faults store.old) }
@@ -73,9 +76,14 @@ impl Lists {
         ensures addresses { OnOk result (S.wanted ≡ true → Gains (S.gained frames.now)
             (AreFetched (HasBlocks dir.now.low entry.entry.count entry.entry.blocks)
             frames.now blob dir.now.low (dir.now.high + 1) (D.holds store.old) self.old) found.old found.new) }
+        ensures some { OnErr result (S.wanted ≡ true
+            → Gains (S.gained frames.now) (AreInFrames frames.now) found.old found.new) }
         ensures blocks { OnOk result (Asks
             (filter (meets frames.now) (blocks_from blob dir.now.low entry.entry.count entry.entry.blocks))
             (D.holds store.old) self.old self.new (D.reads store.old) (D.reads store.new)) }
+        ensures kept { OnErr result (AsksFirst
+            (filter (meets frames.now) (blocks_from blob dir.now.low entry.entry.count entry.entry.blocks))
+            (D.holds store.old) self.old self.new) }
         ensures holds { D.holds store.new ≡ D.holds store.old }
         ensures moments { D.moments store.new ≡ D.moments store.old }
         ensures calm { OnOk result (D.faults store.new ≡ D.faults store.old) }
@@ -104,7 +112,7 @@ impl Lists {
     }
 
     /// Asks for the block if a frame overlaps with it. A sink that wants them gains its addresses that lie in the
-    /// frames.
+    /// frames, and none after an error.
     #[inline]
     fn visit<D: Store, S: Sink>(
         &mut self,
@@ -119,8 +127,10 @@ impl Lists {
         requires bounded { block.now.last < ADDRESSES_MAX }
         ensures addresses { OnOk result (S.wanted ≡ true → Gains (S.gained frames.now) (AreFetched (HasBlock block.now) frames.now
             block.now.blob block.now.first (block.now.last + 1) (D.holds store.old) self.old) found.old found.new) }
+        ensures none { OnErr result (S.gained frames.now [] found.old found.new) }
         ensures blocks { OnOk result (Asks (filter (meets frames.now) (block.now ∷ [])) (D.holds store.old) self.old self.new
             (D.reads store.old) (D.reads store.new)) }
+        ensures kept { OnErr result (AsksFirst (filter (meets frames.now) (block.now ∷ [])) (D.holds store.old) self.old self.new) }
         ensures holds { D.holds store.new ≡ D.holds store.old }
         ensures moments { D.moments store.new ≡ D.moments store.old }
         ensures calm { OnOk result (D.faults store.new ≡ D.faults store.old) }
@@ -148,6 +158,7 @@ impl Lists {
         requires after { AllByRecursion (λ frame. block.now.first < frame.start + frame.len) frames.now }
         ensures blocks { OnOk result (Asks (filter (meets frames.now) (block.now ∷ [])) (D.holds store.old) self.old self.new
             (D.reads store.old) (D.reads store.new)) }
+        ensures kept { OnErr result (AsksFirst (filter (meets frames.now) (block.now ∷ [])) (D.holds store.old) self.old self.new) }
         ensures holds { D.holds store.new ≡ D.holds store.old }
         ensures moments { D.moments store.new ≡ D.moments store.old }
         ensures calm { OnOk result (D.faults store.new ≡ D.faults store.old) }
@@ -166,8 +177,8 @@ impl Lists {
         Ok(())
     }
 
-    /// The sink gains the addresses of the block that lie in the frames. A block that no frame overlaps with isn't
-    /// asked for.
+    /// The sink gains the addresses of the block that lie in the frames, and none after an error. A block that no
+    /// frame overlaps with isn't asked for.
     #[inline]
     fn put_block<D: Store, S: Sink>(
         &mut self,
@@ -182,8 +193,10 @@ impl Lists {
         requires bounded { block.now.last < ADDRESSES_MAX }
         ensures addresses { OnOk result (Gains (S.gained frames.now) (AreFetched (HasBlock block.now) frames.now block.now.blob
             block.now.first (block.now.last + 1) (D.holds store.old) self.old) found.old found.new) }
+        ensures none { OnErr result (S.gained frames.now [] found.old found.new) }
         ensures blocks { OnOk result (Asks (filter (meets frames.now) (block.now ∷ [])) (D.holds store.old) self.old self.new
             (D.reads store.old) (D.reads store.new)) }
+        ensures kept { OnErr result (AsksFirst (filter (meets frames.now) (block.now ∷ [])) (D.holds store.old) self.old self.new) }
         ensures holds { D.holds store.new ≡ D.holds store.old }
         ensures moments { D.moments store.new ≡ D.moments store.old }
         ensures calm { OnOk result (D.faults store.new ≡ D.faults store.old) }

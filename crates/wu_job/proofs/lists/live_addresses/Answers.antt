@@ -3,17 +3,18 @@ use Rattle.std.specs.Prelude.{◌⊎◌, IfSome}
 use Rattle.std.specs.List.{AllByRecursion, list_any}
 use Rattle.std.proofs.lemmas.Result.{err_from_is_err_and}
 use Rattle.wu_base.specs.declared.limits.TheConstants.{ADDRESSES_MAX}
+use Rattle.wu_layout.specs.Ascending.{AscendBetween}
+use Rattle.wu_layout.proofs.Ascending.{ascend-filter, ascend-higher, ascend-lower}
 use Rattle.wu_layout.specs.Postings.{is_live}
 use Rattle.wu_layout.proofs.EntryLemmas.{IfSome-map}
 use Rattle.wu_job.specs.Jobs.{HoldsTerm}
-use Rattle.wu_job.specs.Live.{AscendBetween, ranges_alone}
+use Rattle.wu_job.specs.Live.{ranges_alone}
 use Rattle.wu_job.specs.Reading.{IsCutOf, IsRefused, IsSomeMarked, is_some_marked}
 use Rattle.wu_job.specs.Sources.{part_of}
 use Rattle.wu_job.specs.Steps.{IsNoPart, ranges_of}
-use Rattle.wu_job.proofs.Blocks.{ascend-higher, ascend-lower}
 use Rattle.wu_job.proofs.Fronts.{cause_after, cause_calm, front_all, front_damaged, no_fault, no_memory, same_blob}
 use Rattle.wu_job.proofs.Marking.{marked_some, places_within}
-use Rattle.wu_job.proofs.Terms.{ascend-filter, filter_all}
+use Rattle.wu_job.proofs.Terms.{filter_all}
 use Rattle.wu_job.proofs.lists.live_addresses.Goals as goal
 
 pub cut_to_live-requires-clause-ascend : goal.cut_to_live-requires-clause-ascend
@@ -25,8 +26,8 @@ cut_to_live-requires-clause-ascend g c =
     (ascend-lower 0 low ADDRESSES_MAX found (omega arith)
     (ascend-higher low (high + 1) ADDRESSES_MAX found (omega (arith, c.in_ok-found.ensures.bounded)) c.in_ok-found.ensures.ascend))
 
-pub some_marked-requires : goal.some_marked-requires
-some_marked-requires g c =
+pub check_unmarked-requires : goal.check_unmarked-requires
+check_unmarked-requires g c =
     let live = ranges_alone c.args.live.now in
     let addresses = c.in_ok-cut.cut.addresses.items in
     let alive : AllByRecursion (λ address. is_live live address ≡ true) addresses =
@@ -63,8 +64,9 @@ returns-in_err-cut-clause-front g c =
     (g.D.Store.reads c.read_term.new.store) _ c.in_ok-found.ensures.reads (λ blob e. absurd (no_memory blob e)))
 
 -- the addresses that were found are cut to those that are live, and one of these is marked
-pub returns-then-some_marked-clause-front : goal.returns-then-some_marked-clause-front
-returns-then-some_marked-clause-front g c =
+pub returns-in_err-check_unmarked-clause-front : goal.returns-in_err-check_unmarked-clause-front
+returns-in_err-check_unmarked-clause-front g c =
+    let p = err_from_is_err_and c.from_residual-in_err-check_unmarked.result c.from_residual-in_err-check_unmarked.ensures.1 in
     let live = ranges_alone c.args.live.now in
     let marks = c.args.marks.now in
     let found = c.in_ok-found.found.items in
@@ -73,14 +75,16 @@ returns-then-some_marked-clause-front g c =
     c.in_ok-cut.ensures.addresses ∙ ap (filter (is_live live)) all in
     let marked : is_some_marked live marks c.in_ok-cut.cut.addresses.items ≡ true =
     ap (list_any (λ place. get_or marks place false)) (sym c.in_ok-cut.ensures.places ∙ sym c.deref-2.ensures.value)
-    ∙ sym c.some_marked.ensures ∙ c.if-some_marked.true in
+    ∙ c.in_err-check_unmarked.ensures.some.1 in
     let some : 0 < length found =
     marked_some live marks found (subst (λ (xs : List ℕ). is_some_marked live marks xs ≡ true) cut marked) in
-    front_damaged (ranges_of c.args.term.now (part_of c.args.source.now)) (g.D.Store.reads c.args.store.now)
-    (g.D.Store.reads c.read_term.new.store) c.args.source.now.recorded.blob c.in_ok-found.ensures.reads (c.in_ok-found.ensures.some some)
+    rw (p.1, p.2, c.in_err-check_unmarked.ensures.some.0)
+    (front_damaged (ranges_of c.args.term.now (part_of c.args.source.now)) (g.D.Store.reads c.args.store.now)
+    (g.D.Store.reads c.read_term.new.store) c.args.source.now.recorded.blob c.in_ok-found.ensures.reads (c.in_ok-found.ensures.some some))
 
-pub returns-then-some_marked-clause-cause : goal.returns-then-some_marked-clause-cause
-returns-then-some_marked-clause-cause g c =
+pub returns-in_err-check_unmarked-clause-cause : goal.returns-in_err-check_unmarked-clause-cause
+returns-in_err-check_unmarked-clause-cause g c =
+    let p = err_from_is_err_and c.from_residual-in_err-check_unmarked.result c.from_residual-in_err-check_unmarked.ensures.1 in
     let part = part_of c.args.source.now in
     let live = ranges_alone c.args.live.now in
     let marks = c.args.marks.now in
@@ -90,8 +94,9 @@ returns-then-some_marked-clause-cause g c =
     c.in_ok-cut.ensures.addresses ∙ ap (filter (is_live live)) c.deref.ensures.value in
     let marked : is_some_marked live marks c.in_ok-cut.cut.addresses.items ≡ true =
     ap (list_any (λ place. get_or marks place false)) (sym c.in_ok-cut.ensures.places ∙ sym c.deref-2.ensures.value)
-    ∙ sym c.some_marked.ensures ∙ c.if-some_marked.true in
-    cause_calm (IsRefused holds live marks c.args.term.now part) (g.D.Store.faults c.args.store.now) (g.D.Store.faults c.read_term.new.store)
+    ∙ c.in_err-check_unmarked.ensures.some.1 in
+    rw (p.1, p.2, c.in_err-check_unmarked.ensures.some.0)
+    (cause_calm (IsRefused holds live marks c.args.term.now part) (g.D.Store.faults c.args.store.now) (g.D.Store.faults c.read_term.new.store)
     _ c.in_ok-found.ensures.calm (no_fault part.recorded.blob)
     (λ blob e. (
       same_blob part.recorded.blob blob e,
@@ -99,7 +104,7 @@ returns-then-some_marked-clause-cause g c =
           (λ content. IsNoPart part.directory (content.blobs blob) ⊎ IsSomeMarked content live marks c.args.term.now part) holds
           (λ content h. inr (found, h, subst (λ (xs : List ℕ). is_some_marked live marks xs ≡ true) cut marked))
           c.in_ok-found.ensures.held,
-    ))
+    )))
 
 pub returns-clause-new : goal.returns-clause-new
 returns-clause-new g c =
@@ -117,7 +122,7 @@ returns-clause-new g c =
       unmarked =
           ap (list_any (λ place. get_or marks place false))
           (sym c.in_ok-cut.ensures.places ∙ sym c.deref-2.ensures.value)
-          ∙ sym c.some_marked.ensures ∙ c.if-some_marked.false;
+          ∙ c.in_ok-check_unmarked.ensures.none;
     }
 
 pub returns-clause-held : goal.returns-clause-held

@@ -1,12 +1,12 @@
 use Rattle.std.proofs.Common.{◌≡◌, ◌<◌, ℕ, List, [], ◌++◌, length, min, refl, sym, subst, ◌∙◌, rules}
 use Rattle.std.specs.Prelude.{IfSome}
 use Rattle.std.proofs.lemmas.Result.{err_from_is_err_and}
-use Rattle.wu_layout.proofs.EntryLemmas.{IfSome-map}
+use Rattle.wu_layout.proofs.EntryLemmas.{IfSome-all, IfSome-map}
 use Rattle.wu_vbyte.specs.declared.blocks.TheConstants.{BLOCK_LEN}
 use Rattle.wu_job.specs.Jobs.{HoldsEntry}
 use Rattle.wu_job.specs.Reading.{AreNoBlocks, HoldsInBlock, IsNoBlock}
 use Rattle.wu_job.proofs.Blocks.{AreRead, IsAfter, IsReadTo, ranges_all, ranges_failed, ranges_more, ranges_none, ranges_stopped, read_all, read_broken, read_more, read_none, some_left, to_all, to_more, to_none}
-use Rattle.wu_job.proofs.Fronts.{cause_after, if_both, if_some, no_memory}
+use Rattle.wu_job.proofs.Fronts.{cause_after, if_both, no_memory}
 use Rattle.wu_job.proofs.lists.read_list.Goals as goal
 
 pub loop-block-init : goal.loop-block-init
@@ -16,7 +16,7 @@ loop-block-init g c =
     let found = c.new-found.result.items in
     record {
       held =
-          if_some (λ content. AreRead (content.blobs blob) low c.args.entry.now c.args.entry.now found) (g.D.Store.holds c.args.store.now)
+          IfSome-all (λ content. AreRead (content.blobs blob) low c.args.entry.now c.args.entry.now found) (g.D.Store.holds c.args.store.now)
           (λ content. read_none (content.blobs blob) low c.args.entry.now found c.new-found.ensures.items);
       to = to_none low c.args.source.now.directory.high c.args.entry.now found c.new-found.ensures.items c.requires;
       holds = refl;

@@ -1,15 +1,15 @@
 use Rattle.std.proofs.Common.{◌≡◌, ◌<◌, ◌==◌, true, ℕ, List, length, refl, sym, ap, subst, ◌∙◌}
 use Rattle.std.specs.Prelude.{IfSome}
 use Rattle.std.specs.List.{list_any}
-use Rattle.std.proofs.lemmas.Result.{IfOk-weaker, on_ok_weaker}
-use Rattle.wu_layout.proofs.EntryLemmas.{IfSome-map}
+use Rattle.std.proofs.lemmas.Result.{IfErr-weaker, IfOk-weaker, on_ok_weaker}
+use Rattle.wu_layout.proofs.EntryLemmas.{IfSome-all, IfSome-map}
 use Rattle.wu_outside.specs.declared.ranges.ReadRange.{ReadRange}
 use Rattle.wu_job.specs.Jobs.{HoldsEntry, HoldsTerm}
 use Rattle.wu_job.specs.Reading.{AreNoBlocks}
 use Rattle.wu_job.specs.Sources.{part_of}
 use Rattle.wu_job.specs.Steps.{IsCause, IsNoPart, ReadsFront, adds, block_ranges, ranges_of}
 use Rattle.wu_job.proofs.Blocks.{blocks_read}
-use Rattle.wu_job.proofs.Fronts.{adds-none, cause_after, if_err, if_some}
+use Rattle.wu_job.proofs.Fronts.{adds-none, cause_after}
 use Rattle.wu_job.proofs.Terms.{entry_of_directory, found_has, held_nowhere, held_there, no_part, ranges_at, ranges_nowhere}
 use Rattle.wu_job.proofs.lists.read_term.Goals as goal
 
@@ -70,8 +70,8 @@ returns-in-Some-clause-front g c =
     let same =
     ranges_at (part_of c.args.source.now) c.args.term.now c.in-Some.entry c.is_spelled.ensures.1.holds.ascending has
     c.in-Some.ensures.1 in
-    if_err (ReadsFront (block_ranges c.args.source.now.recorded.blob c.in-Some.entry.blocks) old new)
-    (ReadsFront (ranges_of c.args.term.now (part_of c.args.source.now)) old new) c.read_list.result
+    IfErr-weaker c.read_list.result (ReadsFront (block_ranges c.args.source.now.recorded.blob c.in-Some.entry.blocks) old new)
+    (ReadsFront (ranges_of c.args.term.now (part_of c.args.source.now)) old new)
     (λ t f. subst (λ (rs : List ReadRange). ReadsFront rs old new t) (sym same) f)
     c.read_list.ensures.front
 
@@ -85,7 +85,7 @@ returns-in-Some-clause-cause g c =
     let P = λ (blob : ℕ).
     (source.recorded.blob ≡ blob) × IfSome holds (λ content. AreNoBlocks (content.blobs blob) source.directory.low c.in-Some.entry) in
     let Q = λ (blob : ℕ). (source.recorded.blob ≡ blob) × IfSome holds (λ content. IsNoPart source.directory (content.blobs blob)) in
-    if_err (IsCause P before now) (IsCause Q before now) c.read_list.result
+    IfErr-weaker c.read_list.result (IsCause P before now) (IsCause Q before now)
     (λ t k.
     cause_after P Q before before now t refl
     (λ blob p. (
@@ -101,7 +101,7 @@ returns-in-Some-clause-cause g c =
 pub returns-in-None-clause-held : goal.returns-in-None-clause-held
 returns-in-None-clause-held g c =
     let part = part_of c.args.source.now in
-    if_some (λ content. HoldsTerm content c.args.term.now part _) (g.D.Store.holds c.args.store.now)
+    IfSome-all (λ content. HoldsTerm content c.args.term.now part _) (g.D.Store.holds c.args.store.now)
     (λ content.
     rw c.new.ensures.items
     (held_nowhere content c.args.term.now part (λ entry h e. c.in-None.ensures entry (c.requires.only entry h e) e)))

@@ -1,10 +1,11 @@
 use Rattle.std.proofs.Common.{◌≡◌, ℕ, [], ◌∷◌, length, rules, sym, ◌∙◌}
 use Rattle.std.specs.Prelude.{Some, IfSome}
+use Rattle.std.proofs.lemmas.Option.{same_Some}
 use Rattle.wu_layout.proofs.EntryLemmas.{IfSome-map}
 use Rattle.wu_outside.specs.Content.{ReadsFrom}
 use Rattle.wu_lists.specs.Blocks.{IsSpelledIn}
 use Rattle.wu_lists.proofs.Asking.{with_ranges}
-use Rattle.wu_lists.proofs.Readings.{cause-damaged, not-whole, some_same}
+use Rattle.wu_lists.proofs.Readings.{cause-damaged, not-whole}
 use Rattle.wu_lists.proofs.blocks.read_bytes.Goals as goal
 use Rattle.wu_lists.proofs.blocks.read_bytes.Goals.{in_default-via-in-Some+else-count-len, in_default-via-in_default}
 
@@ -19,7 +20,7 @@ returns-in_default-clause-cause g c =
     let short : (n : ℕ) → count ≡ Some n → n ≡ length buffer → ⊥ = λ n some whole.
     elim c.in_default.branch [
       | in_default-via-in-Some+else-count-len w ↦
-          let same : w.in-Some.count ≡ n = some_same w.in-Some.count n (sym w.in-Some.is ∙ some) in
+          let same : w.in-Some.count ≡ n = same_Some w.in-Some.count n (sym w.in-Some.is ∙ some) in
           let len : w.len.result ≡ block.len = search rules in
           w.if-count-len.false (same ∙ whole ∙ long ∙ sym len)
       | in_default-via-in_default w ↦ w.in_default.not-Some n some

@@ -1,63 +1,10 @@
-use Rattle.std.proofs.Common.{◌-◌, ◌^◌, ◌≡◌, ℕ, ◌+◌, List, ◌++◌, filter, drop, get_or, ap, sym, ◌∙◌, arith, append-nil, append_assoc, refl}
-use Rattle.std.proofs.lemmas.List.{take_rest}
-use Rattle.wu_base.specs.declared.addresses.Range.{Range}
-use Rattle.wu_layout.specs.Postings.{is_live}
-use Rattle.wu_lists.proofs.Ascending.{ascend-lower, first_end, first_start}
-use Rattle.wu_lists.proofs.Cutting.{cut_first, none_left}
+use Rattle.std.proofs.Common.{◌≡◌, ℕ, List, length, take, ap, ◌∙◌, rules}
+use Rattle.std.proofs.lemmas.List.{take_at}
 use Rattle.wu_lists.proofs.frames.put_within.Goals as goal
 
-pub split_below-requires-clause-limit : goal.split_below-requires-clause-limit
-split_below-requires-clause-limit c =
-    first_start 0 (2 ^ 64 - 1) c.loop-left.left.now (record { start = 0; len = 0 }) (omega arith) c.loop-left.invariant.order
-
-pub overflow_add-frame : goal.overflow_add-frame
-overflow_add-frame c =
-    let e = first_end 0 (2 ^ 64 - 1) c.loop-left.left.now (record { start = 0; len = 0 }) (omega arith) c.loop-left.invariant.order in
-    omega arith
-
-pub split_inside-requires-clause-ascend : goal.split_inside-requires-clause-ascend
-split_inside-requires-clause-ascend c =
-    ascend-lower 0 (get_or c.loop-left.left.now 0 (record { start = 0; len = 0 })).start (2 ^ 64 - 1) c.split_below.result.1.now
-    (omega arith)
-    c.split_below.ensures.others
-
-pub split_inside-requires-clause-limit : goal.split_inside-requires-clause-limit
-split_inside-requires-clause-limit c =
-    first_end 0 (2 ^ 64 - 1) c.loop-left.left.now (record { start = 0; len = 0 }) (omega arith) c.loop-left.invariant.order
-
-pub frames_for-left-requires-clause-ascend : goal.frames_for-left-requires-clause-ascend
-frames_for-left-requires-clause-ascend c =
-    let f : Range = get_or c.loop-left.left.now 0 (record { start = 0; len = 0 }) in
-    ascend-lower 0 (f.start + f.len) (2 ^ 64 - 1) c.split_inside.result.1.now (omega arith)
-    c.split_inside.ensures.others
-
-pub loop-left-preserved : goal.loop-left-preserved
-loop-left-preserved c =
-    let d : Range = record { start = 0; len = 0 } in
-    let left : List Range = c.loop-left.left.now in
-    let f : Range = get_or left 0 d in
-    let after : List ℕ = c.split_inside.result.1.now in
-    let inside : List ℕ = c.split_inside.result.0.now in
-    let step : filter (is_live left) c.loop-left.rest.now ≡ inside ++ filter (is_live (drop 1 left)) after =
-    cut_first (2 ^ 64 - 1) left (drop 1 left) d c.loop-left.rest.now c.split_below.result.0.now c.split_below.result.1.now inside after
-    (omega arith) refl c.loop-left.invariant.order c.split_below.ensures.whole c.split_inside.ensures.whole
-    c.split_below.ensures.below c.split_below.ensures.others
-    c.split_inside.ensures.below c.split_inside.ensures.others in
-    let same : filter (is_live c.frames_for-left.result.now) after ≡ filter (is_live (drop 1 left)) after =
-    c.frames_for-left.ensures.same ∙ ap (λ (l : List Range). filter (is_live l) after) (take_rest left 1) in
-    record {
-      made =
-          ap (λ (l : List ℕ). l ++ filter (is_live c.frames_for-left.result.now) after) c.in_ok-extend_from_slice.ensures.items
-          ∙ append_assoc c.loop-left.found.items inside (filter (is_live c.frames_for-left.result.now) after)
-          ∙ ap (λ (l : List ℕ). c.loop-left.found.items ++ (inside ++ l)) same
-          ∙ ap (λ (l : List ℕ). c.loop-left.found.items ++ l) (sym step)
-          ∙ c.loop-left.invariant.made;
-      ascend = ascend-lower 0 (f.start + f.len) (2 ^ 64 - 1) after (omega arith) c.split_inside.ensures.others;
-      order = c.frames_for-left.ensures.order;
-    }
-
-pub returns : goal.returns
-returns c =
-    sym (append-nil c.loop-left.found.items)
-    ∙ ap (λ (l : List ℕ). c.loop-left.found.items ++ l) (sym (none_left c.loop-left.left.now c.loop-left.rest.now (omega arith)))
-    ∙ c.loop-left.invariant.made
+pub returns-in-Err-clause-err : goal.returns-in-Err-clause-err
+returns-in-Err-clause-err c =
+    let found : List ℕ = c.args.found.now.items in
+    let front = c.in-Err.ensures.front in
+    let long : length found ≡ c.len-before.result = search rules in
+    c.truncate.ensures.items ∙ ap (take c.len-before.result) front.1 ∙ take_at found front.0 c.len-before.result long

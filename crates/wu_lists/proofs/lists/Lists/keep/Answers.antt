@@ -7,6 +7,7 @@ use Rattle.wu_lists.specs.Blocks.{bytes_of}
 use Rattle.wu_lists.specs.declared.blocks.Block.{Block}
 use Rattle.wu_lists.specs.Keeping.{AreHeld, IsChecked, Kept, asked, is_same}
 use Rattle.wu_lists.proofs.Caching.{all-put, keys-put}
+use Rattle.wu_lists.proofs.Fetches.{on_err}
 use Rattle.wu_lists.proofs.lists.Lists.keep.Goals as goal
 
 pub invariant_of-self-2 : goal.invariant_of-self-2
@@ -38,3 +39,7 @@ returns-clause-held c = λ blob others here held.
     rw c.in_ok-given_up.ensures.entries
     (all-put c.args.block.now (λ (e : Block × List ℕ). e.0.blob ≡ blob → e.1 ≡ bytes_of e.0 others) c.self.inside.kept c.from.result absent
     (rw c.from.ensures here) before)
+
+pub returns-in_err-given_up-clause-err : goal.returns-in_err-given_up-clause-err
+returns-in_err-given_up-clause-err c =
+    on_err c.from_residual.result (c.in_err-given_up.ensures.err ∙ c.self.view_is)

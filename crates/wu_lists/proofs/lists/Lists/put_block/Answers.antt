@@ -1,10 +1,10 @@
-use Rattle.std.proofs.Common.{◌-◌, ◌^◌, ◌≡◌, ◌+◌, List, true, false, filter, sym, ◌∙◌, subst, arith, rules}
+use Rattle.std.proofs.Common.{◌-◌, ◌^◌, ◌≡◌, ◌+◌, List, [], ◌∷◌, true, false, filter, sym, ◌∙◌, subst, arith, rules}
 use Rattle.wu_layout.specs.Postings.{is_live}
 use Rattle.wu_lists.specs.declared.blocks.Block.{Block}
-use Rattle.wu_lists.specs.Keeping.{Asks}
+use Rattle.wu_lists.specs.Keeping.{Asks, AsksFirst}
 use Rattle.wu_lists.proofs.Ascending.{ascend-higher, ascend-lower}
-use Rattle.wu_lists.proofs.Asking.{asks-none}
-use Rattle.wu_lists.proofs.Fetches.{fetched-none, fetched-some, needed-nothing, needed-one}
+use Rattle.wu_lists.proofs.Asking.{asks-none, first-all}
+use Rattle.wu_lists.proofs.Fetches.{fetched-none, fetched-some, needed-nothing, needed-one, on_err}
 use Rattle.wu_lists.proofs.lists.Lists.put_block.Goals as goal
 
 pub returns-then-not-is_needed-clause-addresses : goal.returns-then-not-is_needed-clause-addresses
@@ -22,6 +22,26 @@ returns-then-not-is_needed-clause-blocks g c =
     (sym (needed-nothing c.args.frames.now c.args.block.now (sym c.is_needed.ensures ∙ missed)))
     (asks-none (g.D.Store.holds c.args.store.now) c.args.self.now (g.D.Store.reads c.args.store.now))
 
+pub returns-in_err-addresses-clause-none : goal.returns-in_err-addresses-clause-none
+returns-in_err-addresses-clause-none g c =
+    on_err c.from_residual.result (g.met.S.Sink.none c.args.frames.now c.args.found.now)
+
+pub returns-in_err-addresses-clause-kept : goal.returns-in_err-addresses-clause-kept
+returns-in_err-addresses-clause-kept g c =
+    let needed : c.is_needed.result ≡ true = search rules in
+    on_err c.from_residual.result
+    (subst (λ (bs : List Block). AsksFirst bs (g.D.Store.holds c.args.store.now) c.args.self.now c.addresses.new.self)
+    (sym (needed-one c.args.frames.now c.args.block.now (sym c.is_needed.ensures ∙ needed))) c.in_err-addresses.ensures.kept)
+
+pub returns-in_err-gain-clause-kept : goal.returns-in_err-gain-clause-kept
+returns-in_err-gain-clause-kept g c =
+    let needed : c.is_needed.result ≡ true = search rules in
+    on_err c.from_residual-in_err-gain.result
+    (subst (λ (bs : List Block). AsksFirst bs (g.D.Store.holds c.args.store.now) c.args.self.now c.addresses.new.self)
+    (sym (needed-one c.args.frames.now c.args.block.now (sym c.is_needed.ensures ∙ needed)))
+    (first-all (g.D.Store.holds c.args.store.now) c.args.self.now c.addresses.new.self (g.D.Store.reads c.args.store.now)
+    (g.D.Store.reads c.addresses.new.store) (c.args.block.now ∷ []) c.in_ok-addresses.ensures.blocks))
+
 pub gain-requires-clause-ascend : goal.gain-requires-clause-ascend
 gain-requires-clause-ascend g c =
     rw c.deref.ensures.value
@@ -33,7 +53,7 @@ pub returns-clause-addresses : goal.returns-clause-addresses
 returns-clause-addresses g c =
     let frames = c.args.frames.now in
     let gained : g.S.Sink.gained frames (filter (is_live frames) c.in_ok-addresses.addresses.items) c.args.found.now c.gain.new.self =
-    rw c.deref.ensures.value at c.in_ok-gain.ensures in
+    rw c.deref.ensures.value at c.in_ok-gain.ensures.ok in
     fetched-some _ (g.S.Sink.gained frames) c.args.block.now frames (g.D.Store.holds c.args.store.now) c.args.self.now c.args.found.now
     c.gain.new.self c.in_ok-addresses.addresses.items c.in_ok-addresses.ensures.ascend c.in_ok-addresses.ensures.told gained
 

@@ -3,7 +3,7 @@ use Rattle.std.specs.Prelude.{Err, IfSome}
 use Rattle.std.specs.List.{list_any}
 use Rattle.std.specs.Map.{keys_of}
 use Rattle.wu_layout.proofs.EntryLemmas.{IfSome-map}
-use Rattle.wu_base.specs.declared.troubles.Trouble.TheVariants.{NoMemory}
+use Rattle.wu_base.specs.declared.troubles.Trouble.TheVariants.{Damaged, NoMemory}
 use Rattle.wu_lists.specs.Blocks.{HasBytes, IsSpelledIn, IsSpelling}
 use Rattle.wu_lists.specs.declared.blocks.Block.{Block}
 use Rattle.wu_lists.specs.Keeping.{Asks, Kept, is_same}
@@ -11,56 +11,58 @@ use Rattle.wu_lists.proofs.Fetches.{asks-read}
 use Rattle.wu_lists.proofs.Readings.{cause-damaged, cause-memory, unspelled}
 use Rattle.wu_lists.proofs.lists.Lists.read.Goals as goal
 
-pub returns-in_err-addresses-clause-cause : goal.returns-in_err-addresses-clause-cause
-returns-in_err-addresses-clause-cause g c =
+pub returns-in_err-found-clause-cause : goal.returns-in_err-found-clause-cause
+returns-in_err-found-clause-cause g c =
     let block : Block = c.args.block.now in
     let Broken = IfSome (g.D.Store.holds c.args.store.now) (λ content. IsSpelledIn content block → ⊥) in
-    let memory : c.from_residual-in_err-addresses.result ≡ Err NoMemory = search rules in
+    let memory : c.from_residual-in_err-found.result ≡ Err NoMemory = search rules in
     rw memory
     (cause-memory (block ∷ []) block.blob Broken (g.D.Store.faults c.args.store.now) (g.D.Store.faults c.read_bytes.new.store)
     (g.D.Store.reads c.args.store.now) (g.D.Store.reads c.read_bytes.new.store) c.in_ok-bytes.ensures.calm c.in_ok-bytes.ensures.reads)
 
-pub returns-in_err-keep-in-Some-clause-cause : goal.returns-in_err-keep-in-Some-clause-cause
-returns-in_err-keep-in-Some-clause-cause g c =
+pub returns-in_err-addresses-clause-cause : goal.returns-in_err-addresses-clause-cause
+returns-in_err-addresses-clause-cause g c =
+    let block : Block = c.args.block.now in
+    let holds = g.D.Store.holds c.args.store.now in
+    let none : (addresses : List ℕ) → IsSpelling block addresses c.in_ok-bytes.bytes.items → ⊥ =
+    rw (c.in_err-addresses.ensures.none.1, c.deref.ensures.value) at c.in_ok-found.ensures.none in
+    let damaged : c.from_residual-in_err-addresses.result ≡ Err (Damaged block.blob) = search rules in
+    rw damaged
+    (cause-damaged block (IfSome holds (λ content. IsSpelledIn content block → ⊥)) (g.D.Store.faults c.args.store.now)
+    (g.D.Store.faults c.read_bytes.new.store) (g.D.Store.reads c.args.store.now) (g.D.Store.reads c.read_bytes.new.store)
+    c.in_ok-bytes.ensures.calm c.in_ok-bytes.ensures.reads
+    (IfSome-map (λ content. HasBytes content block c.in_ok-bytes.bytes.items) (λ content. IsSpelledIn content block → ⊥) holds
+    (λ content has. unspelled content block c.in_ok-bytes.bytes.items has none) c.in_ok-bytes.ensures.bytes))
+
+pub returns-in_err-keep-clause-cause : goal.returns-in_err-keep-clause-cause
+returns-in_err-keep-clause-cause g c =
     let block : Block = c.args.block.now in
     let Broken = IfSome (g.D.Store.holds c.args.store.now) (λ content. IsSpelledIn content block → ⊥) in
-    let memory : c.from_residual-in_err-keep-in-Some.result ≡ Err NoMemory = search rules in
+    let memory : c.from_residual-in_err-keep.result ≡ Err NoMemory = search rules in
     rw memory
     (cause-memory (block ∷ []) block.blob Broken (g.D.Store.faults c.args.store.now) (g.D.Store.faults c.read_bytes.new.store)
     (g.D.Store.reads c.args.store.now) (g.D.Store.reads c.read_bytes.new.store) c.in_ok-bytes.ensures.calm c.in_ok-bytes.ensures.reads)
 
 pub keep-requires-clause-checked : goal.keep-requires-clause-checked
 keep-requires-clause-checked g c =
-    (c.in-Some.addresses.items, rw (c.in-Some.is, c.deref.ensures.value) at c.in_ok-addresses.ensures.found)
+    (c.in_ok-addresses.addresses.items, rw (c.in_ok-addresses.ensures.found, c.deref.ensures.value) at c.in_ok-found.ensures.found)
 
-pub returns-in_ok-keep-in-Some-clause-spelled : goal.returns-in_ok-keep-in-Some-clause-spelled
-returns-in_ok-keep-in-Some-clause-spelled g c =
-    let spelled : IsSpelling c.args.block.now c.in-Some.addresses.items c.in_ok-bytes.bytes.items =
-    rw (c.in-Some.is, c.deref.ensures.value) at c.in_ok-addresses.ensures.found in
+pub returns-clause-spelled : goal.returns-clause-spelled
+returns-clause-spelled g c =
+    let spelled : IsSpelling c.args.block.now c.in_ok-addresses.addresses.items c.in_ok-bytes.bytes.items =
+    rw (c.in_ok-addresses.ensures.found, c.deref.ensures.value) at c.in_ok-found.ensures.found in
     (c.in_ok-bytes.bytes.items, spelled, c.in_ok-bytes.ensures.bytes)
 
-pub returns-in_ok-keep-in-Some-clause-blocks : goal.returns-in_ok-keep-in-Some-clause-blocks
-returns-in_ok-keep-in-Some-clause-blocks g c =
-    let spelled : IsSpelling c.args.block.now c.in-Some.addresses.items c.in_ok-bytes.bytes.items =
-    rw (c.in-Some.is, c.deref.ensures.value) at c.in_ok-addresses.ensures.found in
+pub returns-clause-blocks : goal.returns-clause-blocks
+returns-clause-blocks g c =
+    let spelled : IsSpelling c.args.block.now c.in_ok-addresses.addresses.items c.in_ok-bytes.bytes.items =
+    rw (c.in_ok-addresses.ensures.found, c.deref.ensures.value) at c.in_ok-found.ensures.found in
     let old : Kept = c.take_room-room.new.self in
     let absent = subst (λ (kept : Kept). list_any (is_same c.args.block.now) (keys_of kept.entries) ≡ false)
     (sym c.take_room-room.ensures) c.requires in
     subst (λ (kept : Kept). Asks (c.args.block.now ∷ []) (g.D.Store.holds c.args.store.now) kept c.keep.new.self
     (g.D.Store.reads c.args.store.now) (g.D.Store.reads c.read_bytes.new.store)) c.take_room-room.ensures
     (asks-read c.args.block.now (g.D.Store.holds c.args.store.now) old c.keep.new.self (g.D.Store.reads c.args.store.now)
-    (g.D.Store.reads c.read_bytes.new.store) c.in_ok-keep-in-Some.ensures.capacity c.in_ok-keep-in-Some.ensures.asked
-    c.in_ok-bytes.bytes.items c.in-Some.addresses.items absent c.in_ok-bytes.ensures.reads c.in_ok-bytes.ensures.bytes spelled
-    c.in_ok-keep-in-Some.ensures.held)
-
-pub returns-in-None-clause-cause : goal.returns-in-None-clause-cause
-returns-in-None-clause-cause g c =
-    let block : Block = c.args.block.now in
-    let holds = g.D.Store.holds c.args.store.now in
-    let none : (addresses : List ℕ) → IsSpelling block addresses c.in_ok-bytes.bytes.items → ⊥ =
-    rw (c.in-None.is, c.deref.ensures.value) at c.in_ok-addresses.ensures.none in
-    cause-damaged block (IfSome holds (λ content. IsSpelledIn content block → ⊥)) (g.D.Store.faults c.args.store.now)
-    (g.D.Store.faults c.read_bytes.new.store) (g.D.Store.reads c.args.store.now) (g.D.Store.reads c.read_bytes.new.store)
-    c.in_ok-bytes.ensures.calm c.in_ok-bytes.ensures.reads
-    (IfSome-map (λ content. HasBytes content block c.in_ok-bytes.bytes.items) (λ content. IsSpelledIn content block → ⊥) holds
-    (λ content has. unspelled content block c.in_ok-bytes.bytes.items has none) c.in_ok-bytes.ensures.bytes)
+    (g.D.Store.reads c.read_bytes.new.store) c.in_ok-keep.ensures.capacity c.in_ok-keep.ensures.asked
+    c.in_ok-bytes.bytes.items c.in_ok-addresses.addresses.items absent c.in_ok-bytes.ensures.reads c.in_ok-bytes.ensures.bytes spelled
+    c.in_ok-keep.ensures.held)

@@ -1,10 +1,11 @@
-use Rattle.std.proofs.Common.{◌≡◌, List, true, false, refl, sym, ◌∙◌, ap, subst, rules}
+use Rattle.std.proofs.Common.{◌≡◌, List, [], ◌∷◌, true, false, filter, refl, sym, ◌∙◌, ap, subst, rules}
 use Rattle.std.specs.List.{list_any}
 use Rattle.std.specs.Map.{keys_of}
+use Rattle.wu_lists.specs.Blocks.{meets}
 use Rattle.wu_lists.specs.declared.blocks.Block.{Block}
 use Rattle.wu_lists.specs.Keeping.{Asks, Kept, is_same}
-use Rattle.wu_lists.proofs.Asking.{asks-none}
-use Rattle.wu_lists.proofs.Fetches.{asks-kept, needed-nothing, needed-one}
+use Rattle.wu_lists.proofs.Asking.{asks-none, first-none}
+use Rattle.wu_lists.proofs.Fetches.{asks-kept, needed-nothing, needed-one, on_err}
 use Rattle.wu_lists.proofs.lists.Lists.touch_block.Goals as goal
 
 pub returns-then-not-is_needed-clause-blocks : goal.returns-then-not-is_needed-clause-blocks
@@ -31,3 +32,10 @@ read-requires g c =
     let absent : c.is_kept.result ≡ false = search rules in
     ap (λ (k : Kept). list_any (is_same c.args.block.now) (keys_of k.entries)) (c.is_kept.ensures.absent absent)
     ∙ sym c.is_kept.ensures.kept ∙ absent
+
+pub returns-in_err-read-clause-kept : goal.returns-in_err-read-clause-kept
+returns-in_err-read-clause-kept g c =
+    let absent : c.is_kept.result ≡ false = search rules in
+    on_err c.from_residual.result
+    (first-none (g.D.Store.holds c.args.store.now) c.args.self.now c.read.new.self
+    (filter (meets c.args.frames.now) (c.args.block.now ∷ [])) (c.in_err-read.ensures.err ∙ c.is_kept.ensures.absent absent))

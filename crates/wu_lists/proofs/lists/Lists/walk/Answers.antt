@@ -2,16 +2,17 @@ use Rattle.std.proofs.Common.{◌+◌, List, filter, subst, arith, rules}
 use Rattle.std.specs.Prelude.{IfErr, IfSome}
 use Rattle.std.specs.List.{AllByRecursion}
 use Rattle.std.specs.Map.{keys_of}
+use Rattle.std.proofs.lemmas.Result.{IfErr-weaker}
 use Rattle.wu_base.specs.declared.troubles.Trouble.{Trouble}
 use Rattle.wu_layout.proofs.EntryLemmas.{IfSome-map}
 use Rattle.wu_lists.specs.Blocks.{IsSpelledIn, blocks_from, meets, needed}
 use Rattle.wu_lists.specs.declared.blocks.Block.{Block}
 use Rattle.wu_lists.specs.Causes.{IsCause, IsNoPart}
 use Rattle.wu_lists.specs.Fetching.{AreFetched, HasBlocks, HasTerm}
-use Rattle.wu_lists.specs.Keeping.{Asks, all_missing}
+use Rattle.wu_lists.specs.Keeping.{Asks, AsksFirst, all_missing}
 use Rattle.wu_lists.proofs.Ascending.{frames_in_order}
 use Rattle.wu_lists.proofs.Asking.{asks-none, cause-step}
-use Rattle.wu_lists.proofs.Fetches.{if_err}
+use Rattle.wu_lists.proofs.Fetches.{on_err}
 use Rattle.wu_lists.proofs.Terms.{entry-absent, entry-blocks, entry-found, fetched-absent, fetched-term, needed-absent, needed-found, no-part}
 use Rattle.wu_lists.proofs.Walks.{gains-none, gains-step}
 use Rattle.wu_lists.proofs.lists.Lists.walk.Goals as goal
@@ -46,7 +47,7 @@ returns-in_err-walk_blocks-in-Some-clause-cause g c =
     let Goal : Trouble → Type 0 = λ trouble. IsCause (all_missing old.cap (keys_of old.entries)
     (needed blob directory c.args.term.now frames)) blob Other
     (faults c.args.store.now) (faults c.walk_blocks.new.store) (reads c.args.store.now) (reads c.walk_blocks.new.store) trouble in
-    if_err _ Goal c.from_residual.result
+    IfErr-weaker c.from_residual.result _ Goal
     (λ trouble is.
     subst (λ (bs : List Block). IsCause (all_missing old.cap (keys_of old.entries) bs) blob Other
     (faults c.args.store.now) (faults c.walk_blocks.new.store) (reads c.args.store.now) (reads c.walk_blocks.new.store) trouble)
@@ -58,6 +59,16 @@ returns-in_err-walk_blocks-in-Some-clause-cause g c =
     (λ content. IsNoPart directory (content.blobs blob)) holds
     (λ content broken. no-part content blob directory entry c.in-Some.ensures.0 broken)) is))
     told
+
+pub returns-in_err-walk_blocks-in-Some-clause-kept : goal.returns-in_err-walk_blocks-in-Some-clause-kept
+returns-in_err-walk_blocks-in-Some-clause-kept g c =
+    let directory = c.args.dir.now in
+    let there = entry-found directory.terms c.in-Some.entry c.args.term.now c.is_spelled.ensures.1.holds.ascending c.in-Some.ensures.0
+    c.in-Some.ensures.1 in
+    on_err c.from_residual.result
+    (subst (λ (bs : List Block). AsksFirst bs (g.D.Store.holds c.args.store.now) c.args.self.now c.walk_blocks.new.self)
+    (needed-found directory c.args.term.now c.args.frames.now c.args.blob c.in-Some.entry there)
+    c.in_err-walk_blocks-in-Some.ensures.kept)
 
 pub returns-in_ok-walk_blocks-in-Some-clause-addresses : goal.returns-in_ok-walk_blocks-in-Some-clause-addresses
 returns-in_ok-walk_blocks-in-Some-clause-addresses g c = λ wanted.

@@ -2,16 +2,17 @@ use Rattle.std.proofs.Common.{◌≡◌, ◌+◌, List, [], ◌∷◌, true, fil
 use Rattle.std.specs.Prelude.{IfErr, IfSome}
 use Rattle.std.specs.List.{AllByRecursion}
 use Rattle.std.specs.Map.{keys_of}
+use Rattle.std.proofs.lemmas.Result.{IfErr-weaker}
 use Rattle.wu_base.specs.declared.troubles.Trouble.{Trouble}
 use Rattle.wu_lists.specs.Blocks.{IsSpelledIn, blocks_from, meets}
 use Rattle.wu_lists.specs.declared.blocks.Block.{Block}
 use Rattle.wu_lists.specs.Causes.{IsCause}
 use Rattle.wu_lists.specs.Fetching.{AreFetched, HasBlock}
 use Rattle.wu_lists.specs.Gaining.{Gains}
-use Rattle.wu_lists.specs.Keeping.{Asks, all_missing}
-use Rattle.wu_lists.proofs.Asking.{cause-join}
-use Rattle.wu_lists.proofs.Fetches.{if_err}
-use Rattle.wu_lists.proofs.Walks.{asked-split, block-broken, block_with, walked-found, walked-next, walked-none}
+use Rattle.wu_lists.specs.Keeping.{Asks, AsksFirst, all_missing}
+use Rattle.wu_lists.proofs.Asking.{cause-join, first-join}
+use Rattle.wu_lists.proofs.Fetches.{on_err}
+use Rattle.wu_lists.proofs.Walks.{asked-split, block-broken, block_with, gained-before, walked-found, walked-next, walked-none}
 use Rattle.wu_lists.proofs.lists.Lists.walk_blocks.Goals as goal
 
 pub loop-block-init : goal.loop-block-init
@@ -87,7 +88,7 @@ returns-in_err-visit-clause-cause g c =
     let Goal : Trouble → Type 0 = λ trouble. IsCause (all_missing c.args.self.now.cap (keys_of c.args.self.now.entries)
     (filter (meets frames) (blocks_from blob low all.count all.blocks))) blob Other
     (faults c.args.store.now) (faults c.visit.new.store) (reads c.args.store.now) (reads c.visit.new.store) trouble in
-    if_err _ Goal c.from_residual.result
+    IfErr-weaker c.from_residual.result _ Goal
     (λ trouble is.
     subst (λ (bs : List Block). IsCause (all_missing c.args.self.now.cap (keys_of c.args.self.now.entries) bs) blob Other
     (faults c.args.store.now) (faults c.visit.new.store) (reads c.args.store.now) (reads c.visit.new.store) trouble)
@@ -106,6 +107,45 @@ returns-in_err-visit-clause-cause g c =
     c.in-Some.ensures.1 c.in-Some.ensures.2)
     c.loop-block.invariant.calm w.asks is))
     cause
+
+pub returns-in_err-visit-clause-some : goal.returns-in_err-visit-clause-some
+returns-in_err-visit-clause-some g c =
+    let frames = c.args.frames.now in
+    let nearer = c.frames_from-left.result.now in
+    let entry = c.in-Some.block in
+    on_err c.from_residual.result
+    (gained-before _ (g.S.Sink.gained frames) (g.S.Sink.wanted ≡ true) frames c.args.blob c.args.dir.now.low c.args.dir.now.high
+    c.args.entry (g.D.Store.holds c.args.store.now) c.args.self.now (g.D.Store.reads c.args.store.now) c.args.found.now
+    c.loop-block.left.now c.loop-block.entry c.loop-block.self (g.D.Store.reads c.loop-block.store) c.loop-block.found
+    c.loop-block.invariant.walked entry c.next_block.new.self c.in-Some.count c.in-Some.ensures.0 c.in-Some.ensures.1
+    c.in-Some.ensures.2 nearer c.frames_from-left.ensures.order c.frames_from-left.ensures.live c.frames_from-left.ensures.needed
+    c.frames_from-left.ensures.opens (g.S.Sink.gained nearer) (g.met.S.Sink.joins frames) (g.met.S.Sink.nearer nearer frames entry.first)
+    c.visit.new.found (λ _. c.in_err-visit.ensures.none))
+
+pub returns-in_err-visit-clause-kept : goal.returns-in_err-visit-clause-kept
+returns-in_err-visit-clause-kept g c =
+    let frames = c.args.frames.now in
+    let nearer = c.frames_from-left.result.now in
+    let blob = c.args.blob in
+    let low = c.args.dir.now.low in
+    let entry = c.in-Some.block in
+    let holds = g.D.Store.holds c.args.store.now in
+    let reads = g.D.Store.reads in
+    let all = c.args.entry in
+    let next = c.next_block.new.self in
+    let w = c.loop-block.invariant.walked in
+    let block : Block = block_with blob low c.in-Some.count entry in
+    let first : AsksFirst (filter (meets nearer) (block ∷ [])) holds c.loop-block.self c.visit.new.self =
+    rw (c.low.ensures, c.loop-block.invariant.holds) at c.in_err-visit.ensures.kept in
+    on_err c.from_residual.result
+    (subst (λ (bs : List Block). AsksFirst bs holds c.args.self.now c.visit.new.self)
+    (asked-split _ (g.S.Sink.gained frames) (g.S.Sink.wanted ≡ true) frames blob low c.args.dir.now.high all holds c.args.self.now
+    (reads c.args.store.now) c.args.found.now c.loop-block.left.now c.loop-block.entry c.loop-block.self (reads c.loop-block.store)
+    c.loop-block.found w entry next c.in-Some.count c.in-Some.ensures.0 c.in-Some.ensures.1 c.in-Some.ensures.2 nearer
+    c.frames_from-left.ensures.order c.frames_from-left.ensures.live c.frames_from-left.ensures.needed c.frames_from-left.ensures.opens)
+    (first-join holds c.args.self.now c.loop-block.self c.visit.new.self (reads c.args.store.now) (reads c.loop-block.store)
+    (filter (meets frames) w.gone) (filter (meets nearer) (block ∷ []))
+    (filter (meets frames) (blocks_from blob low next.count next.blocks)) w.asks first))
 
 pub returns-clause-addresses : goal.returns-clause-addresses
 returns-clause-addresses g c = λ wanted.
