@@ -18,9 +18,9 @@ use Rattle.wu_lists.specs.declared.blocks.Block.{Block}
 use Rattle.wu_lists.specs.Blocks.{blocks_from, blocks_in, blocks_of, entry_of, meets, needed}
 use Rattle.wu_lists.specs.Causes.{IsCause, IsNoPart}
 use Rattle.wu_lists.specs.Keeping.{Asks, Kept, all_asked, all_missing, asked, is_same, missing}
-use Rattle.wu_parts.specs.Causes.{IsFetchCause}
+use Rattle.wu_parts.specs.Causes.{IsAskCause, IsFetchCause}
 use Rattle.wu_parts.specs.Contents.{Contents}
-use Rattle.wu_parts.specs.Holdings.{all_needed}
+use Rattle.wu_parts.specs.Holdings.{AsksParts, all_needed}
 use Rattle.wu_parts.specs.StoredParts.{directories_of, pairs_of, records_of}
 use Rattle.wu_parts.specs.declared.writing.StoredPart.{StoredPart}
 use Rattle.wu_layout.proofs.EachLemmas.{each-append, each_left}
@@ -231,12 +231,12 @@ module _ (old fields : Contents) (parts slice : List StoredPart) (is : fields �
       (cause-seen (pairs_of slice) (zip old.parts old.directories) fields.kept old.kept term frames holds before now ranges ranges_now
       trouble (seen-parts old fields parts slice is records directories sliced) (ap (λ (k : Contents). k.kept) is) c)
 
-  -- all blocks were asked for, and memory ran out then
-  pub cause-after : {T : Type 0} (r : Result T Trouble) (new : Kept) (before now : ℕ) (ranges ranges_now : Option (List ReadRange))
-      → IsErrAnd r (λ t. t ≡ NoMemory) → Asks (all_needed (pairs_of slice) term frames) holds fields.kept new ranges ranges_now
-      → now ≡ before
-      → IfErr r (IsFetchCause (zip old.parts old.directories) (told_missing (zip old.parts old.directories) old.kept) holds before now
-      ranges ranges_now)
-  cause-after r new before now ranges ranges_now e a calm =
-      cause-told r NoMemory before now ranges ranges_now e
-      (cause-done (pairs_of slice) (all_needed (pairs_of slice) term frames) holds fields.kept new before now ranges ranges_now a calm)
+-- all blocks were asked for, and memory ran out then
+pub cause-after : {T : Type 0} (r : Result T Trouble) (contents : Contents) (term : List ℕ) (frames : List Range) (holds : Option Content)
+    (new : Kept) (before now : ℕ) (ranges ranges_now : Option (List ReadRange)) → IsErrAnd r (λ t. t ≡ NoMemory)
+    → AsksParts contents term frames holds new ranges ranges_now → now ≡ before
+    → IfErr r (IsAskCause contents term frames holds before now ranges ranges_now)
+cause-after r contents term frames holds new before now ranges ranges_now e a calm =
+    let pairs : List (PartRec × PartDirectory) = zip contents.parts contents.directories in
+    answered (IsAskCause contents term frames holds before now ranges ranges_now) r NoMemory e
+    (cause-done pairs (all_needed pairs term frames) holds contents.kept new before now ranges ranges_now a calm)

@@ -11,21 +11,14 @@ use Rattle.wu_lists.specs.Gaining.{tally_on}
 use Rattle.wu_lists.specs.Tallying.{Counts, tally_of}
 use Rattle.wu_lists.proofs.Ascending.{addresses_increase, ascend-higher}
 use Rattle.wu_lists.proofs.Tallying.{ascend-front, counts}
-use Rattle.wu_parts.specs.StoredParts.{SpansAscend}
-use Rattle.wu_parts.specs.declared.writing.StoredPart.{StoredPart}
 use Rattle.wu_layout.proofs.EachLemmas.{each-append}
-use Rattle.wu_parts.proofs.FetchedAddresses.{ascend-both}
 
 -- the parts' addresses were counted from none on, and then memory's
-module _ (frames : List Range) (parts slice : List StoredPart) (low end : ℕ) (found more : List ℕ) (none middle all : Tally)
-    (sliced : slice ≡ parts) (spans : SpansAscend 0 low parts)
-    (first : (from to : ℕ) → SpansAscend from to slice → AscendBetween from to found) (last : AscendBetween low end more)
+module _ (frames : List Range) (end : ℕ) (found more : List ℕ) (none middle all : Tally) (both : AscendBetween 0 end (found ++ more))
     (bounded : end ≤ ADDRESSES_MAX) (order : AreInOrder 0 (2 ^ 64 - 1) frames) (is : none ≡ tally_of frames [])
     (gained : middle ≡ tally_on frames none found) (counted : Counts frames more middle all) where
   ascend_counted : AscendBetween 0 (2 ^ 64 - 1) (found ++ more)
-  ascend_counted =
-      ascend-higher 0 end (2 ^ 64 - 1) (found ++ more) (omega (arith, bounded))
-      (ascend-both parts slice low end found more sliced spans first last)
+  ascend_counted = ascend-higher 0 end (2 ^ 64 - 1) (found ++ more) (omega (arith, bounded)) both
 
   pub all_counted : all ≡ tally_of frames (found ++ more)
   all_counted =

@@ -25,9 +25,9 @@ use Rattle.wu_lists.specs.Fetching.{AreFetched, HasEntry, HasTerm}
 use Rattle.wu_lists.specs.Keeping.{AreHeld, Asks, Kept}
 use Rattle.wu_parts.specs.Contents.{Contents}
 use Rattle.wu_parts.specs.Holdings.{AreKept, HoldParts}
-use Rattle.wu_parts.specs.Memory.{held}
+use Rattle.wu_parts.specs.Memory.{Memory, held}
 use Rattle.wu_lists.specs.Ascending.{AscendBetween}
-use Rattle.wu_parts.specs.StoredParts.{AreFetchedFrom, SpansAscend, directories_of, records_of}
+use Rattle.wu_parts.specs.StoredParts.{AreFetchedFrom, AreFetchedIn, SpansAscend, directories_of, records_of}
 use Rattle.wu_parts.specs.declared.writing.StoredPart.{StoredPart}
 use Rattle.wu_lists.proofs.Ascending.{ascend-join, ascend-lower}
 use Rattle.wu_layout.proofs.EachLemmas.{each-append}
@@ -141,46 +141,59 @@ module _ (part : StoredPart) (later : List StoredPart) (term : List ℕ) (frames
     told = told_both holds f.told b.told a.held;
   }
 
--- the addresses in parts, and then those in memory
-pub ascend-both : (parts slice : List StoredPart) (low end : ℕ) (found more : List ℕ) → slice ≡ parts → SpansAscend 0 low parts
-    → ((from to : ℕ) → SpansAscend from to slice → AscendBetween from to found) → AscendBetween low end more
-    → AscendBetween 0 end (found ++ more)
-ascend-both parts slice low end found more sliced spans first last =
-    ascend-join 0 low end found more (first 0 low (subst (SpansAscend 0 low) (sym sliced) spans)) last
-
--- what is made of the addresses in parts and those in memory, as contracts see it
-pub told-seen : {X : Type 0} (made_of : List ℕ → X) (old fields : Contents) (parts slice : List StoredPart) → fields ≡ old
-    → fields.parts ≡ records_of parts → fields.directories ≡ directories_of parts → slice ≡ parts → (term : List ℕ) (frames : List Range)
-    (holds : Option Content) (more : List ℕ) (all : X)
-    → IfSome holds (λ content. (stored : List Part) → HoldParts content (records_of slice) (directories_of slice) stored
-    → AreKept content (records_of slice) fields.kept → more ≡ fetched frames (stored_in stored) term)
-    → all ≡ made_of (more ++ filter (is_live frames) (held fields.memory term))
-    → IfSome holds (λ content. (stored : List Part) → HoldParts content old.parts old.directories stored
-    → AreKept content old.parts old.kept
-    → all ≡ made_of (fetched frames (stored_in stored) term ++ filter (is_live frames) (held old.memory term)))
-told-seen made_of old fields parts slice e p d s term frames holds more all told is =
-    subst
-    (λ (seen : Contents). IfSome holds (λ content. (stored : List Part) → HoldParts content seen.parts seen.directories stored
-    → AreKept content seen.parts seen.kept
-    → all ≡ made_of (fetched frames (stored_in stored) term ++ filter (is_live frames) (held seen.memory term))))
-    e (of_fields holds told)
+-- what is fetched of the parts, as contracts see it
+pub fetched-seen : (old fields : Contents) (parts slice : List StoredPart) → fields ≡ old → fields.parts ≡ records_of parts
+    → fields.directories ≡ directories_of parts → slice ≡ parts → (term : List ℕ) (frames : List Range) (holds : Option Content)
+    (found : List ℕ) → SpansAscend 0 fields.memory.low parts → AreFetchedFrom slice term frames holds fields.kept found
+    → AreFetchedIn old term frames holds found
+fetched-seen old fields parts slice e p d s term frames holds found spans f =
+    subst (λ (seen : Contents). AreFetchedIn seen term frames holds found) e
+    (record {
+      ascend = f.ascend 0 fields.memory.low (subst (SpansAscend 0 fields.memory.low) (sym s) spans);
+      live = f.live;
+      told = of_fields holds f.told;
+    })
   where
     of_fields : (told_by : Option Content)
         → IfSome told_by (λ content. (stored : List Part) → HoldParts content (records_of slice) (directories_of slice) stored
-        → AreKept content (records_of slice) fields.kept → more ≡ fetched frames (stored_in stored) term)
+        → AreKept content (records_of slice) fields.kept → found ≡ fetched frames (stored_in stored) term)
         → IfSome told_by (λ content. (stored : List Part) → HoldParts content fields.parts fields.directories stored
-        → AreKept content fields.parts fields.kept
-        → all ≡ made_of (fetched frames (stored_in stored) term ++ filter (is_live frames) (held fields.memory term)))
+        → AreKept content fields.parts fields.kept → found ≡ fetched frames (stored_in stored) term)
     of_fields None t = tt
     of_fields (Some content) t = λ stored h k.
         let records : fields.parts ≡ records_of slice = p ∙ ap records_of (sym s) in
         let directories : fields.directories ≡ directories_of slice = d ∙ ap directories_of (sym s) in
-        is
-        ∙ ap (λ (l : List ℕ). made_of (l ++ filter (is_live frames) (held fields.memory term)))
-        (t stored
+        t stored
         (subst (λ (ds : List PartDirectory). HoldParts content (records_of slice) ds stored) directories
         (subst (λ (rs : List PartRec). HoldParts content rs fields.directories stored) records h))
-        (subst (λ (rs : List PartRec). AreKept content rs fields.kept) records k))
+        (subst (λ (rs : List PartRec). AreKept content rs fields.kept) records k)
+
+-- the addresses in parts, and then those in memory
+module _ (old : Contents) (memory : Memory) (same : memory ≡ old.memory) (term : List ℕ) (frames : List Range) (holds : Option Content)
+    (found : List ℕ) (f : AreFetchedIn old term frames holds found) where
+  pub ascend-both : (more : List ℕ) → AscendBetween memory.low memory.end more → AscendBetween 0 memory.end (found ++ more)
+  ascend-both more last =
+      ascend-join 0 memory.low memory.end found more (subst (λ (m : Memory). AscendBetween 0 m.low found) (sym same) f.ascend) last
+
+  -- what is made of them
+  pub told-both : {X : Type 0} (made_of : List ℕ → X) (all : X)
+      → all ≡ made_of (found ++ filter (is_live frames) (held memory term))
+      → IfSome holds (λ content. (stored : List Part) → HoldParts content old.parts old.directories stored
+      → AreKept content old.parts old.kept
+      → all ≡ made_of (fetched frames (stored_in stored) term ++ filter (is_live frames) (held old.memory term)))
+  told-both made_of all is = of_told holds f.told
+    where
+      of_told : (told_by : Option Content)
+          → IfSome told_by (λ content. (stored : List Part) → HoldParts content old.parts old.directories stored
+          → AreKept content old.parts old.kept → found ≡ fetched frames (stored_in stored) term)
+          → IfSome told_by (λ content. (stored : List Part) → HoldParts content old.parts old.directories stored
+          → AreKept content old.parts old.kept
+          → all ≡ made_of (fetched frames (stored_in stored) term ++ filter (is_live frames) (held old.memory term)))
+      of_told None t = tt
+      of_told (Some content) t = λ stored h k.
+          is
+          ∙ ap (λ (m : Memory). made_of (found ++ filter (is_live frames) (held m term))) same
+          ∙ ap (λ (l : List ℕ). made_of (l ++ filter (is_live frames) (held old.memory term))) (t stored h k)
 
 -- the parts' addresses were put after none, and then those in memory
 pub put_both : (none found all parts more : List ℕ) → none ≡ [] → found ≡ none ++ parts → all ≡ found ++ more → all ≡ parts ++ more

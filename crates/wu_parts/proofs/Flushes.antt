@@ -1,14 +1,16 @@
 -- What a flush made: a part of the live postings, or none where there are none.
 use Rattle.std.proofs.Common.{◌≡◌, ℕ, ◌<◌, List, [], ◌∷◌, ◌++◌, length, sum_by, refl, ap, sym, subst, ◌∙◌, arith, ⊎_elim}
 use Rattle.wu_base.specs.declared.addresses.PartRec.{PartRec}
+use Rattle.wu_base.specs.declared.addresses.Range.{Range}
 use Rattle.wu_base.specs.declared.addresses.TermList.{TermList}
 use Rattle.wu_layout.specs.Layouts.{lists_of}
-use Rattle.wu_layout.specs.Postings.{Ascend, Posting}
+use Rattle.wu_layout.specs.Postings.{Ascend, Posting, live_of}
 use Rattle.wu_layout.proofs.ListTotals.{lists_total}
 use Rattle.wu_part.specs.Directories.{PartDirectory}
 use Rattle.wu_part.specs.Parts.{SpellsPart}
 use Rattle.wu_parts.specs.Contents.{Contents, with_part, without_postings}
 use Rattle.wu_parts.specs.Flushing.{EmptiesMemory, Flushes, Told}
+use Rattle.wu_parts.specs.Memory.{HasPostings}
 use Rattle.wu_parts.specs.StoredParts.{AreStored, IsPut}
 use Rattle.wu_parts.specs.declared.writing.StoredPart.{StoredPart}
 use Rattle.wu_parts.proofs.NewParts.{record_of_postings}
@@ -49,6 +51,15 @@ module _ (old new : Contents) (before after : Told) where
         contents = w;
         stored = p.stored;
       }
+
+-- there is no list where no posting is live
+pub none_made : (old fields : Contents) (ranges : List Range) (lists : List TermList) → fields ≡ old → 0 < length lists
+    → ((low high : ℕ) (ps : List Posting) → HasPostings low high fields.memory ps → lists ≡ lists_of (live_of ranges ps))
+    → (low high : ℕ) (ps : List Posting) → HasPostings low high old.memory ps → live_of ranges ps ≡ [] → ⊥
+none_made old fields ranges lists e l made low high ps h none =
+    let is : lists ≡ lists_of (live_of ranges ps) =
+    made low high ps (subst (λ (k : Contents). HasPostings low high k.memory ps) (sym e) h) in
+    omega (arith, some_postings (live_of ranges ps) lists is l, ap length none)
 
 -- what is kept of the parts, with the new one
 pub stored_after : (low high blob : ℕ) (parts : List StoredPart) (part : StoredPart) (ps : List Posting) (lists : List TermList)

@@ -101,17 +101,23 @@ pub none-map : {X : Type 0} (o : Option X) (A B : Type 0) → (A → B) → IfNo
 none-map None A B f a = f a
 none-map (Some x) A B f a = tt
 
-pub none-of : {X : Type 0} (o : Option X) (A : Type 0) → ((x : X) → o ≡ Some x → ⊥) → IfNone o A → A
-none-of None A not a = a
-none-of (Some x) A not a = absurd (not x refl)
+pub none-said : {X : Type 0} (o : Option X) (P : X → Type 0) → ((x : X) → o ≡ Some x → ⊥) → IfSome o P
+none-said None P not = tt
+none-said (Some x) P not = absurd (not x refl)
 
 -- the directory was found, and it isn't as recorded
-pub untold : (holds : Option Content) (recorded : PartRec) (before after : Option (List ReadRange)) (directory : PartDirectory)
+untold : (holds : Option Content) (recorded : PartRec) (before after : Option (List ReadRange)) (directory : PartDirectory)
     → IsDirectoryRead holds recorded before after directory → (IsRecorded recorded directory → ⊥) → CannotBeOpened holds recorded
 untold holds recorded before after directory d not =
     IfSome-map (λ content. HasDirectory directory d.directory_length (content.blobs recorded.blob))
     (λ content. HasNoDirectory recorded (content.blobs recorded.blob)) holds
     (λ content own. no-directory-untold recorded (content.blobs recorded.blob) d.directory_length directory own not) d.found.own
+
+pub untold-or-none : (holds : Option Content) (recorded : PartRec) (before after : Option (List ReadRange)) (found : Option PartDirectory)
+    → IfSome found (IsDirectoryRead holds recorded before after) → IfNone found (CannotBeOpened holds recorded)
+    → IfSome found (λ directory. IsRecorded recorded directory → ⊥) → CannotBeOpened holds recorded
+untold-or-none holds recorded before after None d none not = none
+untold-or-none holds recorded before after (Some directory) d none not = untold holds recorded before after directory d not
 
 damaged_same : (a b : ℕ) → Damaged a ≡ Damaged b → a ≡ b
 damaged_same a b e = cc

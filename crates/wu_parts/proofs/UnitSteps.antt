@@ -229,3 +229,8 @@ leaves_after place state old middle new before after e l =
     })))
     r)
     (subst (λ c. Leaves place state c new before after) e l)
+
+-- and so is what stands after an error
+pub given_up : (old middle new : Contents) → middle ≡ record old { job = None } → new ≡ record middle { next_blob = new.next_blob }
+    → new ≡ record old { job = None; next_blob = new.next_blob }
+given_up old middle new m n = n ∙ ap (λ (k : Contents). record k { next_blob = new.next_blob }) m

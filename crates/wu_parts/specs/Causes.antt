@@ -1,5 +1,5 @@
 -- Why a call on the parts in a store answers a trouble.
-use Rattle.std.specs.Prelude.{◌≡◌, ◌≢◌, ℕ, ◌≤◌, List, ◌++◌, Option, IfSome, map, option_map}
+use Rattle.std.specs.Prelude.{◌≡◌, ◌≢◌, ℕ, ◌≤◌, List, ◌++◌, Option, IfSome, map, option_map, zip}
 use Rattle.std.specs.Map.{keys_of}
 use Rattle.wu_base.specs.declared.addresses.PartRec.{PartRec}
 use Rattle.wu_base.specs.declared.addresses.Range.{Range}
@@ -14,6 +14,7 @@ use Rattle.wu_lists.specs.declared.blocks.Block.{Block}
 use Rattle.wu_lists.specs.Blocks.{range_of}
 use Rattle.wu_lists.specs.Causes.{IsNoPart}
 use Rattle.wu_lists.specs.Keeping.{Kept, all_missing}
+use Rattle.wu_parts.specs.Contents.{Contents}
 use Rattle.wu_parts.specs.Holdings.{all_needed}
 
 -- A store fault is answered only where the store's count of faults rose, which else is as it was, and no blob is answered as damaged.
@@ -47,3 +48,9 @@ abbrev pub IsPartsCause : Kept → List (PartRec × PartDirectory) → List ℕ 
 IsPartsCause kept parts term frames holds before now ranges ranges_now trouble =
     IsFetchCause parts (all_missing kept.cap (keys_of kept.entries) (all_needed parts term frames)) holds before now ranges ranges_now
     trouble
+
+-- the same of the parts that there are, and of what is kept of them
+abbrev pub IsAskCause : Contents → List ℕ → List Range → Option Content → ℕ → ℕ → Option (List ReadRange) → Option (List ReadRange)
+    → Trouble → Type 0
+IsAskCause contents term frames holds before now ranges ranges_now trouble =
+    IsPartsCause contents.kept (zip contents.parts contents.directories) term frames holds before now ranges ranges_now trouble

@@ -1,15 +1,17 @@
 -- What a store holds of the parts of the index, and what is kept and needed of their blocks.
-use Rattle.std.specs.Prelude.{◌≡◌, ℕ, List, [], ◌∷◌, Some}
+use Rattle.std.specs.Prelude.{◌≡◌, ℕ, List, [], ◌∷◌, Option, Some, zip}
 use Rattle.std.specs.List.{AllByRecursion, flat_map}
 use Rattle.wu_base.specs.declared.addresses.PartRec.{PartRec}
 use Rattle.wu_base.specs.declared.addresses.Range.{Range}
 use Rattle.wu_outside.specs.Content.{Content}
+use Rattle.wu_outside.specs.declared.ranges.ReadRange.{ReadRange}
 use Rattle.wu_layout.specs.Layouts.{Part, IsRecordOf, lists_of}
 use Rattle.wu_part.specs.Directories.{PartDirectory}
 use Rattle.wu_part.specs.Parts.{IsRecorded, SpellsPart}
 use Rattle.wu_lists.specs.declared.blocks.Block.{Block}
 use Rattle.wu_lists.specs.Blocks.{needed}
-use Rattle.wu_lists.specs.Keeping.{AreHeld, Kept}
+use Rattle.wu_lists.specs.Keeping.{AreHeld, Asks, Kept}
+use Rattle.wu_parts.specs.Contents.{Contents}
 
 -- Record and directory are the part's, and the content has the part's postings, term by term, under its blob.
 pub record HoldsPart (content : Content) (recorded : PartRec) (directory : PartDirectory) (part : Part) : Type 0 where
@@ -37,3 +39,8 @@ AreKept content records kept =
 -- the blocks of the term that frames need, part by part from left to right
 abbrev pub all_needed : List (PartRec × PartDirectory) → List ℕ → List Range → List Block
 all_needed parts term frames = flat_map (λ part. needed part.0.blob part.1 term frames) parts
+
+-- these were asked for in turn, in the parts that there are, and nothing else was read
+abbrev pub AsksParts : Contents → List ℕ → List Range → Option Content → Kept → Option (List ReadRange) → Option (List ReadRange) → Type 0
+AsksParts contents term frames holds kept_now ranges ranges_now =
+    Asks (all_needed (zip contents.parts contents.directories) term frames) holds contents.kept kept_now ranges ranges_now

@@ -16,7 +16,7 @@ use Rattle.wu_parts.specs.declared.working.NextJob.{NextJob}
 use Rattle.wu_parts.specs.declared.working.Running.{Running}
 use Rattle.wu_parts.specs.declared.writing.StoredPart.{StoredPart}
 use Rattle.wu_lists.specs.Keeping.{Kept}
-use Rattle.wu_parts.specs.Contents.{JobAt}
+use Rattle.wu_parts.specs.Contents.{Contents, JobAt}
 use Rattle.wu_parts.specs.Flushing.{Told, put_into}
 use Rattle.wu_parts.specs.Holdings.{AreKept, HoldParts}
 use Rattle.wu_lists.specs.Ascending.{AscendBetween}
@@ -106,3 +106,10 @@ pub record AreFetchedFrom (parts : List StoredPart) (term : List ℕ) (frames : 
   pub live : AllByRecursion (λ address. is_live frames address ≡ true) found
   pub told : IfSome holds (λ content. (stored : List Part) → HoldParts content (records_of parts) (directories_of parts) stored
       → AreKept content (records_of parts) kept → found ≡ fetched frames (stored_in stored) term)
+
+-- the same of the parts that contracts see: the addresses ascend below those in memory
+pub record AreFetchedIn (contents : Contents) (term : List ℕ) (frames : List Range) (holds : Option Content) (found : List ℕ) : Type 0 where
+  pub ascend : AscendBetween 0 contents.memory.low found
+  pub live : AllByRecursion (λ address. is_live frames address ≡ true) found
+  pub told : IfSome holds (λ content. (stored : List Part) → HoldParts content contents.parts contents.directories stored
+      → AreKept content contents.parts contents.kept → found ≡ fetched frames (stored_in stored) term)

@@ -111,6 +111,17 @@ pub record StopsWork (ranges : Ranges) (units : ℕ) (old : Contents) (told : To
   pub was_read : (blob : ℕ) → trouble ≡ Damaged blob → list_any (λ range. range.blob == blob) last ≡ true
   pub damaged : (blob : ℕ) → trouble ≡ Damaged blob → IsDamaged told.0 old blob
 
+-- Some units were done, fewer than so many, and what they reached stands, but for the job under way, which is given up, and the number of
+-- the next blob.
+pub record GivesUp (ranges : Ranges) (units : ℕ) (old new : Contents) (told : Told) : Type 0 where
+  pub done : ℕ
+  pub fewer : done < units
+  pub reached : Contents
+  pub stored : Told
+  pub read : List ReadRange
+  pub units_done : DoUnits ranges done old reached told stored read
+  pub given_up : new ≡ record reached { job = None; next_blob = new.next_blob }
+
 -- ---- the layout
 
 -- The job is that of the layout, as far as it has gone, and the lists that it has made are right.

@@ -1,7 +1,7 @@
 //! The background work on the parts, a unit at a time.
 ghost use Rattle.std.specs.Prelude.{◌≡◌, ◌≢◌, ℕ, ◌+◌, ◌<◌, ◌≤◌, ◌^◌, Bool, List, Option, None, IfOk, IfErr, OnOk, option_map};
 ghost use Rattle.wu_base.specs.declared.reports.Worked.TheVariants.{Idle as NothingLeft};
-ghost use Rattle.wu_base.specs.declared.troubles.Trouble.TheVariants.{Damaged};
+ghost use Rattle.wu_base.specs.declared.troubles.Trouble.TheVariants.{Damaged, NoMemory as RanOutOfMemory};
 ghost use Rattle.wu_layout.specs.Invariants.{IsLayoutOf};
 ghost use Rattle.wu_layout.specs.Layouts.{Layout, Text, ranges_by_number};
 ghost use Rattle.wu_layout.specs.Steps.{is_idle, work as units_done};
@@ -10,7 +10,7 @@ ghost use Rattle.wu_outside.specs.Crash.{Put, try_change};
 ghost use Rattle.wu_parts.specs.Causes.{IsStoreCause};
 ghost use Rattle.wu_parts.specs.StoredParts.{IsKeptJob, running_at};
 ghost use Rattle.wu_parts.specs.UnitsOfParts.{EndsJob, FindsJob, IsStep, IsUnit, Replaces, StopsStep, StopsUnit};
-ghost use Rattle.wu_parts.specs.Working.{AreFew, ChangesParts, DoesWork, MayChange, StopsWork, Tells, answer_of, is_idle as is_idle_by};
+ghost use Rattle.wu_parts.specs.Working.{AreFew, ChangesParts, DoesWork, GivesUp, MayChange, StopsWork, Tells, answer_of, is_idle as is_idle_by};
 
 use crate::parts::Parts;
 use crate::working::{Running, next_job, start, take_out};
@@ -29,7 +29,8 @@ impl Parts {
     ///
     /// Of the store only the blocks of these terms in the jobs' parts are read. A part is damaged where a block
     /// of it isn't as its directory tells, or an address stands in two of its lists. Errors are this, a fault of
-    /// the store, and out of memory.
+    /// the store, and out of memory, after which the parts are only dropped. After another one the units before it
+    /// stand, and the job of the one that failed is given up: it begins anew where it is named again.
     pub fn work<D: Store>(
         &mut self,
         store: &mut D,
@@ -59,6 +60,8 @@ impl Parts {
         ensures calm { OnOk result (D.faults store.new ≡ D.faults store.old) }
         ensures stops { IfErr result (StopsWork space.now.ranges n self.old (D.holds store.old, D.moments store.old)
             (D.faults store.old) (D.faults store.new) (D.reads store.old) (D.reads store.new)) }
+        ensures reached { IfErr result (λ trouble. trouble ≢ RanOutOfMemory
+            → GivesUp space.now.ranges n self.old self.new (D.holds store.old, D.moments store.old)) }
     {
         self.units(store, space, n)?;
         Ok(self.answer(space))
@@ -76,6 +79,8 @@ impl Parts {
         ensures calm { OnOk result (D.faults store.new ≡ D.faults store.old) }
         ensures stops { IfErr result (StopsWork space.now.ranges n self.old (D.holds store.old, D.moments store.old)
             (D.faults store.old) (D.faults store.new) (D.reads store.old) (D.reads store.new)) }
+        ensures reached { IfErr result (λ trouble. trouble ≢ RanOutOfMemory
+            → GivesUp space.now.ranges n self.old self.new (D.holds store.old, D.moments store.old)) }
     {
         for _ in 0..n {
             if !self.unit(store, space)? {
@@ -111,6 +116,8 @@ impl Parts {
         ensures calm { OnOk result (D.faults store.new ≡ D.faults store.old) }
         ensures stops { IfErr result (StopsUnit space.now.ranges self.old (D.holds store.old) (D.faults store.old)
             (D.faults store.new) (D.reads store.old) (D.reads store.new)) }
+        ensures stands { IfErr result (λ trouble. trouble ≢ RanOutOfMemory
+            → self.new ≡ record self.old { job = None; next_blob = self.new.next_blob }) }
     {
         match self.take_job(space)? {
             Some(running) => {
@@ -154,6 +161,8 @@ impl Parts {
         ensures calm { OnOk result (D.faults store.new ≡ D.faults store.old) }
         ensures stops { IfErr result (StopsStep (running_at running) (D.holds store.old) (D.faults store.old)
             (D.faults store.new) (D.reads store.old) (D.reads store.new)) }
+        ensures stands { IfErr result (λ trouble. trouble ≢ RanOutOfMemory
+            → self.new ≡ record self.old { next_blob = self.new.next_blob }) }
     {
         match running.job.step(store)? {
             Progress::More => {
@@ -188,6 +197,8 @@ impl Parts {
         ensures unread { D.reads store.new ≡ D.reads store.old }
         ensures calm { OnOk result (D.faults store.new ≡ D.faults store.old) }
         ensures cause { IfErr result (IsStoreCause (D.faults store.old) (D.faults store.new)) }
+        ensures stands { IfErr result (λ trouble. trouble ≢ RanOutOfMemory
+            → self.new ≡ record self.old { next_blob = self.new.next_blob }) }
     {
         let _untouched = &*store;
         match made {

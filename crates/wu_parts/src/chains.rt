@@ -1,6 +1,6 @@
 //! Chains of places. Each posting has a place, counted from 0, and all terms share one vector of links: at each place there is
 //! the place before it of the same term. A new posting appends a link, and changes none.
-ghost use Rattle.std.specs.Prelude.{◌≡◌, ◌+◌, ◌^◌, ◌<◌, ◌≤◌, ◌∷◌, ◌++◌, [], length, filter, nat_le, reverse, IfOk, OnOk, OnErr};
+ghost use Rattle.std.specs.Prelude.{◌≡◌, ◌+◌, ◌/◌, ◌^◌, ◌<◌, ◌≤◌, ◌∷◌, ◌++◌, [], length, filter, nat_le, reverse, IfOk, OnOk, OnErr};
 ghost use Rattle.std.specs.Vec.{vec_capacity, vec_len};
 ghost use Rattle.wu_lists.specs.Ascending.{AscendBetween};
 ghost use Rattle.wu_parts.specs.Lists.{with_address};
@@ -102,12 +102,26 @@ fn push_link(links: &mut Vec<u32>, link: u32) -> Result<(), NoMemory>
 fn make_room(links: &mut Vec<u32>) -> Result<(), NoMemory>
     ensures items { links.new.items ≡ links.old.items }
     ensures room { OnOk result (vec_len links.new + 1 ≤ vec_capacity links.new) }
+    ensures kept { vec_len links.old < vec_capacity links.old → vec_capacity links.new ≡ vec_capacity links.old }
+    ensures grown { OnOk result (vec_capacity links.old ≤ vec_len links.old
+        → vec_capacity links.new ≡ vec_len links.old + (vec_len links.old / 4 + LEAST_GROWTH)) }
+    ensures err { OnErr result (vec_capacity links.new ≡ vec_capacity links.old) }
 {
     if links.len() < links.capacity() {
         return Ok(());
     }
     links.reserve_exact(links.len() / 4 + LEAST_GROWTH)?;
     Ok(())
+}
+
+/// Forgets the chains, and gives their memory back.
+pub(crate) fn forget(alloc: Global, chains: &mut IndexMap<Vec<u8>, Chain>, links: &mut Vec<u32>)
+    ensures chains { chains.new.entries ≡ [] }
+    ensures links { links.new.items ≡ [] }
+    ensures room { vec_capacity links.new ≡ 0 }
+{
+    *chains = IndexMap::new(alloc);
+    *links = Vec::new(alloc);
 }
 
 /// The place after so many.

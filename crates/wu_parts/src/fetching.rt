@@ -1,20 +1,21 @@
 //! The addresses of a term, in the parts and in memory, and their number.
-ghost use Rattle.std.specs.Prelude.{◌≡◌, ◌+◌, ◌≤◌, ◌++◌, ℕ, List, true, All, filter, zip, IfOk, IfErr, IfSome, OnOk};
+ghost use Rattle.std.specs.Prelude.{◌≡◌, ◌+◌, ◌≤◌, ◌++◌, ℕ, List, true, All, filter, IfOk, IfErr, IfSome, OnOk};
 ghost use Rattle.std.specs.List.{AllByRecursion};
 ghost use Rattle.std.specs.List.Sorted.{IsStrictlyIncreasing};
 ghost use Rattle.wu_layout.specs.Layouts.{Part, stored_in as postings_in};
 ghost use Rattle.wu_layout.specs.Postings.{fetched, is_live};
 ghost use Rattle.wu_space.specs.Addresses.{AreApart};
 ghost use Rattle.wu_parts.specs.Memory.{held};
-ghost use Rattle.wu_lists.specs.Keeping.{Asks};
+ghost use Rattle.wu_lists.specs.Gaining.{Gains};
 ghost use Rattle.wu_lists.specs.Tallying.{tally_of};
-ghost use Rattle.wu_parts.specs.Causes.{IsPartsCause};
-ghost use Rattle.wu_parts.specs.Holdings.{AreKept, HoldParts, all_needed};
+ghost use Rattle.wu_parts.specs.Causes.{IsAskCause};
+ghost use Rattle.wu_parts.specs.Holdings.{AreKept, AsksParts, HoldParts};
+ghost use Rattle.wu_parts.specs.StoredParts.{AreFetchedIn};
 
 use crate::parts::Parts;
 use crate::reading::walk_parts;
 use wu_base::{ADDRESSES_MAX, NoMemory, Range, Sequence, Trouble};
-use wu_lists::{Tally, Unasked};
+use wu_lists::{Sink, Tally, Unasked};
 use wu_outside::Store;
 
 impl Parts {
@@ -50,19 +51,18 @@ impl Parts {
         ensures ascending { IfOk result IsStrictlyIncreasing }
         ensures live { IfOk result (λ found. AllByRecursion (λ address. is_live frames.now address ≡ true) found) }
 
-        ensures blocks { OnOk result (Asks (all_needed (zip self.old.parts self.old.directories) term.now frames.now) (D.holds store.old)
-            self.old.kept self.new.kept (D.reads store.old) (D.reads store.new)) }
+        ensures blocks { OnOk result (AsksParts self.old term.now frames.now (D.holds store.old) self.new.kept
+            (D.reads store.old) (D.reads store.new)) }
         ensures others { self.new ≡ record self.old { kept = self.new.kept } }
 
         ensures holds { D.holds store.new ≡ D.holds store.old }
         ensures moments { D.moments store.new ≡ D.moments store.old }
         ensures calm { OnOk result (D.faults store.new ≡ D.faults store.old) }
-        ensures cause { IfErr result (IsPartsCause self.old.kept (zip self.old.parts self.old.directories) term.now frames.now
-            (D.holds store.old) (D.faults store.old) (D.faults store.new) (D.reads store.old) (D.reads store.new)) }
+        ensures cause { IfErr result (IsAskCause self.old term.now frames.now (D.holds store.old)
+            (D.faults store.old) (D.faults store.new) (D.reads store.old) (D.reads store.new)) }
     {
         let mut found = Vec::new(self.alloc);
-        let parts = self.parts.as_slice();
-        walk_parts(store, &mut self.lists, parts, term, frames, &mut found)?;
+        self.walk(store, term, frames, &mut found)?;
         self.memory.fetch_into(term, frames, &mut found)?;
         Ok(Sequence::from(found))
     }
@@ -87,19 +87,18 @@ impl Parts {
         ensures counted { IfOk result (λ tally. (found : List ℕ) × IsStrictlyIncreasing found
             × AllByRecursion (λ address. is_live frames.now address ≡ true) found × (tally ≡ tally_of frames.now found)) }
 
-        ensures blocks { OnOk result (Asks (all_needed (zip self.old.parts self.old.directories) term.now frames.now) (D.holds store.old)
-            self.old.kept self.new.kept (D.reads store.old) (D.reads store.new)) }
+        ensures blocks { OnOk result (AsksParts self.old term.now frames.now (D.holds store.old) self.new.kept
+            (D.reads store.old) (D.reads store.new)) }
         ensures others { self.new ≡ record self.old { kept = self.new.kept } }
 
         ensures holds { D.holds store.new ≡ D.holds store.old }
         ensures moments { D.moments store.new ≡ D.moments store.old }
         ensures calm { OnOk result (D.faults store.new ≡ D.faults store.old) }
-        ensures cause { IfErr result (IsPartsCause self.old.kept (zip self.old.parts self.old.directories) term.now frames.now
-            (D.holds store.old) (D.faults store.old) (D.faults store.new) (D.reads store.old) (D.reads store.new)) }
+        ensures cause { IfErr result (IsAskCause self.old term.now frames.now (D.holds store.old)
+            (D.faults store.old) (D.faults store.new) (D.reads store.old) (D.reads store.new)) }
     {
         let mut tally = Tally::new();
-        let parts = self.parts.as_slice();
-        walk_parts(store, &mut self.lists, parts, term, frames, &mut tally)?;
+        self.walk(store, term, frames, &mut tally)?;
         self.memory.tally_into(term, frames, &mut tally)?;
         Ok(tally)
     }
@@ -116,18 +115,45 @@ impl Parts {
     ) -> Result<(), Trouble>
         requires apart { AreApart frames.now }
         requires bounded { All (λ frame. frame.start + frame.len ≤ ADDRESSES_MAX) frames.now }
-        ensures blocks { OnOk result (Asks (all_needed (zip self.old.parts self.old.directories) term.now frames.now) (D.holds store.old)
-            self.old.kept self.new.kept (D.reads store.old) (D.reads store.new)) }
+        ensures blocks { OnOk result (AsksParts self.old term.now frames.now (D.holds store.old) self.new.kept
+            (D.reads store.old) (D.reads store.new)) }
         ensures others { self.new ≡ record self.old { kept = self.new.kept } }
 
         ensures holds { D.holds store.new ≡ D.holds store.old }
         ensures moments { D.moments store.new ≡ D.moments store.old }
         ensures calm { OnOk result (D.faults store.new ≡ D.faults store.old) }
-        ensures cause { IfErr result (IsPartsCause self.old.kept (zip self.old.parts self.old.directories) term.now frames.now
-            (D.holds store.old) (D.faults store.old) (D.faults store.new) (D.reads store.old) (D.reads store.new)) }
+        ensures cause { IfErr result (IsAskCause self.old term.now frames.now (D.holds store.old)
+            (D.faults store.old) (D.faults store.new) (D.reads store.old) (D.reads store.new)) }
+    {
+        self.walk(store, term, frames, &mut Unasked)?;
+        Ok(())
+    }
+
+    /// Asks for the blocks of the term that the frames need in the parts, from left to right. A sink that wants them
+    /// gains the addresses that lie in the frames.
+    fn walk<D: Store, S: Sink>(
+        &mut self,
+        store: &mut D,
+        term: &[u8],
+        frames: &[Range],
+        found: &mut S,
+    ) -> Result<(), Trouble>
+        requires apart { AreApart frames.now }
+        requires bounded { All (λ frame. frame.start + frame.len ≤ ADDRESSES_MAX) frames.now }
+        ensures addresses { OnOk result (S.wanted ≡ true → Gains (S.gained frames.now)
+            (AreFetchedIn self.old term.now frames.now (D.holds store.old)) found.old found.new) }
+        ensures blocks { OnOk result (AsksParts self.old term.now frames.now (D.holds store.old) self.new.kept
+            (D.reads store.old) (D.reads store.new)) }
+        ensures others { self.new ≡ record self.old { kept = self.new.kept } }
+
+        ensures holds { D.holds store.new ≡ D.holds store.old }
+        ensures moments { D.moments store.new ≡ D.moments store.old }
+        ensures calm { OnOk result (D.faults store.new ≡ D.faults store.old) }
+        ensures cause { IfErr result (IsAskCause self.old term.now frames.now (D.holds store.old)
+            (D.faults store.old) (D.faults store.new) (D.reads store.old) (D.reads store.new)) }
     {
         let parts = self.parts.as_slice();
-        walk_parts(store, &mut self.lists, parts, term, frames, &mut Unasked)?;
+        walk_parts(store, &mut self.lists, parts, term, frames, found)?;
         Ok(())
     }
 }

@@ -1,5 +1,5 @@
 //! What a flush makes of memory: the lists of its live postings, by the bytes of their terms, each written as it is cut.
-ghost use Rattle.std.specs.Prelude.{◌≡◌, ◌+◌, ◌-◌, ◌^◌, ◌≤◌, ◌++◌, ◌∷◌, ◌<◌, ℕ, [], true, IfOk, IsPermutation, IsTrue, OnOk, filter, get_or, length, map, nat_eq};
+ghost use Rattle.std.specs.Prelude.{◌≡◌, ◌+◌, ◌-◌, ◌^◌, ◌≤◌, ◌++◌, ◌∷◌, ◌<◌, ℕ, [], true, IfOk, IsOk, IsPermutation, IsTrue, OnOk, filter, get_or, length, map, nat_eq};
 ghost use Rattle.std.specs.List.{AllByRecursion, IsDistinct};
 ghost use Rattle.std.specs.List.Sorted.{IsStrictlySortedBy};
 ghost use Rattle.std.specs.Cmp.Lexicographic.{pointwise, slice_cmp};
@@ -161,7 +161,8 @@ fn live_among(
     requires ascend { AscendBetween 0 (2 ^ 64 - 1) addresses.items }
     requires order { AreInOrder 0 (2 ^ 64 - 1) live.now }
     requires all { IsTrue all_live → AllByRecursion (λ address. is_live live.now address ≡ true) addresses.items }
-    ensures { IfOk result (λ at. at ≡ filter (is_live live.now) addresses.items) }
+    ensures at { IfOk result (λ at. at ≡ filter (is_live live.now) addresses.items) }
+    ensures free { IsTrue all_live → IsOk result }
 {
     if all_live {
         return Ok(Sequence::from(addresses));

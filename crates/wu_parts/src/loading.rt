@@ -1,5 +1,6 @@
 //! Opening of the parts that a store has.
-ghost use Rattle.std.specs.Prelude.{◌≡◌, ◌+◌, ◌<◌, ◌≤◌, ◌^◌, [], ◌∷◌, IfErr, IfNone, IfOk, IfSome, MatchBool, OnOk, length};
+ghost use Rattle.std.specs.Prelude.{◌≡◌, ◌+◌, ◌<◌, ◌≤◌, ◌^◌, [], ◌∷◌, Some, IfErr, IfNone, IfOk, IfSome, MatchBool, OnOk, length};
+ghost use Rattle.wu_base.specs.declared.troubles.Trouble.TheVariants.{Damaged as DamagedBlob};
 ghost use Rattle.wu_outside.specs.Faults.{HasFaultCause};
 ghost use Rattle.wu_outside.specs.Ranges.{AddsRange};
 ghost use Rattle.wu_part.specs.Parts.{IsRecorded};
@@ -51,7 +52,20 @@ fn open_part<D: Store>(
     ensures calm { OnOk result (D.faults store.new ≡ D.faults store.old) }
     ensures cause { IfErr result (IsLoadCause (D.holds store.old) (recorded.now ∷ []) (D.faults store.old) (D.faults store.new)) }
 {
-    match directory_in(alloc, store, recorded)? {
+    let found = directory_in(alloc, store, recorded)?;
+    Ok(as_recorded(found, recorded)?)
+}
+
+/// The part of the record with the directory that was found, where that tells what is recorded. Else its blob is damaged:
+/// there is no other error.
+fn as_recorded(found: Option<Directory>, recorded: &PartRec) -> Result<StoredPart, Trouble>
+    requires { IfSome found (λ directory. directory.size ≡ recorded.now.size) }
+    ensures ok { IfOk result (λ part. (part.recorded ≡ recorded.now) × (found ≡ Some part.directory)
+        × IsRecorded recorded.now part.directory) }
+    ensures err { IfErr result (λ trouble. (trouble ≡ DamagedBlob recorded.now.blob)
+        × IfSome found (λ directory. IsRecorded recorded.now directory → ⊥)) }
+{
+    match found {
         Some(directory) if tells(&directory, recorded) => Ok(StoredPart {
             recorded: *recorded,
             directory,

@@ -12,7 +12,7 @@ ghost use Rattle.wu_lists.specs.Tallying.{Counts};
 ghost use Rattle.wu_parts.specs.Lists.{with_posting, with_terms};
 ghost use Rattle.wu_parts.specs.LiveLists.{AreEncodable};
 
-use crate::chains::{Chain, addresses_from, put};
+use crate::chains::{Chain, addresses_from, forget, put};
 use crate::flushing::{by_term, cut_to_live};
 use crate::frames::first_start;
 use indexmap::IndexMap;
@@ -197,8 +197,7 @@ impl MemoryPostings {
     {
         self.start = self.end();
         self.low = self.start;
-        self.chains = IndexMap::new(self.alloc);
-        self.before = Vec::new(self.alloc);
+        forget(self.alloc, &mut self.chains, &mut self.before);
         self.stored = 0;
     }
 

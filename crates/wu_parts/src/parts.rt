@@ -1,5 +1,6 @@
 //! The parts of the index, and the postings in memory.
 ghost use Rattle.std.specs.Prelude.{◌≡◌, ◌⊎◌, ℕ, ◌+◌, ◌<◌, ◌≤◌, ◌^◌, ◌∷◌, ◌++◌, List, Option, [], All, IsTrue, ◌↔◌, length, map, slice_get, IfOk, IfErr, OnOk, OnErr};
+ghost use Rattle.wu_base.specs.declared.troubles.Trouble.TheVariants.{NoMemory as RanOutOfMemory};
 ghost use Rattle.wu_layout.specs.Postings.{Posting, live_of};
 ghost use Rattle.wu_outside.specs.Content.{MayDo, with_blob};
 ghost use Rattle.wu_outside.specs.Crash.{Put, try_change};
@@ -28,7 +29,7 @@ use wu_token::Token;
 pub const BLOCKS_KEPT: usize = 1024;
 
 /// The postings that were added since the last flush, the parts in the store, and the background work on
-/// them that is under way. After out of memory a Parts is only dropped.
+/// them that is under way. After out of memory a Parts is only dropped, where the call doesn't say what stands.
 #[derive(Drop)]
 pub struct Parts {
     pub(crate) alloc: Global,
@@ -141,7 +142,7 @@ impl Parts {
     /// Makes a part of the live postings in memory, right of all others, and forgets memory: the dead ones are
     /// dropped, and where none is live no part is made and the store is not asked. It reads nothing of the
     /// store. Nothing but the number of the next blob is changed before the store has the part. Its errors are
-    /// out of memory and a fault of the store.
+    /// out of memory, when the store has what it had, and a fault of the store.
     pub fn flush<D: Store>(&mut self, store: &mut D, space: &Space) -> Result<(), Trouble>
         requires blob { self.old.next_blob + 1 < 2 ^ 63 }
         requires flushes { self.old.flushes + 1 < 2 ^ 63 }
@@ -152,12 +153,19 @@ impl Parts {
         ensures unchanged { OnErr result (self.new ≡ record self.old { next_blob = self.new.next_blob }) }
         ensures drawn { OnErr result ((self.new.next_blob ≡ self.old.next_blob + 1) ⊎ ((self.new ≡ self.old) × (store.new ≡ store.old))) }
 
+        // Where no number is drawn, the store is as it was; and none is drawn where no posting in memory is live.
+        ensures untouched { self.new.next_blob ≡ self.old.next_blob → store.new ≡ store.old }
+        ensures undrawn { (low high : ℕ) (postings : List Posting) → HasPostings low high self.old.memory postings
+            → live_of (map (λ file. file.1) space.now.ranges) postings ≡ [] → self.new.next_blob ≡ self.old.next_blob }
+
         // Whatever is answered, only the blob of the next number may differ.
         ensures elsewhere { (written : Option (List ℕ))
             × MayDo (with_blob self.old.next_blob written) (D.holds store.old) (D.holds store.new) }
         ensures tried { (written : Option (List ℕ))
             × MayDo (try_change (Put self.old.next_blob) (with_blob self.old.next_blob written))
             (D.moments store.old) (D.moments store.new) }
+        ensures memory { IfErr result (λ trouble. trouble ≡ RanOutOfMemory
+            → (D.holds store.new ≡ D.holds store.old) × (D.moments store.new ≡ D.moments store.old)) }
         ensures unread { D.reads store.new ≡ D.reads store.old }
         ensures calm { OnOk result (D.faults store.new ≡ D.faults store.old) }
         ensures cause { IfErr result (IsStoreCause (D.faults store.old) (D.faults store.new)) }

@@ -1,5 +1,6 @@
 //! A part, put into the store.
 ghost use Rattle.std.specs.Prelude.{◌≡◌, ℕ, List, Option, ◌<◌, IfErr, IfOk, OnOk, length};
+ghost use Rattle.wu_base.specs.declared.troubles.Trouble.TheVariants.{NoMemory as RanOutOfMemory};
 ghost use Rattle.wu_outside.specs.Content.{MayDo, with_blob};
 ghost use Rattle.wu_outside.specs.Crash.{Put, try_change};
 ghost use Rattle.wu_part.specs.Directories.{PartDirectory};
@@ -21,7 +22,7 @@ pub(crate) struct StoredPart {
 }
 
 /// Makes a part of generation 0 of the lists that were added, and puts it into the blob. Nothing is read. The errors are out
-/// of memory and a fault of the store; only that blob may differ then.
+/// of memory, when the store has what it had, and a fault of the store; only that blob may differ then.
 pub(crate) fn put_part<D: Store>(
     alloc: Global,
     store: &mut D,
@@ -35,6 +36,8 @@ pub(crate) fn put_part<D: Store>(
     ensures elsewhere { (written : Option (List ℕ)) × MayDo (with_blob blob written) (D.holds store.old) (D.holds store.new) }
     ensures tried { (written : Option (List ℕ))
         × MayDo (try_change (Put blob) (with_blob blob written)) (D.moments store.old) (D.moments store.new) }
+    ensures memory { IfErr result (λ trouble. trouble ≡ RanOutOfMemory
+        → (D.holds store.new ≡ D.holds store.old) × (D.moments store.new ≡ D.moments store.old)) }
     ensures unread { D.reads store.new ≡ D.reads store.old }
     ensures calm { OnOk result (D.faults store.new ≡ D.faults store.old) }
     ensures cause { IfErr result (IsStoreCause (D.faults store.old) (D.faults store.new)) }
@@ -43,8 +46,8 @@ pub(crate) fn put_part<D: Store>(
     Ok(put_bytes(alloc, store, blob, &bytes)?)
 }
 
-/// Puts the part with these bytes into the blob. Nothing is read. The errors are out of memory and a fault of
-/// the store; only that blob may differ then.
+/// Puts the part with these bytes into the blob. Nothing is read. The errors are out of memory, when the store has
+/// what it had, and a fault of the store; only that blob may differ then.
 pub(crate) fn put_bytes<D: Store>(
     alloc: Global,
     store: &mut D,
@@ -57,6 +60,8 @@ pub(crate) fn put_bytes<D: Store>(
     ensures elsewhere { (written : Option (List ℕ)) × MayDo (with_blob blob written) (D.holds store.old) (D.holds store.new) }
     ensures tried { (written : Option (List ℕ))
         × MayDo (try_change (Put blob) (with_blob blob written)) (D.moments store.old) (D.moments store.new) }
+    ensures memory { IfErr result (λ trouble. trouble ≡ RanOutOfMemory
+        → (D.holds store.new ≡ D.holds store.old) × (D.moments store.new ≡ D.moments store.old)) }
     ensures unread { D.reads store.new ≡ D.reads store.old }
     ensures calm { OnOk result (D.faults store.new ≡ D.faults store.old) }
     ensures cause { IfErr result (IsStoreCause (D.faults store.old) (D.faults store.new)) }

@@ -15,7 +15,7 @@ pub returns-then-is_empty : goal.returns-then-is_empty
 returns-then-is_empty c =
     let live = c.args.live.now in
     let none : c.in_ok-at.at ≡ [] = search rules in
-    let dead : filter (is_live live) c.args.addresses.items ≡ [] = sym c.in_ok-at.ensures ∙ none in
+    let dead : filter (is_live live) c.args.addresses.items ≡ [] = sym c.in_ok-at.ensures.at ∙ none in
     ap (λ (ls : List TermList). record c.args.lists.now { lists = ls })
     (sym (append-nil c.args.lists.now.lists)
     ∙ ap (λ (ls : List TermList). c.args.lists.now.lists ++ ls) (sym (dead_list live c.args.term.now c.args.addresses.items dead)))
@@ -25,12 +25,12 @@ add-requires-clause-list c =
     let some : c.in_ok-at.at ≡ [] → ⊥ = search rules in
     subst (λ (t : List ℕ). IsList (record { term = t; at = c.in_ok-at.at })) (sym c.in_ok-term.ensures)
     (live_list_is c.args.live.now c.args.term.now c.args.addresses.items c.in_ok-at.at c.requires.term c.requires.ascend
-    c.in_ok-at.ensures some)
+    c.in_ok-at.ensures.at some)
 
 pub add-requires-clause-low : goal.add-requires-clause-low
 add-requires-clause-low c =
     let some : c.in_ok-at.at ≡ [] → ⊥ = search rules in
-    live_list_from c.args.live.now c.args.lists.now.low c.args.addresses.items c.in_ok-at.at c.requires.low c.in_ok-at.ensures some
+    live_list_from c.args.live.now c.args.lists.now.low c.args.addresses.items c.in_ok-at.at c.requires.low c.in_ok-at.ensures.at some
 
 pub returns : goal.returns
 returns c =
@@ -39,4 +39,4 @@ returns c =
     ∙ ap (λ (t : List ℕ). record c.args.lists.now { lists = c.args.lists.now.lists ++ record { term = t; at = c.in_ok-at.at } ∷ [] })
     c.in_ok-term.ensures
     ∙ ap (λ (ls : List TermList). record c.args.lists.now { lists = c.args.lists.now.lists ++ ls })
-    (sym (some_list c.args.live.now c.args.term.now c.args.addresses.items c.in_ok-at.at c.in_ok-at.ensures some))
+    (sym (some_list c.args.live.now c.args.term.now c.args.addresses.items c.in_ok-at.at c.in_ok-at.ensures.at some))

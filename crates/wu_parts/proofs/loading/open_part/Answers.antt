@@ -1,30 +1,46 @@
-use Rattle.std.proofs.Common.{◌≡◌}
-use Rattle.std.specs.Prelude.{Bool, true, false, MatchBool}
-use Rattle.wu_layout.proofs.EntryLemmas.{IfSome-found}
-use Rattle.wu_part.specs.Parts.{IsRecorded}
-use Rattle.wu_parts.specs.OpenedParts.{CannotBeOpened, IsDirectoryRead}
-use Rattle.wu_parts.proofs.OpenedLemmas.{cause-damaged, none-of, untold}
+use Rattle.std.proofs.Common.{◌≡◌, [], ◌∷◌, sym, subst}
+use Rattle.wu_layout.proofs.EntryLemmas.{IfSome-found, IfSome-map}
+use Rattle.wu_part.specs.Directories.{PartDirectory}
+use Rattle.wu_parts.specs.Loading.{IsLoadCause}
+use Rattle.wu_parts.specs.OpenedParts.{IsDirectoryRead}
+use Rattle.wu_parts.proofs.Asking.{answered}
+use Rattle.wu_parts.proofs.OpenedLemmas.{cause-damaged, untold-or-none}
 use Rattle.wu_parts.proofs.loading.open_part.Goals as goal
-use Rattle.wu_parts.proofs.loading.open_part.Goals.{in_default-via-in-Some+else-tells, in_default-via-in_default}
 
-is_not : (b : Bool) (A B : Type 0) → b ≡ false → MatchBool b A B → B
-is_not b A B e m = elim b as (λ b. b ≡ false → MatchBool b A B → B) [ true ↦ λ e m. absurd (cc) | false ↦ λ e m. m ] e m
+pub as_recorded-requires : goal.as_recorded-requires
+as_recorded-requires g c =
+    let recorded = c.args.recorded.now in
+    IfSome-map
+    (IsDirectoryRead (g.D.Store.holds c.args.store.now) recorded (g.D.Store.reads c.args.store.now)
+    (g.D.Store.reads c.directory_in.new.store))
+    (λ (directory : PartDirectory). directory.size ≡ recorded.size) c.in_ok-found.found
+    (λ directory read. read.found.size) c.in_ok-found.ensures.found
 
-pub returns-in_default-clause-cause : goal.returns-in_default-clause-cause
-returns-in_default-clause-cause g c =
+pub returns-clause-opened : goal.returns-clause-opened
+returns-clause-opened g c =
+    let part = c.in_ok-as_recorded.ensures.ok in
+    let read = IfSome-found
+    (IsDirectoryRead (g.D.Store.holds c.args.store.now) c.args.recorded.now (g.D.Store.reads c.args.store.now)
+    (g.D.Store.reads c.directory_in.new.store))
+    c.in_ok-found.found c.in_ok-as_recorded.field-0.directory part.1 c.in_ok-found.ensures.found in
+    record {
+      same = part.0;
+      spelled = read.found.spelled;
+      directory_length = read.directory_length;
+      opened = record { told = part.2; own = read.found.own };
+      read = read.read;
+    }
+
+pub returns-in_err-as_recorded-clause-cause : goal.returns-in_err-as_recorded-clause-cause
+returns-in_err-as_recorded-clause-cause g c =
     let recorded = c.args.recorded.now in
     let holds = g.D.Store.holds c.args.store.now in
-    let found = c.in_ok-directory.ensures.found in
-    let none = c.in_ok-directory.ensures.none in
-    let broken : CannotBeOpened holds recorded =
-    elim c.in_default.branch [
-      | in_default-via-in-Some+else-tells w ↦
-          untold holds recorded (g.D.Store.reads c.args.store.now) (g.D.Store.reads c.directory_in.new.store) w.in-Some.directory
-          (IfSome-found (IsDirectoryRead holds recorded (g.D.Store.reads c.args.store.now) (g.D.Store.reads c.directory_in.new.store))
-          c.in_ok-directory.field-0 w.in-Some.directory w.in-Some.is found)
-          (is_not w.tells.result (IsRecorded recorded w.in-Some.directory) (IsRecorded recorded w.in-Some.directory → ⊥) w.if-tells.false
-          w.tells.ensures)
-      | in_default-via-in_default w ↦ none-of c.in_ok-directory.field-0 (CannotBeOpened holds recorded) w.in_default.not-Some none
-    ] in
-    cause-damaged holds recorded (g.D.Store.faults c.args.store.now) (g.D.Store.faults c.directory_in.new.store)
-    c.in_ok-directory.ensures.calm broken
+    let before = g.D.Store.faults c.args.store.now in
+    let now = g.D.Store.faults c.directory_in.new.store in
+    let err = c.in_err-as_recorded.ensures.err in
+    answered (IsLoadCause holds (recorded ∷ []) before now) c.from_residual-in_err-as_recorded.result c.in_err-as_recorded.field-0.0
+    c.from_residual-in_err-as_recorded.ensures.1
+    (subst (IsLoadCause holds (recorded ∷ []) before now) (sym err.0)
+    (cause-damaged holds recorded before now c.in_ok-found.ensures.calm
+    (untold-or-none holds recorded (g.D.Store.reads c.args.store.now) (g.D.Store.reads c.directory_in.new.store) c.in_ok-found.found
+    c.in_ok-found.ensures.found c.in_ok-found.ensures.none err.1)))

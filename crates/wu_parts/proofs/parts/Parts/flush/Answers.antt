@@ -10,7 +10,7 @@ use Rattle.wu_parts.specs.Memory.{HasPostings, Memory}
 use Rattle.wu_parts.specs.StoredParts.{AreSound, AreStored, IsPut, directories_of, records_of}
 use Rattle.wu_parts.specs.ViewOfParts.{contents_of}
 use Rattle.wu_parts.specs.declared.writing.StoredPart.{StoredPart}
-use Rattle.wu_parts.proofs.Flushes.{flushes-none, flushes-part, none_of_length, stored_after}
+use Rattle.wu_parts.proofs.Flushes.{flushes-none, flushes-part, none_made, none_of_length, stored_after}
 use Rattle.wu_parts.proofs.SoundParts.{sound_pushed}
 use Rattle.wu_parts.proofs.Spans.{directories-push, records-push, stored-raised}
 use Rattle.wu_parts.proofs.parts.Parts.flush.Goals as goal
@@ -106,3 +106,28 @@ returns-clause-flushed g c low high postings h =
     (c.in_ok-lists.ensures.lists low high postings
     (subst (λ (k : Contents). HasPostings low high k.memory postings) (sym c.self.view_is) h))
     some put changes
+
+pub returns-in_err-part-clause-undrawn : goal.returns-in_err-part-clause-undrawn
+returns-in_err-part-clause-undrawn g c low high postings h none =
+    let some : 0 < length c.in_ok-lists.lists.lists = search rules in
+    absurd
+    (none_made c.args.self.now (contents_of c.self.inside) (map (λ file. file.1) c.args.space.now.ranges) c.in_ok-lists.lists.lists
+    c.self.view_is some c.in_ok-lists.ensures.lists low high postings h none)
+
+pub returns-in_err-push-clause-undrawn : goal.returns-in_err-push-clause-undrawn
+returns-in_err-push-clause-undrawn g c low high postings h none =
+    let some : 0 < length c.in_ok-lists.lists.lists = search rules in
+    absurd
+    (none_made c.args.self.now (contents_of c.self.inside) (map (λ file. file.1) c.args.space.now.ranges) c.in_ok-lists.lists.lists
+    c.self.view_is some c.in_ok-lists.ensures.lists low high postings h none)
+
+pub returns-clause-undrawn : goal.returns-clause-undrawn
+returns-clause-undrawn g c low high postings h none =
+    let some : 0 < length c.in_ok-lists.lists.lists = search rules in
+    absurd
+    (none_made c.args.self.now (contents_of c.self.inside) (map (λ file. file.1) c.args.space.now.ranges) c.in_ok-lists.lists.lists
+    c.self.view_is some c.in_ok-lists.ensures.lists low high postings h none)
+
+-- there was room for one part more
+pub returns-in_err-push-clause-memory : goal.returns-in_err-push-clause-memory
+returns-in_err-push-clause-memory g c = absurd (omega (arith, c.in_ok-reserve.ensures.ok, c.in_err-push.ensures.full))

@@ -7,7 +7,7 @@ use Rattle.wu_parts.specs.Contents.{Contents}
 use Rattle.wu_parts.specs.StoredParts.{running_at}
 use Rattle.wu_parts.specs.UnitsOfParts.{FindsJob}
 use Rattle.wu_parts.specs.declared.working.Running.{Running}
-use Rattle.wu_parts.proofs.UnitSteps.{leaves_after, stops_unit}
+use Rattle.wu_parts.proofs.UnitSteps.{given_up, leaves_after, stops_unit}
 use Rattle.wu_parts.proofs.parts.Parts.unit.Goals as goal
 
 pub returns-in_err-step-in-Some-clause-stops : goal.returns-in_err-step-in-Some-clause-stops
@@ -19,6 +19,14 @@ returns-in_err-step-in-Some-clause-stops g c =
     (stops_unit c.args.space.now.ranges c.args.self.now (running_at c.in-Some.running) (g.D.Store.holds c.args.store.now)
     (g.D.Store.faults c.args.store.now) (g.D.Store.faults c.step.new.store) (g.D.Store.reads c.args.store.now)
     (g.D.Store.reads c.step.new.store) c.in_err-step-in-Some.field-0.0 finds.0 finds.1.running c.in_err-step-in-Some.ensures.stops)
+
+pub returns-in_err-step-in-Some-clause-stands : goal.returns-in_err-step-in-Some-clause-stands
+returns-in_err-step-in-Some-clause-stands g c =
+    let p = err_from_is_err_and c.from_residual-in_err-step-in-Some.result c.from_residual-in_err-step-in-Some.ensures.1 in
+    rw (p.1, p.2)
+    (λ other.
+    given_up c.args.self.now c.take_job.new.self c.step.new.self c.in_ok-running.ensures.others
+    (c.in_err-step-in-Some.ensures.stands other))
 
 pub returns-in_ok-step-in-Some-clause-done : goal.returns-in_ok-step-in-Some-clause-done
 returns-in_ok-step-in-Some-clause-done g c =

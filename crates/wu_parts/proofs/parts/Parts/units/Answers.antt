@@ -56,6 +56,21 @@ returns-in_err-unit-clause-stops g c =
     (g.D.Store.reads c.loop.store) (g.D.Store.reads c.unit.new.store) c.in_err-unit.field-0.0 c.loop-test.true units.1.0 units.1.1
     c.loop.invariant.calm c.in_err-unit.ensures.stops)
 
+pub returns-in_err-unit-clause-reached : goal.returns-in_err-unit-clause-reached
+returns-in_err-unit-clause-reached g c =
+    let p = err_from_is_err_and c.from_residual.result c.from_residual.ensures.1 in
+    let units = c.loop.invariant.units in
+    rw (p.1, p.2)
+    (λ other. record {
+      done = c.loop.counter;
+      fewer = c.loop-test.true;
+      reached = c.loop.self;
+      stored = (g.D.Store.holds c.loop.store, g.D.Store.moments c.loop.store);
+      read = units.0;
+      units_done = units.1.0;
+      given_up = c.in_err-unit.ensures.stands other;
+    })
+
 pub returns-then-not-branch-clause-elsewhere : goal.returns-then-not-branch-clause-elsewhere
 returns-then-not-branch-clause-elsewhere g c =
     let old : Contents = c.args.self.now in

@@ -1,7 +1,8 @@
 use Rattle.std.proofs.Common.{refl}
 use Rattle.wu_parts.specs.ViewOfParts.{contents_of}
 use Rattle.wu_parts.proofs.Asking.{asks-told, cause-told}
-use Rattle.wu_parts.proofs.parts.Parts.touch.Goals as goal
+use Rattle.wu_parts.proofs.FetchedAddresses.{fetched-seen}
+use Rattle.wu_parts.proofs.parts.Parts.walk.Goals as goal
 
 pub returns-in_err-walk_parts-clause-cause : goal.returns-in_err-walk_parts-clause-cause
 returns-in_err-walk_parts-clause-cause g c =
@@ -16,3 +17,14 @@ returns-clause-blocks g c =
     asks-told c.args.self.now (contents_of c.self.inside) c.self.inside.parts.items c.as_slice-parts.result.now c.self.view_is refl refl
     c.as_slice-parts.ensures.value c.args.term.now c.args.frames.now (g.D.Store.holds c.args.store.now) c.walk_parts.new.lists
     (g.D.Store.reads c.args.store.now) (g.D.Store.reads c.walk_parts.new.store) c.in_ok-walk_parts.ensures.blocks
+
+pub returns-clause-addresses : goal.returns-clause-addresses
+returns-clause-addresses g c = λ wanted.
+    let gains = c.in_ok-walk_parts.ensures.addresses wanted in
+    record {
+      more = gains.more;
+      gained = gains.gained;
+      kind = fetched-seen c.args.self.now (contents_of c.self.inside) c.self.inside.parts.items c.as_slice-parts.result.now c.self.view_is
+          refl refl c.as_slice-parts.ensures.value c.args.term.now c.args.frames.now (g.D.Store.holds c.args.store.now) gains.more
+          c.self.invariant.stored.spans gains.kind;
+    }
