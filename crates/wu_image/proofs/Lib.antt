@@ -6,5 +6,9 @@ pub mod ListedLemmas
 pub mod NodeLemmas
 pub mod RootLemmas
 pub mod RuleLemmas
+pub mod RangesInOrder
+pub mod DistinctBlobs
 pub mod UniqueItems
+pub mod RecordedNumbers
+pub mod EntryLists
 pub mod WritingLemmas

@@ -1,5 +1,6 @@
 -- Lemmas on all that a checkpoint's bytes tell.
-use Rattle.std.proofs.Common.{◌≡◌, ℕ, ◌+◌, ◌^◌, ◌<◌, ◌≤◌, List, [], ◌∷◌, ◌++◌, length, get_or, drop, refl, ap, sym, subst, ◌∙◌, append_assoc, append-nil, arith}
+use Rattle.std.proofs.Common.{◌≡◌, ℕ, ◌+◌, ◌^◌, ◌<◌, ◌≤◌, List, [], ◌∷◌, ◌++◌, length, get_or, drop, refl, ap, sym, subst, ◌∙◌}
+use Rattle.std.proofs.Common.{append_assoc, append-nil, arith}
 use Rattle.std.specs.Prelude.{Option, None, Some, codes, map}
 use Rattle.std.specs.List.{AllByRecursion, flat_map}
 use Rattle.wu_base.specs.declared.addresses.PartRec.{PartRec}
@@ -14,11 +15,14 @@ use Rattle.wu_image.specs.declared.nodes.Entry.{Entry}
 use Rattle.wu_image.specs.declared.records.FileRec.{FileRec}
 use Rattle.wu_image.specs.Items.{Item, Number, StartsWith, list_items}
 use Rattle.wu_image.specs.LayoutRules.{AreLayoutRules, IsPart, IsText, NeverRise, SpansAscend}
-use Rattle.wu_image.specs.Checkpoints.{HasItems, IsCheckpoint, SpellsCheckpoint, checkpoint_items, file_numbers, user_items, tree_items, link_items, part_items}
+use Rattle.wu_image.specs.Checkpoints.{HasItems, IsCheckpoint, SpellsCheckpoint, checkpoint_items, file_numbers, user_items, tree_items}
+use Rattle.wu_image.specs.Checkpoints.{link_items, part_items}
 use Rattle.wu_image.specs.Reading.{FitsPart, HasRecord, IsEntry, StartsWithTree, entry_items, nodes_of, files_of, record_list}
 use Rattle.wu_image.specs.Lists.{IsListed}
 use Rattle.wu_image.proofs.ItemLemmas.{IsUnique, all_units, joined, parted, one_code, unique_list}
-use Rattle.wu_image.proofs.UniqueItems.{Any, AreEntriesOf, entries_exist, items_of_entries, numbers_of_entries, same_numbers, unique_entry, unique_link, unique_part, unique_user}
+use Rattle.wu_image.proofs.RecordedNumbers.{same_numbers, unique_part}
+use Rattle.wu_image.proofs.UniqueItems.{Any, unique_entry, unique_link, unique_user}
+use Rattle.wu_image.proofs.EntryLists.{entries_exist, items_of_entries, numbers_of_entries}
 
 -- ---- what is listed of a checkpoint that keeps the rules
 

@@ -10,7 +10,8 @@ use Rattle.wu_tree.specs.Rules.{IsTree}
 use Rattle.wu_image.specs.declared.checkpoints.Checkpoint.{Checkpoint}
 use Rattle.wu_image.specs.declared.records.FileRec.{FileRec}
 use Rattle.wu_image.specs.Items.{Item, Id, Number, StartsWith, Appends, list_items}
-use Rattle.wu_image.specs.Checkpoints.{HasItems, checkpoint_items, first_text, group_items, later_files, link_items, node_items, part_items, tree_items, user_items}
+use Rattle.wu_image.specs.Checkpoints.{HasItems, checkpoint_items, first_text, group_items, later_files, link_items, node_items, part_items}
+use Rattle.wu_image.specs.Checkpoints.{tree_items, user_items}
 use Rattle.wu_image.proofs.ItemLemmas.{LeftToPut, all_left, all_put, appended, some_put}
 
 -- what is still to be written of the nodes

@@ -1,5 +1,5 @@
 use Rattle.std.proofs.Common.{arith}
-use Rattle.wu_image.proofs.UniqueItems.{all_numbers, one_number_more, too_few_numbers}
+use Rattle.wu_image.proofs.RecordedNumbers.{all_numbers, one_number_more, too_few_numbers}
 use Rattle.wu_image.proofs.fields.next_numbers.Goals as goal
 
 pub returns-in_default-clause-none : goal.returns-in_default-clause-none

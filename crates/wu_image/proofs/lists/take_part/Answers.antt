@@ -1,5 +1,5 @@
 use Rattle.std.proofs.Common.{◌-◌, [], ◌∷◌, refl, arith}
-use Rattle.wu_image.proofs.UniqueItems.{numbers_of_part, part_spelled}
+use Rattle.wu_image.proofs.RecordedNumbers.{numbers_of_part, part_spelled}
 use Rattle.wu_image.proofs.lists.take_part.Goals as goal
 
 pub returns-in_default-clause-none : goal.returns-in_default-clause-none

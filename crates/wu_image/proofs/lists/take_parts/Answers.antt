@@ -3,7 +3,7 @@ use Rattle.std.specs.List.{flat_map}
 use Rattle.wu_image.specs.Checkpoints.{part_items}
 use Rattle.wu_image.specs.Reading.{FitsPart}
 use Rattle.wu_image.proofs.ItemLemmas.{all_taken, none_taken, not_taken, one_taken}
-use Rattle.wu_image.proofs.UniqueItems.{unique_part}
+use Rattle.wu_image.proofs.RecordedNumbers.{unique_part}
 use Rattle.wu_image.proofs.lists.take_parts.Goals as goal
 
 pub returns-in_default-clause-none : goal.returns-in_default-clause-none

@@ -1,5 +1,5 @@
 use Rattle.std.proofs.Common.{[], ◌∷◌, get_or, refl, arith}
-use Rattle.wu_image.proofs.UniqueItems.{length_of_text, text_spelled}
+use Rattle.wu_image.proofs.RecordedNumbers.{length_of_text, text_spelled}
 use Rattle.wu_image.proofs.nodes.take_text.Goals as goal
 
 pub returns-in_default-clause-none : goal.returns-in_default-clause-none

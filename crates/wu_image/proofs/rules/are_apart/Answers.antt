@@ -2,7 +2,7 @@ use Rattle.std.proofs.Common.{List, map, rules, subst}
 use Rattle.std.specs.Prelude.{IsPermutation}
 use Rattle.std.proofs.lemmas.List.Sorted.{IsNonDecreasingBy-from_sort_by_key}
 use Rattle.wu_base.specs.declared.addresses.Range.{Range}
-use Rattle.wu_image.proofs.RuleLemmas.{apart_decided, ranges_end}
+use Rattle.wu_image.proofs.RangesInOrder.{apart_decided, ranges_end}
 use Rattle.wu_image.proofs.rules.are_apart.Goals as goal
 
 pub are_in_order-requires : goal.are_in_order-requires

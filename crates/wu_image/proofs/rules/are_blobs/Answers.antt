@@ -3,7 +3,7 @@ use Rattle.std.specs.Prelude.{IsPermutation}
 use Rattle.std.specs.List.{AllByRecursion}
 use Rattle.std.proofs.lemmas.List.Sorted.{IsNonDecreasingBy-from_sort}
 use Rattle.wu_image.specs.LayoutRules.{named_blobs}
-use Rattle.wu_image.proofs.RuleLemmas.{blobs_decided, drawn_fit, drawn_moved}
+use Rattle.wu_image.proofs.DistinctBlobs.{blobs_decided, drawn_fit, drawn_moved}
 use Rattle.wu_image.proofs.rules.are_blobs.Goals as goal
 
 pub rise-requires : goal.rise-requires

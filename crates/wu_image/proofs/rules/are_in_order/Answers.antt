@@ -1,7 +1,8 @@
 use Rattle.std.proofs.Common.{◌≡◌, ◌+◌, ◌^◌, ◌<◌, List, get_or, arith}
 use Rattle.std.proofs.lemmas.List.{at_drop_all, drop_more}
 use Rattle.wu_base.specs.declared.addresses.Range.{Range}
-use Rattle.wu_image.proofs.RuleLemmas.{all_has_at, all_order_left, no_range, no_range_left, one_range_less, starts_early}
+use Rattle.wu_image.proofs.RuleLemmas.{all_has_at, no_range}
+use Rattle.wu_image.proofs.RangesInOrder.{all_order_left, no_range_left, one_range_less, starts_early}
 use Rattle.wu_image.proofs.rules.are_in_order.Goals as goal
 
 pub loop-range-init : goal.loop-range-init

@@ -1,5 +1,5 @@
 use Rattle.std.proofs.Common.{drop}
-use Rattle.wu_image.proofs.RuleLemmas.{OrderLeft}
+use Rattle.wu_image.proofs.RangesInOrder.{OrderLeft}
 use Rattle.wu_image.proofs.rules.are_in_order.Given as goal
 
 abbrev pub invariant-loop-range : goal.invariant-loop-range

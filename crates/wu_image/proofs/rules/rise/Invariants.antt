@@ -1,5 +1,5 @@
 use Rattle.std.proofs.Common.{drop}
-use Rattle.wu_image.proofs.RuleLemmas.{RiseLeft}
+use Rattle.wu_image.proofs.DistinctBlobs.{RiseLeft}
 use Rattle.wu_image.proofs.rules.rise.Given as goal
 
 abbrev pub invariant-loop-number : goal.invariant-loop-number
