@@ -1,20 +1,17 @@
 -- What is kept of users after a file had a new text, put together from what becomes of each.
-use Rattle.std.proofs.Common.{◌≡◌, ◌≢◌, ℕ, ◌<◌, List, [], ◌∷◌, ◌++◌, length, get_or, refl, ap, sym, ◌∙◌, subst, inl, inr, ⊎_elim, arith}
-use Rattle.std.specs.Prelude.{OnErr, OnOk, Ok, Err, Option, Result, nat_eq, take, ◌-◌, ◌≤◌}
-use Rattle.std.specs.List.{AllByRecursion, Any, HoldsAt, IsDistinct}
-use Rattle.std.specs.Map.{keys_of}
+use Rattle.std.proofs.Common.{◌≡◌, ◌≢◌, ℕ, ◌<◌, Bool, List, [], ◌∷◌, ◌++◌, length, get_or, refl, ap, sym, subst, inl, inr, ⊎_elim, arith}
+use Rattle.std.specs.List.{AllByRecursion, Any, HoldsAt, remove}
+use Rattle.std.specs.List.Sorted.{IsNonDecreasingBy}
 use Rattle.std.proofs.lemmas.List.{get_or_default}
-use Rattle.lru.specs.LruCache.{LruCache, lru_cache, put_entries}
 use Rattle.wu_base.specs.declared.addresses.Range.{Range}
 use Rattle.wu_tree.specs.FileSystems.{FileSystem}
 use Rattle.wu_space.specs.Addresses.{AreApart, Ranges}
 use Rattle.wu_frames.specs.declared.Frame.{Frame}
 use Rattle.wu_frames.specs.declared.Frames.{Frames}
-use Rattle.wu_frames.specs.UserFrames.{AreFor, HasFrameAt, IsMended, Kept, StayOrMove, with_range}
-use Rattle.wu_frames.specs.Mending.{IsBrought, IsMoved}
+use Rattle.wu_frames.specs.UserFrames.{AreFor, AreFrames, HasFrameAt, Kept, StayOrMove, is_mendable, with_range}
+use Rattle.wu_frames.specs.Mending.{IsBrought, IsMoved, MayForget, MayMove, with_last}
+use Rattle.wu_frames.proofs.Mendable.{keys-both, keys-none, keys-one, mendable-few, mendable-without, only-worn, unmendable}
 use Rattle.wu_frames.proofs.MovedFrames.{right-moved, right-without, starts-ascend}
-use Rattle.wu_frames.proofs.Turns.{last-is, put-again}
-use Rattle.std.specs.List.Sorted.{IsNonDecreasingBy}
 
 -- ---- who stays and who doesn't
 
@@ -48,14 +45,22 @@ any-at start place (first ∷ frames) inside there =
     let frame : Frame = get_or (first ∷ frames) place first in
     (place, frame, inside, get_or_default (first ∷ frames) place frame first inside, there first)
 
+ascend : (fs : FileSystem) (live : Ranges) (uid : ℕ) (frames : Frames) → AreFrames fs live uid frames
+    → IsNonDecreasingBy (λ (x : Frame). x.range.start) frames.by_address
+ascend fs live uid frames r = starts-ascend frames.by_address (subst AreApart r.ranges_alone r.ascending)
+
 module _ (ino : ℕ) (old new : Range) where
+  abbrev test : ℕ × Frames → Bool
+  test entry = is_mendable old entry.1
+
   pub brought-none : IsBrought ino old new [] []
-  brought-none = record { stays = refl; right = λ fs space m a. tt }
+  brought-none = record { stays = refl; users = λ fs space m fits a. refl; right = λ fs space m a. tt }
 
   pub brought-both : (entry : ℕ × Frames) (first gone done : Kept) → IsBrought ino old new (entry ∷ []) first
       → IsBrought ino old new gone done → IsBrought ino old new (entry ∷ gone) (first ++ done)
   brought-both entry first gone done a b = record {
     stays = stay-both old (entry ∷ []) first gone done a.stays b.stays;
+    users = λ fs space m fits r. keys-both test entry first gone done (a.users fs space m fits (r.0, tt)) (b.users fs space m fits r.1);
     right = λ fs space m r.
         for-both fs (with_range ino new space.ranges) first done (a.right fs space m (r.0, tt)) (b.right fs space m r.1);
   }
@@ -68,38 +73,42 @@ module _ (ino : ℕ) (old new : Range) where
       → IsBrought ino old new ((uid, frames) ∷ []) ((uid, frames) ∷ [])
   brought-same uid frames none = record {
     stays = inl (refl, refl);
-    right = λ fs space m r. (
-      right-without space ino old new m fs uid frames r.0
-          (none (starts-ascend frames.by_address (subst AreApart r.0.ranges_alone r.0.ascending))),
-      tt,
-    );
+    users = λ fs space m fits r. keys-one test (uid, frames) (mendable-without old frames (none (ascend fs space.ranges uid frames r.0)));
+    right = λ fs space m r. (right-without space ino old new m fs uid frames r.0 (none (ascend fs space.ranges uid frames r.0)), tt);
   }
 
-  pub brought-moved : (uid place : ℕ) (frames after : Frames) → HasFrameAt old.start frames → place < length frames.by_address
-      → IsMoved place ino new frames after → IsMended frames after
-      → IsBrought ino old new ((uid, frames) ∷ []) ((uid, after) ∷ [])
-  brought-moved uid place frames after h inside moved mended = record {
-    stays = inr (h, inl (refl, mended, refl));
-    right = λ fs space m r. (right-moved space ino old new m fs uid frames r.0 place inside after moved, tt);
-  }
+  module _ (uid place : ℕ) (frames : Frames) (inside : place < length frames.by_address)
+      (starts : HoldsAt (λ (x : Frame). x.range.start ≡ old.start) frames.by_address place) where
+    has : HasFrameAt old.start frames
+    has = any-at old.start place frames.by_address inside starts
 
-  pub brought-forgotten : (uid : ℕ) (frames : Frames) → HasFrameAt old.start frames → IsBrought ino old new ((uid, frames) ∷ []) []
-  brought-forgotten uid frames h = record { stays = (h, refl); right = λ fs space m r. tt }
+    is-moved : (last : Frame) (sum : ℕ) → MayMove place ino new frames last sum
+        → IsMoved place ino new frames (with_last place last sum frames)
+    is-moved last sum may = record {
+      frame = may.frame;
+      there = may.there;
+      its = may.its;
+      by_address = ap (λ (x : Frame). remove frames.by_address place ++ x ∷ []) may.moved;
+      seen = refl;
+      ranges = ap (λ (x : Frame). remove frames.ranges place ++ x.range ∷ []) may.moved;
+      total = may.counted;
+    }
 
-  -- the last was taken out, and may have been put in again
-  pub put-tried : {E : Type 0} (now rest : Kept) (entry : ℕ × Frames) (cap : ℕ) (popped after : LruCache ℕ Frames) (frames : Frames)
-      (result : Result (Option Frames) E) → now ≡ rest ++ entry ∷ [] → IsDistinct nat_eq (keys_of now) → length now ≤ cap
-      → popped ≡ lru_cache (take (length now - 1) now) cap
-      → OnOk result (after ≡ lru_cache (put_entries nat_eq popped entry.0 frames) popped.cap) → OnErr result (after ≡ popped)
-      → IsBrought ino old new (entry ∷ []) ((entry.0, frames) ∷ []) → IsBrought ino old new (entry ∷ []) []
-      → (first : Kept) × (after.entries ≡ first ++ rest) × IsBrought ino old new (entry ∷ []) first
-  put-tried now rest entry cap popped after frames (Ok before) e d fits out done failed moved gone =
-      let left : popped ≡ lru_cache rest cap = out ∙ ap (λ (k : Kept). lru_cache k cap) (last-is now rest entry e).1 in (
-        (entry.0, frames) ∷ [],
-        ap (λ (c : LruCache ℕ Frames). c.entries) done
-            ∙ ap (λ (c : LruCache ℕ Frames). put_entries nat_eq c entry.0 frames) left
-            ∙ put-again now rest entry frames cap e d fits,
-        moved,
-      )
-  put-tried now rest entry cap popped after frames (Err error) e d fits out done failed moved gone =
-      ([], ap (λ (c : LruCache ℕ Frames). c.entries) (failed ∙ out) ∙ (last-is now rest entry e).1, gone)
+    pub brought-moved : (last : Frame) (sum : ℕ) → MayMove place ino new frames last sum
+        → IsBrought ino old new ((uid, frames) ∷ []) ((uid, with_last place last sum frames) ∷ [])
+    brought-moved last sum may = record {
+      stays = inr (has, inl (refl, (may.few, refl), refl));
+      users = λ fs space m fits r. keys-one test (uid, frames) (mendable-few old frames may.few);
+      right = λ fs space m r.
+          (right-moved space ino old new m fs uid frames r.0 place inside (with_last place last sum frames) (is-moved last sum may), tt);
+    }
+
+    pub brought-forgotten : MayForget place ino new frames → IsBrought ino old new ((uid, frames) ∷ []) []
+    brought-forgotten may = record {
+      stays = (has, refl);
+      users = λ fs space m fits r.
+          keys-none test (uid, frames)
+          (unmendable old frames place may.frame inside starts
+          (only-worn space ino old new m fits fs uid frames r.0 place inside may starts));
+      right = λ fs space m r. tt;
+    }

@@ -1,6 +1,6 @@
 -- What is kept of users after one asked or was put in.
-use Rattle.std.proofs.Common.{◌≡◌, ℕ, zero, suc, ◌-◌, ◌<◌, ◌≤◌, true, false, cond, List, [], ◌∷◌, length, take, nat_eq, refl, ap, sym, subst, arith}
-use Rattle.std.specs.Prelude.{None, Some, IsSome, is_some}
+use Rattle.std.proofs.Common.{◌≡◌, ℕ, zero, suc, ◌-◌, ◌<◌, ◌≤◌, true, false, cond, List, [], ◌∷◌, length, take, nat_eq, refl, ap, sym, ◌∙◌, subst, arith}
+use Rattle.std.specs.Prelude.{Option, None, Some, IsSome, is_some}
 use Rattle.std.specs.Option.{option_map_or}
 use Rattle.std.specs.List.{AllByRecursion}
 use Rattle.std.specs.Map.{lookup, lookup_entry, remove_entry, set_value}
@@ -106,6 +106,12 @@ kept-put cache uid frames = rw (lookup-put_entries nat_eq cache uid frames nat_e
 pub kept-asked : (uid : ℕ) (kept : Kept) (frames now : Frames) → Some frames ≡ frames_for kept uid
     → IsSome (frames_for (set_value (nat_eq uid) (promoted (nat_eq uid) kept) now) uid)
 kept-asked uid kept frames now h = found-set uid (promoted (nat_eq uid) kept) now (kept-promoted uid kept (ap is_some h))
+
+-- a user for whom there are none isn't one who has some
+pub absent : (uid : ℕ) (kept now : Kept) → None ≡ frames_for kept uid → kept ≡ now → IsSome (frames_for now uid) → ⊥
+absent uid kept now none e some =
+    let same : None ≡ frames_for now uid = subst (λ (k : Kept). None ≡ frames_for k uid) e none in
+    let both : is_some {T = Frames} None ≡ true = ap (λ (o : Option Frames). is_some o) same ∙ some in absurd cc
 
 -- who asks, or is put in, is the one who asked last
 

@@ -10,5 +10,6 @@ pub mod OpenDirectories
 pub mod Relinking
 pub mod LinkEvents
 pub mod Turns
+pub mod Mendable
 pub mod Bringing
 pub mod SeldomMended

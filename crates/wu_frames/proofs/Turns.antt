@@ -1,16 +1,17 @@
 -- A walk over what is kept: each turn takes the last entry away and puts what becomes of it before all others.
 use Rattle.std.proofs.Common.{◌≡◌, ℕ, ◌+◌, ◌-◌, ◌<◌, ◌≤◌, Bool, true, false, [], ◌∷◌, ◌++◌, length, take, nat_eq, refl, ap, sym, ◌∙◌, subst, arith, append_assoc, length-append}
-use Rattle.std.specs.Prelude.{None, Some, filter}
+use Rattle.std.specs.Prelude.{Option, None, Some, filter, option_map}
 use Rattle.std.specs.List.{AllByRecursion, IsDistinct}
-use Rattle.std.specs.Map.{keys_of, lookup_entry, remove_entry}
+use Rattle.std.specs.Map.{keys_of, lookup_entry, remove_entry, set_value}
 use Rattle.std.specs.Cmp.{nat_eq_equiv}
 use Rattle.std.proofs.lemmas.Bool.{eqb-false, ne_eqb}
-use Rattle.std.proofs.lemmas.List.{append-nil, take_all}
+use Rattle.std.proofs.lemmas.List.{append-nil}
 use Rattle.std.proofs.lemmas.Map.{NonePasses}
-use Rattle.lru.specs.LruCache.{last_entry, lru_cache, promoted, put_entries}
-use Rattle.lru.proofs.Pairs.{cut_end, last_of_push}
+use Rattle.std.proofs.lemmas.Option.{none-some}
+use Rattle.lru.specs.LruCache.{last_entry, promoted}
+use Rattle.lru.proofs.Pairs.{cut_end, last_of_push, lookup-lookup_entry}
 use Rattle.wu_frames.specs.declared.Frames.{Frames}
-use Rattle.wu_frames.specs.UserFrames.{Kept}
+use Rattle.wu_frames.specs.UserFrames.{Kept, frames_for}
 
 -- ---- the last entry
 
@@ -61,15 +62,35 @@ promoted-now now rest entry uid e same d =
     (subst (λ (k : Kept). promoted (nat_eq entry.0) k ≡ entry ∷ rest) (sym e)
     (promoted-last rest entry (subst (λ (k : Kept). IsDistinct nat_eq (keys_of k)) e d)))
 
--- one who was taken out is put in again
-pub put-again : (now rest : Kept) (entry : ℕ × Frames) (frames : Frames) (cap : ℕ) → now ≡ rest ++ entry ∷ []
-    → IsDistinct nat_eq (keys_of now) → length now ≤ cap → put_entries nat_eq (lru_cache rest cap) entry.0 frames ≡ (entry.0, frames) ∷ rest
-put-again now rest entry frames cap e d fits =
-    let p =
-    passed-none (nat_eq entry.0) rest (none-before rest entry (subst (λ (k : Kept). IsDistinct nat_eq (keys_of k)) e d)) in
-    rw p.0
-    (ap (λ (l : Kept). (entry.0, frames) ∷ l)
-    (take_all (cap - 1) rest (omega (arith, fits, ap length e, length-append rest (entry ∷ [])))))
+first-set : (rest : Kept) (entry : ℕ × Frames) (uid : ℕ) (frames : Frames) → uid ≡ entry.0
+    → set_value (nat_eq uid) (entry ∷ rest) frames ≡ (entry.0, frames) ∷ rest
+first-set rest entry uid frames same =
+    let hers : nat_eq uid entry.0 ≡ true = subst (λ (n : ℕ). nat_eq uid n ≡ true) same (nat_eq_equiv.refl uid) in rw hers refl
+
+-- the same, with other frames
+pub replaced-now : (now rest : Kept) (entry : ℕ × Frames) (uid : ℕ) (frames : Frames) → now ≡ rest ++ entry ∷ [] → uid ≡ entry.0
+    → IsDistinct nat_eq (keys_of now) → set_value (nat_eq uid) (promoted (nat_eq uid) now) frames ≡ (entry.0, frames) ∷ rest
+replaced-now now rest entry uid frames e same d =
+    ap (λ (k : Kept). set_value (nat_eq uid) k frames) (promoted-now now rest entry uid e same d)
+    ∙ first-set rest entry uid frames same
+
+-- the last is found by her number
+pub found-last : (now : Kept) (uid : ℕ) (frames : Frames) → Some (uid, frames) ≡ last_entry now → IsDistinct nat_eq (keys_of now)
+    → frames_for now uid ≡ Some frames
+found-last [] uid frames last d = absurd (none-some (uid, frames) (sym last))
+found-last (x ∷ xs) uid frames last d =
+    let cut = cut_end (x ∷ xs) (omega arith) in
+    let is : (uid, frames) ≡ cut.1 = last-same (x ∷ xs) cut.0 cut.1 uid frames cut.2 last in
+    let e : x ∷ xs ≡ cut.0 ++ (uid, frames) ∷ [] = cut.2 ∙ ap (λ (y : ℕ × Frames). cut.0 ++ y ∷ []) (sym is) in
+    let apart = subst (λ (k : Kept). IsDistinct nat_eq (keys_of k)) e d in
+    let passed = passed-last (nat_eq uid) cut.0 (uid, frames) (none-before cut.0 (uid, frames) apart) (nat_eq_equiv.refl uid) in
+    sym (lookup-lookup_entry (nat_eq uid) (x ∷ xs))
+    ∙ ap (λ (o : Option (ℕ × Frames)). option_map (λ (y : ℕ × Frames). y.1) o) (ap (λ (k : Kept). lookup_entry (nat_eq uid) k) e ∙ passed.0)
+
+-- what is found by that number are her frames
+pub found-same : (now : Kept) (uid : ℕ) (frames found : Frames) → Some (uid, frames) ≡ last_entry now
+    → IsDistinct nat_eq (keys_of now) → Some found ≡ frames_for now uid → found ≡ frames
+found-same now uid frames found last d h = let hers = found-last now uid frames last d in cc
 
 -- ---- the first of those who pass a test
 

@@ -1,8 +1,9 @@
 -- A user's frames: the live ranges of the files of her view, each with the file's number and its place in the view.
-use Rattle.std.specs.Prelude.{◌≡◌, ◌⊎◌, ℕ, ◌+◌, ◌-◌, ◌<◌, ◌≤◌, Option, Some, IfSome, List, [], ◌∷◌, map, take, sum_by, option_map, nat_eq, IsPermutation, filter_map}
+use Rattle.std.specs.Prelude.{◌≡◌, ◌⊎◌, ℕ, ◌+◌, ◌-◌, ◌^◌, ◌<◌, ◌≤◌, ◌==◌, nat_eq, nat_lt, Bool, ◌||◌, not, Option, Some, IfSome, option_map}
+use Rattle.std.specs.Prelude.{List, [], ◌∷◌, map, take, filter, filter_map, sum_by, IsPermutation}
 use Rattle.std.specs.Ordering.{nat_cmp}
-use Rattle.std.specs.List.{AllByRecursion, Any, enumerate_from}
-use Rattle.std.specs.Map.{lookup, remove_entry}
+use Rattle.std.specs.List.{AllByRecursion, Any, enumerate_from, list_any}
+use Rattle.std.specs.Map.{keys_of, lookup, remove_entry}
 use Rattle.std.specs.BTreeMap.{is_at, insert_entry}
 use Rattle.wu_base.specs.declared.addresses.Range.{Range}
 use Rattle.wu_tree.specs.FileSystems.{FileSystem}
@@ -98,3 +99,16 @@ StayOrMove old (entry ∷ kept) (first ∷ now) =
     ((first ≡ entry) × StayOrMove old kept now)
     ⊎ (HasFrameAt old.start entry.1
     × (((first.0 ≡ entry.0) × IsMended entry.1 first.1 × StayOrMove old kept now) ⊎ StayOrMove old kept (first ∷ now)))
+
+-- whether a user's frames stay once a file has left the old range: none of them starts there, or they may be mended once more
+abbrev pub is_mendable : Range → Frames → Bool
+is_mendable old frames = not (list_any (λ frame. frame.range.start == old.start) frames.by_address) || nat_lt frames.mends MENDS_MAX
+
+-- of those users for whom that is so
+abbrev pub kept_mendable : Range → Kept → Kept
+kept_mendable old kept = filter (λ entry. is_mendable old entry.1) kept
+
+-- where what is kept was right, and the file moves to a range whose addresses have 64 bits, frames stay for exactly these users
+abbrev pub StayMendable : ℕ → Range → Range → Kept → Kept → Type 0
+StayMendable ino old new before after = (fs : FileSystem) (space : Addresses) → IsMove space ino old new → new.start + new.len < 2 ^ 64
+    → AreFor fs space.ranges before → keys_of after ≡ keys_of (kept_mendable old before)

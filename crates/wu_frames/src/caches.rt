@@ -3,7 +3,7 @@ ghost use Rattle.std.specs.Prelude.{◌≡◌, [], nat_eq, IfOk, IsOk, OnOk, OnE
 ghost use Rattle.std.specs.Map.{remove_entry};
 ghost use Rattle.wu_tree.specs.FileSystems.{FileSystem};
 ghost use Rattle.wu_space.specs.Addresses.{Addresses, Ranges};
-ghost use Rattle.wu_frames.specs.UserFrames.{AreFor, AreFrames, AreSeldomMended, AskedLast, HasAsked, IsMove, StayOrMove, frames_for, with_range};
+ghost use Rattle.wu_frames.specs.UserFrames.{AreFor, AreFrames, AreSeldomMended, AskedLast, HasAsked, IsMove, StayMendable, StayOrMove, frames_for, with_range};
 ghost use Rattle.wu_frames.specs.Permissions.{IsGroupChange, IsPermChange, kept_as_before};
 ghost use Rattle.wu_frames.specs.Links.{IsLinkChange, KeepRanges, kept_unshown};
 
@@ -59,13 +59,15 @@ impl FrameCache {
     }
 
     /// The frames of the user: those that are kept, or else made now and kept, in the place of the ones
-    /// that were asked for longest ago where `USERS_KEPT` users have some. The only error is out of memory.
+    /// that were asked for longest ago where `USERS_KEPT` users have some. The only error is out of memory, and there is
+    /// none where her frames are kept.
     ///
     /// Takes no more than a look-up where her frames are kept; else time near linear in the entries of the
     /// directories that she may reach and in the bytes of her view.
     pub fn frames_of(&mut self, tree: &Tree, space: &Space, uid: Uid) -> Result<&Frames, NoMemory>
         requires { AreFor tree.now space.now.ranges self.old }
         ensures frames { IfOk result (λ frames. AreFrames tree.now space.now.ranges uid frames.now) }
+        ensures ready { IsSome (frames_for self.old uid) → IsOk result }
         // What is kept once the answer is let go.
         ensures* right { sem 𝓛 (Rests the_row self.entry (λ kept. AreFor tree.now space.now.ranges kept
             × MatchResult result (λ frames. AskedLast uid kept × (frames_for kept uid ≡ Some frames.now) × HasAsked uid self.old kept)
@@ -79,7 +81,8 @@ impl FrameCache {
     }
 
     /// Has the frames of the user kept, as `frames_of` does. She is the first then, and the others follow in their
-    /// order, without the one who asked longest ago where there is no room. Out of memory, nothing changes.
+    /// order, without the one who asked longest ago where there is no room. Out of memory, nothing changes. Frames that
+    /// are kept take none.
     pub fn prepare(&mut self, tree: &Tree, space: &Space, uid: Uid) -> Result<(), NoMemory>
         requires { AreFor tree.now space.now.ranges self.old }
         ensures right { AreFor tree.now space.now.ranges self.new }
@@ -87,6 +90,7 @@ impl FrameCache {
         ensures asked { OnOk result (AskedLast uid self.new) }
         ensures entries { OnOk result (HasAsked uid self.old self.new) }
         ensures same { OnErr result (self.new ≡ self.old) }
+        ensures ready { IsSome (frames_for self.old uid) → IsOk result }
     {
         // That no user is there twice, and no more than have room, is said of the length.
         let _ = self.kept.len();
@@ -108,60 +112,45 @@ impl FrameCache {
 
     /// Brings the frames up to date after a file had a new text: who had a frame with its old range has one
     /// with the new range instead, behind her others. Nothing else may have changed since the frames were
-    /// right, and the new range lies behind all addresses that were given before. Frames for which memory runs
-    /// out are forgotten, and so are those of a user whose files had `MENDS_MAX` new texts since she asked. Who had no
-    /// frame with the old range keeps hers as they are, whatever memory there is, and all who are kept keep their order.
+    /// right, and the new range lies behind all addresses that were given before. Who had no frame with the old range keeps
+    /// hers as they are. Of the others exactly those are forgotten whose files had `MENDS_MAX` new texts since they asked.
+    /// All who are kept keep their order.
     ///
-    /// Takes time linear in the frames behind the old ones.
+    /// Takes no memory, and time linear in the frames behind the old ones.
     pub fn move_range(&mut self, ino: Ino, old: Range, new: Range)
         ensures right { (fs : FileSystem) (space : Addresses) → IsMove space ino old new
             → AreFor fs space.ranges self.old → AreFor fs (with_range ino new space.ranges) self.new }
         ensures stays { StayOrMove old self.old self.new }
+        ensures users { StayMendable ino old new self.old self.new }
         ensures few { AreSeldomMended self.new }
     {
-        walks::mend_each(&mut self.kept, ino, old, new);
+        walks::mend_each(self.alloc, &mut self.kept, ino, old, new);
     }
 
     /// Forgets the frames of each user to whom a node that has other permissions doesn't grant what it granted her
     /// before: to read it, where it is a file, or to pass through it, where it is a directory. The frames of others
-    /// stay. `before` is the node that it was. Out of memory, which is the only error, all frames are forgotten.
-    ///
-    /// Takes memory for the groups of one user, which are copied once for each user that is kept.
-    pub fn recheck(&mut self, tree: &Tree, ino: Ino, before: Node) -> Result<(), NoMemory>
+    /// stay. `before` is the node that it was. Takes no memory.
+    pub fn recheck(&mut self, tree: &Tree, ino: Ino, before: Node)
         ensures right { (fs : FileSystem) (live : Ranges) → IsPermChange fs ino before tree.now
             → AreFor fs live self.old → AreFor tree.now live self.new }
-        ensures stays { OnOk result (self.new ≡ kept_as_before tree.now ino before self.old) }
-        ensures none { OnErr result (self.new ≡ []) }
+        ensures stays { self.new ≡ kept_as_before tree.now ino before self.old }
     {
         tree.keeps_the_rules();
-        match walks::forget_changed(
-            self.alloc,
-            &mut self.kept,
-            tree,
-            Change::PermOf(ino, before),
-        ) {
-            Ok(()) => Ok(()),
-            Err(error) => {
-                self.kept.clear();
-                Err(error)
-            }
-        }
+        walks::forget_changed(&mut self.kept, tree, Change::PermOf(ino, before));
     }
 
     /// Forgets the frames of each user to whom one of the links is shown that an event made or removed: whose view has
     /// or had a path through it. That is, the link's directory and each above it, the root included, grant her execute,
     /// and the node that it names grants her read, where it is a file, or execute, where it is a directory. The frames
     /// of others stay, so that a file in a closed directory, and an empty directory anywhere, comes and goes without
-    /// effect on them. Out of memory, which is the only error, all frames are forgotten.
+    /// effect on them.
     ///
-    /// Takes memory for the groups of one user, as `recheck` does, and for each user at most three ways up to the root;
-    /// where no link changes, neither memory nor time.
-    pub fn relink(&mut self, tree: &Tree, links: LinkChanges) -> Result<(), NoMemory>
+    /// Takes no memory, and for each user that is kept at most three ways up to the root; where no link changes, no time.
+    pub fn relink(&mut self, tree: &Tree, links: LinkChanges)
         ensures right { (fs : FileSystem) (live now : Ranges) → IsLinkChange fs links tree.now → KeepRanges fs tree.now live now
             → AreFor fs live self.old → AreFor tree.now now self.new }
-        ensures stays { OnOk result (self.new ≡ kept_unshown tree.now links self.old) }
-        ensures none { OnErr result (self.new ≡ []) }
-        ensures quiet { links.made ≡ None → links.removed ≡ None → links.replaced ≡ None → IsOk result × (self.new ≡ self.old) }
+        ensures stays { self.new ≡ kept_unshown tree.now links self.old }
+        ensures quiet { links.made ≡ None → links.removed ≡ None → links.replaced ≡ None → self.new ≡ self.old }
     {
         tree.keeps_the_rules();
         if let LinkChanges {
@@ -170,15 +159,9 @@ impl FrameCache {
             replaced: None,
         } = links
         {
-            return Ok(());
+            return;
         }
-        match walks::forget_changed(self.alloc, &mut self.kept, tree, Change::Links(links)) {
-            Ok(()) => Ok(()),
-            Err(error) => {
-                self.kept.clear();
-                Err(error)
-            }
-        }
+        walks::forget_changed(&mut self.kept, tree, Change::Links(links));
     }
 
     /// Forgets the frames of a user who is in other groups now, and no others. Takes no memory.

@@ -1,11 +1,10 @@
 //! What an event changes, and whom it spares.
-ghost use Rattle.std.specs.Prelude.{◌≡◌, IfOk};
+ghost use Rattle.std.specs.Prelude.{◌≡◌};
 ghost use Rattle.wu_frames.specs.Changes.{is_spared};
 
 use crate::links::{self, LinkChanges};
 use crate::permissions;
-use std::alloc::Global;
-use wu_base::{Ino, NoMemory, Uid};
+use wu_base::{Ino, Uid};
 use wu_tree::{Node, Tree};
 
 /// What an event changes of that by which users see files.
@@ -18,16 +17,11 @@ pub(crate) enum Change {
 }
 
 /// Whether the change is none for the user: the node grants her what it granted before, or she sees none of the links.
-pub(crate) fn is_spared(
-    alloc: Global,
-    tree: &Tree,
-    change: Change,
-    uid: Uid,
-) -> Result<bool, NoMemory>
-    ensures { IfOk result (λ spared. spared ≡ is_spared tree.now change uid) }
+pub(crate) fn is_spared(tree: &Tree, change: Change, uid: Uid) -> bool
+    ensures { result ≡ is_spared tree.now change uid }
 {
     match change {
-        Change::PermOf(ino, before) => permissions::grants_as_before(alloc, tree, ino, before, uid),
-        Change::Links(links) => links::sees_none(alloc, tree, links, uid),
+        Change::PermOf(ino, before) => permissions::grants_as_before(tree, ino, before, uid),
+        Change::Links(links) => links::sees_none(tree, links, uid),
     }
 }

@@ -1,16 +1,14 @@
 //! The links that an event makes, removes or moves, and who sees them.
-ghost use Rattle.std.specs.Prelude.{◌≡◌, true, IfOk};
-ghost use Rattle.std.specs.List.Sorted.{IsStrictlySortedBy};
-ghost use Rattle.std.specs.Ordering.{nat_cmp};
+ghost use Rattle.std.specs.Prelude.{◌≡◌, true};
 ghost use Rattle.wu_tree.specs.FileSystems.{is_directory};
 ghost use Rattle.wu_view.specs.Views.{is_open, may};
 ghost use Rattle.wu_access.specs.declared.Want.TheVariants.{Execute};
+ghost use Rattle.wu_frames.specs.Permissions.{user_in};
 ghost use Rattle.wu_frames.specs.Links.{is_shown, is_some_shown, link_at, link_to, links_changed, no_links, sees_none};
 
-use crate::permissions::{user_of, want_of};
-use std::alloc::Global;
-use wu_access::{UserRec, Want, allows};
-use wu_base::{Ino, NoMemory, ROOT, Uid};
+use crate::permissions::{grants, want_of};
+use wu_access::Want;
+use wu_base::{Ino, ROOT, Uid};
 use wu_tree::{Event, Kind, Node, Tree};
 
 /// A link that an event makes or removes.
@@ -99,40 +97,32 @@ fn link_at(tree: &Tree, parent: Ino, name: &[u8], directory: Ino) -> Option<Chan
 }
 
 /// Whether the user sees none of the links.
-pub(crate) fn sees_none(
-    alloc: Global,
-    tree: &Tree,
-    links: LinkChanges,
-    uid: Uid,
-) -> Result<bool, NoMemory>
-    ensures { IfOk result (λ none. none ≡ sees_none tree.now links uid) }
+pub(crate) fn sees_none(tree: &Tree, links: LinkChanges, uid: Uid) -> bool
+    ensures { result ≡ sees_none tree.now links uid }
 {
-    let user = user_of(alloc, tree, uid)?;
-    let sees_one = is_some_shown(tree, &user, links.made)
-        || is_some_shown(tree, &user, links.removed)
-        || is_some_shown(tree, &user, links.replaced);
-    Ok(!sees_one)
+    let sees_one = is_some_shown(tree, uid, links.made)
+        || is_some_shown(tree, uid, links.removed)
+        || is_some_shown(tree, uid, links.replaced);
+    !sees_one
 }
 
 /// Whether the link, if there is one, is shown to the user.
-fn is_some_shown(tree: &Tree, user: &UserRec, link: Option<ChangedLink>) -> bool
-    requires { IsStrictlySortedBy nat_cmp user.now.groups }
-    ensures { result ≡ is_some_shown tree.now user.now link }
+fn is_some_shown(tree: &Tree, uid: Uid, link: Option<ChangedLink>) -> bool
+    ensures { result ≡ is_some_shown tree.now (user_in tree.now uid) link }
 {
     match link {
-        Some(link) => is_shown(tree, user, link),
+        Some(link) => is_shown(tree, uid, link),
         None => false,
     }
 }
 
 /// Whether the link leads the user to a file that she may read, or to a directory that she may pass through.
-fn is_shown(tree: &Tree, user: &UserRec, link: ChangedLink) -> bool
-    requires { IsStrictlySortedBy nat_cmp user.now.groups }
-    ensures { result ≡ is_shown tree.now user.now link }
+fn is_shown(tree: &Tree, uid: Uid, link: ChangedLink) -> bool
+    ensures { result ≡ is_shown tree.now (user_in tree.now uid) link }
 {
-    allows(user, &link.node.perm, want_of(link.node.kind))
+    grants(tree, uid, &link.node.perm, want_of(link.node.kind))
         && is_directory(tree, link.directory)
-        && is_open(tree, user, link.directory)
+        && is_open(tree, uid, link.directory)
 }
 
 fn is_directory(tree: &Tree, ino: Ino) -> bool
@@ -145,14 +135,13 @@ fn is_directory(tree: &Tree, ino: Ino) -> bool
 }
 
 /// Whether the directory and each above it, the root included, grant the user execute. Goes up from the directory.
-fn is_open(tree: &Tree, user: &UserRec, directory: Ino) -> bool
-    requires directory { is_directory tree.now directory ≡ true }
-    requires ascend { IsStrictlySortedBy nat_cmp user.now.groups }
-    ensures { result ≡ is_open tree.now user.now directory }
+fn is_open(tree: &Tree, uid: Uid, directory: Ino) -> bool
+    requires { is_directory tree.now directory ≡ true }
+    ensures { result ≡ is_open tree.now (user_in tree.now uid) directory }
 {
     tree.keeps_the_rules();
     let mut current = directory;
-    while may_pass(tree, user, current) {
+    while may_pass(tree, uid, current) {
         if current == ROOT {
             return true;
         }
@@ -165,12 +154,11 @@ fn is_open(tree: &Tree, user: &UserRec, directory: Ino) -> bool
 }
 
 /// Whether the node is there and grants the user execute.
-fn may_pass(tree: &Tree, user: &UserRec, ino: Ino) -> bool
-    requires { IsStrictlySortedBy nat_cmp user.now.groups }
-    ensures { result ≡ may tree.now user.now Execute ino }
+fn may_pass(tree: &Tree, uid: Uid, ino: Ino) -> bool
+    ensures { result ≡ may tree.now (user_in tree.now uid) Execute ino }
 {
     match tree.node(ino) {
-        Some(node) => allows(user, &node.perm, Want::Execute),
+        Some(node) => grants(tree, uid, &node.perm, Want::Execute),
         None => false,
     }
 }

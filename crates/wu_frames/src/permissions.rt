@@ -1,31 +1,22 @@
 //! What a node grants a user.
-ghost use Rattle.std.specs.Prelude.{◌≡◌, IfOk};
-ghost use Rattle.std.specs.List.Sorted.{IsStrictlySortedBy};
-ghost use Rattle.std.specs.Ordering.{nat_cmp};
+ghost use Rattle.std.specs.Prelude.{◌≡◌};
+ghost use Rattle.wu_access.specs.Access.{is_allowed};
 ghost use Rattle.wu_frames.specs.Permissions.{grants_as_before, user_in, want_of};
 
-use std::alloc::Global;
-use wu_access::{UserRec, Want, allows};
-use wu_base::{Ino, NoMemory, Sequence, Uid};
+use wu_access::{Perm, Want, allows_by_groups};
+use wu_base::{Ino, Uid};
 use wu_tree::{Kind, Node, Tree};
 
 /// Whether the node grants the user what it granted her when it was the one given.
-pub(crate) fn grants_as_before(
-    alloc: Global,
-    tree: &Tree,
-    ino: Ino,
-    before: Node,
-    uid: Uid,
-) -> Result<bool, NoMemory>
-    ensures { IfOk result (λ same. same ≡ grants_as_before tree.now ino before uid) }
+pub(crate) fn grants_as_before(tree: &Tree, ino: Ino, before: Node, uid: Uid) -> bool
+    ensures { result ≡ grants_as_before tree.now ino before uid }
 {
-    let user = user_of(alloc, tree, uid)?;
     let want = want_of(before.kind);
     let now = match tree.node(ino) {
-        Some(node) => allows(&user, &node.perm, want),
+        Some(node) => grants(tree, uid, &node.perm, want),
         None => false,
     };
-    Ok(allows(&user, &before.perm, want) == now)
+    grants(tree, uid, &before.perm, want) == now
 }
 
 /// What a view asks of a node of that kind.
@@ -38,11 +29,10 @@ pub(crate) fn want_of(kind: Kind) -> Want
     }
 }
 
-/// The user of that number with her groups; one who was never given has none.
-pub(crate) fn user_of(alloc: Global, tree: &Tree, uid: Uid) -> Result<UserRec, NoMemory>
-    ensures user { IfOk result (λ user. user ≡ user_in tree.now uid) }
-    ensures ascend { IfOk result (λ user. IsStrictlySortedBy nat_cmp user.groups) }
+/// Whether the permissions grant the user that. Her groups are read where the tree has them, so that no change depends
+/// on memory.
+pub(crate) fn grants(tree: &Tree, uid: Uid, perm: &Perm, want: Want) -> bool
+    ensures { result ≡ is_allowed (user_in tree.now uid) perm.now want }
 {
-    let groups = Sequence::from(Vec::from_slice(alloc, tree.groups_of(uid))?);
-    Ok(UserRec { uid, groups })
+    allows_by_groups(uid, tree.groups_of(uid), perm, want)
 }

@@ -96,25 +96,20 @@ impl Rows {
             place(&mut self.space, ino, len)?;
         }
         match effect.texted {
-            Some(ino) => self.give_text(ino, len),
+            Some(ino) => self.give_text(ino, len)?,
             None => self.renew(event, before, links),
         }
+        Ok(())
     }
 
     /// Forgets the kept frames that the event may have changed, where `before` is the node to which it gave other
     /// permissions, and `links` are those that it made and removed.
-    fn renew(
-        &mut self,
-        event: &Event,
-        before: Option<(Ino, Node)>,
-        links: LinkChanges,
-    ) -> Result<(), NoAnswer> {
+    fn renew(&mut self, event: &Event, before: Option<(Ino, Node)>, links: LinkChanges) {
         match (event, before) {
             (Event::User { uid, .. }, _) => self.kept.forget(*uid),
-            (_, Some((ino, node))) => self.kept.recheck(&self.tree, ino, node)?,
-            _ => self.kept.relink(&self.tree, links)?,
+            (_, Some((ino, node))) => self.kept.recheck(&self.tree, ino, node),
+            _ => self.kept.relink(&self.tree, links),
         }
-        Ok(())
     }
 
     /// Gives the file the next addresses, so many, in place of those that it has.

@@ -3,7 +3,7 @@ use Rattle.lru.specs.LruCache.{LruCache}
 use Rattle.wu_frames.specs.declared.Frames.{Frames}
 use Rattle.wu_frames.specs.Changes.{is_spared}
 use Rattle.wu_frames.proofs.Turns.{forgotten-first, last-is, last-same, next-turn, spared-first, turned-none}
-use Rattle.wu_frames.proofs.walks.forget_changed.Goals.{then-branch, else-branch}
+use Rattle.wu_frames.proofs.walks.forget_changed.Goals.{then-is_spared, else-is_spared}
 use Rattle.wu_frames.proofs.walks.forget_changed.Goals as goal
 
 pub loop-init : goal.loop-init
@@ -16,25 +16,25 @@ loop-preserved c =
     next-turn _ c.args.kept.now.entries now c.loop.counter c.loop.invariant.turned
     (omega (arith, c.loop-test.true, c.len-end.ensures.len)) in
     let last = last-same now turn.rest turn.entry c.in-Some.uid.now c.in-Some.field-0-1.now turn.now_is c.in-Some.ensures in
-    let same : c.in_ok-is_spared.field-0 ≡ is_spared c.args.tree.now c.args.change turn.entry.0 =
-    c.in_ok-is_spared.ensures ∙ ap (λ (x : ℕ × Frames). is_spared c.args.tree.now c.args.change x.0) last in
-    elim c.if-branch.branch [
-      | then-branch w ↦ record {
+    let same : c.is_spared.result ≡ is_spared c.args.tree.now c.args.change turn.entry.0 =
+    c.is_spared.ensures ∙ ap (λ (x : ℕ × Frames). is_spared c.args.tree.now c.args.change x.0) last in
+    elim c.if-is_spared.branch [
+      | then-is_spared w ↦ record {
         turned =
-            turn.turned (turn.entry ∷ []) c.if-branch.kept.entries
+            turn.turned (turn.entry ∷ []) c.if-is_spared.kept.entries
             (ap (λ (k : LruCache ℕ Frames). k.entries) w.kept-is
             ∙ w.last_to_front.ensures.entries turn.rest turn.entry turn.now_is)
             (λ gone done b.
-            spared-first (is_spared c.args.tree.now c.args.change) turn.entry gone done (sym same ∙ w.if-branch.true) b);
+            spared-first (is_spared c.args.tree.now c.args.change) turn.entry gone done (sym same ∙ w.if-is_spared.true) b);
         cap = ap (λ (k : LruCache ℕ Frames). k.cap) w.kept-is ∙ w.last_to_front.ensures.cap ∙ c.loop.invariant.cap;
       }
-      | else-branch w ↦ record {
+      | else-is_spared w ↦ record {
         turned =
-            turn.turned [] c.if-branch.kept.entries
+            turn.turned [] c.if-is_spared.kept.entries
             (ap (λ (k : LruCache ℕ Frames). k.entries) (w.kept-is ∙ w.pop_lru.ensures.entries)
             ∙ (last-is now turn.rest turn.entry turn.now_is).1)
             (λ gone done b.
-            forgotten-first (is_spared c.args.tree.now c.args.change) turn.entry gone done (sym same ∙ w.if-branch.false) b);
+            forgotten-first (is_spared c.args.tree.now c.args.change) turn.entry gone done (sym same ∙ w.if-is_spared.false) b);
         cap = ap (λ (k : LruCache ℕ Frames). k.cap) (w.kept-is ∙ w.pop_lru.ensures.entries) ∙ c.loop.invariant.cap;
       }
     ]

@@ -7,6 +7,7 @@ returns-in-Some c = (
   (refl, λ _. tt, (c.prepare.ensures.right, (c.in_ok-prepare.ensures.asked, sym c.in-Some.ensures, c.in_ok-prepare.ensures.entries))),
   record {
     frames = right-found _ _ c.args.uid c.prepare.new.self c.in-Some.frames.now c.prepare.ensures.right c.in-Some.ensures;
+    ready = λ _. refl;
     right = tt;
   },
 )

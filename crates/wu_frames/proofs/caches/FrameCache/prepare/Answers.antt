@@ -2,7 +2,7 @@ use Rattle.std.proofs.Common.{ℕ, ◌≤◌, length, nat_eq, refl, sym, subst}
 use Rattle.std.specs.Map.{set_value}
 use Rattle.lru.specs.LruCache.{promoted, put_entries}
 use Rattle.wu_frames.specs.UserFrames.{AreFor, HasAsked, Kept}
-use Rattle.wu_frames.proofs.Keeping.{asked-again, asked-put, has-asked-again, has-asked-put, kept-asked, kept-put, right-asked, right-put}
+use Rattle.wu_frames.proofs.Keeping.{absent, asked-again, asked-put, has-asked-again, has-asked-put, kept-asked, kept-put, right-asked, right-put}
 use Rattle.wu_frames.proofs.SeldomMended.{seldom-asked, seldom-put}
 use Rattle.wu_frames.proofs.caches.FrameCache.prepare.Goals as goal
 
@@ -54,6 +54,14 @@ returns-clause-entries c =
     rw c.in_ok-put.ensures.entries
     (subst (λ (k : Kept). HasAsked c.args.uid k (put_entries nat_eq cache c.args.uid c.in_ok-frames.frames)) c.self.view_is
     (has-asked-put cache c.args.uid c.in_ok-frames.frames c.self.invariant.0 c.in_ok-frames.ensures.anew c.in_default.ensures.value))
+
+pub returns-in_err-frames-clause-ready : goal.returns-in_err-frames-clause-ready
+returns-in_err-frames-clause-ready c = λ some.
+    absurd (absent c.args.uid c.self.inside.kept.entries c.args.self.now c.in_default.ensures.value c.self.view_is some)
+
+pub returns-in_err-put-clause-ready : goal.returns-in_err-put-clause-ready
+returns-in_err-put-clause-ready c = λ some.
+    absurd (absent c.args.uid c.self.inside.kept.entries c.args.self.now c.in_default.ensures.value c.self.view_is some)
 
 pub invariant_of-self : goal.invariant_of-self
 invariant_of-self c = (

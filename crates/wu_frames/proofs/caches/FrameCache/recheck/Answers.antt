@@ -5,15 +5,15 @@ use Rattle.wu_frames.proofs.Rechecking.{right-rechecked}
 use Rattle.wu_frames.proofs.SeldomMended.{seldom-filtered}
 use Rattle.wu_frames.proofs.caches.FrameCache.recheck.Goals as goal
 
-pub returns-in-Ok-clause-right : goal.returns-in-Ok-clause-right
-returns-in-Ok-clause-right c = λ fs live change right.
+pub returns-clause-right : goal.returns-clause-right
+returns-clause-right c = λ fs live change right.
     let old : AreFor fs live c.self.inside.kept.entries = subst (λ (k : Kept). AreFor fs live k) (sym c.self.view_is) right in
-    rw c.in-Ok.ensures.entries
+    rw c.forget_changed.ensures.entries
     (right-rechecked fs c.args.tree.now live c.args.ino c.args.before c.self.inside.kept.entries c.keeps_the_rules.ensures change old)
 
 pub invariant_of-self : goal.invariant_of-self
 invariant_of-self c = (
-  c.in-Ok.ensures.cap ∙ c.self.invariant.0,
-  rw c.in-Ok.ensures.entries
+  c.forget_changed.ensures.cap ∙ c.self.invariant.0,
+  rw c.forget_changed.ensures.entries
       (seldom-filtered (grants_as_before c.args.tree.now c.args.ino c.args.before) c.self.inside.kept.entries c.self.invariant.1),
 )

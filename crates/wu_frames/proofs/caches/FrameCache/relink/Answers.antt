@@ -5,10 +5,10 @@ use Rattle.wu_frames.proofs.Relinking.{right-unshown, unshown-none}
 use Rattle.wu_frames.proofs.SeldomMended.{seldom-filtered}
 use Rattle.wu_frames.proofs.caches.FrameCache.relink.Goals as goal
 
-pub returns-in-Ok-clause-right : goal.returns-in-Ok-clause-right
-returns-in-Ok-clause-right c = λ fs live now change same right.
+pub returns-clause-right : goal.returns-clause-right
+returns-clause-right c = λ fs live now change same right.
     let old : AreFor fs live c.self.inside.kept.entries = subst (λ (k : Kept). AreFor fs live k) (sym c.self.view_is) right in
-    rw c.in-Ok.ensures.entries
+    rw c.forget_changed.ensures.entries
     (right-unshown live now fs c.args.tree.now c.keeps_the_rules.ensures c.args.links change same c.self.inside.kept.entries old)
 
 pub returns-in-None-clause-right : goal.returns-in-None-clause-right
@@ -23,7 +23,7 @@ returns-in-None-clause-stays c =
 
 pub invariant_of-self : goal.invariant_of-self
 invariant_of-self c = (
-  c.in-Ok.ensures.cap ∙ c.self.invariant.0,
-  rw c.in-Ok.ensures.entries
+  c.forget_changed.ensures.cap ∙ c.self.invariant.0,
+  rw c.forget_changed.ensures.entries
       (seldom-filtered (sees_none c.args.tree.now c.args.links) c.self.inside.kept.entries c.self.invariant.1),
 )
