@@ -14,6 +14,7 @@ use Rattle.wu_image.proofs.RootLemmas.{same_root}
 use Rattle.wu_engine.specs.Earlier.{IsAsItWasOrGone, LeavesEarlier}
 use Rattle.wu_engine.specs.Opened.{FindsRoot}
 use Rattle.wu_engine.specs.Opening.{HasRoot}
+use Rattle.wu_engine.specs.Puts.{MayPut}
 use Rattle.wu_engine.specs.Records.{Records}
 use Rattle.wu_engine.specs.Saving.{removed_by_save}
 use Rattle.wu_engine.specs.SavedStores.{IsFlushed, IsPrepared, Saves, SomeDone, StopsSave, remove_blob, with_checkpoint, with_new_root}
@@ -82,7 +83,7 @@ earlier_others low high (Some before) (Some after) keeps =
 -- ---- one call
 
 earlier_put : (low number : ℕ) (before after : Option Content) → low ≤ number
-    → (written : Option (List ℕ)) × MayDo (with_blob number written) before after → LeavesEarlier low before after
+    → MayPut number before after → LeavesEarlier low before after
 earlier_put low number before after l may =
     earlier_others low (number + 1) before after (others_put low (number + 1) number before after l (omega arith) may)
 
@@ -165,7 +166,7 @@ module _ (tree : FileSystem) (space : Addresses) (files : Records) (checkpoint :
   after_flush first = flush_done _ first.flushed first.between (first.flush low high postings memory)
 
   at_checkpoint : (first : IsFlushed space old before) (after : Option Content)
-      → (written : Option (List ℕ)) × MayDo (with_blob first.flushed.next_blob written) first.between.0 after
+      → MayPut first.flushed.next_blob first.between.0 after
       → LeavesEarlier old.next_blob before.0 after
   at_checkpoint first after may =
       earlier_then old.next_blob old.next_blob before.0 first.between.0 after (omega arith) (after_flush first)

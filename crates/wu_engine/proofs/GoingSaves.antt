@@ -21,7 +21,7 @@ use Rattle.wu_engine.proofs.SavedContents.{all_removed}
 use Rattle.wu_engine.proofs.SavedStates.{left, named_stays}
 
 -- a layout with the blobs that are recorded
-abbrev layout_for : Records → Contents → ℕ → Layout
+abbrev pub layout_for : Records → Contents → ℕ → Layout
 layout_for files contents checkpoint = record {
   next = 0;
   blob = contents.next_blob;

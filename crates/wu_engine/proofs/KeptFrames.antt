@@ -1,7 +1,8 @@
 -- Frames that are kept when an event changes one live range, the permissions of a node, the groups of a user, or links.
-use Rattle.std.proofs.Common.{◌≡◌, ℕ, Bool, true, false, cond, List, [], length, refl, ap, sym, ◌∙◌, subst, inl, inr, arith}
-use Rattle.std.specs.Prelude.{◌⊎◌, Option, Some, None, Result, Ok, Err, OnOk, OnErr}
+use Rattle.std.proofs.Common.{◌≡◌, ℕ, Bool, true, false, cond, List, [], length, refl, ap, sym, ◌∙◌, subst, arith}
+use Rattle.std.specs.Prelude.{◌+◌, Option, Some, None, Ok}
 use Rattle.std.specs.Ordering.{nat_cmp}
+use Rattle.std.specs.Map.{keys_of}
 use Rattle.std.specs.BTreeMap.{is_at}
 use Rattle.std.specs.Cmp.{nat_cmp_total}
 use Rattle.wu_base.specs.declared.addresses.Range.{Range}
@@ -20,7 +21,7 @@ use Rattle.wu_tree.proofs.EventRules.{accepted}
 use Rattle.wu_tree.proofs.LinkRemovals.{apart_from}
 use Rattle.wu_tree.proofs.ParentPaths.{other_number}
 use Rattle.wu_space.specs.Addresses.{Addresses, IsSpace, Ranges, range_of, released}
-use Rattle.wu_frames.specs.UserFrames.{AreFor, IsMove, Kept, with_range}
+use Rattle.wu_frames.specs.UserFrames.{AreFor, IsMove, Kept, StayMendable, kept_mendable, with_range}
 use Rattle.wu_frames.specs.declared.links.LinkChanges.{LinkChanges}
 use Rattle.wu_frames.specs.Links.{IsLinkChange, links_changed}
 use Rattle.wu_frames.proofs.LinkEvents.{links-create, links-link, links-mkdir, links-rename, links-rmdir, links-unlink}
@@ -150,16 +151,21 @@ module _ (fs : FileSystem) (before now : Addresses) (ino : ℕ) (old new : Range
       let c : Some new ≡ Some given = sym has ∙ given_range before now ino old gave in
       cc
 
+  moves : IsMove before ino old new
+  moves = record { rules = gave.rules; from = gave.had; to = omega (arith, ap (λ (r : Range). r.start) is_given) }
+
   pub renewed : AreFor fs before.ranges kept → AreFor fs now.ranges kept_now
   renewed right =
-      let moved : AreFor fs (with_range ino new before.ranges) kept_now =
-      mends fs before
-      (record { rules = gave.rules; from = gave.had; to = omega (arith, ap (λ (r : Range). r.start) is_given) }) right in
+      let moved : AreFor fs (with_range ino new before.ranges) kept_now = mends fs before moves right in
       let same : with_range ino new before.ranges ≡ now.ranges =
       ap (λ (r : Range). with_range ino r before.ranges) is_given ∙ sym (ap (λ (s : Addresses). s.ranges) gave.has) in
       subst (λ (l : Ranges). AreFor fs l kept_now) same moved
 
--- those that stay, or out of memory none
-pub or_none : {T E : Type 0} {Stay Gone : Type 0} (r : Result T E) → OnOk r Stay → OnErr r Gone → Stay ⊎ Gone
-or_none (Ok value) stay none = inl stay
-or_none (Err error) stay none = inr none
+  -- exactly those users' frames stay that may be mended
+  pub who_stays : StayMendable ino old new kept kept_now → IsSpace now → AreFor fs before.ranges kept
+      → keys_of kept_now ≡ keys_of (kept_mendable old kept)
+  who_stays stay rules right =
+      let start : new.start ≡ before.next = ap (λ (r : Range). r.start) is_given in
+      let len : new.len ≡ gave.len = ap (λ (r : Range). r.len) is_given in
+      let next : now.next ≡ before.next + gave.len = ap (λ (s : Addresses). s.next) gave.has in
+      stay fs before moves (omega (arith, start, len, next, rules.small)) right

@@ -2,8 +2,8 @@
 use Rattle.std.proofs.Common.{◌≡◌, ℕ, zero, suc, ◌+◌, ◌<◌, ◌≤◌, List, [], inl, refl, sym, subst, arith}
 use Rattle.std.specs.Prelude.{Option, Some, None, Result, Ok, Err, option_map}
 use Rattle.wu_outside.specs.declared.traits.Fault.TheVariants.{Failed}
-use Rattle.wu_outside.specs.Content.{Content, MayDo, with_blob}
-use Rattle.wu_outside.specs.Crash.{AreAlike, Moments, Put, settle, try_change}
+use Rattle.wu_outside.specs.Content.{Content, MayDo}
+use Rattle.wu_outside.specs.Crash.{AreAlike, Moments, settle}
 use Rattle.wu_outside.specs.Surviving.{Ignores, IsLeft, Leaves, LeavesNow, NamesOnly}
 use Rattle.wu_outside.proofs.Survival.{kept, leaves_then, left_now, more_now, put_leaves, strays, sync_leaves, synced}
 use Rattle.wu_parts.specs.Working.{MayChange}
@@ -11,6 +11,7 @@ use Rattle.wu_image.proofs.ImageLemmas.{image_kept}
 use Rattle.wu_engine.specs.Crashes.{IsImageOf, IsSavedLast}
 use Rattle.wu_engine.specs.Naming.{IsNamed}
 use Rattle.wu_engine.specs.Opening.{HoldsImage}
+use Rattle.wu_engine.specs.Puts.{MayTryPut, MayTryPuts}
 use Rattle.wu_engine.specs.Stands.{Stands}
 use Rattle.wu_engine.specs.States.{State}
 use Rattle.wu_engine.specs.declared.engines.Engine.{Engine}
@@ -34,7 +35,7 @@ image_ignores s blob l content bytes image =
 
 -- a put was tried of a blob that doesn't matter
 pub tried_put : (old new : Option Moments) (blob : ℕ) (Kind : Content → Type 0) → Ignores Kind blob
-    → (written : Option (List ℕ)) × MayDo (try_change (Put blob) (with_blob blob written)) old new → LeavesNow old Kind
+    → MayTryPut blob old new → LeavesNow old Kind
     → Leaves old new Kind
 tried_put old new blob Kind ignores may now =
     put_leaves {R = ℕ} old new blob [] (Err Failed) Kind (record { done = tt; failed = may; out_of_memory = λ other. absurd cc })
@@ -42,7 +43,7 @@ tried_put old new blob Kind ignores may now =
 
 -- puts were tried of blobs that were never drawn before
 pub tried_puts : (low high n : ℕ) (old new : Option Moments) (last : State)
-    → MayChange (λ blob written. try_change (Put blob) (with_blob blob written)) low high n old new
+    → MayTryPuts low high n old new
     → last.layout.blob ≤ low → LeavesNow old (IsImageOf last) → Leaves old new (IsImageOf last)
 tried_puts low high zero old new last may l now = kept old new (IsImageOf last) may now
 tried_puts low high (suc n) old new last may l now =
@@ -52,7 +53,7 @@ tried_puts low high (suc n) old new last may l now =
 
 -- none was tried
 pub no_puts : (low high n : ℕ) (old : Option Moments) → low + n ≤ high
-    → MayChange (λ blob written. try_change (Put blob) (with_blob blob written)) low high n old old
+    → MayTryPuts low high n old old
 no_puts low high zero old l = refl
 no_puts low high (suc n) old l = (old, low, None, no_puts low high n old (omega (arith, l)), (omega arith, omega (arith, l)), inl refl)
 
@@ -81,15 +82,14 @@ module _ {old : Engine} {holds : Option Content} {s last : State} {before : Opti
   pub still_left : {after : Option Moments} → after ≡ before → Leaves before after (IsImageOf last)
   still_left {after} same = kept before after (IsImageOf last) same saved.left
 
-  pub put_left : {after : Option Moments} → (written : Option (List ℕ))
-      × MayDo (try_change (Put old.parts.next_blob) (with_blob old.parts.next_blob written)) before after
+  pub put_left : {after : Option Moments} → MayTryPut old.parts.next_blob before after
       → Leaves before after (IsImageOf last)
   put_left {after} may =
       tried_put before after old.parts.next_blob (IsImageOf last)
       (image_ignores last old.parts.next_blob (omega (arith, saved.below, stands.index.next_blob))) may saved.left
 
   pub puts_left : (high n : ℕ) (after : Option Moments)
-      → MayChange (λ blob written. try_change (Put blob) (with_blob blob written)) old.parts.next_blob high n before after
+      → MayTryPuts old.parts.next_blob high n before after
       → Leaves before after (IsImageOf last)
   puts_left high n after may =
       tried_puts old.parts.next_blob high n before after last may (omega (arith, saved.below, stands.index.next_blob)) saved.left

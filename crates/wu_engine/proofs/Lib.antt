@@ -58,6 +58,7 @@ pub mod AddedBlobs
 pub mod OpenedParts
 pub mod OpenedFiles
 pub mod ImageStates
+pub mod OpenedRoots
 pub mod OpenedStates
 pub mod BrokenBlobs
 pub mod GoingBlobs
@@ -74,3 +75,4 @@ pub mod LeftImages
 pub mod StoppedSaves
 pub mod EarlierBlobs
 pub mod SavedCrashes
+pub mod NewCheckpoints

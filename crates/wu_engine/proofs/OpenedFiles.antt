@@ -2,20 +2,16 @@
 use Rattle.std.proofs.Common.{◌≡◌, ℕ, ◌+◌, ◌<◌, ◌≤◌, Bool, true, false, cond, List, [], ◌∷◌, refl, ap, sym, ◌∙◌, subst, arith, inl, inr, ⊎_elim}
 use Rattle.std.specs.Prelude.{◌==◌, ◌↔◌, IsPermutation, Some, is_some, map, filter}
 use Rattle.std.specs.declared.cmp.Ordering.TheVariants.{Less}
-use Rattle.std.specs.Ordering.{eq_by_cmp, is_eq, nat_cmp, ordering_reverse}
-use Rattle.std.specs.Cmp.{nat_cmp_total, eq_by_cmp_equiv}
+use Rattle.std.specs.Ordering.{is_eq, nat_cmp, ordering_reverse}
+use Rattle.std.specs.Cmp.{nat_cmp_total}
 use Rattle.std.specs.List.{AllByRecursion}
 use Rattle.std.specs.List.Sorted.{IsStrictlySortedBy}
 use Rattle.std.specs.Map.{keys_of, lookup}
-use Rattle.std.specs.BTreeMap.{BTreeMap, IsFromIterResult, is_at}
+use Rattle.std.specs.BTreeMap.{is_at}
 use Rattle.std.proofs.lemmas.Bool.{cases_eq, eq-eqb, ne_eqb}
 use Rattle.std.proofs.lemmas.List.Sorted.{Contains-permutation, IsPermutation-sym}
-use Rattle.std.proofs.lemmas.Map.Keys.{IsDistinct-from_sorted}
-use Rattle.std.proofs.lemmas.Map.Made.{update_all_none}
-use Rattle.std.proofs.lemmas.Map.Views.{Contains-from_lookup}
 use Rattle.wu_base.specs.declared.addresses.Range.{Range}
 use Rattle.wu_base.specs.declared.limits.TheConstants.{SPENT_AT}
-use Rattle.wu_base.proofs.MapEntries.{all_found}
 use Rattle.wu_base.proofs.Members.{Contains-from_Has, Has, Has-from_Contains, Has-map, all_has}
 use Rattle.wu_layout.specs.Postings.{is_in}
 use Rattle.wu_tree.specs.declared.events.Node.{Node}
@@ -101,78 +97,55 @@ ranges_live next next_blob flushes c rules s = record {
   given = ranges_given next c.files rules.texts;
 }
 
--- ---- entries by number, which are in order, are these and no others
+-- ---- a space of these ranges has no other
 
 never_both : (x y : ℕ) → nat_cmp x y ≡ Less → nat_cmp y x ≡ Less → ⊥
 never_both x y p q = let r : nat_cmp x y ≡ ordering_reverse Less = nat_cmp_total.antisymm x y ∙ ap ordering_reverse q in cc
 
-module _ {X : Type 0} where
-  later_above : (number : ℕ) (entry : ℕ × X) (entries : List (ℕ × X)) → IsBelow number (keys_of entries) → Has entry entries
-      → nat_cmp number entry.0 ≡ Less
-  later_above number entry entries a h =
-      all_has (λ (other : ℕ). nat_cmp number other ≡ Less) entry.0 (keys_of entries) a (Has-map (λ (e : ℕ × X). e.0) entry entries h)
+later_above : (number : ℕ) (file : ℕ × Range) (files : Ranges) → IsBelow number (keys_of files) → Has file files
+    → nat_cmp number file.0 ≡ Less
+later_above number file files a h =
+    all_has (λ (other : ℕ). nat_cmp number other ≡ Less) file.0 (keys_of files) a (Has-map (λ (e : ℕ × Range). e.0) file files h)
 
-  same_first : (x y : ℕ × X) (xs ys : List (ℕ × X)) → IsBelow x.0 (keys_of xs) → IsBelow y.0 (keys_of ys) → Has x (y ∷ ys) → Has y (x ∷ xs)
-      → x ≡ y
-  same_first x y xs ys a b h g =
-      ⊎_elim
-      (λ (e : y ≡ x). sym e)
-      (λ i.
-      ⊎_elim
-      (λ (e : x ≡ y). e)
-      (λ j. absurd (never_both x.0 y.0 (later_above x.0 y xs a j) (later_above y.0 x ys b i)))
-      g)
-      h
+same_first : (x y : ℕ × Range) (xs ys : Ranges) → IsBelow x.0 (keys_of xs) → IsBelow y.0 (keys_of ys) → Has x (y ∷ ys) → Has y (x ∷ xs)
+    → x ≡ y
+same_first x y xs ys a b h g =
+    ⊎_elim
+    (λ (e : y ≡ x). sym e)
+    (λ i.
+    ⊎_elim
+    (λ (e : x ≡ y). e)
+    (λ j. absurd (never_both x.0 y.0 (later_above x.0 y xs a j) (later_above y.0 x ys b i)))
+    g)
+    h
 
-  past_first : (entry x y : ℕ × X) (xs ys : List (ℕ × X)) → x ≡ y → IsBelow x.0 (keys_of xs) → Has entry xs → Has entry (y ∷ ys)
-      → Has entry ys
-  past_first entry x y xs ys e a h g =
-      ⊎_elim
-      (λ (f : y ≡ entry).
-      let less : nat_cmp entry.0 entry.0 ≡ Less =
-      subst (λ (v : ℕ × X). nat_cmp v.0 entry.0 ≡ Less) (e ∙ f) (later_above x.0 entry xs a h) in
-      absurd (never_both entry.0 entry.0 less less))
-      (λ i. i)
-      g
+past_first : (file x y : ℕ × Range) (xs ys : Ranges) → x ≡ y → IsBelow x.0 (keys_of xs) → Has file xs → Has file (y ∷ ys) → Has file ys
+past_first file x y xs ys e a h g =
+    ⊎_elim
+    (λ (f : y ≡ file).
+    let less : nat_cmp file.0 file.0 ≡ Less =
+    subst (λ (v : ℕ × Range). nat_cmp v.0 file.0 ≡ Less) (e ∙ f) (later_above x.0 file xs a h) in
+    absurd (never_both file.0 file.0 less less))
+    (λ i. i)
+    g
 
-  same_entries : (xs ys : List (ℕ × X)) → IsStrictlySortedBy nat_cmp (keys_of xs) → IsStrictlySortedBy nat_cmp (keys_of ys)
-      → ((entry : ℕ × X) → Has entry xs → Has entry ys) → ((entry : ℕ × X) → Has entry ys → Has entry xs) → xs ≡ ys
-  unfolding IsStrictlySortedBy
-  same_entries [] [] s t f g = refl
-  same_entries [] (y ∷ ys) s t f g = absurd (g y (inl refl))
-  same_entries (x ∷ xs) [] s t f g = absurd (f x (inl refl))
-  same_entries (x ∷ xs) (y ∷ ys) s t f g =
-      let e : x ≡ y = same_first x y xs ys s.0 t.0 (f x (inl refl)) (g y (inl refl)) in
-      let rest : xs ≡ ys =
-      same_entries xs ys s.1 t.1 (λ entry h. past_first entry x y xs ys e s.0 h (f entry (inr h)))
-      (λ entry h. past_first entry y x ys xs (sym e) t.0 h (g entry (inr h))) in
-      cc
-
-  found_again : (xs ys : List (ℕ × X)) → IsStrictlySortedBy nat_cmp (keys_of xs)
-      → ((q : ℕ) → lookup (is_at (nat_cmp q)) xs ≡ lookup (is_at (nat_cmp q)) ys) → (entry : ℕ × X) → Has entry xs → Has entry ys
-  found_again xs ys s h entry i =
-      let there : lookup (is_at (nat_cmp entry.0)) xs ≡ Some entry.1 =
-      all_has (λ (e : ℕ × X). lookup (is_at (nat_cmp e.0)) xs ≡ Some e.1) entry xs (all_found xs s) i in
-      Has-from_Contains entry ys
-      (Contains-from_lookup {eq = eq_by_cmp nat_cmp} same_number entry.0 entry.1 ys (sym (h entry.0) ∙ there))
-
-  -- a map that is collected from entries in order has just these
-  pub collected_in_order : (entries : List (ℕ × X)) (made : BTreeMap ℕ X) → IsStrictlySortedBy nat_cmp (keys_of entries)
-      → IsFromIterResult nat_cmp entries made → made.entries ≡ entries
-  collected_in_order entries made s collected =
-      let found : (q : ℕ) → lookup (is_at (nat_cmp q)) made.entries ≡ lookup (is_at (nat_cmp q)) entries = λ q.
-      collected.0 q
-      ∙ update_all_none (eq_by_cmp_equiv nat_cmp_total) (eq_by_cmp nat_cmp) (λ x y. refl) entries q
-      (IsDistinct-from_sorted nat_cmp (keys_of entries) s) in
-      same_entries made.entries entries collected.1 s (found_again made.entries entries collected.1 found)
-      (found_again entries made.entries s (λ q. sym (found q)))
-
--- ---- a space of these ranges has no other
+same_ranges : (xs ys : Ranges) → IsStrictlySortedBy nat_cmp (keys_of xs) → IsStrictlySortedBy nat_cmp (keys_of ys)
+    → ((file : ℕ × Range) → Has file xs → Has file ys) → ((file : ℕ × Range) → Has file ys → Has file xs) → xs ≡ ys
+unfolding IsStrictlySortedBy
+same_ranges [] [] s t f g = refl
+same_ranges [] (y ∷ ys) s t f g = absurd (g y (inl refl))
+same_ranges (x ∷ xs) [] s t f g = absurd (f x (inl refl))
+same_ranges (x ∷ xs) (y ∷ ys) s t f g =
+    let e : x ≡ y = same_first x y xs ys s.0 t.0 (f x (inl refl)) (g y (inl refl)) in
+    let rest : xs ≡ ys =
+    same_ranges xs ys s.1 t.1 (λ file h. past_first file x y xs ys e s.0 h (f file (inr h)))
+    (λ file h. past_first file y x ys xs (sym e) t.0 h (g file (inr h))) in
+    cc
 
 pub ranges_same : (xs ys : Ranges) → IsPermutation xs ys → IsStrictlySortedBy nat_cmp (keys_of xs)
     → IsStrictlySortedBy nat_cmp (keys_of ys) → ys ≡ xs
 ranges_same xs ys moved s t =
-    same_entries ys xs t s
+    same_ranges ys xs t s
     (λ file h. Has-from_Contains file xs (Contains-permutation ys xs file (IsPermutation-sym xs ys moved) (Contains-from_Has file ys h)))
     (λ file h. Has-from_Contains file ys (Contains-permutation xs ys file moved (Contains-from_Has file xs h)))
 

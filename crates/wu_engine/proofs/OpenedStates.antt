@@ -1,11 +1,9 @@
--- What is found at opening.
-use Rattle.std.proofs.Common.{◌≡◌, ℕ, ◌<◌, true, false, cond, nat_le, List, [], ◌∷◌, ◌++◌, length, refl, ap, sym, ◌∙◌, subst, arith, ◌⊎◌, inl, inr, ⊎_elim, take_all}
+-- What is found of a checkpoint at opening, what is read, and what comes of it.
+use Rattle.std.proofs.Common.{◌≡◌, ℕ, List, [], ◌∷◌, ◌++◌, length, refl, ap, sym, ◌∙◌, subst, ◌⊎◌, inl, inr, ⊎_elim}
 use Rattle.std.specs.Prelude.{Option, Some, None, IfErr, IfNone, IfSome, IsErrAnd, OnErr, OnOk, Result, Ok, Err, option_map}
 use Rattle.std.specs.List.{AllByRecursion}
-use Rattle.std.proofs.lemmas.Bool.{leb-false}
 use Rattle.wu_base.specs.declared.addresses.PartRec.{PartRec}
-use Rattle.wu_base.specs.declared.limits.TheConstants.{BLOBS_SPENT_AT, SPENT_AT}
-use Rattle.wu_outside.specs.Content.{Content, GivesRoot}
+use Rattle.wu_outside.specs.Content.{Content}
 use Rattle.wu_outside.specs.declared.ranges.ReadRange.{ReadRange}
 use Rattle.wu_layout.specs.Invariants.{SomeOf}
 use Rattle.wu_lists.proofs.Asking.{ranges-none}
@@ -14,127 +12,18 @@ use Rattle.wu_parts.specs.Contents.{Contents}
 use Rattle.wu_parts.specs.Loading.{AreOpened, IsFrontOf, IsLoaded, ReadsFronts}
 use Rattle.wu_image.specs.declared.checkpoints.Checkpoint.{Checkpoint}
 use Rattle.wu_image.specs.declared.roots.Root.{Root}
-use Rattle.wu_image.specs.Breakage.{IsBrokenCheckpoint, IsBrokenRoot}
+use Rattle.wu_image.specs.Breakage.{IsBrokenCheckpoint}
 use Rattle.wu_image.specs.Checkpoints.{SpellsCheckpoint}
-use Rattle.wu_image.specs.Roots.{SpellsRoot}
 use Rattle.wu_image.proofs.ListedLemmas.{same_checkpoint}
 use Rattle.wu_engine.specs.declared.engines.Engine.{Engine}
 use Rattle.wu_engine.specs.declared.faults.BeginFault.{BeginFault}
 use Rattle.wu_engine.specs.declared.faults.BeginFault.TheVariants as faults
-use Rattle.wu_engine.specs.Opened.{FindsRoot, IsEngineFor, IsFoundIn, IsOf, IsSpentBy, ReadsCheckpoint}
-use Rattle.wu_engine.specs.Opening.{HasCheckpoint, HasOpenRoot, HasRoot, HoldsImage, IsBeginCause, IsDamagedAtOpening, IsOpen, IsOpeningRange, IsSpentAt, IsSpentWhere, Opens, ReadsAtOpening, checkpoint_range, spent_of}
+use Rattle.wu_engine.specs.Opened.{FindsRoot, IsEngineFor, IsFoundIn, IsOf, ReadsCheckpoint}
+use Rattle.wu_engine.specs.Opening.{HasCheckpoint, HasOpenRoot, HoldsImage, IsBeginCause, IsDamagedAtOpening, IsOpen, IsOpeningRange, IsSpentWhere, Opens, ReadsAtOpening, checkpoint_range}
 use Rattle.wu_engine.specs.Stands.{Stands}
 use Rattle.wu_engine.specs.States.{State}
 use Rattle.wu_engine.proofs.PermittedBlocks.{reads_joined}
 use Rattle.wu_engine.proofs.ImageStates.{image_undamaged, saved_stands}
-
--- ---- the root
-
-pub room_left : (root : Root) → spent_of root ≡ None → (root.next_address < SPENT_AT) × (root.next_blob < BLOBS_SPENT_AT)
-room_left root =
-    elim (nat_le SPENT_AT root.next_address) as
-    (λ b. nat_le SPENT_AT root.next_address ≡ b
-    → cond b (Some root.next_address) (cond (nat_le BLOBS_SPENT_AT root.next_blob) (Some root.next_blob) None) ≡ None
-    → (root.next_address < SPENT_AT) × (root.next_blob < BLOBS_SPENT_AT)) [
-      | true ↦ λ e n. absurd cc
-      | false ↦ λ e.
-          elim (nat_le BLOBS_SPENT_AT root.next_blob) as
-          (λ b. nat_le BLOBS_SPENT_AT root.next_blob ≡ b → cond b (Some root.next_blob) None ≡ None
-          → (root.next_address < SPENT_AT) × (root.next_blob < BLOBS_SPENT_AT)) [
-            | true ↦ λ f n. absurd cc
-            | false ↦ λ f n. (leb-false _ _ e, leb-false _ _ f)
-          ] refl
-    ] refl
-
--- ---- causes
-
--- the count is as it was, and the fault isn't the store's
-pub calm_cause : (holds : Option Content) (before now : ℕ) (fault : BeginFault) → now ≡ before → (fault ≡ faults.StoreFault → ⊥)
-    → ((number : ℕ) → fault ≡ faults.Spent number → IfSome holds (λ content. IsSpentAt content number))
-    → ((blob : ℕ) → fault ≡ faults.Damaged blob → IfSome holds (λ content. IsDamagedAtOpening content blob))
-    → IsBeginCause holds before now fault
-calm_cause holds before now fault same other spent damaged = record {
-  counted = omega (arith, same);
-  store_fault = λ e. absurd (other e);
-  calm = λ _. same;
-  spent = spent;
-  damaged = damaged;
-}
-
-abbrev damaged_blob : BeginFault → ℕ
-damaged_blob faults.NoMemory = 0
-damaged_blob faults.StoreFault = 0
-damaged_blob (faults.Damaged blob) = blob
-damaged_blob (faults.Spent number) = number
-
-pub damage_cause : (holds : Option Content) (before now blob : ℕ) → now ≡ before
-    → IfSome holds (λ content. IsDamagedAtOpening content blob) → IsBeginCause holds before now (faults.Damaged blob)
-damage_cause holds before now blob same damaged =
-    calm_cause holds before now (faults.Damaged blob) same (λ e. cc) (λ number e. absurd cc)
-    (λ other e. subst (λ (b : ℕ). IfSome holds (λ content. IsDamagedAtOpening content b)) (ap damaged_blob e) damaged)
-
--- ---- a root that was read
-
-root_given : (content : Content) (found : Option ℕ) (buffer : List ℕ) → GivesRoot content.root found buffer
-    → found ≡ Some (length buffer) → content.root ≡ Some buffer
-root_given content found buffer =
-    elim content.root as (λ r. GivesRoot r found buffer → found ≡ Some (length buffer) → r ≡ Some buffer) [
-      | None ↦ λ given whole. absurd (cc (given, whole))
-      | Some bytes ↦ λ given whole.
-          let same : length bytes ≡ length buffer = cc (given.0, whole) in
-          ap (λ (b : List ℕ). Some b)
-          (sym (take_all (length buffer) bytes (omega arith)) ∙ (sym given.1 ∙ take_all (length bytes) buffer (omega arith)))
-    ]
-
--- in a buffer that it fills it is the content's
-pub has_root : (holds : Option Content) (found : Option ℕ) (buffer : List ℕ)
-    → IfSome holds (λ content. GivesRoot content.root found buffer) → found ≡ Some (length buffer) → (root : Root)
-    → SpellsRoot root buffer → IfSome holds (λ content. HasRoot content root)
-has_root None found buffer given whole root spelled = tt
-has_root (Some content) found buffer given whole root spelled = record {
-  code = buffer;
-  there = root_given content found buffer given whole;
-  spelled = spelled;
-}
-
-pub has_open_root : (holds : Option Content) (root opened : Root) → IfSome holds (λ content. HasRoot content root) → opened ≡ root
-    → spent_of root ≡ None → IfSome holds (FindsRoot (Some opened))
-has_open_root None root opened has same unspent = tt
-has_open_root (Some content) root opened has same unspent =
-    subst (HasOpenRoot content) (sym same) (record { has = has; unspent = unspent })
-
--- it is no root's spelling
-pub broken_root : (holds : Option Content) (found : Option ℕ) (buffer : List ℕ)
-    → IfSome holds (λ content. GivesRoot content.root found buffer) → found ≡ Some (length buffer)
-    → ((root : Root) → SpellsRoot root buffer → ⊥) → IfSome holds (λ content. IsDamagedAtOpening content 0)
-broken_root None found buffer given whole none = tt
-broken_root (Some content) found buffer given whole none =
-    inl (refl, subst IsBrokenRoot (sym (root_given content found buffer given whole)) none)
-
-pub broken_unspent : {T : Type 0} (holds : Option Content) (found : Option ℕ) (buffer : List ℕ)
-    → IfSome holds (λ content. GivesRoot content.root found buffer) → found ≡ Some (length buffer)
-    → ((root : Root) → SpellsRoot root buffer → ⊥) → (r : Result T BeginFault) → IsSpentWhere holds r
-broken_unspent None found buffer given whole none r = tt
-broken_unspent (Some content) found buffer given whole none r = λ number spent.
-    let is : content.root ≡ Some buffer = root_given content found buffer given whole in
-    let same : spent.1.code ≡ buffer = cc (is, spent.1.there) in
-    absurd (none spent.0 (subst (SpellsRoot spent.0) same spent.1.spelled))
-
--- it leaves no room
-spent_at : (holds : Option Content) (root : Root) (number : ℕ) → IfSome holds (λ content. HasRoot content root)
-    → spent_of root ≡ Some number → IfSome holds (λ content. IsSpentAt content number)
-spent_at None root number has is = tt
-spent_at (Some content) root number has is = (root, has, is)
-
-pub spent_cause : (holds : Option Content) (before now : ℕ) (root : Root) (fault : BeginFault) → now ≡ before
-    → IfSome holds (λ content. HasRoot content root) → IsSpentBy root fault → IsBeginCause holds before now fault
-spent_cause holds before now root faults.NoMemory same has is = absurd is
-spent_cause holds before now root faults.StoreFault same has is = absurd is
-spent_cause holds before now root (faults.Damaged blob) same has is = absurd is
-spent_cause holds before now root (faults.Spent number) same has is =
-    calm_cause holds before now (faults.Spent number) same (λ e. cc)
-    (λ other e. subst (λ (n : ℕ). IfSome holds (λ content. IsSpentAt content n)) (ap damaged_blob e) (spent_at holds root number has is))
-    (λ blob e. absurd cc)
 
 -- ---- the checkpoint
 
@@ -159,6 +48,29 @@ pub checkpoint_broken : (holds : Option Content) (root : Root) (found : Option C
 checkpoint_broken None root found roomy h other = tt
 checkpoint_broken (Some content) root found roomy h other =
     inr (inl (root, roomy, refl, none_of_it root (content.blobs root.checkpoint) found h other))
+
+pub checkpoint_found : (holds : Option Content) (root : Root) (found : Option Checkpoint)
+    → IfSome holds (λ content. IsFoundIn root.size (content.blobs root.checkpoint) found)
+    → (checkpoint : Checkpoint) → (found ≡ Some checkpoint) × IsOf root checkpoint
+    → IfSome holds (λ content. HasCheckpoint content root checkpoint)
+checkpoint_found None root found h checkpoint own = tt
+checkpoint_found (Some content) root found h checkpoint own =
+    elim (content.blobs root.checkpoint) as
+    (λ b. content.blobs root.checkpoint ≡ b → IsFoundIn root.size b (Some checkpoint) → HasCheckpoint content root checkpoint) [
+      | None ↦ λ e is. absurd is
+      | Some bytes ↦ λ e is. record {
+        bytes = bytes;
+        held = e;
+        spelled = record {
+          size = is.0;
+          spelled = is.1;
+          next_address = own.1.next_address;
+          next_blob = own.1.next_blob;
+          of_no_text = own.1.of_no_text;
+          of_no_part = own.1.of_no_part;
+        };
+      }
+    ] refl (subst (λ (o : Option Checkpoint). IsFoundIn root.size (content.blobs root.checkpoint) o) own.0 h)
 
 -- ---- reads
 

@@ -2,9 +2,10 @@
 use Rattle.std.proofs.Common.{◌≡◌, inl, inr, ℕ, ◌<◌, ◌+◌, ◌≤◌, Bool, true, false, cond, List, refl, ap, sym, ◌∙◌, subst, arith, ⊎_elim}
 use Rattle.std.specs.Prelude.{Option, Some, None, option_map}
 use Rattle.std.proofs.lemmas.Bool.{ne_eqb}
-use Rattle.wu_outside.specs.Content.{Content, MayDo, with_blob}
+use Rattle.wu_outside.specs.Content.{Content, with_blob}
 use Rattle.wu_parts.specs.Contents.{Contents}
 use Rattle.wu_engine.specs.Indexing.{KeepsParts, drawn_for, is_stored}
+use Rattle.wu_engine.specs.Puts.{MayPut}
 use Rattle.wu_engine.specs.Stands.{KeepsOthers}
 
 pub others_same : (low high : ℕ) (told : Option Content) → KeepsOthers low high told told
@@ -41,7 +42,7 @@ put_keeps low high number written (Some content) l h = (
 )
 
 pub others_put : (low high number : ℕ) (before after : Option Content) → low ≤ number → number < high
-    → (written : Option (List ℕ)) × MayDo (with_blob number written) before after → KeepsOthers low high before after
+    → MayPut number before after → KeepsOthers low high before after
 others_put low high number before after l h may =
     ⊎_elim
     (λ same. subst (KeepsOthers low high before) (sym same) (others_same low high before))
@@ -73,7 +74,7 @@ drawn_once file text old {now = now} drawn kept =
     }
 
 pub others_twice : {old now : Contents} {before between : Option Content} (after : Option Content) → IsDrawn old now
-    → (written : Option (List ℕ)) × MayDo (with_blob old.next_blob written) before between
+    → MayPut old.next_blob before between
     → KeepsOthers now.next_blob (now.next_blob + 1) between after → KeepsOthers old.next_blob (old.next_blob + 2) before after
 others_twice {old} {now} {before} {between} after drawn first second =
     others_then old.next_blob (old.next_blob + 2) before between after
@@ -82,7 +83,7 @@ others_twice {old} {now} {before} {between} after drawn first second =
     (omega (arith, drawn.most)) second)
 
 pub others_once : (old : Contents) {before after : Option Content}
-    → (written : Option (List ℕ)) × MayDo (with_blob old.next_blob written) before after
+    → MayPut old.next_blob before after
     → KeepsOthers old.next_blob (old.next_blob + 2) before after
 others_once old {before} {after} first =
     others_put old.next_blob (old.next_blob + 2) old.next_blob before after (omega arith) (omega arith) first

@@ -1,9 +1,16 @@
--- How many tokens the empty text has.
-use Rattle.std.proofs.Common.{◌≡◌, ◌==◌, ◌≤◌, [], ◌∷◌, true, length, sym, ◌∙◌, arith, length-append}
+-- How many tokens the empty text has, and that a text of another size or another number of tokens than recorded is broken.
+use Rattle.std.proofs.Common.{◌≡◌, ◌≢◌, ◌==◌, ◌<◌, ◌≤◌, ℕ, List, [], ◌∷◌, true, length, refl, ap, sym, ◌∙◌, subst, inl, inr, arith, length-append}
+use Rattle.std.specs.Prelude.{Option, Some, None, IfSome, option_map}
 use Rattle.std.specs.List.{flat_map}
 use Rattle.std.proofs.lemmas.Bool.{eq-eqb, eqb-true}
+use Rattle.wu_base.specs.declared.troubles.Trouble.{Trouble}
+use Rattle.wu_base.specs.declared.troubles.Trouble.TheVariants.{Damaged}
+use Rattle.wu_outside.specs.Content.{Content}
 use Rattle.wu_token.specs.Tokens.{file_end, line_tokens_of, lines_of, tokens_of}
 use Rattle.wu_image.specs.declared.records.FileRec.{FileRec}
+use Rattle.wu_image.specs.Texts.{IsBrokenText}
+use Rattle.wu_engine.specs.Causes.{IsBrokenIn}
+use Rattle.wu_engine.specs.Finding.{IsCause}
 use Rattle.wu_engine.specs.Soundness.{IsRecord}
 
 -- as many as its record says, or more
@@ -13,3 +20,47 @@ empty_long file is none =
     let stored : true ≡ (file.len == 0) = sym (eq-eqb file.blob 0 none) ∙ is.stored in
     let zero_len : file.len ≡ 0 = eqb-true file.len 0 (sym stored) in
     omega (arith, zero_len, length-append (flat_map line_tokens_of (lines_of [])) (file_end ∷ []), is.tokens)
+
+-- a broken text, whose blob is told
+broken_cause : (holds : Option Content) (file : FileRec) (before now : ℕ) (trouble : Trouble) → 0 < file.blob
+    → IfSome holds (λ content. IsBrokenText file (content.blobs file.blob)) → trouble ≡ Damaged file.blob → now ≡ before
+    → IsCause (IsBrokenIn holds file) before now trouble
+broken_cause holds file before now trouble some broken is same = record {
+  kept = omega (arith, same);
+  store_fault = λ e. absurd (cc (e, is));
+  calm = λ _. same;
+  damaged = λ blob e.
+      let told : Damaged file.blob ≡ Damaged blob = sym is ∙ e in
+      let its : file.blob ≡ blob = cc in
+      subst (λ (b : ℕ). (file.blob ≡ b) × (0 < b) × IfSome holds (λ content. IsBrokenText file (content.blobs b))) its
+      (refl, some, broken);
+}
+
+-- it is of another size than recorded
+pub size_cause : (holds : Option Content) (file : FileRec) (size : Option ℕ) (before now : ℕ) (trouble : Trouble) → 0 < file.blob
+    → IfSome holds (λ content. size ≡ option_map length (content.blobs file.blob))
+    → (trouble ≡ Damaged file.blob) × (size ≢ Some file.len) → now ≡ before → IsCause (IsBrokenIn holds file) before now trouble
+size_cause holds file size before now trouble some told other same =
+    broken_cause holds file before now trouble some (broken holds told) other.0 same
+  where
+    of_size : (held : Option (List ℕ)) → size ≡ option_map length held → IsBrokenText file held
+    of_size None e = tt
+    of_size (Some bytes) e = inl (λ same_size. other.1 (e ∙ ap (λ (n : ℕ). Some n) same_size))
+
+    broken : (held : Option Content) → IfSome held (λ content. size ≡ option_map length (content.blobs file.blob))
+        → IfSome held (λ content. IsBrokenText file (content.blobs file.blob))
+    broken None h = tt
+    broken (Some content) h = of_size (content.blobs file.blob) h
+
+-- it has another number of tokens
+pub tokens_cause : (holds : Option Content) (file : FileRec) (text : List ℕ) (before now : ℕ) (trouble : Trouble) → 0 < file.blob
+    → IfSome holds (λ content. content.blobs file.blob ≡ Some text)
+    → (trouble ≡ Damaged file.blob) × (length (tokens_of text) ≢ file.range.len) → now ≡ before
+    → IsCause (IsBrokenIn holds file) before now trouble
+tokens_cause holds file text before now trouble some held other same =
+    broken_cause holds file before now trouble some (broken holds held) other.0 same
+  where
+    broken : (told : Option Content) → IfSome told (λ content. content.blobs file.blob ≡ Some text)
+        → IfSome told (λ content. IsBrokenText file (content.blobs file.blob))
+    broken None h = tt
+    broken (Some content) h = subst (IsBrokenText file) (sym h) (inr other.1)

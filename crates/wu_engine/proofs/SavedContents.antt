@@ -5,9 +5,10 @@ use Rattle.std.specs.List.{AllByRecursion}
 use Rattle.std.proofs.lemmas.Bool.{cases_eq, eq-eqb, ne_eqb}
 use Rattle.std.proofs.lemmas.List.{drop_more}
 use Rattle.wu_base.proofs.Members.{Contains-from_Has, Has-from_Contains}
-use Rattle.wu_outside.specs.Content.{Content, MayDo, with_blob, with_root}
+use Rattle.wu_outside.specs.Content.{Content, MayDo, with_root}
 use Rattle.wu_layout.proofs.BlobLemmas.{count-cons, once, once_other, once_same}
 use Rattle.wu_parts.proofs.HeldParts.{put_elsewhere}
+use Rattle.wu_engine.specs.Puts.{MayPut}
 use Rattle.wu_engine.specs.Stands.{KeepsOthers}
 use Rattle.wu_engine.specs.Saving.{AreRemoved, KeepsNamed, checkpoint_blob}
 use Rattle.wu_engine.specs.SavedStores.{SomeDone, all_done, remove_blob}
@@ -127,7 +128,7 @@ named_others low high gone (Some before) None keeps = keeps
 named_others low high gone (Some before) (Some after) keeps = λ blob out kept. keeps.0 blob out
 
 pub named_put : (low high number : ℕ) (gone : List ℕ) (before after : Option Content) → low ≤ number → number < high
-    → (written : Option (List ℕ)) × MayDo (with_blob number written) before after → KeepsNamed low high gone before after
+    → MayPut number before after → KeepsNamed low high gone before after
 named_put low high number gone before after l h may =
     named_others low high gone before after (others_put low high number before after l h may)
 
@@ -164,12 +165,12 @@ named_some low high (blob ∷ gone) before after some =
 -- ---- what may differ after each call of a save
 
 module _ (low : ℕ) (gone : List ℕ) {before flushed : Option Content}
-    (first : (written : Option (List ℕ)) × MayDo (with_blob low written) before flushed) where
+    (first : MayPut low before flushed) where
   pub named_flush : KeepsNamed low (low + 2) gone before flushed
   named_flush = named_put low (low + 2) low gone before flushed (omega arith) (omega arith) first
 
   module _ (next : ℕ) (least : low ≤ next) (most : next ≤ low + 1) {put : Option Content}
-      (second : (written : Option (List ℕ)) × MayDo (with_blob next written) flushed put) where
+      (second : MayPut next flushed put) where
     pub named_checkpoint : KeepsNamed low (low + 2) gone before put
     named_checkpoint =
         named_then low (low + 2) gone before flushed put named_flush

@@ -23,6 +23,7 @@ use Rattle.wu_engine.specs.declared.engines.Engine.{Engine}
 use Rattle.wu_engine.specs.Crashes.{IsImageOf, IsImageOfEither, IsSavedLast}
 use Rattle.wu_engine.specs.Naming.{IsNamed}
 use Rattle.wu_engine.specs.Opening.{HoldsImage}
+use Rattle.wu_engine.specs.Puts.{MayTryPut}
 use Rattle.wu_engine.specs.Records.{Records}
 use Rattle.wu_engine.specs.Saving.{checkpoint_blob, removed_by_save}
 use Rattle.wu_engine.specs.SavedStores.{IsFlushed, IsPrepared, Saves, SomeDone, StopsSave, TriesPut, TriesRoot, all_done, remove_blob, try_removal, with_checkpoint, with_new_root}
@@ -59,7 +60,7 @@ flush_alike (posting ∷ postings) old new before after done alike =
 
 -- a flush tries one put at most
 flush_tried : (live : List Posting) (old new : Contents) (before after : Told) → Flushes live old new before after
-    → (written : Option (List ℕ)) × MayDo (try_change (Put old.next_blob) (with_blob old.next_blob written)) before.1 after.1
+    → MayTryPut old.next_blob before.1 after.1
 flush_tried [] old new before after done = (None, inl (ap (λ (t : Told). t.1) done.1))
 flush_tried (posting ∷ postings) old new before after done = (Some done.bytes, inr (ap (λ (t : Told). t.1) done.stored))
 
@@ -224,7 +225,7 @@ module _ (old : Engine) (s : State) (before : Told) (stands : Stands old before.
 
     -- a put of a blob that was never drawn before
     put_left : (blob : ℕ) (told_before told_after : Option Moments) → old.parts.next_blob ≤ blob
-        → (written : Option (List ℕ)) × MayDo (try_change (Put blob) (with_blob blob written)) told_before told_after
+        → MayTryPut blob told_before told_after
         → LeavesNow told_before (IsImageOf last) → Leaves told_before told_after (IsImageOf last)
     put_left blob told_before told_after l may now =
         tried_put told_before told_after blob (IsImageOf last)
@@ -244,8 +245,7 @@ module _ (old : Engine) (s : State) (before : Told) (stands : Stands old before.
     at_flush after tries = either before.1 after.1 (put_left old.parts.next_blob before.1 after.1 (omega arith) tries.tried saved.left)
 
     checkpoint_left : (first : IsFlushed old.space old.parts before) (after : Option Moments)
-        → (written : Option (List ℕ))
-        × MayDo (try_change (Put first.flushed.next_blob) (with_blob first.flushed.next_blob written)) first.between.1 after
+        → MayTryPut first.flushed.next_blob first.between.1 after
         → Leaves before.1 after (IsImageOf last)
     checkpoint_left first after may =
         let numbers = numbers_left old.parts first.flushed first.changes in

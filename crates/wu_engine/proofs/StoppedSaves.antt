@@ -1,6 +1,6 @@
 -- How far a save came that failed, from what its calls did.
 use Rattle.std.proofs.Common.{◌≡◌, inl, inr, ℕ, ◌+◌, List, ◌++◌, length, map, refl, ap, ◌∙◌}
-use Rattle.std.specs.Prelude.{Option, None, Some, option_map}
+use Rattle.std.specs.Prelude.{None, Some, option_map}
 use Rattle.wu_outside.specs.Content.{MayDo, with_blob, with_root}
 use Rattle.wu_outside.specs.Crash.{Put, SetRoot, settle, try_change}
 use Rattle.wu_layout.specs.Postings.{Posting, live_of}
@@ -10,6 +10,7 @@ use Rattle.wu_parts.specs.Contents.{Contents}
 use Rattle.wu_parts.specs.Flushing.{EmptiesMemory, Flushes, Told}
 use Rattle.wu_parts.specs.Memory.{HasPostings}
 use Rattle.wu_image.specs.Roots.{SpellsRoot}
+use Rattle.wu_engine.specs.Puts.{MayPut, MayTryPut}
 use Rattle.wu_engine.specs.Records.{Records}
 use Rattle.wu_engine.specs.Saving.{checkpoint_blob}
 use Rattle.wu_engine.specs.SavedStores.{IsFlushed, IsPrepared, IsSpelledOf, SomeDone, StopsSave, remove_blob, try_removal, with_checkpoint, with_drawn}
@@ -17,8 +18,8 @@ use Rattle.wu_engine.proofs.SavedSteps.{root_of}
 
 module _ (tree : FileSystem) (space : Addresses) (files : Records) (checkpoint : ℕ) (old : Contents) (before : Told) where
   pub stops_at_flush : (after : Told)
-      → (written : Option (List ℕ)) × MayDo (with_blob old.next_blob written) before.0 after.0
-      → (written : Option (List ℕ)) × MayDo (try_change (Put old.next_blob) (with_blob old.next_blob written)) before.1 after.1
+      → MayPut old.next_blob before.0 after.0
+      → MayTryPut old.next_blob before.1 after.1
       → StopsSave tree space files checkpoint old before after
   stops_at_flush after held tried = inl (record { held = held; tried = tried })
 
@@ -33,8 +34,8 @@ module _ (tree : FileSystem) (space : Addresses) (files : Records) (checkpoint :
     pub stops_after_flush : StopsSave tree space files checkpoint old before between
     stops_after_flush = inr (inl (first, record { held = (None, inl refl); tried = (None, inl refl) }))
 
-    pub stops_at_checkpoint : (after : Told) → (written : Option (List ℕ)) × MayDo (with_blob blob written) between.0 after.0
-        → (written : Option (List ℕ)) × MayDo (try_change (Put blob) (with_blob blob written)) between.1 after.1
+    pub stops_at_checkpoint : (after : Told) → MayPut blob between.0 after.0
+        → MayTryPut blob between.1 after.1
         → StopsSave tree space files checkpoint old before after
     stops_at_checkpoint after held tried =
         inr (inl (first, record { held = rw number at held; tried = rw number at tried }))

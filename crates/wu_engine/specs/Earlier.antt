@@ -1,5 +1,5 @@
 -- What is left of the blobs that a store held before some number was drawn: none of them is written over.
-use Rattle.std.specs.Prelude.{◌≡◌, ◌⊎◌, ⊤, ℕ, ◌<◌, ◌≤◌, Option, None, Some}
+use Rattle.std.specs.Prelude.{◌≡◌, ◌⊎◌, ⊤, ℕ, ◌<◌, ◌≤◌, List, length, Option, None, Some}
 use Rattle.wu_outside.specs.Content.{Content}
 use Rattle.wu_image.specs.declared.roots.Root.{Root}
 use Rattle.wu_engine.specs.Opening.{HasRoot}
@@ -26,3 +26,20 @@ LeavesEarlier low None None = ⊤
 LeavesEarlier low None (Some after) = ⊥
 LeavesEarlier low (Some before) None = ⊥
 LeavesEarlier low (Some before) (Some after) = KeepsAllBelow low before after ⊎ HasLaterRoot low before after
+
+-- ---- the checkpoint that the root names
+
+-- it has that number or a later one, and is there, with as many bytes as the root says
+pub record HasNewCheckpoint (low : ℕ) (content : Content) : Type 0 where
+  pub root : Root
+  pub there : HasRoot content root
+  pub later : low ≤ root.checkpoint
+  pub bytes : List ℕ
+  pub held : content.blobs root.checkpoint ≡ Some bytes
+  pub size : length bytes ≡ root.size
+
+-- the store has the root that it had, or one whose checkpoint is there
+abbrev pub KeepsCheckpoint : ℕ → Option Content → Option Content → Type 0
+KeepsCheckpoint low None after = ⊤
+KeepsCheckpoint low (Some before) None = ⊥
+KeepsCheckpoint low (Some before) (Some after) = (after.root ≡ before.root) ⊎ HasNewCheckpoint low after

@@ -19,6 +19,8 @@ pub mod Saving
 pub mod Naming
 pub mod Permitted
 pub mod Going
+pub mod Puts
+pub mod Calls
 pub mod Renewing
 pub mod Earlier
 -- ---- What only private functions and proofs need

@@ -10,6 +10,7 @@ use Rattle.wu_image.specs.declared.checkpoints.Checkpoint.{Checkpoint}
 use Rattle.wu_image.specs.declared.records.FileRec.{FileRec}
 use Rattle.wu_image.specs.declared.roots.Root.{Root}
 use Rattle.wu_image.specs.Checkpoints.{SpellsCheckpoint}
+use Rattle.wu_image.specs.Roots.{SpellsRoot}
 use Rattle.wu_engine.specs.declared.engines.Engine.{Engine}
 use Rattle.wu_engine.specs.declared.faults.BeginFault.{BeginFault}
 use Rattle.wu_engine.specs.declared.faults.BeginFault.TheVariants.{NoMemory, StoreFault, Damaged, Spent}
@@ -34,6 +35,18 @@ IsSpentBy root NoMemory = ⊥
 IsSpentBy root StoreFault = ⊥
 IsSpentBy root (Damaged blob) = ⊥
 IsSpentBy root (Spent number) = spent_of root ≡ Some number
+
+-- of what the store gave of its root, so many bytes and these first ones: these are all, and they spell the root
+pub record IsGivenRoot (count : ℕ) (bytes : List ℕ) (root : Root) : Type 0 where
+  pub whole : count ≡ length bytes
+  pub spelled : SpellsRoot root bytes
+
+-- the fault is that no root was given so, or that the one that was leaves no room
+abbrev pub IsRootFault : ℕ → List ℕ → BeginFault → Type 0
+IsRootFault count bytes NoMemory = ⊥
+IsRootFault count bytes StoreFault = ⊥
+IsRootFault count bytes (Damaged blob) = (blob ≡ 0) × ((root : Root) → IsGivenRoot count bytes root → ⊥)
+IsRootFault count bytes (Spent number) = (root : Root) × IsGivenRoot count bytes root × (spent_of root ≡ Some number)
 
 -- ---- the checkpoint
 

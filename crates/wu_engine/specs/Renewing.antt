@@ -1,6 +1,6 @@
 -- What an event changes of that of which frames are made, and what is left of those that are kept.
-use Rattle.std.specs.Prelude.{◌≡◌, ◌⊎◌, ℕ, [], nat_eq, Option, None, Some}
-use Rattle.std.specs.Map.{remove_entry}
+use Rattle.std.specs.Prelude.{◌≡◌, ℕ, [], nat_eq, Option, None, Some}
+use Rattle.std.specs.Map.{keys_of, remove_entry}
 use Rattle.wu_base.specs.declared.addresses.Range.{Range}
 use Rattle.wu_tree.specs.declared.events.Event.{Event}
 use Rattle.wu_tree.specs.declared.events.Event.TheVariants.{User, Mkdir, Create, Text, Link, Unlink, Rmdir, Rename, Chmod, Chown}
@@ -9,7 +9,7 @@ use Rattle.wu_tree.specs.FileSystems.{FileSystem, node_of}
 use Rattle.wu_space.specs.Addresses.{Addresses, Ranges, range_of}
 use Rattle.wu_frames.specs.Permissions.{IsGroupChange, IsPermChange, kept_as_before}
 use Rattle.wu_frames.specs.Links.{IsLinkChange, KeepRanges, kept_unshown, links_changed}
-use Rattle.wu_frames.specs.UserFrames.{Kept, StayOrMove}
+use Rattle.wu_frames.specs.UserFrames.{Kept, StayOrMove, kept_mendable}
 use Rattle.wu_engine.specs.declared.renewing.Touched.{Touched}
 use Rattle.wu_engine.specs.declared.renewing.Touched.TheVariants.{RangeOf, PermOf, GroupsOf, Links, Nothing}
 use Rattle.wu_engine.specs.declared.verdicts.Verdict.{Verdict}
@@ -47,13 +47,13 @@ Touches fs space after now Nothing = Unit {0}
 
 -- ---- what is left of the frames that are kept
 
--- What is left once that changed, in the file system after it: the frames of the users whom it doesn't concern, as they were. Out of memory
--- for a user's groups, none.
+-- what is left once that changed, in the file system after it: the frames of the users whom it doesn't concern, as they were; after a text
+-- those of the others too, with the file's new range, but of users who didn't ask since their files had many texts
 abbrev pub AreLeft : FileSystem → Touched → Kept → Kept → Type 0
-AreLeft fs (RangeOf ino old) before after = StayOrMove old before after
-AreLeft fs (PermOf ino node) before after = (after ≡ kept_as_before fs ino node before) ⊎ (after ≡ [])
+AreLeft fs (RangeOf ino old) before after = StayOrMove old before after × (keys_of after ≡ keys_of (kept_mendable old before))
+AreLeft fs (PermOf ino node) before after = after ≡ kept_as_before fs ino node before
 AreLeft fs (GroupsOf uid) before after = after ≡ remove_entry (nat_eq uid) before
-AreLeft fs (Links links) before after = (after ≡ kept_unshown fs links before) ⊎ (after ≡ [])
+AreLeft fs (Links links) before after = after ≡ kept_unshown fs links before
 AreLeft fs Nothing before after = after ≡ []
 
 -- what an event leaves, by its answer

@@ -12,6 +12,7 @@ use Rattle.wu_image.specs.Checkpoints.{SpellsCheckpoint, file_numbers}
 use Rattle.wu_image.specs.LayoutRules.{AreLayoutRules}
 use Rattle.wu_image.specs.Roots.{SpellsRoot}
 use Rattle.wu_image.specs.declared.records.FileRec.{FileRec}
+use Rattle.wu_engine.specs.Puts.{MayPut, MayTryPut}
 use Rattle.wu_engine.specs.Records.{Records}
 use Rattle.wu_engine.specs.Saving.{removed_by_save}
 
@@ -95,8 +96,8 @@ pub record Saves (tree : FileSystem) (space : Addresses) (files : Records) (chec
 
 -- A put of that blob was tried: it has some bytes, or is absent, or nothing was changed.
 pub record TriesPut (blob : ℕ) (before after : Told) : Type 0 where
-  pub held : (written : Option (List ℕ)) × MayDo (with_blob blob written) before.0 after.0
-  pub tried : (written : Option (List ℕ)) × MayDo (try_change (Put blob) (with_blob blob written)) before.1 after.1
+  pub held : MayPut blob before.0 after.0
+  pub tried : MayTryPut blob before.1 after.1
 
 -- A new root was tried: it is set, or nothing was changed.
 pub record TriesRoot (root : List ℕ) (before after : Told) : Type 0 where

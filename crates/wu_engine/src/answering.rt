@@ -17,6 +17,7 @@ impl Engine {
     ghost use Rattle.wu_engine.specs.States.{State};
     ghost use Rattle.wu_engine.specs.Reports.{stat_of};
     ghost use Rattle.wu_engine.specs.Stands.{Stands};
+    ghost use Rattle.wu_engine.specs.Calls.{AnswersAgain, StillGoes};
     ghost use Rattle.wu_engine.specs.Causes.{HasTroubleCause, IsDamagedFor};
     ghost use Rattle.wu_engine.specs.View.{view_of};
     ghost use Rattle.wu_engine.specs.Answer.{answer};
@@ -53,8 +54,7 @@ impl Engine {
 
         ensures goes_on { OnOk result (self.new.ended ≡ None) }
         ensures ends { IfErr result (λ trouble. self.new.ended ≡ Some trouble) }
-        ensures again { (trouble : Trouble) → self.old.ended ≡ Some trouble
-            → (result ≡ Err trouble) × (self.new ≡ self.old) × (store.new ≡ store.old) }
+        ensures again { AnswersAgain self.old self.new store.old store.new result }
         ensures cause { HasTroubleCause self.old.ended (D.faults store.old) (D.faults store.new) result }
         // A blob is called damaged only where this query of hers needs it: a part of which her frames need a block of the
         // terms, or the text of a file of hers of which a line is shown.
@@ -62,7 +62,7 @@ impl Engine {
             ⊎ IsDamagedFor self.old.tree self.old.space.ranges query.now.uid (question_of query.now.ask) self.old.parts self.old.files.entries
             (D.holds store.old) blob }
         // Over whatever the store held at opening, the engine goes on, and a blob that is called damaged was broken then.
-        ensures goes { (start : Content) → Goes self.old start (D.holds store.old) → OnOk result (Goes self.new start (D.holds store.new)) }
+        ensures goes { StillGoes self.old self.new (D.holds store.old) (D.holds store.new) result }
         ensures broken { (start : Content) → Goes self.old start (D.holds store.old) → (blob : ℕ) → result ≡ Err (Damaged blob)
             → HasBroken start blob }
     {

@@ -1,14 +1,11 @@
 //! What changes the index of an engine: events, flushes, and background work.
-ghost use Rattle.std.specs.Prelude.{◌≡◌, ◌≢◌, ◌⊎◌, ℕ, ◌+◌, ◌<◌, ◌≤◌, ◌^◌, List, Option, None, Some, Ok, Err, true, length, IfOk, IfErr, OnOk};
+ghost use Rattle.std.specs.Prelude.{◌≡◌, ◌≢◌, ◌⊎◌, ℕ, ◌+◌, ◌<◌, ◌≤◌, ◌^◌, None, Some, Ok, Err, true, length, IfOk, IfErr, OnOk};
 ghost use Rattle.wu_base.specs.declared.limits.TheConstants.{ADDRESSES_MAX, TEXT_MAX};
 ghost use Rattle.wu_base.specs.declared.reports.Worked.TheVariants.{Idle};
 ghost use Rattle.wu_base.specs.declared.troubles.Trouble.TheVariants.{Damaged};
-ghost use Rattle.wu_outside.specs.Content.{Content, MayDo, with_blob};
-ghost use Rattle.wu_outside.specs.Crash.{Put, try_change};
-ghost use Rattle.wu_outside.specs.Surviving.{Leaves};
-ghost use Rattle.wu_parts.specs.Working.{AreFew, DoesWork, IsDamaged, MayChange, StopsWork, answer_of, is_idle};
+ghost use Rattle.wu_outside.specs.Content.{Content};
+ghost use Rattle.wu_parts.specs.Working.{AreFew, DoesWork, IsDamaged, StopsWork, answer_of, is_idle};
 ghost use Rattle.wu_tree.specs.Steps.{IsEvent};
-ghost use Rattle.wu_base.specs.declared.troubles.Trouble.{Trouble};
 
 use crate::engines::Engine;
 use crate::renewing::{renew_frames, touched_by};
@@ -24,8 +21,9 @@ impl Engine {
     ghost use Rattle.wu_engine.specs.Stands.{KeepsOthers, Stands, leaves_store, taken_by, verdict_of};
     ghost use Rattle.wu_engine.specs.Causes.{HasTroubleCause};
     ghost use Rattle.wu_engine.specs.Naming.{AddsNamed};
-    ghost use Rattle.wu_engine.specs.Crashes.{IsImageOf, IsSavedLast};
+    ghost use Rattle.wu_engine.specs.Calls.{AnswersAgain, LeavesLast, StillGoes};
     ghost use Rattle.wu_engine.specs.Going.{Goes, HasBroken};
+    ghost use Rattle.wu_engine.specs.Puts.{MayTryPut, MayTryPuts};
     ghost use Rattle.wu_engine.specs.Renewing.{LeavesFrames, touched_of};
     ghost use Rattle.wu_engine.specs.Permitted.{MayReadForWork, ReadsOnly};
 
@@ -70,18 +68,15 @@ impl Engine {
             → (store.new ≡ store.old) × (self.new.parts.next_blob ≡ self.old.parts.next_blob)) }
         ensures elsewhere { KeepsOthers self.old.parts.next_blob (self.old.parts.next_blob + 2) (D.holds store.old) (D.holds store.new) }
         // At most two puts of these blobs are tried, and the store is not synced.
-        ensures tried { MayChange (λ blob written. try_change (Put blob) (with_blob blob written)) self.old.parts.next_blob
-            (self.old.parts.next_blob + 2) 2 (D.moments store.old) (D.moments store.new) }
+        ensures tried { MayTryPuts self.old.parts.next_blob (self.old.parts.next_blob + 2) 2 (D.moments store.old) (D.moments store.new) }
         ensures reads { D.reads store.new ≡ D.reads store.old }
         // A crash in the call or after it leaves the state that was saved last, whatever the answer.
-        ensures survives { (s last : State) → Stands self.old (D.holds store.old) s → IsSavedLast (D.moments store.old) s last
-            → Leaves (D.moments store.old) (D.moments store.new) (IsImageOf last) }
+        ensures survives { LeavesLast self.old (D.holds store.old) (D.moments store.old) (D.moments store.new) }
 
-        ensures goes { (start : Content) → Goes self.old start (D.holds store.old) → OnOk result (Goes self.new start (D.holds store.new)) }
+        ensures goes { StillGoes self.old self.new (D.holds store.old) (D.holds store.new) result }
         ensures goes_on { OnOk result (self.new.ended ≡ None) }
         ensures ends { IfErr result (λ trouble. self.new.ended ≡ Some trouble) }
-        ensures again { (trouble : Trouble) → self.old.ended ≡ Some trouble
-            → (result ≡ Err trouble) × (self.new ≡ self.old) × (store.new ≡ store.old) }
+        ensures again { AnswersAgain self.old self.new store.old store.new result }
         ensures cause { HasTroubleCause self.old.ended (D.faults store.old) (D.faults store.new) result }
         ensures damaged { (blob : ℕ) → result ≡ Err (Damaged blob) → self.old.ended ≡ Some (Damaged blob) }
     {
@@ -139,22 +134,20 @@ impl Engine {
         ensures kept { OnOk result (self.new.parts.kept ≡ self.old.parts.kept) }
         ensures frames { OnOk result (self.new.frames ≡ self.old.frames) }
 
-        // What the store holds changes only at the blob that may be drawn, also where the call fails.
+        // What the store holds changes only at the blob that may be drawn, also where the call fails. Where none is drawn no call of
+        // the store is made.
+        ensures untouched { self.new.parts.next_blob ≡ self.old.parts.next_blob → store.new ≡ store.old }
         ensures elsewhere { KeepsOthers self.old.parts.next_blob (self.old.parts.next_blob + 1) (D.holds store.old) (D.holds store.new) }
         // The only change that may be tried is that blob's put, and the store is not synced.
-        ensures tried { (written : Option (List ℕ))
-            × MayDo (try_change (Put self.old.parts.next_blob) (with_blob self.old.parts.next_blob written))
-            (D.moments store.old) (D.moments store.new) }
+        ensures tried { MayTryPut self.old.parts.next_blob (D.moments store.old) (D.moments store.new) }
         ensures reads { D.reads store.new ≡ D.reads store.old }
         // A crash in the call or after it leaves the state that was saved last, whatever the answer.
-        ensures survives { (s last : State) → Stands self.old (D.holds store.old) s → IsSavedLast (D.moments store.old) s last
-            → Leaves (D.moments store.old) (D.moments store.new) (IsImageOf last) }
+        ensures survives { LeavesLast self.old (D.holds store.old) (D.moments store.old) (D.moments store.new) }
 
-        ensures goes { (start : Content) → Goes self.old start (D.holds store.old) → OnOk result (Goes self.new start (D.holds store.new)) }
+        ensures goes { StillGoes self.old self.new (D.holds store.old) (D.holds store.new) result }
         ensures goes_on { OnOk result (self.new.ended ≡ None) }
         ensures ends { IfErr result (λ trouble. self.new.ended ≡ Some trouble) }
-        ensures again { (trouble : Trouble) → self.old.ended ≡ Some trouble
-            → (result ≡ Err trouble) × (self.new ≡ self.old) × (store.new ≡ store.old) }
+        ensures again { AnswersAgain self.old self.new store.old store.new result }
         ensures cause { HasTroubleCause self.old.ended (D.faults store.old) (D.faults store.new) result }
         ensures damaged { (blob : ℕ) → result ≡ Err (Damaged blob) → self.old.ended ≡ Some (Damaged blob) }
     {
@@ -201,8 +194,7 @@ impl Engine {
         // What the store holds changes only at the blobs that may be drawn, also where the call fails.
         ensures elsewhere { KeepsOthers self.old.parts.next_blob (self.old.parts.next_blob + n) (D.holds store.old) (D.holds store.new) }
         // At most one put for each unit is tried, of these blobs, and the store is not synced.
-        ensures tried { MayChange (λ blob written. try_change (Put blob) (with_blob blob written)) self.old.parts.next_blob
-            (self.old.parts.next_blob + n) n (D.moments store.old) (D.moments store.new) }
+        ensures tried { MayTryPuts self.old.parts.next_blob (self.old.parts.next_blob + n) n (D.moments store.old) (D.moments store.new) }
         // The units that were done read their terms' blocks, and nothing else is read, also where one of them fails.
         ensures reads { OnOk result (DoesWork self.old.space.ranges n self.old.parts self.new.parts
             (D.holds store.old, D.moments store.old) (D.holds store.new, D.moments store.new) (D.reads store.old) (D.reads store.new)) }
@@ -212,17 +204,15 @@ impl Engine {
         ensures permitted { (s : State) → Stands self.old (D.holds store.old) s
             → ReadsOnly (MayReadForWork s.layout n) (D.reads store.old) (D.reads store.new) }
         // A crash in the call or after it leaves the state that was saved last, whatever the answer.
-        ensures survives { (s last : State) → Stands self.old (D.holds store.old) s → IsSavedLast (D.moments store.old) s last
-            → Leaves (D.moments store.old) (D.moments store.new) (IsImageOf last) }
+        ensures survives { LeavesLast self.old (D.holds store.old) (D.moments store.old) (D.moments store.new) }
 
         ensures goes_on { OnOk result (self.new.ended ≡ None) }
         ensures ends { IfErr result (λ trouble. self.new.ended ≡ Some trouble) }
-        ensures again { (trouble : Trouble) → self.old.ended ≡ Some trouble
-            → (result ≡ Err trouble) × (self.new ≡ self.old) × (store.new ≡ store.old) }
+        ensures again { AnswersAgain self.old self.new store.old store.new result }
         ensures cause { HasTroubleCause self.old.ended (D.faults store.old) (D.faults store.new) result }
         ensures damaged { (blob : ℕ) → result ≡ Err (Damaged blob)
             → (self.old.ended ≡ Some (Damaged blob)) ⊎ IsDamaged (D.holds store.old) self.old.parts blob }
-        ensures goes { (start : Content) → Goes self.old start (D.holds store.old) → OnOk result (Goes self.new start (D.holds store.new)) }
+        ensures goes { StillGoes self.old self.new (D.holds store.old) (D.holds store.new) result }
         ensures broken { (start : Content) → Goes self.old start (D.holds store.old) → (blob : ℕ) → result ≡ Err (Damaged blob)
             → HasBroken start blob }
         // No blob is answered as damaged where engine and store stand for a state.

@@ -6,7 +6,6 @@ ghost use Rattle.wu_outside.specs.Content.{Content};
 ghost use Rattle.wu_outside.specs.Crash.{settle};
 ghost use Rattle.wu_outside.specs.Surviving.{IsLeft, Leaves, LeavesNow};
 ghost use Rattle.lru.specs.LruCache.{lru_cache};
-ghost use Rattle.wu_base.specs.declared.troubles.Trouble.{Trouble};
 ghost use Rattle.std.specs.Coded.{→_prop};
 ghost use Rattle.wu_engine.specs.Soundness.{IsSound, IsSound-prop};
 
@@ -45,9 +44,10 @@ pub struct Engine {
 impl Engine {
     ghost use Rattle.wu_engine.specs.States.{State, rested_state, saved_state};
     ghost use Rattle.wu_engine.specs.Stands.{Stands};
+    ghost use Rattle.wu_engine.specs.Calls.{AnswersAgain, StillGoes};
     ghost use Rattle.wu_engine.specs.Causes.{HasTroubleCause};
     ghost use Rattle.wu_engine.specs.Opening.{HasRoot, HoldsImage, IsBeginCause, IsOpen, IsSpentWhere, ReadsAtOpening};
-    ghost use Rattle.wu_engine.specs.Earlier.{LeavesEarlier};
+    ghost use Rattle.wu_engine.specs.Earlier.{KeepsCheckpoint, LeavesEarlier};
     ghost use Rattle.wu_image.specs.declared.roots.Root.{Root};
     ghost use Rattle.wu_engine.specs.Saving.{AreRemoved, KeepsNamed, removed_by_save};
     ghost use Rattle.wu_engine.specs.SavedStores.{Saves};
@@ -144,6 +144,9 @@ impl Engine {
         // are as they were, and some are gone only where the root names a checkpoint with a number from the next one on.
         ensures earlier { (start : Content) → Goes self.old start (D.holds store.old)
             → LeavesEarlier self.old.parts.next_blob (D.holds store.old) (D.holds store.new) }
+        // A root that it sets, also where it fails after that, names a checkpoint that is there.
+        ensures checkpoint { (start : Content) → Goes self.old start (D.holds store.old)
+            → KeepsCheckpoint self.old.parts.next_blob (D.holds store.old) (D.holds store.new) }
         ensures reads { D.reads store.new ≡ D.reads store.old }
         // A crash in the call or after it leaves the state that was saved last, or this one; after Ok only this one.
         ensures survives { (s last : State) → Stands self.old (D.holds store.old) s → IsSavedLast (D.moments store.old) s last
@@ -151,11 +154,10 @@ impl Engine {
         ensures durable { (s : State) → Stands self.old (D.holds store.old) s
             → OnOk result (LeavesNow (D.moments store.new) (IsImageOf (rested_state (saved_state s)))) }
 
-        ensures goes { (start : Content) → Goes self.old start (D.holds store.old) → OnOk result (Goes self.new start (D.holds store.new)) }
+        ensures goes { StillGoes self.old self.new (D.holds store.old) (D.holds store.new) result }
         ensures goes_on { OnOk result (self.new.ended ≡ None) }
         ensures ends { IfErr result (λ trouble. self.new.ended ≡ Some trouble) }
-        ensures again { (trouble : Trouble) → self.old.ended ≡ Some trouble
-            → (result ≡ Err trouble) × (self.new ≡ self.old) × (store.new ≡ store.old) }
+        ensures again { AnswersAgain self.old self.new store.old store.new result }
         ensures cause { HasTroubleCause self.old.ended (D.faults store.old) (D.faults store.new) result }
         ensures damaged { (blob : ℕ) → result ≡ Err (Damaged blob) → self.old.ended ≡ Some (Damaged blob) }
     {

@@ -10,8 +10,9 @@ ghost use Rattle.wu_outside.specs.Faults.{HasFaultCause};
 ghost use Rattle.wu_space.specs.Addresses.{AreLive};
 ghost use Rattle.wu_parts.specs.Loading.{end_of};
 ghost use Rattle.wu_image.specs.Checkpoints.{IsCheckpoint};
+ghost use Rattle.wu_engine.specs.declared.faults.BeginFault.TheVariants.{Damaged as SavedIsDamaged};
 ghost use Rattle.wu_engine.specs.Going.{Goes};
-ghost use Rattle.wu_engine.specs.Opened.{FindsRoot, HasRoom, IsEngineFor, IsFirstEngine, IsFoundIn, IsOf, IsSpentBy, ReadsCheckpoint, numbered, ranges_recorded};
+ghost use Rattle.wu_engine.specs.Opened.{FindsRoot, HasRoom, IsEngineFor, IsFirstEngine, IsFoundIn, IsGivenRoot, IsOf, IsRootFault, IsSpentBy, ReadsCheckpoint, numbered, ranges_recorded};
 ghost use Rattle.wu_engine.specs.Opening.{HasCheckpoint, HasOpenRoot, HoldsImage, IsBeginCause, IsOpen, IsSpentWhere, ReadsAtOpening, spent_of};
 ghost use Rattle.wu_engine.specs.Stands.{Stands};
 ghost use Rattle.wu_engine.specs.States.{State};
@@ -43,11 +44,23 @@ pub(crate) fn open_root<D: Store>(store: &mut D) -> Result<Option<Root>, BeginFa
     let mut bytes = [0; ROOT_LEN];
     match store.root(&mut bytes)? {
         None => Ok(None),
-        Some(length) if length == ROOT_LEN => match read_root(&bytes) {
-            Some(root) => Ok(Some(with_room(root)?)),
-            None => Err(BeginFault::Damaged { blob: 0 }),
-        },
-        Some(_) => Err(BeginFault::Damaged { blob: 0 }),
+        Some(count) => Ok(Some(root_given(count, &bytes)?)),
+    }
+}
+
+/// The root of which the store gave the length and the first bytes. It is broken where these aren't all of its bytes
+/// or no root's spelling. Takes no memory.
+fn root_given(count: usize, bytes: &[u8]) -> Result<Root, BeginFault>
+    ensures root { IfOk result (IsGivenRoot count bytes.now) }
+    ensures room { IfOk result HasRoom }
+    ensures fault { IfErr result (IsRootFault count bytes.now) }
+{
+    if count != bytes.len() {
+        return Err(BeginFault::Damaged { blob: 0 });
+    }
+    match read_root(bytes) {
+        Some(root) => with_room(root),
+        None => Err(BeginFault::Damaged { blob: 0 }),
     }
 }
 
@@ -190,7 +203,17 @@ fn open_checkpoint<D: Store>(
     ensures calm { OnOk result (D.faults store.new ≡ D.faults store.old) }
     ensures cause { IfErr result (IsBeginCause (D.holds store.old) (D.faults store.old) (D.faults store.new)) }
 {
-    match checkpoint_in(alloc, store, root)? {
+    let found = checkpoint_in(alloc, store, root)?;
+    own_checkpoint(found, root)
+}
+
+/// The checkpoint that was found, where it is the root's. Takes no memory.
+fn own_checkpoint(found: Option<Checkpoint>, root: &Root) -> Result<Checkpoint, BeginFault>
+    ensures own { IfOk result (λ checkpoint. (found ≡ Some checkpoint) × IsOf root.now checkpoint) }
+    ensures damaged { IfErr result (λ fault. (fault ≡ SavedIsDamaged root.now.checkpoint)
+        × IfSome found (λ checkpoint. IsOf root.now checkpoint → ⊥)) }
+{
+    match found {
         Some(checkpoint) if is_of(&checkpoint, root) => Ok(checkpoint),
         _ => Err(BeginFault::Damaged {
             blob: root.checkpoint,

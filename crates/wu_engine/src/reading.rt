@@ -1,6 +1,7 @@
 //! A file's text, from the store.
-ghost use Rattle.std.specs.Prelude.{◌≡◌, ◌<◌, ◌≤◌, ◌++◌, [], ◌∷◌, Some, length, option_map, IfOk, IfErr, IfSome, OnOk};
+ghost use Rattle.std.specs.Prelude.{◌≡◌, ◌≢◌, ◌<◌, ◌≤◌, ◌++◌, [], ◌∷◌, Some, length, option_map, IfOk, IfErr, IfSome, OnOk};
 ghost use Rattle.wu_base.specs.declared.limits.TheConstants.{TEXT_MAX};
+ghost use Rattle.wu_base.specs.declared.troubles.Trouble.TheVariants.{Damaged};
 ghost use Rattle.wu_token.specs.Tokens.{tokens_of};
 ghost use Rattle.wu_engine.specs.Finding.{AreFirstOf, IsCause, text_held};
 ghost use Rattle.wu_engine.specs.Causes.{IsBrokenIn};
@@ -35,8 +36,18 @@ pub fn read_text<D: Store>(alloc: Global, store: &mut D, file: &FileRec) -> Resu
         return Ok(Vec::new(alloc));
     }
     let text = read_blob(alloc, store, file)?;
-    if token_count(&text) == file.range.len {
-        Ok(text)
+    check_tokens(&text, file)?;
+    Ok(text)
+}
+
+/// The only error is that the text hasn't as many tokens as are recorded. Takes no memory.
+fn check_tokens(text: &[u8], file: &FileRec) -> Result<(), Trouble>
+    requires { length text.now ≤ TEXT_MAX }
+    ensures tokens { OnOk result (length (tokens_of text.now) ≡ file.now.range.len) }
+    ensures damaged { IfErr result (λ trouble. (trouble ≡ Damaged file.now.blob) × (length (tokens_of text.now) ≢ file.now.range.len)) }
+{
+    if token_count(text) == file.range.len {
+        Ok(())
     } else {
         Err(Trouble::Damaged { blob: file.blob })
     }
@@ -56,13 +67,22 @@ fn read_blob<D: Store>(alloc: Global, store: &mut D, file: &FileRec) -> Result<V
     ensures calm { OnOk result (D.faults store.new ≡ D.faults store.old) }
     ensures cause { IfErr result (IsCause (IsBrokenIn (D.holds store.old) file.now) (D.faults store.old) (D.faults store.new)) }
 {
-    match store.size(file.blob)? {
-        Some(size) if size == u64::from(file.len) => {}
-        _ => return Err(Trouble::Damaged { blob: file.blob }),
-    }
+    let size = store.size(file.blob)?;
+    check_size(size, file)?;
     let mut text = vec![in alloc; 0u8; file.len as usize]?;
     match store.read(file.blob, 0, &mut text)? {
         Some(count) if count == text.len() => Ok(text),
+        _ => Err(Trouble::Damaged { blob: file.blob }),
+    }
+}
+
+/// The only error is that the blob hasn't as many bytes as are recorded. Takes no memory.
+fn check_size(size: Option<u64>, file: &FileRec) -> Result<(), Trouble>
+    ensures size { OnOk result (size ≡ Some file.now.len) }
+    ensures damaged { IfErr result (λ trouble. (trouble ≡ Damaged file.now.blob) × (size ≢ Some file.now.len)) }
+{
+    match size {
+        Some(size) if size == u64::from(file.len) => Ok(()),
         _ => Err(Trouble::Damaged { blob: file.blob }),
     }
 }

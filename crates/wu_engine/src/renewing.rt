@@ -58,22 +58,17 @@ pub(crate) fn renew_frames(frames: &mut FrameCache, tree: &Tree, space: &Space, 
     ensures right { (fs : FileSystem) (before : Addresses) → Touches fs before tree.now space.now touched
         → AreFor fs before.ranges frames.old → AreFor tree.now space.now.ranges frames.new }
     ensures left { (fs : FileSystem) (before : Addresses) → Touches fs before tree.now space.now touched
-        → AreLeft tree.now touched frames.old frames.new }
+        → AreFor fs before.ranges frames.old → AreLeft tree.now touched frames.old frames.new }
 {
+    space.keeps_the_rules();
     match touched {
         Touched::RangeOf(ino, old) => match space.range_of(ino) {
             Some(new) => frames.move_range(ino, old, new),
             None => frames.clear(),
         },
-        Touched::PermOf(ino, before) => {
-            // Out of memory, all frames are forgotten.
-            let _ = frames.recheck(tree, ino, before);
-        }
+        Touched::PermOf(ino, before) => frames.recheck(tree, ino, before),
         Touched::GroupsOf(uid) => frames.forget(uid),
-        Touched::Links(links) => {
-            // Out of memory, all frames are forgotten.
-            let _ = frames.relink(tree, links);
-        }
+        Touched::Links(links) => frames.relink(tree, links),
         Touched::Nothing => frames.clear(),
     }
 }

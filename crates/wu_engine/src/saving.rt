@@ -1,9 +1,10 @@
 //! A save: a flush, the checkpoint, the new root, and then the removal of what is no longer needed.
-ghost use Rattle.std.specs.Prelude.{◌≡◌, ℕ, ◌+◌, ◌++◌, ◌<◌, ◌≤◌, ◌^◌, List, Option, Some, IfErr, IfOk, OnErr, OnOk, map, option_map};
+ghost use Rattle.std.specs.Prelude.{◌≡◌, ◌+◌, ◌++◌, ◌<◌, ◌≤◌, ◌^◌, Some, IfErr, IfOk, OnErr, OnOk, map, option_map};
 ghost use Rattle.wu_outside.specs.Content.{MayDo, with_blob, with_root};
 ghost use Rattle.wu_outside.specs.Crash.{Put, SetRoot, settle, try_change};
 ghost use Rattle.wu_outside.specs.Faults.{HasFaultCause};
 ghost use Rattle.wu_parts.specs.Causes.{IsStoreCause};
+ghost use Rattle.wu_engine.specs.Puts.{MayPut, MayTryPut};
 ghost use Rattle.wu_engine.specs.Saving.{KeepsNamed, checkpoint_blob, removed_by_save};
 ghost use Rattle.wu_engine.specs.SavedStores.{IsSpelledOf, Saves, SomeDone, StopsSave, all_done, remove_blob, try_removal};
 
@@ -61,9 +62,8 @@ fn put_checkpoint<D: Store>(store: &mut D, blob: u64, bytes: &[u8]) -> Result<()
     ensures put { OnOk result (D.holds store.new ≡ option_map (with_blob blob (Some bytes.now)) (D.holds store.old)) }
     ensures settled { OnOk result (D.moments store.new
         ≡ option_map settle (option_map (try_change (Put blob) (with_blob blob (Some bytes.now))) (D.moments store.old))) }
-    ensures elsewhere { (written : Option (List ℕ)) × MayDo (with_blob blob written) (D.holds store.old) (D.holds store.new) }
-    ensures tried { OnErr result ((written : Option (List ℕ))
-        × MayDo (try_change (Put blob) (with_blob blob written)) (D.moments store.old) (D.moments store.new)) }
+    ensures elsewhere { MayPut blob (D.holds store.old) (D.holds store.new) }
+    ensures tried { OnErr result (MayTryPut blob (D.moments store.old) (D.moments store.new)) }
     ensures reads { D.reads store.new ≡ D.reads store.old }
     ensures cause { HasFaultCause (D.faults store.old) (D.faults store.new) result }
 {

@@ -1,13 +1,11 @@
 //! How an event that is accepted changes the index and the store.
-ghost use Rattle.std.specs.Prelude.{◌≡◌, ℕ, List, Option, None, Some, ◌+◌, ◌++◌, ◌<◌, ◌≤◌, ◌^◌, false, IfErr, IfOk, IfSome, IsSome, OnOk, length, option_map};
+ghost use Rattle.std.specs.Prelude.{◌≡◌, None, Some, ◌+◌, ◌++◌, ◌<◌, ◌≤◌, ◌^◌, false, IfErr, IfOk, IfSome, IsSome, OnOk, length, option_map};
 ghost use Rattle.wu_base.specs.declared.limits.TheConstants.{ADDRESSES_MAX, TEXT_MAX};
-ghost use Rattle.wu_outside.specs.Content.{MayDo, with_blob};
-ghost use Rattle.wu_outside.specs.Crash.{Put, try_change};
 ghost use Rattle.wu_outside.specs.Faults.{HasFaultCause};
 ghost use Rattle.wu_space.specs.Addresses.{range_of};
 ghost use Rattle.wu_parts.specs.Causes.{IsStoreCause};
 ghost use Rattle.wu_parts.specs.Memory.{Gains};
-ghost use Rattle.wu_parts.specs.Working.{MayChange};
+ghost use Rattle.wu_engine.specs.Puts.{MayPut, MayTryPut, MayTryPuts};
 ghost use Rattle.wu_engine.specs.Stands.{KeepsOthers};
 ghost use Rattle.wu_engine.specs.Indexing.{Follows, FlushesFull, IsIndexable, KeepsParts, blob_for, blob_of, catalog_after, catalog_of, catalog_with, catalog_without, drawn_for, is_stored, stored_at, terms_after, terms_given};
 
@@ -39,8 +37,7 @@ pub(crate) fn follow<D: Store>(
         → parts.old.memory.stored + length (terms_after effect text.now) < parts.old.flush_at
         → (store.new ≡ store.old) × (parts.new.next_blob ≡ parts.old.next_blob)) }
     ensures elsewhere { KeepsOthers parts.old.next_blob (parts.old.next_blob + 2) (D.holds store.old) (D.holds store.new) }
-    ensures tried { MayChange (λ blob written. try_change (Put blob) (with_blob blob written)) parts.old.next_blob
-        (parts.old.next_blob + 2) 2 (D.moments store.old) (D.moments store.new) }
+    ensures tried { MayTryPuts parts.old.next_blob (parts.old.next_blob + 2) 2 (D.moments store.old) (D.moments store.new) }
     ensures reads { D.reads store.new ≡ D.reads store.old }
     ensures calm { OnOk result (D.faults store.new ≡ D.faults store.old) }
     ensures cause { IfErr result (IsStoreCause (D.faults store.old) (D.faults store.new)) }
@@ -58,9 +55,7 @@ fn flush_if_full<D: Store>(parts: &mut Parts, store: &mut D, space: &Space) -> R
         (D.holds store.old, D.moments store.old) (D.holds store.new, D.moments store.new)) }
     ensures untouched { OnOk result (parts.old.memory.stored < parts.old.flush_at → (store.new ≡ store.old) × (parts.new ≡ parts.old)) }
     ensures elsewhere { KeepsOthers parts.old.next_blob (parts.old.next_blob + 1) (D.holds store.old) (D.holds store.new) }
-    ensures tried { (written : Option (List ℕ))
-        × MayDo (try_change (Put parts.old.next_blob) (with_blob parts.old.next_blob written))
-        (D.moments store.old) (D.moments store.new) }
+    ensures tried { MayTryPut parts.old.next_blob (D.moments store.old) (D.moments store.new) }
     ensures reads { D.reads store.new ≡ D.reads store.old }
     ensures calm { OnOk result (D.faults store.new ≡ D.faults store.old) }
     ensures cause { IfErr result (IsStoreCause (D.faults store.old) (D.faults store.new)) }
@@ -84,11 +79,8 @@ pub(crate) fn store_text<D: Store>(
     ensures blob { IfOk result (λ blob. blob ≡ blob_for file text.now parts.old.next_blob) }
     ensures parts { OnOk result (parts.new ≡ drawn_for file text.now parts.old) }
     ensures stored { OnOk result (D.holds store.new ≡ option_map (stored_at parts.old.next_blob file text.now) (D.holds store.old)) }
-    ensures elsewhere { (written : Option (List ℕ))
-        × MayDo (with_blob parts.old.next_blob written) (D.holds store.old) (D.holds store.new) }
-    ensures tried { (written : Option (List ℕ))
-        × MayDo (try_change (Put parts.old.next_blob) (with_blob parts.old.next_blob written))
-        (D.moments store.old) (D.moments store.new) }
+    ensures elsewhere { MayPut parts.old.next_blob (D.holds store.old) (D.holds store.new) }
+    ensures tried { MayTryPut parts.old.next_blob (D.moments store.old) (D.moments store.new) }
     ensures untouched { is_stored file text.now ≡ false → store.new ≡ store.old }
     ensures reads { D.reads store.new ≡ D.reads store.old }
     ensures cause { HasFaultCause (D.faults store.old) (D.faults store.new) result }

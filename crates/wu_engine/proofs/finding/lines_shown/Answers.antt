@@ -1,4 +1,4 @@
-use Rattle.std.proofs.Common.{◌∙◌, rules}
+use Rattle.std.proofs.Common.{◌∙◌}
 use Rattle.wu_gcl.specs.Regions.{region_of}
 use Rattle.wu_engine.proofs.FilesWithExtents.{looked_few}
 use Rattle.wu_engine.proofs.finding.lines_shown.Goals as goal
@@ -20,9 +20,3 @@ returns-clause-cause g c =
     rw (looked_few (region_of c.args.expr.now) c.args.lists.now c.args.frames.now c.if-not-few.false
     (c.deref.ensures.value ∙ c.in_ok-units.ensures.are) c.as_slice-2.ensures (c.deref-2.ensures.value ∙ c.in_ok-seen.ensures))
     at c.first_lines-2.ensures.cause
-
-pub returns-then-not-few : goal.returns-then-not-few
-returns-then-not-few g c = search rules
-
-pub returns-in_err-units : goal.returns-in_err-units
-returns-in_err-units g c = search rules

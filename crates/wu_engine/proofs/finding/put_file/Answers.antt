@@ -1,4 +1,4 @@
-use Rattle.std.proofs.Common.{◌≡◌, ◌++◌, ◌∙◌, List, ap, length, min, refl, rules, sym}
+use Rattle.std.proofs.Common.{◌≡◌, ◌++◌, ◌∙◌, List, ap, length, min, refl, sym}
 use Rattle.std.proofs.lemmas.List.{length-take}
 use Rattle.std.proofs.lemmas.Option.{IfSome_then}
 use Rattle.std.proofs.lemmas.Result.{on_ok_weaker}
@@ -46,42 +46,6 @@ returns-in_ok-extents-in-Some-clause-sound g c =
     c.in-Some.file.now c.args.left c.deref.result.now (sym c.in-Some.ensures.value)
     (c.deref.ensures.value ∙ c.in_ok-extents-in-Some.ensures.extents))
     c.put_lines.ensures.sound
-
-pub returns-in_err-extents-in-Some : goal.returns-in_err-extents-in-Some
-returns-in_err-extents-in-Some g c = search rules
-
-pub returns-in_ok-extents-in-Some-clause-holds : goal.returns-in_ok-extents-in-Some-clause-holds
-returns-in_ok-extents-in-Some-clause-holds g c = search rules
-
-pub returns-in_ok-extents-in-Some-clause-moments : goal.returns-in_ok-extents-in-Some-clause-moments
-returns-in_ok-extents-in-Some-clause-moments g c = search rules
-
-pub returns-in_ok-extents-in-Some-clause-calm : goal.returns-in_ok-extents-in-Some-clause-calm
-returns-in_ok-extents-in-Some-clause-calm g c = search rules
-
-pub returns-in-None-clause-count : goal.returns-in-None-clause-count
-returns-in-None-clause-count g c = search rules
-
-pub returns-in-None-clause-sound : goal.returns-in-None-clause-sound
-returns-in-None-clause-sound g c = search rules
-
-pub returns-in-None-clause-holds : goal.returns-in-None-clause-holds
-returns-in-None-clause-holds g c = search rules
-
-pub returns-in-None-clause-moments : goal.returns-in-None-clause-moments
-returns-in-None-clause-moments g c = search rules
-
-pub returns-in-None-clause-reads : goal.returns-in-None-clause-reads
-returns-in-None-clause-reads g c = search rules
-
-pub returns-in-None-clause-only : goal.returns-in-None-clause-only
-returns-in-None-clause-only g c = search rules
-
-pub returns-in-None-clause-calm : goal.returns-in-None-clause-calm
-returns-in-None-clause-calm g c = search rules
-
-pub returns-in-None-clause-cause : goal.returns-in-None-clause-cause
-returns-in-None-clause-cause g c = search rules
 
 pub returns-in_ok-extents-in-Some-clause-count : goal.returns-in_ok-extents-in-Some-clause-count
 returns-in_ok-extents-in-Some-clause-count g c =

@@ -8,6 +8,3 @@ returns-in_err-text-clause-cause g c =
     let some : 0 < length c.args.extents.now = search rules in
     err_from _ c.from_residual.result c.in_err-text.field-0.0 c.from_residual.ensures.1
     (cause_after refl c.in_err-text.ensures.cause (λ blob broken. (some, broken)))
-
-pub returns-in_err-put_snippets : goal.returns-in_err-put_snippets
-returns-in_err-put_snippets g c = search rules

@@ -5,7 +5,8 @@ use Rattle.wu_parts.specs.Loading.{end_of}
 use Rattle.wu_engine.specs.Opening.{ReadsAtOpening}
 use Rattle.wu_engine.proofs.GoingAtFirst.{saved_goes}
 use Rattle.wu_engine.proofs.OpenedParts.{loadable}
-use Rattle.wu_engine.proofs.OpenedStates.{opening_done, opening_reads, opening_stands, reads_checkpoint, room_left}
+use Rattle.wu_engine.proofs.OpenedRoots.{room_left}
+use Rattle.wu_engine.proofs.OpenedStates.{opening_done, opening_reads, opening_stands, reads_checkpoint}
 use Rattle.wu_engine.proofs.opening.open_saved.Given as given
 use Rattle.wu_engine.proofs.opening.open_saved.Goals as goal
 use Rattle.wu_engine.proofs.opening.open_saved.Goals.{After-load}

@@ -1,13 +1,16 @@
 use Rattle.std.proofs.Common.{rules, tests}
+use Rattle.std.specs.Cmp.{nat_cmp_total}
 use Rattle.std.specs.Ordering.{nat_cmp}
 use Rattle.std.specs.BTreeMap.{IsFromIterResult}
 use Rattle.std.proofs.lemmas.Iterator.{YieldsList-from_map, YieldsList-from_slice}
 use Rattle.std.proofs.lemmas.Iterator.Adapters.{fact_from_collect}
 use Rattle.std.proofs.lemmas.Iterator.Consumers.{YieldsList-at}
+use Rattle.std.proofs.lemmas.Map.Lookups.{exact_unsigned}
 use Rattle.std.proofs.lemmas.Result.{IfOk-at_ok}
+use Rattle.wu_tree.proofs.MadeMaps.{made_entries}
 use Rattle.wu_image.specs.declared.records.FileRec.{FileRec}
 use Rattle.wu_engine.specs.Opened.{numbered}
-use Rattle.wu_engine.proofs.OpenedFiles.{collected_in_order, records_ascend}
+use Rattle.wu_engine.proofs.OpenedFiles.{records_ascend}
 use Rattle.wu_engine.proofs.opening.records_by_number.Goals as goal
 
 pub returns : goal.returns
@@ -19,4 +22,4 @@ returns c =
     (YieldsList-from_map _ (λ (file : FileRec). (file.ino, file))
     (YieldsList-at c.map.ensures.source (YieldsList-from_slice files c.iter.ensures.rest))
     c.map.ensures.closure (λ x r q k. search (rules, tests)))) in
-    collected_in_order (numbered files) c.in_ok-records.records (records_ascend files c.requires) collected
+    made_entries nat_cmp_total exact_unsigned (numbered files) c.in_ok-records.records (records_ascend files c.requires) collected

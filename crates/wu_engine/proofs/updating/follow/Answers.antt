@@ -1,9 +1,8 @@
-use Rattle.std.proofs.Common.{◌≡◌, ◌+◌, ◌<◌, ◌∙◌, ℕ, List, Option, Bool, cond, ap, arith}
+use Rattle.std.proofs.Common.{◌≡◌, ◌+◌, ◌<◌, ◌∙◌, ℕ, Bool, cond, ap, arith}
 use Rattle.std.proofs.lemmas.Result.{on_ok_weaker}
 use Rattle.wu_parts.specs.Contents.{Contents}
 use Rattle.wu_engine.specs.Indexing.{FlushesFull, is_stored}
-use Rattle.wu_outside.specs.Content.{with_blob}
-use Rattle.wu_outside.specs.Crash.{Moments, Put, try_change}
+use Rattle.wu_engine.specs.Puts.{try_put}
 use Rattle.wu_engine.proofs.LeftImages.{changed_first, changed_twice}
 use Rattle.wu_engine.proofs.OtherBlobs.{drawn_once, others_once, others_twice}
 use Rattle.wu_engine.proofs.updating.follow.Goals as goal
@@ -76,21 +75,17 @@ returns-clause-untouched g c =
     ))
     c.flush_if_full.ensures.untouched
 
--- a put is tried
-abbrev tried : ℕ → Option (List ℕ) → Moments → Moments
-tried blob written moments = try_change (Put blob) (with_blob blob written) moments
-
 pub returns-clause-tried : goal.returns-clause-tried
 returns-clause-tried g c =
     let next = c.args.parts.now.next_blob in
     let drawn = drawn_once c.args.effect.texted c.args.text.now c.args.parts.now c.in_ok-blob.ensures.parts c.in_ok-index.ensures.others in
-    changed_twice tried next (next + 2) next c.index.new.parts.next_blob (omega arith) (omega arith) drawn.least (omega (arith, drawn.most))
+    changed_twice try_put next (next + 2) next c.index.new.parts.next_blob (omega arith) (omega arith) drawn.least (omega (arith, drawn.most))
     c.store_text.ensures.tried c.flush_if_full.ensures.tried
 
 pub returns-in_err-blob-clause-tried : goal.returns-in_err-blob-clause-tried
 returns-in_err-blob-clause-tried g c =
-    let next = c.args.parts.now.next_blob in changed_first tried next (next + 2) next (omega arith) (omega arith) c.store_text.ensures.tried
+    let next = c.args.parts.now.next_blob in changed_first try_put next (next + 2) next (omega arith) (omega arith) c.store_text.ensures.tried
 
 pub returns-in_err-index-clause-tried : goal.returns-in_err-index-clause-tried
 returns-in_err-index-clause-tried g c =
-    let next = c.args.parts.now.next_blob in changed_first tried next (next + 2) next (omega arith) (omega arith) c.store_text.ensures.tried
+    let next = c.args.parts.now.next_blob in changed_first try_put next (next + 2) next (omega arith) (omega arith) c.store_text.ensures.tried

@@ -1,4 +1,4 @@
-use Rattle.std.proofs.Common.{◌∙◌, inr, rules}
+use Rattle.std.proofs.Common.{◌∙◌, inr}
 use Rattle.std.proofs.lemmas.Result.{IfOk-weaker, on_ok_weaker}
 use Rattle.wu_engine.proofs.EarlierBlobs.{drawn_by_root, drawn_without}
 use Rattle.wu_engine.proofs.GoingAtFirst.{first_goes}
@@ -122,6 +122,3 @@ pub returns-in_ok-open_first-in-None-clause-drawn : goal.returns-in_ok-open_firs
 returns-in_ok-open_first-in-None-clause-drawn g c =
     drawn_without (g.D.Store.holds c.args.store.now) c.in_ok-open_first-in-None.field-0.parts.next_blob
     (rw (c.sync.ensures.same, c.in-None.is) at c.in_ok-open_root.ensures.found)
-
-pub returns-in_err-sync : goal.returns-in_err-sync
-returns-in_err-sync g c = search rules

@@ -1,4 +1,4 @@
-use Rattle.std.proofs.Common.{ℕ, map, refl, rules}
+use Rattle.std.proofs.Common.{ℕ, map, refl}
 use Rattle.wu_base.specs.declared.addresses.Range.{Range}
 use Rattle.wu_layout.specs.Postings.{live_of}
 use Rattle.wu_engine.proofs.AddedBlobs.{draws_named, flushed_draws}
@@ -46,6 +46,3 @@ returns-in-Ok-clause-survives g c = λ s last stands saved. put_left stands save
 
 pub returns-in-Err-clause-survives : goal.returns-in-Err-clause-survives
 returns-in-Err-clause-survives g c = λ s last stands saved. put_left stands saved c.flush.ensures.tried
-
-pub returns-in-Some : goal.returns-in-Some
-returns-in-Some g c = search rules

@@ -1,4 +1,4 @@
-use Rattle.std.proofs.Common.{◌≡◌, refl, rules}
+use Rattle.std.proofs.Common.{◌≡◌, refl}
 use Rattle.wu_base.specs.declared.troubles.Trouble.TheVariants.{Damaged}
 use Rattle.wu_ask.specs.Questions.{question_of}
 use Rattle.wu_engine.proofs.BrokenBlobs.{found_is_broken}
@@ -29,6 +29,3 @@ returns-in-Err-clause-broken g c = λ start goes blob e.
     c.args.self.now.checkpoint blob goes.sound
     (damaged_in (g.D.Store.holds c.args.store.now) blob c.args.self.now.files.entries c.args.self.now.tree c.args.self.now.space.ranges
     c.args.query.now.uid (question_of c.args.query.now.ask) c.args.self.now.parts (c.in-Err.ensures.cause.damaged blob same))
-
-pub returns-in-Some : goal.returns-in-Some
-returns-in-Some g c = search rules

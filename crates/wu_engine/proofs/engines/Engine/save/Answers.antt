@@ -1,8 +1,9 @@
-use Rattle.std.proofs.Common.{refl, rules}
+use Rattle.std.proofs.Common.{refl}
 use Rattle.wu_parts.specs.Flushing.{Told}
 use Rattle.wu_engine.proofs.EarlierBlobs.{saved_earlier, stopped_earlier}
 use Rattle.wu_engine.proofs.GoingEvents.{goes_with}
 use Rattle.wu_engine.proofs.GoingSaves.{none_in_memory, save_sound}
+use Rattle.wu_engine.proofs.NewCheckpoints.{saved_checkpoint, stopped_checkpoint}
 use Rattle.wu_engine.proofs.SavedCrashes.{saved_durable, saved_left, stopped_left}
 use Rattle.wu_engine.proofs.SavedEngines.{LeavesSaved, gone_saved, image_on, named_on, numbers_saved, saved_on, sound_saved}
 use Rattle.wu_engine.proofs.engines.Engine.save.Given.{Over}
@@ -121,5 +122,17 @@ returns-in-Err-clause-earlier g c = λ start goes.
     stopped_earlier old.tree old.space old.files.entries old.checkpoint old.parts (holds c.args.store.now, moments c.args.store.now)
     goes.low goes.high goes.postings goes.memory (holds c.save.new.store, moments c.save.new.store) c.in-Err.ensures.stops
 
-pub returns-in-Some : goal.returns-in-Some
-returns-in-Some g c = search rules
+pub returns-in-Ok-clause-checkpoint : goal.returns-in-Ok-clause-checkpoint
+returns-in-Ok-clause-checkpoint g c = λ start goes.
+    let old = c.args.self.now in
+    saved_checkpoint old.tree old.space old.files.entries old.checkpoint old.parts (before g c) goes.low goes.high goes.postings
+    goes.memory start goes.sound c.in-Ok.checkpoint c.save.new.parts (after g c) c.in-Ok.ensures.saved
+
+pub returns-in-Err-clause-checkpoint : goal.returns-in-Err-clause-checkpoint
+returns-in-Err-clause-checkpoint g c = λ start goes.
+    let old = c.args.self.now in
+    let holds = g.D.Store.holds in
+    let moments = g.D.Store.moments in
+    stopped_checkpoint old.tree old.space old.files.entries old.checkpoint old.parts
+    (holds c.args.store.now, moments c.args.store.now) goes.low goes.high goes.postings goes.memory start goes.sound
+    (holds c.save.new.store, moments c.save.new.store) c.in-Err.ensures.stops

@@ -181,7 +181,7 @@ returns-in-Ok-followed-clause-frames g c =
     touches old.tree old.space c.args.body.now c.keeps_the_rules.ensures c.keeps_the_rules-2.ensures event tree c.in-Ok.effect step
     (c.effects_tell_files.ensures event tree c.in-Ok.effect step) (changes old.tree event tree c.in-Ok.effect step).1 space
     (ap (λ (k : Catalog). k.space) c.in-Ok-followed.ensures.done.catalog) in
-    (rw is at c.renew_frames.ensures.left) old.tree old.space touched
+    (rw is at c.renew_frames.ensures.left) old.tree old.space touched (old.sound c.in_default.is).frames
 
 pub returns-in_err-effect-clause-tried : goal.returns-in_err-effect-clause-tried
 returns-in_err-effect-clause-tried g c =
