@@ -8,7 +8,7 @@ use Rattle.wu_engine.specs.Going.{HasBroken}
 use Rattle.wu_engine.specs.Opening.{IsBeginCause, IsDamagedAtOpening}
 use Rattle.wu_engine.proofs.BrokenBlobs.{opening_is_broken}
 use Rattle.wumpus_run.specs.declared.statuses.Status.TheVariants.{Damaged}
-use Rattle.wumpus_run.specs.Session.{status_of_opening}
+use Rattle.wumpus_run.specs.Ended.{status_of_opening}
 use Rattle.wumpus_run.proofs.EndStatuses.{saved_damaged}
 
 pub opening_broken : (holds : Option Content) (fault : BeginFault) (before now : ℕ) → IsBeginCause holds before now fault

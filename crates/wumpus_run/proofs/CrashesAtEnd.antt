@@ -28,7 +28,8 @@ use Rattle.wu_engine.specs.States.{State}
 use Rattle.wumpus_run.specs.Crashes.{Acknowledges, IsImageOfOne, IsUnopened, LeavesAcknowledged, LeavesSaves, Survives}
 use Rattle.wumpus_run.specs.Crashes.{last_or, last_save, left_to_next, next_save, saved_for, saves_of}
 use Rattle.wumpus_run.specs.Replies.{AreRules, Rules, after, output_of, said_bytes, state_after}
-use Rattle.wumpus_run.specs.Session.{Moment, status_of, status_of_fault, status_of_opening, status_of_trouble}
+use Rattle.wumpus_run.specs.Ended.{status_of, status_of_fault, status_of_opening, status_of_trouble}
+use Rattle.wumpus_run.specs.Session.{Moment}
 use Rattle.wumpus_run.specs.declared.statuses.Status.{Status}
 use Rattle.wumpus_run.specs.declared.statuses.Status.TheVariants.{Done, NoMemory, StoreFault, Spent}
 use Rattle.wumpus_run.proofs.CrashesUnderWay.{HasKept, HasSaved, HasSavedSoFar, IsAnswered, IsLeftOrSaved, LeavesAfterItem, LeavesForItem}
@@ -244,7 +245,7 @@ pub Survives-unopened : (told : Settings) (start : State) (before : Moment) (fau
 Survives-unopened told start before fault holds faults old new undamaged leaves = record {
   crash = if_given _ before.left (λ input e rules are.
       (leaves_more old new (IsLeft old) (IsLeftOrSaved rules start input old) (λ content is. inl is) leaves).since);
-  durable = λ done. absurd ((unopened fault).done done);
+  durable = λ done. absurd (unopened fault Done refl done);
   acknowledged = if_given _ before.left (λ input e rules are.
       inl (IsUnopened-fault before fault holds faults undamaged, leaves.now));
 }
@@ -259,7 +260,7 @@ module _ (told : Settings) (start : State) (before between : Moment) (engine : E
       Survives-kept told start (status_of end) before now between.gained (prepend_known held.bytes between.left) so_far.state old mid mid
       so_far.saved (λ rules input bytes are e saved.
       Remains-stopped told start rules before.gained between.gained input bytes so_far.state old mid saved (status_of end)
-      (reading end).done)
+      (reading end Done refl))
 
   -- the script has ended, and what it left was saved or couldn't be
   pub Survives-saved : (status : Status) (now : Moment) (rest : Option (List ℕ)) (new : Option Moments) → now.gained ≡ between.gained
@@ -292,7 +293,7 @@ module _ (told : Settings) (start : State) (before between : Moment) (engine : E
         let first = next_known bytes rest item (subst (λ (o : Option (List ℕ)). IsNext o rest item) e next) in
         subst (λ (gained : Option (List ℕ)). Remains told start status rules before.gained gained input old new) (sym same)
         (Remains-unanswered told start rules before.gained between.gained input bytes s old mid saved are.0 first.0 item other first.1
-        status (answering trouble).done new (λ last. survives s last so_far.stands)))
+        status (answering trouble Done refl) new (λ last. survives s last so_far.stands)))
 
     -- a reply wasn't written whole
     pub Survives-unwritten : (fault : Fault) (later : Engine) (reply written : List ℕ) → engine.parts.flush_at ≡ told.flush_at
@@ -305,7 +306,7 @@ module _ (told : Settings) (start : State) (before between : Moment) (engine : E
         (λ rules input bytes are e saved.
         let first = next_known bytes rest item (subst (λ (o : Option (List ℕ)). IsNext o rest item) e next) in
         Remains-unwritten told start rules are.0 before.gained between.gained now.gained input bytes first.0 s item old mid new status
-        (writing fault).done other first.1
+        (writing fault Done refl) other first.1
         (blob_onward rules.flush_at engine later between.holds now.holds item reply mid new s (full ∙ sym are.1) so_far.stands answered)
         (λ last. answered.survives s last so_far.stands) (λ last. answered.durable s last so_far.stands)
         (subst (λ (output : List ℕ). GainsPrefix between.gained now.gained output) (same ∙ (answered.replies s so_far.stands).0) wrote)

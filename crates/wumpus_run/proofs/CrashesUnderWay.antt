@@ -1,8 +1,9 @@
 -- What a crash leaves while a session goes on: what could be left at its start, or an image of one of its saves.
 use Rattle.std.proofs.Common.{◌≡◌, ◌≤◌, ◌⊎◌, ℕ, List, [], ◌∷◌, ◌++◌, Option, None, Some, refl, sym, ap, ◌∙◌, subst, inl, inr}
-use Rattle.std.proofs.Common.{⊎_elim, false, arith}
+use Rattle.std.proofs.Common.{⊎_elim, Result, false, arith}
 use Rattle.std.specs.Io.KnownBytes.{Appends, prepend_known}
 use Rattle.std.proofs.KnownBytes.{Appends-nil}
+use Rattle.wu_base.specs.declared.troubles.Trouble.{Trouble}
 use Rattle.wu_outside.specs.Content.{Content}
 use Rattle.wu_outside.specs.Crash.{Moments}
 use Rattle.wu_outside.specs.Surviving.{IsLeft, Leaves, LeavesNow}
@@ -18,7 +19,10 @@ use Rattle.wu_engine.specs.Crashes.{IsImageOf, IsImageOfEither, IsSavedLast}
 use Rattle.wu_engine.specs.declared.engines.Engine.{Engine}
 use Rattle.wu_engine.specs.Stands.{Stands}
 use Rattle.wu_engine.specs.States.{State}
+use Rattle.wu_engine.proofs.OpenedStates.{on_any_ok}
 use Rattle.wumpus_run.specs.Crashes.{IsImageOfOne, last_or, last_save, saved_for, saves_of}
+use Rattle.wu_engine.specs.Calls.{LeavesLast}
+use Rattle.wumpus_run.specs.Kept.{KeepsSaves, SavesFor}
 use Rattle.wumpus_run.specs.Replies.{AreRules, Rules, after, said_bytes, state_after}
 use Rattle.wumpus_run.specs.Session.{Moment}
 use Rattle.wumpus_run.proofs.SavesOfItems.{below_after, last_save-one, one_of_all}
@@ -43,6 +47,20 @@ module _ (s : State) (said : Said) (old new : Option Moments) (last : State) (no
 
   pub stays_saved : LeavesNow new (IsImageOf last) → LeavesNow new (IsImageOf (last_or last (saved_for s said)))
   stays_saved now = subst (λ (saves : List State). LeavesNow new (IsImageOf (last_or last saves))) (sym none) now
+
+-- a call on such an item, where a crash leaves the last save
+module _ {engine : Engine} {holds : Option Content} {old new : Option Moments} (item is : Item) (same : item ≡ is)
+    (none : (s : State) → saved_for s (said_by is) ≡ []) (keeps : LeavesLast engine holds old new) where
+  saves : (s : State) → saved_for s (said_by item) ≡ []
+  saves s = ap (λ (i : Item). saved_for s (said_by i)) same ∙ none s
+
+  pub keeps_saves : KeepsSaves (said_by item) engine holds old new
+  keeps_saves = λ s last stands saved. saves_none s (said_by item) old new last (saves s) (keeps s last stands saved)
+
+  pub saves_as_before : {T : Type 0} (r : Result T Trouble) → SavesFor (said_by item) engine holds old new r
+  saves_as_before r = λ s last stands saved.
+      on_any_ok (LeavesNow new (IsImageOf (last_or last (saved_for s (said_by item))))) r
+      (stays_saved s (said_by item) old new last (saves s) (keeps s last stands saved).now)
 
 -- and one that does
 pub saves_one : (s : State) (said : Said) (old new : Option Moments) (last next : State) → saved_for s said ≡ next ∷ []
@@ -206,13 +224,14 @@ blob_onward flush_at engine later holds later_holds item reply old new s full st
     omega (arith, stands.index.next_blob, stood.index.next_blob, answered.onward)
 
 -- an item was read, and what answers it was written
-pub HasKept-turn : (told : Settings) (start : State) (before between now : Moment) (engine later : Engine) (old new : Held) (item : Item)
-    (reply written : List ℕ) (first mid last : Option Moments) → IsBeforeEnd item
+pub HasKept-turn : (told : Settings) (start : State) (before between now : Moment) (engine later : Engine) (old new : Held)
+    (first mid last : Option Moments) → HasKept told start before between engine old first mid
+    → (item : Item) (reply written : List ℕ) → IsBeforeEnd item
     → IsNext (prepend_known old.bytes between.left) (prepend_known new.bytes now.left) item → engine.parts.flush_at ≡ told.flush_at
     → IsAnswered engine later between.holds now.holds item reply mid last → written ≡ reply → Appends between.gained now.gained written
-    → HasKept told start before between engine old first mid → HasKept told start before now later new first last
-HasKept-turn told start before between now engine later old new item reply written first mid last other next full answered same wrote
-    so_far =
+    → HasKept told start before now later new first last
+HasKept-turn told start before between now engine later old new first mid last so_far item reply written other next full answered same
+    wrote =
     let s = so_far.state in
     let said = said_by item in
     let replies = answered.replies s so_far.stands in

@@ -32,9 +32,11 @@ use Rattle.wumpus_run.specs.declared.statuses.Status.{Status}
 use Rattle.wumpus_run.specs.declared.statuses.Status.TheVariants.{Done, WriteFault, NoMemory}
 use Rattle.wumpus_run.specs.declared.tallies.Tally.{Tally}
 use Rattle.wumpus_run.specs.Replies.{after, met, reply_to}
-use Rattle.wumpus_run.specs.Session.{IsCounted, status_of_fault}
+use Rattle.wumpus_run.specs.Ended.{status_of_fault}
+use Rattle.wumpus_run.specs.Session.{IsCounted}
 use Rattle.wumpus_run.specs.Demo.{IfDemo, IsDemoLine, IsFew, IsReady, IsShown, IsTallyOf, IsUnderWay}
 use Rattle.wumpus_run.specs.Demo.{counted, counted_all, demo_line, no_reply, tally_from}
+use Rattle.wumpus_run.proofs.EndStatuses.{writing}
 use Rattle.wumpus_run.proofs.SessionLemmas.{first_item}
 use Rattle.wumpus_run.proofs.AddressRoom.{HasRoom-none, StaysLow-none}
 
@@ -158,10 +160,6 @@ fault_ends : (fault : Fault)
 fault_ends Failed = inr (inl refl)
 fault_ends faults.NoMemory = inr (inr refl)
 
-never_done : (fault : Fault) → status_of_fault fault ≡ Done → ⊥
-never_done Failed e = cc
-never_done faults.NoMemory e = cc
-
 -- the line was written
 pub shown : (number : ℕ) (line : List ℕ) (before now : Option (List ℕ)) → IsDemoLine number line → Appends before now line
     → IsShown number Done before now
@@ -177,6 +175,6 @@ pub shown_in_part : (number : ℕ) (line : List ℕ) (fault : Fault) (before now
     → GainsPrefix before now line → IsShown number (status_of_fault fault) before now
 shown_in_part number line fault before now is gained = record {
   ends = fault_ends fault;
-  done = λ e. absurd (never_done fault e);
+  done = λ e. absurd (writing fault Done refl e);
   prefix = λ read are. subst (GainsPrefix before now) (is read are) gained;
 }

@@ -1,5 +1,5 @@
 -- Which statuses a session may end with, by where it ended.
-use Rattle.std.proofs.Common.{◌≡◌, ◌⊎◌, ℕ, Option, None, Some, Result, Ok, Err, refl, sym, ap, ◌∙◌, inl, inr, ⊎_elim}
+use Rattle.std.proofs.Common.{◌≡◌, ◌⊎◌, ℕ, Bool, true, false, Option, None, Some, Result, Ok, Err, refl, ap, inl, inr, ⊎_elim}
 use Rattle.std.specs.Prelude.{IfErr, OnOk}
 use Rattle.wu_base.specs.declared.troubles.Trouble.{Trouble}
 use Rattle.wu_base.specs.declared.troubles.Trouble.TheVariants as troubles
@@ -9,33 +9,33 @@ use Rattle.wu_outside.specs.declared.traits.Fault.TheVariants as faults
 use Rattle.wu_script.specs.declared.ends.ReadEnd.{ReadEnd}
 use Rattle.wu_script.specs.declared.ends.ReadEnd.TheVariants as ends
 use Rattle.wumpus_run.specs.declared.statuses.Status.{Status}
-use Rattle.wumpus_run.specs.declared.statuses.Status.TheVariants.{Done, Usage, ReadFault, WriteFault, NoMemory, InputTooLong, StoreFault}
+use Rattle.wumpus_run.specs.declared.statuses.Status.TheVariants.{Done, ReadFault, WriteFault, NoMemory, InputTooLong, StoreFault}
 use Rattle.wumpus_run.specs.declared.statuses.Status.TheVariants.{Damaged, Spent}
 use Rattle.wu_engine.specs.declared.faults.BeginFault.{BeginFault}
 use Rattle.wu_engine.specs.declared.faults.BeginFault.TheVariants as opening
-use Rattle.wumpus_run.specs.Session.{status_of, status_of_fault, status_of_opening, status_of_saving, status_of_trouble}
+use Rattle.wumpus_run.specs.Ended.{status_of, status_of_fault, status_of_opening, status_of_saving, status_of_trouble}
 
--- how a save may end
-abbrev pub IsSaving : Status → Type 0
-IsSaving status = (status ≡ Done) ⊎ ((status ≡ NoMemory) ⊎ (status ≡ StoreFault))
+-- it ends in one of these ways, so in no other
+no_other : (may_be : Status → Bool) (status other : Status) → may_be status ≡ true → may_be other ≡ false → status ≡ other → ⊥
+no_other may_be status other is never e = cc
 
--- where the store couldn't be opened
-pub record IsOpening (status : Status) : Type 0 where
-  pub usage : status ≡ Usage → ⊥
-  pub done : status ≡ Done → ⊥
-  pub read_fault : status ≡ ReadFault → ⊥
-  pub write_fault : status ≡ WriteFault → ⊥
-  pub too_long : status ≡ InputTooLong → ⊥
+-- ---- where the store couldn't be opened
 
-pub unopened : (fault : BeginFault) → IsOpening (status_of_opening fault)
-unopened opening.NoMemory =
-    record { usage = λ e. (cc); done = λ e. (cc); read_fault = λ e. (cc); write_fault = λ e. (cc); too_long = λ e. (cc) }
-unopened opening.StoreFault =
-    record { usage = λ e. (cc); done = λ e. (cc); read_fault = λ e. (cc); write_fault = λ e. (cc); too_long = λ e. (cc) }
-unopened (opening.Damaged blob) =
-    record { usage = λ e. (cc); done = λ e. (cc); read_fault = λ e. (cc); write_fault = λ e. (cc); too_long = λ e. (cc) }
-unopened (opening.Spent next) =
-    record { usage = λ e. (cc); done = λ e. (cc); read_fault = λ e. (cc); write_fault = λ e. (cc); too_long = λ e. (cc) }
+abbrev pub is_opening_end : Status → Bool
+is_opening_end NoMemory = true
+is_opening_end StoreFault = true
+is_opening_end (Damaged blob) = true
+is_opening_end (Spent next) = true
+is_opening_end status = false
+
+opening_ends : (fault : BeginFault) → is_opening_end (status_of_opening fault) ≡ true
+opening_ends opening.NoMemory = refl
+opening_ends opening.StoreFault = refl
+opening_ends (opening.Damaged blob) = refl
+opening_ends (opening.Spent next) = refl
+
+pub unopened : (fault : BeginFault) (other : Status) → is_opening_end other ≡ false → status_of_opening fault ≡ other → ⊥
+unopened fault other = no_other is_opening_end (status_of_opening fault) other (opening_ends fault)
 
 pub saved_damaged : (fault : BeginFault) (blob : ℕ) → status_of_opening fault ≡ Damaged blob → fault ≡ opening.Damaged blob
 saved_damaged opening.NoMemory blob e = absurd (cc)
@@ -49,122 +49,77 @@ saved_spent opening.StoreFault next e = absurd (cc)
 saved_spent (opening.Damaged blob) next e = absurd (cc)
 saved_spent (opening.Spent other) next e = cc
 
--- where an item couldn't be answered
-pub record IsAnswering (status : Status) : Type 0 where
-  pub usage : status ≡ Usage → ⊥
-  pub done : status ≡ Done → ⊥
-  pub read_fault : status ≡ ReadFault → ⊥
-  pub write_fault : status ≡ WriteFault → ⊥
-  pub too_long : status ≡ InputTooLong → ⊥
-  pub spent : (next : ℕ) → status ≡ Spent next → ⊥
+-- ---- where no item could be read
 
-pub answering : (trouble : Trouble) → IsAnswering (status_of_trouble trouble)
-answering troubles.NoMemory = record {
-  usage = λ e. (cc);
-  done = λ e. (cc);
-  read_fault = λ e. (cc);
-  write_fault = λ e. (cc);
-  too_long = λ e. (cc);
-  spent = λ next e. (cc);
-}
-answering troubles.StoreFault = record {
-  usage = λ e. (cc);
-  done = λ e. (cc);
-  read_fault = λ e. (cc);
-  write_fault = λ e. (cc);
-  too_long = λ e. (cc);
-  spent = λ next e. (cc);
-}
-answering (troubles.Damaged blob) = record {
-  usage = λ e. (cc);
-  done = λ e. (cc);
-  read_fault = λ e. (cc);
-  write_fault = λ e. (cc);
-  too_long = λ e. (cc);
-  spent = λ next e. (cc);
-}
+abbrev pub is_reading_end : Status → Bool
+is_reading_end ReadFault = true
+is_reading_end InputTooLong = true
+is_reading_end NoMemory = true
+is_reading_end status = false
+
+reading_ends : (end : ReadEnd) → is_reading_end (status_of end) ≡ true
+reading_ends ends.ReadFault = refl
+reading_ends ends.InputTooLong = refl
+reading_ends ends.NoMemory = refl
+
+pub reading : (end : ReadEnd) (other : Status) → is_reading_end other ≡ false → status_of end ≡ other → ⊥
+reading end other = no_other is_reading_end (status_of end) other (reading_ends end)
+
+-- ---- where an item couldn't be answered
+
+abbrev pub is_answering_end : Status → Bool
+is_answering_end NoMemory = true
+is_answering_end StoreFault = true
+is_answering_end (Damaged blob) = true
+is_answering_end status = false
+
+answering_ends : (trouble : Trouble) → is_answering_end (status_of_trouble trouble) ≡ true
+answering_ends troubles.NoMemory = refl
+answering_ends troubles.StoreFault = refl
+answering_ends (troubles.Damaged blob) = refl
+
+pub answering : (trouble : Trouble) (other : Status) → is_answering_end other ≡ false → status_of_trouble trouble ≡ other → ⊥
+answering trouble other = no_other is_answering_end (status_of_trouble trouble) other (answering_ends trouble)
 
 pub damaged_so : (trouble : Trouble) (blob : ℕ) → status_of_trouble trouble ≡ Damaged blob → trouble ≡ troubles.Damaged blob
 damaged_so troubles.NoMemory blob e = absurd (cc)
 damaged_so troubles.StoreFault blob e = absurd (cc)
 damaged_so (troubles.Damaged other) blob e = cc
 
--- an engine that goes on has ended with nothing
-pub untold : {P : Type 0} (ended : Option Trouble) (trouble : Trouble) → ended ≡ None → ended ≡ Some trouble → P
-untold ended trouble goes_on e = absurd (cc (goes_on, e))
+-- ---- where a reply couldn't be written
 
--- it is called what the engine ended with, if an item ended it
-pub told_answering : (told : Trouble) (ended : Option Trouble) → (ended ≡ Some told) ⊎ ((told ≡ troubles.NoMemory) × (ended ≡ None))
-    → (trouble : Trouble) → ended ≡ Some trouble → status_of_trouble told ≡ status_of_trouble trouble
-told_answering told ended how trouble e = ⊎_elim (λ same. cc) (λ goes. absurd (cc (goes.1, e))) how
+abbrev pub is_writing_end : Status → Bool
+is_writing_end WriteFault = true
+is_writing_end NoMemory = true
+is_writing_end status = false
 
--- where a reply couldn't be written
-pub record IsWriting (status : Status) : Type 0 where
-  pub usage : status ≡ Usage → ⊥
-  pub done : status ≡ Done → ⊥
-  pub read_fault : status ≡ ReadFault → ⊥
-  pub store_fault : status ≡ StoreFault → ⊥
-  pub too_long : status ≡ InputTooLong → ⊥
-  pub damaged : (blob : ℕ) → status ≡ Damaged blob → ⊥
-  pub spent : (next : ℕ) → status ≡ Spent next → ⊥
+writing_ends : (fault : Fault) → is_writing_end (status_of_fault fault) ≡ true
+writing_ends Failed = refl
+writing_ends faults.NoMemory = refl
 
-pub writing : (fault : Fault) → IsWriting (status_of_fault fault)
-writing Failed = record {
-  usage = λ e. (cc);
-  done = λ e. (cc);
-  read_fault = λ e. (cc);
-  store_fault = λ e. (cc);
-  too_long = λ e. (cc);
-  damaged = λ blob e. (cc);
-  spent = λ next e. (cc);
-}
-writing faults.NoMemory = record {
-  usage = λ e. (cc);
-  done = λ e. (cc);
-  read_fault = λ e. (cc);
-  store_fault = λ e. (cc);
-  too_long = λ e. (cc);
-  damaged = λ blob e. (cc);
-  spent = λ next e. (cc);
-}
+pub writing : (fault : Fault) (other : Status) → is_writing_end other ≡ false → status_of_fault fault ≡ other → ⊥
+writing fault other = no_other is_writing_end (status_of_fault fault) other (writing_ends fault)
 
--- where no item could be read
-pub record IsReading (status : Status) : Type 0 where
-  pub usage : status ≡ Usage → ⊥
-  pub done : status ≡ Done → ⊥
-  pub write_fault : status ≡ WriteFault → ⊥
-  pub store_fault : status ≡ StoreFault → ⊥
-  pub damaged : (blob : ℕ) → status ≡ Damaged blob → ⊥
-  pub spent : (next : ℕ) → status ≡ Spent next → ⊥
+-- ---- where the state was saved, or couldn't be
 
-pub reading : (end : ReadEnd) → IsReading (status_of end)
-reading ends.ReadFault = record {
-  usage = λ e. (cc);
-  done = λ e. (cc);
-  write_fault = λ e. (cc);
-  store_fault = λ e. (cc);
-  damaged = λ blob e. (cc);
-  spent = λ next e. (cc);
-}
-reading ends.InputTooLong = record {
-  usage = λ e. (cc);
-  done = λ e. (cc);
-  write_fault = λ e. (cc);
-  store_fault = λ e. (cc);
-  damaged = λ blob e. (cc);
-  spent = λ next e. (cc);
-}
-reading ends.NoMemory = record {
-  usage = λ e. (cc);
-  done = λ e. (cc);
-  write_fault = λ e. (cc);
-  store_fault = λ e. (cc);
-  damaged = λ blob e. (cc);
-  spent = λ next e. (cc);
-}
+abbrev pub IsSaving : Status → Type 0
+IsSaving status = (status ≡ Done) ⊎ ((status ≡ NoMemory) ⊎ (status ≡ StoreFault))
 
--- where the state was saved, or couldn't be: an engine that goes on calls no blob damaged there
-pub trouble_saving : (trouble : Trouble) (ended : Option Trouble) → ended ≡ None
+abbrev pub is_saving_end : Status → Bool
+is_saving_end Done = true
+is_saving_end NoMemory = true
+is_saving_end StoreFault = true
+is_saving_end status = false
+
+saving_ends : (status : Status) → IsSaving status → is_saving_end status ≡ true
+saving_ends status ends =
+    ⊎_elim (λ done. ap is_saving_end done) (λ rest. ⊎_elim (λ memory. ap is_saving_end memory) (λ store. ap is_saving_end store) rest) ends
+
+pub saving : (status other : Status) → IsSaving status → is_saving_end other ≡ false → status ≡ other → ⊥
+saving status other ends = no_other is_saving_end status other (saving_ends status ends)
+
+-- an engine that goes on calls no blob damaged there
+trouble_saving : (trouble : Trouble) (ended : Option Trouble) → ended ≡ None
     → ((blob : ℕ) → trouble ≡ troubles.Damaged blob → ended ≡ Some (troubles.Damaged blob)) → IsSaving (status_of_trouble trouble)
 trouble_saving troubles.NoMemory ended goes_on damaged = inr (inl refl)
 trouble_saving troubles.StoreFault ended goes_on damaged = inr (inr refl)
@@ -179,16 +134,35 @@ ends_saving (Err trouble) ended goes_on damaged = trouble_saving trouble ended g
 -- it is done where the save was
 pub saved_done : {P : Type 0} (saved : Result (Unit {0}) Trouble) → OnOk saved P → status_of_saving saved ≡ Done → P
 saved_done (Ok value) holds e = holds
-saved_done (Err trouble) holds e = absurd ((answering trouble).done e)
+saved_done (Err trouble) holds e = absurd (answering trouble Done refl e)
 
--- it is called what the engine ended with, if the save ended it
+-- ---- what the engine ended with is what it is called
+
+-- an engine that goes on has ended with nothing
+pub untold : {P : Type 0} (ended : Option Trouble) (trouble : Trouble) → ended ≡ None → ended ≡ Some trouble → P
+untold ended trouble goes_on e = absurd (cc (goes_on, e))
+
+-- an item ended it, or the memory for a reply was missing, and then it goes on
+pub told_answering : (told : Trouble) (ended : Option Trouble) → (ended ≡ Some told) ⊎ ((told ≡ troubles.NoMemory) × (ended ≡ None))
+    → (trouble : Trouble) → ended ≡ Some trouble → status_of_trouble told ≡ status_of_trouble trouble
+told_answering told ended how trouble e = ⊎_elim (λ same. cc) (λ goes. untold ended trouble goes.1 e) how
+
+-- the save ended it, or it goes on
 pub told_saving : (saved : Result (Unit {0}) Trouble) (ended : Option Trouble) → OnOk saved (ended ≡ None)
     → IfErr saved (λ trouble. ended ≡ Some trouble) → (trouble : Trouble) → ended ≡ Some trouble
     → status_of_saving saved ≡ status_of_trouble trouble
-told_saving (Ok value) ended goes_on ends trouble e = absurd (cc)
-told_saving (Err other) ended goes_on ends trouble e = cc
+told_saving (Ok value) ended goes_on ends trouble e = untold ended trouble goes_on e
+told_saving (Err told) ended goes_on ends trouble e = told_answering told ended (inl ends) trouble e
 
-pub saving : (status other : Status) → IsSaving status → (other ≡ Done → ⊥) → (other ≡ NoMemory → ⊥) → (other ≡ StoreFault → ⊥)
-    → status ≡ other → ⊥
-saving status other ends done memory store e =
-    ⊎_elim (λ is. done (sym e ∙ is)) (λ rest. ⊎_elim (λ is. memory (sym e ∙ is)) (λ is. store (sym e ∙ is)) rest) ends
+-- ---- a fault of the store that ends a session is one that the engine met
+
+pub met_answering : (told : Trouble) (ended : Option Trouble) → (ended ≡ Some told) ⊎ ((told ≡ troubles.NoMemory) × (ended ≡ None))
+    → status_of_trouble told ≡ StoreFault → ended ≡ Some troubles.StoreFault
+met_answering troubles.NoMemory ended how e = absurd (cc)
+met_answering troubles.StoreFault ended how e = ⊎_elim (λ same. same) (λ goes. absurd (cc (goes.0))) how
+met_answering (troubles.Damaged blob) ended how e = absurd (cc)
+
+pub met_saving : (saved : Result (Unit {0}) Trouble) (ended : Option Trouble) → IfErr saved (λ trouble. ended ≡ Some trouble)
+    → status_of_saving saved ≡ StoreFault → ended ≡ Some troubles.StoreFault
+met_saving (Ok value) ended ends e = absurd (cc)
+met_saving (Err told) ended ends e = met_answering told ended (inl ends) e

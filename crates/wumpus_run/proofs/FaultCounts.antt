@@ -16,7 +16,8 @@ use Rattle.wu_engine.specs.Causes.{HasTroubleCause}
 use Rattle.wu_engine.specs.Opening.{IsBeginCause}
 use Rattle.wu_engine.specs.declared.faults.BeginFault.{BeginFault}
 use Rattle.wu_engine.specs.declared.faults.BeginFault.TheVariants as opening
-use Rattle.wumpus_run.specs.Session.{IsCounted, status_of, status_of_fault, status_of_opening, status_of_saving, status_of_trouble}
+use Rattle.wumpus_run.specs.Ended.{status_of, status_of_fault, status_of_opening, status_of_saving, status_of_trouble}
+use Rattle.wumpus_run.specs.Session.{IsCounted}
 
 -- a count that rose after one that was as before rose
 Rose-since : (before between now : ℕ) → between ≡ before → Rose between now → Rose before now

@@ -1,4 +1,5 @@
 pub mod ReplyLemmas
+pub mod AloneStores
 pub mod SettingLimits
 pub mod SessionLemmas
 pub mod SoundBlobs

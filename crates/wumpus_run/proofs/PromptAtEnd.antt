@@ -14,7 +14,8 @@ use Rattle.wu_script.proofs.ItemListLemmas.{whole_items_of-none}
 use Rattle.wu_options.specs.declared.command_lines.Settings.{Settings}
 use Rattle.wu_engine.specs.States.{State}
 use Rattle.wumpus_run.specs.Replies.{Rules, output_of}
-use Rattle.wumpus_run.specs.Session.{Moment, AnswersWholeItems, AnswersAllButOneRead, HoldsNothingBack, status_of}
+use Rattle.wumpus_run.specs.Ended.{status_of}
+use Rattle.wumpus_run.specs.Session.{Moment, AnswersWholeItems, AnswersAllButOneRead, HoldsNothingBack}
 use Rattle.wumpus_run.specs.Taking.{GainsAtLeast}
 use Rattle.wumpus_run.proofs.SessionLemmas.{one_item}
 use Rattle.wumpus_run.proofs.PartialItems.{none_but_last}

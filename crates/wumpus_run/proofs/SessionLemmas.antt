@@ -257,4 +257,11 @@ pub takes_one : (left left' : Option (List ℕ)) (last_read : ℕ) (old new : He
     → TakesItem left left' last_read old new item → length new.bytes + new.spare < length old.bytes + old.spare
 takes_one left left' last_read old new item other taken =
     let uses = taken.1 in
-    omega (arith, (one_item last_read new item taken.0 other taken.2).some, ap length uses.joined, length-append old.bytes uses.given, length-append taken.0 new.bytes, uses.counted)
+    omega (
+      arith,
+      (one_item last_read new item taken.0 other taken.2).some,
+      ap length uses.joined,
+      length-append old.bytes uses.given,
+      length-append taken.0 new.bytes,
+      uses.counted,
+    )

@@ -215,42 +215,41 @@ module _ (told : Settings) (start : State) where
     reads = λ rules are. at_start rules start before.holds before.left old new opening;
   }
 
-  pub permitted_so_far : (status : Status) (before between now : Moment) (engine : Engine) (held : Held)
-      (old new : Option (List ReadRange)) → HasRead before between engine held old new
-      → ReadsPermitted start status (Some told) before now old new
-  permitted_so_far status before between now engine held old new so_far =
-      ended status before now old new (prepend_known held.bytes between.left) (λ rules. so_far.state) so_far.reads
-
-  module _ (before between : Moment) (engine : Engine) (held : Held) (rest : Option (List ℕ)) (item : Item)
-      (old mid new : Option (List ReadRange)) (other : IsBeforeEnd item) (next : IsNext (prepend_known held.bytes between.left) rest item)
-      (reads : (s : State) → Stands engine between.holds s → ReadsSuch (AreReadFor s (said_by item)) mid new)
+  module _ {before between : Moment} {engine : Engine} {held : Held} {old mid : Option (List ReadRange)}
       (so_far : HasRead before between engine held old mid) where
-    and_then : (rules : Rules) → AreRules before.holds told rules
-        → HasReadSoFar rules start before.holds before.left rest (after rules.flush_at so_far.state (said_by item)) old new
-    and_then rules are =
-        turn rules start are.0 before.holds before.left (prepend_known held.bytes between.left) rest so_far.state item old mid new other
-        next (reads so_far.state so_far.stands) (so_far.reads rules are)
+    -- no item more was reached
+    pub permitted_so_far : (status : Status) (now : Moment) → ReadsPermitted start status (Some told) before now old mid
+    permitted_so_far status now =
+        ended status before now old mid (prepend_known held.bytes between.left) (λ rules. so_far.state) so_far.reads
 
-    -- an item more was answered, or wasn't
-    pub permitted_then : (status : Status) (now : Moment) → ReadsPermitted start status (Some told) before now old new
-    permitted_then status now =
-        ended status before now old new rest (λ rules. after rules.flush_at so_far.state (said_by item)) and_then
+    module _ {new : Option (List ReadRange)} (rest : Option (List ℕ)) (item : Item) (other : IsBeforeEnd item)
+        (next : IsNext (prepend_known held.bytes between.left) rest item)
+        (reads : (s : State) → Stands engine between.holds s → ReadsSuch (AreReadFor s (said_by item)) mid new) where
+      and_then : (rules : Rules) → AreRules before.holds told rules
+          → HasReadSoFar rules start before.holds before.left rest (after rules.flush_at so_far.state (said_by item)) old new
+      and_then rules are =
+          turn rules start are.0 before.holds before.left (prepend_known held.bytes between.left) rest so_far.state item old mid new other
+          next (reads so_far.state so_far.stands) (so_far.reads rules are)
 
-  -- an item was read and answered
-  pub HasRead-turn : (before between now : Moment) (engine later : Engine) (held new_held : Held) (item : Item)
-      (old mid new : Option (List ReadRange)) → IsBeforeEnd item
-      → IsNext (prepend_known held.bytes between.left) (prepend_known new_held.bytes now.left) item
-      → ((s : State) → Stands engine between.holds s → Stands later now.holds (after told.flush_at s (said_by item)))
-      → ((s : State) → Stands engine between.holds s → ReadsSuch (AreReadFor s (said_by item)) mid new)
-      → HasRead before between engine held old mid → HasRead before now later new_held old new
-  HasRead-turn before between now engine later held new_held item old mid new other next stands reads so_far = record {
-    state = after told.flush_at so_far.state (said_by item);
-    stands = stands so_far.state so_far.stands;
-    reads = λ rules are.
-        subst (λ (n : ℕ). HasReadSoFar rules start before.holds before.left (prepend_known new_held.bytes now.left)
-        (after n so_far.state (said_by item)) old new) are.1
-        (and_then before between engine held (prepend_known new_held.bytes now.left) item old mid new other next reads so_far rules are);
-  }
+      -- an item more was answered, or wasn't
+      pub permitted_then : (status : Status) (now : Moment) → ReadsPermitted start status (Some told) before now old new
+      permitted_then status now =
+          ended status before now old new rest (λ rules. after rules.flush_at so_far.state (said_by item)) and_then
+
+    -- an item was read and answered
+    pub HasRead-turn : {now : Moment} {later : Engine} {rest : Held} {new : Option (List ReadRange)} (item : Item) → IsBeforeEnd item
+        → IsNext (prepend_known held.bytes between.left) (prepend_known rest.bytes now.left) item
+        → ((s : State) → Stands engine between.holds s → Stands later now.holds (after told.flush_at s (said_by item)))
+        → ((s : State) → Stands engine between.holds s → ReadsSuch (AreReadFor s (said_by item)) mid new)
+        → HasRead before now later rest old new
+    HasRead-turn {now} {later} {rest} {new} item other next stands reads = record {
+      state = after told.flush_at so_far.state (said_by item);
+      stands = stands so_far.state so_far.stands;
+      reads = λ rules are.
+          subst (λ (n : ℕ). HasReadSoFar rules start before.holds before.left (prepend_known rest.bytes now.left)
+          (after n so_far.state (said_by item)) old new) are.1
+          (and_then {new = new} (prepend_known rest.bytes now.left) item other next reads rules are);
+    }
 
 -- there was no memory to read the arguments
 pub permitted_untouched : (start : State) (settings : Option Settings) (before : Moment) (reads : Option (List ReadRange))

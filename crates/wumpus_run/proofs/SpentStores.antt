@@ -7,7 +7,8 @@ use Rattle.wumpus_run.specs.declared.statuses.Status.TheVariants.{Spent}
 use Rattle.wu_engine.specs.Opening.{IsBeginCause, IsSpentWhere}
 use Rattle.wu_engine.specs.declared.faults.BeginFault.{BeginFault}
 use Rattle.wu_engine.specs.declared.faults.BeginFault.TheVariants as opening
-use Rattle.wumpus_run.specs.Session.{IsSpent, status_of_opening}
+use Rattle.wumpus_run.specs.Ended.{status_of_opening}
+use Rattle.wumpus_run.specs.Session.{IsSpent}
 use Rattle.wumpus_run.specs.Started.{IsUnspent}
 use Rattle.wumpus_run.proofs.EndStatuses.{saved_spent}
 

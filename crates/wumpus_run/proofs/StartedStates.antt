@@ -32,8 +32,8 @@ use Rattle.wumpus_run.specs.declared.statuses.Status.{Status}
 use Rattle.wumpus_run.specs.declared.statuses.Status.TheVariants.{Done, Usage, ReadFault, WriteFault, InputTooLong, StoreFault, Damaged}
 use Rattle.wumpus_run.specs.declared.statuses.Status.TheVariants.{Spent}
 use Rattle.wumpus_run.specs.Taking.{TakesAtMost}
-use Rattle.wumpus_run.specs.Session.{Moment, FromImage, IsCounted, IsSession, status_of, status_of_fault, status_of_opening}
-use Rattle.wumpus_run.specs.Session.{status_of_trouble}
+use Rattle.wumpus_run.specs.Ended.{IsSession, status_of, status_of_fault, status_of_opening, status_of_trouble}
+use Rattle.wumpus_run.specs.Session.{Moment, FromImage, IsCounted}
 use Rattle.wumpus_run.proofs.SessionLemmas.{HasAnswered, HasAnswered-none, HasAnswered-turn, HasTaken, HasTaken-more}
 use Rattle.wumpus_run.proofs.AddressRoom.{HasRoom, HasRoom-none, HasRoom-item, HasRoom-fewer, StaysLow, StaysLow-none, StaysLow-item}
 use Rattle.wumpus_run.proofs.AddressRoom.{few_drawn, few_flushes}
@@ -177,15 +177,15 @@ module _ (told : Settings) (before : Moment) where
       let other = unopened fault in
       let few = TakesAtMost-none before.left told.max_input in
       record {
-        usage = other.usage;
-        all_taken = λ e. absurd (other.done e);
-        done = λ e. absurd (other.done e);
-        saved = λ e. absurd (other.done e);
-        named = λ e. absurd (other.done e);
-        read_fault = IsCounted-other ReadFault (status_of_opening fault) before.read_faults before.read_faults other.read_fault refl;
-        write_fault = IsCounted-other WriteFault (status_of_opening fault) before.write_faults before.write_faults other.write_fault refl;
+        usage = other Usage refl;
+        all_taken = λ e. absurd (other Done refl e);
+        done = λ e. absurd (other Done refl e);
+        saved = λ e. absurd (other Done refl e);
+        named = λ e. absurd (other Done refl e);
+        read_fault = IsCounted-other ReadFault _ _ _ (other ReadFault refl) refl;
+        write_fault = IsCounted-other WriteFault _ _ _ (other WriteFault refl) refl;
         store_fault = IsCounted-unopened fault before.holds before.store_faults faults cause;
-        too_long = IsTooLong-short told (status_of_opening fault) before now other.too_long few;
+        too_long = IsTooLong-short told (status_of_opening fault) before now (other InputTooLong refl) few;
         damaged = λ s image blob e. undamaged s image blob (saved_damaged fault blob e);
         spent = IsSpent-unopened T fault told before.holds before.store_faults faults cause spent;
         taken = StaysWithin-short told before now few;
@@ -201,17 +201,17 @@ module _ (told : Settings) (before : Moment) where
         let now : Moment = record between { left = left; last_read = last_read; read_faults = faults } in
         let other = reading end in
         record {
-          usage = other.usage;
-          all_taken = λ e. absurd (other.done e);
-          done = λ e. absurd (other.done e);
-          saved = λ e. absurd (other.done e);
-          named = λ e. absurd (other.done e);
+          usage = other Usage refl;
+          all_taken = λ e. absurd (other Done refl e);
+          done = λ e. absurd (other Done refl e);
+          saved = λ e. absurd (other Done refl e);
+          named = λ e. absurd (other Done refl e);
           read_fault = IsCounted-read end before.read_faults between.read_faults faults i.read_calm counted;
-          write_fault = IsCounted-other WriteFault (status_of end) before.write_faults between.write_faults other.write_fault i.write_calm;
-          store_fault = IsCounted-other StoreFault (status_of end) before.store_faults between.store_faults other.store_fault i.store_calm;
+          write_fault = IsCounted-other WriteFault _ _ _ (other WriteFault refl) i.write_calm;
+          store_fault = IsCounted-other StoreFault _ _ _ (other StoreFault refl) i.store_calm;
           too_long = IsTooLong-stopped told end before now between.left old i.taken stops;
-          damaged = λ s image. other.damaged;
-          spent = IsSpent-never (status_of end) told before.holds i.unspent other.spent;
+          damaged = λ s image blob. other (Damaged blob) refl;
+          spent = IsSpent-never (status_of end) told before.holds i.unspent (λ next. other (Spent next) refl);
           taken = StaysWithin-stopped told end before now between.left old i.taken stops;
           ends = λ s image.
               let so_far = i.from s image in
@@ -242,7 +242,7 @@ module _ (told : Settings) (before : Moment) where
         let taken = HasTaken-more before.left between.left left last_read old new items.End told.max_input i.taken took in
         let few : TakesAtMost told.max_input before.left left = TakesAtMost-taken before.left left new.spare told.max_input taken in
         record {
-          usage = other Usage (λ e. cc) (λ e. cc) (λ e. cc);
+          usage = other Usage refl;
           all_taken = λ e. TakesAll-end told before now (at_end took.2.2) few;
           done = λ e s image.
               let so_far = i.from s image in
@@ -256,14 +256,12 @@ module _ (told : Settings) (before : Moment) where
               so_at_end told s (λ (t : State). HasNoStray s.layout before.holds (rested_state (saved_state t)).layout holds) before
               so_far.state known rest between.gained so_far.answered next
               (adds so_far.state so_far.stands e s.layout before.holds so_far.no_stray);
-          read_fault = IsCounted-other ReadFault status before.read_faults faults (other ReadFault (λ e. cc) (λ e. cc) (λ e. cc))
-              (read ∙ i.read_calm);
-          write_fault = IsCounted-other WriteFault status before.write_faults between.write_faults
-              (other WriteFault (λ e. cc) (λ e. cc) (λ e. cc)) i.write_calm;
+          read_fault = IsCounted-other ReadFault _ _ _ (other ReadFault refl) (read ∙ i.read_calm);
+          write_fault = IsCounted-other WriteFault _ _ _ (other WriteFault refl) i.write_calm;
           store_fault = IsCounted-since StoreFault status before.store_faults between.store_faults store_faults i.store_calm counted;
-          too_long = IsTooLong-short told status before now (other InputTooLong (λ e. cc) (λ e. cc) (λ e. cc)) few;
-          damaged = λ s image blob. other (Damaged blob) (λ e. cc) (λ e. cc) (λ e. cc);
-          spent = IsSpent-never status told before.holds i.unspent (λ n. other (Spent n) (λ e. cc) (λ e. cc) (λ e. cc));
+          too_long = IsTooLong-short told status before now (other InputTooLong refl) few;
+          damaged = λ s image blob. other (Damaged blob) refl;
+          spent = IsSpent-never status told before.holds i.unspent (λ next. other (Spent next) refl);
           taken = StaysWithin-short told before now few;
           ends = λ s image.
               let so_far = i.from s image in
@@ -290,20 +288,20 @@ module _ (told : Settings) (before : Moment) where
         let taken = HasTaken-more before.left between.left left last_read old new item told.max_input i.taken took in
         let few : TakesAtMost told.max_input before.left left = TakesAtMost-taken before.left left new.spare told.max_input taken in
         record {
-          usage = other.usage;
-          all_taken = λ e. absurd (other.done e);
-          done = λ e. absurd (other.done e);
-          saved = λ e. absurd (other.done e);
-          named = λ e. absurd (other.done e);
-          read_fault = IsCounted-other ReadFault status before.read_faults faults other.read_fault (read ∙ i.read_calm);
-          write_fault = IsCounted-other WriteFault status before.write_faults between.write_faults other.write_fault i.write_calm;
+          usage = other Usage refl;
+          all_taken = λ e. absurd (other Done refl e);
+          done = λ e. absurd (other Done refl e);
+          saved = λ e. absurd (other Done refl e);
+          named = λ e. absurd (other Done refl e);
+          read_fault = IsCounted-other ReadFault _ _ _ (other ReadFault refl) (read ∙ i.read_calm);
+          write_fault = IsCounted-other WriteFault _ _ _ (other WriteFault refl) i.write_calm;
           store_fault = IsCounted-answered trouble engine.ended before.store_faults between.store_faults store_faults i.goes_on i.store_calm
               cause;
-          too_long = IsTooLong-short told status before now other.too_long few;
+          too_long = IsTooLong-short told status before now (other InputTooLong refl) few;
           damaged = λ s image blob e.
               let so_far = i.from s image in
               undamaged so_far.state so_far.stands blob (damaged_so trouble blob e);
-          spent = IsSpent-never status told before.holds i.unspent other.spent;
+          spent = IsSpent-never status told before.holds i.unspent (λ next. other (Spent next) refl);
           taken = StaysWithin-short told before now few;
           ends = λ s image.
               let so_far = i.from s image in
@@ -324,17 +322,17 @@ module _ (told : Settings) (before : Moment) where
         let taken = HasTaken-more before.left between.left now.left now.last_read old new item told.max_input i.taken took in
         let few = TakesAtMost-taken before.left now.left new.spare told.max_input taken in
         record {
-          usage = other.usage;
-          all_taken = λ e. absurd (other.done e);
-          done = λ e. absurd (other.done e);
-          saved = λ e. absurd (other.done e);
-          named = λ e. absurd (other.done e);
-          read_fault = IsCounted-other ReadFault status before.read_faults now.read_faults other.read_fault (read ∙ i.read_calm);
+          usage = other Usage refl;
+          all_taken = λ e. absurd (other Done refl e);
+          done = λ e. absurd (other Done refl e);
+          saved = λ e. absurd (other Done refl e);
+          named = λ e. absurd (other Done refl e);
+          read_fault = IsCounted-other ReadFault _ _ _ (other ReadFault refl) (read ∙ i.read_calm);
           write_fault = IsCounted-written fault before.write_faults between.write_faults now.write_faults i.write_calm cause;
-          store_fault = IsCounted-other StoreFault status before.store_faults now.store_faults other.store_fault (store ∙ i.store_calm);
-          too_long = IsTooLong-short told status before now other.too_long few;
-          damaged = λ s image. other.damaged;
-          spent = IsSpent-never status told before.holds i.unspent other.spent;
+          store_fault = IsCounted-other StoreFault _ _ _ (other StoreFault refl) (store ∙ i.store_calm);
+          too_long = IsTooLong-short told status before now (other InputTooLong refl) few;
+          damaged = λ s image blob. other (Damaged blob) refl;
+          spent = IsSpent-never status told before.holds i.unspent (λ next. other (Spent next) refl);
           taken = StaysWithin-short told before now few;
           ends = λ s image.
               let so_far = i.from s image in

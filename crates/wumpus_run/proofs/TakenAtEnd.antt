@@ -11,7 +11,8 @@ use Rattle.wumpus_run.specs.declared.statuses.Status.{Status}
 use Rattle.wumpus_run.specs.declared.statuses.Status.TheVariants.{Done, Usage, ReadFault, WriteFault, NoMemory, InputTooLong, StoreFault}
 use Rattle.wumpus_run.specs.declared.statuses.Status.TheVariants.{Damaged, Spent}
 use Rattle.wumpus_run.specs.Taking.{TakesAtMost, TakesExactly}
-use Rattle.wumpus_run.specs.Session.{Moment, IsTooLong, Completes, StaysWithin, TakesAll, status_of}
+use Rattle.wumpus_run.specs.Ended.{status_of}
+use Rattle.wumpus_run.specs.Session.{Moment, IsTooLong, Completes, StaysWithin, TakesAll}
 use Rattle.wumpus_run.proofs.SessionLemmas.{HasTaken}
 
 taken_twice : (input : List ℕ) (left : Option (List ℕ)) (most : ℕ) → TakesAtMost most (Some input) left

@@ -21,8 +21,8 @@ use Rattle.wu_engine.specs.States.{State}
 use Rattle.wu_engine.specs.declared.faults.BeginFault.{BeginFault}
 use Rattle.wu_engine.specs.declared.faults.BeginFault.TheVariants as opening
 use Rattle.wumpus_run.specs.Replies.{AreRules, Rules, output_of, said_bytes, state_after}
-use Rattle.wumpus_run.specs.Session.{Moment, AnswersAll, AnswersAllButOneRead, AnswersItems, AnswersPrefix, HoldsNothingBack, Ends}
-use Rattle.wumpus_run.specs.Session.{status_of, status_of_fault, status_of_opening, status_of_trouble}
+use Rattle.wumpus_run.specs.Ended.{Ends, status_of, status_of_fault, status_of_opening, status_of_trouble}
+use Rattle.wumpus_run.specs.Session.{Moment, AnswersAll, AnswersAllButOneRead, AnswersItems, AnswersPrefix, HoldsNothingBack}
 use Rattle.wumpus_run.proofs.SessionLemmas.{IsOnTheWay, HasAnswered, IsPrefix-part, IsPrefix-sent, AreItems-sent, all_answered}
 use Rattle.wumpus_run.proofs.EndStatuses.{IsSaving}
 use Rattle.wumpus_run.proofs.SentReplies.{HasReplied}

@@ -1,11 +1,18 @@
--- What a call on an item leaves of an engine.
-use Rattle.std.specs.Prelude.{◌≡◌, ℕ, ◌+◌, ◌≤◌, Option, None}
+-- What a call on an item leaves of engine and store.
+use Rattle.std.specs.Prelude.{◌≡◌, ℕ, ◌+◌, ◌≤◌, Bool, true, false, Option, None, Some}
 use Rattle.wu_outside.specs.Content.{with_blob}
 use Rattle.wu_outside.specs.Crash.{Moments, Put, try_change}
+use Rattle.wu_parts.specs.Contents.{Contents}
+use Rattle.wu_parts.specs.Flushing.{Told}
 use Rattle.wu_parts.specs.Working.{MayChange}
-use Rattle.wu_script.specs.Commands.{Flush, Save, Work}
-use Rattle.wu_script.specs.Said.{Said, Happens, Operates, tokens_given}
+use Rattle.wu_script.specs.declared.types.Reply.{Reply}
+use Rattle.wu_script.specs.declared.types.Reply.TheVariants.{Ok as Accepted, Refused}
+use Rattle.wu_script.specs.Commands.{Flush, Save, Stat, Work}
+use Rattle.wu_script.specs.Said.{Asks, Happens, IsRefused, Operates, Said, SaysNothing, tokens_given}
 use Rattle.wu_engine.specs.declared.engines.Engine.{Engine}
+use Rattle.wu_engine.specs.declared.verdicts.Verdict.TheVariants.{Made}
+use Rattle.wu_engine.specs.SavedStores.{Saves}
+use Rattle.wu_engine.specs.Stands.{leaves_store}
 
 -- the most blobs that an item draws
 abbrev pub drawn_by : Said → ℕ
@@ -34,3 +41,26 @@ abbrev pub PutsAtMost : ℕ → Engine → Option Moments → Option Moments →
 PutsAtMost n engine before after =
     MayChange (λ blob written. try_change (Put blob) (with_blob blob written)) engine.parts.next_blob (engine.parts.next_blob + n) n
     before after
+
+-- what is answered without a call of the store, and leaves the engine as it is
+abbrev pub is_unasked : Said → Bool
+is_unasked (Happens event text) = false
+is_unasked (Asks uid question) = false
+is_unasked (Operates Flush) = false
+is_unasked (Operates (Work units)) = false
+is_unasked (Operates Stat) = true
+is_unasked (Operates Save) = false
+is_unasked (IsRefused why) = true
+is_unasked SaysNothing = true
+
+-- Whether an item with such a reply leaves the store alone: it is answered without a call of it, or is an event that is refused, or one
+-- that gives no text which the store keeps and after which memory isn't full.
+abbrev pub leaves_alone : Said → Option Reply → Contents → Bool
+leaves_alone (Happens event text) (Some (Refused why)) contents = true
+leaves_alone (Happens event text) (Some Accepted) contents = leaves_store Made event text contents
+leaves_alone said reply contents = is_unasked said
+
+-- a save was done, each of its calls of the store once and in order
+abbrev pub SavesOnce : Engine → Engine → Told → Told → Type 0
+SavesOnce engine later before after =
+    Saves engine.tree engine.space engine.files.entries engine.checkpoint later.checkpoint engine.parts later.parts before after

@@ -1,5 +1,5 @@
 -- The replies to a script, and the state that it leaves.
-use Rattle.std.specs.Prelude.{◌≡◌, ℕ, Bool, true, false, List, [], ◌∷◌, map, Option, Some, None, IsSome}
+use Rattle.std.specs.Prelude.{◌≡◌, ℕ, List, [], ◌∷◌, map, Option, Some, None, IsSome}
 use Rattle.std.specs.List.{flat_map}
 use Rattle.wu_outside.specs.Content.{Content}
 use Rattle.wu_script.specs.declared.types.Why.TheVariants.{Tree}
@@ -53,17 +53,6 @@ after flush_at s (Asks uid question) = s
 after flush_at s (Operates operation) = after_operation s operation
 after flush_at s (IsRefused why) = s
 after flush_at s SaysNothing = s
-
--- what is answered without a call of the store, and leaves the engine as it is
-abbrev pub is_unasked : Said → Bool
-is_unasked (Happens event text) = false
-is_unasked (Asks uid question) = false
-is_unasked (Operates Flush) = false
-is_unasked (Operates (Work units)) = false
-is_unasked (Operates Stat) = true
-is_unasked (Operates Save) = false
-is_unasked (IsRefused why) = true
-is_unasked SaysNothing = true
 
 abbrev pub bytes_of : Option Reply → List ℕ
 bytes_of None = []

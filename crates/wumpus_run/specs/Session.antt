@@ -1,31 +1,22 @@
 -- What a session did, by what source, sink and store told before and after it.
-use Rattle.std.specs.Prelude.{◌≡◌, ℕ, ◌+◌, ◌≤◌, ◌<◌, ◌⊎◌, ◌↔◌, List, [], ◌++◌, length, take, Option, Some, None, Result, Ok, Err, IfSome, option_and_then}
+use Rattle.std.specs.Prelude.{◌≡◌, ℕ, ◌+◌, ◌≤◌, ◌<◌, ◌⊎◌, ◌↔◌, List, [], ◌++◌, length, take, Option, Some, None, IfSome, option_and_then}
 use Rattle.std.specs.Io.KnownBytes.{Appends, Consumes}
 use Rattle.wu_base.specs.declared.limits.TheConstants.{SPENT_AT, BLOBS_SPENT_AT}
-use Rattle.wu_base.specs.declared.troubles.Trouble.{Trouble}
-use Rattle.wu_base.specs.declared.troubles.Trouble.TheVariants as troubles
 use Rattle.wu_outside.specs.Content.{Content}
 use Rattle.wu_outside.specs.Faults.{Rose}
 use Rattle.wu_outside.specs.declared.ranges.ReadRange.{ReadRange}
 use Rattle.wu_outside.specs.declared.traits.Source as sources
 use Rattle.wu_outside.specs.declared.traits.Sink as sinks
 use Rattle.wu_outside.specs.declared.traits.Store as stores
-use Rattle.wu_outside.specs.declared.traits.Fault.{Fault}
-use Rattle.wu_outside.specs.declared.traits.Fault.TheVariants.{Failed}
-use Rattle.wu_outside.specs.declared.traits.Fault.TheVariants as faults
 use Rattle.wu_outside.specs.Gains.{GainsPrefix}
 use Rattle.wu_script.specs.Holding.{but_last}
 use Rattle.wu_script.specs.Items.{items_of, whole_items_of}
-use Rattle.wu_script.specs.declared.ends.ReadEnd.{ReadEnd}
-use Rattle.wu_script.specs.declared.ends.ReadEnd.TheVariants as ends
 use Rattle.wu_options.specs.CommandLines.{command_line_of}
 use Rattle.wu_options.specs.declared.command_lines.CommandLine.{CommandLine}
 use Rattle.wu_options.specs.declared.command_lines.CommandLine.TheVariants.{Run, Demo}
 use Rattle.wu_options.specs.declared.command_lines.Settings.{Settings}
 use Rattle.wumpus_run.specs.declared.statuses.Status.{Status}
 use Rattle.wumpus_run.specs.declared.statuses.Status.TheVariants.{Done, Usage, ReadFault, WriteFault, NoMemory, InputTooLong, StoreFault, Damaged, Spent}
-use Rattle.wu_engine.specs.declared.faults.BeginFault.{BeginFault}
-use Rattle.wu_engine.specs.declared.faults.BeginFault.TheVariants as opening
 use Rattle.wu_engine.specs.Naming.{HasNoStray}
 use Rattle.wu_engine.specs.States.{State, rested_state, saved_state}
 use Rattle.wu_engine.specs.Opening.{HoldsImage, IsSpentAt, Opens}
@@ -192,53 +183,3 @@ code_of InputTooLong = 5
 code_of StoreFault = 6
 code_of (Damaged blob) = 7
 code_of (Spent next) = 8
-
--- how a session ends where no item could be read
-abbrev pub status_of : ReadEnd → Status
-status_of ends.ReadFault = ReadFault
-status_of ends.InputTooLong = InputTooLong
-status_of ends.NoMemory = NoMemory
-
--- how it ends where the store couldn't be opened
-abbrev pub status_of_opening : BeginFault → Status
-status_of_opening opening.NoMemory = NoMemory
-status_of_opening opening.StoreFault = StoreFault
-status_of_opening (opening.Damaged blob) = Damaged blob
-status_of_opening (opening.Spent next) = Spent next
-
--- how it ends where an item couldn't be answered, or the state not be saved
-abbrev pub status_of_trouble : Trouble → Status
-status_of_trouble troubles.NoMemory = NoMemory
-status_of_trouble troubles.StoreFault = StoreFault
-status_of_trouble (troubles.Damaged blob) = Damaged blob
-
--- how it ends with a save
-abbrev pub status_of_saving : Result (Unit {0}) Trouble → Status
-status_of_saving (Ok saved) = Done
-status_of_saving (Err trouble) = status_of_trouble trouble
-
--- how it ends where a reply couldn't be written
-abbrev pub status_of_fault : Fault → Status
-status_of_fault Failed = WriteFault
-status_of_fault faults.NoMemory = NoMemory
-
--- what was written, however a session ends
-pub record Ends (start : State) (status : Status) (told : Settings) (before now : Moment) : Type 0 where
-  pub prefix : AnswersPrefix start (Some told) before now
-  pub prompt : HoldsNothingBack start status (Some told) before now
-
--- what it did, however it ended
-pub record IsSession (status : Status) (told : Settings) (before now : Moment) : Type 0 where
-  pub usage : status ≡ Usage → ⊥
-  pub all_taken : status ≡ Done → TakesAll (Some told) before now
-  pub done : status ≡ Done → FromImage before.holds (λ s. AnswersAll s (Some told) before now)
-  pub saved : status ≡ Done → FromImage before.holds (λ s. SavesAll s (Some told) before now)
-  pub named : status ≡ Done → FromImage before.holds (λ s. LeavesNoStray s (Some told) before now)
-  pub read_fault : IsCounted ReadFault status before.read_faults now.read_faults
-  pub write_fault : IsCounted WriteFault status before.write_faults now.write_faults
-  pub store_fault : IsCounted StoreFault status before.store_faults now.store_faults
-  pub too_long : IsTooLong status (Some told) before now
-  pub damaged : FromImage before.holds (λ s. (blob : ℕ) → status ≡ Damaged blob → ⊥)
-  pub spent : IsSpent status (Some told) before.holds
-  pub taken : StaysWithin (Some told) before now
-  pub ends : FromImage before.holds (λ s. Ends s status told before now)

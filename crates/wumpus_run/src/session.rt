@@ -1,10 +1,10 @@
 //! A session: the script is read as it comes, and each item is answered in turn.
-ghost use Rattle.std.specs.Prelude.{◌≡◌, ◌≢◌, ◌⊎◌, ℕ, ◌+◌, ◌<◌, ◌≤◌, ◌^◌, List, [], Option, None, Some, Err, false, IfOk, IfErr, IfSome, OnErr, OnOk, MatchBool};
+ghost use Rattle.std.specs.Prelude.{◌≡◌, ◌≢◌, ◌⊎◌, ℕ, ◌+◌, ◌<◌, ◌≤◌, ◌^◌, List, [], Option, None, Some, Err, false, IfOk, IfErr, IfSome, OnErr, OnOk, MatchBool, option_map};
 ghost use Rattle.std.specs.Io.KnownBytes.{Appends};
 ghost use Rattle.wu_base.specs.declared.limits.TheConstants.{BLOBS_SPENT_AT, INPUT_MAX, SPENT_AT};
 ghost use Rattle.wu_base.specs.declared.troubles.Trouble.{Trouble};
 ghost use Rattle.wu_outside.specs.Content.{Content};
-ghost use Rattle.wu_outside.specs.Crash.{Moments};
+ghost use Rattle.wu_outside.specs.Crash.{Moments, settle};
 ghost use Rattle.wu_outside.specs.Faults.{HasFaultCause, Rose};
 ghost use Rattle.wu_outside.specs.Gains.{GainsPrefix};
 ghost use Rattle.wu_outside.specs.Surviving.{IsLeft, Leaves, LeavesNow};
@@ -12,7 +12,7 @@ ghost use Rattle.wu_outside.specs.declared.ranges.ReadRange.{ReadRange};
 ghost use Rattle.wu_script.specs.Items.{IsBeforeEnd};
 ghost use Rattle.wu_image.specs.declared.roots.Root.{Root};
 ghost use Rattle.wu_options.specs.CommandLines.{command_line_of, texts_of};
-ghost use Rattle.wu_engine.specs.Crashes.{IsImageOf, IsImageOfEither, IsSavedLast};
+ghost use Rattle.wu_engine.specs.Crashes.{IsImageOf};
 ghost use Rattle.wu_engine.specs.Going.{Goes, HasBroken};
 ghost use Rattle.wu_engine.specs.Stands.{Stands};
 ghost use Rattle.wu_engine.specs.Earlier.{LeavesEarlier};
@@ -20,8 +20,11 @@ ghost use Rattle.wu_engine.specs.Opening.{HasRoot, HoldsImage, IsBeginCause, IsO
 ghost use Rattle.wu_engine.specs.States.{State, rested_state, saved_state};
 ghost use Rattle.wu_engine.specs.declared.faults.BeginFault.TheVariants.{Damaged as SavedIsDamaged};
 ghost use Rattle.wumpus_run.specs.Demo.{IfDemo, IsShown};
+ghost use Rattle.wumpus_run.specs.Kept.{KeepsDrawn, KeepsEitherSave};
 ghost use Rattle.wumpus_run.specs.Permitted.{ReadsPermitted};
-ghost use Rattle.wumpus_run.specs.Session.{AnswersAll, AnswersPrefix, Completes, FromImage, HasRoom, HoldsNothingBack, IsCounted, IsSession, IsSpent, IsTooLong, IsUsage, LeavesNoStray, SavesAll, StaysShut, StaysWithin, TakesAll, moment, settings_of, status_of, status_of_fault, status_of_opening, status_of_saving, status_of_trouble};
+ghost use Rattle.wumpus_run.specs.Ended.{IsSession, status_of, status_of_fault, status_of_opening, status_of_saving, status_of_trouble};
+ghost use Rattle.wumpus_run.specs.Session.{AnswersAll, AnswersPrefix, Completes, FromImage, HasRoom, HoldsNothingBack, IsCounted, IsSpent, IsTooLong, IsUsage, LeavesNoStray, SavesAll, StaysShut, StaysWithin, TakesAll, moment, settings_of};
+ghost use Rattle.wumpus_run.specs.Raised.{SavesOnce};
 ghost use Rattle.wumpus_run.specs.Started.{IsStarted, settings_by};
 ghost use Rattle.wumpus_run.specs.Strays.{AddsNoStray};
 ghost use Rattle.wumpus_run.specs.Crashes.{LeavesAcknowledged, LeavesLast, LeavesSaves, Survives, left_to_next};
@@ -130,7 +133,7 @@ pub fn run<I: Source, O: Sink, D: Store>(
     // No reply was held back: where the source failed or gave too much, the sink gained exactly the
     // replies to the whole items that the source gave; where sink or store failed or there was no memory,
     // at least those to the whole items before the bytes of the source's last read. Where the store
-    // failed, or is damaged, no reply was cut.
+    // failed, no reply was cut. Over a store that is damaged, which holds no image, nothing is said of it.
     ensures prompt { FromImage (D.holds store.old) (λ s. HoldsNothingBack s result (settings_of (texts_of words.now))
         (moment I.Source O.Sink D.Store source.old sink.old store.old)
         (moment I.Source O.Sink D.Store source.new sink.new store.new)) }
@@ -216,6 +219,7 @@ fn answer_items<I: Source, O: Sink, D: Store>(
         → HasBroken content blob }
     ensures opened { (next : ℕ) → result ≡ Status.Spent next → ⊥ }
     ensures told { (trouble : Trouble) → engine.new.ended ≡ Some trouble → result ≡ status_of_trouble trouble }
+    ensures met { result ≡ Status.StoreFault → engine.new.ended ≡ Some Trouble.StoreFault }
 {
     let mut reply = Vec::new(alloc);
     'items: loop {
@@ -255,6 +259,9 @@ fn start<D: Store>(
     ensures drawn { IfOk result (λ start. IfSome (D.holds store.old) (λ content. (root : Root) → HasRoot content root
         → start.1.parts.next_blob ≡ root.next_blob)) }
     ensures holds { D.holds store.new ≡ D.holds store.old }
+    ensures settled { OnOk result (D.moments store.new ≡ option_map settle (D.moments store.old)) }
+    ensures still { OnErr result ((D.moments store.new ≡ D.moments store.old)
+        ⊎ (D.moments store.new ≡ option_map settle (D.moments store.old))) }
     ensures survives { Leaves (D.moments store.old) (D.moments store.new) (IsLeft (D.moments store.old)) }
     ensures durable { (s : State) → HoldsImage (D.holds store.old) s → OnOk result (LeavesNow (D.moments store.new) (IsImageOf s)) }
     ensures open { OnOk result (IsOpen (D.holds store.old) (D.reads store.old) (D.reads store.new)) }
@@ -279,15 +286,16 @@ fn save<D: Store>(engine: &mut Engine, store: &mut D) -> Status
         → HoldsImage (D.holds store.new) (rested_state (saved_state s)) }
     ensures named { (s : State) → Stands engine.old (D.holds store.old) s → result ≡ Status.Done
         → AddsNoStray s.layout (D.holds store.old) (rested_state (saved_state s)).layout (D.holds store.new) }
-    ensures survives { (s last : State) → Stands engine.old (D.holds store.old) s → IsSavedLast (D.moments store.old) s last
-        → Leaves (D.moments store.old) (D.moments store.new) (IsImageOfEither last (left_to_next s)) }
+    ensures survives { KeepsEitherSave engine.old (D.holds store.old) (D.moments store.old) (D.moments store.new) }
     ensures durable { (s : State) → Stands engine.old (D.holds store.old) s → result ≡ Status.Done
         → LeavesNow (D.moments store.new) (IsImageOf (left_to_next s)) }
+    ensures order { result ≡ Status.Done → SavesOnce engine.old engine.new
+        (D.holds store.old, D.moments store.old) (D.holds store.new, D.moments store.new) }
     ensures reads { D.reads store.new ≡ D.reads store.old }
-    ensures earlier { (start : Content) → Goes engine.old start (D.holds store.old)
-        → LeavesEarlier engine.old.parts.next_blob (D.holds store.old) (D.holds store.new) }
+    ensures earlier { KeepsDrawn engine.old (D.holds store.old) (D.holds store.new) }
     ensures ends { (result ≡ Status.Done) ⊎ ((result ≡ Status.NoMemory) ⊎ (result ≡ Status.StoreFault)) }
     ensures told { (trouble : Trouble) → engine.new.ended ≡ Some trouble → result ≡ status_of_trouble trouble }
+    ensures met { result ≡ Status.StoreFault → engine.new.ended ≡ Some Trouble.StoreFault }
     ensures store_fault { IsCounted Status.StoreFault result (D.faults store.old) (D.faults store.new) }
 {
     status_of_saving(engine.save(store))

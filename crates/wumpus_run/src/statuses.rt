@@ -5,9 +5,10 @@ ghost use Rattle.wumpus_run.specs.Session.{code_of};
 /// How a session ended. The causes stand at [`run`](crate::run).
 #[derive(Clone, Copy, Debug, PartialEq, Eq)]
 pub enum Status {
-    /// The source was read to its end, and every reply was written.
+    /// The source was read to its end, every reply was written, and what the script left is saved; or the line of
+    /// a demonstration was written.
     Done,
-    /// The command-line arguments are invalid, or ask for no session.
+    /// The command-line arguments are invalid.
     Usage,
     /// The source failed.
     ReadFault,
@@ -26,7 +27,7 @@ pub enum Status {
 }
 
 impl Status {
-    /// The exit status of the program, from 0.
+    /// The exit status of the program, from 0 to 8.
     pub fn code(&self) -> u8
         ensures { result ≡ code_of self.now }
     {

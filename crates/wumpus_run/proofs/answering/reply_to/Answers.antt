@@ -1,15 +1,15 @@
 use Rattle.std.proofs.Common.{◌≡◌, [], ◌∷◌, ap, ◌∙◌, refl, sym, subst, ⊎_elim}
-use Rattle.wu_outside.specs.Surviving.{LeavesNow}
 use Rattle.wu_outside.proofs.Survival.{kept}
 use Rattle.wu_script.specs.declared.types.Item.{Item}
 use Rattle.wu_script.specs.declared.types.Item.TheVariants as items
-use Rattle.wu_script.specs.Said.{said_by}
+use Rattle.wu_script.specs.Said.{Happens, said_by}
+use Rattle.wu_tree.specs.declared.events.Event.TheVariants as events
 use Rattle.wu_engine.specs.Crashes.{IsImageOf}
 use Rattle.wu_engine.specs.Earlier.{LeavesEarlier}
 use Rattle.wu_engine.proofs.EarlierBlobs.{earlier_others, earlier_same}
-use Rattle.wu_engine.proofs.OpenedStates.{on_any_ok}
-use Rattle.wumpus_run.specs.Crashes.{last_or, left_to_next, saved_for}
-use Rattle.wumpus_run.proofs.CrashesUnderWay.{saves_none, saves_one, stays_saved}
+use Rattle.wumpus_run.specs.Crashes.{left_to_next, saved_for}
+use Rattle.wumpus_run.proofs.AloneStores.{alone_after_event, alone_anyway, alone_never}
+use Rattle.wumpus_run.proofs.CrashesUnderWay.{keeps_saves, saves_as_before, saves_none, saves_one}
 use Rattle.wumpus_run.proofs.SessionReads.{reads_nothing}
 use Rattle.wumpus_run.proofs.answering.reply_to.Goals as goal
 
@@ -24,69 +24,43 @@ returns-in-Text-clause-permitted g c = λ s stands.
     c.reply_to_event-in-Text.ensures.reads
 
 pub returns-in-Command-Update-clause-survives : goal.returns-in-Command-Update-clause-survives
-returns-in-Command-Update-clause-survives g c = λ s last stands saved.
-    let none : saved_for s (said_by c.args.item) ≡ [] =
-    ap (λ (item : Item). saved_for s (said_by item)) (c.in-Command-Update.is ∙ ap items.Command c.in-Command-Update.field-0-is) in
-    saves_none s (said_by c.args.item) (g.D.Store.moments c.args.store.now) (g.D.Store.moments c.reply_to_event.new.store) last none
-    (c.reply_to_event.ensures.survives s last stands saved)
+returns-in-Command-Update-clause-survives g c =
+    keeps_saves c.args.item _ (c.in-Command-Update.is ∙ ap items.Command c.in-Command-Update.field-0-is) (λ s. refl)
+    c.reply_to_event.ensures.survives
 
 pub returns-in-Command-Update-clause-durable : goal.returns-in-Command-Update-clause-durable
-returns-in-Command-Update-clause-durable g c = λ s last stands saved.
-    let none : saved_for s (said_by c.args.item) ≡ [] =
-    ap (λ (item : Item). saved_for s (said_by item)) (c.in-Command-Update.is ∙ ap items.Command c.in-Command-Update.field-0-is) in
-    on_any_ok (LeavesNow (g.D.Store.moments c.reply_to_event.new.store) (IsImageOf (last_or last (saved_for s (said_by c.args.item)))))
-    c.reply_to_event.result
-    (stays_saved s (said_by c.args.item) (g.D.Store.moments c.args.store.now) (g.D.Store.moments c.reply_to_event.new.store) last none
-    (c.reply_to_event.ensures.survives s last stands saved).now)
+returns-in-Command-Update-clause-durable g c =
+    saves_as_before c.args.item _ (c.in-Command-Update.is ∙ ap items.Command c.in-Command-Update.field-0-is) (λ s. refl)
+    c.reply_to_event.ensures.survives c.reply_to_event.result
 
 pub returns-in-Text-clause-survives : goal.returns-in-Text-clause-survives
-returns-in-Text-clause-survives g c = λ s last stands saved.
-    let none : saved_for s (said_by c.args.item) ≡ [] =
-    ap (λ (item : Item). saved_for s (said_by item)) c.in-Text.is in
-    saves_none s (said_by c.args.item) (g.D.Store.moments c.args.store.now) (g.D.Store.moments c.reply_to_event-in-Text.new.store)
-    last none (c.reply_to_event-in-Text.ensures.survives s last stands saved)
+returns-in-Text-clause-survives g c =
+    keeps_saves c.args.item _ c.in-Text.is (λ s. refl) c.reply_to_event-in-Text.ensures.survives
 
 pub returns-in-Text-clause-durable : goal.returns-in-Text-clause-durable
-returns-in-Text-clause-durable g c = λ s last stands saved.
-    let none : saved_for s (said_by c.args.item) ≡ [] =
-    ap (λ (item : Item). saved_for s (said_by item)) c.in-Text.is in
-    on_any_ok (LeavesNow (g.D.Store.moments c.reply_to_event-in-Text.new.store)
-    (IsImageOf (last_or last (saved_for s (said_by c.args.item)))))
-    c.reply_to_event-in-Text.result
-    (stays_saved s (said_by c.args.item) (g.D.Store.moments c.args.store.now) (g.D.Store.moments c.reply_to_event-in-Text.new.store)
-    last none (c.reply_to_event-in-Text.ensures.survives s last stands saved).now)
+returns-in-Text-clause-durable g c =
+    saves_as_before c.args.item _ c.in-Text.is (λ s. refl)
+    c.reply_to_event-in-Text.ensures.survives c.reply_to_event-in-Text.result
 
 pub returns-in-Command-Flush-clause-survives : goal.returns-in-Command-Flush-clause-survives
-returns-in-Command-Flush-clause-survives g c = λ s last stands saved.
-    let none : saved_for s (said_by c.args.item) ≡ [] =
-    ap (λ (item : Item). saved_for s (said_by item)) (c.in-Command-Flush.is ∙ ap items.Command c.in-Command-Flush.field-0-is) in
-    saves_none s (said_by c.args.item) (g.D.Store.moments c.args.store.now) (g.D.Store.moments c.reply_to_flush.new.store) last none
-    (c.reply_to_flush.ensures.survives s last stands saved)
+returns-in-Command-Flush-clause-survives g c =
+    keeps_saves c.args.item _ (c.in-Command-Flush.is ∙ ap items.Command c.in-Command-Flush.field-0-is) (λ s. refl)
+    c.reply_to_flush.ensures.survives
 
 pub returns-in-Command-Flush-clause-durable : goal.returns-in-Command-Flush-clause-durable
-returns-in-Command-Flush-clause-durable g c = λ s last stands saved.
-    let none : saved_for s (said_by c.args.item) ≡ [] =
-    ap (λ (item : Item). saved_for s (said_by item)) (c.in-Command-Flush.is ∙ ap items.Command c.in-Command-Flush.field-0-is) in
-    on_any_ok (LeavesNow (g.D.Store.moments c.reply_to_flush.new.store) (IsImageOf (last_or last (saved_for s (said_by c.args.item)))))
-    c.reply_to_flush.result
-    (stays_saved s (said_by c.args.item) (g.D.Store.moments c.args.store.now) (g.D.Store.moments c.reply_to_flush.new.store) last none
-    (c.reply_to_flush.ensures.survives s last stands saved).now)
+returns-in-Command-Flush-clause-durable g c =
+    saves_as_before c.args.item _ (c.in-Command-Flush.is ∙ ap items.Command c.in-Command-Flush.field-0-is) (λ s. refl)
+    c.reply_to_flush.ensures.survives c.reply_to_flush.result
 
 pub returns-in-Command-Work-clause-survives : goal.returns-in-Command-Work-clause-survives
-returns-in-Command-Work-clause-survives g c = λ s last stands saved.
-    let none : saved_for s (said_by c.args.item) ≡ [] =
-    ap (λ (item : Item). saved_for s (said_by item)) (c.in-Command-Work.is ∙ ap items.Command c.in-Command-Work.field-0-is) in
-    saves_none s (said_by c.args.item) (g.D.Store.moments c.args.store.now) (g.D.Store.moments c.reply_to_work.new.store) last none
-    (c.reply_to_work.ensures.survives s last stands saved)
+returns-in-Command-Work-clause-survives g c =
+    keeps_saves c.args.item _ (c.in-Command-Work.is ∙ ap items.Command c.in-Command-Work.field-0-is) (λ s. refl)
+    c.reply_to_work.ensures.survives
 
 pub returns-in-Command-Work-clause-durable : goal.returns-in-Command-Work-clause-durable
-returns-in-Command-Work-clause-durable g c = λ s last stands saved.
-    let none : saved_for s (said_by c.args.item) ≡ [] =
-    ap (λ (item : Item). saved_for s (said_by item)) (c.in-Command-Work.is ∙ ap items.Command c.in-Command-Work.field-0-is) in
-    on_any_ok (LeavesNow (g.D.Store.moments c.reply_to_work.new.store) (IsImageOf (last_or last (saved_for s (said_by c.args.item)))))
-    c.reply_to_work.result
-    (stays_saved s (said_by c.args.item) (g.D.Store.moments c.args.store.now) (g.D.Store.moments c.reply_to_work.new.store) last none
-    (c.reply_to_work.ensures.survives s last stands saved).now)
+returns-in-Command-Work-clause-durable g c =
+    saves_as_before c.args.item _ (c.in-Command-Work.is ∙ ap items.Command c.in-Command-Work.field-0-is) (λ s. refl)
+    c.reply_to_work.ensures.survives c.reply_to_work.result
 
 pub returns-in-Command-Save-clause-survives : goal.returns-in-Command-Save-clause-survives
 returns-in-Command-Save-clause-survives g c = λ s last stands saved.
@@ -110,8 +84,8 @@ returns-in-Command-Update-clause-earlier g c = λ start goes.
 
 pub returns-in-Text-clause-earlier : goal.returns-in-Text-clause-earlier
 returns-in-Text-clause-earlier g c = λ start goes.
-    earlier_others c.args.engine.now.parts.next_blob _ (g.D.Store.holds c.args.store.now) (g.D.Store.holds c.reply_to_event-in-Text.new.store)
-    c.reply_to_event-in-Text.ensures.elsewhere
+    earlier_others c.args.engine.now.parts.next_blob _ (g.D.Store.holds c.args.store.now)
+    (g.D.Store.holds c.reply_to_event-in-Text.new.store) c.reply_to_event-in-Text.ensures.elsewhere
 
 pub returns-in-Command-Flush-clause-earlier : goal.returns-in-Command-Flush-clause-earlier
 returns-in-Command-Flush-clause-earlier g c = λ start goes.
@@ -137,3 +111,37 @@ returns-in-Refused-clause-earlier g c = λ start goes. earlier_same c.args.engin
 
 pub returns-in-Blank-clause-earlier : goal.returns-in-Blank-clause-earlier
 returns-in-Blank-clause-earlier g c = λ start goes. earlier_same c.args.engine.now.parts.next_blob (g.D.Store.holds c.args.store.now)
+
+pub returns-in-Command-Update-clause-untouched : goal.returns-in-Command-Update-clause-untouched
+returns-in-Command-Update-clause-untouched g c =
+    alone_after_event _ c.args.item c.args.engine.now.parts _ c.reply_to_event.result _ []
+    (ap said_by (c.in-Command-Update.is ∙ ap items.Command c.in-Command-Update.field-0-is)) c.reply_to_event.ensures.untouched
+
+pub returns-in-Text-clause-untouched : goal.returns-in-Text-clause-untouched
+returns-in-Text-clause-untouched g c =
+    let event = events.Text c.in-Text.ino in
+    alone_after_event _ c.args.item c.args.engine.now.parts _ c.reply_to_event-in-Text.result event c.as_slice.result.now
+    (ap said_by c.in-Text.is ∙ ap (Happens event) (sym c.as_slice.ensures)) c.reply_to_event-in-Text.ensures.untouched
+
+pub returns-in-Command-Ask-clause-untouched : goal.returns-in-Command-Ask-clause-untouched
+returns-in-Command-Ask-clause-untouched g c =
+    alone_never _ c.args.item c.args.engine.now.parts c.reply_to_query.result _
+    (c.in-Command-Ask.is ∙ ap items.Command c.in-Command-Ask.field-0-is) (λ reply. refl)
+
+pub returns-in-Command-Flush-clause-untouched : goal.returns-in-Command-Flush-clause-untouched
+returns-in-Command-Flush-clause-untouched g c =
+    alone_never _ c.args.item c.args.engine.now.parts c.reply_to_flush.result _
+    (c.in-Command-Flush.is ∙ ap items.Command c.in-Command-Flush.field-0-is) (λ reply. refl)
+
+pub returns-in-Command-Work-clause-untouched : goal.returns-in-Command-Work-clause-untouched
+returns-in-Command-Work-clause-untouched g c =
+    alone_never _ c.args.item c.args.engine.now.parts c.reply_to_work.result _
+    (c.in-Command-Work.is ∙ ap items.Command c.in-Command-Work.field-0-is) (λ reply. refl)
+
+pub returns-in-Command-Save-clause-untouched : goal.returns-in-Command-Save-clause-untouched
+returns-in-Command-Save-clause-untouched g c =
+    alone_never _ c.args.item c.args.engine.now.parts c.reply_to_save.result _
+    (c.in-Command-Save.is ∙ ap items.Command c.in-Command-Save.field-0-is) (λ reply. refl)
+
+pub returns-in-Command-Stat-clause-untouched : goal.returns-in-Command-Stat-clause-untouched
+returns-in-Command-Stat-clause-untouched g c = alone_anyway _ c.args.item c.args.engine.now.parts c.reply_to_stat.result refl

@@ -1,6 +1,10 @@
-use Rattle.std.proofs.Common.{Some, ap, ◌∙◌}
+use Rattle.std.proofs.Common.{Some, ap, sym, ◌∙◌}
+use Rattle.wu_script.specs.Said.{Happens}
+use Rattle.wu_script.specs.declared.types.Reply.{Reply}
 use Rattle.wu_engine.proofs.NamedBlobs.{no_stray_after_event}
+use Rattle.wumpus_run.specs.Raised.{leaves_alone}
 use Rattle.wumpus_run.specs.Replies.{verdict_reply}
+use Rattle.wumpus_run.proofs.AloneStores.{alone_by_verdict}
 use Rattle.wumpus_run.proofs.answering.reply_to_event.Goals as goal
 
 pub returns-clause-named : goal.returns-clause-named
@@ -12,3 +16,12 @@ pub returns-clause-reply : goal.returns-clause-reply
 returns-clause-reply g c = λ s stands.
     let step = c.in_ok-verdict.ensures.step s stands in
     (ap Some (c.verdict_reply.ensures ∙ ap verdict_reply step.0), step.1)
+
+pub returns-clause-untouched : goal.returns-clause-untouched
+returns-clause-untouched g c = λ alone.
+    let event = c.args.event.now in
+    let body = c.args.body.now in
+    let contents = c.args.engine.now.parts in
+    c.in_ok-verdict.ensures.untouched
+    (sym (ap (λ (reply : Reply). leaves_alone (Happens event body) (Some reply) contents) c.verdict_reply.ensures
+    ∙ alone_by_verdict c.in_ok-verdict.verdict event body contents) ∙ alone)

@@ -8,12 +8,12 @@ use Rattle.wumpus_run.specs.Session.{moment}
 use Rattle.wumpus_run.specs.Started.{settings_by}
 use Rattle.wumpus_run.proofs.SessionLemmas.{appended, takes_one}
 use Rattle.wumpus_run.proofs.AddressRoom.{HasRoom-item, HasRoom-few, StaysLow-few}
-use Rattle.wumpus_run.specs.declared.statuses.Status.TheVariants.{Damaged, Spent}
+use Rattle.wumpus_run.specs.declared.statuses.Status.TheVariants.{Damaged, Spent, StoreFault}
 use Rattle.wumpus_run.proofs.CrashesAtEnd.{Survives-saved, Survives-stopped, Survives-unanswered}
 use Rattle.wumpus_run.proofs.CrashesAtEnd.{Survives-unwritten}
 use Rattle.wumpus_run.proofs.CrashesUnderWay.{HasKept-none, HasKept-turn, IsAnswered-appended}
 use Rattle.wumpus_run.proofs.EarlierLemmas.{HasLeft-none, HasLeft-turn, left_so_far, left_then}
-use Rattle.wumpus_run.proofs.EndStatuses.{answering, damaged_so, reading, saving, told_answering, untold, writing}
+use Rattle.wumpus_run.proofs.EndStatuses.{answering, damaged_so, met_answering, reading, saving, told_answering, untold, writing}
 use Rattle.wumpus_run.proofs.StartedStates.{IsUnderWay-none, IsUnderWay-turn, IsSession-saved, IsSession-stopped, IsSession-unanswered}
 use Rattle.wumpus_run.proofs.StartedStates.{IsSession-unwritten}
 use Rattle.wumpus_run.proofs.SessionReads.{HasRead-none, HasRead-turn, permitted_so_far, permitted_then}
@@ -21,12 +21,8 @@ use Rattle.wumpus_run.proofs.session.answer_items.Goals as goal
 
 pub returns-in-Err-clause-session : goal.returns-in-Err-clause-session
 returns-in-Err-clause-session g c =
-    let told = settings_by c.args.reader.now c.args.engine.now in
-    let i = c.items.invariant.under_way in
-    let before = moment g.I.Source g.O.Sink g.D.Store c.args.source.now c.args.sink.now c.args.store.now in
-    let between = moment g.I.Source g.O.Sink g.D.Store c.items.source c.items.sink c.items.store in
     rw c.status_of.ensures
-    (IsSession-stopped told before between c.items.engine c.items.reader i c.in-Err.end
+    (IsSession-stopped _ _ _ _ _ c.items.invariant.under_way c.in-Err.end
     (g.I.Source.left c.next.new.source) (g.I.Source.last_read c.next.new.source)
     (g.I.Source.faults c.next.new.source) c.in-Err.ensures.early c.in-Err.ensures.cause)
 
@@ -48,28 +44,22 @@ save-requires-clause-flushes g c =
 
 pub returns-then-is_end-clause-session : goal.returns-then-is_end-clause-session
 returns-then-is_end-clause-session g c =
-    let told = settings_by c.args.reader.now c.args.engine.now in
     let i = c.items.invariant.under_way in
-    let before = moment g.I.Source g.O.Sink g.D.Store c.args.source.now c.args.sink.now c.args.store.now in
-    let between = moment g.I.Source g.O.Sink g.D.Store c.items.source c.items.sink c.items.store in
-    let known = prepend_known c.items.reader.bytes between.left in
+    let left = g.I.Source.left c.items.source in
+    let known = prepend_known c.items.reader.bytes left in
     let rest = prepend_known c.next.new.self.bytes (g.I.Source.left c.next.new.source) in
-    IsSession-saved told before between c.items.engine c.items.reader i c.save.result c.next.new.self
+    IsSession-saved _ _ _ _ _ i c.save.result c.next.new.self
     (g.I.Source.left c.next.new.source) (g.I.Source.last_read c.next.new.source)
     (g.I.Source.faults c.next.new.source) (g.D.Store.holds c.save.new.store) (g.D.Store.faults c.save.new.store) c.save.ensures.ends
-    (subst (λ item. TakesItem between.left (g.I.Source.left c.next.new.source) (g.I.Source.last_read c.next.new.source) c.items.reader
+    (subst (λ item. TakesItem left (g.I.Source.left c.next.new.source) (g.I.Source.last_read c.next.new.source) c.items.reader
     c.next.new.self item) c.if-is_end.ensures c.in-Ok.ensures.taken)
     (subst (IsNext known rest) c.if-is_end.ensures (c.in-Ok.ensures.first i.at_end)) (c.in-Ok.ensures.at_end i.at_end)
     c.in-Ok.ensures.cause c.save.ensures.store_fault c.save.ensures.image c.save.ensures.named
 
 pub returns-in-Err-answer-clause-session : goal.returns-in-Err-answer-clause-session
 returns-in-Err-answer-clause-session g c =
-    let told = settings_by c.args.reader.now c.args.engine.now in
-    let i = c.items.invariant.under_way in
-    let before = moment g.I.Source g.O.Sink g.D.Store c.args.source.now c.args.sink.now c.args.store.now in
-    let between = moment g.I.Source g.O.Sink g.D.Store c.items.source c.items.sink c.items.store in
     rw c.status_of_trouble.ensures
-    (IsSession-unanswered told before between c.items.engine c.items.reader i c.in-Err-answer.trouble c.next.new.self c.in-Ok.item
+    (IsSession-unanswered _ _ _ _ _ c.items.invariant.under_way c.in-Err-answer.trouble c.next.new.self c.in-Ok.item
     (g.I.Source.left c.next.new.source) (g.I.Source.last_read c.next.new.source)
     (g.I.Source.faults c.next.new.source) (g.D.Store.holds c.answer.new.store) (g.D.Store.faults c.answer.new.store)
     c.if-is_end.ensures c.in-Ok.ensures.taken c.in-Ok.ensures.cause c.in-Err-answer.ensures.cause
@@ -115,15 +105,12 @@ items-smaller g c =
 
 pub items-preserved : goal.items-preserved
 items-preserved g c =
-    let told = settings_by c.args.reader.now c.args.engine.now in
     let i = c.items.invariant.under_way in
-    let before = moment g.I.Source g.O.Sink g.D.Store c.args.source.now c.args.sink.now c.args.store.now in
-    let between = moment g.I.Source g.O.Sink g.D.Store c.items.source c.items.sink c.items.store in
     let now = moment g.I.Source g.O.Sink g.D.Store c.next.new.source c.write_reply.new.sink c.answer.new.store in
     let item = c.in-Ok.item in
     let done = c.in-Ok-answer.ensures in
     record {
-      under_way = IsUnderWay-turn told before between now c.items.engine c.answer.new.engine c.items.reader c.next.new.self item
+      under_way = IsUnderWay-turn _ _ _ now _ c.answer.new.engine _ c.next.new.self item
           c.answer.new.out.items c.as_slice.result.now i c.if-is_end.ensures c.in-Ok.ensures.taken
           (c.in-Ok.ensures.first i.at_end) (c.in-Ok.ensures.at_end i.at_end) c.in-Ok.ensures.cause
           c.in-Ok-write_reply.ensures.cause.calm (done.cause.calm (λ e. (cc)))
@@ -133,35 +120,30 @@ items-preserved g c =
             answers.1,
             done.named s stands,
           )) c.as_slice.ensures.value c.in-Ok-write_reply.ensures.ok;
-      permitted = λ reads opening s image. HasRead-turn told s before between now c.items.engine c.answer.new.engine c.items.reader
-          c.next.new.self item reads (g.D.Store.reads c.items.store) (g.D.Store.reads c.answer.new.store) c.if-is_end.ensures
+      permitted = λ reads opening s image. HasRead-turn _ s (c.items.invariant.permitted reads opening s image) item c.if-is_end.ensures
           (c.in-Ok.ensures.first i.at_end)
           (λ t stands. subst (λ n. Stands c.answer.new.engine now.holds (after n t (said_by item))) {y = c.args.engine.now.parts.flush_at}
           i.flush_at (done.answer t stands).1)
-          done.permitted (c.items.invariant.permitted reads opening s image);
-      crash = λ moments left s image. HasKept-turn told s before between now c.items.engine c.answer.new.engine c.items.reader
-          c.next.new.self item c.answer.new.out.items c.as_slice.result.now moments (g.D.Store.moments c.items.store)
-          (g.D.Store.moments c.answer.new.store) c.if-is_end.ensures (c.in-Ok.ensures.first i.at_end) i.flush_at
-          (IsAnswered-appended c.items.engine c.answer.new.engine between.holds now.holds item c.answer.new.out.items
+          done.permitted;
+      crash = λ moments left s image. HasKept-turn _ s _ _ now _ _ _ _ _ _ _ (c.items.invariant.crash moments left s image) item
+          c.answer.new.out.items c.as_slice.result.now c.if-is_end.ensures (c.in-Ok.ensures.first i.at_end) i.flush_at
+          (IsAnswered-appended c.items.engine c.answer.new.engine (g.D.Store.holds c.items.store) now.holds item c.answer.new.out.items
           c.clear.new.self.items (g.D.Store.moments c.items.store) (g.D.Store.moments c.answer.new.store) c.clear.ensures.items
-          done.answer done.leaves.onward done.survives done.durable) c.as_slice.ensures.value c.in-Ok-write_reply.ensures.ok
-          (c.items.invariant.crash moments left s image);
+          done.answer done.leaves.onward done.survives done.durable) c.as_slice.ensures.value c.in-Ok-write_reply.ensures.ok;
       goes = λ content e. done.goes content (c.items.invariant.goes content e);
-      earlier = HasLeft-turn before.holds between.holds now.holds c.items.engine.parts.next_blob c.answer.new.engine.parts.next_blob
+      earlier = HasLeft-turn (g.D.Store.holds c.args.store.now) (g.D.Store.holds c.items.store) now.holds
+          c.items.engine.parts.next_blob c.answer.new.engine.parts.next_blob
           c.items.invariant.earlier (λ content e. done.earlier content (c.items.invariant.goes content e)) done.leaves.onward;
       follows = c.in-Ok.ensures.follows;
     }
 
 pub returns-in-Err-write_reply-clause-session : goal.returns-in-Err-write_reply-clause-session
 returns-in-Err-write_reply-clause-session g c =
-    let told = settings_by c.args.reader.now c.args.engine.now in
     let i = c.items.invariant.under_way in
-    let before = moment g.I.Source g.O.Sink g.D.Store c.args.source.now c.args.sink.now c.args.store.now in
-    let between = moment g.I.Source g.O.Sink g.D.Store c.items.source c.items.sink c.items.store in
     let now = moment g.I.Source g.O.Sink g.D.Store c.next.new.source c.write_reply.new.sink c.answer.new.store in
     let item = c.in-Ok.item in
     rw c.status_of_fault.ensures
-    (IsSession-unwritten told before between c.items.engine c.items.reader i c.in-Err-write_reply.fault now c.answer.new.engine
+    (IsSession-unwritten _ _ _ _ _ i c.in-Err-write_reply.fault now c.answer.new.engine
     c.next.new.self item c.answer.new.out.items c.as_slice.result.now c.if-is_end.ensures c.in-Ok.ensures.taken
     (c.in-Ok.ensures.first i.at_end) c.in-Ok.ensures.cause c.in-Err-write_reply.ensures.cause
     (c.in-Ok-answer.ensures.cause.calm (λ e. (cc)))
@@ -195,50 +177,33 @@ items-init g c =
     }
 
 pub returns-in-Err-clause-permitted : goal.returns-in-Err-clause-permitted
-returns-in-Err-clause-permitted g c =
-    let told = settings_by c.args.reader.now c.args.engine.now in
-    let before = moment g.I.Source g.O.Sink g.D.Store c.args.source.now c.args.sink.now c.args.store.now in
-    let between = moment g.I.Source g.O.Sink g.D.Store c.items.source c.items.sink c.items.store in
-    λ reads opening s image. permitted_so_far told s _ before between _ c.items.engine c.items.reader reads
-    (g.D.Store.reads c.items.store) (c.items.invariant.permitted reads opening s image)
+returns-in-Err-clause-permitted g c = λ reads opening s image.
+    permitted_so_far _ s (c.items.invariant.permitted reads opening s image) _ _
 
 pub returns-then-is_end-clause-permitted : goal.returns-then-is_end-clause-permitted
 returns-then-is_end-clause-permitted g c =
-    let told = settings_by c.args.reader.now c.args.engine.now in
-    let before = moment g.I.Source g.O.Sink g.D.Store c.args.source.now c.args.sink.now c.args.store.now in
-    let between = moment g.I.Source g.O.Sink g.D.Store c.items.source c.items.sink c.items.store in
-    rw c.save.ensures.reads (λ reads opening s image. permitted_so_far told s _ before between _ c.items.engine c.items.reader
-    reads (g.D.Store.reads c.items.store) (c.items.invariant.permitted reads opening s image))
+    rw c.save.ensures.reads (λ reads opening s image.
+    permitted_so_far _ s (c.items.invariant.permitted reads opening s image) _ _)
 
 pub returns-in-Err-answer-clause-permitted : goal.returns-in-Err-answer-clause-permitted
-returns-in-Err-answer-clause-permitted g c =
-    let told = settings_by c.args.reader.now c.args.engine.now in
-    let i = c.items.invariant.under_way in
-    let before = moment g.I.Source g.O.Sink g.D.Store c.args.source.now c.args.sink.now c.args.store.now in
-    let between = moment g.I.Source g.O.Sink g.D.Store c.items.source c.items.sink c.items.store in
-    λ reads opening s image. permitted_then told s before between c.items.engine c.items.reader
-    (prepend_known c.next.new.self.bytes (g.I.Source.left c.next.new.source)) c.in-Ok.item reads
-    (g.D.Store.reads c.items.store) (g.D.Store.reads c.answer.new.store) c.if-is_end.ensures
-    (c.in-Ok.ensures.first i.at_end) c.in-Err-answer.ensures.permitted (c.items.invariant.permitted reads opening s image) _ _
+returns-in-Err-answer-clause-permitted g c = λ reads opening s image.
+    permitted_then _ s (c.items.invariant.permitted reads opening s image)
+    (prepend_known c.next.new.self.bytes (g.I.Source.left c.next.new.source)) c.in-Ok.item c.if-is_end.ensures
+    (c.in-Ok.ensures.first c.items.invariant.under_way.at_end) c.in-Err-answer.ensures.permitted _ _
 
 pub returns-in-Err-write_reply-clause-permitted : goal.returns-in-Err-write_reply-clause-permitted
-returns-in-Err-write_reply-clause-permitted g c =
-    let told = settings_by c.args.reader.now c.args.engine.now in
-    let i = c.items.invariant.under_way in
-    let before = moment g.I.Source g.O.Sink g.D.Store c.args.source.now c.args.sink.now c.args.store.now in
-    let between = moment g.I.Source g.O.Sink g.D.Store c.items.source c.items.sink c.items.store in
-    λ reads opening s image. permitted_then told s before between c.items.engine c.items.reader
-    (prepend_known c.next.new.self.bytes (g.I.Source.left c.next.new.source)) c.in-Ok.item reads
-    (g.D.Store.reads c.items.store) (g.D.Store.reads c.answer.new.store) c.if-is_end.ensures
-    (c.in-Ok.ensures.first i.at_end) c.in-Ok-answer.ensures.permitted (c.items.invariant.permitted reads opening s image) _ _
+returns-in-Err-write_reply-clause-permitted g c = λ reads opening s image.
+    permitted_then _ s (c.items.invariant.permitted reads opening s image)
+    (prepend_known c.next.new.self.bytes (g.I.Source.left c.next.new.source)) c.in-Ok.item c.if-is_end.ensures
+    (c.in-Ok.ensures.first c.items.invariant.under_way.at_end) c.in-Ok-answer.ensures.permitted _ _
 
 pub returns-in-Err-clause-broken : goal.returns-in-Err-clause-broken
 returns-in-Err-clause-broken g c =
-    rw c.status_of.ensures (λ content told blob e. absurd ((reading c.in-Err.end).damaged blob e))
+    rw c.status_of.ensures (λ content told blob e. absurd (reading c.in-Err.end (Damaged blob) refl e))
 
 pub returns-then-is_end-clause-broken : goal.returns-then-is_end-clause-broken
 returns-then-is_end-clause-broken g c = λ content told blob e.
-    absurd (saving c.save.result (Damaged blob) c.save.ensures.ends (λ is. cc) (λ is. cc) (λ is. cc) e)
+    absurd (saving c.save.result (Damaged blob) c.save.ensures.ends refl e)
 
 pub returns-in-Err-answer-clause-broken : goal.returns-in-Err-answer-clause-broken
 returns-in-Err-answer-clause-broken g c =
@@ -248,79 +213,62 @@ returns-in-Err-answer-clause-broken g c =
 
 pub returns-in-Err-write_reply-clause-broken : goal.returns-in-Err-write_reply-clause-broken
 returns-in-Err-write_reply-clause-broken g c =
-    rw c.status_of_fault.ensures (λ content told blob e. absurd ((writing c.in-Err-write_reply.fault).damaged blob e))
+    rw c.status_of_fault.ensures (λ content told blob e. absurd (writing c.in-Err-write_reply.fault (Damaged blob) refl e))
 
 pub returns-in-Err-clause-survives : goal.returns-in-Err-clause-survives
 returns-in-Err-clause-survives g c =
-    let told = settings_by c.args.reader.now c.args.engine.now in
-    let before = moment g.I.Source g.O.Sink g.D.Store c.args.source.now c.args.sink.now c.args.store.now in
-    let between = moment g.I.Source g.O.Sink g.D.Store c.items.source c.items.sink c.items.store in
     rw c.status_of.ensures (λ moments left s image.
-    Survives-stopped told s before between c.items.engine c.items.reader moments
-    (g.D.Store.moments c.items.store) (c.items.invariant.crash moments left s image) c.in-Err.end (g.I.Source.left c.next.new.source)
+    Survives-stopped _ s _ _ _ _ _ _ (c.items.invariant.crash moments left s image) c.in-Err.end (g.I.Source.left c.next.new.source)
     (g.I.Source.last_read c.next.new.source) (g.I.Source.faults c.next.new.source))
 
 pub returns-then-is_end-clause-survives : goal.returns-then-is_end-clause-survives
 returns-then-is_end-clause-survives g c =
-    let told = settings_by c.args.reader.now c.args.engine.now in
-    let before = moment g.I.Source g.O.Sink g.D.Store c.args.source.now c.args.sink.now c.args.store.now in
-    let between = moment g.I.Source g.O.Sink g.D.Store c.items.source c.items.sink c.items.store in
     let now = moment g.I.Source g.O.Sink g.D.Store c.next.new.source c.items.sink c.save.new.store in
-    let known = prepend_known c.items.reader.bytes between.left in
+    let known = prepend_known c.items.reader.bytes (g.I.Source.left c.items.source) in
     let rest = prepend_known c.next.new.self.bytes (g.I.Source.left c.next.new.source) in
     λ moments left s image.
-    Survives-saved told s before between c.items.engine c.items.reader moments
-    (g.D.Store.moments c.items.store) (c.items.invariant.crash moments left s image) c.save.result now rest
+    Survives-saved _ s _ _ _ _ _ _ (c.items.invariant.crash moments left s image) c.save.result now rest
     (g.D.Store.moments c.save.new.store) refl
     (subst (IsNext known rest) c.if-is_end.ensures (c.in-Ok.ensures.first c.items.invariant.under_way.at_end))
     c.save.ensures.survives c.save.ensures.durable
 
 pub returns-in-Err-answer-clause-survives : goal.returns-in-Err-answer-clause-survives
 returns-in-Err-answer-clause-survives g c =
-    let told = settings_by c.args.reader.now c.args.engine.now in
-    let before = moment g.I.Source g.O.Sink g.D.Store c.args.source.now c.args.sink.now c.args.store.now in
-    let between = moment g.I.Source g.O.Sink g.D.Store c.items.source c.items.sink c.items.store in
     let now = moment g.I.Source g.O.Sink g.D.Store c.next.new.source c.items.sink c.answer.new.store in
     rw c.status_of_trouble.ensures (λ moments left s image.
-    Survives-unanswered told s before between c.items.engine c.items.reader moments
-    (g.D.Store.moments c.items.store) (c.items.invariant.crash moments left s image) c.in-Ok.item
+    Survives-unanswered _ s _ _ _ _ _ _ (c.items.invariant.crash moments left s image) c.in-Ok.item
     (prepend_known c.next.new.self.bytes (g.I.Source.left c.next.new.source)) c.if-is_end.ensures
     (c.in-Ok.ensures.first c.items.invariant.under_way.at_end) now (g.D.Store.moments c.answer.new.store) c.in-Err-answer.trouble refl
     c.in-Err-answer.ensures.survives)
 
 pub returns-in-Err-write_reply-clause-survives : goal.returns-in-Err-write_reply-clause-survives
 returns-in-Err-write_reply-clause-survives g c =
-    let told = settings_by c.args.reader.now c.args.engine.now in
     let i = c.items.invariant.under_way in
-    let before = moment g.I.Source g.O.Sink g.D.Store c.args.source.now c.args.sink.now c.args.store.now in
-    let between = moment g.I.Source g.O.Sink g.D.Store c.items.source c.items.sink c.items.store in
     let now = moment g.I.Source g.O.Sink g.D.Store c.next.new.source c.write_reply.new.sink c.answer.new.store in
     let item = c.in-Ok.item in
     let done = c.in-Ok-answer.ensures in
     rw c.status_of_fault.ensures (λ moments left s image.
-    Survives-unwritten told s before between c.items.engine c.items.reader moments
-    (g.D.Store.moments c.items.store) (c.items.invariant.crash moments left s image) item
+    Survives-unwritten _ s _ _ _ _ _ _ (c.items.invariant.crash moments left s image) item
     (prepend_known c.next.new.self.bytes (g.I.Source.left c.next.new.source)) c.if-is_end.ensures (c.in-Ok.ensures.first i.at_end) now
     (g.D.Store.moments c.answer.new.store) c.in-Err-write_reply.fault c.answer.new.engine c.answer.new.out.items c.as_slice.result.now
     i.flush_at
-    (IsAnswered-appended c.items.engine c.answer.new.engine between.holds now.holds item c.answer.new.out.items c.clear.new.self.items
-    (g.D.Store.moments c.items.store) (g.D.Store.moments c.answer.new.store) c.clear.ensures.items done.answer done.leaves.onward
-    done.survives done.durable) c.as_slice.ensures.value c.in-Err-write_reply.ensures.err)
+    (IsAnswered-appended c.items.engine c.answer.new.engine (g.D.Store.holds c.items.store) now.holds item c.answer.new.out.items
+    c.clear.new.self.items (g.D.Store.moments c.items.store) (g.D.Store.moments c.answer.new.store) c.clear.ensures.items
+    done.answer done.leaves.onward done.survives done.durable) c.as_slice.ensures.value c.in-Err-write_reply.ensures.err)
 
 pub returns-in-Err-clause-opened : goal.returns-in-Err-clause-opened
-returns-in-Err-clause-opened g c = rw c.status_of.ensures (λ next e. (reading c.in-Err.end).spent next e)
+returns-in-Err-clause-opened g c = rw c.status_of.ensures (λ next. reading c.in-Err.end (Spent next) refl)
 
 pub returns-then-is_end-clause-opened : goal.returns-then-is_end-clause-opened
-returns-then-is_end-clause-opened g c = λ next e.
-    saving c.save.result (Spent next) c.save.ensures.ends (λ is. cc) (λ is. cc) (λ is. cc) e
+returns-then-is_end-clause-opened g c = λ next. saving c.save.result (Spent next) c.save.ensures.ends refl
 
 pub returns-in-Err-answer-clause-opened : goal.returns-in-Err-answer-clause-opened
 returns-in-Err-answer-clause-opened g c =
-    rw c.status_of_trouble.ensures (λ next e. (answering c.in-Err-answer.trouble).spent next e)
+    rw c.status_of_trouble.ensures (λ next. answering c.in-Err-answer.trouble (Spent next) refl)
 
 pub returns-in-Err-write_reply-clause-opened : goal.returns-in-Err-write_reply-clause-opened
 returns-in-Err-write_reply-clause-opened g c =
-    rw c.status_of_fault.ensures (λ next e. (writing c.in-Err-write_reply.fault).spent next e)
+    rw c.status_of_fault.ensures (λ next. writing c.in-Err-write_reply.fault (Spent next) refl)
 
 pub returns-in-Err-clause-earlier : goal.returns-in-Err-clause-earlier
 returns-in-Err-clause-earlier g c =
@@ -357,3 +305,15 @@ returns-in-Err-answer-clause-told g c =
 pub returns-in-Err-write_reply-clause-told : goal.returns-in-Err-write_reply-clause-told
 returns-in-Err-write_reply-clause-told g c = λ trouble e.
     untold c.answer.new.engine.ended trouble c.in-Ok-answer.ensures.leaves.goes_on e
+
+pub returns-in-Err-clause-met : goal.returns-in-Err-clause-met
+returns-in-Err-clause-met g c = rw c.status_of.ensures (λ e. absurd (reading c.in-Err.end StoreFault refl e))
+
+pub returns-in-Err-answer-clause-met : goal.returns-in-Err-answer-clause-met
+returns-in-Err-answer-clause-met g c =
+    rw c.status_of_trouble.ensures
+    (met_answering c.in-Err-answer.trouble c.answer.new.engine.ended c.in-Err-answer.ensures.ends)
+
+pub returns-in-Err-write_reply-clause-met : goal.returns-in-Err-write_reply-clause-met
+returns-in-Err-write_reply-clause-met g c =
+    rw c.status_of_fault.ensures (λ e. absurd (writing c.in-Err-write_reply.fault StoreFault refl e))

@@ -6,7 +6,8 @@ use Rattle.wu_engine.specs.Earlier.{LeavesEarlier}
 use Rattle.wu_engine.specs.Opening.{HoldsImage, IsOpen}
 use Rattle.wumpus_run.specs.Crashes.{Survives}
 use Rattle.wumpus_run.specs.Permitted.{ReadsPermitted}
-use Rattle.wumpus_run.specs.Session.{FromImage, IsSession, Moment, moment}
+use Rattle.wumpus_run.specs.Ended.{IsSession}
+use Rattle.wumpus_run.specs.Session.{FromImage, Moment, moment}
 use Rattle.wumpus_run.specs.Started.{IsUnspent}
 use Rattle.wumpus_run.proofs.BrokenBlobs.{opening_broken}
 use Rattle.wumpus_run.proofs.CrashesAtEnd.{IsUnopened-fault, Survives-unopened}

@@ -1,6 +1,6 @@
 use Rattle.std.proofs.Common.{rules, sym, ◌∙◌}
 use Rattle.wumpus_run.proofs.FaultCounts.{IsCounted-saved}
-use Rattle.wumpus_run.proofs.EndStatuses.{ends_saving, saved_done, told_saving}
+use Rattle.wumpus_run.proofs.EndStatuses.{ends_saving, met_saving, saved_done, told_saving}
 use Rattle.wumpus_run.proofs.NamedAtEnd.{none_at_end}
 use Rattle.wumpus_run.proofs.session.save.Goals as goal
 
@@ -9,6 +9,9 @@ returns-clause-image g c = λ s stands e. saved_done _ (search rules) (sym c.sta
 
 pub returns-clause-durable : goal.returns-clause-durable
 returns-clause-durable g c = λ s stands e. saved_done _ (search rules) (sym c.status_of_saving.ensures ∙ e)
+
+pub returns-clause-order : goal.returns-clause-order
+returns-clause-order g c = λ e. saved_done _ (search rules) (sym c.status_of_saving.ensures ∙ e)
 
 pub returns-clause-named : goal.returns-clause-named
 returns-clause-named g c = λ s stands e.
@@ -28,3 +31,6 @@ returns-clause-store_fault g c =
 pub returns-clause-told : goal.returns-clause-told
 returns-clause-told g c = λ trouble e.
     rw c.status_of_saving.ensures (told_saving _ c.save.new.self.ended (search rules) (search rules) trouble e)
+
+pub returns-clause-met : goal.returns-clause-met
+returns-clause-met g c = λ e. met_saving _ c.save.new.self.ended (search rules) (sym c.status_of_saving.ensures ∙ e)
