@@ -1,6 +1,6 @@
 //! Byte strings and lists.
 use std::alloc::Global;
-use wu_base::{Bytes, NoMemory, Sequence, is_among};
+use wu_base::{Bytes, NoMemory, Sequence, Trouble, is_among};
 use wu_rows::{
     NoAnswer, ascending_numbers, bytes, bytes_text, flag_text, number_text, numbers, numbers_text,
     order_text, plain_text,
@@ -20,12 +20,23 @@ pub fn answer(alloc: Global, call: &str, arguments: &[&str]) -> Result<String, N
         ("sorted_once", [items]) => ascending(alloc, items),
         ("is_among", [items]) => digits_among(alloc, items),
         ("NoMemory", []) => text_of_error(alloc),
+        ("Trouble", [name]) => text_of_trouble(alloc, name),
         _ => Err(NoAnswer::BadRow),
     }
 }
 
 fn text_of_error(alloc: Global) -> Result<String, NoAnswer> {
     Ok(format!(in alloc; "{NoMemory}")?)
+}
+
+fn text_of_trouble(alloc: Global, name: &str) -> Result<String, NoAnswer> {
+    let trouble = match name {
+        "NoMemory" => Trouble::NoMemory,
+        "StoreFault" => Trouble::StoreFault,
+        "Damaged 7" => Trouble::Damaged { blob: 7 },
+        _ => return Err(NoAnswer::BadRow),
+    };
+    Ok(format!(in alloc; "{trouble}")?)
 }
 
 fn order_of_bytes(alloc: Global, left: &str, right: &str) -> Result<String, NoAnswer> {

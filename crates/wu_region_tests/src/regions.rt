@@ -5,10 +5,12 @@ use crate::plain::solve_plainly;
 use std::alloc::Global;
 use wu_gcl::terms_of;
 use wu_rows::{
-    NoAnswer, bytes, extents_text, flag_text, list_text, number_text, numbers_text, plain_text,
+    NoAnswer, bytes, bytes_text, extents_text, flag_text, list_text, number_text, numbers_text,
+    plain_text,
 };
 use wu_solve::{
-    Counts, extents_ascend, find_term, frames_of_texts, needed_terms, needed_terms_stand,
+    Counts, count_apart, extents_ascend, find_term, frames_of_texts, needed_terms,
+    needed_terms_stand, only_term, solve_apart,
 };
 
 /// The answer of the call to the arguments.
@@ -18,6 +20,9 @@ pub fn answer(alloc: Global, call: &str, arguments: &[&str]) -> Result<String, N
         ("solve", [texts, numbers, expr]) => extents(alloc, texts, numbers, expr),
         ("solve, counted", [texts, numbers, expr]) => counts(alloc, texts, numbers, expr),
         ("solve, plainly", [texts, numbers, expr]) => agreement(alloc, texts, numbers, expr),
+        ("solve_apart", [texts, expr]) => extents_apart(alloc, texts, expr),
+        ("count_apart", [texts, expr]) => counts_apart(alloc, texts, expr),
+        ("only_term", [expr]) => term_alone(alloc, expr),
         ("needed_terms", [expr]) => needed(alloc, expr),
         ("find_term", [expr, term]) => list_place(alloc, expr, term),
         ("extents_ascend", []) => {
@@ -58,6 +63,37 @@ fn counts(alloc: Global, texts: &str, numbers: &str, expr: &str) -> Result<Strin
     let expr = expression(alloc, expr)?;
     let (_, counts) = solved_and_counted(alloc, &expr, &corpus.terms, &frames)?;
     numbers_text(alloc, &[counts.hits, counts.files])
+}
+
+/// The extents where all texts are one frame, which lies apart from all others.
+fn extents_apart(alloc: Global, texts: &str, expr: &str) -> Result<String, NoAnswer> {
+    let corpus = corpus_of(alloc, texts)?;
+    let frame = joined_frame(&corpus);
+    let expr = expression(alloc, expr)?;
+    let lists = lists_of(alloc, &terms_of(alloc, &expr)?, &corpus.terms)?;
+    extents_text(alloc, &solve_apart(alloc, &expr, &[frame], &lists)?)
+}
+
+/// How many extents there are then, and in how many frames.
+fn counts_apart(alloc: Global, texts: &str, expr: &str) -> Result<String, NoAnswer> {
+    let corpus = corpus_of(alloc, texts)?;
+    let frame = joined_frame(&corpus);
+    let expr = expression(alloc, expr)?;
+    let lists = lists_of(alloc, &terms_of(alloc, &expr)?, &corpus.terms)?;
+    if solve_apart(alloc, &expr, &[frame], &lists)?.len() as u64 > 1 << 47 {
+        return Err(NoAnswer::BadRow);
+    }
+    let counts = count_apart(alloc, &expr, &[frame], &lists)?;
+    numbers_text(alloc, &[counts.hits, counts.files])
+}
+
+/// The term whose addresses are the expression's extents, if it is one word or one tag alone.
+fn term_alone(alloc: Global, expr: &str) -> Result<String, NoAnswer> {
+    let expr = expression(alloc, expr)?;
+    match only_term(&expr) {
+        Some(term) => bytes_text(alloc, term),
+        None => plain_text(alloc, "none"),
+    }
 }
 
 /// Whether trying every extent of each text gives the same extents, and as many.
