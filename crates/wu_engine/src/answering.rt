@@ -29,6 +29,10 @@ impl Engine {
     /// Answers a user's query from the index: over her view alone, whatever other files there are. The store
     /// is only read: first those blocks of the query's terms that her frames need and that aren't kept, and
     /// then, where a find shows lines, the texts of the files of which it shows one.
+    ///
+    /// At most K_MAX lines are asked for; a rank has 1 to RANK_WORDS_MAX words, a phrase a word and a window an
+    /// address at least. The errors are a damaged part or text, a fault of the store, and out of memory. Each ends
+    /// the engine, and a trouble that ended it is answered again.
     pub fn query<D: Store>(&mut self, store: &mut D, query: &Query) -> Result<Answered, Trouble>
         requires { IsSoundAsk query.now.ask }
         // The answer is the written one over her view, and engine and store stand for the same state.

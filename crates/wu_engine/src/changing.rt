@@ -32,6 +32,10 @@ impl Engine {
     /// store under the next blob's number. After an event that happened, memory is flushed where it is full:
     /// its live postings become a part, which is put into the store under the number after that. No other call
     /// of the store is made, and nothing is read. The next address is at most ADDRESSES_MAX after it.
+    ///
+    /// The body has at most TEXT_MAX bytes. The number of the next blob, with two added, and that of the flushes,
+    /// with one, are below 2^63. The errors are a fault of the store and out of memory. Each ends the engine, and a
+    /// trouble that ended it is answered again.
     pub fn update<D: Store>(
         &mut self,
         store: &mut D,
@@ -118,6 +122,9 @@ impl Engine {
     /// Makes a part of the live postings in memory, and puts it into the store under the next blob's number;
     /// memory is empty then. Where no posting in memory is live no part is made, no blob is drawn and the store
     /// is not touched. Nothing is read.
+    ///
+    /// The number of the next blob and that of the flushes, each with one added, are below 2^63. The errors are a
+    /// fault of the store and out of memory. Each ends the engine, and a trouble that ended it is answered again.
     pub fn flush<D: Store>(&mut self, store: &mut D) -> Result<(), Trouble>
         requires blobs { self.old.parts.next_blob + 1 < 2 ^ 63 }
         requires flushes { self.old.parts.flushes + 1 < 2 ^ 63 }
@@ -171,8 +178,9 @@ impl Engine {
     /// only where there is nothing to do. It answers Idle exactly where no job is under way then and none is
     /// named, else Busy.
     ///
-    /// Of the store only the blocks of these terms in the jobs' parts are read, each in one read. Its errors are a
-    /// damaged part, a fault of the store, and out of memory.
+    /// Of the store only the blocks of these terms in the jobs' parts are read, each in one read. The number of the
+    /// next blob, with `n` added, is below 2^63. The errors are a damaged part, a fault of the store, and out of
+    /// memory. Each ends the engine, and a trouble that ended it is answered again.
     pub fn work<D: Store>(&mut self, store: &mut D, n: u32) -> Result<Worked, Trouble>
         requires blobs { self.old.parts.next_blob + n < 2 ^ 63 }
         // The answer is that of the state after the units, and engine and store stand for it.

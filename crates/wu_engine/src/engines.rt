@@ -114,6 +114,10 @@ impl Engine {
     /// was put, gives it the root that names the checkpoint, makes it sync that, and then removes the blobs that are
     /// no longer needed and the checkpoint before. A job under way goes on, and is not part of what is saved. Until
     /// the new root is there the store holds all that the last one names. Nothing is read.
+    ///
+    /// The number of the next blob, with two added, and that of the flushes, with one, are below 2^63. The errors
+    /// are a fault of the store and out of memory. Each ends the engine, and a trouble that ended it is answered
+    /// again.
     pub fn save<D: Store>(&mut self, store: &mut D) -> Result<(), Trouble>
         requires blobs { self.old.parts.next_blob + 2 < 2 ^ 63 }
         requires flushes { self.old.parts.flushes + 1 < 2 ^ 63 }

@@ -26,7 +26,7 @@ AreReadFor s (Operates Save) read = read ≡ []
 AreReadFor s (IsRefused why) read = read ≡ []
 AreReadFor s SaysNothing read = read ≡ []
 
--- item by item, each in the state that it meets; for an item that isn't reached nothing is
+-- item by item, each in the state that it meets
 abbrev pub AreReadInTurn : List Met → List ReadRange → Type 0
 AreReadInTurn [] read = read ≡ []
 AreReadInTurn (m ∷ later) read =

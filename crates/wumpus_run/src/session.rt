@@ -78,7 +78,7 @@ pub fn run<I: Source, O: Sink, D: Store>(
 
     // Of the store this was read, in turn: at opening the root's checkpoint and the fronts of its parts, each once, and then item by item
     // for a query blocks of its terms where her files are and then the texts of which a line is shown, from the first one on, each once,
-    // and for background work blocks of its terms. For an item that wasn't reached nothing was. A session that ended at its opening,
+    // and for background work blocks of its terms; for any of them it may be fewer, or none. A session that ended at its opening,
     // before it took or wrote a byte, read nothing but some of what an opening reads.
     ensures permitted { FromImage (D.holds store.old) (λ s. ReadsPermitted s result (settings_of (texts_of words.now))
         (moment I.Source O.Sink D.Store source.old sink.old store.old)
