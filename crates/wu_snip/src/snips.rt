@@ -49,7 +49,8 @@ fn show(alloc: Global, line: Option<NumberedLine>, extent: Extent) -> Result<Sni
 /// addresses, from its `<line>` to its `</line>`, share one with the extent, the number, counted
 /// from 1, and the first [`SNIPPET_MAX`] bytes, without LF; 0 and no bytes where there is none, as
 /// for the extent of `<file>` alone. Addresses are counted from 0 at the text's `<file>`, as of
-/// [`tokens`](wu_token::tokens). Reads no line after that which is shown, and copies nothing else.
+/// [`tokens`](wu_token::tokens); the extent lies among these, its start at most its end. The one error is out
+/// of memory. Reads no line after that which is shown, and copies nothing else.
 pub fn snippet(alloc: Global, text: &[u8], extent: Extent) -> Result<Snip, NoMemory>
     requires text { length text.now ≤ TEXT_MAX }
     requires extent { IsWithin text.now extent }

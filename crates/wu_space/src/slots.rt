@@ -157,8 +157,8 @@ impl Slots {
         total(&self.sums[..chunks]) + length(&self.slots[chunks * CHUNK..count])
     }
 
-    /// Leaves out the slots without addresses where they are more than half of the slots, of which so many
-    /// have addresses. Takes no memory.
+    /// Leaves out the slots without addresses where there are at least two more of them than of those with some,
+    /// of which there are so many. Takes no memory.
     pub(crate) fn tidy(&mut self, live: usize)
         ensures { self.new ≡ tidied live self.old }
     {

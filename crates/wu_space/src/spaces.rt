@@ -52,7 +52,7 @@ impl Space {
 
     /// The space with these live ranges, given in any order, of which the addresses below `next` were
     /// given; or None exactly where a number occurs twice, an address is in two ranges, a range is empty
-    /// or one ends past `next`. Takes time near linear in the number of ranges.
+    /// or one ends past `next`. The one error is out of memory. Takes time near linear in the number of ranges.
     pub fn rebuild(
         alloc: Global,
         next: u64,
@@ -66,7 +66,8 @@ impl Space {
         rebuilding::rebuilt(alloc, next, ranges)
     }
 
-    /// Gives the file the next `len` addresses: its live range is these from now on. Out of memory, the
+    /// Gives the file, which has no live range, the next `len` addresses: its live range is these from now on.
+    /// There is at least one, and they end at ADDRESSES_MAX at the latest. Out of memory, the one error, the
     /// space is as it was. Takes time logarithmic in the number of live ranges.
     pub fn place(&mut self, ino: Ino, len: u64) -> Result<Range, NoMemory>
         requires free { range_with self.old.ranges ino ≡ None }
@@ -99,7 +100,7 @@ impl Space {
         }
     }
 
-    /// Gives up the file's live range. Its addresses are given to no other file. Takes no memory, and time
+    /// Gives up the live range of the file, which has one. Its addresses are given to no other file. Takes no memory, and time
     /// logarithmic in the number of live ranges; now and then, after as many calls as the pass has ranges,
     /// it also takes one pass over them.
     pub fn release(&mut self, ino: Ino)

@@ -13,8 +13,8 @@ use wu_base::NoMemory;
 /// The most addresses of a block.
 pub const BLOCK_LEN: usize = 128;
 
-/// Appends the spelling of the block of these addresses, at most `BLOCK_LEN`, of which none is below
-/// `low`. Out of memory, `out` is as it was.
+/// Appends the spelling of the block of these addresses: 1 to `BLOCK_LEN` of them, strictly ascending, none
+/// below `low`, from which the first is counted. Out of memory, the one error, `out` is as it was.
 pub fn put_block(out: &mut Vec<u8>, low: u64, addresses: &[u64]) -> Result<(), NoMemory>
     requires some { 0 < length addresses.now }
     requires few { length addresses.now ≤ BLOCK_LEN }
@@ -47,7 +47,8 @@ fn append_gaps(out: &mut Vec<u8>, low: u64, addresses: &[u64]) -> Result<(), NoM
     Ok(())
 }
 
-/// The `count` addresses from `first` to `last` of which the bytes are the spelling, all of the bytes.
+/// The `count` addresses from `first` to `last` of which the bytes are the spelling, all of the bytes. The
+/// first is counted from `low`.
 /// `None` exactly where they are no such spelling. Takes memory once at most, and only where the bytes
 /// are enough for so many addresses and start with the number of the first one.
 pub fn take_block(

@@ -46,7 +46,8 @@ fn continued(number: u64) -> u8
 }
 
 /// The number whose spelling stands at `place`, and the place after it. `None` exactly where no
-/// spelling of a number below 2^64 stands there. Takes no memory.
+/// spelling of a number below 2^64 stands there. `place` is counted in bytes from 0 and is at most their
+/// number. Takes no memory.
 #[inline]
 pub fn take_number(bytes: &[u8], place: usize) -> Option<(u64, usize)>
     requires { place ≤ length bytes.now }
