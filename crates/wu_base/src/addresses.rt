@@ -36,13 +36,20 @@ pub struct TermList {
 }
 
 /// A part of the index, as it is recorded outside it: a blob of `size` bytes that holds `stored`
-/// postings, with addresses from `low` to `high`.
+/// postings, with addresses from `low` to `high`, both included. Any numbers may stand in a record;
+/// those of a part are in the ranges named here.
 #[derive(Clone, Copy, Debug, PartialEq, Eq)]
 pub struct PartRec {
+    /// The blob's number, at least 1.
     pub blob: u64,
+    /// The blob's length in bytes.
     pub size: u64,
+    /// From 0 to `GENERATION_MAX`.
     pub generation: u32,
+    /// The least address, at most `high`.
     pub low: u64,
+    /// The greatest address, below `ADDRESSES_MAX`.
     pub high: u64,
+    /// How many postings there are, from 1 to `high - low + 1`.
     pub stored: u64,
 }

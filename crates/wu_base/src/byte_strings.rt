@@ -23,7 +23,7 @@ impl Model for Bytes {
 }
 
 impl Bytes {
-    /// A copy of these bytes.
+    /// A copy of these bytes. The one error is out of memory.
     pub fn from_slice(alloc: Global, bytes: &[u8]) -> Result<Bytes, NoMemory>
         ensures { IfOk result (λ b. b ≡ bytes.now) }
     {

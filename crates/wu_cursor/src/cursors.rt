@@ -42,7 +42,7 @@ impl<'a> Cursor<'a> {
         }
     }
 
-    /// The first extent that starts at `k` or after it.
+    /// The first extent that starts at `k` or after it. None exactly where there is none.
     pub fn tau(&self, k: u64) -> Option<Extent>
         requires lists { AreLists self.now.lists.now }
         requires frames { All IsFrame self.now.frames.now }
@@ -52,7 +52,7 @@ impl<'a> Cursor<'a> {
         first_over(self.expr, self.lists, self.frames, k)
     }
 
-    /// The first extent that ends at `k` or after it.
+    /// The first extent that ends at `k` or after it. None exactly where there is none.
     pub fn rho(&self, k: u64) -> Option<Extent>
         requires lists { AreLists self.now.lists.now }
         requires frames { All IsFrame self.now.frames.now }
@@ -68,7 +68,7 @@ impl<'a> Cursor<'a> {
         }
     }
 
-    /// The last extent that ends at `k` or before it.
+    /// The last extent that ends at `k` or before it. None exactly where there is none.
     pub fn tau_back(&self, k: u64) -> Option<Extent>
         requires lists { AreLists self.now.lists.now }
         requires frames { All IsFrame self.now.frames.now }
@@ -78,7 +78,7 @@ impl<'a> Cursor<'a> {
         last_over(self.expr, self.lists, self.frames, k)
     }
 
-    /// The last extent that starts at `k` or before it.
+    /// The last extent that starts at `k` or before it. None exactly where there is none.
     pub fn rho_back(&self, k: u64) -> Option<Extent>
         requires lists { AreLists self.now.lists.now }
         requires frames { All IsFrame self.now.frames.now }

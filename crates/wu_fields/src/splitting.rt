@@ -7,8 +7,9 @@ use bstr::ByteSlice;
 use std::alloc::Global;
 use wu_base::{Bytes, NoMemory};
 
-/// The fields of the line, unescaped. `None` exactly where a backslash isn't followed by a
-/// backslash, `t` or `n` in the same field. The empty line has one field, which is empty.
+/// The fields of the line, in order and unescaped: what stands between its TABs. `None` exactly where
+/// a backslash isn't followed by a backslash, `t` or `n` in the same field. The empty line has one
+/// field, which is empty. The one error is out of memory.
 pub fn split_fields(alloc: Global, line: &[u8]) -> Result<Option<Vec<Bytes>>, NoMemory>
     ensures { IfOk result (λ fields. option_map (λ v. v.items) fields ≡ fields_of line.now) }
 {

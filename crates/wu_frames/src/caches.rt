@@ -47,7 +47,7 @@ impl FrameCache {
     ghost use Rattle.std.specs.Io.BufRead.{Rests};
     ghost use Rattle.wu_frames.specs.contracts.caches.FrameCache.{the_row};
 
-    /// No frames. The cache keeps the allocator for its changes.
+    /// No frames, of no user. The cache keeps the allocator for its changes. The one error is out of memory.
     pub fn new(alloc: Global) -> Result<FrameCache, NoMemory>
         ensures { IfOk result (λ cache. cache ≡ []) }
     {
@@ -59,8 +59,9 @@ impl FrameCache {
     }
 
     /// The frames of the user: those that are kept, or else made now and kept, in the place of the ones
-    /// that were asked for longest ago where `USERS_KEPT` users have some. The only error is out of memory, and there is
-    /// none where her frames are kept.
+    /// that were asked for longest ago where `USERS_KEPT` users have some. All that is kept has to be right for this tree
+    /// and for the live ranges of this space; then it stays so. The only error is out of memory, which changes nothing,
+    /// and there is none where her frames are kept.
     ///
     /// Takes no more than a look-up where her frames are kept; else time near linear in the entries of the
     /// directories that she may reach and in the bytes of her view.
@@ -80,9 +81,9 @@ impl FrameCache {
         }
     }
 
-    /// Has the frames of the user kept, as `frames_of` does. She is the first then, and the others follow in their
-    /// order, without the one who asked longest ago where there is no room. Out of memory, nothing changes. Frames that
-    /// are kept take none.
+    /// Has the frames of the user kept, as `frames_of` does, under its condition. She is the first then, and the others
+    /// follow in their order, without the one who asked longest ago where there is no room. Out of memory, which is the
+    /// one error, nothing changes. Frames that are kept take none.
     pub fn prepare(&mut self, tree: &Tree, space: &Space, uid: Uid) -> Result<(), NoMemory>
         requires { AreFor tree.now space.now.ranges self.old }
         ensures right { AreFor tree.now space.now.ranges self.new }

@@ -1,4 +1,6 @@
 //! A user's frames: where the tokens of the files that she may search stand in the space of addresses.
+//! That a query sees these alone is after Büttcher and Clarke, "A Security Model for Full-Text File System
+//! Search in Multi-User Environments", FAST 2005.
 #![tactic(auto)]
 
 mod caches;

@@ -16,8 +16,8 @@ use wu_base::{Ino, NoMemory, PartRec, Sequence};
 use wu_tree::{LinkRec, Node, Tree};
 
 /// The checkpoint whose spelling the bytes are. `None` exactly where they are no spelling of one, or where
-/// its tree or what it records of texts and parts breaks a rule. Takes memory only for what the bytes were
-/// found to hold, and time that is near linear in their number.
+/// its tree or what it records of texts and parts breaks a rule. The one error is out of memory. Takes
+/// memory only for what the bytes were found to hold, and time that is near linear in their number.
 pub fn read_checkpoint(alloc: Global, bytes: &[u8]) -> Result<Option<Checkpoint>, NoMemory>
     ensures found { IfOk result (λ read. IfSome read (λ checkpoint. SpellsCheckpoint checkpoint bytes.now)) }
     ensures none { IfOk result (λ read. IfNone read ((checkpoint : Checkpoint) → SpellsCheckpoint checkpoint bytes.now → ⊥)) }

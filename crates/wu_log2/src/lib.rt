@@ -1,4 +1,5 @@
-//! The binary logarithm in whole numbers, in units of 1/65536.
+//! The binary logarithm in whole numbers, in units of 1/65536: by repeated squaring, as Knuth gives it for
+//! base ten in The Art of Computer Programming, volume 1, section 1.2.2.
 #![tactic(auto)]
 
 ghost use Rattle.std.specs.Prelude.{◌≡◌, ℕ, ◌+◌, ◌*◌, ◌^◌, ◌<◌, ◌≤◌};

@@ -1,4 +1,5 @@
-//! Ranking by BM25 in whole numbers: which of the units hold a query word, the best first.
+//! Ranking by BM25 in whole numbers: which of the units hold a query word, the best first. BM25 is as
+//! Büttcher, Clarke and Cormack give it in "Information Retrieval", chapter 8, with k1 = 1.2 and b = 0.75.
 #![tactic(auto)]
 
 mod bm25;

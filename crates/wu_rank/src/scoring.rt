@@ -88,10 +88,13 @@ fn scores_of<F: Fn(u32, u64, u64) -> u64>(
 }
 
 /// The number of units that hold a query word, and the first `k` of them: by score, falling, then
-/// by place, then by start. A score is the sum of the BM25 weights of the query's words, each in
-/// units of 1/65536 and rounded down, and a word that no unit holds adds nothing. The lists, at most
-/// RANK_WORDS_MAX, have the ascending addresses of each of the words, of a repeated one as often as the query
-/// has it. Each unit is shorter than 2^26. Over no units nothing is listed.
+/// by place, then by start, then by end. A score is the sum of the BM25 weights of the query's words,
+/// each in units of 1/65536 and rounded down, and a word that no unit holds adds nothing. The lists, at
+/// most RANK_WORDS_MAX, have the ascending addresses of each of the words, of a repeated one as often as
+/// the query has it. Each unit has fewer than 2^26 addresses. The ranker's closure may be called in the
+/// ranges that `bm25_weigh` names for `idf`, `f` and `l`, and answers what that does for the ranker's `n`
+/// and `t`: where there is a unit, the number of the units and their summed length. Over no units nothing
+/// is listed. The one error is out of memory.
 ///
 /// Each word's addresses are swept once over each part of the units that ascends. Nothing is made but for
 /// these parts and for a word and a unit that holds it. The first `k` are chosen in linear time on

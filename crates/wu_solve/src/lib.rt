@@ -1,4 +1,6 @@
 //! The extents that a region expression means, found by merging the lists of its terms' addresses.
+//! The expressions and their meaning are after Clarke, Cormack and Burkowski, "An Algebra for Structured
+//! Text Search and a Framework for its Implementation", The Computer Journal 38(1), 1995.
 //!
 //! In the list of every expression starts and ends both ascend strictly, so that each operator walks
 //! the lists of its operands once, side by side. A list is that of all frames, one behind the other;

@@ -1,4 +1,8 @@
 //! The words of a byte string, and the tokens of a text with their places.
+//!
+//! Tags take places among the words, as in Clarke, Cormack and Burkowski, "An Algebra for Structured Text
+//! Search and a Framework for its Implementation", The Computer Journal 38(1), 1995; lines are those of
+//! POSIX.1, with an incomplete line at the end; which bytes make words is this project's own choice.
 #![tactic(auto)]
 
 mod bytes;

@@ -18,14 +18,17 @@ pub const LINE_START: &[u8] = b"<line>";
 /// The term of a place where a line ends.
 pub const LINE_END: &[u8] = b"</line>";
 
-/// A term of a text, and the place of its bytes there: from `start` on, up to but without `end`,
-/// both counted in bytes from the text's first, which is 0. A tag takes no byte, so its `end` is
-/// its `start`. A word takes the bytes of its whole run, also those that don't count.
+/// A term of a text of at most [`TEXT_MAX`](wu_base::TEXT_MAX) bytes, and the place of its bytes
+/// there: from `start` on, up to but without `end`, both counted in bytes from the text's first, which
+/// is 0. A tag takes no byte, so its `end` is its `start`. A word takes the bytes of its whole run,
+/// also those that don't count.
 #[derive(Clone, Debug, PartialEq, Eq, Drop)]
 pub struct Token {
     /// From 1 to [`WORD_MAX`](wu_base::WORD_MAX) bytes.
     pub term: Bytes,
+    /// From 0 to the text's length in bytes.
     pub start: u32,
+    /// From `start` to the text's length in bytes.
     pub end: u32,
 }
 

@@ -13,7 +13,8 @@ use wu_base::{Bytes, NoMemory, TEXT_MAX};
 
 /// The words of these bytes, in order: the maximal runs of ASCII letters, ASCII digits and bytes of
 /// 0x80 and above, each cut to its first [`WORD_MAX`](wu_base::WORD_MAX) bytes, with ASCII letters
-/// in lower case.
+/// in lower case. So each has from 1 to [`WORD_MAX`](wu_base::WORD_MAX) bytes. The one error is out of
+/// memory.
 pub fn words(alloc: Global, bytes: &[u8]) -> Result<Vec<Bytes>, NoMemory>
     ensures words { IfOk result (λ v. v.items ≡ words_of bytes.now) }
     ensures lengths { IfOk result (λ v. All IsTerm v.items) }
@@ -41,7 +42,8 @@ fn push_line(alloc: Global, tokens: &mut Vec<Token>, line: Piece) -> Result<(), 
 /// The tokens of a text of at most [`TEXT_MAX`] bytes, in order, with their places: `<file>`, then
 /// for each line `<line>`, its words and `</line>`, last `</file>`. Lines end at LF. What follows
 /// the last LF is a line only if it has bytes, so the empty text has no line. A text of n bytes has
-/// at most 3n + 2 tokens.
+/// at most 3n + 2 tokens, each with a term of 1 to [`WORD_MAX`](wu_base::WORD_MAX) bytes. The one
+/// error is out of memory.
 pub fn tokens(alloc: Global, text: &[u8]) -> Result<Vec<Token>, NoMemory>
     requires { length text.now ≤ TEXT_MAX }
     ensures tokens { IfOk result (λ v. v.items ≡ placed_tokens_of text.now) }

@@ -1,5 +1,6 @@
 //! A tree of directories and files with owners, groups and modes, and the users with their groups. It
 //! changes by events, each of which is one atomic step: accepted whole, or refused and without effect.
+//! What links, removal and renaming do is as in POSIX.1.
 #![tactic(auto)]
 
 mod changes;

@@ -39,8 +39,8 @@ impl Tree {
     ghost use Rattle.wu_tree.specs.FileSystems.{FileSystem, child_of, depth as depth_of, entries_of, file_count as count_of_files, groups_of, has_entries, is_directory, is_kind_file, node_of, parent_of, root_alone};
     ghost use Rattle.wu_tree.specs.Rules.{IsTree};
 
-    /// The root directory alone, with owner 0, group 0 and mode 755, and no users. The tree keeps the
-    /// allocator for its changes.
+    /// The root directory alone, with owner 0, group 0 and mode 755 octal, and no users. The tree keeps the
+    /// allocator for its changes. The one error is out of memory.
     pub fn new(alloc: Global) -> Result<Tree, NoMemory>
         ensures { IfOk result (λ tree. tree ≡ root_alone) }
     {

@@ -1,4 +1,6 @@
 //! The variable-byte code: how numbers, and blocks of ascending addresses, are spelled in bytes of seven bits.
+//! The code, also known as unsigned LEB128, and the gaps of a block are as Büttcher, Clarke and Cormack give
+//! them in "Information Retrieval", chapter 6.
 #![tactic(auto)]
 
 mod blocks;

@@ -1,4 +1,6 @@
 //! A user's view of a tree: the files that she may search, each with the paths that are open for her.
+//! Paths are resolved as in POSIX.1, which asks for search permission, here execute, on each directory
+//! in which a name of the path is looked up.
 #![tactic(auto)]
 
 ghost use Rattle.std.specs.Prelude.{◌≡◌, ◌↔◌, ℕ, true, IfOk, IsTrue, List, map};
