@@ -320,12 +320,6 @@ module _ {K X : Type 0} {R : K → K → Ordering} (o : IsTotalOrder R) (exact :
         | Greater ↦ λ p. rw p (ap (λ (l : List (K × X)). e ∷ l) (insert-remove_same es k v (sorted_tail R _ _ s)))
       ] refl
 
-  keys_left : (Q : K → Type 0) (t : K → Bool) (es : List (K × X)) → AllByRecursion Q (keys_of es)
-      → AllByRecursion Q (keys_of (remove_entry t es))
-  keys_left Q t [] a = a
-  keys_left Q t (e ∷ es) a = elim (t e.0) as
-      (λ b. AllByRecursion Q (keys_of (cond b es (e ∷ remove_entry t es)))) [ true ↦ a.1 | false ↦ (a.0, keys_left Q t es a.1) ]
-
   pub remove-insert_apart : (t : K → Bool) (es : List (K × X)) (k : K) (v : X) → ((x : K) → R k x ≡ Equal → t x ≡ false) → t k ≡ false
       → IsStrictlySortedBy R (keys_of es)
       → remove_entry t (insert_entry R es k v) ≡ insert_entry R (remove_entry t es) k v
@@ -337,7 +331,7 @@ module _ {K X : Type 0} {R : K → K → Ordering} (o : IsTotalOrder R) (exact :
       ≡ insert_entry R (remove_entry t (e ∷ es)) k v) [
         | Less ↦ λ p. rw g
             (sym (insert_first (remove_entry t (e ∷ es)) k v
-            (keys_left (λ y. R k y ≡ Less) t (e ∷ es) (p, all_above o k e.0 (keys_of es) p (sorted_head R _ _ s)))))
+            (keys-remove_entry R (λ y. R k y ≡ Less) t (e ∷ es) (p, all_above o k e.0 (keys_of es) p (sorted_head R _ _ s)))))
         | Equal ↦ λ p. rw (h e.0 p, p) refl
         | Greater ↦ λ p.
             elim (t e.0) as

@@ -1,17 +1,17 @@
 -- An event that makes, removes or moves links changes those that are told of it, and no others.
 use Rattle.std.proofs.Common.{◌≡◌, ◌≢◌, ℕ, Bool, true, false, cond, ◌||◌, List, [], ◌∷◌, refl, ap, sym, ◌∙◌, subst, inl, inr}
 use Rattle.std.specs.Prelude.{Option, None, Some, IfSome}
-use Rattle.std.specs.Cmp.{eq_by_cmp_equiv, nat_cmp_total}
+use Rattle.std.specs.Cmp.{nat_cmp_total}
 use Rattle.std.specs.Ordering.{is_eq, nat_cmp}
 use Rattle.std.specs.List.{AllByRecursion, Contains}
 use Rattle.std.specs.Map.{lookup, remove_entry}
 use Rattle.std.specs.BTreeMap.{insert_entry, is_at}
 use Rattle.std.proofs.lemmas.Bool.{ne_eqb, or_parts}
 use Rattle.std.proofs.lemmas.Map.{lookup-none}
-use Rattle.std.proofs.lemmas.Map.Keys.{IsDistinct-from_sorted}
-use Rattle.std.proofs.lemmas.Map.Views.{Contains-from_lookup, lookup-from_Contains, tells_apart}
+use Rattle.std.proofs.lemmas.Map.Views.{Contains-from_lookup, tells_apart}
 use Rattle.wu_base.proofs.MapEntries.{All-insert_entry, All-remove_entry, is_equal, lookup-insert_entry, lookup-remove_other, none_left, number_itself}
 use Rattle.wu_base.proofs.Members.{Contains-from_Has, Has, all_from_has, all_has}
+use Rattle.wu_view.proofs.PathResolution.{child_found}
 use Rattle.wu_access.specs.declared.Perm.{Perm}
 use Rattle.wu_tree.specs.declared.events.Event.TheVariants.{Mkdir, Create, Link as AddLink, Unlink, Rmdir, Rename}
 use Rattle.wu_tree.specs.declared.events.Kind.TheVariants.{Directory, File}
@@ -45,15 +45,10 @@ kept : (other : FileSystem) (link : Link) → child_of other link.0.0 link.0.1 �
 kept other link h = Contains-from_lookup (tells_apart place_exact) link.0 link.1 other.links h
 
 module _ (fs : FileSystem) (t : IsTree fs) where
-  found : (link : Link) → Has link fs.links → child_of fs link.0.0 link.0.1 ≡ Some link.1
-  found link h =
-      lookup-from_Contains (eq_by_cmp_equiv place_total) link.0 link.1 fs.links (IsDistinct-from_sorted place_cmp _ t.links_ascend)
-      (Contains-from_Has link fs.links h)
-
   went-by : (links : LinkChanges) (after : FileSystem)
       → ((link : Link) → Has link fs.links → child_of fs link.0.0 link.0.1 ≡ Some link.1 → IsAccounted fs links after link)
       → AllByRecursion (IsAccounted fs links after) fs.links
-  went-by links after f = all_from_has (IsAccounted fs links after) fs.links (λ link h. f link h (found link h))
+  went-by links after f = all_from_has (IsAccounted fs links after) fs.links (λ link h. f link h (child_found fs t link h))
 
   -- links that were there before
   old : (links : LinkChanges) (after : FileSystem) (es : List Link) → ((link : Link) → Has link es → Has link fs.links)

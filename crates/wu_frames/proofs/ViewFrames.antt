@@ -11,6 +11,7 @@ use Rattle.std.proofs.lemmas.List.Sums.{sum_by-cons}
 use Rattle.std.proofs.lemmas.List.Sorted.{sum_by-IsPermutation, Contains-permutation, IsPermutation-sym}
 use Rattle.wu_base.specs.declared.addresses.Range.{Range}
 use Rattle.wu_base.proofs.Members.{Has-from_Contains, Contains-from_Has, all_has, all_from_has}
+use Rattle.wu_base.proofs.EachLemmas.{each-push}
 use Rattle.wu_view.specs.declared.Seen.{Seen}
 use Rattle.wu_tree.specs.FileSystems.{FileSystem}
 use Rattle.wu_view.specs.Views.{view_of}
@@ -42,17 +43,13 @@ frames_in-more ranges view place d h =
     ∙ filter_map-append (frame_of ranges) (enumerate_from 0 (take place view)) ((place, get_or view place d) ∷ [])
     ∙ ap (λ (l : List Frame). frames_in ranges (take place view) ++ l) (one-map (frame_of ranges) (place, get_or view place d))
 
-All-push : {X : Type 0} (P : X → Type 0) (xs : List X) (x : X) → AllByRecursion P xs → P x → AllByRecursion P (xs ++ x ∷ [])
-All-push P [] x a p = (p, tt)
-All-push P (y ∷ xs) x a p = (a.0, All-push P xs x a.1 p)
-
 module _ (place : ℕ) (ranges : Ranges) (view : List Seen) (frames : List Frame) (s : AreMadeUpTo place ranges view frames)
     (file : Seen) (within : place < length view) (is : file ≡ get_or view place file) (fits : file.ino < 2 ^ 32) where
   numbers-more : AllByRecursion (λ (x : Seen). x.ino < 2 ^ 32) (take (place + 1) view)
   numbers-more =
       subst (λ (l : List Seen). AllByRecursion (λ (x : Seen). x.ino < 2 ^ 32) l)
       (sym (take_more view place file within ∙ ap (λ (x : Seen). take place view ++ x ∷ []) (sym is)))
-      (All-push (λ (x : Seen). x.ino < 2 ^ 32) (take place view) file s.numbers fits)
+      (each-push (λ (x : Seen). x.ino < 2 ^ 32) (take place view) file s.numbers fits)
 
   pub place-fits : IsOnce view → place < 2 ^ 32
   place-fits o =

@@ -4,7 +4,7 @@ use Rattle.std.specs.Prelude.{◌==◌, count_by, map, filter, not}
 use Rattle.std.specs.declared.cmp.Ordering.TheVariants.{Less, Equal}
 use Rattle.std.specs.List.{AllByRecursion, IsDistinct}
 use Rattle.std.specs.List.Sorted.{IsStrictlySortedBy}
-use Rattle.std.proofs.lemmas.Bool.{eqb-true, eq-eqb, ne_eqb}
+use Rattle.std.proofs.lemmas.Bool.{eqb-true, eq-eqb, ne_eqb, cond-false, cond-true}
 use Rattle.std.proofs.lemmas.Cmp.{tied_itself}
 use Rattle.std.proofs.lemmas.List.{length-map}
 use Rattle.std.proofs.lemmas.List.Sums.{sum_by-cons, sum_by-take-le}
@@ -25,14 +25,6 @@ IsOnce view = (ino : ℕ) → count_by (λ file. file.ino == ino) view ≤ 1
 cond-le : (b : Bool) → cond {A = ℕ} b 1 0 ≤ 1
 cond-le true = omega arith
 cond-le false = omega arith
-
-cond-false : (b : Bool) → b ≡ false → cond {A = ℕ} b 1 0 ≡ 0
-cond-false true e = absurd cc
-cond-false false e = refl
-
-cond-true : (b : Bool) → b ≡ true → cond {A = ℕ} b 1 0 ≡ 1
-cond-true true e = refl
-cond-true false e = absurd cc
 
 module _ (fs : FileSystem) (uid : ℕ) where
   -- what is shown of the file of that number, to the user
@@ -57,7 +49,7 @@ module _ (fs : FileSystem) (uid : ℕ) where
       omega (
         arith,
         sum_by-cons (λ (x : Seen). cond {A = ℕ} (x.ino == ino) 1 0) file files,
-        cond-false (file.ino == ino) (ne_eqb file.ino ino other),
+        cond-false {A = ℕ} (file.ino == ino) 1 0 (ne_eqb file.ino ino other),
         none-again ino first files e f a.1 (λ x h. s x (inr h)),
       )
 
@@ -77,7 +69,7 @@ module _ (fs : FileSystem) (uid : ℕ) where
             omega (
               arith,
               sum_by-cons (λ (x : Seen). cond {A = ℕ} (x.ino == ino) 1 0) file files,
-              cond-false (file.ino == ino) p,
+              cond-false {A = ℕ} (file.ino == ino) 1 0 p,
               once-from_shown files o.1 (λ x h. s x (inr h)) ino,
             )
       ] refl
@@ -104,7 +96,7 @@ none-equal : (ino : ℕ) (files : List Seen) → count_by (λ file. file.ino == 
 none-equal ino [] h = tt
 none-equal ino (file ∷ files) h =
     let s = sum_by-cons (λ (x : Seen). cond {A = ℕ} (x.ino == ino) 1 0) file files in
-    let other : ino ≡ file.ino → ⊥ = λ e. omega (arith, s, h, cond-true (file.ino == ino) (eq-eqb file.ino ino (sym e))) in
+    let other : ino ≡ file.ino → ⊥ = λ e. omega (arith, s, h, cond-true {A = ℕ} (file.ino == ino) 1 0 (eq-eqb file.ino ino (sym e))) in
     (ne_eqb ino file.ino other, none-equal ino files (omega (arith, s, h)))
 
 distinct-from_once : (files : List Seen) → IsOnce files → IsDistinct eqb (map (λ file. file.ino) files)
@@ -112,7 +104,8 @@ unfolding IsDistinct
 distinct-from_once [] o = tt
 distinct-from_once (file ∷ files) o =
     let s = sum_by-cons (λ (x : Seen). cond {A = ℕ} (x.ino == file.ino) 1 0) file files in (
-      none-equal file.ino files (omega (arith, s, o file.ino, cond-true (file.ino == file.ino) (eq-eqb file.ino file.ino refl))),
+      none-equal file.ino files
+          (omega (arith, s, o file.ino, cond-true {A = ℕ} (file.ino == file.ino) 1 0 (eq-eqb file.ino file.ino refl))),
       distinct-from_once files (λ ino. omega (arith, sum_by-cons (λ (x : Seen). cond {A = ℕ} (x.ino == ino) 1 0) file files, o ino)),
     )
 

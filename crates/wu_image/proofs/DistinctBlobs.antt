@@ -7,8 +7,9 @@ use Rattle.std.proofs.lemmas.Bool.Decides.{eqb_tells}
 use Rattle.std.proofs.lemmas.Map.Keys.{IsDistinct-IsPermutation}
 use Rattle.std.proofs.lemmas.Bool.{cases_lt, ne_eqb, eq-eqb, false≢true}
 use Rattle.std.proofs.lemmas.List.Sorted.{IsNonDecreasingBy-drop, IsPermutation-sym}
+use Rattle.wu_base.proofs.EachLemmas.{each-permuted}
 use Rattle.wu_image.specs.Checks.{RiseFrom}
-use Rattle.wu_image.proofs.RuleLemmas.{all_at, all_moved}
+use Rattle.wu_image.proofs.RuleLemmas.{all_at}
 
 rise_above : (from : ℕ) (numbers : List ℕ) → RiseFrom from numbers → AllByRecursion (λ number. from ≤ number) numbers
 rise_above from [] r = tt
@@ -102,7 +103,7 @@ drawn_fit next (blob ∷ blobs) small a = let below = a.0.1 in (omega arith, dra
 pub drawn_moved : (next : ℕ) (blobs sorted : List ℕ) → IsPermutation blobs sorted
     → AllByRecursion (λ blob. (0 < blob) × (blob < next)) blobs
     → AllByRecursion (λ blob. (0 < blob) × (blob < next)) sorted
-drawn_moved next blobs sorted p a = all_moved (λ (b : ℕ). (0 < b) × (b < next)) blobs sorted p a
+drawn_moved next blobs sorted p a = each-permuted (λ (b : ℕ). (0 < b) × (b < next)) blobs sorted p a
 
 eqb_flips : (x y : ℕ) → eqb x y ≡ eqb y x
 eqb_flips x y =

@@ -1,7 +1,7 @@
 -- Lemmas on the parts in which the ranges lie.
 use Rattle.std.proofs.Common.{◌≡◌, ℕ, zero, suc, ◌+◌, ◌-◌, ◌<◌, ◌≤◌, Bool, true, false, cond, List, [], ◌∷◌, length, get_or, set, take}
 use Rattle.std.proofs.Common.{refl, ap, sym, subst, ◌∙◌, ◌⊎◌, inl, inr, ⊎_elim, arith}
-use Rattle.std.specs.Prelude.{◌||◌, map, sum_by}
+use Rattle.std.specs.Prelude.{◌||◌, map}
 use Rattle.std.specs.List.{AllByRecursion, list_any}
 use Rattle.std.specs.List.Sorted.{IsNonDecreasingBy}
 use Rattle.std.proofs.lemmas.Bool.{and_parts, leb-true, cases_lt, false_from_ne_true, false≢true, or_right}
@@ -10,10 +10,10 @@ use Rattle.std.proofs.lemmas.Grind.{get_or-set_at}
 use Rattle.std.proofs.lemmas.List.Sums.{sum_by_more, sum_by_more_le}
 use Rattle.wu_base.specs.declared.addresses.Range.{Range}
 use Rattle.wu_base.specs.declared.addresses.PartRec.{PartRec}
+use Rattle.wu_base.proofs.EachLemmas.{each-push}
 use Rattle.wu_image.specs.declared.records.FileRec.{FileRec}
 use Rattle.wu_image.specs.LayoutRules.{SpansAscend, lies_in, live_in}
 use Rattle.wu_image.specs.Checks.{HaveHomes}
-use Rattle.wu_image.proofs.ItemLemmas.{all_pushed}
 use Rattle.wu_image.proofs.RuleLemmas.{all_at, all_has_at}
 
 -- ---- spans
@@ -137,7 +137,7 @@ one_file_asked files parts asked next place file e d room new r s more is some i
   long = ap length w ∙ length-set room place _ ∙ r.long;
   homes = subst (λ (l : List FileRec). AllByRecursion (λ f. list_any (λ p. lies_in f.range p) parts ≡ true) l)
       (sym (take_more files asked e more))
-      (all_pushed (λ (f : FileRec). list_any (λ p. lies_in f.range p) parts ≡ true) (take asked files) (get_or files asked e) r.homes
+      (each-push (λ (f : FileRec). list_any (λ p. lies_in f.range p) parts ≡ true) (take asked files) (get_or files asked e) r.homes
       (subst (λ (f : FileRec). list_any (λ p. lies_in f.range p) parts ≡ true) is
       (any_at (λ (p : PartRec). lies_in file.range p) parts place d inside t)));
   sums = λ k x l. sum_at k x l;

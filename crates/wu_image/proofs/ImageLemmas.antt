@@ -1,10 +1,9 @@
 -- Lemmas on the images of a state.
-use Rattle.std.proofs.Common.{◌≡◌, ℕ, ◌+◌, ◌<◌, ◌≤◌, Bool, true, cond, List, [], ◌∷◌, ◌++◌, refl, ap, sym, subst, ◌∙◌, inl, inr, ⊎_elim}
+use Rattle.std.proofs.Common.{◌≡◌, ℕ, ◌+◌, ◌<◌, ◌≤◌, Bool, true, cond, List, [], ◌∷◌, ◌++◌, refl, ap, sym, subst, ◌∙◌, inl, inr}
 use Rattle.std.proofs.Common.{arith}
 use Rattle.std.specs.Prelude.{◌==◌, Option, None, Some, count_by, map}
 use Rattle.std.specs.List.{AllByRecursion, AllZip}
 use Rattle.std.proofs.lemmas.Bool.{eq-eqb}
-use Rattle.std.proofs.lemmas.List.Sums.{sum_by-cons}
 use Rattle.wu_base.specs.declared.addresses.PartRec.{PartRec}
 use Rattle.wu_base.proofs.Members.{Has}
 use Rattle.wu_layout.specs.Layouts.{FileEntry, Layout, Part}
@@ -12,7 +11,6 @@ use Rattle.wu_layout.specs.Invariants.{times_named}
 use Rattle.wu_outside.specs.Content.{Content}
 use Rattle.wu_tree.specs.FileSystems.{FileSystem}
 use Rattle.wu_image.specs.declared.records.FileRec.{FileRec}
-use Rattle.wu_image.specs.LayoutRules.{named_blobs}
 use Rattle.wu_image.specs.Images.{Texts, HoldsText, HoldsPart, HasSaved, IsSaved, IsImage, Names}
 use Rattle.wu_image.proofs.RuleLemmas.{sum_has}
 
@@ -20,7 +18,7 @@ use Rattle.wu_image.proofs.RuleLemmas.{sum_has}
 abbrev Agree : Content → Content → ℕ → Type 0
 Agree a b blob = b.blobs blob ≡ a.blobs blob
 
-counted : {X : Type 0} (blob_of : X → ℕ) (x : X) (xs : List X) → Has x xs → 1 ≤ count_by (λ y. blob_of y == blob_of x) xs
+pub counted : {X : Type 0} (blob_of : X → ℕ) (x : X) (xs : List X) → Has x xs → 1 ≤ count_by (λ y. blob_of y == blob_of x) xs
 counted {X} blob_of x xs h =
     let one : cond {A = ℕ} (blob_of x == blob_of x) 1 0 ≡ 1 = ap (λ (b : Bool). cond {A = ℕ} b 1 0) (eq-eqb (blob_of x) (blob_of x) refl) in
     omega (arith, sum_has (λ (y : X). cond {A = ℕ} (blob_of y == blob_of x) 1 0) x xs h)

@@ -1,11 +1,11 @@
 -- Lemmas on spelled items: bytes start with one list of items of a form at most, and items have one spelling.
-use Rattle.std.proofs.Common.{◌≡◌, ℕ, ◌+◌, ◌-◌, ◌^◌, ◌<◌, ◌≤◌, List, [], ◌∷◌, ◌++◌, length, drop, refl, ap, sym, subst, ◌∙◌, append_assoc}
+use Rattle.std.proofs.Common.{◌≡◌, ℕ, ◌+◌, ◌-◌, ◌^◌, ◌<◌, ◌≤◌, List, [], ◌∷◌, ◌++◌, length, refl, ap, sym, subst, ◌∙◌, append_assoc}
 use Rattle.std.proofs.Common.{append-nil, length-append, arith}
-use Rattle.std.specs.Prelude.{map}
 use Rattle.std.specs.List.{AllByRecursion, flat_map}
 use Rattle.std.proofs.lemmas.List.{flat_map_more}
 use Rattle.std.proofs.lemmas.Grind.{flat_map-append}
-use Rattle.wu_vbyte.specs.Numbers.{StartsWithNumber, AppendsNumber}
+use Rattle.wu_base.proofs.EachLemmas.{each-push}
+use Rattle.wu_vbyte.specs.Numbers.{AppendsNumber}
 use Rattle.wu_vbyte.proofs.NumberLemmas.{one_number}
 use Rattle.wu_vbyte.proofs.BlockLemmas.{starts_longer}
 use Rattle.wu_part.proofs.LawLemmas.{number_code}
@@ -94,14 +94,6 @@ pub record IsUnique {X : Type 0} (items : X → List Item) (P : X → Type 0) : 
   pub one : (x y : X) (bytes rest last : List ℕ) → P x → P y → StartsWith bytes (items x) rest → StartsWith bytes (items y) last
       → (x ≡ y) × (rest ≡ last)
 
-pub all_pushed : {X : Type 0} (P : X → Type 0) (xs : List X) (x : X) → AllByRecursion P xs → P x → AllByRecursion P (xs ++ x ∷ [])
-all_pushed P [] x a p = (p, tt)
-all_pushed P (y ∷ xs) x a p = (a.0, all_pushed P xs x a.1 p)
-
-pub all_units : {X : Type 0} (xs : List X) → AllByRecursion (λ _. Unit {0}) xs
-all_units [] = tt
-all_units (x ∷ xs) = (tt, all_units xs)
-
 -- what follows those that were taken
 pub record Later {X : Type 0} (items : X → List Item) (P : X → Type 0) (taken all : List X) (rest last : List ℕ) : Type 0 where
   pub later : List X
@@ -170,7 +162,7 @@ one_taken items P bytes count taken new x left fewer rest after t some p s e f =
     let number = t.number in
     subst (λ n. Taken items P bytes count n fewer after) (sym e) (record {
       number = omega (arith, length-append taken (x ∷ []));
-      valid = all_pushed P taken x t.valid p;
+      valid = each-push P taken x t.valid p;
       spelled = subst (λ l. StartsWith bytes (Number count ∷ l) after) (flat_map_more items [] taken x)
           (joined bytes rest after (Number count ∷ flat_map items taken) (items x) t.spelled s);
     })

@@ -1,10 +1,11 @@
 -- Lemmas on all that a checkpoint's bytes tell.
 use Rattle.std.proofs.Common.{◌≡◌, ℕ, ◌+◌, ◌^◌, ◌<◌, ◌≤◌, List, [], ◌∷◌, ◌++◌, length, get_or, drop, refl, ap, sym, subst, ◌∙◌}
-use Rattle.std.proofs.Common.{append_assoc, append-nil, arith}
+use Rattle.std.proofs.Common.{append-nil, arith}
 use Rattle.std.specs.Prelude.{Option, None, Some, codes, map}
 use Rattle.std.specs.List.{AllByRecursion, flat_map}
 use Rattle.wu_base.specs.declared.addresses.PartRec.{PartRec}
-use Rattle.wu_base.specs.declared.limits.TheConstants.{TEXT_MAX, GENERATION_MAX}
+use Rattle.wu_base.specs.declared.limits.TheConstants.{GENERATION_MAX}
+use Rattle.wu_base.proofs.EachLemmas.{each-unit}
 use Rattle.wu_tree.specs.declared.events.Kind.{Kind}
 use Rattle.wu_tree.specs.declared.events.Kind.TheVariants.{Directory, File}
 use Rattle.wu_tree.specs.declared.events.Node.{Node}
@@ -14,12 +15,12 @@ use Rattle.wu_image.specs.declared.checkpoints.Checkpoint.{Checkpoint}
 use Rattle.wu_image.specs.declared.nodes.Entry.{Entry}
 use Rattle.wu_image.specs.declared.records.FileRec.{FileRec}
 use Rattle.wu_image.specs.Items.{Item, Number, StartsWith, list_items}
-use Rattle.wu_image.specs.LayoutRules.{AreLayoutRules, IsPart, IsText, NeverRise, SpansAscend}
-use Rattle.wu_image.specs.Checkpoints.{HasItems, IsCheckpoint, SpellsCheckpoint, checkpoint_items, file_numbers, user_items, tree_items}
+use Rattle.wu_image.specs.LayoutRules.{AreLayoutRules, IsText, NeverRise, SpansAscend}
+use Rattle.wu_image.specs.Checkpoints.{SpellsCheckpoint, checkpoint_items, file_numbers, user_items, tree_items}
 use Rattle.wu_image.specs.Checkpoints.{link_items, part_items}
 use Rattle.wu_image.specs.Reading.{FitsPart, HasRecord, IsEntry, StartsWithTree, entry_items, nodes_of, files_of, record_list}
 use Rattle.wu_image.specs.Lists.{IsListed}
-use Rattle.wu_image.proofs.ItemLemmas.{IsUnique, all_units, joined, parted, one_code, unique_list}
+use Rattle.wu_image.proofs.ItemLemmas.{IsUnique, joined, parted, one_code, unique_list}
 use Rattle.wu_image.proofs.RecordedNumbers.{same_numbers, unique_part}
 use Rattle.wu_image.proofs.UniqueItems.{Any, unique_entry, unique_link, unique_user}
 use Rattle.wu_image.proofs.EntryLists.{entries_exist, items_of_entries, numbers_of_entries}
@@ -136,7 +137,7 @@ pub after_users : (users others : List (ℕ × List ℕ)) (ys : List Item) (code
     → (users ≡ others) × StartsWith rest ys last
 after_users users others ys code rest last s t =
     after_section (λ (us : List (ℕ × List ℕ)). list_items user_items us) (AllByRecursion Any) (unique_list user_items Any unique_user)
-    users others ys code rest last (all_units users) (all_units others) s t
+    users others ys code rest last (each-unit users) (each-unit others) s t
 
 pub after_entries : (entries others : List Entry) (ys : List Item) (code rest last : List ℕ) → AllByRecursion IsEntry entries
     → AllByRecursion IsEntry others → StartsWith code (list_items entry_items entries) rest
@@ -150,7 +151,7 @@ pub after_links : (links others : List Link) (ys : List Item) (code rest last : 
     → (links ≡ others) × StartsWith rest ys last
 after_links links others ys code rest last s t =
     after_section (λ (ls : List Link). list_items link_items ls) (AllByRecursion Any) (unique_list link_items Any unique_link)
-    links others ys code rest last (all_units links) (all_units others) s t
+    links others ys code rest last (each-unit links) (each-unit others) s t
 
 pub same_parts : (parts others : List PartRec) (code rest last : List ℕ) → AllByRecursion FitsPart parts → AllByRecursion FitsPart others
     → StartsWith code (list_items part_items parts) rest → StartsWith code (list_items part_items others) last

@@ -8,10 +8,11 @@ use Rattle.std.proofs.lemmas.List.Sums.{sum_by-cons}
 use Rattle.std.proofs.lemmas.List.Sorted.{sum_by-IsPermutation, IsNonDecreasingBy-drop}
 use Rattle.wu_base.specs.declared.addresses.Range.{Range}
 use Rattle.wu_base.proofs.Members.{Has, all_from_has, all_has as all_of}
+use Rattle.wu_base.proofs.EachLemmas.{each-permuted}
 use Rattle.wu_layout.specs.Postings.{is_in}
 use Rattle.wu_image.specs.declared.records.FileRec.{FileRec}
 use Rattle.wu_image.specs.Checks.{AreApart, AreInOrder}
-use Rattle.wu_image.proofs.RuleLemmas.{all_at, sum_of_map, sum_has, all_moved}
+use Rattle.wu_image.proofs.RuleLemmas.{all_at, sum_of_map, sum_has}
 
 -- how often the address is in a range
 abbrev holds : ℕ → Range → ℕ
@@ -147,7 +148,7 @@ pub ranges_fit : (files : List FileRec) (ranges : List Range) → IsPermutation 
     → AllByRecursion (λ file. (0 < file.range.len) × (file.range.start + file.range.len < 2 ^ 64)) files
     → AllByRecursion (λ range. (0 < range.len) × (range.start + range.len < 2 ^ 64)) ranges
 ranges_fit files ranges p a =
-    all_moved (λ (r : Range). (0 < r.len) × (r.start + r.len < 2 ^ 64)) _ ranges p
+    each-permuted (λ (r : Range). (0 < r.len) × (r.start + r.len < 2 ^ 64)) _ ranges p
     (all_mapped (λ (r : Range). (0 < r.len) × (r.start + r.len < 2 ^ 64)) (λ (file : FileRec). file.range) files a)
 
 first_of_both : {X : Type 0} (P Q : X → Type 0) (xs : List X) → AllByRecursion (λ x. P x × Q x) xs → AllByRecursion P xs

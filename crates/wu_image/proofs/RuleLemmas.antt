@@ -1,14 +1,13 @@
 -- Lemmas on the rules of the layout: what is asked of its texts and parts is what the rules say.
 use Rattle.std.proofs.Common.{◌≡◌, ℕ, zero, suc, ◌+◌, ◌-◌, ◌*◌, ◌%◌, ◌^◌, ◌<◌, ◌≤◌, Bool, true, false, eqb, List, [], ◌∷◌, length, get_or}
 use Rattle.std.proofs.Common.{refl, ap, sym, subst, ⊎_elim, arith}
-use Rattle.std.specs.Prelude.{IsPermutation, MatchBool, map, sum_by}
+use Rattle.std.specs.Prelude.{MatchBool, map, sum_by}
 use Rattle.std.specs.List.{AllByRecursion, IsDistinct}
 use Rattle.std.proofs.lemmas.List.Sums.{sum_by-cons}
-use Rattle.std.proofs.lemmas.List.Sorted.{Contains-permutation, IsPermutation-sym}
 use Rattle.wu_base.specs.declared.addresses.Range.{Range}
 use Rattle.wu_base.specs.declared.addresses.PartRec.{PartRec}
 use Rattle.wu_base.specs.declared.limits.TheConstants.{GENERATION_MAX}
-use Rattle.wu_base.proofs.Members.{Contains-from_Has, Has, Has-from_Contains, all_from_has, all_has as all_of}
+use Rattle.wu_base.proofs.Members.{Has}
 use Rattle.wu_image.specs.declared.records.FileRec.{FileRec}
 use Rattle.wu_image.specs.LayoutRules.{AreLayoutRules, IsPart, IsText, NeverRise, SpansAscend, named_blobs}
 use Rattle.wu_image.specs.Checks.{AreApart, ArePartsFrom, HaveHomes, IsNextPart}
@@ -36,12 +35,6 @@ sum_has f x (y ∷ ys) h =
     (λ (e : y ≡ x). omega (arith, sum_by-cons f y ys, ap f e))
     (λ (i : Has x ys). omega (arith, sum_by-cons f y ys, sum_has f x ys i))
     h
-
--- what holds of all of a list holds of all of it in another order
-pub all_moved : {X : Type 0} (P : X → Type 0) (xs ys : List X) → IsPermutation xs ys → AllByRecursion P xs → AllByRecursion P ys
-all_moved P xs ys p a =
-    all_from_has P ys (λ y h. all_of P y xs a
-    (Has-from_Contains y xs (Contains-permutation ys xs y (IsPermutation-sym xs ys p) (Contains-from_Has y ys h))))
 
 -- ---- parts
 

@@ -1,6 +1,7 @@
 -- Bytes start with one user, node and link at most.
 use Rattle.std.proofs.Common.{◌≡◌, ℕ, ◌^◌, ◌<◌, List, [], ◌∷◌, length, refl, ap, sym, subst, ◌∙◌, arith}
 use Rattle.std.specs.Prelude.{Option, None, Some}
+use Rattle.wu_base.proofs.EachLemmas.{each-unit}
 use Rattle.wu_access.specs.declared.Perm.{Perm}
 use Rattle.wu_part.proofs.ReadingLemmas.{same_front}
 use Rattle.wu_tree.specs.declared.events.Kind.{Kind}
@@ -11,23 +12,12 @@ use Rattle.wu_image.specs.declared.records.FileRec.{FileRec}
 use Rattle.wu_image.specs.Items.{Item, Number, Id, Raw, StartsWith, list_items}
 use Rattle.wu_image.specs.Checkpoints.{group_items, user_items, kind_number, node_items, text_items, link_items}
 use Rattle.wu_image.specs.Reading.{HasRecord, IsEntry, record_items, entry_items}
-use Rattle.wu_image.proofs.ItemLemmas.{IsUnique, after_number, after_id, all_units, parted, past_number, unique_list}
+use Rattle.wu_image.proofs.ItemLemmas.{IsUnique, after_number, after_id, parted, past_number, unique_list}
 use Rattle.wu_image.proofs.RecordedNumbers.{same_text_items}
 
 -- nothing is asked of a value
 abbrev pub Any : {X : Type 0} → X → Type 0
 Any x = Unit {0}
-
--- ---- numbers
-
-abbrev pub number_items : ℕ → List Item
-number_items number = Number number ∷ []
-
-pub unique_number : IsUnique number_items Any
-unique_number = record {
-  one = λ x y bytes rest last p q s t.
-      let a = after_number bytes x y [] [] rest last s t in (a.number, sym a.mine ∙ a.its);
-}
 
 -- ---- users
 
@@ -42,7 +32,7 @@ unique_user = record {
   one = λ x y bytes rest last p q s t.
       let a = after_id bytes x.0 y.0 (list_items group_items x.1) (list_items group_items y.1) rest last s t in
       let groups = unique_list group_items Any unique_group in
-      let more = groups.one x.1 y.1 a.left rest last (all_units x.1) (all_units y.1) a.mine a.its in
+      let more = groups.one x.1 y.1 a.left rest last (each-unit x.1) (each-unit y.1) a.mine a.its in
       (ap (λ (u : ℕ). (u, x.1)) a.number ∙ ap (λ (g : List ℕ). (y.0, g)) more.0, more.1);
 }
 

@@ -1,16 +1,13 @@
 -- Lemmas on what is written of a tree.
-use Rattle.std.proofs.Common.{◌≡◌, ℕ, ◌+◌, List, [], ◌∷◌, ◌++◌, length, map, refl, ap, sym, subst, ◌∙◌, append-nil, length-append, arith}
+use Rattle.std.proofs.Common.{◌≡◌, ℕ, ◌+◌, List, [], ◌∷◌, ◌++◌, length, map, ap, sym, subst, ◌∙◌, arith}
 use Rattle.std.specs.Prelude.{codes}
 use Rattle.std.specs.List.{flat_map}
 use Rattle.std.proofs.lemmas.List.Concat.{flat_map_single}
-use Rattle.wu_base.specs.declared.addresses.PartRec.{PartRec}
 use Rattle.wu_tree.specs.declared.events.Node.{Node}
-use Rattle.wu_tree.specs.FileSystems.{FileSystem}
-use Rattle.wu_tree.specs.Rules.{IsTree}
 use Rattle.wu_image.specs.declared.checkpoints.Checkpoint.{Checkpoint}
 use Rattle.wu_image.specs.declared.records.FileRec.{FileRec}
 use Rattle.wu_image.specs.Items.{Item, Id, Number, StartsWith, Appends, list_items}
-use Rattle.wu_image.specs.Checkpoints.{HasItems, checkpoint_items, first_text, group_items, later_files, link_items, node_items, part_items}
+use Rattle.wu_image.specs.Checkpoints.{HasItems, first_text, group_items, later_files, link_items, node_items, part_items}
 use Rattle.wu_image.specs.Checkpoints.{tree_items, user_items}
 use Rattle.wu_image.proofs.ItemLemmas.{LeftToPut, all_left, all_put, appended, some_put}
 

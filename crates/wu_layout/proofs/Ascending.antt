@@ -11,6 +11,10 @@ pub ascend-bounds : (low high : ℕ) (xs : List ℕ) → AscendBetween low high 
 ascend-bounds low high [] a = a
 ascend-bounds low high (x ∷ xs) a = let r : x + 1 ≤ high = ascend-bounds (x + 1) high xs a.1 in omega (arith, a.0)
 
+pub ascend-below : (low high : ℕ) (xs : List ℕ) → AscendBetween low high xs → AllByRecursion (λ x. x < high) xs
+ascend-below low high [] a = tt
+ascend-below low high (x ∷ xs) a = (omega (arith, ascend-bounds (x + 1) high xs a.1), ascend-below (x + 1) high xs a.1)
+
 pub ascend-lower : (least low high : ℕ) (xs : List ℕ) → least ≤ low → AscendBetween low high xs → AscendBetween least high xs
 ascend-lower least low high [] l a = omega arith
 ascend-lower least low high (x ∷ xs) l a = (omega (arith, a.0), a.1)

@@ -1,50 +1,37 @@
 -- Where there is no more to do in the background, generations fall, so there are few parts, and most of each part is live.
-use Rattle.std.proofs.Common.{◌≡◌, ℕ, suc, ◌+◌, ◌^◌, ◌<◌, ◌≤◌, not, Bool, true, false, List, [], ◌∷◌, length, Option, Some, None, is_some, option_map, position, zip, refl, sym, ◌∙◌, arith, ⊎_elim, pow_mono, pow-suc}
+use Rattle.std.proofs.Common.{◌≡◌, ℕ, ◌+◌, ◌^◌, ◌<◌, ◌≤◌, not, Bool, true, false, List, [], ◌∷◌, length, Option, Some, None, is_some, option_map, position, zip, refl, arith, pow_mono, pow-suc}
 use Rattle.std.specs.Option.{option_or}
 use Rattle.std.specs.List.{AllByRecursion}
-use Rattle.std.proofs.lemmas.Bool.{cases_Bool, leb-false, eqb-false}
+use Rattle.std.proofs.lemmas.Bool.{leb-false, eqb-false}
 use Rattle.std.proofs.lemmas.List.Sums.{sum_by-cons}
 use Rattle.wu_base.specs.declared.addresses.Range.{Range}
+use Rattle.wu_base.proofs.EachLemmas.{each-map}
+use Rattle.wu_base.proofs.Options.{mapped_none}
+use Rattle.wu_base.proofs.Positions.{none_later, none_passes}
 use Rattle.wu_layout.specs.Postings.{live_of, dead_of}
 use Rattle.wu_layout.specs.Layouts.{Text, Part, Layout, ranges_of}
 use Rattle.wu_layout.specs.Invariants.{NeverRise, Fall, flushes_for, AreFewParts, IsLayoutOf}
 use Rattle.wu_layout.specs.Steps.{alike_neighbours, is_half_dead, job_at, pick, job_of, is_idle}
-use Rattle.wu_layout.proofs.EachLemmas.{each-map}
-use Rattle.wu_layout.proofs.Picks.{alike, first_here, first_later}
+use Rattle.wu_layout.proofs.Picks.{alike}
 
 -- ---- nothing is found
 
-mapped_none : {X Y : Type 0} (f : X → Y) (o : Option X) → option_map f o ≡ None → o ≡ None
-mapped_none f None e = refl
-mapped_none f (Some x) e = absurd cc
-
 module _ {X : Type 0} where
-  not_some : (o : Option X) → not (is_some o) ≡ true → o ≡ None
-  not_some None e = refl
-  not_some (Some x) e = absurd cc
+  pub none_of_idle : (o : Option X) → not (is_some o) ≡ true → o ≡ None
+  none_of_idle None e = refl
+  none_of_idle (Some x) e = absurd cc
 
-  neither : (o p : Option X) → option_or o p ≡ None → (o ≡ None) × (p ≡ None)
+  pub neither : (o p : Option X) → option_or o p ≡ None → (o ≡ None) × (p ≡ None)
   neither None p e = (refl, e)
   neither (Some x) p e = absurd cc
 
-  later_none : (test : X → Bool) (x : X) (xs : List X) → position test (x ∷ xs) ≡ None → (test x ≡ false) × (position test xs ≡ None)
-  later_none test x xs e =
-      ⊎_elim
-      (λ (t : test x ≡ true). let here : position test (x ∷ xs) ≡ Some 0 = first_here test x xs t in absurd cc)
-      (λ (f : test x ≡ false). (f, mapped_none (λ n. suc n) (position test xs) (sym (first_later test x xs f) ∙ e)))
-      (cases_Bool (test x))
-
-  none_passes : (test : X → Bool) (xs : List X) → position test xs ≡ None → AllByRecursion (λ x. test x ≡ false) xs
-  none_passes test [] e = tt
-  none_passes test (x ∷ xs) e = let r = later_none test x xs e in (r.0, none_passes test xs r.1)
-
 -- ---- generations fall
 
-fall : (parts : List Part) → alike_neighbours parts ≡ None → NeverRise parts → Fall parts
+pub fall : (parts : List Part) → alike_neighbours parts ≡ None → NeverRise parts → Fall parts
 fall [] e n = tt
 fall (part ∷ []) e n = (tt, tt)
 fall (left ∷ right ∷ more) e n =
-    let r = later_none alike (left, right) (zip (right ∷ more) more) e in
+    let r = none_later alike (left, right) (zip (right ∷ more) more) e in
     let less : right.generation < left.generation = omega (arith, n.0.0, eqb-false left.generation right.generation r.0) in (
       (less, each-map (λ p. p.generation ≤ right.generation) (λ p. p.generation < left.generation) more (λ p l. omega arith) n.1.0),
       fall (right ∷ more) r.1 n.1,
@@ -55,7 +42,7 @@ as_many : (n : ℕ) (parts : List Part) → AllByRecursion (λ part. part.genera
 as_many n [] a f = omega arith
 as_many n (part ∷ parts) a f = let r : length parts ≤ part.generation = as_many part.generation parts f.0 f.1 in omega (arith, a.0)
 
-few : (parts : List Part) → Fall parts → 2 ^ length parts ≤ flushes_for parts + 1
+pub few : (parts : List Part) → Fall parts → 2 ^ length parts ≤ flushes_for parts + 1
 few [] f = omega arith
 few (part ∷ parts) f =
     let least : 2 ^ length parts ≤ 2 ^ part.generation = pow_mono (as_many part.generation parts f.0 f.1) in
@@ -68,7 +55,7 @@ pub few_where_idle : (is_file : ℕ → Bool) (text_of : ℕ → Text) (layout :
     → is_idle layout ≡ true → AreFewParts (ranges_of layout.files) layout.flushes layout.parts
 few_where_idle is_file text_of layout d e =
     let ranges : List Range = ranges_of layout.files in
-    let none = neither layout.job (pick layout) (not_some (job_of layout) e) in
+    let none = neither layout.job (pick layout) (none_of_idle (job_of layout) e) in
     let either = neither (option_map (job_at layout 2) (alike_neighbours layout.parts))
     (option_map (job_at layout 1) (position (is_half_dead ranges) layout.parts)) none.1 in
     let falls : Fall layout.parts =

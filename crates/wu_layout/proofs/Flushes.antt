@@ -3,13 +3,13 @@ use Rattle.std.proofs.Common.{◌≡◌, ◌⊎◌, ℕ, ◌+◌, ◌^◌, ◌<�
 use Rattle.std.proofs.lemmas.Bool.{cases_eq}
 use Rattle.std.proofs.lemmas.List.{map-append, take-append-le, drop-append-le}
 use Rattle.std.proofs.lemmas.List.Sums.{sum_by_push}
+use Rattle.wu_base.proofs.EachLemmas.{each-append}
 use Rattle.wu_layout.specs.Postings.{Posting, has_some, live_of}
 use Rattle.wu_layout.specs.Layouts.{Text, FileEntry, Part, Job, Layout, entry_of, ranges_of, stored_in, homes_of, terms_of, parts_before, parts_taken}
 use Rattle.wu_layout.specs.Invariants.{AddressesAscend, TextsAreIndexed, NeverRise, GenerationsAreBounded, MayBeTaken, IsSuffixOf, IsAmong, JobIsUnderWay, times_named, BlobsAreDistinct, IsLayoutOf}
 use Rattle.wu_layout.specs.Steps.{flushed, flush, flush_if_full, checkpointed, save, rest}
 use Rattle.wu_layout.proofs.BlobLemmas.{once, once_same, once_other}
 use Rattle.wu_layout.proofs.HomeLemmas.{postings_in}
-use Rattle.wu_layout.proofs.EachLemmas.{each-append}
 use Rattle.wu_layout.proofs.KeptLemmas.{IsKeptOf, live_is_kept}
 use Rattle.wu_layout.proofs.ExchangeLemmas.{AreHomes, homes_with, homes_exchanged}
 
@@ -53,7 +53,7 @@ generations_after_flush next flushes parts memory part z l d =
 
 -- ---- the job
 
-taken_some : (before taken : List Part) → MayBeTaken before taken → 0 < length taken
+pub taken_some : (before taken : List Part) → MayBeTaken before taken → 0 < length taken
 taken_some before [] h = absurd h
 taken_some before (part ∷ parts) h = omega arith
 

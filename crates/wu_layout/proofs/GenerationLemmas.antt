@@ -3,10 +3,10 @@ use Rattle.std.proofs.Common.{◌≡◌, ℕ, ◌+◌, ◌*◌, ◌^◌, ◌<◌
 use Rattle.std.specs.List.{AllByRecursion}
 use Rattle.std.proofs.lemmas.Bool.{cases_lt}
 use Rattle.std.proofs.lemmas.List.Sums.{sum_by-append, sum_by-cons}
+use Rattle.wu_base.proofs.EachLemmas.{each-append, each_left, each_right, each-map}
 use Rattle.wu_layout.specs.Layouts.{Part}
 use Rattle.wu_layout.specs.Invariants.{NeverRise, flushes_for, MayBeTaken}
 use Rattle.wu_layout.specs.Steps.{made_generation}
-use Rattle.wu_layout.proofs.EachLemmas.{each-append, each_left, each_right, each-map}
 
 -- no generation of the parts is greater
 abbrev pub AreUpTo : ℕ → List Part → Type 0

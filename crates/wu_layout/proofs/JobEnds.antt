@@ -2,6 +2,7 @@
 use Rattle.std.proofs.Common.{◌≡◌, ℕ, ◌+◌, ◌<◌, ◌==◌, Bool, List, [], ◌∷◌, ◌++◌, length, map, count_by, refl, ap, sym, ◌∙◌, subst, arith, ⊎_elim, length-append}
 use Rattle.std.proofs.lemmas.Bool.{cases_eq}
 use Rattle.std.proofs.lemmas.List.Folds.{flat_map-map}
+use Rattle.wu_base.proofs.EachLemmas.{each-append, each_left, each_right}
 use Rattle.wu_layout.specs.Postings.{Posting, live_of}
 use Rattle.wu_layout.specs.Layouts.{Text, FileEntry, Part, Job, Layout, stored_in, homes_of, parts_before, parts_taken, parts_after}
 use Rattle.wu_layout.specs.Invariants.{AddressesAscend, TextsAreIndexed, IsUnderWay, times_named, BlobsAreDistinct, IsLayoutOf}
@@ -10,7 +11,6 @@ use Rattle.wu_layout.proofs.HomeLemmas.{postings_in, homes_split, parts_split}
 use Rattle.wu_layout.proofs.BlobLemmas.{count-append, count-cons, once, once_same, once_other}
 use Rattle.wu_layout.proofs.KeptLemmas.{IsKeptOf, was_live_is_kept}
 use Rattle.wu_layout.proofs.ExchangeLemmas.{AreHomes, homes_without, homes_exchanged}
-use Rattle.wu_layout.proofs.EachLemmas.{each-append, each_left, each_right}
 use Rattle.wu_layout.proofs.GenerationLemmas.{never_rise_without, never_rise_made, flushes_without, flushes_made}
 
 -- ---- postings

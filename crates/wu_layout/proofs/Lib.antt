@@ -7,7 +7,6 @@ pub mod BlobLemmas
 pub mod Updates
 pub mod KeptLemmas
 pub mod ExchangeLemmas
-pub mod EachLemmas
 pub mod Flushes
 pub mod GenerationLemmas
 pub mod JobEnds

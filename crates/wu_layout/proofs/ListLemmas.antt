@@ -21,7 +21,7 @@ all_terms ps = map (λ p. p.term) ps
 
 -- ---- a term has a list where it stands somewhere
 
-term_long : (term : List ℕ) (ps : List Posting) → Has term (all_terms ps) → 0 < length (addresses_of term ps)
+pub term_long : (term : List ℕ) (ps : List Posting) → Has term (all_terms ps) → 0 < length (addresses_of term ps)
 term_long term [] h = absurd h
 term_long term (p ∷ ps) h =
     elim (is_of term p) as

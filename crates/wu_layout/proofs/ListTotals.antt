@@ -11,10 +11,10 @@ use Rattle.std.proofs.lemmas.List.Sums.{sum_by-cons}
 use Rattle.wu_base.specs.declared.addresses.TermList.{TermList}
 use Rattle.wu_base.proofs.Members.{Has, map_has, filter_has, flat_map_has, all_from_has, all_has}
 use Rattle.wu_base.proofs.SortedLists.{has-sorted_once}
+use Rattle.wu_base.proofs.EachLemmas.{each-append}
 use Rattle.wu_layout.specs.Postings.{Posting, is_of, addresses_of, Ascend}
 use Rattle.wu_layout.specs.Layouts.{terms_of, list_of, lists_of}
 use Rattle.wu_layout.proofs.PostingLemmas.{Ascend-filter}
-use Rattle.wu_layout.proofs.EachLemmas.{each-append}
 use Rattle.wu_layout.proofs.TermLemmas.{AreBetween, addresses_between}
 use Rattle.wu_layout.proofs.ListLemmas.{all_terms, terms_sorted}
 
@@ -111,7 +111,7 @@ lists_total ps =
 
 -- ---- no address in two lists
 
-has_above : (low high : ℕ) (ps : List Posting) (p : Posting) → Ascend low high ps → Has p ps → low ≤ p.address
+pub has_above : (low high : ℕ) (ps : List Posting) (p : Posting) → Ascend low high ps → Has p ps → low ≤ p.address
 has_above low high [] p a h = absurd h
 has_above low high (q ∷ ps) p a h =
     ⊎_elim

@@ -99,14 +99,14 @@ live_by_ranges ranges (p ∷ ps) h =
 
 -- ---- the files' ranges are apart
 
-module _ (is_file : ℕ → Bool) (next : ℕ) (files : List (ℕ × FileEntry)) (d : RangesAreDisjoint is_file next files) where
-  other_key : (p q : ℕ) → nat_cmp p q ≡ Less → p ≢ q
-  other_key p q l e =
-      let same : nat_cmp p p ≡ Less = subst (λ x. nat_cmp p x ≡ Less) (sym e) l in
-      let itself : is_eq (nat_cmp p p) ≡ true = number_itself p in
-      let not_equal : is_eq (nat_cmp p p) ≡ false = ap is_eq same in
-      absurd cc
+pub other_key : (p q : ℕ) → nat_cmp p q ≡ Less → p ≢ q
+other_key p q l e =
+    let same : nat_cmp p p ≡ Less = subst (λ x. nat_cmp p x ≡ Less) (sym e) l in
+    let itself : is_eq (nat_cmp p p) ≡ true = number_itself p in
+    let not_equal : is_eq (nat_cmp p p) ≡ false = ap is_eq same in
+    absurd cc
 
+module _ (is_file : ℕ → Bool) (next : ℕ) (files : List (ℕ × FileEntry)) (d : RangesAreDisjoint is_file next files) where
   apart_from : (file : ℕ × FileEntry) (es : List (ℕ × FileEntry)) → entry_of files file.0 ≡ Some file.1
       → AllByRecursion (λ e. entry_of files e.0 ≡ Some e.1) es → AllByRecursion (λ k. nat_cmp file.0 k ≡ Less) (keys_of es)
       → AllByRecursion (AreApart file.1.range) (ranges_of es)

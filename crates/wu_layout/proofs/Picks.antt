@@ -1,47 +1,29 @@
 -- The job that the policy names is one that may be under way.
-use Rattle.std.proofs.Common.{◌≡◌, ℕ, suc, ◌+◌, ◌<◌, ◌≤◌, ◌==◌, nat_lt, Bool, true, false, cond, List, [], ◌∷◌, length, map, filter, take, drop, Option, Some, None, option_map, position, zip, refl, ap, sym, ◌∙◌, subst, arith, ⊎_elim, inl, inr, length-append, length-take, length-drop, one-add}
+use Rattle.std.proofs.Common.{◌≡◌, ℕ, suc, ◌<◌, ◌≤◌, ◌==◌, nat_lt, Bool, true, false, cond, List, [], ◌∷◌, length, map, filter, take, drop, Some, None, option_map, position, zip, refl, ap, sym, ◌∙◌, subst, arith, ⊎_elim, inl, inr, length-append, length-take, length-drop}
 use Rattle.std.specs.Option.{option_or}
 use Rattle.std.specs.List.{AllByRecursion, position_or_len}
-use Rattle.std.proofs.lemmas.Bool.{cases_lt, cases_Bool, lt-ltb, le-ltb, ltb-true, eqb-true, eqb-false}
+use Rattle.std.proofs.lemmas.Bool.{cases_Bool, ltb-true, eqb-true, eqb-false}
 use Rattle.std.proofs.lemmas.Cmp.{nat_list_cmp_total}
 use Rattle.std.proofs.lemmas.Map.Lookups.{exact_bytes}
 use Rattle.std.proofs.lemmas.Option.{cond_some, same_Some}
 use Rattle.wu_base.specs.declared.addresses.Range.{Range}
 use Rattle.wu_base.proofs.Members.{Has}
 use Rattle.wu_base.proofs.SortedLists.{has-sorted_once}
+use Rattle.wu_base.proofs.EachLemmas.{each-take, each-drop, each-map}
+use Rattle.wu_base.proofs.Positions.{first_here, first_later, place_later}
 use Rattle.wu_layout.specs.Postings.{Posting, has_some}
 use Rattle.wu_layout.specs.Layouts.{Part, Layout, entry_of, ranges_of, stored_in, terms_of}
 use Rattle.wu_layout.specs.Invariants.{NeverRise, MayBeTaken, IsAmong, AddressesAscend, IsUnderWay, JobIsUnderWay}
 use Rattle.wu_layout.specs.Steps.{alike_neighbours, is_half_dead, job_at, pick}
 use Rattle.wu_layout.proofs.EntryLemmas.{IfSome-map}
-use Rattle.wu_layout.proofs.EachLemmas.{each-take, each-drop, each-map}
 use Rattle.wu_layout.proofs.KeptLemmas.{among_ranges}
 
 -- ---- the first that passes a test
-
-module _ {X : Type 0} (test : X → Bool) (x : X) (xs : List X) where
-  pub first_here : test x ≡ true → position test (x ∷ xs) ≡ Some 0
-  first_here t = rw t (rw (lt-ltb 0 (suc (length xs)) (omega arith)) refl)
-
-  pub first_later : test x ≡ false → position test (x ∷ xs) ≡ option_map (λ n. suc n) (position test xs)
-  first_later f =
-      rw f
-      (⊎_elim
-      (λ (l : position_or_len test xs < length xs).
-      rw (lt-ltb (1 + position_or_len test xs) (suc (length xs)) (omega arith), lt-ltb (position_or_len test xs) (length xs) l)
-      (ap (λ (n : ℕ). Some n) (one-add (position_or_len test xs))))
-      (λ (l : length xs ≤ position_or_len test xs).
-      rw (le-ltb (1 + position_or_len test xs) (suc (length xs)) (omega arith), le-ltb (position_or_len test xs) (length xs) l) refl)
-      (cases_lt (position_or_len test xs) (length xs)))
 
 found_within : {X : Type 0} (test : X → Bool) (xs : List X) (place : ℕ) → position test xs ≡ Some place → place < length xs
 found_within test xs place e =
     let r = cond_some (nat_lt (position_or_len test xs) (length xs)) (position_or_len test xs) place e in
     omega (arith, ltb-true _ _ r.0, r.1)
-
-mapped_some : (o : Option ℕ) (place : ℕ) → option_map (λ n. suc n) o ≡ Some place → (k : ℕ) × ((o ≡ Some k) × (suc k ≡ place))
-mapped_some None place e = absurd cc
-mapped_some (Some k) place e = (k, (refl, cc))
 
 zip_shorter : {X Y : Type 0} (xs : List X) (ys : List Y) → length (zip xs ys) ≤ length ys
 zip_shorter [] ys = omega arith
@@ -70,7 +52,7 @@ one_may_be_taken before (part ∷ []) e = tt
 one_may_be_taken before (first ∷ second ∷ more) e = absurd (omega arith)
 
 -- one more part on the left, of a greater generation
-one_more_before : (part : Part) (before taken : List Part) → AllByRecursion (λ p. p.generation < part.generation) taken
+pub one_more_before : (part : Part) (before taken : List Part) → AllByRecursion (λ p. p.generation < part.generation) taken
     → MayBeTaken before taken → MayBeTaken (part ∷ before) taken
 one_more_before part before [] a m = m
 one_more_before part before (first ∷ []) a m = tt
@@ -93,7 +75,7 @@ module _ (left right : Part) (more : List Part) (place : ℕ) (e : alike_neighbo
   pair_later f n rest =
       let later : alike_neighbours (left ∷ right ∷ more) ≡ option_map (λ k. suc k) (alike_neighbours (right ∷ more)) =
       first_later alike (left, right) (zip (right ∷ more) more) f in
-      let r = mapped_some (alike_neighbours (right ∷ more)) place (sym later ∙ e) in
+      let r = place_later (alike_neighbours (right ∷ more)) place (sym later ∙ e) in
       let less : right.generation < left.generation =
       omega (arith, n.0.0, eqb-false left.generation right.generation f) in
       let all_less : AllByRecursion (λ (p : Part). p.generation < left.generation) (right ∷ more) =

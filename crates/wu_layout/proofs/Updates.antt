@@ -1,11 +1,12 @@
 -- What an event does to the layout: a file's range is released, and a file gets a text. After each step the layout is one of the
 -- files and texts after the event.
-use Rattle.std.proofs.Common.{◌≡◌, ◌≢◌, ◌⊎◌, ℕ, ◌+◌, ◌==◌, ◌&&◌, not, Bool, true, false, List, ◌++◌, length, Option, Some, None, IfSome, is_some, refl, ap, sym, ◌∙◌, subst, arith, ⊎_elim, inl, length-append, eq-zero-or-pos}
+use Rattle.std.proofs.Common.{◌≡◌, ◌≢◌, ◌⊎◌, ℕ, ◌+◌, ◌==◌, ◌&&◌, not, Bool, true, false, List, ◌++◌, length, Option, Some, None, IfSome, refl, ap, sym, ◌∙◌, subst, arith, ⊎_elim, inl, length-append, eq-zero-or-pos}
 use Rattle.std.specs.Ordering.{nat_cmp}
 use Rattle.std.specs.List.Sorted.{IsStrictlySortedBy}
 use Rattle.std.specs.Map.{remove_entry}
 use Rattle.std.specs.BTreeMap.{is_at, insert_entry}
 use Rattle.std.proofs.lemmas.Bool.{cases_eq, eq-eqb, ne_eqb, and_left, not_from_true}
+use Rattle.wu_base.proofs.Options.{not_some}
 use Rattle.wu_layout.specs.Postings.{Posting, placed_from, has_some, Ascend}
 use Rattle.wu_layout.specs.Layouts.{homes_of, Text, FileEntry, Part, Job, Layout, first_layout, entry_of, stored_in, postings_of, parts_taken}
 use Rattle.wu_layout.specs.Invariants.{IsIndexed, RangesAreDisjoint, AddressesAscend, GenerationsAreBounded, IsAmong, JobIsUnderWay, IsLayoutOf}
@@ -121,17 +122,13 @@ layout_after_release is_file is_file_after text_of text_of_after layout ino w d 
   blobs = blobs_after_release layout.blob layout.files layout.parts layout.check layout.stale d.blobs ino;
 }
 
-nothing_there : (o : Option FileEntry) → is_some o ≡ false → o ≡ None
-nothing_there None h = refl
-nothing_there (Some entry) h = absurd cc
-
 -- a file gets a text: it is made, or its range was released
 pub layout_after_place : (is_file is_file_after : ℕ → Bool) (text_of text_of_after : ℕ → Text) (layout : Layout) (ino : ℕ) (text : Text)
     → IsWith ino text is_file is_file_after text_of text_of_after
     → IsLayoutOf is_file text_of layout → IsLayoutOf is_file_after text_of_after (place ino text layout)
 layout_after_place is_file is_file_after text_of text_of_after layout ino text w d =
     let entry : FileEntry = entry_for text layout.next layout.blob in
-    let none : entry_of layout.files ino ≡ None = nothing_there (entry_of layout.files ino) (d.ranges.of_files ino ∙ w.absent) in
+    let none : entry_of layout.files ino ≡ None = not_some (entry_of layout.files ino) (d.ranges.of_files ino ∙ w.absent) in
     record {
       ranges = ranges_after_place is_file is_file_after layout.next layout.files ino d.ranges entry refl w.files;
       addresses = addresses_after_place layout.next layout.parts layout.memory text.terms d.addresses;

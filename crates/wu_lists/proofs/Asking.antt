@@ -6,9 +6,9 @@ use Rattle.std.specs.Map.{keys_of}
 use Rattle.std.proofs.lemmas.List.{map-append}
 use Rattle.wu_base.specs.declared.troubles.Trouble.{Trouble}
 use Rattle.wu_base.specs.declared.troubles.Trouble.TheVariants.{NoMemory}
+use Rattle.wu_base.proofs.EachLemmas.{each-append}
 use Rattle.wu_outside.specs.Content.{Content}
 use Rattle.wu_outside.specs.declared.ranges.ReadRange.{ReadRange}
-use Rattle.wu_layout.proofs.EachLemmas.{each-append}
 use Rattle.wu_lists.specs.declared.blocks.Block.{Block}
 use Rattle.wu_lists.specs.Blocks.{IsSpelledIn, range_of}
 use Rattle.wu_lists.specs.Keeping.{AreHeld, Asks, AsksFirst, Kept, StaysHeld, all_asked, all_missing, asked, missing}

@@ -1,10 +1,10 @@
 -- Which blocks are kept after one was asked for.
 use Rattle.std.proofs.Common.{◌≡◌, ℕ, zero, suc, ◌+◌, ◌-◌, ◌<◌, ◌≤◌, ◌==◌, Bool, true, false, cond, List, [], ◌∷◌, filter, length, take, refl, ap, sym, ◌∙◌, subst, arith}
-use Rattle.std.specs.Prelude.{Option, None, Some, is_some, not, ◌&&◌, ◌||◌}
+use Rattle.std.specs.Prelude.{Option, None, Some, is_some, not, ◌||◌}
 use Rattle.std.specs.Option.{option_map_or}
 use Rattle.std.specs.List.{AllByRecursion, IsDistinct, list_any}
 use Rattle.std.specs.Map.{keys_of, lookup, lookup_entry, remove_entry}
-use Rattle.std.proofs.lemmas.Bool.{eqb-true}
+use Rattle.std.proofs.lemmas.Bool.{eqb-true, and_parts}
 use Rattle.std.proofs.lemmas.List.{take_all}
 use Rattle.std.proofs.lemmas.Map.Entries.{length-keys_of}
 use Rattle.lru.specs.LruCache.{LruCache, promoted, put_entries}
@@ -16,10 +16,6 @@ use Rattle.wu_lists.specs.Blocks.{IsSpelling, bytes_of}
 use Rattle.wu_lists.specs.Keeping.{AreHeld, IsChecked, Kept, asked, is_same, missing}
 
 -- ---- equal blocks
-
-and_true : (a b : Bool) → (a && b) ≡ true → (a ≡ true) × (b ≡ true)
-and_true true b e = (refl, e)
-and_true false b e = absurd (cc)
 
 fields_same : (a b : Block) → a.blob ≡ b.blob → a.low ≡ b.low → a.count ≡ b.count → a.first ≡ b.first → a.last ≡ b.last → a.at ≡ b.at
     → a.len ≡ b.len → a ≡ b
@@ -36,12 +32,12 @@ fields_same a b blob low count first last place len =
 
 pub same-blocks : (a b : Block) → is_same a b ≡ true → a ≡ b
 same-blocks a b e =
-    let blob = and_true (a.blob == b.blob) _ e in
-    let low = and_true (a.low == b.low) _ blob.1 in
-    let count = and_true (a.count == b.count) _ low.1 in
-    let first = and_true (a.first == b.first) _ count.1 in
-    let last = and_true (a.last == b.last) _ first.1 in
-    let place = and_true (a.at == b.at) _ last.1 in
+    let blob = and_parts (a.blob == b.blob) _ e in
+    let low = and_parts (a.low == b.low) _ blob.1 in
+    let count = and_parts (a.count == b.count) _ low.1 in
+    let first = and_parts (a.first == b.first) _ count.1 in
+    let last = and_parts (a.last == b.last) _ first.1 in
+    let place = and_parts (a.at == b.at) _ last.1 in
     fields_same a b (eqb-true _ _ blob.0) (eqb-true _ _ low.0) (eqb-true _ _ count.0) (eqb-true _ _ first.0) (eqb-true _ _ last.0)
     (eqb-true _ _ place.0) (eqb-true _ _ place.1)
 

@@ -1,10 +1,11 @@
 -- One block that is asked for: what is found, kept and read.
 use Rattle.std.proofs.Common.{◌≡◌, ℕ, ◌+◌, ◌≤◌, Bool, true, false, cond, List, [], ◌∷◌, ◌++◌, filter, refl, ap, sym, ◌∙◌, subst, arith}
-use Rattle.std.specs.Prelude.{Option, None, Some, Result, Ok, Err, IfSome, IfNone, OnErr}
+use Rattle.std.specs.Prelude.{Option, None, Some, IfSome, IfNone}
 use Rattle.std.specs.List.{AllByRecursion, list_any}
 use Rattle.std.specs.Map.{keys_of, lookup}
 use Rattle.std.proofs.lemmas.Option.{same_Some}
 use Rattle.wu_base.specs.declared.addresses.Range.{Range}
+use Rattle.wu_base.proofs.EachLemmas.{each-filter}
 use Rattle.wu_layout.specs.Postings.{is_live}
 use Rattle.wu_outside.specs.Content.{Content}
 use Rattle.wu_outside.specs.declared.ranges.ReadRange.{ReadRange}
@@ -42,14 +43,6 @@ module _ (X : Type 0) (Gain : List ℕ → X → X → Type 0) (block : Block) (
           sym (none_live frames block block.first addresses missed (omega arith)
           (spelled_ascend block addresses (bytes_of block bytes) has))
 
-  all-filter : (p : ℕ → Bool) (xs : List ℕ) → AllByRecursion (λ x. p x ≡ true) (filter p xs)
-  all-filter p [] = tt
-  all-filter p (x ∷ xs) =
-      elim (p x) as (λ b. p x ≡ b → AllByRecursion (λ y. p y ≡ true) (cond b (x ∷ filter p xs) (filter p xs))) [
-        | true ↦ λ e. (e, all-filter p xs)
-        | false ↦ λ e. all-filter p xs
-      ] refl
-
   -- of one whose addresses these are
   pub fetched-some : (found after : X) (addresses : List ℕ) → AscendBetween block.first (block.last + 1) addresses
       → IfSome holds (λ content. (bytes : List ℕ) → content.blobs block.blob ≡ Some bytes → AreHeld block.blob bytes kept
@@ -60,7 +53,7 @@ module _ (X : Type 0) (Gain : List ℕ → X → X → Type 0) (block : Block) (
     gained = gained;
     kind = record {
       ascend = ascend-filter (is_live frames) block.first (block.last + 1) addresses up;
-      live = all-filter (is_live frames) addresses;
+      live = each-filter (is_live frames) addresses;
       told = same holds told;
     };
   }
@@ -146,10 +139,6 @@ module _ (block : Block) (holds : Option Content) (old new : Kept) (ranges range
           before
 
 -- ---- of a result
-
-pub on_err : {T E P : Type 0} (r : Result T E) → P → OnErr r P
-on_err (Ok value) p = tt
-on_err (Err error) p = p
 
 pub if_some : {T : Type 0} (P : Type 0) (o : Option T) → P → IfSome o (λ value. P)
 if_some P None p = tt

@@ -1,5 +1,4 @@
 pub mod Ascending
-pub mod Parting
 pub mod Cutting
 pub mod Tallying
 pub mod Spans

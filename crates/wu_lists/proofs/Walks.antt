@@ -6,6 +6,7 @@ use Rattle.std.proofs.lemmas.List.{length-drop, length-take, take-append-drop}
 use Rattle.std.proofs.lemmas.List.Elements.{filter-append}
 use Rattle.wu_base.specs.declared.addresses.Range.{Range}
 use Rattle.wu_base.specs.declared.limits.TheConstants.{ADDRESSES_MAX}
+use Rattle.wu_base.proofs.EachLemmas.{each-append, each_right}
 use Rattle.wu_layout.specs.Postings.{is_live}
 use Rattle.wu_layout.proofs.EntryLemmas.{IfSome-map}
 use Rattle.wu_outside.specs.Content.{Content}
@@ -24,7 +25,6 @@ use Rattle.wu_lists.specs.Gaining.{Gains, OpenAlike}
 use Rattle.wu_lists.specs.Keeping.{AreHeld, Asks, Kept}
 use Rattle.wu_lists.specs.Walking.{IsFound, IsRest, IsWalked}
 use Rattle.wu_lists.proofs.Ascending.{all_from, ascend-higher, ascend-join}
-use Rattle.wu_layout.proofs.EachLemmas.{each-append, each_right}
 use Rattle.wu_lists.proofs.Asking.{asks-join, asks-none}
 use Rattle.wu_lists.proofs.Spans.{filter-alike, spelled_ascend}
 

@@ -3,6 +3,7 @@ use Rattle.std.proofs.Common.{◌≡◌, ℕ, zero, suc, ◌+◌, ◌-◌, ◌<�
 use Rattle.std.specs.Prelude.{slice_range}
 use Rattle.std.specs.List.{AllZip}
 use Rattle.wu_base.specs.declared.addresses.TermList.{TermList}
+use Rattle.wu_vbyte.proofs.BlockLemmas.{block_some}
 use Rattle.wu_vbyte.specs.declared.blocks.TheConstants.{BLOCK_LEN}
 use Rattle.wu_vbyte.specs.Blocks.{SpellsBlock, AreFromTo}
 use Rattle.wu_part.specs.declared.entries.BlockEntry.{BlockEntry}
@@ -22,7 +23,7 @@ AreReadBack low blob first left found =
 pub none_read_back : (low : ℕ) (blob : List ℕ) (first : TermEntry) (found : List ℕ) → found ≡ [] → AreReadBack low blob first first found
 none_read_back low blob first found e = λ rest n h. subst (λ xs. HoldBlocks low blob first.blocks (xs ++ rest)) (sym e) h
 
-cut_at : (n : ℕ) (xs ys : List ℕ) → length xs ≤ n → (length xs < n → length ys ≡ 0)
+pub cut_at : (n : ℕ) (xs ys : List ℕ) → length xs ≤ n → (length xs < n → length ys ≡ 0)
     → (take n (xs ++ ys) ≡ xs) × (drop n (xs ++ ys) ≡ ys)
 cut_at zero [] ys l h = (refl, refl)
 cut_at zero (x ∷ xs) ys l h = absurd (omega arith)
@@ -32,17 +33,13 @@ cut_at (suc n) (x ∷ xs) ys l h =
     let r = cut_at n xs ys (omega arith) (λ m. h (omega arith)) in
     (ap (λ (zs : List ℕ). x ∷ zs) r.0, r.1)
 
-some_spelled : (low : ℕ) (addresses bytes : List ℕ) → SpellsBlock low addresses bytes → 0 < length addresses
-some_spelled low [] bytes s = absurd s
-some_spelled low (x ∷ addresses) bytes s = omega arith
-
 pub one_read_back : (low count : ℕ) (blob : List ℕ) (first entry left : TermEntry) (block : BlockEntry) (found addresses bytes new : List ℕ)
     → AreReadBack low blob first entry found → entry.blocks ≡ block ∷ left.blocks → count ≡ min entry.count BLOCK_LEN
     → left.count ≡ entry.count - BLOCK_LEN → bytes ≡ slice_range blob block.at (block.at + block.len)
     → SpellsBlock low addresses bytes → AreFromTo count block.first block.last addresses → new ≡ found ++ addresses
     → AreReadBack low blob first left new
 one_read_back low count blob first entry left block found addresses bytes new r blocks n less is spelled span e = λ rest m h.
-    let some = some_spelled low addresses bytes spelled in
+    let some = block_some low addresses bytes spelled in
     let long = span.number in
     let all : length addresses + length rest ≡ entry.count = omega arith in
     let cut = cut_at BLOCK_LEN addresses rest (omega arith) (λ l. omega arith) in

@@ -5,15 +5,11 @@ use Rattle.std.proofs.lemmas.Bool.{cases_lt, eq-eqb}
 use Rattle.std.proofs.lemmas.List.Folds.{list_any-append}
 use Rattle.std.proofs.lemmas.List.Sums.{sum_by-append, sum_by-cons}
 use Rattle.wu_base.specs.declared.addresses.TermList.{TermList}
+use Rattle.wu_base.proofs.EachLemmas.{each-push}
 use Rattle.wu_part.specs.Parts.{IsList}
 use Rattle.wu_part.specs.Totals.{AreTotals}
 use Rattle.wu_part.specs.Writing.{first_of, last_of}
 use Rattle.wu_part.specs.declared.totals.Totals.{Totals}
-
-pub all_more : (P : TermList → Type 0) (lists : List TermList) (list : TermList) → AllByRecursion P lists → P list
-    → AllByRecursion P (lists ++ list ∷ [])
-all_more P [] list a p = (p, tt)
-all_more P (x ∷ lists) list a p = (a.0, all_more P lists list a.1 p)
 
 all_weaker : (P Q : TermList → Type 0) (lists : List TermList) → ((list : TermList) → P list → Q list) → AllByRecursion P lists
     → AllByRecursion Q lists
@@ -66,12 +62,12 @@ pub more_totals : (lists : List TermList) (list : TermList) (old new : Totals) �
     → new.stored ≡ old.stored + length list.at → new.count ≡ old.count + 1
     → new.reached ≡ (old.reached || (first_of list.at == old.low)) → AreTotals (lists ++ list ∷ []) new
 more_totals lists list old new t is begin low high stored count reached = record {
-  each = all_more IsList lists list t.each is;
+  each = each-push IsList lists list t.each is;
   begin =
       subst (λ n. AllByRecursion (λ l. n ≤ first_of l.at) (lists ++ list ∷ [])) (sym low)
-      (all_more (λ l. old.low ≤ first_of l.at) lists list t.begin begin);
+      (each-push (λ l. old.low ≤ first_of l.at) lists list t.begin begin);
   greatest =
-      all_more (λ l. last_of l.at ≤ new.high) lists list
+      each-push (λ l. last_of l.at ≤ new.high) lists list
       (all_weaker (λ l. last_of l.at ≤ old.high) (λ l. last_of l.at ≤ new.high) lists (λ l s. omega arith) t.greatest) (omega arith);
   last = λ some. last_more lists list old new t high;
   none = λ none. absurd (omega (arith, length-append lists (list ∷ [])));

@@ -1,6 +1,5 @@
 pub mod Weights
 pub mod Ascending
-pub mod Parting
 pub mod Counts
 pub mod Sparse
 pub mod Sums

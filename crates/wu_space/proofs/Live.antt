@@ -9,7 +9,7 @@ use Rattle.std.specs.List.Sorted.{IsStrictlySortedBy}
 use Rattle.std.specs.Map.{keys_of, lookup, remove_entry}
 use Rattle.std.specs.BTreeMap.{is_at, insert_entry}
 use Rattle.std.specs.Cmp.{nat_cmp_total}
-use Rattle.std.proofs.lemmas.Bool.{cases_lt, lt-ltb, ltb-true, ltb-false, leb-true, and_parts, false_from_ne_true, eqb-true, ne_eqb, le-leb, le-ltb}
+use Rattle.std.proofs.lemmas.Bool.{cases_lt, lt-ltb, ltb-true, ltb-false, leb-true, and_parts, false_from_ne_true, eqb-true, ne_eqb, le-leb, le-ltb, cond-false}
 use Rattle.std.proofs.lemmas.List.{length_push}
 use Rattle.std.proofs.lemmas.List.Elements.{Contains-get_or}
 use Rattle.std.proofs.lemmas.List.Sums.{sum_by-cons, sum_by_push, sum_by_more, sum_by-take-le}
@@ -161,16 +161,12 @@ cond-le : (b : Bool) → cond {A = ℕ} b 1 0 ≤ 1
 cond-le true = omega arith
 cond-le false = omega arith
 
-cond-false : (b : Bool) → b ≡ false → cond {A = ℕ} b 1 0 ≡ 0
-cond-false true e = absurd cc
-cond-false false e = refl
-
 cond-positive : (b : Bool) → 0 < cond {A = ℕ} b 1 0 → b ≡ true
 cond-positive true h = refl
 cond-positive false h = absurd (omega arith)
 
 count-other : {X : Type 0} (p : X → Bool) (x : X) (xs : List X) → p x ≡ false → count_by p xs ≡ 0 → count_by p (x ∷ xs) ≡ 0
-count-other {X = X} p x xs e h = omega (arith, sum_by-cons (λ (y : X). cond {A = ℕ} (p y) 1 0) x xs, cond-false (p x) e)
+count-other {X = X} p x xs e h = omega (arith, sum_by-cons (λ (y : X). cond {A = ℕ} (p y) 1 0) x xs, cond-false {A = ℕ} (p x) 1 0 e)
 
 le_from_not_lt : {n : ℕ} → (0 < n → ⊥) → n ≤ 0
 le_from_not_lt {n} h = ⊎_elim (λ (l : 0 < n). absurd (h l)) (λ (l : n ≤ 0). l) (cases_lt 0 n)
@@ -199,7 +195,11 @@ once-from_sorted (file ∷ files) s ino =
           omega (arith, sum_by-cons (λ (f : ℕ × Range). cond {A = ℕ} (f.0 == ino) 1 0) file files, cond-le (eqb file.0 ino), none)
       | false ↦ λ p.
           let rest = once-from_sorted files s.1 ino in
-          omega (arith, sum_by-cons (λ (f : ℕ × Range). cond {A = ℕ} (f.0 == ino) 1 0) file files, cond-false (eqb file.0 ino) p)
+          omega (
+            arith,
+            sum_by-cons (λ (f : ℕ × Range). cond {A = ℕ} (f.0 == ino) 1 0) file files,
+            cond-false {A = ℕ} (eqb file.0 ino) 1 0 p,
+          )
     ] refl
 
 -- how often an address is in live slots

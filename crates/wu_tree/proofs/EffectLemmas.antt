@@ -19,6 +19,7 @@ use Rattle.wu_tree.specs.Rules.{IsTree}
 use Rattle.wu_tree.specs.Steps.{mkdir_rules, create_rules, text_rules, unlink_rules, rmdir_rules, named_by, no_effect, dropped_at, without_link, with_link_moved, with_node, refusal_of, next, effect_of, step, with_perm, is_last_link, is_link_to}
 use Rattle.wu_tree.specs.Effects.{TellsFiles}
 use Rattle.wu_base.proofs.MapEntries.{lookup-insert_entry, lookup-remove_other, none_left, number_itself}
+use Rattle.wu_base.proofs.Options.{none_either_way}
 use Rattle.wu_tree.proofs.ParentPaths.{same_number}
 use Rattle.wu_tree.proofs.LinkRemovals.{apart_from}
 use Rattle.wu_tree.proofs.EventRules.{none_applies, accepted, not_false, kind_file, same_some, none_some}
@@ -99,17 +100,13 @@ module _ (fs : FileSystem) (t : IsTree fs) (parent : ℕ) (name : List ℕ) wher
       tells_removal fs t c (without_link fs parent name) (dropped_at fs parent name) (is_file fs c) (link_count fs.links c == 1) refl
       (rw found refl) (rw found refl)
 
-  cond_none : (b : Bool) → cond {A = Option ℕ} b None None ≡ None
-  cond_none true = refl
-  cond_none false = refl
-
   -- with a link at another place besides
   pub move_onto : (from : ℕ) (old : List ℕ) (child : ℕ) (o : Option ℕ) → child_of fs parent name ≡ o
       → TellsFiles fs (record no_effect { dropped = dropped_at fs parent name })
       (with_link_moved (cond (is_some o) (without_link fs parent name) fs) from old parent name child)
   move_onto from old child None found =
       let last : Bool = is_file fs (named_by fs parent name) && is_last_link fs parent name in
-      let none : dropped_at fs parent name ≡ None = ap (λ (o : Option ℕ). cond last o None) found ∙ cond_none last in
+      let none : dropped_at fs parent name ≡ None = ap (λ (o : Option ℕ). cond last o None) found ∙ none_either_way last in
       subst (λ (d : Option ℕ). TellsFiles fs (record no_effect { dropped = d }) (with_link_moved fs from old parent name child)) (sym none)
       (unchanged fs (with_link_moved fs from old parent name child) (λ q. refl))
   move_onto from old child (Some c) found =

@@ -13,26 +13,18 @@ use Rattle.std.specs.BTreeMap.{BTreeMap}
 use Rattle.std.proofs.lemmas.Cmp.{tied_itself}
 use Rattle.std.proofs.lemmas.List.{map-append, take-append-drop}
 use borrow.Author.Tests.{ltb-true, lt-ltb, leb-true, leb-false, eqb-true}
+use Rattle.wu_base.proofs.EachLemmas.{each_left}
 use Rattle.wu_tree.specs.declared.events.LinkRec.{LinkRec}
 use Rattle.wu_tree.specs.FileSystems.{Link, Place, place_cmp}
 use Rattle.wu_tree.specs.Lists.{IsFirstRun, link_of, named_child}
 use Rattle.wu_tree.specs.Nested.{links_at, links_in}
 
 -- ---- parts of what is in order
-module _ {X : Type 0} (P : X → Type 0) where
-  pub all_front : (xs ys : List X) → AllByRecursion P (xs ++ ys) → AllByRecursion P xs
-  all_front [] ys a = tt
-  all_front (x ∷ xs) ys a = (a.0, all_front xs ys a.1)
-
-  pub all_back : (xs ys : List X) → AllByRecursion P (xs ++ ys) → AllByRecursion P ys
-  all_back [] ys a = a
-  all_back (x ∷ xs) ys a = all_back xs ys a.1
-
 module _ {K : Type 0} (c : K → K → Ordering) where
   pub sorted_front : (xs ys : List K) → IsStrictlySortedBy c (xs ++ ys) → IsStrictlySortedBy c xs
   unfolding IsStrictlySortedBy
   sorted_front [] ys s = tt
-  sorted_front (x ∷ xs) ys s = (all_front (λ y. c x y ≡ Less) xs ys s.0, sorted_front xs ys s.1)
+  sorted_front (x ∷ xs) ys s = (each_left (λ y. c x y ≡ Less) xs ys s.0, sorted_front xs ys s.1)
 
   pub sorted_back : (xs ys : List K) → IsStrictlySortedBy c (xs ++ ys) → IsStrictlySortedBy c ys
   unfolding IsStrictlySortedBy
@@ -201,7 +193,7 @@ module _ {K : Type 0} (bytes : K → List ℕ) where
 
     directory_above : IsStrictlySortedBy nat_cmp (keys_of ds ++ d ∷ [])
     directory_above = next these r.some r.here
-        (all_front (λ (l : LinkRec). IsStrictlySortedBy nat_cmp (keys_of ds ++ l.parent ∷ [])) these others
+        (each_left (λ (l : LinkRec). IsStrictlySortedBy nat_cmp (keys_of ds ++ l.parent ∷ [])) these others
         (subst (λ (ls : List LinkRec). AllByRecursion (λ l. IsStrictlySortedBy nat_cmp (keys_of ds ++ l.parent ∷ [])) ls) r.all k.above))
       where
         next : (ls : List LinkRec) → 0 < length ls → AllByRecursion (λ l. l.parent ≡ d) ls

@@ -1,6 +1,6 @@
 -- What is found of a node in a sound tree: what its file system has of it, and what it holds of its links.
 use Rattle.std.proofs.Common.{◌≡◌, ◌≢◌, ℕ, ◌+◌, ◌≤◌, List, [], ◌∷◌, refl, ap, sym, ◌∙◌, subst, Bool, true, false, cond, not, arith, ⊎_elim}
-use Rattle.std.specs.Prelude.{Option, None, Some, is_some, map, count_by, ◌==◌}
+use Rattle.std.specs.Prelude.{None, Some, is_some, map, count_by, ◌==◌}
 use Rattle.std.proofs.lemmas.List.Sums.{sum_by-cons}
 use Rattle.std.specs.Option.{option_map}
 use Rattle.std.specs.Ordering.{nat_cmp}
@@ -19,15 +19,12 @@ use Rattle.wu_tree.specs.FileSystems.{FileSystem, Place, Link, place_cmp, node_o
 use Rattle.wu_tree.specs.FileSystems.{is_directory_node, parent_of, is_kind_file, link_count}
 use Rattle.wu_tree.specs.Rules.{Hangs}
 use Rattle.wu_base.proofs.MapEntries.{All-found, counted-remove_entry}
+use Rattle.wu_base.proofs.Options.{mapped_none}
 use Rattle.wu_tree.proofs.ParentPaths.{same_number, linked}
 
 pub found_counted : (links : List Link) (t : Place → Bool) (c : ℕ) → lookup t links ≡ Some c → 1 ≤ link_count links c
 found_counted links t c h = let e : cond {A = ℕ} (c == c) 1 0
     ≡ 1 = rw (eq-eqb c c refl) refl in omega (arith, counted-remove_entry (λ v. v == c) t links c h)
-
-none_of_some : {X Y : Type 0} (f : X → Y) (o : Option X) → option_map f o ≡ None → o ≡ None
-none_of_some f None h = refl
-none_of_some f (Some x) h = absurd cc
 
 module _ (inodes : List (ℕ × Inode)) (links : List Link) (users : List (ℕ × UserRec)) (s : IsSound inodes links users) where
   -- ---- nodes
@@ -39,7 +36,7 @@ module _ (inodes : List (ℕ × Inode)) (links : List Link) (users : List (ℕ �
   node_absent ino h = lookup-map_values node_in (is_at (nat_cmp ino)) inodes ∙ ap (option_map node_in) h
 
   pub inode_absent : (ino : ℕ) → node_of (file_system inodes links users) ino ≡ None → lookup (is_at (nat_cmp ino)) inodes ≡ None
-  inode_absent ino h = none_of_some node_in (lookup (is_at (nat_cmp ino)) inodes)
+  inode_absent ino h = mapped_none node_in (lookup (is_at (nat_cmp ino)) inodes)
       (sym (lookup-map_values node_in (is_at (nat_cmp ino)) inodes) ∙ h)
 
   -- ---- nodes with links

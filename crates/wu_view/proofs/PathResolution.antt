@@ -58,14 +58,14 @@ readable_by_cases law fs user ino = (
   λ g. and_from (is_file fs ino) (may fs user Read ino) g.0 (granted_node law user Read (node_of fs ino) g.1),
 )
 
+pub child_found : (fs : FileSystem) → IsTree fs → (link : Link) → Has link fs.links → child_of fs link.0.0 link.0.1 ≡ Some link.1
+child_found fs t link h = lookup-from_Contains (eq_by_cmp_equiv place_total) link.0 link.1 fs.links
+    (IsDistinct-from_sorted place_cmp _ t.links_ascend) (Contains-from_Has link fs.links h)
+
 module _ (law : IsDecidedByCases) (fs : FileSystem) (t : IsTree fs) (user : UserRec) where
   open_itself : (d : ℕ) → is_open fs user d ≡ true → may fs user Execute d ≡ true
   open_itself d h = first_on_way fs.links 254 d (may fs user Execute)
       (subst (λ (l : List ℕ). list_all (may fs user Execute) l ≡ true) (path_is fs.links d) h)
-
-  child_found : (link : Link) → Has link fs.links → child_of fs link.0.0 link.0.1 ≡ Some link.1
-  child_found link h = lookup-from_Contains (eq_by_cmp_equiv place_total) link.0 link.1 fs.links
-      (IsDistinct-from_sorted place_cmp _ t.links_ascend) (Contains-from_Has link fs.links h)
 
   found_child : (d c : ℕ) (name : List ℕ) → child_of fs d name ≡ Some c → Has ((d, name), c) fs.links
   found_child d c name h = Has-from_Contains ((d, name), c) fs.links (Contains-from_lookup (tells_apart place_exact) (d, name) c fs.links h)
@@ -117,7 +117,7 @@ module _ (law : IsDecidedByCases) (fs : FileSystem) (t : IsTree fs) (user : User
             (let b = depth_below fs t link r.1.0 dir in let c : depth fs.links link.1
             ≡ depth fs.links d = ap (depth fs.links) r.1.1 in omega arith) in
             let i = led n link.0.0 low (link_facts fs t link r.1.0).parent up in
-            let c : child_of fs link.0.0 link.0.1 ≡ Some d = child_found link r.1.0 ∙ ap Some r.1.1 in
+            let c : child_of fs link.0.0 link.0.1 ≡ Some d = child_found fs t link r.1.0 ∙ ap Some r.1.1 in
             let p : path_of fs.links link.0 ≡ directory_path fs.links d = sym (path_below_is fs t link r.1.0 dir)
             ∙ ap (directory_path fs.links) r.1.1 in (
               i.0 ++ link.0.1 ∷ [],
@@ -135,7 +135,7 @@ module _ (law : IsDecidedByCases) (fs : FileSystem) (t : IsTree fs) (user : User
       let f = filter_has (λ link. link.1 == ino && is_open fs user link.0.0) link fs.links m.1.0 in
       let b = and_parts (link.1 == ino) (is_open fs user link.0.0) f.1 in
       let i = led 255 link.0.0 (depth_range fs.links link.0.0).1 (link_facts fs t link f.0).parent b.1 in
-      let c : child_of fs link.0.0 link.0.1 ≡ Some ino = child_found link f.0 ∙ ap Some (eqb-true link.1 ino b.0) in
+      let c : child_of fs link.0.0 link.0.1 ≡ Some ino = child_found fs t link f.0 ∙ ap Some (eqb-true link.1 ino b.0) in
       let l : LeadsOpen 1 (i.0 ++ link.0.1 ∷ []) ino = leads-push 1 link.0.0 ino i.0 link.0.1 i.1 (open_itself link.0.0 b.1) c in (
         i.0 ++ link.0.1 ∷ [],
         leads_by 1 (i.0 ++ link.0.1 ∷ []) ino l,

@@ -1,4 +1,4 @@
-use Rattle.std.proofs.Common.{◌≡◌, ℕ, Bool, cond, ap, refl, subst}
+use Rattle.std.proofs.Common.{ℕ, Bool, cond, ap, refl, subst}
 use Rattle.std.proofs.lemmas.Bool.{ne_eqb}
 use Rattle.wu_outside.specs.Content.{with_blob}
 use Rattle.wu_image.specs.Images.{Names}

@@ -1,6 +1,6 @@
-use Rattle.std.proofs.Common.{[], ◌∷◌, ◌++◌, length}
+use Rattle.std.proofs.Common.{[], ◌∷◌, length}
 use Rattle.wu_image.specs.Items.{Id, Number, Raw}
-use Rattle.wu_image.proofs.ItemLemmas.{joined, past_id}
+use Rattle.wu_image.proofs.ItemLemmas.{past_id}
 use Rattle.wu_image.proofs.UniqueItems.{past_name}
 use Rattle.wu_image.proofs.lists.take_link.Goals as goal
 

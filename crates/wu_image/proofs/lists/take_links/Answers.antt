@@ -1,10 +1,11 @@
-use Rattle.std.proofs.Common.{◌≡◌, ℕ, List, [], ◌∷◌, ◌++◌, length, map, ap, ◌∙◌, arith}
+use Rattle.std.proofs.Common.{List, length, map, ap, ◌∙◌, arith}
 use Rattle.std.specs.List.{flat_map}
 use Rattle.std.proofs.lemmas.List.{map-append}
+use Rattle.wu_base.proofs.EachLemmas.{each-unit}
 use Rattle.wu_tree.specs.declared.events.LinkRec.{LinkRec}
 use Rattle.wu_tree.specs.Lists.{link_of}
 use Rattle.wu_image.specs.Checkpoints.{link_items}
-use Rattle.wu_image.proofs.ItemLemmas.{all_taken, all_units, none_taken, not_taken, one_taken}
+use Rattle.wu_image.proofs.ItemLemmas.{all_taken, none_taken, not_taken, one_taken}
 use Rattle.wu_image.proofs.UniqueItems.{Any, unique_link}
 use Rattle.wu_image.proofs.lists.take_links.Goals as goal
 
@@ -17,7 +18,7 @@ loop-init c = rw c.new-links.ensures.items (none_taken link_items Any _ _ _ _ c.
 pub returns-in-None-clause-none : goal.returns-in-None-clause-none
 returns-in-None-clause-none c links rest s =
     not_taken link_items Any unique_link _ _ _ _ _ c.loop.invariant (omega (arith, c.loop-test.true))
-    (λ link after p t. (rw c.in-None.is at c.in_ok-taken.ensures.none) link after t) links rest (all_units links) s
+    (λ link after p t. (rw c.in-None.is at c.in_ok-taken.ensures.none) link after t) links rest (each-unit links) s
 
 pub loop-preserved : goal.loop-preserved
 loop-preserved c =

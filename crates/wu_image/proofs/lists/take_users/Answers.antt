@@ -1,10 +1,11 @@
-use Rattle.std.proofs.Common.{◌≡◌, ℕ, List, [], ◌∷◌, ◌++◌, length, map, ap, ◌∙◌, arith}
+use Rattle.std.proofs.Common.{List, length, map, ap, ◌∙◌, arith}
 use Rattle.std.specs.List.{flat_map}
 use Rattle.std.proofs.lemmas.List.{map-append}
+use Rattle.wu_base.proofs.EachLemmas.{each-unit}
 use Rattle.wu_access.specs.declared.UserRec.{UserRec}
 use Rattle.wu_tree.specs.Lists.{user_of}
 use Rattle.wu_image.specs.Checkpoints.{user_items}
-use Rattle.wu_image.proofs.ItemLemmas.{all_taken, all_units, none_taken, not_taken, one_taken}
+use Rattle.wu_image.proofs.ItemLemmas.{all_taken, none_taken, not_taken, one_taken}
 use Rattle.wu_image.proofs.UniqueItems.{Any, unique_user}
 use Rattle.wu_image.proofs.lists.take_users.Goals as goal
 
@@ -17,7 +18,7 @@ loop-init c = rw c.new-users.ensures.items (none_taken user_items Any _ _ _ _ c.
 pub returns-in-None-clause-none : goal.returns-in-None-clause-none
 returns-in-None-clause-none c users rest s =
     not_taken user_items Any unique_user _ _ _ _ _ c.loop.invariant (omega (arith, c.loop-test.true))
-    (λ user after p t. (rw c.in-None.is at c.in_ok-taken.ensures.none) user after t) users rest (all_units users) s
+    (λ user after p t. (rw c.in-None.is at c.in_ok-taken.ensures.none) user after t) users rest (each-unit users) s
 
 pub loop-preserved : goal.loop-preserved
 loop-preserved c =

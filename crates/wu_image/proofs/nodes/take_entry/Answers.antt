@@ -1,4 +1,4 @@
-use Rattle.std.proofs.Common.{ℕ, List, [], ◌∷◌, subst}
+use Rattle.std.proofs.Common.{ℕ, List, ◌∷◌, subst}
 use Rattle.wu_tree.specs.declared.events.Kind.{Kind}
 use Rattle.wu_image.specs.declared.nodes.Entry.{Entry}
 use Rattle.wu_image.specs.Items.{Item, Id, Number}

@@ -1,4 +1,4 @@
-use Rattle.std.proofs.Common.{[], ◌∷◌, arith}
+use Rattle.std.proofs.Common.{◌∷◌, arith}
 use Rattle.wu_image.specs.Items.{Id, Number}
 use Rattle.wu_image.proofs.ItemLemmas.{past_id, past_number}
 use Rattle.wu_image.proofs.nodes.take_perm.Goals as goal

@@ -1,7 +1,3 @@
-use Rattle.std.proofs.Common.{◌≡◌, Bool, ap, refl, subst, sym}
-use Rattle.std.specs.Prelude.{MatchBool}
-use Rattle.wu_image.specs.LayoutRules.{AreLayoutRules}
-use Rattle.wu_image.specs.Lists.{checkpoint_of}
 use Rattle.wu_image.proofs.ListedLemmas.{layout_at, listed_of_spelled, made_checkpoint, tree_at}
 use Rattle.wu_image.proofs.reading.read_checkpoint.Goals as goal
 

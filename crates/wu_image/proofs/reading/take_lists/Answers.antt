@@ -1,4 +1,4 @@
-use Rattle.std.proofs.Common.{◌≡◌, ℕ, List, [], ◌∷◌, ◌++◌, length, map, refl, sym, ap, subst, arith}
+use Rattle.std.proofs.Common.{[], length, map, refl}
 use Rattle.wu_image.specs.Items.{Number, list_items}
 use Rattle.wu_image.specs.Checkpoints.{link_items, user_items}
 use Rattle.wu_image.specs.Reading.{entry_items}

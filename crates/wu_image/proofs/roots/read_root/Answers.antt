@@ -1,4 +1,4 @@
-use Rattle.std.proofs.Common.{◌≡◌, ◌^◌, ◌<◌, sym, ◌∙◌, arith}
+use Rattle.std.proofs.Common.{sym, ◌∙◌, arith}
 use Rattle.wu_image.proofs.RootLemmas.{eight_bytes_of_one, numbers_stand, root_read}
 use Rattle.wu_image.proofs.roots.read_root.Goals as goal
 

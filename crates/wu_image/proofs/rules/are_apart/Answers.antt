@@ -1,4 +1,4 @@
-use Rattle.std.proofs.Common.{List, map, rules, subst}
+use Rattle.std.proofs.Common.{List, rules, subst}
 use Rattle.std.specs.Prelude.{IsPermutation}
 use Rattle.std.proofs.lemmas.List.Sorted.{IsNonDecreasingBy-from_sort_by_key}
 use Rattle.wu_base.specs.declared.addresses.Range.{Range}

@@ -1,7 +1,7 @@
-use Rattle.std.proofs.Common.{◌≡◌, ℕ, ◌+◌, ◌<◌, List, get_or, take, subst, sym, arith}
+use Rattle.std.proofs.Common.{ℕ, ◌<◌, List, subst, sym}
 use Rattle.std.specs.List.{AllByRecursion}
 use Rattle.std.proofs.lemmas.List.{take_all, take_more}
-use Rattle.wu_image.proofs.ItemLemmas.{all_pushed}
+use Rattle.wu_base.proofs.EachLemmas.{each-push}
 use Rattle.wu_image.proofs.RuleLemmas.{all_has_at}
 use Rattle.wu_image.proofs.rules.are_drawn.Goals as goal
 
@@ -15,7 +15,7 @@ pub loop-blob-preserved : goal.loop-blob-preserved
 loop-blob-preserved c =
     subst (λ (l : List ℕ). AllByRecursion (λ (b : ℕ). (0 < b) × (b < c.args.next_blob)) l)
     (sym (take_more c.args.blobs.now c.loop-blob.blob-index 0 c.loop-blob-test.true))
-    (all_pushed (λ (b : ℕ). (0 < b) × (b < c.args.next_blob)) _ _ c.loop-blob.invariant c.if-not-is_drawn.ensures)
+    (each-push (λ (b : ℕ). (0 < b) × (b < c.args.next_blob)) _ _ c.loop-blob.invariant c.if-not-is_drawn.ensures)
 
 pub returns : goal.returns
 returns c =

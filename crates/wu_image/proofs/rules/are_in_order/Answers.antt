@@ -1,4 +1,4 @@
-use Rattle.std.proofs.Common.{◌≡◌, ◌+◌, ◌^◌, ◌<◌, List, get_or, arith}
+use Rattle.std.proofs.Common.{◌+◌, ◌^◌, ◌<◌, List, get_or, arith}
 use Rattle.std.proofs.lemmas.List.{at_drop_all, drop_more}
 use Rattle.wu_base.specs.declared.addresses.Range.{Range}
 use Rattle.wu_image.proofs.RuleLemmas.{all_has_at, no_range}

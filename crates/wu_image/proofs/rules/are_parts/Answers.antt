@@ -1,4 +1,4 @@
-use Rattle.std.proofs.Common.{◌≡◌, ◌+◌, List, ◌∷◌, drop, get_or, arith}
+use Rattle.std.proofs.Common.{List, get_or, arith}
 use Rattle.std.proofs.lemmas.List.{at_drop_all, drop_more}
 use Rattle.wu_base.specs.declared.addresses.PartRec.{PartRec}
 use Rattle.wu_image.proofs.RuleLemmas.{all_parts_left, fewer_left, no_next_part, no_part, no_part_left, one_part_less}

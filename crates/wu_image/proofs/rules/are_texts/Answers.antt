@@ -1,9 +1,9 @@
-use Rattle.std.proofs.Common.{◌≡◌, ◌+◌, List, get_or, take, subst, sym, arith}
+use Rattle.std.proofs.Common.{List, subst, sym}
 use Rattle.std.specs.List.{AllByRecursion}
 use Rattle.std.proofs.lemmas.List.{take_all, take_more}
+use Rattle.wu_base.proofs.EachLemmas.{each-push}
 use Rattle.wu_image.specs.declared.records.FileRec.{FileRec}
 use Rattle.wu_image.specs.LayoutRules.{IsText}
-use Rattle.wu_image.proofs.ItemLemmas.{all_pushed}
 use Rattle.wu_image.proofs.RuleLemmas.{all_has_at, no_file}
 use Rattle.wu_image.proofs.rules.are_texts.Goals as goal
 
@@ -16,7 +16,7 @@ pub loop-file-preserved : goal.loop-file-preserved
 loop-file-preserved c =
     subst (λ (l : List FileRec). AllByRecursion (IsText c.args.next_address) l)
     (sym (take_more c.args.files.now c.loop-file.file-index no_file c.loop-file-test.true))
-    (all_pushed (IsText c.args.next_address) _ _ c.loop-file.invariant c.if-not-is_text.ensures)
+    (each-push (IsText c.args.next_address) _ _ c.loop-file.invariant c.if-not-is_text.ensures)
 
 pub returns : goal.returns
 returns c =

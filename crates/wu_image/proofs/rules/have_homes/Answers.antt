@@ -1,4 +1,4 @@
-use Rattle.std.proofs.Common.{◌≡◌, ℕ, ◌+◌, ◌-◌, ◌<◌, List, get_or, set, refl, ap, ◌∙◌, arith}
+use Rattle.std.proofs.Common.{ℕ, ◌-◌, ◌<◌, get_or, set, refl, ap, ◌∙◌, arith}
 use Rattle.wu_image.specs.declared.records.FileRec.{FileRec}
 use Rattle.wu_image.proofs.RuleLemmas.{all_has_at, no_file, no_part}
 use Rattle.wu_image.proofs.HomeLemmas.{all_files_asked, get_or_any, homeless, one_file_asked, stored_at, too_long}

@@ -1,4 +1,4 @@
-use Rattle.std.proofs.Common.{◌≡◌, ℕ, ltb, sym, ◌∙◌, rules, arith}
+use Rattle.std.proofs.Common.{ltb, sym, ◌∙◌, rules, arith}
 use Rattle.std.proofs.lemmas.Bool.{ltb-true, ltb-false}
 use Rattle.std.proofs.lemmas.List.Sorted.{IsPartitionPoint-from_clause, IsPartitionedBy-ltb}
 use Rattle.wu_base.specs.declared.addresses.PartRec.{PartRec}

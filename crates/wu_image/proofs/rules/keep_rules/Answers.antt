@@ -1,4 +1,4 @@
-use Rattle.std.proofs.Common.{◌≡◌, ℕ, Bool, subst, arith}
+use Rattle.std.proofs.Common.{Bool, subst, arith}
 use Rattle.std.specs.Prelude.{MatchBool}
 use Rattle.wu_image.specs.Checks.{AreApart, HaveHomes}
 use Rattle.wu_image.proofs.RuleLemmas.{decided, homes_of_layout, layout_of_checks, parts_of_layout, rules_of_parts, texts_end, texts_filled}

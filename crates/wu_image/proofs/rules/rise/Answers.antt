@@ -1,4 +1,4 @@
-use Rattle.std.proofs.Common.{◌≡◌, ℕ, ◌+◌, ◌^◌, ◌<◌, List, get_or, arith}
+use Rattle.std.proofs.Common.{ℕ, ◌+◌, ◌^◌, ◌<◌, List, get_or, arith}
 use Rattle.std.proofs.lemmas.List.{at_drop_all, drop_more}
 use Rattle.wu_image.proofs.RuleLemmas.{all_has_at}
 use Rattle.wu_image.proofs.DistinctBlobs.{all_rise_left, is_early, no_number_left, one_number_less}

@@ -1,4 +1,3 @@
-use Rattle.std.proofs.Common.{[], ◌∷◌}
 use Rattle.wu_image.proofs.ItemLemmas.{list_appended}
 use Rattle.wu_image.proofs.writing.put_list.Goals as goal
 

@@ -1,8 +1,8 @@
-use Rattle.std.proofs.Common.{◌≡◌, ◌+◌, List, [], ◌∷◌, length, drop, subst, sym, ap, ◌∙◌, get_or}
+use Rattle.std.proofs.Common.{◌≡◌, ◌+◌, List, [], ◌∷◌, length, drop, get_or}
 use Rattle.std.specs.List.{flat_map}
 use Rattle.std.proofs.lemmas.List.{at_drop_all, drop_more}
 use Rattle.wu_base.specs.declared.addresses.PartRec.{PartRec}
-use Rattle.wu_image.specs.Items.{Item, Number, list_items}
+use Rattle.wu_image.specs.Items.{Number, list_items}
 use Rattle.wu_image.specs.Checkpoints.{part_items}
 use Rattle.wu_image.proofs.ItemLemmas.{all_left, all_put_at, some_put}
 use Rattle.wu_image.proofs.RuleLemmas.{no_part}

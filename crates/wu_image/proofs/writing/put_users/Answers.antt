@@ -1,8 +1,8 @@
-use Rattle.std.proofs.Common.{◌≡◌, ℕ, List, [], map, ap, sym, subst, ◌∙◌}
+use Rattle.std.proofs.Common.{ℕ, List, [], map, ap, sym, subst, ◌∙◌}
 use Rattle.std.specs.List.{flat_map}
 use Rattle.wu_access.specs.declared.UserRec.{UserRec}
 use Rattle.wu_tree.specs.Lists.{user_of}
-use Rattle.wu_image.specs.Items.{Number, Appends, StartsWith}
+use Rattle.wu_image.specs.Items.{StartsWith}
 use Rattle.wu_image.specs.Checkpoints.{user_items}
 use Rattle.wu_image.proofs.ItemLemmas.{all_written, putting_all, putting_one}
 use Rattle.wu_image.proofs.writing.put_users.Goals as goal

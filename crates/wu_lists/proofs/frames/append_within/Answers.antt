@@ -1,10 +1,10 @@
 use Rattle.std.proofs.Common.{◌-◌, ◌^◌, ◌≡◌, ℕ, ◌+◌, List, [], ◌++◌, filter, drop, get_or, ap, sym, ◌∙◌, arith, append-nil, append_assoc, refl}
 use Rattle.std.proofs.lemmas.List.{take_rest}
 use Rattle.wu_base.specs.declared.addresses.Range.{Range}
+use Rattle.wu_base.proofs.Results.{on_err}
 use Rattle.wu_layout.specs.Postings.{is_live}
 use Rattle.wu_lists.proofs.Ascending.{ascend-lower, first_end, first_start}
 use Rattle.wu_lists.proofs.Cutting.{cut_first, none_left}
-use Rattle.wu_lists.proofs.Fetches.{on_err}
 use Rattle.wu_lists.proofs.frames.append_within.Goals as goal
 
 pub split_below-requires-clause-limit : goal.split_below-requires-clause-limit

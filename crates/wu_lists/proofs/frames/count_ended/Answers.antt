@@ -3,8 +3,8 @@ use Rattle.std.specs.List.{AllByRecursion}
 use Rattle.std.proofs.lemmas.Bool.{leb-true, leb-false}
 use Rattle.std.proofs.lemmas.List.Sorted.{IsPartitionPoint-from_clause, IsPartitionedBy-leb}
 use Rattle.wu_base.specs.declared.addresses.Range.{Range}
+use Rattle.wu_base.proofs.Parting.{parts_at}
 use Rattle.wu_lists.proofs.Ascending.{order-take, ends-rise}
-use Rattle.wu_lists.proofs.Parting.{parts_at}
 use Rattle.wu_lists.proofs.frames.count_ended.Goals as goal
 use Rattle.wu_lists.proofs.frames.count_ended.Goals.{After-partition_point}
 

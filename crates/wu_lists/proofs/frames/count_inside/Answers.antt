@@ -1,12 +1,13 @@
 use Rattle.std.proofs.Common.{◌-◌, ◌^◌, ◌≡◌, ℕ, ◌<◌, ◌≤◌, length, take, arith, subst}
 use Rattle.std.specs.List.{AllByRecursion}
+use Rattle.wu_base.proofs.EachLemmas.{each-drop_all, each-take_more}
 use Rattle.wu_lists.proofs.Ascending.{all_from_place}
-use Rattle.wu_lists.proofs.Parting.{all_more, none_behind}
 use Rattle.wu_lists.proofs.frames.count_inside.Goals as goal
 
 pub loop-place-preserved : goal.loop-place-preserved
 loop-place-preserved c =
-    all_more (λ (x : ℕ). x < c.args.limit) c.args.addresses.now c.loop-place.place 0 (omega arith) c.loop-place.invariant (omega arith)
+    each-take_more (λ (x : ℕ). x < c.args.limit) c.args.addresses.now c.loop-place.place 0
+    (omega arith) c.loop-place.invariant (omega arith)
 
 pub returns-then-addresses-place-clause-others : goal.returns-then-addresses-place-clause-others
 returns-then-addresses-place-clause-others c =
@@ -19,4 +20,4 @@ returns-clause-below c =
     subst (λ (n : ℕ). AllByRecursion (λ (x : ℕ). x < c.args.limit) (take n xs)) end c.loop-place.invariant
 
 pub returns-clause-others : goal.returns-clause-others
-returns-clause-others c = none_behind (λ (x : ℕ). c.args.limit ≤ x) c.args.addresses.now
+returns-clause-others c = each-drop_all (λ (x : ℕ). c.args.limit ≤ x) c.args.addresses.now

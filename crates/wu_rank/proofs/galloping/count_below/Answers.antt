@@ -2,8 +2,8 @@ use Rattle.std.proofs.Common.{ℕ, ◌<◌, ◌≤◌, ltb, take, drop, rules}
 use Rattle.std.specs.List.{AllByRecursion}
 use Rattle.std.proofs.lemmas.Bool.{ltb-true, ltb-false}
 use Rattle.std.proofs.lemmas.List.Sorted.{IsPartitionPoint-from_clause, IsPartitionedBy-ltb}
+use Rattle.wu_base.proofs.Parting.{parts_at}
 use Rattle.wu_rank.proofs.Ascending.{ascend-take, addresses-rise}
-use Rattle.wu_rank.proofs.Parting.{parts_at}
 use Rattle.wu_rank.proofs.galloping.count_below.Goals as goal
 use Rattle.wu_rank.proofs.galloping.count_below.Goals.{After-partition_point}
 

@@ -2,9 +2,9 @@ use Rattle.std.proofs.Common.{ltb, take, rules}
 use Rattle.std.proofs.lemmas.Bool.{ltb-true}
 use Rattle.std.proofs.lemmas.List.Sorted.{IsPartitionPoint-from_clause, IsPartitionedBy-ltb}
 use Rattle.std.proofs.Common.{◌<◌}
+use Rattle.wu_base.proofs.Parting.{passes_before}
 use Rattle.wu_rank.specs.declared.results.Unit.{Unit as RankedUnit}
 use Rattle.wu_rank.proofs.Ascending.{units-take, ends-rise}
-use Rattle.wu_rank.proofs.Parting.{passes_before}
 use Rattle.wu_rank.proofs.galloping.count_ended.Goals as goal
 
 pub returns-clause-ended : goal.returns-clause-ended

@@ -3,6 +3,7 @@ use Rattle.std.specs.Prelude.{IfSome, IfErr, OnOk}
 use Rattle.std.specs.List.{list_any}
 use Rattle.std.specs.Map.{keys_of}
 use Rattle.std.proofs.lemmas.Result.{IfOk-weaker, on_err_weaker}
+use Rattle.wu_base.proofs.Results.{on_err}
 use Rattle.wu_lists.specs.Ascending.{AscendBetween}
 use Rattle.wu_lists.specs.Blocks.{HasBytes, IsSpelledIn, IsSpelling, bytes_of}
 use Rattle.wu_lists.specs.declared.blocks.Block.{Block}
@@ -10,7 +11,7 @@ use Rattle.wu_lists.specs.Causes.{IsCause}
 use Rattle.wu_lists.specs.Keeping.{AreHeld, Asks, Kept, is_same}
 use Rattle.wu_lists.proofs.Asking.{first-kept, first-none}
 use Rattle.wu_lists.proofs.Caching.{is_absent, is_found}
-use Rattle.wu_lists.proofs.Fetches.{asks-kept, missed-one, on_err, told-kept, told-read}
+use Rattle.wu_lists.proofs.Fetches.{asks-kept, missed-one, told-kept, told-read}
 use Rattle.wu_lists.proofs.Spans.{spelled_ascend}
 use Rattle.wu_lists.proofs.lists.Lists.addresses.Goals as goal
 

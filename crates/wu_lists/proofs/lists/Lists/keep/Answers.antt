@@ -2,12 +2,12 @@ use Rattle.std.proofs.Common.{◌≡◌, ℕ, List, sym, ◌∙◌, ap, subst}
 use Rattle.std.specs.List.{list_any}
 use Rattle.std.specs.Map.{keys_of}
 use Rattle.std.specs.Prelude.{false}
+use Rattle.wu_base.proofs.Results.{on_err}
 use Rattle.lru.specs.LruCache.{IsValid}
 use Rattle.wu_lists.specs.Blocks.{bytes_of}
 use Rattle.wu_lists.specs.declared.blocks.Block.{Block}
 use Rattle.wu_lists.specs.Keeping.{AreHeld, IsChecked, Kept, asked, is_same}
 use Rattle.wu_lists.proofs.Caching.{all-put, keys-put}
-use Rattle.wu_lists.proofs.Fetches.{on_err}
 use Rattle.wu_lists.proofs.lists.Lists.keep.Goals as goal
 
 pub invariant_of-self-2 : goal.invariant_of-self-2

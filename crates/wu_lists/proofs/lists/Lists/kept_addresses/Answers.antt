@@ -2,12 +2,13 @@ use Rattle.std.proofs.Common.{◌≡◌, ℕ, List, None, Some, sym, ◌∙◌, 
 use Rattle.std.specs.Prelude.{is_some}
 use Rattle.std.specs.Map.{keys_of, lookup}
 use Rattle.std.proofs.lemmas.Result.{IfOk-weaker}
+use Rattle.wu_base.proofs.Results.{on_err}
 use Rattle.lru.specs.LruCache.{IsValid}
 use Rattle.wu_lists.specs.Blocks.{bytes_of}
 use Rattle.wu_lists.specs.declared.blocks.Block.{Block}
 use Rattle.wu_lists.specs.Keeping.{AreHeld, IsChecked, Kept, asked, is_same}
 use Rattle.wu_lists.proofs.Caching.{all-promoted, checked-found, keys-promoted, promoted-none}
-use Rattle.wu_lists.proofs.Fetches.{if_some, never_none, on_err}
+use Rattle.wu_lists.proofs.Fetches.{if_some, never_none}
 use Rattle.wu_lists.proofs.lists.Lists.kept_addresses.Goals as goal
 
 pub invariant_of-self : goal.invariant_of-self

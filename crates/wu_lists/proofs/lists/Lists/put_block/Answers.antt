@@ -1,10 +1,11 @@
 use Rattle.std.proofs.Common.{◌-◌, ◌^◌, ◌≡◌, ◌+◌, List, [], ◌∷◌, true, false, filter, sym, ◌∙◌, subst, arith, rules}
+use Rattle.wu_base.proofs.Results.{on_err}
 use Rattle.wu_layout.specs.Postings.{is_live}
 use Rattle.wu_lists.specs.declared.blocks.Block.{Block}
 use Rattle.wu_lists.specs.Keeping.{Asks, AsksFirst}
 use Rattle.wu_lists.proofs.Ascending.{ascend-higher, ascend-lower}
 use Rattle.wu_lists.proofs.Asking.{asks-none, first-all}
-use Rattle.wu_lists.proofs.Fetches.{fetched-none, fetched-some, needed-nothing, needed-one, on_err}
+use Rattle.wu_lists.proofs.Fetches.{fetched-none, fetched-some, needed-nothing, needed-one}
 use Rattle.wu_lists.proofs.lists.Lists.put_block.Goals as goal
 
 pub returns-then-not-is_needed-clause-addresses : goal.returns-then-not-is_needed-clause-addresses

@@ -1,11 +1,12 @@
 use Rattle.std.proofs.Common.{◌≡◌, List, [], ◌∷◌, true, false, filter, refl, sym, ◌∙◌, ap, subst, rules}
 use Rattle.std.specs.List.{list_any}
 use Rattle.std.specs.Map.{keys_of}
+use Rattle.wu_base.proofs.Results.{on_err}
 use Rattle.wu_lists.specs.Blocks.{meets}
 use Rattle.wu_lists.specs.declared.blocks.Block.{Block}
 use Rattle.wu_lists.specs.Keeping.{Asks, Kept, is_same}
 use Rattle.wu_lists.proofs.Asking.{asks-none, first-none}
-use Rattle.wu_lists.proofs.Fetches.{asks-kept, needed-nothing, needed-one, on_err}
+use Rattle.wu_lists.proofs.Fetches.{asks-kept, needed-nothing, needed-one}
 use Rattle.wu_lists.proofs.lists.Lists.touch_block.Goals as goal
 
 pub returns-then-not-is_needed-clause-blocks : goal.returns-then-not-is_needed-clause-blocks

@@ -1,4 +1,4 @@
-use Rattle.wu_lists.proofs.Fetches.{on_err}
+use Rattle.wu_base.proofs.Results.{on_err}
 use Rattle.wu_lists.proofs.lists.Lists.visit.Goals as goal
 
 pub returns-else-wants-clause-none : goal.returns-else-wants-clause-none

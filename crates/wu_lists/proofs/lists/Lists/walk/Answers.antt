@@ -4,6 +4,7 @@ use Rattle.std.specs.List.{AllByRecursion}
 use Rattle.std.specs.Map.{keys_of}
 use Rattle.std.proofs.lemmas.Result.{IfErr-weaker}
 use Rattle.wu_base.specs.declared.troubles.Trouble.{Trouble}
+use Rattle.wu_base.proofs.Results.{on_err}
 use Rattle.wu_layout.proofs.EntryLemmas.{IfSome-map}
 use Rattle.wu_lists.specs.Blocks.{IsSpelledIn, blocks_from, meets, needed}
 use Rattle.wu_lists.specs.declared.blocks.Block.{Block}
@@ -12,7 +13,6 @@ use Rattle.wu_lists.specs.Fetching.{AreFetched, HasBlocks, HasTerm}
 use Rattle.wu_lists.specs.Keeping.{Asks, AsksFirst, all_missing}
 use Rattle.wu_lists.proofs.Ascending.{frames_in_order}
 use Rattle.wu_lists.proofs.Asking.{asks-none, cause-step}
-use Rattle.wu_lists.proofs.Fetches.{on_err}
 use Rattle.wu_lists.proofs.Terms.{entry-absent, entry-blocks, entry-found, fetched-absent, fetched-term, needed-absent, needed-found, no-part}
 use Rattle.wu_lists.proofs.Walks.{gains-none, gains-step}
 use Rattle.wu_lists.proofs.lists.Lists.walk.Goals as goal

@@ -4,6 +4,7 @@ use Rattle.std.specs.List.{AllByRecursion}
 use Rattle.std.specs.Map.{keys_of}
 use Rattle.std.proofs.lemmas.Result.{IfErr-weaker}
 use Rattle.wu_base.specs.declared.troubles.Trouble.{Trouble}
+use Rattle.wu_base.proofs.Results.{on_err}
 use Rattle.wu_lists.specs.Blocks.{IsSpelledIn, blocks_from, meets}
 use Rattle.wu_lists.specs.declared.blocks.Block.{Block}
 use Rattle.wu_lists.specs.Causes.{IsCause}
@@ -11,7 +12,6 @@ use Rattle.wu_lists.specs.Fetching.{AreFetched, HasBlock}
 use Rattle.wu_lists.specs.Gaining.{Gains}
 use Rattle.wu_lists.specs.Keeping.{Asks, AsksFirst, all_missing}
 use Rattle.wu_lists.proofs.Asking.{cause-join, first-join}
-use Rattle.wu_lists.proofs.Fetches.{on_err}
 use Rattle.wu_lists.proofs.Walks.{asked-split, block-broken, block_with, gained-before, walked-found, walked-next, walked-none}
 use Rattle.wu_lists.proofs.lists.Lists.walk_blocks.Goals as goal
 

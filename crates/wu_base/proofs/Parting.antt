@@ -1,7 +1,8 @@
 -- Where a binary search parts a list.
-use Rattle.std.proofs.Common.{◌≡◌, ℕ, zero, suc, ◌+◌, ◌<◌, ◌≤◌, Bool, true, false, List, [], ◌∷◌, length, get_or, take, drop, arith, subst}
+use Rattle.std.proofs.Common.{◌≡◌, ℕ, zero, suc, ◌≤◌, Bool, true, false, List, [], ◌∷◌, length, take, drop, arith}
 use Rattle.std.specs.List.{AllByRecursion}
 use Rattle.std.specs.List.Sorted.{IsPartitionPoint}
+use Rattle.wu_base.proofs.EachLemmas.{each-unit}
 
 module _ {X : Type 0} (test : X → Bool) (P Q : X → Type 0)
     (passes : (x : X) → test x ≡ true → P x) (fails : (x : X) → test x ≡ false → Q x) where
@@ -24,15 +25,8 @@ module _ {X : Type 0} (test : X → Bool) (P Q : X → Type 0)
       ((λ k d a b. p.0 (suc k) d (omega arith) (omega arith)), (λ k d a b. p.1 (suc k) d (omega arith) (omega arith))) r in
       ((passes x (p.0 zero x (omega arith) (omega arith)), more.0), more.1)
 
--- what holds of the first items and of the next one holds of one more
-pub all_more : {X : Type 0} (P : X → Type 0) (xs : List X) (n : ℕ) (d : X) → n < length xs → AllByRecursion P (take n xs)
-    → P (get_or xs n d) → AllByRecursion P (take (n + 1) xs)
-all_more P [] n d l a p = absurd (omega arith)
-all_more P (x ∷ xs) zero d l a p = (p, tt)
-all_more P (x ∷ xs) (suc n) d l a p =
-    let same : suc (n + 1) ≡ suc n + 1 = omega arith in
-    subst (λ (m : ℕ). AllByRecursion P (take m (x ∷ xs))) same (a.0, all_more P xs n d (omega arith) a.1 p)
-
-pub none_behind : {X : Type 0} (P : X → Type 0) (xs : List X) → AllByRecursion P (drop (length xs) xs)
-none_behind P [] = tt
-none_behind P (x ∷ xs) = none_behind P xs
+-- what passes before the point
+pub passes_before : {X : Type 0} (test : X → Bool) (P : X → Type 0) → ((x : X) → test x ≡ true → P x) → (xs : List X) (n i : ℕ)
+    → i ≤ length (take n xs) → IsPartitionPoint (λ x. test x ≡ true) (λ x. test x ≡ false) (take n xs) i → AllByRecursion P (take i xs)
+passes_before test P passes xs n i w p =
+    (parts_at test P (λ _. Unit {0}) passes (λ x f. tt) xs n i w p (each-unit (drop n xs))).0
