@@ -87,7 +87,7 @@ pub record KeepsLive (old new : List Slot) : Type 0 where
   pub same : (f : ℕ × Range → ℕ) → sum_by (weight f) new ≡ sum_by (weight f) old
   pub sum : length_of new ≡ length_of old
 
--- the slots without addresses are left out where they are more than half, if so many slots have addresses
+-- the slots without addresses are left out where they are at least two more than those with some, if so many slots have addresses
 abbrev pub tidied : ℕ → List Slot → List Slot
 tidied live slots = cond (nat_lt live (length slots / 2)) (filter is_live slots) slots
 
