@@ -1,13 +1,19 @@
 -- What each call of a store leaves to a crash, and how calls compose, so that no layer above looks into a crash.
-use Rattle.std.proofs.Common.{◌≡◌, ℕ, ◌+◌, ◌-◌, ◌<◌, ◌≤◌, ◌==◌, List, [], ◌∷◌, ◌++◌, length, take, get_or, T, Bool, true, false, cond, ◌⊎◌, inl, inr, Option, Some, None, Result, Ok, Err, option_map, refl, sym, ap, ◌∙◌, subst, arith, append_assoc, eq-eqb, eqb→eq, MatchResult}
+use Rattle.std.proofs.Common.{◌≡◌, ℕ, ◌==◌, List, [], ◌∷◌, ◌++◌, T, Bool, true, false, cond, ◌⊎◌, inl, inr, Option, Some, None, Result, Ok, Err, option_map, refl, sym, ap, ◌∙◌, subst, append_assoc, eq-eqb, eqb→eq, MatchResult}
 use mathlib.Core.Path.{fun_ext}
 use Rattle.std.proofs.lemmas.List.Elements.{All-append, All-cons, All-nil}
-use Rattle.std.proofs.lemmas.List.{length-append, length-take, get_or-take, get_or-append-add, get_or_append_left}
-use Rattle.std.proofs.lemmas.Bool.{cases_lt}
 use Rattle.wu_outside.specs.Content.{Content, with_blob, with_root, MayDo, Does, Writes}
-use Rattle.wu_outside.specs.Crash.{Change, Put, Remove, SetRoot, Moment, Moments, MayBlobBe, MayRootBe, MayLeave, LeftNow, LeftSince, try_change, settle, all_moments, moment_number, AreAlike}
-use Rattle.wu_outside.specs.Surviving.{LeavesNow, AddsMoments, LeavesOnly, Leaves, IsDurable, IsLeft, Ignores, IsSameIn, NamesOnly, IsLeftBelow}
+use Rattle.wu_outside.specs.Crash.{Change, Put, Remove, SetRoot, Moment, Moments, MayBlobBe, MayRootBe, MayLeave, LeftNow, try_change, settle, all_moments, AreAlike}
+use Rattle.wu_outside.specs.Surviving.{LeavesNow, LeavesOnly, Leaves, IsLeft, IsSameIn, NamesOnly}
 use Rattle.wu_outside.specs.declared.traits.Fault.{Fault}
+
+-- a crash now leaves what is held and nothing else
+abbrev pub IsDurable : Option Content → Option Moments → Type 0
+IsDurable holds moments = (held : Content) → holds ≡ Some held → LeavesNow moments (λ left. left ≡ held)
+
+-- a blob that doesn't matter to this kind of content
+abbrev pub Ignores : (Content → Type 0) → ℕ → Type 0
+Ignores Kind blob = (content : Content) (bytes : Option (List ℕ)) → Kind content → Kind (with_blob blob bytes content)
 
 -- contents with equal blobs and equal roots are equal
 pub same_content : (one other : Content) → ((blob : ℕ) → one.blobs blob ≡ other.blobs blob) → one.root ≡ other.root → one ≡ other
@@ -261,45 +267,6 @@ synced holds_before holds old new alike same settled =
     subst (λ told. IsDurable told new) (sym same)
     (subst (λ told. IsDurable holds_before told) (sym settled) (durable holds_before old alike))
 
--- what a crash since a moment might have left is what it might have left before, or of the kind
-pub earlier : (old new : Moments) (Kind : Content → Type 0) (number : ℕ) (left : Content) → AddsMoments old new Kind
-    → LeftSince new number left → LeftSince old number left ⊎ Kind left
-earlier old new Kind number left grown (k, moment, within, is, may) =
-    let added = grown.added in
-    let count = moment_number new + 1 - number in
-    let whole : length (all_moments new) ≡ length added + length (all_moments old) =
-    ap length grown.before ∙ length-append added (all_moments old) in
-    let cut = length-take count (all_moments new) in
-    let since : k < count = omega (arith, cut) in
-    let found : get_or (added ++ all_moments old) k moment ≡ moment =
-    ap (λ xs. get_or xs k moment) (sym grown.before) ∙ sym (get_or-take count (all_moments new) k moment since) ∙ is in
-    elim (cases_lt k (length added)) [
-      | inr before ↦
-          let place = k - length added in
-          let along : length added + place ≡ k = omega arith in
-          let rest = moment_number old + 1 - number in
-          let inside : place < rest = omega arith in
-          let cut_old = length-take rest (all_moments old) in
-          let shifted : get_or (all_moments old) place moment ≡ moment =
-          sym (get_or-append-add added (all_moments old) place moment)
-          ∙ ap (λ i. get_or (added ++ all_moments old) i moment) along ∙ found in
-          inl (place, moment, omega (arith, cut_old), get_or-take rest (all_moments old) place moment inside ∙ shifted, may)
-      | inl within_added ↦
-          let first : get_or added k moment ≡ moment = sym (get_or_append_left added (all_moments old) moment k within_added) ∙ found in
-          inr (grown.leaves k moment within_added left (subst (λ m. MayLeave m left) (sym first) may))
-    ]
-
--- what a crash at this moment or later might have left is what it may leave now
-pub since_now : (moments : Moments) (left : Content) → LeftSince moments (moment_number moments) left → LeftNow moments left
-since_now moments left (k, moment, within, is, may) =
-    let one : moment_number moments + 1 - moment_number moments ≡ 1 = omega arith in
-    let cut = length-take (moment_number moments + 1 - moment_number moments) (all_moments moments) in
-    let first : k ≡ 0 = omega (arith, cut, one) in
-    let now : moments.now ≡ moment =
-    sym (ap (λ i. get_or (take 1 (all_moments moments)) i moment) first)
-    ∙ ap (λ n. get_or (take n (all_moments moments)) k moment) (sym one) ∙ is in
-    subst (λ m. MayLeave m left) (sym now) may
-
 apart : (here : Bool) (Named : ℕ → Type 0) (other blob : ℕ) (bytes before : Option (List ℕ)) → (T here → other ≡ blob)
     → Named other → (Named blob → ⊥) → cond here bytes before ≡ before
 apart true Named other blob bytes before to named stray = absurd (stray (subst Named (to tt) named))
@@ -322,13 +289,3 @@ strays Named Kind blob names stray content bytes kind =
 pub left_now : (told : Option Moments) → LeavesNow told (IsLeft told)
 left_now None = tt
 left_now (Some moments) = λ left may. may
-
-pub left_below_now : (first : ℕ) (told : Option Moments) → LeavesNow told (IsLeftBelow first told)
-left_below_now first None = tt
-left_below_now first (Some moments) = λ left may. (left, may, record { root = refl; blobs = λ _ _. refl })
-
--- blobs from a number on don't matter where only the blobs below it are compared
-pub put_beyond : (first : ℕ) (told : Option Moments) (blob : ℕ) → first ≤ blob → Ignores (IsLeftBelow first told) blob
-put_beyond first told blob beyond content bytes (was, may, same) =
-    let stray = stray_blob (λ b. b < first) blob bytes content (λ below. omega arith) in
-    (was, may, record { root = same.root; blobs = λ other named. stray.blobs other named ∙ same.blobs other named })

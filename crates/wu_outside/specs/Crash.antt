@@ -1,7 +1,7 @@
 -- What a crash leaves of a store: of the changes since the last successful sync, any may be lost. A blob that was put
 -- since then is absent or has any bytes, one that was removed since then is there or not, the root is that of the sync or
 -- one that was set since then, also by a call that failed; all else is as at the sync.
-use Rattle.std.specs.Prelude.{◌≡◌, ℕ, ◌+◌, ◌-◌, List, [], ◌∷◌, length, take, ⊤, ◌⊎◌, Option, None, Some, Any}
+use Rattle.std.specs.Prelude.{◌≡◌, ℕ, List, [], ◌∷◌, ⊤, ◌⊎◌, Option, None, Some}
 use Rattle.wu_outside.specs.Content.{Content}
 
 -- a change that was tried, whether or not its call failed
@@ -48,17 +48,9 @@ pub record Moments : Type 0 where
 abbrev pub all_moments : Moments → List Moment
 all_moments moments = moments.now ∷ moments.past
 
--- how many moments came before now: the number of this one
-abbrev pub moment_number : Moments → ℕ
-moment_number moments = length moments.past
-
 -- what a crash now may leave
 abbrev pub LeftNow : Moments → Content → Type 0
 LeftNow moments left = MayLeave moments.now left
-
--- what a crash at some moment from that of this number on might have left
-abbrev pub LeftSince : Moments → ℕ → Content → Type 0
-LeftSince moments number left = Any (λ moment. MayLeave moment left) (take (moment_number moments + 1 - number) (all_moments moments))
 
 -- a store without a past, at a sync of this content
 abbrev pub starts_with : Content → Moments

@@ -1,7 +1,7 @@
 -- What a layer above says of crashes, without looking into one: of a store that tells what a crash leaves, each content
 -- that may be left, now or since an earlier moment, is of some kind.
-use Rattle.std.specs.Prelude.{◌≡◌, ℕ, ◌<◌, List, ◌++◌, ⊤, All, Option, None, Some}
-use Rattle.wu_outside.specs.Content.{Content, with_blob}
+use Rattle.std.specs.Prelude.{◌≡◌, ℕ, List, ◌++◌, ⊤, All, Option, None, Some}
+use Rattle.wu_outside.specs.Content.{Content}
 use Rattle.wu_outside.specs.Crash.{Moment, Moments, MayLeave, LeftNow, all_moments}
 
 -- a crash now leaves only contents of this kind
@@ -26,18 +26,10 @@ pub record Leaves (old new : Option Moments) (Kind : Content → Type 0) : Type 
   pub since : LeavesOnly old new Kind
   pub now : LeavesNow new Kind
 
--- a crash now leaves what is held and nothing else
-abbrev pub IsDurable : Option Content → Option Moments → Type 0
-IsDurable holds moments = (held : Content) → holds ≡ Some held → LeavesNow moments (λ left. left ≡ held)
-
 -- a crash now may leave it
 abbrev pub IsLeft : Option Moments → Content → Type 0
 IsLeft None left = ⊤
 IsLeft (Some moments) left = LeftNow moments left
-
--- a blob that doesn't matter to this kind of content
-abbrev pub Ignores : (Content → Type 0) → ℕ → Type 0
-Ignores Kind blob = (content : Content) (bytes : Option (List ℕ)) → Kind content → Kind (with_blob blob bytes content)
 
 -- two contents with the same root and the same bytes in each of some blobs
 pub record IsSameIn (Named : ℕ → Type 0) (one other : Content) : Type 0 where
@@ -47,7 +39,3 @@ pub record IsSameIn (Named : ℕ → Type 0) (one other : Content) : Type 0 wher
 -- a kind of content that names only some blobs: all others don't matter
 abbrev pub NamesOnly : (ℕ → Type 0) → (Content → Type 0) → Type 0
 NamesOnly Named Kind = (one other : Content) → IsSameIn Named one other → Kind one → Kind other
-
--- it differs only in blobs from a number on from a content that a crash may leave
-abbrev pub IsLeftBelow : ℕ → Option Moments → Content → Type 0
-IsLeftBelow first moments left = (content : Content) × IsLeft moments content × IsSameIn (λ blob. blob < first) content left

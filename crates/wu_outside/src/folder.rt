@@ -37,7 +37,8 @@ pub struct DirStore<'a, R: Files + AllocGlobal> {
 }
 
 impl<'a, R: Files + AllocGlobal> DirStore<'a, R> {
-    /// The store in this folder, which isn't touched yet.
+    /// The store in this folder, which isn't touched yet, with no fault counted. The one error is out of
+    /// memory.
     pub fn new(files: &'a R, folder: &str) -> Result<DirStore<'a, R>, NoMemory>
         ensures { IfOk result (λ store. store.faults ≡ 0) }
     {

@@ -50,9 +50,11 @@ impl MemStore {
         }
     }
 
-    /// The store after a crash at this moment, which fails no call. Of the changes since the last
-    /// sync, numbered from 0, number i is kept where bit `i mod 64` of `choice` is 1; a put that isn't
-    /// kept leaves the blob absent.
+    /// The store after a crash at this moment, with one of the contents that a crash may leave now. All up
+    /// to the last sync stands. Of the changes since then, numbered from 0 in their order, number i is kept
+    /// where bit `i mod 64` of `choice` is 1, counted from the lowest; a put that isn't kept leaves the blob
+    /// absent. What is left counts as synced. No range is read of it so far, its counts of calls and of
+    /// faults are 0, and no call of it is to fail. The one error is out of memory.
     pub fn crashed(&self, choice: u64) -> Result<MemStore, NoMemory>
         ensures log { IfOk result (λ left. left.log ≡ HasSynced ∷ crash_log choice self.now.log) }
         ensures outcome { IfOk result (λ left. LeftNow (moments_of self.now.log) (content_of left.log)) }
