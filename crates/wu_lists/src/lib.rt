@@ -1,5 +1,6 @@
 //! The addresses of a term in a part that the store holds, cut to frames. Of the part's blocks only those are
-//! read that the frames need, and the ones that were asked for last are kept.
+//! read that the frames need, and the ones that were asked for last are kept. A list is compressed in blocks, which
+//! are decoded one by one (Büttcher, Clarke and Cormack, Information Retrieval, chapter 6).
 #![tactic(auto)]
 
 mod blocks;

@@ -45,7 +45,8 @@ impl Model for Lists {
 }
 
 impl Lists {
-    /// Keeps no block yet, and at most `capacity` at once. The allocator is kept for what is read.
+    /// Keeps no block yet, and at most `capacity` blocks at once, which is 1 at least. The allocator is kept for what
+    /// is read. The only error is out of memory.
     pub fn new(alloc: Global, capacity: usize) -> Result<Lists, NoMemory>
         requires { 1 ≤ capacity }
         ensures { IfOk result (λ lists. lists ≡ lru_cache [] capacity) }
@@ -59,13 +60,13 @@ impl Lists {
     }
 
     /// The addresses of the term in the part with that blob and that directory that lie in the frames,
-    /// ascending. Reads only those of the term's blocks whose span a frame overlaps with and that aren't kept,
-    /// each in one read, and checks them; they are kept, in the place of the ones that were asked for longest
-    /// ago where there are too many.
+    /// ascending. The frames are apart, and each ends at or before 2^47. Reads only those of the term's blocks whose
+    /// span a frame overlaps with and that aren't kept, each in one read, and checks them; they are kept, in the
+    /// place of the ones that were asked for longest ago where there are too many.
     ///
-    /// The blob is damaged where it is absent, where it ends before a block that is to be read, or where that
-    /// block isn't the spelling of addresses as the directory tells. After an error what was kept is kept, but for what
-    /// was given up for the first of the blocks.
+    /// Errors are out of memory; a fault of the store, only where it had one in this call; and the blob, damaged: it
+    /// is absent, or ends before a block that is to be read, or that block isn't the spelling of addresses as the
+    /// directory tells. After an error what was kept is kept, but for what was given up for the first of the blocks.
     pub fn fetch<D: Store>(
         &mut self,
         store: &mut D,

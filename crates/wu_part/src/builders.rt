@@ -157,9 +157,10 @@ impl Builder {
     }
 }
 
-/// The bytes of the part of these terms and their addresses. The terms have 1 to 64 bytes and ascend;
-/// each has an address at least, its addresses ascend and are below 2^47, and no address is that of
-/// two terms. The directory of the new part is had by reading the bytes.
+/// The bytes of the part of that generation, at most 62, of these terms and their addresses. There is one term at
+/// least; the terms have 1 to 64 bytes and ascend in byte order; each has an address at least, its addresses ascend
+/// and are below 2^47, and no address is that of two terms. The directory of the new part is had by reading the
+/// bytes. The only error is out of memory.
 pub fn encode(alloc: Global, lists: &[TermList], generation: u32) -> Result<Vec<u8>, NoMemory>
     requires some { 0 < length lists.now }
     requires lists { AllByRecursion IsList lists.now }

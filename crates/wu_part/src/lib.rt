@@ -1,4 +1,6 @@
-//! Parts of the index: the bytes of a part, and its directory.
+//! Parts of the index: the bytes of a part, and its directory. A part is an index partition (Büttcher, Clarke and
+//! Cormack, Information Retrieval, chapter 7), and is written once. The addresses of each term are compressed in
+//! blocks, as gaps in bytes (chapter 6 there); the directory tells where each block stands, and what it spans.
 #![tactic(auto)]
 
 mod builders;
