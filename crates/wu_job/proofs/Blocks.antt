@@ -1,9 +1,10 @@
 -- The blocks of an entry, read one after another.
-use Rattle.std.proofs.Common.{◌≡◌, ℕ, zero, suc, ◌+◌, ◌-◌, ◌<◌, ◌≤◌, ◌==◌, true, min, List, [], ◌∷◌, ◌++◌, length, take, drop, refl, ap, sym, ◌∙◌, subst, arith, append_assoc, append-nil, length-append, length-drop}
+use Rattle.std.proofs.Common.{◌≡◌, ℕ, ◌+◌, ◌-◌, ◌<◌, ◌≤◌, ◌==◌, true, min, List, [], ◌∷◌, ◌++◌, length, take, drop, refl, ap, sym, ◌∙◌, subst, arith, append_assoc, append-nil, length-append, length-drop}
 use Rattle.std.specs.Prelude.{Option, None, Some}
 use Rattle.std.specs.List.{list_any}
 use Rattle.std.proofs.lemmas.Bool.{eq-eqb}
 use Rattle.std.proofs.lemmas.List.{length-take}
+use Rattle.wu_outside.specs.Content.{Content}
 use Rattle.wu_outside.specs.declared.ranges.ReadRange.{ReadRange}
 use Rattle.wu_layout.specs.Ascending.{AscendBetween}
 use Rattle.wu_layout.proofs.Ascending.{ascend-higher, ascend-join, ascend-lower}
@@ -14,23 +15,14 @@ use Rattle.wu_part.specs.Directories.{AreBlocks, IsEntry}
 use Rattle.wu_part.specs.Parts.{HoldsBlock, HoldBlocks}
 use Rattle.wu_part.proofs.ReadingLemmas.{count_within}
 use Rattle.wu_job.specs.Jobs.{HoldsEntry}
-use Rattle.wu_job.specs.Reading.{HoldsInBlock, IsNoBlock, AreNoBlocks, LieIn}
+use Rattle.wu_job.specs.Reading.{HasBytes, HoldsInBlock, IsNoBlock, AreNoBlocks, LieIn}
 use Rattle.wu_base.specs.declared.troubles.Trouble.{Trouble}
 use Rattle.wu_base.specs.declared.troubles.Trouble.TheVariants.{Damaged}
-use Rattle.wu_job.specs.Steps.{ReadsFront, adds, block_range, block_ranges}
+use Rattle.wu_part.proofs.ReadBackLemmas.{cut_at}
+use Rattle.wu_job.specs.Steps.{HasWholeRange, HasWholeRanges, ReadsFront, adds, block_range, block_ranges}
 use Rattle.wu_job.proofs.Fronts.{adds-more, adds-none, front_first, front_none, front_then}
 
 -- ---- one block, and those after it
-
-cut_at : (n : ℕ) (xs ys : List ℕ) → length xs ≤ n → (length xs < n → length ys ≡ 0)
-    → (take n (xs ++ ys) ≡ xs) × (drop n (xs ++ ys) ≡ ys)
-cut_at zero [] ys l h = (refl, refl)
-cut_at zero (x ∷ xs) ys l h = absurd (omega arith)
-cut_at (suc n) [] [] l h = (refl, refl)
-cut_at (suc n) [] (y ∷ ys) l h = absurd (omega (arith, h (omega arith)))
-cut_at (suc n) (x ∷ xs) ys l h =
-    let r = cut_at n xs ys (omega arith) (λ m. h (omega arith)) in
-    (ap (λ (zs : List ℕ). x ∷ zs) r.0, r.1)
 
 -- the entry that is left is that of the blocks after the first one
 pub record IsAfter (entry left : TermEntry) (block : BlockEntry) : Type 0 where
@@ -170,6 +162,30 @@ some_left low high first entry left block found to is =
 
 pub to_all : (low high : ℕ) (first left : TermEntry) (found : List ℕ) → IsReadTo low high first left found → AscendBetween low (high + 1) found
 to_all low high first left found to = ascend-higher low to.from (high + 1) found to.within to.ascend
+
+-- ---- whole blocks
+
+-- where some bytes are there and all that the block has, the blob has the whole block
+pub whole_block : (o : Option (List ℕ)) (number : ℕ) (block : BlockEntry) (bytes : List ℕ) → length bytes ≡ block.len → 0 < length bytes
+    → HasBytes o block bytes → HasWholeRange o (block_range number block)
+whole_block None number block bytes l some h = absurd h
+whole_block (Some blob) number block bytes l some h =
+    let cut = length-take (block.at + block.len - block.at) (drop block.at blob) in
+    omega (arith, ap (λ (xs : List ℕ). length xs) h, cut, length-drop block.at blob)
+
+-- where the blocks are whole that are left, all of the first entry are
+abbrev pub AreWholeTo : Content → ℕ → TermEntry → TermEntry → Type 0
+AreWholeTo content blob first left =
+    HasWholeRanges content (block_ranges blob left.blocks) → HasWholeRanges content (block_ranges blob first.blocks)
+
+pub whole_more : (content : Content) (blob : ℕ) (first entry left : TermEntry) (block : BlockEntry) → AreWholeTo content blob first entry
+    → IsAfter entry left block → HasWholeRange (content.blobs blob) (block_range blob block) → AreWholeTo content blob first left
+whole_more content blob first entry left block r is w = λ later.
+    r (subst (λ bs. HasWholeRanges content (block_ranges blob bs)) (sym is.blocks) (w, later))
+
+pub whole_all : (content : Content) (blob : ℕ) (first left : TermEntry) → AreWholeTo content blob first left → left.blocks ≡ []
+    → HasWholeRanges content (block_ranges blob first.blocks)
+whole_all content blob first left r none = r (subst (λ bs. HasWholeRanges content (block_ranges blob bs)) (sym none) tt)
 
 -- ---- the ranges read
 

@@ -29,8 +29,8 @@ up_passed : (done : Bool) (xs : List (List ℕ)) → IsUp xs → IsUp (passed_if
 up_passed true xs s = up_dropped 1 xs s
 up_passed false xs s = s
 
-differ : (a b : List ℕ) → text_cmp a b ≡ Less → pointwise nat_eq a b ≡ false
-differ a b less =
+pub texts_differ : (a b : List ℕ) → text_cmp a b ≡ Less → pointwise nat_eq a b ≡ false
+texts_differ a b less =
     elim (pointwise nat_eq a b) as (λ v. pointwise nat_eq a b ≡ v → v ≡ false) [
       | true ↦ λ p. absurd (less_itself a b less (same_text a b (sym p)))
       | false ↦ λ p. refl

@@ -18,9 +18,9 @@ use Rattle.wu_part.specs.Directories.{PartDirectory}
 use Rattle.wu_job.specs.declared.sources.Source.{Source}
 use Rattle.wu_job.specs.Jobs.{JobPart, JobState, HoldsEntry, HoldsTerm, HoldTerm, AreMade, IsRight, list_for}
 use Rattle.wu_job.specs.Keeping.{AreMarks, addresses_in}
-use Rattle.wu_job.specs.Reading.{IsRefused, IsSomeMarked}
+use Rattle.wu_job.specs.Reading.{IsNoPartOf, IsRefused, IsSomeMarked}
 use Rattle.wu_job.specs.Sources.{AreSources, HasEntries, part_of, parts_of}
-use Rattle.wu_job.specs.Steps.{IsNoPart, SharesAddress, IsDamagedPart}
+use Rattle.wu_job.specs.Steps.{HasNoFirst, IsBrokenPart, IsNoPart, SharesAddress, IsDamagedPart}
 use Rattle.wu_job.proofs.Made.{entry_or_none, list_at_entry, terms_in_up}
 use Rattle.wu_job.proofs.Marking.{marked_twice}
 use Rattle.wu_job.proofs.Merging.{text_cmp, IsUp, less_itself}
@@ -196,37 +196,44 @@ double content job part term later all a apart es there first t h made r =
 pub refused : (holds : Option Content) (job : JobState) (left : Source) (right : Option Source) (marks : List Bool) (part : JobPart)
     (term : List ℕ) (later : List (List ℕ)) → job.parts ≡ parts_of left right → AreSources left right
     → AllByRecursion HasEntries (parts_of left right) → AreMarks job.live marks job.done → Has part (parts_of left right)
-    → job.terms_left ≡ term ∷ later → (blob : ℕ) → IsRefused holds job.live marks term part blob → IsDamagedPart holds job blob part
+    → job.terms_left ≡ term ∷ later → (blob : ℕ) → IsRefused holds job.live marks term part blob
+    → IsDamagedPart holds job blob part × IsBrokenPart holds job blob part
 refused holds job left right marks part term later is s es m there first blob b = (
-  b.0,
-  IfSome-map
-      (λ content. IsNoPart part.directory (content.blobs blob)
-      ⊎ IsSomeMarked content job.live marks term part)
-      (λ content. IsNoPart part.directory (content.blobs blob) ⊎ SharesAddress content job part) holds
-      (λ content c.
-      ⊎_elim
-      (λ n. inl n)
-      (λ d.
-      let twice = marked_twice job.live marks job.done d.0 m d.2 in
-      inr
-      (record {
-        term = term;
-        later = later;
-        first = first;
-        addresses = d.0;
-        held = d.1;
-        address = twice.0;
-        has = Contains-from_Has twice.0 d.0 twice.1.0;
-        made = Contains-from_Has twice.0 (addresses_in job.done) twice.1.1;
-        broken = λ r.
-            double content job part term later d.0 twice.0
-            (λ p q h g x y.
-            same_part left right p q twice.0 s (subst (Has p) is h) (subst (Has q) is g) x y)
-            (subst (AllByRecursion HasEntries) (sym is) es) (subst (Has part) (sym is) there) first d.1 twice.1.0 twice.1.1 r;
-      }))
-      c)
-      b.1,
+  (
+    b.0,
+    IfSome-map (λ content. IsNoPartOf content term part blob ⊎ IsSomeMarked content job.live marks term part)
+        (λ content. IsNoPart part.directory (content.blobs blob) ⊎ SharesAddress content job part) holds
+        (λ content c. ⊎_elim (λ n. inl n.0) (λ d. inr (shared content d)) c) b.1,
+  ),
+  (
+    b.0,
+    IfSome-map (λ content. IsNoPartOf content term part blob ⊎ IsSomeMarked content job.live marks term part)
+        (λ content. HasNoFirst content job.terms_left part ⊎ SharesAddress content job part) holds
+        (λ content c.
+        ⊎_elim
+        (λ n. inl (subst (λ (ts : List (List ℕ)). HasNoFirst content ts part) (sym first) n.1))
+        (λ d. inr (shared content d)) c) b.1,
+  ),
 )
+  where
+    shared : (content : Content) → IsSomeMarked content job.live marks term part → SharesAddress content job part
+    shared content d =
+        let twice = marked_twice job.live marks job.done d.0 m d.2 in
+        record {
+          term = term;
+          later = later;
+          first = first;
+          addresses = d.0;
+          held = d.1;
+          address = twice.0;
+          has = Contains-from_Has twice.0 d.0 twice.1.0;
+          made = Contains-from_Has twice.0 (addresses_in job.done) twice.1.1;
+          broken = λ r.
+              double content job part term later d.0 twice.0
+              (λ p q h g x y.
+              same_part left right p q twice.0 s (subst (Has p) is h) (subst (Has q) is g) x y)
+              (subst (AllByRecursion HasEntries) (sym is) es) (subst (Has part) (sym is) there) first d.1 twice.1.0 twice.1.1 r;
+        }
 
 -- the left one of the parts
 pub left_of : (P : JobPart → Type 0) (left : Source) (right : Option Source) → P (part_of left) → SomeOf P (parts_of left right)

@@ -10,11 +10,11 @@ use Rattle.wu_base.specs.declared.troubles.Trouble.{Trouble}
 use Rattle.wu_outside.specs.Content.{Content}
 use Rattle.wu_outside.specs.declared.ranges.ReadRange.{ReadRange}
 use Rattle.wu_base.proofs.Members.{Has}
+use Rattle.wu_base.proofs.EachLemmas.{each-append}
 use Rattle.wu_layout.specs.Ascending.{AscendBetween}
 use Rattle.wu_layout.proofs.Ascending.{ascend-bounds, ascend-higher, ascend-join, ascend-lower}
 use Rattle.wu_layout.specs.Invariants.{SomeOf}
 use Rattle.wu_layout.specs.Postings.{is_live}
-use Rattle.wu_layout.proofs.EachLemmas.{each-append}
 use Rattle.wu_job.specs.declared.live.Cut.{Cut}
 use Rattle.wu_job.specs.declared.sources.Source.{Source}
 use Rattle.wu_job.specs.Jobs.{JobPart, JobState, AreKept, StandWithin, highest, lowest}
@@ -22,7 +22,7 @@ use Rattle.wu_job.specs.Keeping.{AreMarks, IsNewCut, addresses_in, has}
 use Rattle.wu_job.specs.Live.{live_below}
 use Rattle.wu_job.specs.Reading.{IsCutOf, IsNew}
 use Rattle.wu_job.specs.Sources.{AreSources, part_of, parts_of}
-use Rattle.wu_job.specs.Steps.{ReadsFront, adds, ranges_of, step_ranges}
+use Rattle.wu_job.specs.Steps.{HasWholeRange, HasWholeRanges, ReadsFront, adds, ranges_of, step_ranges}
 use Rattle.wu_job.proofs.Fronts.{adds-more, front_first, front_then}
 use Rattle.wu_job.proofs.Marking.{unmarked_new}
 
@@ -132,6 +132,19 @@ reads_both terms term later left right old mid new e r s =
     ∙ adds-more (ranges_of term (part_of left)) (ranges_of term (part_of right)) old
     ∙ ap (λ (rs : List ReadRange). adds rs old) (sym (ranges_both terms term later left right e))
 
+pub whole_one : (content : Content) (terms : List (List ℕ)) (term : List ℕ) (later : List (List ℕ)) (left : Source) → terms ≡ term ∷ later
+    → HasWholeRanges content (ranges_of term (part_of left)) → HasWholeRanges content (step_ranges terms (parts_of left None))
+whole_one content terms term later left e w = subst (HasWholeRanges content) (sym (ranges_one terms term later left e)) w
+
+pub whole_both : (content : Content) (terms : List (List ℕ)) (term : List ℕ) (later : List (List ℕ)) (left right : Source)
+    → terms ≡ term ∷ later → HasWholeRanges content (ranges_of term (part_of left))
+    → HasWholeRanges content (ranges_of term (part_of right))
+    → HasWholeRanges content (step_ranges terms (parts_of left (Some right)))
+whole_both content terms term later left right e w v =
+    subst (HasWholeRanges content) (sym (ranges_both terms term later left right e))
+    (each-append (λ range. HasWholeRange (content.blobs range.blob) range) (ranges_of term (part_of left))
+    (ranges_of term (part_of right)) w v)
+
 -- a trouble in the first part
 pub front_of_left : (terms : List (List ℕ)) (term : List ℕ) (later : List (List ℕ)) (left : Source) (right : Option Source)
     (old new : Option (List ReadRange)) (t : Trouble) → terms ≡ term ∷ later → ReadsFront (ranges_of term (part_of left)) old new t
@@ -174,6 +187,19 @@ module _ (left : Source) (right : Option Source) where
       → new ≡ adds (ranges_of term (part_of other)) mid → new ≡ adds (step_ranges terms (parts_of left right)) old
   reads_with terms term later other old mid new n e r s =
       subst (λ o. new ≡ adds (step_ranges terms (parts_of left o)) old) (sym n) (reads_both terms term later left other old mid new e r s)
+
+  pub whole_alone : (content : Content) (terms : List (List ℕ)) (term : List ℕ) (later : List (List ℕ)) → right ≡ None
+      → terms ≡ term ∷ later → HasWholeRanges content (ranges_of term (part_of left))
+      → HasWholeRanges content (step_ranges terms (parts_of left right))
+  whole_alone content terms term later n e w =
+      subst (λ o. HasWholeRanges content (step_ranges terms (parts_of left o))) (sym n) (whole_one content terms term later left e w)
+
+  pub whole_with : (content : Content) (terms : List (List ℕ)) (term : List ℕ) (later : List (List ℕ)) (other : Source) → right ≡ Some other
+      → terms ≡ term ∷ later → HasWholeRanges content (ranges_of term (part_of left))
+      → HasWholeRanges content (ranges_of term (part_of other)) → HasWholeRanges content (step_ranges terms (parts_of left right))
+  whole_with content terms term later other n e w v =
+      subst (λ o. HasWholeRanges content (step_ranges terms (parts_of left o))) (sym n)
+      (whole_both content terms term later left other e w v)
 
   pub front_with : (terms : List (List ℕ)) (term : List ℕ) (later : List (List ℕ)) (other : Source)
       (old mid new : Option (List ReadRange)) (t : Trouble) → right ≡ Some other → terms ≡ term ∷ later

@@ -10,7 +10,6 @@ pub mod Spans
 pub mod Sound
 pub mod Made
 pub mod Doubles
-pub mod Parting
 pub mod Joining
 pub mod Whole
 pub mod Bits

@@ -7,7 +7,7 @@ use Rattle.std.specs.List.Sorted.{IsStrictlySortedBy}
 use Rattle.std.proofs.lemmas.List.{nil_from_length}
 use Rattle.wu_base.specs.declared.addresses.Range.{Range}
 use Rattle.wu_base.specs.declared.addresses.TermList.{TermList}
-use Rattle.wu_layout.proofs.EachLemmas.{each-append}
+use Rattle.wu_base.proofs.EachLemmas.{each-append}
 use Rattle.wu_part.specs.Buildings.{Building}
 use Rattle.wu_part.specs.declared.histories.History.{History}
 use Rattle.wu_job.specs.Jobs.{JobPart, JobState, StandWithin, highest, list_for, lowest}
@@ -111,3 +111,7 @@ module _ (i : inside.Inside) (inv : IsSound i) (job : JobState) (is : state_of i
 
   pub distinct_put : (done : Building) → done ≡ record i.done { lists = i.done.lists ++ more } → IsDistinct eqb (addresses_in done.lists)
   distinct_put done d = subst (λ (ls : List TermList). IsDistinct eqb (addresses_in ls)) (added done d) writable.distinct
+
+  -- no address stands in two of the lists that were made
+  pub distinct_made : (made : History) → made.lists ≡ i.made.lists ++ more → IsDistinct eqb (addresses_in made.lists)
+  distinct_made made m = subst (λ (ls : List TermList). IsDistinct eqb (addresses_in ls)) (sym m) writable.distinct

@@ -8,10 +8,10 @@ use Rattle.std.proofs.lemmas.List.{map-append}
 use Rattle.wu_base.specs.declared.addresses.Range.{Range}
 use Rattle.wu_base.specs.declared.addresses.TermList.{TermList}
 use Rattle.wu_base.specs.declared.limits.TheConstants.{ADDRESSES_MAX, WORD_MAX}
+use Rattle.wu_base.proofs.EachLemmas.{each-append}
 use Rattle.wu_layout.specs.Ascending.{AscendBetween}
-use Rattle.wu_layout.proofs.Ascending.{addresses_increase, ascend-bounds}
+use Rattle.wu_layout.proofs.Ascending.{addresses_increase, ascend-below}
 use Rattle.wu_layout.specs.Postings.{is_live}
-use Rattle.wu_layout.proofs.EachLemmas.{each-append}
 use Rattle.wu_part.specs.Parts.{IsList}
 use Rattle.wu_part.specs.Writing.{first_of}
 use Rattle.wu_job.specs.Jobs.{JobPart, StandWithin, list_for}
@@ -19,10 +19,6 @@ use Rattle.wu_job.specs.Keeping.{AreWritable, IsFrom, addresses_in, has}
 use Rattle.wu_job.proofs.Marking.{addresses_more, ascending_distinct, distinct_join}
 
 -- ---- a list
-
-all_below : (low high : ℕ) (xs : List ℕ) → AscendBetween low high xs → AllByRecursion (λ x. x < high) xs
-all_below low high [] a = tt
-all_below low high (x ∷ xs) a = (omega (arith, ascend-bounds (x + 1) high xs a.1), all_below (x + 1) high xs a.1)
 
 pub lists_for : (term kept : List ℕ) → 0 < length term → length term ≤ WORD_MAX → AscendBetween 0 ADDRESSES_MAX kept
     → AllByRecursion IsList (list_for term kept)
@@ -33,7 +29,7 @@ lists_for term (x ∷ kept) l m a = (
     short = m;
     count = omega arith;
     ascending = addresses_increase 0 ADDRESSES_MAX (x ∷ kept) a;
-    below = all_below 0 ADDRESSES_MAX (x ∷ kept) a;
+    below = ascend-below 0 ADDRESSES_MAX (x ∷ kept) a;
   },
   tt,
 )

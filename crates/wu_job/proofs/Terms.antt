@@ -1,5 +1,5 @@
 -- The entry of a term in a directory, and what a part's blob holds of it.
-use Rattle.std.proofs.Common.{◌≡◌, ℕ, zero, suc, ◌+◌, ◌<◌, ◌≤◌, nat_eq, Bool, true, false, cond, List, [], ◌∷◌, ◌++◌, length, map, filter, get_or, refl, ap, sym, ◌∙◌, subst, arith, ⊎_elim, inl, inr, append-nil}
+use Rattle.std.proofs.Common.{◌≡◌, ℕ, zero, suc, ◌+◌, ◌<◌, ◌≤◌, nat_eq, true, false, cond, List, [], ◌∷◌, ◌++◌, length, map, get_or, refl, ap, sym, ◌∙◌, subst, arith, ⊎_elim, inl, inr, append-nil}
 use Rattle.std.specs.Prelude.{Option, None, Some, IfSome, Contains, slice_get}
 use Rattle.std.specs.declared.cmp.Ordering.TheVariants.{Less}
 use Rattle.std.specs.Cmp.Lexicographic.{pointwise, nat_list_eq_equiv, same_text}
@@ -7,14 +7,16 @@ use Rattle.std.specs.List.{AllByRecursion}
 use Rattle.std.specs.List.Sorted.{IsStrictlySortedBy}
 use Rattle.std.proofs.lemmas.Option.{none-some, same_Some}
 use Rattle.wu_base.proofs.Members.{Has, Has-from_Contains, Contains-from_Has, Has-map, all_has}
+use Rattle.wu_job.proofs.Counting.{texts_differ}
 use Rattle.wu_outside.specs.Content.{Content}
+use Rattle.wu_outside.specs.declared.ranges.ReadRange.{ReadRange}
 use Rattle.wu_part.specs.declared.entries.BlockEntry.{BlockEntry}
 use Rattle.wu_part.specs.declared.entries.TermEntry.{TermEntry}
 use Rattle.wu_part.specs.Directories.{PartDirectory, IsDirectory, IsEntry, StandFrom, all_blocks}
 use Rattle.wu_part.proofs.ReadingLemmas.{stand_within}
 use Rattle.wu_job.specs.Jobs.{JobPart, HoldsEntry, HoldsTerm}
 use Rattle.wu_job.specs.Reading.{AreNoBlocks, IsFound, LieIn, StandsAt}
-use Rattle.wu_job.specs.Steps.{IsNoPart, block_ranges, ranges_of, ranges_of_entries}
+use Rattle.wu_job.specs.Steps.{HasNoTerm, HasWholeRange, HasWholeRanges, IsNoPart, block_ranges, ranges_of, ranges_of_entries}
 use Rattle.wu_job.proofs.Made.{list_at_entry}
 use Rattle.wu_job.proofs.Merging.{text_cmp, IsUp, less_itself}
 
@@ -74,16 +76,9 @@ ranges_one blob entry (x ∷ xs) s h =
     (subst (λ (z : TermEntry). AllByRecursion (λ y. text_cmp z.term y ≡ Less) (terms xs)) e s.0) in
     rw (same, none) (append-nil (block_ranges blob x.blocks) ∙ ap (λ (z : TermEntry). block_ranges blob z.blocks) e))
     (λ (i : Has entry xs).
-    let other : pointwise nat_eq x.term entry.term ≡ false = differ x.term entry.term (later_term x entry xs s.0 i) in
+    let other : pointwise nat_eq x.term entry.term ≡ false = texts_differ x.term entry.term (later_term x entry xs s.0 i) in
     rw other (ranges_one blob entry xs s.1 i))
     h
-  where
-    differ : (a b : List ℕ) → text_cmp a b ≡ Less → pointwise nat_eq a b ≡ false
-    differ a b l =
-        elim (pointwise nat_eq a b) as (λ v. pointwise nat_eq a b ≡ v → v ≡ false) [
-          | true ↦ λ p. absurd (less_itself a b l (same_text a b (sym p)))
-          | false ↦ λ p. refl
-        ] refl
 
 pub ranges_of_none : (blob : ℕ) (term : List ℕ) (entries : List TermEntry)
     → ((entry : TermEntry) → Has entry entries → entry.term ≡ term → ⊥) → ranges_of_entries blob term entries ≡ []
@@ -151,14 +146,6 @@ no_part directory entry (Some blob) h n = λ lists is.
 
 -- ---- live addresses
 
-pub filter_all : (p : ℕ → Bool) (xs : List ℕ) → AllByRecursion (λ x. p x ≡ true) (filter p xs)
-filter_all p [] = tt
-filter_all p (x ∷ xs) =
-    elim (p x) as (λ b. p x ≡ b → AllByRecursion (λ y. p y ≡ true) (cond b (x ∷ filter p xs) (filter p xs))) [
-      | true ↦ λ e. (e, filter_all p xs)
-      | false ↦ λ e. filter_all p xs
-    ] refl
-
 -- ---- the entry at a place
 
 got_within : (entries : List TermEntry) (place : ℕ) (entry : TermEntry) → slice_get entries place ≡ Some entry
@@ -208,3 +195,31 @@ pub ranges_nowhere : (part : JobPart) (term : List ℕ)
     → ((entry : TermEntry) → Contains part.directory.terms entry → entry.term ≡ term → ⊥) → ranges_of term part ≡ []
 ranges_nowhere part term n =
     ranges_of_none part.recorded.blob term part.directory.terms (λ entry h e. n entry (Contains-from_Has entry part.directory.terms h) e)
+
+-- ---- what has no term
+
+lie_of_whole : (number : ℕ) (blob : List ℕ) (blocks : List BlockEntry)
+    → AllByRecursion (λ (range : ReadRange). HasWholeRange (Some blob) range) (block_ranges number blocks) → LieIn (length blob) blocks
+lie_of_whole number blob [] w = tt
+lie_of_whole number blob (b ∷ blocks) w = (w.0, lie_of_whole number blob blocks w.1)
+
+whole_of_one : (content : Content) (number : ℕ) (blocks : List BlockEntry) → HasWholeRanges content (block_ranges number blocks)
+    → AllByRecursion (λ (range : ReadRange). HasWholeRange (content.blobs number) range) (block_ranges number blocks)
+whole_of_one content number [] w = tt
+whole_of_one content number (b ∷ blocks) w = (w.0, whole_of_one content number blocks w.1)
+
+no_entry : (o : Option (List ℕ)) (low number : ℕ) (entry : TermEntry) (addresses : List ℕ) → AreNoBlocks o low entry
+    → AllByRecursion (λ (range : ReadRange). HasWholeRange o range) (block_ranges number entry.blocks)
+    → HoldsEntry o low entry addresses → ⊥
+no_entry None low number entry addresses n w h = h
+no_entry (Some blob) low number entry addresses n w h = n (lie_of_whole number blob entry.blocks w) addresses h
+
+pub no_term : (content : Content) (part : JobPart) (term : List ℕ) (entry : TermEntry) → IsUp (terms part.directory.terms)
+    → Contains part.directory.terms entry → entry.term ≡ term
+    → AreNoBlocks (content.blobs part.recorded.blob) part.directory.low entry → HasNoTerm content term part
+no_term content part term entry s h e n = λ w addresses t.
+    let number = part.recorded.blob in
+    let whole : HasWholeRanges content (block_ranges number entry.blocks) =
+    subst (λ (rs : List ReadRange). HasWholeRanges content rs) (ranges_at part term entry s h e) w in
+    no_entry (content.blobs number) part.directory.low number entry addresses n (whole_of_one content number entry.blocks whole)
+    (t.there entry h e)

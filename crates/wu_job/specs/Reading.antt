@@ -4,13 +4,14 @@ use Rattle.std.specs.List.{AllByRecursion, list_any}
 use Rattle.wu_base.specs.declared.addresses.Range.{Range}
 use Rattle.wu_outside.specs.Content.{Content}
 use Rattle.wu_layout.specs.Ascending.{AscendBetween}
+use Rattle.wu_layout.specs.Invariants.{SomeOf}
 use Rattle.wu_layout.specs.Postings.{is_live}
 use Rattle.wu_part.specs.declared.entries.BlockEntry.{BlockEntry}
 use Rattle.wu_part.specs.declared.entries.TermEntry.{TermEntry}
 use Rattle.wu_part.specs.Parts.{HoldsBlock}
-use Rattle.wu_job.specs.Jobs.{JobPart, HoldsEntry, HoldsTerm}
+use Rattle.wu_job.specs.Jobs.{JobPart, JobState, HoldsEntry, HoldsTerm}
 use Rattle.wu_job.specs.Live.{live_below}
-use Rattle.wu_job.specs.Steps.{IsNoPart}
+use Rattle.wu_job.specs.Steps.{HasNoTerm, IsBrokenPart, IsDamagedPart, IsNoPart}
 use Rattle.wu_job.specs.declared.live.Cut.{Cut}
 
 -- ---- one block
@@ -80,8 +81,16 @@ abbrev pub IsSomeMarked : Content → List Range → List Bool → List ℕ → 
 IsSomeMarked content live marks term part =
     (all : List ℕ) × HoldsTerm content term part all × (is_some_marked live marks (filter (is_live live) all) ≡ true)
 
--- what the store tells of the part's blob isn't what its directory says, or one of the term's addresses is marked
+-- what the store tells of the part's blob isn't what its directory says, as the term's blocks show
+abbrev pub IsNoPartOf : Content → List ℕ → JobPart → ℕ → Type 0
+IsNoPartOf content term part blob = IsNoPart part.directory (content.blobs blob) × HasNoTerm content term part
+
+-- that is so, or one of the term's addresses is marked
 abbrev pub IsRefused : Option Content → List Range → List Bool → List ℕ → JobPart → ℕ → Type 0
 IsRefused holds live marks term part blob =
     (part.recorded.blob ≡ blob)
-    × IfSome holds (λ content. IsNoPart part.directory (content.blobs blob) ⊎ IsSomeMarked content live marks term part)
+    × IfSome holds (λ content. IsNoPartOf content term part blob ⊎ IsSomeMarked content live marks term part)
+
+-- the blob is damaged that one of the job's parts has, and broken where the step reads it
+abbrev pub IsFoundDamaged : Option Content → JobState → ℕ → Type 0
+IsFoundDamaged holds job blob = SomeOf (λ part. IsDamagedPart holds job blob part × IsBrokenPart holds job blob part) job.parts

@@ -1,7 +1,7 @@
 -- What a step reads of the store, and why it answers a trouble.
-use Rattle.std.specs.Prelude.{◌≡◌, ◌≢◌, ◌⊎◌, ℕ, ◌≤◌, ◌==◌, true, List, [], ◌∷◌, ◌++◌, length, map, take, nat_eq, Contains, Option, None, Some, IfSome, option_map, if◌then◌else◌}
+use Rattle.std.specs.Prelude.{◌≡◌, ◌≢◌, ◌⊎◌, ℕ, ◌+◌, ◌≤◌, ◌==◌, true, List, [], ◌∷◌, ◌++◌, length, map, take, nat_eq, Contains, Option, None, Some, IfSome, option_map, if◌then◌else◌}
 use Rattle.std.specs.Cmp.Lexicographic.{pointwise}
-use Rattle.std.specs.List.{flat_map, list_any}
+use Rattle.std.specs.List.{AllByRecursion, flat_map, list_any}
 use Rattle.wu_base.specs.declared.addresses.TermList.{TermList}
 use Rattle.wu_base.specs.declared.troubles.Trouble.{Trouble}
 use Rattle.wu_base.specs.declared.troubles.Trouble.TheVariants.{StoreFault, Damaged}
@@ -36,6 +36,15 @@ abbrev pub step_ranges : List (List ℕ) → List JobPart → List ReadRange
 step_ranges [] parts = []
 step_ranges (term ∷ terms) parts = flat_map (ranges_of term) parts
 
+-- the blob is there, and has the whole range
+abbrev pub HasWholeRange : Option (List ℕ) → ReadRange → Type 0
+HasWholeRange None range = ⊥
+HasWholeRange (Some blob) range = range.at + range.len ≤ length blob
+
+-- so it is of each of the ranges
+abbrev pub HasWholeRanges : Content → List ReadRange → Type 0
+HasWholeRanges content ranges = AllByRecursion (λ range. HasWholeRange (content.blobs range.blob) range) ranges
+
 abbrev pub adds : List ReadRange → Option (List ReadRange) → Option (List ReadRange)
 adds ranges reads = option_map (λ before. before ++ ranges) reads
 
@@ -53,8 +62,8 @@ abbrev pub IsNoPart : PartDirectory → Option (List ℕ) → Type 0
 IsNoPart directory None = Unit {0}
 IsNoPart directory (Some blob) = (lists : List TermList) → SpellsPart directory lists blob → ⊥
 
--- The first term left has an address in the part that stands in a list that was made of another term. Then the part is none, where
--- the lists that were made are right.
+-- The first term left has an address in the part that stands in a list that was made. Then the part is none, where the lists that were
+-- made are right.
 pub record SharesAddress (content : Content) (job : JobState) (part : JobPart) : Type 0 where
   pub term : List ℕ
   pub later : List (List ℕ)
@@ -66,7 +75,7 @@ pub record SharesAddress (content : Content) (job : JobState) (part : JobPart) :
   pub made : Contains (flat_map (λ list. list.at) job.done) address
   pub broken : IsRight content job → IsNoPart part.directory (content.blobs part.recorded.blob)
 
--- what the store tells of the part's blob isn't what the part's directory says
+-- the part has that blob, and what the store tells of it is no part with its directory, or the part shares an address
 abbrev pub IsDamagedPart : Option Content → JobState → ℕ → JobPart → Type 0
 IsDamagedPart holds job blob part =
     (part.recorded.blob ≡ blob)
@@ -80,6 +89,26 @@ pub record IsCause (Broken : ℕ → Type 0) (before now : ℕ) (trouble : Troub
   pub calm : trouble ≢ StoreFault → now ≡ before
   pub damaged : (blob : ℕ) → trouble ≡ Damaged blob → Broken blob
 
+-- the part's blob hasn't each of the term's blocks whole, or these hold no addresses as the directory tells
+abbrev pub HasNoTerm : Content → List ℕ → JobPart → Type 0
+HasNoTerm content term part =
+    HasWholeRanges content (ranges_of term part) → (addresses : List ℕ) → HoldsTerm content term part addresses → ⊥
+
+-- that is so of the first of these terms
+abbrev pub HasNoFirst : Content → List (List ℕ) → JobPart → Type 0
+HasNoFirst content [] part = ⊥
+HasNoFirst content (term ∷ terms) part = HasNoTerm content term part
+
+-- the part has that blob, and hasn't the first term left so, or it shares an address
+abbrev pub IsBrokenPart : Option Content → JobState → ℕ → JobPart → Type 0
+IsBrokenPart holds job blob part =
+    (part.recorded.blob ≡ blob)
+    × IfSome holds (λ content. HasNoFirst content job.terms_left part ⊎ SharesAddress content job part)
+
 -- the blob is damaged that one of the job's parts has
 abbrev pub IsDamaged : Option Content → JobState → ℕ → Type 0
 IsDamaged holds job blob = SomeOf (IsDamagedPart holds job blob) job.parts
+
+-- the blob is broken where a step reads it
+abbrev pub IsBroken : Option Content → JobState → ℕ → Type 0
+IsBroken holds job blob = SomeOf (IsBrokenPart holds job blob) job.parts

@@ -1,5 +1,6 @@
-//! Jobs.
-ghost use Rattle.std.specs.Prelude.{◌≡◌, ◌+◌, ◌-◌, ◌^◌, ◌<◌, ◌≤◌, ◌∷◌, ◌++◌, [], eqb, length, map, min, sum_by, All, IfOk, IfErr, IfSome, IfNone, OnOk, OnErr};
+//! Jobs on parts, as a log-structured index has them: Büttcher, Clarke and Cormack, Information Retrieval,
+//! chapter 7.
+ghost use Rattle.std.specs.Prelude.{◌≡◌, ℕ, ◌+◌, ◌-◌, ◌^◌, ◌<◌, ◌≤◌, ◌∷◌, ◌++◌, [], eqb, length, map, min, sum_by, All, IfOk, IfErr, IfSome, IfNone, OnOk, OnErr};
 ghost use Rattle.std.specs.Ordering.{nat_cmp};
 ghost use Rattle.std.specs.Cmp.Lexicographic.{slice_cmp};
 ghost use Rattle.std.specs.List.{AllByRecursion, IsDistinct, flat_map};
@@ -11,8 +12,9 @@ ghost use Rattle.wu_part.specs.Writing.{first_of};
 ghost use Rattle.wu_space.specs.Addresses.{AreApart};
 ghost use Rattle.wu_job.specs.Jobs.{Answers, DoesTerm, StandWithin, list_for, started};
 ghost use Rattle.wu_job.specs.Keeping.{addresses_in};
+ghost use Rattle.wu_job.specs.Reading.{IsFoundDamaged};
 ghost use Rattle.wu_job.specs.Sources.{AreSources, parts_of};
-ghost use Rattle.wu_job.specs.Steps.{IsCause, IsDamaged, ReadsFront, adds, step_ranges};
+ghost use Rattle.wu_job.specs.Steps.{HasWholeRanges, IsBroken, IsCause, IsDamaged, ReadsFront, adds, step_ranges};
 
 use crate::lists::live_addresses;
 use crate::live::{Cut, LiveRange, first_live, ranked, total};
@@ -30,9 +32,9 @@ use wu_part::{Builder, Directory, History};
 /// What a step of a job answers.
 #[derive(Debug, Drop)]
 pub enum Progress {
-    /// There are terms left.
+    /// There are terms left: `units_left()` is at least 1.
     More,
-    /// No term is left: the bytes of the new part, or None where no posting is left.
+    /// No term is left. The bytes of the new part, or `None` exactly where no posting is left.
     Done(Option<Vec<u8>>),
 }
 
@@ -43,9 +45,9 @@ struct NewList {
     cut: Cut,
 }
 
-/// A job on one part or two, between two steps. It keeps the live ranges of its start, writes the
-/// lists that it makes, and goes through the terms of its parts, each once, in byte order. After a step that answered a
-/// trouble a job is only dropped.
+/// A job on one part or two, between two steps. It keeps copies of their directories and the live ranges of its
+/// start, writes the lists that it makes, and goes through the terms of its parts, each once, in byte order. Postings
+/// that die while it goes on are kept. After a step that answered a trouble a job is only dropped.
 #[derive(Drop)]
 pub struct Job {
     alloc: Global,
@@ -79,9 +81,17 @@ impl Job {
     ghost use Rattle.wu_job.specs.Jobs.{AreKept, IsRight, MakesList};
     ghost use Rattle.wu_job.specs.Keeping.{AreFound, IsFirst, IsNewCut, IsNext};
 
-    /// The merge of two neighbours of a generation below `GENERATION_MAX`, to the next generation. `live` are
-    /// the live ranges now, ascending. Takes time near linear in the sizes of the directories. The only error
-    /// is out of memory.
+    /// The merge of two neighbours to one part of the next generation, without the postings that are dead now: the
+    /// merging of Büttcher, Clarke and Cormack, Information Retrieval, chapter 7. No term is done yet, and there is
+    /// one at least.
+    ///
+    /// Each record tells what its directory tells. Both parts are of one generation, below `GENERATION_MAX`, and
+    /// the last address of the left one is below the first of the right one. `live` are the live ranges now,
+    /// ascending, none overlapping with another, and each ends at `ADDRESSES_MAX` at the latest.
+    ///
+    /// Takes time near linear in the sizes of the directories and in the numbers of live ranges and live addresses,
+    /// and memory for the directories, the ranges, a bit for each of these addresses, and as many bytes as the
+    /// parts have. The one error is out of memory.
     pub fn start_merge(
         alloc: Global,
         left: &PartRec,
@@ -112,8 +122,16 @@ impl Job {
         started(alloc, first, Some(second), live, left.generation + 1)
     }
 
-    /// The rewriting of a part at its own generation. `live` are the live ranges now, ascending. Takes time near
-    /// linear in the size of the directory. The only error is out of memory.
+    /// The rewriting of a part at its own generation, without the postings that are dead now: the collecting of
+    /// garbage of Büttcher, Clarke and Cormack, Information Retrieval, chapter 7. No term is done yet, and there is
+    /// one at least.
+    ///
+    /// The record `part` tells what its directory `dir` tells. `live` are the live ranges now, ascending, none
+    /// overlapping with another, and each ends at `ADDRESSES_MAX` at the latest.
+    ///
+    /// Takes time near linear in the size of the directory and in the numbers of live ranges and live addresses,
+    /// and memory for the directory, the ranges, a bit for each of these addresses, and as many bytes as the part
+    /// has. The one error is out of memory.
     pub fn start_collect(
         alloc: Global,
         part: &PartRec,
@@ -134,7 +152,8 @@ impl Job {
         started(alloc, source, None, live, part.generation)
     }
 
-    /// How many steps there are to do.
+    /// How many steps there are to do, one for each term that is left: 0 exactly where the job is done. Takes no
+    /// memory, and constant time.
     pub fn units_left(&self) -> u64
         ensures { result ≡ length self.now.terms_left }
     {
@@ -142,21 +161,32 @@ impl Job {
     }
 
     /// Returns nothing and does nothing, in constant time: its clause says that the addresses of the lists that
-    /// were made are within the parts' spans, as they are at every moment. Proofs of callers cite it.
+    /// were made lie from the first address of the first part to the last one of the last part, as they do at
+    /// every moment. Proofs of callers cite it.
     pub fn stays_within_its_parts(&self)
         ensures { StandWithin self.now.parts (flat_map (λ list. list.at) self.now.done) }
     {
         let _units_left = self.units_left;
     }
 
-    /// Does the first term that is left: reads its blocks in the parts, each once, and keeps of its addresses those
-    /// that were live when the job began. With the last term it answers the new part. An address that stands in
-    /// two lists of a part is damage of that part; so is a block that isn't as the directory says.
+    /// Does the first term that is left, of which there is one at least: reads its blocks in the parts, from left to
+    /// right, each whole in one read and nothing else, and keeps of its addresses those that were live when the job
+    /// began. Done comes exactly with the last term. On Ok each block lay whole in its blob and was the spelling of
+    /// addresses as the directory tells, and no address that was kept stands in two lists.
+    ///
+    /// Of the parts that have the term one is damaged, named by its blob, exactly where the blob is absent or ends
+    /// before the end of one of the term's blocks, where such a block isn't the spelling of addresses as the directory
+    /// tells, or where a live address of the term stands in a list that was made, as far as no other error comes
+    /// first. The other errors are a fault of the store, only where its count rose, and out of memory. After an error
+    /// some of these blocks were read, from the first one on, and the job is only dropped.
     pub fn step<D: Store>(&mut self, store: &mut D) -> Result<Progress, Trouble>
         requires { 0 < length self.old.terms_left }
         ensures term { OnOk result (DoesTerm (D.holds store.old) self.old self.new) }
         ensures right { OnOk result (IfSome (D.holds store.old) (λ content. IsRight content self.old → IsRight content self.new)) }
+        ensures distinct { OnOk result (IsDistinct eqb (flat_map (λ list. list.at) self.new.done)) }
         ensures answer { IfOk result (Answers self.new) }
+        ensures whole { OnOk result (IfSome (D.holds store.old) (λ content.
+            HasWholeRanges content (step_ranges self.old.terms_left self.old.parts))) }
         ensures holds { D.holds store.new ≡ D.holds store.old }
         ensures still { D.moments store.new ≡ D.moments store.old }
         ensures reads { OnOk result (D.reads store.new ≡ adds (step_ranges self.old.terms_left self.old.parts) (D.reads store.old)) }
@@ -164,6 +194,8 @@ impl Job {
             (D.reads store.new)) }
         ensures calm { OnOk result (D.faults store.new ≡ D.faults store.old) }
         ensures cause { IfErr result (IsCause (IsDamaged (D.holds store.old) self.old) (D.faults store.old) (D.faults store.new)) }
+        ensures broken { IfErr result (λ trouble. (blob : ℕ) → trouble ≡ Trouble.Damaged blob
+            → IsBroken (D.holds store.old) self.old blob) }
     {
         let list = self.read_first(store)?;
         Ok(self.put(list.first, list.cut)?)
@@ -176,13 +208,15 @@ impl Job {
         ensures new { IfOk result (λ list. IsNewCut self.now list.cut) }
         ensures held { IfOk result (λ list. IfSome (D.holds store.old) (λ content.
             AreKept content self.now.parts self.now.live list.first.term list.cut.addresses.items)) }
+        ensures whole { OnOk result (IfSome (D.holds store.old) (λ content.
+            HasWholeRanges content (step_ranges self.now.terms_left self.now.parts))) }
         ensures holds { D.holds store.new ≡ D.holds store.old }
         ensures still { D.moments store.new ≡ D.moments store.old }
         ensures reads { OnOk result (D.reads store.new ≡ adds (step_ranges self.now.terms_left self.now.parts) (D.reads store.old)) }
         ensures front { IfErr result (ReadsFront (step_ranges self.now.terms_left self.now.parts) (D.reads store.old)
             (D.reads store.new)) }
         ensures calm { OnOk result (D.faults store.new ≡ D.faults store.old) }
-        ensures cause { IfErr result (IsCause (IsDamaged (D.holds store.old) self.now) (D.faults store.old) (D.faults store.new)) }
+        ensures cause { IfErr result (IsCause (IsFoundDamaged (D.holds store.old) self.now) (D.faults store.old) (D.faults store.new)) }
     {
         are_whole(&self.left, &self.right);
         let front = front_at(&self.left, &self.right, self.places);
@@ -203,13 +237,15 @@ impl Job {
         ensures new { IfOk result (IsNewCut self.now) }
         ensures held { IfOk result (λ cut. IfSome (D.holds store.old) (λ content.
             AreKept content self.now.parts self.now.live term.now cut.addresses.items)) }
+        ensures whole { OnOk result (IfSome (D.holds store.old) (λ content.
+            HasWholeRanges content (step_ranges self.now.terms_left self.now.parts))) }
         ensures holds { D.holds store.new ≡ D.holds store.old }
         ensures still { D.moments store.new ≡ D.moments store.old }
         ensures reads { OnOk result (D.reads store.new ≡ adds (step_ranges self.now.terms_left self.now.parts) (D.reads store.old)) }
         ensures front { IfErr result (ReadsFront (step_ranges self.now.terms_left self.now.parts) (D.reads store.old)
             (D.reads store.new)) }
         ensures calm { OnOk result (D.faults store.new ≡ D.faults store.old) }
-        ensures cause { IfErr result (IsCause (IsDamaged (D.holds store.old) self.now) (D.faults store.old) (D.faults store.new)) }
+        ensures cause { IfErr result (IsCause (IsFoundDamaged (D.holds store.old) self.now) (D.faults store.old) (D.faults store.new)) }
     {
         are_whole(&self.left, &self.right);
         let alloc = self.alloc;
@@ -246,6 +282,7 @@ impl Job {
         requires next { IsNext self.old first.term first.after }
         requires new { IsNewCut self.old cut }
         ensures made { OnOk result (MakesList first.term cut.addresses.items self.old self.new) }
+        ensures distinct { OnOk result (IsDistinct eqb (addresses_in self.new.done)) }
         ensures answer { IfOk result (Answers self.new) }
     {
         put_list(&mut self.done, &mut self.made, first.term, cut.addresses)?;

@@ -1,5 +1,6 @@
 //! Background jobs on parts of the index: one part is written anew without its dead postings, or two
-//! neighbours are merged into one, one term a step.
+//! neighbours are merged into one, one term a step. So a log-structured index is kept: Büttcher, Clarke and Cormack,
+//! Information Retrieval, chapter 7.
 #![tactic(auto)]
 
 mod jobs;

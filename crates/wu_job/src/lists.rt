@@ -7,9 +7,9 @@ ghost use Rattle.wu_part.specs.Directories.{IsEntry};
 ghost use Rattle.wu_part.specs.declared.entries.TermEntry.{TermEntry};
 ghost use Rattle.wu_job.specs.Jobs.{HoldsEntry, HoldsTerm};
 ghost use Rattle.wu_job.specs.Live.{AreRanked, ranges_alone, total_of};
-ghost use Rattle.wu_job.specs.Reading.{AreNoBlocks, EndsBefore, HasBytes, HoldsInBlock, IsCutOf, IsNew, IsNoBlock, IsFound, IsRefused};
+ghost use Rattle.wu_job.specs.Reading.{AreNoBlocks, EndsBefore, HasBytes, HoldsInBlock, IsCutOf, IsNew, IsNoBlock, IsNoPartOf, IsFound, IsRefused};
 ghost use Rattle.wu_job.specs.Sources.{part_of};
-ghost use Rattle.wu_job.specs.Steps.{IsCause, IsNoPart, ReadsFront, adds, block_range, block_ranges, ranges_of};
+ghost use Rattle.wu_job.specs.Steps.{HasWholeRange, HasWholeRanges, IsCause, ReadsFront, adds, block_range, block_ranges, ranges_of};
 
 use crate::live::{Cut, LiveRange, cut_to_live};
 use crate::marks::{Marks, some_marked};
@@ -36,6 +36,7 @@ pub(crate) fn live_addresses<D: Store>(
     ensures new { IfOk result (IsNew (ranges_alone live.now) marks.now source.now.directory.low source.now.directory.high) }
     ensures held { IfOk result (λ cut. IfSome (D.holds store.old) (λ content.
         IsCutOf content (ranges_alone live.now) term.now (part_of source.now) cut.addresses.items)) }
+    ensures whole { OnOk result (IfSome (D.holds store.old) (λ content. HasWholeRanges content (ranges_of term.now (part_of source.now)))) }
     ensures holds { D.holds store.new ≡ D.holds store.old }
     ensures still { D.moments store.new ≡ D.moments store.old }
     ensures reads { OnOk result (D.reads store.new ≡ adds (ranges_of term.now (part_of source.now)) (D.reads store.old)) }
@@ -78,13 +79,14 @@ fn read_term<D: Store>(
         → list_any (λ range. range.blob == source.now.recorded.blob) (ranges_of term.now (part_of source.now)) ≡ true) }
     ensures held { IfOk result (λ found. IfSome (D.holds store.old) (λ content.
         HoldsTerm content term.now (part_of source.now) found.items)) }
+    ensures whole { OnOk result (IfSome (D.holds store.old) (λ content. HasWholeRanges content (ranges_of term.now (part_of source.now)))) }
     ensures holds { D.holds store.new ≡ D.holds store.old }
     ensures still { D.moments store.new ≡ D.moments store.old }
     ensures reads { OnOk result (D.reads store.new ≡ adds (ranges_of term.now (part_of source.now)) (D.reads store.old)) }
     ensures front { IfErr result (ReadsFront (ranges_of term.now (part_of source.now)) (D.reads store.old) (D.reads store.new)) }
     ensures calm { OnOk result (D.faults store.new ≡ D.faults store.old) }
     ensures cause { IfErr result (IsCause (λ blob. (source.now.recorded.blob ≡ blob) × IfSome (D.holds store.old) (λ content.
-        IsNoPart source.now.directory (content.blobs blob))) (D.faults store.old) (D.faults store.new)) }
+        IsNoPartOf content term.now (part_of source.now) blob)) (D.faults store.old) (D.faults store.new)) }
 {
     source.directory.is_spelled();
     match entry_of(entry, term) {
@@ -115,6 +117,8 @@ fn read_list<D: Store>(
     ensures ascend { IfOk result (λ found. AscendBetween source.now.directory.low (source.now.directory.high + 1) found.items) }
     ensures held { IfOk result (λ found. IfSome (D.holds store.old) (λ content.
         HoldsEntry (content.blobs source.now.recorded.blob) source.now.directory.low entry.old found.items)) }
+    ensures whole { OnOk result (IfSome (D.holds store.old) (λ content.
+        HasWholeRanges content (block_ranges source.now.recorded.blob entry.old.blocks))) }
     ensures holds { D.holds store.new ≡ D.holds store.old }
     ensures still { D.moments store.new ≡ D.moments store.old }
     ensures reads { OnOk result (D.reads store.new ≡ adds (block_ranges source.now.recorded.blob entry.old.blocks) (D.reads store.old)) }
@@ -145,7 +149,7 @@ fn add_addresses(found: &mut Vec<u64>, more: Vec<u64>) -> Result<(), NoMemory>
     Ok(())
 }
 
-/// The block's addresses, so many.
+/// The block's addresses, so many. On Ok the blob has the block whole.
 fn read_one<D: Store>(
     alloc: Global,
     store: &mut D,
@@ -158,6 +162,7 @@ fn read_one<D: Store>(
     ensures ascend { IfOk result (λ found. AscendBetween block.now.first (block.now.last + 1) found.items) }
     ensures held { IfOk result (λ found. IfSome (D.holds store.old) (λ content.
         HoldsInBlock (content.blobs blob) low block.now found.items)) }
+    ensures whole { OnOk result (IfSome (D.holds store.old) (λ content. HasWholeRange (content.blobs blob) (block_range blob block.now))) }
     ensures holds { D.holds store.new ≡ D.holds store.old }
     ensures still { D.moments store.new ≡ D.moments store.old }
     ensures reads { OnOk result (D.reads store.new ≡ adds (block_range blob block.now ∷ []) (D.reads store.old)) }
@@ -190,6 +195,7 @@ fn read_bytes<D: Store>(
     blob: u64,
     block: &BlockEntry,
 ) -> Result<Vec<u8>, Trouble>
+    ensures long { IfOk result (λ bytes. length bytes.items ≡ block.now.len) }
     ensures bytes { IfOk result (λ bytes. IfSome (D.holds store.old) (λ content. HasBytes (content.blobs blob) block.now bytes.items)) }
     ensures holds { D.holds store.new ≡ D.holds store.old }
     ensures still { D.moments store.new ≡ D.moments store.old }

@@ -3,18 +3,18 @@ use Rattle.std.specs.Prelude.{◌⊎◌, IfSome}
 use Rattle.std.specs.List.{AllByRecursion, list_any}
 use Rattle.std.proofs.lemmas.Result.{err_from_is_err_and}
 use Rattle.wu_base.specs.declared.limits.TheConstants.{ADDRESSES_MAX}
+use Rattle.wu_base.proofs.EachLemmas.{each-filter}
 use Rattle.wu_layout.specs.Ascending.{AscendBetween}
 use Rattle.wu_layout.proofs.Ascending.{ascend-filter, ascend-higher, ascend-lower}
 use Rattle.wu_layout.specs.Postings.{is_live}
 use Rattle.wu_layout.proofs.EntryLemmas.{IfSome-map}
 use Rattle.wu_job.specs.Jobs.{HoldsTerm}
 use Rattle.wu_job.specs.Live.{ranges_alone}
-use Rattle.wu_job.specs.Reading.{IsCutOf, IsRefused, IsSomeMarked, is_some_marked}
+use Rattle.wu_job.specs.Reading.{IsCutOf, IsNoPartOf, IsRefused, IsSomeMarked, is_some_marked}
 use Rattle.wu_job.specs.Sources.{part_of}
-use Rattle.wu_job.specs.Steps.{IsNoPart, ranges_of}
+use Rattle.wu_job.specs.Steps.{ranges_of}
 use Rattle.wu_job.proofs.Fronts.{cause_after, cause_calm, front_all, front_damaged, no_fault, no_memory, same_blob}
 use Rattle.wu_job.proofs.Marking.{marked_some, places_within}
-use Rattle.wu_job.proofs.Terms.{filter_all}
 use Rattle.wu_job.proofs.lists.live_addresses.Goals as goal
 
 pub cut_to_live-requires-clause-ascend : goal.cut_to_live-requires-clause-ascend
@@ -32,7 +32,7 @@ check_unmarked-requires g c =
     let addresses = c.in_ok-cut.cut.addresses.items in
     let alive : AllByRecursion (λ address. is_live live address ≡ true) addresses =
     subst (AllByRecursion (λ address. is_live live address ≡ true)) (sym c.in_ok-cut.ensures.addresses)
-    (filter_all (is_live live) c.deref.result.now) in
+    (each-filter (is_live live) c.deref.result.now) in
     rw (c.deref-2.ensures.value, c.in_ok-cut.ensures.places)
     (places_within live (length c.args.marks.now) addresses (sym c.requires.marks) alive)
 
@@ -45,13 +45,13 @@ returns-in_err-found-clause-cause g c =
     let before = g.D.Store.faults c.args.store.now in
     rw (p.1, p.2)
     (cause_after
-    (λ blob. (part.recorded.blob ≡ blob) × IfSome holds (λ content. IsNoPart part.directory (content.blobs blob)))
+    (λ blob. (part.recorded.blob ≡ blob) × IfSome holds (λ content. IsNoPartOf content c.args.term.now part blob))
     (IsRefused holds live c.args.marks.now c.args.term.now part) before before (g.D.Store.faults c.read_term.new.store)
     c.in_err-found.field-0.0 refl
     (λ blob b. (
       b.0,
-      IfSome-map (λ content. IsNoPart part.directory (content.blobs blob))
-          (λ content. IsNoPart part.directory (content.blobs blob) ⊎ IsSomeMarked content live c.args.marks.now c.args.term.now part) holds
+      IfSome-map (λ content. IsNoPartOf content c.args.term.now part blob)
+          (λ content. IsNoPartOf content c.args.term.now part blob ⊎ IsSomeMarked content live c.args.marks.now c.args.term.now part) holds
           (λ content n. inl n) b.1,
     ))
     c.in_err-found.ensures.cause)
@@ -101,7 +101,7 @@ returns-in_err-check_unmarked-clause-cause g c =
     (λ blob e. (
       same_blob part.recorded.blob blob e,
       IfSome-map (λ content. HoldsTerm content c.args.term.now part found)
-          (λ content. IsNoPart part.directory (content.blobs blob) ⊎ IsSomeMarked content live marks c.args.term.now part) holds
+          (λ content. IsNoPartOf content c.args.term.now part blob ⊎ IsSomeMarked content live marks c.args.term.now part) holds
           (λ content h. inr (found, h, subst (λ (xs : List ℕ). is_some_marked live marks xs ≡ true) cut marked))
           c.in_ok-found.ensures.held,
     )))
@@ -117,7 +117,7 @@ returns-clause-new g c =
     c.in_ok-cut.ensures.addresses ∙ ap (filter (is_live live)) c.deref.ensures.value in
     record {
       ascend = subst (AscendBetween low (high + 1)) (sym cut) (ascend-filter (is_live live) low (high + 1) found c.in_ok-found.ensures.ascend);
-      alive = subst (AllByRecursion (λ address. is_live live address ≡ true)) (sym cut) (filter_all (is_live live) found);
+      alive = subst (AllByRecursion (λ address. is_live live address ≡ true)) (sym cut) (each-filter (is_live live) found);
       places = c.in_ok-cut.ensures.places;
       unmarked =
           ap (list_any (λ place. get_or marks place false))

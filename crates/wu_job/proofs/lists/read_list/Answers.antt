@@ -5,7 +5,8 @@ use Rattle.wu_layout.proofs.EntryLemmas.{IfSome-all, IfSome-map}
 use Rattle.wu_vbyte.specs.declared.blocks.TheConstants.{BLOCK_LEN}
 use Rattle.wu_job.specs.Jobs.{HoldsEntry}
 use Rattle.wu_job.specs.Reading.{AreNoBlocks, HoldsInBlock, IsNoBlock}
-use Rattle.wu_job.proofs.Blocks.{AreRead, IsAfter, IsReadTo, ranges_all, ranges_failed, ranges_more, ranges_none, ranges_stopped, read_all, read_broken, read_more, read_none, some_left, to_all, to_more, to_none}
+use Rattle.wu_job.specs.Steps.{HasWholeRange, HasWholeRanges, block_range, block_ranges}
+use Rattle.wu_job.proofs.Blocks.{AreRead, AreWholeTo, IsAfter, IsReadTo, ranges_all, ranges_failed, ranges_more, ranges_none, ranges_stopped, read_all, read_broken, read_more, read_none, some_left, to_all, to_more, to_none, whole_all, whole_more}
 use Rattle.wu_job.proofs.Fronts.{cause_after, if_both, no_memory}
 use Rattle.wu_job.proofs.lists.read_list.Goals as goal
 
@@ -18,6 +19,9 @@ loop-block-init g c =
       held =
           IfSome-all (λ content. AreRead (content.blobs blob) low c.args.entry.now c.args.entry.now found) (g.D.Store.holds c.args.store.now)
           (λ content. read_none (content.blobs blob) low c.args.entry.now found c.new-found.ensures.items);
+      whole =
+          IfSome-all (λ content. AreWholeTo content blob c.args.entry.now c.args.entry.now) (g.D.Store.holds c.args.store.now)
+          (λ content. λ w. w);
       to = to_none low c.args.source.now.directory.high c.args.entry.now found c.new-found.ensures.items c.requires;
       holds = refl;
       still = refl;
@@ -53,6 +57,11 @@ loop-block-preserved g c =
           (λ content r h.
           read_more (content.blobs blob) low first entry left block found addresses r is n some
           (subst (λ l. HoldsInBlock (content.blobs blob) l block addresses) c.low-low.ensures h)));
+      whole =
+          if_both (λ content. AreWholeTo content blob first entry)
+          (λ content. HasWholeRange (content.blobs blob) (block_range blob block)) (λ content. AreWholeTo content blob first left)
+          (g.D.Store.holds c.args.store.now) (g.D.Store.holds c.loop-block.store) inv.holds inv.whole c.in_ok-addresses.ensures.whole
+          (λ content r w. whole_more content blob first entry left block r is w);
       to =
           subst (IsReadTo low high first left) (sym grown)
           (to_more low high first entry left block found addresses inv.to is n c.in_ok-addresses.ensures.ascend);
@@ -138,6 +147,16 @@ returns-clause-held g c =
     read_all (content.blobs blob) low c.args.source.now.directory.high c.args.entry.now c.loop-block.entry found r c.loop-block.invariant.to
     none c.requires.count)
     c.loop-block.invariant.held
+
+pub returns-clause-whole : goal.returns-clause-whole
+returns-clause-whole g c =
+    let blob = c.args.source.now.recorded.blob in
+    let first = c.args.entry.now in
+    let none : c.loop-block.entry.blocks ≡ [] = search rules in
+    IfSome-map (λ content. AreWholeTo content blob first c.loop-block.entry)
+    (λ content. HasWholeRanges content (block_ranges blob first.blocks)) (g.D.Store.holds c.args.store.now)
+    (λ content r. whole_all content blob first c.loop-block.entry r none)
+    c.loop-block.invariant.whole
 
 pub returns-clause-reads : goal.returns-clause-reads
 returns-clause-reads g c =

@@ -1,16 +1,16 @@
-use Rattle.std.proofs.Common.{◌≡◌, ◌<◌, ◌==◌, true, ℕ, List, length, refl, sym, ap, subst, ◌∙◌}
+use Rattle.std.proofs.Common.{◌≡◌, ◌<◌, ◌==◌, true, ℕ, List, [], length, refl, sym, ap, subst, ◌∙◌}
 use Rattle.std.specs.Prelude.{IfSome}
 use Rattle.std.specs.List.{list_any}
 use Rattle.std.proofs.lemmas.Result.{IfErr-weaker, IfOk-weaker, on_ok_weaker}
 use Rattle.wu_layout.proofs.EntryLemmas.{IfSome-all, IfSome-map}
 use Rattle.wu_outside.specs.declared.ranges.ReadRange.{ReadRange}
 use Rattle.wu_job.specs.Jobs.{HoldsEntry, HoldsTerm}
-use Rattle.wu_job.specs.Reading.{AreNoBlocks}
+use Rattle.wu_job.specs.Reading.{AreNoBlocks, IsNoPartOf}
 use Rattle.wu_job.specs.Sources.{part_of}
-use Rattle.wu_job.specs.Steps.{IsCause, IsNoPart, ReadsFront, adds, block_ranges, ranges_of}
+use Rattle.wu_job.specs.Steps.{HasWholeRanges, IsCause, ReadsFront, adds, block_ranges, ranges_of}
 use Rattle.wu_job.proofs.Blocks.{blocks_read}
 use Rattle.wu_job.proofs.Fronts.{adds-none, cause_after}
-use Rattle.wu_job.proofs.Terms.{entry_of_directory, found_has, held_nowhere, held_there, no_part, ranges_at, ranges_nowhere}
+use Rattle.wu_job.proofs.Terms.{entry_of_directory, found_has, held_nowhere, held_there, no_part, no_term, ranges_at, ranges_nowhere}
 use Rattle.wu_job.proofs.lists.read_term.Goals as goal
 
 pub read_list-requires : goal.read_list-requires
@@ -53,6 +53,16 @@ returns-in-Some-clause-some g c =
     (blocks_read blob low high c.in-Some.entry is))
     c.read_list.ensures.ascend
 
+pub returns-in-Some-clause-whole : goal.returns-in-Some-clause-whole
+returns-in-Some-clause-whole g c =
+    let has = found_has c.args.source.now.directory.terms _ c.in-Some.entry c.requires.has c.in-Some.ensures.0 in
+    let holds = g.D.Store.holds c.args.store.now in
+    let same =
+    ranges_at (part_of c.args.source.now) c.args.term.now c.in-Some.entry c.is_spelled.ensures.1.holds.ascending has
+    c.in-Some.ensures.1 in
+    on_ok_weaker c.read_list.result
+    (λ w. subst (λ (rs : List ReadRange). IfSome holds (λ content. HasWholeRanges content rs)) (sym same) w) c.read_list.ensures.whole
+
 pub returns-in-Some-clause-reads : goal.returns-in-Some-clause-reads
 returns-in-Some-clause-reads g c =
     let has = found_has c.args.source.now.directory.terms _ c.in-Some.entry c.requires.has c.in-Some.ensures.0 in
@@ -84,15 +94,20 @@ returns-in-Some-clause-cause g c =
     let now = g.D.Store.faults c.read_list.new.store in
     let P = λ (blob : ℕ).
     (source.recorded.blob ≡ blob) × IfSome holds (λ content. AreNoBlocks (content.blobs blob) source.directory.low c.in-Some.entry) in
-    let Q = λ (blob : ℕ). (source.recorded.blob ≡ blob) × IfSome holds (λ content. IsNoPart source.directory (content.blobs blob)) in
+    let part = part_of source in
+    let Q = λ (blob : ℕ). (source.recorded.blob ≡ blob) × IfSome holds (λ content. IsNoPartOf content c.args.term.now part blob) in
     IfErr-weaker c.read_list.result (IsCause P before now) (IsCause Q before now)
     (λ t k.
     cause_after P Q before before now t refl
     (λ blob p. (
       p.0,
       IfSome-map (λ content. AreNoBlocks (content.blobs blob) source.directory.low c.in-Some.entry)
-          (λ content. IsNoPart source.directory (content.blobs blob)) holds
-          (λ content n. no_part source.directory c.in-Some.entry (content.blobs blob) has n)
+          (λ content. IsNoPartOf content c.args.term.now part blob) holds
+          (λ content n. (
+            no_part source.directory c.in-Some.entry (content.blobs blob) has n,
+            no_term content part c.args.term.now c.in-Some.entry c.is_spelled.ensures.1.holds.ascending has c.in-Some.ensures.1
+                (subst (λ b. AreNoBlocks (content.blobs b) source.directory.low c.in-Some.entry) (sym p.0) n),
+          ))
           p.1,
     ))
     k)
@@ -105,6 +120,15 @@ returns-in-None-clause-held g c =
     (λ content.
     rw c.new.ensures.items
     (held_nowhere content c.args.term.now part (λ entry h e. c.in-None.ensures entry (c.requires.only entry h e) e)))
+
+pub returns-in-None-clause-whole : goal.returns-in-None-clause-whole
+returns-in-None-clause-whole g c =
+    let holds = g.D.Store.holds c.args.store.now in
+    let none =
+    ranges_nowhere (part_of c.args.source.now) c.args.term.now
+    (λ entry h e. c.in-None.ensures entry (c.requires.only entry h e) e) in
+    subst (λ (rs : List ReadRange). IfSome holds (λ content. HasWholeRanges content rs)) (sym none)
+    (IfSome-all (λ content. HasWholeRanges content []) holds (λ content. tt))
 
 pub returns-in-None-clause-reads : goal.returns-in-None-clause-reads
 returns-in-None-clause-reads g c =

@@ -3,9 +3,9 @@ use Rattle.std.specs.List.{AllByRecursion}
 use Rattle.std.proofs.lemmas.Bool.{leb-true, leb-false}
 use Rattle.std.proofs.lemmas.List.Sorted.{IsPartitionPoint-from_clause, IsPartitionedBy-leb}
 use Rattle.wu_base.specs.declared.limits.TheConstants.{ADDRESSES_MAX}
+use Rattle.wu_base.proofs.Parting.{parts_at}
 use Rattle.wu_job.specs.declared.live.LiveRange.{LiveRange}
 use Rattle.wu_job.proofs.Ranks.{order-take, ends-rise}
-use Rattle.wu_job.proofs.Parting.{parts_at}
 use Rattle.wu_job.proofs.live.count_ended.Goals as goal
 use Rattle.wu_job.proofs.live.count_ended.Goals.{After-partition_point}
 

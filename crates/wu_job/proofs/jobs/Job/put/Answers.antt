@@ -2,7 +2,7 @@ use Rattle.std.proofs.Common.{◌-◌, length, refl, ap, sym, ◌∙◌, arith}
 use Rattle.wu_job.specs.Jobs.{JobState}
 use Rattle.wu_job.specs.Live.{total_of}
 use Rattle.wu_job.proofs.Marking.{places_within}
-use Rattle.wu_job.proofs.Putting.{ascending_put, distinct_put, has_put, sound_put}
+use Rattle.wu_job.proofs.Putting.{ascending_put, distinct_made, distinct_put, has_put, sound_put}
 use Rattle.wu_job.proofs.Sound.{lists_for}
 use Rattle.wu_job.proofs.jobs.Job.put.Goals as goal
 
@@ -53,3 +53,13 @@ invariant_of-self-2 c =
     c.requires.new c.mark_all.new.marks c.put_list.new.made c.replace-done.new.dest (i.units_left - 1) c.mark_all.ensures.long
     (rw c.deref.ensures.value at c.mark_all.ensures.marked) c.in_ok-put_list.ensures.made refl
     (λ some. absurd (omega (arith, c.if-self-gt0.false)))
+
+pub returns-then-self-gt0-clause-distinct : goal.returns-then-self-gt0-clause-distinct
+returns-then-self-gt0-clause-distinct c =
+    distinct_made c.self.inside c.self.invariant c.args.self.now c.self.view_is c.args.first.term c.args.first.after c.args.cut
+    c.requires.next c.requires.new c.put_list.new.made c.in_ok-put_list.ensures.made
+
+pub returns-clause-distinct : goal.returns-clause-distinct
+returns-clause-distinct c =
+    distinct_made c.self.inside c.self.invariant c.args.self.now c.self.view_is c.args.first.term c.args.first.after c.args.cut
+    c.requires.next c.requires.new c.put_list.new.made c.in_ok-put_list.ensures.made

@@ -7,12 +7,12 @@ use Rattle.wu_layout.proofs.EntryLemmas.{IfSome-map}
 use Rattle.wu_job.specs.Jobs.{AreKept, JobState}
 use Rattle.wu_job.specs.Keeping.{AreFound, IsNewCut, state_of}
 use Rattle.wu_job.specs.Live.{ranges_alone}
-use Rattle.wu_job.specs.Reading.{IsCutOf, IsRefused}
+use Rattle.wu_job.specs.Reading.{IsCutOf, IsFoundDamaged, IsRefused}
 use Rattle.wu_job.specs.Sources.{HasEntries, part_of, parts_of, terms_from}
-use Rattle.wu_job.specs.Steps.{IsCause, IsDamaged, IsDamagedPart, ReadsFront, adds, step_ranges}
+use Rattle.wu_job.specs.Steps.{HasWholeRanges, IsBrokenPart, IsCause, IsDamagedPart, ReadsFront, adds, ranges_of, step_ranges}
 use Rattle.wu_job.proofs.Doubles.{has_left, left_of, refused}
 use Rattle.wu_job.proofs.Fronts.{cause_after, front_all, if_both, no_memory}
-use Rattle.wu_job.proofs.Joining.{front_of_left, front_with, has_with, highest_alone, highest_with, kept_alone, kept_with, lowest_left, new_both, new_one, reads_alone, reads_with, some_with, spans_apart}
+use Rattle.wu_job.proofs.Joining.{front_of_left, front_with, has_with, highest_alone, highest_with, kept_alone, kept_with, lowest_left, new_both, new_one, reads_alone, reads_with, some_with, spans_apart, whole_alone, whole_with}
 use Rattle.wu_job.proofs.Whole.{found_left, found_with}
 use Rattle.wu_job.proofs.jobs.Job.read_live.Goals as goal
 
@@ -54,10 +54,11 @@ returns-in_err-cut-clause-cause g c =
     let is : terms_from i.left i.right i.places ≡ c.args.term.now ∷ c.requires.first.0 =
     ap (λ (s : JobState). s.terms_left) c.self.view_is ∙ c.requires.first.1 in
     rw (p.1, p.2)
-    (subst (λ (s : JobState). IsCause (IsDamaged holds s) before now t) c.self.view_is
-    (cause_after (IsRefused holds live i.marks c.args.term.now (part_of i.left)) (IsDamaged holds (state_of i)) before before now t refl
+    (subst (λ (s : JobState). IsCause (IsFoundDamaged holds s) before now t) c.self.view_is
+    (cause_after (IsRefused holds live i.marks c.args.term.now (part_of i.left)) (IsFoundDamaged holds (state_of i))
+    before before now t refl
     (λ blob b.
-    left_of (IsDamagedPart holds (state_of i) blob) i.left i.right
+    left_of (λ part. IsDamagedPart holds (state_of i) blob part × IsBrokenPart holds (state_of i) blob part) i.left i.right
     (refused holds (state_of i) i.left i.right i.marks (part_of i.left) c.args.term.now c.requires.first.0 refl inv.sources
     c.are_whole.ensures.whole.entries inv.marks (has_left i.left i.right) is blob b))
     (rw c.deref.ensures.value at c.in_err-cut.ensures.cause)))
@@ -86,6 +87,20 @@ returns-in-None-clause-held g c =
     (λ content. AreKept content (state_of i).parts live c.args.term.now kept) holds
     (λ content k. kept_alone i.left i.right content live c.args.term.now kept none k)
     (rw c.deref.ensures.value at c.in_ok-cut.ensures.held))
+
+pub returns-in-None-clause-whole : goal.returns-in-None-clause-whole
+returns-in-None-clause-whole g c =
+    let i = c.self.inside in
+    let none : i.right ≡ None = search rules in
+    let term = c.args.term.now in
+    let left = terms_from i.left i.right i.places in
+    let holds = g.D.Store.holds c.args.store.now in
+    let is : left ≡ term ∷ c.requires.first.0 = ap (λ (s : JobState). s.terms_left) c.self.view_is ∙ c.requires.first.1 in
+    subst (λ (s : JobState). IfSome holds (λ content. HasWholeRanges content (step_ranges s.terms_left s.parts))) c.self.view_is
+    (IfSome-map (λ content. HasWholeRanges content (ranges_of term (part_of i.left)))
+    (λ content. HasWholeRanges content (step_ranges left (parts_of i.left i.right))) holds
+    (λ content w. whole_alone i.left i.right content left term c.requires.first.0 none is w)
+    c.in_ok-cut.ensures.whole)
 
 pub returns-in-None-clause-reads : goal.returns-in-None-clause-reads
 returns-in-None-clause-reads g c =
@@ -138,11 +153,12 @@ returns-in_err-more-in-Some-clause-cause g c =
     let is : terms_from i.left i.right i.places ≡ term ∷ c.requires.first.0 =
     ap (λ (s : JobState). s.terms_left) c.self.view_is ∙ c.requires.first.1 in
     rw (p.1, p.2)
-    (subst (λ (s : JobState). IsCause (IsDamaged holds s) before now t) c.self.view_is
-    (cause_after (IsRefused mid live i.marks term (part_of c.in-Some.right)) (IsDamaged holds (state_of i)) before then now t
+    (subst (λ (s : JobState). IsCause (IsFoundDamaged holds s) before now t) c.self.view_is
+    (cause_after (IsRefused mid live i.marks term (part_of c.in-Some.right)) (IsFoundDamaged holds (state_of i)) before then now t
     c.in_ok-cut.ensures.calm
     (λ blob b.
-    some_with i.left i.right (IsDamagedPart holds (state_of i) blob) c.in-Some.right some
+    some_with i.left i.right (λ part. IsDamagedPart holds (state_of i) blob part × IsBrokenPart holds (state_of i) blob part)
+    c.in-Some.right some
     (refused holds (state_of i) i.left i.right i.marks (part_of c.in-Some.right) term c.requires.first.0 refl inv.sources
     c.are_whole.ensures.whole.entries inv.marks (has_with i.left i.right c.in-Some.right some) is blob
     (subst (λ o. IsRefused o live i.marks term (part_of c.in-Some.right) blob) c.in_ok-cut.ensures.holds b)))
@@ -198,3 +214,20 @@ returns-in_ok-append-in-Some-clause-held g c =
     (λ content. AreKept content (state_of i).parts live term both) holds mid c.in_ok-cut.ensures.holds
     (rw c.deref.ensures.value at c.in_ok-cut.ensures.held) (rw c.deref-in-Some.ensures.value at c.in_ok-more-in-Some.ensures.held)
     (λ content x y. kept_with i.left i.right content live term other kept more both some x y c.in_ok-append-in-Some.ensures.addresses))
+
+pub returns-in_ok-append-in-Some-clause-whole : goal.returns-in_ok-append-in-Some-clause-whole
+returns-in_ok-append-in-Some-clause-whole g c =
+    let i = c.self.inside in
+    let other = c.in-Some.right in
+    let some : i.right ≡ Some other = search rules in
+    let term = c.args.term.now in
+    let left = terms_from i.left i.right i.places in
+    let holds = g.D.Store.holds c.args.store.now in
+    let mid = g.D.Store.holds c.live_addresses.new.store in
+    let is : left ≡ term ∷ c.requires.first.0 = ap (λ (s : JobState). s.terms_left) c.self.view_is ∙ c.requires.first.1 in
+    subst (λ (s : JobState). IfSome holds (λ content. HasWholeRanges content (step_ranges s.terms_left s.parts))) c.self.view_is
+    (if_both (λ content. HasWholeRanges content (ranges_of term (part_of i.left)))
+    (λ content. HasWholeRanges content (ranges_of term (part_of other)))
+    (λ content. HasWholeRanges content (step_ranges left (parts_of i.left i.right))) holds mid c.in_ok-cut.ensures.holds
+    c.in_ok-cut.ensures.whole c.in_ok-more-in-Some.ensures.whole
+    (λ content x y. whole_with i.left i.right content left term c.requires.first.0 other some is x y))

@@ -1,8 +1,11 @@
+use Rattle.std.proofs.Common.{refl}
 use Rattle.std.proofs.lemmas.Result.{err_from_is_err_and}
 use Rattle.wu_layout.proofs.EntryLemmas.{IfSome-map}
+use Rattle.wu_layout.proofs.HomeLemmas.{SomeOf-map}
 use Rattle.wu_job.specs.Jobs.{AreKept, IsRight, MakesList}
-use Rattle.wu_job.specs.Steps.{step_ranges}
-use Rattle.wu_job.proofs.Fronts.{front_all, no_memory}
+use Rattle.wu_job.specs.Reading.{IsFoundDamaged}
+use Rattle.wu_job.specs.Steps.{IsBrokenPart, IsDamaged, IsDamagedPart, step_ranges}
+use Rattle.wu_job.proofs.Fronts.{cause_after, front_all, no_memory}
 use Rattle.wu_job.proofs.Made.{right_after}
 use Rattle.wu_job.proofs.jobs.Job.step.Goals as goal
 
@@ -32,3 +35,28 @@ returns-clause-right g c =
     (g.D.Store.holds c.args.store.now)
     (λ content k r. right_after content old new term kept makes.first makes.made makes.others k r)
     (c.in_ok-list.ensures.held)
+
+pub returns-in_err-list-clause-cause : goal.returns-in_err-list-clause-cause
+returns-in_err-list-clause-cause g c =
+    let p = err_from_is_err_and c.from_residual.result c.from_residual.ensures.1 in
+    let job = c.args.self.now in
+    let holds = g.D.Store.holds c.args.store.now in
+    let before = g.D.Store.faults c.args.store.now in
+    let now = g.D.Store.faults c.read_first.new.store in
+    rw (p.1, p.2)
+    (cause_after (IsFoundDamaged holds job) (IsDamaged holds job) before before now c.in_err-list.field-0.0 refl
+    (λ blob s.
+    SomeOf-map (λ part. IsDamagedPart holds job blob part × IsBrokenPart holds job blob part) (IsDamagedPart holds job blob) job.parts
+    (λ part both. both.0) s)
+    c.in_err-list.ensures.cause)
+
+pub returns-in_err-list-clause-broken : goal.returns-in_err-list-clause-broken
+returns-in_err-list-clause-broken g c =
+    let p = err_from_is_err_and c.from_residual.result c.from_residual.ensures.1 in
+    let job = c.args.self.now in
+    let holds = g.D.Store.holds c.args.store.now in
+    rw (p.1, p.2)
+    (λ blob e.
+    SomeOf-map (λ part. IsDamagedPart holds job blob part × IsBrokenPart holds job blob part) (IsBrokenPart holds job blob) job.parts
+    (λ part both. both.1)
+    (c.in_err-list.ensures.cause.damaged blob e))
