@@ -7,6 +7,7 @@ use Rattle.wu_base.specs.declared.addresses.PartRec.{PartRec}
 use Rattle.wu_base.specs.declared.addresses.Range.{Range}
 use Rattle.wu_base.specs.declared.troubles.Trouble.{Trouble}
 use Rattle.wu_base.specs.declared.troubles.Trouble.TheVariants.{NoMemory}
+use Rattle.wu_base.proofs.EachLemmas.{each-append, each_left}
 use Rattle.wu_outside.specs.Content.{Content}
 use Rattle.wu_outside.specs.declared.ranges.ReadRange.{ReadRange}
 use Rattle.wu_layout.specs.Invariants.{SomeOf}
@@ -23,7 +24,6 @@ use Rattle.wu_parts.specs.Contents.{Contents}
 use Rattle.wu_parts.specs.Holdings.{AsksParts, all_needed}
 use Rattle.wu_parts.specs.StoredParts.{directories_of, pairs_of, records_of}
 use Rattle.wu_parts.specs.declared.writing.StoredPart.{StoredPart}
-use Rattle.wu_layout.proofs.EachLemmas.{each-append, each_left}
 use Rattle.wu_layout.proofs.KeptLemmas.{SomeOf-right}
 use Rattle.wu_lists.proofs.Asking.{all_missing-append, ranges-join, with_ranges}
 

@@ -4,6 +4,7 @@ use Rattle.std.specs.List.{AllByRecursion}
 use Rattle.std.specs.List.Sorted.{IsStrictlyIncreasing}
 use Rattle.wu_base.specs.declared.limits.TheConstants.{ADDRESSES_MAX}
 use Rattle.wu_base.specs.declared.addresses.Range.{Range}
+use Rattle.wu_base.proofs.EachLemmas.{each-append}
 use Rattle.wu_layout.specs.Postings.{is_live}
 use Rattle.wu_lists.specs.declared.tallies.Tally.{Tally}
 use Rattle.wu_lists.specs.Ascending.{AscendBetween, AreInOrder}
@@ -11,7 +12,6 @@ use Rattle.wu_lists.specs.Gaining.{tally_on}
 use Rattle.wu_lists.specs.Tallying.{Counts, tally_of}
 use Rattle.wu_lists.proofs.Ascending.{addresses_increase, ascend-higher}
 use Rattle.wu_lists.proofs.Tallying.{ascend-front, counts}
-use Rattle.wu_layout.proofs.EachLemmas.{each-append}
 
 -- the parts' addresses were counted from none on, and then memory's
 module _ (frames : List Range) (end : ℕ) (found more : List ℕ) (none middle all : Tally) (both : AscendBetween 0 end (found ++ more))

@@ -5,9 +5,9 @@ use Rattle.std.specs.List.{flat_map}
 use Rattle.std.proofs.lemmas.List.{length-map}
 use Rattle.wu_base.specs.declared.addresses.PartRec.{PartRec}
 use Rattle.wu_base.specs.declared.addresses.TermList.{TermList}
+use Rattle.wu_base.proofs.EachLemmas.{each-map}
 use Rattle.wu_layout.specs.Invariants.{MayBeTaken}
 use Rattle.wu_layout.specs.Steps.{made_generation}
-use Rattle.wu_layout.proofs.EachLemmas.{each-map}
 use Rattle.wu_part.specs.Directories.{PartDirectory}
 use Rattle.wu_part.specs.Parts.{SpellsPart}
 use Rattle.wu_part.proofs.LawLemmas.{one_directory}

@@ -1,7 +1,7 @@
 -- The addresses that are fetched of several parts, one after another, and of memory.
 use Rattle.std.proofs.Common.{◌≡◌, ◌⊎◌, ℕ, ◌+◌, true, false, cond, nat_eq, List, [], ◌∷◌, ◌++◌, map, filter, Option, None, Some, refl, ap, ap₂, sym, ◌∙◌, subst, arith, inl, inr, ⊎_elim}
-use Rattle.std.specs.Prelude.{IfSome}
-use Rattle.std.specs.List.{AllZip}
+use Rattle.std.specs.Prelude.{IfSome, zip}
+use Rattle.std.specs.List.{AllZip, concat}
 use Rattle.std.specs.Cmp.Lexicographic.{pointwise, same_text, nat_list_eq_equiv}
 use Rattle.std.proofs.lemmas.Cmp.{nat_list_cmp_total}
 use Rattle.std.proofs.lemmas.List.Elements.{filter-append}
@@ -10,6 +10,7 @@ use Rattle.wu_base.specs.declared.addresses.PartRec.{PartRec}
 use Rattle.wu_base.specs.declared.addresses.Range.{Range}
 use Rattle.wu_base.proofs.Members.{Has}
 use Rattle.wu_base.proofs.SortedLists.{has-sorted_once}
+use Rattle.wu_base.proofs.EachLemmas.{each-append}
 use Rattle.wu_outside.specs.Content.{Content}
 use Rattle.wu_outside.specs.declared.ranges.ReadRange.{ReadRange}
 use Rattle.wu_layout.specs.Postings.{Posting, addresses_of, fetched, is_live, is_of}
@@ -24,13 +25,13 @@ use Rattle.wu_lists.specs.Blocks.{entry_of}
 use Rattle.wu_lists.specs.Fetching.{AreFetched, HasEntry, HasTerm}
 use Rattle.wu_lists.specs.Keeping.{AreHeld, Asks, Kept}
 use Rattle.wu_parts.specs.Contents.{Contents}
-use Rattle.wu_parts.specs.Holdings.{AreKept, HoldParts}
+use Rattle.wu_parts.specs.Holdings.{AreKept, HoldParts, HoldTerm}
 use Rattle.wu_parts.specs.Memory.{Memory, held}
 use Rattle.wu_lists.specs.Ascending.{AscendBetween}
-use Rattle.wu_parts.specs.StoredParts.{AreFetchedFrom, AreFetchedIn, SpansAscend, directories_of, records_of}
+use Rattle.wu_parts.specs.StoredParts.{AreFetchedFrom, AreFetchedIn, SpansAscend, directories_of, pairs_of, records_of}
 use Rattle.wu_parts.specs.declared.writing.StoredPart.{StoredPart}
 use Rattle.wu_lists.proofs.Ascending.{ascend-join, ascend-lower}
-use Rattle.wu_layout.proofs.EachLemmas.{each-append}
+use Rattle.wu_parts.proofs.Asking.{seen-parts}
 
 -- a term stands somewhere or nowhere
 in_terms : (term : List ℕ) (ps : List Posting) → Has term (all_terms ps) ⊎ (addresses_of term ps ≡ [])
@@ -94,38 +95,31 @@ pub fetched-none : (term : List ℕ) (frames : List Range) (holds : Option Conte
 fetched-none term frames None kept = record { ascend = λ low high s. s; live = tt; told = tt }
 fetched-none term frames (Some content) kept = record { ascend = λ low high s. s; live = tt; told = none }
   where
-    none : (stored : List Part) → HoldParts content [] [] stored → AreKept content [] kept → [] ≡ fetched frames (stored_in stored) term
+    none : (lists : List (List ℕ)) → HoldTerm content term [] lists → AreKept content [] kept → [] ≡ filter (is_live frames) (concat lists)
     none [] h k = refl
-    none (part ∷ parts) h k = absurd h
+    none (addresses ∷ lists) h k = absurd h
 
 module _ (part : StoredPart) (later : List StoredPart) (term : List ℕ) (frames : List Range) (old middle : Kept) (more rest : List ℕ)
     (told : IsRecorded part.recorded part.directory) where
   told_both : (holds : Option Content)
       → IfSome holds (λ content. (bytes addresses : List ℕ) → content.blobs part.recorded.blob ≡ Some bytes
       → AreHeld part.recorded.blob bytes old → HasTerm part.directory term bytes addresses → more ≡ filter (is_live frames) addresses)
-      → IfSome holds (λ content. (stored : List Part) → HoldParts content (records_of later) (directories_of later) stored
-      → AreKept content (records_of later) middle → rest ≡ fetched frames (stored_in stored) term)
+      → IfSome holds (λ content. (lists : List (List ℕ)) → HoldTerm content term (pairs_of later) lists
+      → AreKept content (records_of later) middle → rest ≡ filter (is_live frames) (concat lists))
       → IfSome holds (λ content. (blob : ℕ) (bytes : List ℕ) → content.blobs blob ≡ Some bytes → AreHeld blob bytes old
       → AreHeld blob bytes middle)
-      → IfSome holds (λ content. (stored : List Part)
-      → HoldParts content (records_of (part ∷ later)) (directories_of (part ∷ later)) stored
-      → AreKept content (records_of (part ∷ later)) old → more ++ rest ≡ fetched frames (stored_in stored) term)
+      → IfSome holds (λ content. (lists : List (List ℕ)) → HoldTerm content term (pairs_of (part ∷ later)) lists
+      → AreKept content (records_of (part ∷ later)) old → more ++ rest ≡ filter (is_live frames) (concat lists))
   told_both None a b h = tt
   told_both (Some content) a b h = both
     where
-      both : (stored : List Part) → HoldParts content (records_of (part ∷ later)) (directories_of (part ∷ later)) stored
-          → AreKept content (records_of (part ∷ later)) old → more ++ rest ≡ fetched frames (stored_in stored) term
+      both : (lists : List (List ℕ)) → HoldTerm content term (pairs_of (part ∷ later)) lists
+          → AreKept content (records_of (part ∷ later)) old → more ++ rest ≡ filter (is_live frames) (concat lists)
       both [] p k = absurd p
-      both (first ∷ stored) p k =
-          let there : content.blobs part.recorded.blob ≡ Some p.0.bytes = ap content.blobs p.0.record_of.blob ∙ p.0.held in
-          let mine : more ≡ filter (is_live frames) (addresses_of term first.postings) =
-          a p.0.bytes (addresses_of term first.postings) there (k.0 p.0.bytes there)
-          (has_term part.directory term p.0.bytes first.postings p.0.spelled) in
-          let others : rest ≡ filter (is_live frames) (addresses_of term (stored_in stored)) =
-          b stored p.1 (kept_after content (records_of later) old middle h k.1) in
-          ap₂ (λ (xs ys : List ℕ). xs ++ ys) mine others
-          ∙ sym (filter-append (is_live frames) (addresses_of term first.postings) (addresses_of term (stored_in stored)))
-          ∙ ap (filter (is_live frames)) (sym (addresses_of-append term first.postings (stored_in stored)))
+      both (addresses ∷ lists) p k =
+          ap₂ (λ (xs ys : List ℕ). xs ++ ys) (a p.0.0 addresses p.0.1 (k.0 p.0.0 p.0.1) p.0.2)
+          (b lists p.1 (kept_after content (records_of later) old middle h k.1))
+          ∙ sym (filter-append (is_live frames) addresses (concat lists))
 
   pub fetched-first : (holds : Option Content) (blocks : List Block) (ranges ranges_now : Option (List ReadRange))
       → AreFetched (HasTerm part.directory term) frames part.recorded.blob part.directory.low (part.directory.high + 1) holds old more
@@ -155,18 +149,39 @@ fetched-seen old fields parts slice e p d s term frames holds found spans f =
     })
   where
     of_fields : (told_by : Option Content)
-        → IfSome told_by (λ content. (stored : List Part) → HoldParts content (records_of slice) (directories_of slice) stored
-        → AreKept content (records_of slice) fields.kept → found ≡ fetched frames (stored_in stored) term)
-        → IfSome told_by (λ content. (stored : List Part) → HoldParts content fields.parts fields.directories stored
-        → AreKept content fields.parts fields.kept → found ≡ fetched frames (stored_in stored) term)
+        → IfSome told_by (λ content. (lists : List (List ℕ)) → HoldTerm content term (pairs_of slice) lists
+        → AreKept content (records_of slice) fields.kept → found ≡ filter (is_live frames) (concat lists))
+        → IfSome told_by (λ content. (lists : List (List ℕ)) → HoldTerm content term (zip fields.parts fields.directories) lists
+        → AreKept content fields.parts fields.kept → found ≡ filter (is_live frames) (concat lists))
     of_fields None t = tt
-    of_fields (Some content) t = λ stored h k.
-        let records : fields.parts ≡ records_of slice = p ∙ ap records_of (sym s) in
-        let directories : fields.directories ≡ directories_of slice = d ∙ ap directories_of (sym s) in
-        t stored
-        (subst (λ (ds : List PartDirectory). HoldParts content (records_of slice) ds stored) directories
-        (subst (λ (rs : List PartRec). HoldParts content rs fields.directories stored) records h))
-        (subst (λ (rs : List PartRec). AreKept content rs fields.kept) records k)
+    of_fields (Some content) t = λ lists h k.
+        t lists (subst (λ ps. HoldTerm content term ps lists) (sym (seen-parts fields fields parts slice refl p d s)) h)
+        (subst (λ (rs : List PartRec). AreKept content rs fields.kept) (p ∙ ap records_of (sym s)) k)
+
+-- parts have each term at the addresses of their postings
+hold_term : (content : Content) (term : List ℕ) (records : List PartRec) (directories : List PartDirectory) (stored : List Part)
+    → HoldParts content records directories stored
+    → HoldTerm content term (zip records directories) (map (λ part. addresses_of term part.postings) stored)
+hold_term content term [] [] [] h = tt
+hold_term content term [] [] (part ∷ stored) h = absurd h
+hold_term content term [] (directory ∷ directories) stored h = absurd h
+hold_term content term (recorded ∷ records) [] stored h = absurd h
+hold_term content term (recorded ∷ records) (directory ∷ directories) [] h = absurd h
+hold_term content term (recorded ∷ records) (directory ∷ directories) (part ∷ stored) h = (
+  (
+    h.0.bytes,
+    ap content.blobs h.0.record_of.blob ∙ h.0.held,
+    has_term directory term h.0.bytes part.postings h.0.spelled,
+  ),
+  hold_term content term records directories stored h.1,
+)
+
+all_stored : (term : List ℕ) (stored : List Part)
+    → concat (map (λ part. addresses_of term part.postings) stored) ≡ addresses_of term (stored_in stored)
+all_stored term [] = refl
+all_stored term (part ∷ stored) =
+    ap (λ (l : List ℕ). addresses_of term part.postings ++ l) (all_stored term stored)
+    ∙ sym (addresses_of-append term part.postings (stored_in stored))
 
 -- the addresses in parts, and then those in memory
 module _ (old : Contents) (memory : Memory) (same : memory ≡ old.memory) (term : List ℕ) (frames : List Range) (holds : Option Content)
@@ -175,25 +190,38 @@ module _ (old : Contents) (memory : Memory) (same : memory ≡ old.memory) (term
   ascend-both more last =
       ascend-join 0 memory.low memory.end found more (subst (λ (m : Memory). AscendBetween 0 m.low found) (sym same) f.ascend) last
 
-  -- what is made of them
-  pub told-both : {X : Type 0} (made_of : List ℕ → X) (all : X)
-      → all ≡ made_of (found ++ filter (is_live frames) (held memory term))
-      → IfSome holds (λ content. (stored : List Part) → HoldParts content old.parts old.directories stored
-      → AreKept content old.parts old.kept
-      → all ≡ made_of (fetched frames (stored_in stored) term ++ filter (is_live frames) (held old.memory term)))
-  told-both made_of all is = of_told holds f.told
+  -- what is made of them, by the parts' lists
+  pub lists-both : {X : Type 0} (made_of : List ℕ → X) (all : X) → all ≡ made_of (found ++ filter (is_live frames) (held memory term))
+      → IfSome holds (λ content. (lists : List (List ℕ)) → HoldTerm content term (zip old.parts old.directories) lists
+      → AreKept content old.parts old.kept → all ≡ made_of (filter (is_live frames) (concat lists ++ held old.memory term)))
+  lists-both made_of all is = of_told holds f.told
     where
-      of_told : (told_by : Option Content)
-          → IfSome told_by (λ content. (stored : List Part) → HoldParts content old.parts old.directories stored
-          → AreKept content old.parts old.kept → found ≡ fetched frames (stored_in stored) term)
-          → IfSome told_by (λ content. (stored : List Part) → HoldParts content old.parts old.directories stored
-          → AreKept content old.parts old.kept
-          → all ≡ made_of (fetched frames (stored_in stored) term ++ filter (is_live frames) (held old.memory term)))
+      of_told : (o : Option Content)
+          → IfSome o (λ content. (lists : List (List ℕ)) → HoldTerm content term (zip old.parts old.directories) lists
+          → AreKept content old.parts old.kept → found ≡ filter (is_live frames) (concat lists))
+          → IfSome o (λ content. (lists : List (List ℕ)) → HoldTerm content term (zip old.parts old.directories) lists
+          → AreKept content old.parts old.kept → all ≡ made_of (filter (is_live frames) (concat lists ++ held old.memory term)))
       of_told None t = tt
-      of_told (Some content) t = λ stored h k.
+      of_told (Some content) t = λ lists h k.
           is
-          ∙ ap (λ (m : Memory). made_of (found ++ filter (is_live frames) (held m term))) same
-          ∙ ap (λ (l : List ℕ). made_of (l ++ filter (is_live frames) (held old.memory term))) (t stored h k)
+          ∙ ap made_of
+          (ap₂ (λ (xs : List ℕ) (m : Memory). xs ++ filter (is_live frames) (held m term)) (t lists h k) same
+          ∙ sym (filter-append (is_live frames) (concat lists) (held old.memory term)))
+
+-- and so by the parts' postings
+pub told-both : (old : Contents) (term : List ℕ) (frames : List Range) (holds : Option Content) {X : Type 0} (made_of : List ℕ → X)
+    (all : X)
+    → IfSome holds (λ content. (lists : List (List ℕ)) → HoldTerm content term (zip old.parts old.directories) lists
+    → AreKept content old.parts old.kept → all ≡ made_of (filter (is_live frames) (concat lists ++ held old.memory term)))
+    → IfSome holds (λ content. (stored : List Part) → HoldParts content old.parts old.directories stored
+    → AreKept content old.parts old.kept
+    → all ≡ made_of (fetched frames (stored_in stored) term ++ filter (is_live frames) (held old.memory term)))
+told-both old term frames None made_of all t = tt
+told-both old term frames (Some content) made_of all t = λ stored h k.
+    t (map (λ part. addresses_of term part.postings) stored) (hold_term content term old.parts old.directories stored h) k
+    ∙ ap made_of
+    (ap (λ (l : List ℕ). filter (is_live frames) (l ++ held old.memory term)) (all_stored term stored)
+    ∙ filter-append (is_live frames) (addresses_of term (stored_in stored)) (held old.memory term))
 
 -- the parts' addresses were put after none, and then those in memory
 pub put_both : (none found all parts more : List ℕ) → none ≡ [] → found ≡ none ++ parts → all ≡ found ++ more → all ≡ parts ++ more

@@ -6,12 +6,12 @@ use Rattle.std.proofs.lemmas.List.{length-map}
 use Rattle.wu_base.specs.declared.addresses.PartRec.{PartRec}
 use Rattle.wu_base.specs.declared.addresses.Range.{Range}
 use Rattle.wu_base.specs.declared.addresses.TermList.{TermList}
+use Rattle.wu_base.proofs.EachLemmas.{each-drop, each-take}
 use Rattle.wu_outside.specs.Content.{Content, with_blob}
 use Rattle.wu_layout.specs.Layouts.{IsRecordOf, Job, Layout, Part, parts_taken, ranges_of, stored_in}
 use Rattle.wu_layout.specs.Postings.{Posting, live_of}
 use Rattle.wu_layout.specs.Invariants.{BlobsAreDistinct}
 use Rattle.wu_layout.specs.Steps.{flush, flushed}
-use Rattle.wu_layout.proofs.EachLemmas.{each-drop, each-take}
 use Rattle.wu_layout.proofs.EntryLemmas.{IfSome-map}
 use Rattle.wu_part.specs.Directories.{PartDirectory}
 use Rattle.wu_job.specs.Jobs.{AreMade, HoldTerm, HoldsEntry, IsRight, JobPart, JobState}
@@ -22,7 +22,7 @@ use Rattle.wu_parts.specs.Units.{IsRunning}
 use Rattle.wu_parts.specs.Working.{Tells, TellsJobs, TellsParts}
 use Rattle.wu_parts.proofs.HeldParts.{hold-append, hold-blobs, hold-stay, parts_below, put_elsewhere, put_there}
 use Rattle.wu_parts.proofs.RunningJobs.{room_of_running, running_more, take_kept}
-use Rattle.wu_parts.proofs.UnitChains.{all_zipped}
+use Rattle.wu_parts.proofs.SomeParts.{all_zipped}
 
 -- ---- the lists that a job has made
 

@@ -1,18 +1,18 @@
 -- Several units of work on the parts are as many of the layout's; and where no work is left, there are few parts.
-use Rattle.std.proofs.Common.{◌≡◌, ℕ, zero, suc, ◌+◌, ◌-◌, ◌*◌, ◌^◌, ◌<◌, ◌≤◌, ◌&&◌, not, Bool, true, false, List, [], ◌∷◌, length, Option, Some, None, option_map, is_some, position, zip, refl, ap, ap₂, sym, ◌∙◌, subst, arith, ⊎_elim, pow-suc, pow_mono}
+use Rattle.std.proofs.Common.{◌≡◌, ℕ, zero, suc, ◌+◌, ◌-◌, ◌*◌, ◌^◌, ◌<◌, ◌≤◌, ◌&&◌, not, Bool, true, false, List, [], ◌∷◌, length, Option, Some, None, is_some, position, zip, refl, ap, ap₂, sym, ◌∙◌, subst, arith, ⊎_elim}
 use Rattle.std.specs.Option.{option_or}
-use Rattle.std.specs.List.{AllByRecursion}
-use Rattle.std.proofs.lemmas.Bool.{cases_Bool, cases_lt, eqb-false, leb-false}
-use Rattle.std.proofs.lemmas.List.Sums.{sum_by-cons}
+use Rattle.std.proofs.lemmas.Bool.{cases_lt, leb-false}
 use Rattle.wu_base.specs.declared.addresses.PartRec.{PartRec}
+use Rattle.wu_base.proofs.EachLemmas.{each-map}
+use Rattle.wu_base.proofs.Options.{mapped_none, mapped_some}
+use Rattle.wu_base.proofs.Positions.{none_passes}
+use Rattle.wu_layout.proofs.FewParts.{fall, few, neither, none_of_idle}
 use Rattle.wu_outside.specs.Content.{Content}
 use Rattle.wu_outside.specs.declared.ranges.ReadRange.{ReadRange}
 use Rattle.wu_layout.specs.Layouts.{Job, Layout, Part, Text, ranges_by_number}
 use Rattle.wu_layout.specs.Invariants.{Fall, IsLayoutOf, NeverRise, SomeOf, flushes_for}
 use Rattle.wu_layout.specs.Steps.{alike_neighbours, is_idle as is_idle_in, job_at, job_of, pick, unit, unit_of, work}
-use Rattle.wu_layout.proofs.EachLemmas.{each-map}
 use Rattle.wu_layout.proofs.Garbage.{files_after_work}
-use Rattle.wu_layout.proofs.Picks.{alike, first_here, first_later}
 use Rattle.wu_layout.proofs.Units.{layout_after_work}
 use Rattle.wu_part.specs.Directories.{PartDirectory}
 use Rattle.wu_space.specs.Addresses.{Ranges, live_in}
@@ -21,19 +21,16 @@ use Rattle.wu_parts.specs.Contents.{Contents, JobAt}
 use Rattle.wu_parts.specs.Flushing.{Told}
 use Rattle.wu_parts.specs.Holdings.{HoldParts}
 use Rattle.wu_parts.specs.Units.{DoUnits, DoesUnit, bares, count_of, is_half_dead, next_job, place_of}
-use Rattle.wu_parts.specs.Working.{AreFew, DoesWork, IsBrokenIn, IsDamaged, IsRightJob, Tells, TellsJobs, TellsParts, is_idle}
+use Rattle.wu_parts.specs.Working.{AreFew, DoesWork, IsDamaged, Tells, TellsJobs, TellsParts, is_idle}
 use Rattle.wu_parts.proofs.LayoutUnits.{tells_after_unit}
 use Rattle.wu_parts.proofs.Policy.{picked_is}
+use Rattle.wu_parts.proofs.UnitChains.{IsBrokenIn, IsRightJob, broken_parts}
 
 -- ---- units of the layout
 
 work_more : (n : ℕ) (layout : Layout) → work (suc n) layout ≡ unit (work n layout)
 work_more zero layout = refl
 work_more (suc n) layout = work_more n (unit layout)
-
-none_of_idle : (o : Option Job) → not (is_some o) ≡ true → o ≡ None
-none_of_idle None e = refl
-none_of_idle (Some job) e = absurd cc
 
 unit_idle : (layout : Layout) → is_idle_in layout ≡ true → unit layout ≡ layout
 unit_idle layout e = ap (λ (o : Option Job). unit_of o layout) (none_of_idle (job_of layout) e)
@@ -79,10 +76,6 @@ same_some content parts (Some running) (Some job) t = refl
 either_idle : (o p : Option Job) → not (is_some (option_or o p)) ≡ (not (is_some o) && not (is_some p))
 either_idle None p = refl
 either_idle (Some job) p = refl
-
-mapped_some : {X Y : Type 0} (f : X → Y) (o : Option X) → is_some (option_map f o) ≡ is_some o
-mapped_some f None = refl
-mapped_some f (Some x) = refl
 
 pub idle_alike : (is_file : ℕ → Bool) (text_of : ℕ → Text) (layout : Layout) (content : Content) (contents : Contents)
     → IsLayoutOf is_file text_of layout → TellsParts content contents layout
@@ -131,50 +124,10 @@ pub undamaged : (o : Option Content) (contents : Contents) (layout : Layout) (bl
 undamaged None contents layout blob t b = t
 undamaged (Some content) contents layout blob t b =
     none_broken content blob contents.parts contents.directories layout.parts t.parts
-    (b (right_job content layout.parts contents.job layout.job t.job))
+    (broken_parts content contents.job blob (zip contents.parts contents.directories)
+    (right_job content layout.parts contents.job layout.job t.job) b)
 
 -- ---- few parts
-
-mapped_none : {X Y : Type 0} (f : X → Y) (o : Option X) → option_map f o ≡ None → o ≡ None
-mapped_none f None e = refl
-mapped_none f (Some x) e = absurd cc
-
-neither : {X : Type 0} (o p : Option X) → option_or o p ≡ None → (o ≡ None) × (p ≡ None)
-neither None p e = (refl, e)
-neither (Some x) p e = absurd cc
-
-later_none : {X : Type 0} (test : X → Bool) (x : X) (xs : List X) → position test (x ∷ xs) ≡ None
-    → (test x ≡ false) × (position test xs ≡ None)
-later_none test x xs e =
-    ⊎_elim
-    (λ (t : test x ≡ true). let here : position test (x ∷ xs) ≡ Some 0 = first_here test x xs t in absurd cc)
-    (λ (f : test x ≡ false). (f, mapped_none (λ n. suc n) (position test xs) (sym (first_later test x xs f) ∙ e)))
-    (cases_Bool (test x))
-
-none_passes : {X : Type 0} (test : X → Bool) (xs : List X) → position test xs ≡ None → AllByRecursion (λ x. test x ≡ false) xs
-none_passes test [] e = tt
-none_passes test (x ∷ xs) e = let r = later_none test x xs e in (r.0, none_passes test xs r.1)
-
-falls : (parts : List Part) → alike_neighbours parts ≡ None → NeverRise parts → Fall parts
-falls [] e n = tt
-falls (part ∷ []) e n = (tt, tt)
-falls (left ∷ right ∷ more) e n =
-    let r = later_none alike (left, right) (zip (right ∷ more) more) e in
-    let less : right.generation < left.generation = omega (arith, n.0.0, eqb-false left.generation right.generation r.0) in (
-      (less, each-map (λ p. p.generation ≤ right.generation) (λ p. p.generation < left.generation) more (λ p l. omega arith) n.1.0),
-      falls (right ∷ more) r.1 n.1,
-    )
-
-as_many : (n : ℕ) (parts : List Part) → AllByRecursion (λ part. part.generation < n) parts → Fall parts → length parts ≤ n
-as_many n [] a f = omega arith
-as_many n (part ∷ parts) a f = let r : length parts ≤ part.generation = as_many part.generation parts f.0 f.1 in omega (arith, a.0)
-
-few : (parts : List Part) → Fall parts → 2 ^ length parts ≤ flushes_for parts + 1
-few [] f = omega arith
-few (part ∷ parts) f =
-    let least : 2 ^ length parts ≤ 2 ^ part.generation = pow_mono (as_many part.generation parts f.0 f.1) in
-    let rest : 2 ^ length parts ≤ flushes_for parts + 1 = few parts f.1 in
-    omega (arith, pow-suc 2 (length parts), sum_by-cons (λ (p : Part). 2 ^ p.generation) part parts)
 
 length_bares : (records : List PartRec) → length (bares records) ≡ length records
 length_bares [] = refl
@@ -191,7 +144,7 @@ few_left ranges contents n f e =
     let none : next_job ranges contents.parts ≡ None = no_next (next_job ranges contents.parts) (not (is_some contents.job)) e in
     let either = neither _ _ none in
     let fall : Fall (bares contents.parts) =
-    falls (bares contents.parts) (mapped_none _ (alike_neighbours (bares contents.parts)) either.0) n in
+    fall (bares contents.parts) (mapped_none _ (alike_neighbours (bares contents.parts)) either.0) n in
     record {
       fall = fall;
       few =

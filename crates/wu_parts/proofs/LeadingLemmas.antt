@@ -11,9 +11,10 @@ use Rattle.std.proofs.lemmas.Cmp.{nat_list_eq_equiv}
 use Rattle.std.proofs.lemmas.List.{get_or-drop}
 use Rattle.std.proofs.lemmas.List.Sorted.{IsPermutation-map}
 use Rattle.std.proofs.lemmas.Map.Keys.{IsDistinct-IsPermutation}
+use Rattle.wu_base.proofs.EachLemmas.{each-permuted}
 use Rattle.wu_parts.specs.declared.chains.Chain.{Chain}
 use Rattle.wu_parts.specs.Chains.{Chained, chained}
-use Rattle.wu_parts.proofs.MemoryLists.{all_at, all-permuted}
+use Rattle.wu_parts.proofs.MemoryLists.{all_at}
 use Rattle.wu_parts.proofs.SortedTerms.{sorted_map, sorted_strictly}
 use Rattle.wu_parts.specs.LeadingBytes.{IsBytes, IsNumbered, Numbered, behind, number_of}
 
@@ -109,5 +110,5 @@ module _ (numbered sorted : List Numbered) (es : List (Vec ℕ Global × Chain))
       IsDistinct-IsPermutation (pointwise nat_eq) nat_list_eq_equiv.symm (keys_of (map chained es)) (keys_of (map behind sorted))
       (IsPermutation-map (λ (e : Chained). e.0) (map chained es) (map behind sorted) behind_permuted) d in
       let up : IsSorted (slice_cmp nat_cmp) (map term_of sorted) =
-      sorted_map term_of sorted (sorted_numbered sorted (all-permuted IsNumbered numbered sorted p a) s) in
+      sorted_map term_of sorted (sorted_numbered sorted (each-permuted IsNumbered numbered sorted p a) s) in
       sorted_strictly (keys_of (map behind sorted)) (subst (IsSorted (slice_cmp nat_cmp)) (keys_of_behind sorted) up) distinct

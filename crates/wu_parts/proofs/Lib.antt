@@ -19,7 +19,9 @@ pub mod RunningJobs
 pub mod Policy
 pub mod StartedJobs
 pub mod LayoutUnits
+pub mod SomeParts
 pub mod UnitChains
+pub mod UnitPuts
 pub mod LayoutWork
 pub mod SoundParts
 pub mod NextJobs

@@ -1,5 +1,5 @@
 -- The lists of the live postings in memory: what is made of memory's lists is what a part of these postings has.
-use Rattle.std.proofs.Common.{◌≡◌, ℕ, ◌+◌, ◌<◌, ◌≤◌, ◌||◌, nat_eq, nat_lt, eqb, Bool, true, false, cond, List, [], ◌∷◌, ◌++◌, nat_le, length, map, filter, unwrap_or, None, Some, Option, refl, ap, sym, ◌∙◌, subst, arith, ⊎_elim}
+use Rattle.std.proofs.Common.{◌≡◌, ℕ, ◌+◌, ◌<◌, ◌≤◌, ◌||◌, nat_eq, nat_lt, eqb, Bool, true, false, cond, List, [], ◌∷◌, ◌++◌, nat_le, length, map, filter, unwrap_or, None, Some, Option, refl, ap, sym, ◌∙◌, subst, arith}
 use Rattle.std.specs.Prelude.{IsPermutation, IsSome}
 use Rattle.std.specs.List.{AllByRecursion, IsDistinct, flat_map}
 use Rattle.std.specs.List.Sorted.{IsStrictlySortedBy}
@@ -14,21 +14,22 @@ use Rattle.std.proofs.lemmas.Map.Views.{lookup-from_Contains, Contains-keys_from
 use Rattle.wu_base.specs.declared.addresses.Range.{Range}
 use Rattle.wu_base.specs.declared.addresses.TermList.{TermList}
 use Rattle.wu_base.proofs.Members.{Has, Has-from_Contains, Contains-from_Has, Has-map, all_from_has, all_has, map_has, filter_has}
-use Rattle.wu_layout.specs.Postings.{Posting, addresses_of, is_in, is_of, is_live, live_of, Ascend}
+use Rattle.wu_layout.specs.Postings.{Posting, addresses_of, is_in, is_live, live_of, Ascend}
 use Rattle.wu_layout.specs.Layouts.{list_of, lists_of, terms_of}
-use Rattle.wu_layout.proofs.ListLemmas.{all_terms, lists_by_terms, terms_sorted}
+use Rattle.wu_layout.proofs.ListLemmas.{all_terms, lists_by_terms, terms_sorted, term_long}
 use Rattle.wu_layout.proofs.ListTotals.{lists_distinct}
 use Rattle.wu_layout.proofs.PostingLemmas.{Ascend-filter}
 use Rattle.wu_layout.proofs.TermLemmas.{addresses_of-live_of}
 use Rattle.wu_space.specs.Addresses.{Ranges, live_ranges, shared}
 use Rattle.wu_base.specs.declared.limits.TheConstants.{ADDRESSES_MAX}
+use Rattle.wu_layout.proofs.Ascending.{ascend-below}
 use Rattle.wu_token.specs.Words.{IsTerm}
 use Rattle.wu_part.specs.Parts.{IsList}
 use Rattle.wu_part.specs.Writing.{first_of}
 use Rattle.wu_lists.specs.Ascending.{AscendBetween}
 use Rattle.wu_parts.specs.Memory.{HasPostings, Lists, Memory, held}
 use Rattle.wu_parts.specs.LiveLists.{AreEncodable, has_addresses, live_list, live_lists}
-use Rattle.wu_lists.proofs.Ascending.{addresses_increase, ascend-bounds, ascend-filter}
+use Rattle.wu_lists.proofs.Ascending.{addresses_increase, ascend-filter}
 
 -- ---- the live ranges that meet a span
 
@@ -68,21 +69,6 @@ live_same ranges low high found p address l h =
 
 abbrev same_term : List ℕ → List ℕ → Bool
 same_term = pointwise nat_eq
-
-stands : (term : List ℕ) (ps : List Posting) → Has term (all_terms ps) → 0 < length (addresses_of term ps)
-stands term [] h = absurd h
-stands term (p ∷ ps) h =
-    elim (is_of term p) as
-    (λ b. is_of term p ≡ b
-    → 0 < length (map (λ (q : Posting). q.address) (cond b (p ∷ filter (is_of term) ps) (filter (is_of term) ps)))) [
-      | true ↦ λ t. omega arith
-      | false ↦ λ f.
-          ⊎_elim
-          (λ (e : p.term ≡ term).
-          let same : is_of term p ≡ true = ap (λ (t : List ℕ). pointwise nat_eq t term) e ∙ nat_list_eq_equiv.refl term in absurd cc)
-          (λ (i : Has term (all_terms ps)). stands term ps i)
-          h
-    ] refl
 
 filter-same : (test other : ℕ → Bool) (xs : List ℕ) → AllByRecursion (λ x. test x ≡ other x) xs → filter test xs ≡ filter other xs
 filter-same test other [] a = refl
@@ -131,7 +117,7 @@ module _ (memory : Memory) (sorted : Lists) (live ranges : List Range)
     -- a term of the postings has a list
     has_list : (term : List ℕ) → Has term (all_terms postings) → Has term (keys_of sorted)
     has_list term i =
-        let some : 0 < length (held memory term) = omega (arith, stands term postings i, ap length (h.addresses term)) in
+        let some : 0 < length (held memory term) = omega (arith, term_long term postings i, ap length (h.addresses term)) in
         let key : Has term (keys_of memory.lists) =
         elim (lookup (pointwise nat_eq term) memory.lists) as
         (λ o. lookup (pointwise nat_eq term) memory.lists ≡ o → 0 < length (unwrap_or o []) → Has term (keys_of memory.lists)) [
@@ -163,11 +149,6 @@ terms_of_lists : (ps : List Posting) (terms : List (List ℕ)) → map (λ (list
 terms_of_lists ps [] = refl
 terms_of_lists ps (term ∷ terms) = ap (λ (ts : List (List ℕ)). term ∷ ts) (terms_of_lists ps terms)
 
-all_below : (low high : ℕ) (xs : List ℕ) → AscendBetween low high xs → AllByRecursion (λ x. x < high) xs
-all_below low high [] a = tt
-all_below low high (x ∷ xs) a =
-    let top : x + 1 ≤ high = ascend-bounds (x + 1) high xs a.1 in (omega arith, all_below (x + 1) high xs a.1)
-
 -- a term, and addresses that ascend within bounds
 abbrev pub IsListWithin : ℕ → ℕ → List ℕ × List ℕ → Type 0
 IsListWithin start end list = IsTerm list.0 × AscendBetween start end list.1
@@ -198,7 +179,7 @@ live_list_is live term addresses at t a e n =
       short = t.1;
       count = some_of at n;
       ascending = addresses_increase 0 ADDRESSES_MAX at kept;
-      below = all_below 0 ADDRESSES_MAX at kept;
+      below = ascend-below 0 ADDRESSES_MAX at kept;
     }
 
 -- it begins where its first live address is

@@ -7,10 +7,11 @@ use Rattle.std.specs.Map.{keys_of}
 use Rattle.std.specs.Ordering.{nat_cmp}
 use Rattle.std.specs.Cmp.Lexicographic.{pointwise, slice_cmp}
 use Rattle.std.proofs.lemmas.List.{map-append, take_more}
-use Rattle.std.proofs.lemmas.List.Sorted.{Contains-permutation, IsPermutation-map, IsPermutation-sym}
+use Rattle.std.proofs.lemmas.List.Sorted.{IsPermutation-map}
 use Rattle.wu_base.specs.declared.addresses.Range.{Range}
 use Rattle.wu_base.specs.declared.addresses.TermList.{TermList}
-use Rattle.wu_base.proofs.Members.{Has-from_Contains, Contains-from_Has, all_from_has, all_has}
+use Rattle.wu_base.proofs.EachLemmas.{each-permuted}
+use Rattle.wu_layout.proofs.Ascending.{ascend-bounds}
 use Rattle.wu_layout.specs.Postings.{Posting, is_live, live_of}
 use Rattle.wu_layout.specs.Layouts.{lists_of as lists_of_postings}
 use Rattle.wu_space.specs.Addresses.{AreApart, Ranges, live_ranges, shared}
@@ -28,11 +29,6 @@ use Rattle.wu_parts.proofs.LiveTerms.{IsListWithin, filter-zero, lists_encodable
 
 abbrev Entries : Type 0
 Entries = List (Vec ℕ Global × Chain)
-
-pub all-permuted : {X : Type 0} (P : X → Type 0) (xs ys : List X) → IsPermutation xs ys → AllByRecursion P xs → AllByRecursion P ys
-all-permuted P xs ys p a =
-    all_from_has P ys
-    (λ y i. all_has P y xs a (Has-from_Contains y xs (Contains-permutation ys xs y (IsPermutation-sym xs ys p) (Contains-from_Has y ys i))))
 
 module _ (links : List ℕ) where
   abbrev IsChained : Chained → Type 0
@@ -56,12 +52,12 @@ module _ (links : List ℕ) where
       → IsPermutation (map chained es) (map behind entries)
       → AllByRecursion (λ e. AscendBetween 0 (length links) (places_of links e.1.1)) entries
   chains_ascend es entries a p =
-      ascend_behind entries (all-permuted IsChained (map chained es) (map behind entries) p (are_chained es a))
+      ascend_behind entries (each-permuted IsChained (map chained es) (map behind entries) p (are_chained es a))
 
   -- and each is of a term
   pub chains_terms : (es : Entries) (entries : List Numbered) → AreChains links es → IsPermutation (map chained es) (map behind entries)
       → AllByRecursion (λ e. IsTerm e.1.0.now) entries
-  chains_terms es entries a p = terms_behind entries (all-permuted IsChained (map chained es) (map behind entries) p (are_chained es a))
+  chains_terms es entries a p = terms_behind entries (each-permuted IsChained (map chained es) (map behind entries) p (are_chained es a))
 
   module _ (start : ℕ) where
     lists_addressed : (es : Entries) → map (addressed start links) (map chained es) ≡ all_moved start (lists_of links es)
@@ -90,12 +86,8 @@ pub all_between : (low high : ℕ) (P : ℕ → Type 0) (xs : List ℕ) → ((x 
     → AllByRecursion P xs
 all_between low high P [] f a = tt
 all_between low high P (x ∷ xs) f a =
-    let top : x + 1 ≤ high = bounds (x + 1) high xs a.1 in
+    let top : x + 1 ≤ high = ascend-bounds (x + 1) high xs a.1 in
     (f x a.0 (omega arith), all_between (x + 1) high P xs (λ y l h. f y (omega (arith, a.0)) h) a.1)
-  where
-    bounds : (low high : ℕ) (xs : List ℕ) → AscendBetween low high xs → low ≤ high
-    bounds low high [] b = b
-    bounds low high (y ∷ ys) b = let r : y + 1 ≤ high = bounds (y + 1) high ys b.1 in omega (arith, b.0)
 
 all_live : (start end : ℕ) (live ranges : List Range) (lists : Lists)
     → ((address : ℕ) → start ≤ address → address ≤ end → is_live live address ≡ is_live ranges address)
@@ -189,7 +181,7 @@ pub live_in_order : (next low high : ℕ) (ranges : Ranges) (live : List Range) 
     → AreInOrder 0 (2 ^ 64 - 1) live
 live_in_order next low high ranges live l a p apart =
     let all : AllByRecursion (λ (range : Range). range.start + range.len ≤ next) live =
-    all-permuted (λ range. range.start + range.len ≤ next) (live_ranges ranges low high) live p
+    each-permuted (λ range. range.start + range.len ≤ next) (live_ranges ranges low high) live p
     (all-kept (λ range. range.start + range.len ≤ next) (λ range. nat_lt 0 (shared low high range)) ranges a) in
     let bounded : All (λ (range : Range). range.start + range.len ≤ next) live =
     all_indexed (λ range. range.start + range.len ≤ next) live all in

@@ -14,7 +14,7 @@ use Rattle.wu_base.proofs.SortedLists.{has-sorted_once}
 use Rattle.wu_layout.specs.Postings.{Posting, is_of, addresses_of, Ascend}
 use Rattle.wu_layout.specs.Layouts.{IsRecordOf, first_address, last_address, list_of, lists_of, terms_of}
 use Rattle.wu_layout.proofs.ListLemmas.{all_terms}
-use Rattle.wu_layout.proofs.ListTotals.{lists_total}
+use Rattle.wu_layout.proofs.ListTotals.{lists_total, has_above}
 use Rattle.wu_vbyte.specs.declared.blocks.TheConstants.{BLOCK_LEN}
 use Rattle.wu_vbyte.specs.Blocks.{SpellsGaps}
 use Rattle.wu_part.specs.declared.entries.BlockEntry.{BlockEntry}
@@ -166,16 +166,8 @@ first_least low high [] p a h = absurd h
 first_least low high (q ∷ ps) p a h =
     ⊎_elim
     (λ (e : q ≡ p). let same : q.address ≡ p.address = ap (λ (r : Posting). r.address) e in omega arith)
-    (λ (i : Has p ps). let l : q.address + 1 ≤ p.address = above (q.address + 1) high ps p a.1 i in omega arith)
+    (λ (i : Has p ps). let l : q.address + 1 ≤ p.address = has_above (q.address + 1) high ps p a.1 i in omega arith)
     h
-  where
-    above : (low high : ℕ) (ps : List Posting) (p : Posting) → Ascend low high ps → Has p ps → low ≤ p.address
-    above low high [] p a h = absurd h
-    above low high (q ∷ ps) p a h =
-        ⊎_elim
-        (λ (e : q ≡ p). let same : q.address ≡ p.address = ap (λ (r : Posting). r.address) e in omega (arith, a.0))
-        (λ (i : Has p ps). let l : q.address + 1 ≤ p.address = above (q.address + 1) high ps p a.1 i in omega (arith, a.0))
-        h
 
 last_greatest : (low high : ℕ) (ps : List Posting) (p : Posting) → Ascend low high ps → Has p ps
     → (low ≤ p.address) × (p.address ≤ last_address ps)

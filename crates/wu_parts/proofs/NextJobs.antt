@@ -6,9 +6,10 @@ use Rattle.std.specs.List.{position_or_len}
 use Rattle.std.proofs.lemmas.Bool.{ltb-true}
 use Rattle.std.proofs.lemmas.Option.{cond_some}
 use Rattle.wu_base.specs.declared.addresses.PartRec.{PartRec}
+use Rattle.wu_base.proofs.Positions.{first_here, first_later}
 use Rattle.wu_space.specs.Addresses.{Ranges}
 use Rattle.wu_layout.specs.Steps.{alike_neighbours}
-use Rattle.wu_layout.proofs.Picks.{alike, first_here, first_later}
+use Rattle.wu_layout.proofs.Picks.{alike}
 use Rattle.wu_parts.specs.StoredParts.{records_of}
 use Rattle.wu_parts.specs.Units.{bare, bares, is_half_dead, next_job, replaced}
 use Rattle.wu_parts.specs.declared.working.NextJob.TheVariants.{Merge, Collect}

@@ -1,24 +1,25 @@
 -- What one part's blob is found to be, and what several opened parts make together.
 use Rattle.std.proofs.Common.{◌≡◌, ℕ, ◌+◌, ◌<◌, List, [], ◌∷◌, ◌++◌, length, take, drop, get_or, Option, None, Some, refl, ap, sym, ◌∙◌, subst, arith, append-nil, append_assoc, take-append-drop, inl, inr}
-use Rattle.std.specs.Prelude.{Bool, true, false, IfNone, IfSome, MatchBool}
+use Rattle.std.specs.Prelude.{Bool, true, false, Result, Ok, Err, IfNone, IfSome, MatchBool, OnOk}
 use Rattle.std.specs.List.{AllByRecursion}
 use Rattle.std.proofs.lemmas.List.{drop_more, take_more}
 use Rattle.wu_base.specs.declared.addresses.PartRec.{PartRec}
 use Rattle.wu_base.specs.declared.troubles.Trouble.{Trouble}
 use Rattle.wu_base.specs.declared.troubles.Trouble.TheVariants.{Damaged, NoMemory}
+use Rattle.wu_base.proofs.EachLemmas.{each-append, each-map}
 use Rattle.wu_outside.specs.Content.{Content}
 use Rattle.wu_outside.specs.Faults.{Rose}
 use Rattle.wu_outside.specs.declared.ranges.ReadRange.{ReadRange}
 use Rattle.wu_layout.specs.Invariants.{SomeOf}
-use Rattle.wu_layout.proofs.EachLemmas.{each-append, each-map}
 use Rattle.wu_layout.proofs.EntryLemmas.{IfSome-map, IfSome-map2}
+use Rattle.wu_layout.proofs.KeptLemmas.{SomeOf-right}
 use Rattle.wu_part.specs.declared.headers.TheConstants.{HEADER_LEN}
 use Rattle.wu_part.specs.Directories.{IsSpelled, PartDirectory, SpellsDirectory}
 use Rattle.wu_part.specs.Headers.{SpellsHeader}
 use Rattle.wu_part.specs.Parts.{IsRecorded}
 use Rattle.wu_part.proofs.LawLemmas.{one_directory}
 use Rattle.wu_job.specs.Steps.{adds}
-use Rattle.wu_parts.specs.Loading.{AreOpened, HasDirectory, HasHeader, HasNoDirectory, IsFirstBroken, IsFrontOf, IsLoadCause, IsOpened, ReadsFronts, directory_range, header_range}
+use Rattle.wu_parts.specs.Loading.{AreOpened, HasDirectory, HasHeader, HasNoDirectory, IsFirstBroken, IsFrontOf, IsLoadCause, IsOpened, ReadsFronts, WasHeaderRead, directory_range, header_range}
 use Rattle.wu_parts.specs.OpenedParts.{ArePartsOpened, CannotBeOpened, HasBytesAt, HasSize, IsDirectoryIn, IsDirectoryRead, IsHeaderOf, IsPartOpened, TellsLength, front_ranges}
 use Rattle.wu_parts.specs.StoredParts.{directories_of}
 use Rattle.wu_parts.specs.declared.writing.StoredPart.{StoredPart}
@@ -122,23 +123,26 @@ untold-or-none holds recorded before after (Some directory) d none not = untold 
 damaged_same : (a b : ℕ) → Damaged a ≡ Damaged b → a ≡ b
 damaged_same a b e = cc
 
-pub cause-damaged : (holds : Option Content) (recorded : PartRec) (before now : ℕ) → now ≡ before → CannotBeOpened holds recorded
-    → IsLoadCause holds (recorded ∷ []) before now (Damaged recorded.blob)
-cause-damaged holds recorded before now calm broken = record {
+pub cause-damaged : (holds : Option Content) (recorded : PartRec) (before now : ℕ) (ranges ranges_now : Option (List ReadRange))
+    → now ≡ before → WasHeaderRead ranges ranges_now recorded.blob → CannotBeOpened holds recorded
+    → IsLoadCause holds (recorded ∷ []) before now ranges ranges_now (Damaged recorded.blob)
+cause-damaged holds recorded before now ranges ranges_now calm read broken = record {
   counted = omega (arith, calm);
   store_fault = λ e. absurd (cc);
   calm = λ n. calm;
+  was_read = λ blob e. subst (WasHeaderRead ranges ranges_now) (damaged_same recorded.blob blob e) read;
   damaged = λ blob e.
       let same : recorded.blob ≡ blob = damaged_same recorded.blob blob e in
       inl (same, subst (λ (n : ℕ). IfSome holds (λ content. HasNoDirectory recorded (content.blobs n))) same broken);
 }
 
-pub cause-memory : (holds : Option Content) (records : List PartRec) (before now : ℕ) → now ≡ before
-    → IsLoadCause holds records before now NoMemory
-cause-memory holds records before now calm = record {
+pub cause-memory : (holds : Option Content) (records : List PartRec) (before now : ℕ) (ranges ranges_now : Option (List ReadRange))
+    → now ≡ before → IsLoadCause holds records before now ranges ranges_now NoMemory
+cause-memory holds records before now ranges ranges_now calm = record {
   counted = omega (arith, calm);
   store_fault = λ e. absurd (cc);
   calm = λ n. calm;
+  was_read = λ blob e. absurd (cc);
   damaged = λ blob e. absurd (cc);
 }
 
@@ -151,6 +155,27 @@ adds-none (Some earlier) = ap Some (append-nil earlier)
 pub adds-append : (xs ys : List ReadRange) (ranges : Option (List ReadRange)) → adds ys (adds xs ranges) ≡ adds (xs ++ ys) ranges
 adds-append xs ys None = refl
 adds-append xs ys (Some earlier) = ap Some (append_assoc earlier xs ys)
+
+-- the header was read, and perhaps more
+pub header-was-read : (blob : ℕ) (later : List ReadRange) (before after : Option (List ReadRange))
+    → after ≡ adds (header_range blob ∷ later) before → WasHeaderRead before after blob
+header-was-read blob later before after e = (header_range blob ∷ later, inl refl, e)
+
+-- and then the directory, where that was
+pub header-then-read : {T E : Type 0} (blob : ℕ) (later : List ReadRange) (before next after : Option (List ReadRange)) (r : Result T E)
+    → next ≡ adds (header_range blob ∷ []) before → OnOk r (after ≡ adds later next) → OnOk r (WasHeaderRead before after blob)
+header-then-read blob later before next after (Ok x) e d =
+    header-was-read blob later before after (d ∙ ap (adds later) e ∙ adds-append (header_range blob ∷ []) later before)
+header-then-read blob later before next after (Err x) e d = tt
+
+-- other parts were opened before
+pub header-was-read-later : (earlier : List ReadRange) (blob : ℕ) (first next last : Option (List ReadRange))
+    → next ≡ adds earlier first → WasHeaderRead next last blob → WasHeaderRead first last blob
+header-was-read-later earlier blob first next last e w = (
+  earlier ++ w.0,
+  SomeOf-right (λ range. range ≡ header_range blob) earlier w.0 w.1,
+  w.2 ∙ ap (adds w.0) e ∙ adds-append earlier w.0 first,
+)
 
 module _ (holds : Option Content) where
   pub fronts-none : (records : List PartRec) (before after : Option (List ReadRange)) → after ≡ before
@@ -271,13 +296,15 @@ module _ (holds : Option Content) where
   }
 
   -- the next part can't be opened
-  pub cause-next : (records : List PartRec) (recorded : PartRec) (later : List PartRec) (first next : Option (List ReadRange))
+  pub cause-next : (records : List PartRec) (recorded : PartRec) (later : List PartRec) (first next last : Option (List ReadRange))
       (parts : List StoredPart) (start before now : ℕ) (trouble : Trouble) → ArePartsOpened holds records first next parts → before ≡ start
-      → IsLoadCause holds (recorded ∷ []) before now trouble → IsLoadCause holds (records ++ recorded ∷ later) start now trouble
-  cause-next records recorded later first next parts start before now trouble a calm c = record {
+      → IsLoadCause holds (recorded ∷ []) before now next last trouble
+      → IsLoadCause holds (records ++ recorded ∷ later) start now first last trouble
+  cause-next records recorded later first next last parts start before now trouble a calm c = record {
     counted = omega (arith, calm, c.counted);
     store_fault = λ e. subst (λ (n : ℕ). Rose n now) calm (c.store_fault e);
     calm = λ n. c.calm n ∙ calm;
+    was_read = λ blob e. header-was-read-later a.read blob first next last a.read_are (c.was_read blob e);
     damaged = λ blob e.
         broken-after records (directories_of parts) a.read recorded later blob a.opened (c.damaged blob e);
   }
@@ -293,13 +320,14 @@ module _ (records : List PartRec) (i : ℕ) (within : i < length records) (holds
   one_more =
       sym (take-append-drop i records) ∙ ap (λ (l : List PartRec). take i records ++ l) (drop_more records i no_record within)
 
-  pub turn-fails : (first next : Option (List ReadRange)) (parts : List StoredPart) (start before now : ℕ) (trouble : Trouble)
+  pub turn-fails : (first next last : Option (List ReadRange)) (parts : List StoredPart) (start before now : ℕ) (trouble : Trouble)
       → ArePartsOpened holds (take i records) first next parts → before ≡ start
-      → IsLoadCause told (get_or records i no_record ∷ []) before now trouble → IsLoadCause holds records start now trouble
-  turn-fails first next parts start before now trouble a calm c =
-      subst (λ rs. IsLoadCause holds rs start now trouble) (sym one_more)
-      (cause-next holds (take i records) (get_or records i no_record) (drop (i + 1) records) first next parts start before now trouble
-      a calm (subst (λ h. IsLoadCause h (get_or records i no_record ∷ []) before now trouble) same c))
+      → IsLoadCause told (get_or records i no_record ∷ []) before now next last trouble
+      → IsLoadCause holds records start now first last trouble
+  turn-fails first next last parts start before now trouble a calm c =
+      subst (λ rs. IsLoadCause holds rs start now first last trouble) (sym one_more)
+      (cause-next holds (take i records) (get_or records i no_record) (drop (i + 1) records) first next last parts start before now trouble
+      a calm (subst (λ h. IsLoadCause h (get_or records i no_record ∷ []) before now next last trouble) same c))
 
   pub turn-fronts : (first next last : Option (List ReadRange)) → ReadsFronts holds records first next
       → ReadsFronts told (get_or records i no_record ∷ []) next last → ReadsFronts holds records first last

@@ -3,6 +3,7 @@ use Rattle.std.proofs.Common.{◌≡◌, ℕ, zero, suc, ◌+◌, ◌<◌, ◌�
 use Rattle.std.specs.Prelude.{zip}
 use Rattle.std.proofs.lemmas.List.{length-map, map-append, take-append-le}
 use Rattle.wu_base.specs.declared.addresses.PartRec.{PartRec}
+use Rattle.wu_layout.proofs.Flushes.{taken_some}
 use Rattle.wu_layout.specs.Layouts.{Part}
 use Rattle.wu_layout.specs.Invariants.{MayBeTaken}
 use Rattle.wu_layout.specs.Steps.{made_generation}
@@ -31,10 +32,6 @@ module _ {X Y : Type 0} where
   long_zip (x ∷ xs) [] e = absurd (omega (arith, e))
   long_zip (x ∷ xs) (y ∷ ys) e = ap (λ (n : ℕ). suc n) (long_zip xs ys (omega (arith, e)))
 
-pub some_taken : (before taken : List Part) → MayBeTaken before taken → 0 < length taken
-some_taken before [] m = absurd m
-some_taken before (part ∷ parts) m = omega arith
-
 -- ---- the job
 
 module _ (records : List PartRec) (directories : List PartDirectory) (job : JobAt) (r : IsRunning records directories job) where
@@ -47,7 +44,7 @@ module _ (records : List PartRec) (directories : List PartDirectory) (job : JobA
       let number : count ≡ length (take count (drop job.place (zip records directories))) =
       ap (λ (ps : List JobPart). length ps) r.parts ∙ length-map (take count (drop job.place (zip records directories))) _ in
       let filled : 0 < length (take count (drop job.place (bares records))) =
-      some_taken (take job.place (bares records)) (take count (drop job.place (bares records))) r.taken in
+      taken_some (take job.place (bares records)) (take count (drop job.place (bares records))) r.taken in
       omega (
         arith,
         number,

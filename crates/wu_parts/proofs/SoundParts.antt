@@ -8,10 +8,11 @@ use Rattle.std.proofs.lemmas.List.Sums.{sum_by-append, sum_by-cons}
 use Rattle.wu_base.specs.declared.addresses.PartRec.{PartRec}
 use Rattle.wu_base.specs.declared.addresses.TermList.{TermList}
 use Rattle.wu_base.proofs.Members.{Has, all_has, any_has}
+use Rattle.wu_base.proofs.EachLemmas.{each-append, each-drop, each-map, each-take}
+use Rattle.wu_layout.proofs.Flushes.{taken_some}
 use Rattle.wu_layout.specs.Layouts.{Part}
 use Rattle.wu_layout.specs.Invariants.{MayBeTaken, NeverRise, flushes_for}
 use Rattle.wu_layout.specs.Steps.{made_generation}
-use Rattle.wu_layout.proofs.EachLemmas.{each-append, each-drop, each-map, each-take}
 use Rattle.wu_layout.proofs.EntryLemmas.{IfSome-map}
 use Rattle.wu_layout.proofs.GenerationLemmas.{flushes_made, flushes_without, never_rise_between, never_rise_made, never_rise_without}
 use Rattle.wu_part.specs.declared.entries.BlockEntry.{BlockEntry}
@@ -26,7 +27,7 @@ use Rattle.wu_parts.specs.declared.writing.StoredPart.{StoredPart}
 use Rattle.wu_parts.proofs.Asking.{zipped}
 use Rattle.wu_parts.proofs.HeldParts.{map-drop, map-take}
 use Rattle.wu_parts.proofs.NewParts.{AreEnds, all_addresses, lists_end}
-use Rattle.wu_parts.proofs.RunningJobs.{running_more, some_taken}
+use Rattle.wu_parts.proofs.RunningJobs.{running_more}
 use Rattle.wu_parts.proofs.Spans.{directories-push, records-push, spans-bounds}
 
 -- ---- lists
@@ -265,7 +266,7 @@ module _ (low next flushes place count : ℕ) (parts : List StoredPart) (stored 
       let some : 0 < length taken =
       omega (
         arith,
-        some_taken (bares (records_of before)) (bares (records_of taken)) may,
+        taken_some (bares (records_of before)) (bares (records_of taken)) may,
         length-map (records_of taken) bare,
         length-map taken (λ (p : StoredPart). p.recorded),
       ) in

@@ -6,12 +6,13 @@ use Rattle.std.proofs.lemmas.List.{length-map}
 use Rattle.std.proofs.lemmas.List.Folds.{flat_map-map}
 use Rattle.wu_base.specs.declared.addresses.PartRec.{PartRec}
 use Rattle.wu_base.specs.declared.addresses.Range.{Range}
+use Rattle.wu_base.proofs.EachLemmas.{each-drop, each-take}
+use Rattle.wu_layout.proofs.NumberedRanges.{ranges-alone}
 use Rattle.wu_outside.specs.Content.{Content}
-use Rattle.wu_layout.specs.Layouts.{FileEntry, Job, Part, Layout, Text, first_address, last_address, ranges_by_number, ranges_of, stored_in, terms_of}
+use Rattle.wu_layout.specs.Layouts.{Job, Part, Layout, Text, first_address, last_address, ranges_by_number, ranges_of, stored_in, terms_of}
 use Rattle.wu_layout.specs.Postings.{Ascend, Posting, has_some, is_in, is_live, live_of}
 use Rattle.wu_layout.specs.Invariants.{IsLayoutOf, IsUnderWay, JobIsUnderWay}
 use Rattle.wu_layout.specs.Steps.{job_at, pick}
-use Rattle.wu_layout.proofs.EachLemmas.{each-drop, each-take}
 use Rattle.wu_layout.proofs.HomeLemmas.{taken_bounded}
 use Rattle.wu_layout.proofs.LiveCounts.{span_of}
 use Rattle.wu_layout.proofs.Picks.{picked}
@@ -199,17 +200,13 @@ module _ (is_file : ℕ → Bool) (text_of : ℕ → Text) (layout : Layout) (co
   own_right : IsRight content running.state
   own_right = subst (IsRight content) (sym s.began) (record { terms_done = []; order = refl; made = refl })
 
-  ranges_are : (files : List (ℕ × FileEntry)) → map (λ file. file.1) (ranges_by_number files) ≡ ranges_of files
-  ranges_are [] = refl
-  ranges_are (file ∷ files) = ap (λ (rs : List Range). file.1.range ∷ rs) (ranges_are files)
-
   all_live : (low high : ℕ) (ps : List Posting) → IsPermutation (live_ranges (ranges_by_number layout.files) low high) running.state.live
       → AllByRecursion (λ p. (low ≤ p.address) × (p.address < high + 1)) ps
       → AllByRecursion (λ p. is_live running.state.live p.address ≡ is_live (ranges_of layout.files) p.address) ps
   all_live low high [] m a = tt
   all_live low high (p ∷ ps) m a = (
     live_same (ranges_by_number layout.files) low high running.state.live m p.address a.0.0 (omega (arith, a.0.1))
-        ∙ ap (λ (rs : List Range). is_live rs p.address) (ranges_are layout.files),
+        ∙ ap (λ (rs : List Range). is_live rs p.address) (ranges-alone layout.files),
     all_live low high ps m a.1,
   )
 

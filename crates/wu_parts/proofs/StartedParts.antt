@@ -1,5 +1,5 @@
 -- The job that the policy names, at its start, is on parts that may be taken.
-use Rattle.std.proofs.Common.{◌≡◌, ℕ, zero, suc, ◌+◌, ◌^◌, ◌<◌, ◌≤◌, ◌==◌, true, false, List, [], ◌∷◌, length, map, take, drop, get_or, Option, Some, None, option_map, zip, refl, ap, ap₂, sym, ◌∙◌, subst, arith, ⊎_elim, pow_mono}
+use Rattle.std.proofs.Common.{◌≡◌, ℕ, zero, suc, ◌+◌, ◌^◌, ◌<◌, ◌≤◌, ◌==◌, true, false, List, [], ◌∷◌, length, map, take, drop, get_or, Some, option_map, zip, refl, ap, ap₂, sym, ◌∙◌, subst, arith, ⊎_elim, pow_mono}
 use Rattle.std.specs.Prelude.{IsPermutation}
 use Rattle.std.specs.List.{AllByRecursion}
 use Rattle.std.proofs.lemmas.Bool.{cases_Bool, cases_lt, eqb-true, eqb-false}
@@ -7,11 +7,12 @@ use Rattle.std.proofs.lemmas.List.Sums.{sum_by-cons}
 use Rattle.std.proofs.lemmas.Option.{same_Some}
 use Rattle.wu_base.specs.declared.addresses.Range.{Range}
 use Rattle.wu_base.specs.declared.limits.TheConstants.{GENERATION_MAX}
+use Rattle.wu_base.proofs.EachLemmas.{each-drop, each-map, each-take}
+use Rattle.wu_base.proofs.Positions.{first_here, first_later, place_later}
+use Rattle.wu_layout.proofs.Picks.{alike, one_more_before}
 use Rattle.wu_layout.specs.Layouts.{Part}
 use Rattle.wu_layout.specs.Invariants.{MayBeTaken, NeverRise, flushes_for}
 use Rattle.wu_layout.specs.Steps.{alike_neighbours, made_generation as made}
-use Rattle.wu_layout.proofs.EachLemmas.{each-drop, each-map, each-take}
-use Rattle.wu_layout.proofs.Picks.{alike, first_here, first_later}
 use Rattle.wu_part.specs.Parts.{IsRecorded}
 use Rattle.wu_space.specs.Addresses.{Ranges, live_ranges}
 use Rattle.wu_job.specs.Jobs.{JobPart, JobState, highest, lowest, started}
@@ -23,18 +24,6 @@ use Rattle.wu_parts.proofs.EndedJobs.{bares_taken}
 use Rattle.wu_parts.proofs.SoundParts.{job_part, parts_at_stored, same_length}
 
 -- ---- the leftmost pair
-
-mapped_some : (o : Option ℕ) (place : ℕ) → option_map (λ n. suc n) o ≡ Some place → (k : ℕ) × ((o ≡ Some k) × (suc k ≡ place))
-mapped_some None place e = absurd cc
-mapped_some (Some k) place e = (k, (refl, cc))
-
--- one more part on the left, of a greater generation
-one_more_before : (part : Part) (before taken : List Part) → AllByRecursion (λ p. p.generation < part.generation) taken
-    → MayBeTaken before taken → MayBeTaken (part ∷ before) taken
-one_more_before part before [] a m = m
-one_more_before part before (first ∷ []) a m = tt
-one_more_before part before (left ∷ right ∷ []) a m = (m.0, (a.0, m.1))
-one_more_before part before (first ∷ second ∷ third ∷ more) a m = m
 
 abbrev IsPair : List Part → ℕ → Type 0
 IsPair parts place = (place + 1 < length parts) × MayBeTaken (take place parts) (take 2 (drop place parts))
@@ -62,7 +51,7 @@ pair_taken (left ∷ right ∷ more) place e n =
     (λ (f : (left.generation == right.generation) ≡ false).
     let later : alike_neighbours (left ∷ right ∷ more) ≡ option_map (λ k. suc k) (alike_neighbours (right ∷ more)) =
     first_later alike (left, right) (zip (right ∷ more) more) f in
-    let r = mapped_some (alike_neighbours (right ∷ more)) place (sym later ∙ e) in
+    let r = place_later (alike_neighbours (right ∷ more)) place (sym later ∙ e) in
     let less : right.generation < left.generation =
     omega (arith, n.0.0, eqb-false left.generation right.generation f) in
     pair_on left right more place r.0 r.1.1

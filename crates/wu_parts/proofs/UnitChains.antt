@@ -1,37 +1,57 @@
 -- What several units of background work do, one after another.
-use Rattle.std.proofs.Common.{◌≡◌, ◌≢◌, ℕ, zero, suc, ◌+◌, ◌-◌, ◌<◌, ◌≤◌, List, [], ◌∷◌, ◌++◌, length, take, drop, Option, Some, None, option_map, refl, ap, sym, ◌∙◌, subst, arith, ⊎_elim, inl, inr, append-nil, append_assoc}
-use Rattle.std.specs.Prelude.{◌⊎◌, zip}
-use Rattle.std.specs.List.{AllByRecursion}
+use Rattle.std.proofs.Common.{◌≡◌, ◌≢◌, ℕ, zero, suc, ◌+◌, ◌<◌, ◌≤◌, List, [], ◌∷◌, ◌++◌, length, Option, Some, None, option_map, refl, ap, sym, ◌∙◌, subst, arith, ⊎_elim, inl, inr, append-nil, append_assoc}
+use Rattle.std.specs.Prelude.{◌⊎◌, IfSome, zip}
+use Rattle.std.specs.List.{Contains}
 use Rattle.wu_base.specs.declared.addresses.PartRec.{PartRec}
-use Rattle.wu_outside.specs.Content.{Content, MayDo, with_blob}
-use Rattle.wu_outside.specs.Crash.{Moments, Put, try_change}
+use Rattle.wu_base.proofs.Members.{Contains-from_Has, Has, Has-append_cases, Has-from_Contains}
+use Rattle.wu_outside.specs.Content.{Content, with_blob}
 use Rattle.wu_outside.specs.Faults.{Rose}
 use Rattle.wu_outside.specs.declared.ranges.ReadRange.{ReadRange}
 use Rattle.wu_base.specs.declared.troubles.Trouble.{Trouble}
 use Rattle.wu_layout.specs.Invariants.{SomeOf}
 use Rattle.wu_layout.proofs.HomeLemmas.{SomeOf-map}
-use Rattle.wu_layout.proofs.KeptLemmas.{SomeOf-cases}
 use Rattle.wu_part.specs.Directories.{PartDirectory}
 use Rattle.wu_space.specs.Addresses.{Ranges}
-use Rattle.wu_job.specs.Jobs.{IsRight}
+use Rattle.wu_job.specs.Jobs.{AreKept, IsRight, JobPart, JobState, MakesList}
+use Rattle.wu_job.specs.Keeping.{addresses_in}
 use Rattle.wu_job.specs.Steps.{adds}
 use Rattle.wu_job.proofs.Fronts.{adds-more}
+use Rattle.wu_job.proofs.Marking.{addresses_more}
 use Rattle.wu_lists.specs.Causes.{IsNoPart}
 use Rattle.wu_parts.specs.Contents.{Contents, JobAt}
 use Rattle.wu_parts.specs.Flushing.{Told}
-use Rattle.wu_parts.specs.Units.{DoUnits, DoesUnit, GoesOn, IsMade, IsNext, Vanishes, replaced}
+use Rattle.wu_parts.specs.Units.{DoUnits, DoesUnit, GoesOn, IsMade, IsNext, Starts, Vanishes}
 use Rattle.wu_parts.specs.UnitsOfParts.{StopsUnit}
-use Rattle.wu_parts.specs.Working.{ChangesParts, IsBrokenIn, IsDamaged, IsRightJob, MayChange, StopsWork}
-use Rattle.wu_parts.proofs.HeldParts.{put_elsewhere, put_there, zip-drop, zip-take}
+use Rattle.wu_parts.specs.Working.{ChangesParts, IsDamaged, IsDamagedPart, KeepsAddress, SharesAddress, SharesIn, StopsWork, as_taken}
+use Rattle.wu_parts.proofs.HeldParts.{put_elsewhere, put_there}
 use Rattle.wu_parts.proofs.LayoutUnits.{if_told}
-use Rattle.wu_parts.proofs.RunningJobs.{zip-append}
+use Rattle.wu_parts.proofs.SomeParts.{all_zipped, some_replaced, some_with}
 
 -- ---- the parts
 
-changes_none : (old : Contents) → ChangesParts 0 old old
+pub changes_none : (old : Contents) → ChangesParts 0 old old
 changes_none old = record { others = refl; drawn = (omega arith, omega arith); noted = ([], sym (append-nil old.stale)) }
 
-changes_more : (n m : ℕ) (old middle new : Contents) → ChangesParts n old middle → ChangesParts m middle new → ChangesParts (n + m) old new
+-- the job was taken out
+pub changes_taken : (old new : Contents) → new ≡ record old { job = None } → ChangesParts 0 old new
+changes_taken old new e =
+    subst (ChangesParts 0 old) (sym e)
+    (record { others = refl; drawn = (omega arith, omega arith); noted = ([], sym (append-nil old.stale)) })
+
+-- a number was drawn, or none, and parts were taken out or put in
+pub changes_partly : (old view new : Contents) (more : List ℕ) → view ≡ old
+    → new ≡ record view {
+      parts = new.parts;
+      directories = new.directories;
+      next_blob = new.next_blob;
+      stale = new.stale;
+      job = new.job;
+    } → new.stale ≡ view.stale ++ more → view.next_blob ≤ new.next_blob → new.next_blob ≤ view.next_blob + 1 → ChangesParts 1 old new
+changes_partly old view new more is others noted least most =
+    subst (λ (c : Contents). ChangesParts 1 c new) is (record { others = others; drawn = (least, most); noted = (more, noted) })
+
+pub changes_more : (n m : ℕ) (old middle new : Contents) → ChangesParts n old middle → ChangesParts m middle new
+    → ChangesParts (n + m) old new
 changes_more n m old middle new a b = record {
   others =
       b.others
@@ -50,7 +70,7 @@ changes_more n m old middle new a b = record {
 }
 
 module _ (ranges : Ranges) where
-  unit_changes : (old new : Contents) (before after : Told) (read : List ReadRange) → DoesUnit ranges old new before after read
+  pub unit_changes : (old new : Contents) (before after : Told) (read : List ReadRange) → DoesUnit ranges old new before after read
       → ChangesParts 1 old new
   unit_changes old new before after read u =
       ⊎_elim
@@ -78,162 +98,108 @@ module _ (ranges : Ranges) where
 pub changes_less : (n m : ℕ) (old new : Contents) → n ≤ m → ChangesParts n old new → ChangesParts m old new
 changes_less n m old new l a = record { others = a.others; drawn = (a.drawn.0, omega (arith, a.drawn.1)); noted = a.noted }
 
--- ---- the store
+-- ---- damaged parts
 
-module _ {X : Type 0} (step : ℕ → Option (List ℕ) → X → X) (low : ℕ) where
-  may_wider : (high most n : ℕ) (old new : Option X) → high ≤ most → MayChange step low high n old new → MayChange step low most n old new
-  may_wider high most zero old new l m = m
-  may_wider high most (suc n) old new l m =
-      (m.0, m.1, m.2, may_wider high most n old m.0 l m.3, (m.4.0, omega (arith, m.4.1)), m.5)
+-- the part is in that blob, and what the content has of the blob isn't a part with its directory
+abbrev pub IsBrokenIn : Content → ℕ → PartRec × PartDirectory → Type 0
+IsBrokenIn content blob part = (part.0.blob ≡ blob) × IsNoPart part.1 (content.blobs blob)
 
-  pub may_more : (high n : ℕ) (old new : Option X) → low < high → MayChange step low high n old new
-      → MayChange step low high (suc n) old new
-  may_more high n old new l m = (new, low, None, m, (omega arith, l), inl refl)
+-- the lists are right that the job under way has made
+abbrev pub IsRightJob : Content → Option JobAt → Type 0
+IsRightJob content job = IfSome job (λ running. IsRight content running.state)
 
-  -- so many at most, of which some were done
-  pub may_all : (n m k : ℕ) (old new : Option X) → k + n ≡ m → MayChange step low (low + n) n old new
-      → MayChange step low (low + m) m old new
-  may_all n m zero old new e c =
-      subst (λ j. MayChange step low (low + j) j old new) (omega (arith, e)) c
-  may_all n m (suc k) old new e c =
-      may_all (suc n) m k old new (omega (arith, e))
-      (may_more (low + suc n) n old new (omega arith) (may_wider (low + n) (low + suc n) n old new (omega arith) c))
-
-  -- one more
-  pub may_next : (n blob : ℕ) (written : Option (List ℕ)) (old middle new : Option X) → low ≤ blob → blob ≤ low + n
-      → MayChange step low (low + n) n old middle → MayDo (step blob written) middle new → MayChange step low (low + suc n) (suc n) old new
-  may_next n blob written old middle new l h c d =
-      (middle, blob, written, may_wider (low + n) (low + suc n) n old middle (omega arith) c, (l, omega arith), d)
-
-abbrev pub try_put : ℕ → Option (List ℕ) → Moments → Moments
-try_put blob written = try_change (Put blob) (with_blob blob written)
-
-module _ (ranges : Ranges) where
-  -- a unit puts a blob of the next number, or none
-  unit_puts : (old new : Contents) (before after : Told) (read : List ReadRange) → DoesUnit ranges old new before after read
-      → (written : Option (List ℕ))
-      × (MayDo (with_blob old.next_blob written) before.0 after.0 × MayDo (try_put old.next_blob written) before.1 after.1)
-  unit_puts old new before after read u =
-      ⊎_elim
-      (λ (g : GoesOn u.job.place u.state old new before after).
-      (None, (inl (ap (λ (t : Told). t.0) g.stored), inl (ap (λ (t : Told). t.1) g.stored))))
-      (λ l.
-      ⊎_elim
-      (λ (v : Vanishes u.job.place u.state old new before after).
-      (None, (inl (ap (λ (t : Told). t.0) v.stored), inl (ap (λ (t : Told). t.1) v.stored))))
-      (λ (m : IsMade u.job.place u.state old new before after).
-      (Some m.bytes, (inr (ap (λ (t : Told). t.0) m.stored), inr (ap (λ (t : Told). t.1) m.stored))))
-      l)
-      u.leaves
-
-  pub units_put : (n : ℕ) (old new : Contents) (before after : Told) (read : List ReadRange)
-      → DoUnits ranges n old new before after read
-      → MayChange with_blob old.next_blob (old.next_blob + n) n before.0 after.0
-      × MayChange try_put old.next_blob (old.next_blob + n) n before.1 after.1
-  units_put zero old new before after read u = (ap (λ (t : Told). t.0) u.1.0, ap (λ (t : Told). t.1) u.1.0)
-  units_put (suc n) old new before after read u =
-      let earlier = units_put n old u.0 before u.1 u.2 u.4 in
-      let drawn = (units_change ranges n old u.0 before u.1 u.2 u.4).drawn in
-      let last = unit_puts u.0 new u.1 after u.3 u.5 in (
-        may_next with_blob old.next_blob n u.0.next_blob last.0 before.0 u.1.0 after.0 drawn.0 drawn.1 earlier.0 last.1.0,
-        may_next try_put old.next_blob n u.0.next_blob last.0 before.1 u.1.1 after.1 drawn.0 drawn.1 earlier.1 last.1.1,
-      )
-
--- ---- broken parts
-
-module _ {X : Type 0} (P : X → Type 0) where
-  pub some-take : (n : ℕ) (xs : List X) → SomeOf P (take n xs) → SomeOf P xs
-  some-take zero xs s = absurd s
-  some-take (suc n) [] s = absurd s
-  some-take (suc n) (x ∷ xs) s = ⊎_elim (λ a. inl a) (λ b. inr (some-take n xs b)) s
-
-  pub some-drop : (n : ℕ) (xs : List X) → SomeOf P (drop n xs) → SomeOf P xs
-  some-drop zero xs s = s
-  some-drop (suc n) [] s = absurd s
-  some-drop (suc n) (x ∷ xs) s = inr (some-drop n xs s)
-
-  some_with : (Q : X → Type 0) (xs : List X) → AllByRecursion Q xs → SomeOf P xs → SomeOf (λ x. Q x × P x) xs
-  some_with Q [] a s = absurd s
-  some_with Q (x ∷ xs) a s = ⊎_elim (λ p. inl (a.0, p)) (λ r. inr (some_with Q xs a.1 r)) s
-
-same_take : {X Y : Type 0} (n : ℕ) (xs : List X) (ys : List Y) → length xs ≡ length ys → length (take n xs) ≡ length (take n ys)
-same_take zero xs ys e = refl
-same_take (suc n) [] [] e = refl
-same_take (suc n) [] (y ∷ ys) e = absurd (omega (arith, e))
-same_take (suc n) (x ∷ xs) [] e = absurd (omega (arith, e))
-same_take (suc n) (x ∷ xs) (y ∷ ys) e = ap (λ (k : ℕ). suc k) (same_take n xs ys (omega (arith, e)))
-
-pub all_zipped : (next : ℕ) (records : List PartRec) (directories : List PartDirectory)
-    → AllByRecursion (λ recorded. recorded.blob < next) records → AllByRecursion (λ part. part.0.blob < next) (zip records directories)
-all_zipped next [] directories a = tt
-all_zipped next (r ∷ records) [] a = tt
-all_zipped next (r ∷ records) (d ∷ directories) a = (a.0, all_zipped next records directories a.1)
-
--- of what stands in place of some, it is one of these or of the others
-some_replaced : (P : PartRec × PartDirectory → Type 0) (place count : ℕ) (made : List PartRec) (mades : List PartDirectory)
-    (records : List PartRec) (directories : List PartDirectory) → length records ≡ length directories → length made ≡ length mades
-    → SomeOf P (zip (replaced place count made records) (replaced place count mades directories))
-    → SomeOf P (zip made mades) ⊎ SomeOf P (zip records directories)
-some_replaced P place count made mades records directories e f s =
-    let front = take place records in
-    let fronts = take place directories in
-    let back = drop count (drop place records) in
-    let backs = drop count (drop place directories) in
-    let split : zip (front ++ (made ++ back)) (fronts ++ (mades ++ backs)) ≡ zip front fronts ++ (zip made mades ++ zip back backs) =
-    zip-append front (made ++ back) fronts (mades ++ backs) (same_take place records directories e)
-    ∙ ap (λ (l : List (PartRec × PartDirectory)). zip front fronts ++ l) (zip-append made back mades backs f) in
-    ⊎_elim
-    (λ (a : SomeOf P (zip front fronts)).
-    inr (some-take P place (zip records directories) (subst (SomeOf P) (sym (zip-take place records directories)) a)))
-    (λ (b : SomeOf P (zip made mades ++ zip back backs)).
-    ⊎_elim
-    (λ (c : SomeOf P (zip made mades)). inl c)
-    (λ (c : SomeOf P (zip back backs)).
-    inr
-    (some-drop P place (zip records directories)
-    (some-drop P count (drop place (zip records directories))
-    (subst (SomeOf P)
-    (sym (ap (drop count) (zip-drop place records directories) ∙ zip-drop count (drop place records) (drop place directories))) c))))
-    (SomeOf-cases P (zip made mades) (zip back backs) b))
-    (SomeOf-cases P (zip front fronts) (zip made mades ++ zip back backs) (subst (SomeOf P) split s))
-
--- What is broken now was broken before, and a job's lists are right that were so.
-pub record KeepsSound (content content_now : Content) (old new : Contents) : Type 0 where
-  pub broken : (blob : ℕ) → SomeOf (IsBrokenIn content_now blob) (zip new.parts new.directories)
-      → SomeOf (IsBrokenIn content blob) (zip old.parts old.directories)
-  pub right : IsRightJob content old.job → IsRightJob content_now new.job
-
-right_there : (content : Content) (o : Option JobAt) (running : JobAt) → o ≡ Some running → IsRightJob content o
+pub right_at_start : (content : Content) (ranges : Ranges) (contents : Contents) (running : JobAt) → Starts ranges contents running
     → IsRight content running.state
-right_there content o running e r = if_job o running e r
-  where
-    if_job : (o : Option JobAt) (running : JobAt) → o ≡ Some running → IsRightJob content o → IsRight content running.state
-    if_job o running e r = subst (λ x. IsRightJob content x) e r
+right_at_start content ranges contents running starts =
+    subst (IsRight content) (sym starts.began) (record { terms_done = []; order = refl; made = refl })
 
 pub right_next : (content : Content) (ranges : Ranges) (contents : Contents) (running : JobAt) → IsNext ranges contents running
     → IsRightJob content contents.job → IsRight content running.state
 right_next content ranges contents running next r =
     ⊎_elim
-    (λ (e : contents.job ≡ Some running). right_there content contents.job running e r)
-    (λ n. subst (IsRight content) (sym n.1.began) (record { terms_done = []; order = refl; made = refl }))
+    (λ (e : contents.job ≡ Some running). subst (IsRightJob content) e r)
+    (λ n. right_at_start content ranges contents running n.1)
     next
 
+-- what is damaged is broken, where the lists are right that the job under way has made
+pub broken_parts : (content : Content) (job : Option JobAt) (blob : ℕ) (parts : List (PartRec × PartDirectory)) → IsRightJob content job
+    → SomeOf (IsDamagedPart content job blob) parts → SomeOf (IsBrokenIn content blob) parts
+broken_parts content job blob parts right damaged =
+    SomeOf-map (IsDamagedPart content job blob) (IsBrokenIn content blob) parts
+    (λ part p. (
+      p.0,
+      ⊎_elim
+          (λ n. n)
+          (λ s. subst (λ b. IsNoPart part.1 (content.blobs b)) p.0 (if_shared job right (as_taken part) s))
+          p.1,
+    ))
+    damaged
+  where
+    if_shared : (o : Option JobAt) → IsRightJob content o → (part : JobPart) → SharesIn content o part
+        → IsNoPart part.directory (content.blobs part.recorded.blob)
+    if_shared None r part s = absurd s
+    if_shared (Some running) r part s = s.broken r
+
+damaged_parts : (content : Content) (job : Option JobAt) (blob : ℕ) (parts : List (PartRec × PartDirectory))
+    → SomeOf (IsBrokenIn content blob) parts → SomeOf (IsDamagedPart content job blob) parts
+damaged_parts content job blob parts broken =
+    SomeOf-map (IsBrokenIn content blob) (IsDamagedPart content job blob) parts (λ part p. (p.0, inl p.1)) broken
+
+-- a job that has done one term more shares an address only if it did so before
+shares_before : (content : Content) (old new : JobState) (term kept : List ℕ) (part : JobPart) → MakesList term kept old new
+    → AreKept content old.parts old.live term kept → (IsRight content old → IsRight content new) → SharesAddress content new part
+    → SharesAddress content old part
+shares_before content old new term kept part makes held right s =
+    let parts : new.parts ≡ old.parts = ap (λ (job : JobState). job.parts) makes.others in
+    let live : new.live ≡ old.live = ap (λ (job : JobState). job.live) makes.others in
+    let done : addresses_in new.done ≡ addresses_in old.done ++ kept = ap addresses_in makes.made ∙ addresses_more old.done term kept in
+    record {
+      its = subst (λ ps. Contains ps part) parts s.its;
+      earlier = term ∷ s.earlier;
+      term = s.term;
+      later = s.later;
+      left = makes.first ∙ ap (λ (ts : List (List ℕ)). term ∷ ts) s.left;
+      addresses = s.addresses;
+      held = s.held;
+      address = s.address;
+      has = s.has;
+      made =
+          ⊎_elim
+          (λ (c : Contains (addresses_in new.done) s.address).
+          ⊎_elim
+          (λ i. inl (Contains-from_Has s.address (addresses_in old.done) i))
+          (λ i. inr (inl (kept, held, Contains-from_Has s.address kept i)))
+          (Has-append_cases s.address (addresses_in old.done) kept
+          (subst (Has s.address) done (Has-from_Contains s.address (addresses_in new.done) c))))
+          (λ (k : SomeOf (KeepsAddress content new.parts new.live s.address) s.earlier).
+          inr (inr
+          (subst (λ rs. SomeOf (KeepsAddress content old.parts rs s.address) s.earlier) live
+          (subst (λ ps. SomeOf (KeepsAddress content ps new.live s.address) s.earlier) parts k))))
+          s.made;
+      broken = λ r. s.broken (right r);
+    }
+
+-- what is damaged now was damaged before
+abbrev WereDamaged : Content → Content → Contents → Contents → Type 0
+WereDamaged content content_now old new =
+    (blob : ℕ) → SomeOf (IsDamagedPart content_now new.job blob) (zip new.parts new.directories)
+    → SomeOf (IsDamagedPart content old.job blob) (zip old.parts old.directories)
+
 module _ (ranges : Ranges) where
-  unit_sound : (old new : Contents) (before after : Told) (read : List ReadRange) (content : Content) → before.0 ≡ Some content
-      → DoesUnit ranges old new before after read → (now : Content) × ((after.0 ≡ Some now) × KeepsSound content now old new)
-  unit_sound old new before after read content e u =
+  unit_damaged : (old new : Contents) (before after : Told) (read : List ReadRange) (content : Content) → before.0 ≡ Some content
+      → DoesUnit ranges old new before after read → (now : Content) × ((after.0 ≡ Some now) × WereDamaged content now old new)
+  unit_damaged old new before after read content e u =
       ⊎_elim
       (λ (g : GoesOn u.job.place u.state old new before after). (
         content,
         (
           ap (λ (t : Told). t.0) g.stored ∙ e,
-          subst (λ c. KeepsSound content content old c) (sym g.contents)
-              (record {
-                broken = λ blob s. s;
-                right = λ r.
-                    if_told (λ told. IsRight told u.job.state → IsRight told u.state) before.0 content e u.right
-                    (right_next content ranges old u.job u.next r);
-              }),
+          subst (WereDamaged content content old) (sym g.contents)
+              (λ blob s.
+              SomeOf-map (IsDamagedPart content (Some (record { place = u.job.place; state = u.state })) blob)
+              (IsDamagedPart content old.job blob) (zip old.parts old.directories)
+              (λ part p. (p.0, ⊎_elim (λ n. inl n) (λ shares. goes_on blob part p.0 shares) p.1))
+              s),
         ),
       ))
       (λ l.
@@ -242,14 +208,12 @@ module _ (ranges : Ranges) where
         content,
         (
           ap (λ (t : Told). t.0) v.stored ∙ e,
-          subst (λ c. KeepsSound content content old c) (sym v.contents)
-              (record {
-                broken = λ blob s.
-                    ⊎_elim (λ a. absurd a) (λ b. b)
-                    (some_replaced (IsBrokenIn content blob) u.job.place (length u.state.parts) [] [] old.parts old.directories
-                    u.running.paired refl s);
-                right = λ r. tt;
-              }),
+          subst (WereDamaged content content old) (sym v.contents)
+              (λ blob s.
+              damaged_parts content old.job blob (zip old.parts old.directories)
+              (⊎_elim (λ a. absurd a) (λ b. b)
+              (some_replaced (IsBrokenIn content blob) u.job.place (length u.state.parts) [] [] old.parts old.directories
+              u.running.paired refl (broken_parts content None blob _ tt s)))),
         ),
       ))
       (λ (m : IsMade u.job.place u.state old new before after).
@@ -257,25 +221,41 @@ module _ (ranges : Ranges) where
         now,
         (
           ap (λ (t : Told). t.0) m.stored ∙ ap (λ (o : Option Content). option_map (with_blob old.next_blob (Some m.bytes)) o) e,
-          subst (λ c. KeepsSound content now old c) (sym m.contents)
-              (record {
-                broken = λ blob s.
-                    ⊎_elim
-                    (λ a. ⊎_elim (λ (one : IsBrokenIn now blob (m.recorded, m.directory)). absurd (whole m blob one)) (λ z. absurd z) a)
-                    (λ b.
-                    SomeOf-map (λ part. (part.0.blob < old.next_blob) × IsBrokenIn now blob part) (IsBrokenIn content blob)
-                    (zip old.parts old.directories) (λ part p. older m blob part p)
-                    (some_with (IsBrokenIn now blob) (λ part. part.0.blob < old.next_blob) (zip old.parts old.directories)
-                    (all_zipped old.next_blob old.parts old.directories u.below) b))
-                    (some_replaced (IsBrokenIn now blob) u.job.place (length u.state.parts) (m.recorded ∷ []) (m.directory ∷ []) old.parts
-                    old.directories u.running.paired refl s);
-                right = λ r. tt;
-              }),
+          subst (WereDamaged content now old) (sym m.contents)
+              (λ blob s.
+              damaged_parts content old.job blob (zip old.parts old.directories)
+              (⊎_elim
+              (λ a. ⊎_elim (λ (one : IsBrokenIn now blob (m.recorded, m.directory)). absurd (whole m blob one)) (λ z. absurd z) a)
+              (λ b.
+              SomeOf-map (λ part. (part.0.blob < old.next_blob) × IsBrokenIn now blob part) (IsBrokenIn content blob)
+              (zip old.parts old.directories) (λ part p. older m blob part p)
+              (some_with (IsBrokenIn now blob) (λ part. part.0.blob < old.next_blob) (zip old.parts old.directories)
+              (all_zipped old.next_blob old.parts old.directories u.below) b))
+              (some_replaced (IsBrokenIn now blob) u.job.place (length u.state.parts) (m.recorded ∷ []) (m.directory ∷ []) old.parts
+              old.directories u.running.paired refl (broken_parts now None blob _ tt s)))),
         ),
       ))
       l)
       u.leaves
     where
+      right : IsRight content u.job.state → IsRight content u.state
+      right = if_told (λ told. IsRight told u.job.state → IsRight told u.state) before.0 content e u.right
+
+      goes_on : (blob : ℕ) (part : PartRec × PartDirectory) → part.0.blob ≡ blob → SharesAddress content u.state (as_taken part)
+          → IsNoPart part.1 (content.blobs blob) ⊎ SharesIn content old.job (as_taken part)
+      goes_on blob part its s =
+          ⊎_elim
+          (λ (same : old.job ≡ Some u.job).
+          inr
+          (subst (λ o. SharesIn content o (as_taken part)) (sym same)
+          (shares_before content u.job.state u.state u.term.term u.term.kept (as_taken part) u.term.makes
+          (if_told (λ told. AreKept told u.job.state.parts u.job.state.live u.term.term u.term.kept) before.0 content e u.term.held)
+          right s)))
+          (λ n.
+          inl
+          (subst (λ b. IsNoPart part.1 (content.blobs b)) its (s.broken (right (right_at_start content ranges old u.job n.1)))))
+          u.next
+
       whole : (m : IsMade u.job.place u.state old new before after) (blob : ℕ)
           → IsBrokenIn (with_blob old.next_blob (Some m.bytes) content) blob (m.recorded, m.directory) → ⊥
       whole m blob b =
@@ -293,27 +273,16 @@ module _ (ranges : Ranges) where
             subst (λ o. IsNoPart part.1 o) (put_elsewhere old.next_blob blob (Some m.bytes) content other) p.1.1,
           )
 
-  units_sound : (n : ℕ) (old new : Contents) (before after : Told) (read : List ReadRange) (content : Content) → before.0 ≡ Some content
-      → DoUnits ranges n old new before after read → (now : Content) × ((after.0 ≡ Some now) × KeepsSound content now old new)
-  units_sound zero old new before after read content e u = (
+  units_damaged : (n : ℕ) (old new : Contents) (before after : Told) (read : List ReadRange) (content : Content) → before.0 ≡ Some content
+      → DoUnits ranges n old new before after read → (now : Content) × ((after.0 ≡ Some now) × WereDamaged content now old new)
+  units_damaged zero old new before after read content e u = (
     content,
-    (
-      ap (λ (t : Told). t.0) u.1.0 ∙ e,
-      subst (λ c. KeepsSound content content old c) (sym u.0) (record { broken = λ blob s. s; right = λ r. r }),
-    ),
+    (ap (λ (t : Told). t.0) u.1.0 ∙ e, subst (WereDamaged content content old) (sym u.0) (λ blob s. s)),
   )
-  units_sound (suc n) old new before after read content e u =
-      let earlier = units_sound n old u.0 before u.1 u.2 content e u.4 in
-      let last = unit_sound u.0 new u.1 after u.3 earlier.0 earlier.1.0 u.5 in (
-        last.0,
-        (
-          last.1.0,
-          record {
-            broken = λ blob s. earlier.1.1.broken blob (last.1.1.broken blob s);
-            right = λ r. last.1.1.right (earlier.1.1.right r);
-          },
-        ),
-      )
+  units_damaged (suc n) old new before after read content e u =
+      let earlier = units_damaged n old u.0 before u.1 u.2 content e u.4 in
+      let last = unit_damaged u.0 new u.1 after u.3 earlier.0 earlier.1.0 u.5 in
+      (last.0, (last.1.0, λ blob s. earlier.1.1 blob (last.1.1 blob s)))
 
   -- a blob that is damaged now was so before
   pub damaged_before : (n : ℕ) (old new : Contents) (before after : Told) (read : List ReadRange) (blob : ℕ)
@@ -323,16 +292,9 @@ module _ (ranges : Ranges) where
       of_told : (o : Option Content) → before.0 ≡ o → IsDamaged o old blob
       of_told None e = tt
       of_told (Some content) e =
-          let s = units_sound n old new before after read content e u in
-          λ r. s.1.1.broken blob (if_told _ after.0 s.0 s.1.0 b (s.1.1.right r))
+          let s = units_damaged n old new before after read content e u in s.1.1 blob (if_told _ after.0 s.0 s.1.0 b)
 
 -- ---- a unit that fails after some were done
-
-module _ {X : Type 0} (step : ℕ → Option (List ℕ) → X → X) where
-  pub changed_after : (low n k blob : ℕ) (written : Option (List ℕ)) (old middle new : Option X) → k < n → low ≤ blob → blob ≤ low + k
-      → MayChange step low (low + k) k old middle → MayDo (step blob written) middle new → MayChange step low (low + n) n old new
-  changed_after low n k blob written old middle new l least most c d =
-      may_all step low (suc k) n (n - suc k) old new (omega (arith, l)) (may_next step low k blob written old middle new least most c d)
 
 pub stops_after : (ranges : Ranges) (n k : ℕ) (old middle : Contents) (before told : Told) (read : List ReadRange) (was mid now : ℕ)
     (reads reads_mid reads_now : Option (List ReadRange)) (trouble : Trouble) → k < n → DoUnits ranges k old middle before told read

@@ -1,9 +1,10 @@
 -- A step of a job, as a part of a unit of background work.
 use Rattle.std.proofs.Common.{◌≡◌, ℕ, Vec, Global, ◌+◌, ◌<◌, ◌≤◌, List, [], ◌∷◌, length, map, take, drop, Option, Some, None, option_map, refl, ap, sym, ◌∙◌, subst, arith, ⊎_elim, inl, inr}
-use Rattle.std.specs.Prelude.{IfSome, zip}
-use Rattle.std.specs.List.{flat_map}
+use Rattle.std.specs.Prelude.{◌⊎◌, IfSome, zip}
+use Rattle.std.specs.List.{Contains, flat_map}
 use Rattle.wu_base.specs.declared.addresses.PartRec.{PartRec}
 use Rattle.wu_base.specs.declared.addresses.TermList.{TermList}
+use Rattle.wu_base.proofs.Members.{Contains-from_Has, all_from_has}
 use Rattle.wu_base.specs.declared.troubles.Trouble.{Trouble}
 use Rattle.wu_base.specs.declared.troubles.Trouble.TheVariants.{Damaged, NoMemory, StoreFault}
 use Rattle.wu_outside.specs.Content.{Content}
@@ -18,7 +19,7 @@ use Rattle.wu_part.proofs.LawLemmas.{one_directory}
 use Rattle.wu_space.specs.Addresses.{Ranges}
 use Rattle.wu_job.specs.Jobs.{Answers, IsRight, JobPart, JobState, StandWithin}
 use Rattle.wu_job.specs.declared.jobs.Progress.TheVariants.{Done}
-use Rattle.wu_job.specs.Steps.{IsDamagedPart, adds, step_ranges, IsDamaged as IsDamagedJob, IsNoPart as IsNone}
+use Rattle.wu_job.specs.Steps.{adds, step_ranges, IsDamaged as IsDamagedJob, IsDamagedPart as IsDamagedInJob, IsNoPart as IsNone, SharesAddress as SharesInJob}
 use Rattle.wu_job.proofs.Fronts.{adds-none, front_all}
 use Rattle.wu_lists.specs.Causes.{IsNoPart}
 use Rattle.wu_parts.specs.Causes.{IsStoreCause}
@@ -27,10 +28,11 @@ use Rattle.wu_parts.specs.Flushing.{Told}
 use Rattle.wu_parts.specs.StoredParts.{IsKeptJob, running_at}
 use Rattle.wu_parts.specs.Units.{GoesOn, IsMade, IsNext, IsRunning, Leaves, Vanishes, bares, parts_at, with_made, without_taken}
 use Rattle.wu_parts.specs.UnitsOfParts.{EndsJob, IsMadeOf, Replaces, StopsStep, StopsUnit}
-use Rattle.wu_parts.specs.Working.{IsBrokenIn, IsDamaged}
+use Rattle.wu_parts.specs.Working.{IsDamaged, IsDamagedPart, SharesIn, as_taken}
 use Rattle.wu_parts.specs.declared.working.Running.{Running}
 use Rattle.wu_parts.proofs.RunningJobs.{room_of_running}
-use Rattle.wu_parts.proofs.UnitChains.{right_next, some-drop, some-take}
+use Rattle.wu_parts.proofs.SomeParts.{some-drop, some-take, some_with}
+use Rattle.wu_parts.proofs.UnitChains.{right_at_start}
 
 -- ---- the end of a job
 
@@ -140,31 +142,59 @@ some-unmap : {X Y : Type 0} (f : X → Y) (P : Y → Type 0) (xs : List X) → S
 some-unmap f P [] s = s
 some-unmap f P (x ∷ xs) s = ⊎_elim (λ a. inl a) (λ b. inr (some-unmap f P xs b)) s
 
--- a part that a step finds damaged is broken, where the lists are right that the job has made
+-- what a step tells of a part that is damaged
+found_damaged : (ranges : Ranges) (content : Content) (contents : Contents) (job : JobAt) (blob : ℕ) → IsNext ranges contents job
+    → (part : JobPart) → Contains job.state.parts part → IsDamagedInJob (Some content) job.state blob part
+    → (part.recorded.blob ≡ blob) × (IsNoPart part.directory (content.blobs blob) ⊎ SharesIn content contents.job part)
+found_damaged ranges content contents job blob next part its p = (
+  p.0,
+  ⊎_elim (λ n. inl (same_none part.directory (content.blobs blob) n)) (λ s. shares s) p.1,
+)
+  where
+    broken : SharesInJob content job.state part → IsRight content job.state → IsNoPart part.directory (content.blobs part.recorded.blob)
+    broken s right = same_none part.directory (content.blobs part.recorded.blob) (s.broken right)
+
+    shares : SharesInJob content job.state part → IsNoPart part.directory (content.blobs blob) ⊎ SharesIn content contents.job part
+    shares s =
+        ⊎_elim
+        (λ (same : contents.job ≡ Some job).
+        inr
+        (subst (λ o. SharesIn content o part) (sym same)
+        (record {
+          its = its;
+          earlier = [];
+          term = s.term;
+          later = s.later;
+          left = s.first;
+          addresses = s.addresses;
+          held = s.held;
+          address = s.address;
+          has = s.has;
+          made = inl s.made;
+          broken = broken s;
+        })))
+        (λ n.
+        inl
+        (subst (λ b. IsNoPart part.directory (content.blobs b)) p.0 (broken s (right_at_start content ranges contents job n.1))))
+        next
+
+-- a part that a step finds damaged is so as contracts see it
 pub damaged_part : (ranges : Ranges) (holds : Option Content) (contents : Contents) (job : JobAt) (blob : ℕ) → IsNext ranges contents job
     → IsRunning contents.parts contents.directories job → IsDamagedJob holds job.state blob → IsDamaged holds contents blob
 damaged_part ranges None contents job blob next r d = tt
-damaged_part ranges (Some content) contents job blob next r d = λ right.
-    let is_right : IsRight content job.state = right_next content ranges contents job next right in
-    let make : PartRec × PartDirectory → JobPart = λ part. record { recorded = part.0; directory = part.1 } in
+damaged_part ranges (Some content) contents job blob next r d =
+    let Is : JobPart → Type 0 =
+    λ part. (part.recorded.blob ≡ blob) × (IsNoPart part.directory (content.blobs blob) ⊎ SharesIn content contents.job part) in
     let all : List (PartRec × PartDirectory) = zip contents.parts contents.directories in
     let own : List (PartRec × PartDirectory) = take (length job.state.parts) (drop job.place all) in
-    let broken : SomeOf (λ part. (part.recorded.blob ≡ blob) × IsNoPart part.directory (content.blobs blob)) job.state.parts =
-    SomeOf-map (IsDamagedPart (Some content) job.state blob)
-    (λ part. (part.recorded.blob ≡ blob) × IsNoPart part.directory (content.blobs blob)) job.state.parts
-    (λ part p. (
-      p.0,
-      ⊎_elim
-          (λ n. same_none part.directory (content.blobs blob) n)
-          (λ s. subst (λ b. IsNoPart part.directory (content.blobs b)) p.0
-          (same_none part.directory (content.blobs part.recorded.blob) (s.broken is_right)))
-          p.1,
-    ))
-    d in
-    some-drop (IsBrokenIn content blob) job.place all
-    (some-take (IsBrokenIn content blob) (length job.state.parts) (drop job.place all)
-    (some-unmap make (λ part. (part.recorded.blob ≡ blob) × IsNoPart part.directory (content.blobs blob)) own
-    (subst (SomeOf (λ part. (part.recorded.blob ≡ blob) × IsNoPart part.directory (content.blobs blob))) r.parts broken)))
+    let found : SomeOf Is job.state.parts =
+    SomeOf-map (λ part. Contains job.state.parts part × IsDamagedInJob (Some content) job.state blob part) Is job.state.parts
+    (λ part p. found_damaged ranges content contents job blob next part p.0 p.1)
+    (some_with (IsDamagedInJob (Some content) job.state blob) (Contains job.state.parts) job.state.parts
+    (all_from_has (Contains job.state.parts) job.state.parts (λ part h. Contains-from_Has part job.state.parts h)) d) in
+    some-drop (IsDamagedPart content contents.job blob) job.place all
+    (some-take (IsDamagedPart content contents.job blob) (length job.state.parts) (drop job.place all)
+    (some-unmap as_taken Is own (subst (SomeOf Is) r.parts found)))
 
 -- a step that fails makes the unit fail
 pub stops_unit : (ranges : Ranges) (contents : Contents) (job : JobAt) (holds : Option Content) (before now : ℕ)

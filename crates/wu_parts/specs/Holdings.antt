@@ -1,6 +1,6 @@
 -- What a store holds of the parts of the index, and what is kept and needed of their blocks.
 use Rattle.std.specs.Prelude.{◌≡◌, ℕ, List, [], ◌∷◌, Option, Some, zip}
-use Rattle.std.specs.List.{AllByRecursion, flat_map}
+use Rattle.std.specs.List.{AllByRecursion, AllZip, flat_map}
 use Rattle.wu_base.specs.declared.addresses.PartRec.{PartRec}
 use Rattle.wu_base.specs.declared.addresses.Range.{Range}
 use Rattle.wu_outside.specs.Content.{Content}
@@ -10,6 +10,7 @@ use Rattle.wu_part.specs.Directories.{PartDirectory}
 use Rattle.wu_part.specs.Parts.{IsRecorded, SpellsPart}
 use Rattle.wu_lists.specs.declared.blocks.Block.{Block}
 use Rattle.wu_lists.specs.Blocks.{needed}
+use Rattle.wu_lists.specs.Fetching.{HasTerm}
 use Rattle.wu_lists.specs.Keeping.{AreHeld, Asks, Kept}
 use Rattle.wu_parts.specs.Contents.{Contents}
 
@@ -30,6 +31,14 @@ HoldParts content (recorded ∷ records) [] parts = ⊥
 HoldParts content (recorded ∷ records) (directory ∷ directories) [] = ⊥
 HoldParts content (recorded ∷ records) (directory ∷ directories) (part ∷ parts) =
     HoldsPart content recorded directory part × HoldParts content records directories parts
+
+-- The part's blob is there, and by the part's directory it has the term at these addresses: at none where the directory doesn't have it.
+abbrev pub HoldsTerm : Content → List ℕ → PartRec × PartDirectory → List ℕ → Type 0
+HoldsTerm content term part addresses = (bytes : List ℕ) × (content.blobs part.0.blob ≡ Some bytes) × HasTerm part.1 term bytes addresses
+
+-- the same of parts side by side, from left to right
+abbrev pub HoldTerm : Content → List ℕ → List (PartRec × PartDirectory) → List (List ℕ) → Type 0
+HoldTerm content term parts lists = AllZip (HoldsTerm content term) parts lists
 
 -- each kept block of a part's blob has the bytes that the content has there
 abbrev pub AreKept : Content → List PartRec → Kept → Type 0

@@ -129,10 +129,16 @@ IsFirstBroken holds (recorded ∷ records) blob =
     ((recorded.blob ≡ blob) × IfSome holds (λ content. HasNoDirectory recorded (content.blobs blob)))
     ⊎ (CanBeOpened holds recorded × IsFirstBroken holds records blob)
 
+-- the header of the blob was read, or as much of one as there is
+abbrev pub WasHeaderRead : Option (List ReadRange) → Option (List ReadRange) → ℕ → Type 0
+WasHeaderRead before after blob = (read : List ReadRange) × SomeOf (λ range. range ≡ header_range blob) read × (after ≡ adds read before)
+
 -- A store fault is answered only where the store's count of faults rose, which else is as it was, and a blob is answered as damaged only
--- where it is the first.
-pub record IsLoadCause (holds : Option Content) (records : List PartRec) (before now : ℕ) (trouble : Trouble) : Type 0 where
+-- where it was read and is the first.
+pub record IsLoadCause (holds : Option Content) (records : List PartRec) (before now : ℕ) (ranges ranges_now : Option (List ReadRange))
+    (trouble : Trouble) : Type 0 where
   pub counted : before ≤ now
   pub store_fault : trouble ≡ StoreFault → Rose before now
   pub calm : (trouble ≡ StoreFault → ⊥) → now ≡ before
+  pub was_read : (blob : ℕ) → trouble ≡ Damaged blob → WasHeaderRead ranges ranges_now blob
   pub damaged : (blob : ℕ) → trouble ≡ Damaged blob → IsFirstBroken holds records blob

@@ -1,12 +1,11 @@
 -- The parts of the index as they are kept, and how one more comes to be.
-use Rattle.std.specs.Prelude.{◌≡◌, ℕ, ◌+◌, ◌<◌, ◌≤◌, ◌^◌, true, List, [], ◌∷◌, Option, IfSome, IsPermutation, length, map}
-use Rattle.std.specs.List.{AllByRecursion}
+use Rattle.std.specs.Prelude.{◌≡◌, ℕ, ◌+◌, ◌<◌, ◌≤◌, ◌^◌, true, List, [], ◌∷◌, Option, IfSome, IsPermutation, filter, length, map, zip}
+use Rattle.std.specs.List.{AllByRecursion, concat}
 use Rattle.wu_base.specs.declared.addresses.PartRec.{PartRec}
 use Rattle.wu_base.specs.declared.addresses.Range.{Range}
 use Rattle.wu_base.specs.declared.addresses.TermList.{TermList}
-use Rattle.wu_layout.specs.Layouts.{Part, stored_in}
 use Rattle.wu_layout.specs.Invariants.{NeverRise, flushes_for}
-use Rattle.wu_layout.specs.Postings.{fetched, is_live}
+use Rattle.wu_layout.specs.Postings.{is_live}
 use Rattle.wu_outside.specs.Content.{Content}
 use Rattle.wu_part.specs.Directories.{PartDirectory}
 use Rattle.wu_part.specs.Parts.{IsDirectoryOf, IsRecorded, SpellsPart}
@@ -18,7 +17,7 @@ use Rattle.wu_parts.specs.declared.writing.StoredPart.{StoredPart}
 use Rattle.wu_lists.specs.Keeping.{Kept}
 use Rattle.wu_parts.specs.Contents.{Contents, JobAt}
 use Rattle.wu_parts.specs.Flushing.{Told, put_into}
-use Rattle.wu_parts.specs.Holdings.{AreKept, HoldParts}
+use Rattle.wu_parts.specs.Holdings.{AreKept, HoldTerm}
 use Rattle.wu_lists.specs.Ascending.{AscendBetween}
 use Rattle.wu_parts.specs.Units.{IsRunning, bares, count_of, parts_at, place_of}
 
@@ -98,18 +97,18 @@ pub record AreSound (low next_blob flushes : ℕ) (parts : List StoredPart) (und
 
 -- ---- fetching
 
--- The addresses ascend within the parts' spans and lie in the frames. Where the store tells that it has the parts, and what is kept of
--- them is what it has, they are those of the term that lie in the frames, part by part.
+-- The addresses ascend within the parts' spans and lie in the frames. Where the store tells at which addresses the parts have the term, and
+-- what is kept of the parts is what it has, they are those of these addresses that lie in the frames, part by part.
 pub record AreFetchedFrom (parts : List StoredPart) (term : List ℕ) (frames : List Range) (holds : Option Content) (kept : Kept)
     (found : List ℕ) : Type 0 where
   pub ascend : (low high : ℕ) → SpansAscend low high parts → AscendBetween low high found
   pub live : AllByRecursion (λ address. is_live frames address ≡ true) found
-  pub told : IfSome holds (λ content. (stored : List Part) → HoldParts content (records_of parts) (directories_of parts) stored
-      → AreKept content (records_of parts) kept → found ≡ fetched frames (stored_in stored) term)
+  pub told : IfSome holds (λ content. (lists : List (List ℕ)) → HoldTerm content term (pairs_of parts) lists
+      → AreKept content (records_of parts) kept → found ≡ filter (is_live frames) (concat lists))
 
 -- the same of the parts that contracts see: the addresses ascend below those in memory
 pub record AreFetchedIn (contents : Contents) (term : List ℕ) (frames : List Range) (holds : Option Content) (found : List ℕ) : Type 0 where
   pub ascend : AscendBetween 0 contents.memory.low found
   pub live : AllByRecursion (λ address. is_live frames address ≡ true) found
-  pub told : IfSome holds (λ content. (stored : List Part) → HoldParts content contents.parts contents.directories stored
-      → AreKept content contents.parts contents.kept → found ≡ fetched frames (stored_in stored) term)
+  pub told : IfSome holds (λ content. (lists : List (List ℕ)) → HoldTerm content term (zip contents.parts contents.directories) lists
+      → AreKept content contents.parts contents.kept → found ≡ filter (is_live frames) (concat lists))

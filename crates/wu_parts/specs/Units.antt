@@ -12,7 +12,7 @@ use Rattle.wu_space.specs.Addresses.{Ranges, live_in, live_ranges}
 use Rattle.wu_part.specs.Directories.{PartDirectory}
 use Rattle.wu_part.specs.Parts.{IsRecorded, SpellsPart}
 use Rattle.wu_job.specs.Jobs.{DoesTerm, IsRight, JobPart, JobState, highest, lowest, started}
-use Rattle.wu_job.specs.Steps.{step_ranges}
+use Rattle.wu_job.specs.Steps.{HasWholeRanges, step_ranges}
 use Rattle.wu_parts.specs.Contents.{Contents, JobAt}
 use Rattle.wu_parts.specs.Flushing.{Told, put_into}
 use Rattle.wu_parts.specs.declared.working.NextJob.{NextJob}
@@ -134,7 +134,7 @@ Leaves place state old new before after =
 
 -- ---- units
 
--- A unit does the first term that is left of the next job, and reads the term's blocks in the job's parts.
+-- A unit does the first term that is left of the next job, and reads the term's blocks in the job's parts: each is whole in its blob.
 pub record DoesUnit (ranges : Ranges) (old new : Contents) (before after : Told) (read : List ReadRange) : Type 0 where
   pub job : JobAt
   pub next : IsNext ranges old job
@@ -144,6 +144,7 @@ pub record DoesUnit (ranges : Ranges) (old new : Contents) (before after : Told)
   pub term : DoesTerm before.0 job.state state
   pub right : IfSome before.0 (λ content. IsRight content job.state → IsRight content state)
   pub read_is : read ≡ step_ranges job.state.terms_left job.state.parts
+  pub whole : IfSome before.0 (λ content. HasWholeRanges content read)
   pub leaves : Leaves job.place state old new before after
 
 -- so many units, one after another

@@ -13,7 +13,7 @@ use Rattle.wu_layout.specs.Steps.{made_generation}
 use Rattle.wu_part.specs.Directories.{PartDirectory}
 use Rattle.wu_part.specs.Parts.{SpellsPart}
 use Rattle.wu_job.specs.Jobs.{DoesTerm, IsRight, JobState, StandWithin}
-use Rattle.wu_job.specs.Steps.{IsCause, IsDamaged, ReadsFront, adds, step_ranges}
+use Rattle.wu_job.specs.Steps.{HasWholeRanges, IsCause, IsDamaged, ReadsFront, adds, step_ranges}
 use Rattle.wu_parts.specs.declared.working.Running.{Running}
 use Rattle.wu_space.specs.Addresses.{Ranges}
 use Rattle.wu_parts.specs.Contents.{Contents, JobAt}
@@ -57,13 +57,14 @@ Replaces place count (Some bytes) old new before after = IsReplaced place count 
 
 -- ---- a step
 
--- the job does its first term
+-- the job does its first term, whose blocks are whole
 pub record IsStep (job : JobAt) (old new : Contents) (before after : Told) (reads reads_now : Option (List ReadRange)) : Type 0 where
   pub state : JobState
   pub term : DoesTerm before.0 job.state state
   pub right : IfSome before.0 (λ content. IsRight content job.state → IsRight content state)
   pub leaves : Leaves job.place state old new before after
   pub read : reads_now ≡ adds (step_ranges job.state.terms_left job.state.parts) reads
+  pub whole : IfSome before.0 (λ content. HasWholeRanges content (step_ranges job.state.terms_left job.state.parts))
 
 -- or it fails
 pub record StopsStep (job : JobAt) (holds : Option Content) (before now : ℕ) (reads reads_now : Option (List ReadRange)) (trouble : Trouble)

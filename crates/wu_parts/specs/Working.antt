@@ -1,7 +1,8 @@
 -- What background work does to the parts in a store, what it answers, and which steps of the index's layout that is.
-use Rattle.std.specs.Prelude.{◌≡◌, ◌≢◌, ◌⊎◌, ⊤, ℕ, suc, zero, ◌+◌, ◌*◌, ◌<◌, ◌≤◌, ◌^◌, ◌==◌, ◌&&◌, Bool, true, false, not, Option, None, Some, IfSome, is_some, List, [], ◌++◌, length, take, zip}
-use Rattle.std.specs.List.{AllByRecursion, list_any}
+use Rattle.std.specs.Prelude.{◌≡◌, ◌≢◌, ◌⊎◌, ⊤, ℕ, suc, zero, ◌+◌, ◌*◌, ◌<◌, ◌≤◌, ◌^◌, ◌==◌, ◌&&◌, Bool, true, false, not, Option, None, Some, IfSome, is_some, List, [], ◌∷◌, ◌++◌, length, take, zip, Contains}
+use Rattle.std.specs.List.{AllByRecursion, flat_map, list_any}
 use Rattle.wu_base.specs.declared.addresses.PartRec.{PartRec}
+use Rattle.wu_base.specs.declared.addresses.Range.{Range}
 use Rattle.wu_base.specs.declared.reports.Worked.{Worked}
 use Rattle.wu_base.specs.declared.reports.Worked.TheVariants.{Idle, Busy}
 use Rattle.wu_base.specs.declared.troubles.Trouble.{Trouble}
@@ -14,7 +15,7 @@ use Rattle.wu_layout.specs.Invariants.{Fall, SomeOf}
 use Rattle.wu_layout.specs.Postings.{live_of}
 use Rattle.wu_space.specs.Addresses.{Ranges, live_in}
 use Rattle.wu_part.specs.Directories.{PartDirectory}
-use Rattle.wu_job.specs.Jobs.{IsRight}
+use Rattle.wu_job.specs.Jobs.{AreKept, HoldsTerm, IsRight, JobPart, JobState}
 use Rattle.wu_job.specs.Steps.{adds, step_ranges}
 use Rattle.wu_lists.specs.Causes.{IsNoPart}
 use Rattle.wu_parts.specs.Contents.{Contents, JobAt}
@@ -73,18 +74,44 @@ pub record DoesWork (ranges : Ranges) (most : ℕ) (old new : Contents) (before 
 
 -- ---- troubles
 
--- the part is in that blob, and what the content has of the blob isn't a part with its directory
-abbrev pub IsBrokenIn : Content → ℕ → PartRec × PartDirectory → Type 0
-IsBrokenIn content blob part = (part.0.blob ≡ blob) × IsNoPart part.1 (content.blobs blob)
+-- a part with its directory, as a job on it has them
+abbrev pub as_taken : PartRec × PartDirectory → JobPart
+as_taken part = record { recorded = part.0; directory = part.1 }
 
--- the lists are right that the job under way has made
-abbrev pub IsRightJob : Content → Option JobAt → Type 0
-IsRightJob content job = IfSome job (λ running. IsRight content running.state)
+-- the address is one of the term's in the parts' blobs, and was live
+abbrev pub KeepsAddress : Content → List JobPart → List Range → ℕ → List ℕ → Type 0
+KeepsAddress content parts live address term = (kept : List ℕ) × AreKept content parts live term kept × Contains kept address
 
--- where the lists are right that the job under way has made, the blob is that of a broken part
+-- A term that is left of the job has an address in the part, one of the job's, that another term has too: the address stands in a list
+-- that was made, or is one of a term that is left before this one. Then the part is none, where the lists that were made are right.
+pub record SharesAddress (content : Content) (job : JobState) (part : JobPart) : Type 0 where
+  pub its : Contains job.parts part
+  pub earlier : List (List ℕ)
+  pub term : List ℕ
+  pub later : List (List ℕ)
+  pub left : job.terms_left ≡ earlier ++ term ∷ later
+  pub addresses : List ℕ
+  pub held : HoldsTerm content term part addresses
+  pub address : ℕ
+  pub has : Contains addresses address
+  pub made : Contains (flat_map (λ list. list.at) job.done) address ⊎ SomeOf (KeepsAddress content job.parts job.live address) earlier
+  pub broken : IsRight content job → IsNoPart part.directory (content.blobs part.recorded.blob)
+
+-- there is a job under way, and it is so of it
+abbrev pub SharesIn : Content → Option JobAt → JobPart → Type 0
+SharesIn content None part = ⊥
+SharesIn content (Some running) part = SharesAddress content running.state part
+
+-- The part is in that blob, and what the content has of the blob isn't a part with its directory, or the part shares an address in the
+-- job under way.
+abbrev pub IsDamagedPart : Content → Option JobAt → ℕ → PartRec × PartDirectory → Type 0
+IsDamagedPart content job blob part =
+    (part.0.blob ≡ blob) × (IsNoPart part.1 (content.blobs blob) ⊎ SharesIn content job (as_taken part))
+
+-- the blob is that of such a part
 abbrev pub IsDamaged : Option Content → Contents → ℕ → Type 0
-IsDamaged holds contents blob = IfSome holds (λ content.
-    IsRightJob content contents.job → SomeOf (IsBrokenIn content blob) (zip contents.parts contents.directories))
+IsDamaged holds contents blob =
+    IfSome holds (λ content. SomeOf (IsDamagedPart content contents.job blob) (zip contents.parts contents.directories))
 
 -- what a unit read before its trouble: the first of the ranges that it is to read, or nothing
 abbrev pub ReadsSome : Ranges → Contents → List ReadRange → Type 0
@@ -93,7 +120,7 @@ ReadsSome ranges contents read =
     ⊎ ((job : JobAt) × (count : ℕ) × IsNext ranges contents job × (read ≡ take count (step_ranges job.state.terms_left job.state.parts)))
 
 -- Some units were done, fewer than so many, and then one failed. A store fault is answered only where the store's count of faults rose,
--- which else is as it was. A blob is answered as damaged only where this unit read it, and it is that of a part that was broken before.
+-- which else is as it was. A blob is answered as damaged only where this unit read it, and it is that of a part that was damaged before.
 pub record StopsWork (ranges : Ranges) (units : ℕ) (old : Contents) (told : Told) (before now : ℕ)
     (reads reads_now : Option (List ReadRange)) (trouble : Trouble) : Type 0 where
   pub counted : before ≤ now

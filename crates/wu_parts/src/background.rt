@@ -1,5 +1,5 @@
 //! The background work on the parts, a unit at a time.
-ghost use Rattle.std.specs.Prelude.{◌≡◌, ◌≢◌, ℕ, ◌+◌, ◌<◌, ◌≤◌, ◌^◌, Bool, List, Option, None, IfOk, IfErr, OnOk, option_map};
+ghost use Rattle.std.specs.Prelude.{◌≡◌, ◌≢◌, ℕ, ◌+◌, ◌-◌, ◌<◌, ◌≤◌, ◌^◌, Bool, List, Option, None, IfOk, IfErr, OnErr, OnOk, option_map};
 ghost use Rattle.wu_base.specs.declared.reports.Worked.TheVariants.{Idle as NothingLeft};
 ghost use Rattle.wu_base.specs.declared.troubles.Trouble.TheVariants.{Damaged, NoMemory as RanOutOfMemory};
 ghost use Rattle.wu_layout.specs.Invariants.{IsLayoutOf};
@@ -25,12 +25,15 @@ impl Parts {
     /// of the one that is named next. Two neighbours of equal generations are merged, the leftmost first; where
     /// there are none, the leftmost part is written anew of which at most half is live. The postings that were
     /// dead when a job began are dropped; what is left of its parts takes their place. It stops early only where
-    /// there is nothing to do, and answers whether there is more.
+    /// there is nothing to do, and answers whether there is more. The number of the next blob, with `n` added, is
+    /// below 2^63, and the next address of `space` is at most 2^47.
     ///
-    /// Of the store only the blocks of these terms in the jobs' parts are read. A part is damaged where a block
-    /// of it isn't as its directory tells, or an address stands in two of its lists. Errors are this, a fault of
-    /// the store, and out of memory, after which the parts are only dropped. After another one the units before it
-    /// stand, and the job of the one that failed is given up: it begins anew where it is named again.
+    /// Of the store only the blocks of these terms in the jobs' parts are read. Errors are out of memory, after which
+    /// the parts are only dropped; a fault of the store, only where it had one in this call; and a damaged part, of
+    /// which the unit that failed read a block: it isn't the part that its directory tells, or an address that it has
+    /// of one term is another term's too. In the second case it isn't that part where the lists that the job had made
+    /// are right. After a fault or damage the units before stand, and the job of the one that failed is given up: it
+    /// begins anew where it is named again.
     pub fn work<D: Store>(
         &mut self,
         store: &mut D,
@@ -42,7 +45,7 @@ impl Parts {
         ensures answer { IfOk result (λ worked. worked ≡ answer_of (is_idle_by space.now.ranges self.new)) }
         ensures units { OnOk result (DoesWork space.now.ranges n self.old self.new (D.holds store.old, D.moments store.old)
             (D.holds store.new, D.moments store.new) (D.reads store.old) (D.reads store.new)) }
-        ensures changes { OnOk result (ChangesParts n self.old self.new) }
+        ensures changes { ChangesParts n self.old self.new }
         ensures few { IfOk result (λ worked. worked ≡ NothingLeft → AreFew space.now.ranges self.new) }
 
         // Where the store tells what it holds, and that is of a layout, the units are those of the layout.
@@ -53,10 +56,11 @@ impl Parts {
         ensures undamaged { IfErr result (λ trouble. (is_file : ℕ → Bool) (text_of : ℕ → Text) (layout : Layout)
             → IsLayoutOf is_file text_of layout → Tells (D.holds store.old) self.old layout → (blob : ℕ) → trouble ≢ Damaged blob) }
 
-        // Whatever is answered, only blobs of the next numbers may differ.
-        ensures elsewhere { MayChange with_blob self.old.next_blob (self.old.next_blob + n) n (D.holds store.old) (D.holds store.new) }
-        ensures tried { MayChange (λ blob written. try_change (Put blob) (with_blob blob written)) self.old.next_blob
-            (self.old.next_blob + n) n (D.moments store.old) (D.moments store.new) }
+        // Whatever is answered, only blobs of the numbers that were drawn may differ, and no more puts are tried than such numbers.
+        ensures elsewhere { MayChange with_blob self.old.next_blob self.new.next_blob (self.new.next_blob - self.old.next_blob)
+            (D.holds store.old) (D.holds store.new) }
+        ensures tried { MayChange (λ blob written. try_change (Put blob) (with_blob blob written)) self.old.next_blob self.new.next_blob
+            (self.new.next_blob - self.old.next_blob) (D.moments store.old) (D.moments store.new) }
         ensures calm { OnOk result (D.faults store.new ≡ D.faults store.old) }
         ensures stops { IfErr result (StopsWork space.now.ranges n self.old (D.holds store.old, D.moments store.old)
             (D.faults store.old) (D.faults store.new) (D.reads store.old) (D.reads store.new)) }
@@ -73,9 +77,11 @@ impl Parts {
         requires space { space.now.next ≤ ADDRESSES_MAX }
         ensures units { OnOk result (DoesWork space.now.ranges n self.old self.new (D.holds store.old, D.moments store.old)
             (D.holds store.new, D.moments store.new) (D.reads store.old) (D.reads store.new)) }
-        ensures elsewhere { MayChange with_blob self.old.next_blob (self.old.next_blob + n) n (D.holds store.old) (D.holds store.new) }
-        ensures tried { MayChange (λ blob written. try_change (Put blob) (with_blob blob written)) self.old.next_blob
-            (self.old.next_blob + n) n (D.moments store.old) (D.moments store.new) }
+        ensures changes { OnErr result (ChangesParts n self.old self.new) }
+        ensures elsewhere { MayChange with_blob self.old.next_blob self.new.next_blob (self.new.next_blob - self.old.next_blob)
+            (D.holds store.old) (D.holds store.new) }
+        ensures tried { MayChange (λ blob written. try_change (Put blob) (with_blob blob written)) self.old.next_blob self.new.next_blob
+            (self.new.next_blob - self.old.next_blob) (D.moments store.old) (D.moments store.new) }
         ensures calm { OnOk result (D.faults store.new ≡ D.faults store.old) }
         ensures stops { IfErr result (StopsWork space.now.ranges n self.old (D.holds store.old, D.moments store.old)
             (D.faults store.old) (D.faults store.new) (D.reads store.old) (D.reads store.new)) }
@@ -108,11 +114,14 @@ impl Parts {
         requires space { space.now.next ≤ ADDRESSES_MAX }
         ensures done { IfOk result (λ done. IsUnit done space.now.ranges self.old self.new (D.holds store.old, D.moments store.old)
             (D.holds store.new, D.moments store.new) (D.reads store.old) (D.reads store.new)) }
+        ensures changes { OnErr result (ChangesParts 1 self.old self.new) }
         ensures elsewhere { (written : Option (List ℕ))
             × MayDo (with_blob self.old.next_blob written) (D.holds store.old) (D.holds store.new) }
         ensures tried { (written : Option (List ℕ))
             × MayDo (try_change (Put self.old.next_blob) (with_blob self.old.next_blob written))
             (D.moments store.old) (D.moments store.new) }
+        ensures undrawn { self.new.next_blob ≡ self.old.next_blob
+            → (D.holds store.new ≡ D.holds store.old) × (D.moments store.new ≡ D.moments store.old) }
         ensures calm { OnOk result (D.faults store.new ≡ D.faults store.old) }
         ensures stops { IfErr result (StopsUnit space.now.ranges self.old (D.holds store.old) (D.faults store.old)
             (D.faults store.new) (D.reads store.old) (D.reads store.new)) }
@@ -153,11 +162,14 @@ impl Parts {
         requires none { self.old.job ≡ None }
         ensures done { OnOk result (IsStep (running_at running) self.old self.new (D.holds store.old, D.moments store.old)
             (D.holds store.new, D.moments store.new) (D.reads store.old) (D.reads store.new)) }
+        ensures changes { OnErr result (ChangesParts 1 self.old self.new) }
         ensures elsewhere { (written : Option (List ℕ))
             × MayDo (with_blob self.old.next_blob written) (D.holds store.old) (D.holds store.new) }
         ensures tried { (written : Option (List ℕ))
             × MayDo (try_change (Put self.old.next_blob) (with_blob self.old.next_blob written))
             (D.moments store.old) (D.moments store.new) }
+        ensures undrawn { self.new.next_blob ≡ self.old.next_blob
+            → (D.holds store.new ≡ D.holds store.old) × (D.moments store.new ≡ D.moments store.old) }
         ensures calm { OnOk result (D.faults store.new ≡ D.faults store.old) }
         ensures stops { IfErr result (StopsStep (running_at running) (D.holds store.old) (D.faults store.old)
             (D.faults store.new) (D.reads store.old) (D.reads store.new)) }
@@ -189,11 +201,14 @@ impl Parts {
         requires none { self.old.job ≡ None }
         ensures done { OnOk result (Replaces place count (option_map (λ bytes. bytes.items) made) self.old self.new
             (D.holds store.old, D.moments store.old) (D.holds store.new, D.moments store.new)) }
+        ensures changes { OnErr result (ChangesParts 1 self.old self.new) }
         ensures elsewhere { (written : Option (List ℕ))
             × MayDo (with_blob self.old.next_blob written) (D.holds store.old) (D.holds store.new) }
         ensures tried { (written : Option (List ℕ))
             × MayDo (try_change (Put self.old.next_blob) (with_blob self.old.next_blob written))
             (D.moments store.old) (D.moments store.new) }
+        ensures undrawn { self.new.next_blob ≡ self.old.next_blob
+            → (D.holds store.new ≡ D.holds store.old) × (D.moments store.new ≡ D.moments store.old) }
         ensures unread { D.reads store.new ≡ D.reads store.old }
         ensures calm { OnOk result (D.faults store.new ≡ D.faults store.old) }
         ensures cause { IfErr result (IsStoreCause (D.faults store.old) (D.faults store.new)) }

@@ -1,6 +1,6 @@
 //! The addresses of a term, in the parts and in memory, and their number.
-ghost use Rattle.std.specs.Prelude.{◌≡◌, ◌+◌, ◌≤◌, ◌++◌, ℕ, List, true, All, filter, IfOk, IfErr, IfSome, OnOk};
-ghost use Rattle.std.specs.List.{AllByRecursion};
+ghost use Rattle.std.specs.Prelude.{◌≡◌, ◌+◌, ◌≤◌, ◌++◌, ℕ, List, true, All, filter, zip, IfOk, IfErr, IfSome, OnOk};
+ghost use Rattle.std.specs.List.{AllByRecursion, concat};
 ghost use Rattle.std.specs.List.Sorted.{IsStrictlyIncreasing};
 ghost use Rattle.wu_layout.specs.Layouts.{Part, stored_in as postings_in};
 ghost use Rattle.wu_layout.specs.Postings.{fetched, is_live};
@@ -9,7 +9,7 @@ ghost use Rattle.wu_parts.specs.Memory.{held};
 ghost use Rattle.wu_lists.specs.Gaining.{Gains};
 ghost use Rattle.wu_lists.specs.Tallying.{tally_of};
 ghost use Rattle.wu_parts.specs.Causes.{IsAskCause};
-ghost use Rattle.wu_parts.specs.Holdings.{AreKept, AsksParts, HoldParts};
+ghost use Rattle.wu_parts.specs.Holdings.{AreKept, AsksParts, HoldParts, HoldTerm};
 ghost use Rattle.wu_parts.specs.StoredParts.{AreFetchedIn};
 
 use crate::parts::Parts;
@@ -32,11 +32,13 @@ impl Parts {
     }
 
     /// The addresses of the term that lie in the frames, ascending: those in the parts, from left to right, and
-    /// then those in memory. Of the parts only those blocks of the term are read that the frames need and that
-    /// aren't kept, each in one read; they are kept then.
+    /// then those in memory. The frames are apart, and each ends at or before 2^47. Of the parts only those blocks
+    /// of the term are read that the frames need and that aren't kept, each in one read; they are kept then, and of
+    /// all at most 1,024, those that were asked for last.
     ///
-    /// A part is damaged where its blob is absent, or where a block that is read of it isn't one as its
-    /// directory tells.
+    /// Errors are out of memory; a fault of the store, only where it had one in this call; and a damaged part, of
+    /// which a block was read: its blob isn't a part with the directory that is kept of it. It is absent, or ends before
+    /// the block, or the block isn't one as the directory tells.
     pub fn fetch<D: Store>(
         &mut self,
         store: &mut D,
@@ -45,6 +47,12 @@ impl Parts {
     ) -> Result<Sequence<u64>, Trouble>
         requires apart { AreApart frames.now }
         requires bounded { All (λ frame. frame.start + frame.len ≤ ADDRESSES_MAX) frames.now }
+        // Of each part the blob and the term's blocks are needed, as the directory tells of them; blocks of other terms may be
+        // anything, but where they are kept, they must be what the blob has.
+        ensures lists { IfOk result (λ found. IfSome (D.holds store.old) (λ content. (lists : List (List ℕ))
+            → HoldTerm content term.now (zip self.old.parts self.old.directories) lists → AreKept content self.old.parts self.old.kept
+            → found ≡ filter (is_live frames.now) (concat lists ++ held self.old.memory term.now))) }
+        // Where the store has the whole parts, these are their postings'.
         ensures addresses { IfOk result (λ found. IfSome (D.holds store.old) (λ content. (parts : List Part)
             → HoldParts content self.old.parts self.old.directories parts → AreKept content self.old.parts self.old.kept
             → found ≡ fetched frames.now (postings_in parts) term.now ++ filter (is_live frames.now) (held self.old.memory term.now))) }
@@ -80,6 +88,9 @@ impl Parts {
     ) -> Result<Tally, Trouble>
         requires apart { AreApart frames.now }
         requires bounded { All (λ frame. frame.start + frame.len ≤ ADDRESSES_MAX) frames.now }
+        ensures lists { IfOk result (λ tally. IfSome (D.holds store.old) (λ content. (lists : List (List ℕ))
+            → HoldTerm content term.now (zip self.old.parts self.old.directories) lists → AreKept content self.old.parts self.old.kept
+            → tally ≡ tally_of frames.now (filter (is_live frames.now) (concat lists ++ held self.old.memory term.now)))) }
         ensures tally { IfOk result (λ tally. IfSome (D.holds store.old) (λ content. (parts : List Part)
             → HoldParts content self.old.parts self.old.directories parts → AreKept content self.old.parts self.old.kept
             → tally ≡ tally_of frames.now

@@ -1,4 +1,6 @@
-//! The postings of the index: those in memory, and in time those of the parts in the store.
+//! The postings of the index: those in memory, and those of the parts in the store. A flush makes a part of those in
+//! memory; parts are merged in the background, and rid of dead postings: the index partitions, their merging and the
+//! garbage collection of dynamic indices in Büttcher, Clarke and Cormack, Information Retrieval, chapter 7.
 #![tactic(auto)]
 
 mod background;

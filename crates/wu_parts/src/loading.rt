@@ -7,7 +7,7 @@ ghost use Rattle.wu_part.specs.Parts.{IsRecorded};
 ghost use Rattle.wu_part.specs.declared.headers.TheConstants.{HEADER_LEN as header_length};
 ghost use Rattle.wu_job.specs.Steps.{adds};
 ghost use Rattle.wu_parts.specs.Causes.{IsStoreCause};
-ghost use Rattle.wu_parts.specs.Loading.{IsLoadCause, ReadsFronts, directory_range, end_of as end_of_records, header_range};
+ghost use Rattle.wu_parts.specs.Loading.{IsLoadCause, ReadsFronts, WasHeaderRead, directory_range, end_of as end_of_records, header_range};
 ghost use Rattle.wu_parts.specs.OpenedParts.{ArePartsOpened, CannotBeOpened, EndsBefore, HasBytesAt, HasSize, IsDirectoryIn, IsDirectoryRead, IsHeaderOf, IsPartOpened};
 
 use crate::writing::StoredPart;
@@ -29,7 +29,8 @@ pub(crate) fn open_parts<D: Store>(
     ensures holds { D.holds store.new ≡ D.holds store.old }
     ensures moments { D.moments store.new ≡ D.moments store.old }
     ensures calm { OnOk result (D.faults store.new ≡ D.faults store.old) }
-    ensures cause { IfErr result (IsLoadCause (D.holds store.old) records.now (D.faults store.old) (D.faults store.new)) }
+    ensures cause { IfErr result (IsLoadCause (D.holds store.old) records.now (D.faults store.old) (D.faults store.new)
+        (D.reads store.old) (D.reads store.new)) }
 {
     let mut parts = Vec::new(alloc);
     for recorded in records {
@@ -50,7 +51,8 @@ fn open_part<D: Store>(
     ensures holds { D.holds store.new ≡ D.holds store.old }
     ensures moments { D.moments store.new ≡ D.moments store.old }
     ensures calm { OnOk result (D.faults store.new ≡ D.faults store.old) }
-    ensures cause { IfErr result (IsLoadCause (D.holds store.old) (recorded.now ∷ []) (D.faults store.old) (D.faults store.new)) }
+    ensures cause { IfErr result (IsLoadCause (D.holds store.old) (recorded.now ∷ []) (D.faults store.old) (D.faults store.new)
+        (D.reads store.old) (D.reads store.new)) }
 {
     let found = directory_in(alloc, store, recorded)?;
     Ok(as_recorded(found, recorded)?)
@@ -98,16 +100,20 @@ fn directory_in<D: Store>(
         (IsDirectoryRead (D.holds store.old) recorded.now (D.reads store.old) (D.reads store.new))) }
     ensures none { IfOk result (λ found. IfNone found (CannotBeOpened (D.holds store.old) recorded.now)) }
     ensures fronts { ReadsFronts (D.holds store.old) (recorded.now ∷ []) (D.reads store.old) (D.reads store.new) }
+    ensures read { OnOk result (WasHeaderRead (D.reads store.old) (D.reads store.new) recorded.now.blob) }
     ensures holds { D.holds store.new ≡ D.holds store.old }
     ensures moments { D.moments store.new ≡ D.moments store.old }
     ensures calm { OnOk result (D.faults store.new ≡ D.faults store.old) }
     ensures cause { IfErr result (IsStoreCause (D.faults store.old) (D.faults store.new)) }
 {
-    if !has_size(store, recorded)? {
-        return Ok(None);
-    }
+    // The header is read before the size is asked: no part is called damaged of which nothing was read.
     match header_in(store, recorded)? {
-        Some(length) => directory_after(alloc, store, recorded, length),
+        Some(length) => {
+            if !has_size(store, recorded)? {
+                return Ok(None);
+            }
+            directory_after(alloc, store, recorded, length)
+        }
         None => Ok(None),
     }
 }

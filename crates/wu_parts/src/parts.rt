@@ -77,12 +77,16 @@ impl Parts {
 
     /// The parts of these records, as the store has them, without a posting in memory. Memory is full at
     /// `flush_at` postings; `next_blob` is the first number that [`Parts::draw_blob`] gives, and `flushes` is how
-    /// many flushes made a part. Of each part, from left to right, the header and the directory are read, and no
-    /// block. No change is made to the store.
+    /// many flushes made a part. From left to right the spans ascend and are apart, and generations never rise; no
+    /// part has more postings than its span has addresses; the blobs are below `next_blob`; `flushes` is at least the
+    /// sum of 2^g over the parts' generations g, and below 2^63.
     ///
-    /// A part is damaged where its blob is absent, or has another size than recorded, or no directory, or one that
-    /// tells another generation, span or number of postings; the leftmost one is answered. Errors are this, a fault
-    /// of the store, and out of memory.
+    /// Of each part, from left to right, the header of 16 bytes and then the directory are read, each in one read,
+    /// and no block. No change is made to the store.
+    ///
+    /// Errors are out of memory; a fault of the store, only where it had one in this call; and the leftmost part that
+    /// is damaged, whose header was read in this call: its blob is absent, or has another size in bytes than recorded,
+    /// or no directory, or one that tells another generation, span or number of postings.
     pub fn load<D: Store>(
         alloc: Global,
         store: &mut D,
@@ -98,7 +102,8 @@ impl Parts {
         ensures holds { D.holds store.new ≡ D.holds store.old }
         ensures moments { D.moments store.new ≡ D.moments store.old }
         ensures calm { OnOk result (D.faults store.new ≡ D.faults store.old) }
-        ensures cause { IfErr result (IsLoadCause (D.holds store.old) records.now (D.faults store.old) (D.faults store.new)) }
+        ensures cause { IfErr result (IsLoadCause (D.holds store.old) records.now (D.faults store.old) (D.faults store.new)
+            (D.reads store.old) (D.reads store.new)) }
     {
         let parts = open_parts(alloc, store, records)?;
         Ok(Parts {
@@ -114,35 +119,43 @@ impl Parts {
         })
     }
 
-    /// Puts the tokens' terms into memory, at the addresses of the range, one each. The only error is out of
-    /// memory.
+    /// Puts the tokens' terms into memory, at the addresses of the range, one each in their order: there are as many
+    /// tokens as addresses. A term has 1 to 64 bytes. The range stands after all addresses that were added or loaded,
+    /// and ends at or before 2^47. The only error is out of memory.
     pub fn add(&mut self, tokens: &[Token], range: Range) -> Result<(), NoMemory>
         requires count { length tokens.now ≡ range.len }
         requires terms { All (λ token. IsTerm token.term) tokens.now }
         requires after { self.old.memory.end ≤ range.start }
         requires bounded { range.start + range.len ≤ ADDRESSES_MAX }
-        ensures { OnOk result (GainsTerms range.start (map (λ token. token.term) tokens.now) self.old self.new) }
+        ensures terms { OnOk result (GainsTerms range.start (map (λ token. token.term) tokens.now) self.old self.new) }
+        ensures others { self.new ≡ record self.old { memory = self.new.memory } }
     {
         self.memory.add(tokens, range.start)
     }
 
     /// Puts the terms of a text's tokens into memory, at the addresses from `start` on, one each, and gives
-    /// their number: what [`Parts::add`] does with the tokens of the text, and without a list of them. The
-    /// only error is out of memory.
+    /// their number: what [`Parts::add`] does with the tokens of the text, and without a list of them. The text
+    /// has at most 16,777,216 bytes; `start` stands after all addresses that were added or loaded, and the tokens'
+    /// addresses end at or before 2^47. The only error is out of memory.
     pub fn add_text(&mut self, text: &[u8], start: u64) -> Result<u64, NoMemory>
         requires short { length text.now ≤ TEXT_MAX }
         requires after { self.old.memory.end ≤ start }
         requires bounded { start + length (tokens_of text.now) ≤ ADDRESSES_MAX }
         ensures count { IfOk result (λ count. count ≡ length (tokens_of text.now)) }
         ensures terms { OnOk result (GainsTerms start (tokens_of text.now) self.old self.new) }
+        ensures others { self.new ≡ record self.old { memory = self.new.memory } }
     {
         self.memory.add_text(text, start)
     }
 
     /// Makes a part of the live postings in memory, right of all others, and forgets memory: the dead ones are
-    /// dropped, and where none is live no part is made and the store is not asked. It reads nothing of the
-    /// store. Nothing but the number of the next blob is changed before the store has the part. Its errors are
-    /// out of memory, when the store has what it had, and a fault of the store.
+    /// dropped, and where none is live no part is made and the store is not asked. A posting is live where its
+    /// address lies in a range of `space`. The number of the next blob and that of the flushes, each with 1 added,
+    /// are below 2^63.
+    ///
+    /// The part is put into the blob of the next number; nothing is read of the store. Nothing but the number of the
+    /// next blob is changed before the store has the part. Errors are out of memory, when the store has what it had,
+    /// and a fault of the store, only where it had one in this call. After an error all but that number is kept.
     pub fn flush<D: Store>(&mut self, store: &mut D, space: &Space) -> Result<(), Trouble>
         requires blob { self.old.next_blob + 1 < 2 ^ 63 }
         requires flushes { self.old.flushes + 1 < 2 ^ 63 }
@@ -231,7 +244,7 @@ impl Parts {
         self.next_blob
     }
 
-    /// Gives the number of a new blob, which is given once.
+    /// Gives the number of a new blob, which is given once. The next number is below 2^63. There is no error.
     pub fn draw_blob(&mut self) -> u64
         requires { self.old.next_blob < 2 ^ 63 }
         ensures blob { result ≡ self.old.next_blob }

@@ -1,5 +1,5 @@
 //! Background work: which job is next, how it starts, and what becomes of its parts.
-ghost use Rattle.std.specs.Prelude.{◌≡◌, ◌+◌, ◌<◌, ◌≤◌, ◌++◌, ℕ, [], Some, All, IfOk, IsPermutation, OnErr, OnOk, drop, length, map, position, take, vec_len};
+ghost use Rattle.std.specs.Prelude.{◌≡◌, ◌+◌, ◌<◌, ◌≤◌, ◌++◌, ℕ, List, [], Some, All, IfOk, IsPermutation, OnErr, OnOk, drop, length, map, position, take, vec_len};
 ghost use Rattle.wu_layout.specs.Steps.{alike_neighbours as alike_in};
 ghost use Rattle.wu_space.specs.Addresses.{AreApart, live_ranges};
 ghost use Rattle.wu_parts.specs.StoredParts.{IsStarted, MayBeMerged, records_of};
@@ -167,6 +167,7 @@ pub(crate) fn take_out(
     ensures stale { OnOk result (stale.new.items
         ≡ stale.old.items ++ map (λ part. part.recorded.blob) (take count (drop place parts.old.items))) }
     ensures some { OnErr result ((out : ℕ) × (parts.new.items ≡ replaced place out [] parts.old.items)) }
+    ensures noted { OnErr result ((more : List ℕ) × (stale.new.items ≡ stale.old.items ++ more)) }
 {
     for _ in 0..count {
         let part = parts.remove(place);

@@ -37,10 +37,12 @@ returns-in_err-as_recorded-clause-cause g c =
     let holds = g.D.Store.holds c.args.store.now in
     let before = g.D.Store.faults c.args.store.now in
     let now = g.D.Store.faults c.directory_in.new.store in
+    let reads = g.D.Store.reads c.args.store.now in
+    let reads_now = g.D.Store.reads c.directory_in.new.store in
     let err = c.in_err-as_recorded.ensures.err in
-    answered (IsLoadCause holds (recorded ∷ []) before now) c.from_residual-in_err-as_recorded.result c.in_err-as_recorded.field-0.0
+    answered (IsLoadCause holds (recorded ∷ []) before now reads reads_now) c.from_residual-in_err-as_recorded.result c.in_err-as_recorded.field-0.0
     c.from_residual-in_err-as_recorded.ensures.1
-    (subst (IsLoadCause holds (recorded ∷ []) before now) (sym err.0)
-    (cause-damaged holds recorded before now c.in_ok-found.ensures.calm
-    (untold-or-none holds recorded (g.D.Store.reads c.args.store.now) (g.D.Store.reads c.directory_in.new.store) c.in_ok-found.found
+    (subst (IsLoadCause holds (recorded ∷ []) before now reads reads_now) (sym err.0)
+    (cause-damaged holds recorded before now reads reads_now c.in_ok-found.ensures.calm c.in_ok-found.ensures.read
+    (untold-or-none holds recorded reads reads_now c.in_ok-found.found
     c.in_ok-found.ensures.found c.in_ok-found.ensures.none err.1)))

@@ -31,11 +31,12 @@ returns-in_err-part-clause-cause g c =
     let within : c.loop-recorded.recorded-index < length c.args.records.now = omega arith in
     answered
     (IsLoadCause (g.D.Store.holds c.args.store.now) c.args.records.now (g.D.Store.faults c.args.store.now)
-    (g.D.Store.faults c.open_part.new.store))
+    (g.D.Store.faults c.open_part.new.store) (g.D.Store.reads c.args.store.now) (g.D.Store.reads c.open_part.new.store))
     c.from_residual.result c.in_err-part.field-0.0 c.from_residual.ensures.1
     (turn-fails c.args.records.now c.loop-recorded.recorded-index within (g.D.Store.holds c.args.store.now)
     (g.D.Store.holds c.loop-recorded.store) c.loop-recorded.invariant.holds (g.D.Store.reads c.args.store.now)
-    (g.D.Store.reads c.loop-recorded.store) c.loop-recorded.parts.items (g.D.Store.faults c.args.store.now)
+    (g.D.Store.reads c.loop-recorded.store) (g.D.Store.reads c.open_part.new.store) c.loop-recorded.parts.items
+    (g.D.Store.faults c.args.store.now)
     (g.D.Store.faults c.loop-recorded.store) (g.D.Store.faults c.open_part.new.store) c.in_err-part.field-0.0
     c.loop-recorded.invariant.opened c.loop-recorded.invariant.calm c.in_err-part.ensures.cause)
 
@@ -51,10 +52,11 @@ pub returns-in_err-push-clause-cause : goal.returns-in_err-push-clause-cause
 returns-in_err-push-clause-cause g c =
     answered
     (IsLoadCause (g.D.Store.holds c.args.store.now) c.args.records.now (g.D.Store.faults c.args.store.now)
-    (g.D.Store.faults c.open_part.new.store))
+    (g.D.Store.faults c.open_part.new.store) (g.D.Store.reads c.args.store.now) (g.D.Store.reads c.open_part.new.store))
     c.from_residual-in_err-push.result NoMemory c.from_residual-in_err-push.ensures.1
     (cause-memory (g.D.Store.holds c.args.store.now) c.args.records.now (g.D.Store.faults c.args.store.now)
-    (g.D.Store.faults c.open_part.new.store) (c.in_ok-part.ensures.calm ∙ c.loop-recorded.invariant.calm))
+    (g.D.Store.faults c.open_part.new.store) (g.D.Store.reads c.args.store.now) (g.D.Store.reads c.open_part.new.store)
+    (c.in_ok-part.ensures.calm ∙ c.loop-recorded.invariant.calm))
 
 pub loop-recorded-preserved : goal.loop-recorded-preserved
 loop-recorded-preserved g c =

@@ -36,3 +36,11 @@ returns-in_err-push-clause-some c =
       one_out c.args.place c.loop.counter c.args.parts.now.items c.loop.parts.items c.remove-part.new.self.items
           (omega (arith, c.requires, c.args.parts.now.ok.0)) c.loop.invariant.parts c.remove-part.ensures.items,
     )
+
+pub returns-in_err-push-clause-noted : goal.returns-in_err-push-clause-noted
+returns-in_err-push-clause-noted c =
+    let p = err_from_is_err_and c.from_residual.result c.from_residual.ensures.1 in
+    rw (p.1, p.2) (
+      map (λ (part : StoredPart). part.recorded.blob) (take c.loop.counter (drop c.args.place c.args.parts.now.items)),
+      c.in_err-push.ensures.items ∙ c.loop.invariant.stale,
+    )

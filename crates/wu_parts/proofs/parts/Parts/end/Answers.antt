@@ -1,4 +1,5 @@
-use Rattle.std.proofs.Common.{◌≡◌, ℕ, ◌+◌, ◌∷◌, [], List, Some, option_map, drop, refl, ap, sym, subst, ◌∙◌, arith}
+use Rattle.std.proofs.Common.{◌≡◌, ℕ, ◌+◌, ◌∷◌, [], List, Some, option_map, drop, refl, ap, sym, subst, ◌∙◌, append-nil, arith}
+use Rattle.std.proofs.lemmas.Result.{err_from_is_err_and}
 use Rattle.wu_parts.specs.Contents.{Contents}
 use Rattle.wu_parts.specs.Flushing.{Told}
 use Rattle.wu_parts.specs.StoredParts.{IsPutAs, directories_of, records_of}
@@ -7,6 +8,7 @@ use Rattle.wu_parts.specs.UnitsOfParts.{EndsJob, Replaces}
 use Rattle.wu_parts.specs.ViewOfParts.{contents_of}
 use Rattle.wu_parts.specs.declared.writing.StoredPart.{StoredPart}
 use Rattle.wu_parts.proofs.EndedJobs.{insert_back, no_running, sound_ended, sound_partly, view_made, view_without, within}
+use Rattle.wu_parts.proofs.UnitChains.{changes_partly}
 use Rattle.wu_parts.proofs.parts.Parts.end.Goals as goal
 
 pub invariant_of-self : goal.invariant_of-self
@@ -114,3 +116,33 @@ returns-in_ok-insert-in-Some-clause-done g c =
           c.take_out-in-Some.new.stale.items placed c.in_ok-take_out-in-Some.ensures.stale none
           ∙ ap (with_made part.recorded part.directory c.args.place c.args.count) c.self.view_is;
     })
+
+-- ---- what is changed where it fails
+
+pub returns-in_err-take_out-in-None-clause-changes : goal.returns-in_err-take_out-in-None-clause-changes
+returns-in_err-take_out-in-None-clause-changes g c =
+    let p = err_from_is_err_and c.from_residual.result c.from_residual.ensures.1 in
+    let noted = c.in_err-take_out-in-None.ensures.noted in
+    rw p.1
+    (changes_partly c.args.self.now (contents_of c.self.inside) _ noted.0 c.self.view_is refl noted.1 (omega arith) (omega arith))
+
+pub returns-in_err-part-in-Some-clause-changes : goal.returns-in_err-part-in-Some-clause-changes
+returns-in_err-part-in-Some-clause-changes g c =
+    let p = err_from_is_err_and c.from_residual-in_err-part-in-Some.result c.from_residual-in_err-part-in-Some.ensures.1 in
+    rw p.1
+    (changes_partly c.args.self.now (contents_of c.self.inside) _ [] c.self.view_is refl (sym (append-nil c.self.inside.stale.items))
+    (omega arith) (omega arith))
+
+pub returns-in_err-take_out-in-Some-clause-changes : goal.returns-in_err-take_out-in-Some-clause-changes
+returns-in_err-take_out-in-Some-clause-changes g c =
+    let p = err_from_is_err_and c.from_residual-in_err-take_out-in-Some.result c.from_residual-in_err-take_out-in-Some.ensures.1 in
+    let noted = c.in_err-take_out-in-Some.ensures.noted in
+    rw p.1
+    (changes_partly c.args.self.now (contents_of c.self.inside) _ noted.0 c.self.view_is refl noted.1 (omega arith) (omega arith))
+
+pub returns-in_err-insert-in-Some-clause-changes : goal.returns-in_err-insert-in-Some-clause-changes
+returns-in_err-insert-in-Some-clause-changes g c =
+    let p = err_from_is_err_and c.from_residual-in_err-insert-in-Some.result c.from_residual-in_err-insert-in-Some.ensures.1 in
+    rw p.1
+    (changes_partly c.args.self.now (contents_of c.self.inside) _ _ c.self.view_is refl c.in_ok-take_out-in-Some.ensures.stale
+    (omega arith) (omega arith))

@@ -1,14 +1,13 @@
 use Rattle.std.proofs.Common.{◌≡◌, ℕ, true, List, refl, ap, sym, subst, ◌∙◌}
 use Rattle.std.specs.List.{AllByRecursion}
+use Rattle.wu_base.proofs.EachLemmas.{each-append, each-filter}
 use Rattle.wu_layout.specs.Postings.{is_live}
-use Rattle.wu_layout.proofs.EachLemmas.{each-append}
-use Rattle.wu_job.proofs.Terms.{filter_all}
 use Rattle.wu_lists.specs.Ascending.{AscendBetween}
 use Rattle.wu_lists.proofs.Ascending.{addresses_increase}
 use Rattle.wu_parts.specs.Contents.{Contents}
 use Rattle.wu_parts.specs.Memory.{Memory, held}
 use Rattle.wu_parts.proofs.Asking.{cause-after}
-use Rattle.wu_parts.proofs.FetchedAddresses.{ascend-both, put_both, told-both}
+use Rattle.wu_parts.proofs.FetchedAddresses.{ascend-both, lists-both, put_both, told-both}
 use Rattle.wu_parts.proofs.parts.Parts.fetch.Goals as goal
 
 pub returns-in_err-fetch_into-clause-cause : goal.returns-in_err-fetch_into-clause-cause
@@ -18,14 +17,19 @@ returns-in_err-fetch_into-clause-cause g c =
     (g.D.Store.reads c.args.store.now) (g.D.Store.reads c.walk.new.store) c.from_residual-in_err-fetch_into.ensures.1
     c.in_ok-walk.ensures.blocks c.in_ok-walk.ensures.calm
 
-pub returns-clause-addresses : goal.returns-clause-addresses
-returns-clause-addresses g c =
+pub returns-clause-lists : goal.returns-clause-lists
+returns-clause-lists g c =
     let gains = c.in_ok-walk.ensures.addresses refl in
     let memory : Memory = c.self-2.inside.memory in
     let same : memory ≡ c.args.self.now.memory = ap (λ (k : Contents). k.memory) (c.self-2.view_is ∙ c.in_ok-walk.ensures.others) in
-    told-both c.args.self.now memory same c.args.term.now c.args.frames.now (g.D.Store.holds c.args.store.now) gains.more gains.kind
+    lists-both c.args.self.now memory same c.args.term.now c.args.frames.now (g.D.Store.holds c.args.store.now) gains.more gains.kind
     (λ (l : List ℕ). l) c.from.result
     (put_both _ _ _ _ _ c.new-found.ensures.items gains.gained (c.from.ensures ∙ c.in_ok-fetch_into.ensures.addresses))
+
+pub returns-clause-addresses : goal.returns-clause-addresses
+returns-clause-addresses g c =
+    told-both c.args.self.now c.args.term.now c.args.frames.now (g.D.Store.holds c.args.store.now) (λ (l : List ℕ). l) c.from.result
+    (returns-clause-lists g c)
 
 pub returns-clause-ascending : goal.returns-clause-ascending
 returns-clause-ascending g c =
@@ -45,4 +49,4 @@ returns-clause-live g c =
     subst (AllByRecursion (λ address. is_live frames address ≡ true))
     (sym (put_both _ _ _ _ _ c.new-found.ensures.items gains.gained (c.from.ensures ∙ c.in_ok-fetch_into.ensures.addresses)))
     (each-append (λ address. is_live frames address ≡ true) gains.more _
-    gains.kind.live (filter_all (is_live frames) (held c.self-2.inside.memory c.args.term.now)))
+    gains.kind.live (each-filter (is_live frames) (held c.self-2.inside.memory c.args.term.now)))

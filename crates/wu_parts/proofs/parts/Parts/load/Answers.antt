@@ -29,10 +29,11 @@ pub returns-in_err-new-clause-cause : goal.returns-in_err-new-clause-cause
 returns-in_err-new-clause-cause g c =
     answered
     (IsLoadCause (g.D.Store.holds c.args.store.now) c.args.records.now (g.D.Store.faults c.args.store.now)
-    (g.D.Store.faults c.open_parts.new.store))
+    (g.D.Store.faults c.open_parts.new.store) (g.D.Store.reads c.args.store.now) (g.D.Store.reads c.open_parts.new.store))
     c.from_residual-in_err-new.result NoMemory c.from_residual-in_err-new.ensures.1
     (cause-memory (g.D.Store.holds c.args.store.now) c.args.records.now (g.D.Store.faults c.args.store.now)
-    (g.D.Store.faults c.open_parts.new.store) c.in_ok-parts.ensures.calm)
+    (g.D.Store.faults c.open_parts.new.store) (g.D.Store.reads c.args.store.now) (g.D.Store.reads c.open_parts.new.store)
+    c.in_ok-parts.ensures.calm)
 
 pub invariant_of-result : goal.invariant_of-result
 invariant_of-result g c =

@@ -1,4 +1,4 @@
-use Rattle.std.proofs.Common.{◌≡◌, ℕ, length, Option, ap, ap₂, sym, subst, ◌∙◌, option_map}
+use Rattle.std.proofs.Common.{◌≡◌, ℕ, length, Option, ap, ap₂, sym, subst, ◌∙◌, option_map, arith}
 use Rattle.std.specs.List.{flat_map}
 use Rattle.std.proofs.lemmas.Result.{err_from_is_err_and}
 use Rattle.wu_job.specs.Jobs.{Answers, JobState, StandWithin}
@@ -8,6 +8,7 @@ use Rattle.wu_parts.specs.Flushing.{Told}
 use Rattle.wu_parts.specs.StoredParts.{running_at}
 use Rattle.wu_parts.specs.UnitsOfParts.{Replaces}
 use Rattle.wu_job.specs.declared.jobs.Progress.{Progress}
+use Rattle.wu_parts.proofs.UnitChains.{changes_less, changes_none}
 use Rattle.wu_parts.proofs.UnitSteps.{ends_job, leaves_of, made_of, stops_late}
 use Rattle.wu_parts.proofs.parts.Parts.step.Goals as goal
 
@@ -54,4 +55,11 @@ returns-in_ok-end-in-Done-clause-done g c =
           leaves_of c.in-Done.made place count new c.args.self.now c.end.new.self before after
           (c.requires.job.count ∙ ap (λ (s : JobState). length s.parts) (sym others)) answer replaces;
       read = c.in_ok-end-in-Done.ensures.unread ∙ c.in_ok-step.ensures.reads;
+      whole = c.in_ok-step.ensures.whole;
     }
+
+pub returns-in_err-step-clause-changes : goal.returns-in_err-step-clause-changes
+returns-in_err-step-clause-changes g c =
+    let p = err_from_is_err_and c.from_residual.result c.from_residual.ensures.1 in
+    let old = c.args.self.now in
+    rw p.1 (changes_less 0 1 old old (omega arith) (changes_none old))

@@ -1,6 +1,5 @@
-use Rattle.std.proofs.Common.{◌≡◌, suc, ◌+◌, ◌-◌, ◌++◌, Bool, true, List, refl, ap, subst, ◌∙◌, arith, rules}
+use Rattle.std.proofs.Common.{◌≡◌, suc, ◌+◌, ◌++◌, Bool, true, false, List, refl, ap, subst, ◌∙◌, arith, rules}
 use Rattle.std.proofs.lemmas.Result.{err_from_is_err_and}
-use Rattle.wu_outside.specs.Content.{with_blob}
 use Rattle.wu_outside.specs.declared.ranges.ReadRange.{ReadRange}
 use Rattle.wu_job.specs.Steps.{adds}
 use Rattle.wu_job.proofs.Fronts.{adds-more}
@@ -8,7 +7,8 @@ use Rattle.wu_parts.specs.Contents.{Contents}
 use Rattle.wu_parts.specs.Flushing.{Told}
 use Rattle.wu_parts.specs.Units.{DoUnits}
 use Rattle.wu_parts.specs.UnitsOfParts.{IsUnit}
-use Rattle.wu_parts.proofs.UnitChains.{changed_after, may_all, stops_after, try_put, units_change, units_put}
+use Rattle.wu_parts.proofs.UnitChains.{changes_less, changes_more, stops_after, units_change}
+use Rattle.wu_parts.proofs.UnitPuts.{puts_after, puts_idle, units_put}
 use Rattle.wu_parts.proofs.parts.Parts.units.Goals as goal
 
 pub unit-requires-clause-blob : goal.unit-requires-clause-blob
@@ -20,29 +20,31 @@ unit-requires-clause-blob g c =
 
 pub returns-in_err-unit-clause-elsewhere : goal.returns-in_err-unit-clause-elsewhere
 returns-in_err-unit-clause-elsewhere g c =
+    let ranges = c.args.space.now.ranges in
     let old : Contents = c.args.self.now in
     let middle : Contents = c.loop.self in
     let before : Told = (g.D.Store.holds c.args.store.now, g.D.Store.moments c.args.store.now) in
     let told : Told = (g.D.Store.holds c.loop.store, g.D.Store.moments c.loop.store) in
-    let ranges = c.args.space.now.ranges in
+    let after : Told = (g.D.Store.holds c.unit.new.store, g.D.Store.moments c.unit.new.store) in
     let units = c.loop.invariant.units in
-    let drawn = (units_change ranges c.loop.counter old middle before told units.0 units.1.0).drawn in
-    changed_after with_blob old.next_blob c.args.n c.loop.counter middle.next_blob c.in_err-unit.ensures.elsewhere.0 before.0 told.0
-    (g.D.Store.holds c.unit.new.store) c.loop-test.true drawn.0 drawn.1
-    (units_put ranges c.loop.counter old middle before told units.0 units.1.0).0 c.in_err-unit.ensures.elsewhere.1
+    let one = c.in_err-unit.ensures in
+    (puts_after c.loop.counter old middle c.unit.new.self before told after
+    (units_put ranges c.loop.counter old middle before told units.0 units.1.0)
+    (units_change ranges c.loop.counter old middle before told units.0 units.1.0) one.changes one.elsewhere one.tried one.undrawn).0
 
 pub returns-in_err-unit-clause-tried : goal.returns-in_err-unit-clause-tried
 returns-in_err-unit-clause-tried g c =
+    let ranges = c.args.space.now.ranges in
     let old : Contents = c.args.self.now in
     let middle : Contents = c.loop.self in
     let before : Told = (g.D.Store.holds c.args.store.now, g.D.Store.moments c.args.store.now) in
     let told : Told = (g.D.Store.holds c.loop.store, g.D.Store.moments c.loop.store) in
-    let ranges = c.args.space.now.ranges in
+    let after : Told = (g.D.Store.holds c.unit.new.store, g.D.Store.moments c.unit.new.store) in
     let units = c.loop.invariant.units in
-    let drawn = (units_change ranges c.loop.counter old middle before told units.0 units.1.0).drawn in
-    changed_after try_put old.next_blob c.args.n c.loop.counter middle.next_blob c.in_err-unit.ensures.tried.0 before.1 told.1
-    (g.D.Store.moments c.unit.new.store) c.loop-test.true drawn.0 drawn.1
-    (units_put ranges c.loop.counter old middle before told units.0 units.1.0).1 c.in_err-unit.ensures.tried.1
+    let one = c.in_err-unit.ensures in
+    (puts_after c.loop.counter old middle c.unit.new.self before told after
+    (units_put ranges c.loop.counter old middle before told units.0 units.1.0)
+    (units_change ranges c.loop.counter old middle before told units.0 units.1.0) one.changes one.elsewhere one.tried one.undrawn).1
 
 pub returns-in_err-unit-clause-stops : goal.returns-in_err-unit-clause-stops
 returns-in_err-unit-clause-stops g c =
@@ -73,29 +75,33 @@ returns-in_err-unit-clause-reached g c =
 
 pub returns-then-not-branch-clause-elsewhere : goal.returns-then-not-branch-clause-elsewhere
 returns-then-not-branch-clause-elsewhere g c =
+    let ranges = c.args.space.now.ranges in
     let old : Contents = c.args.self.now in
     let middle : Contents = c.loop.self in
     let before : Told = (g.D.Store.holds c.args.store.now, g.D.Store.moments c.args.store.now) in
     let told : Told = (g.D.Store.holds c.loop.store, g.D.Store.moments c.loop.store) in
-    let ranges = c.args.space.now.ranges in
+    let after : Told = (g.D.Store.holds c.unit.new.store, g.D.Store.moments c.unit.new.store) in
     let units = c.loop.invariant.units in
-    let drawn = (units_change ranges c.loop.counter old middle before told units.0 units.1.0).drawn in
-    changed_after with_blob old.next_blob c.args.n c.loop.counter middle.next_blob c.in_ok-unit.ensures.elsewhere.0 before.0 told.0
-    (g.D.Store.holds c.unit.new.store) c.loop-test.true drawn.0 drawn.1
-    (units_put ranges c.loop.counter old middle before told units.0 units.1.0).0 c.in_ok-unit.ensures.elsewhere.1
+    let none : c.in_ok-unit.field-0 ≡ false = search rules in
+    let u = subst (λ (b : Bool). IsUnit b ranges middle c.unit.new.self told after (g.D.Store.reads c.loop.store)
+    (g.D.Store.reads c.unit.new.store)) none c.in_ok-unit.ensures.done in
+    (puts_idle old middle c.unit.new.self before told after
+    (units_put ranges c.loop.counter old middle before told units.0 units.1.0) u.1.0 u.1.1.0).0
 
 pub returns-then-not-branch-clause-tried : goal.returns-then-not-branch-clause-tried
 returns-then-not-branch-clause-tried g c =
+    let ranges = c.args.space.now.ranges in
     let old : Contents = c.args.self.now in
     let middle : Contents = c.loop.self in
     let before : Told = (g.D.Store.holds c.args.store.now, g.D.Store.moments c.args.store.now) in
     let told : Told = (g.D.Store.holds c.loop.store, g.D.Store.moments c.loop.store) in
-    let ranges = c.args.space.now.ranges in
+    let after : Told = (g.D.Store.holds c.unit.new.store, g.D.Store.moments c.unit.new.store) in
     let units = c.loop.invariant.units in
-    let drawn = (units_change ranges c.loop.counter old middle before told units.0 units.1.0).drawn in
-    changed_after try_put old.next_blob c.args.n c.loop.counter middle.next_blob c.in_ok-unit.ensures.tried.0 before.1 told.1
-    (g.D.Store.moments c.unit.new.store) c.loop-test.true drawn.0 drawn.1
-    (units_put ranges c.loop.counter old middle before told units.0 units.1.0).1 c.in_ok-unit.ensures.tried.1
+    let none : c.in_ok-unit.field-0 ≡ false = search rules in
+    let u = subst (λ (b : Bool). IsUnit b ranges middle c.unit.new.self told after (g.D.Store.reads c.loop.store)
+    (g.D.Store.reads c.unit.new.store)) none c.in_ok-unit.ensures.done in
+    (puts_idle old middle c.unit.new.self before told after
+    (units_put ranges c.loop.counter old middle before told units.0 units.1.0) u.1.0 u.1.1.0).1
 
 pub loop-preserved : goal.loop-preserved
 loop-preserved g c =
@@ -126,8 +132,6 @@ returns-clause-elsewhere g c =
     let before : Told = (g.D.Store.holds c.args.store.now, g.D.Store.moments c.args.store.now) in
     let told : Told = (g.D.Store.holds c.loop.store, g.D.Store.moments c.loop.store) in
     let units = c.loop.invariant.units in
-    may_all with_blob c.args.self.now.next_blob c.loop.counter c.args.n (c.args.n - c.loop.counter) before.0 told.0
-    (omega (arith, c.loop.auto.counter-end))
     (units_put c.args.space.now.ranges c.loop.counter c.args.self.now c.loop.self before told units.0 units.1.0).0
 
 pub returns-clause-tried : goal.returns-clause-tried
@@ -135,6 +139,19 @@ returns-clause-tried g c =
     let before : Told = (g.D.Store.holds c.args.store.now, g.D.Store.moments c.args.store.now) in
     let told : Told = (g.D.Store.holds c.loop.store, g.D.Store.moments c.loop.store) in
     let units = c.loop.invariant.units in
-    may_all try_put c.args.self.now.next_blob c.loop.counter c.args.n (c.args.n - c.loop.counter) before.1 told.1
-    (omega (arith, c.loop.auto.counter-end))
     (units_put c.args.space.now.ranges c.loop.counter c.args.self.now c.loop.self before told units.0 units.1.0).1
+
+pub returns-in_err-unit-clause-changes : goal.returns-in_err-unit-clause-changes
+returns-in_err-unit-clause-changes g c =
+    let p = err_from_is_err_and c.from_residual.result c.from_residual.ensures.1 in
+    let old : Contents = c.args.self.now in
+    let middle : Contents = c.loop.self in
+    let new : Contents = c.unit.new.self in
+    let done = c.loop.counter in
+    let units = c.loop.invariant.units in
+    let changes = units_change c.args.space.now.ranges done old middle
+    (g.D.Store.holds c.args.store.now, g.D.Store.moments c.args.store.now)
+    (g.D.Store.holds c.loop.store, g.D.Store.moments c.loop.store) units.0 units.1.0 in
+    rw p.1
+    (changes_less (done + 1) c.args.n old new (omega (arith, c.loop-test.true))
+    (changes_more done 1 old middle new changes c.in_err-unit.ensures.changes))
