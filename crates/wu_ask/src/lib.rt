@@ -42,7 +42,7 @@ pub enum Ask {
 /// One region that was found, with the first line of its file that shares a place with it. A line's
 /// places are those of its tags and of its words.
 #[derive(Debug, PartialEq, Eq, Drop)]
-pub struct FindLine {
+pub struct Found {
     /// The least open path of its file.
     pub path: Bytes,
     /// Its first place, counted from the file's first token, which has place 0.
@@ -53,7 +53,7 @@ pub struct FindLine {
     pub line: u64,
     /// The line's first bytes, at most SNIPPET_MAX of them and without its LF; empty where there is no
     /// such line.
-    pub bytes: Bytes,
+    pub snippet: Bytes,
 }
 
 /// One region of a ranking.
@@ -88,7 +88,7 @@ pub enum Answered {
         files: u64,
         /// At most `k` of the question, file by file in the order of the user's view, those of one file
         /// ascending by their starts.
-        shown: Sequence<FindLine>,
+        shown: Sequence<Found>,
     },
     /// `listed` regions hold one of the words; the best of them are shown.
     Rank {
