@@ -19,18 +19,20 @@ EndsEarly-fault left left' last_read held none going keeps = record {
   given = [];
   consumed = Consumes-kept left left left' [] (Consumes-nil left) keeps;
   counted = omega arith;
+  alone = λ e. cc (e);
   over = λ ended. absurd (going ended);
   short = append-nil held.bytes ∙ none;
 }
 
 -- the source gave a byte that it may not, while no byte was held
 pub EndsEarly-long : (left left' : Option (List ℕ)) (last_read : ℕ) (held : Held) (given : List ℕ) → held.bytes ≡ []
-    → (held.ended ≡ true → ⊥) → held.spare ≡ 0 → length given ≡ 1 → Consumes left left' given
+    → (held.ended ≡ true → ⊥) → held.spare ≡ 0 → length given ≡ 1 → last_read ≡ 1 → Consumes left left' given
     → EndsEarly (λ bytes. bytes ≡ []) left left' last_read held InputTooLong
-EndsEarly-long left left' last_read held given none going full one consumed = record {
+EndsEarly-long left left' last_read held given none going full one alone consumed = record {
   given = given;
   consumed = consumed;
   counted = omega (arith, full, one);
+  alone = λ e. alone;
   over = λ ended. absurd (going ended);
   short = rw (none, full) refl;
 }
@@ -42,6 +44,7 @@ EndsEarly-memory left last_read held few = record {
   given = [];
   consumed = Consumes-nil left;
   counted = omega arith;
+  alone = λ e. cc (e);
   over = λ ended. (refl, refl);
   short = none (omega (arith, length-append held.bytes []));
 }
@@ -53,8 +56,14 @@ EndsEarly-memory left last_read held few = record {
 pub EndsEarly-also : (IsShort IsShorter : List ℕ → Type 0) (left left' : Option (List ℕ)) (last_read : ℕ) (old : Held) (end : ReadEnd)
     → ((bytes : List ℕ) → IsShorter bytes → IsShort bytes) → EndsEarly IsShorter left left' last_read old end
     → EndsEarly IsShort left left' last_read old end
-EndsEarly-also IsShort IsShorter left left' last_read old end also stops = record
-    { given = stops.given; consumed = stops.consumed; counted = stops.counted; over = stops.over; short = also _ stops.short }
+EndsEarly-also IsShort IsShorter left left' last_read old end also stops = record {
+  given = stops.given;
+  consumed = stops.consumed;
+  counted = stops.counted;
+  alone = stops.alone;
+  over = stops.over;
+  short = also _ stops.short;
+}
 
 given_after : (end : ReadEnd) (spare later first more : ℕ) → later + first ≡ spare → IsGiven end later more
     → IsGiven end spare (first + more)
@@ -116,6 +125,7 @@ EndsEarly-after IsShort IsLater left mid left' last_read old between end used fi
   consumed = Consumes-trans left mid left' first.given stops.given first.consumed stops.consumed;
   counted = subst (IsGiven end old.spare) (sym (length-append first.given stops.given))
       (given_after end old.spare between.spare (length first.given) (length stops.given) first.counted stops.counted);
+  alone = stops.alone;
   over = λ ended.
       let before = first.over ended in
       let later = stops.over before.1 in
@@ -163,9 +173,10 @@ EndsEarly-filled IsShort left mid left' last_read old between filled used so_far
 
 -- the source gave one byte too many
 pub EndsEarly-too_long : (IsShort : List ℕ → Type 0) (left left' : Option (List ℕ)) (last_read : ℕ) (old : Held) (end : ReadEnd)
-    → EndsEarly IsShort left left' last_read old end → end ≡ InputTooLong → GivesTooMuch left left' old
+    → EndsEarly IsShort left left' last_read old end → end ≡ InputTooLong → GivesTooMuch left left' last_read old
 EndsEarly-too_long IsShort left left' last_read old ReadFault stops is = cc (is)
-EndsEarly-too_long IsShort left left' last_read old InputTooLong stops is = record { given = stops.given; consumed = stops.consumed; counted = stops.counted }
+EndsEarly-too_long IsShort left left' last_read old InputTooLong stops is = record
+    { given = stops.given; consumed = stops.consumed; counted = stops.counted; alone = stops.alone is }
 EndsEarly-too_long IsShort left left' last_read old NoMemory stops is = cc (is)
 
 -- the bytes after the first of the used ones count as held

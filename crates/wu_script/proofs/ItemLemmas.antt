@@ -181,7 +181,7 @@ body_item : (ino len : ℕ) (bytes tail held line : List ℕ) (kept alone : Bool
     → IsTextItem ino len bytes tail held line kept alone item → IsReadAs item (body_entry ino len bytes tail)
 body_item ino len bytes [] held line false alone item is = rw (is.long refl, lt-ltb TEXT_MAX len is.fits) (λ read reading. refl)
 body_item ino len bytes (byte ∷ tail) held line false alone item is = rw (is.long refl, lt-ltb TEXT_MAX len is.fits) (λ read reading. refl)
-body_item ino len bytes [] held line true false item is = absurd (omega (arith, is.rest))
+body_item ino len bytes [] held line true false item is = absurd (omega (arith, is.rest.0))
 body_item ino len bytes (byte ∷ tail) held line true false item is = rw (is.bad refl refl, le-ltb TEXT_MAX len is.fits)
     (λ read reading. refl)
 body_item ino len bytes [] held line true true item is =

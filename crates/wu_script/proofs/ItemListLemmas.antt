@@ -234,10 +234,10 @@ whole_items_of-closed (byte ∷ bytes) closed = rw closed
     (omega arith)))
 
 -- both lists of items begin with the first where it is closed
-abbrev StartsWithFirst : (List ℕ → List Entry) → Type 0
+abbrev pub StartsWithFirst : (List ℕ → List Entry) → Type 0
 StartsWithFirst all = (bytes : List ℕ) → (first_of bytes).closed ≡ true → all bytes ≡ (first_of bytes).entry ∷ all (first_of bytes).rest
 
-items_of-closed : StartsWithFirst items_of
+pub items_of-closed : StartsWithFirst items_of
 items_of-closed [] closed = cc (nothing_closed, closed)
 items_of-closed (byte ∷ bytes) closed = items_of-some (byte ∷ bytes) (omega arith)
 

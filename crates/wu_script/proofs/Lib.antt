@@ -3,6 +3,7 @@ pub mod InputLemmas
 pub mod ItemLemmas
 pub mod ItemListLemmas
 pub mod LineLemmas
+pub mod ReadLemmas
 pub mod TokenLemmas
 pub mod UnclosedLemmas
 pub mod EventLemmas

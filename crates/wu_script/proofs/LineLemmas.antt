@@ -100,7 +100,7 @@ kept_whole limit text kept false is e = cc (e)
 
 pub kept_long : (limit : ℕ) (text kept : List ℕ) (whole : Bool) → Kept limit text whole kept → not whole ≡ true → limit < length text
 kept_long limit text kept true is e = cc (e)
-kept_long limit text kept false is e = is
+kept_long limit text kept false is e = is.0
 
 -- nothing is used where nothing is held and the source gave its end
 pub nothing_used : (left left' : Option (List ℕ)) (old new : Held) (used : List ℕ) → Uses left left' old new used

@@ -1,6 +1,8 @@
 -- What a reader holds of a source, and how it uses it.
-use Rattle.std.specs.Prelude.{◌≡◌, ℕ, ◌+◌, ◌-◌, ◌<◌, ◌≤◌, Bool, true, false, List, [], ◌++◌, length, take, Option, Result, MatchResult}
-use Rattle.std.specs.Io.KnownBytes.{Consumes, IsAtEnd}
+use Rattle.std.specs.Prelude.{◌≡◌, ◌⊎◌, ℕ, ◌+◌, ◌-◌, ◌<◌, ◌≤◌, min, max, Bool, true, false, List, [], ◌++◌, length, take}
+use Rattle.std.specs.Prelude.{Option, Result, MatchResult}
+use Rattle.std.specs.Io.KnownBytes.{Consumes, IsAtEnd, Keeps}
+use Rattle.wu_base.specs.declared.limits.TheConstants.{READ_MAX}
 use Rattle.wu_outside.specs.Faults.{Rose}
 use Rattle.wu_script.specs.declared.ends.ReadEnd.{ReadEnd}
 use Rattle.wu_script.specs.declared.ends.ReadEnd.TheVariants.{ReadFault, InputTooLong, NoMemory}
@@ -20,17 +22,27 @@ pub record Uses (left left' : Option (List ℕ)) (old new : Held) (used : List �
   pub over : old.ended ≡ true → (given ≡ []) × (new.ended ≡ true)
   pub at_end : (old.ended ≡ true → IsAtEnd left) → new.ended ≡ true → IsAtEnd left'
 
--- the source gave one byte more than it may
-pub record GivesTooMuch (left left' : Option (List ℕ)) (old : Held) : Type 0 where
+-- the source gave one byte more than it may, and that byte alone by its last read
+pub record GivesTooMuch (left left' : Option (List ℕ)) (last_read : ℕ) (old : Held) : Type 0 where
   pub given : List ℕ
   pub consumed : Consumes left left' given
   pub counted : length given ≡ old.spare + 1
+  pub alone : last_read ≡ 1
 
 -- the source gave no end that the reader doesn't know, and what is held came with its last read; the first two arguments are whether
 -- the source gave its end, and how many bytes its last read gave
 pub record Follows (ended : Bool) (last_read : ℕ) (held : Held) : Type 0 where
   pub going : held.ended ≡ false → ended ≡ false
   pub recent : length held.bytes ≤ last_read
+
+-- how many bytes are asked for at once: as many as the source may give, but at most READ_MAX, or one where it may give none
+abbrev pub asked_at_once : ℕ → ℕ
+asked_at_once spare = max 1 (min spare READ_MAX)
+
+-- Between two moments the last read that didn't fail gave at most so many bytes, or the source, as far as it tells, gave nothing and tells
+-- the same last read. The last two arguments are how many bytes its last read gave, then and now.
+abbrev pub GivesAtMost : ℕ → Option (List ℕ) → Option (List ℕ) → ℕ → ℕ → Type 0
+GivesAtMost most left left' before now = (now ≤ most) ⊎ (Keeps left left' × (now ≡ before))
 
 -- where taking ended: at an LF, which the source's last read gave, or at the end of the input
 pub record EndsAt (closed : Bool) (last_read : ℕ) (new : Held) : Type 0 where
@@ -67,10 +79,12 @@ settled InputTooLong last_read old given = old.bytes ++ take old.spare given
 settled NoMemory last_read old given = but_last last_read (old.bytes ++ given)
 
 -- reading ended early: the source gave some bytes, and those settled are short of what was to be read, as the first argument says
--- of bytes. After the source's end it isn't asked again: none are given, and there can only be no memory
+-- of bytes. A byte too many comes alone, by the last read. After the source's end it isn't asked again: none are given, and there can only
+-- be no memory
 pub record EndsEarly (IsShort : List ℕ → Type 0) (left left' : Option (List ℕ)) (last_read : ℕ) (old : Held) (end : ReadEnd) : Type 0 where
   pub given : List ℕ
   pub consumed : Consumes left left' given
   pub counted : IsGiven end old.spare (length given)
+  pub alone : end ≡ InputTooLong → last_read ≡ 1
   pub over : old.ended ≡ true → (given ≡ []) × (end ≡ NoMemory)
   pub short : IsShort (settled end last_read old given)

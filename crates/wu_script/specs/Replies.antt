@@ -8,7 +8,7 @@ use Rattle.wu_tree.specs.declared.events.Refusal.{Refusal}
 use Rattle.wu_tree.specs.declared.events.Refusal.TheVariants as refusals
 use Rattle.wu_gcl.specs.declared.expressions.ExprFault.{ExprFault}
 use Rattle.wu_gcl.specs.declared.expressions.ExprFault.TheVariants as faults
-use Rattle.wu_ask.specs.declared.FindLine.{FindLine}
+use Rattle.wu_ask.specs.declared.Found.{Found}
 use Rattle.wu_ask.specs.declared.RankLine.{RankLine}
 use Rattle.wu_ask.specs.declared.Answered.{Answered}
 use Rattle.wu_ask.specs.declared.Answered.TheVariants as answers
@@ -49,9 +49,9 @@ abbrev pub path_line : List ℕ → List ℕ
 path_line path = escaped path ++ 10 ∷ []
 
 -- the path of a region's file, its first and its last place, and the number of a line and its first bytes, on a line of their own
-abbrev pub find_line : FindLine → List ℕ
+abbrev pub find_line : Found → List ℕ
 find_line line = escaped line.path ++ 9 ∷ [] ++ decimal line.start ++ 9 ∷ [] ++ decimal line.end ++ 9 ∷ [] ++ decimal line.line ++ 9 ∷ []
-    ++ escaped line.bytes ++ 10 ∷ []
+    ++ escaped line.snippet ++ 10 ∷ []
 
 -- a region's score, the path of its file, and its first and its last place, on a line of their own
 abbrev pub rank_line : RankLine → List ℕ

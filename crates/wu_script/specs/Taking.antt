@@ -19,9 +19,9 @@ pub record TakesLine (left left' : Option (List ℕ)) (last_read : ℕ) (old new
   pub one : IsOneLine line
   pub last : EndsAt closed last_read new
 
--- the bytes are kept, if they are no more than the limit
+-- the bytes are kept, if they are no more than the limit; otherwise no more than the limit are
 abbrev pub Kept : ℕ → List ℕ → Bool → List ℕ → Type 0
-Kept limit bytes whole kept = MatchBool whole ((length bytes ≤ limit) × (kept ≡ bytes)) (limit < length bytes)
+Kept limit bytes whole kept = MatchBool whole ((length bytes ≤ limit) × (kept ≡ bytes)) ((limit < length bytes) × (length kept ≤ limit))
 
 -- a piece of a line was taken, all that was held if no LF closed it
 pub record TakesPiece (old new : Held) (closed : Bool) (piece : List ℕ) : Type 0 where

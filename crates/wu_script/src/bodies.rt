@@ -1,6 +1,6 @@
 //! Bodies, as they are taken from a source in whatever pieces it gives them.
-ghost use Rattle.std.specs.Prelude.{◌≡◌, ◌++◌, ◌≤◌, ◌<◌, List, ℕ, true, length, min, take, drop, IfErr, IfOk, OnOk};
-ghost use Rattle.wu_script.specs.Holding.{Held, Uses, Follows, EndsEarly, HasReadCause};
+ghost use Rattle.std.specs.Prelude.{◌≡◌, ◌++◌, ◌≤◌, ◌<◌, List, ℕ, false, true, length, min, take, drop, IfErr, IfOk, OnOk};
+ghost use Rattle.wu_script.specs.Holding.{Held, Uses, Follows, EndsEarly, HasReadCause, GivesAtMost, asked_at_once};
 ghost use Rattle.wu_script.specs.Taking.{TakesBytes};
 
 use crate::ends::ReadEnd;
@@ -21,9 +21,11 @@ pub fn take_bytes<I: Source>(
     ensures taken { IfOk result (λ all. (bytes : List ℕ)
         × TakesBytes (I.left source.old) (I.left source.new) input.old input.new count all bytes
         × (kept ≡ true → body.new.items ≡ body.old.items ++ bytes)) }
+    ensures unkept { kept ≡ false → body.new ≡ body.old }
     ensures follows { OnOk result (Follows (I.ended source.new) (I.last_read source.new) input.new) }
     ensures still { count ≤ length input.old.bytes → source.new ≡ source.old }
     ensures early { IfErr result (EndsEarly (λ bytes. length bytes < count) (I.left source.old) (I.left source.new) (I.last_read source.new) input.old) }
+    ensures brief { GivesAtMost (asked_at_once input.old.spare) (I.left source.old) (I.left source.new) (I.last_read source.old) (I.last_read source.new) }
     ensures cause { HasReadCause (I.faults source.old) (I.faults source.new) result }
 {
     let mut missing = count;
@@ -49,6 +51,7 @@ fn take_part(
     ensures count { IfOk result (λ count. count ≡ min (length input.old.bytes) missing) }
     ensures rest { IfOk result (λ count. input.new ≡ record input.old { bytes = drop count input.old.bytes }) }
     ensures kept { IfOk result (λ count. kept ≡ true → body.new.items ≡ body.old.items ++ take count input.old.bytes) }
+    ensures unkept { kept ≡ false → body.new ≡ body.old }
 {
     let bytes = input.bytes();
     let count = (bytes.len() as u64).min(missing);

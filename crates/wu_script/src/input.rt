@@ -1,10 +1,10 @@
 //! What a source gave and no item has used yet.
-ghost use Rattle.std.specs.Prelude.{◌≡◌, ◌≤◌, ◌<◌, ◌+◌, [], false, true, length, min, max, Ok, Err, OnOk, IfErr, IfOk, MatchOption, MatchResult, take, drop, slice_range, vec_len};
+ghost use Rattle.std.specs.Prelude.{◌≡◌, ◌≤◌, ◌<◌, ◌+◌, [], false, true, length, Ok, Err, OnOk, IfErr, IfOk, MatchOption, MatchResult, take, drop, slice_range, vec_len};
 ghost use Rattle.std.specs.Io.KnownBytes.{Consumes, Keeps, IsAtEnd};
 ghost use Rattle.wu_base.specs.declared.limits.TheConstants.{READ_MAX as MostAtOnce};
 ghost use Rattle.wu_outside.specs.Ends.{GivesEnd};
 ghost use Rattle.wu_outside.specs.Faults.{HasCause};
-ghost use Rattle.wu_script.specs.Holding.{Held, Uses, Follows, EndsEarly, HasReadCause};
+ghost use Rattle.wu_script.specs.Holding.{Held, Uses, Follows, EndsEarly, HasReadCause, GivesAtMost, asked_at_once};
 
 use crate::ends::ReadEnd;
 use std::alloc::Global;
@@ -70,6 +70,7 @@ impl Input {
         ensures follows { OnOk result (Follows (I.ended source.new) (I.last_read source.new) self.new) }
         ensures still { 0 < length self.old.bytes → (result ≡ Ok true) × (self.new ≡ self.old) × (source.new ≡ source.old) }
         ensures early { IfErr result (EndsEarly (λ bytes. bytes ≡ []) (I.left source.old) (I.left source.new) (I.last_read source.new) self.old) }
+        ensures brief { GivesAtMost (asked_at_once self.old.spare) (I.left source.old) (I.left source.new) (I.last_read source.old) (I.last_read source.new) }
         ensures cause { HasReadCause (I.faults source.old) (I.faults source.new) result }
     {
         if !self.bytes().is_empty() {
@@ -95,6 +96,7 @@ impl Input {
         ensures over { OnOk result (self.new.ended ≡ true → self.new.bytes ≡ []) }
         ensures follows { OnOk result (Follows (I.ended source.new) (I.last_read source.new) self.new) }
         ensures early { IfErr result (EndsEarly (λ bytes. bytes ≡ []) (I.left source.old) (I.left source.new) (I.last_read source.new) self.old) }
+        ensures brief { GivesAtMost (asked_at_once self.old.spare) (I.left source.old) (I.left source.new) (I.last_read source.old) (I.last_read source.new) }
         ensures cause { HasReadCause (I.faults source.old) (I.faults source.new) result }
     {
         self.at = 0;
@@ -128,7 +130,9 @@ fn read_front<I: Source>(source: &mut I, buffer: &mut [u8], room: usize) -> Resu
     ensures end { MatchResult result
         (λ n. GivesEnd (I.ended source.old) (I.ended source.new) n room)
         (λ _. I.ended source.new ≡ I.ended source.old) }
-    ensures gave { IfOk result (λ n. I.last_read source.new ≡ n) }
+    ensures gave { MatchResult result
+        (λ n. I.last_read source.new ≡ n)
+        (λ _. I.last_read source.new ≡ I.last_read source.old) }
     ensures cause { HasCause (I.faults source.old) (I.faults source.new) result }
 {
     source.read(&mut buffer[..room])
@@ -143,7 +147,7 @@ fn spare_after(spare: u64, count: usize) -> Option<u64>
 
 /// How many bytes to ask for.
 fn room_for(spare: u64) -> usize
-    ensures { result ≡ max 1 (min spare MostAtOnce) }
+    ensures { result ≡ asked_at_once spare }
 {
     (spare.min(READ_MAX as u64) as usize).max(1)
 }

@@ -1,8 +1,8 @@
 //! Items, as they are taken from a source in whatever pieces it gives them.
-ghost use Rattle.std.specs.Prelude.{◌≡◌, ◌≤◌, ◌<◌, [], false, true, length, OnOk, IfErr, IfOk, MatchBool};
-ghost use Rattle.wu_base.specs.declared.limits.TheConstants.{TEXT_MAX as MostOfText};
+ghost use Rattle.std.specs.Prelude.{◌≡◌, ◌≤◌, ◌<◌, [], false, true, length, vec_capacity, OnOk, IfErr, IfOk, MatchBool};
+ghost use Rattle.wu_base.specs.declared.limits.TheConstants.{READ_MAX as MostAtOnce, TEXT_MAX as MostOfText};
 ghost use Rattle.wu_script.specs.Commands.{line_says};
-ghost use Rattle.wu_script.specs.Holding.{Follows, EndsEarly, HasReadCause};
+ghost use Rattle.wu_script.specs.Holding.{Follows, EndsEarly, HasReadCause, GivesAtMost, asked_at_once};
 ghost use Rattle.wu_script.specs.Items.{IsBeforeEnd, TakesItem, TakesBody, first_of, text_at};
 ghost use Rattle.wu_script.specs.Said.{IsSoundItem, IsSoundLine, said_by_line};
 ghost use Rattle.wu_script.specs.Taken.{IsHeard, IsSoundHeard, heard_said};
@@ -37,10 +37,12 @@ pub fn take_item<I: Source>(
 ) -> Result<Item, ReadEnd>
     requires { Follows (I.ended source.old) (I.last_read source.old) input.old }
     ensures follows { OnOk result (Follows (I.ended source.new) (I.last_read source.new) input.new) }
+    ensures few { OnOk result (length input.new.bytes < MostAtOnce) }
     ensures taken { IfOk result (TakesItem (I.left source.old) (I.left source.new) (I.last_read source.new) input.old input.new) }
     ensures sound { IfOk result IsSoundItem }
     ensures idle { (first_of input.old.bytes).closed ≡ true → source.new ≡ source.old }
     ensures early { IfErr result (EndsEarly (λ bytes. (first_of bytes).closed ≡ false) (I.left source.old) (I.left source.new) (I.last_read source.new) input.old) }
+    ensures brief { GivesAtMost (asked_at_once input.old.spare) (I.left source.old) (I.left source.new) (I.last_read source.old) (I.last_read source.new) }
     ensures cause { HasReadCause (I.faults source.old) (I.faults source.new) result }
 {
     let alloc = *line.allocator();
@@ -101,11 +103,13 @@ fn take_text<I: Source>(
     requires node { 1 ≤ ino }
     requires follows { Follows (I.ended source.old) (I.last_read source.old) input.old }
     ensures follows { OnOk result (Follows (I.ended source.new) (I.last_read source.new) input.new) }
+    ensures few { OnOk result (length input.new.bytes < MostAtOnce) }
     ensures taken { IfOk result (TakesBody (I.left source.old) (I.left source.new) (I.last_read source.new) input.old input.new ino len) }
     ensures sound { IfOk result IsSoundItem }
     ensures more { IfOk result IsBeforeEnd }
     ensures idle { (text_at ino len input.old.bytes).closed ≡ true → source.new ≡ source.old }
     ensures early { IfErr result (EndsEarly (λ bytes. (text_at ino len bytes).closed ≡ false) (I.left source.old) (I.left source.new) (I.last_read source.new) input.old) }
+    ensures brief { GivesAtMost (asked_at_once input.old.spare) (I.left source.old) (I.left source.new) (I.last_read source.old) (I.last_read source.new) }
     ensures cause { HasReadCause (I.faults source.old) (I.faults source.new) result }
 {
     let kept = is_kept(len);
@@ -131,7 +135,8 @@ fn is_kept(len: u64) -> bool
 /// Room for a body of this length, if it is to be kept.
 fn body_buffer(alloc: Global, len: u64, kept: bool) -> Result<Vec<u8>, NoMemory>
     requires { kept ≡ true → len ≤ MostOfText }
-    ensures { IfOk result (λ body. body.items ≡ []) }
+    ensures none { IfOk result (λ body. body.items ≡ []) }
+    ensures unkept { IfOk result (λ body. kept ≡ false → vec_capacity body ≡ 0) }
 {
     if kept {
         Ok(Vec::with_capacity(alloc, len as usize)?)

@@ -1,7 +1,8 @@
 //! Lines, as they are taken from a source in whatever pieces it gives them.
-ghost use Rattle.std.specs.Prelude.{◌≡◌, ◌++◌, ◌∷◌, ◌≤◌, ◌<◌, ◌==◌, List, ℕ, [], false, true, length, Ok, Err, OnOk, IfErr, IfOk, MatchOption};
+ghost use Rattle.std.specs.Prelude.{◌≡◌, ◌++◌, ◌∷◌, ◌<◌, ◌==◌, List, ℕ, [], false, true, length, Ok, Err, OnOk, IfErr, IfOk, MatchOption};
 ghost use Rattle.std.specs.List.{list_any};
-ghost use Rattle.wu_script.specs.Holding.{Held, Uses, Follows, EndsEarly, HasReadCause};
+ghost use Rattle.wu_base.specs.declared.limits.TheConstants.{READ_MAX as MostAtOnce};
+ghost use Rattle.wu_script.specs.Holding.{Held, Uses, Follows, EndsEarly, HasReadCause, GivesAtMost, asked_at_once};
 ghost use Rattle.wu_script.specs.Taking.{TakesLine, TakesPiece, Kept, IsOneLine, IsFirstFeed};
 
 use crate::ends::ReadEnd;
@@ -32,8 +33,10 @@ pub fn take_line<I: Source>(
         × TakesLine (I.left source.old) (I.left source.new) (I.last_read source.new) input.old input.new cut.closed text
         × Kept limit text cut.whole line.new.items) }
     ensures follows { OnOk result (Follows (I.ended source.new) (I.last_read source.new) input.new) }
+    ensures few { OnOk result (length input.new.bytes < MostAtOnce) }
     ensures still { list_any (λ byte. byte == 10) input.old.bytes ≡ true → source.new ≡ source.old }
     ensures early { IfErr result (EndsEarly IsOneLine (I.left source.old) (I.left source.new) (I.last_read source.new) input.old) }
+    ensures brief { GivesAtMost (asked_at_once input.old.spare) (I.left source.old) (I.left source.new) (I.last_read source.old) (I.last_read source.new) }
     ensures cause { HasReadCause (I.faults source.old) (I.faults source.new) result }
 {
     line.clear();
@@ -65,6 +68,7 @@ fn take_piece(
 ) -> Result<Cut, NoMemory>
     ensures taken { IfOk result (λ cut. (piece : List ℕ) × TakesPiece input.old input.new cut.closed piece
         × ((text : List ℕ) → Kept limit text whole line.old.items → Kept limit (text ++ piece) cut.whole line.new.items)) }
+    ensures few { IfOk result (λ cut. cut.closed ≡ true → length input.new.bytes < MostAtOnce) }
 {
     let bytes = input.bytes();
     let length = bytes.len();

@@ -1,7 +1,8 @@
 //! The reader that gives a script's items as they come.
-ghost use Rattle.std.specs.Prelude.{◌≡◌, [], false, true, Err, OnOk, IfErr, IfOk};
+ghost use Rattle.std.specs.Prelude.{◌≡◌, ◌<◌, [], false, true, length, Err, OnOk, IfErr, IfOk};
 ghost use Rattle.std.specs.Io.KnownBytes.{IsAtEnd, prepend_known};
-ghost use Rattle.wu_script.specs.Holding.{Held, Follows, GivesTooMuch, HasReadCause};
+ghost use Rattle.wu_base.specs.declared.limits.TheConstants.{READ_MAX};
+ghost use Rattle.wu_script.specs.Holding.{Held, Follows, GivesAtMost, GivesTooMuch, HasReadCause, asked_at_once};
 ghost use Rattle.wu_script.specs.declared.ends.ReadEnd.TheVariants.{InputTooLong};
 
 use crate::ends::ReadEnd;
@@ -59,9 +60,13 @@ impl Reader {
         ensures at_end { OnOk result ((self.old.ended ≡ true → IsAtEnd (I.left source.old)) → self.new.ended ≡ true → IsAtEnd (I.left source.new)) }
         ensures sound { IfOk result IsSoundItem }
         ensures idle { (first_of self.old.bytes).closed ≡ true → source.new ≡ source.old }
-        // No item was whole where reading ended, and the source gave no more than it may, or one byte more.
+        // After each item fewer than READ_MAX bytes are held. The last read of this call gave no more than is asked for at once,
+        // or the source, as far as it tells, gave nothing.
+        ensures few { OnOk result (length self.new.bytes < READ_MAX) }
+        ensures brief { GivesAtMost (asked_at_once self.old.spare) (I.left source.old) (I.left source.new) (I.last_read source.old) (I.last_read source.new) }
+        // No item was whole where reading ended, and the source gave no more than it may, or one byte more, which came alone.
         ensures early { IfErr result (EndsBeforeItem (I.left source.old) (I.left source.new) (I.last_read source.new) self.old) }
-        ensures long { result ≡ Err InputTooLong → GivesTooMuch (I.left source.old) (I.left source.new) self.old }
+        ensures long { result ≡ Err InputTooLong → GivesTooMuch (I.left source.old) (I.left source.new) (I.last_read source.new) self.old }
         // The source's count of faults is as it was on every answer but `ReadFault`, which comes only where it rose.
         ensures cause { HasReadCause (I.faults source.old) (I.faults source.new) result }
     {

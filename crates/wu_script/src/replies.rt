@@ -4,7 +4,7 @@ ghost use Rattle.std.specs.List.{flat_map};
 ghost use Rattle.wu_script.specs.Replies.{reply_bytes, answer_bytes, refusal_word, fault_word, why_word, worked_word, stat_line, path_line, find_line, rank_line};
 
 use crate::types::{Reply, Why};
-use wu_ask::{Answered, FindLine, RankLine};
+use wu_ask::{Answered, Found, RankLine};
 use wu_base::{Bytes, NoMemory, Stat, Worked};
 use wu_fields::{put_decimal, put_field};
 use wu_gcl::ExprFault;
@@ -143,12 +143,7 @@ fn append_line(out: &mut Vec<u8>, path: &[u8]) -> Result<(), NoMemory>
 
 /// Appends the lines of what was found: how many regions there are, in how many files, how many are
 /// shown, and each of these.
-fn append_found(
-    out: &mut Vec<u8>,
-    hits: u64,
-    files: u64,
-    shown: &[FindLine],
-) -> Result<(), NoMemory>
+fn append_found(out: &mut Vec<u8>, hits: u64, files: u64, shown: &[Found]) -> Result<(), NoMemory>
     ensures ok { OnOk result (out.new.items ≡ out.old.items ++ (codes "find\t" ++ decimal hits ++ 9 ∷ [] ++ decimal files ++ 9 ∷ [] ++ decimal (length shown.now) ++ 10 ∷ [] ++ flat_map find_line shown.now)) }
     ensures err { OnErr result ((more : List ℕ) × (out.new.items ≡ out.old.items ++ more)) }
 {
@@ -172,7 +167,7 @@ fn append_found_counts(out: &mut Vec<u8>, hits: u64, files: u64, shown: u64) -> 
 }
 
 /// Appends each region that was found on a line of its own.
-fn append_find_lines(out: &mut Vec<u8>, shown: &[FindLine]) -> Result<(), NoMemory>
+fn append_find_lines(out: &mut Vec<u8>, shown: &[Found]) -> Result<(), NoMemory>
     ensures ok { OnOk result (out.new.items ≡ out.old.items ++ flat_map find_line shown.now) }
     ensures err { OnErr result ((more : List ℕ) × (out.new.items ≡ out.old.items ++ more)) }
 {
@@ -183,7 +178,7 @@ fn append_find_lines(out: &mut Vec<u8>, shown: &[FindLine]) -> Result<(), NoMemo
 }
 
 /// Appends a region that was found on a line of its own.
-fn append_find_line(out: &mut Vec<u8>, line: &FindLine) -> Result<(), NoMemory>
+fn append_find_line(out: &mut Vec<u8>, line: &Found) -> Result<(), NoMemory>
     ensures ok { OnOk result (out.new.items ≡ out.old.items ++ find_line line.now) }
     ensures err { OnErr result ((more : List ℕ) × (out.new.items ≡ out.old.items ++ more)) }
 {
@@ -195,7 +190,7 @@ fn append_find_line(out: &mut Vec<u8>, line: &FindLine) -> Result<(), NoMemory>
     out.push(b'\t')?;
     put_decimal(out, line.line)?;
     out.push(b'\t')?;
-    put_field(out, line.bytes.as_slice())?;
+    put_field(out, line.snippet.as_slice())?;
     out.push(b'\n')?;
     Ok(())
 }

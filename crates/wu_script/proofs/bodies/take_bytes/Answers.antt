@@ -1,9 +1,10 @@
 use Rattle.std.proofs.Common.{◌++◌, ◌<◌, [], refl, Ok, length, take, ap, ◌∙◌, append_assoc, append-nil, length-append, sym, arith}
 use Rattle.std.proofs.lemmas.List.{length-take}
-use Rattle.wu_script.specs.Holding.{Held}
+use Rattle.wu_script.specs.Holding.{Held, GivesAtMost, asked_at_once}
 use Rattle.wu_script.specs.declared.ends.ReadEnd.TheVariants.{NoMemory}
 use Rattle.wu_script.proofs.InputLemmas.{Uses-none, Uses-filled, part_taken, part_follows}
 use Rattle.wu_script.proofs.EarlyEndLemmas.{UsesShort, EndsEarly-filling, EndsEarly-filled, IsCounted-after, cause_of}
+use Rattle.wu_script.proofs.ReadLemmas.{GivesAtMost-none, GivesAtMost-then}
 use Rattle.wu_script.proofs.bodies.take_bytes.Given as given
 use Rattle.wu_script.proofs.bodies.take_bytes.Goals as goal
 use Rattle.wu_script.proofs.bodies.take_bytes.Goals.{After-fill}
@@ -29,9 +30,25 @@ parts-init g c = record {
         (append-nil c.args.body.now.items),
   );
   follows = c.requires;
+  brief =
+      GivesAtMost-none (asked_at_once c.args.input.now.spare) (g.I.Source.left c.args.source.now) (g.I.Source.last_read c.args.source.now);
+  unkept = λ e. refl;
   steady = refl;
   still = λ all. (refl, all);
 }
+
+-- a filling after the parts so far asks for no more
+filled : (g : given.Over) (c : After-fill g)
+    → GivesAtMost (asked_at_once c.parts.input.spare) (g.I.Source.left c.parts.source) (g.I.Source.left c.fill.new.source)
+    (g.I.Source.last_read c.parts.source) (g.I.Source.last_read c.fill.new.source)
+    → GivesAtMost (asked_at_once c.args.input.now.spare) (g.I.Source.left c.args.source.now) (g.I.Source.left c.fill.new.source)
+    (g.I.Source.last_read c.args.source.now) (g.I.Source.last_read c.fill.new.source)
+filled g c few =
+    let left = g.I.Source.left in
+    let last_read = g.I.Source.last_read in
+    GivesAtMost-then c.args.input.now.spare c.parts.input.spare (left c.args.source.now) (left c.parts.source) (left c.fill.new.source)
+    (last_read c.args.source.now) (last_read c.parts.source) (last_read c.fill.new.source)
+    (omega (arith, c.parts.invariant.so_far.1.counted)) c.parts.invariant.brief few
 
 pub parts-preserved : goal.parts-preserved
 parts-preserved g c =
@@ -51,6 +68,8 @@ parts-preserved g c =
       );
       follows = part_follows (g.I.Source.ended c.fill.new.source)
           (g.I.Source.last_read c.fill.new.source) n c.fill.new.self c.take_part.new.input c.in-Ok-true.ensures.follows c.in_ok-part.ensures.rest;
+      brief = filled g (goal.at.parts-preserved g c).After-fill c.in-Ok-true.ensures.brief;
+      unkept = λ e. c.take_part.ensures.unkept e ∙ c.parts.invariant.unkept e;
       steady = c.in-Ok-true.ensures.cause ∙ c.parts.invariant.steady;
       still = λ all.
           let still = c.parts.invariant.still all in
@@ -103,3 +122,15 @@ returns-clause-cause g c = c.parts.invariant.steady
 
 pub returns-clause-follows : goal.returns-clause-follows
 returns-clause-follows g c = c.parts.invariant.follows
+
+pub returns-in-Ok-false-clause-brief : goal.returns-in-Ok-false-clause-brief
+returns-in-Ok-false-clause-brief g c = filled g (goal.at.returns-in-Ok-false-clause-brief g c).After-fill c.in-Ok-false.ensures.brief
+
+pub returns-in-Err-clause-brief : goal.returns-in-Err-clause-brief
+returns-in-Err-clause-brief g c = filled g (goal.at.returns-in-Err-clause-brief g c).After-fill c.in-Err.ensures.brief
+
+pub returns-in_err-part-clause-brief : goal.returns-in_err-part-clause-brief
+returns-in_err-part-clause-brief g c = filled g (goal.at.returns-in_err-part-clause-brief g c).After-fill c.in-Ok-true.ensures.brief
+
+pub returns-clause-brief : goal.returns-clause-brief
+returns-clause-brief g c = c.parts.invariant.brief

@@ -1,4 +1,4 @@
-use Rattle.std.proofs.Common.{◌≡◌, ◌++◌, ◌<◌, List, ℕ, [], true, false, length, take, refl, sym, subst, ◌∙◌}
+use Rattle.std.proofs.Common.{◌≡◌, ◌++◌, ◌<◌, List, ℕ, [], true, false, length, take, refl, sym, subst, ◌∙◌, arith}
 use Rattle.wu_script.specs.Holding.{EndsEarly}
 use Rattle.wu_script.specs.Taking.{closing, IsOneLine}
 use Rattle.wu_script.specs.Taken.{IsSoundHeard}
@@ -9,6 +9,7 @@ use Rattle.wu_script.specs.declared.items.Heard.TheVariants as heard
 use Rattle.wu_script.proofs.InputLemmas.{Uses-trans}
 use Rattle.wu_script.proofs.LineLemmas.{one_line, kept_whole, kept_long, nothing_used}
 use Rattle.wu_script.proofs.EarlyEndLemmas.{EndsEarly-memory, EndsEarly-also, EndsEarly-after, Uses-first_of, if_end}
+use Rattle.wu_script.proofs.ReadLemmas.{GivesAtMost-then}
 use Rattle.wu_script.proofs.UnclosedLemmas.{one_line-take, line_open, closed_feed, head_open, headed_open, body_held, closing_recent}
 use Rattle.wu_script.proofs.ItemLemmas.{long_item, heard_as, heard_item, head_says, head_item, item_before_end}
 use Rattle.wu_script.proofs.items.take_item.Given as given
@@ -127,3 +128,19 @@ returns-in-Err-clause-early g c =
     (λ more none short. headed_open c.in-TextHead.ino c.in-TextHead.len taken.0 more closed taken.1.one head
     (λ unclosed. none (taken.1.last.end unclosed).0 (taken.1.last.end unclosed).1) short)
     c.in-Err.ensures.early
+
+pub returns-in-Err-clause-brief : goal.returns-in-Err-clause-brief
+returns-in-Err-clause-brief g c =
+    let left = g.I.Source.left in
+    let last_read = g.I.Source.last_read in
+    GivesAtMost-then c.args.input.now.spare c.take_line.new.input.spare (left c.args.source.now) (left c.take_line.new.source)
+    (left c.take_text.new.source) (last_read c.args.source.now) (last_read c.take_line.new.source) (last_read c.take_text.new.source)
+    (omega (arith, c.in_ok-cut.ensures.taken.1.uses.counted)) c.in_ok-cut.ensures.brief c.in-Err.ensures.brief
+
+pub returns-in-Ok-clause-brief : goal.returns-in-Ok-clause-brief
+returns-in-Ok-clause-brief g c =
+    let left = g.I.Source.left in
+    let last_read = g.I.Source.last_read in
+    GivesAtMost-then c.args.input.now.spare c.take_line.new.input.spare (left c.args.source.now) (left c.take_line.new.source)
+    (left c.take_text.new.source) (last_read c.args.source.now) (last_read c.take_line.new.source) (last_read c.take_text.new.source)
+    (omega (arith, c.in_ok-cut.ensures.taken.1.uses.counted)) c.in_ok-cut.ensures.brief c.in-Ok.ensures.brief

@@ -6,6 +6,7 @@ use Rattle.wu_script.proofs.InputLemmas.{Uses-trans}
 use Rattle.wu_script.proofs.EarlyEndLemmas.{EndsEarly-after}
 use Rattle.wu_script.proofs.UnclosedLemmas.{tail_held, closed_body, text_open-body, text_open-line}
 use Rattle.wu_script.proofs.ItemLemmas.{taken_body}
+use Rattle.wu_script.proofs.ReadLemmas.{GivesAtMost-then}
 use Rattle.wu_script.proofs.items.take_text.Goals as goal
 
 pub returns-clause-taken : goal.returns-clause-taken
@@ -22,7 +23,7 @@ returns-clause-taken g c =
           (g.I.Source.last_read c.take_line.new.source) c.take_line.new.input c.args.ino c.args.len c.text_item.result taken.0 tail.0 c.take_bytes.new.body.items c.take_line.new.line.items
           closed c.is_kept-kept.result c.in-Ok.tail.whole (taken.1.whole c.if-not-all.false) tail.1.one tail.1.last (record {
             fits = c.is_kept-kept.ensures;
-            same = λ kept. taken.2 kept ∙ ap (λ xs. xs ++ taken.0) c.in_ok-body.ensures;
+            same = λ kept. taken.2 kept ∙ ap (λ xs. xs ++ taken.0) c.in_ok-body.ensures.none;
             rest = tail.2;
             long = c.text_item.ensures.long;
             bad = c.text_item.ensures.bad;
@@ -37,7 +38,7 @@ kept_small len false is e = cc (e)
 pub returns-clause-sound : goal.returns-clause-sound
 returns-clause-sound g c = c.text_item.ensures.sound c.requires.node (λ kept.
     let taken = c.in_ok-all.ensures.taken in
-    let same = taken.2 kept ∙ ap (λ xs. xs ++ taken.0) c.in_ok-body.ensures in
+    let same = taken.2 kept ∙ ap (λ xs. xs ++ taken.0) c.in_ok-body.ensures.none in
     omega (arith, ap length same, taken.1.whole c.if-not-all.false, kept_small c.args.len c.is_kept-kept.result c.is_kept-kept.ensures kept))
 
 pub returns-in-Err-clause-idle : goal.returns-in-Err-clause-idle
@@ -69,3 +70,19 @@ returns-in-Err-clause-early g c =
     (λ n. text_open-body c.args.ino c.args.len n taken.0 size)
     (λ more _ one. text_open-line c.args.ino c.args.len taken.0 more size one)
     c.in-Err.ensures.early
+
+pub returns-in-Err-clause-brief : goal.returns-in-Err-clause-brief
+returns-in-Err-clause-brief g c =
+    let left = g.I.Source.left in
+    let last_read = g.I.Source.last_read in
+    GivesAtMost-then c.args.input.now.spare c.take_bytes.new.input.spare (left c.args.source.now) (left c.take_bytes.new.source)
+    (left c.take_line.new.source) (last_read c.args.source.now) (last_read c.take_bytes.new.source) (last_read c.take_line.new.source)
+    (omega (arith, c.in_ok-all.ensures.taken.1.uses.counted)) c.in_ok-all.ensures.brief c.in-Err.ensures.brief
+
+pub returns-clause-brief : goal.returns-clause-brief
+returns-clause-brief g c =
+    let left = g.I.Source.left in
+    let last_read = g.I.Source.last_read in
+    GivesAtMost-then c.args.input.now.spare c.take_bytes.new.input.spare (left c.args.source.now) (left c.take_bytes.new.source)
+    (left c.take_line.new.source) (last_read c.args.source.now) (last_read c.take_bytes.new.source) (last_read c.take_line.new.source)
+    (omega (arith, c.in_ok-all.ensures.taken.1.uses.counted)) c.in_ok-all.ensures.brief c.in-Ok.ensures.brief

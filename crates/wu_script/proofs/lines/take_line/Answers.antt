@@ -1,7 +1,9 @@
-use Rattle.std.proofs.Common.{◌++◌, refl, ◌∙◌}
+use Rattle.std.proofs.Common.{◌++◌, refl, ◌∙◌, arith}
+use Rattle.wu_script.specs.Holding.{GivesAtMost, asked_at_once}
 use Rattle.wu_script.specs.Taking.{IsOneLine}
 use Rattle.wu_script.specs.declared.ends.ReadEnd.TheVariants.{NoMemory}
 use Rattle.wu_script.proofs.EarlyEndLemmas.{UsesShort, EndsEarly-filling, EndsEarly-filled, IsCounted-after, cause_of}
+use Rattle.wu_script.proofs.ReadLemmas.{GivesAtMost-then}
 use Rattle.wu_script.proofs.UnclosedLemmas.{one_line-take}
 use Rattle.wu_script.proofs.LineLemmas.{one_line, piece_taken, piece_follows, piece_ends, piece_open, feed_held, no_feed_held}
 use Rattle.wu_script.proofs.lines.take_line.Given as given
@@ -37,6 +39,19 @@ returns-then-piece-clause-still g c = λ feed.
     let still = c.pieces.invariant.still feed in
     (c.in-Ok-true.ensures.still (feed_held c.pieces.input c.args.input.now still.0 feed)).2 ∙ still.1
 
+-- a filling after the pieces so far asks for no more
+filled : (g : given.Over) (c : After-fill g)
+    → GivesAtMost (asked_at_once c.pieces.input.spare) (g.I.Source.left c.pieces.source) (g.I.Source.left c.fill.new.source)
+    (g.I.Source.last_read c.pieces.source) (g.I.Source.last_read c.fill.new.source)
+    → GivesAtMost (asked_at_once c.args.input.now.spare) (g.I.Source.left c.args.source.now) (g.I.Source.left c.fill.new.source)
+    (g.I.Source.last_read c.args.source.now) (g.I.Source.last_read c.fill.new.source)
+filled g c few =
+    let left = g.I.Source.left in
+    let last_read = g.I.Source.last_read in
+    GivesAtMost-then c.args.input.now.spare c.pieces.input.spare (left c.args.source.now) (left c.pieces.source) (left c.fill.new.source)
+    (last_read c.args.source.now) (last_read c.pieces.source) (last_read c.fill.new.source)
+    (omega (arith, c.pieces.invariant.so_far.1.counted)) c.pieces.invariant.brief few
+
 pub pieces-preserved : goal.pieces-preserved
 pieces-preserved g c =
     let text = c.pieces.invariant.so_far.0 in
@@ -58,6 +73,7 @@ pieces-preserved g c =
       );
       follows = piece_follows (g.I.Source.ended c.fill.new.source)
           (g.I.Source.last_read c.fill.new.source) c.fill.new.self c.take_piece.new.input c.in_ok-piece.piece.closed piece c.in-Ok-true.ensures.follows taken;
+      brief = filled g (goal.at.pieces-preserved g c).After-fill c.in-Ok-true.ensures.brief;
       steady = c.in-Ok-true.ensures.cause ∙ c.pieces.invariant.steady;
       still = λ feed.
           let still = c.pieces.invariant.still feed in
@@ -117,3 +133,18 @@ returns-then-piece-clause-follows g c =
     piece_follows (g.I.Source.ended c.fill.new.source)
     (g.I.Source.last_read c.fill.new.source) c.fill.new.self c.take_piece.new.input c.in_ok-piece.piece.closed c.in_ok-piece.ensures.taken.0
     c.in-Ok-true.ensures.follows c.in_ok-piece.ensures.taken.1
+
+pub returns-in-Ok-false-clause-brief : goal.returns-in-Ok-false-clause-brief
+returns-in-Ok-false-clause-brief g c = filled g (goal.at.returns-in-Ok-false-clause-brief g c).After-fill c.in-Ok-false.ensures.brief
+
+pub returns-in-Err-clause-brief : goal.returns-in-Err-clause-brief
+returns-in-Err-clause-brief g c = filled g (goal.at.returns-in-Err-clause-brief g c).After-fill c.in-Err.ensures.brief
+
+pub returns-in_err-piece-clause-brief : goal.returns-in_err-piece-clause-brief
+returns-in_err-piece-clause-brief g c = filled g (goal.at.returns-in_err-piece-clause-brief g c).After-fill c.in-Ok-true.ensures.brief
+
+pub returns-then-piece-clause-brief : goal.returns-then-piece-clause-brief
+returns-then-piece-clause-brief g c = filled g (goal.at.returns-then-piece-clause-brief g c).After-fill c.in-Ok-true.ensures.brief
+
+pub returns-then-piece-clause-few : goal.returns-then-piece-clause-few
+returns-then-piece-clause-few g c = c.in_ok-piece.ensures.few c.if-piece.true

@@ -1,6 +1,6 @@
 use Rattle.std.proofs.Common.{◌≡◌, ◌+◌, ◌==◌, ℕ, true, List, length}
 use Rattle.std.specs.List.{list_any}
-use Rattle.wu_script.specs.Holding.{Uses, Follows}
+use Rattle.wu_script.specs.Holding.{Uses, Follows, GivesAtMost, asked_at_once}
 use Rattle.wu_script.specs.Taking.{Kept, IsOneLine}
 use Rattle.wu_script.proofs.lines.take_line.Given as goal
 
@@ -10,6 +10,8 @@ invariant-pieces g l = record {
   so_far : (text : List ℕ) × Uses (g.I.Source.left l.fn.source) (g.I.Source.left l.source) l.fn.input l.input text × IsOneLine text
       × Kept l.limit text l.whole l.line.items;
   follows : Follows (g.I.Source.ended l.source) (g.I.Source.last_read l.source) l.input;
+  brief : GivesAtMost (asked_at_once l.fn.input.spare) (g.I.Source.left l.fn.source) (g.I.Source.left l.source)
+      (g.I.Source.last_read l.fn.source) (g.I.Source.last_read l.source);
   steady : g.I.Source.faults l.source ≡ g.I.Source.faults l.fn.source;
   still : list_any (λ byte. byte == 10) l.fn.input.bytes ≡ true → (l.input ≡ l.fn.input) × (l.source ≡ l.fn.source);
 }
