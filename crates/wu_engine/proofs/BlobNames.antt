@@ -1,13 +1,14 @@
 -- A step names each blob that it draws, and leaves a name to each that had one.
-use Rattle.std.proofs.Common.{◌≡◌, ℕ, zero, suc, ◌+◌, ◌<◌, ◌≤◌, ◌==◌, Bool, true, false, cond, if◌then◌else◌, List, [], ◌∷◌, ◌++◌, length, drop, map, count_by, Option, None, Some, is_some, refl, ap, sym, ◌∙◌, subst, ⊎_elim, arith}
+use Rattle.std.proofs.Common.{◌≡◌, ℕ, zero, suc, ◌+◌, ◌<◌, ◌≤◌, ◌==◌, Bool, true, false, cond, if◌then◌else◌, List, [], ◌∷◌, ◌++◌, length, drop, map, count_by, Option, None, Some, refl, ap, ◌∙◌, subst, ⊎_elim, arith}
 use Rattle.std.specs.Prelude.{nat_le}
 use Rattle.std.specs.Ordering.{nat_cmp}
 use Rattle.std.specs.List.Sorted.{IsStrictlySortedBy}
 use Rattle.std.specs.Map.{keys_of}
 use Rattle.std.specs.BTreeMap.{is_at, insert_entry}
-use Rattle.std.proofs.lemmas.Bool.{cases_lt, false≢true}
+use Rattle.std.proofs.lemmas.Bool.{cases_lt}
 use Rattle.std.proofs.lemmas.Map.{none_passes_from_lookup}
 use Rattle.wu_base.proofs.MapEntries.{counted-insert_entry}
+use Rattle.wu_base.proofs.Options.{not_some}
 use Rattle.wu_tree.specs.declared.events.Event.{Event}
 use Rattle.wu_tree.specs.declared.events.Effect.{Effect}
 use Rattle.wu_tree.specs.FileSystems.{FileSystem}
@@ -218,10 +219,6 @@ drawn_by_save (posting ∷ postings) layout number from to =
 
 -- ---- events
 
-not_there : (o : Option FileEntry) → is_some o ≡ false → o ≡ None
-not_there None h = refl
-not_there (Some entry) h = absurd (false≢true (sym h))
-
 -- a file's entry is gone with its range
 none_without : (o : Option ℕ) (layout : Layout) → IsStrictlySortedBy nat_cmp (keys_of layout.files) → (ino : ℕ) → o ≡ Some ino
     → entry_of (layout_without o layout).files ino ≡ None
@@ -248,7 +245,7 @@ module _ (s : State) (is : IsState s) (tree : FileSystem) (effect : Effect) (tel
       (names_then s.layout dropped_layout made_layout
       (names_without effect.dropped s.layout)
       (names_with effect.made [] dropped_layout
-      (λ ino e. not_there (entry_of dropped_layout.files ino)
+      (λ ino e. not_some (entry_of dropped_layout.files ino)
       ((left_kept s tree effect tells change text is.layout).ranges.of_files ino
       ∙ made_absent s tree effect tells change text is.layout ino e))))
       (names_without effect.texted made_layout))

@@ -17,6 +17,7 @@ use Rattle.wu_job.specs.Jobs.{IsRight}
 use Rattle.wu_parts.specs.Contents.{Contents, JobAt}
 use Rattle.wu_parts.specs.Loading.{HasNoDirectory, IsFirstBroken}
 use Rattle.wu_parts.specs.Working.{IsDamaged}
+use Rattle.wu_parts.proofs.UnitChains.{broken_parts}
 use Rattle.wu_image.specs.Breakage.{HasBrokenPart, IsBrokenCheckpoint, IsBrokenRoot}
 use Rattle.wu_image.specs.Texts.{IsBrokenText}
 use Rattle.wu_image.specs.declared.checkpoints.Checkpoint.{Checkpoint}
@@ -111,8 +112,10 @@ pub worked_is_broken : (start : Content) (holds : Option Content) (files : Recor
 worked_is_broken start None files contents checkpoint blob sound damaged = absurd sound
 worked_is_broken start (Some content) files contents checkpoint blob sound damaged =
     parts_broken start content blob (zip contents.parts contents.directories) sound.parts
-    (damaged
-    (IfSome-map (IsSoundJob content contents) (λ (running : JobAt). IsRight content running.state) contents.job (λ running job. job.1) sound.job))
+    (broken_parts content contents.job blob (zip contents.parts contents.directories)
+    (IfSome-map (IsSoundJob content contents) (λ (running : JobAt). IsRight content running.state) contents.job (λ running job. job.1)
+    sound.job)
+    damaged)
 
 -- ---- at opening
 

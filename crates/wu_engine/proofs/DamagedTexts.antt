@@ -1,6 +1,6 @@
 -- A text that a query finds damaged is one that it reads, of a file of the user's.
 use Rattle.std.proofs.Common.{◌≡◌, ℕ, zero, suc, ◌+◌, ◌<◌, ◌==◌, ◌∙◌, Bool, true, false, cond, List, [], ◌∷◌, ◌++◌, length, take, drop, min, map, refl, sym, ap, subst, inl, inr, ⊎_elim, arith}
-use Rattle.std.specs.Prelude.{Option, None, Some, Result, IfErr, IsErrAnd, nat_lt}
+use Rattle.std.specs.Prelude.{Option, None, Some, Result, IfErr, IsErrAnd, nat_lt, option_map}
 use Rattle.std.specs.Option.{IsSomeAnd}
 use Rattle.std.specs.List.{list_any}
 use Rattle.std.proofs.Math.Dec.{eqb-suc-zero}
@@ -31,7 +31,7 @@ use Rattle.wu_engine.specs.Units.{found_in, list_at, units_in}
 use Rattle.wu_engine.proofs.FilesWithExtents.{looked_texts}
 use Rattle.wu_engine.proofs.FoundLines.{none_shown}
 use Rattle.wu_engine.proofs.PassedCauses.{err_from}
-use Rattle.wu_engine.proofs.ReadCauses.{broken_file, cause_after}
+use Rattle.wu_engine.proofs.ReadCauses.{broken_file, cause_after, cause_behind}
 
 -- ---- one file
 
@@ -101,18 +101,21 @@ module _ (frames : Frames) (contents : Contents) (files : Records) (holds : Opti
         (looked_texts frames live s uid is region terms are files lists (lists_are s tells) k few records) broken.0;
   }
 
--- a trouble with a text, after calls that changed nothing of the store
+-- a trouble with a text, after calls that only read of the store
 pub cause_of_text : {T : Type 0} (r : Result T Trouble) (frames : Frames) (contents : Contents) (files : Records)
     (holds : Option Content) {trouble : Trouble} → IsErrAnd r (λ error. error ≡ trouble)
     → (region : Region) (terms : List (List ℕ)) → AreTerms region terms → (lists : List TermList)
     → ((s : State) → TellsPostings contents holds s → lists ≡ map (list_at (found_in frames.ranges s)) terms)
     → (k : ℕ) (few : Bool) {holds_then : Option Content} {before middle now : ℕ} → holds_then ≡ holds → middle ≡ before
-    → IsCause (IsBrokenShown files holds_then region lists k (looked_through few region lists frames)) middle now trouble
-    → IfErr r (IsCause (IsDamagedOver frames (Finding k region) contents files holds) before now)
-cause_of_text r frames contents files holds {trouble} is region terms are lists lists_are k few same calm cause =
+    → (first : Option (List ReadRange)) {between last : Option (List ReadRange)} (read : List ReadRange)
+    → between ≡ option_map (λ earlier. earlier ++ read) first
+    → IsCause (IsBrokenShown files holds_then region lists k (looked_through few region lists frames)) middle now between last trouble
+    → IfErr r (IsCause (IsDamagedOver frames (Finding k region) contents files holds) before now first last)
+cause_of_text r frames contents files holds {trouble} is region terms are lists lists_are k few same calm first read earlier cause =
     err_from _ r trouble is
+    (cause_behind read earlier
     (cause_after calm cause
-    (λ blob broken. inr (text_needed frames contents files holds region terms are lists lists_are k few blob (rw same at broken))))
+    (λ blob broken. inr (text_needed frames contents files holds region terms are lists lists_are k few blob (rw same at broken)))))
 
 -- ---- any damage of a query
 

@@ -10,6 +10,7 @@ use Rattle.wu_base.specs.declared.addresses.Range.{Range}
 use Rattle.wu_base.specs.declared.addresses.TermList.{TermList}
 use Rattle.wu_base.specs.declared.troubles.Trouble.{Trouble}
 use Rattle.wu_base.specs.declared.troubles.Trouble.TheVariants.{NoMemory}
+use Rattle.wu_base.proofs.EachLemmas.{each-append}
 use Rattle.wu_outside.specs.Content.{Content}
 use Rattle.wu_outside.specs.declared.ranges.ReadRange.{ReadRange}
 use Rattle.wu_lists.specs.declared.blocks.Block.{Block}
@@ -19,7 +20,6 @@ use Rattle.wu_engine.specs.Asked.{blocks_for}
 use Rattle.wu_engine.specs.Searched.{TellsPostings}
 use Rattle.wu_engine.specs.States.{State}
 use Rattle.wu_engine.specs.Units.{IsCauseFor, list_at, wanted}
-use Rattle.wu_layout.proofs.EachLemmas.{each-append}
 use Rattle.wu_lists.proofs.Asking.{asks-join}
 use Rattle.wu_engine.proofs.Asking.{fails_after, fails_then}
 use Rattle.wu_engine.proofs.PassedCauses.{err_from}

@@ -2,6 +2,7 @@
 use Rattle.std.proofs.Common.{◌≡◌, ℕ, List, Bool, true, false, cond, refl, ap, sym, ◌∙◌, subst, inl, inr, ⊎_elim}
 use Rattle.std.specs.Prelude.{Option, Some, None, Ok, ◌&&◌}
 use Rattle.std.proofs.lemmas.Bool.{or_parts}
+use Rattle.wu_base.proofs.Options.{none_either_way}
 use Rattle.wu_tree.specs.declared.events.Event.{Event}
 use Rattle.wu_tree.specs.declared.events.Event.TheVariants.{User, Mkdir, Create, Text, Link, Unlink, Rmdir, Rename, Chmod, Chown}
 use Rattle.wu_tree.specs.declared.events.Effect.{Effect}
@@ -76,12 +77,8 @@ module _ (fs : FileSystem) where
   dropped_file q c true false f h = absurd (none_some q h)
   dropped_file q c false last f h = absurd (none_some q h)
 
-  cond_none : (b : Bool) → cond {A = Option ℕ} b None None ≡ None
-  cond_none true = refl
-  cond_none false = refl
-
   dropped_child : (q : ℕ) (last : Bool) (o : Option ℕ) → cond (is_file fs (named o) && last) o None ≡ Some q → is_file fs q ≡ true
-  dropped_child q last None h = absurd (none_some q (sym (cond_none (is_file fs 0 && last)) ∙ h))
+  dropped_child q last None h = absurd (none_some q (sym (none_either_way (is_file fs 0 && last)) ∙ h))
   dropped_child q last (Some c) h = dropped_file q c (is_file fs c) last refl h
 
   dropped : (parent : ℕ) (name : List ℕ) → ChangesFiles fs (record no_effect { dropped = dropped_at fs parent name })

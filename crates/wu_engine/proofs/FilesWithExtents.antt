@@ -14,7 +14,7 @@ use Rattle.wu_base.specs.declared.addresses.TermList.{TermList}
 use Rattle.wu_base.proofs.Members.{Has, Has-from_Contains, Contains-from_Has, all_from_has}
 use Rattle.wu_ask.specs.declared.Answered.TheVariants.{Find}
 use Rattle.wu_ask.specs.Questions.{Finding}
-use Rattle.wu_ask.specs.declared.FindLine.{FindLine}
+use Rattle.wu_ask.specs.declared.Found.{Found}
 use Rattle.wu_gcl.specs.Extents.{token_hits}
 use Rattle.wu_gcl.specs.Regions.{Region}
 use Rattle.wu_gcl.specs.Terms.{AreTerms}
@@ -53,7 +53,7 @@ Covers hits units place (file ∷ files) =
     (list_any (is_at_place place) units ≡ false → hits file ≡ 0) × Covers hits units (place + 1) files
 
 module _ (hits : Seen → ℕ) (units : List RankedUnit) where
-  lines_left : (lines : Seen → List FindLine) → ((file : Seen) → hits file ≡ 0 → lines file ≡ []) → (place : ℕ) (files : List Seen)
+  lines_left : (lines : Seen → List Found) → ((file : Seen) → hits file ≡ 0 → lines file ≡ []) → (place : ℕ) (files : List Seen)
       → Covers hits units place files → flat_map lines (with_units units place files) ≡ flat_map lines files
   lines_left lines none place [] cover = refl
   lines_left lines none place (file ∷ files) cover =
@@ -62,8 +62,8 @@ module _ (hits : Seen → ℕ) (units : List RankedUnit) where
             → flat_map lines (with_units units (place + 1) files) ≡ flat_map lines files
             → flat_map lines (cond b (file ∷ with_units units (place + 1) files) (with_units units (place + 1) files))
             ≡ lines file ++ flat_map lines files
-        by true is rest = ap (λ (ls : List FindLine). lines file ++ ls) rest
-        by false is rest = rest ∙ sym (ap (λ (ls : List FindLine). ls ++ flat_map lines files) (none file (cover.0 is)))
+        by true is rest = ap (λ (ls : List Found). lines file ++ ls) rest
+        by false is rest = rest ∙ sym (ap (λ (ls : List Found). ls ++ flat_map lines files) (none file (cover.0 is)))
 
   texts_left : (text : Seen → List ReadRange) (place k : ℕ) (files : List Seen) → Covers hits units place files
       → texts_shown hits text k (with_units units place files) ≡ texts_shown hits text k files
@@ -221,7 +221,7 @@ looked_few region lists frames is found_is view_is seen_is =
 module _ (frames : Frames) (live : Ranges) (s : State) (uid : ℕ) (is : Indexes frames live s uid)
     (region : Region) (terms : List (List ℕ)) (are : AreTerms region terms) (files : Records) (lists : List TermList)
     (lists_are : lists ≡ map (list_at (found_in frames.ranges s)) terms) (k : ℕ) (few : Bool) where
-  pub looked_answer : (holds : Option Content) (hits number : ℕ) (shown : List FindLine) → KeepsTexts files holds s
+  pub looked_answer : (holds : Option Content) (hits number : ℕ) (shown : List Found) → KeepsTexts files holds s
       → hits ≡ length (frames_hits region lists frames.ranges)
       → number ≡ count_by (λ frame. nat_lt 0 (length (frame_hits region lists frame))) frames.ranges
       → IfSome holds (λ content. shown ≡ take k (flat_map (lines_at content files region lists) (looked_through few region lists frames)))

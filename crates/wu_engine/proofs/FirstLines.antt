@@ -6,7 +6,7 @@ use Rattle.std.proofs.lemmas.List.{length-take, drop_more, take-map}
 use Rattle.wu_outside.specs.Content.{Content}
 use Rattle.wu_outside.specs.declared.ranges.ReadRange.{ReadRange}
 use Rattle.wu_lists.proofs.Asking.{ranges-none}
-use Rattle.wu_ask.specs.declared.FindLine.{FindLine}
+use Rattle.wu_ask.specs.declared.Found.{Found}
 use Rattle.wu_ask.specs.Questions.{Counting, Ranking, ListingPaths}
 use Rattle.wu_base.specs.declared.addresses.Extent.{Extent}
 use Rattle.wu_base.specs.declared.addresses.TermList.{TermList}
@@ -20,17 +20,17 @@ use Rattle.wu_engine.specs.Records.{Records, record_at}
 use Rattle.wu_engine.specs.Reads.{texts_read, texts_shown}
 use Rattle.wu_engine.specs.States.{State}
 
-none_of : (n : ℕ) → take {A = FindLine} n [] ≡ []
+none_of : (n : ℕ) → take {A = Found} n [] ≡ []
 none_of zero = refl
 none_of (suc n) = refl
 
-first_of_both : (n : ℕ) (xs ys : List FindLine) → take n (xs ++ ys) ≡ take n xs ++ take (n - length xs) ys
+first_of_both : (n : ℕ) (xs ys : List Found) → take n (xs ++ ys) ≡ take n xs ++ take (n - length xs) ys
 first_of_both n [] ys =
-    let e : n - 0 ≡ n = omega arith in sym (ap₂ (λ (zs : List FindLine) (m : ℕ). zs ++ take m ys) (none_of n) e)
+    let e : n - 0 ≡ n = omega arith in sym (ap₂ (λ (zs : List Found) (m : ℕ). zs ++ take m ys) (none_of n) e)
 first_of_both zero (x ∷ xs) ys = let e : 0 - length (x ∷ xs) ≡ 0 = omega arith in sym (ap (λ (m : ℕ). take m ys) e)
 first_of_both (suc n) (x ∷ xs) ys =
     let e : suc n - suc (length xs) ≡ n - length xs = omega arith in
-    ap (λ (zs : List FindLine). x ∷ zs) (first_of_both n xs ys)
+    ap (λ (zs : List Found). x ∷ zs) (first_of_both n xs ys)
     ∙ sym (ap (λ (m : ℕ). x ∷ (take n xs ++ take m ys)) e)
 
 -- the file of this place comes before those that are left
@@ -39,8 +39,8 @@ pub at_place : (view : List Seen) (i : ℕ) (file : Seen) → i < length view �
 at_place view i file within is = drop_more view i file within ∙ ap (λ (f : Seen). f ∷ drop (i + 1) view) (sym is)
 
 module _ (k i : ℕ) (view : List Seen) (file : Seen) (within : i < length view) (is : file ≡ get_or view i file)
-    (before after : List FindLine) where
-  module _ (lines : Seen → List FindLine) where
+    (before after : List Found) where
+  module _ (lines : Seen → List Found) where
     -- the lines so far, with the first of those to come, stay the same
     pub lines_on : after ≡ before ++ take (k - length before) (lines file)
         → after ++ take (k - length after) (flat_map lines (drop (i + 1) view))
@@ -51,9 +51,9 @@ module _ (k i : ℕ) (view : List Seen) (file : Seen) (within : i < length view)
         ap length put ∙ length-append before (take left (lines file)) ∙ ap (λ (n : ℕ). length before + n) (length-take left (lines file)) in
         let fewer : k - length after ≡ left - length (lines file) = omega (arith, count) in
         let rest = flat_map lines (drop (i + 1) view) in
-        ap₂ (λ (xs : List FindLine) (n : ℕ). xs ++ take n rest) put fewer
+        ap₂ (λ (xs : List Found) (n : ℕ). xs ++ take n rest) put fewer
         ∙ append_assoc before (take left (lines file)) (take (left - length (lines file)) rest)
-        ∙ ap (λ (xs : List FindLine). before ++ xs)
+        ∙ ap (λ (xs : List Found). before ++ xs)
         (sym (first_of_both left (lines file) rest)
         ∙ ap (λ (files : List Seen). take left (flat_map lines files)) (sym (at_place view i file within is)))
 
@@ -75,7 +75,7 @@ module _ (k i : ℕ) (view : List Seen) (file : Seen) (within : i < length view)
         ∙ ap (λ (files : List Seen). Some (ranges ++ texts_shown hits text left files)) (sym (at_place view i file within is))
 
   -- what is read of the store is as it was, and so many lines there were
-  pub lines_kept : (lines : Content → Seen → List FindLine) (all : Content → List FindLine) {count : ℕ} {holds here : Option Content}
+  pub lines_kept : (lines : Content → Seen → List Found) (all : Content → List Found) {count : ℕ} {holds here : Option Content}
       → count ≡ length before → here ≡ holds → IfSome here (λ content. after ≡ before ++ take (k - count) (lines content file))
       → IfSome holds (λ content. before ++ take (k - length before) (flat_map (lines content) (drop i view)) ≡ all content)
       → IfSome holds (λ content. after ++ take (k - length after) (flat_map (lines content) (drop (i + 1) view)) ≡ all content)
@@ -125,15 +125,15 @@ unfolding texts_read
 none_listed s uid = refl
 
 -- where there are as many lines as are asked for, or no file is left
-abbrev pub IsEnough : ℕ → List FindLine → List Seen → Type 0
+abbrev pub IsEnough : ℕ → List Found → List Seen → Type 0
 IsEnough k shown files = (k - length shown ≡ 0) ⊎ (files ≡ [])
 
-pub none_to_show : (k : ℕ) (shown : List FindLine) (files : List Seen) (hits : Seen → ℕ) (text : Seen → List ReadRange)
+pub none_to_show : (k : ℕ) (shown : List Found) (files : List Seen) (hits : Seen → ℕ) (text : Seen → List ReadRange)
     → IsEnough k shown files → texts_shown hits text (k - length shown) files ≡ []
 none_to_show k shown files hits text (inl full) = ap (λ (n : ℕ). texts_shown hits text n files) full ∙ no_texts hits text files
 none_to_show k shown files hits text (inr last) = ap (texts_shown hits text (k - length shown)) last
 
-pub texts_done : (k : ℕ) (shown : List FindLine) (files : List Seen) (hits : Seen → ℕ) (text : Seen → List ReadRange)
+pub texts_done : (k : ℕ) (shown : List Found) (files : List Seen) (hits : Seen → ℕ) (text : Seen → List ReadRange)
     (now all : Option (List ReadRange)) → IsEnough k shown files
     → option_map (λ ranges. ranges ++ texts_shown hits text (k - length shown) files) now ≡ all → now ≡ all
 texts_done k shown files hits text now all enough is =

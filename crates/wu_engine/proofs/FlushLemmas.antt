@@ -3,10 +3,11 @@ use Rattle.std.proofs.Common.{◌≡◌, ℕ, ◌+◌, ◌<◌, nat_le, Bool, tr
 use Rattle.std.specs.Prelude.{Option, Some, None, IfSome, option_map}
 use Rattle.wu_base.specs.declared.addresses.PartRec.{PartRec}
 use Rattle.wu_base.specs.declared.addresses.Range.{Range}
+use Rattle.wu_layout.proofs.NumberedRanges.{ranges-alone}
 use Rattle.wu_outside.specs.Content.{Content, with_blob}
 use Rattle.wu_tree.specs.FileSystems.{FileSystem}
 use Rattle.wu_layout.specs.Postings.{Posting, Ascend, live_of}
-use Rattle.wu_layout.specs.Layouts.{FileEntry, Layout, first_layout, ranges_by_number, ranges_of, stored_in}
+use Rattle.wu_layout.specs.Layouts.{FileEntry, Layout, first_layout, ranges_of, stored_in}
 use Rattle.wu_layout.specs.Steps.{flush, flushed}
 use Rattle.wu_layout.proofs.HomeLemmas.{postings_split}
 use Rattle.wu_layout.proofs.PostingLemmas.{Ascend-split}
@@ -38,7 +39,7 @@ pub record IsStored (holds : Option Content) (contents : Contents) (s : State) :
   pub kept : IfSome holds (λ content. KeepsBlocks content s.layout.blob contents.kept)
 
 -- the store tells what it holds
-is_told : (holds : Option Content) (texts : Texts) (files : List (ℕ × FileEntry)) → HoldsTexts holds texts files
+pub is_told : (holds : Option Content) (texts : Texts) (files : List (ℕ × FileEntry)) → HoldsTexts holds texts files
     → (content : Content) × (holds ≡ Some content)
 is_told None texts files held = absurd held
 is_told (Some content) texts files held = (content, refl)
@@ -74,11 +75,6 @@ memory_held fs space parts files s index =
     subst (Ascend 0 s.layout.next) (postings_split s.layout.parts s.layout.memory) index.is_state.layout.addresses.ascend in
     let two = Ascend-split 0 s.layout.next (stored_in s.layout.parts) s.layout.memory all in
     (two.0, (s.layout.next, record { addresses = index.memory; stored = index.stored; ascend = two.1.1 }))
-
--- the live ranges, without their numbers
-ranges-alone : (files : List (ℕ × FileEntry)) → map (λ file. file.1) (ranges_by_number files) ≡ ranges_of files
-ranges-alone [] = refl
-ranges-alone (file ∷ files) = ap (λ (rs : List Range). file.1.range ∷ rs) (ranges-alone files)
 
 abbrev with_layout : State → Layout → State
 with_layout s layout = record s { layout = layout }

@@ -18,7 +18,7 @@ use Rattle.wu_base.proofs.MapEntries.{is_equal}
 use Rattle.wu_base.proofs.Members.{Has-from_Contains, Contains-from_Has, all_has, all_from_has}
 use Rattle.wu_outside.specs.Content.{Content, no_content}
 use Rattle.wu_outside.specs.declared.ranges.ReadRange.{ReadRange}
-use Rattle.wu_ask.specs.declared.FindLine.{FindLine}
+use Rattle.wu_ask.specs.declared.Found.{Found}
 use Rattle.wu_ask.specs.declared.Answered.TheVariants.{Find}
 use Rattle.wu_ask.specs.Questions.{Finding}
 use Rattle.wu_gcl.specs.Extents.{token_hits}
@@ -27,7 +27,6 @@ use Rattle.wu_gcl.specs.Terms.{AreTerms}
 use Rattle.wu_image.specs.declared.records.FileRec.{FileRec}
 use Rattle.wu_layout.specs.Invariants.{IsIndexed}
 use Rattle.wu_layout.specs.Layouts.{FileEntry, entry_of, homes_of, postings_of}
-use Rattle.wu_layout.proofs.NumberedRanges.{lookup-ranges_by_number}
 use Rattle.wu_space.specs.Addresses.{Ranges, range_of}
 use Rattle.wu_token.specs.Tokens.{tokens_of}
 use Rattle.wu_token.specs.Words.{has_bytes}
@@ -50,7 +49,7 @@ use Rattle.wu_engine.specs.View.{shown_of, view_of}
 use Rattle.wu_engine.proofs.CountLemmas.{hits_counted, files_counted}
 use Rattle.wu_engine.proofs.FoundExtents.{counted_back}
 use Rattle.wu_engine.proofs.FramesOfFiles.{IsFrameOf, frame_of_file}
-use Rattle.wu_engine.proofs.FramesOfView.{are_of_view, view_has_ranges}
+use Rattle.wu_engine.proofs.FramesOfView.{are_of_view, view_has_ranges, range_in}
 use Rattle.wu_engine.proofs.Places.{all_places, tokens_of_file}
 
 -- ---- records
@@ -194,9 +193,6 @@ module _ (frames : Frames) (live : Ranges) (s : State) (uid : ℕ) (is : Indexes
   abbrev IsAlike : Seen → Type 0
   IsAlike = IsShownAlike content files region (map (list_at addresses) terms) s
 
-  range_in : (ino : ℕ) → range_of live ino ≡ option_map (λ entry. entry.range) (entry_of s.layout.files ino)
-  range_in ino = ap (λ (l : Ranges). range_of l ino) is.index.ranges ∙ lookup-ranges_by_number s.layout.files ino
-
   one_alike : (file : Seen) → is_some (range_of live file.ino) ≡ true → IsFramed addresses live s.texts file → IsAlike file
   one_alike file some framed =
       by (entry_of s.layout.files file.ino) refl (is.index.is_state.layout.texts.each file.ino) where
@@ -205,10 +201,10 @@ module _ (frames : Frames) (live : Ranges) (s : State) (uid : ℕ) (is : Indexes
             (postings_of s.layout.parts s.layout.memory))
             → IsAlike file
         by None e at_range = absurd (let none : range_of live file.ino ≡ None =
-            range_in file.ino ∙ ap (λ (o : Option FileEntry). option_map (λ (entry : FileEntry). entry.range) o) e in cc)
+            range_in live s is.index file.ino ∙ ap (λ (o : Option FileEntry). option_map (λ (entry : FileEntry). entry.range) o) e in cc)
         by (Some entry) e at_range =
             let range : range_of live file.ino ≡ Some entry.range =
-            range_in file.ino ∙ ap (λ (o : Option FileEntry). option_map (λ (entry : FileEntry). entry.range) o) e in
+            range_in live s is.index file.ino ∙ ap (λ (o : Option FileEntry). option_map (λ (entry : FileEntry). entry.range) o) e in
             let there : record_at files file.ino ≡ Some (record_of s.texts (file.ino, entry)) =
             ap (λ (rs : Records). record_at rs file.ino) records ∙ record_found s.texts s.layout.files file.ino
             ∙ ap (λ (o : Option FileEntry). option_map (λ (x : FileEntry). record_of s.texts (file.ino, x)) o) e in
@@ -230,7 +226,7 @@ module _ (frames : Frames) (live : Ranges) (s : State) (uid : ℕ) (is : Indexes
       ≡ flat_map (lines_in region) (map (shown_of s.texts) view)
   lines_alike held [] all = refl
   lines_alike held (file ∷ view) all =
-      ap₂ (λ (xs ys : List FindLine). xs ++ ys) (all.0.lines (held file.ino)) (lines_alike held view all.1)
+      ap₂ (λ (xs ys : List Found). xs ++ ys) (all.0.lines (held file.ino)) (lines_alike held view all.1)
 
   texts_alike : (view : List Seen) (k : ℕ) → AllByRecursion IsAlike view
       → texts_shown (hits_at files region (map (list_at addresses) terms)) (text_at files) k view
@@ -267,7 +263,7 @@ module _ (frames : Frames) (live : Ranges) (s : State) (uid : ℕ) (is : Indexes
 module _ (frames : Frames) (live : Ranges) (s : State) (uid : ℕ) (is : Indexes frames live s uid)
     (region : Region) (terms : List (List ℕ)) (are : AreTerms region terms) (files : Records) (lists : List TermList)
     (lists_are : lists ≡ map (list_at (found_in frames.ranges s)) terms) (k : ℕ) (seen : List Seen) (same : seen ≡ frames.seen) where
-  pub found_answer : (holds : Option Content) (hits number : ℕ) (shown : List FindLine) → KeepsTexts files holds s
+  pub found_answer : (holds : Option Content) (hits number : ℕ) (shown : List Found) → KeepsTexts files holds s
       → hits ≡ length (frames_hits region lists frames.ranges)
       → number ≡ count_by (λ frame. nat_lt 0 (length (frame_hits region lists frame))) frames.ranges
       → IfSome holds (λ content. shown ≡ take k (flat_map (lines_at content files region lists) seen))
@@ -281,7 +277,7 @@ module _ (frames : Frames) (live : Ranges) (s : State) (uid : ℕ) (is : Indexes
       (number_is
       ∙ ap (λ (ls : List TermList). count_by (λ frame. nat_lt 0 (length (frame_hits region ls frame))) frames.ranges) lists_are
       ∙ files_counted frames live s uid is region terms are)
-      ∙ ap (λ (lines : List FindLine).
+      ∙ ap (λ (lines : List Found).
       Find (length (flat_map (hits_in region) (view_of s uid))) (count_by (has_hit region) (view_of s uid)) lines)
       (shown_is ∙ ap (λ (ls : List TermList). take k (flat_map (lines_at content files region ls) seen)) lists_are
       ∙ lines_found frames live s uid is region terms are files content keeps.records keeps.texts k seen same)

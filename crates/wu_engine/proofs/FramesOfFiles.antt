@@ -15,6 +15,7 @@ use Rattle.std.specs.Ordering.{nat_cmp}
 use Rattle.wu_base.specs.declared.addresses.Extent.{Extent}
 use Rattle.wu_base.specs.declared.addresses.Range.{Range}
 use Rattle.wu_base.specs.declared.addresses.TermList.{TermList}
+use Rattle.wu_layout.proofs.BlobLemmas.{count-cons}
 use Rattle.wu_gcl.specs.Extents.{hits, is_token_at, token_hits}
 use Rattle.wu_gcl.specs.Regions.{Region}
 use Rattle.wu_gcl.specs.Terms.{terms_in}
@@ -102,9 +103,6 @@ pub record IsCounted (region : Region) (lists : List TermList) (frames : List Ra
   pub files : count_by (λ frame. nat_lt 0 (length (frame_hits region lists frame))) frames
       ≡ count_by (λ place. nat_lt 0 (length (extents place))) places
 
-pub count_by-cons : {X : Type 0} (p : X → Bool) (x : X) (xs : List X) → count_by p (x ∷ xs) ≡ cond (p x) 1 0 + count_by p xs
-count_by-cons p x xs = sum_by-cons (λ y. cond (p y) 1 0) x xs
-
 in_this_order : (region : Region) (addresses : List ℕ → List ℕ) (terms : List (List ℕ)) (tokens : ℕ → List (List ℕ)) (frame : ℕ → Range)
     (places : List ℕ) → HasTerms region terms → AllByRecursion (λ place. IsFrameOf addresses (tokens place) (frame place)) places
     → IsCounted region (map (list_at addresses) terms) (map frame places) (λ place. token_hits region (tokens place)) places
@@ -120,9 +118,9 @@ in_this_order region addresses terms tokens frame (place ∷ places) all each =
       hits = length-append (frame_hits region lists (frame place)) (frames_hits region lists (map frame places))
           ∙ ap₂ (λ (m n : ℕ). m + n) same more.hits
           ∙ sym (length-append here (flat_map (λ p. token_hits region (tokens p)) places));
-      files = count_by-cons (λ f. nat_lt 0 (length (frame_hits region lists f))) (frame place) (map frame places)
+      files = count-cons (λ f. nat_lt 0 (length (frame_hits region lists f))) (frame place) (map frame places)
           ∙ ap₂ (λ (m n : ℕ). cond (nat_lt 0 m) 1 0 + n) same more.files
-          ∙ sym (count_by-cons (λ p. nat_lt 0 (length (token_hits region (tokens p)))) place places);
+          ∙ sym (count-cons (λ p. nat_lt 0 (length (token_hits region (tokens p)))) place places);
     }
 
 -- the frames may come in any order

@@ -32,6 +32,7 @@ use Rattle.wu_frames.specs.declared.Frames.{Frames}
 use Rattle.wu_frames.specs.UserFrames.{frame_of, frame_with, frames_in}
 use Rattle.wu_gcl.specs.Regions.{Region}
 use Rattle.wu_base.specs.declared.addresses.TermList.{TermList}
+use Rattle.wu_base.proofs.Options.{mapped_some}
 use Rattle.wu_rank.specs.declared.results.Unit.{Unit as RankedUnit}
 use Rattle.wu_solve.specs.Solving.{frame_hits}
 use Rattle.wu_engine.specs.Rankings.{tokens_at, unit_at}
@@ -142,10 +143,6 @@ view_of_files fs uid =
 
 -- ---- in a state
 
-some_mapped : {X Y : Type 0} (f : X → Y) (o : Option X) → is_some (option_map f o) ≡ is_some o
-some_mapped f None = refl
-some_mapped f (Some x) = refl
-
 is_token : (terms : List (List ℕ)) (term : List ℕ) (i : ℕ) → is_term_at terms term i ≡ is_token_at terms term i
 is_token [] term i = refl
 is_token (first ∷ terms) term zero = refl
@@ -157,13 +154,13 @@ among frame (range ∷ ranges) (inl here) = inl here
 among frame (range ∷ ranges) (inr more) = inr (among frame ranges more)
 
 module _ (live : Ranges) (s : State) (is : IsIndexOf live s) where
-  range_in : (ino : ℕ) → range_of live ino ≡ option_map (λ entry. entry.range) (entry_of s.layout.files ino)
+  pub range_in : (ino : ℕ) → range_of live ino ≡ option_map (λ entry. entry.range) (entry_of s.layout.files ino)
   range_in ino = ap (λ (l : Ranges). range_of l ino) is.ranges ∙ lookup-ranges_by_number s.layout.files ino
 
   has_range : (ino : ℕ) → is_file s.tree ino ≡ true → is_some (range_of live ino) ≡ true
   has_range ino file =
       ap (λ (o : Option Range). is_some o) (range_in ino)
-      ∙ some_mapped (λ (entry : FileEntry). entry.range) (entry_of s.layout.files ino)
+      ∙ mapped_some (λ (entry : FileEntry). entry.range) (entry_of s.layout.files ino)
       ∙ is.is_state.layout.ranges.of_files ino ∙ file
 
   pub view_has_ranges : (uid : ℕ) → AllByRecursion (λ file. is_some (range_of live file.ino) ≡ true) (files_of s.tree uid)

@@ -3,11 +3,11 @@ use Rattle.std.proofs.Common.{◌≡◌, ◌⊎◌, inl, inr, ⊎_elim, ℕ, zer
 use Rattle.std.specs.Prelude.{Option, count_by, zip}
 use Rattle.std.specs.List.{AllByRecursion}
 use Rattle.wu_base.specs.declared.addresses.PartRec.{PartRec}
+use Rattle.wu_base.proofs.EachLemmas.{each-drop, each-take}
 use Rattle.wu_outside.specs.Content.{Content, with_blob}
 use Rattle.wu_layout.specs.Invariants.{BlobsAreDistinct, times_named}
 use Rattle.wu_layout.specs.Layouts.{FileEntry, Part}
 use Rattle.wu_layout.proofs.BlobLemmas.{count-cons, once_same}
-use Rattle.wu_layout.proofs.EachLemmas.{each-drop, each-take}
 use Rattle.wu_layout.proofs.EntryLemmas.{IfSome-map}
 use Rattle.wu_part.specs.Directories.{PartDirectory}
 use Rattle.wu_parts.specs.Contents.{Contents, JobAt}

@@ -6,12 +6,12 @@ use Rattle.std.proofs.lemmas.List.{map-append}
 use Rattle.wu_base.specs.declared.addresses.PartRec.{PartRec}
 use Rattle.wu_base.specs.declared.addresses.Range.{Range}
 use Rattle.wu_base.specs.declared.addresses.TermList.{TermList}
+use Rattle.wu_base.proofs.EachLemmas.{each-append}
 use Rattle.wu_outside.specs.Content.{Content, with_blob}
 use Rattle.wu_layout.specs.Invariants.{BlobsAreDistinct}
 use Rattle.wu_layout.specs.Layouts.{FileEntry}
 use Rattle.wu_layout.specs.Postings.{Posting, live_of, placed_from}
 use Rattle.wu_layout.proofs.Flushes.{blobs_after_flush}
-use Rattle.wu_layout.proofs.EachLemmas.{each-append}
 use Rattle.wu_layout.proofs.EntryLemmas.{IfSome-map}
 use Rattle.wu_tree.specs.declared.events.Effect.{Effect}
 use Rattle.wu_space.specs.Addresses.{Addresses, Ranges, range_of}

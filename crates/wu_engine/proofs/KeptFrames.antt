@@ -25,9 +25,9 @@ use Rattle.wu_frames.specs.UserFrames.{AreFor, IsMove, Kept, StayMendable, kept_
 use Rattle.wu_frames.specs.declared.links.LinkChanges.{LinkChanges}
 use Rattle.wu_frames.specs.Links.{IsLinkChange, links_changed}
 use Rattle.wu_frames.proofs.LinkEvents.{links-create, links-link, links-mkdir, links-rename, links-rmdir, links-unlink}
-use Rattle.wu_engine.specs.Indexing.{GaveText, space_after, space_made, with_file, without_file}
+use Rattle.wu_engine.specs.Indexing.{space_after, space_made, with_file, without_file}
 use Rattle.wu_engine.specs.declared.renewing.Touched.TheVariants.{Links}
-use Rattle.wu_engine.specs.Renewing.{Touches, perm_touched, range_touched, touched_of}
+use Rattle.wu_engine.specs.Renewing.{Touches, perm_touched, range_touched, touched_of, GaveText}
 use Rattle.wu_engine.proofs.FileChanges.{ChangesFiles}
 
 -- an effect that gives a file a text, and does no more

@@ -1,17 +1,17 @@
 -- Calls that put only blobs that were never drawn before leave to a crash the images that could be left before.
-use Rattle.std.proofs.Common.{◌≡◌, ℕ, zero, suc, ◌+◌, ◌<◌, ◌≤◌, List, [], inl, refl, sym, subst, arith}
+use Rattle.std.proofs.Common.{◌≡◌, ℕ, zero, suc, ◌+◌, ◌-◌, ◌<◌, ◌≤◌, List, [], inl, refl, sym, subst, arith}
 use Rattle.std.specs.Prelude.{Option, Some, None, Result, Ok, Err, option_map}
 use Rattle.wu_outside.specs.declared.traits.Fault.TheVariants.{Failed}
 use Rattle.wu_outside.specs.Content.{Content, MayDo}
 use Rattle.wu_outside.specs.Crash.{AreAlike, Moments, settle}
-use Rattle.wu_outside.specs.Surviving.{Ignores, IsLeft, Leaves, LeavesNow, NamesOnly}
-use Rattle.wu_outside.proofs.Survival.{kept, leaves_then, left_now, more_now, put_leaves, strays, sync_leaves, synced}
+use Rattle.wu_outside.specs.Surviving.{IsLeft, Leaves, LeavesNow, NamesOnly}
+use Rattle.wu_outside.proofs.Survival.{Ignores, kept, leaves_then, left_now, more_now, put_leaves, strays, sync_leaves, synced}
 use Rattle.wu_parts.specs.Working.{MayChange}
 use Rattle.wu_image.proofs.ImageLemmas.{image_kept}
 use Rattle.wu_engine.specs.Crashes.{IsImageOf, IsSavedLast}
 use Rattle.wu_engine.specs.Naming.{IsNamed}
 use Rattle.wu_engine.specs.Opening.{HoldsImage}
-use Rattle.wu_engine.specs.Puts.{MayTryPut, MayTryPuts}
+use Rattle.wu_engine.specs.Puts.{try_put, MayTryPut, MayTryPuts}
 use Rattle.wu_engine.specs.Stands.{Stands}
 use Rattle.wu_engine.specs.States.{State}
 use Rattle.wu_engine.specs.declared.engines.Engine.{Engine}
@@ -56,6 +56,28 @@ pub no_puts : (low high n : ℕ) (old : Option Moments) → low + n ≤ high
     → MayTryPuts low high n old old
 no_puts low high zero old l = refl
 no_puts low high (suc n) old l = (old, low, None, no_puts low high n old (omega (arith, l)), (omega arith, omega (arith, l)), inl refl)
+
+-- of fewer blobs at most, or fewer times at most
+module _ {X : Type 0} (step : ℕ → Option (List ℕ) → X → X) (low : ℕ) where
+  changed_below : (high most n : ℕ) (old new : Option X) → high ≤ most → MayChange step low high n old new
+      → MayChange step low most n old new
+  changed_below high most zero old new l may = may
+  changed_below high most (suc n) old new l may =
+      (may.0, may.1, may.2, changed_below high most n old may.0 l may.3, (may.4.0, omega (arith, may.4.1)), may.5)
+
+  changed_more : (more n all : ℕ) (old new : Option X) → more + n ≡ all → MayChange step low (low + n) n old new
+      → MayChange step low (low + all) all old new
+  changed_more zero n all old new e may = subst (λ (m : ℕ). MayChange step low (low + m) m old new) (omega (arith, e)) may
+  changed_more (suc more) n all old new e may =
+      let more_room = changed_below (low + n) (low + suc n) n old new (omega arith) may in
+      changed_more more (suc n) all old new (omega (arith, e)) (new, low, None, more_room, (omega arith, omega arith), inl refl)
+
+pub puts_drawn : (next later n : ℕ) (old new : Option Moments) → next ≤ later → later ≤ next + n
+    → MayTryPuts next later (later - next) old new → MayTryPuts next (next + n) n old new
+puts_drawn next later n old new least most may =
+    let all : later ≡ next + (later - next) = omega arith in
+    changed_more (λ blob written. try_put blob written) next (n - (later - next)) (later - next) n old new (omega arith)
+    (subst (λ (high : ℕ). MayTryPuts next high (later - next) old new) all may)
 
 -- one, or two in turn
 pub changed_once : {X : Type 0} (step : ℕ → Option (List ℕ) → X → X) (low high blob : ℕ) (old new : Option X) → low ≤ blob → blob < high

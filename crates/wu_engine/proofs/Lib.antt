@@ -8,6 +8,7 @@ pub mod KeptStates
 pub mod IndexLemmas
 pub mod RecordLemmas
 pub mod SoundLemmas
+pub mod DrawnNumbers
 pub mod StoredTexts
 pub mod OtherBlobs
 pub mod HeldParts

@@ -13,6 +13,7 @@ use Rattle.std.proofs.lemmas.List.Sorted.{Contains-permutation, IsPermutation-sy
 use Rattle.wu_base.specs.declared.addresses.Range.{Range}
 use Rattle.wu_base.specs.declared.limits.TheConstants.{SPENT_AT}
 use Rattle.wu_base.proofs.Members.{Contains-from_Has, Has, Has-from_Contains, Has-map, all_has}
+use Rattle.wu_engine.proofs.SavedTexts.{file_numbers_ascend, kept_above}
 use Rattle.wu_layout.specs.Postings.{is_in}
 use Rattle.wu_tree.specs.declared.events.Node.{Node}
 use Rattle.wu_tree.specs.FileSystems.{is_file_node, is_kind_file}
@@ -38,29 +39,8 @@ use Rattle.wu_engine.proofs.OpenedParts.{end_below}
 abbrev IsBelow : ℕ → List ℕ → Type 0
 IsBelow number numbers = AllByRecursion (λ other. nat_cmp number other ≡ Less) numbers
 
-files_above : (number : ℕ) (nodes : List (ℕ × Node)) → IsBelow number (keys_of nodes) → IsBelow number (file_numbers nodes)
-files_above number [] a = tt
-files_above number (node ∷ nodes) a =
-    elim (is_kind_file node.1.kind) as
-    (λ b. IsBelow number (map (λ (n : ℕ × Node). n.0)
-    (cond b (node ∷ filter (λ n. is_kind_file n.1.kind) nodes) (filter (λ n. is_kind_file n.1.kind) nodes)))) [
-      | true ↦ (a.0, files_above number nodes a.1)
-      | false ↦ files_above number nodes a.1
-    ]
-
-files_ascend : (nodes : List (ℕ × Node)) → IsStrictlySortedBy nat_cmp (keys_of nodes) → IsStrictlySortedBy nat_cmp (file_numbers nodes)
-unfolding IsStrictlySortedBy
-files_ascend [] s = tt
-files_ascend (node ∷ nodes) s =
-    elim (is_kind_file node.1.kind) as
-    (λ b. IsStrictlySortedBy nat_cmp (map (λ (n : ℕ × Node). n.0)
-    (cond b (node ∷ filter (λ n. is_kind_file n.1.kind) nodes) (filter (λ n. is_kind_file n.1.kind) nodes)))) [
-      | true ↦ (files_above node.0 nodes s.0, files_ascend nodes s.1)
-      | false ↦ files_ascend nodes s.1
-    ]
-
 pub numbers_ascend : (c : Checkpoint) → IsCheckpoint c → IsStrictlySortedBy nat_cmp (map (λ file. file.ino) c.files)
-numbers_ascend c is = subst (IsStrictlySortedBy nat_cmp) (sym is.files) (files_ascend c.tree.nodes is.tree.nodes_ascend)
+numbers_ascend c is = subst (IsStrictlySortedBy nat_cmp) (sym is.files) (file_numbers_ascend c.tree.nodes is.tree.nodes_ascend)
 
 pub ranges_ascend : (files : List FileRec) → IsStrictlySortedBy nat_cmp (map (λ file. file.ino) files)
     → IsStrictlySortedBy nat_cmp (keys_of (ranges_recorded files))
@@ -194,7 +174,7 @@ its_kind : (ino : ℕ) (node : ℕ × Node) (nodes : List (ℕ × Node)) → IsB
 its_kind ino node nodes s e true = rw e refl
 its_kind ino node nodes s e false =
     let same : node.0 ≡ ino = sym (same_number ino node.0 e) in
-    none_among ino (file_numbers nodes) (subst (λ (n : ℕ). IsBelow n (file_numbers nodes)) same (files_above node.0 nodes s))
+    none_among ino (file_numbers nodes) (subst (λ (n : ℕ). IsBelow n (file_numbers nodes)) same (kept_above node.0 nodes s))
 
 another_kind : (ino : ℕ) (node : ℕ × Node) (nodes : List (ℕ × Node)) → is_eq (nat_cmp ino node.0) ≡ false
     → is_among ino (file_numbers nodes) ≡ is_file_node (lookup (is_at (nat_cmp ino)) nodes)

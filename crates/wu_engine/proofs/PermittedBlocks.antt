@@ -10,12 +10,12 @@ use Rattle.lru.proofs.Splits.{all_map, all_unmap}
 use Rattle.wu_base.specs.declared.addresses.PartRec.{PartRec}
 use Rattle.wu_base.specs.declared.addresses.Range.{Range}
 use Rattle.wu_base.specs.declared.troubles.Trouble.{Trouble}
+use Rattle.wu_base.proofs.EachLemmas.{each-append, each-map, each_left}
 use Rattle.wu_outside.specs.Content.{Content}
 use Rattle.wu_outside.specs.declared.ranges.ReadRange.{ReadRange}
 use Rattle.wu_ask.specs.Questions.{Question}
 use Rattle.wu_layout.specs.Invariants.{SomeOf}
 use Rattle.wu_layout.specs.Layouts.{Part}
-use Rattle.wu_layout.proofs.EachLemmas.{each-append, each-map, each_left}
 use Rattle.wu_layout.proofs.KeptLemmas.{SomeOf-cases}
 use Rattle.wu_part.specs.Directories.{PartDirectory}
 use Rattle.wu_lists.specs.declared.blocks.Block.{Block}

@@ -1,5 +1,5 @@
 -- What a query reads, and why it fails.
-use Rattle.std.proofs.Common.{◌≡◌, ℕ, List, [], refl, sym, subst, inl, arith}
+use Rattle.std.proofs.Common.{◌≡◌, ℕ, List, [], ◌∷◌, map, refl, sym, subst, inl, inr, ⊎_elim, arith}
 use Rattle.std.specs.Prelude.{Option, Result, IfErr, IsErrAnd}
 use Rattle.wu_base.specs.declared.troubles.Trouble.{Trouble}
 use Rattle.wu_base.specs.declared.troubles.Trouble.TheVariants.{NoMemory}
@@ -13,10 +13,11 @@ use Rattle.wu_frames.specs.UserFrames.{AreFrames}
 use Rattle.wu_layout.specs.Invariants.{SomeOf}
 use Rattle.wu_layout.proofs.KeptLemmas.{SomeOf-left}
 use Rattle.wu_lists.specs.declared.blocks.Block.{Block}
+use Rattle.wu_lists.specs.Blocks.{range_of}
 use Rattle.wu_lists.specs.Keeping.{Asks, Kept}
 use Rattle.wu_lists.proofs.Asking.{ranges-none}
 use Rattle.wu_parts.specs.Contents.{Contents}
-use Rattle.wu_engine.specs.Causes.{IsDamagedOver}
+use Rattle.wu_engine.specs.Causes.{IsBlobOf, IsDamagedOver}
 use Rattle.wu_engine.specs.Asked.{blocks_for, terms_asked}
 use Rattle.wu_engine.specs.Finding.{AreTextsOf, IsCause, KeepsTexts}
 use Rattle.wu_engine.specs.Reads.{AreTexts, ReadsForQuery, ReadsInTurn, texts_read}
@@ -42,11 +43,16 @@ blocks_alone question blocks frames contents files holds old new before after no
   read = ranges-none after;
 }
 
+-- a range of a block is in its blob
+blob_of_block : (blob : ℕ) (blocks : List Block) → SomeOf (λ block. block.blob ≡ blob) blocks → IsBlobOf (map range_of blocks) blob
+blob_of_block blob [] some = some
+blob_of_block blob (block ∷ blocks) some = ⊎_elim (λ here. inl here) (λ later. inr (blob_of_block blob blocks later)) some
+
 -- what a fetch answers is damage that the question may find
 pub cause_fetched : (frames : Frames) (question : Question) (contents : Contents) (files : Records) (holds : Option Content)
     {terms : List (List ℕ)} → terms ≡ terms_asked question → {before now : ℕ} {ranges ranges_now : Option (List ReadRange)}
     {trouble : Trouble} → IsCauseFor contents frames.ranges terms holds before now ranges ranges_now trouble
-    → IsCause (IsDamagedOver frames question contents files holds) before now trouble
+    → IsCause (IsDamagedOver frames question contents files holds) before now ranges ranges_now trouble
 cause_fetched frames question contents files holds same cause = record {
   kept = cause.counted;
   store_fault = cause.store_fault;
@@ -58,6 +64,7 @@ cause_fetched frames question contents files holds same cause = record {
         rw same at (subst (SomeOf IsThere) (sym cause.front) (SomeOf-left IsThere cause.added cause.unread found.0)),
         found.1,
       );
+  read = λ blob h. (map range_of cause.added, blob_of_block blob cause.added (cause.damaged blob h).0, cause.read);
 }
 
 -- over the frames that were made for the user
@@ -86,24 +93,27 @@ reads_for fs live uid question contents kept files holds before after frames her
 -- ---- troubles of a query
 
 -- memory ran out, and no fault rose
-pub no_memory : {Broken : ℕ → Type 0} {faults : ℕ} → IsCause Broken faults faults NoMemory
+pub no_memory : {Broken : ℕ → Type 0} {faults : ℕ} {ranges ranges_now : Option (List ReadRange)}
+    → IsCause Broken faults faults ranges ranges_now NoMemory
 no_memory = record {
   kept = omega arith;
   store_fault = λ h. absurd (cc);
   calm = λ h. refl;
   damaged = λ blob h. absurd (cc);
+  read = λ blob h. absurd (cc);
 }
 
 module _ {T : Type 0} (r : Result T Trouble) where
-  pub cause_of_memory : (Broken : ℕ → Type 0) {before now : ℕ} → now ≡ before → IsErrAnd r (λ error. error ≡ NoMemory)
-      → IfErr r (IsCause Broken before now)
-  cause_of_memory Broken {before} {now} calm is = err_from (IsCause Broken before now) r NoMemory is (rw calm no_memory)
+  pub cause_of_memory : (Broken : ℕ → Type 0) {before now : ℕ} (ranges ranges_now : Option (List ReadRange)) → now ≡ before
+      → IsErrAnd r (λ error. error ≡ NoMemory) → IfErr r (IsCause Broken before now ranges ranges_now)
+  cause_of_memory Broken {before} {now} ranges ranges_now calm is =
+      err_from (IsCause Broken before now ranges ranges_now) r NoMemory is (rw calm no_memory)
 
   -- a trouble of the fetch
   pub cause_of_fetch : (frames : Frames) (question : Question) (contents : Contents) (files : Records) (holds : Option Content)
       {trouble : Trouble} → IsErrAnd r (λ error. error ≡ trouble) → {terms : List (List ℕ)} → terms ≡ terms_asked question
       → {before now : ℕ} {ranges ranges_now : Option (List ReadRange)}
       → IsCauseFor contents frames.ranges terms holds before now ranges ranges_now trouble
-      → IfErr r (IsCause (IsDamagedOver frames question contents files holds) before now)
+      → IfErr r (IsCause (IsDamagedOver frames question contents files holds) before now ranges ranges_now)
   cause_of_fetch frames question contents files holds {trouble} is same cause =
       err_from _ r trouble is (cause_fetched frames question contents files holds same cause)

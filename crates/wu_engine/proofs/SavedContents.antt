@@ -1,6 +1,6 @@
 -- What the calls of a save leave of a store's content.
 use Rattle.std.proofs.Common.{◌≡◌, ◌⊎◌, inl, inr, ℕ, ◌+◌, ◌<◌, ◌≤◌, ◌==◌, true, false, cond, List, [], ◌∷◌, ◌++◌, length, get_or, drop, refl, ap, sym, ◌∙◌, subst, arith, ⊎_elim}
-use Rattle.std.specs.Prelude.{Option, Some, None, Result, Ok, Err, OnErr, option_map, count_by}
+use Rattle.std.specs.Prelude.{Option, Some, None, option_map, count_by}
 use Rattle.std.specs.List.{AllByRecursion}
 use Rattle.std.proofs.lemmas.Bool.{cases_eq, eq-eqb, ne_eqb}
 use Rattle.std.proofs.lemmas.List.{drop_more}
@@ -100,10 +100,6 @@ next_some step stale rest i {old} {new} within may =
     (λ done. inr (subst (SomeDone step (drop (i + 1) stale ++ rest) (option_map (step (get_or stale i 0)) old)) (sym done)
     (none_done step (drop (i + 1) stale ++ rest) (option_map (step (get_or stale i 0)) old))))
     may)
-
-pub on_err : {T E P : Type 0} (r : Result T E) → P → OnErr r P
-on_err (Ok value) holds = tt
-on_err (Err error) holds = holds
 
 -- ---- what may differ
 

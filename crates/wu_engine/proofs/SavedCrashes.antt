@@ -4,12 +4,13 @@ use Rattle.std.specs.Prelude.{Option, Some, None, Result, Ok, Err, count_by, opt
 use Rattle.std.proofs.lemmas.Bool.{cases_eq}
 use Rattle.wu_base.proofs.Members.{Has}
 use Rattle.wu_base.specs.declared.limits.TheConstants.{ADDRESSES_MAX}
+use Rattle.wu_image.proofs.ImageLemmas.{counted}
 use Rattle.wu_outside.specs.declared.traits.Fault.{Fault}
 use Rattle.wu_outside.specs.declared.traits.Fault.TheVariants.{Failed}
 use Rattle.wu_outside.specs.Content.{Content, MayDo, no_content, with_blob, with_root}
 use Rattle.wu_outside.specs.Crash.{AreAlike, Moments, Put, SetRoot, settle, try_change}
-use Rattle.wu_outside.specs.Surviving.{Ignores, Leaves, LeavesNow}
-use Rattle.wu_outside.proofs.Survival.{both_now, kept, leaves_more, leaves_then, more_now, remove_leaves, root_leaves, strays, sync_leaves, synced}
+use Rattle.wu_outside.specs.Surviving.{Leaves, LeavesNow}
+use Rattle.wu_outside.proofs.Survival.{Ignores, both_now, kept, leaves_more, leaves_then, more_now, remove_leaves, root_leaves, strays, sync_leaves, synced}
 use Rattle.wu_layout.specs.Invariants.{BlobsAreDistinct}
 use Rattle.wu_layout.specs.Layouts.{Layout}
 use Rattle.wu_layout.specs.Postings.{Posting, live_of}
@@ -33,7 +34,7 @@ use Rattle.wu_engine.proofs.FlushLemmas.{memory_held}
 use Rattle.wu_engine.proofs.LeftImages.{image_ignores, image_strays, tried_put}
 use Rattle.wu_engine.proofs.SavedContents.{all_removed, all_some, others_stay, root_stays, without}
 use Rattle.wu_engine.proofs.SavedEngines.{check_same, contents_saved, image_on, index as index_flushed, told}
-use Rattle.wu_engine.proofs.SavedStates.{counted, gone_counted}
+use Rattle.wu_engine.proofs.SavedStates.{gone_counted}
 use Rattle.wu_engine.proofs.SoundLemmas.{numbers_left}
 
 -- ---- what is told of contents and of crashes stays alike

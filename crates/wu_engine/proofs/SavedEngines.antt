@@ -4,7 +4,6 @@ use Rattle.std.specs.Prelude.{Option, Some, None, option_map}
 use Rattle.std.specs.List.{AllByRecursion, AllZip}
 use Rattle.wu_base.specs.declared.limits.TheConstants.{ADDRESSES_MAX}
 use Rattle.wu_outside.specs.Content.{Content, with_blob, with_root}
-use Rattle.wu_layout.specs.Layouts.{FileEntry}
 use Rattle.wu_layout.specs.Invariants.{BlobsAreDistinct}
 use Rattle.wu_layout.specs.Steps.{checkpointed, flush, rest}
 use Rattle.wu_tree.specs.FileSystems.{FileSystem}
@@ -26,10 +25,10 @@ use Rattle.wu_engine.specs.Records.{Records}
 use Rattle.wu_engine.specs.Saving.{AreRemoved, checkpoint_blob, removed_by_save}
 use Rattle.wu_engine.specs.SavedStores.{IsSpelledOf, Saves, all_done, recorded_files, remove_blob, with_drawn}
 use Rattle.wu_engine.specs.Soundness.{IsSound}
-use Rattle.wu_engine.specs.Stands.{HoldsTexts, IsEngineOf, Stands}
-use Rattle.wu_engine.specs.States.{State, Texts, flushed_state, rested_state, saved_state}
+use Rattle.wu_engine.specs.Stands.{IsEngineOf, Stands}
+use Rattle.wu_engine.specs.States.{State, flushed_state, rested_state, saved_state}
 use Rattle.wu_engine.proofs.AddedBlobs.{save_draws, save_named}
-use Rattle.wu_engine.proofs.FlushLemmas.{IsStored, flush_stands}
+use Rattle.wu_engine.proofs.FlushLemmas.{IsStored, flush_stands, is_told}
 use Rattle.wu_engine.proofs.FlushedStates.{rises-flush}
 use Rattle.wu_engine.proofs.SavedContents.{all_removed, are_removed}
 use Rattle.wu_engine.proofs.SavedLayouts.{saved_files, saved_rules}
@@ -163,19 +162,9 @@ module _ (tree : FileSystem) (space : Addresses) (contents : Contents) (files : 
 
 -- ---- the whole save
 
--- the store tells what it holds
-told_so : (holds : Option Content) (texts : Texts) (files : List (ℕ × FileEntry)) → HoldsTexts holds texts files
-    → (content : Content) × (holds ≡ Some content)
-told_so None texts files held = absurd held
-told_so (Some content) texts files held = (content, refl)
-
 pub record LeavesSaved (old new : Contents) : Type 0 where
   pub end : new.memory.end ≡ old.memory.end
   pub least : old.next_blob ≤ new.next_blob
-  pub most : new.next_blob ≤ old.next_blob + 2
-  pub counted : new.flushes + old.next_blob ≤ old.flushes + new.next_blob
-  pub flush_at : new.flush_at ≡ old.flush_at
-  pub kept : new.kept ≡ old.kept
 
 module _ (tree : FileSystem) (space : Addresses) (files : Records) (checkpoint blob : ℕ) (old new : Contents) (before after : Told)
     (saves : Saves tree space files checkpoint blob old new before after) where
@@ -196,14 +185,7 @@ module _ (tree : FileSystem) (space : Addresses) (files : Records) (checkpoint b
   numbers_saved =
       let flushed : LeavesNumbers old saves.flushed = numbers_left old saves.flushed saves.changes in
       subst (LeavesSaved old) (sym saves.contents)
-      (record {
-        end = flushed.end;
-        least = omega (arith, flushed.least);
-        most = omega (arith, flushed.most);
-        counted = omega (arith, flushed.counted);
-        flush_at = flushed.flush_at;
-        kept = flushed.kept;
-      })
+      (record { end = flushed.end; least = omega (arith, flushed.least) })
 
   pub sound_saved : (frames : Kept) → IsSound tree space old files frames → IsSound tree space new files frames
   sound_saved frames sound = record {
@@ -231,7 +213,7 @@ module _ (old : Engine) (blob : ℕ) (parts : Contents) (s : State) (before afte
   index = both.0
 
   pub told : (content : Content) × (saves.between.0 ≡ Some content)
-  told = told_so saves.between.0 s.texts (flush s.layout).files both.1.texts
+  told = is_told saves.between.0 s.texts (flush s.layout).files both.1.texts
 
   stored : IsStored (Some told.0) saves.flushed between
   stored = subst (λ (o : Option Content). IsStored o saves.flushed between) told.1 both.1

@@ -1,22 +1,23 @@
 -- The state after a save: what is held of it, and the image of it.
-use Rattle.std.proofs.Common.{◌≡◌, ◌≢◌, inl, inr, ℕ, ◌+◌, ◌<◌, ◌≤◌, ◌==◌, Bool, cond, List, [], ◌∷◌, ◌++◌, length, map, take, drop, refl, ap, sym, ◌∙◌, subst, arith, ⊎_elim}
+use Rattle.std.proofs.Common.{◌≡◌, ◌≢◌, inl, inr, ℕ, ◌+◌, ◌<◌, ◌≤◌, ◌==◌, Bool, cond, List, [], ◌∷◌, ◌++◌, length, map, take, drop, refl, sym, ◌∙◌, subst, arith, ⊎_elim}
 use Rattle.std.specs.Prelude.{Option, Some, None, IfSome, count_by, zip}
 use Rattle.std.specs.Ordering.{nat_cmp}
 use Rattle.std.specs.List.{AllByRecursion, AllZip}
 use Rattle.std.specs.List.Sorted.{IsStrictlySortedBy}
 use Rattle.std.specs.Map.{keys_of}
 use Rattle.std.specs.BTreeMap.{is_at}
-use Rattle.std.proofs.lemmas.Bool.{cases_eq, eq-eqb}
+use Rattle.std.proofs.lemmas.Bool.{cases_eq}
 use Rattle.wu_base.specs.declared.addresses.PartRec.{PartRec}
 use Rattle.wu_base.proofs.MapEntries.{all_found, counted-remove_entry}
 use Rattle.wu_base.proofs.Members.{Has, all_from_has, all_has}
+use Rattle.wu_base.proofs.EachLemmas.{each-drop, each-take}
+use Rattle.wu_image.proofs.ImageLemmas.{counted}
 use Rattle.wu_outside.specs.Content.{Content, with_blob, with_root}
 use Rattle.wu_layout.specs.Layouts.{FileEntry, Job, Layout, Part, Text, entry_of, ranges_of}
 use Rattle.wu_layout.specs.Invariants.{BlobsAreDistinct, IsLayoutOf}
 use Rattle.wu_layout.specs.Postings.{Posting, live_of}
 use Rattle.wu_layout.specs.Steps.{checkpointed, flush, flushed}
 use Rattle.wu_layout.proofs.BlobLemmas.{count-append, once, once_same}
-use Rattle.wu_layout.proofs.EachLemmas.{each-drop, each-take}
 use Rattle.wu_layout.proofs.EntryLemmas.{IfSome-found}
 use Rattle.wu_layout.proofs.Flushes.{blobs_after_checkpoint}
 use Rattle.wu_part.specs.Directories.{PartDirectory}
@@ -29,7 +30,6 @@ use Rattle.wu_parts.proofs.HeldParts.{parts_below, put_elsewhere, put_there}
 use Rattle.wu_parts.proofs.KeptJobs.{SameBlob, right_stays}
 use Rattle.wu_image.specs.Images.{HoldsText}
 use Rattle.wu_image.specs.Images.{HoldsPart as HoldsSavedPart}
-use Rattle.wu_image.proofs.RuleLemmas.{sum_has}
 use Rattle.wu_engine.specs.States.{State, Texts, IsState, flushed_state, rested_state, saved_state, text_in}
 use Rattle.wu_engine.specs.Records.{records_of}
 use Rattle.wu_engine.specs.Stands.{HoldsTexts, KeepsBlocks, KeepsJob}
@@ -85,11 +85,6 @@ pub memory_flushed : (layout : Layout) → (flush layout).memory ≡ []
 memory_flushed layout = none_left (live_of (ranges_of layout.files) layout.memory) layout
 
 -- ---- who is counted is there
-
-pub counted : {X : Type 0} (blob_of : X → ℕ) (x : X) (xs : List X) → Has x xs → 1 ≤ count_by (λ y. blob_of y == blob_of x) xs
-counted {X} blob_of x xs has =
-    let one : cond {A = ℕ} (blob_of x == blob_of x) 1 0 ≡ 1 = ap (λ (b : Bool). cond {A = ℕ} b 1 0) (eq-eqb (blob_of x) (blob_of x) refl) in
-    omega (arith, sum_has (λ (y : X). cond {A = ℕ} (blob_of y == blob_of x) 1 0) x xs has)
 
 -- ---- what is held after the checkpoint was put, the root set, and the rest removed
 

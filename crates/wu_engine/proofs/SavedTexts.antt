@@ -12,6 +12,7 @@ use Rattle.wu_base.specs.declared.addresses.Range.{Range}
 use Rattle.wu_base.proofs.MapEntries.{all_found, number_itself}
 use Rattle.wu_base.proofs.Members.{Has, all_has, filter_has, map_has}
 use Rattle.wu_base.proofs.SortedLists.{same_sorted}
+use Rattle.wu_layout.proofs.LiveCounts.{other_key}
 use Rattle.wu_token.proofs.LengthLemmas.{length-text, length-tokens_of}
 use Rattle.wu_tree.specs.declared.events.Node.{Node}
 use Rattle.wu_tree.specs.FileSystems.{is_file_node, is_kind_file}
@@ -110,13 +111,6 @@ module _ (texts : Texts) (address : ℕ) where
       omega (arith, none, count-cons holds (record_of texts file) (file_records texts files), none_apart range files t a.1)
 
 module _ (is_file : ℕ → Bool) (next : ℕ) (files : List (ℕ × FileEntry)) (d : RangesAreDisjoint is_file next files) where
-  other_key : (p q : ℕ) → nat_cmp p q ≡ Less → p ≢ q
-  other_key p q l e =
-      let same : nat_cmp p p ≡ Less = subst (λ x. nat_cmp p x ≡ Less) (sym e) l in
-      let itself : is_eq (nat_cmp p p) ≡ true = number_itself p in
-      let not_equal : is_eq (nat_cmp p p) ≡ false = ap is_eq same in
-      absurd cc
-
   apart_from : (file : ℕ × FileEntry) (es : List (ℕ × FileEntry)) → entry_of files file.0 ≡ Some file.1
       → AllByRecursion (λ e. entry_of files e.0 ≡ Some e.1) es → AllByRecursion (λ k. nat_cmp file.0 k ≡ Less) (keys_of es)
       → AllByRecursion (λ e. AreApart file.1.range e.1.range) es
@@ -155,7 +149,7 @@ numbers_recorded texts (file ∷ files) = ap (λ (numbers : List ℕ). file.0 �
 abbrev is_file_entry : ℕ × Node → Bool
 is_file_entry node = is_kind_file node.1.kind
 
-kept_above : (number : ℕ) (nodes : List (ℕ × Node)) → AllByRecursion (λ q. nat_cmp number q ≡ Less) (keys_of nodes)
+pub kept_above : (number : ℕ) (nodes : List (ℕ × Node)) → AllByRecursion (λ q. nat_cmp number q ≡ Less) (keys_of nodes)
     → AllByRecursion (λ q. nat_cmp number q ≡ Less) (file_numbers nodes)
 kept_above number [] a = tt
 kept_above number (node ∷ nodes) a =
@@ -166,7 +160,7 @@ kept_above number (node ∷ nodes) a =
       | false ↦ kept_above number nodes a.1
     ]
 
-file_numbers_ascend : (nodes : List (ℕ × Node)) → IsStrictlySortedBy nat_cmp (keys_of nodes)
+pub file_numbers_ascend : (nodes : List (ℕ × Node)) → IsStrictlySortedBy nat_cmp (keys_of nodes)
     → IsStrictlySortedBy nat_cmp (file_numbers nodes)
 unfolding IsStrictlySortedBy
 file_numbers_ascend [] s = tt

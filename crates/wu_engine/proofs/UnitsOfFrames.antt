@@ -12,6 +12,7 @@ use Rattle.std.specs.Cmp.Lexicographic.{pointwise, nat_list_eq_equiv}
 use Rattle.wu_base.specs.declared.addresses.Extent.{Extent}
 use Rattle.wu_base.specs.declared.addresses.Range.{Range}
 use Rattle.wu_base.specs.declared.addresses.TermList.{TermList}
+use Rattle.wu_layout.proofs.BlobLemmas.{count-cons}
 use Rattle.wu_gcl.specs.Extents.{is_token_at, token_hits}
 use Rattle.wu_gcl.specs.Regions.{Region}
 use Rattle.wu_rank.specs.declared.results.Unit.{Unit as RankedUnit}
@@ -28,7 +29,7 @@ use Rattle.wu_solve.proofs.Results.{hits_in as inside_text}
 use Rattle.wu_solve.proofs.Sets.{all_from}
 use Rattle.wu_engine.specs.Rankings.{unit_at}
 use Rattle.wu_engine.specs.Units.{list_at, unshifted}
-use Rattle.wu_engine.proofs.FramesOfFiles.{IsFrameOf, FramesOf, HasTerms, frame_of_file, count_by-cons}
+use Rattle.wu_engine.proofs.FramesOfFiles.{IsFrameOf, FramesOf, HasTerms, frame_of_file}
 
 -- the units of the files with these places, where a function tells each file's extents
 abbrev pub units_at : (ℕ → List Extent) → List ℕ → List RankedUnit
@@ -128,14 +129,14 @@ none_lower a low (x ∷ xs) up less =
     let more = none_lower a (suc x) xs up.1 (omega (arith, up.0)) in
     let other : eqb x a ≡ false = grind (arith, nat_tests, up.0) in
     let none : 0 + count_by (λ y. eqb y a) xs ≡ 0 = omega (arith, more.0) in (
-      count_by-cons (λ y. eqb y a) x xs ∙ ap (λ (b : Bool). cond b 1 0 + count_by (λ y. eqb y a) xs) other ∙ none,
+      count-cons (λ y. eqb y a) x xs ∙ ap (λ (b : Bool). cond b 1 0 + count_by (λ y. eqb y a) xs) other ∙ none,
       ap (λ (b : Bool). b || is_among xs a) other ∙ more.1,
     )
 
 -- each address is there once at most
 there_once : (a low : ℕ) (xs : List ℕ) → Climbs low xs → count_by (λ x. eqb x a) xs ≡ cond (is_among xs a) 1 0
 there_once a low [] up = refl
-there_once a low (x ∷ xs) up = count_by-cons (λ y. eqb y a) x xs ∙ by (eqb x a) refl (there_once a (suc x) xs up.1) where
+there_once a low (x ∷ xs) up = count-cons (λ y. eqb y a) x xs ∙ by (eqb x a) refl (there_once a (suc x) xs up.1) where
   by : (b : Bool) → eqb x a ≡ b → count_by (λ y. eqb y a) xs ≡ cond (is_among xs a) 1 0
       → cond b 1 0 + count_by (λ y. eqb y a) xs ≡ cond (b || is_among xs a) 1 0
   by true is rest = let others = none_lower a (suc x) xs up.1 (grind (arith, nat_tests, is)) in omega (arith, others.0)
@@ -158,9 +159,9 @@ split_first a b (x ∷ xs) some =
       arith,
       first_or_later a b x some,
       split_first a b xs some,
-      count_by-cons (lies_in (from_to a b)) x xs,
-      count_by-cons (λ y. eqb y a) x xs,
-      count_by-cons (lies_in (from_to (suc a) b)) x xs,
+      count-cons (lies_in (from_to a b)) x xs,
+      count-cons (λ y. eqb y a) x xs,
+      count-cons (lies_in (from_to (suc a) b)) x xs,
     )
 
 none_inside : (a b : ℕ) (xs : List ℕ) → b < a → count_by (lies_in (from_to a b)) xs ≡ 0
@@ -168,7 +169,7 @@ none_inside a b [] less = refl
 none_inside a b (x ∷ xs) less =
     let out : lies_in (from_to a b) x ≡ false = grind (arith, nat_tests) in
     let none : 0 + count_by (lies_in (from_to a b)) xs ≡ 0 = omega (arith, none_inside a b xs less) in
-    count_by-cons (lies_in (from_to a b)) x xs ∙ ap (λ (c : Bool). cond c 1 0 + count_by (lies_in (from_to a b)) xs) out ∙ none
+    count-cons (lies_in (from_to a b)) x xs ∙ ap (λ (c : Bool). cond c 1 0 + count_by (lies_in (from_to a b)) xs) out ∙ none
 
 -- addresses that tell where the word is are as many as its places
 counted_places : (xs word : List ℕ) (k a b : ℕ) (tokens : List (List ℕ)) → Climbs 0 xs → a + k ≡ b + 1 → k ≤ length tokens
@@ -187,7 +188,7 @@ counted_places xs word (suc k) a b (token ∷ tokens) up ends fits told =
       split_first a b xs (omega arith),
       once_if a xs (pointwise nat_eq word token) up here,
       rest,
-      count_by-cons (pointwise nat_eq word) token (take k tokens),
+      count-cons (pointwise nat_eq word) token (take k tokens),
     )
 
 dropped : (tokens : List (List ℕ)) (word : List ℕ) (s i : ℕ) → is_token_at tokens word (s + i) ≡ is_token_at (drop s tokens) word i
@@ -235,7 +236,7 @@ SplitAt x ys = (front : List ℕ) × (back : List ℕ) × (ys ≡ front ++ x ∷
 
 split_at : (x : ℕ) (ys : List ℕ) → 1 ≤ count_by (λ y. eqb y x) ys → SplitAt x ys
 split_at x [] some = absurd (omega arith)
-split_at x (y ∷ ys) some = by (eqb y x) refl (subst (λ (n : ℕ). 1 ≤ n) (count_by-cons (λ z. eqb z x) y ys) some) (split_at x ys) where
+split_at x (y ∷ ys) some = by (eqb y x) refl (subst (λ (n : ℕ). 1 ≤ n) (count-cons (λ z. eqb z x) y ys) some) (split_at x ys) where
   by : (b : Bool) → eqb y x ≡ b → 1 ≤ cond b 1 0 + count_by (λ z. eqb z x) ys → (1 ≤ count_by (λ z. eqb z x) ys → SplitAt x ys)
       → SplitAt x (y ∷ ys)
   by true is more rest = let same : y ≡ x = grind (arith, nat_tests, is) in ([], ys, ap (λ (z : ℕ). z ∷ ys) same)

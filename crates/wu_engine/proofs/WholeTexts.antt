@@ -8,7 +8,7 @@ use Rattle.std.proofs.lemmas.Bool.{ltb-true}
 use Rattle.std.proofs.lemmas.List.{length-take}
 use Rattle.wu_base.specs.declared.addresses.Extent.{Extent}
 use Rattle.wu_base.specs.declared.addresses.TermList.{TermList}
-use Rattle.wu_ask.specs.declared.FindLine.{FindLine}
+use Rattle.wu_ask.specs.declared.Found.{Found}
 use Rattle.wu_gcl.specs.Regions.{Region}
 use Rattle.wu_image.specs.declared.records.FileRec.{FileRec}
 use Rattle.wu_outside.specs.Content.{Content}
@@ -98,7 +98,7 @@ module _ (Is : ReadRange → Type 0) {Whole : Type 0} (hits : Seen → ℕ) (tex
       (subst (λ (n : ℕ). AllByRecursion Is (texts_shown hits text n (drop (i + 1) view))) fewer later))))
 
   -- at the end
-  pub whole_done : (shown : List FindLine) (files : List Seen) → IsEnough k shown files
+  pub whole_done : (shown : List Found) (files : List Seen) → IsEnough k shown files
       → (AllByRecursion Is (texts_shown hits text (k - length shown) files) → Whole) → Whole
   whole_done shown files enough left =
       left (subst (AllByRecursion Is) (sym (none_to_show k shown files hits text enough)) tt)

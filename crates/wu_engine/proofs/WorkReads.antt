@@ -7,12 +7,12 @@ use Rattle.std.specs.List.Sorted.{IsStrictlySortedBy}
 use Rattle.std.specs.Ordering.{nat_cmp}
 use Rattle.wu_base.specs.declared.addresses.PartRec.{PartRec}
 use Rattle.wu_base.specs.declared.troubles.Trouble.{Trouble}
+use Rattle.wu_base.proofs.EachLemmas.{each-append, each-map, each-take}
 use Rattle.wu_outside.specs.Content.{Content}
 use Rattle.wu_outside.specs.declared.ranges.ReadRange.{ReadRange}
 use Rattle.wu_layout.specs.Invariants.{IsLayoutOf, SomeOf}
 use Rattle.wu_layout.specs.Layouts.{Job, Layout, Part, Text, parts_taken, ranges_by_number}
 use Rattle.wu_layout.specs.Steps.{job_of, work}
-use Rattle.wu_layout.proofs.EachLemmas.{each-append, each-map, each-take}
 use Rattle.wu_layout.proofs.Garbage.{files_after_work}
 use Rattle.wu_layout.proofs.Units.{layout_after_work}
 use Rattle.wu_part.specs.declared.entries.BlockEntry.{BlockEntry}

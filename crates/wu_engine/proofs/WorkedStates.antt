@@ -1,5 +1,5 @@
 -- The engine stands for the state after units of background work.
-use Rattle.std.proofs.Common.{◌≡◌, ℕ, zero, suc, ◌+◌, ◌≤◌, List, [], ◌∷◌, drop, length, refl, ap, sym, ◌∙◌, subst, arith, inl}
+use Rattle.std.proofs.Common.{◌≡◌, ℕ, zero, suc, ◌+◌, ◌≤◌, List, [], ◌∷◌, drop, length, refl, ap, sym, ◌∙◌, subst, arith, inl, ◌-◌}
 use Rattle.std.specs.Prelude.{Option, Some, None}
 use Rattle.wu_outside.specs.Content.{Content, with_blob}
 use Rattle.wu_layout.specs.Layouts.{FileEntry, Job, Layout, parts_taken, ranges_by_number, stored_in}
@@ -16,7 +16,7 @@ use Rattle.wu_engine.specs.Stands.{HoldsTexts, IsEngineOf, KeepsBlocks, KeepsOth
 use Rattle.wu_engine.specs.States.{State, IsState, worked_state}
 use Rattle.wu_engine.proofs.FlushLemmas.{told_here}
 use Rattle.wu_engine.proofs.HeldParts.{AgreesBelow, blocks_stay, texts_stay}
-use Rattle.wu_engine.proofs.OtherBlobs.{others_put, others_same, others_then}
+use Rattle.wu_engine.proofs.OtherBlobs.{others_put, others_same, others_then, others_wider}
 use Rattle.wu_engine.proofs.StoredTexts.{blobs_below}
 
 pub worked_kept : (n : ℕ) (s : State) → IsState s → IsState (worked_state n s)
@@ -76,6 +76,13 @@ others_worked low high zero before after may = subst (KeepsOthers low high befor
 others_worked low high (suc n) before after may =
     others_then low high before may.0 after (others_worked low high n before may.0 may.3)
     (others_put low high may.1 may.0 after may.4.0 may.4.1 (may.2, may.5))
+
+-- so of as many blobs as were drawn, and of as many as might be
+pub others_drawn : (next later n : ℕ) (before after : Option Content) → later ≤ next + n
+    → MayChange with_blob next later (later - next) before after → KeepsOthers next (next + n) before after
+others_drawn next later n before after most may =
+    others_wider next later next (next + n) before after (omega arith) most
+    (others_worked next later (later - next) before after may)
 
 agrees_below : (low high : ℕ) (before after : Content) → KeepsOthers low high (Some before) (Some after) → AgreesBelow low before after
 agrees_below low high before after keeps = λ number under. keeps.0 number (inl under)

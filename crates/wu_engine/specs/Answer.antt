@@ -6,7 +6,7 @@ use Rattle.wu_rank.specs.declared.results.Ranked.{Ranked}
 use Rattle.wu_snip.specs.Snippets.{snippet_of}
 use Rattle.wu_gcl.specs.Regions.{Region}
 use Rattle.wu_ask.specs.Questions.{Question, Counting, Finding, Ranking, ListingPaths}
-use Rattle.wu_ask.specs.declared.FindLine.{FindLine}
+use Rattle.wu_ask.specs.declared.Found.{Found}
 use Rattle.wu_ask.specs.declared.RankLine.{RankLine}
 use Rattle.wu_ask.specs.declared.Answered.{Answered}
 use Rattle.wu_ask.specs.declared.Answered.TheVariants.{Count, Find, Rank, Paths}
@@ -28,17 +28,17 @@ line_of view ranked = record {
 }
 
 -- an extent of a file as it is shown: with the least open path, and the first line that shares an address with the extent
-abbrev pub found_line : Shown → Extent → FindLine
+abbrev pub found_line : Shown → Extent → Found
 found_line file extent = record {
   path = unwrap_or (slice_get file.paths 0) [];
   start = extent.start;
   end = extent.end;
   line = (snippet_of file.text extent).line;
-  bytes = (snippet_of file.text extent).bytes;
+  snippet = (snippet_of file.text extent).bytes;
 }
 
 -- the extents of an expression in a file, as they are shown
-abbrev pub lines_in : Region → Shown → List FindLine
+abbrev pub lines_in : Region → Shown → List Found
 lines_in region file = map (found_line file) (hits_in region file)
 
 -- The answer: to a count, the number of extents over the view, and of its files with one or more; to a search, these two and the

@@ -19,6 +19,7 @@ use Rattle.wu_image.specs.Texts.{IsBrokenText}
 use Rattle.wu_parts.specs.Causes.{IsBrokenPart}
 use Rattle.wu_parts.specs.Contents.{Contents}
 use Rattle.wu_engine.specs.Asked.{blocks_read, terms_asked}
+use Rattle.wu_engine.specs.Permitted.{ReadsSuch}
 use Rattle.wu_engine.specs.Reads.{ShowsNoText, texts_read}
 use Rattle.wu_engine.specs.Records.{Records, record_at, records_of}
 use Rattle.wu_engine.specs.Searched.{Indexes, TellsPostings}
@@ -55,6 +56,10 @@ IsDamagedIn files contents holds blob =
 -- one of these ranges is in that blob
 abbrev pub IsBlobOf : List ReadRange → ℕ → Type 0
 IsBlobOf ranges blob = SomeOf (λ range. range.blob ≡ blob) ranges
+
+-- where the store tells its reads, one of the ranges that were read in the call is in that blob
+abbrev pub WasRead : Option (List ReadRange) → Option (List ReadRange) → ℕ → Type 0
+WasRead before after blob = ReadsSuch (λ read. IsBlobOf read blob) before after
 
 -- A part is in that blob, of which one of these blocks is, and what the store tells of it is no part with the directory that is kept.
 abbrev pub IsDamagedPart : List Block → Contents → Option Content → ℕ → Type 0

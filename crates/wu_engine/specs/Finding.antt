@@ -10,7 +10,7 @@ use Rattle.wu_outside.specs.Content.{Content}
 use Rattle.wu_outside.specs.Faults.{Rose}
 use Rattle.wu_outside.specs.declared.ranges.ReadRange.{ReadRange}
 use Rattle.wu_ask.specs.Questions.{Question}
-use Rattle.wu_ask.specs.declared.FindLine.{FindLine}
+use Rattle.wu_ask.specs.declared.Found.{Found}
 use Rattle.wu_frames.specs.declared.Frames.{Frames}
 use Rattle.wu_parts.specs.Contents.{Contents}
 use Rattle.wu_space.specs.Addresses.{Ranges}
@@ -20,7 +20,7 @@ use Rattle.wu_rank.specs.declared.results.Unit.{Unit as RankedUnit}
 use Rattle.wu_solve.specs.Solving.{frame_hits}
 use Rattle.wu_view.specs.declared.Seen.{Seen}
 use Rattle.wu_engine.specs.Answer.{found_line}
-use Rattle.wu_engine.specs.Causes.{IsBlobOf, IsDamagedOf}
+use Rattle.wu_engine.specs.Causes.{IsBlobOf, IsDamagedOf, WasRead}
 use Rattle.wu_engine.specs.Reads.{AreTexts, texts_read, texts_shown, whole_text}
 use Rattle.wu_engine.specs.Records.{Records, record_at, records_of}
 use Rattle.wu_engine.specs.Soundness.{IsRecord}
@@ -55,10 +55,10 @@ abbrev pub text_held : Content → FileRec → List ℕ
 text_held content file = if file.blob == 0 then [] else unwrap_or (content.blobs file.blob) []
 
 -- the extents of a file with those paths, as they are shown
-abbrev pub lines_of_record : Content → List (List ℕ) → List Extent → FileRec → List FindLine
+abbrev pub lines_of_record : Content → List (List ℕ) → List Extent → FileRec → List Found
 lines_of_record content paths extents file = map (found_line (record { paths = paths; text = text_held content file })) extents
 
-abbrev pub lines_recorded : Content → Region → List TermList → List (List ℕ) → Option FileRec → List FindLine
+abbrev pub lines_recorded : Content → Region → List TermList → List (List ℕ) → Option FileRec → List Found
 lines_recorded content region lists paths None = []
 lines_recorded content region lists paths (Some file) = lines_of_record content paths (extents_of region lists file) file
 
@@ -71,7 +71,7 @@ text_recorded None = []
 text_recorded (Some file) = whole_text file.blob file.len
 
 -- of a file of a view
-abbrev pub lines_at : Content → Records → Region → List TermList → Seen → List FindLine
+abbrev pub lines_at : Content → Records → Region → List TermList → Seen → List Found
 lines_at content files region lists seen = lines_recorded content region lists seen.paths (record_at files seen.ino)
 
 abbrev pub hits_at : Records → Region → List TermList → Seen → ℕ
@@ -107,13 +107,14 @@ abbrev pub IsBrokenShown : Records → Option Content → Region → List TermLi
 IsBrokenShown files holds region lists lines view blob =
     IsBlobOf (texts_shown (hits_at files region lists) (text_at files) lines view) blob × IsDamagedOf view files holds blob
 
--- Why a call that reads texts answers a trouble: a store fault only where the count of faults rose, which else is as it was, and a
--- damaged blob only where that blob is broken.
-pub record IsCause (Broken : ℕ → Type 0) (before now : ℕ) (trouble : Trouble) : Type 0 where
+-- Why a call that reads of the store answers a trouble: a store fault only where the count of faults rose, which else is as it was, and
+-- a damaged blob only where that blob is broken and was read in the call.
+pub record IsCause (Broken : ℕ → Type 0) (before now : ℕ) (ranges ranges_now : Option (List ReadRange)) (trouble : Trouble) : Type 0 where
   pub kept : before ≤ now
   pub store_fault : trouble ≡ StoreFault → Rose before now
   pub calm : trouble ≢ StoreFault → now ≡ before
   pub damaged : (blob : ℕ) → trouble ≡ Damaged blob → Broken blob
+  pub read : (blob : ℕ) → trouble ≡ Damaged blob → WasRead ranges ranges_now blob
 
 -- ---- the state
 

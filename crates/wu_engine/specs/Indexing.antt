@@ -9,8 +9,7 @@ use Rattle.wu_token.specs.Words.{has_bytes}
 use Rattle.wu_token.specs.Tokens.{tokens_of}
 use Rattle.wu_tree.specs.declared.events.Effect.{Effect}
 use Rattle.wu_layout.specs.Postings.{Posting, live_of}
-use Rattle.wu_base.specs.declared.addresses.Range.{Range}
-use Rattle.wu_space.specs.Addresses.{Addresses, IsSpace, Ranges, placed, range_of, released}
+use Rattle.wu_space.specs.Addresses.{Addresses, Ranges, placed, range_of, released}
 use Rattle.wu_parts.specs.Contents.{Contents}
 use Rattle.wu_parts.specs.Flushing.{EmptiesMemory, Flushes, Told}
 use Rattle.wu_parts.specs.Memory.{Gains, HasPostings}
@@ -142,15 +141,6 @@ pub record IsIndexable (effect : Effect) (text : List ℕ) (space : Addresses) (
   pub short : length text ≤ TEXT_MAX
   pub below : parts.memory.end ≤ space.next
   pub room : space.next + length (terms_after effect text) ≤ ADDRESSES_MAX
-
--- ---- frames that are kept
-
--- the file had that range, and a text gave it the next addresses in its place
-pub record GaveText (before now : Addresses) (file : ℕ × Range) : Type 0 where
-  pub len : ℕ
-  pub rules : IsSpace before
-  pub had : range_of before.ranges file.0 ≡ Some file.1
-  pub has : now ≡ placed (released before file.0) file.0 len
 
 -- ---- a flush that follows
 

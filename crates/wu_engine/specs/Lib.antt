@@ -16,6 +16,7 @@ pub mod Causes
 pub mod Opening
 pub mod Crashes
 pub mod Saving
+pub mod SavedStores
 pub mod Naming
 pub mod Permitted
 pub mod Going
@@ -29,4 +30,3 @@ pub mod Indexing
 pub mod Units
 pub mod Finding
 pub mod Opened
-pub mod SavedStores

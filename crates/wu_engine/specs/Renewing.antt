@@ -6,7 +6,7 @@ use Rattle.wu_tree.specs.declared.events.Event.{Event}
 use Rattle.wu_tree.specs.declared.events.Event.TheVariants.{User, Mkdir, Create, Text, Link, Unlink, Rmdir, Rename, Chmod, Chown}
 use Rattle.wu_tree.specs.declared.events.Node.{Node}
 use Rattle.wu_tree.specs.FileSystems.{FileSystem, node_of}
-use Rattle.wu_space.specs.Addresses.{Addresses, Ranges, range_of}
+use Rattle.wu_space.specs.Addresses.{Addresses, Ranges, range_of, IsSpace, placed, released}
 use Rattle.wu_frames.specs.Permissions.{IsGroupChange, IsPermChange, kept_as_before}
 use Rattle.wu_frames.specs.Links.{IsLinkChange, KeepRanges, kept_unshown, links_changed}
 use Rattle.wu_frames.specs.UserFrames.{Kept, StayOrMove, kept_mendable}
@@ -14,7 +14,6 @@ use Rattle.wu_engine.specs.declared.renewing.Touched.{Touched}
 use Rattle.wu_engine.specs.declared.renewing.Touched.TheVariants.{RangeOf, PermOf, GroupsOf, Links, Nothing}
 use Rattle.wu_engine.specs.declared.verdicts.Verdict.{Verdict}
 use Rattle.wu_engine.specs.declared.verdicts.Verdict.TheVariants.{Made, Refused}
-use Rattle.wu_engine.specs.Indexing.{GaveText}
 
 abbrev pub range_touched : ℕ → Option Range → Touched
 range_touched ino None = Nothing
@@ -36,6 +35,13 @@ touched_of fs live (Rmdir parent name) = Links (links_changed fs (Rmdir parent n
 touched_of fs live (Rename parent name new_parent new_name) = Links (links_changed fs (Rename parent name new_parent new_name))
 touched_of fs live (Chmod ino mode) = perm_touched ino (node_of fs ino)
 touched_of fs live (Chown ino uid gid) = perm_touched ino (node_of fs ino)
+
+-- the file had that range, and a text gave it the next addresses in its place
+pub record GaveText (before now : Addresses) (file : ℕ × Range) : Type 0 where
+  pub len : ℕ
+  pub rules : IsSpace before
+  pub had : range_of before.ranges file.0 ≡ Some file.1
+  pub has : now ≡ placed (released before file.0) file.0 len
 
 -- that alone changed
 abbrev pub Touches : FileSystem → Addresses → FileSystem → Addresses → Touched → Type 0

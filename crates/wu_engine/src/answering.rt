@@ -18,7 +18,7 @@ impl Engine {
     ghost use Rattle.wu_engine.specs.Reports.{stat_of};
     ghost use Rattle.wu_engine.specs.Stands.{Stands};
     ghost use Rattle.wu_engine.specs.Calls.{AnswersAgain, StillGoes};
-    ghost use Rattle.wu_engine.specs.Causes.{HasTroubleCause, IsDamagedFor};
+    ghost use Rattle.wu_engine.specs.Causes.{HasTroubleCause, IsDamagedFor, WasRead};
     ghost use Rattle.wu_engine.specs.View.{view_of};
     ghost use Rattle.wu_engine.specs.Answer.{answer};
     ghost use Rattle.wu_engine.specs.Reads.{AreTexts, ReadsForQuery, texts_read};
@@ -28,17 +28,22 @@ impl Engine {
 
     /// Answers a user's query from the index: over her view alone, whatever other files there are. The store
     /// is only read: first those blocks of the query's terms that her frames need and that aren't kept, and
-    /// then, where a find shows lines, the texts of the files of which it shows one.
+    /// then, where a find shows lines, the texts of the files of which it shows one. Whatever it answers, nothing
+    /// of the engine changes but which blocks and frames it keeps, and the trouble that ended it.
     ///
     /// At most K_MAX lines are asked for; a rank has 1 to RANK_WORDS_MAX words, a phrase a word and a window an
-    /// address at least. The errors are a damaged part or text, a fault of the store, and out of memory. Each ends
-    /// the engine, and a trouble that ended it is answered again.
+    /// address at least. The errors are a damaged part or text that was read, a fault of the store, and out of
+    /// memory. Each ends the engine, and a trouble that ended it is answered again.
     pub fn query<D: Store>(&mut self, store: &mut D, query: &Query) -> Result<Answered, Trouble>
         requires { IsSoundAsk query.now.ask }
         // The answer is the written one over her view, and engine and store stand for the same state.
         ensures answer { (s : State) → Stands self.old (D.holds store.old) s → IfOk result (λ answered.
             (answered ≡ answer (view_of s query.now.uid) (question_of query.now.ask)) × Stands self.new (D.holds store.new) s) }
+        // Whatever it answers.
+        ensures tree { self.new.tree ≡ self.old.tree }
+        ensures files { self.new.files ≡ self.old.files }
         ensures space { self.new.space ≡ self.old.space }
+        ensures checkpoint { self.new.checkpoint ≡ self.old.checkpoint }
         ensures parts { self.new.parts ≡ record self.old.parts { kept = self.new.parts.kept } }
         // Her frames are the first that are kept then, and those of the others are as they were, as far as there is room.
         ensures frames { OnOk result (HasAsked query.now.uid self.old.frames self.new.frames) }
@@ -60,11 +65,13 @@ impl Engine {
         ensures ends { IfErr result (λ trouble. self.new.ended ≡ Some trouble) }
         ensures again { AnswersAgain self.old self.new store.old store.new result }
         ensures cause { HasTroubleCause self.old.ended (D.faults store.old) (D.faults store.new) result }
-        // A blob is called damaged only where this query of hers needs it: a part of which her frames need a block of the
-        // terms, or the text of a file of hers of which a line is shown.
+        // A blob is called damaged only where this query of hers read of it and needs it: a part of which her frames need a block
+        // of the terms, or, where the question has lines shown, the text of a file of hers; where frames, postings and records
+        // are those of a state, one of which a line is to be shown.
         ensures damaged { (blob : ℕ) → result ≡ Err (Damaged blob) → (self.old.ended ≡ Some (Damaged blob))
-            ⊎ IsDamagedFor self.old.tree self.old.space.ranges query.now.uid (question_of query.now.ask) self.old.parts self.old.files.entries
-            (D.holds store.old) blob }
+            ⊎ (WasRead (D.reads store.old) (D.reads store.new) blob
+            × IsDamagedFor self.old.tree self.old.space.ranges query.now.uid (question_of query.now.ask) self.old.parts
+            self.old.files.entries (D.holds store.old) blob) }
         // Over whatever the store held at opening, the engine goes on, and a blob that is called damaged was broken then.
         ensures goes { StillGoes self.old self.new (D.holds store.old) (D.holds store.new) result }
         ensures broken { (start : Content) → Goes self.old start (D.holds store.old) → (blob : ℕ) → result ≡ Err (Damaged blob)

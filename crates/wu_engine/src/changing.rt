@@ -6,6 +6,7 @@ ghost use Rattle.wu_base.specs.declared.troubles.Trouble.TheVariants.{Damaged};
 ghost use Rattle.wu_outside.specs.Content.{Content};
 ghost use Rattle.wu_parts.specs.Working.{AreFew, DoesWork, IsDamaged, StopsWork, answer_of, is_idle};
 ghost use Rattle.wu_tree.specs.Steps.{IsEvent};
+ghost use Rattle.wu_tree.specs.declared.events.Refusal.{Refusal};
 
 use crate::engines::Engine;
 use crate::renewing::{renew_frames, touched_by};
@@ -21,17 +22,19 @@ impl Engine {
     ghost use Rattle.wu_engine.specs.Stands.{KeepsOthers, Stands, leaves_store, taken_by, verdict_of};
     ghost use Rattle.wu_engine.specs.Causes.{HasTroubleCause};
     ghost use Rattle.wu_engine.specs.Naming.{AddsNamed};
-    ghost use Rattle.wu_engine.specs.Calls.{AnswersAgain, LeavesLast, StillGoes};
+    ghost use Rattle.wu_engine.specs.Calls.{AnswersAgain, IsAsBefore, LeavesLast, DrawsAtMost, StillGoes};
     ghost use Rattle.wu_engine.specs.Going.{Goes, HasBroken};
+    ghost use Rattle.wu_engine.specs.declared.verdicts.Verdict.TheVariants.{Refused};
     ghost use Rattle.wu_engine.specs.Puts.{MayTryPut, MayTryPuts};
     ghost use Rattle.wu_engine.specs.Renewing.{LeavesFrames, touched_of};
     ghost use Rattle.wu_engine.specs.Permitted.{MayReadForWork, ReadsOnly};
 
     /// Applies an event, where `body` is the text that it gives to a file; other events give none. The event
-    /// happens or is refused, and a refused event changes nothing. A text that isn't empty is put into the
-    /// store under the next blob's number. After an event that happened, memory is flushed where it is full:
-    /// its live postings become a part, which is put into the store under the number after that. No other call
-    /// of the store is made, and nothing is read. The next address is at most ADDRESSES_MAX after it.
+    /// happens or is refused, and a refused event changes nothing in engine and store. A text that isn't empty is
+    /// put into the store under the next blob's number. After an event that happened, memory is flushed where it is
+    /// full: its live postings become a part, which is put into the store under the number after that. No other
+    /// change of the store is tried, and nothing is read. The next address is at most ADDRESSES_MAX after it. Whatever it
+    /// answers, the next address, the number of the next blob and that of the flushes don't fall.
     ///
     /// The body has at most TEXT_MAX bytes. The number of the next blob, with two added, and that of the flushes,
     /// with one, are below 2^63. The errors are a fault of the store and out of memory. Each ends the engine, and a
@@ -54,14 +57,13 @@ impl Engine {
         // A blob that wasn't there before is one that the state names.
         ensures named { (s : State) → Stands self.old (D.holds store.old) s → OnOk result
             (AddsNamed (after_event self.old.parts.flush_at s event.now body.now).layout (D.holds store.old) (D.holds store.new)) }
-        ensures taken { OnOk result (self.new.space.next ≤ self.old.space.next + taken_by event.now body.now) }
-        ensures drawn { OnOk result (self.new.parts.next_blob ≤ self.old.parts.next_blob + 2) }
-        ensures onward { OnOk result (self.old.parts.next_blob ≤ self.new.parts.next_blob) }
-        // Each flush that is counted drew a blob.
-        ensures counted { OnOk result
-            (self.new.parts.flushes + self.old.parts.next_blob ≤ self.old.parts.flushes + self.new.parts.next_blob) }
-        ensures flush_at { OnOk result (self.new.parts.flush_at ≡ self.old.parts.flush_at) }
-        ensures kept { OnOk result (self.new.parts.kept ≡ self.old.parts.kept) }
+        // Addresses and numbers only grow, whatever the answer.
+        ensures given { self.old.space.next ≤ self.new.space.next }
+        ensures taken { self.new.space.next ≤ self.old.space.next + taken_by event.now body.now }
+        ensures numbers { DrawsAtMost 2 self.old.parts self.new.parts }
+        ensures checkpoint { self.new.checkpoint ≡ self.old.checkpoint }
+        // A refused event leaves all of the engine.
+        ensures refused { (refusal : Refusal) → result ≡ Ok (Refused refusal) → IsAsBefore self.old self.new }
         // What is left of the kept frames: a refused event leaves all, another those of all users whom it doesn't concern.
         ensures frames { IfOk result (λ verdict. LeavesFrames verdict self.new.tree
             (touched_of self.old.tree self.old.space.ranges event.now) self.old.frames self.new.frames) }
@@ -121,7 +123,8 @@ impl Engine {
 
     /// Makes a part of the live postings in memory, and puts it into the store under the next blob's number;
     /// memory is empty then. Where no posting in memory is live no part is made, no blob is drawn and the store
-    /// is not touched. Nothing is read.
+    /// is not touched. Nothing is read. Whatever it answers, the tree, the addresses, what is recorded of texts, the
+    /// kept frames and the checkpoint's number stay as they are.
     ///
     /// The number of the next blob and that of the flushes, each with one added, are below 2^63. The errors are a
     /// fault of the store and out of memory. Each ends the engine, and a trouble that ended it is answered again.
@@ -132,14 +135,12 @@ impl Engine {
             → OnOk result (Stands self.new (D.holds store.new) (flushed_state s)) }
         ensures named { (s : State) → Stands self.old (D.holds store.old) s
             → OnOk result (AddsNamed (flushed_state s).layout (D.holds store.old) (D.holds store.new)) }
+        ensures tree { self.new.tree ≡ self.old.tree }
+        ensures files { self.new.files ≡ self.old.files }
         ensures space { self.new.space ≡ self.old.space }
-        ensures drawn { OnOk result (self.new.parts.next_blob ≤ self.old.parts.next_blob + 1) }
-        ensures onward { OnOk result (self.old.parts.next_blob ≤ self.new.parts.next_blob) }
-        ensures counted { OnOk result
-            (self.new.parts.flushes + self.old.parts.next_blob ≤ self.old.parts.flushes + self.new.parts.next_blob) }
-        ensures flush_at { OnOk result (self.new.parts.flush_at ≡ self.old.parts.flush_at) }
-        ensures kept { OnOk result (self.new.parts.kept ≡ self.old.parts.kept) }
-        ensures frames { OnOk result (self.new.frames ≡ self.old.frames) }
+        ensures checkpoint { self.new.checkpoint ≡ self.old.checkpoint }
+        ensures numbers { DrawsAtMost 1 self.old.parts self.new.parts }
+        ensures frames { self.new.frames ≡ self.old.frames }
 
         // What the store holds changes only at the blob that may be drawn, also where the call fails. Where none is drawn no call of
         // the store is made.
@@ -178,9 +179,11 @@ impl Engine {
     /// only where there is nothing to do. It answers Idle exactly where no job is under way then and none is
     /// named, else Busy.
     ///
-    /// Of the store only the blocks of these terms in the jobs' parts are read, each in one read. The number of the
-    /// next blob, with `n` added, is below 2^63. The errors are a damaged part, a fault of the store, and out of
-    /// memory. Each ends the engine, and a trouble that ended it is answered again.
+    /// Of the store only the blocks of these terms in the jobs' parts are read, each in one read. Whatever it
+    /// answers, the tree, the addresses, what is recorded of texts, the kept frames and the checkpoint's number stay
+    /// as they are. The number of the next blob, with `n` added, is below 2^63.
+    /// The errors are a damaged part, a fault of the store, and out of memory. Each ends the engine, and a trouble
+    /// that ended it is answered again.
     pub fn work<D: Store>(&mut self, store: &mut D, n: u32) -> Result<Worked, Trouble>
         requires blobs { self.old.parts.next_blob + n < 2 ^ 63 }
         // The answer is that of the state after the units, and engine and store stand for it.
@@ -191,13 +194,13 @@ impl Engine {
         ensures answer { IfOk result (λ worked. worked ≡ answer_of (is_idle self.new.space.ranges self.new.parts)) }
         // Where there is nothing to do there are few parts, and most of each is live.
         ensures few { IfOk result (λ worked. worked ≡ Idle → AreFew self.new.space.ranges self.new.parts) }
+        ensures tree { self.new.tree ≡ self.old.tree }
+        ensures files { self.new.files ≡ self.old.files }
         ensures space { self.new.space ≡ self.old.space }
-        ensures drawn { OnOk result (self.new.parts.next_blob ≤ self.old.parts.next_blob + n) }
-        ensures onward { OnOk result (self.old.parts.next_blob ≤ self.new.parts.next_blob) }
-        ensures counted { OnOk result (self.new.parts.flushes ≡ self.old.parts.flushes) }
-        ensures flush_at { OnOk result (self.new.parts.flush_at ≡ self.old.parts.flush_at) }
-        ensures kept { OnOk result (self.new.parts.kept ≡ self.old.parts.kept) }
-        ensures frames { OnOk result (self.new.frames ≡ self.old.frames) }
+        ensures checkpoint { self.new.checkpoint ≡ self.old.checkpoint }
+        ensures numbers { DrawsAtMost n self.old.parts self.new.parts }
+        ensures counted { self.new.parts.flushes ≡ self.old.parts.flushes }
+        ensures frames { self.new.frames ≡ self.old.frames }
 
         // What the store holds changes only at the blobs that may be drawn, also where the call fails.
         ensures elsewhere { KeepsOthers self.old.parts.next_blob (self.old.parts.next_blob + n) (D.holds store.old) (D.holds store.new) }

@@ -44,7 +44,7 @@ pub struct Engine {
 impl Engine {
     ghost use Rattle.wu_engine.specs.States.{State, rested_state, saved_state};
     ghost use Rattle.wu_engine.specs.Stands.{Stands};
-    ghost use Rattle.wu_engine.specs.Calls.{AnswersAgain, StillGoes};
+    ghost use Rattle.wu_engine.specs.Calls.{AnswersAgain, DrawsAtMost, StillGoes};
     ghost use Rattle.wu_engine.specs.Causes.{HasTroubleCause};
     ghost use Rattle.wu_engine.specs.Opening.{HasRoot, HoldsImage, IsBeginCause, IsOpen, IsSpentWhere, ReadsAtOpening};
     ghost use Rattle.wu_engine.specs.Earlier.{KeepsCheckpoint, LeavesEarlier};
@@ -113,7 +113,8 @@ impl Engine {
     /// Saves the state: flushes memory, writes a checkpoint under the next blob's number, makes the store sync what
     /// was put, gives it the root that names the checkpoint, makes it sync that, and then removes the blobs that are
     /// no longer needed and the checkpoint before. A job under way goes on, and is not part of what is saved. Until
-    /// the new root is there the store holds all that the last one names. Nothing is read.
+    /// the new root is there the store holds all that the last one names. Nothing is read. Whatever it answers, the
+    /// tree, the addresses, what is recorded of texts, and the kept frames stay as they are.
     ///
     /// The number of the next blob, with two added, and that of the flushes, with one, are below 2^63. The errors
     /// are a fault of the store and out of memory. Each ends the engine, and a trouble that ended it is answered
@@ -128,14 +129,11 @@ impl Engine {
             → OnOk result (HoldsImage (D.holds store.new) (rested_state (saved_state s))) }
         ensures named { (s : State) → Stands self.old (D.holds store.old) s
             → OnOk result (AddsNamed (saved_state s).layout (D.holds store.old) (D.holds store.new)) }
+        ensures tree { self.new.tree ≡ self.old.tree }
+        ensures files { self.new.files ≡ self.old.files }
         ensures space { self.new.space ≡ self.old.space }
-        ensures drawn { OnOk result (self.new.parts.next_blob ≤ self.old.parts.next_blob + 2) }
-        ensures onward { OnOk result (self.old.parts.next_blob ≤ self.new.parts.next_blob) }
-        ensures counted { OnOk result
-            (self.new.parts.flushes + self.old.parts.next_blob ≤ self.old.parts.flushes + self.new.parts.next_blob) }
-        ensures flush_at { OnOk result (self.new.parts.flush_at ≡ self.old.parts.flush_at) }
-        ensures kept { OnOk result (self.new.parts.kept ≡ self.old.parts.kept) }
-        ensures frames { OnOk result (self.new.frames ≡ self.old.frames) }
+        ensures numbers { DrawsAtMost 2 self.old.parts self.new.parts }
+        ensures frames { self.new.frames ≡ self.old.frames }
 
         // The checkpoint is synced before the root is set, and that is synced before anything is removed.
         ensures order { OnOk result (Saves self.old.tree self.old.space self.old.files.entries self.old.checkpoint self.new.checkpoint
@@ -192,9 +190,12 @@ impl Engine {
     pub(crate) fn end_with(&mut self, trouble: Trouble) -> Trouble
         ensures trouble { result ≡ trouble }
         ensures ended { self.new.ended ≡ Some trouble }
+        ensures tree { self.new.tree ≡ self.old.tree }
+        ensures files { self.new.files ≡ self.old.files }
         ensures space { self.new.space ≡ self.old.space }
         ensures parts { self.new.parts ≡ self.old.parts }
         ensures checkpoint { self.new.checkpoint ≡ self.old.checkpoint }
+        ensures frames { self.new.frames ≡ self.old.frames }
     {
         self.ended = Some(trouble);
         trouble

@@ -24,7 +24,7 @@ use crate::reading::read_text;
 use crate::units::{files_with, units_of};
 use std::alloc::Global;
 use std::collections::BTreeMap;
-use wu_ask::{Answered, FindLine};
+use wu_ask::{Answered, Found};
 use wu_base::{Bytes, Extent, Ino, NoMemory, Sequence, TermList, Trouble};
 use wu_frames::Frames;
 use wu_gcl::{Expr, terms_of};
@@ -65,7 +65,7 @@ pub fn find<D: Store>(
     ensures moments { D.moments store.new ≡ D.moments store.old }
     ensures calm { OnOk result (D.faults store.new ≡ D.faults store.old) }
     ensures cause { IfErr result (IsCause (IsDamagedOver frames.now (AskedFinding k (region_of expr.now)) parts.old files.now.entries
-        (D.holds store.old)) (D.faults store.old) (D.faults store.new)) }
+        (D.holds store.old)) (D.faults store.old) (D.faults store.new) (D.reads store.old) (D.reads store.new)) }
 {
     let _untouched = &*store;
     let terms = terms_of(alloc, expr)?;
@@ -99,7 +99,7 @@ fn lines_shown<D: Store>(
     lists: &[TermList],
     k: usize,
     few: bool,
-) -> Result<Vec<FindLine>, Trouble>
+) -> Result<Vec<Found>, Trouble>
     requires fit { CanBeSearched frames.now }
     requires records { AllByRecursion CanBeRead files.now.entries }
     requires lists { AreLists lists.now }
@@ -119,7 +119,8 @@ fn lines_shown<D: Store>(
         (D.reads store.old) (D.reads store.new) }
     ensures calm { OnOk result (D.faults store.new ≡ D.faults store.old) }
     ensures cause { IfErr result (IsCause (IsBrokenShown files.now.entries (D.holds store.old) (region_of expr.now) lists.now
-        k (looked_through few (region_of expr.now) lists.now frames.now)) (D.faults store.old) (D.faults store.new)) }
+        k (looked_through few (region_of expr.now) lists.now frames.now))
+        (D.faults store.old) (D.faults store.new) (D.reads store.old) (D.reads store.new)) }
 {
     let _untouched = &*store;
     if !few {
@@ -140,7 +141,7 @@ fn first_lines<D: Store>(
     expr: &Expr,
     lists: &[TermList],
     k: usize,
-) -> Result<Vec<FindLine>, Trouble>
+) -> Result<Vec<Found>, Trouble>
     requires records { AllByRecursion CanBeRead files.now.entries }
     requires lists { AreLists lists.now }
     ensures lines { IfOk result (λ lines. IfSome (D.holds store.old) (λ content.
@@ -157,7 +158,7 @@ fn first_lines<D: Store>(
     ensures none { k ≡ 0 → store.new ≡ store.old }
     ensures calm { OnOk result (D.faults store.new ≡ D.faults store.old) }
     ensures cause { IfErr result (IsCause (IsBrokenShown files.now.entries (D.holds store.old) (region_of expr.now) lists.now
-        k view.now) (D.faults store.old) (D.faults store.new)) }
+        k view.now) (D.faults store.old) (D.faults store.new) (D.reads store.old) (D.reads store.new)) }
 {
     let mut shown = Vec::new(alloc);
     for seen in view {
@@ -174,7 +175,7 @@ fn first_lines<D: Store>(
 fn put_file<D: Store>(
     alloc: Global,
     store: &mut D,
-    shown: &mut Vec<FindLine>,
+    shown: &mut Vec<Found>,
     seen: &Seen,
     files: &BTreeMap<Ino, FileRec>,
     expr: &Expr,
@@ -200,7 +201,8 @@ fn put_file<D: Store>(
         then text_at files.now.entries seen.now else [])) (D.reads store.old) (D.reads store.new) }
     ensures calm { OnOk result (D.faults store.new ≡ D.faults store.old) }
     ensures cause { IfErr result (IsCause (IsBrokenShown files.now.entries (D.holds store.old) (region_of expr.now) lists.now
-        left (seen.now ∷ [])) (D.faults store.old) (D.faults store.new)) }
+        left (seen.now ∷ []))
+        (D.faults store.old) (D.faults store.new) (D.reads store.old) (D.reads store.new)) }
 {
     match files.get(&seen.ino) {
         Some(file) => {
@@ -248,7 +250,7 @@ fn counted_from(alloc: Global, start: u64, extents: &[Extent]) -> Result<Vec<Ext
 fn put_lines<D: Store>(
     alloc: Global,
     store: &mut D,
-    shown: &mut Vec<FindLine>,
+    shown: &mut Vec<Found>,
     paths: &[Bytes],
     file: &FileRec,
     extents: &[Extent],
@@ -269,7 +271,7 @@ fn put_lines<D: Store>(
         (D.reads store.old) (D.reads store.new) }
     ensures calm { OnOk result (D.faults store.new ≡ D.faults store.old) }
     ensures cause { IfErr result (IsCause (λ blob. (0 < length extents.now) × IsBrokenIn (D.holds store.old) file.now blob)
-        (D.faults store.old) (D.faults store.new)) }
+        (D.faults store.old) (D.faults store.new) (D.reads store.old) (D.reads store.new)) }
 {
     if extents.is_empty() {
         return Ok(());
@@ -281,7 +283,7 @@ fn put_lines<D: Store>(
 /// Puts extents of a text at the end, with their lines.
 fn put_snippets(
     alloc: Global,
-    shown: &mut Vec<FindLine>,
+    shown: &mut Vec<Found>,
     paths: &[Bytes],
     text: &[u8],
     extents: &[Extent],
@@ -305,15 +307,15 @@ fn found_line(
     paths: &[Bytes],
     extent: Extent,
     snip: &Snip,
-) -> Result<FindLine, NoMemory>
+) -> Result<Found, NoMemory>
     ensures { IfOk result (λ line. (text : List ℕ) → snip.now ≡ snippet_of text extent
         → line ≡ found_line (record { paths = paths.now; text = text }) extent) }
 {
-    Ok(FindLine {
+    Ok(Found {
         path: first_path(alloc, paths)?,
         start: extent.start,
         end: extent.end,
         line: snip.line,
-        bytes: snip.bytes.clone()?,
+        snippet: snip.bytes.clone()?,
     })
 }

@@ -1,7 +1,10 @@
 //! Laws of states.
-ghost use Rattle.std.specs.Prelude.{◌≡◌, ℕ, ◌+◌, ◌≤◌, List, length};
+ghost use Rattle.std.specs.Prelude.{◌≡◌, ℕ, ◌+◌, ◌≤◌, List, length, Option, None, Result, MatchResult, option_map};
 ghost use Rattle.wu_base.specs.declared.limits.TheConstants.{TEXT_MAX};
-ghost use Rattle.wu_outside.specs.Surviving.{NamesOnly};
+ghost use Rattle.wu_outside.specs.Content.{Does, Writes, with_blob};
+ghost use Rattle.wu_outside.specs.Crash.{Moments, Put, Remove, settle, try_change};
+ghost use Rattle.wu_outside.specs.Surviving.{Leaves, LeavesNow, NamesOnly};
+ghost use Rattle.wu_outside.specs.declared.traits.Fault.{Fault};
 ghost use Rattle.wu_tree.specs.Steps.{IsEvent};
 ghost use Rattle.wu_tree.specs.declared.events.Event.{Event};
 ghost use Rattle.wu_engine.specs.Crashes.{IsImageOf};
@@ -35,7 +38,18 @@ pub fn each_event_keeps_a_state()
 {}
 
 /// A law: an image of a state is one by its root and by the blobs that the state names. What a store has besides, as
-/// what a crash left of blobs that no root names yet or none names any more, makes no difference.
+/// what a crash left of blobs that no root names yet or none names any more, makes no difference. So where a crash leaves
+/// only images of the state, that stays true while a blob that the state doesn't name is put or removed, and while the
+/// store is synced, also where the call fails.
 pub fn strays_make_no_difference()
     ensures strays { (s : State) → NamesOnly (IsNamed s.layout) (IsImageOf s) }
+    ensures put { (s : State) (old new : Option Moments) (blob : ℕ) (bytes : List ℕ) (result : Result (Unit {0}) Fault)
+        → (IsNamed s.layout blob → ⊥) → Writes (λ written. try_change (Put blob) (with_blob blob written)) bytes old new result
+        → LeavesNow old (IsImageOf s) → Leaves old new (IsImageOf s) }
+    ensures removal { (s : State) (old new : Option Moments) (blob : ℕ) (result : Result (Unit {0}) Fault)
+        → (IsNamed s.layout blob → ⊥) → Does (try_change (Remove blob) (with_blob blob None)) old new result
+        → LeavesNow old (IsImageOf s) → Leaves old new (IsImageOf s) }
+    ensures sync { (s : State) (old new : Option Moments) (result : Result (Unit {0}) Fault)
+        → MatchResult result (λ _. new ≡ option_map settle old) (λ _. new ≡ old)
+        → LeavesNow old (IsImageOf s) → Leaves old new (IsImageOf s) }
 {}

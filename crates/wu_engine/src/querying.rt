@@ -62,7 +62,8 @@ pub fn answered<D: Store>(
     ensures moments { D.moments store.new ≡ D.moments store.old }
     ensures calm { OnOk result (D.faults store.new ≡ D.faults store.old) }
     ensures cause { IfErr result (IsCause (IsDamagedFor tree.now space.now.ranges query.now.uid (question_of query.now.ask)
-        parts.old files.now.entries (D.holds store.old)) (D.faults store.old) (D.faults store.new)) }
+        parts.old files.now.entries (D.holds store.old))
+        (D.faults store.old) (D.faults store.new) (D.reads store.old) (D.reads store.new)) }
 {
     let _untouched = &*store;
     space.keeps_the_rules();
@@ -100,7 +101,7 @@ fn answer<D: Store>(
     ensures moments { D.moments store.new ≡ D.moments store.old }
     ensures calm { OnOk result (D.faults store.new ≡ D.faults store.old) }
     ensures cause { IfErr result (IsCause (IsDamagedOver frames.now (question_of ask.now) parts.old files.now.entries (D.holds store.old))
-        (D.faults store.old) (D.faults store.new)) }
+        (D.faults store.old) (D.faults store.new) (D.reads store.old) (D.reads store.new)) }
 {
     let _untouched = &*store;
     match ask {

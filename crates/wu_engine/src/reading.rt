@@ -17,7 +17,7 @@ use wu_token::token_count;
 
 /// The text that is recorded there, read whole in one read; the empty text is not read. A text that the
 /// store doesn't have as it was recorded, in its length and in the number of its tokens, is answered by its
-/// blob.
+/// blob once it was read.
 pub fn read_text<D: Store>(alloc: Global, store: &mut D, file: &FileRec) -> Result<Vec<u8>, Trouble>
     requires { IsRecord (file.now.ino, file.now) }
     ensures text { IfOk result (λ text. IfSome (D.holds store.old) (λ content. text.items ≡ text_held content file.now)) }
@@ -30,7 +30,8 @@ pub fn read_text<D: Store>(alloc: Global, store: &mut D, file: &FileRec) -> Resu
         ≡ option_map (λ ranges. ranges ++ whole_text file.now.blob file.now.len) (D.reads store.old)) }
     ensures only { ReadsSuch (AreFirstOf (whole_text file.now.blob file.now.len)) (D.reads store.old) (D.reads store.new) }
     ensures calm { OnOk result (D.faults store.new ≡ D.faults store.old) }
-    ensures cause { IfErr result (IsCause (IsBrokenIn (D.holds store.old) file.now) (D.faults store.old) (D.faults store.new)) }
+    ensures cause { IfErr result (IsCause (IsBrokenIn (D.holds store.old) file.now)
+        (D.faults store.old) (D.faults store.new) (D.reads store.old) (D.reads store.new)) }
 {
     if file.blob == 0 {
         return Ok(Vec::new(alloc));
@@ -53,7 +54,8 @@ fn check_tokens(text: &[u8], file: &FileRec) -> Result<(), Trouble>
     }
 }
 
-/// The blob of the recorded text, which has the recorded length.
+/// The blob of the recorded text, which has the recorded length. Its size is asked after the read, so that no
+/// blob is called damaged unread.
 fn read_blob<D: Store>(alloc: Global, store: &mut D, file: &FileRec) -> Result<Vec<u8>, Trouble>
     requires { 0 < file.now.blob }
     ensures text { IfOk result (λ text. IfSome (D.holds store.old) (λ content. content.blobs file.now.blob ≡ Some text.items)) }
@@ -65,13 +67,24 @@ fn read_blob<D: Store>(alloc: Global, store: &mut D, file: &FileRec) -> Result<V
     ensures only { ReadsSuch (AreFirstOf (record { blob = file.now.blob; at = 0; len = file.now.len } ∷ []))
         (D.reads store.old) (D.reads store.new) }
     ensures calm { OnOk result (D.faults store.new ≡ D.faults store.old) }
-    ensures cause { IfErr result (IsCause (IsBrokenIn (D.holds store.old) file.now) (D.faults store.old) (D.faults store.new)) }
+    ensures cause { IfErr result (IsCause (IsBrokenIn (D.holds store.old) file.now)
+        (D.faults store.old) (D.faults store.new) (D.reads store.old) (D.reads store.new)) }
 {
+    let mut text = vec![in alloc; 0u8; file.len as usize]?;
+    let count = store.read(file.blob, 0, &mut text)?;
+    check_count(count, file)?;
     let size = store.size(file.blob)?;
     check_size(size, file)?;
-    let mut text = vec![in alloc; 0u8; file.len as usize]?;
-    match store.read(file.blob, 0, &mut text)? {
-        Some(count) if count == text.len() => Ok(text),
+    Ok(text)
+}
+
+/// The only error is that not as many bytes were there to be read as are recorded. Takes no memory.
+fn check_count(count: Option<usize>, file: &FileRec) -> Result<(), Trouble>
+    ensures count { OnOk result (count ≡ Some file.now.len) }
+    ensures damaged { IfErr result (λ trouble. (trouble ≡ Damaged file.now.blob) × (count ≢ Some file.now.len)) }
+{
+    match count {
+        Some(count) if count == file.len as usize => Ok(()),
         _ => Err(Trouble::Damaged { blob: file.blob }),
     }
 }

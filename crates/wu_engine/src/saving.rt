@@ -4,6 +4,7 @@ ghost use Rattle.wu_outside.specs.Content.{MayDo, with_blob, with_root};
 ghost use Rattle.wu_outside.specs.Crash.{Put, SetRoot, settle, try_change};
 ghost use Rattle.wu_outside.specs.Faults.{HasFaultCause};
 ghost use Rattle.wu_parts.specs.Causes.{IsStoreCause};
+ghost use Rattle.wu_engine.specs.Calls.{DrawsAtMost};
 ghost use Rattle.wu_engine.specs.Puts.{MayPut, MayTryPut};
 ghost use Rattle.wu_engine.specs.Saving.{KeepsNamed, checkpoint_blob, removed_by_save};
 ghost use Rattle.wu_engine.specs.SavedStores.{IsSpelledOf, Saves, SomeDone, StopsSave, all_done, remove_blob, try_removal};
@@ -37,6 +38,7 @@ pub(crate) fn save<D: Store>(
         (D.holds store.old, D.moments store.old) (D.holds store.new, D.moments store.new)) }
     ensures elsewhere { KeepsNamed parts.old.next_blob (parts.old.next_blob + 2) (removed_by_save parts.old checkpoint)
         (D.holds store.old) (D.holds store.new) }
+    ensures numbers { DrawsAtMost 2 parts.old parts.new }
     ensures reads { D.reads store.new ≡ D.reads store.old }
     ensures calm { OnOk result (D.faults store.new ≡ D.faults store.old) }
     ensures cause { IfErr result (IsStoreCause (D.faults store.old) (D.faults store.new)) }

@@ -5,6 +5,7 @@ ghost use Rattle.wu_outside.specs.Faults.{HasFaultCause};
 ghost use Rattle.wu_space.specs.Addresses.{range_of};
 ghost use Rattle.wu_parts.specs.Causes.{IsStoreCause};
 ghost use Rattle.wu_parts.specs.Memory.{Gains};
+ghost use Rattle.wu_engine.specs.Calls.{DrawsAtMost};
 ghost use Rattle.wu_engine.specs.Puts.{MayPut, MayTryPut, MayTryPuts};
 ghost use Rattle.wu_engine.specs.Stands.{KeepsOthers};
 ghost use Rattle.wu_engine.specs.Indexing.{Follows, FlushesFull, IsIndexable, KeepsParts, blob_for, blob_of, catalog_after, catalog_of, catalog_with, catalog_without, drawn_for, is_stored, stored_at, terms_after, terms_given};
@@ -36,6 +37,9 @@ pub(crate) fn follow<D: Store>(
     ensures untouched { OnOk result (is_stored effect.texted text.now ≡ false
         → parts.old.memory.stored + length (terms_after effect text.now) < parts.old.flush_at
         → (store.new ≡ store.old) × (parts.new.next_blob ≡ parts.old.next_blob)) }
+    ensures given { space.old.next ≤ space.new.next }
+    ensures taken { space.new.next ≤ space.old.next + length (terms_after effect text.now) }
+    ensures numbers { DrawsAtMost 2 parts.old parts.new }
     ensures elsewhere { KeepsOthers parts.old.next_blob (parts.old.next_blob + 2) (D.holds store.old) (D.holds store.new) }
     ensures tried { MayTryPuts parts.old.next_blob (parts.old.next_blob + 2) 2 (D.moments store.old) (D.moments store.new) }
     ensures reads { D.reads store.new ≡ D.reads store.old }
@@ -54,6 +58,7 @@ fn flush_if_full<D: Store>(parts: &mut Parts, store: &mut D, space: &Space) -> R
     ensures flushed { OnOk result (FlushesFull space.now.ranges parts.old parts.new
         (D.holds store.old, D.moments store.old) (D.holds store.new, D.moments store.new)) }
     ensures untouched { OnOk result (parts.old.memory.stored < parts.old.flush_at → (store.new ≡ store.old) × (parts.new ≡ parts.old)) }
+    ensures numbers { DrawsAtMost 1 parts.old parts.new }
     ensures elsewhere { KeepsOthers parts.old.next_blob (parts.old.next_blob + 1) (D.holds store.old) (D.holds store.new) }
     ensures tried { MayTryPut parts.old.next_blob (D.moments store.old) (D.moments store.new) }
     ensures reads { D.reads store.new ≡ D.reads store.old }
@@ -79,6 +84,7 @@ pub(crate) fn store_text<D: Store>(
     ensures blob { IfOk result (λ blob. blob ≡ blob_for file text.now parts.old.next_blob) }
     ensures parts { OnOk result (parts.new ≡ drawn_for file text.now parts.old) }
     ensures stored { OnOk result (D.holds store.new ≡ option_map (stored_at parts.old.next_blob file text.now) (D.holds store.old)) }
+    ensures numbers { DrawsAtMost 1 parts.old parts.new }
     ensures elsewhere { MayPut parts.old.next_blob (D.holds store.old) (D.holds store.new) }
     ensures tried { MayTryPut parts.old.next_blob (D.moments store.old) (D.moments store.new) }
     ensures untouched { is_stored file text.now ≡ false → store.new ≡ store.old }
@@ -119,7 +125,9 @@ pub(crate) fn index(
     ensures catalog { OnOk result (catalog_of space.new files.new.entries parts.new
         ≡ catalog_after effect text.now blob (catalog_of space.old files.old.entries parts.old)) }
     ensures memory { OnOk result (Gains space.old.next (terms_after effect text.now) parts.old.memory parts.new.memory) }
-    ensures others { OnOk result (KeepsParts parts.old parts.new) }
+    ensures given { space.old.next ≤ space.new.next }
+    ensures taken { space.new.next ≤ space.old.next + length (terms_after effect text.now) }
+    ensures others { KeepsParts parts.old parts.new }
 {
     release(space, parts, files, effect.dropped)?;
     place_text(space, parts, files, effect.made, b"", 0)?;
@@ -140,7 +148,8 @@ fn release(
         ≡ catalog_without file (catalog_of space.old files.old.entries parts.old)) }
     ensures none { OnOk result (IfSome file (λ ino. range_of space.new.ranges ino ≡ None)) }
     ensures memory { OnOk result (parts.new.memory ≡ parts.old.memory) }
-    ensures others { OnOk result (KeepsParts parts.old parts.new) }
+    ensures next { space.new.next ≡ space.old.next }
+    ensures others { KeepsParts parts.old parts.new }
 {
     space.keeps_the_rules();
     match file {
@@ -155,7 +164,8 @@ fn release(
 /// Notes that the blob of the record's text is no longer needed, if it has one. The only error is out of
 /// memory.
 fn retire(parts: &mut Parts, file: Option<FileRec>) -> Result<(), NoMemory>
-    ensures { OnOk result (parts.new ≡ record parts.old { stale = parts.old.stale ++ blob_of file }) }
+    ensures retired { OnOk result (parts.new ≡ record parts.old { stale = parts.old.stale ++ blob_of file }) }
+    ensures others { parts.new ≡ record parts.old { stale = parts.new.stale } }
 {
     match file {
         Some(file) if file.blob != 0 => parts.retire(file.blob),
@@ -180,7 +190,9 @@ fn place_text(
     ensures catalog { OnOk result (catalog_of space.new files.new.entries parts.new
         ≡ catalog_with file text.now blob (catalog_of space.old files.old.entries parts.old)) }
     ensures memory { OnOk result (Gains space.old.next (terms_given file text.now) parts.old.memory parts.new.memory) }
-    ensures others { OnOk result (KeepsParts parts.old parts.new) }
+    ensures given { space.old.next ≤ space.new.next }
+    ensures taken { space.new.next ≤ space.old.next + length (terms_given file text.now) }
+    ensures others { KeepsParts parts.old parts.new }
 {
     match file {
         Some(ino) => {

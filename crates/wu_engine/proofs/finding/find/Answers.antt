@@ -70,7 +70,7 @@ returns-clause-reads g c =
     }
 
 pub returns-in_err-terms-clause-cause : goal.returns-in_err-terms-clause-cause
-returns-in_err-terms-clause-cause g c = cause_of_memory c.from_residual.result _ refl c.from_residual.ensures.1
+returns-in_err-terms-clause-cause g c = cause_of_memory c.from_residual.result _ _ _ refl c.from_residual.ensures.1
 
 pub returns-in_err-lists-clause-cause : goal.returns-in_err-lists-clause-cause
 returns-in_err-lists-clause-cause g c =
@@ -81,7 +81,7 @@ returns-in_err-lists-clause-cause g c =
 
 pub returns-in_err-counts-clause-cause : goal.returns-in_err-counts-clause-cause
 returns-in_err-counts-clause-cause g c =
-    cause_of_memory c.from_residual-in_err-counts.result _ c.in_ok-lists.ensures.calm c.from_residual-in_err-counts.ensures.1
+    cause_of_memory c.from_residual-in_err-counts.result _ _ _ c.in_ok-lists.ensures.calm c.from_residual-in_err-counts.ensures.1
 
 pub returns-in_err-shown-clause-cause : goal.returns-in_err-shown-clause-cause
 returns-in_err-shown-clause-cause g c =
@@ -90,7 +90,8 @@ returns-in_err-shown-clause-cause g c =
     c.in_ok-terms.ensures c.deref-3.result.now
     (λ s tells. c.deref-3.ensures.value ∙ c.in_ok-lists.ensures.lists s tells
     ∙ ap (map (list_at (found_in c.args.frames.now.ranges s))) c.deref.ensures.value)
-    c.args.k (nat_le c.in_ok-counts.counts.hits 4096) c.lists_of.ensures.holds c.in_ok-lists.ensures.calm c.in_err-shown.ensures.cause
+    c.args.k (nat_le c.in_ok-counts.counts.hits 4096) c.lists_of.ensures.holds c.in_ok-lists.ensures.calm _ _
+    c.in_ok-lists.ensures.blocks.read c.in_err-shown.ensures.cause
 
 pub returns-in_err-lists-clause-permitted : goal.returns-in_err-lists-clause-permitted
 returns-in_err-lists-clause-permitted g c = λ live s uid is tells keeps.

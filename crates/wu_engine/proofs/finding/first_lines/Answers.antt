@@ -12,7 +12,7 @@ use Rattle.wu_engine.proofs.WholeTexts.{whole_done, whole_next}
 use Rattle.wu_engine.proofs.PermittedTexts.{file_blob, file_only, file_read}
 use Rattle.wu_engine.proofs.DamagedTexts.{some_behind}
 use Rattle.wu_engine.proofs.PassedCauses.{err_from}
-use Rattle.wu_engine.proofs.ReadCauses.{cause_after}
+use Rattle.wu_engine.proofs.ReadCauses.{cause_after, cause_behind}
 use Rattle.wu_engine.proofs.finding.first_lines.Goals as goal
 
 pub returns-then-len-k-clause-reads : goal.returns-then-len-k-clause-reads
@@ -82,6 +82,7 @@ returns-in_err-put_file-clause-cause g c =
     let within : i < length view = search rules in
     let long : c.len-in-loop-seen.result ≡ length c.loop-seen.shown.items = search rules in
     err_from _ c.from_residual.result c.in_err-put_file.field-0.0 c.from_residual.ensures.1
+    (cause_behind told.only.0 told.only.2
     (cause_after told.calm c.in_err-put_file.ensures.cause
     (λ blob broken. (
       file_blob (hits_at files (region_of c.args.expr.now) c.args.lists.now) (text_at files) c.args.k i view seen within c.seen-item.is long
@@ -89,4 +90,4 @@ returns-in_err-put_file-clause-cause g c =
       some_behind (λ file. IsSomeAnd (record_at files file.ino) (λ recorded. IsBrokenIn holds recorded blob)) i view
           (subst (λ (some : List Seen). IsDamagedOf some files holds blob) (sym (at_place view i seen within c.seen-item.is))
           (⊎_elim (λ here. inl (rw told.holds at here)) (λ none. absurd none) broken.1)),
-    )))
+    ))))

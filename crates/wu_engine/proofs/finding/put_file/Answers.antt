@@ -2,7 +2,7 @@ use Rattle.std.proofs.Common.{◌≡◌, ◌++◌, ◌∙◌, List, ap, length, 
 use Rattle.std.proofs.lemmas.List.{length-take}
 use Rattle.std.proofs.lemmas.Option.{IfSome_then}
 use Rattle.std.proofs.lemmas.Result.{on_ok_weaker}
-use Rattle.wu_ask.specs.declared.FindLine.{FindLine}
+use Rattle.wu_ask.specs.declared.Found.{Found}
 use Rattle.wu_gcl.specs.Regions.{region_of}
 use Rattle.wu_engine.specs.Finding.{extents_of}
 use Rattle.wu_engine.proofs.FirstLines.{lines_of_file}
@@ -25,7 +25,7 @@ returns-in_ok-extents-in-Some-clause-lines g c =
     (λ told. IfSome_then (g.D.Store.holds c.args.store.now) told
     (λ content put.
     put
-    ∙ ap (λ (lines : List FindLine). c.args.shown.now.items ++ lines)
+    ∙ ap (λ (lines : List Found). c.args.shown.now.items ++ lines)
     (lines_of_file content c.args.files.now.entries (region_of c.args.expr.now) c.args.lists.now c.args.seen.now c.in-Some.file.now
     c.args.left c.as_slice.result.now c.deref.result.now (sym c.in-Some.ensures.value) c.as_slice.ensures
     (c.deref.ensures.value ∙ c.in_ok-extents-in-Some.ensures.extents))))

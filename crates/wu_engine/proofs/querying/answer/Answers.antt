@@ -100,4 +100,4 @@ returns-in_ok-paths-in-Paths-clause-reads g c =
     (asks-none holds parts.kept reads))
 
 pub returns-in_err-paths-in-Paths-clause-cause : goal.returns-in_err-paths-in-Paths-clause-cause
-returns-in_err-paths-in-Paths-clause-cause g c = cause_of_memory c.from_residual.result _ refl c.from_residual.ensures.1
+returns-in_err-paths-in-Paths-clause-cause g c = cause_of_memory c.from_residual.result _ _ _ refl c.from_residual.ensures.1

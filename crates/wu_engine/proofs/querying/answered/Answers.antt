@@ -74,7 +74,7 @@ returns-in-Some-clause-cause g c =
     (λ trouble cause. cause_after refl cause (λ blob needed. record { frames = frames; hers = hers; needed = needed }))
 
 pub returns-in_err-prepare-clause-cause : goal.returns-in_err-prepare-clause-cause
-returns-in_err-prepare-clause-cause g c = cause_of_memory c.from_residual.result _ refl c.from_residual.ensures.1
+returns-in_err-prepare-clause-cause g c = cause_of_memory c.from_residual.result _ _ _ refl c.from_residual.ensures.1
 
 pub returns-in-None-clause-cause : goal.returns-in-None-clause-cause
 returns-in-None-clause-cause g c = no_memory

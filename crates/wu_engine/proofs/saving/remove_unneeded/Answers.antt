@@ -1,7 +1,8 @@
 use Rattle.std.proofs.Common.{◌<◌, length, rules}
+use Rattle.wu_base.proofs.Results.{on_err}
 use Rattle.wu_engine.specs.Saving.{checkpoint_blob}
 use Rattle.wu_engine.specs.SavedStores.{remove_blob, try_removal}
-use Rattle.wu_engine.proofs.SavedContents.{next_some, on_err}
+use Rattle.wu_engine.proofs.SavedContents.{next_some}
 use Rattle.wu_engine.proofs.saving.remove_unneeded.Goals as goal
 
 pub returns-in_err-remove-clause-failed : goal.returns-in_err-remove-clause-failed

@@ -1,7 +1,9 @@
 use Rattle.std.proofs.Common.{◌≡◌, ◌+◌, ◌++◌, arith, inr, rules, length}
+use Rattle.wu_base.proofs.Results.{on_err}
 use Rattle.wu_engine.specs.Saving.{KeepsNamed, checkpoint_blob, removed_by_save}
 use Rattle.wu_engine.specs.SavedStores.{SomeDone, remove_blob}
-use Rattle.wu_engine.proofs.SavedContents.{all_some, named_checkpoint, named_removed, named_rooted, on_err}
+use Rattle.wu_engine.proofs.SavedContents.{all_some, named_checkpoint, named_removed, named_rooted}
+use Rattle.wu_engine.proofs.DrawnNumbers.{draws_cleared, draws_failed, draws_more, draws_saved, draws_then}
 use Rattle.wu_engine.proofs.SavedSteps.{saves_from, stale_drawn}
 use Rattle.wu_engine.proofs.SoundLemmas.{numbers_left}
 use Rattle.wu_engine.proofs.StoppedSaves.{stops_after_flush, stops_at_checkpoint, stops_at_flush, stops_at_removal, stops_at_root}
@@ -126,3 +128,34 @@ returns-in_err-remove_unneeded-clause-stops g c =
     (holds c.remove_unneeded.new.store, moments c.remove_unneeded.new.store) c.stale.ensures
     c.in_ok-set_root.ensures.set c.in_ok-set_root.ensures.settled c.in_err-remove_unneeded.ensures.failed
     c.in_err-remove_unneeded.ensures.tried)
+
+-- ---- the numbers
+
+pub returns-in_err-flush-clause-numbers : goal.returns-in_err-flush-clause-numbers
+returns-in_err-flush-clause-numbers g c =
+    let old = c.args.parts.now in
+    let new = c.flush.new.self in
+    draws_more 1 2 old new (omega arith) (draws_failed old new c.in_err-flush.ensures.unchanged c.in_err-flush.ensures.drawn)
+
+pub returns-in_err-bytes-clause-numbers : goal.returns-in_err-bytes-clause-numbers
+returns-in_err-bytes-clause-numbers g c =
+    draws_saved c.args.parts.now c.flush.new.self c.draw_blob-blob.new.self c.in_ok-flush.ensures.changes c.draw_blob-blob.ensures.next
+
+pub returns-in_err-put_checkpoint-clause-numbers : goal.returns-in_err-put_checkpoint-clause-numbers
+returns-in_err-put_checkpoint-clause-numbers g c =
+    draws_saved c.args.parts.now c.flush.new.self c.draw_blob-blob.new.self c.in_ok-flush.ensures.changes c.draw_blob-blob.ensures.next
+
+pub returns-in_err-set_root-clause-numbers : goal.returns-in_err-set_root-clause-numbers
+returns-in_err-set_root-clause-numbers g c =
+    draws_saved c.args.parts.now c.flush.new.self c.draw_blob-blob.new.self c.in_ok-flush.ensures.changes c.draw_blob-blob.ensures.next
+
+pub returns-in_err-remove_unneeded-clause-numbers : goal.returns-in_err-remove_unneeded-clause-numbers
+returns-in_err-remove_unneeded-clause-numbers g c =
+    draws_saved c.args.parts.now c.flush.new.self c.draw_blob-blob.new.self c.in_ok-flush.ensures.changes c.draw_blob-blob.ensures.next
+
+pub returns-clause-numbers : goal.returns-clause-numbers
+returns-clause-numbers g c =
+    let drawn = c.draw_blob-blob.new.self in
+    draws_then 2 0 c.args.parts.now drawn c.clear_stale.new.self
+    (draws_saved c.args.parts.now c.flush.new.self drawn c.in_ok-flush.ensures.changes c.draw_blob-blob.ensures.next)
+    (draws_cleared drawn c.clear_stale.new.self c.clear_stale.ensures)

@@ -2,7 +2,7 @@ use Rattle.std.proofs.Common.{◌≤◌, arith, leb, take, rules, length}
 use Rattle.std.proofs.lemmas.List.{length-take}
 use Rattle.std.proofs.lemmas.Bool.{leb-true}
 use Rattle.std.proofs.lemmas.List.Sorted.{IsPartitionPoint-from_clause, IsPartitionedBy-leb}
-use Rattle.wu_rank.proofs.Parting.{passes_before}
+use Rattle.wu_base.proofs.Parting.{passes_before}
 use Rattle.wu_frames.specs.declared.Frame.{Frame}
 use Rattle.wu_engine.proofs.PassedFrames.{ended_but_one, starts_rise}
 use Rattle.wu_engine.proofs.units.count_passed.Goals as goal

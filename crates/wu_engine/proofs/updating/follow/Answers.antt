@@ -3,6 +3,7 @@ use Rattle.std.proofs.lemmas.Result.{on_ok_weaker}
 use Rattle.wu_parts.specs.Contents.{Contents}
 use Rattle.wu_engine.specs.Indexing.{FlushesFull, is_stored}
 use Rattle.wu_engine.specs.Puts.{try_put}
+use Rattle.wu_engine.proofs.DrawnNumbers.{draws_kept, draws_more, draws_then}
 use Rattle.wu_engine.proofs.LeftImages.{changed_first, changed_twice}
 use Rattle.wu_engine.proofs.OtherBlobs.{drawn_once, others_once, others_twice}
 use Rattle.wu_engine.proofs.updating.follow.Goals as goal
@@ -89,3 +90,26 @@ returns-in_err-blob-clause-tried g c =
 pub returns-in_err-index-clause-tried : goal.returns-in_err-index-clause-tried
 returns-in_err-index-clause-tried g c =
     let next = c.args.parts.now.next_blob in changed_first try_put next (next + 2) next (omega arith) (omega arith) c.store_text.ensures.tried
+
+-- ---- the numbers
+
+pub returns-in_err-blob-clause-numbers : goal.returns-in_err-blob-clause-numbers
+returns-in_err-blob-clause-numbers g c =
+    draws_more 1 2 c.args.parts.now c.store_text.new.parts (omega arith) c.store_text.ensures.numbers
+
+pub returns-in_err-index-clause-numbers : goal.returns-in_err-index-clause-numbers
+returns-in_err-index-clause-numbers g c =
+    let old = c.args.parts.now in
+    let between = c.store_text.new.parts in
+    let new = c.index.new.parts in
+    draws_more 1 2 old new (omega arith)
+    (draws_then 1 0 old between new c.store_text.ensures.numbers (draws_kept between new c.index.ensures.others))
+
+pub returns-clause-numbers : goal.returns-clause-numbers
+returns-clause-numbers g c =
+    let old = c.args.parts.now in
+    let between = c.store_text.new.parts in
+    let new = c.index.new.parts in
+    draws_then 1 1 old new c.flush_if_full.new.parts
+    (draws_then 1 0 old between new c.store_text.ensures.numbers (draws_kept between new c.index.ensures.others))
+    c.flush_if_full.ensures.numbers

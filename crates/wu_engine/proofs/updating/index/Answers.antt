@@ -1,4 +1,4 @@
-use Rattle.std.proofs.Common.{◌≡◌, ℕ, ◌+◌, [], length, ◌∙◌, ap, subst, arith}
+use Rattle.std.proofs.Common.{◌≡◌, ℕ, ◌+◌, [], length, length-append, ◌∙◌, ap, subst, arith}
 use Rattle.std.proofs.lemmas.Result.{on_ok_weaker}
 use Rattle.wu_space.specs.Addresses.{Addresses}
 use Rattle.wu_parts.specs.Memory.{Memory, Gains}
@@ -33,3 +33,38 @@ returns-clause-memory c =
     (subst (λ (n : ℕ). Gains n (terms_given effect.texted text) between after) e
     (subst (λ (m : Memory). Gains again.next (terms_given effect.texted text) m after) c.in_ok-release-2.ensures.memory h)))
     c.place_text-2.ensures.memory
+
+-- ---- the addresses
+
+pub returns-in_err-release-clause-taken : goal.returns-in_err-release-clause-taken
+returns-in_err-release-clause-taken c = omega (arith, c.release.ensures.next)
+
+pub returns-in_err-place_text-clause-taken : goal.returns-in_err-place_text-clause-taken
+returns-in_err-place_text-clause-taken c =
+    omega (
+      arith,
+      c.release.ensures.next,
+      c.place_text.ensures.taken,
+      length-append (terms_given c.args.effect.made []) (terms_given c.args.effect.texted c.args.text.now),
+    )
+
+pub returns-in_err-release-2-clause-taken : goal.returns-in_err-release-2-clause-taken
+returns-in_err-release-2-clause-taken c =
+    omega (
+      arith,
+      c.release.ensures.next,
+      c.place_text.ensures.taken,
+      c.release-2.ensures.next,
+      length-append (terms_given c.args.effect.made []) (terms_given c.args.effect.texted c.args.text.now),
+    )
+
+pub returns-clause-taken : goal.returns-clause-taken
+returns-clause-taken c =
+    omega (
+      arith,
+      c.release.ensures.next,
+      c.place_text.ensures.taken,
+      c.release-2.ensures.next,
+      c.place_text-2.ensures.taken,
+      length-append (terms_given c.args.effect.made []) (terms_given c.args.effect.texted c.args.text.now),
+    )

@@ -12,4 +12,4 @@ returns-in-Some-clause-none c =
     rw c.in-Some.is
     (ap (λ (s : Addresses). range_of s.ranges ino) c.release.ensures
     ∙ none-removed c.args.space.now.ranges ino c.keeps_the_rules.ensures.by_number))
-    c.retire.ensures
+    c.retire.ensures.retired

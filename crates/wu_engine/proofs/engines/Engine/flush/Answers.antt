@@ -1,11 +1,11 @@
-use Rattle.std.proofs.Common.{ℕ, map, refl}
+use Rattle.std.proofs.Common.{ℕ, inr, map, refl}
 use Rattle.wu_base.specs.declared.addresses.Range.{Range}
 use Rattle.wu_layout.specs.Postings.{live_of}
 use Rattle.wu_engine.proofs.AddedBlobs.{draws_named, flushed_draws}
+use Rattle.wu_engine.proofs.DrawnNumbers.{draws_failed, draws_flushed, draws_none}
 use Rattle.wu_engine.proofs.GoingEvents.{flush_sound, goes_with, has_none}
 use Rattle.wu_engine.proofs.LeftImages.{put_left}
 use Rattle.wu_engine.proofs.NamedBlobs.{flush_names}
-use Rattle.wu_engine.proofs.SoundLemmas.{numbers_left}
 use Rattle.wu_engine.proofs.StandLemmas.{flushed_on}
 use Rattle.wu_engine.proofs.engines.Engine.flush.Goals as goal
 
@@ -38,8 +38,16 @@ returns-in-Ok-clause-goes g c = λ start goes.
     old.parts c.flush.new.self (holds c.args.store.now, moments c.args.store.now) (holds c.flush.new.store, moments c.flush.new.store)
     (c.in-Ok.ensures.flushed goes.low goes.high goes.postings goes.memory) goes.sound)
 
-pub returns-in-Ok-clause-onward : goal.returns-in-Ok-clause-onward
-returns-in-Ok-clause-onward g c = (numbers_left c.args.self.now.parts c.flush.new.self c.in-Ok.ensures.changes).least
+pub returns-in-Ok-clause-numbers : goal.returns-in-Ok-clause-numbers
+returns-in-Ok-clause-numbers g c = draws_flushed c.args.self.now.parts c.flush.new.self (inr c.in-Ok.ensures.changes)
+
+pub returns-in-Err-clause-numbers : goal.returns-in-Err-clause-numbers
+returns-in-Err-clause-numbers g c =
+    rw c.end_with.ensures.parts
+    (draws_failed c.args.self.now.parts c.flush.new.self c.in-Err.ensures.unchanged c.in-Err.ensures.drawn)
+
+pub returns-in-Some-clause-numbers : goal.returns-in-Some-clause-numbers
+returns-in-Some-clause-numbers g c = draws_none 1 c.args.self.now.parts
 
 pub returns-in-Ok-clause-survives : goal.returns-in-Ok-clause-survives
 returns-in-Ok-clause-survives g c = λ s last stands saved. put_left stands saved c.flush.ensures.tried

@@ -1,11 +1,12 @@
 use Rattle.std.proofs.Common.{refl}
 use Rattle.wu_parts.specs.Flushing.{Told}
+use Rattle.wu_engine.proofs.DrawnNumbers.{draws_none}
 use Rattle.wu_engine.proofs.EarlierBlobs.{saved_earlier, stopped_earlier}
 use Rattle.wu_engine.proofs.GoingEvents.{goes_with}
 use Rattle.wu_engine.proofs.GoingSaves.{none_in_memory, save_sound}
 use Rattle.wu_engine.proofs.NewCheckpoints.{saved_checkpoint, stopped_checkpoint}
 use Rattle.wu_engine.proofs.SavedCrashes.{saved_durable, saved_left, stopped_left}
-use Rattle.wu_engine.proofs.SavedEngines.{LeavesSaved, gone_saved, image_on, named_on, numbers_saved, saved_on, sound_saved}
+use Rattle.wu_engine.proofs.SavedEngines.{gone_saved, image_on, named_on, saved_on, sound_saved}
 use Rattle.wu_engine.proofs.engines.Engine.save.Given.{Over}
 use Rattle.wu_engine.proofs.engines.Engine.save.Goals as goal
 
@@ -54,25 +55,6 @@ returns-in-Ok-clause-removed g c =
     gone_saved old.tree old.space old.files.entries old.checkpoint c.in-Ok.checkpoint old.parts c.save.new.parts (before g c) (after g c)
     c.in-Ok.ensures.saved
 
--- what it leaves of some numbers
-numbers : (g : Over) (c : goal.After-self-1 g) → LeavesSaved c.args.self.now.parts c.save.new.parts
-numbers g c =
-    let old = c.args.self.now in
-    numbers_saved old.tree old.space old.files.entries old.checkpoint c.in-Ok.checkpoint old.parts c.save.new.parts (before g c)
-    (after g c) c.in-Ok.ensures.saved
-
-pub returns-in-Ok-clause-drawn : goal.returns-in-Ok-clause-drawn
-returns-in-Ok-clause-drawn g c = (numbers g c).most
-
-pub returns-in-Ok-clause-counted : goal.returns-in-Ok-clause-counted
-returns-in-Ok-clause-counted g c = (numbers g c).counted
-
-pub returns-in-Ok-clause-flush_at : goal.returns-in-Ok-clause-flush_at
-returns-in-Ok-clause-flush_at g c = (numbers g c).flush_at
-
-pub returns-in-Ok-clause-kept : goal.returns-in-Ok-clause-kept
-returns-in-Ok-clause-kept g c = (numbers g c).kept
-
 pub returns-in-Ok-clause-goes : goal.returns-in-Ok-clause-goes
 returns-in-Ok-clause-goes g c = λ start goes.
     let old = c.args.self.now in
@@ -81,9 +63,6 @@ returns-in-Ok-clause-goes g c = λ start goes.
     (after g c) c.in-Ok.ensures.saved)
     (save_sound old.tree old.space old.files.entries old.checkpoint c.in-Ok.checkpoint old.parts c.save.new.parts (before g c)
     (after g c) c.in-Ok.ensures.saved start goes.low goes.high goes.postings goes.memory goes.sound)
-
-pub returns-in-Ok-clause-onward : goal.returns-in-Ok-clause-onward
-returns-in-Ok-clause-onward g c = (numbers g c).least
 
 pub returns-in-Ok-clause-order : goal.returns-in-Ok-clause-order
 returns-in-Ok-clause-order g c = c.in-Ok.ensures.saved
@@ -136,3 +115,12 @@ returns-in-Err-clause-checkpoint g c = λ start goes.
     stopped_checkpoint old.tree old.space old.files.entries old.checkpoint old.parts
     (holds c.args.store.now, moments c.args.store.now) goes.low goes.high goes.postings goes.memory start goes.sound
     (holds c.save.new.store, moments c.save.new.store) c.in-Err.ensures.stops
+
+pub returns-in-Ok-clause-numbers : goal.returns-in-Ok-clause-numbers
+returns-in-Ok-clause-numbers g c = c.save.ensures.numbers
+
+pub returns-in-Err-clause-numbers : goal.returns-in-Err-clause-numbers
+returns-in-Err-clause-numbers g c = rw c.end_with.ensures.parts c.save.ensures.numbers
+
+pub returns-in-Some-clause-numbers : goal.returns-in-Some-clause-numbers
+returns-in-Some-clause-numbers g c = draws_none 2 c.args.self.now.parts

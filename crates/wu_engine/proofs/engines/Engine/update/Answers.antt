@@ -4,6 +4,7 @@ use Rattle.wu_engine.specs.Indexing.{Catalog}
 use Rattle.wu_engine.specs.Renewing.{Touches, touched_of}
 use Rattle.wu_engine.specs.States.{after_event}
 use Rattle.wu_engine.proofs.AddedBlobs.{draws_named, event_draws, none_added}
+use Rattle.wu_engine.proofs.DrawnNumbers.{draws_none}
 use Rattle.wu_engine.proofs.FileChanges.{changes}
 use Rattle.wu_engine.proofs.GoingEvents.{HasSome, goes_followed, goes_with, has_followed}
 use Rattle.wu_engine.proofs.KeptFrames.{touches}
@@ -11,7 +12,7 @@ use Rattle.wu_engine.proofs.LeftImages.{no_puts, puts_left, still_left}
 use Rattle.wu_engine.proofs.LeftStores.{left_alone}
 use Rattle.wu_engine.proofs.NamedBlobs.{event_names}
 use Rattle.wu_engine.proofs.Searching.{sound_prepared}
-use Rattle.wu_engine.proofs.SoundLemmas.{indexable, length-terms_after, next_followed, sound_followed}
+use Rattle.wu_engine.proofs.SoundLemmas.{indexable, length-terms_after, sound_followed}
 use Rattle.wu_engine.proofs.StandLemmas.{accepted, refused}
 use Rattle.wu_engine.proofs.engines.Engine.update.Goals as goal
 
@@ -75,21 +76,9 @@ returns-in-Ok-followed-clause-step g c = λ s stands.
 
 pub returns-in-Ok-followed-clause-taken : goal.returns-in-Ok-followed-clause-taken
 returns-in-Ok-followed-clause-taken g c =
-    let old = c.args.self.now in
-    let event = c.args.event.now in
-    let text = c.args.body.now in
-    let effect = c.in-Ok.effect in
-    let holds = g.D.Store.holds in
-    let moments = g.D.Store.moments in
     let step = rw c.in-Ok.is at c.in_ok-effect.ensures.step in
-    omega (
-      arith,
-      next_followed effect text old.space c.follow-followed.new.space old.files.entries c.follow-followed.new.files.entries
-          old.parts c.follow-followed.new.parts
-          (holds c.args.store.now, moments c.args.store.now) (holds c.follow-followed.new.store, moments c.follow-followed.new.store)
-          c.in-Ok-followed.ensures.done,
-      length-terms_after old.tree event text c.apply.new.self effect step,
-    )
+    let terms = length-terms_after c.args.self.now.tree c.args.event.now c.args.body.now c.apply.new.self c.in-Ok.effect step in
+    omega (arith, c.follow-followed.ensures.taken, terms)
 
 pub returns-in-Ok-followed-clause-untouched : goal.returns-in-Ok-followed-clause-untouched
 returns-in-Ok-followed-clause-untouched g c = λ leaves.
@@ -194,4 +183,24 @@ returns-in-Err-clause-tried g c =
 pub returns-in-Some : goal.returns-in-Some
 returns-in-Some g c =
     let next = c.args.self.now.parts.next_blob in
-    search (rules, no_puts next (next + 2) 2 (g.D.Store.moments c.args.store.now) (omega arith))
+    search (rules, draws_none 2 c.args.self.now.parts, no_puts next (next + 2) 2 (g.D.Store.moments c.args.store.now) (omega arith))
+
+-- ---- the numbers
+
+pub returns-in_err-effect-clause-numbers : goal.returns-in_err-effect-clause-numbers
+returns-in_err-effect-clause-numbers g c = draws_none 2 c.args.self.now.parts
+
+pub returns-in-Err-clause-numbers : goal.returns-in-Err-clause-numbers
+returns-in-Err-clause-numbers g c = draws_none 2 c.args.self.now.parts
+
+pub returns-in-Ok-followed-clause-numbers : goal.returns-in-Ok-followed-clause-numbers
+returns-in-Ok-followed-clause-numbers g c = c.follow-followed.ensures.numbers
+
+pub returns-in-Err-followed-clause-numbers : goal.returns-in-Err-followed-clause-numbers
+returns-in-Err-followed-clause-numbers g c = rw c.end_with.ensures.parts c.follow-followed.ensures.numbers
+
+pub returns-in-Err-followed-clause-taken : goal.returns-in-Err-followed-clause-taken
+returns-in-Err-followed-clause-taken g c =
+    let step = rw c.in-Ok.is at c.in_ok-effect.ensures.step in
+    let terms = length-terms_after c.args.self.now.tree c.args.event.now c.args.body.now c.apply.new.self c.in-Ok.effect step in
+    rw c.end_with.ensures.space (omega (arith, c.follow-followed.ensures.taken, terms))

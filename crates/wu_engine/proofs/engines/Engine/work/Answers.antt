@@ -1,13 +1,14 @@
-use Rattle.std.proofs.Common.{◌≡◌, ◌+◌, refl, ap, sym, subst, arith, rules}
+use Rattle.std.proofs.Common.{◌≡◌, ◌+◌, ◌-◌, refl, ap, sym, subst, arith, rules}
 use Rattle.wu_base.specs.declared.troubles.Trouble.TheVariants.{Damaged}
 use Rattle.wu_parts.specs.Contents.{Contents}
 use Rattle.wu_parts.specs.Memory.{HasPostings, Memory}
 use Rattle.wu_engine.proofs.AddedBlobs.{draws_named, units_draw}
 use Rattle.wu_engine.proofs.BrokenBlobs.{worked_is_broken}
+use Rattle.wu_engine.proofs.DrawnNumbers.{draws_none, draws_worked}
 use Rattle.wu_engine.proofs.GoingUnits.{units_sound}
-use Rattle.wu_engine.proofs.LeftImages.{no_puts, puts_left}
+use Rattle.wu_engine.proofs.LeftImages.{no_puts, puts_drawn, puts_left}
 use Rattle.wu_engine.proofs.NamedBlobs.{work_names}
-use Rattle.wu_engine.proofs.WorkedStates.{others_worked, parts_told, worked_on}
+use Rattle.wu_engine.proofs.WorkedStates.{others_drawn, parts_told, worked_on}
 use Rattle.wu_engine.proofs.WorkReads.{stop_permitted, work_permitted}
 use Rattle.wu_engine.proofs.engines.Engine.work.Goals as goal
 
@@ -19,22 +20,20 @@ returns-in-Ok-clause-step g c = λ s stands.
     let after = g.D.Store.holds c.work.new.store in
     let told = parts_told old before s stands in
     let layout = c.in-Ok.ensures.layout _ _ s.layout stands.index.is_state.layout stands.index.live told in
-    let others = others_worked old.parts.next_blob (old.parts.next_blob + n) n before after c.work.ensures.elsewhere in (
+    let others = others_drawn old.parts.next_blob c.work.new.self.next_blob n before after c.work.ensures.changes.drawn.1 c.work.ensures.elsewhere in (
       layout.0,
       worked_on old _ s n refl refl refl refl refl c.in-Ok.ensures.changes before after stands others layout.1,
     )
 
 pub returns-in-Ok-clause-elsewhere : goal.returns-in-Ok-clause-elsewhere
 returns-in-Ok-clause-elsewhere g c =
-    let next = c.args.self.now.parts.next_blob in
-    others_worked next (next + c.args.n) c.args.n (g.D.Store.holds c.args.store.now) (g.D.Store.holds c.work.new.store)
-    c.work.ensures.elsewhere
+    others_drawn c.args.self.now.parts.next_blob c.work.new.self.next_blob c.args.n (g.D.Store.holds c.args.store.now)
+    (g.D.Store.holds c.work.new.store) c.work.ensures.changes.drawn.1 c.work.ensures.elsewhere
 
 pub returns-in-Err-clause-elsewhere : goal.returns-in-Err-clause-elsewhere
 returns-in-Err-clause-elsewhere g c =
-    let next = c.args.self.now.parts.next_blob in
-    others_worked next (next + c.args.n) c.args.n (g.D.Store.holds c.args.store.now) (g.D.Store.holds c.work.new.store)
-    c.work.ensures.elsewhere
+    others_drawn c.args.self.now.parts.next_blob c.work.new.self.next_blob c.args.n (g.D.Store.holds c.args.store.now)
+    (g.D.Store.holds c.work.new.store) c.work.ensures.changes.drawn.1 c.work.ensures.elsewhere
 
 pub returns-in-Err-clause-undamaged : goal.returns-in-Err-clause-undamaged
 returns-in-Err-clause-undamaged g c = λ s stands blob same.
@@ -96,14 +95,34 @@ returns-in-Err-clause-broken g c = λ start goes blob e.
 
 pub returns-in-Ok-clause-survives : goal.returns-in-Ok-clause-survives
 returns-in-Ok-clause-survives g c = λ s last stands saved.
-    puts_left stands saved (c.args.self.now.parts.next_blob + c.args.n) c.args.n _ c.work.ensures.tried
+    puts_left stands saved c.work.new.self.next_blob (c.work.new.self.next_blob - c.args.self.now.parts.next_blob) _ c.work.ensures.tried
 
 pub returns-in-Err-clause-survives : goal.returns-in-Err-clause-survives
 returns-in-Err-clause-survives g c = λ s last stands saved.
-    puts_left stands saved (c.args.self.now.parts.next_blob + c.args.n) c.args.n _ c.work.ensures.tried
+    puts_left stands saved c.work.new.self.next_blob (c.work.new.self.next_blob - c.args.self.now.parts.next_blob) _ c.work.ensures.tried
 
 pub returns-in-Some : goal.returns-in-Some
 returns-in-Some g c =
     let next = c.args.self.now.parts.next_blob in
     let n = c.args.n in
-    search (rules, no_puts next (next + n) n (g.D.Store.moments c.args.store.now) (omega arith))
+    search (rules, draws_none n c.args.self.now.parts, no_puts next (next + n) n (g.D.Store.moments c.args.store.now) (omega arith))
+
+pub returns-in-Ok-clause-numbers : goal.returns-in-Ok-clause-numbers
+returns-in-Ok-clause-numbers g c = draws_worked c.args.n c.args.self.now.parts c.work.new.self c.work.ensures.changes
+
+pub returns-in-Err-clause-numbers : goal.returns-in-Err-clause-numbers
+returns-in-Err-clause-numbers g c =
+    rw c.end_with.ensures.parts (draws_worked c.args.n c.args.self.now.parts c.work.new.self c.work.ensures.changes)
+
+pub returns-in-Err-clause-counted : goal.returns-in-Err-clause-counted
+returns-in-Err-clause-counted g c = rw c.end_with.ensures.parts (ap (λ (p : Contents). p.flushes) c.work.ensures.changes.others)
+
+pub returns-in-Ok-clause-tried : goal.returns-in-Ok-clause-tried
+returns-in-Ok-clause-tried g c =
+    puts_drawn c.args.self.now.parts.next_blob c.work.new.self.next_blob c.args.n (g.D.Store.moments c.args.store.now)
+    (g.D.Store.moments c.work.new.store) c.work.ensures.changes.drawn.0 c.work.ensures.changes.drawn.1 c.work.ensures.tried
+
+pub returns-in-Err-clause-tried : goal.returns-in-Err-clause-tried
+returns-in-Err-clause-tried g c =
+    puts_drawn c.args.self.now.parts.next_blob c.work.new.self.next_blob c.args.n (g.D.Store.moments c.args.store.now)
+    (g.D.Store.moments c.work.new.store) c.work.ensures.changes.drawn.0 c.work.ensures.changes.drawn.1 c.work.ensures.tried
