@@ -219,7 +219,7 @@ module _ (told : Settings) (start : State) where
 -- ---- how a session ends
 
 -- the first item of bytes that are known
-next_known : (left : List ℕ) (rest : Option (List ℕ)) (item : Item) → IsNext (Some left) rest item
+pub next_known : (left : List ℕ) (rest : Option (List ℕ)) (item : Item) → IsNext (Some left) rest item
     → (bytes : List ℕ) × IsFirstItem left bytes item
 next_known left None item next = absurd next
 next_known left (Some bytes) item next = (bytes, next)

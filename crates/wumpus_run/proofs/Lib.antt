@@ -7,6 +7,7 @@ pub mod AddressRoom
 pub mod PartialItems
 pub mod SentReplies
 pub mod WholeOutputs
+pub mod TakenReplies
 pub mod PromptAtEnd
 pub mod NamedAtEnd
 pub mod StartedStates
@@ -28,3 +29,5 @@ pub mod DemoLemmas
 pub mod SavesOfItems
 pub mod CrashesUnderWay
 pub mod CrashesAtEnd
+pub mod ReadsAtEnd
+pub mod NamedCheckpoints

@@ -8,9 +8,11 @@ use Rattle.wu_script.specs.declared.ends.ReadEnd.{ReadEnd}
 use Rattle.wu_script.specs.declared.ends.ReadEnd.TheVariants as ends
 use Rattle.wu_script.specs.declared.types.Item.{Item}
 use Rattle.wu_script.specs.declared.types.Item.TheVariants as items
-use Rattle.wu_script.specs.Holding.{Held, but_last, settled}
+use Rattle.wu_base.specs.declared.limits.TheConstants.{READ_MAX}
+use Rattle.wu_script.specs.Holding.{GivesAtMost, Held, asked_at_once, but_last, settled}
 use Rattle.wu_script.specs.Items.{whole_items_of, IsBeforeEnd, IsOneItem, TakesItem, EndsBeforeItem}
 use Rattle.wu_script.proofs.ItemListLemmas.{whole_items_of-none}
+use Rattle.wu_script.proofs.ReadLemmas.{GivesAtMost-more, GivesAtMost-none}
 use Rattle.wu_options.specs.declared.command_lines.Settings.{Settings}
 use Rattle.wu_engine.specs.States.{State}
 use Rattle.wumpus_run.specs.Replies.{Rules, output_of}
@@ -56,10 +58,21 @@ ended_early between left last_read old new taken =
       given = uses.given;
       consumed = uses.consumed;
       counted = omega (arith, uses.counted);
+      alone = λ e. cc (e);
       over = λ e. ((uses.over e).0, refl);
       short = ap (λ bs. whole_items_of (but_last last_read bs)) none ∙ ap whole_items_of (take_all (0 - last_read) [] (omega arith))
           ∙ whole_items_of-none;
     }
+
+-- the last read gave at most READ_MAX bytes, or none gave any
+abbrev pub IsBrief : Moment → Moment → Type 0
+IsBrief before now = GivesAtMost READ_MAX before.left now.left before.last_read now.last_read
+
+pub IsBrief-then : (spare : ℕ) (before between now : Moment) → IsBrief before between
+    → GivesAtMost (asked_at_once spare) between.left now.left between.last_read now.last_read → IsBrief before now
+IsBrief-then spare before between now so_far more =
+    GivesAtMost-more READ_MAX (asked_at_once spare) before.left between.left now.left before.last_read between.last_read now.last_read
+    (omega arith) so_far more
 
 module _ (told : Settings) (start : State) where
   -- the source failed, or gave a byte too many
@@ -88,13 +101,14 @@ module _ (told : Settings) (start : State) where
       by_case rules (inr sent) = absurd (other (stops.over sent.ended).1)
 
   -- there was no memory to read an item
-  AnswersAllButOneRead-stopped : (before now : Moment) (between : Option (List ℕ)) (old : Held) (s : State)
+  AnswersAllButOneRead-stopped : (before now : Moment) (between : Option (List ℕ)) (old : Held) (s : State) → IsBrief before now
       → HasReplied told start before.holds before.left between before.gained now.gained old s told.max_input
       → EndsBeforeItem between now.left now.last_read old ends.NoMemory
       → AnswersAllButOneRead start (Some told) before now
-  AnswersAllButOneRead-stopped before now between old s replied stops = (
+  AnswersAllButOneRead-stopped before now between old s brief replied stops = (
     replied.given ++ stops.given,
     Consumes-trans before.left between now.left replied.given stops.given replied.consumed stops.consumed,
+    brief,
     λ rules are. by_case rules (replied.replied rules are),
   )
     where
@@ -127,12 +141,13 @@ module _ (told : Settings) (start : State) where
   -- an item was taken, and a prefix of its reply at most was written
   pub AnswersAllButOneRead-taken : (before now : Moment) (between mid : Option (List ℕ)) (old new : Held) (s : State) (item : Item)
       (piece : List ℕ)
-      → IsBeforeEnd item → TakesItem between now.left now.last_read old new item
+      → IsBeforeEnd item → TakesItem between now.left now.last_read old new item → IsBrief before now
       → HasReplied told start before.holds before.left between before.gained mid old s told.max_input → Appends mid now.gained piece
       → AnswersAllButOneRead start (Some told) before now
-  AnswersAllButOneRead-taken before now between mid old new s item piece other taken replied wrote = (
+  AnswersAllButOneRead-taken before now between mid old new s item piece other taken brief replied wrote = (
     replied.given ++ taken.1.given,
     Consumes-trans before.left between now.left replied.given taken.1.given replied.consumed taken.1.consumed,
+    brief,
     λ rules are. by_case rules (replied.replied rules are),
   )
     where
@@ -161,17 +176,18 @@ module _ (told : Settings) (start : State) where
 
   -- the script has ended
   pub AnswersAllButOneRead-ended : (before now : Moment) (between : Option (List ℕ)) (old new : Held) (s : State)
-      → TakesItem between now.left now.last_read old new items.End
+      → TakesItem between now.left now.last_read old new items.End → IsBrief before now
       → HasReplied told start before.holds before.left between before.gained now.gained old s told.max_input
       → AnswersAllButOneRead start (Some told) before now
-  AnswersAllButOneRead-ended before now between old new s taken replied =
-      AnswersAllButOneRead-stopped before now between old s replied (ended_early between now.left now.last_read old new taken)
+  AnswersAllButOneRead-ended before now between old new s taken brief replied =
+      AnswersAllButOneRead-stopped before now between old s brief replied (ended_early between now.left now.last_read old new taken)
 
   -- nothing was given
   pub AnswersAllButOneRead-none : (before : Moment) → AnswersAllButOneRead start (Some told) before before
   AnswersAllButOneRead-none before = (
     [],
     Consumes-nil before.left,
+    GivesAtMost-none READ_MAX before.left before.last_read,
     λ rules are.
         ([], subst (Appends before.gained before.gained) (sym (none rules)) (Appends-nil before.gained)),
   )
@@ -182,15 +198,16 @@ module _ (told : Settings) (start : State) where
 
   -- reading stopped
   pub HoldsNothingBack-stopped : (end : ReadEnd) (before now : Moment) (between : Option (List ℕ)) (old : Held) (s : State)
+      → IsBrief before now
       → HasReplied told start before.holds before.left between before.gained now.gained old s told.max_input
       → EndsBeforeItem between now.left now.last_read old end
       → HoldsNothingBack start (status_of end) (Some told) before now
-  HoldsNothingBack-stopped ends.ReadFault before now between old s replied stops =
+  HoldsNothingBack-stopped ends.ReadFault before now between old s brief replied stops =
       AnswersWholeItems-stopped ends.ReadFault before now between old s (λ e. (cc)) replied stops
-  HoldsNothingBack-stopped ends.InputTooLong before now between old s replied stops =
+  HoldsNothingBack-stopped ends.InputTooLong before now between old s brief replied stops =
       AnswersWholeItems-stopped ends.InputTooLong before now between old s (λ e. (cc)) replied stops
-  HoldsNothingBack-stopped ends.NoMemory before now between old s replied stops =
-      AnswersAllButOneRead-stopped before now between old s replied stops
+  HoldsNothingBack-stopped ends.NoMemory before now between old s brief replied stops =
+      AnswersAllButOneRead-stopped before now between old s brief replied stops
 
 -- nothing was given, whatever the arguments ask for
 pub AnswersAllButOneRead-untouched : (start : State) (settings : Option Settings) (before : Moment)

@@ -7,8 +7,10 @@ use Rattle.wu_outside.specs.Content.{Content}
 use Rattle.wu_script.specs.declared.types.Item.{Item}
 use Rattle.wu_script.specs.Holding.{Held, Uses}
 use Rattle.wu_script.specs.Said.{said_of, said_by, IsReading}
-use Rattle.wu_script.specs.Items.{First, first_of, whole_items_of, IsBeforeEnd, IsOneItem, TakesItem}
-use Rattle.wu_script.proofs.ItemListLemmas.{first_more, whole_items_of-closed}
+use Rattle.wu_script.specs.Commands.{Entry}
+use Rattle.wu_script.specs.Items.{First, first_of, items_of, whole_items_of, IsBeforeEnd, IsOneItem, TakesItem}
+use Rattle.wu_script.proofs.ItemListLemmas.{StartsWithFirst, first_more, items_of-closed, items_of-none, items_of-some}
+use Rattle.wu_script.proofs.ItemListLemmas.{whole_items_of-closed}
 use Rattle.wu_script.proofs.UnclosedLemmas.{open_none}
 use Rattle.wu_options.specs.declared.command_lines.Settings.{Settings}
 use Rattle.wu_engine.specs.States.{State}
@@ -22,17 +24,28 @@ whole_output rules s bytes = output_of rules s (whole_items_of bytes)
 -- ---- an item
 
 -- bytes that begin with a closed item are answered by its reply, and from the state that it leaves
-closed-first : (rules : Rules) → IsReading rules.read → (s : State) (last_read : ℕ) (new : Held) (item : Item) (used more : List ℕ)
-    → IsOneItem last_read new item used → (first_of used).closed ≡ true
-    → whole_output rules s (used ++ more) ≡ said_bytes s (said_by item) ++ whole_output rules (after rules.flush_at s (said_by item)) more
-closed-first rules are s last_read new item used more one closed =
+pub closed-first : (items_in : List ℕ → List Entry) → StartsWithFirst items_in → (rules : Rules) → IsReading rules.read → (s : State)
+    (last_read : ℕ) (new : Held) (item : Item) (used more : List ℕ) → IsOneItem last_read new item used → (first_of used).closed ≡ true
+    → output_of rules s (items_in (used ++ more))
+    ≡ said_bytes s (said_by item) ++ output_of rules (after rules.flush_at s (said_by item)) (items_in more)
+closed-first items_in starts rules are s last_read new item used more one closed =
     let first = first_more used more closed in
     let says : said_by item ≡ said_of rules.read (first_of used).entry = one.entry rules.read are in
     ap (output_of rules s)
-    (whole_items_of-closed (used ++ more) (ap (λ (f : First). f.closed) first)
-    ∙ ap (λ (f : First). f.entry ∷ whole_items_of f.rest) first)
-    ∙ ap (λ said. said_bytes s said ++ whole_output rules (after rules.flush_at s said) ((first_of used).rest ++ more)) (sym says)
-    ∙ ap (λ bs. said_bytes s (said_by item) ++ whole_output rules (after rules.flush_at s (said_by item)) (bs ++ more)) one.all
+    (starts (used ++ more) (ap (λ (f : First). f.closed) first)
+    ∙ ap (λ (f : First). f.entry ∷ items_in f.rest) first)
+    ∙ ap (λ said. said_bytes s said ++ output_of rules (after rules.flush_at s said) (items_in ((first_of used).rest ++ more))) (sym says)
+    ∙ ap (λ bs. said_bytes s (said_by item) ++ output_of rules (after rules.flush_at s (said_by item)) (items_in (bs ++ more))) one.all
+
+-- the bytes of one item are answered by its reply
+pub one_reply : (rules : Rules) → IsReading rules.read → (s : State) (last_read : ℕ) (new : Held) (item : Item) (used : List ℕ)
+    → IsOneItem last_read new item used → output_of rules s (items_of used) ≡ said_bytes s (said_by item)
+one_reply rules are s last_read new item used one =
+    let entry = (first_of used).entry in
+    let says : said_by item ≡ said_of rules.read entry = one.entry rules.read are in
+    ap (output_of rules s)
+    (items_of-some used one.some ∙ ap (λ bs. entry ∷ items_of bs) one.all ∙ ap (λ es. entry ∷ es) items_of-none)
+    ∙ append-nil (said_bytes s (said_of rules.read entry)) ∙ ap (said_bytes s) (sym says)
 
 -- after the source's end nothing is taken
 pub none_left : (left left' : Option (List ℕ)) (last_read : ℕ) (old new : Held) (item : Item) (used : List ℕ) → Uses left left' old new used
@@ -63,6 +76,7 @@ module _ (start : State) where
     pub joined : given ≡ used ++ held
     pub gained : Appends before now sent
     pub whole : (more : List ℕ) → whole_output rules start (used ++ more) ≡ sent ++ whole_output rules s more
+    pub all : (more : List ℕ) → output_of rules start (items_of (used ++ more)) ≡ sent ++ output_of rules s (items_of more)
 
   -- the input ended within the last item, which was answered too
   pub record HasSentLast (rules : Rules) (before now : Option (List ℕ)) (given : List ℕ) (held : Held) : Type 0 where
@@ -72,6 +86,7 @@ module _ (start : State) where
     pub none : held.bytes ≡ []
     pub gained : Appends before now (sent ++ last)
     pub whole : whole_output rules start given ≡ sent
+    pub all : output_of rules start (items_of given) ≡ sent ++ last
 
   sent_turn : (rules : Rules) → IsReading rules.read
       → (left left' before between now : Option (List ℕ)) (given piece : List ℕ) (last_read : ℕ) (old new : Held) (s : State) (item : Item)
@@ -82,6 +97,18 @@ module _ (start : State) where
   sent_turn rules are left left' before between now given piece last_read old new s item uses one gained sent = by_case
       (first_of piece).closed refl
     where
+      onward : (items_in : List ℕ → List Entry) → StartsWithFirst items_in → (first_of piece).closed ≡ true
+          → ((more : List ℕ)
+          → output_of rules start (items_in (sent.used ++ more)) ≡ sent.sent ++ output_of rules s (items_in more)) → (more : List ℕ)
+          → output_of rules start (items_in ((sent.used ++ piece) ++ more))
+          ≡ (sent.sent ++ said_bytes s (said_by item)) ++ output_of rules (after rules.flush_at s (said_by item)) (items_in more)
+      onward items_in starts closed so_far more =
+          ap (λ bs. output_of rules start (items_in bs)) (append_assoc sent.used piece more)
+          ∙ so_far (piece ++ more)
+          ∙ ap (λ bs. sent.sent ++ bs) (closed-first items_in starts rules are s last_read new item piece more one closed)
+          ∙ sym (append_assoc sent.sent (said_bytes s (said_by item))
+          (output_of rules (after rules.flush_at s (said_by item)) (items_in more)))
+
       by_case : (closed : Bool) → (first_of piece).closed ≡ closed
           → HasSentUsed rules before now (given ++ uses.given) new.bytes (after rules.flush_at s (said_by item))
           ⊎ HasSentLast rules before now (given ++ uses.given) new
@@ -91,11 +118,8 @@ module _ (start : State) where
         joined = joined_more given uses.given sent.used old.bytes piece new.bytes sent.joined uses.joined
             ∙ sym (append_assoc sent.used piece new.bytes);
         gained = Appends-trans before between now sent.sent (said_bytes s (said_by item)) sent.gained gained;
-        whole = λ more.
-            ap (whole_output rules start) (append_assoc sent.used piece more)
-            ∙ sent.whole (piece ++ more)
-            ∙ ap (λ bs. sent.sent ++ bs) (closed-first rules are s last_read new item piece more one closed)
-            ∙ sym (append_assoc sent.sent (said_bytes s (said_by item)) (whole_output rules (after rules.flush_at s (said_by item)) more));
+        whole = onward whole_items_of whole_items_of-closed closed sent.whole;
+        all = onward items_of items_of-closed closed sent.all;
       })
       by_case false unclosed =
           let last = one.last.end unclosed in
@@ -110,6 +134,8 @@ module _ (start : State) where
             gained = Appends-trans before between now sent.sent (said_bytes s (said_by item)) sent.gained gained;
             whole = ap (whole_output rules start) all ∙ sent.whole piece
                 ∙ ap (λ es. sent.sent ++ output_of rules s es) (open_none piece unclosed) ∙ append-nil sent.sent;
+            all = ap (λ bs. output_of rules start (items_of bs)) all ∙ sent.all piece
+                ∙ ap (λ bs. sent.sent ++ bs) (one_reply rules are s last_read new item piece one);
           })
 
 module _ (told : Settings) (start : State) where
@@ -129,7 +155,14 @@ module _ (told : Settings) (start : State) where
     given = [];
     consumed = Consumes-nil before;
     counted = omega arith;
-    replied = λ rules are. inl (record { used = []; sent = []; joined = refl; gained = Appends-nil gained; whole = λ more. refl });
+    replied = λ rules are. inl (record {
+      used = [];
+      sent = [];
+      joined = refl;
+      gained = Appends-nil gained;
+      whole = λ more. refl;
+      all = λ more. refl;
+    });
   }
 
   -- a turn of the loop: an item was read, and what answers it was written

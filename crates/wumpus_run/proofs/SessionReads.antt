@@ -1,12 +1,12 @@
 -- What a session reads: what its opening reads, and then what each of its items reads in the state that it meets.
 use Rattle.std.proofs.Common.{◌≡◌, ℕ, false, List, [], ◌∷◌, ◌++◌, Option, None, Some, refl, sym, ap, ◌∙◌, subst, append_assoc, append-nil}
-use Rattle.std.proofs.Common.{inl, inr}
-use Rattle.std.specs.Prelude.{IfSome, option_map}
-use Rattle.std.specs.Io.KnownBytes.{prepend_known}
+use Rattle.std.specs.Prelude.{option_map}
+use Rattle.std.specs.Io.KnownBytes.{Appends, prepend_known}
+use Rattle.std.proofs.KnownBytes.{Appends-nil}
 use Rattle.wu_outside.specs.Content.{Content}
 use Rattle.wu_outside.specs.declared.ranges.ReadRange.{ReadRange}
 use Rattle.wu_lists.proofs.Asking.{ranges-none}
-use Rattle.wu_script.specs.Commands.{Flush, Save, Stat, Work}
+use Rattle.wu_script.specs.Commands.{Entry, Flush, Save, Stat, Work}
 use Rattle.wu_script.specs.declared.types.Item.{Item}
 use Rattle.wu_script.specs.Holding.{Held}
 use Rattle.wu_script.specs.Items.{IsBeforeEnd, IsFirstItem, IsNext, first_of, items_of}
@@ -14,25 +14,21 @@ use Rattle.wu_script.specs.Said.{Asks, Happens, IsReading, IsRefused, Operates, 
 use Rattle.wu_script.proofs.ItemListLemmas.{items_of-some}
 use Rattle.wu_options.specs.declared.command_lines.Settings.{Settings}
 use Rattle.wu_engine.specs.declared.engines.Engine.{Engine}
-use Rattle.wu_engine.specs.Opening.{IsOpen, Opens, ReadsAtOpening}
+use Rattle.wu_engine.specs.Opening.{IsOpen, Opens}
 use Rattle.wu_engine.specs.Permitted.{ReadsSuch}
 use Rattle.wu_engine.specs.Reads.{texts_read}
 use Rattle.wu_engine.specs.Stands.{Stands}
 use Rattle.wu_engine.specs.States.{State}
-use Rattle.wu_engine.proofs.OpenedStates.{reads_nothing as unread_at_opening}
 use Rattle.wu_engine.proofs.PermittedBlocks.{reads_joined}
-use Rattle.wumpus_run.specs.declared.statuses.Status.{Status}
-use Rattle.wumpus_run.specs.declared.statuses.Status.TheVariants.{NoMemory}
-use Rattle.wumpus_run.specs.Crashes.{IsUnopened, met_by}
-use Rattle.wumpus_run.specs.Permitted.{AreReadFor, AreReadInTurn, ReadsInSession, ReadsPermitted}
-use Rattle.wumpus_run.specs.Replies.{AreRules, Met, Rules, after}
+use Rattle.wumpus_run.specs.Crashes.{met_by}
+use Rattle.wumpus_run.specs.Permitted.{AreReadFor, AreReadInTurn}
+use Rattle.wumpus_run.specs.Replies.{AreRules, Rules, after, output_of, said_bytes, state_after}
 use Rattle.wumpus_run.specs.Session.{Moment}
-use Rattle.wumpus_run.proofs.CrashesAtEnd.{IsUnopened-untouched}
-use Rattle.wumpus_run.proofs.SessionLemmas.{first_item}
+use Rattle.wumpus_run.proofs.SessionLemmas.{HasAnsweredItems, appended, first_item, one-more}
 
 -- ---- one item
 
--- for an item that isn't reached nothing is read
+-- of what an item reads it may be nothing
 unreached : (s : State) (said : Said) → AreReadFor s said []
 unreached s (Happens event text) = refl
 unreached s (Asks uid question) = record {
@@ -55,154 +51,135 @@ pub reads_nothing : (s : State) (said : Said) (before after : Option (List ReadR
     → ReadsSuch (AreReadFor s said) before after
 reads_nothing s said before after same = ([], unreached s said, same ∙ ranges-none before)
 
-all_unreached : (items : List Met) → AreReadInTurn items []
-all_unreached [] = refl
-all_unreached (m ∷ later) = ([], [], unreached m.0 m.1, all_unreached later, refl)
-
 -- what was read, and then nothing
-then_nothing : (old new : Option (List ReadRange)) (read : List ReadRange) → new ≡ option_map (λ earlier. earlier ++ read) old
+pub then_nothing : (old new : Option (List ReadRange)) (read : List ReadRange) → new ≡ option_map (λ earlier. earlier ++ read) old
     → new ≡ option_map (λ earlier. earlier ++ (read ++ [])) old
 then_nothing old new read same = same ∙ ap (λ (rs : List ReadRange). option_map (λ earlier. earlier ++ rs) old) (sym (append-nil read))
 
 -- ---- items one after the other
 
--- what items read that begin with this one: what it reads, and then what the others read
-in_turn-first : (rules : Rules) → IsReading rules.read → (s : State) (bytes rest : List ℕ) (item : Item) → IsBeforeEnd item
-    → IsFirstItem bytes rest item → (first later : List ReadRange) → AreReadFor s (said_by item) first
-    → AreReadInTurn (met_by rules (after rules.flush_at s (said_by item)) (items_of rest)) later
-    → AreReadInTurn (met_by rules s (items_of bytes)) (first ++ later)
-in_turn-first rules are s bytes rest item other is first later for_item for_rest =
-    let one = first_item bytes rest item other is in
-    let says : said_by item ≡ said_of rules.read (first_of bytes).entry = one.1 rules.read are in
-    subst (λ entries. AreReadInTurn (met_by rules s entries) (first ++ later)) (sym (items_of-some bytes one.0))
-    (subst (λ (said : Said).
-    AreReadInTurn ((s, said) ∷ met_by rules (after rules.flush_at s said) (items_of (first_of bytes).rest)) (first ++ later)) says (
-      first,
-      later,
-      for_item,
-      subst (λ bs. AreReadInTurn (met_by rules (after rules.flush_at s (said_by item)) (items_of bs)) later) one.2 for_rest,
-      refl,
-    ))
+-- what items read, and then what others read in the state that they leave
+in_turn_then : (rules : Rules) (s : State) (entries more : List Entry) (first later : List ReadRange)
+    → AreReadInTurn (met_by rules s entries) first → AreReadInTurn (met_by rules (state_after rules s entries) more) later
+    → AreReadInTurn (met_by rules s (entries ++ more)) (first ++ later)
+in_turn_then rules s [] more first later none for_more =
+    subst (λ (read : List ReadRange). AreReadInTurn (met_by rules s more) (read ++ later)) (sym none) for_more
+in_turn_then rules s (entry ∷ entries) more first later for_entries for_more = (
+  for_entries.0,
+  for_entries.1 ++ later,
+  for_entries.2,
+  in_turn_then rules (after rules.flush_at s (said_of rules.read entry)) entries more for_entries.1 later for_entries.3 for_more,
+  ap (λ (read : List ReadRange). read ++ later) for_entries.4 ∙ append_assoc for_entries.0 for_entries.1 later,
+)
 
-module _ (rules : Rules) (start : State) where
-  -- What the opening read, and what the items did that were answered: what those of the bytes that are left read from the state on, if it
-  -- comes after that, makes what the items of the input read.
-  pub record HasReadItems (content : Content) (input left : List ℕ) (s : State) (before now : Option (List ReadRange)) : Type 0 where
+one_read : (rules : Rules) (s : State) (entry : Entry) (read : List ReadRange) → AreReadFor s (said_of rules.read entry) read
+    → AreReadInTurn (met_by rules s (entry ∷ [])) read
+one_read rules s entry read for_item = (read, [], for_item, refl, sym (append-nil read))
+
+module _ (told : Settings) (start : State) (rules : Rules) where
+  -- what the opening read, and then what the items did that were answered
+  pub record HasReadItems (content : Content) (gained now : Option (List ℕ)) (input left : List ℕ) (s : State)
+      (old new : Option (List ReadRange)) : Type 0 where
+    pub sent : HasAnsweredItems told start rules gained now input left s
     pub opening : List ReadRange
     pub opened : Opens content opening
     pub read : List ReadRange
-    pub goes_on : (later : List ReadRange) → AreReadInTurn (met_by rules s (items_of left)) later
-        → AreReadInTurn (met_by rules start (items_of input)) (read ++ later)
-    pub in_turn : now ≡ option_map (λ earlier. earlier ++ (opening ++ read)) before
+    pub for_items : AreReadInTurn (met_by rules start sent.answered) read
+    pub in_turn : new ≡ option_map (λ earlier. earlier ++ (opening ++ read)) old
 
   -- the same where store and source tell what they have
-  abbrev pub HasReadSoFar : Option Content → Option (List ℕ) → Option (List ℕ) → State → Option (List ReadRange)
-      → Option (List ReadRange) → Type 0
-  HasReadSoFar None input left s before now = Unit {0}
-  HasReadSoFar (Some content) None left s before now = Unit {0}
-  HasReadSoFar (Some content) (Some input) None s before now = ⊥
-  HasReadSoFar (Some content) (Some input) (Some left) s before now = HasReadItems content input left s before now
+  abbrev pub HasReadSoFar : Option Content → Option (List ℕ) → Option (List ℕ) → Option (List ℕ) → Option (List ℕ) → State
+      → Option (List ReadRange) → Option (List ReadRange) → Type 0
+  HasReadSoFar None gained now input left s old new = Unit {0}
+  HasReadSoFar (Some content) gained now None left s old new = Unit {0}
+  HasReadSoFar (Some content) gained now (Some input) None s old new = ⊥
+  HasReadSoFar (Some content) gained now (Some input) (Some left) s old new = HasReadItems content gained now input left s old new
 
   -- the store was opened
-  at_start : (holds : Option Content) (input : Option (List ℕ)) (before now : Option (List ReadRange)) → IsOpen holds before now
-      → HasReadSoFar holds input (prepend_known [] input) start before now
-  at_start None input before now opening = tt
-  at_start (Some content) None before now opening = tt
-  at_start (Some content) (Some input) before now opening = record {
+  at_start : (holds : Option Content) (gained input : Option (List ℕ)) (old new : Option (List ReadRange)) → IsOpen holds old new
+      → HasReadSoFar holds gained gained input (prepend_known [] input) start old new
+  at_start None gained input old new opening = tt
+  at_start (Some content) gained None old new opening = tt
+  at_start (Some content) gained (Some input) old new opening = record {
+    sent = record { answered = []; split = refl; gained = Appends-nil gained; state = refl };
     opening = opening.0;
     opened = opening.1;
     read = [];
-    goes_on = λ later for_later. for_later;
-    in_turn = then_nothing before now opening.0 opening.2;
+    for_items = refl;
+    in_turn = then_nothing old new opening.0 opening.2;
   }
 
-  -- an item more
-  one_more : IsReading rules.read → (content : Content) (input left rest : List ℕ) (s : State) (item : Item)
-      (before between now : Option (List ReadRange)) → IsBeforeEnd item → IsFirstItem left rest item
-      → ReadsSuch (AreReadFor s (said_by item)) between now → HasReadItems content input left s before between
-      → HasReadItems content input rest (after rules.flush_at s (said_by item)) before now
-  one_more are content input left rest s item before between now other next reads so_far = record {
-    opening = so_far.opening;
-    opened = so_far.opened;
-    read = so_far.read ++ reads.0;
-    goes_on = λ later for_later.
-        subst (AreReadInTurn (met_by rules start (items_of input))) (sym (append_assoc so_far.read reads.0 later))
-        (so_far.goes_on (reads.0 ++ later) (in_turn-first rules are s left rest item other next reads.0 later reads.1 for_later));
-    in_turn = reads.2 ∙ ap (option_map (λ (earlier : List ReadRange). earlier ++ reads.0)) so_far.in_turn
-        ∙ reads_joined before (so_far.opening ++ so_far.read) reads.0
-        ∙ ap (λ (rs : List ReadRange). option_map (λ earlier. earlier ++ rs) before) (append_assoc so_far.opening so_far.read reads.0);
-  }
+  module _ (are : IsReading rules.read) (content : Content) (gained between : Option (List ℕ)) (input left rest : List ℕ) (s : State)
+      (item : Item) (old mid new : Option (List ReadRange)) (other : IsBeforeEnd item) (next : IsFirstItem left rest item)
+      (reads : ReadsSuch (AreReadFor s (said_by item)) mid new) (so_far : HasReadItems content gained between input left s old mid)
+    where
+      -- the item's entry, and the state that it meets
+      abbrev pub entry : Entry
+      entry = (first_of left).entry
 
-  turn : IsReading rules.read → (holds : Option Content) (input left rest : Option (List ℕ)) (s : State) (item : Item)
-      (before between now : Option (List ReadRange)) → IsBeforeEnd item → IsNext left rest item
-      → ReadsSuch (AreReadFor s (said_by item)) between now → HasReadSoFar holds input left s before between
-      → HasReadSoFar holds input rest (after rules.flush_at s (said_by item)) before now
-  turn are None input left rest s item before between now other next reads so_far = tt
-  turn are (Some content) None left rest s item before between now other next reads so_far = tt
-  turn are (Some content) (Some input) None rest s item before between now other next reads so_far = absurd so_far
-  turn are (Some content) (Some input) (Some left) None s item before between now other next reads so_far = absurd next
-  turn are (Some content) (Some input) (Some left) (Some rest) s item before between now other next reads so_far =
-      one_more are content input left rest s item before between now other next reads so_far
+      abbrev pub met_at : State
+      met_at = state_after rules start so_far.sent.answered
 
-  -- no other item is reached
-  none_later : (content : Content) (input : List ℕ) (left : Option (List ℕ)) (s : State) (status : Status) (before now : Moment)
-      (old new : Option (List ReadRange)) → HasReadSoFar (Some content) (Some input) left s old new
-      → ReadsInSession content (met_by rules start (items_of input)) status before now old new
-  none_later content input None s status before now old new so_far = absurd so_far
-  none_later content input (Some left) s status before now old new so_far = record {
-    opening = so_far.opening;
-    read = so_far.read;
-    once = inl so_far.opened;
-    for_items = subst (AreReadInTurn (met_by rules start (items_of input))) (append-nil so_far.read)
-        (so_far.goes_on [] (all_unreached (met_by rules s (items_of left))));
-    in_turn = so_far.in_turn;
-  }
+      says : said_by item ≡ said_of rules.read entry
+      says = (first_item left rest item other next).1 rules.read are
+
+      -- it is the next item of the input
+      pub with_entry : items_of input ≡ so_far.sent.answered ++ entry ∷ items_of (first_of left).rest
+      with_entry = so_far.sent.split
+          ∙ ap (λ (es : List Entry). so_far.sent.answered ++ es) (items_of-some left (first_item left rest item other next).0)
+
+      pub reply_of : said_bytes s (said_by item) ≡ output_of rules met_at (entry ∷ [])
+      reply_of =
+          ap (λ (t : State). said_bytes t (said_by item)) so_far.sent.state ∙ ap (said_bytes met_at) says
+          ∙ sym (append-nil (said_bytes met_at (said_of rules.read entry)))
+
+      -- what was read, it included
+      pub for_entry : AreReadInTurn (met_by rules start (so_far.sent.answered ++ entry ∷ [])) (so_far.read ++ reads.0)
+      for_entry =
+          in_turn_then rules start so_far.sent.answered (entry ∷ []) so_far.read reads.0 so_far.for_items
+          (one_read rules met_at entry reads.0
+          (subst (λ (said : Said). AreReadFor met_at said reads.0) says
+          (subst (λ (t : State). AreReadFor t (said_by item) reads.0) so_far.sent.state reads.1)))
+
+      pub then_read : new ≡ option_map (λ earlier. earlier ++ (so_far.opening ++ (so_far.read ++ reads.0))) old
+      then_read = reads.2 ∙ ap (option_map (λ (earlier : List ReadRange). earlier ++ reads.0)) so_far.in_turn
+          ∙ reads_joined old (so_far.opening ++ so_far.read) reads.0
+          ∙ ap (λ (rs : List ReadRange). option_map (λ earlier. earlier ++ rs) old) (append_assoc so_far.opening so_far.read reads.0)
+
+      -- it was answered
+      pub one_more_read : (now : Option (List ℕ)) → Appends between now (said_bytes s (said_by item))
+          → HasReadItems content gained now input rest (after rules.flush_at s (said_by item)) old new
+      unfolding one-more
+      one_more_read now wrote = record {
+        sent = one-more told start rules are gained between now input left rest s item other next so_far.sent wrote;
+        opening = so_far.opening;
+        opened = so_far.opened;
+        read = so_far.read ++ reads.0;
+        for_items = for_entry;
+        in_turn = then_read;
+      }
+
+  turn : IsReading rules.read → (holds : Option Content) (gained between now input left rest : Option (List ℕ)) (s : State) (item : Item)
+      (old mid new : Option (List ReadRange)) → IsBeforeEnd item → IsNext left rest item
+      → ReadsSuch (AreReadFor s (said_by item)) mid new → Appends between now (said_bytes s (said_by item))
+      → HasReadSoFar holds gained between input left s old mid
+      → HasReadSoFar holds gained now input rest (after rules.flush_at s (said_by item)) old new
+  turn are None gained between now input left rest s item old mid new other next reads wrote so_far = tt
+  turn are (Some content) gained between now None left rest s item old mid new other next reads wrote so_far = tt
+  turn are (Some content) gained between now (Some input) None rest s item old mid new other next reads wrote so_far = absurd so_far
+  turn are (Some content) gained between now (Some input) (Some left) None s item old mid new other next reads wrote so_far = absurd next
+  turn are (Some content) gained between now (Some input) (Some left) (Some rest) s item old mid new other next reads wrote so_far =
+      one_more_read are content gained between input left rest s item old mid new other next reads so_far now wrote
 
 -- ---- a session
 
 module _ (told : Settings) (start : State) where
-  module _ (status : Status) (before now : Moment) (old new : Option (List ReadRange)) where
-    -- what is permitted, by what store and source told at the start
-    abbrev Permits : Option Content → Option (List ℕ) → Type 0
-    Permits holds input = IfSome input (λ bytes. IfSome holds (λ content. (rules : Rules) → AreRules holds told rules
-        → ReadsInSession content (met_by rules start (items_of bytes)) status before now old new))
-
-    -- a session that goes no further
-    ended : (left : Option (List ℕ)) (s : Rules → State) → ((rules : Rules) → AreRules before.holds told rules
-        → HasReadSoFar rules start before.holds before.left left (s rules) old new)
-        → ReadsPermitted start status (Some told) before now old new
-    ended left s so_far = by_case before.holds before.left so_far
-      where
-        by_case : (holds : Option Content) (input : Option (List ℕ))
-            → ((rules : Rules) → AreRules holds told rules → HasReadSoFar rules start holds input left (s rules) old new)
-            → Permits holds input
-        by_case holds None so_far = tt
-        by_case None (Some bytes) so_far = tt
-        by_case (Some content) (Some bytes) so_far = λ rules are.
-            none_later rules start content bytes left (s rules) status before now old new (so_far rules are)
-
-    -- one whose opening stopped
-    pub permitted_unopened : ReadsAtOpening before.holds old new → IsUnopened status before now
-        → ReadsPermitted start status (Some told) before now old new
-    permitted_unopened reads unopened = by_case before.holds before.left reads
-      where
-        by_case : (holds : Option Content) (input : Option (List ℕ)) → ReadsAtOpening holds old new → Permits holds input
-        by_case holds None reads = tt
-        by_case None (Some bytes) reads = tt
-        by_case (Some content) (Some bytes) reads = λ rules are. record {
-          opening = reads.0;
-          read = [];
-          once = inr (reads.1, refl, unopened);
-          for_items = all_unreached (met_by rules start (items_of bytes));
-          in_turn = then_nothing old new reads.0 reads.2;
-        }
-
   -- engine and store stand for a state; the opening was read, and then what the items read that led to it
   pub record HasRead (before now : Moment) (engine : Engine) (held : Held) (old new : Option (List ReadRange)) : Type 0 where
     pub state : State
     pub stands : Stands engine now.holds state
     pub reads : (rules : Rules) → AreRules before.holds told rules
-        → HasReadSoFar rules start before.holds before.left (prepend_known held.bytes now.left) state old new
+        → HasReadSoFar told start rules before.holds before.gained now.gained before.left (prepend_known held.bytes now.left) state old new
 
   -- the store was opened
   pub HasRead-none : (before : Moment) (holds : Option Content) (faults : ℕ) (engine : Engine) (old new : Option (List ReadRange))
@@ -212,49 +189,30 @@ module _ (told : Settings) (start : State) where
   HasRead-none before holds faults engine old new stands opening = record {
     state = start;
     stands = stands;
-    reads = λ rules are. at_start rules start before.holds before.left old new opening;
+    reads = λ rules are. at_start told start rules before.holds before.gained before.left old new opening;
   }
 
-  module _ {before between : Moment} {engine : Engine} {held : Held} {old mid : Option (List ReadRange)}
-      (so_far : HasRead before between engine held old mid) where
-    -- no item more was reached
-    pub permitted_so_far : (status : Status) (now : Moment) → ReadsPermitted start status (Some told) before now old mid
-    permitted_so_far status now =
-        ended status before now old mid (prepend_known held.bytes between.left) (λ rules. so_far.state) so_far.reads
-
-    module _ {new : Option (List ReadRange)} (rest : Option (List ℕ)) (item : Item) (other : IsBeforeEnd item)
-        (next : IsNext (prepend_known held.bytes between.left) rest item)
-        (reads : (s : State) → Stands engine between.holds s → ReadsSuch (AreReadFor s (said_by item)) mid new) where
-      and_then : (rules : Rules) → AreRules before.holds told rules
-          → HasReadSoFar rules start before.holds before.left rest (after rules.flush_at so_far.state (said_by item)) old new
-      and_then rules are =
-          turn rules start are.0 before.holds before.left (prepend_known held.bytes between.left) rest so_far.state item old mid new other
-          next (reads so_far.state so_far.stands) (so_far.reads rules are)
-
-      -- an item more was answered, or wasn't
-      pub permitted_then : (status : Status) (now : Moment) → ReadsPermitted start status (Some told) before now old new
-      permitted_then status now =
-          ended status before now old new rest (λ rules. after rules.flush_at so_far.state (said_by item)) and_then
-
-    -- an item was read and answered
-    pub HasRead-turn : {now : Moment} {later : Engine} {rest : Held} {new : Option (List ReadRange)} (item : Item) → IsBeforeEnd item
-        → IsNext (prepend_known held.bytes between.left) (prepend_known rest.bytes now.left) item
-        → ((s : State) → Stands engine between.holds s → Stands later now.holds (after told.flush_at s (said_by item)))
-        → ((s : State) → Stands engine between.holds s → ReadsSuch (AreReadFor s (said_by item)) mid new)
-        → HasRead before now later rest old new
-    HasRead-turn {now} {later} {rest} {new} item other next stands reads = record {
-      state = after told.flush_at so_far.state (said_by item);
-      stands = stands so_far.state so_far.stands;
-      reads = λ rules are.
-          subst (λ (n : ℕ). HasReadSoFar rules start before.holds before.left (prepend_known rest.bytes now.left)
-          (after n so_far.state (said_by item)) old new) are.1
-          (and_then {new = new} (prepend_known rest.bytes now.left) item other next reads rules are);
-    }
-
--- there was no memory to read the arguments
-pub permitted_untouched : (start : State) (settings : Option Settings) (before : Moment) (reads : Option (List ReadRange))
-    → ReadsPermitted start NoMemory settings before before reads reads
-permitted_untouched start None before reads = tt
-permitted_untouched start (Some told) before reads =
-    permitted_unopened told start NoMemory before before reads reads (unread_at_opening before.holds reads reads refl)
-    (IsUnopened-untouched before)
+  -- an item was read and answered, and the answer, which was appended to no bytes, was written
+  pub HasRead-turn : {before between now : Moment} {engine later : Engine} {held rest : Held} {old mid new : Option (List ReadRange)}
+      → (so_far : HasRead before between engine held old mid) (item : Item) (out none written : List ℕ) → IsBeforeEnd item
+      → IsNext (prepend_known held.bytes between.left) (prepend_known rest.bytes now.left) item
+      → engine.parts.flush_at ≡ told.flush_at → none ≡ []
+      → ((s : State) → Stands engine between.holds s
+      → (out ≡ none ++ said_bytes s (said_by item)) × Stands later now.holds (after engine.parts.flush_at s (said_by item)))
+      → ((s : State) → Stands engine between.holds s → ReadsSuch (AreReadFor s (said_by item)) mid new)
+      → written ≡ out → Appends between.gained now.gained written → HasRead before now later rest old new
+  HasRead-turn {before} {between} {now} {engine} {later} {held} {rest} {old} {mid} {new} so_far item out none written other next full
+      empty answers reads same wrote =
+      let s = so_far.state in
+      let answer = answers s so_far.stands in
+      let bytes : written ≡ said_bytes s (said_by item) = same ∙ appended out none (said_bytes s (said_by item)) answer.0 empty in
+      record {
+        state = after told.flush_at s (said_by item);
+        stands = subst (λ (n : ℕ). Stands later now.holds (after n s (said_by item))) full answer.1;
+        reads = λ rules are.
+            subst (λ (n : ℕ). HasReadSoFar told start rules before.holds before.gained now.gained before.left
+            (prepend_known rest.bytes now.left) (after n s (said_by item)) old new) are.1
+            (turn told start rules are.0 before.holds before.gained between.gained now.gained before.left
+            (prepend_known held.bytes between.left) (prepend_known rest.bytes now.left) s item old mid new other next
+            (reads s so_far.stands) (subst (Appends between.gained now.gained) bytes wrote) (so_far.reads rules are));
+      }

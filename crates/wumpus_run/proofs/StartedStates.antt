@@ -1,7 +1,7 @@
 -- A session under way, from a state of which the store held an image, and how it ends.
 use Rattle.std.proofs.Common.{◌≡◌, ℕ, ◌+◌, ◌<◌, ◌^◌, List, [], Option, None, Err, true, false, refl, sym, ◌∙◌, subst, arith}
 use Rattle.std.specs.Io.KnownBytes.{Appends, IsAtEnd, prepend_known}
-use Rattle.wu_base.specs.declared.limits.TheConstants.{BLOBS_SPENT_AT, SPENT_AT}
+use Rattle.wu_base.specs.declared.limits.TheConstants.{BLOBS_SPENT_AT, READ_MAX, SPENT_AT}
 use Rattle.wu_base.specs.declared.troubles.Trouble.{Trouble}
 use Rattle.wu_base.specs.declared.troubles.Trouble.TheVariants as troubles
 use Rattle.wu_outside.specs.Faults.{HasFaultCause}
@@ -11,9 +11,10 @@ use Rattle.wu_outside.specs.Content.{Content}
 use Rattle.wu_script.specs.declared.ends.ReadEnd.{ReadEnd}
 use Rattle.wu_script.specs.declared.types.Item.{Item}
 use Rattle.wu_script.specs.declared.types.Item.TheVariants as items
-use Rattle.wu_script.specs.Holding.{Held, IsCounted as IsReadCounted}
+use Rattle.wu_script.specs.Holding.{GivesAtMost, Held, IsCounted as IsReadCounted, asked_at_once}
 use Rattle.wu_script.specs.Said.{IsSoundItem, said_by, tokens_given}
 use Rattle.wu_script.specs.Items.{IsBeforeEnd, IsNext, EndsBeforeItem, TakesItem}
+use Rattle.wu_script.proofs.ReadLemmas.{GivesAtMost-none}
 use Rattle.wu_options.specs.declared.command_lines.Settings.{Settings}
 use Rattle.wu_engine.specs.declared.engines.Engine.{Engine}
 use Rattle.wu_engine.specs.declared.faults.BeginFault.{BeginFault}
@@ -45,6 +46,7 @@ use Rattle.wumpus_run.proofs.FaultCounts.{IsCounted-answered, IsCounted-other, I
 use Rattle.wumpus_run.proofs.FaultCounts.{IsCounted-written}
 use Rattle.wumpus_run.proofs.EndStatuses.{IsSaving, answering, damaged_so, reading, saved_damaged, saving, unopened, writing}
 use Rattle.wumpus_run.proofs.SpentStores.{IsSpent-never, IsSpent-unopened}
+use Rattle.wumpus_run.proofs.PromptAtEnd.{IsBrief, IsBrief-then}
 use Rattle.wumpus_run.proofs.SentReplies.{HasReplied, HasReplied-none, HasReplied-turn}
 
 -- engine and store stand for a state, and the store has no stray blob; what was sent, and what answers the rest of the input from that
@@ -102,6 +104,7 @@ module _ (told : Settings) (before : Moment) where
     pub flush_at : engine.parts.flush_at ≡ told.flush_at
     pub taken : HasTaken before.left now.left held.spare told.max_input
     pub at_end : held.ended ≡ true → IsAtEnd now.left
+    pub brief : IsBrief before now
     pub read_calm : now.read_faults ≡ before.read_faults
     pub write_calm : now.write_faults ≡ before.write_faults
     pub store_calm : now.store_faults ≡ before.store_faults
@@ -122,6 +125,7 @@ module _ (told : Settings) (before : Moment) where
     flush_at = flush_at;
     taken = HasTaken-none before.left told.max_input;
     at_end = λ e. absurd (cc);
+    brief = GivesAtMost-none READ_MAX before.left before.last_read;
     read_calm = refl;
     write_calm = refl;
     store_calm = calm;
@@ -136,10 +140,11 @@ module _ (told : Settings) (before : Moment) where
   pub IsUnderWay-turn : (between now : Moment) (engine later : Engine) (old new : Held) (item : Item) (reply written : List ℕ)
       → IsUnderWay between engine old → IsBeforeEnd item → TakesItem between.left now.left now.last_read old new item
       → IsNext (prepend_known old.bytes between.left) (prepend_known new.bytes now.left) item → (new.ended ≡ true → IsAtEnd now.left)
+      → GivesAtMost (asked_at_once old.spare) between.left now.left between.last_read now.last_read
       → now.read_faults ≡ between.read_faults → now.write_faults ≡ between.write_faults → now.store_faults ≡ between.store_faults
       → IsSoundItem item → IsRaised engine later (said_by item) → Replies between.holds now.holds engine later item reply → written ≡ reply
       → Appends between.gained now.gained written → IsUnderWay now later new
-  IsUnderWay-turn between now engine later old new item reply written i other took next at_end read write store sound raised replies
+  IsUnderWay-turn between now engine later old new item reply written i other took next at_end few read write store sound raised replies
       same wrote =
       record {
         from = λ s image.
@@ -160,6 +165,7 @@ module _ (told : Settings) (before : Moment) where
         flush_at = raised.flush_at ∙ i.flush_at;
         taken = HasTaken-more before.left between.left now.left now.last_read old new item told.max_input i.taken took;
         at_end = at_end;
+        brief = IsBrief-then old.spare before between now i.brief few;
         read_calm = read ∙ i.read_calm;
         write_calm = write ∙ i.write_calm;
         store_calm = store ∙ i.store_calm;
@@ -196,8 +202,9 @@ module _ (told : Settings) (before : Moment) where
     -- reading stopped
     pub IsSession-stopped : (end : ReadEnd) (left : Option (List ℕ)) (last_read faults : ℕ)
         → EndsBeforeItem between.left left last_read old end → IsReadCounted end between.read_faults faults
+        → GivesAtMost (asked_at_once old.spare) between.left left between.last_read last_read
         → IsSession (status_of end) told before (record between { left = left; last_read = last_read; read_faults = faults })
-    IsSession-stopped end left last_read faults stops counted =
+    IsSession-stopped end left last_read faults stops counted more =
         let now : Moment = record between { left = left; last_read = last_read; read_faults = faults } in
         let other = reading end in
         record {
@@ -215,20 +222,22 @@ module _ (told : Settings) (before : Moment) where
           taken = StaysWithin-stopped told end before now between.left old i.taken stops;
           ends = λ s image.
               let so_far = i.from s image in
-              Ends-stopped told s end before now between.left old so_far.state so_far.answered so_far.replied stops;
+              Ends-stopped told s end before now between.left old so_far.state so_far.answered so_far.replied stops
+              (IsBrief-then old.spare before between now i.brief more);
         }
 
     -- the script has ended, and what it left was saved or couldn't be
     pub IsSession-saved : (status : Status) (new : Held) (left : Option (List ℕ)) (last_read faults : ℕ) (holds : Option Content)
         (store_faults : ℕ) → IsSaving status → TakesItem between.left left last_read old new items.End
         → IsNext (prepend_known old.bytes between.left) (prepend_known new.bytes left) items.End → (new.ended ≡ true → IsAtEnd left)
+        → GivesAtMost (asked_at_once old.spare) between.left left between.last_read last_read
         → faults ≡ between.read_faults → IsCounted StoreFault status between.store_faults store_faults
         → ((s : State) → Stands engine between.holds s → status ≡ Done → HoldsImage holds (rested_state (saved_state s)))
         → ((s : State) → Stands engine between.holds s → status ≡ Done
         → AddsNoStray s.layout between.holds (rested_state (saved_state s)).layout holds)
         → IsSession status told before
         (record between { left = left; last_read = last_read; read_faults = faults; holds = holds; store_faults = store_faults })
-    IsSession-saved status new left last_read faults holds store_faults ends took next at_end read counted image_after adds =
+    IsSession-saved status new left last_read faults holds store_faults ends took next at_end more read counted image_after adds =
         let now : Moment = record between {
           left = left;
           last_read = last_read;
@@ -265,17 +274,19 @@ module _ (told : Settings) (before : Moment) where
           taken = StaysWithin-short told before now few;
           ends = λ s image.
               let so_far = i.from s image in
-              Ends-saved told s status before now between.left old new so_far.state ends took so_far.answered so_far.replied;
+              Ends-saved told s status before now between.left old new so_far.state ends took so_far.answered so_far.replied
+              (IsBrief-then old.spare before between now i.brief more);
         }
 
     -- an item wasn't answered
     pub IsSession-unanswered : (trouble : Trouble) (new : Held) (item : Item) (left : Option (List ℕ)) (last_read faults : ℕ)
         (holds : Option Content) (store_faults : ℕ) → IsBeforeEnd item → TakesItem between.left left last_read old new item
+        → GivesAtMost (asked_at_once old.spare) between.left left between.last_read last_read
         → faults ≡ between.read_faults → HasTroubleCause {T = Unit {0}} engine.ended between.store_faults store_faults (Err trouble)
         → ((s : State) → Stands engine between.holds s → (blob : ℕ) → trouble ≡ troubles.Damaged blob → ⊥)
         → IsSession (status_of_trouble trouble) told before
         (record between { left = left; last_read = last_read; read_faults = faults; holds = holds; store_faults = store_faults })
-    IsSession-unanswered trouble new item left last_read faults holds store_faults before_end took read cause undamaged =
+    IsSession-unanswered trouble new item left last_read faults holds store_faults before_end took more read cause undamaged =
         let now : Moment = record between {
           left = left;
           last_read = last_read;
@@ -306,17 +317,19 @@ module _ (told : Settings) (before : Moment) where
           ends = λ s image.
               let so_far = i.from s image in
               Ends-unanswered told s trouble before now between.left old new so_far.state item before_end took so_far.answered
-              so_far.replied;
+              so_far.replied (IsBrief-then old.spare before between now i.brief more);
         }
 
     -- a reply wasn't written whole
     pub IsSession-unwritten : (fault : Fault) (now : Moment) (later : Engine) (new : Held) (item : Item) (reply written : List ℕ)
         → IsBeforeEnd item → TakesItem between.left now.left now.last_read old new item
-        → IsNext (prepend_known old.bytes between.left) (prepend_known new.bytes now.left) item → now.read_faults ≡ between.read_faults
+        → IsNext (prepend_known old.bytes between.left) (prepend_known new.bytes now.left) item
+        → GivesAtMost (asked_at_once old.spare) between.left now.left between.last_read now.last_read
+        → now.read_faults ≡ between.read_faults
         → HasFaultCause {T = Unit {0}} between.write_faults now.write_faults (Err fault) → now.store_faults ≡ between.store_faults
         → Replies between.holds now.holds engine later item reply → written ≡ reply → GainsPrefix between.gained now.gained written
         → IsSession (status_of_fault fault) told before now
-    IsSession-unwritten fault now later new item reply written before_end took next read cause store replies same part =
+    IsSession-unwritten fault now later new item reply written before_end took next more read cause store replies same part =
         let status = status_of_fault fault in
         let other = writing fault in
         let taken = HasTaken-more before.left between.left now.left now.last_read old new item told.max_input i.taken took in
@@ -337,5 +350,6 @@ module _ (told : Settings) (before : Moment) where
           ends = λ s image.
               let so_far = i.from s image in
               Ends-unwritten told s fault before now between.left between.gained old new so_far.state item reply written before_end took
-              next so_far.answered so_far.replied (replies so_far.state so_far.stands).0 same part;
+              next so_far.answered so_far.replied (replies so_far.state so_far.stands).0 same part
+              (IsBrief-then old.spare before between now i.brief more);
         }

@@ -2,25 +2,17 @@
 use Rattle.std.proofs.Common.{ℕ, List, [], ◌∷◌, map}
 use Rattle.std.specs.List.{All, AllByRecursion}
 use Rattle.std.proofs.lemmas.List.Elements.{All-from_recursion}
+use Rattle.wu_engine.proofs.SavedStates.{saved_kept}
 use Rattle.wu_script.specs.Commands.{Operation, Flush, Work, Stat, Save}
 use Rattle.wu_script.specs.Said.{Reading, Said, Happens, Asks, Operates, IsRefused, SaysNothing, said_of}
 use Rattle.wu_script.specs.Items.{items_of}
 use Rattle.wu_script.proofs.EventLemmas.{TellsEvent, script_tells}
-use Rattle.wu_layout.proofs.Flushes.{layout_after_save}
-use Rattle.wu_engine.specs.States.{State, IsState, saved_state}
+use Rattle.wu_engine.specs.States.{State, IsState}
 use Rattle.wu_engine.proofs.FlushedStates.{flushed_kept}
 use Rattle.wu_engine.proofs.KeptStates.{state_kept}
 use Rattle.wu_engine.proofs.WorkedStates.{worked_kept}
 use Rattle.wumpus_run.specs.Replies.{after, after_operation, met, last_state}
 use Rattle.wumpus_run.proofs.ShortTexts.{IsShort, script_short}
-
-saved_kept : (s : State) → IsState s → IsState (saved_state s)
-saved_kept s is = record {
-  tree = is.tree;
-  texts = record { ascend = is.texts.ascend; files = is.texts.files };
-  short = is.short;
-  layout = layout_after_save _ _ s.layout is.layout;
-}
 
 operated_kept : (s : State) (operation : Operation) → IsState s → IsState (after_operation s operation)
 operated_kept s Flush is = flushed_kept s is

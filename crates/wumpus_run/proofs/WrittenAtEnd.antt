@@ -27,7 +27,8 @@ use Rattle.wumpus_run.proofs.SessionLemmas.{IsOnTheWay, HasAnswered, IsPrefix-pa
 use Rattle.wumpus_run.proofs.EndStatuses.{IsSaving}
 use Rattle.wumpus_run.proofs.SentReplies.{HasReplied}
 use Rattle.wumpus_run.proofs.PromptAtEnd.{AnswersAllButOneRead-taken, AnswersAllButOneRead-ended, AnswersAllButOneRead-none}
-use Rattle.wumpus_run.proofs.PromptAtEnd.{HoldsNothingBack-stopped}
+use Rattle.wumpus_run.proofs.PromptAtEnd.{HoldsNothingBack-stopped, IsBrief}
+use Rattle.wumpus_run.proofs.TakenReplies.{AnswersTaken-none, AnswersTaken-part, AnswersTaken-so_far}
 
 module _ (told : Settings) (start : State) where
   -- nothing was sent
@@ -50,26 +51,34 @@ module _ (told : Settings) (start : State) where
       → Ends start (status_of_opening fault) told before (record before { holds = holds; store_faults = faults })
   Ends-unopened opening.NoMemory before holds faults = record {
     prefix = AnswersPrefix-none before;
+    only_taken = AnswersTaken-none told start before;
     prompt = AnswersAllButOneRead-none told start before;
   }
   Ends-unopened opening.StoreFault before holds faults = record {
     prefix = AnswersPrefix-none before;
+    only_taken = AnswersTaken-none told start before;
     prompt = (AnswersAllButOneRead-none told start before, AnswersItems-none before);
   }
   Ends-unopened (opening.Damaged blob) before holds faults = record {
     prefix = AnswersPrefix-none before;
+    only_taken = AnswersTaken-none told start before;
     prompt = (AnswersAllButOneRead-none told start before, AnswersItems-none before);
   }
-  Ends-unopened (opening.Spent next) before holds faults = record { prefix = AnswersPrefix-none before; prompt = (refl, refl) }
+  Ends-unopened (opening.Spent next) before holds faults = record {
+    prefix = AnswersPrefix-none before;
+    only_taken = AnswersTaken-none told start before;
+    prompt = (refl, refl);
+  }
 
   -- reading stopped
   pub Ends-stopped : (end : ReadEnd) (before now : Moment) (between : Option (List ℕ)) (old : Held) (s : State)
       → HasAnswered told start before.holds before.gained now.gained before.left (prepend_known old.bytes between) s
       → HasReplied told start before.holds before.left between before.gained now.gained old s told.max_input
-      → EndsBeforeItem between now.left now.last_read old end → Ends start (status_of end) told before now
-  Ends-stopped end before now between old s answered replied stops = record {
+      → EndsBeforeItem between now.left now.last_read old end → IsBrief before now → Ends start (status_of end) told before now
+  Ends-stopped end before now between old s answered replied stops brief = record {
     prefix = IsPrefix-sent told start before.holds before.gained now.gained before.left (prepend_known old.bytes between) s answered;
-    prompt = HoldsNothingBack-stopped told start end before now between old s replied stops;
+    only_taken = AnswersTaken-so_far told start before now between old s stops.given replied stops.consumed (λ ended. (stops.over ended).0);
+    prompt = HoldsNothingBack-stopped told start end before now between old s brief replied stops;
   }
 
   fault_prompt : (fault : Fault) (before now : Moment) → AnswersAllButOneRead start (Some told) before now
@@ -83,14 +92,16 @@ module _ (told : Settings) (start : State) where
       → IsNext (prepend_known old.bytes between) (prepend_known new.bytes now.left) item
       → HasAnswered told start before.holds before.gained mid before.left (prepend_known old.bytes between) s
       → HasReplied told start before.holds before.left between before.gained mid old s told.max_input
-      → reply ≡ said_bytes s (said_by item) → written ≡ reply → GainsPrefix mid now.gained written
+      → reply ≡ said_bytes s (said_by item) → written ≡ reply → GainsPrefix mid now.gained written → IsBrief before now
       → Ends start (status_of_fault fault) told before now
-  Ends-unwritten fault before now between mid old new s item reply written other taken next answered replied replies same part = record {
-    prefix = IsPrefix-part told start before.holds before.gained mid now.gained before.left (prepend_known old.bytes between)
-        (prepend_known new.bytes now.left) s item reply written other next answered replies same part;
-    prompt = fault_prompt fault before now
-        (AnswersAllButOneRead-taken told start before now between mid old new s item part.0 other taken replied part.3);
-  }
+  Ends-unwritten fault before now between mid old new s item reply written other taken next answered replied replies same part
+      brief = record {
+        prefix = IsPrefix-part told start before.holds before.gained mid now.gained before.left (prepend_known old.bytes between)
+            (prepend_known new.bytes now.left) s item reply written other next answered replies same part;
+        only_taken = AnswersTaken-part told start before now between mid old new s item reply written other taken replied replies same part;
+        prompt = fault_prompt fault before now
+            (AnswersAllButOneRead-taken told start before now between mid old new s item part.0 other taken brief replied part.3);
+      }
 
   trouble_prompt : (trouble : Trouble) (before now : Moment) → AnswersAllButOneRead start (Some told) before now
       → AnswersItems start (Some told) before now → HoldsNothingBack start (status_of_trouble trouble) (Some told) before now
@@ -102,14 +113,16 @@ module _ (told : Settings) (start : State) where
   pub Ends-unanswered : (trouble : Trouble) (before now : Moment) (between : Option (List ℕ)) (old new : Held) (s : State) (item : Item)
       → IsBeforeEnd item → TakesItem between now.left now.last_read old new item
       → HasAnswered told start before.holds before.gained now.gained before.left (prepend_known old.bytes between) s
-      → HasReplied told start before.holds before.left between before.gained now.gained old s told.max_input
+      → HasReplied told start before.holds before.left between before.gained now.gained old s told.max_input → IsBrief before now
       → Ends start (status_of_trouble trouble) told before now
-  Ends-unanswered trouble before now between old new s item other taken answered replied =
+  Ends-unanswered trouble before now between old new s item other taken answered replied brief =
       let known = prepend_known old.bytes between in
       record {
         prefix = IsPrefix-sent told start before.holds before.gained now.gained before.left known s answered;
+        only_taken = AnswersTaken-so_far told start before now between old s taken.1.given replied taken.1.consumed
+            (λ ended. (taken.1.over ended).0);
         prompt = trouble_prompt trouble before now
-            (AnswersAllButOneRead-taken told start before now between now.gained old new s item [] other taken replied
+            (AnswersAllButOneRead-taken told start before now between now.gained old new s item [] other taken brief replied
             (Appends-nil now.gained))
             (AreItems-sent told start before.holds before.gained now.gained before.left known s answered);
       }
@@ -128,14 +141,16 @@ module _ (told : Settings) (start : State) where
   pub Ends-saved : (status : Status) (before now : Moment) (between : Option (List ℕ)) (old new : Held) (s : State) → IsSaving status
       → TakesItem between now.left now.last_read old new items.End
       → HasAnswered told start before.holds before.gained now.gained before.left (prepend_known old.bytes between) s
-      → HasReplied told start before.holds before.left between before.gained now.gained old s told.max_input
+      → HasReplied told start before.holds before.left between before.gained now.gained old s told.max_input → IsBrief before now
       → Ends start status told before now
-  Ends-saved status before now between old new s ends taken answered replied =
+  Ends-saved status before now between old new s ends taken answered replied brief =
       let known = prepend_known old.bytes between in
       record {
         prefix = IsPrefix-sent told start before.holds before.gained now.gained before.left known s answered;
+        only_taken = AnswersTaken-so_far told start before now between old s taken.1.given replied taken.1.consumed
+            (λ ended. (taken.1.over ended).0);
         prompt = save_prompt status before now ends
-            (AnswersAllButOneRead-ended told start before now between old new s taken replied)
+            (AnswersAllButOneRead-ended told start before now between old new s taken brief replied)
             (AreItems-sent told start before.holds before.gained now.gained before.left known s answered);
       }
 

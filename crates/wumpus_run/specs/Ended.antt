@@ -14,7 +14,7 @@ use Rattle.wumpus_run.specs.declared.statuses.Status.TheVariants.{Damaged, Spent
 use Rattle.wu_engine.specs.declared.faults.BeginFault.{BeginFault}
 use Rattle.wu_engine.specs.declared.faults.BeginFault.TheVariants as opening
 use Rattle.wu_engine.specs.States.{State}
-use Rattle.wumpus_run.specs.Session.{AnswersAll, AnswersPrefix, FromImage, HoldsNothingBack, IsCounted, IsSpent, IsTooLong}
+use Rattle.wumpus_run.specs.Session.{AnswersAll, AnswersPrefix, AnswersTaken, FromImage, HoldsNothingBack, IsCounted, IsSpent, IsTooLong}
 use Rattle.wumpus_run.specs.Session.{LeavesNoStray, Moment, SavesAll, StaysWithin, TakesAll}
 
 -- how a session ends where no item could be read
@@ -49,6 +49,7 @@ status_of_fault faults.NoMemory = NoMemory
 -- what was written, however a session ends
 pub record Ends (start : State) (status : Status) (told : Settings) (before now : Moment) : Type 0 where
   pub prefix : AnswersPrefix start (Some told) before now
+  pub only_taken : AnswersTaken start (Some told) before now
   pub prompt : HoldsNothingBack start status (Some told) before now
 
 -- what it did, however it ended

@@ -1,17 +1,19 @@
 -- What a call on what an item says does, by what engine and store stood for before it.
-use Rattle.std.specs.Prelude.{◌≡◌, ℕ, List, ◌∷◌, Option, Result, Err, IfOk, OnOk}
+use Rattle.std.specs.Prelude.{◌≡◌, ℕ, ◌<◌, List, ◌∷◌, Option, Result, Err, IfOk, IfSome, OnOk}
 use Rattle.wu_base.specs.declared.troubles.Trouble.{Trouble}
 use Rattle.wu_base.specs.declared.troubles.Trouble.TheVariants.{Damaged}
 use Rattle.wu_outside.specs.Content.{Content}
 use Rattle.wu_outside.specs.Crash.{Moments}
 use Rattle.wu_outside.specs.Surviving.{Leaves, LeavesNow}
 use Rattle.wu_outside.specs.declared.ranges.ReadRange.{ReadRange}
+use Rattle.wu_image.specs.declared.roots.Root.{Root}
 use Rattle.wu_script.specs.Said.{Said}
 use Rattle.wu_script.specs.declared.types.Reply.{Reply}
 use Rattle.wu_engine.specs.declared.engines.Engine.{Engine}
 use Rattle.wu_engine.specs.Crashes.{IsImageOf, IsImageOfEither, IsSavedLast}
-use Rattle.wu_engine.specs.Earlier.{LeavesEarlier}
+use Rattle.wu_engine.specs.Earlier.{KeepsCheckpoint, LeavesEarlier}
 use Rattle.wu_engine.specs.Going.{Goes, HasBroken}
+use Rattle.wu_engine.specs.Opening.{HasRoot}
 use Rattle.wu_engine.specs.Permitted.{ReadsSuch}
 use Rattle.wu_engine.specs.Stands.{Stands}
 use Rattle.wu_engine.specs.States.{State}
@@ -60,6 +62,18 @@ KeepsEitherSave engine holds before now =
 -- no blob that was drawn before is written over
 abbrev pub KeepsDrawn : Engine → Option Content → Option Content → Type 0
 KeepsDrawn engine before now = (start : Content) → Goes engine start before → LeavesEarlier engine.parts.next_blob before now
+
+-- the root is the one from before, or its checkpoint is there
+abbrev pub KeepsRootsCheckpoint : Engine → Option Content → Option Content → Type 0
+KeepsRootsCheckpoint engine before now = (start : Content) → Goes engine start before → KeepsCheckpoint engine.parts.next_blob before now
+
+-- the checkpoint that the root names was drawn
+abbrev pub NamesDrawn : ℕ → Option Content → Type 0
+NamesDrawn next holds = IfSome holds (λ content. (root : Root) → HasRoot content root → root.checkpoint < next)
+
+-- so it is still, if it was
+abbrev pub StaysDrawn : Engine → Engine → Option Content → Option Content → Type 0
+StaysDrawn engine later before now = NamesDrawn engine.parts.next_blob before → NamesDrawn later.parts.next_blob now
 
 -- a blob is called damaged only where it was broken then
 abbrev pub BlamesBroken : {T : Type 0} → Engine → Option Content → Result T Trouble → Type 0

@@ -1,7 +1,7 @@
 -- What a session did, by what source, sink and store told before and after it.
 use Rattle.std.specs.Prelude.{◌≡◌, ℕ, ◌+◌, ◌≤◌, ◌<◌, ◌⊎◌, ◌↔◌, List, [], ◌++◌, length, take, Option, Some, None, IfSome, option_and_then}
 use Rattle.std.specs.Io.KnownBytes.{Appends, Consumes}
-use Rattle.wu_base.specs.declared.limits.TheConstants.{SPENT_AT, BLOBS_SPENT_AT}
+use Rattle.wu_base.specs.declared.limits.TheConstants.{SPENT_AT, BLOBS_SPENT_AT, READ_MAX}
 use Rattle.wu_outside.specs.Content.{Content}
 use Rattle.wu_outside.specs.Faults.{Rose}
 use Rattle.wu_outside.specs.declared.ranges.ReadRange.{ReadRange}
@@ -9,7 +9,7 @@ use Rattle.wu_outside.specs.declared.traits.Source as sources
 use Rattle.wu_outside.specs.declared.traits.Sink as sinks
 use Rattle.wu_outside.specs.declared.traits.Store as stores
 use Rattle.wu_outside.specs.Gains.{GainsPrefix}
-use Rattle.wu_script.specs.Holding.{but_last}
+use Rattle.wu_script.specs.Holding.{GivesAtMost, but_last}
 use Rattle.wu_script.specs.Items.{items_of, whole_items_of}
 use Rattle.wu_options.specs.CommandLines.{command_line_of}
 use Rattle.wu_options.specs.declared.command_lines.CommandLine.{CommandLine}
@@ -132,15 +132,22 @@ abbrev pub AnswersPrefix : State → Option Settings → Moment → Moment → T
 AnswersPrefix start settings before now = IfSome settings (λ told. IfSome before.left (λ input.
     (rules : Rules) → AreRules before.holds told rules → GainsPrefix before.gained now.gained (output_of rules start (items_of input))))
 
+-- The sink gained a prefix of the output for the items of the bytes that the source gave, and so nothing where it gave none.
+abbrev pub AnswersTaken : State → Option Settings → Moment → Moment → Type 0
+AnswersTaken start settings before now = IfSome settings (λ told. (given : List ℕ) × Consumes before.left now.left given
+    × ((rules : Rules) → AreRules before.holds told rules → GainsPrefix before.gained now.gained (output_of rules start (items_of given))))
+
 -- The sink gained exactly the output for the whole items of the bytes that the source gave, without the one byte too many.
 abbrev pub AnswersWholeItems : State → Option Settings → Moment → Moment → Type 0
 AnswersWholeItems start settings before now = IfSome settings (λ told. (given : List ℕ) × Consumes before.left now.left given
     × ((rules : Rules) → AreRules before.holds told rules
     → Appends before.gained now.gained (output_of rules start (whole_items_of (take told.max_input given)))))
 
--- The sink gained at least the output for the whole items of the bytes that the source gave, without those of its last read.
+-- The sink gained at least the output for the whole items of the bytes that the source gave, without those of its last read, which are at
+-- most READ_MAX, unless it gave none.
 abbrev pub AnswersAllButOneRead : State → Option Settings → Moment → Moment → Type 0
 AnswersAllButOneRead start settings before now = IfSome settings (λ told. (given : List ℕ) × Consumes before.left now.left given
+    × GivesAtMost READ_MAX before.left now.left before.last_read now.last_read
     × ((rules : Rules) → AreRules before.holds told rules
     → GainsAtLeast before.gained now.gained (output_of rules start (whole_items_of (but_last now.last_read given)))))
 

@@ -15,7 +15,7 @@ ghost use Rattle.wu_engine.specs.Reads.{AreTexts, ReadsForQuery, texts_read};
 ghost use Rattle.wu_engine.specs.Stands.{KeepsOthers, Stands};
 ghost use Rattle.wu_engine.specs.States.{State};
 ghost use Rattle.wumpus_run.specs.Crashes.{left_to_next};
-ghost use Rattle.wumpus_run.specs.Kept.{BlamesBroken, BlamesNone, KeepsDrawn, KeepsEitherSave, KeepsSaves, NamesAll, ReadsFor, RepliesTo, SavesFor};
+ghost use Rattle.wumpus_run.specs.Kept.{BlamesBroken, BlamesNone, KeepsDrawn, KeepsEitherSave, KeepsRootsCheckpoint, KeepsSaves, NamesAll, ReadsFor, RepliesTo, SavesFor, StaysDrawn};
 ghost use Rattle.wumpus_run.specs.Raised.{IsRaised, PutsAtMost, SavesOnce, is_unasked, leaves_alone};
 ghost use Rattle.wumpus_run.specs.Replies.{after, reply_to, said_bytes, verdict_reply};
 
@@ -29,7 +29,9 @@ use wu_tree::Event;
 /// Appends the bytes that answer the item, after which the state is the one that it leaves. The engine is one
 /// that goes on, with addresses left for the item's text, a blob for each unit of work, and a flush. Over an engine and a store that
 /// stand for a state, no blob is called damaged, no stray blob is left, and what is read is read for the item, in turn. Over any other
-/// store a blob is called damaged only where it was broken when the store was opened, and no blob that was drawn before is written over.
+/// store a blob is called damaged only where it was broken when the store was opened, no blob that was drawn before is written over, and
+/// the root is the one from before, or its checkpoint is there; on Ok the root's checkpoint has a number that was drawn, if it had one
+/// before.
 pub fn answer<D: Store>(
     engine: &mut Engine,
     store: &mut D,
@@ -50,6 +52,8 @@ pub fn answer<D: Store>(
     ensures durable { SavesFor (said_by item) engine.old (D.holds store.old) (D.moments store.old) (D.moments store.new) result }
     ensures unasked { is_unasked (said_by item) ≡ true → (engine.new ≡ engine.old) × (store.new ≡ store.old) }
     ensures earlier { KeepsDrawn engine.old (D.holds store.old) (D.holds store.new) }
+    ensures checkpoint { KeepsRootsCheckpoint engine.old (D.holds store.old) (D.holds store.new) }
+    ensures rooted { OnOk result (StaysDrawn engine.old engine.new (D.holds store.old) (D.holds store.new)) }
     ensures leaves { OnOk result (IsRaised engine.old engine.new (said_by item)) }
     ensures goes { StillGoes engine.old engine.new (D.holds store.old) (D.holds store.new) result }
     ensures broken { BlamesBroken engine.old (D.holds store.old) result }
@@ -67,7 +71,9 @@ pub fn answer<D: Store>(
 /// The reply to the item, if it has one, after which the state is the one that it leaves. The engine is one
 /// that goes on, with addresses left for the item's text, a blob for each unit of work, and a flush. Over an engine and a store that
 /// stand for a state, no blob is called damaged, no stray blob is left, and what is read is read for the item, in turn. Over any other
-/// store a blob is called damaged only where it was broken when the store was opened, and no blob that was drawn before is written over.
+/// store a blob is called damaged only where it was broken when the store was opened, no blob that was drawn before is written over, and
+/// the root is the one from before, or its checkpoint is there; on Ok the root's checkpoint has a number that was drawn, if it had one
+/// before.
 pub fn reply_to<D: Store>(
     engine: &mut Engine,
     store: &mut D,
@@ -86,6 +92,8 @@ pub fn reply_to<D: Store>(
     ensures unasked { is_unasked (said_by item) ≡ true → (engine.new ≡ engine.old) × (store.new ≡ store.old) }
     ensures untouched { IfOk result (λ reply. leaves_alone (said_by item) reply engine.old.parts ≡ true → store.new ≡ store.old) }
     ensures earlier { KeepsDrawn engine.old (D.holds store.old) (D.holds store.new) }
+    ensures checkpoint { KeepsRootsCheckpoint engine.old (D.holds store.old) (D.holds store.new) }
+    ensures rooted { OnOk result (StaysDrawn engine.old engine.new (D.holds store.old) (D.holds store.new)) }
     ensures leaves { OnOk result (IsRaised engine.old engine.new (said_by item)) }
     ensures goes { StillGoes engine.old engine.new (D.holds store.old) (D.holds store.new) result }
     ensures broken { BlamesBroken engine.old (D.holds store.old) result }
@@ -233,7 +241,7 @@ fn reply_to_stat(engine: &Engine) -> Result<Option<Reply>, Trouble>
     Ok(Some(Reply::Stat(stat)))
 }
 
-/// The reply to a save.
+/// The reply to a save. On Ok the root's checkpoint has a number that was drawn, if it had one before.
 fn reply_to_save<D: Store>(engine: &mut Engine, store: &mut D) -> Result<Option<Reply>, Trouble>
     requires goes_on { engine.old.ended ≡ None }
     requires blobs { engine.old.parts.next_blob + 2 < 2 ^ 63 }
@@ -247,6 +255,8 @@ fn reply_to_save<D: Store>(engine: &mut Engine, store: &mut D) -> Result<Option<
     ensures order { OnOk result (SavesOnce engine.old engine.new
         (D.holds store.old, D.moments store.old) (D.holds store.new, D.moments store.new)) }
     ensures earlier { KeepsDrawn engine.old (D.holds store.old) (D.holds store.new) }
+    ensures checkpoint { KeepsRootsCheckpoint engine.old (D.holds store.old) (D.holds store.new) }
+    ensures rooted { OnOk result (StaysDrawn engine.old engine.new (D.holds store.old) (D.holds store.new)) }
     ensures space { engine.new.space ≡ engine.old.space }
     ensures leaves { OnOk result (IsRaised engine.old engine.new (Operates Save)) }
     ensures goes { StillGoes engine.old engine.new (D.holds store.old) (D.holds store.new) result }

@@ -15,15 +15,15 @@ ghost use Rattle.wu_options.specs.CommandLines.{command_line_of, texts_of};
 ghost use Rattle.wu_engine.specs.Crashes.{IsImageOf};
 ghost use Rattle.wu_engine.specs.Going.{Goes, HasBroken};
 ghost use Rattle.wu_engine.specs.Stands.{Stands};
-ghost use Rattle.wu_engine.specs.Earlier.{LeavesEarlier};
+ghost use Rattle.wu_engine.specs.Earlier.{KeepsCheckpoint, LeavesEarlier};
 ghost use Rattle.wu_engine.specs.Opening.{HasRoot, HoldsImage, IsBeginCause, IsOpen, IsSpentWhere, ReadsAtOpening};
 ghost use Rattle.wu_engine.specs.States.{State, rested_state, saved_state};
 ghost use Rattle.wu_engine.specs.declared.faults.BeginFault.TheVariants.{Damaged as SavedIsDamaged};
 ghost use Rattle.wumpus_run.specs.Demo.{IfDemo, IsShown};
-ghost use Rattle.wumpus_run.specs.Kept.{KeepsDrawn, KeepsEitherSave};
+ghost use Rattle.wumpus_run.specs.Kept.{KeepsDrawn, KeepsEitherSave, KeepsRootsCheckpoint};
 ghost use Rattle.wumpus_run.specs.Permitted.{ReadsPermitted};
 ghost use Rattle.wumpus_run.specs.Ended.{IsSession, status_of, status_of_fault, status_of_opening, status_of_saving, status_of_trouble};
-ghost use Rattle.wumpus_run.specs.Session.{AnswersAll, AnswersPrefix, Completes, FromImage, HasRoom, HoldsNothingBack, IsCounted, IsSpent, IsTooLong, IsUsage, LeavesNoStray, SavesAll, StaysShut, StaysWithin, TakesAll, moment, settings_of};
+ghost use Rattle.wumpus_run.specs.Session.{AnswersAll, AnswersPrefix, AnswersTaken, Completes, FromImage, HasRoom, HoldsNothingBack, IsCounted, IsSpent, IsTooLong, IsUsage, LeavesNoStray, SavesAll, StaysShut, StaysWithin, TakesAll, moment, settings_of};
 ghost use Rattle.wumpus_run.specs.Raised.{SavesOnce};
 ghost use Rattle.wumpus_run.specs.Started.{IsStarted, settings_by};
 ghost use Rattle.wumpus_run.specs.Strays.{AddsNoStray};
@@ -53,7 +53,7 @@ pub fn run<I: Source, O: Sink, D: Store>(
     store: &mut D,
 ) -> Status
     requires { I.ended source.old ≡ false }
-    // Usage comes exactly where the arguments ask for nothing, and then nothing is touched.
+    // Usage comes exactly where the arguments ask for nothing, unless there is no memory to read them; then nothing is touched.
     ensures usage { IsUsage result (command_line_of (texts_of words.now)) }
     ensures untouched { (settings_of (texts_of words.now)) ≡ None → (source.new ≡ source.old) × (store.new ≡ store.old) }
     ensures unwritten { (command_line_of (texts_of words.now)) ≡ None → sink.new ≡ sink.old }
@@ -78,8 +78,9 @@ pub fn run<I: Source, O: Sink, D: Store>(
 
     // Of the store this was read, in turn: at opening the root's checkpoint and the fronts of its parts, each once, and then item by item
     // for a query blocks of its terms where her files are and then the texts of which a line is shown, from the first one on, each once,
-    // and for background work blocks of its terms; for any of them it may be fewer, or none. A session that ended at its opening,
-    // before it took or wrote a byte, read nothing but some of what an opening reads.
+    // and for background work blocks of its terms; for any of them it may be fewer, or none. That is so for the items that were answered,
+    // whose replies the sink gained, and for the next one, where it was under way; for a later one nothing was read. A session that ended
+    // at its opening, before it took or wrote a byte, read nothing but some of what an opening reads.
     ensures permitted { FromImage (D.holds store.old) (λ s. ReadsPermitted s result (settings_of (texts_of words.now))
         (moment I.Source O.Sink D.Store source.old sink.old store.old)
         (moment I.Source O.Sink D.Store source.new sink.new store.new)
@@ -99,6 +100,8 @@ pub fn run<I: Source, O: Sink, D: Store>(
     // were, and some are gone only where the root names a checkpoint with a number from that next one on.
     ensures earlier { (content : Content) → D.holds store.old ≡ Some content → (root : Root) → HasRoot content root
         → LeavesEarlier root.next_blob (D.holds store.old) (D.holds store.new) }
+    // It has the root that it had, also none, or one whose checkpoint is there, with as many bytes as the root says.
+    ensures checkpoint { KeepsCheckpoint 0 (D.holds store.old) (D.holds store.new) }
     // Where the store leaves no room it holds what it held.
     ensures unopened { (next : ℕ) → result ≡ Status.Spent next → D.holds store.new ≡ D.holds store.old }
     // Where what it holds can't be opened, it holds the same afterwards, and no byte was taken or written.
@@ -122,18 +125,22 @@ pub fn run<I: Source, O: Sink, D: Store>(
     ensures spent { IsSpent result (settings_of (texts_of words.now)) (D.holds store.old) }
 
     // Whatever the status, no byte after the one past the limit was taken, and the sink gained a
-    // prefix of the output.
+    // prefix of the output, and a prefix of that for the bytes that were taken: where none was it gained nothing.
     ensures taken { StaysWithin (settings_of (texts_of words.now))
         (moment I.Source O.Sink D.Store source.old sink.old store.old)
         (moment I.Source O.Sink D.Store source.new sink.new store.new) }
     ensures prefix { FromImage (D.holds store.old) (λ s. AnswersPrefix s (settings_of (texts_of words.now))
         (moment I.Source O.Sink D.Store source.old sink.old store.old)
         (moment I.Source O.Sink D.Store source.new sink.new store.new)) }
+    ensures only_taken { FromImage (D.holds store.old) (λ s. AnswersTaken s (settings_of (texts_of words.now))
+        (moment I.Source O.Sink D.Store source.old sink.old store.old)
+        (moment I.Source O.Sink D.Store source.new sink.new store.new)) }
 
     // No reply was held back: where the source failed or gave too much, the sink gained exactly the
     // replies to the whole items that the source gave; where sink or store failed or there was no memory,
-    // at least those to the whole items before the bytes of the source's last read. Where the store
-    // failed, no reply was cut. Over a store that is damaged, which holds no image, nothing is said of it.
+    // at least those to the whole items before the bytes of the source's last read, which are at most
+    // READ_MAX where it gave any. Where the store failed, no reply was cut. Over a store that is damaged,
+    // which holds no image, nothing is said of it.
     ensures prompt { FromImage (D.holds store.old) (λ s. HoldsNothingBack s result (settings_of (texts_of words.now))
         (moment I.Source O.Sink D.Store source.old sink.old store.old)
         (moment I.Source O.Sink D.Store source.new sink.new store.new)) }
@@ -175,6 +182,7 @@ fn answer_script<I: Source, O: Sink, D: Store>(
         (D.moments store.old) (D.moments store.new)) }
     ensures earlier { (content : Content) → D.holds store.old ≡ Some content → (root : Root) → HasRoot content root
         → LeavesEarlier root.next_blob (D.holds store.old) (D.holds store.new) }
+    ensures checkpoint { KeepsCheckpoint 0 (D.holds store.old) (D.holds store.new) }
     ensures unopened { (next : ℕ) → result ≡ Status.Spent next → D.holds store.new ≡ D.holds store.old }
     ensures shut { StaysShut (Some settings)
         (moment I.Source O.Sink D.Store source.old sink.old store.old)
@@ -215,6 +223,7 @@ fn answer_items<I: Source, O: Sink, D: Store>(
         moments (D.moments store.new)) }
     ensures earlier { (content : Content) → D.holds store.old ≡ Some content → (root : Root) → HasRoot content root
         → LeavesEarlier root.next_blob (D.holds store.old) (D.holds store.new) }
+    ensures checkpoint { KeepsCheckpoint 0 (D.holds store.old) (D.holds store.new) }
     ensures broken { (content : Content) → D.holds store.old ≡ Some content → (blob : ℕ) → result ≡ Status.Damaged blob
         → HasBroken content blob }
     ensures opened { (next : ℕ) → result ≡ Status.Spent next → ⊥ }
@@ -293,6 +302,7 @@ fn save<D: Store>(engine: &mut Engine, store: &mut D) -> Status
         (D.holds store.old, D.moments store.old) (D.holds store.new, D.moments store.new) }
     ensures reads { D.reads store.new ≡ D.reads store.old }
     ensures earlier { KeepsDrawn engine.old (D.holds store.old) (D.holds store.new) }
+    ensures checkpoint { KeepsRootsCheckpoint engine.old (D.holds store.old) (D.holds store.new) }
     ensures ends { (result ≡ Status.Done) ⊎ ((result ≡ Status.NoMemory) ⊎ (result ≡ Status.StoreFault)) }
     ensures told { (trouble : Trouble) → engine.new.ended ≡ Some trouble → result ≡ status_of_trouble trouble }
     ensures met { result ≡ Status.StoreFault → engine.new.ended ≡ Some Trouble.StoreFault }

@@ -1,5 +1,7 @@
 use Rattle.std.proofs.Common.{◌≡◌, [], ◌∷◌, ap, ◌∙◌, refl, sym, subst, ⊎_elim}
+use Rattle.std.proofs.lemmas.Result.{on_ok_weaker}
 use Rattle.wu_outside.proofs.Survival.{kept}
+use Rattle.wu_parts.specs.Contents.{Contents}
 use Rattle.wu_script.specs.declared.types.Item.{Item}
 use Rattle.wu_script.specs.declared.types.Item.TheVariants as items
 use Rattle.wu_script.specs.Said.{Happens, said_by}
@@ -7,9 +9,12 @@ use Rattle.wu_tree.specs.declared.events.Event.TheVariants as events
 use Rattle.wu_engine.specs.Crashes.{IsImageOf}
 use Rattle.wu_engine.specs.Earlier.{LeavesEarlier}
 use Rattle.wu_engine.proofs.EarlierBlobs.{earlier_others, earlier_same}
+use Rattle.wu_engine.proofs.OpenedStates.{on_any_ok}
 use Rattle.wumpus_run.specs.Crashes.{left_to_next, saved_for}
+use Rattle.wumpus_run.specs.Raised.{IsRaised}
 use Rattle.wumpus_run.proofs.AloneStores.{alone_after_event, alone_anyway, alone_never}
 use Rattle.wumpus_run.proofs.CrashesUnderWay.{keeps_saves, saves_as_before, saves_none, saves_one}
+use Rattle.wumpus_run.proofs.NamedCheckpoints.{checkpoint_others, checkpoint_same, drawn_again, drawn_others}
 use Rattle.wumpus_run.proofs.SessionReads.{reads_nothing}
 use Rattle.wumpus_run.proofs.answering.reply_to.Goals as goal
 
@@ -111,6 +116,85 @@ returns-in-Refused-clause-earlier g c = λ start goes. earlier_same c.args.engin
 
 pub returns-in-Blank-clause-earlier : goal.returns-in-Blank-clause-earlier
 returns-in-Blank-clause-earlier g c = λ start goes. earlier_same c.args.engine.now.parts.next_blob (g.D.Store.holds c.args.store.now)
+
+pub returns-in-Command-Update-clause-checkpoint : goal.returns-in-Command-Update-clause-checkpoint
+returns-in-Command-Update-clause-checkpoint g c = λ start goes.
+    checkpoint_others c.args.engine.now.parts.next_blob _ _ (g.D.Store.holds c.args.store.now) (g.D.Store.holds c.reply_to_event.new.store)
+    c.reply_to_event.ensures.elsewhere
+
+pub returns-in-Command-Update-clause-rooted : goal.returns-in-Command-Update-clause-rooted
+returns-in-Command-Update-clause-rooted g c =
+    on_ok_weaker c.reply_to_event.result
+    (λ (raised : IsRaised c.args.engine.now c.reply_to_event.new.engine _).
+    drawn_others c.args.engine.now.parts.next_blob c.reply_to_event.new.engine.parts.next_blob _ _ (g.D.Store.holds c.args.store.now)
+    (g.D.Store.holds c.reply_to_event.new.store) c.reply_to_event.ensures.elsewhere raised.onward)
+    c.reply_to_event.ensures.leaves
+
+pub returns-in-Text-clause-checkpoint : goal.returns-in-Text-clause-checkpoint
+returns-in-Text-clause-checkpoint g c = λ start goes.
+    checkpoint_others c.args.engine.now.parts.next_blob _ _ (g.D.Store.holds c.args.store.now)
+    (g.D.Store.holds c.reply_to_event-in-Text.new.store) c.reply_to_event-in-Text.ensures.elsewhere
+
+pub returns-in-Text-clause-rooted : goal.returns-in-Text-clause-rooted
+returns-in-Text-clause-rooted g c =
+    let later = c.reply_to_event-in-Text.new.engine in
+    on_ok_weaker c.reply_to_event-in-Text.result
+    (λ (raised : IsRaised c.args.engine.now later _).
+    drawn_others c.args.engine.now.parts.next_blob later.parts.next_blob _ _ (g.D.Store.holds c.args.store.now)
+    (g.D.Store.holds c.reply_to_event-in-Text.new.store) c.reply_to_event-in-Text.ensures.elsewhere raised.onward)
+    c.reply_to_event-in-Text.ensures.leaves
+
+pub returns-in-Command-Flush-clause-checkpoint : goal.returns-in-Command-Flush-clause-checkpoint
+returns-in-Command-Flush-clause-checkpoint g c = λ start goes.
+    checkpoint_others c.args.engine.now.parts.next_blob _ _ (g.D.Store.holds c.args.store.now) (g.D.Store.holds c.reply_to_flush.new.store)
+    c.reply_to_flush.ensures.elsewhere
+
+pub returns-in-Command-Flush-clause-rooted : goal.returns-in-Command-Flush-clause-rooted
+returns-in-Command-Flush-clause-rooted g c =
+    on_ok_weaker c.reply_to_flush.result
+    (λ (raised : IsRaised c.args.engine.now c.reply_to_flush.new.engine _).
+    drawn_others c.args.engine.now.parts.next_blob c.reply_to_flush.new.engine.parts.next_blob _ _ (g.D.Store.holds c.args.store.now)
+    (g.D.Store.holds c.reply_to_flush.new.store) c.reply_to_flush.ensures.elsewhere raised.onward)
+    c.reply_to_flush.ensures.leaves
+
+pub returns-in-Command-Work-clause-checkpoint : goal.returns-in-Command-Work-clause-checkpoint
+returns-in-Command-Work-clause-checkpoint g c = λ start goes.
+    checkpoint_others c.args.engine.now.parts.next_blob _ _ (g.D.Store.holds c.args.store.now) (g.D.Store.holds c.reply_to_work.new.store)
+    c.reply_to_work.ensures.elsewhere
+
+pub returns-in-Command-Work-clause-rooted : goal.returns-in-Command-Work-clause-rooted
+returns-in-Command-Work-clause-rooted g c =
+    on_ok_weaker c.reply_to_work.result
+    (λ (raised : IsRaised c.args.engine.now c.reply_to_work.new.engine _).
+    drawn_others c.args.engine.now.parts.next_blob c.reply_to_work.new.engine.parts.next_blob _ _ (g.D.Store.holds c.args.store.now)
+    (g.D.Store.holds c.reply_to_work.new.store) c.reply_to_work.ensures.elsewhere raised.onward)
+    c.reply_to_work.ensures.leaves
+
+pub returns-in-Command-Ask-clause-checkpoint : goal.returns-in-Command-Ask-clause-checkpoint
+returns-in-Command-Ask-clause-checkpoint g c = λ start goes.
+    checkpoint_same c.args.engine.now.parts.next_blob (g.D.Store.holds c.args.store.now) (g.D.Store.holds c.reply_to_query.new.store)
+    c.reply_to_query.ensures.holds
+
+pub returns-in-Command-Ask-clause-rooted : goal.returns-in-Command-Ask-clause-rooted
+returns-in-Command-Ask-clause-rooted g c =
+    on_any_ok _ c.reply_to_query.result
+    (drawn_again (g.D.Store.holds c.args.store.now) (g.D.Store.holds c.reply_to_query.new.store) c.reply_to_query.ensures.holds
+    (ap (λ (contents : Contents). contents.next_blob) c.reply_to_query.ensures.parts))
+
+pub returns-in-Command-Stat-clause-checkpoint : goal.returns-in-Command-Stat-clause-checkpoint
+returns-in-Command-Stat-clause-checkpoint g c = λ start goes.
+    checkpoint_same c.args.engine.now.parts.next_blob (g.D.Store.holds c.args.store.now) (g.D.Store.holds c.args.store.now) refl
+
+pub returns-in-Refused-clause-checkpoint : goal.returns-in-Refused-clause-checkpoint
+returns-in-Refused-clause-checkpoint g c = λ start goes.
+    checkpoint_same c.args.engine.now.parts.next_blob (g.D.Store.holds c.args.store.now) (g.D.Store.holds c.args.store.now) refl
+
+pub returns-in-Blank-clause-checkpoint : goal.returns-in-Blank-clause-checkpoint
+returns-in-Blank-clause-checkpoint g c = λ start goes.
+    checkpoint_same c.args.engine.now.parts.next_blob (g.D.Store.holds c.args.store.now) (g.D.Store.holds c.args.store.now) refl
+
+pub returns-in-Command-Stat-clause-rooted : goal.returns-in-Command-Stat-clause-rooted
+returns-in-Command-Stat-clause-rooted g c = on_any_ok _ c.reply_to_stat.result (λ drawn. drawn)
 
 pub returns-in-Command-Update-clause-untouched : goal.returns-in-Command-Update-clause-untouched
 returns-in-Command-Update-clause-untouched g c =

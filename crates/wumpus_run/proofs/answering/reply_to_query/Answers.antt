@@ -15,7 +15,7 @@ returns-in_err-answered-clause-damaged g c = λ s stands blob e.
     ⊎_elim (λ had. cc (had, c.requires.goes_on))
     (λ found. undamaged engine holds s blob stands
     (damaged_in holds blob engine.files.entries engine.tree engine.space.ranges c.args.query.now.uid
-    (question_of c.args.query.now.ask) engine.parts found))
+    (question_of c.args.query.now.ask) engine.parts found.1))
     (c.in_err-answered.ensures.damaged blob
     (ap Err (same_trouble c.from_residual.result trouble (Damaged blob) c.from_residual.ensures.1 e)))
 

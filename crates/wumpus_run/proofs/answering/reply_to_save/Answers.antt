@@ -1,7 +1,11 @@
 use Rattle.wumpus_run.proofs.NamedAtEnd.{none_after_save}
+use Rattle.wumpus_run.proofs.NamedCheckpoints.{drawn_saved}
 use Rattle.wumpus_run.proofs.answering.reply_to_save.Goals as goal
 
 pub returns-clause-named : goal.returns-clause-named
 returns-clause-named g c = λ s stands.
     none_after_save c.args.engine.now s (g.D.Store.holds c.args.store.now) (g.D.Store.holds c.save.new.store) stands
     (c.in_ok-save.ensures.named s stands) c.in_ok-save.ensures.removed
+
+pub returns-clause-rooted : goal.returns-clause-rooted
+returns-clause-rooted g c = λ drawn. drawn_saved c.args.engine.now c.save.new.self _ _ c.in_ok-save.ensures.order

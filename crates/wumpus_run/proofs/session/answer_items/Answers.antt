@@ -2,8 +2,7 @@ use Rattle.std.proofs.Common.{◌+◌, Err, ap, refl, subst, arith}
 use Rattle.std.specs.Io.KnownBytes.{prepend_known}
 use Rattle.wu_script.specs.Items.{IsNext, TakesItem}
 use Rattle.wu_script.specs.Said.{said_by, tokens_given}
-use Rattle.wu_engine.specs.Stands.{Stands}
-use Rattle.wumpus_run.specs.Replies.{after, said_bytes}
+use Rattle.wumpus_run.specs.Replies.{said_bytes}
 use Rattle.wumpus_run.specs.Session.{moment}
 use Rattle.wumpus_run.specs.Started.{settings_by}
 use Rattle.wumpus_run.proofs.SessionLemmas.{appended, takes_one}
@@ -16,7 +15,9 @@ use Rattle.wumpus_run.proofs.EarlierLemmas.{HasLeft-none, HasLeft-turn, left_so_
 use Rattle.wumpus_run.proofs.EndStatuses.{answering, damaged_so, met_answering, reading, saving, told_answering, untold, writing}
 use Rattle.wumpus_run.proofs.StartedStates.{IsUnderWay-none, IsUnderWay-turn, IsSession-saved, IsSession-stopped, IsSession-unanswered}
 use Rattle.wumpus_run.proofs.StartedStates.{IsSession-unwritten}
-use Rattle.wumpus_run.proofs.SessionReads.{HasRead-none, HasRead-turn, permitted_so_far, permitted_then}
+use Rattle.wumpus_run.proofs.NamedCheckpoints.{checkpoint_same, checkpoint_then, drawn_at_first}
+use Rattle.wumpus_run.proofs.ReadsAtEnd.{permitted_saved, permitted_stopped, permitted_unanswered, permitted_unwritten}
+use Rattle.wumpus_run.proofs.SessionReads.{HasRead-none, HasRead-turn}
 use Rattle.wumpus_run.proofs.session.answer_items.Goals as goal
 
 pub returns-in-Err-clause-session : goal.returns-in-Err-clause-session
@@ -24,7 +25,7 @@ returns-in-Err-clause-session g c =
     rw c.status_of.ensures
     (IsSession-stopped _ _ _ _ _ c.items.invariant.under_way c.in-Err.end
     (g.I.Source.left c.next.new.source) (g.I.Source.last_read c.next.new.source)
-    (g.I.Source.faults c.next.new.source) c.in-Err.ensures.early c.in-Err.ensures.cause)
+    (g.I.Source.faults c.next.new.source) c.in-Err.ensures.early c.in-Err.ensures.cause c.in-Err.ensures.brief)
 
 pub save-requires-clause-blobs : goal.save-requires-clause-blobs
 save-requires-clause-blobs g c =
@@ -54,7 +55,7 @@ returns-then-is_end-clause-session g c =
     (subst (λ item. TakesItem left (g.I.Source.left c.next.new.source) (g.I.Source.last_read c.next.new.source) c.items.reader
     c.next.new.self item) c.if-is_end.ensures c.in-Ok.ensures.taken)
     (subst (IsNext known rest) c.if-is_end.ensures (c.in-Ok.ensures.first i.at_end)) (c.in-Ok.ensures.at_end i.at_end)
-    c.in-Ok.ensures.cause c.save.ensures.store_fault c.save.ensures.image c.save.ensures.named
+    c.in-Ok.ensures.brief c.in-Ok.ensures.cause c.save.ensures.store_fault c.save.ensures.image c.save.ensures.named
 
 pub returns-in-Err-answer-clause-session : goal.returns-in-Err-answer-clause-session
 returns-in-Err-answer-clause-session g c =
@@ -62,7 +63,7 @@ returns-in-Err-answer-clause-session g c =
     (IsSession-unanswered _ _ _ _ _ c.items.invariant.under_way c.in-Err-answer.trouble c.next.new.self c.in-Ok.item
     (g.I.Source.left c.next.new.source) (g.I.Source.last_read c.next.new.source)
     (g.I.Source.faults c.next.new.source) (g.D.Store.holds c.answer.new.store) (g.D.Store.faults c.answer.new.store)
-    c.if-is_end.ensures c.in-Ok.ensures.taken c.in-Ok.ensures.cause c.in-Err-answer.ensures.cause
+    c.if-is_end.ensures c.in-Ok.ensures.taken c.in-Ok.ensures.brief c.in-Ok.ensures.cause c.in-Err-answer.ensures.cause
     (λ s stands blob e. c.in-Err-answer.ensures.damaged s stands blob (ap Err e)))
 
 pub save-requires-clause-goes_on : goal.save-requires-clause-goes_on
@@ -112,7 +113,7 @@ items-preserved g c =
     record {
       under_way = IsUnderWay-turn _ _ _ now _ c.answer.new.engine _ c.next.new.self item
           c.answer.new.out.items c.as_slice.result.now i c.if-is_end.ensures c.in-Ok.ensures.taken
-          (c.in-Ok.ensures.first i.at_end) (c.in-Ok.ensures.at_end i.at_end) c.in-Ok.ensures.cause
+          (c.in-Ok.ensures.first i.at_end) (c.in-Ok.ensures.at_end i.at_end) c.in-Ok.ensures.brief c.in-Ok.ensures.cause
           c.in-Ok-write_reply.ensures.cause.calm (done.cause.calm (λ e. (cc)))
           c.in-Ok.ensures.sound done.leaves (λ s stands.
           let answers = c.in-Ok-answer.ensures.answer s stands in (
@@ -120,11 +121,9 @@ items-preserved g c =
             answers.1,
             done.named s stands,
           )) c.as_slice.ensures.value c.in-Ok-write_reply.ensures.ok;
-      permitted = λ reads opening s image. HasRead-turn _ s (c.items.invariant.permitted reads opening s image) item c.if-is_end.ensures
-          (c.in-Ok.ensures.first i.at_end)
-          (λ t stands. subst (λ n. Stands c.answer.new.engine now.holds (after n t (said_by item))) {y = c.args.engine.now.parts.flush_at}
-          i.flush_at (done.answer t stands).1)
-          done.permitted;
+      permitted = λ reads opening s image. HasRead-turn _ s (c.items.invariant.permitted reads opening s image) item
+          c.answer.new.out.items c.clear.new.self.items c.as_slice.result.now c.if-is_end.ensures (c.in-Ok.ensures.first i.at_end)
+          i.flush_at c.clear.ensures.items done.answer done.permitted c.as_slice.ensures.value c.in-Ok-write_reply.ensures.ok;
       crash = λ moments left s image. HasKept-turn _ s _ _ now _ _ _ _ _ _ _ (c.items.invariant.crash moments left s image) item
           c.answer.new.out.items c.as_slice.result.now c.if-is_end.ensures (c.in-Ok.ensures.first i.at_end) i.flush_at
           (IsAnswered-appended c.items.engine c.answer.new.engine (g.D.Store.holds c.items.store) now.holds item c.answer.new.out.items
@@ -134,6 +133,11 @@ items-preserved g c =
       earlier = HasLeft-turn (g.D.Store.holds c.args.store.now) (g.D.Store.holds c.items.store) now.holds
           c.items.engine.parts.next_blob c.answer.new.engine.parts.next_blob
           c.items.invariant.earlier (λ content e. done.earlier content (c.items.invariant.goes content e)) done.leaves.onward;
+      checkpoint = checkpoint_then c.items.engine.parts.next_blob (g.D.Store.holds c.args.store.now) (g.D.Store.holds c.items.store)
+          now.holds c.items.invariant.checkpoint c.items.invariant.rooted
+          (λ content e. done.earlier content (c.items.invariant.goes content e))
+          (λ content e. done.checkpoint content (c.items.invariant.goes content e));
+      rooted = done.rooted c.items.invariant.rooted;
       follows = c.in-Ok.ensures.follows;
     }
 
@@ -145,7 +149,7 @@ returns-in-Err-write_reply-clause-session g c =
     rw c.status_of_fault.ensures
     (IsSession-unwritten _ _ _ _ _ i c.in-Err-write_reply.fault now c.answer.new.engine
     c.next.new.self item c.answer.new.out.items c.as_slice.result.now c.if-is_end.ensures c.in-Ok.ensures.taken
-    (c.in-Ok.ensures.first i.at_end) c.in-Ok.ensures.cause c.in-Err-write_reply.ensures.cause
+    (c.in-Ok.ensures.first i.at_end) c.in-Ok.ensures.brief c.in-Ok.ensures.cause c.in-Err-write_reply.ensures.cause
     (c.in-Ok-answer.ensures.cause.calm (λ e. (cc)))
     (λ s stands.
     let answers = c.in-Ok-answer.ensures.answer s stands in (
@@ -173,29 +177,44 @@ items-init g c =
           (i.stands s image) left (i.durable s image));
       goes = i.goes;
       earlier = HasLeft-none before.holds before.holds engine.parts.next_blob refl i.drawn;
+      checkpoint = checkpoint_same 0 before.holds before.holds refl;
+      rooted = drawn_at_first before.holds engine.parts.next_blob i.drawn;
       follows = rw i.unread (record { going = λ h. c.requires.goes_on; recent = omega arith });
     }
 
 pub returns-in-Err-clause-permitted : goal.returns-in-Err-clause-permitted
-returns-in-Err-clause-permitted g c = λ reads opening s image.
-    permitted_so_far _ s (c.items.invariant.permitted reads opening s image) _ _
+returns-in-Err-clause-permitted g c =
+    let now = moment g.I.Source g.O.Sink g.D.Store c.next.new.source c.items.sink c.items.store in
+    rw c.status_of.ensures (λ reads opening s image.
+    permitted_stopped _ s _ _ _ _ _ _ (c.items.invariant.permitted reads opening s image) c.in-Err.end now refl)
 
 pub returns-then-is_end-clause-permitted : goal.returns-then-is_end-clause-permitted
 returns-then-is_end-clause-permitted g c =
+    let now = moment g.I.Source g.O.Sink g.D.Store c.next.new.source c.items.sink c.save.new.store in
+    let known = prepend_known c.items.reader.bytes (g.I.Source.left c.items.source) in
+    let rest = prepend_known c.next.new.self.bytes (g.I.Source.left c.next.new.source) in
     rw c.save.ensures.reads (λ reads opening s image.
-    permitted_so_far _ s (c.items.invariant.permitted reads opening s image) _ _)
+    permitted_saved _ s _ _ _ _ _ _ (c.items.invariant.permitted reads opening s image) c.save.result now rest c.save.ensures.ends refl
+    (subst (IsNext known rest) c.if-is_end.ensures (c.in-Ok.ensures.first c.items.invariant.under_way.at_end)))
 
 pub returns-in-Err-answer-clause-permitted : goal.returns-in-Err-answer-clause-permitted
-returns-in-Err-answer-clause-permitted g c = λ reads opening s image.
-    permitted_then _ s (c.items.invariant.permitted reads opening s image)
-    (prepend_known c.next.new.self.bytes (g.I.Source.left c.next.new.source)) c.in-Ok.item c.if-is_end.ensures
-    (c.in-Ok.ensures.first c.items.invariant.under_way.at_end) c.in-Err-answer.ensures.permitted _ _
+returns-in-Err-answer-clause-permitted g c =
+    let now = moment g.I.Source g.O.Sink g.D.Store c.next.new.source c.items.sink c.answer.new.store in
+    rw c.status_of_trouble.ensures (λ reads opening s image.
+    permitted_unanswered _ s _ _ _ _ _ _ (c.items.invariant.permitted reads opening s image) c.in-Ok.item
+    (prepend_known c.next.new.self.bytes (g.I.Source.left c.next.new.source)) c.if-is_end.ensures
+    (c.in-Ok.ensures.first c.items.invariant.under_way.at_end) now _ c.in-Err-answer.ensures.permitted c.in-Err-answer.trouble refl)
 
 pub returns-in-Err-write_reply-clause-permitted : goal.returns-in-Err-write_reply-clause-permitted
-returns-in-Err-write_reply-clause-permitted g c = λ reads opening s image.
-    permitted_then _ s (c.items.invariant.permitted reads opening s image)
-    (prepend_known c.next.new.self.bytes (g.I.Source.left c.next.new.source)) c.in-Ok.item c.if-is_end.ensures
-    (c.in-Ok.ensures.first c.items.invariant.under_way.at_end) c.in-Ok-answer.ensures.permitted _ _
+returns-in-Err-write_reply-clause-permitted g c =
+    let now = moment g.I.Source g.O.Sink g.D.Store c.next.new.source c.write_reply.new.sink c.answer.new.store in
+    let done = c.in-Ok-answer.ensures in
+    rw c.status_of_fault.ensures (λ reads opening s image.
+    permitted_unwritten _ s _ _ _ _ _ _ (c.items.invariant.permitted reads opening s image) c.in-Ok.item
+    (prepend_known c.next.new.self.bytes (g.I.Source.left c.next.new.source)) c.if-is_end.ensures
+    (c.in-Ok.ensures.first c.items.invariant.under_way.at_end) now _ done.permitted c.in-Err-write_reply.fault c.answer.new.engine
+    c.answer.new.out.items c.clear.new.self.items c.as_slice.result.now c.clear.ensures.items done.answer c.as_slice.ensures.value
+    c.in-Err-write_reply.ensures.err)
 
 pub returns-in-Err-clause-broken : goal.returns-in-Err-clause-broken
 returns-in-Err-clause-broken g c =
@@ -292,6 +311,30 @@ returns-in-Err-write_reply-clause-earlier g c =
     left_then (g.D.Store.holds c.args.store.now) (g.D.Store.holds c.items.store) (g.D.Store.holds c.answer.new.store)
     c.items.engine.parts.next_blob c.items.invariant.earlier
     (λ content told. c.answer.ensures.earlier content (c.items.invariant.goes content told))
+
+pub returns-in-Err-clause-checkpoint : goal.returns-in-Err-clause-checkpoint
+returns-in-Err-clause-checkpoint g c = c.items.invariant.checkpoint
+
+pub returns-then-is_end-clause-checkpoint : goal.returns-then-is_end-clause-checkpoint
+returns-then-is_end-clause-checkpoint g c =
+    checkpoint_then c.items.engine.parts.next_blob (g.D.Store.holds c.args.store.now) (g.D.Store.holds c.items.store)
+    (g.D.Store.holds c.save.new.store) c.items.invariant.checkpoint c.items.invariant.rooted
+    (λ content told. c.save.ensures.earlier content (c.items.invariant.goes content told))
+    (λ content told. c.save.ensures.checkpoint content (c.items.invariant.goes content told))
+
+pub returns-in-Err-answer-clause-checkpoint : goal.returns-in-Err-answer-clause-checkpoint
+returns-in-Err-answer-clause-checkpoint g c =
+    checkpoint_then c.items.engine.parts.next_blob (g.D.Store.holds c.args.store.now) (g.D.Store.holds c.items.store)
+    (g.D.Store.holds c.answer.new.store) c.items.invariant.checkpoint c.items.invariant.rooted
+    (λ content told. c.answer.ensures.earlier content (c.items.invariant.goes content told))
+    (λ content told. c.answer.ensures.checkpoint content (c.items.invariant.goes content told))
+
+pub returns-in-Err-write_reply-clause-checkpoint : goal.returns-in-Err-write_reply-clause-checkpoint
+returns-in-Err-write_reply-clause-checkpoint g c =
+    checkpoint_then c.items.engine.parts.next_blob (g.D.Store.holds c.args.store.now) (g.D.Store.holds c.items.store)
+    (g.D.Store.holds c.answer.new.store) c.items.invariant.checkpoint c.items.invariant.rooted
+    (λ content told. c.answer.ensures.earlier content (c.items.invariant.goes content told))
+    (λ content told. c.answer.ensures.checkpoint content (c.items.invariant.goes content told))
 
 pub returns-in-Err-clause-told : goal.returns-in-Err-clause-told
 returns-in-Err-clause-told g c = λ trouble e.

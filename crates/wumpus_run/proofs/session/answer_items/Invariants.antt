@@ -4,8 +4,10 @@ use Rattle.wu_outside.specs.Crash.{Moments}
 use Rattle.wu_outside.specs.Surviving.{IsLeft, Leaves}
 use Rattle.wu_outside.specs.declared.ranges.ReadRange.{ReadRange}
 use Rattle.wu_script.specs.Holding.{Follows}
+use Rattle.wu_engine.specs.Earlier.{KeepsCheckpoint}
 use Rattle.wu_engine.specs.Going.{Goes}
 use Rattle.wu_engine.specs.Opening.{IsOpen}
+use Rattle.wumpus_run.specs.Kept.{NamesDrawn}
 use Rattle.wumpus_run.specs.Session.{FromImage, moment}
 use Rattle.wumpus_run.specs.Started.{settings_by}
 use Rattle.wumpus_run.proofs.CrashesUnderWay.{HasKept}
@@ -32,6 +34,8 @@ invariant-items g l = record {
       l.engine l.reader moments (g.D.Store.moments l.store));
   goes : (content : Content) → g.D.Store.holds l.fn.store ≡ Some content → Goes l.engine content (g.D.Store.holds l.store);
   earlier : HasLeft (g.D.Store.holds l.fn.store) (g.D.Store.holds l.store) l.engine.parts.next_blob;
+  checkpoint : KeepsCheckpoint 0 (g.D.Store.holds l.fn.store) (g.D.Store.holds l.store);
+  rooted : NamesDrawn l.engine.parts.next_blob (g.D.Store.holds l.store);
   follows : Follows (g.I.Source.ended l.source) (g.I.Source.last_read l.source) l.reader;
 }
 

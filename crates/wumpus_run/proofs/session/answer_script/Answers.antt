@@ -2,7 +2,7 @@ use Rattle.std.proofs.Common.{Option, Some, Err, ap, refl, sym, ◌∙◌, subst
 use Rattle.wu_outside.specs.Content.{Content}
 use Rattle.wu_script.specs.Holding.{Held}
 use Rattle.wu_options.specs.declared.command_lines.Settings.{Settings}
-use Rattle.wu_engine.specs.Earlier.{LeavesEarlier}
+use Rattle.wu_engine.specs.Earlier.{KeepsCheckpoint, LeavesEarlier}
 use Rattle.wu_engine.specs.Opening.{HoldsImage, IsOpen}
 use Rattle.wumpus_run.specs.Crashes.{Survives}
 use Rattle.wumpus_run.specs.Permitted.{ReadsPermitted}
@@ -12,8 +12,9 @@ use Rattle.wumpus_run.specs.Started.{IsUnspent}
 use Rattle.wumpus_run.proofs.BrokenBlobs.{opening_broken}
 use Rattle.wumpus_run.proofs.CrashesAtEnd.{IsUnopened-fault, Survives-unopened}
 use Rattle.wumpus_run.proofs.EarlierLemmas.{left_alone}
+use Rattle.wumpus_run.proofs.NamedCheckpoints.{checkpoint_same}
 use Rattle.wumpus_run.proofs.OpenedSessions.{made_by, since_opening}
-use Rattle.wumpus_run.proofs.SessionReads.{permitted_unopened}
+use Rattle.wumpus_run.proofs.ReadsAtEnd.{permitted_unopened}
 use Rattle.wumpus_run.proofs.ShutStores.{shut-opened, shut-told}
 use Rattle.wumpus_run.proofs.SpentStores.{IsUnspent-opened}
 use Rattle.wumpus_run.proofs.StartedStates.{IsSession-unopened}
@@ -58,6 +59,10 @@ returns-in-Err-clause-shut g c = shut-told _ (g.D.Store.holds c.args.store.now) 
 pub returns-in-Err-clause-earlier : goal.returns-in-Err-clause-earlier
 returns-in-Err-clause-earlier g c =
     left_alone (g.D.Store.holds c.args.store.now) (g.D.Store.holds c.start.new.store) c.in-Err.ensures.holds
+
+pub returns-in-Err-clause-checkpoint : goal.returns-in-Err-clause-checkpoint
+returns-in-Err-clause-checkpoint g c =
+    checkpoint_same 0 (g.D.Store.holds c.args.store.now) (g.D.Store.holds c.start.new.store) c.in-Err.ensures.holds
 
 pub answer_items-requires-clause-started : goal.answer_items-requires-clause-started
 answer_items-requires-clause-started g c =
@@ -121,6 +126,11 @@ returns-clause-earlier g c = λ content told root has.
     let e = c.in-Ok.ensures in
     subst (λ (holds : Option Content). LeavesEarlier root.next_blob holds (g.D.Store.holds c.answer_items.new.store)) e.holds
     (c.answer_items.ensures.earlier content (e.holds ∙ told) root has)
+
+pub returns-clause-checkpoint : goal.returns-clause-checkpoint
+returns-clause-checkpoint g c =
+    subst (λ (holds : Option Content). KeepsCheckpoint 0 holds (g.D.Store.holds c.answer_items.new.store)) c.in-Ok.ensures.holds
+    c.answer_items.ensures.checkpoint
 
 pub returns-clause-broken : goal.returns-clause-broken
 returns-clause-broken g c = λ content told blob is.

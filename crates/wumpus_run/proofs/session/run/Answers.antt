@@ -9,8 +9,10 @@ use Rattle.wumpus_run.proofs.SettingLimits.{input_within, settings_asked}
 use Rattle.wumpus_run.proofs.EarlierLemmas.{left_alone}
 use Rattle.wumpus_run.proofs.TakenAtEnd.{Completes-all, IsTooLong-none}
 use Rattle.wumpus_run.proofs.PromptAtEnd.{AnswersAllButOneRead-untouched}
+use Rattle.wumpus_run.proofs.TakenReplies.{AnswersTaken-untouched}
 use Rattle.wumpus_run.proofs.RootRoom.{has_room}
-use Rattle.wumpus_run.proofs.SessionReads.{permitted_untouched}
+use Rattle.wumpus_run.proofs.NamedCheckpoints.{checkpoint_same}
+use Rattle.wumpus_run.proofs.ReadsAtEnd.{permitted_untouched}
 use Rattle.wumpus_run.proofs.ShutStores.{shut-unread}
 use Rattle.wumpus_run.proofs.session.run.Goals as goal
 
@@ -49,6 +51,11 @@ returns-in-Err-clause-prompt g c =
     λ s image. AnswersAllButOneRead-untouched s (settings_of (texts_of c.args.words.now))
     (moment g.I.Source g.O.Sink g.D.Store c.args.source.now c.args.sink.now c.args.store.now)
 
+pub returns-in-Err-clause-only_taken : goal.returns-in-Err-clause-only_taken
+returns-in-Err-clause-only_taken g c =
+    λ s image. AnswersTaken-untouched s (settings_of (texts_of c.args.words.now))
+    (moment g.I.Source g.O.Sink g.D.Store c.args.source.now c.args.sink.now c.args.store.now)
+
 pub returns-in-Err-clause-permitted : goal.returns-in-Err-clause-permitted
 returns-in-Err-clause-permitted g c = λ s image.
     permitted_untouched s (settings_of (texts_of c.args.words.now))
@@ -76,6 +83,15 @@ returns-in-Ok-None-clause-earlier g c = left_alone (g.D.Store.holds c.args.store
 
 pub returns-in-Ok-Some-Demo-clause-earlier : goal.returns-in-Ok-Some-Demo-clause-earlier
 returns-in-Ok-Some-Demo-clause-earlier g c = left_alone (g.D.Store.holds c.args.store.now) (g.D.Store.holds c.args.store.now) refl
+
+pub returns-in-Err-clause-checkpoint : goal.returns-in-Err-clause-checkpoint
+returns-in-Err-clause-checkpoint g c = checkpoint_same 0 (g.D.Store.holds c.args.store.now) (g.D.Store.holds c.args.store.now) refl
+
+pub returns-in-Ok-None-clause-checkpoint : goal.returns-in-Ok-None-clause-checkpoint
+returns-in-Ok-None-clause-checkpoint g c = checkpoint_same 0 (g.D.Store.holds c.args.store.now) (g.D.Store.holds c.args.store.now) refl
+
+pub returns-in-Ok-Some-Demo-clause-checkpoint : goal.returns-in-Ok-Some-Demo-clause-checkpoint
+returns-in-Ok-Some-Demo-clause-checkpoint g c = checkpoint_same 0 (g.D.Store.holds c.args.store.now) (g.D.Store.holds c.args.store.now) refl
 
 pub returns-in-Err-clause-demo : goal.returns-in-Err-clause-demo
 returns-in-Err-clause-demo g c = nothing-shown (command_line_of (texts_of c.args.words.now)) (g.O.Sink.gained c.args.sink.now)
