@@ -1,18 +1,19 @@
 //! The program `wumpus`: a session over standard input and output.
 #![tactic(auto)]
 
-ghost use Rattle.std.specs.Prelude.{◌≡◌};
+ghost use Rattle.std.specs.Prelude.{◌≡◌, map, string_bytes, IfErr, IfOk};
 ghost use Rattle.std.specs.Process.{exit_status};
-ghost use Rattle.wumpus_run.specs.Session.{code_of};
+ghost use Rattle.wu_options.specs.CommandLines.{command_line_of, texts_of};
+ghost use Rattle.wumpus_run.specs.Session.{IsUsage, code_of};
 
+mod arguments;
 mod messages;
 
+use crate::arguments::arguments;
 use crate::messages::Message;
-use std::alloc::AllocError;
-use std::env;
-use std::io::ErrorKind;
+use std::alloc::{AllocError, Global};
+use std::fs::File;
 use std::process::ExitCode;
-use std::rt::Env;
 use wu_outside::{DirStore, StdIn, StdOut};
 use wumpus_run::{Status, run};
 
@@ -25,7 +26,7 @@ fn main(rt: HostRuntime) -> ExitCode {
 
 /// Runs a session, prints what ended it, and tells how the process ends.
 fn run_to_end(rt: &HostRuntime) -> ExitCode {
-    let status = session(rt);
+    let status = session(rt, arguments(rt));
     if status != Status::Done {
         let message = Message { status };
         // The exit status tells the same where this line can't be written.
@@ -41,48 +42,52 @@ fn exit_code(status: Status) -> ExitCode
     ExitCode::from(status.code())
 }
 
-/// Runs the session that the command-line arguments ask for.
-fn session(rt: &HostRuntime) -> Status {
-    let arguments = match arguments(rt) {
-        Ok(arguments) => arguments,
-        Err(status) => return status,
+/// Runs the session that the command-line arguments ask for. Where they couldn't be read, the status is the one that says why.
+fn session(rt: &HostRuntime, found: Result<Vec<String>, Status>) -> Status
+    ensures unread { IfErr found (λ status. result ≡ status) }
+    ensures usage { IfOk found (λ arguments. IsUsage result (command_line_of (map string_bytes arguments.items))) }
+{
+    match found {
+        Ok(arguments) => session_of(rt, &arguments),
+        Err(status) => status,
+    }
+}
+
+/// Runs the session that these arguments, those after the program's name, ask for, over the standard streams and the store in FOLDER.
+/// The status is that of `run`, or `NoMemory` where there is no memory to begin it.
+fn session_of(rt: &HostRuntime, arguments: &[String]) -> Status
+    ensures usage { IsUsage result (command_line_of (map string_bytes arguments.now)) }
+{
+    let Ok(texts) = texts_of_arguments(rt.alloc(), arguments) else {
+        return Status::NoMemory;
     };
-    match session_of(rt, &arguments) {
-        Ok(status) => status,
-        Err(AllocError) => Status::NoMemory,
-    }
-}
-
-/// The command-line arguments after the program's name. Those that aren't UTF-8 are invalid.
-fn arguments(rt: &(impl Env + AllocGlobal)) -> Result<Vec<String>, Status> {
-    match env::args(rt) {
-        Ok(args) => match args.skip(1).collect(rt.alloc()) {
-            Ok(arguments) => Ok(arguments),
-            Err(AllocError) => Err(Status::NoMemory),
-        },
-        Err(error) if error.kind() == ErrorKind::OutOfMemory => Err(Status::NoMemory),
-        Err(_) => Err(Status::Usage),
-    }
-}
-
-fn session_of(rt: &HostRuntime, arguments: &[String]) -> Result<Status, AllocError> {
-    let mut texts = Vec::new(rt.alloc());
-    for argument in arguments {
-        texts.push(argument.as_str())?;
-    }
+    // Where the standard input is closed, this folder, which can't be read as a file, takes its descriptor, and no file of the store
+    // does, if "/" can be opened for reading.
+    let _stand_in = File::open(rt, "/");
     let (Ok(mut source), Ok(mut sink)) = (StdIn::new(rt.stdin()), StdOut::new(rt.stdout())) else {
-        return Ok(Status::NoMemory);
+        return Status::NoMemory;
     };
     let Ok(mut store) = DirStore::new(rt, FOLDER) else {
-        return Ok(Status::NoMemory);
+        return Status::NoMemory;
     };
-    Ok(run(
+    run(
         rt.alloc(),
         texts.as_slice(),
         &mut source,
         &mut sink,
         &mut store,
-    ))
+    )
+}
+
+/// The texts of these arguments, each once and in their order. The one error is out of memory.
+fn texts_of_arguments(alloc: Global, arguments: &[String]) -> Result<Vec<&str>, AllocError>
+    ensures { IfOk result (λ texts. texts_of texts.items ≡ map string_bytes arguments.now) }
+{
+    let mut texts = Vec::new(alloc);
+    for argument in arguments {
+        texts.push(argument.as_str())?;
+    }
+    Ok(texts)
 }
 
 #[cfg(test)]
