@@ -12,12 +12,8 @@ use Rattle.std.proofs.lemmas.Bool.{eqb-true, eq-eqb}
 use borrow.Author.Tests.{ltb-true}
 use Rattle.wu_base.specs.declared.addresses.TermList.{TermList}
 use Rattle.wu_base.specs.declared.limits.TheConstants.{ADDRESSES_MAX, WORD_MAX}
+use Rattle.wu_part.proofs.WritingLemmas.{told_some}
 use Rattle.wu_part.specs.Parts.{IsList}
-
-pub all_pushed : (P : TermList → Type 0) (lists : List TermList) (list : TermList) → AllByRecursion P lists → P list
-    → AllByRecursion P (lists ++ list ∷ [])
-all_pushed P [] list a p = (p, tt)
-all_pushed P (x ∷ lists) list a p = (a.0, all_pushed P lists list a.1 p)
 
 pub terms_pushed : (lists : List TermList) (list : TermList) → map (λ l. l.term) (lists ++ list ∷ []) ≡ map (λ l. l.term) lists ++ list.term ∷ []
 terms_pushed [] list = refl
@@ -88,17 +84,13 @@ distinct_before numbers place later some within none is d =
     (subst (λ (l : List ℕ). false ≡ list_any (λ y. eqb y (get_or numbers (place - 1) 0)) l) (is ∙ all) none)
     (subst (λ n. IsDistinct eqb (drop n numbers)) (sym e) d)
 
-some_of : (xs : List ℕ) → false ≡ (length xs == 0) → 0 < length xs
-some_of [] e = absurd cc
-some_of (x ∷ xs) e = omega arith
-
 pub list_made : (list : TermList) (term addresses : List ℕ) (n : ℕ) → list.term ≡ term → list.at ≡ addresses → false ≡ (length term == 0)
     → length term ≤ WORD_MAX → false ≡ (n == 0) → n ≡ length addresses → IsStrictlyIncreasing addresses
     → true ≡ list_all (λ number. nat_lt number ADDRESSES_MAX) addresses → IsList list
 list_made list term addresses n p q some short count long s small = record {
-  some = rw p (some_of term some);
+  some = rw p (told_some term some);
   short = rw p short;
-  count = rw q (some_of addresses (subst (λ x. false ≡ (x == 0)) long count));
+  count = rw q (told_some addresses (subst (λ x. false ≡ (x == 0)) long count));
   ascending = rw q s;
   below = rw q (all_below addresses (sym small));
 }

@@ -63,6 +63,7 @@ impl Subject for Tables {
             ("lost blobs", [script]) => stores::losing(alloc, script),
             ("pieces", [most, script]) => pieces::output(alloc, most, script),
             ("code", [status]) => statuses::code(alloc, status),
+            ("begin fault", [fault]) => statuses::text_of_fault(alloc, fault),
             ("command line", [words]) => command_lines::asked_for(alloc, words),
             _ => Err(NoAnswer::BadRow),
         }

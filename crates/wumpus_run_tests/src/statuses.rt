@@ -1,5 +1,6 @@
-//! How sessions end.
+//! How sessions end, and why an engine can't be opened.
 use std::alloc::Global;
+use wu_engine::BeginFault;
 use wu_rows::{NoAnswer, number_text, plain_text};
 use wumpus_run::Status;
 
@@ -37,4 +38,16 @@ pub fn name_of(alloc: Global, status: Status) -> Result<String, NoAnswer> {
         Status::Damaged { blob } => Ok(format!(in alloc; "damaged at blob {blob}")?),
         Status::Spent { next } => Ok(format!(in alloc; "spent at {next}")?),
     }
+}
+
+/// The text of the error of this name, for which an engine can't be opened.
+pub fn text_of_fault(alloc: Global, name: &str) -> Result<String, NoAnswer> {
+    let fault = match name {
+        "NoMemory" => BeginFault::NoMemory,
+        "StoreFault" => BeginFault::StoreFault,
+        "Damaged 7" => BeginFault::Damaged { blob: 7 },
+        "Spent 9" => BeginFault::Spent { next: 9 },
+        _ => return Err(NoAnswer::BadRow),
+    };
+    Ok(format!(in alloc; "{fault}")?)
 }

@@ -1,7 +1,7 @@
 //! The bytes of replies.
 use crate::scripts::reasons::named;
 use std::alloc::Global;
-use wu_ask::{Answered, FindLine, RankLine};
+use wu_ask::{Answered, Found, RankLine};
 use wu_base::{Bytes, Sequence, Stat, Worked};
 use wu_rows::{NoAnswer, bytes, number, shown};
 use wu_script::{Reply, put_reply};
@@ -67,16 +67,16 @@ fn found(alloc: Global, hits: &str, files: &str, lines: &[&str]) -> Result<Reply
     Ok(Reply::Answered(Answered::Find { hits, files, shown }))
 }
 
-fn find_line(alloc: Global, fields: &[&str]) -> Result<FindLine, NoAnswer> {
+fn find_line(alloc: Global, fields: &[&str]) -> Result<Found, NoAnswer> {
     let [path, start, end, line, text] = fields else {
         return Err(NoAnswer::BadRow);
     };
-    Ok(FindLine {
+    Ok(Found {
         path: Bytes::from(bytes(alloc, path)?),
         start: number(start)?,
         end: number(end)?,
         line: number(line)?,
-        bytes: Bytes::from(bytes(alloc, text)?),
+        snippet: Bytes::from(bytes(alloc, text)?),
     })
 }
 
