@@ -48,3 +48,29 @@ endef
 $(foreach name,$(CRATES),$(eval $(call crate_rule,$(name))))
 
 $(WUMPUS): out/wumpus.proved ;
+
+# ---- documents
+
+.PHONY: help docs rows trusted install-manual
+
+# make help     lists these targets
+help:
+	@sed -n 's/^# \(make .*\)/\1/p' Makefile
+
+# make docs     checks the documents: links, clauses, examples, lengths, the manual page
+docs:
+	@tools/docs
+
+# make rows     counts the rows of the tables
+rows:
+	@tools/docs --rows
+
+# make trusted  prints the files that an auditor reads, in order
+trusted:
+	@tools/docs --trusted
+
+install: install-manual
+
+install-manual:
+	install -d $(DESTDIR)$(PREFIX)/share/man/man1
+	install -m 644 docs/wumpus.1 $(DESTDIR)$(PREFIX)/share/man/man1/wumpus.1
