@@ -1,32 +1,33 @@
-# make try     runs the examples of one session on an unproved build, to have a look: under a minute and a half
-# make demo    proves what the program needs, builds it, and runs the examples
-# make         proves and builds; make install PREFIX=.. copies the built program
-# make check   the gate
+# make try      builds without proofs, and says of each example whether it is as expected: 2 minutes
+# make test     the same of all tests: 6 minutes
+# make          proves what the program needs, and builds it: a quarter of an hour
+# make demo     the same, and then tries the examples
+# make install  copies the built program to PREFIX/bin
+# make check    the gate: proves every crate, tries the wrong bodies, runs tests and program
+# make clean    removes what was proved and built
 PREFIX ?= /usr/local
 JOBS ?= $(shell nproc)
 WUMPUS := crates/wumpus/out/wumpus
-EXAMPLES := home regions ranking find flush work
 CRATES := $(shell sed -n -e '/_tests:/d' -e '/^wu_rows:/d' -e 's/^\([a-z_0-9]*\):.*/\1/p' crates.txt)
 
-.PHONY: all try demo install check clean
+.PHONY: all try test demo install check clean
 
 all:
 	@mkdir -p out && touch out/started
 	@$(MAKE) --no-print-directory --jobs=$(JOBS) $(WUMPUS)
 
 try:
-	@echo 'building without proofs; output of each example follows'
-	@cd crates/wumpus && rt try --cases ../../examples -- run
+	@echo 'building without proofs, and running the examples'
+	@tools/test --examples
 	@echo 'This build is not proved: make demo proves it.'
 
-# The two scripts of examples/sessions have a folder together, and each other example has one of its own.
+test:
+	@echo 'building without proofs, and running the tests: a line comes as each is done'
+	@tools/test
+	@echo 'Nothing was proved: make check proves it.'
+
 demo: all
-	@tools/sessions $(WUMPUS) examples/sessions/1.script examples/sessions/2.script
-	@for name in $(EXAMPLES); do \
-		tools/sessions $(WUMPUS) examples/$$name.script || exit; \
-	done
-	@echo '== demo 7'
-	@$(WUMPUS) demo 7
+	@tools/test --program $(WUMPUS)
 
 install: all
 	install -d $(DESTDIR)$(PREFIX)/bin
@@ -38,11 +39,12 @@ check:
 clean:
 	rm -rf out crates/*/out
 
-# Each crate is proved after those that crates.txt lists behind it, some side by side.
+# Each crate is proved after those that crates.txt lists behind it, some side by side, and again where
+# its code, its definitions or its proofs have changed.
 depends_on = $(filter $(CRATES),$(shell sed -n 's/^$(1):\(.*\)/\1/p' crates.txt))
 define crate_rule
 out/$(1).proved: crates.txt $$(foreach name,$$(call depends_on,$(1)),out/$$(name).proved) \
-		$$(shell find crates/$(1) -name out -prune -o -path '*/must-fail' -prune -o -type f -print)
+		$$(shell find $$(wildcard $$(addprefix crates/$(1)/,src specs proofs)) -type f)
 	@tools/prove $(1) $$@
 endef
 $(foreach name,$(CRATES),$(eval $(call crate_rule,$(name))))
@@ -53,7 +55,7 @@ $(WUMPUS): out/wumpus.proved ;
 
 .PHONY: help docs rows trusted install-manual
 
-# make help     lists these targets
+# make help     prints this
 help:
 	@sed -n 's/^# \(make .*\)/\1/p' Makefile
 
