@@ -2,13 +2,14 @@
 # make demo    proves what the program needs, builds it, and runs the examples
 # make         proves and builds; make install PREFIX=.. copies the built program
 # make check   the gate
+# make no-memory   refuses each growth of memory in turn, in many sessions of the built program; needs a C compiler
 PREFIX ?= /usr/local
 JOBS ?= $(shell nproc)
 WUMPUS := crates/wumpus/out/wumpus
 EXAMPLES := home regions ranking find flush work
 CRATES := $(shell sed -n -e '/_tests:/d' -e '/^wu_rows:/d' -e 's/^\([a-z_0-9]*\):.*/\1/p' crates.txt)
 
-.PHONY: all try demo install check clean
+.PHONY: all try demo install check no-memory clean
 
 all:
 	@mkdir -p out && touch out/started
@@ -34,6 +35,9 @@ install: all
 
 check:
 	rt ci
+
+no-memory: all
+	@tools/no-memory $(WUMPUS)
 
 clean:
 	rm -rf out crates/*/out
