@@ -5,12 +5,13 @@
 # make install  copies the built program to PREFIX/bin
 # make check    the gate: proves every crate, tries the wrong bodies, runs tests and program
 # make clean    removes what was proved and built
+# make no-memory  refuses each growth of memory in turn, in sessions of the built program; needs a C compiler
 PREFIX ?= /usr/local
 JOBS ?= $(shell nproc)
 WUMPUS := crates/wumpus/out/wumpus
 CRATES := $(shell sed -n -e '/_tests:/d' -e '/^wu_rows:/d' -e 's/^\([a-z_0-9]*\):.*/\1/p' crates.txt)
 
-.PHONY: all try test demo install check clean
+.PHONY: all try test demo install check no-memory clean
 
 all:
 	@mkdir -p out && touch out/started
@@ -35,6 +36,9 @@ install: all
 
 check:
 	rt ci
+
+no-memory: all
+	@tools/no-memory $(WUMPUS)
 
 clean:
 	rm -rf out crates/*/out

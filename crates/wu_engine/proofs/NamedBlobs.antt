@@ -1,5 +1,5 @@
 -- No step leaves a blob without a name: each that was drawn is named by a text, a part, the checkpoint, or as one that is no longer needed.
-use Rattle.std.proofs.Common.{◌≡◌, inl, inr, ℕ, ◌+◌, ◌<◌, ◌≤◌, ◌==◌, List, [], ◌∷◌, ◌++◌, count_by, Option, None, Some, ap, ◌∙◌, subst, ⊎_elim, arith}
+use Rattle.std.proofs.Common.{◌≡◌, ◌⊎◌, inl, inr, ℕ, ◌+◌, ◌<◌, ◌≤◌, ◌==◌, List, [], ◌∷◌, ◌++◌, count_by, Option, None, Some, ap, ◌∙◌, subst, ⊎_elim, arith}
 use Rattle.std.specs.Prelude.{IsSome}
 use Rattle.std.specs.List.{AllByRecursion}
 use Rattle.std.proofs.lemmas.Bool.{cases_eq, cases_lt, false≢true}
@@ -15,14 +15,16 @@ use Rattle.wu_engine.specs.Naming.{AddsNamed, HasNoStray, IsNamed}
 use Rattle.wu_engine.specs.Saving.{AreRemoved, checkpoint_blob, removed_by_save}
 use Rattle.wu_engine.specs.States.{State, IsState, after_event, flushed_state, saved_state, worked_state}
 use Rattle.wu_engine.proofs.SavedContents.{checkpoint_count}
-use Rattle.wu_engine.proofs.BlobNames.{IsCounted, NamesOn, drawn_by_save, names_event, names_flush, names_work}
+use Rattle.wu_engine.proofs.BlobNames.{IsCounted, NamesOn, drawn_by_save, named_by_save, names_event, names_flush, names_work}
 
 -- ---- what a step leaves named
 
--- The blobs that were drawn on the way are named, and so are those that were named before.
+-- The blobs that were drawn on the way are named, and so are those that were named before, but no others.
 pub record KeepsNames (before after : Layout) : Type 0 where
   pub drawn : (number : ℕ) → before.blob ≤ number → number < after.blob → IsNamed after number
   pub kept : (number : ℕ) → IsNamed before number → IsNamed after number
+  pub onward : before.blob ≤ after.blob
+  pub from : (number : ℕ) → IsNamed after number → IsNamed before number ⊎ (before.blob ≤ number)
 
 keeps : (s : State) (after : Layout) → IsState s → NamesOn s.layout after → KeepsNames s.layout after
 keeps s after is names = record {
@@ -30,6 +32,12 @@ keeps s after is names = record {
       let positive : 0 < number = omega (arith, is.layout.blobs.positive, from) in
       (positive, names.drawn number positive from to);
   kept = λ number named. (named.0, names.kept number named.0 named.1);
+  onward = names.onward;
+  from = λ number named.
+      ⊎_elim
+      (λ (was : IsCounted s.layout number). inl (named.0, was))
+      (λ (drawn : s.layout.blob ≤ number). inr drawn)
+      (names.from number named.0 named.1);
 }
 
 pub event_names : (flush_at : ℕ) (s : State) (event : Event) (text : List ℕ) → IsState s
@@ -49,6 +57,15 @@ save_names s is number from to = (
   omega (arith, is.layout.blobs.positive, from),
   drawn_by_save (live_of (ranges_of s.layout.files) s.layout.memory) s.layout number from to,
 )
+
+-- and no other but those that were named before
+pub save_names_from : (s : State) (number : ℕ) → IsNamed (saved_state s).layout number
+    → IsNamed s.layout number ⊎ (s.layout.blob ≤ number)
+save_names_from s number named =
+    ⊎_elim
+    (λ (was : IsCounted s.layout number). inl (named.0, was))
+    (λ (drawn : s.layout.blob ≤ number). inr drawn)
+    (named_by_save (live_of (ranges_of s.layout.files) s.layout.memory) s.layout number named.0 named.1)
 
 -- ---- no stray blobs
 

@@ -14,7 +14,8 @@ use Rattle.wu_script.specs.Items.{first_of, IsBeforeEnd, IsItem, TakesItem}
 use Rattle.wu_script.specs.Said.{Said, Operates, Reading, IsReading, IsSoundItem, said_by, said_of, event_tokens, tokens_given}
 use Rattle.wu_script.proofs.TokenLemmas.{first_tokens}
 use Rattle.wu_engine.specs.Stands.{taken_by}
-use Rattle.wumpus_run.specs.Raised.{drawn_by, flushes_by}
+use Rattle.wumpus_run.specs.Raised.{flushes_by}
+use Rattle.wumpus_run.specs.Session.{drawn_by}
 use Rattle.wumpus_run.proofs.SessionLemmas.{one_item, takes_one}
 
 -- an event takes an address for each token of the text that it gives

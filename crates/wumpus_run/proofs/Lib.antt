@@ -10,6 +10,10 @@ pub mod WholeOutputs
 pub mod TakenReplies
 pub mod PromptAtEnd
 pub mod NamedAtEnd
+pub mod StrayBlobs
+pub mod UntakenBytes
+pub mod DrawnBlobs
+pub mod PutsAtEnd
 pub mod StartedStates
 pub mod OpenedSessions
 pub mod SessionReads

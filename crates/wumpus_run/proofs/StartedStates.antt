@@ -28,7 +28,7 @@ use Rattle.wu_engine.proofs.NamedBlobs.{no_stray_at_first}
 use Rattle.wumpus_run.specs.Raised.{IsRaised}
 use Rattle.wumpus_run.specs.Replies.{after, said_bytes}
 use Rattle.wumpus_run.specs.Started.{IsUnspent}
-use Rattle.wumpus_run.specs.Strays.{AddsNoStray}
+use Rattle.wumpus_run.specs.Strays.{AddsNoStray, SparesStrays, TouchesNone}
 use Rattle.wumpus_run.specs.declared.statuses.Status.{Status}
 use Rattle.wumpus_run.specs.declared.statuses.Status.TheVariants.{Done, Usage, ReadFault, WriteFault, InputTooLong, StoreFault, Damaged}
 use Rattle.wumpus_run.specs.declared.statuses.Status.TheVariants.{Spent}
@@ -46,15 +46,17 @@ use Rattle.wumpus_run.proofs.FaultCounts.{IsCounted-answered, IsCounted-other, I
 use Rattle.wumpus_run.proofs.FaultCounts.{IsCounted-written}
 use Rattle.wumpus_run.proofs.EndStatuses.{IsSaving, answering, damaged_so, reading, saved_damaged, saving, unopened, writing}
 use Rattle.wumpus_run.proofs.SpentStores.{IsSpent-never, IsSpent-unopened}
+use Rattle.wumpus_run.proofs.StrayBlobs.{names_after, spared_at_first, spared_then}
 use Rattle.wumpus_run.proofs.PromptAtEnd.{IsBrief, IsBrief-then}
 use Rattle.wumpus_run.proofs.SentReplies.{HasReplied, HasReplied-none, HasReplied-turn}
 
--- engine and store stand for a state, and the store has no stray blob; what was sent, and what answers the rest of the input from that
+-- engine and store stand for a state, and the store has no stray blob but those that were there, as they were; what was sent, and what answers the rest of the input from that
 -- state on, is all that answers the input from the start on
 pub record HasGoneOn (told : Settings) (start : State) (before now : Moment) (engine : Engine) (held : Held) : Type 0 where
   pub state : State
   pub stands : Stands engine now.holds state
   pub no_stray : HasNoStray start.layout before.holds state.layout now.holds
+  pub strays : SparesStrays start.layout before.holds state.layout now.holds
   pub answered : HasAnswered told start before.holds before.gained now.gained before.left (prepend_known held.bytes now.left) state
   pub replied : HasReplied told start before.holds before.left now.left before.gained now.gained held state told.max_input
 
@@ -67,6 +69,7 @@ HasGoneOn-none told start before holds faults engine stands same = record {
   state = start;
   stands = stands;
   no_stray = subst (HasNoStray start.layout before.holds start.layout) (sym same) (no_stray_at_first start.layout before.holds);
+  strays = spared_at_first start.layout before.holds holds same;
   answered = HasAnswered-none told start before.holds before.gained before.left;
   replied = HasReplied-none told start before.holds before.left before.gained told.max_input;
 }
@@ -77,14 +80,18 @@ pub HasGoneOn-turn : (told : Settings) (start : State) (before between now : Mom
     → IsNext (prepend_known old.bytes between.left) (prepend_known new.bytes now.left) item
     → (so_far : HasGoneOn told start before between engine old) → reply ≡ said_bytes so_far.state (said_by item)
     → Stands later now.holds (after told.flush_at so_far.state (said_by item))
-    → AddsNoStray so_far.state.layout between.holds (after told.flush_at so_far.state (said_by item)).layout now.holds → written ≡ reply
+    → AddsNoStray so_far.state.layout between.holds (after told.flush_at so_far.state (said_by item)).layout now.holds
+    → TouchesNone so_far.state.layout between.holds now.holds → written ≡ reply
     → Appends between.gained now.gained written → HasGoneOn told start before now later new
-HasGoneOn-turn told start before between now engine later old new item reply written other taken next so_far replies stands adds same
-    wrote =
+HasGoneOn-turn told start before between now engine later old new item reply written other taken next so_far replies stands adds touches
+    same wrote =
     record {
       state = after told.flush_at so_far.state (said_by item);
       stands = stands;
       no_stray = adds start.layout before.holds so_far.no_stray;
+      strays = spared_then start.layout before.holds between.holds now.holds so_far.state.layout
+          (after told.flush_at so_far.state (said_by item)).layout so_far.strays touches
+          (names_after told.flush_at so_far.state (said_by item) so_far.stands.index.is_state);
       answered = HasAnswered-turn told start before.holds before.gained between.gained now.gained before.left
           (prepend_known old.bytes between.left) (prepend_known new.bytes now.left) so_far.state item reply written other next
           so_far.answered replies same wrote;
@@ -136,6 +143,7 @@ module _ (told : Settings) (before : Moment) where
   Replies holds later_holds engine later item reply = (s : State) → Stands engine holds s
       → (reply ≡ said_bytes s (said_by item)) × Stands later later_holds (after engine.parts.flush_at s (said_by item))
       × AddsNoStray s.layout holds (after engine.parts.flush_at s (said_by item)).layout later_holds
+      × TouchesNone s.layout holds later_holds
 
   pub IsUnderWay-turn : (between now : Moment) (engine later : Engine) (old new : Held) (item : Item) (reply written : List ℕ)
       → IsUnderWay between engine old → IsBeforeEnd item → TakesItem between.left now.left now.last_read old new item
@@ -153,7 +161,7 @@ module _ (told : Settings) (before : Moment) where
             HasGoneOn-turn told s before between now engine later old new item reply written other took next so_far answers.0
             (subst (λ (n : ℕ). Stands later now.holds (after n so_far.state (said_by item))) i.flush_at answers.1)
             (subst (λ (n : ℕ). AddsNoStray so_far.state.layout between.holds (after n so_far.state (said_by item)).layout now.holds)
-            i.flush_at answers.2) same wrote;
+            i.flush_at answers.2) answers.3 same wrote;
         unspent = i.unspent;
         goes_on = raised.goes_on;
         room = HasRoom-fewer later.space.next (engine.space.next + tokens_given (said_by item)) told.max_input new

@@ -20,7 +20,8 @@ use Rattle.wu_engine.specs.States.{State}
 use Rattle.wumpus_run.specs.Crashes.{IsImageOfOne, last_or, left_to_next, saved_for}
 use Rattle.wumpus_run.specs.Permitted.{AreReadFor}
 use Rattle.wumpus_run.specs.Replies.{after, reply_to}
-use Rattle.wumpus_run.specs.Strays.{AddsNoStray}
+use Rattle.wumpus_run.specs.Session.{drawn_by}
+use Rattle.wumpus_run.specs.Strays.{AddsDrawn, AddsNoStray, TouchesNone}
 
 -- ---- over a state
 
@@ -33,6 +34,14 @@ RepliesTo said engine before later now result = (s : State) → Stands engine be
 abbrev pub NamesAll : {T : Type 0} → Said → Engine → Option Content → Option Content → Result T Trouble → Type 0
 NamesAll said engine before now result = (s : State) → Stands engine before s
     → OnOk result (AddsNoStray s.layout before (after engine.parts.flush_at s said).layout now)
+
+-- whatever is answered, none is touched that was left before
+abbrev pub TouchesNoStray : Engine → Option Content → Option Content → Type 0
+TouchesNoStray engine before now = (s : State) → Stands engine before s → TouchesNone s.layout before now
+
+-- and only blobs are added that may be drawn for it
+abbrev pub AddsDrawnFor : Said → Engine → Option Content → Option Content → Type 0
+AddsDrawnFor said engine before now = (s : State) → Stands engine before s → AddsDrawn s.layout (drawn_by said) before now
 
 -- what is read is read for it, in turn
 abbrev pub ReadsFor : Said → Engine → Option Content → Option (List ReadRange) → Option (List ReadRange) → Type 0

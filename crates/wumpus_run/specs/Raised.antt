@@ -13,14 +13,7 @@ use Rattle.wu_engine.specs.declared.engines.Engine.{Engine}
 use Rattle.wu_engine.specs.declared.verdicts.Verdict.TheVariants.{Made}
 use Rattle.wu_engine.specs.SavedStores.{Saves}
 use Rattle.wu_engine.specs.Stands.{leaves_store}
-
--- the most blobs that an item draws
-abbrev pub drawn_by : Said → ℕ
-drawn_by (Happens event text) = 2
-drawn_by (Operates Flush) = 1
-drawn_by (Operates (Work units)) = units
-drawn_by (Operates Save) = 2
-drawn_by _ = 0
+use Rattle.wumpus_run.specs.Session.{drawn_by}
 
 -- the most flushes that are counted for it: each drew a blob, and background work makes none
 abbrev pub flushes_by : Said → ℕ

@@ -1,8 +1,9 @@
 -- What a session did, by what source, sink and store told before and after it.
-use Rattle.std.specs.Prelude.{◌≡◌, ℕ, ◌+◌, ◌≤◌, ◌<◌, ◌⊎◌, ◌↔◌, List, [], ◌++◌, length, take, Option, Some, None, IfSome, option_and_then}
+use Rattle.std.specs.Prelude.{◌≡◌, ℕ, ◌+◌, ◌≤◌, ◌<◌, ◌⊎◌, ◌↔◌, List, [], ◌∷◌, ◌++◌, length, take, ⊤, Option, Some, None, IfSome, IsSome, option_and_then, option_map}
 use Rattle.std.specs.Io.KnownBytes.{Appends, Consumes}
 use Rattle.wu_base.specs.declared.limits.TheConstants.{SPENT_AT, BLOBS_SPENT_AT, READ_MAX}
 use Rattle.wu_outside.specs.Content.{Content}
+use Rattle.wu_outside.specs.Crash.{Moments, settle}
 use Rattle.wu_outside.specs.Faults.{Rose}
 use Rattle.wu_outside.specs.declared.ranges.ReadRange.{ReadRange}
 use Rattle.wu_outside.specs.declared.traits.Source as sources
@@ -17,10 +18,12 @@ use Rattle.wu_options.specs.declared.command_lines.CommandLine.TheVariants.{Run,
 use Rattle.wu_options.specs.declared.command_lines.Settings.{Settings}
 use Rattle.wumpus_run.specs.declared.statuses.Status.{Status}
 use Rattle.wumpus_run.specs.declared.statuses.Status.TheVariants.{Done, Usage, ReadFault, WriteFault, NoMemory, InputTooLong, StoreFault, Damaged, Spent}
-use Rattle.wu_engine.specs.Naming.{HasNoStray}
+use Rattle.wu_layout.specs.Layouts.{Layout}
+use Rattle.wu_engine.specs.Naming.{HasNoStray, IsNamed}
 use Rattle.wu_engine.specs.States.{State, rested_state, saved_state}
 use Rattle.wu_engine.specs.Opening.{HoldsImage, IsSpentAt, Opens}
-use Rattle.wu_script.specs.Commands.{Entry}
+use Rattle.wu_script.specs.Commands.{Entry, Flush, Save, Work}
+use Rattle.wu_script.specs.Said.{Happens, Operates, Said, said_of}
 use Rattle.wumpus_run.specs.Replies.{Rules, AreRules, output_of, state_after}
 use Rattle.wumpus_run.specs.Taking.{TakesExactly, TakesAtMost, GainsAtLeast}
 
@@ -70,6 +73,17 @@ abbrev pub StaysShut : Option Settings → Moment → Moment → Type 0
 StaysShut settings before now = IfSome settings (λ told. IfSome before.holds (λ content. ((read : List ReadRange) → Opens content read → ⊥)
     → (now.left ≡ before.left) × (now.gained ≡ before.gained) × (now.holds ≡ before.holds)))
 
+-- ---- a session that took nothing
+
+-- that is so unless a byte was taken, or there was none
+abbrev pub UnlessTaken : Option (List ℕ) → Option (List ℕ) → Type 0 → Type 0
+UnlessTaken before now IsSo = IfSome before (λ input. 0 < length input → now ≡ before → IsSo)
+
+-- Where no byte was taken of an input that has one, the store was opened at most: it holds what it held, and was synced once or not.
+abbrev pub OpensAlone : Moment → Moment → Option Moments → Option Moments → Type 0
+OpensAlone before now old new =
+    UnlessTaken before.left now.left ((now.holds ≡ before.holds) × ((new ≡ old) ⊎ (new ≡ option_map settle old)))
+
 -- ---- what was taken, and which fault came
 
 -- An object's fault ends a session exactly where its count of faults rose.
@@ -114,6 +128,51 @@ SavesAll start settings before now = IfSome settings (λ told. IfSome before.lef
 abbrev pub LeavesNoStray : State → Option Settings → Moment → Moment → Type 0
 LeavesNoStray start settings before now = IfSome settings (λ told. IfSome before.left (λ input. (rules : Rules) → AreRules before.holds told rules
     → HasNoStray start.layout before.holds (rested_state (saved_state (state_after rules start (items_of input)))).layout now.holds))
+
+-- Below the first layout's next blob each that it doesn't name is as it was: none is touched that an earlier session left.
+abbrev pub KeepsStrays : Layout → Option Content → Option Content → Type 0
+KeepsStrays start None now = ⊤
+KeepsStrays start (Some first) None = ⊥
+KeepsStrays start (Some first) (Some now) =
+    (blob : ℕ) → blob < start.blob → (IsNamed start blob → ⊥) → now.blobs blob ≡ first.blobs blob
+
+-- the most blobs that are drawn for an item
+abbrev pub drawn_by : Said → ℕ
+drawn_by (Happens event text) = 2
+drawn_by (Operates Flush) = 1
+drawn_by (Operates (Work units)) = units
+drawn_by (Operates Save) = 2
+drawn_by _ = 0
+
+-- the most that are drawn for the first of these items, or for the save at the end, where there is none
+abbrev pub drawn_next : Rules → List Entry → ℕ
+drawn_next rules [] = 2
+drawn_next rules (entry ∷ later) = drawn_by (said_of rules.read entry)
+
+-- Each blob that the store has is one that the layout names, or it was there at first, and the first layout didn't name it, or it has one of
+-- so many numbers from the layout's next one on.
+abbrev pub HasOnlyDrawn : Layout → Option Content → Layout → ℕ → Option Content → Type 0
+HasOnlyDrawn start None layout most now = ⊤
+HasOnlyDrawn start (Some first) layout most None = ⊥
+HasOnlyDrawn start (Some first) layout most (Some now) =
+    (blob : ℕ) → IsSome (now.blobs blob) → IsNamed layout blob
+    ⊎ ((IsSome (first.blobs blob) × (IsNamed start blob → ⊥)) ⊎ ((layout.blob ≤ blob) × (blob < layout.blob + most)))
+
+-- Some first items were answered, whose replies the sink gained, and of the reply to the next one a part. The store has no blob more but
+-- those that the state names which they left, and those that may have been drawn for the next one.
+pub record PutsFor (rules : Rules) (start : State) (items : List Entry) (before now : Moment) : Type 0 where
+  pub answered : List Entry
+  pub left : List Entry
+  pub all : items ≡ answered ++ left
+  pub part : List ℕ
+  pub missing : List ℕ
+  pub reply : output_of rules (state_after rules start answered) (take 1 left) ≡ part ++ missing
+  pub gained : Appends before.gained now.gained (output_of rules start answered ++ part)
+  pub drawn : HasOnlyDrawn start.layout before.holds (state_after rules start answered).layout (drawn_next rules left) now.holds
+
+abbrev pub PutsOnlyDrawn : State → Option Settings → Moment → Moment → Type 0
+PutsOnlyDrawn start settings before now = IfSome settings (λ told. IfSome before.left (λ input.
+    (rules : Rules) → AreRules before.holds told rules → PutsFor rules start (items_of input) before now))
 
 -- ---- what was written, from a state on
 

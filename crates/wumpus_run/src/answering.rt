@@ -15,7 +15,7 @@ ghost use Rattle.wu_engine.specs.Reads.{AreTexts, ReadsForQuery, texts_read};
 ghost use Rattle.wu_engine.specs.Stands.{KeepsOthers, Stands};
 ghost use Rattle.wu_engine.specs.States.{State};
 ghost use Rattle.wumpus_run.specs.Crashes.{left_to_next};
-ghost use Rattle.wumpus_run.specs.Kept.{BlamesBroken, BlamesNone, KeepsDrawn, KeepsEitherSave, KeepsRootsCheckpoint, KeepsSaves, NamesAll, ReadsFor, RepliesTo, SavesFor, StaysDrawn};
+ghost use Rattle.wumpus_run.specs.Kept.{AddsDrawnFor, BlamesBroken, BlamesNone, KeepsDrawn, KeepsEitherSave, KeepsRootsCheckpoint, KeepsSaves, NamesAll, ReadsFor, RepliesTo, SavesFor, StaysDrawn, TouchesNoStray};
 ghost use Rattle.wumpus_run.specs.Raised.{IsRaised, PutsAtMost, SavesOnce, is_unasked, leaves_alone};
 ghost use Rattle.wumpus_run.specs.Replies.{after, reply_to, said_bytes, verdict_reply};
 
@@ -47,6 +47,8 @@ pub fn answer<D: Store>(
         ((out.new.items ≡ out.old.items ++ said_bytes s (said_by item))
         × Stands engine.new (D.holds store.new) (after engine.old.parts.flush_at s (said_by item))) }
     ensures named { NamesAll (said_by item) engine.old (D.holds store.old) (D.holds store.new) result }
+    ensures strays { TouchesNoStray engine.old (D.holds store.old) (D.holds store.new) }
+    ensures puts { AddsDrawnFor (said_by item) engine.old (D.holds store.old) (D.holds store.new) }
     ensures permitted { ReadsFor (said_by item) engine.old (D.holds store.old) (D.reads store.old) (D.reads store.new) }
     ensures survives { KeepsSaves (said_by item) engine.old (D.holds store.old) (D.moments store.old) (D.moments store.new) }
     ensures durable { SavesFor (said_by item) engine.old (D.holds store.old) (D.moments store.old) (D.moments store.new) result }
@@ -86,6 +88,8 @@ pub fn reply_to<D: Store>(
     requires flushes { engine.old.parts.flushes + 1 < 2 ^ 63 }
     ensures reply { RepliesTo (said_by item) engine.old (D.holds store.old) engine.new (D.holds store.new) result }
     ensures named { NamesAll (said_by item) engine.old (D.holds store.old) (D.holds store.new) result }
+    ensures strays { TouchesNoStray engine.old (D.holds store.old) (D.holds store.new) }
+    ensures puts { AddsDrawnFor (said_by item) engine.old (D.holds store.old) (D.holds store.new) }
     ensures permitted { ReadsFor (said_by item) engine.old (D.holds store.old) (D.reads store.old) (D.reads store.new) }
     ensures survives { KeepsSaves (said_by item) engine.old (D.holds store.old) (D.moments store.old) (D.moments store.new) }
     ensures durable { SavesFor (said_by item) engine.old (D.holds store.old) (D.moments store.old) (D.moments store.new) result }
@@ -248,6 +252,8 @@ fn reply_to_save<D: Store>(engine: &mut Engine, store: &mut D) -> Result<Option<
     requires flushes { engine.old.parts.flushes + 1 < 2 ^ 63 }
     ensures reply { RepliesTo (Operates Save) engine.old (D.holds store.old) engine.new (D.holds store.new) result }
     ensures named { NamesAll (Operates Save) engine.old (D.holds store.old) (D.holds store.new) result }
+    ensures strays { TouchesNoStray engine.old (D.holds store.old) (D.holds store.new) }
+    ensures puts { AddsDrawnFor (Operates Save) engine.old (D.holds store.old) (D.holds store.new) }
     ensures reads { D.reads store.new ≡ D.reads store.old }
     ensures survives { KeepsEitherSave engine.old (D.holds store.old) (D.moments store.old) (D.moments store.new) }
     ensures durable { (s : State) → Stands engine.old (D.holds store.old) s

@@ -9,7 +9,9 @@ ghost use Rattle.wu_outside.specs.Faults.{HasFaultCause, Rose};
 ghost use Rattle.wu_outside.specs.Gains.{GainsPrefix};
 ghost use Rattle.wu_outside.specs.Surviving.{IsLeft, Leaves, LeavesNow};
 ghost use Rattle.wu_outside.specs.declared.ranges.ReadRange.{ReadRange};
+ghost use Rattle.wu_script.specs.Commands.{Save};
 ghost use Rattle.wu_script.specs.Items.{IsBeforeEnd};
+ghost use Rattle.wu_script.specs.Said.{Operates};
 ghost use Rattle.wu_image.specs.declared.roots.Root.{Root};
 ghost use Rattle.wu_options.specs.CommandLines.{command_line_of, texts_of};
 ghost use Rattle.wu_engine.specs.Crashes.{IsImageOf};
@@ -20,10 +22,10 @@ ghost use Rattle.wu_engine.specs.Opening.{HasRoot, HoldsImage, IsBeginCause, IsO
 ghost use Rattle.wu_engine.specs.States.{State, rested_state, saved_state};
 ghost use Rattle.wu_engine.specs.declared.faults.BeginFault.TheVariants.{Damaged as SavedIsDamaged};
 ghost use Rattle.wumpus_run.specs.Demo.{IfDemo, IsShown};
-ghost use Rattle.wumpus_run.specs.Kept.{KeepsDrawn, KeepsEitherSave, KeepsRootsCheckpoint};
+ghost use Rattle.wumpus_run.specs.Kept.{AddsDrawnFor, KeepsDrawn, KeepsEitherSave, KeepsRootsCheckpoint, TouchesNoStray};
 ghost use Rattle.wumpus_run.specs.Permitted.{ReadsPermitted};
 ghost use Rattle.wumpus_run.specs.Ended.{IsSession, status_of, status_of_fault, status_of_opening, status_of_saving, status_of_trouble};
-ghost use Rattle.wumpus_run.specs.Session.{AnswersAll, AnswersPrefix, AnswersTaken, Completes, FromImage, HasRoom, HoldsNothingBack, IsCounted, IsSpent, IsTooLong, IsUsage, LeavesNoStray, SavesAll, StaysShut, StaysWithin, TakesAll, moment, settings_of};
+ghost use Rattle.wumpus_run.specs.Session.{AnswersAll, AnswersPrefix, AnswersTaken, Completes, FromImage, HasRoom, HoldsNothingBack, IsCounted, IsSpent, IsTooLong, IsUsage, KeepsStrays, LeavesNoStray, OpensAlone, PutsOnlyDrawn, SavesAll, StaysShut, StaysWithin, TakesAll, UnlessTaken, moment, settings_of};
 ghost use Rattle.wumpus_run.specs.Raised.{SavesOnce};
 ghost use Rattle.wumpus_run.specs.Started.{IsStarted, settings_by};
 ghost use Rattle.wumpus_run.specs.Strays.{AddsNoStray};
@@ -102,6 +104,18 @@ pub fn run<I: Source, O: Sink, D: Store>(
         → LeavesEarlier root.next_blob (D.holds store.old) (D.holds store.new) }
     // It has the root that it had, also none, or one whose checkpoint is there, with as many bytes as the root says.
     ensures checkpoint { KeepsCheckpoint 0 (D.holds store.old) (D.holds store.new) }
+    // Whatever the status, no blob is touched that a session before left below the next one without a name.
+    ensures strays { FromImage (D.holds store.old) (λ s. KeepsStrays s.layout (D.holds store.old) (D.holds store.new)) }
+    // And none is there that wasn't, but those that the state names which the answered items left, and those that may have been drawn for
+    // the next item, or for the save at the end: in all, numbers from the next one on.
+    ensures puts { FromImage (D.holds store.old) (λ s. PutsOnlyDrawn s (settings_of (texts_of words.now))
+        (moment I.Source O.Sink D.Store source.old sink.old store.old)
+        (moment I.Source O.Sink D.Store source.new sink.new store.new)) }
+    // Before a byte is taken the store is only opened, and that syncs it once.
+    ensures opens { OpensAlone
+        (moment I.Source O.Sink D.Store source.old sink.old store.old)
+        (moment I.Source O.Sink D.Store source.new sink.new store.new)
+        (D.moments store.old) (D.moments store.new) }
     // Where the store leaves no room it holds what it held.
     ensures unopened { (next : ℕ) → result ≡ Status.Spent next → D.holds store.new ≡ D.holds store.old }
     // Where what it holds can't be opened, it holds the same afterwards, and no byte was taken or written.
@@ -183,6 +197,14 @@ fn answer_script<I: Source, O: Sink, D: Store>(
     ensures earlier { (content : Content) → D.holds store.old ≡ Some content → (root : Root) → HasRoot content root
         → LeavesEarlier root.next_blob (D.holds store.old) (D.holds store.new) }
     ensures checkpoint { KeepsCheckpoint 0 (D.holds store.old) (D.holds store.new) }
+    ensures strays { FromImage (D.holds store.old) (λ s. KeepsStrays s.layout (D.holds store.old) (D.holds store.new)) }
+    ensures puts { FromImage (D.holds store.old) (λ s. PutsOnlyDrawn s (Some settings)
+        (moment I.Source O.Sink D.Store source.old sink.old store.old)
+        (moment I.Source O.Sink D.Store source.new sink.new store.new)) }
+    ensures opens { OpensAlone
+        (moment I.Source O.Sink D.Store source.old sink.old store.old)
+        (moment I.Source O.Sink D.Store source.new sink.new store.new)
+        (D.moments store.old) (D.moments store.new) }
     ensures unopened { (next : ℕ) → result ≡ Status.Spent next → D.holds store.new ≡ D.holds store.old }
     ensures shut { StaysShut (Some settings)
         (moment I.Source O.Sink D.Store source.old sink.old store.old)
@@ -224,6 +246,12 @@ fn answer_items<I: Source, O: Sink, D: Store>(
     ensures earlier { (content : Content) → D.holds store.old ≡ Some content → (root : Root) → HasRoot content root
         → LeavesEarlier root.next_blob (D.holds store.old) (D.holds store.new) }
     ensures checkpoint { KeepsCheckpoint 0 (D.holds store.old) (D.holds store.new) }
+    ensures strays { FromImage (D.holds store.old) (λ s. KeepsStrays s.layout (D.holds store.old) (D.holds store.new)) }
+    ensures puts { FromImage (D.holds store.old) (λ s. PutsOnlyDrawn s (Some (settings_by reader.old engine.old))
+        (moment I.Source O.Sink D.Store source.old sink.old store.old)
+        (moment I.Source O.Sink D.Store source.new sink.new store.new)) }
+    ensures untaken { UnlessTaken (I.left source.old) (I.left source.new)
+        ((D.holds store.new ≡ D.holds store.old) × (D.moments store.new ≡ D.moments store.old)) }
     ensures broken { (content : Content) → D.holds store.old ≡ Some content → (blob : ℕ) → result ≡ Status.Damaged blob
         → HasBroken content blob }
     ensures opened { (next : ℕ) → result ≡ Status.Spent next → ⊥ }
@@ -293,6 +321,8 @@ fn save<D: Store>(engine: &mut Engine, store: &mut D) -> Status
     requires flushes { engine.old.parts.flushes + 1 < 2 ^ 63 }
     ensures image { (s : State) → Stands engine.old (D.holds store.old) s → result ≡ Status.Done
         → HoldsImage (D.holds store.new) (rested_state (saved_state s)) }
+    ensures strays { TouchesNoStray engine.old (D.holds store.old) (D.holds store.new) }
+    ensures puts { AddsDrawnFor (Operates Save) engine.old (D.holds store.old) (D.holds store.new) }
     ensures named { (s : State) → Stands engine.old (D.holds store.old) s → result ≡ Status.Done
         → AddsNoStray s.layout (D.holds store.old) (rested_state (saved_state s)).layout (D.holds store.new) }
     ensures survives { KeepsEitherSave engine.old (D.holds store.old) (D.moments store.old) (D.moments store.new) }

@@ -16,6 +16,8 @@ use Rattle.wumpus_run.proofs.AloneStores.{alone_after_event, alone_anyway, alone
 use Rattle.wumpus_run.proofs.CrashesUnderWay.{keeps_saves, saves_as_before, saves_none, saves_one}
 use Rattle.wumpus_run.proofs.NamedCheckpoints.{checkpoint_others, checkpoint_same, drawn_again, drawn_others}
 use Rattle.wumpus_run.proofs.SessionReads.{reads_nothing}
+use Rattle.wumpus_run.proofs.DrawnBlobs.{adds_alone, adds_drawn}
+use Rattle.wumpus_run.proofs.StrayBlobs.{touches_alone, touches_drawn}
 use Rattle.wumpus_run.proofs.answering.reply_to.Goals as goal
 
 pub returns-in-Command-Update-clause-permitted : goal.returns-in-Command-Update-clause-permitted
@@ -229,3 +231,77 @@ returns-in-Command-Save-clause-untouched g c =
 
 pub returns-in-Command-Stat-clause-untouched : goal.returns-in-Command-Stat-clause-untouched
 returns-in-Command-Stat-clause-untouched g c = alone_anyway _ c.args.item c.args.engine.now.parts c.reply_to_stat.result refl
+
+pub returns-in-Command-Update-clause-strays : goal.returns-in-Command-Update-clause-strays
+returns-in-Command-Update-clause-strays g c =
+    touches_drawn c.args.engine.now _ (g.D.Store.holds c.args.store.now) (g.D.Store.holds c.reply_to_event.new.store)
+    c.reply_to_event.ensures.elsewhere
+
+pub returns-in-Text-clause-strays : goal.returns-in-Text-clause-strays
+returns-in-Text-clause-strays g c =
+    touches_drawn c.args.engine.now _ (g.D.Store.holds c.args.store.now) (g.D.Store.holds c.reply_to_event-in-Text.new.store)
+    c.reply_to_event-in-Text.ensures.elsewhere
+
+pub returns-in-Command-Flush-clause-strays : goal.returns-in-Command-Flush-clause-strays
+returns-in-Command-Flush-clause-strays g c =
+    touches_drawn c.args.engine.now _ (g.D.Store.holds c.args.store.now) (g.D.Store.holds c.reply_to_flush.new.store)
+    c.reply_to_flush.ensures.elsewhere
+
+pub returns-in-Command-Work-clause-strays : goal.returns-in-Command-Work-clause-strays
+returns-in-Command-Work-clause-strays g c =
+    touches_drawn c.args.engine.now _ (g.D.Store.holds c.args.store.now) (g.D.Store.holds c.reply_to_work.new.store)
+    c.reply_to_work.ensures.elsewhere
+
+pub returns-in-Command-Ask-clause-strays : goal.returns-in-Command-Ask-clause-strays
+returns-in-Command-Ask-clause-strays g c =
+    touches_alone c.args.engine.now (g.D.Store.holds c.args.store.now) (g.D.Store.holds c.reply_to_query.new.store)
+    c.reply_to_query.ensures.holds
+
+pub returns-in-Command-Stat-clause-strays : goal.returns-in-Command-Stat-clause-strays
+returns-in-Command-Stat-clause-strays g c =
+    touches_alone c.args.engine.now (g.D.Store.holds c.args.store.now) (g.D.Store.holds c.args.store.now) refl
+
+pub returns-in-Refused-clause-strays : goal.returns-in-Refused-clause-strays
+returns-in-Refused-clause-strays g c =
+    touches_alone c.args.engine.now (g.D.Store.holds c.args.store.now) (g.D.Store.holds c.args.store.now) refl
+
+pub returns-in-Blank-clause-strays : goal.returns-in-Blank-clause-strays
+returns-in-Blank-clause-strays g c =
+    touches_alone c.args.engine.now (g.D.Store.holds c.args.store.now) (g.D.Store.holds c.args.store.now) refl
+
+pub returns-in-Command-Update-clause-puts : goal.returns-in-Command-Update-clause-puts
+returns-in-Command-Update-clause-puts g c =
+    adds_drawn c.args.engine.now (g.D.Store.holds c.args.store.now) (g.D.Store.holds c.reply_to_event.new.store) c.args.item _ _
+    (c.in-Command-Update.is ∙ ap items.Command c.in-Command-Update.field-0-is) refl c.reply_to_event.ensures.elsewhere
+
+pub returns-in-Text-clause-puts : goal.returns-in-Text-clause-puts
+returns-in-Text-clause-puts g c =
+    adds_drawn c.args.engine.now (g.D.Store.holds c.args.store.now) (g.D.Store.holds c.reply_to_event-in-Text.new.store) c.args.item _ _
+    c.in-Text.is refl c.reply_to_event-in-Text.ensures.elsewhere
+
+pub returns-in-Command-Flush-clause-puts : goal.returns-in-Command-Flush-clause-puts
+returns-in-Command-Flush-clause-puts g c =
+    adds_drawn c.args.engine.now (g.D.Store.holds c.args.store.now) (g.D.Store.holds c.reply_to_flush.new.store) c.args.item _ _
+    (c.in-Command-Flush.is ∙ ap items.Command c.in-Command-Flush.field-0-is) refl c.reply_to_flush.ensures.elsewhere
+
+pub returns-in-Command-Work-clause-puts : goal.returns-in-Command-Work-clause-puts
+returns-in-Command-Work-clause-puts g c =
+    adds_drawn c.args.engine.now (g.D.Store.holds c.args.store.now) (g.D.Store.holds c.reply_to_work.new.store) c.args.item _ _
+    (c.in-Command-Work.is ∙ ap items.Command c.in-Command-Work.field-0-is) refl c.reply_to_work.ensures.elsewhere
+
+pub returns-in-Command-Ask-clause-puts : goal.returns-in-Command-Ask-clause-puts
+returns-in-Command-Ask-clause-puts g c =
+    adds_alone c.args.engine.now (said_by c.args.item) (g.D.Store.holds c.args.store.now) (g.D.Store.holds c.reply_to_query.new.store)
+    c.reply_to_query.ensures.holds
+
+pub returns-in-Command-Stat-clause-puts : goal.returns-in-Command-Stat-clause-puts
+returns-in-Command-Stat-clause-puts g c =
+    adds_alone c.args.engine.now (said_by c.args.item) (g.D.Store.holds c.args.store.now) (g.D.Store.holds c.args.store.now) refl
+
+pub returns-in-Refused-clause-puts : goal.returns-in-Refused-clause-puts
+returns-in-Refused-clause-puts g c =
+    adds_alone c.args.engine.now (said_by c.args.item) (g.D.Store.holds c.args.store.now) (g.D.Store.holds c.args.store.now) refl
+
+pub returns-in-Blank-clause-puts : goal.returns-in-Blank-clause-puts
+returns-in-Blank-clause-puts g c =
+    adds_alone c.args.engine.now (said_by c.args.item) (g.D.Store.holds c.args.store.now) (g.D.Store.holds c.args.store.now) refl

@@ -1,5 +1,6 @@
 use Rattle.std.proofs.Common.{◌+◌, Err, ap, refl, subst, arith}
 use Rattle.std.specs.Io.KnownBytes.{prepend_known}
+use Rattle.wu_script.specs.Holding.{Held}
 use Rattle.wu_script.specs.Items.{IsNext, TakesItem}
 use Rattle.wu_script.specs.Said.{said_by, tokens_given}
 use Rattle.wumpus_run.specs.Replies.{said_bytes}
@@ -17,7 +18,9 @@ use Rattle.wumpus_run.proofs.StartedStates.{IsUnderWay-none, IsUnderWay-turn, Is
 use Rattle.wumpus_run.proofs.StartedStates.{IsSession-unwritten}
 use Rattle.wumpus_run.proofs.NamedCheckpoints.{checkpoint_same, checkpoint_then, drawn_at_first}
 use Rattle.wumpus_run.proofs.ReadsAtEnd.{permitted_saved, permitted_stopped, permitted_unanswered, permitted_unwritten}
+use Rattle.wumpus_run.proofs.PutsAtEnd.{puts_saved, puts_stopped, puts_unanswered, puts_unwritten}
 use Rattle.wumpus_run.proofs.SessionReads.{HasRead-none, HasRead-turn}
+use Rattle.wumpus_run.proofs.UntakenBytes.{untaken_end, untaken_further, untaken_item, untaken_map, untaken_so}
 use Rattle.wumpus_run.proofs.session.answer_items.Goals as goal
 
 pub returns-in-Err-clause-session : goal.returns-in-Err-clause-session
@@ -120,6 +123,7 @@ items-preserved g c =
             appended c.answer.new.out.items c.clear.new.self.items (said_bytes s (said_by item)) answers.0 c.clear.ensures.items,
             answers.1,
             done.named s stands,
+            done.strays s stands,
           )) c.as_slice.ensures.value c.in-Ok-write_reply.ensures.ok;
       permitted = λ reads opening s image. HasRead-turn _ s (c.items.invariant.permitted reads opening s image) item
           c.answer.new.out.items c.clear.new.self.items c.as_slice.result.now c.if-is_end.ensures (c.in-Ok.ensures.first i.at_end)
@@ -138,6 +142,9 @@ items-preserved g c =
           (λ content e. done.earlier content (c.items.invariant.goes content e))
           (λ content e. done.checkpoint content (c.items.invariant.goes content e));
       rooted = done.rooted c.items.invariant.rooted;
+      untaken = untaken_item _ (g.I.Source.left c.args.source.now) (g.I.Source.left c.items.source) (g.I.Source.left c.next.new.source)
+          i.taken.0 (g.I.Source.last_read c.next.new.source) c.items.reader c.next.new.self item i.taken.1 c.if-is_end.ensures
+          c.in-Ok.ensures.taken (untaken_map _ _ _ _ (λ so. so.0) c.items.invariant.untaken);
       follows = c.in-Ok.ensures.follows;
     }
 
@@ -156,6 +163,7 @@ returns-in-Err-write_reply-clause-session g c =
       appended c.answer.new.out.items c.clear.new.self.items (said_bytes s (said_by item)) answers.0 c.clear.ensures.items,
       answers.1,
       c.in-Ok-answer.ensures.named s stands,
+      c.in-Ok-answer.ensures.strays s stands,
     ))
     c.as_slice.ensures.value c.in-Err-write_reply.ensures.err)
 
@@ -179,6 +187,7 @@ items-init g c =
       earlier = HasLeft-none before.holds before.holds engine.parts.next_blob refl i.drawn;
       checkpoint = checkpoint_same 0 before.holds before.holds refl;
       rooted = drawn_at_first before.holds engine.parts.next_blob i.drawn;
+      untaken = untaken_so _ before.left before.left (ap (λ (held : Held). held.bytes) i.unread, refl, refl);
       follows = rw i.unread (record { going = λ h. c.requires.goes_on; recent = omega arith });
     }
 
@@ -360,3 +369,81 @@ returns-in-Err-answer-clause-met g c =
 pub returns-in-Err-write_reply-clause-met : goal.returns-in-Err-write_reply-clause-met
 returns-in-Err-write_reply-clause-met g c =
     rw c.status_of_fault.ensures (λ e. absurd (writing c.in-Err-write_reply.fault StoreFault refl e))
+
+pub returns-in-Err-clause-strays : goal.returns-in-Err-clause-strays
+returns-in-Err-clause-strays g c = λ s image. (c.items.invariant.under_way.from s image).strays.same
+
+pub returns-then-is_end-clause-strays : goal.returns-then-is_end-clause-strays
+returns-then-is_end-clause-strays g c = λ s image.
+    let so_far = c.items.invariant.under_way.from s image in
+    c.save.ensures.strays so_far.state so_far.stands s.layout (g.D.Store.holds c.args.store.now) so_far.strays
+
+pub returns-in-Err-answer-clause-strays : goal.returns-in-Err-answer-clause-strays
+returns-in-Err-answer-clause-strays g c = λ s image.
+    let so_far = c.items.invariant.under_way.from s image in
+    c.answer.ensures.strays so_far.state so_far.stands s.layout (g.D.Store.holds c.args.store.now) so_far.strays
+
+pub returns-in-Err-write_reply-clause-strays : goal.returns-in-Err-write_reply-clause-strays
+returns-in-Err-write_reply-clause-strays g c = λ s image.
+    let so_far = c.items.invariant.under_way.from s image in
+    c.answer.ensures.strays so_far.state so_far.stands s.layout (g.D.Store.holds c.args.store.now) so_far.strays
+
+pub returns-in-Err-clause-untaken : goal.returns-in-Err-clause-untaken
+returns-in-Err-clause-untaken g c =
+    let taken = c.items.invariant.under_way.taken in
+    let early = c.in-Err.ensures.early in
+    untaken_further _ (g.I.Source.left c.args.source.now) (g.I.Source.left c.items.source) (g.I.Source.left c.next.new.source)
+    taken.0 early.given taken.1 early.consumed (untaken_map _ _ _ _ (λ so. (so.1, so.2)) c.items.invariant.untaken)
+
+pub returns-then-is_end-clause-untaken : goal.returns-then-is_end-clause-untaken
+returns-then-is_end-clause-untaken g c =
+    let taken = subst (λ item. TakesItem (g.I.Source.left c.items.source) (g.I.Source.left c.next.new.source)
+    (g.I.Source.last_read c.next.new.source) c.items.reader c.next.new.self item) c.if-is_end.ensures c.in-Ok.ensures.taken in
+    untaken_end _ (g.I.Source.left c.args.source.now) (g.I.Source.left c.next.new.source)
+    (c.in-Ok.ensures.at_end c.items.invariant.under_way.at_end taken.2.2)
+
+pub returns-in-Err-answer-clause-untaken : goal.returns-in-Err-answer-clause-untaken
+returns-in-Err-answer-clause-untaken g c =
+    let taken = c.items.invariant.under_way.taken in
+    untaken_item _ (g.I.Source.left c.args.source.now) (g.I.Source.left c.items.source) (g.I.Source.left c.next.new.source)
+    taken.0 (g.I.Source.last_read c.next.new.source) c.items.reader c.next.new.self c.in-Ok.item taken.1 c.if-is_end.ensures
+    c.in-Ok.ensures.taken (untaken_map _ _ _ _ (λ so. so.0) c.items.invariant.untaken)
+
+pub returns-in-Err-write_reply-clause-untaken : goal.returns-in-Err-write_reply-clause-untaken
+returns-in-Err-write_reply-clause-untaken g c =
+    let taken = c.items.invariant.under_way.taken in
+    untaken_item _ (g.I.Source.left c.args.source.now) (g.I.Source.left c.items.source) (g.I.Source.left c.next.new.source)
+    taken.0 (g.I.Source.last_read c.next.new.source) c.items.reader c.next.new.self c.in-Ok.item taken.1 c.if-is_end.ensures
+    c.in-Ok.ensures.taken (untaken_map _ _ _ _ (λ so. so.0) c.items.invariant.untaken)
+
+pub returns-in-Err-clause-puts : goal.returns-in-Err-clause-puts
+returns-in-Err-clause-puts g c = λ s image.
+    puts_stopped _ s _ _ _ _ (c.items.invariant.under_way.from s image)
+    (moment g.I.Source g.O.Sink g.D.Store c.next.new.source c.items.sink c.items.store) refl refl
+
+pub returns-then-is_end-clause-puts : goal.returns-then-is_end-clause-puts
+returns-then-is_end-clause-puts g c = λ s image.
+    let known = prepend_known c.items.reader.bytes (g.I.Source.left c.items.source) in
+    let rest = prepend_known c.next.new.self.bytes (g.I.Source.left c.next.new.source) in
+    puts_saved _ s _ _ _ _ (c.items.invariant.under_way.from s image)
+    (moment g.I.Source g.O.Sink g.D.Store c.next.new.source c.items.sink c.save.new.store) rest
+    (subst (IsNext known rest) c.if-is_end.ensures (c.in-Ok.ensures.first c.items.invariant.under_way.at_end)) refl c.save.ensures.puts
+
+pub returns-in-Err-answer-clause-puts : goal.returns-in-Err-answer-clause-puts
+returns-in-Err-answer-clause-puts g c = λ s image.
+    puts_unanswered _ s _ _ _ _ (c.items.invariant.under_way.from s image)
+    (moment g.I.Source g.O.Sink g.D.Store c.next.new.source c.items.sink c.answer.new.store) c.in-Ok.item
+    (prepend_known c.next.new.self.bytes (g.I.Source.left c.next.new.source)) c.if-is_end.ensures
+    (c.in-Ok.ensures.first c.items.invariant.under_way.at_end) c.answer.ensures.puts refl
+
+pub returns-in-Err-write_reply-clause-puts : goal.returns-in-Err-write_reply-clause-puts
+returns-in-Err-write_reply-clause-puts g c = λ s image.
+    let so_far = c.items.invariant.under_way.from s image in
+    let item = c.in-Ok.item in
+    puts_unwritten _ s _ _ _ _ so_far
+    (moment g.I.Source g.O.Sink g.D.Store c.next.new.source c.write_reply.new.sink c.answer.new.store) item
+    (prepend_known c.next.new.self.bytes (g.I.Source.left c.next.new.source)) c.if-is_end.ensures
+    (c.in-Ok.ensures.first c.items.invariant.under_way.at_end) c.answer.ensures.puts c.answer.new.out.items c.as_slice.result.now
+    (appended c.answer.new.out.items c.clear.new.self.items (said_bytes so_far.state (said_by item))
+    (c.in-Ok-answer.ensures.answer so_far.state so_far.stands).0 c.clear.ensures.items)
+    c.as_slice.ensures.value c.in-Err-write_reply.ensures.err

@@ -1,4 +1,4 @@
-use Rattle.std.proofs.Common.{◌≡◌, ◌+◌, List, length, Option, Some}
+use Rattle.std.proofs.Common.{◌≡◌, ◌+◌, List, [], length, Option, Some}
 use Rattle.wu_outside.specs.Content.{Content}
 use Rattle.wu_outside.specs.Crash.{Moments}
 use Rattle.wu_outside.specs.Surviving.{IsLeft, Leaves}
@@ -8,7 +8,7 @@ use Rattle.wu_engine.specs.Earlier.{KeepsCheckpoint}
 use Rattle.wu_engine.specs.Going.{Goes}
 use Rattle.wu_engine.specs.Opening.{IsOpen}
 use Rattle.wumpus_run.specs.Kept.{NamesDrawn}
-use Rattle.wumpus_run.specs.Session.{FromImage, moment}
+use Rattle.wumpus_run.specs.Session.{FromImage, UnlessTaken, moment}
 use Rattle.wumpus_run.specs.Started.{settings_by}
 use Rattle.wumpus_run.proofs.CrashesUnderWay.{HasKept}
 use Rattle.wumpus_run.proofs.EarlierLemmas.{HasLeft}
@@ -36,6 +36,8 @@ invariant-items g l = record {
   earlier : HasLeft (g.D.Store.holds l.fn.store) (g.D.Store.holds l.store) l.engine.parts.next_blob;
   checkpoint : KeepsCheckpoint 0 (g.D.Store.holds l.fn.store) (g.D.Store.holds l.store);
   rooted : NamesDrawn l.engine.parts.next_blob (g.D.Store.holds l.store);
+  untaken : UnlessTaken (g.I.Source.left l.fn.source) (g.I.Source.left l.source) ((l.reader.bytes ≡ [])
+      × (g.D.Store.holds l.store ≡ g.D.Store.holds l.fn.store) × (g.D.Store.moments l.store ≡ g.D.Store.moments l.fn.store));
   follows : Follows (g.I.Source.ended l.source) (g.I.Source.last_read l.source) l.reader;
 }
 

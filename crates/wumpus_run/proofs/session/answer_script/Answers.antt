@@ -7,17 +7,20 @@ use Rattle.wu_engine.specs.Opening.{HoldsImage, IsOpen}
 use Rattle.wumpus_run.specs.Crashes.{Survives}
 use Rattle.wumpus_run.specs.Permitted.{ReadsPermitted}
 use Rattle.wumpus_run.specs.Ended.{IsSession}
-use Rattle.wumpus_run.specs.Session.{FromImage, Moment, moment}
+use Rattle.wumpus_run.specs.Session.{FromImage, KeepsStrays, Moment, PutsOnlyDrawn, moment}
 use Rattle.wumpus_run.specs.Started.{IsUnspent}
 use Rattle.wumpus_run.proofs.BrokenBlobs.{opening_broken}
 use Rattle.wumpus_run.proofs.CrashesAtEnd.{IsUnopened-fault, Survives-unopened}
 use Rattle.wumpus_run.proofs.EarlierLemmas.{left_alone}
 use Rattle.wumpus_run.proofs.NamedCheckpoints.{checkpoint_same}
 use Rattle.wumpus_run.proofs.OpenedSessions.{made_by, since_opening}
+use Rattle.wumpus_run.proofs.PutsAtEnd.{puts_none}
 use Rattle.wumpus_run.proofs.ReadsAtEnd.{permitted_unopened}
 use Rattle.wumpus_run.proofs.ShutStores.{shut-opened, shut-told}
 use Rattle.wumpus_run.proofs.SpentStores.{IsUnspent-opened}
 use Rattle.wumpus_run.proofs.StartedStates.{IsSession-unopened}
+use Rattle.wumpus_run.proofs.StrayBlobs.{strays_alone}
+use Rattle.wumpus_run.proofs.UntakenBytes.{opens_alone, untaken_so}
 use Rattle.wumpus_run.proofs.session.answer_script.Goals as goal
 
 pub returns-in-Err-clause-session : goal.returns-in-Err-clause-session
@@ -141,3 +144,40 @@ returns-clause-unopened g c = λ next is. absurd (c.answer_items.ensures.opened 
 
 pub returns-clause-shut : goal.returns-clause-shut
 returns-clause-shut g c = shut-opened _ (g.D.Store.holds c.args.store.now) c.in-Ok.ensures.open.0 c.in-Ok.ensures.open.1
+
+pub returns-in-Err-clause-strays : goal.returns-in-Err-clause-strays
+returns-in-Err-clause-strays g c = λ s image.
+    strays_alone s.layout (g.D.Store.holds c.args.store.now) (g.D.Store.holds c.start.new.store) c.in-Err.ensures.holds
+
+pub returns-clause-strays : goal.returns-clause-strays
+returns-clause-strays g c =
+    subst (λ (holds : Option Content). FromImage holds (λ s. KeepsStrays s.layout holds (g.D.Store.holds c.answer_items.new.store)))
+    c.in-Ok.ensures.holds c.answer_items.ensures.strays
+
+pub returns-in-Err-clause-opens : goal.returns-in-Err-clause-opens
+returns-in-Err-clause-opens g c =
+    untaken_so _ (g.I.Source.left c.args.source.now) (g.I.Source.left c.args.source.now) (c.in-Err.ensures.holds, c.in-Err.ensures.still)
+
+pub returns-clause-opens : goal.returns-clause-opens
+returns-clause-opens g c =
+    let e = c.in-Ok.ensures in
+    opens_alone (moment g.I.Source g.O.Sink g.D.Store c.args.source.now c.args.sink.now c.args.store.now)
+    (moment g.I.Source g.O.Sink g.D.Store c.answer_items.new.source c.answer_items.new.sink c.answer_items.new.store)
+    (g.D.Store.holds c.start.new.store) (g.D.Store.moments c.args.store.now) (g.D.Store.moments c.start.new.store)
+    (g.D.Store.moments c.answer_items.new.store) e.holds e.settled c.answer_items.ensures.untaken
+
+pub returns-in-Err-clause-puts : goal.returns-in-Err-clause-puts
+returns-in-Err-clause-puts g c = λ s image.
+    puts_none (Some c.args.settings) s (moment g.I.Source g.O.Sink g.D.Store c.args.source.now c.args.sink.now c.args.store.now)
+    (moment g.I.Source g.O.Sink g.D.Store c.args.source.now c.args.sink.now c.start.new.store) refl c.in-Err.ensures.holds
+
+pub returns-clause-puts : goal.returns-clause-puts
+returns-clause-puts g c =
+    let e = c.in-Ok.ensures in
+    let told = c.args.settings in
+    let before = moment g.I.Source g.O.Sink g.D.Store c.args.source.now c.args.sink.now c.args.store.now in
+    let now = moment g.I.Source g.O.Sink g.D.Store c.answer_items.new.source c.answer_items.new.sink c.answer_items.new.store in
+    since_opening (λ (t : Settings) (m : Moment). FromImage m.holds (λ s. PutsOnlyDrawn s (Some t) m now)) told _ before
+    (g.D.Store.holds c.start.new.store) (g.D.Store.faults c.start.new.store)
+    (made_by told c.in-Ok.start.0 c.in-Ok.start.1 (ap (λ (held : Held). held.spare) e.reader) e.flush_at) e.holds e.calm
+    c.answer_items.ensures.puts

@@ -1,4 +1,4 @@
-use Rattle.std.proofs.Common.{Option, Some, refl, sym, ap, ◌∙◌, subst}
+use Rattle.std.proofs.Common.{Option, Some, inl, refl, sym, ap, ◌∙◌, subst}
 use Rattle.wu_options.specs.CommandLines.{command_line_of, texts_of}
 use Rattle.wu_options.specs.declared.command_lines.Settings.{Settings}
 use Rattle.wumpus_run.specs.Session.{moment, settings_of, Completes}
@@ -10,10 +10,13 @@ use Rattle.wumpus_run.proofs.EarlierLemmas.{left_alone}
 use Rattle.wumpus_run.proofs.TakenAtEnd.{Completes-all, IsTooLong-none}
 use Rattle.wumpus_run.proofs.PromptAtEnd.{AnswersAllButOneRead-untouched}
 use Rattle.wumpus_run.proofs.TakenReplies.{AnswersTaken-untouched}
+use Rattle.wumpus_run.proofs.PutsAtEnd.{puts_none}
 use Rattle.wumpus_run.proofs.RootRoom.{has_room}
 use Rattle.wumpus_run.proofs.NamedCheckpoints.{checkpoint_same}
 use Rattle.wumpus_run.proofs.ReadsAtEnd.{permitted_untouched}
 use Rattle.wumpus_run.proofs.ShutStores.{shut-unread}
+use Rattle.wumpus_run.proofs.StrayBlobs.{strays_alone}
+use Rattle.wumpus_run.proofs.UntakenBytes.{untaken_so}
 use Rattle.wumpus_run.proofs.session.run.Goals as goal
 
 pub answer_script-requires-clause-within : goal.answer_script-requires-clause-within
@@ -105,3 +108,32 @@ pub returns-in-Ok-Some-Demo-clause-store_fault : goal.returns-in-Ok-Some-Demo-cl
 returns-in-Ok-Some-Demo-clause-store_fault g c =
     other-calm c.in-Ok-Some-Demo.number StoreFault c.demo.result (g.O.Sink.gained c.args.sink.now) (g.O.Sink.gained c.demo.new.sink)
     (g.D.Store.faults c.args.store.now) c.demo.ensures.shown (λ e. cc) (λ e. cc) (λ e. cc)
+
+pub returns-in-Err-clause-strays : goal.returns-in-Err-clause-strays
+returns-in-Err-clause-strays g c = λ s image.
+    strays_alone s.layout (g.D.Store.holds c.args.store.now) (g.D.Store.holds c.args.store.now) refl
+
+pub returns-in-Err-clause-opens : goal.returns-in-Err-clause-opens
+returns-in-Err-clause-opens g c =
+    untaken_so _ (g.I.Source.left c.args.source.now) (g.I.Source.left c.args.source.now) (refl, inl refl)
+
+pub returns-in-Ok-None-clause-strays : goal.returns-in-Ok-None-clause-strays
+returns-in-Ok-None-clause-strays g c = λ s image.
+    strays_alone s.layout (g.D.Store.holds c.args.store.now) (g.D.Store.holds c.args.store.now) refl
+
+pub returns-in-Ok-None-clause-opens : goal.returns-in-Ok-None-clause-opens
+returns-in-Ok-None-clause-opens g c =
+    untaken_so _ (g.I.Source.left c.args.source.now) (g.I.Source.left c.args.source.now) (refl, inl refl)
+
+pub returns-in-Ok-Some-Demo-clause-strays : goal.returns-in-Ok-Some-Demo-clause-strays
+returns-in-Ok-Some-Demo-clause-strays g c = λ s image.
+    strays_alone s.layout (g.D.Store.holds c.args.store.now) (g.D.Store.holds c.args.store.now) refl
+
+pub returns-in-Ok-Some-Demo-clause-opens : goal.returns-in-Ok-Some-Demo-clause-opens
+returns-in-Ok-Some-Demo-clause-opens g c =
+    untaken_so _ (g.I.Source.left c.args.source.now) (g.I.Source.left c.args.source.now) (refl, inl refl)
+
+pub returns-in-Err-clause-puts : goal.returns-in-Err-clause-puts
+returns-in-Err-clause-puts g c = λ s image.
+    let before = moment g.I.Source g.O.Sink g.D.Store c.args.source.now c.args.sink.now c.args.store.now in
+    puts_none (settings_of (texts_of c.args.words.now)) s before before refl refl

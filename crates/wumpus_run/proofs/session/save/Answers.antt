@@ -2,6 +2,8 @@ use Rattle.std.proofs.Common.{rules, sym, ◌∙◌}
 use Rattle.wumpus_run.proofs.FaultCounts.{IsCounted-saved}
 use Rattle.wumpus_run.proofs.EndStatuses.{ends_saving, met_saving, saved_done, told_saving}
 use Rattle.wumpus_run.proofs.NamedAtEnd.{none_at_end}
+use Rattle.wumpus_run.proofs.DrawnBlobs.{adds_saved}
+use Rattle.wumpus_run.proofs.StrayBlobs.{touches_saved}
 use Rattle.wumpus_run.proofs.session.save.Goals as goal
 
 pub returns-clause-image : goal.returns-clause-image
@@ -34,3 +36,11 @@ returns-clause-told g c = λ trouble e.
 
 pub returns-clause-met : goal.returns-clause-met
 returns-clause-met g c = λ e. met_saving _ c.save.new.self.ended (search rules) (sym c.status_of_saving.ensures ∙ e)
+
+pub returns-clause-strays : goal.returns-clause-strays
+returns-clause-strays g c =
+    touches_saved c.args.engine.now _ (g.D.Store.holds c.args.store.now) (g.D.Store.holds c.save.new.store) c.save.ensures.elsewhere
+
+pub returns-clause-puts : goal.returns-clause-puts
+returns-clause-puts g c =
+    adds_saved c.args.engine.now (g.D.Store.holds c.args.store.now) (g.D.Store.holds c.save.new.store) c.save.ensures.elsewhere
