@@ -15,6 +15,7 @@ mod plain_store;
 mod ranges;
 mod schedule;
 mod standard;
+mod system;
 mod traits;
 mod writing;
 
