@@ -1,5 +1,6 @@
 # make try     runs the examples of one session on an unproved build, to have a look: under a minute and a half
 # make demo    proves what the program needs, builds it, and runs the examples
+# make edge    runs the built program over real descriptors and folders: closed, full, forbidden, taken
 # make         proves and builds; make install PREFIX=.. copies the built program
 # make check   the gate
 PREFIX ?= /usr/local
@@ -8,7 +9,7 @@ WUMPUS := crates/wumpus/out/wumpus
 EXAMPLES := home regions ranking find flush work
 CRATES := $(shell sed -n -e '/_tests:/d' -e '/^wu_rows:/d' -e 's/^\([a-z_0-9]*\):.*/\1/p' crates.txt)
 
-.PHONY: all try demo install check clean
+.PHONY: all try demo edge install check clean
 
 all:
 	@mkdir -p out && touch out/started
@@ -27,6 +28,9 @@ demo: all
 	done
 	@echo '== demo 7'
 	@$(WUMPUS) demo 7
+
+edge: all
+	@tools/edge $(WUMPUS)
 
 install: all
 	install -d $(DESTDIR)$(PREFIX)/bin
