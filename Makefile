@@ -6,12 +6,13 @@
 # make check    the gate: proves every crate, tries the wrong bodies, runs tests and program
 # make clean    removes what was proved and built
 # make no-memory  refuses each growth of memory in turn, in sessions of the built program; needs a C compiler
+# make edge     runs the built program over real descriptors and folders: closed, full, forbidden, taken
 PREFIX ?= /usr/local
 JOBS ?= $(shell nproc)
 WUMPUS := crates/wumpus/out/wumpus
 CRATES := $(shell sed -n -e '/_tests:/d' -e '/^wu_rows:/d' -e 's/^\([a-z_0-9]*\):.*/\1/p' crates.txt)
 
-.PHONY: all try test demo install check no-memory clean
+.PHONY: all try test demo edge install check no-memory clean
 
 all:
 	@mkdir -p out && touch out/started
@@ -29,6 +30,9 @@ test:
 
 demo: all
 	@tools/test --program $(WUMPUS)
+
+edge: all
+	@tools/edge $(WUMPUS)
 
 install: all
 	install -d $(DESTDIR)$(PREFIX)/bin

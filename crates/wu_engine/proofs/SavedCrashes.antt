@@ -6,11 +6,10 @@ use Rattle.wu_base.proofs.Members.{Has}
 use Rattle.wu_base.specs.declared.limits.TheConstants.{ADDRESSES_MAX}
 use Rattle.wu_image.proofs.ImageLemmas.{counted}
 use Rattle.wu_outside.specs.declared.traits.Fault.{Fault}
-use Rattle.wu_outside.specs.declared.traits.Fault.TheVariants.{Failed}
-use Rattle.wu_outside.specs.Content.{Content, MayDo, no_content, with_blob, with_root}
-use Rattle.wu_outside.specs.Crash.{AreAlike, Moments, Put, SetRoot, settle, try_change}
+use Rattle.wu_outside.specs.Content.{Content, no_content, with_blob, with_root}
+use Rattle.wu_outside.specs.Crash.{AreAlike, MayTry, Moments, Put, SetRoot, settle, try_change}
 use Rattle.wu_outside.specs.Surviving.{Leaves, LeavesNow}
-use Rattle.wu_outside.proofs.Survival.{Ignores, both_now, kept, leaves_more, leaves_then, more_now, remove_leaves, root_leaves, strays, sync_leaves, synced}
+use Rattle.wu_outside.proofs.Survival.{Ignores, both_now, kept, leaves_more, leaves_then, more_now, remove_leaves, root_may_leave, strays, sync_leaves, synced}
 use Rattle.wu_layout.specs.Invariants.{BlobsAreDistinct}
 use Rattle.wu_layout.specs.Layouts.{Layout}
 use Rattle.wu_layout.specs.Postings.{Posting, live_of}
@@ -287,12 +286,10 @@ module _ (old : Engine) (s : State) (before : Told) (stands : Stands old before.
       of_either content (inr image) = inr image
 
       root_left : (after : Option Moments)
-          → MayDo (try_change (SetRoot prepared.root) (with_root prepared.root)) put_told.1 after → Leaves put_told.1 after Either
+          → MayTry (SetRoot prepared.root) (with_root prepared.root) put_told.1 after → Leaves put_told.1 after Either
       root_left after may =
-          let failed : Result ℕ Fault = Err Failed in
           leaves_more put_told.1 after (λ left. Held left ⊎ IsImageOf next left) Either of_either
-          (root_leaves put_told.1 after prepared.root failed Held (IsImageOf next)
-          (record { done = tt; failed = may; out_of_memory = λ other. absurd cc }) leads held_now)
+          (root_may_leave put_told.1 after prepared.root Held (IsImageOf next) may leads held_now)
 
       at_root : (after : Told) → TriesRoot prepared.root put_told after → Leaves before.1 after.1 Either
       at_root after tries =
@@ -302,7 +299,7 @@ module _ (old : Engine) (s : State) (before : Told) (stands : Stands old before.
       set_left =
           let done : Result ℕ ℕ = Ok 0 in
           let root : Option Moments = tried_root few prepared in
-          let set : Leaves put_told.1 root Either = root_left root (inr refl) in
+          let set : Leaves put_told.1 root Either = root_left root (inr (inl refl)) in
           leaves_then before.1 put_told.1 (with_new_root prepared).1 Either (either before.1 put_told.1 synced_left)
           (leaves_then put_told.1 root (with_new_root prepared).1 Either set
           (sync_leaves root (with_new_root prepared).1 done Either refl set.now))

@@ -2,7 +2,7 @@
 use Rattle.std.proofs.Common.{◌≡◌, inl, inr, ℕ, ◌+◌, List, ◌++◌, length, map, refl, ap, ◌∙◌}
 use Rattle.std.specs.Prelude.{None, Some, option_map}
 use Rattle.wu_outside.specs.Content.{MayDo, with_blob, with_root}
-use Rattle.wu_outside.specs.Crash.{Put, SetRoot, settle, try_change}
+use Rattle.wu_outside.specs.Crash.{MayTry, Put, SetRoot, settle, try_change}
 use Rattle.wu_layout.specs.Postings.{Posting, live_of}
 use Rattle.wu_tree.specs.FileSystems.{FileSystem}
 use Rattle.wu_space.specs.Addresses.{Addresses}
@@ -65,7 +65,7 @@ module _ (tree : FileSystem) (space : Addresses) (files : Records) (checkpoint :
       settled_same = rw (wrote, number) at put_settled
 
       pub stops_at_root : (after : Told) → MayDo (with_root root) put.0 after.0
-          → MayDo (try_change (SetRoot root) (with_root root)) put.1 after.1
+          → MayTry (SetRoot root) (with_root root) put.1 after.1
           → StopsSave tree space files checkpoint old before after
       stops_at_root after held tried =
           inr (inr (inl (prepared, record { held = rw put_same at held; tried = rw settled_same at tried })))

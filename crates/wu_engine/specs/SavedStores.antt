@@ -1,7 +1,7 @@
 -- What a save does, call by call.
 use Rattle.std.specs.Prelude.{◌≡◌, ◌⊎◌, ℕ, ◌+◌, List, [], ◌∷◌, Option, None, Some, length, map, option_map}
 use Rattle.wu_outside.specs.Content.{Content, MayDo, with_blob, with_root}
-use Rattle.wu_outside.specs.Crash.{Moments, Put, Remove, SetRoot, settle, try_change}
+use Rattle.wu_outside.specs.Crash.{MayTry, Moments, Put, Remove, SetRoot, settle, try_change}
 use Rattle.wu_layout.specs.Postings.{Posting, live_of}
 use Rattle.wu_tree.specs.FileSystems.{FileSystem}
 use Rattle.wu_space.specs.Addresses.{Addresses}
@@ -99,10 +99,10 @@ pub record TriesPut (blob : ℕ) (before after : Told) : Type 0 where
   pub held : MayPut blob before.0 after.0
   pub tried : MayTryPut blob before.1 after.1
 
--- A new root was tried: it is set, or nothing was changed.
+-- A new root was tried, or not even that: it is set, or what is held is as it was.
 pub record TriesRoot (root : List ℕ) (before after : Told) : Type 0 where
   pub held : MayDo (with_root root) before.0 after.0
-  pub tried : MayDo (try_change (SetRoot root) (with_root root)) before.1 after.1
+  pub tried : MayTry (SetRoot root) (with_root root) before.1 after.1
 
 -- Some of these blobs were removed, the first ones.
 pub record TriesRemovals (gone : List ℕ) (before after : Told) : Type 0 where

@@ -1,7 +1,7 @@
 //! A save: a flush, the checkpoint, the new root, and then the removal of what is no longer needed.
 ghost use Rattle.std.specs.Prelude.{◌≡◌, ◌+◌, ◌++◌, ◌<◌, ◌≤◌, ◌^◌, Some, IfErr, IfOk, OnErr, OnOk, map, option_map};
 ghost use Rattle.wu_outside.specs.Content.{MayDo, with_blob, with_root};
-ghost use Rattle.wu_outside.specs.Crash.{Put, SetRoot, settle, try_change};
+ghost use Rattle.wu_outside.specs.Crash.{MayTry, Put, SetRoot, settle, try_change};
 ghost use Rattle.wu_outside.specs.Faults.{HasFaultCause};
 ghost use Rattle.wu_parts.specs.Causes.{IsStoreCause};
 ghost use Rattle.wu_engine.specs.Calls.{DrawsAtMost};
@@ -125,7 +125,7 @@ fn set_root<D: Store>(store: &mut D, root: &[u8]) -> Result<(), Fault>
         ≡ option_map settle (option_map (try_change (SetRoot root.now) (with_root root.now)) (D.moments store.old))) }
     ensures failed { OnErr result (MayDo (with_root root.now) (D.holds store.old) (D.holds store.new)) }
     ensures tried { OnErr result
-        (MayDo (try_change (SetRoot root.now) (with_root root.now)) (D.moments store.old) (D.moments store.new)) }
+        (MayTry (SetRoot root.now) (with_root root.now) (D.moments store.old) (D.moments store.new)) }
     ensures reads { D.reads store.new ≡ D.reads store.old }
     ensures cause { HasFaultCause (D.faults store.old) (D.faults store.new) result }
 {

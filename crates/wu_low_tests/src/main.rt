@@ -16,6 +16,7 @@ mod tokens;
 use std::alloc::Global;
 use std::io;
 use std::rt::Files;
+use wu_outside::LockFolder;
 use wu_rows::{NoAnswer, compare};
 
 fn main(rt: HostRuntime) -> io::Result<()> {
@@ -34,7 +35,10 @@ fn answer<R: Files + AllocGlobal>(
     library: &str,
     call: &str,
     arguments: &[&str],
-) -> Result<String, NoAnswer> {
+) -> Result<String, NoAnswer>
+where
+    R::File: LockFolder,
+{
     match library {
         "wu_base" => lists::answer(alloc, call, arguments),
         "wu_vbyte" => numbers::answer(alloc, call, arguments),

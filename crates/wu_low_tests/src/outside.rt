@@ -1,6 +1,7 @@
 //! Sources, sinks and stores.
 mod calls;
 mod failing;
+mod failing_files;
 mod folders;
 mod random_calls;
 mod stores;
@@ -9,6 +10,7 @@ mod streams;
 use std::alloc::Global;
 use std::io;
 use std::rt::Files;
+use wu_outside::LockFolder;
 use wu_rows::NoAnswer;
 
 /// The answer of the call to the arguments.
@@ -18,7 +20,10 @@ pub fn answer<R: Files + AllocGlobal>(
     subject: &str,
     call: &str,
     arguments: &[&str],
-) -> Result<String, NoAnswer> {
+) -> Result<String, NoAnswer>
+where
+    R::File: LockFolder,
+{
     match subject {
         "streams" => streams::answer(alloc, call, arguments),
         "stores" => stores::answer(alloc, call, arguments),
@@ -28,8 +33,12 @@ pub fn answer<R: Files + AllocGlobal>(
 }
 
 /// Compares long and random runs with plain ones.
-pub fn compare_runs<R: Files + Print + AllocGlobal>(rt: &R) -> io::Result<()> {
+pub fn compare_runs<R: Files + Print + AllocGlobal>(rt: &R) -> io::Result<()>
+where
+    R::File: LockFolder,
+{
     failing::compare_failing(rt)?;
+    failing_files::compare_system_calls(rt)?;
     folders::compare_long_reads(rt)?;
     random_calls::compare_stores(rt)?;
     random_calls::compare_crashes(rt)

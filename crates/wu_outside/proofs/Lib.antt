@@ -1,4 +1,5 @@
 pub mod CrashLogs
+pub mod Handing
 pub mod Reading
 pub mod Sending
 pub mod Survival

@@ -3,7 +3,7 @@ use Rattle.std.proofs.Common.{◌≡◌, ℕ, ◌==◌, List, [], ◌∷◌, ◌
 use mathlib.Core.Path.{fun_ext}
 use Rattle.std.proofs.lemmas.List.Elements.{All-append, All-cons, All-nil}
 use Rattle.wu_outside.specs.Content.{Content, with_blob, with_root, MayDo, Does, Writes}
-use Rattle.wu_outside.specs.Crash.{Change, Put, Remove, SetRoot, Moment, Moments, MayBlobBe, MayRootBe, MayLeave, LeftNow, try_change, settle, all_moments, AreAlike}
+use Rattle.wu_outside.specs.Crash.{Change, Put, Remove, SetRoot, Moment, Moments, MayBlobBe, MayRootBe, MayLeave, LeftNow, try_change, MayTry, settle, all_moments, AreAlike}
 use Rattle.wu_outside.specs.Surviving.{LeavesNow, LeavesOnly, Leaves, IsLeft, IsSameIn, NamesOnly}
 use Rattle.wu_outside.specs.declared.traits.Fault.{Fault}
 
@@ -233,17 +233,34 @@ root_step (Some old) bytes Kind Next leads now =
     one_more old (try_change (SetRoot bytes) (with_root bytes) old) (λ left. Kind left ⊎ Next left) refl
     (after_root old bytes Kind Next leads now)
 
--- a new root, which leads from one kind of content to the next
-pub root_leaves : {R : Type 0} (old new : Option Moments) (bytes : List ℕ) (r : Result R Fault) (Kind Next : Content → Type 0)
-    → Does (try_change (SetRoot bytes) (with_root bytes)) old new r
+-- a root that was tried while what is held stayed as it was
+after_root_tried : (moments : Moments) (bytes : List ℕ) (Kind Next : Content → Type 0)
+    → ((content : Content) → Kind content → Next (with_root bytes content))
+    → LeavesNow (Some moments) Kind
+    → LeavesNow (Some (try_change (SetRoot bytes) (λ held. held) moments)) (λ left. Kind left ⊎ Next left)
+after_root_tried moments bytes Kind Next leads before left (inl held) = inl (before left (inl held))
+after_root_tried moments bytes Kind Next leads before left (inr partly) =
+    after_root moments bytes Kind Next leads before left (inr (record { blobs = partly.blobs; root = partly.root }))
+
+root_tried_step : (old : Option Moments) (bytes : List ℕ) (Kind Next : Content → Type 0)
+    → ((content : Content) → Kind content → Next (with_root bytes content)) → LeavesNow old Kind
+    → Leaves old (option_map (try_change (SetRoot bytes) (λ held. held)) old) (λ left. Kind left ⊎ Next left)
+root_tried_step None bytes Kind Next leads now = record { since = tt; now = tt }
+root_tried_step (Some old) bytes Kind Next leads now =
+    one_more old (try_change (SetRoot bytes) (λ held. held) old) (λ left. Kind left ⊎ Next left) refl
+    (after_root_tried old bytes Kind Next leads now)
+
+-- a new root that may have been tried, which leads from one kind of content to the next
+pub root_may_leave : (old new : Option Moments) (bytes : List ℕ) (Kind Next : Content → Type 0)
+    → MayTry (SetRoot bytes) (with_root bytes) old new
     → ((content : Content) → Kind content → Next (with_root bytes content))
     → LeavesNow old Kind → Leaves old new (λ left. Kind left ⊎ Next left)
-root_leaves old new bytes (Ok value) Kind Next clause leads now =
-    subst (λ told. Leaves old told (λ left. Kind left ⊎ Next left)) (sym clause.done) (root_step old bytes Kind Next leads now)
-root_leaves old new bytes (Err fault) Kind Next clause leads now =
-    let Both : Content → Type 0 = λ left. Kind left ⊎ Next left in
-    maybe_done old new (try_change (SetRoot bytes) (with_root bytes)) Both clause.failed
-    (more_now old Kind Both (λ _. inl) now) (root_step old bytes Kind Next leads now)
+root_may_leave old new bytes Kind Next (inl same) leads now =
+    let Both : Content → Type 0 = λ left. Kind left ⊎ Next left in kept old new Both same (more_now old Kind Both (λ _. inl) now)
+root_may_leave old new bytes Kind Next (inr (inl done)) leads now =
+    subst (λ told. Leaves old told (λ left. Kind left ⊎ Next left)) (sym done) (root_step old bytes Kind Next leads now)
+root_may_leave old new bytes Kind Next (inr (inr tried)) leads now =
+    subst (λ told. Leaves old told (λ left. Kind left ⊎ Next left)) (sym tried) (root_tried_step old bytes Kind Next leads now)
 
 settle_step : (old : Option Moments) (Kind : Content → Type 0) → LeavesNow old Kind → Leaves old (option_map settle old) Kind
 settle_step None Kind now = record { since = tt; now = tt }

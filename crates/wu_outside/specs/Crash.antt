@@ -1,8 +1,10 @@
 -- What a crash leaves of a store: of the changes since the last successful sync, any may be lost. A blob that was put
 -- since then is absent or has any bytes, one that was removed since then is there or not, the root is that of the sync or
 -- one that was set since then, also by a call that failed; all else is as at the sync.
-use Rattle.std.specs.Prelude.{◌≡◌, ℕ, List, [], ◌∷◌, ⊤, ◌⊎◌, Option, None, Some}
+use Rattle.std.specs.Prelude.{◌≡◌, ℕ, List, [], ◌∷◌, ⊤, ◌⊎◌, Option, None, Some, option_map, Result, Err, OnOk, OnErr}
 use Rattle.wu_outside.specs.Content.{Content}
+use Rattle.wu_outside.specs.declared.traits.Fault.{Fault}
+use Rattle.wu_outside.specs.declared.traits.Fault.TheVariants.{NoMemory}
 
 -- a change that was tried, whether or not its call failed
 pub data Change : Type 0 where
@@ -64,6 +66,17 @@ go_on step moments = record { now = step moments.now; past = moments.now ∷ mom
 abbrev pub try_change : Change → (Content → Content) → Moments → Moments
 try_change change do_it moments =
     go_on (λ moment. record { held = do_it moment.held; synced = moment.synced; tried = change ∷ moment.tried }) moments
+
+-- what a failed call may leave: nothing was tried, or the change was tried, and what is held is changed or as it was
+abbrev pub MayTry : Change → (Content → Content) → Option Moments → Option Moments → Type 0
+MayTry change do_it old new =
+    (new ≡ old) ⊎ ((new ≡ option_map (try_change change do_it) old) ⊎ (new ≡ option_map (try_change change (λ held. held)) old))
+
+-- the change was made; after a fault it may have been tried, and out of memory it was not
+pub record Tries {T : Type 0} (change : Change) (do_it : Content → Content) (old new : Option Moments) (r : Result T Fault) : Type 0 where
+  pub done : OnOk r (new ≡ option_map (try_change change do_it) old)
+  pub failed : OnErr r (MayTry change do_it old new)
+  pub out_of_memory : r ≡ Err NoMemory → new ≡ old
 
 -- a sync was done
 abbrev pub settle : Moments → Moments

@@ -10,6 +10,8 @@ pub mod Ranges
 pub mod Crash
 -- what calls leave to a crash, composed
 pub mod Surviving
+-- what a call leaves of a store, in one word
+pub mod Reading
 -- the objects in memory
 pub mod Known
 pub mod Schedule

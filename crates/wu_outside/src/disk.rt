@@ -1,12 +1,14 @@
-//! Files on disk, for the store in a folder: the trusted edge. Each error of the system counts as a
-//! fault, an interrupted call included.
-ghost use Rattle.std.specs.Prelude.{◌≡◌, ◌≢◌, ◌≤◌, length, IfOk, IfErr, IsErr, IsErrAnd, MatchOption, MatchResult};
+//! Files on disk, for the store in a folder: the trusted edge. Each error of the system is noted, and
+//! no file is reached through a symbolic link.
+ghost use Rattle.std.specs.Prelude.{◌≡◌, ◌≢◌, ◌≤◌, ◌<◌, ◌↔◌, length, IfOk, IfSome, IsErr, IsErrAnd, IsOk, OnOk, MatchResult};
+ghost use Rattle.std.specs.Io.KnownBytes.{Appends};
+ghost use Rattle.std.specs.Fs.{IsFile, file_type};
 ghost use Rattle.std.specs.IoError.{error_kind};
 ghost use Rattle.wu_outside.specs.Faults.{HasFaultCause};
-ghost use Rattle.wu_outside.specs.declared.traits.Fault.TheVariants.{Failed as CallFailed};
 
+use crate::system::Failures;
 use crate::traits::Fault;
-use std::fs::{DirBuilder, OpenFile, OpenOptions};
+use std::fs::{DirBuilder, Metadata, OpenFile};
 use std::io::{ErrorKind, Read, Seek, SeekFrom, Write};
 use std::os::unix::fs::DirBuilderExt;
 use std::rt::Files;
@@ -15,47 +17,57 @@ use std::{fs, io};
 /// The last place in a file from which one can read.
 const LAST_PLACE: u64 = u64::MAX / 2;
 
-/// The value of a call of the system. An error counts.
-pub fn count_error<T: Drop>(faults: &mut u64, outcome: io::Result<T>) -> Result<T, Fault>
-    ensures cause { HasFaultCause faults.old faults.new result }
-    ensures same { MatchResult result (λ value. outcome ≡ Ok value) (λ fault. (fault ≡ CallFailed) × IsErr outcome) }
+/// Looks at the file, before it is reached by its name. None where there is none; what is there but is
+/// no regular file, as a symbolic link, is a failed call.
+pub fn look<R: Files>(
+    failures: &mut Failures,
+    files: &R,
+    path: &str,
+) -> Result<Option<Metadata>, Fault>
+    ensures file { IfOk result (λ found. IfSome found (λ metadata. IsFile (file_type metadata))) }
+    ensures cause { HasFaultCause failures.old.count failures.new.count result }
 {
-    match outcome {
-        Ok(value) => Ok(value),
-        Err(_) => {
-            *faults = faults.saturating_add(1);
-            Err(Fault::Failed)
-        }
+    let found = failures.note_found(path, fs::symlink_metadata(files, path))?;
+    if let Some(metadata) = &found {
+        failures.note(path, accept_file(metadata))?;
+    }
+    Ok(found)
+}
+
+/// Only a regular file will do.
+fn accept_file(metadata: &Metadata) -> io::Result<()>
+    ensures { IsOk result ↔ IsFile (file_type metadata.now) }
+{
+    if metadata.is_file() {
+        Ok(())
+    } else if metadata.is_symlink() {
+        Err(io::Error::other("it is a symbolic link"))
+    } else {
+        Err(io::Error::other("it is not a regular file"))
     }
 }
 
-/// The value of a call of the system, None where the file isn't there. Any other error counts.
-pub fn count_other_error<T: Drop>(
-    faults: &mut u64,
-    outcome: io::Result<T>,
-) -> Result<Option<T>, Fault>
-    ensures cause { HasFaultCause faults.old faults.new result }
-    ensures same { MatchResult result
-        (λ found. MatchOption found
-        (IsErrAnd outcome (λ error. error_kind error ≡ ErrorKind.NotFound))
-        (λ value. outcome ≡ Ok value))
-        (λ fault. (fault ≡ CallFailed) × IsErrAnd outcome (λ error. error_kind error ≢ ErrorKind.NotFound)) }
+/// The file, opened for reading. None where there is none.
+pub fn open_file<R: Files>(
+    failures: &mut Failures,
+    files: &R,
+    path: &str,
+) -> Result<Option<R::File>, Fault>
+    ensures cause { HasFaultCause failures.old.count failures.new.count result }
 {
-    match outcome {
-        Ok(value) => Ok(Some(value)),
-        Err(error) if error.kind() == ErrorKind::NotFound => Ok(None),
-        Err(_) => {
-            *faults = faults.saturating_add(1);
-            Err(Fault::Failed)
-        }
+    match look(failures, files, path)? {
+        None => Ok(None),
+        Some(_) => failures.note_found(path, fs::open(files, path)),
     }
 }
 
 /// Makes the folder, for its owner alone, where it is absent.
-pub fn make_folder(files: &impl Files, path: &str) -> io::Result<()> {
+pub fn make_folder<R: Files>(failures: &mut Failures, files: &R, path: &str) -> Result<(), Fault>
+    ensures cause { HasFaultCause failures.old.count failures.new.count result }
+{
     let mut builder = DirBuilder::new();
     builder.mode(0o700);
-    accept_existing(builder.create(files, path))
+    failures.note(path, accept_existing(builder.create(files, path)))
 }
 
 /// What came of making a folder, where one that exists will do.
@@ -71,51 +83,145 @@ fn accept_existing(outcome: io::Result<()>) -> io::Result<()>
     }
 }
 
-/// Makes a file, or a folder's list of names, survive a crash.
-pub fn sync_file(files: &impl Files, path: &str) -> io::Result<()> {
-    fs::open(files, path)?.sync_all()
+/// Makes a file survive a crash, where it is there.
+pub fn sync_file<R: Files>(failures: &mut Failures, files: &R, path: &str) -> Result<(), Fault>
+    ensures cause { HasFaultCause failures.old.count failures.new.count result }
+{
+    match open_file(failures, files, path)? {
+        None => Ok(()),
+        Some(file) => failures.note(path, file.sync_all()),
+    }
+}
+
+/// Makes a folder's list of names survive a crash.
+pub fn sync_folder<R: Files>(failures: &mut Failures, files: &R, path: &str) -> Result<(), Fault>
+    ensures cause { HasFaultCause failures.old.count failures.new.count result }
+{
+    let folder = failures.note(path, fs::open(files, path))?;
+    failures.note(path, folder.sync_all())
 }
 
 /// Gives the file these bytes alone, whatever it had, and leaves it open.
-pub fn write_file<R: Files>(files: &R, path: &str, bytes: &[u8]) -> io::Result<R::File> {
-    let mut file = fs::create(files, path)?;
+pub fn write_file<R: Files>(
+    failures: &mut Failures,
+    files: &R,
+    path: &str,
+    bytes: &[u8],
+) -> Result<R::File, Fault>
+    ensures cause { HasFaultCause failures.old.count failures.new.count result }
+{
+    look(failures, files, path)?;
+    let mut file = failures.note(path, fs::create(files, path))?;
+    write_bytes(failures, path, &mut file, bytes)?;
+    Ok(file)
+}
+
+/// Writes all of the bytes.
+fn write_bytes<F: Write>(
+    failures: &mut Failures,
+    path: &str,
+    file: &mut F,
+    bytes: &[u8],
+) -> Result<(), Fault>
+    ensures written { OnOk result (Appends (F.contents file.old) (F.contents file.new) bytes.now) }
+    ensures cause { HasFaultCause failures.old.count failures.new.count result }
+{
     let mut at = 0;
     while at < bytes.len() {
-        let count = file.write(&bytes[at..])?;
-        if count == 0 {
-            return Err(io::Error::from(ErrorKind::WriteZero));
-        }
+        let count = failures.note(path, file.write(&bytes[at..]))?;
+        failures.note(path, refuse_none(count))?;
         at += count;
     }
-    Ok(file)
+    Ok(())
+}
+
+/// A write that takes nothing is an error.
+fn refuse_none(count: usize) -> io::Result<()>
+    ensures { IsOk result ↔ (0 < count) }
+{
+    if count == 0 {
+        return Err(io::Error::from(ErrorKind::WriteZero));
+    }
+    Ok(())
 }
 
 /// Gives the file these bytes alone, at once: they are written to another file, which takes its name
 /// once it has survived.
-pub fn replace_file<R: Files>(files: &R, path: &str, fresh: &str, bytes: &[u8]) -> io::Result<()> {
-    write_file(files, fresh, bytes)?.sync_all()?;
-    fs::rename(files, fresh, path)
+pub fn replace_file<R: Files>(
+    failures: &mut Failures,
+    files: &R,
+    path: &str,
+    fresh: &str,
+    bytes: &[u8],
+) -> Result<(), Fault>
+    ensures cause { HasFaultCause failures.old.count failures.new.count result }
+{
+    look(failures, files, path)?;
+    let file = write_file(failures, files, fresh, bytes)?;
+    failures.note(fresh, file.sync_all())?;
+    failures.note(path, fs::rename(files, fresh, path))
 }
 
-/// The length of a file, and its first bytes.
-pub fn read_front<R: Files>(files: &R, path: &str, buf: &mut [u8]) -> io::Result<usize> {
-    let mut file = fs::open(files, path)?;
-    let len = file.metadata()?.len();
-    read_at(&mut file, 0, buf)?;
-    Ok(len as usize)
+/// Removes the file, where it is there.
+pub fn remove_file<R: Files>(failures: &mut Failures, files: &R, path: &str) -> Result<(), Fault>
+    ensures cause { HasFaultCause failures.old.count failures.new.count result }
+{
+    if look(failures, files, path)?.is_some() {
+        failures.note_found(path, fs::remove_file(files, path))?;
+    }
+    Ok(())
+}
+
+/// The length of a file, and its first bytes. None where there is none.
+pub fn read_front<R: Files>(
+    failures: &mut Failures,
+    files: &R,
+    path: &str,
+    buf: &mut [u8],
+) -> Result<Option<usize>, Fault>
+    ensures cause { HasFaultCause failures.old.count failures.new.count result }
+{
+    match open_file(failures, files, path)? {
+        None => Ok(None),
+        Some(mut file) => {
+            let len = failures.note(path, file.metadata())?.len();
+            read_at(failures, path, &mut file, 0, buf)?;
+            Ok(Some(len as usize))
+        }
+    }
 }
 
 /// Reads from a place on, as far as the file goes and there is room.
-pub fn read_at<F: Read + Seek>(file: &mut F, at: u64, buf: &mut [u8]) -> io::Result<usize>
-    ensures { IfOk result (λ n. n ≤ length buf.new) }
+pub fn read_at<F: Read + Seek>(
+    failures: &mut Failures,
+    path: &str,
+    file: &mut F,
+    at: u64,
+    buf: &mut [u8],
+) -> Result<usize, Fault>
+    ensures within { IfOk result (λ n. n ≤ length buf.new) }
+    ensures cause { HasFaultCause failures.old.count failures.new.count result }
 {
     if at > LAST_PLACE {
         return Ok(0);
     }
-    file.seek(SeekFrom::Start(at))?;
+    failures.note(path, file.seek(SeekFrom::Start(at)))?;
+    fill(failures, path, file, buf)
+}
+
+/// Reads as far as the file goes and there is room.
+fn fill<F: Read>(
+    failures: &mut Failures,
+    path: &str,
+    file: &mut F,
+    buf: &mut [u8],
+) -> Result<usize, Fault>
+    ensures within { IfOk result (λ n. n ≤ length buf.new) }
+    ensures cause { HasFaultCause failures.old.count failures.new.count result }
+{
     let mut count = 0;
     while count < buf.len() {
-        let more = file.read(&mut buf[count..])?;
+        let more = failures.note(path, file.read(&mut buf[count..]))?;
         if more == 0 {
             break;
         }

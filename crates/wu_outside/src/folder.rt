@@ -1,16 +1,19 @@
 //! A store in a folder: blob n in the file `b` and the decimal n, the root in the file `root`.
-ghost use Rattle.std.specs.Prelude.{◌≡◌, ◌==◌, None, true, position, IfOk, IfSome, IsOkAnd, OnOk};
+ghost use Rattle.std.specs.Prelude.{◌≡◌, ◌==◌, None, true, position, IfOk, IfSome, IsSome, OnOk};
 ghost use Rattle.wu_outside.specs.Faults.{HasFaultCause};
 
 use crate::disk::{
-    count_error, count_other_error, make_folder, read_front, replace_file, sync_file, write_file,
+    look, make_folder, open_file, read_front, remove_file, replace_file, sync_file, sync_folder,
+    write_file,
 };
+use crate::held_folder::{LockFolder, sync_held, take_folder};
 use crate::open_blob::OpenBlob;
+use crate::system::{Failure, Failures};
 use crate::traits::{Fault, Store};
 use std::alloc::{AllocError, Global};
 use std::collections::BTreeSet;
-use std::fs;
-use std::io::{Read, Seek};
+use std::io;
+use std::io::{ErrorKind, Read, Seek};
 use std::path::Path;
 use std::rt::Files;
 use wu_base::NoMemory;
@@ -22,6 +25,11 @@ const OPEN_MAX: usize = 8;
 /// it is absent. It tells nothing of its content. Each error of the system counts as a fault, but
 /// for that of an absent file.
 ///
+/// The first call that finds the folder takes its lock, and the store keeps it until it is dropped:
+/// where another has it, the call fails. A folder that is a symbolic link, belongs to another user
+/// than the one that the process acts for, or may be written by group or others is a failed call too,
+/// and so is a file of the store that is no regular file.
+///
 /// A put is written at once, and made to survive by the next `sync`: each file that was put since
 /// the last one, the folder, and at the first sync the folder above it. The root is written to
 /// `root.new`, made to survive and renamed.
@@ -29,71 +37,92 @@ const OPEN_MAX: usize = 8;
 pub struct DirStore<'a, R: Files + AllocGlobal> {
     files: &'a R,
     folder: String,
+    held: Option<R::File>,
     open: Vec<OpenBlob<R::File>>,
     unsynced: BTreeSet<u64>,
-    is_made: bool,
     is_named: bool,
-    faults: u64,
+    failures: Failures,
 }
 
-impl<'a, R: Files + AllocGlobal> DirStore<'a, R> {
+impl<'a, R: Files + AllocGlobal> DirStore<'a, R>
+where
+    R::File: LockFolder,
+{
     /// The store in this folder, which isn't touched yet, with no fault counted. The one error is out of
     /// memory.
     pub fn new(files: &'a R, folder: &str) -> Result<DirStore<'a, R>, NoMemory>
-        ensures { IfOk result (λ store. store.faults ≡ 0) }
+        ensures { IfOk result (λ store. store.failures.count ≡ 0) }
     {
         Ok(DirStore {
             files,
             folder: String::from_str(files.alloc(), folder)?,
+            held: None,
             open: Vec::new(files.alloc()),
             unsynced: BTreeSet::new(files.alloc()),
-            is_made: false,
             is_named: false,
-            faults: 0,
+            failures: Failures::new(files.alloc()),
         })
     }
 
     /// How many faults there were. The count stands still at 2^64 - 1.
     pub fn faults(&self) -> u64
-        ensures { result ≡ self.now.faults }
+        ensures { result ≡ self.now.failures.count }
     {
-        self.faults
+        self.failures.count()
     }
 
-    /// Makes the folder where it is absent, the first time.
-    fn need_folder(&mut self) -> Result<(), Fault>
-        ensures cause { HasFaultCause self.old.faults self.new.faults result }
-        ensures made { OnOk result (self.new.is_made ≡ true) }
+    /// The last call of the system that failed, for a person to read. None also where there was no
+    /// memory to keep it.
+    pub fn last_failure(&self) -> Option<&Failure> {
+        self.failures.last()
+    }
+
+    /// Takes the folder, the first time that it is there, and answers whether it is taken.
+    fn hold(&mut self) -> Result<bool, Fault>
+        ensures cause { HasFaultCause self.old.failures.count self.new.failures.count result }
+        ensures held { result ≡ Ok true → IsSome self.new.held }
     {
-        if self.is_made {
+        if self.held.is_none() {
+            self.held = take_folder(&mut self.failures, self.files, self.folder.as_str())?;
+        }
+        Ok(self.held.is_some())
+    }
+
+    /// Makes the folder where it is absent, and takes it, the first time.
+    fn need_folder(&mut self) -> Result<(), Fault>
+        ensures cause { HasFaultCause self.old.failures.count self.new.failures.count result }
+        ensures held { OnOk result (IsSome self.new.held) }
+    {
+        if self.hold()? {
             return Ok(());
         }
-        let made = make_folder(self.files, self.folder.as_str());
-        count_error(&mut self.faults, made)?;
-        self.is_made = true;
-        Ok(())
+        make_folder(&mut self.failures, self.files, self.folder.as_str())?;
+        if self.hold()? {
+            return Ok(());
+        }
+        let absent = Err(io::Error::from(ErrorKind::NotFound));
+        self.failures.note(self.folder.as_str(), absent)
     }
 
     /// The blob's open file, taken out of those that stay open, or newly opened. None where there is
     /// no file.
     fn take_open(&mut self, blob: u64) -> Result<Option<OpenBlob<R::File>>, Fault>
-        ensures cause { HasFaultCause self.old.faults self.new.faults result }
+        ensures cause { HasFaultCause self.old.failures.count self.new.failures.count result }
         ensures blob { IfOk result (λ found. IfSome found (λ one. one.blob ≡ blob)) }
     {
         if let Some(place) = find_open(self.open.as_slice(), blob) {
             return Ok(Some(self.open.remove(place)));
         }
         let path = blob_path(self.files.alloc(), self.folder.as_str(), blob)?;
-        let opened = fs::open(self.files, path.as_str());
-        match count_other_error(&mut self.faults, opened)? {
+        match open_file(&mut self.failures, self.files, path.as_str())? {
             None => Ok(None),
-            Some(file) => Ok(Some(OpenBlob::new(self.files.alloc(), blob, file)?)),
+            Some(file) => Ok(Some(OpenBlob::new(self.files.alloc(), blob, path, file)?)),
         }
     }
 
     /// Keeps a blob open, in place of the one that was read longest ago where there are too many.
     fn keep_open(&mut self, kept: OpenBlob<R::File>)
-        ensures { self.new.faults ≡ self.old.faults }
+        ensures { self.new.failures.count ≡ self.old.failures.count }
     {
         if self.open.len() >= OPEN_MAX {
             self.open.remove(0);
@@ -103,7 +132,7 @@ impl<'a, R: Files + AllocGlobal> DirStore<'a, R> {
 
     /// Closes the blob, if it is open.
     fn close(&mut self, blob: u64)
-        ensures { self.new.faults ≡ self.old.faults }
+        ensures { self.new.failures.count ≡ self.old.failures.count }
     {
         if let Some(place) = find_open(self.open.as_slice(), blob) {
             self.open.remove(place);
@@ -111,30 +140,37 @@ impl<'a, R: Files + AllocGlobal> DirStore<'a, R> {
     }
 }
 
-impl<'a, R: Files + AllocGlobal> Store for DirStore<'a, R> {
+impl<'a, R: Files + AllocGlobal> Store for DirStore<'a, R>
+where
+    R::File: LockFolder,
+{
     ghost holds = { λ _. None };
 
     ghost reads = { λ _. None };
 
     ghost moments = { λ _. None };
 
-    ghost faults = { λ s. s.faults };
+    ghost faults = { λ s. s.failures.count };
 
     fn size(&mut self, blob: u64) -> Result<Option<u64>, Fault> {
+        if !self.hold()? {
+            return Ok(None);
+        }
         let path = blob_path(self.files.alloc(), self.folder.as_str(), blob)?;
-        let found = fs::metadata(self.files, path.as_str());
-        match count_other_error(&mut self.faults, found)? {
+        match look(&mut self.failures, self.files, path.as_str())? {
             None => Ok(None),
             Some(metadata) => Ok(Some(metadata.len())),
         }
     }
 
     fn read(&mut self, blob: u64, at: u64, buf: &mut [u8]) -> Result<Option<usize>, Fault> {
+        if !self.hold()? {
+            return Ok(None);
+        }
         match self.take_open(blob)? {
             None => Ok(None),
             Some(mut open) => {
-                let read = open.read_at(at, buf);
-                let count = count_error(&mut self.faults, read)?;
+                let count = open.read_at(&mut self.failures, at, buf)?;
                 self.keep_open(open);
                 Ok(Some(count))
             }
@@ -146,46 +182,49 @@ impl<'a, R: Files + AllocGlobal> Store for DirStore<'a, R> {
         self.close(blob);
         self.unsynced.insert(blob)?;
         let path = blob_path(self.files.alloc(), self.folder.as_str(), blob)?;
-        let written = write_file(self.files, path.as_str(), bytes);
-        count_error(&mut self.faults, written)?;
+        write_file(&mut self.failures, self.files, path.as_str(), bytes)?;
         Ok(())
     }
 
     fn remove(&mut self, blob: u64) -> Result<(), Fault> {
+        if !self.hold()? {
+            return Ok(());
+        }
         self.close(blob);
         let path = blob_path(self.files.alloc(), self.folder.as_str(), blob)?;
-        let removed = fs::remove_file(self.files, path.as_str());
-        count_other_error(&mut self.faults, removed)?;
-        Ok(())
+        remove_file(&mut self.failures, self.files, path.as_str())
     }
 
     fn root(&mut self, buf: &mut [u8]) -> Result<Option<usize>, Fault> {
+        if !self.hold()? {
+            return Ok(None);
+        }
         let path = file_path(self.files.alloc(), self.folder.as_str(), "root")?;
-        let read = read_front(self.files, path.as_str(), buf);
-        count_other_error(&mut self.faults, read)
+        read_front(&mut self.failures, self.files, path.as_str(), buf)
     }
 
     fn set_root(&mut self, bytes: &[u8]) -> Result<(), Fault> {
         self.need_folder()?;
         let path = file_path(self.files.alloc(), self.folder.as_str(), "root")?;
         let fresh = file_path(self.files.alloc(), self.folder.as_str(), "root.new")?;
-        let replaced = replace_file(self.files, path.as_str(), fresh.as_str(), bytes);
-        count_error(&mut self.faults, replaced)
+        replace_file(
+            &mut self.failures,
+            self.files,
+            path.as_str(),
+            fresh.as_str(),
+            bytes,
+        )
     }
 
     fn sync(&mut self) -> Result<(), Fault> {
         self.need_folder()?;
-        sync_blobs(
-            self.files,
-            self.folder.as_str(),
-            &self.unsynced,
-            &mut self.faults,
-        )?;
-        let folder = sync_file(self.files, self.folder.as_str());
-        count_error(&mut self.faults, folder)?;
+        let folder = self.folder.as_str();
+        sync_blobs(&mut self.failures, self.files, folder, &self.unsynced)?;
+        if let Some(held) = &self.held {
+            sync_held(&mut self.failures, self.files, folder, held)?;
+        }
         if !self.is_named {
-            let above = sync_file(self.files, folder_above(self.folder.as_str()));
-            count_error(&mut self.faults, above)?;
+            sync_folder(&mut self.failures, self.files, folder_above(folder))?;
             self.is_named = true;
         }
         self.unsynced.clear();
@@ -197,17 +236,16 @@ impl<'a, R: Files + AllocGlobal> Store for DirStore<'a, R> {
 
 /// Makes the files of these blobs survive a crash, where they are there.
 fn sync_blobs<R: Files + AllocGlobal>(
+    failures: &mut Failures,
     files: &R,
     folder: &str,
     blobs: &BTreeSet<u64>,
-    faults: &mut u64,
 ) -> Result<(), Fault>
-    ensures cause { HasFaultCause faults.old faults.new result }
+    ensures cause { HasFaultCause failures.old.count failures.new.count result }
 {
     for blob in blobs {
         let path = blob_path(files.alloc(), folder, *blob)?;
-        let synced = sync_file(files, path.as_str());
-        count_other_error(faults, synced)?;
+        sync_file(failures, files, path.as_str())?;
     }
     Ok(())
 }

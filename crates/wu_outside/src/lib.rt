@@ -6,6 +6,7 @@
 mod copies;
 mod disk;
 mod folder;
+mod held_folder;
 mod logs;
 mod memory;
 mod memory_store;
@@ -15,15 +16,18 @@ mod plain_store;
 mod ranges;
 mod schedule;
 mod standard;
+mod system;
 mod traits;
 mod writing;
 
 pub use folder::DirStore;
+pub use held_folder::LockFolder;
 pub use memory::{MemSink, MemSource};
 pub use memory_store::MemStore;
 pub use plain::{PlainSink, PlainSource};
 pub use plain_store::PlainStore;
 pub use ranges::ReadRange;
 pub use standard::{StdIn, StdOut};
+pub use system::Failure;
 pub use traits::{Failed, Fault, Sink, Source, Store};
 pub use writing::write_all;

@@ -1,10 +1,12 @@
 //! A blob whose file stays open.
+ghost use Rattle.wu_outside.specs.Faults.{HasFaultCause};
 ghost use Rattle.std.specs.Prelude.{◌≡◌, ◌==◌, ◌≤◌, ◌<◌, ◌+◌, ◌-◌, ◌^◌, length, min, take, drop, vec_len, None, Some, IfOk, OnOk, OnErr};
 
 use crate::copies::copy_from;
 use crate::disk::read_at;
+use crate::system::Failures;
+use crate::traits::Fault;
 use std::alloc::{AllocError, Global};
-use std::io;
 use std::io::{Read, Seek};
 
 /// How many bytes are read at once where a read goes on after the last one.
@@ -14,6 +16,7 @@ const WINDOW: usize = 16_384;
 #[derive(Drop)]
 pub struct OpenBlob<F> {
     blob: u64,
+    path: String,
     file: F,
     /// The place after the last read, once there was one.
     next: Option<u64>,
@@ -23,8 +26,8 @@ pub struct OpenBlob<F> {
 }
 
 impl<F: Read + Seek> OpenBlob<F> {
-    /// The blob of this number, over its file.
-    pub fn new(alloc: Global, blob: u64, file: F) -> Result<OpenBlob<F>, AllocError>
+    /// The blob of this number, over its file, which has this path.
+    pub fn new(alloc: Global, blob: u64, path: String, file: F) -> Result<OpenBlob<F>, AllocError>
     where
         F: Drop,
         ensures blob { IfOk result (λ one. one.blob ≡ blob) }
@@ -33,6 +36,7 @@ impl<F: Read + Seek> OpenBlob<F> {
     {
         Ok(OpenBlob {
             blob,
+            path,
             file,
             next: None,
             window: vec![in alloc; 0u8; WINDOW]?,
@@ -50,7 +54,13 @@ impl<F: Read + Seek> OpenBlob<F> {
 
     /// Reads from a place on, as far as the blob goes and there is room. Where the read goes on after
     /// the last one, the window is filled.
-    pub fn read_at(&mut self, at: u64, buf: &mut [u8]) -> io::Result<usize>
+    pub fn read_at(
+        &mut self,
+        failures: &mut Failures,
+        at: u64,
+        buf: &mut [u8],
+    ) -> Result<usize, Fault>
+        ensures cause { HasFaultCause failures.old.count failures.new.count result }
         ensures within { IfOk result (λ n. n ≤ length buf.new) }
         ensures next { IfOk result (λ n. self.new.next ≡ Some (min (at + n) (2 ^ 64 - 1))) }
         ensures blob { self.new.blob ≡ self.old.blob }
@@ -62,10 +72,10 @@ impl<F: Read + Seek> OpenBlob<F> {
         let more = if rest.is_empty() {
             0
         } else if goes_on && rest.len() < WINDOW {
-            self.fill(rest_at)?;
+            self.fill(failures, rest_at)?;
             self.take_held(rest_at, rest)
         } else {
-            read_at(&mut self.file, rest_at, rest)?
+            read_at(failures, self.path.as_str(), &mut self.file, rest_at, rest)?
         };
         let count = held + more;
         self.next = Some(at.saturating_add(count as u64));
@@ -87,7 +97,8 @@ impl<F: Read + Seek> OpenBlob<F> {
     }
 
     /// Fills the window from a place on. After an error it holds nothing.
-    fn fill(&mut self, at: u64) -> io::Result<()>
+    fn fill(&mut self, failures: &mut Failures, at: u64) -> Result<(), Fault>
+        ensures cause { HasFaultCause failures.old.count failures.new.count result }
         ensures filled { OnOk result (self.new.window_at ≡ at) }
         ensures within { self.new.window_len ≤ vec_len self.new.window }
         ensures failed { OnErr result (self.new.window_len ≡ 0) }
@@ -95,7 +106,13 @@ impl<F: Read + Seek> OpenBlob<F> {
     {
         self.window_len = 0;
         self.window_at = at;
-        self.window_len = read_at(&mut self.file, at, self.window.as_mut_slice())?;
+        self.window_len = read_at(
+            failures,
+            self.path.as_str(),
+            &mut self.file,
+            at,
+            self.window.as_mut_slice(),
+        )?;
         Ok(())
     }
 }

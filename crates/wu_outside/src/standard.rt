@@ -1,32 +1,36 @@
-//! The standard streams: the trusted edge. Each counts its errors, and tells nothing of its content,
-//! since no contract can say what a file or a terminal gives or takes.
-ghost use Rattle.std.specs.Prelude.{◌≡◌, ◌≤◌, ◌<◌, length, None, false, IfOk, IfErr, IsOkAnd, MatchResult};
+//! The standard streams: the trusted edge. Each counts its errors. What a file or a terminal gives or
+//! takes no contract can say, so over the streams of the process they tell nothing of their content;
+//! over a reader or a writer whose bytes are known they tell these.
+ghost use Rattle.std.specs.Prelude.{◌≡◌, ◌≤◌, ◌<◌, length, false, IfOk, IfErr, IsOkAnd, MatchResult};
+ghost use Rattle.std.specs.Io.KnownBytes.{ReadConsumes, WriteAppends};
 ghost use Rattle.wu_outside.specs.Ends.{GivesEnd};
 ghost use Rattle.wu_outside.specs.Faults.{HasCause, HasWriteCause, CountsFault};
 
+use crate::system::count_error;
 use crate::traits::{Failed, Fault, Sink, Source};
 use std::io::{Read, Stdin, Stdout, Write};
 use wu_base::NoMemory;
 
-/// The standard input. A short read is handed on as it is, so that a person at a terminal is
-/// answered at once; each error counts as a fault, an interrupted call included.
+/// The standard input, or another reader. A short read is handed on as it is, so that a person at a
+/// terminal is answered at once; each error counts as a fault, an interrupted call included.
 #[derive(Drop)]
-pub struct StdIn {
-    stdin: Stdin,
+pub struct StdIn<R = Stdin> {
+    reader: R,
     ended: bool,
     last_read: usize,
     faults: u64,
 }
 
-impl StdIn {
+impl<R: Read> StdIn<R> {
     /// The object of the stream, which hasn't given its end and has no fault yet. Takes no memory
     /// today.
-    pub fn new(stdin: Stdin) -> Result<StdIn, NoMemory>
-        ensures going { IsOkAnd result (λ s. ⟦<StdIn as Source>⟧.ended s ≡ false) }
-        ensures none_failed { IsOkAnd result (λ s. ⟦<StdIn as Source>⟧.faults s ≡ 0) }
+    pub fn new(reader: R) -> Result<StdIn<R>, NoMemory>
+        ensures left { IsOkAnd result (λ s. ⟦<StdIn<R> as Source>⟧.left s ≡ R.remaining reader) }
+        ensures going { IsOkAnd result (λ s. ⟦<StdIn<R> as Source>⟧.ended s ≡ false) }
+        ensures none_failed { IsOkAnd result (λ s. ⟦<StdIn<R> as Source>⟧.faults s ≡ 0) }
     {
         Ok(StdIn {
-            stdin,
+            reader,
             ended: false,
             last_read: 0,
             faults: 0,
@@ -34,8 +38,8 @@ impl StdIn {
     }
 }
 
-impl Source for StdIn {
-    ghost left = { λ _. None };
+impl<R: Read> Source for StdIn<R> {
+    ghost left = { λ s. R.remaining s.reader };
 
     ghost ended = { λ s. s.ended };
 
@@ -46,6 +50,7 @@ impl Source for StdIn {
     fn read(&mut self, buf: &mut [u8]) -> Result<usize, Failed>
         requires { self.old.ended ≡ false }
         ensures within { IfOk result (λ n. n ≤ length buf.new) }
+        ensures bytes { ReadConsumes (R.remaining self.old.reader) (R.remaining self.new.reader) result buf.new }
         ensures cause { HasCause self.old.faults self.new.faults result }
         ensures end { MatchResult result
             (λ n. GivesEnd self.old.ended self.new.ended n (length buf.new))
@@ -57,59 +62,48 @@ impl Source for StdIn {
             (λ _. self.new.faults ≡ self.old.faults)
             (λ _. CountsFault self.old.faults self.new.faults) }
     {
-        match self.stdin.read(buf) {
-            Ok(count) => {
-                self.ended = count == 0 && !buf.is_empty();
-                self.last_read = count;
-                Ok(count)
-            }
-            Err(_) => {
-                self.faults = self.faults.saturating_add(1);
-                Err(Failed)
-            }
-        }
+        let count = count_error(&mut self.faults, self.reader.read(buf))?;
+        self.ended = count == 0 && !buf.is_empty();
+        self.last_read = count;
+        Ok(count)
     }
 }
 
-/// The standard output. Each error counts as a fault, an interrupted call included, and so does a
-/// write that takes nothing of a piece that isn't empty.
+/// The standard output, or another writer. Each error counts as a fault, an interrupted call included,
+/// and so does a write that takes nothing of a piece that isn't empty.
 #[derive(Drop)]
-pub struct StdOut {
-    stdout: Stdout,
+pub struct StdOut<W = Stdout> {
+    writer: W,
     faults: u64,
 }
 
-impl StdOut {
+impl<W: Write> StdOut<W> {
     /// The object of the stream, with no fault yet. Takes no memory today.
-    pub fn new(stdout: Stdout) -> Result<StdOut, NoMemory>
-        ensures { IsOkAnd result (λ s. ⟦<StdOut as Sink>⟧.faults s ≡ 0) }
+    pub fn new(writer: W) -> Result<StdOut<W>, NoMemory>
+        ensures gained { IsOkAnd result (λ s. ⟦<StdOut<W> as Sink>⟧.gained s ≡ W.contents writer) }
+        ensures none_failed { IsOkAnd result (λ s. ⟦<StdOut<W> as Sink>⟧.faults s ≡ 0) }
     {
-        Ok(StdOut { stdout, faults: 0 })
+        Ok(StdOut { writer, faults: 0 })
     }
 }
 
-impl Sink for StdOut {
-    ghost gained = { λ _. None };
+impl<W: Write> Sink for StdOut<W> {
+    ghost gained = { λ s. W.contents s.writer };
 
     ghost faults = { λ s. s.faults };
 
     fn write(&mut self, piece: &[u8]) -> Result<usize, Fault>
         ensures within { IfOk result (λ n. n ≤ length piece.now) }
+        ensures bytes { WriteAppends (W.contents self.old.writer) (W.contents self.new.writer) result piece.now }
         ensures cause { HasWriteCause self.old.faults self.new.faults piece.now result }
         ensures nothing_taken { result ≡ Ok 0 → 0 < length piece.now → CountsFault self.old.faults self.new.faults }
         ensures failed { IfErr result
             (λ fault. (fault ≡ Fault.Failed) × CountsFault self.old.faults self.new.faults) }
     {
-        match self.stdout.write(piece) {
-            Ok(0) if !piece.is_empty() => {
-                self.faults = self.faults.saturating_add(1);
-                Ok(0)
-            }
-            Ok(count) => Ok(count),
-            Err(_) => {
-                self.faults = self.faults.saturating_add(1);
-                Err(Fault::Failed)
-            }
+        let count = count_error(&mut self.faults, self.writer.write(piece))?;
+        if count == 0 && !piece.is_empty() {
+            self.faults = self.faults.saturating_add(1);
         }
+        Ok(count)
     }
 }

@@ -2,7 +2,7 @@
 ghost use Rattle.std.specs.Prelude.{◌≡◌, List, Option, None, ℕ, ◌≤◌, Bool, false, length, option_map, IfOk, IfSome, MatchResult};
 ghost use Rattle.std.specs.Io.KnownBytes.{ReadConsumes, WriteAppends};
 ghost use Rattle.wu_outside.specs.Content.{Content, with_blob, with_root, ReadsFrom, GivesRoot, Does, Writes};
-ghost use Rattle.wu_outside.specs.Crash.{Moments, Put, Remove, SetRoot, try_change, settle, AreAlike};
+ghost use Rattle.wu_outside.specs.Crash.{Moments, Put, Remove, SetRoot, Tries, try_change, settle, AreAlike};
 ghost use Rattle.wu_outside.specs.Ends.{GivesEnd};
 ghost use Rattle.wu_outside.specs.Faults.{HasCause, HasFaultCause, HasWriteCause};
 ghost use Rattle.wu_outside.specs.Ranges.{AddsRange};
@@ -192,12 +192,13 @@ pub trait Store {
         ensures cause { HasFaultCause (faults self.old) (faults self.new) result };
 
     /// Gives the root these bytes, at once: after `Failed`, which comes only where the count of
-    /// faults rose, and after a crash it is the old or the new one, whole. On every other answer the
-    /// count is as it was. Out of memory nothing is changed.
+    /// faults rose, and after a crash it is the old or the new one, whole; also where the old one is
+    /// still held after `Failed`, a crash may bring the new one. On every other answer the count is
+    /// as it was. Out of memory nothing is changed.
     fn set_root(&mut self, bytes: &[u8]) -> Result<(), Fault>
         ensures done { Does (with_root bytes.now) (holds self.old) (holds self.new) result }
         ensures unread { reads self.new ≡ reads self.old }
-        ensures tried { Does (try_change (SetRoot bytes.now) (with_root bytes.now)) (moments self.old) (moments self.new) result }
+        ensures tried { Tries (SetRoot bytes.now) (with_root bytes.now) (moments self.old) (moments self.new) result }
         ensures cause { HasFaultCause (faults self.old) (faults self.new) result };
 
     /// Makes what was changed so far survive a crash. `Failed` comes only where the count of faults

@@ -13,8 +13,9 @@ use crate::arguments::arguments;
 use crate::messages::Message;
 use std::alloc::{AllocError, Global};
 use std::fs::File;
+use std::io::IsTerminal;
 use std::process::ExitCode;
-use wu_outside::{DirStore, StdIn, StdOut};
+use wu_outside::{DirStore, Failure, StdIn, StdOut};
 use wumpus_run::{Status, run};
 
 /// The folder of the store, in the folder that the program runs in.
@@ -24,15 +25,39 @@ fn main(rt: HostRuntime) -> ExitCode {
     run_to_end(&rt)
 }
 
+/// How a session ended, and for a person at a terminal which file of the store failed and why.
+#[derive(Drop)]
+struct Ended {
+    status: Status,
+    reason: Option<String>,
+}
+
+impl Ended {
+    /// Without a reason.
+    fn plainly(status: Status) -> Ended
+        ensures { result.status ≡ status }
+    {
+        Ended {
+            status,
+            reason: None,
+        }
+    }
+}
+
 /// Runs a session, prints what ended it, and tells how the process ends.
 fn run_to_end(rt: &HostRuntime) -> ExitCode {
-    let status = session(rt, arguments(rt));
-    if status != Status::Done {
-        let message = Message { status };
-        // The exit status tells the same where this line can't be written.
+    let ended = session(rt, arguments(rt));
+    if ended.status != Status::Done {
+        let message = Message {
+            status: ended.status,
+        };
+        // The exit status tells the same where these lines can't be written.
         let _ = eprintln!(rt; "wumpus: {message}");
+        if let Some(reason) = &ended.reason {
+            let _ = eprintln!(rt; "wumpus: {reason}");
+        }
     }
-    exit_code(status)
+    exit_code(ended.status)
 }
 
 /// How the process ends: with the code of its session's status.
@@ -43,40 +68,52 @@ fn exit_code(status: Status) -> ExitCode
 }
 
 /// Runs the session that the command-line arguments ask for. Where they couldn't be read, the status is the one that says why.
-fn session(rt: &HostRuntime, found: Result<Vec<String>, Status>) -> Status
-    ensures unread { IfErr found (λ status. result ≡ status) }
-    ensures usage { IfOk found (λ arguments. IsUsage result (command_line_of (map string_bytes arguments.items))) }
+fn session(rt: &HostRuntime, found: Result<Vec<String>, Status>) -> Ended
+    ensures unread { IfErr found (λ status. result.status ≡ status) }
+    ensures usage { IfOk found (λ arguments. IsUsage result.status (command_line_of (map string_bytes arguments.items))) }
 {
     match found {
         Ok(arguments) => session_of(rt, &arguments),
-        Err(status) => status,
+        Err(status) => Ended::plainly(status),
     }
 }
 
 /// Runs the session that these arguments, those after the program's name, ask for, over the standard streams and the store in FOLDER.
 /// The status is that of `run`, or `NoMemory` where there is no memory to begin it.
-fn session_of(rt: &HostRuntime, arguments: &[String]) -> Status
-    ensures usage { IsUsage result (command_line_of (map string_bytes arguments.now)) }
+fn session_of(rt: &HostRuntime, arguments: &[String]) -> Ended
+    ensures usage { IsUsage result.status (command_line_of (map string_bytes arguments.now)) }
 {
     let Ok(texts) = texts_of_arguments(rt.alloc(), arguments) else {
-        return Status::NoMemory;
+        return Ended::plainly(Status::NoMemory);
     };
     // Where the standard input is closed, this folder, which can't be read as a file, takes its descriptor, and no file of the store
     // does, if "/" can be opened for reading.
     let _stand_in = File::open(rt, "/");
     let (Ok(mut source), Ok(mut sink)) = (StdIn::new(rt.stdin()), StdOut::new(rt.stdout())) else {
-        return Status::NoMemory;
+        return Ended::plainly(Status::NoMemory);
     };
     let Ok(mut store) = DirStore::new(rt, FOLDER) else {
-        return Status::NoMemory;
+        return Ended::plainly(Status::NoMemory);
     };
-    run(
+    let status = run(
         rt.alloc(),
         texts.as_slice(),
         &mut source,
         &mut sink,
         &mut store,
-    )
+    );
+    let reason = reason_for(rt, status, store.last_failure());
+    Ended { status, reason }
+}
+
+/// Which file of the store failed and why, where that ended the session and a person is there to read it.
+fn reason_for(rt: &HostRuntime, status: Status, failure: Option<&Failure>) -> Option<String> {
+    match failure {
+        Some(failure) if status == Status::StoreFault && rt.stderr().is_terminal() => {
+            format!(in rt.alloc(); "{failure}").ok()
+        }
+        _ => None,
+    }
 }
 
 /// The texts of these arguments, each once and in their order. The one error is out of memory.

@@ -14,3 +14,4 @@ pub use laws::{
 };
 pub use session::run;
 pub use statuses::Status;
+pub use wu_demo::make_script;

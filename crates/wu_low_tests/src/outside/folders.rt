@@ -1,11 +1,12 @@
 //! The store in a folder of the disk.
 use crate::outside::calls::answers_of;
 use std::alloc::Global;
-use std::os::unix::fs::PermissionsExt;
+use std::fs::{OpenOptions, Permissions};
+use std::os::unix::fs::{PermissionsExt, symlink};
 use std::rt::Files;
 use std::{fs, io};
-use wu_outside::{DirStore, Store};
-use wu_rows::{NoAnswer, bytes_text, plain_text};
+use wu_outside::{DirStore, Failed, Fault, LockFolder, Sink, Source, StdIn, StdOut, Store};
+use wu_rows::{NoAnswer, bytes_text, number_text, plain_text};
 
 /// The answer of the call to the arguments.
 pub fn answer<R: Files + AllocGlobal>(
@@ -13,9 +14,19 @@ pub fn answer<R: Files + AllocGlobal>(
     alloc: Global,
     call: &str,
     arguments: &[&str],
-) -> Result<String, NoAnswer> {
+) -> Result<String, NoAnswer>
+where
+    R::File: LockFolder,
+{
     match (call, arguments) {
+        ("StdIn", [path]) => first_read(files, path),
+        ("StdOut", [path, text]) => first_write(files, path, text),
         ("DirStore", [folder, calls]) => answers_in(files, folder, calls),
+        ("DirStore::last_failure", [folder, calls]) => failure_in(files, folder, calls),
+        ("DirStore twice", [folder, calls, other]) => answers_of_two(files, folder, calls, other),
+        ("DirStore", [folder, calls, later]) => {
+            answers_around_a_removal(files, folder, calls, later)
+        }
         ("DirStore", [folder, calls, file, text, later]) => {
             answers_around_a_cut(files, folder, calls, file, text, later)
         }
@@ -23,6 +34,8 @@ pub fn answer<R: Files + AllocGlobal>(
         ("fs::read", [path]) => content_of(files, path),
         ("fs::write", [path, text]) => outcome(alloc, fs::write(files, *path, *text)),
         ("fs::create_dir", [path]) => outcome(alloc, fs::create_dir(files, *path)),
+        ("fs::symlink", [original, link]) => outcome(alloc, symlink(files, *original, *link)),
+        ("fs::set_mode", [path, mode]) => with_mode(files, path, mode),
         ("fs::remove_file", [path]) => outcome(alloc, fs::remove_file(files, *path)),
         ("fs::remove_dir_all", [path]) => outcome(alloc, fs::remove_dir_all(files, *path)),
         _ => Err(NoAnswer::BadRow),
@@ -34,7 +47,10 @@ fn answers_in<R: Files + AllocGlobal>(
     files: &R,
     folder: &str,
     calls: &str,
-) -> Result<String, NoAnswer> {
+) -> Result<String, NoAnswer>
+where
+    R::File: LockFolder,
+{
     let mut store = DirStore::new(files, folder)?;
     let answers = answers_of(files.alloc(), &mut store, calls);
     with_faults(answers, store.faults())
@@ -54,7 +70,10 @@ fn answers_around_a_cut<R: Files + AllocGlobal>(
     file: &str,
     text: &str,
     later: &str,
-) -> Result<String, NoAnswer> {
+) -> Result<String, NoAnswer>
+where
+    R::File: LockFolder,
+{
     let mut store = DirStore::new(files, folder)?;
     let before = answers_of(files.alloc(), &mut store, calls);
     let cut = fs::write(files, file, text).is_ok();
@@ -74,6 +93,116 @@ fn joined(
     let mut answers = before?;
     answers.push_str(after?.as_str())?;
     Ok(answers)
+}
+
+/// The last call of the system that failed in the calls on the store in the folder, or `none`.
+fn failure_in<R: Files + AllocGlobal>(
+    files: &R,
+    folder: &str,
+    calls: &str,
+) -> Result<String, NoAnswer>
+where
+    R::File: LockFolder,
+{
+    let mut store = DirStore::new(files, folder)?;
+    answers_of(files.alloc(), &mut store, calls)?;
+    match store.last_failure() {
+        Some(failure) => Ok(format!(in files.alloc(); "{failure}")?),
+        None => plain_text(files.alloc(), "none"),
+    }
+}
+
+/// The answers of the calls of a store, of those of another one over the same folder meanwhile, and of
+/// the same ones of a third once these two are gone.
+fn answers_of_two<R: Files + AllocGlobal>(
+    files: &R,
+    folder: &str,
+    calls: &str,
+    other: &str,
+) -> Result<String, NoAnswer>
+where
+    R::File: LockFolder,
+{
+    let mut text = answers_of_first_two(files, folder, calls, other)?;
+    text.push_str(" then ")?;
+    text.push_str(answers_in(files, folder, other)?.as_str())?;
+    Ok(text)
+}
+
+fn answers_of_first_two<R: Files + AllocGlobal>(
+    files: &R,
+    folder: &str,
+    calls: &str,
+    other: &str,
+) -> Result<String, NoAnswer>
+where
+    R::File: LockFolder,
+{
+    let mut store = DirStore::new(files, folder)?;
+    let mut text = answers_of(files.alloc(), &mut store, calls)?;
+    text.push_str(" meanwhile ")?;
+    text.push_str(answers_in(files, folder, other)?.as_str())?;
+    Ok(text)
+}
+
+/// The answers of the calls on the store in the folder, and of more after its removal; how many failed.
+fn answers_around_a_removal<R: Files + AllocGlobal>(
+    files: &R,
+    folder: &str,
+    calls: &str,
+    later: &str,
+) -> Result<String, NoAnswer>
+where
+    R::File: LockFolder,
+{
+    let mut store = DirStore::new(files, folder)?;
+    let before = answers_of(files.alloc(), &mut store, calls);
+    let cut = fs::remove_dir_all(files, folder).is_ok();
+    let after = answers_of(files.alloc(), &mut store, later);
+    with_faults(joined(before, cut, after), store.faults())
+}
+
+/// How many bytes the first read of the file gives, or `failed`.
+fn first_read<R: Files + AllocGlobal>(files: &R, path: &str) -> Result<String, NoAnswer> {
+    let Ok(file) = fs::open(files, path) else {
+        return Err(NoAnswer::BadRow);
+    };
+    let mut source = StdIn::new(file)?;
+    let mut buf = [0u8; 8];
+    match source.read(&mut buf) {
+        Ok(count) => number_text(files.alloc(), count as u64),
+        Err(Failed) => plain_text(files.alloc(), "failed"),
+    }
+}
+
+/// How many bytes the first write to the file takes, or `failed`.
+fn first_write<R: Files + AllocGlobal>(
+    files: &R,
+    path: &str,
+    text: &str,
+) -> Result<String, NoAnswer> {
+    let Ok(file) = OpenOptions::new().write(true).open(files, path) else {
+        return Err(NoAnswer::BadRow);
+    };
+    let mut sink = StdOut::new(file)?;
+    match sink.write(text.as_bytes()) {
+        Ok(count) => number_text(files.alloc(), count as u64),
+        Err(Fault::Failed) => plain_text(files.alloc(), "failed"),
+        Err(Fault::NoMemory) => Err(NoAnswer::NoMemory),
+    }
+}
+
+/// Gives the file these permission bits, written in octal.
+fn with_mode<R: Files + AllocGlobal>(
+    files: &R,
+    path: &str,
+    mode: &str,
+) -> Result<String, NoAnswer> {
+    let Ok(mode) = u32::from_str_radix(mode, 8) else {
+        return Err(NoAnswer::BadRow);
+    };
+    let given = fs::set_permissions(files, path, Permissions::from_mode(mode));
+    outcome(files.alloc(), given)
 }
 
 /// The permission bits of the file, or `absent`.
@@ -105,14 +234,20 @@ fn outcome(alloc: Global, done: io::Result<()>) -> Result<String, NoAnswer> {
 const STEP: usize = 997;
 
 /// Reads ten long blobs in turn, of which eight stay open, and prints how many reads give the bytes that were put.
-pub fn compare_long_reads<R: Files + Print + AllocGlobal>(rt: &R) -> io::Result<()> {
+pub fn compare_long_reads<R: Files + Print + AllocGlobal>(rt: &R) -> io::Result<()>
+where
+    R::File: LockFolder,
+{
     let same = long_reads(rt)?;
     println!(rt; "long blobs in a folder: {same} of 410 reads give what was put")?;
     fs::remove_dir_all(rt, "long")
 }
 
 /// How many reads give the bytes that were put.
-fn long_reads<R: Files + AllocGlobal>(files: &R) -> Result<u64, NoAnswer> {
+fn long_reads<R: Files + AllocGlobal>(files: &R) -> Result<u64, NoAnswer>
+where
+    R::File: LockFolder,
+{
     let bytes = long_bytes(files.alloc())?;
     let mut store = DirStore::new(files, "long")?;
     Ok(same_reads(&mut store, &bytes))

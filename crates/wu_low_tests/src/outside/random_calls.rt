@@ -5,7 +5,7 @@ use std::alloc::Global;
 use std::rt::Files;
 use std::{fs, io};
 use wu_base::Bytes;
-use wu_outside::{DirStore, MemStore, PlainStore, Store};
+use wu_outside::{DirStore, LockFolder, MemStore, PlainStore, Store};
 use wu_rows::NoAnswer;
 
 /// Letters, of which puts write the first ones.
@@ -137,7 +137,10 @@ fn agreeing<D: Store>(alloc: Global, store: &mut D, seed: u64) -> Result<u64, No
 }
 
 /// Makes random calls on each store, and prints how many are answered as by a plain map.
-pub fn compare_stores<R: Files + Print + AllocGlobal>(rt: &R) -> io::Result<()> {
+pub fn compare_stores<R: Files + Print + AllocGlobal>(rt: &R) -> io::Result<()>
+where
+    R::File: LockFolder,
+{
     let mut in_memory = 0u64;
     let mut on_disk = 0u64;
     for seed in 0..20u64 {
@@ -172,7 +175,10 @@ fn agreeing_both(
 }
 
 /// How many calls on a store in a folder agree; none where one fails.
-fn agreeing_on_disk<R: Files + AllocGlobal>(files: &R, seed: u64) -> Result<u64, NoAnswer> {
+fn agreeing_on_disk<R: Files + AllocGlobal>(files: &R, seed: u64) -> Result<u64, NoAnswer>
+where
+    R::File: LockFolder,
+{
     let mut store = DirStore::new(files, "random")?;
     let same = agreeing(files.alloc(), &mut store, seed);
     let _ = fs::remove_dir_all(files, "random");

@@ -6,5 +6,5 @@ abbrev pub invariant-loop-blob : goal.invariant-loop-blob
 invariant-loop-blob g l = record {
   can : (goal.iterator-loop-blob g).can_next l.blob-iterator;
   ends : (goal.iterator-loop-blob g).is_finite l.blob-iterator;
-  calm : l.faults ≡ l.fn.faults;
+  calm : l.failures.count ≡ l.fn.failures.count;
 }
