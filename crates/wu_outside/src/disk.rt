@@ -1,7 +1,7 @@
 //! Files on disk, for the store in a folder: the trusted edge. Each error of the system is noted, and
 //! no file is reached through a symbolic link.
-ghost use Rattle.std.specs.Prelude.{◌≡◌, ◌≢◌, ◌≤◌, ◌<◌, ◌↔◌, length, IfOk, IfSome, IsErr, IsErrAnd, IsOk, OnOk, MatchResult};
-ghost use Rattle.std.specs.Io.KnownBytes.{Appends};
+ghost use Rattle.std.specs.Prelude.{◌≡◌, ◌≢◌, ◌≤◌, ◌<◌, ◌↔◌, length, take, IfOk, IfSome, IsErr, IsErrAnd, IsOk, OnOk, MatchResult};
+ghost use Rattle.std.specs.Io.KnownBytes.{Appends, Consumes, IsAtEnd};
 ghost use Rattle.std.specs.Fs.{IsFile, file_type};
 ghost use Rattle.std.specs.IoError.{error_kind};
 ghost use Rattle.wu_outside.specs.Faults.{HasFaultCause};
@@ -217,15 +217,17 @@ fn fill<F: Read>(
     buf: &mut [u8],
 ) -> Result<usize, Fault>
     ensures within { IfOk result (λ n. n ≤ length buf.new) }
+    ensures taken { IfOk result (λ n. Consumes (F.remaining file.old) (F.remaining file.new) (take n buf.new)) }
+    ensures end { IfOk result (λ n. n < length buf.new → IsAtEnd (F.remaining file.new)) }
     ensures cause { HasFaultCause failures.old.count failures.new.count result }
 {
     let mut count = 0;
     while count < buf.len() {
         let more = failures.note(path, file.read(&mut buf[count..]))?;
-        if more == 0 {
-            break;
-        }
         count += more;
+        if more == 0 {
+            return Ok(count);
+        }
     }
     Ok(count)
 }

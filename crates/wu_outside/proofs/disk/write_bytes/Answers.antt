@@ -1,4 +1,4 @@
-use Rattle.std.proofs.Common.{rules, arith, ◌≡◌, ◌≤◌, ◌-◌, length, take, drop, Ok, IfOk, subst}
+use Rattle.std.proofs.Common.{rules, ◌≡◌, ◌≤◌, ◌-◌, length, take, drop, Ok, IfOk, subst}
 use Rattle.std.specs.Io.KnownBytes.{WriteAppends}
 use Rattle.wu_outside.proofs.Handing.{handed_value}
 use Rattle.wu_outside.proofs.Sending.{sent_more}
