@@ -2,6 +2,8 @@
 #![tactic(auto)]
 
 mod command_lines;
+mod engines;
+mod folders;
 mod growing;
 mod pieces;
 mod sessions;
@@ -18,6 +20,7 @@ use wu_rows::{NoAnswer, Subject, compare_tables};
 fn main(rt: HostRuntime) -> io::Result<()> {
     let alloc = rt.alloc();
     let mut tables = Tables {
+        rt: &rt,
         session: Session::new(alloc),
         stored: Stored::new(alloc, Vec::new(alloc)),
     };
@@ -28,12 +31,13 @@ fn main(rt: HostRuntime) -> io::Result<()> {
 
 /// The tables of this program.
 #[derive(Drop)]
-struct Tables {
+struct Tables<'a> {
+    rt: &'a HostRuntime,
     session: Session,
     stored: Stored,
 }
 
-impl Subject for Tables {
+impl Subject for Tables<'_> {
     fn begin(&mut self, alloc: Global) -> Result<(), NoAnswer> {
         self.session = Session::new(alloc);
         self.stored = Stored::new(alloc, Vec::new(alloc));
@@ -51,6 +55,9 @@ impl Subject for Tables {
             ("calls", [words, script]) => sessions::calls(alloc, words, script),
             ("demo", [number]) => sessions::demo_line(alloc, number),
             ("faults", [reads, writes, script]) => sessions::faulty(alloc, reads, writes, script),
+            ("each fault", [calls, words, script]) => {
+                sessions::faulty_in_turn(alloc, calls, words, script)
+            }
             ("store faults", [words, calls, script]) => {
                 stores::failing(alloc, words, calls, script)
             }
@@ -61,6 +68,8 @@ impl Subject for Tables {
                 stores::crashed_in_turn(alloc, words, script, next)
             }
             ("lost blobs", [script]) => stores::losing(alloc, script),
+            ("folder", [words, script]) => folders::session(self.rt, alloc, words, script),
+            ("changed part", [last]) => engines::counted_over(alloc, last),
             ("pieces", [most, script]) => pieces::output(alloc, most, script),
             ("code", [status]) => statuses::code(alloc, status),
             ("begin fault", [fault]) => statuses::text_of_fault(alloc, fault),

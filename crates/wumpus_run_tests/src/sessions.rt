@@ -169,6 +169,48 @@ pub fn faulty(alloc: Global, reads: &str, writes: &str, field: &str) -> Result<S
         numbers(alloc, reads)?,
         numbers(alloc, writes)?,
     )?;
+    told(alloc, &ending)
+}
+
+/// No session of a row reads or writes as often.
+const CALLS_MAX: u64 = 64;
+
+/// The same of the session that the words ask for, where one of its `reads` or of its `writes` fails: the first one, the next one, and
+/// so on up to the number at which the session is done, as it makes no such call.
+pub fn faulty_in_turn(
+    alloc: Global,
+    calls: &str,
+    words_field: &str,
+    field: &str,
+) -> Result<String, NoAnswer> {
+    let words = words(alloc, words_field)?;
+    let mut text = String::new(alloc);
+    for call in 0..CALLS_MAX {
+        let (reads, writes) = failing_call(alloc, calls, call)?;
+        let script = script(alloc, field)?;
+        let ending = run_session(alloc, words.as_slice(), script, reads, writes)?;
+        let told = told(alloc, &ending)?;
+        write!(text, "{call} {told}")?;
+        if ending.status == Status::Done {
+            return Ok(text);
+        }
+        text.push_str(" | ")?;
+    }
+    Err(NoAnswer::BadRow)
+}
+
+/// The reads and the writes that fail: the one call of the one or the other.
+fn failing_call(alloc: Global, calls: &str, call: u64) -> Result<(Vec<u64>, Vec<u64>), NoAnswer> {
+    let fails = Vec::from_slice(alloc, &[call])?;
+    match calls {
+        "reads" => Ok((fails, Vec::new(alloc))),
+        "writes" => Ok((Vec::new(alloc), fails)),
+        _ => Err(NoAnswer::BadRow),
+    }
+}
+
+/// How a session ended, and what it had written.
+fn told(alloc: Global, ending: &Ending) -> Result<String, NoAnswer> {
     let name = name_of(alloc, ending.status)?;
     let output = shown(alloc, ending.output.as_slice())?;
     Ok(format!(in alloc; "{name}: {output}")?)

@@ -1,0 +1,120 @@
+//! What an engine answers over a part that isn't the one that it put.
+ghost use Rattle.std.specs.Prelude.{◌≡◌, ◌+◌, ◌<◌, ◌≤◌, ◌^◌, true, length};
+ghost use Rattle.wu_base.specs.declared.limits.TheConstants.{ADDRESSES_MAX, TEXT_MAX};
+ghost use Rattle.wu_engine.specs.Stands.{taken_by};
+ghost use Rattle.wu_token.specs.Tokens.{tokens_of};
+ghost use Rattle.wu_tree.specs.Steps.{IsEvent};
+
+use std::alloc::Global;
+use wu_access::Perm;
+use wu_ask::{Answered, Ask, Query};
+use wu_base::{ADDRESSES_MAX, BLOBS_SPENT_AT, Bytes, FLUSH_DEFAULT, Trouble};
+use wu_engine::{Engine, Verdict};
+use wu_gcl::parse;
+use wu_outside::{MemStore, Store};
+use wu_rows::{NoAnswer, bytes};
+use wu_token::token_count;
+use wu_tree::Event;
+
+/// The blob of the part, and how many bytes it has.
+const PART: u64 = 2;
+
+const SIZE: usize = 82;
+
+/// What a count of the word is answered by an engine that gave a file the word alone and flushed, where the last byte of the part that
+/// it put was changed to this one after that; where there is none the part is as it was put.
+pub fn counted_over(alloc: Global, field: &str) -> Result<String, NoAnswer> {
+    let mut store = MemStore::new(alloc, Vec::new(alloc), u64::MAX);
+    let Ok(mut engine) = Engine::begin(alloc, &mut store, u64::from(FLUSH_DEFAULT)) else {
+        return Err(NoAnswer::BadRow);
+    };
+    let create = Event::Create {
+        ino: 2,
+        parent: 1,
+        name: Bytes::from_slice(alloc, b"a")?,
+        perm: Perm {
+            uid: 5,
+            gid: 5,
+            mode: 0o600,
+        },
+    };
+    update(&mut engine, &mut store, &create, b"")?;
+    update(&mut engine, &mut store, &Event::Text { ino: 2 }, b"apple")?;
+    flush(&mut engine, &mut store)?;
+    change_last(&mut store, bytes(alloc, field)?.as_slice())?;
+    count(alloc, &mut engine, &mut store)
+}
+
+/// Whether there are so many addresses left, and blobs and flushes for an event.
+fn has_room(engine: &Engine, tokens: u64) -> bool
+    requires { tokens ≤ ADDRESSES_MAX }
+    ensures { result ≡ true → (engine.now.space.next + tokens ≤ ADDRESSES_MAX)
+        × (engine.now.parts.next_blob + 2 < 2 ^ 63) × (engine.now.parts.flushes + 1 < 2 ^ 63) }
+{
+    engine.space.next() <= ADDRESSES_MAX - tokens
+        && engine.parts.next_blob() < BLOBS_SPENT_AT
+        && engine.parts.flushes() < BLOBS_SPENT_AT
+}
+
+/// Applies an event that takes as many addresses as the text has tokens, and isn't refused.
+fn update(
+    engine: &mut Engine,
+    store: &mut MemStore,
+    event: &Event,
+    text: &[u8],
+) -> Result<(), NoAnswer>
+    requires event { IsEvent event.now }
+    requires short { length text.now ≤ TEXT_MAX }
+    requires tokens { taken_by event.now text.now ≡ length (tokens_of text.now) }
+{
+    if !has_room(engine, token_count(text)) {
+        return Err(NoAnswer::BadRow);
+    }
+    match engine.update(store, event, text) {
+        Ok(Verdict::Made) => Ok(()),
+        _ => Err(NoAnswer::BadRow),
+    }
+}
+
+fn flush(engine: &mut Engine, store: &mut MemStore) -> Result<(), NoAnswer> {
+    if !has_room(engine, 0) {
+        return Err(NoAnswer::BadRow);
+    }
+    match engine.flush(store) {
+        Ok(()) => Ok(()),
+        Err(_) => Err(NoAnswer::BadRow),
+    }
+}
+
+/// Puts the part again with this last byte.
+fn change_last(store: &mut MemStore, last: &[u8]) -> Result<(), NoAnswer> {
+    let [last] = last else {
+        return Ok(());
+    };
+    let mut part = [0; SIZE];
+    match store.read(PART, 0, &mut part) {
+        Ok(Some(SIZE)) => {}
+        _ => return Err(NoAnswer::BadRow),
+    }
+    part[SIZE - 1] = *last;
+    match store.put(PART, &part) {
+        Ok(()) => Ok(()),
+        Err(_) => Err(NoAnswer::BadRow),
+    }
+}
+
+/// What the count of the word is answered.
+fn count(alloc: Global, engine: &mut Engine, store: &mut MemStore) -> Result<String, NoAnswer> {
+    let Ok(expr) = parse(alloc, b"\"apple\"")? else {
+        return Err(NoAnswer::BadRow);
+    };
+    let query = Query {
+        uid: 5,
+        ask: Ask::Count { expr },
+    };
+    match engine.query(store, &query) {
+        Ok(Answered::Count { hits, files }) => Ok(format!(in alloc; "{hits} in {files}")?),
+        Err(Trouble::Damaged { blob }) => Ok(format!(in alloc; "damaged at blob {blob}")?),
+        _ => Err(NoAnswer::BadRow),
+    }
+}
