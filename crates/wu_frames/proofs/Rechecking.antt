@@ -6,10 +6,10 @@ use Rattle.std.specs.List.{AllByRecursion, IsDistinct}
 use Rattle.std.specs.Map.{keys_of, remove_entry}
 use Rattle.std.proofs.lemmas.Map.{NonePasses}
 use Rattle.std.proofs.lemmas.Map.Entries.{none_past_head}
-use Rattle.wu_access.specs.declared.Perm.{Perm}
+use Rattle.wu_access.specs.declared.acls.Acl.{Acl}
 use Rattle.wu_access.specs.Access.{is_allowed}
 use Rattle.wu_tree.specs.declared.events.Node.{Node}
-use Rattle.wu_tree.specs.FileSystems.{FileSystem, node_of}
+use Rattle.wu_tree.specs.FileSystems.{FileSystem, acl_of}
 use Rattle.wu_tree.specs.Rules.{IsTree}
 use Rattle.wu_tree.specs.Steps.{with_perm, with_user}
 use Rattle.wu_view.specs.declared.Seen.{Seen}
@@ -67,22 +67,27 @@ module _ (fs after : FileSystem) (live : Ranges) where
           | false ↦ λ h. (frames-same entry.0 entry.1 (same entry.0 h) a.0, right-without kept d.1 a.1)
         ] refl
 
-granted-alike : (fs : FileSystem) (ino : ℕ) (node : Node) (perm : Perm) (there : node_of fs ino ≡ Some node) (uid : ℕ)
-    → grants_as_before (with_perm (λ _. perm) fs ino (Some node)) ino node uid ≡ true
-    → is_allowed (user_in fs uid) node.perm (want_of node.kind) ≡ is_allowed (user_in fs uid) perm (want_of node.kind)
-granted-alike fs ino node perm there uid h =
-    (booleans_Decides _ _).0 h
-    ∙ ap (λ (o : Option Node). is_granted_node (user_in fs uid) (want_of node.kind) o) (node_of-here fs ino node perm there)
+module _ (fs : FileSystem) (ino : ℕ) (node : Node) (acl : Option Acl) (after : FileSystem) (c : IsPermChange fs ino node acl after) where
+  abbrev now : FileSystem
+  now = with_perm (λ _. c.perm) (record fs { acls = c.acls }) ino (Some node)
 
-pub right-rechecked : (fs after : FileSystem) (live : Ranges) (ino : ℕ) (node : Node) (kept : Kept) → IsTree after
-    → IsPermChange fs ino node after → AreFor fs live kept → AreFor after live (kept_as_before after ino node kept)
-right-rechecked fs after live ino node kept t c a =
-    subst (λ (f : FileSystem). IsTree f → AreFor f live (kept_as_before f ino node kept)) (sym c.changed)
-    (λ u.
-    let now : FileSystem = with_perm (λ _. c.perm) fs ino (Some node) in
-    right-filtered fs now live (grants_as_before now ino node)
-    (λ uid h. view_of-permitted fs ino node c.perm c.there (user_in fs uid) (granted-alike fs ino node c.perm c.there uid h) u uid refl)
-    kept a) t
+  granted-alike : (uid : ℕ) → grants_as_before now ino node acl uid ≡ true
+      → is_allowed (user_in fs uid) node.perm (acl_of fs ino) (want_of node.kind)
+      ≡ is_allowed (user_in fs uid) c.perm (acl_of now ino) (want_of node.kind)
+  granted-alike uid h =
+      ap (λ (a : Option Acl). is_allowed (user_in fs uid) node.perm a (want_of node.kind)) c.had
+      ∙ (booleans_Decides _ _).0 h
+      ∙ ap (λ (o : Option Node). is_granted_node (user_in fs uid) (want_of node.kind) (acl_of now ino) o)
+      (node_of-here fs ino node c.perm c.acls c.there c.others)
+
+  pub right-rechecked : (live : Ranges) (kept : Kept) → IsTree after → AreFor fs live kept
+      → AreFor after live (kept_as_before after ino node acl kept)
+  right-rechecked live kept t a =
+      subst (λ (f : FileSystem). IsTree f → AreFor f live (kept_as_before f ino node acl kept)) (sym c.changed)
+      (λ u.
+      right-filtered fs now live (grants_as_before now ino node acl)
+      (λ uid h. view_of-permitted fs ino node c.perm c.acls c.there c.others (user_in fs uid) (granted-alike uid h) u uid refl)
+      kept a) t
 
 pub right-forgotten : (fs after : FileSystem) (live : Ranges) (uid : ℕ) (kept : Kept) → IsDistinct nat_eq (keys_of kept)
     → IsGroupChange fs uid after → AreFor fs live kept → AreFor after live (remove_entry (nat_eq uid) kept)

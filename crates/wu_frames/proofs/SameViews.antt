@@ -4,11 +4,12 @@ use Rattle.std.specs.Prelude.{◌==◌, Option, None, Some, is_some, map, filter
 use Rattle.std.specs.Cmp.{nat_cmp_total, nat_eq_equiv, eq_by_cmp_equiv}
 use Rattle.std.specs.Ordering.{is_eq, nat_cmp}
 use Rattle.std.specs.List.{AllByRecursion, list_all}
-use Rattle.std.specs.Map.{keys_of, set_value}
+use Rattle.std.specs.Map.{keys_of, lookup, set_value}
 use Rattle.std.specs.BTreeMap.{is_at}
 use Rattle.std.proofs.lemmas.Map.{lookup-set_value, keys-set_value}
 use Rattle.wu_base.specs.SortedOnce.{sorted_once}
 use Rattle.wu_base.proofs.MapEntries.{lookup-insert_entry}
+use Rattle.wu_access.specs.declared.acls.Acl.{Acl}
 use Rattle.wu_access.specs.declared.Perm.{Perm}
 use Rattle.wu_access.specs.declared.UserRec.{UserRec}
 use Rattle.wu_access.specs.declared.Want.TheVariants.{Read, Execute}
@@ -16,7 +17,7 @@ use Rattle.wu_access.specs.Access.{is_allowed}
 use Rattle.wu_tree.specs.declared.events.Kind.{Kind}
 use Rattle.wu_tree.specs.declared.events.Kind.TheVariants.{Directory, File}
 use Rattle.wu_tree.specs.declared.events.Node.{Node}
-use Rattle.wu_tree.specs.FileSystems.{FileSystem, Link, ancestors, above, groups_of, is_directory, is_directory_node, is_file_node, is_kind_file, node_of, parent_of, path_up}
+use Rattle.wu_tree.specs.FileSystems.{FileSystem, Link, acl_of, ancestors, above, groups_of, is_directory, is_directory_node, is_file_node, is_kind_file, node_of, parent_of, path_up}
 use Rattle.wu_tree.specs.Rules.{IsLink, IsTree}
 use Rattle.wu_tree.specs.Steps.{with_user}
 use Rattle.wu_tree.proofs.ParentPaths.{parent_found, path_is, same_number, other_number}
@@ -70,9 +71,9 @@ module _ (links : List Link) (f g : ℕ → Bool) (same : AllByRecursion (λ (li
 
 -- ---- the view of a user who may read the same files and pass through the same directories
 
-module _ (fs : FileSystem) (nodes : List (ℕ × Node)) (user : UserRec) where
+module _ (fs : FileSystem) (nodes : List (ℕ × Node)) (acls : List (ℕ × Acl)) (user : UserRec) where
   abbrev now : FileSystem
-  now = record fs { nodes = nodes }
+  now = record fs { nodes = nodes; acls = acls }
 
   module _ (numbers : keys_of nodes ≡ keys_of fs.nodes) (files : (ino : ℕ) → is_readable now user ino ≡ is_readable fs user ino)
       (directories : AllByRecursion (λ (link : Link). may now user Execute link.0.0 ≡ may fs user Execute link.0.0) fs.links) where
@@ -103,23 +104,29 @@ module _ (fs : FileSystem) (nodes : List (ℕ × Node)) (user : UserRec) where
         ∙ sym (by-keys (seen_as fs user) (is_readable fs user) fs.nodes) in
         ap (λ (l : List Seen). sorted_once seen_cmp (filter (λ (seen : Seen). not (is_empty seen.paths)) l)) shown
 
--- ---- a node that has other permissions
+-- ---- a node that has other permissions, or another access list
 
-readable-kind : (user : UserRec) (kind : Kind) (old new : Perm) → is_allowed user old (want_of kind) ≡ is_allowed user new (want_of kind)
-    → (is_kind_file kind && is_allowed user new Read) ≡ (is_kind_file kind && is_allowed user old Read)
-readable-kind user Directory old new h = refl
-readable-kind user File old new h = sym h
+readable-kind : (user : UserRec) (kind : Kind) (old new : Perm) (had has : Option Acl)
+    → is_allowed user old had (want_of kind) ≡ is_allowed user new has (want_of kind)
+    → (is_kind_file kind && is_allowed user new has Read) ≡ (is_kind_file kind && is_allowed user old had Read)
+readable-kind user Directory old new had has h = refl
+readable-kind user File old new had has h = sym h
 
-passable-kind : (user : UserRec) (kind : Kind) (old new : Perm) → is_allowed user old (want_of kind) ≡ is_allowed user new (want_of kind)
-    → not (is_kind_file kind) ≡ true → is_allowed user new Execute ≡ is_allowed user old Execute
-passable-kind user Directory old new h d = sym h
-passable-kind user File old new h d = absurd cc
+passable-kind : (user : UserRec) (kind : Kind) (old new : Perm) (had has : Option Acl)
+    → is_allowed user old had (want_of kind) ≡ is_allowed user new has (want_of kind)
+    → not (is_kind_file kind) ≡ true → is_allowed user new has Execute ≡ is_allowed user old had Execute
+passable-kind user Directory old new had has h d = sym h
+passable-kind user File old new had has h d = absurd cc
 
-module _ (fs : FileSystem) (ino : ℕ) (node : Node) (perm : Perm) (there : node_of fs ino ≡ Some node) where
+module _ (fs : FileSystem) (ino : ℕ) (node : Node) (perm : Perm) (acls : List (ℕ × Acl)) (there : node_of fs ino ≡ Some node)
+    (others : (q : ℕ) → q ≢ ino → lookup (is_at (nat_cmp q)) acls ≡ acl_of fs q) where
   abbrev permitted : List (ℕ × Node)
   permitted = set_value (is_at (nat_cmp ino)) fs.nodes (record node { perm = perm })
 
-  node_of-permitted : (q : ℕ) → node_of (record fs { nodes = permitted }) q
+  abbrev changed : FileSystem
+  changed = record fs { nodes = permitted; acls = acls }
+
+  node_of-permitted : (q : ℕ) → node_of changed q
       ≡ cond (is_eq (nat_cmp ino q)) (Some (record node { perm = perm })) (node_of fs q)
   node_of-permitted q =
       lookup-set_value (eq_by_cmp_equiv nat_cmp_total) (is_at (nat_cmp ino))
@@ -129,47 +136,66 @@ module _ (fs : FileSystem) (ino : ℕ) (node : Node) (perm : Perm) (there : node
   found q h = subst (λ (n : ℕ). node_of fs n ≡ Some node) (same_number ino q h) there
 
   -- the node now
-  pub node_of-here : node_of (record fs { nodes = permitted }) ino ≡ Some (record node { perm = perm })
+  pub node_of-here : node_of changed ino ≡ Some (record node { perm = perm })
   node_of-here = rw (node_of-permitted ino, (eq_by_cmp_equiv nat_cmp_total).refl ino) refl
 
-  module _ (user : UserRec) (same : is_allowed user node.perm (want_of node.kind) ≡ is_allowed user perm (want_of node.kind)) where
-    files-same : (q : ℕ) → is_readable (record fs { nodes = permitted }) user q ≡ is_readable fs user q
-    files-same q =
-        rw (node_of-permitted q)
-        (elim (is_eq (nat_cmp ino q)) as
-        (λ b. is_eq (nat_cmp ino q) ≡ b
-        → (is_file_node (cond b (Some (record node { perm = perm })) (node_of fs q))
-        && is_granted_node user Read (cond b (Some (record node { perm = perm })) (node_of fs q))) ≡ is_readable fs user q) [
-          | true ↦ λ p. rw (found q p) (readable-kind user node.kind node.perm perm same)
-          | false ↦ λ p. refl
-        ] refl)
+  elsewhere : (q : ℕ) → is_eq (nat_cmp ino q) ≡ false → acl_of changed q ≡ acl_of fs q
+  elsewhere q h =
+      others q
+      (λ e.
+      let f : is_eq (nat_cmp ino q) ≡ true = subst (λ (n : ℕ). is_eq (nat_cmp n q) ≡ true) e ((eq_by_cmp_equiv nat_cmp_total).refl q) in
+      absurd cc)
 
-    directory-same : (q : ℕ) → is_directory (record fs { nodes = permitted }) q ≡ true
-        → may (record fs { nodes = permitted }) user Execute q ≡ may fs user Execute q
-    directory-same q =
-        rw (node_of-permitted q)
-        (elim (is_eq (nat_cmp ino q)) as
-        (λ b. is_eq (nat_cmp ino q) ≡ b
-        → is_directory_node (cond b (Some (record node { perm = perm })) (node_of fs q)) ≡ true
-        → is_granted_node user Execute (cond b (Some (record node { perm = perm })) (node_of fs q)) ≡ may fs user Execute q) [
-          | true ↦ λ p d. rw (found q p) (passable-kind user node.kind node.perm perm same d)
-          | false ↦ λ p d. refl
-        ] refl)
+  module _ (user : UserRec)
+      (same : is_allowed user node.perm (acl_of fs ino) (want_of node.kind) ≡ is_allowed user perm (acl_of changed ino) (want_of node.kind))
+    where
+      same-at : (q : ℕ) → is_eq (nat_cmp ino q) ≡ true
+          → is_allowed user node.perm (acl_of fs q) (want_of node.kind) ≡ is_allowed user perm (acl_of changed q) (want_of node.kind)
+      same-at q p =
+          subst
+          (λ (n : ℕ). is_allowed user node.perm (acl_of fs n) (want_of node.kind)
+          ≡ is_allowed user perm (acl_of changed n) (want_of node.kind))
+          (same_number ino q p) same
 
-    directories-same : (links : List Link) → AllByRecursion (IsLink (record fs { nodes = permitted })) links
-        → AllByRecursion (λ (link : Link). may (record fs { nodes = permitted }) user Execute link.0.0 ≡ may fs user Execute link.0.0) links
-    directories-same [] a = tt
-    directories-same (link ∷ links) a = (directory-same link.0.0 a.0.parent, directories-same links a.1)
+      files-same : (q : ℕ) → is_readable changed user q ≡ is_readable fs user q
+      files-same q =
+          rw (node_of-permitted q)
+          (elim (is_eq (nat_cmp ino q)) as
+          (λ b. is_eq (nat_cmp ino q) ≡ b
+          → (is_file_node (cond b (Some (record node { perm = perm })) (node_of fs q))
+          && is_granted_node user Read (acl_of changed q) (cond b (Some (record node { perm = perm })) (node_of fs q)))
+          ≡ is_readable fs user q) [
+            | true ↦ λ p. rw (found q p) (readable-kind user node.kind node.perm perm (acl_of fs q) (acl_of changed q) (same-at q p))
+            | false ↦ λ p. ap (λ (a : Option Acl). is_file_node (node_of fs q) && is_granted_node user Read a (node_of fs q)) (elsewhere q p)
+          ] refl)
 
-    pub view_for-permitted : IsTree (record fs { nodes = permitted }) → view_for (record fs { nodes = permitted }) user ≡ view_for fs user
-    view_for-permitted t =
-        view_for-same fs permitted user (keys-set_value (is_at (nat_cmp ino)) fs.nodes (record node { perm = perm })) files-same
-        (directories-same fs.links t.links)
+      directory-same : (q : ℕ) → is_directory changed q ≡ true
+          → may changed user Execute q ≡ may fs user Execute q
+      directory-same q =
+          rw (node_of-permitted q)
+          (elim (is_eq (nat_cmp ino q)) as
+          (λ b. is_eq (nat_cmp ino q) ≡ b
+          → is_directory_node (cond b (Some (record node { perm = perm })) (node_of fs q)) ≡ true
+          → is_granted_node user Execute (acl_of changed q) (cond b (Some (record node { perm = perm })) (node_of fs q))
+          ≡ may fs user Execute q) [
+            | true ↦ λ p d. rw (found q p) (passable-kind user node.kind node.perm perm (acl_of fs q) (acl_of changed q) (same-at q p) d)
+            | false ↦ λ p d. ap (λ (a : Option Acl). is_granted_node user Execute a (node_of fs q)) (elsewhere q p)
+          ] refl)
 
-    pub view_of-permitted : IsTree (record fs { nodes = permitted }) → (uid : ℕ)
-        → user ≡ user_with uid (groups_of fs uid) → view_of (record fs { nodes = permitted }) uid ≡ view_of fs uid
-    unfolding view_of
-    view_of-permitted t uid e = rw (← e) (view_for-permitted t)
+      directories-same : (links : List Link) → AllByRecursion (IsLink changed) links
+          → AllByRecursion (λ (link : Link). may changed user Execute link.0.0 ≡ may fs user Execute link.0.0) links
+      directories-same [] a = tt
+      directories-same (link ∷ links) a = (directory-same link.0.0 a.0.parent, directories-same links a.1)
+
+      pub view_for-permitted : IsTree changed → view_for changed user ≡ view_for fs user
+      view_for-permitted t =
+          view_for-same fs permitted acls user (keys-set_value (is_at (nat_cmp ino)) fs.nodes (record node { perm = perm })) files-same
+          (directories-same fs.links t.links)
+
+      pub view_of-permitted : IsTree changed → (uid : ℕ)
+          → user ≡ user_with uid (groups_of fs uid) → view_of changed uid ≡ view_of fs uid
+      unfolding view_of
+      view_of-permitted t uid e = rw (← e) (view_for-permitted t)
 
 -- ---- a user who is in other groups
 

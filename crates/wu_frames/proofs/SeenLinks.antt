@@ -17,7 +17,7 @@ use Rattle.wu_access.specs.Access.{is_allowed}
 use Rattle.wu_tree.specs.declared.events.Kind.{Kind}
 use Rattle.wu_tree.specs.declared.events.Kind.TheVariants.{Directory, File}
 use Rattle.wu_tree.specs.declared.events.Node.{Node}
-use Rattle.wu_tree.specs.FileSystems.{FileSystem, Link, depth, groups_of, has_entries, is_directory, is_directory_node, is_file, is_file_node, is_kind_file, is_there, node_of}
+use Rattle.wu_tree.specs.FileSystems.{FileSystem, Link, acl_of, depth, groups_of, has_entries, is_directory, is_directory_node, is_file, is_file_node, is_kind_file, is_there, node_of}
 use Rattle.wu_tree.specs.Rules.{IsTree}
 use Rattle.wu_tree.proofs.ParentPaths.{directory_found}
 use Rattle.wu_view.specs.declared.Seen.{Seen}
@@ -110,35 +110,49 @@ has_entry link links h = has_any (λ l. l.0.0 == link.0.0) link links h (eq-eqb 
 
 module _ (one other : FileSystem) (s : IsTree one) (t : IsTree other) (links : LinkChanges) (user : UserRec)
     (accounted : AllByRecursion (IsAccounted one links other) one.links)
-    (nodes : (ino : ℕ) (node now : Node) → node_of one ino ≡ Some node → node_of other ino ≡ Some now → node ≡ now)
-    (hidden : (link : ChangedLink) → Changes links link → is_allowed user link.node.perm (want_of link.node.kind) ≡ true
+    (nodes : (ino : ℕ) (node now : Node) → node_of one ino ≡ Some node → node_of other ino ≡ Some now
+    → (node ≡ now) × (acl_of one ino ≡ acl_of other ino))
+    (hidden : (link : ChangedLink) → Changes links link → is_allowed user link.node.perm link.acl (want_of link.node.kind) ≡ true
     → IsReached one user link.directory → IsReached other user link.directory → ⊥) where
   node-same : (q : ℕ) → is_there one q ≡ true → is_there other q ≡ true → node_of one q ≡ node_of other q
   node-same q h g =
       let x = some-there (node_of one q) h in
       let y = some-there (node_of other q) g in
-      x.1 ∙ ap Some (nodes q x.0 y.0 x.1 y.1) ∙ sym y.1
+      x.1 ∙ ap Some (nodes q x.0 y.0 x.1 y.1).0 ∙ sym y.1
+
+  acl-same : (q : ℕ) → is_there one q ≡ true → is_there other q ≡ true → acl_of one q ≡ acl_of other q
+  acl-same q h g =
+      let x = some-there (node_of one q) h in
+      let y = some-there (node_of other q) g in
+      (nodes q x.0 y.0 x.1 y.1).1
+
+  may-same : (want : Want) (q : ℕ) → is_there one q ≡ true → is_there other q ≡ true → may one user want q ≡ may other user want q
+  may-same want q h g = λ i. is_granted_node user want (acl-same q h g i) (node-same q h g i)
 
   -- the directory is reached in the other too, by the same path
   abbrev IsKept : ℕ → Type 0
   IsKept q = IsReached other user q × (directory_path one.links q ≡ directory_path other.links q)
 
   -- a link that the user follows isn't among those that change
-  not-listed : (link : Link) (node : Node) → node_of one link.1 ≡ Some node → is_allowed user node.perm (want_of node.kind) ≡ true
+  not-listed : (link : Link) (node : Node) → node_of one link.1 ≡ Some node
+      → is_allowed user node.perm (acl_of one link.1) (want_of node.kind) ≡ true
       → IsReached one user link.0.0 → IsReached other user link.0.0
-      → IfSome (node_of one link.1) (λ (n : Node). Changes links (record { directory = link.0.0; node = n })) → ⊥
+      → IfSome (node_of one link.1) (λ (n : Node). Changes links (record { directory = link.0.0; node = n; acl = acl_of one link.1 })) → ⊥
   not-listed link node e g r u h =
-      hidden (record { directory = link.0.0; node = node })
-      (subst (λ (o : Option Node). IfSome o (λ (n : Node). Changes links (record { directory = link.0.0; node = n }))) e h) g r u
+      hidden (record { directory = link.0.0; node = node; acl = acl_of one link.1 })
+      (subst
+      (λ (o : Option Node). IfSome o (λ (n : Node). Changes links (record { directory = link.0.0; node = n; acl = acl_of one link.1 }))) e
+      h) g r u
 
   kept-there : (link : Link) → Has link one.links → is_directory one link.1 ≡ true → may one user Execute link.1 ≡ true
       → IsKept link.0.0 → Has link other.links → IsKept link.1
   kept-there link h d m up there =
       let found = directory_found (node_of one link.1) d in
-      let same : node_of one link.1 ≡ node_of other link.1 =
-      node-same link.1 (ap is_some found.1) (link_facts other t link there).child in
+      let here : is_there one link.1 ≡ true = ap is_some found.1 in
+      let after : is_there other link.1 ≡ true = (link_facts other t link there).child in
+      let same : node_of one link.1 ≡ node_of other link.1 = node-same link.1 here after in
       let directory : is_directory other link.1 ≡ true = ap is_directory_node (sym same) ∙ d in
-      let passed : may other user Execute link.1 ≡ true = ap (is_granted_node user Execute) (sym same) ∙ m in (
+      let passed : may other user Execute link.1 ≡ true = sym (may-same Execute link.1 here after) ∙ m in (
         (
           directory,
           open_below other t user link there directory
@@ -151,9 +165,9 @@ module _ (one other : FileSystem) (s : IsTree one) (t : IsTree other) (links : L
       → may one user Execute link.1 ≡ true → IsReached one user link.0.0 → IsKept link.0.0 → IsKept link.1
   kept-below link h d e m r up =
       let found = directory_found (node_of one link.1) d in
-      let granted : is_allowed user found.0.perm (want_of found.0.kind) ≡ true =
-      ap (λ (w : Want). is_allowed user found.0.perm w) (want-of_directory found.0.kind found.2)
-      ∙ ap (is_granted_node user Execute) (sym found.1) ∙ m in
+      let granted : is_allowed user found.0.perm (acl_of one link.1) (want_of found.0.kind) ≡ true =
+      ap (λ (w : Want). is_allowed user found.0.perm (acl_of one link.1) w) (want-of_directory found.0.kind found.2)
+      ∙ ap (is_granted_node user Execute (acl_of one link.1)) (sym found.1) ∙ m in
       ⊎_elim (λ c. kept-there link h d m up (Has-from_Contains link other.links c))
       (λ i.
       ⊎_elim (λ c. absurd (not-listed link found.0 found.1 granted r up.0 c))
@@ -162,9 +176,10 @@ module _ (one other : FileSystem) (s : IsTree one) (t : IsTree other) (links : L
 
   kept-root : may one user Execute 1 ≡ true → IsKept 1
   kept-root m =
-      let same : node_of one 1 ≡ node_of other 1 =
-      node-same 1 (ap is_some (directory_found (node_of one 1) s.root).1) (ap is_some (directory_found (node_of other 1) t.root).1) in
-      let passed : may other user Execute 1 ≡ true = ap (is_granted_node user Execute) (sym same) ∙ m in
+      let same : may one user Execute 1 ≡ may other user Execute 1 =
+      may-same Execute 1 (ap is_some (directory_found (node_of one 1) s.root).1)
+      (ap is_some (directory_found (node_of other 1) t.root).1) in
+      let passed : may other user Execute 1 ≡ true = sym same ∙ m in
       ((t.root, root_open other t user passed), root_path one s ∙ sym (root_path other t))
 
   kept-open : (n q : ℕ) → depth one.links q ≤ n → has_entries one.links q ≡ true → IsReached one user q → IsKept q
@@ -195,19 +210,20 @@ module _ (one other : FileSystem) (s : IsTree one) (t : IsTree other) (links : L
       let facts = link_facts one s link seen.within in
       let readable = and_parts (is_file one link.1) (may one user Read link.1) seen.readable in
       let found = file-found (node_of one link.1) readable.0 in
-      let granted : is_allowed user found.0.perm (want_of found.0.kind) ≡ true =
-      ap (λ (w : Want). is_allowed user found.0.perm w) (want-of_file found.0.kind found.2)
-      ∙ ap (is_granted_node user Read) (sym found.1) ∙ readable.1 in
+      let granted : is_allowed user found.0.perm (acl_of one link.1) (want_of found.0.kind) ≡ true =
+      ap (λ (w : Want). is_allowed user found.0.perm (acl_of one link.1) w) (want-of_file found.0.kind found.2)
+      ∙ ap (is_granted_node user Read (acl_of one link.1)) (sym found.1) ∙ readable.1 in
       let above : IsReached one user link.0.0 = (facts.parent, seen.opened) in
       let up : IsKept link.0.0 =
       kept-open (depth one.links link.0.0) link.0.0 (omega arith) (has_entry link one.links seen.within) above in
       ⊎_elim
       (λ c.
       let there : Has link other.links = Has-from_Contains link other.links c in
-      let same : node_of one link.1 ≡ node_of other link.1 = node-same link.1 facts.child (link_facts other t link there).child in (
+      let after : is_there other link.1 ≡ true = (link_facts other t link there).child in (
         record {
           within = there;
-          readable = ap (λ (o : Option Node). is_file_node o && is_granted_node user Read o) (sym same) ∙ seen.readable;
+          readable = (λ i. is_file_node (sym (node-same link.1 facts.child after) i) && sym (may-same Read link.1 facts.child after) i)
+              ∙ seen.readable;
           opened = up.0.1;
         },
         ap (λ (p : List ℕ). p ++ 47 ∷ link.0.1) up.1,
@@ -239,7 +255,7 @@ unshown fs links uid h link c =
 module _ (before after : FileSystem) (t : IsTree after) (links : LinkChanges) (c : IsLinkChange before links after) (uid : ℕ)
     (h : sees_none after links uid ≡ true) where
   hidden-after : (link : ChangedLink) → Changes links link
-      → is_allowed (user_in after uid) link.node.perm (want_of link.node.kind) ≡ true
+      → is_allowed (user_in after uid) link.node.perm link.acl (want_of link.node.kind) ≡ true
       → IsReached after (user_in after uid) link.directory → ⊥
   hidden-after link l g r =
       let no : is_shown after (user_in after uid) link ≡ false = unshown after links uid h link l in
@@ -253,7 +269,7 @@ module _ (before after : FileSystem) (t : IsTree after) (links : LinkChanges) (c
       let groups : groups_of after uid ≡ groups_of before uid =
       ap (λ (users : List (ℕ × List ℕ)). unwrap_or (lookup (is_at (nat_cmp uid)) users) []) c.users in
       view_for-carried after before t c.rules (user_in after uid)
-      (carried after before t c.rules links (user_in after uid) c.came (λ ino node now a b. sym (c.nodes ino now node b a))
+      (carried after before t c.rules links (user_in after uid) c.came (λ ino node now a b. let same = c.nodes ino now node b a in (sym same.0, sym same.1))
       (λ link l g r u. hidden-after link l g r))
       (carried before after c.rules t links (user_in after uid) c.went c.nodes (λ link l g r u. hidden-after link l g u))
       ∙ ap (λ (g : List ℕ). view_for before (user_with uid g)) groups

@@ -8,5 +8,5 @@ use Rattle.wu_frames.specs.Links.{sees_none}
 
 -- whether the change is none for the user: the node grants her what it granted before, or she sees none of the links
 abbrev pub is_spared : FileSystem → Change → ℕ → Bool
-is_spared fs (PermOf ino before) uid = grants_as_before fs ino before uid
+is_spared fs (PermOf ino before acl) uid = grants_as_before fs ino before acl uid
 is_spared fs (Links links) uid = sees_none fs links uid

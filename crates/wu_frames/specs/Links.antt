@@ -7,7 +7,8 @@ use Rattle.wu_tree.specs.declared.events.Kind.TheVariants.{File}
 use Rattle.wu_tree.specs.declared.events.Node.{Node}
 use Rattle.wu_tree.specs.declared.events.Event.{Event}
 use Rattle.wu_tree.specs.declared.events.Event.TheVariants.{User, Mkdir, Create, Text, Link as AddLink, Unlink, Rmdir, Rename, Chmod, Chown}
-use Rattle.wu_tree.specs.FileSystems.{FileSystem, Link, child_of, has_entries, is_directory, is_file, node_of}
+use Rattle.wu_tree.specs.declared.events.Event.TheVariants.{Acl as SetAcl}
+use Rattle.wu_tree.specs.FileSystems.{FileSystem, Link, acl_of, child_of, has_entries, is_directory, is_file, node_of}
 use Rattle.wu_tree.specs.Rules.{IsTree}
 use Rattle.wu_view.specs.Views.{is_open}
 use Rattle.wu_space.specs.Addresses.{Ranges, range_of}
@@ -22,26 +23,25 @@ abbrev pub no_links : LinkChanges
 no_links = record { made = None; removed = None; replaced = None }
 
 -- the link in that directory to that node, if there is one
-abbrev pub link_to : ℕ → Option Node → Option ChangedLink
-link_to directory node = option_map (λ node. record { directory = directory; node = node }) node
+abbrev pub link_to : FileSystem → ℕ → ℕ → Option ChangedLink
+link_to fs directory ino = option_map (λ node. record { directory = directory; node = node; acl = acl_of fs ino }) (node_of fs ino)
 
--- the node of that number, if there is one
-abbrev pub node_at : FileSystem → Option ℕ → Option Node
-node_at fs None = None
-node_at fs (Some ino) = node_of fs ino
+abbrev pub link_to_some : FileSystem → ℕ → Option ℕ → Option ChangedLink
+link_to_some fs directory None = None
+link_to_some fs directory (Some ino) = link_to fs directory ino
 
 -- a link in that directory to the node that has that name in `parent`, if there is one
 abbrev pub link_at : FileSystem → ℕ → List ℕ → ℕ → Option ChangedLink
-link_at fs parent name directory = link_to directory (node_at fs (child_of fs parent name))
+link_at fs parent name directory = link_to_some fs directory (child_of fs parent name)
 
 -- the links that the event makes and removes, if it is accepted, but for one to a directory that it makes or removes
 abbrev pub links_changed : FileSystem → Event → LinkChanges
 links_changed fs (User uid groups) = no_links
 links_changed fs (Mkdir ino parent name perm) = no_links
 links_changed fs (Create ino parent name perm) =
-    record no_links { made = Some (record { directory = parent; node = record { kind = File; perm = perm } }) }
+    record no_links { made = Some (record { directory = parent; node = record { kind = File; perm = perm }; acl = None }) }
 links_changed fs (Text ino) = no_links
-links_changed fs (AddLink ino parent name) = record no_links { made = link_to parent (node_of fs ino) }
+links_changed fs (AddLink ino parent name) = record no_links { made = link_to fs parent ino }
 links_changed fs (Unlink parent name) = record no_links { removed = link_at fs parent name parent }
 links_changed fs (Rmdir parent name) = no_links
 links_changed fs (Rename parent name new_parent new_name) = record {
@@ -51,6 +51,7 @@ links_changed fs (Rename parent name new_parent new_name) = record {
 }
 links_changed fs (Chmod ino mode) = no_links
 links_changed fs (Chown ino uid gid) = no_links
+links_changed fs (SetAcl ino acl mask) = no_links
 
 -- ---- what else may differ
 
@@ -62,7 +63,7 @@ Changes links link = (links.made ≡ Some link) ⊎ (links.removed ≡ Some link
 abbrev pub IsAccounted : FileSystem → LinkChanges → FileSystem → Link → Type 0
 IsAccounted one links other link =
     Contains other.links link
-    ⊎ IfSome (node_of one link.1) (λ node. Changes links (record { directory = link.0.0; node = node }))
+    ⊎ IfSome (node_of one link.1) (λ node. Changes links (record { directory = link.0.0; node = node; acl = acl_of one link.1 }))
     ⊎ ((is_directory one link.1 ≡ true) × (has_entries one.links link.1 ≡ false))
 
 -- these links were made and removed, and links to empty directories, with nodes to which they lead; nothing else changed
@@ -70,8 +71,9 @@ pub record IsLinkChange (before : FileSystem) (links : LinkChanges) (after : Fil
   pub rules : IsTree before
   pub went : AllByRecursion (IsAccounted before links after) before.links
   pub came : AllByRecursion (IsAccounted after links before) after.links
-  -- a node that is there before and after is the same
-  pub nodes : (ino : ℕ) (node now : Node) → node_of before ino ≡ Some node → node_of after ino ≡ Some now → node ≡ now
+  -- a node that is there before and after is the same, with the same access list
+  pub nodes : (ino : ℕ) (node now : Node) → node_of before ino ≡ Some node → node_of after ino ≡ Some now
+      → (node ≡ now) × (acl_of before ino ≡ acl_of after ino)
   pub users : after.users ≡ before.users
 
 -- each file that is there before and after has the same live range
@@ -84,7 +86,7 @@ KeepRanges before after live now = (ino : ℕ) → is_file before ino ≡ true �
 -- it stands is open for her, and the node grants her what she needs
 abbrev pub is_shown : FileSystem → UserRec → ChangedLink → Bool
 is_shown fs user link =
-    is_allowed user link.node.perm (want_of link.node.kind) && is_directory fs link.directory && is_open fs user link.directory
+    is_allowed user link.node.perm link.acl (want_of link.node.kind) && is_directory fs link.directory && is_open fs user link.directory
 
 abbrev pub is_some_shown : FileSystem → UserRec → Option ChangedLink → Bool
 is_some_shown fs user None = false

@@ -14,6 +14,7 @@ use lru::LruCache;
 use std::alloc::Global;
 use std::marker::Model;
 use std::num::NonZeroUsize;
+use wu_access::Acl;
 use wu_base::{Ino, NoMemory, Range, Uid};
 use wu_space::Space;
 use wu_tree::{Node, Tree};
@@ -128,16 +129,17 @@ impl FrameCache {
         walks::mend_each(self.alloc, &mut self.kept, ino, old, new);
     }
 
-    /// Forgets the frames of each user to whom a node that has other permissions doesn't grant what it granted her
-    /// before: to read it, where it is a file, or to pass through it, where it is a directory. The frames of others
-    /// stay. `before` is the node that it was. Takes no memory.
-    pub fn recheck(&mut self, tree: &Tree, ino: Ino, before: Node)
-        ensures right { (fs : FileSystem) (live : Ranges) → IsPermChange fs ino before tree.now
+    /// Forgets the frames of each user to whom a node that has other permissions, or another access list, doesn't
+    /// grant what it granted her before: to read it, where it is a file, or to pass through it, where it is a
+    /// directory. The frames of others stay. `before` is the node that it was, and `acl` the list that it had.
+    /// Takes no memory.
+    pub fn recheck(&mut self, tree: &Tree, ino: Ino, before: Node, acl: Option<Acl>)
+        ensures right { (fs : FileSystem) (live : Ranges) → IsPermChange fs ino before acl tree.now
             → AreFor fs live self.old → AreFor tree.now live self.new }
-        ensures stays { self.new ≡ kept_as_before tree.now ino before self.old }
+        ensures stays { self.new ≡ kept_as_before tree.now ino before acl self.old }
     {
         tree.keeps_the_rules();
-        walks::forget_changed(&mut self.kept, tree, Change::PermOf(ino, before));
+        walks::forget_changed(&mut self.kept, tree, &Change::PermOf(ino, before, acl));
     }
 
     /// Forgets the frames of each user to whom one of the links is shown that an event made or removed: whose view has
@@ -162,7 +164,7 @@ impl FrameCache {
         {
             return;
         }
-        walks::forget_changed(&mut self.kept, tree, Change::Links(links));
+        walks::forget_changed(&mut self.kept, tree, &Change::Links(links));
     }
 
     /// Forgets the frames of a user who is in other groups now, and no others. Takes no memory.

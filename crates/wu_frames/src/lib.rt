@@ -14,6 +14,7 @@ mod walks;
 pub use caches::{FrameCache, USERS_KEPT};
 pub use links::{ChangedLink, LinkChanges, links_changed};
 pub use mending::MENDS_MAX;
+pub use permissions::copied_acl;
 use wu_base::{Ino, Range, Sequence};
 use wu_view::Seen;
 

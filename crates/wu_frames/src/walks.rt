@@ -15,8 +15,8 @@ use wu_base::{Ino, Range, Uid};
 use wu_tree::Tree;
 
 /// Forgets the frames of each user whom the change doesn't spare. Takes no memory.
-pub(crate) fn forget_changed(kept: &mut LruCache<Uid, Frames>, tree: &Tree, change: Change)
-    ensures entries { kept.new.entries ≡ filter (λ entry. is_spared tree.now change entry.0) kept.old.entries }
+pub(crate) fn forget_changed(kept: &mut LruCache<Uid, Frames>, tree: &Tree, change: &Change)
+    ensures entries { kept.new.entries ≡ filter (λ entry. is_spared tree.now change.now entry.0) kept.old.entries }
     ensures cap { kept.new.cap ≡ kept.old.cap }
 {
     for _ in 0..kept.len() {

@@ -1,7 +1,9 @@
+pub mod AclItems
 pub mod HomeLemmas
 pub mod ImageLemmas
 pub mod ItemLemmas
 pub mod LinksInOrder
+pub mod MarkLemmas
 pub mod ListedLemmas
 pub mod NodeLemmas
 pub mod RootLemmas

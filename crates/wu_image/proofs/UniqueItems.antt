@@ -1,7 +1,9 @@
 -- Bytes start with one user, node and link at most.
-use Rattle.std.proofs.Common.{◌≡◌, ℕ, ◌^◌, ◌<◌, List, [], ◌∷◌, length, refl, ap, sym, subst, ◌∙◌, arith}
+use Rattle.std.proofs.Common.{◌≡◌, ℕ, ◌^◌, ◌<◌, List, [], ◌∷◌, ◌++◌, length, refl, ap, sym, subst, ◌∙◌, arith}
 use Rattle.std.specs.Prelude.{Option, None, Some}
 use Rattle.wu_base.proofs.EachLemmas.{each-unit}
+use Rattle.wu_access.specs.declared.acls.Acl.{Acl}
+use Rattle.wu_access.specs.declared.acls.AclEntry.{AclEntry}
 use Rattle.wu_access.specs.declared.Perm.{Perm}
 use Rattle.wu_part.proofs.ReadingLemmas.{same_front}
 use Rattle.wu_tree.specs.declared.events.Kind.{Kind}
@@ -10,8 +12,8 @@ use Rattle.wu_tree.specs.FileSystems.{Link}
 use Rattle.wu_image.specs.declared.nodes.Entry.{Entry}
 use Rattle.wu_image.specs.declared.records.FileRec.{FileRec}
 use Rattle.wu_image.specs.Items.{Item, Number, Id, Raw, StartsWith, list_items}
-use Rattle.wu_image.specs.Checkpoints.{group_items, user_items, kind_number, node_items, text_items, link_items}
-use Rattle.wu_image.specs.Reading.{HasRecord, IsEntry, record_items, entry_items}
+use Rattle.wu_image.specs.Checkpoints.{acl_entry_items, acl_items, group_items, user_items, kind_number, node_items, text_items, link_items}
+use Rattle.wu_image.specs.Reading.{FitsAcl, FitsEntry, HasRecord, IsEntry, record_items, entry_items}
 use Rattle.wu_image.proofs.ItemLemmas.{IsUnique, after_number, after_id, parted, past_number, unique_list}
 use Rattle.wu_image.proofs.RecordedNumbers.{same_text_items}
 
@@ -51,6 +53,38 @@ unique_link = record {
       let make : ℕ → List ℕ → ℕ → Link = λ d n k. ((d, n), k) in (
         ap (λ d. make d x.0.1 x.1) a.number ∙ (ap (λ n. make y.0.0 n x.1) front.0 ∙ ap (λ k. make y.0.0 y.0.1 k) c.number),
         sym c.mine ∙ c.its,
+      );
+}
+
+-- ---- access lists
+
+pub unique_acl_entry : IsUnique acl_entry_items FitsEntry
+unique_acl_entry = record {
+  one = λ x y bytes rest last p q s t.
+      let a = after_id bytes x.id y.id (Number x.bits ∷ []) (Number y.bits ∷ []) rest last s t in
+      let n = after_number a.left x.bits y.bits [] [] rest last a.mine a.its in
+      let make : ℕ → ℕ → AclEntry = λ id bits. record { id = id; bits = bits } in
+      (ap (λ id. make id x.bits) a.number ∙ ap (λ bits. make y.id bits) n.number, sym n.mine ∙ n.its);
+}
+
+pub unique_acl : IsUnique acl_items FitsAcl
+unique_acl = record {
+  one = λ x y bytes rest last p q s t.
+      let lists : Acl → List Item = λ acl. list_items acl_entry_items acl.users ++ list_items acl_entry_items acl.groups in
+      let entries = unique_list acl_entry_items FitsEntry unique_acl_entry in
+      let a = after_id bytes x.0 y.0 (Number x.1.owning ∷ lists x.1) (Number y.1.owning ∷ lists y.1) rest last s t in
+      let n = after_number a.left x.1.owning y.1.owning (lists x.1) (lists y.1) rest last a.mine a.its in
+      let mine = parted n.left rest (list_items acl_entry_items x.1.users) (list_items acl_entry_items x.1.groups) n.mine in
+      let its = parted n.left last (list_items acl_entry_items y.1.users) (list_items acl_entry_items y.1.groups) n.its in
+      let users = entries.one x.1.users y.1.users n.left mine.0 its.0 p.1 q.1 mine.1 its.1 in
+      let groups = entries.one x.1.groups y.1.groups mine.0 rest last p.2 q.2 mine.2
+      (subst (λ (l : List ℕ). StartsWith l (list_items acl_entry_items y.1.groups) last) (sym users.1) its.2) in
+      let make : ℕ → ℕ → List AclEntry → List AclEntry → ℕ × Acl = λ ino owning us gs.
+      (ino, record { owning = owning; users = us; groups = gs }) in (
+        ap (λ ino. make ino x.1.owning x.1.users x.1.groups) a.number
+            ∙ (ap (λ owning. make y.0 owning x.1.users x.1.groups) n.number
+            ∙ (ap (λ us. make y.0 y.1.owning us x.1.groups) users.0 ∙ ap (λ gs. make y.0 y.1.owning y.1.users gs) groups.0)),
+        groups.1,
       );
 }
 

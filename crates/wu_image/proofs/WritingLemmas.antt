@@ -5,9 +5,10 @@ use Rattle.std.specs.List.{flat_map}
 use Rattle.std.proofs.lemmas.List.Concat.{flat_map_single}
 use Rattle.wu_tree.specs.declared.events.Node.{Node}
 use Rattle.wu_image.specs.declared.checkpoints.Checkpoint.{Checkpoint}
+use Rattle.wu_image.specs.declared.checkpoints.Version.TheVariants.{Second}
 use Rattle.wu_image.specs.declared.records.FileRec.{FileRec}
 use Rattle.wu_image.specs.Items.{Item, Id, Number, StartsWith, Appends, list_items}
-use Rattle.wu_image.specs.Checkpoints.{HasItems, first_text, group_items, later_files, link_items, node_items, part_items}
+use Rattle.wu_image.specs.Checkpoints.{HasItems, acl_items, first_text, group_items, later_files, link_items, node_items, part_items}
 use Rattle.wu_image.specs.Checkpoints.{tree_items, user_items}
 use Rattle.wu_image.proofs.ItemLemmas.{LeftToPut, all_left, all_put, appended, some_put}
 
@@ -56,18 +57,21 @@ groups_put old new groups a = subst (λ (i : List Item). Appends old i new) (sym
 
 -- ---- the whole
 
-pub items_written : (c : Checkpoint) (o a b d e f : List ℕ) → o ≡ codes "WUMPUSC1"
+pub items_written : (c : Checkpoint) (o a b d e f g : List ℕ) → o ≡ codes "WUMPUSC2"
     → Appends o (map Number (c.next_address ∷ c.next_blob ∷ c.flushes ∷ [])) a → Appends a (list_items user_items c.tree.users) b
     → Appends b (Number (length c.tree.nodes) ∷ tree_items c.tree.nodes c.files) d → Appends d (list_items link_items c.tree.links) e
-    → Appends e (list_items part_items c.parts) f → HasItems c f
-items_written c o a b d e f mark numbers users nodes links parts =
-    let late = appended d e f (list_items link_items c.tree.links) (list_items part_items c.parts) links parts in
-    let tree = appended b d f (Number (length c.tree.nodes) ∷ tree_items c.tree.nodes c.files)
-    (list_items link_items c.tree.links ++ list_items part_items c.parts) nodes late in
-    let all_users = appended a b f (list_items user_items c.tree.users)
+    → Appends e (list_items part_items c.parts) f → Appends f (list_items acl_items c.tree.acls) g → HasItems Second c g
+items_written c o a b d e f g mark numbers users nodes links parts acls =
+    let ends = appended e f g (list_items part_items c.parts) (list_items acl_items c.tree.acls) parts acls in
+    let late = appended d e g (list_items link_items c.tree.links) (list_items part_items c.parts ++ list_items acl_items c.tree.acls)
+    links ends in
+    let tree = appended b d g (Number (length c.tree.nodes) ∷ tree_items c.tree.nodes c.files)
+    (list_items link_items c.tree.links ++ (list_items part_items c.parts ++ list_items acl_items c.tree.acls)) nodes late in
+    let all_users = appended a b g (list_items user_items c.tree.users)
     (Number (length c.tree.nodes) ∷ (tree_items c.tree.nodes c.files
-    ++ (list_items link_items c.tree.links ++ list_items part_items c.parts))) users tree in
-    let all = appended o a f (map Number (c.next_address ∷ c.next_blob ∷ c.flushes ∷ []))
+    ++ (list_items link_items c.tree.links ++ (list_items part_items c.parts ++ list_items acl_items c.tree.acls)))) users tree in
+    let all = appended o a g (map Number (c.next_address ∷ c.next_blob ∷ c.flushes ∷ []))
     (list_items user_items c.tree.users ++ (Number (length c.tree.nodes) ∷ (tree_items c.tree.nodes c.files
-    ++ (list_items link_items c.tree.links ++ list_items part_items c.parts)))) numbers all_users in
-    record { code = all.0; mark = all.2 ∙ ap (λ (l : List ℕ). l ++ all.0) mark; items = all.1 }
+    ++ (list_items link_items c.tree.links ++ (list_items part_items c.parts ++ list_items acl_items c.tree.acls)))))
+    numbers all_users in
+    record { code = all.0; mark = all.2 ∙ ap (λ (l : List ℕ). l ++ all.0) mark; can_tell = tt; items = all.1 }

@@ -2,6 +2,8 @@
 use Rattle.std.specs.Prelude.{◌≡◌, ℕ, ◌^◌, ◌<◌, ◌≤◌, Option, None, Some, List, [], ◌∷◌, ◌++◌, map}
 use Rattle.std.specs.List.{AllByRecursion, flat_map}
 use Rattle.wu_base.specs.declared.addresses.PartRec.{PartRec}
+use Rattle.wu_access.specs.declared.acls.Acl.{Acl}
+use Rattle.wu_access.specs.declared.acls.AclEntry.{AclEntry}
 use Rattle.wu_tree.specs.declared.events.Kind.{Kind}
 use Rattle.wu_tree.specs.declared.events.Kind.TheVariants.{Directory, File}
 use Rattle.wu_tree.specs.declared.events.Node.{Node}
@@ -17,6 +19,13 @@ pub record FitsPart (part : PartRec) : Type 0 where
   pub generation : part.generation < 2 ^ 32
   pub span : part.low ≤ part.high
   pub high : part.high < 2 ^ 64
+
+-- bits are an octal digit
+abbrev pub FitsEntry : AclEntry → Type 0
+FitsEntry entry = entry.bits ≤ 7
+
+abbrev pub FitsAcl : ℕ × Acl → Type 0
+FitsAcl acl = (acl.1.owning ≤ 7) × AllByRecursion FitsEntry acl.1.users × AllByRecursion FitsEntry acl.1.groups
 
 -- a directory has no record, and a file has its own
 abbrev pub HasRecord : Kind → ℕ → Option FileRec → Type 0

@@ -1,11 +1,12 @@
 //! Laws of what is saved.
-ghost use Rattle.std.specs.Prelude.{◌≡◌, ℕ, List, Option};
+ghost use Rattle.std.specs.Prelude.{◌≡◌, ◌≢◌, ℕ, List, [], Option};
 ghost use Rattle.wu_layout.specs.Layouts.{Layout};
 ghost use Rattle.wu_outside.specs.Content.{Content, with_blob};
 ghost use Rattle.wu_tree.specs.FileSystems.{FileSystem};
 ghost use Rattle.wu_image.specs.declared.checkpoints.Checkpoint.{Checkpoint};
 ghost use Rattle.wu_image.specs.declared.roots.Root.{Root};
-ghost use Rattle.wu_image.specs.Checkpoints.{SpellsCheckpoint};
+ghost use Rattle.wu_image.specs.Checkpoints.{SpellsCheckpoint, SpellsVersion};
+ghost use Rattle.wu_image.specs.declared.checkpoints.Version.{Version};
 ghost use Rattle.wu_image.specs.Images.{IsImage, Names, Texts};
 ghost use Rattle.wu_image.specs.Roots.{SpellsRoot};
 
@@ -15,9 +16,12 @@ pub fn each_root_has_one_spelling()
     ensures root { (root other : Root) (bytes : List ℕ) → SpellsRoot root bytes → SpellsRoot other bytes → root ≡ other }
 {}
 
-/// A law: a checkpoint has one spelling, and a spelling is that of one checkpoint.
+/// A law: a checkpoint has one spelling in each version, and in all one where it has access lists, which the first
+/// version can't tell; and a spelling is that of one checkpoint.
 pub fn each_checkpoint_has_one_spelling()
-    ensures spelling { (checkpoint : Checkpoint) (bytes other : List ℕ) → SpellsCheckpoint checkpoint bytes
+    ensures spelling { (version : Version) (checkpoint : Checkpoint) (bytes other : List ℕ) → SpellsVersion version checkpoint bytes
+        → SpellsVersion version checkpoint other → bytes ≡ other }
+    ensures lists { (checkpoint : Checkpoint) (bytes other : List ℕ) → checkpoint.tree.acls ≢ [] → SpellsCheckpoint checkpoint bytes
         → SpellsCheckpoint checkpoint other → bytes ≡ other }
     ensures checkpoint { (checkpoint other : Checkpoint) (bytes : List ℕ) → SpellsCheckpoint checkpoint bytes
         → SpellsCheckpoint other bytes → checkpoint ≡ other }

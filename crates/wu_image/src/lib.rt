@@ -2,6 +2,7 @@
 //! text beside it.
 #![tactic(auto)]
 
+mod acls;
 mod checkpoints;
 mod fields;
 mod laws;

@@ -1,22 +1,24 @@
 //! Reading of checkpoints.
-ghost use Rattle.std.specs.Prelude.{◌≡◌, ℕ, List, [], ◌++◌, codes, MatchBool, IfOk, IfSome, IfNone};
+ghost use Rattle.std.specs.Prelude.{◌≡◌, ℕ, List, [], ◌++◌, MatchBool, IfOk, IfSome, IfNone};
 ghost use Rattle.wu_image.specs.declared.checkpoints.Checkpoint.{Checkpoint};
-ghost use Rattle.wu_image.specs.Checkpoints.{SpellsCheckpoint};
+ghost use Rattle.wu_image.specs.Checkpoints.{SpellsCheckpoint, mark_of};
+ghost use Rattle.wu_image.specs.declared.checkpoints.Version.{Version};
 ghost use Rattle.wu_image.specs.Lists.{IsListed, checkpoint_of};
 
-use crate::checkpoints::{Checkpoint, MARK};
+use crate::acls::take_acls;
+use crate::checkpoints::{Checkpoint, FIRST_MARK, SECOND_MARK, Version};
 use crate::fields::next_numbers;
 use crate::lists::{take_links, take_parts, take_users};
 use crate::nodes::take_nodes;
 use crate::records::FileRec;
 use crate::rules::keep_rules;
 use std::alloc::Global;
-use wu_access::UserRec;
+use wu_access::{Acl, UserRec};
 use wu_base::{Ino, NoMemory, PartRec, Sequence};
 use wu_tree::{LinkRec, Node, Tree};
 
-/// The checkpoint whose spelling the bytes are. `None` exactly where they are no spelling of one, or where
-/// its tree or what it records of texts and parts breaks a rule. The one error is out of memory. Takes
+/// The checkpoint whose spelling, in either version, the bytes are. `None` exactly where they are no spelling of
+/// one, or where its tree or what it records of texts and parts breaks a rule. The one error is out of memory. Takes
 /// memory only for what the bytes were found to hold, and time that is near linear in their number.
 pub fn read_checkpoint(alloc: Global, bytes: &[u8]) -> Result<Option<Checkpoint>, NoMemory>
     ensures found { IfOk result (λ read. IfSome read (λ checkpoint. SpellsCheckpoint checkpoint bytes.now)) }
@@ -26,7 +28,7 @@ pub fn read_checkpoint(alloc: Global, bytes: &[u8]) -> Result<Option<Checkpoint>
         Some(lists) => lists,
         None => return Ok(None),
     };
-    let tree = match Tree::rebuild(alloc, &lists.nodes, &lists.links, &lists.users)? {
+    let tree = match Tree::rebuild(alloc, &lists.nodes, &lists.links, &lists.users, &lists.acls)? {
         Some(tree) => tree,
         None => return Ok(None),
     };
@@ -62,6 +64,7 @@ struct Lists {
     files: Vec<FileRec>,
     links: Vec<LinkRec>,
     parts: Vec<PartRec>,
+    acls: Vec<(Ino, Acl)>,
 }
 
 /// All that the bytes tell of a checkpoint. `None` only where they are no checkpoint's.
@@ -69,7 +72,7 @@ fn take_lists(alloc: Global, bytes: &[u8]) -> Result<Option<Lists>, NoMemory>
     ensures found { IfOk result (λ read. IfSome read (λ lists. IsListed (checkpoint_of lists) bytes.now)) }
     ensures none { IfOk result (λ read. IfNone read ((checkpoint : Checkpoint) → IsListed checkpoint bytes.now → ⊥)) }
 {
-    let Some(code) = after_mark(bytes) else {
+    let Some((version, code)) = after_mark(bytes) else {
         return Ok(None);
     };
     let mut numbers = [0; 3];
@@ -92,6 +95,10 @@ fn take_lists(alloc: Global, bytes: &[u8]) -> Result<Option<Lists>, NoMemory>
         Some(taken) => taken,
         None => return Ok(None),
     };
+    let (acls, rest) = match take_acls(alloc, version, rest)? {
+        Some(taken) => taken,
+        None => return Ok(None),
+    };
     if !is_end(rest) {
         return Ok(None);
     }
@@ -105,21 +112,31 @@ fn take_lists(alloc: Global, bytes: &[u8]) -> Result<Option<Lists>, NoMemory>
         files: inodes.files,
         links,
         parts,
+        acls,
     }))
 }
 
-/// What follows a checkpoint's first bytes. `None` exactly where the bytes begin otherwise.
-fn after_mark(bytes: &[u8]) -> Option<&[u8]>
-    ensures found { IfSome result (λ code. bytes.now ≡ codes "WUMPUSC1" ++ code.now) }
-    ensures none { IfNone result ((code : List ℕ) → bytes.now ≡ codes "WUMPUSC1" ++ code → ⊥) }
+/// The version that a checkpoint's first bytes tell, and what follows them. `None` exactly where the bytes begin
+/// otherwise.
+fn after_mark(bytes: &[u8]) -> Option<(Version, &[u8])>
+    ensures found { IfSome result (λ marked. bytes.now ≡ mark_of marked.0 ++ marked.1.now) }
+    ensures none { IfNone result ((version : Version) (code : List ℕ) → bytes.now ≡ mark_of version ++ code → ⊥) }
 {
-    if bytes.len() < MARK.len() {
-        return None;
+    if let Some(code) = after(bytes, &FIRST_MARK) {
+        return Some((Version::First, code));
     }
-    if !bytes.starts_with(&MARK) {
-        return None;
+    match after(bytes, &SECOND_MARK) {
+        Some(code) => Some((Version::Second, code)),
+        None => None,
     }
-    Some(&bytes[MARK.len()..])
+}
+
+/// What follows a mark. `None` exactly where the bytes don't begin with it.
+fn after<'a>(bytes: &'a [u8], mark: &[u8]) -> Option<&'a [u8]>
+    ensures found { IfSome result (λ code. bytes.now ≡ mark.now ++ code.now) }
+    ensures none { IfNone result ((code : List ℕ) → bytes.now ≡ mark.now ++ code → ⊥) }
+{
+    bytes.strip_prefix(mark)
 }
 
 /// Whether the bytes have ended.

@@ -5,19 +5,20 @@ ghost use Rattle.wu_tree.specs.Lists.{user_of};
 ghost use Rattle.wu_tree.specs.FileSystems.{entries_of};
 ghost use Rattle.wu_image.specs.Items.{Item, Number, StartsWith, Appends, list_items};
 ghost use Rattle.wu_image.specs.LayoutRules.{AreLayoutRules};
-ghost use Rattle.wu_image.specs.Checkpoints.{SpellsCheckpoint, file_numbers, first_text, kind_number, later_files, link_items, node_items, part_items, text_items, tree_items, user_items};
+ghost use Rattle.wu_image.specs.Checkpoints.{SpellsVersion, acl_entry_items, acl_items, file_numbers, first_text, kind_number, later_files, link_items, node_items, part_items, text_items, tree_items, user_items};
+ghost use Rattle.wu_image.specs.declared.checkpoints.Version.TheVariants.{Second};
 ghost use Rattle.wu_image.specs.Writing.{links_from, links_in_node};
 
-use crate::checkpoints::MARK;
+use crate::checkpoints::SECOND_MARK;
 use crate::fields::{put_ids, put_name, put_numbers};
 use crate::records::FileRec;
 use std::alloc::Global;
-use wu_access::UserRec;
+use wu_access::{Acl, AclEntry, UserRec};
 use wu_base::{Ino, NoMemory, PartRec};
 use wu_tree::{Kind, Node, Tree};
 
-/// The spelling of the checkpoint with these numbers, this tree, these records of its regular files, by
-/// their numbers, and these parts. The bytes are that where the records are those of exactly the regular
+/// The spelling in the second version of the checkpoint with these numbers, this tree, these records of its
+/// regular files, by their numbers, and these parts. The bytes are that where the records are those of exactly the regular
 /// files and the rules of the layout hold; else they are some bytes. The only error is out of memory. The
 /// time is near linear in the number of bytes.
 pub fn write_checkpoint(
@@ -31,7 +32,7 @@ pub fn write_checkpoint(
 ) -> Result<Vec<u8>, NoMemory>
     ensures { IfOk result (λ bytes. map (λ file. file.ino) files.now ≡ file_numbers tree.now.nodes
         → AreLayoutRules next_address next_blob flushes files.now parts.now
-        → SpellsCheckpoint (record {
+        → SpellsVersion Second (record {
           next_address = next_address;
           next_blob = next_blob;
           flushes = flushes;
@@ -41,12 +42,13 @@ pub fn write_checkpoint(
         }) bytes.items) }
 {
     let mut out = Vec::new(alloc);
-    out.extend_from_slice(&MARK)?;
+    out.extend_from_slice(&SECOND_MARK)?;
     put_numbers(&mut out, &[next_address, next_blob, flushes])?;
     put_users(alloc, &mut out, tree)?;
     put_nodes(alloc, &mut out, tree, files)?;
     put_links(alloc, &mut out, tree)?;
     put_parts(&mut out, parts)?;
+    put_acls(alloc, &mut out, tree)?;
     tree.keeps_the_rules();
     Ok(out)
 }
@@ -242,5 +244,48 @@ fn put_part(out: &mut Vec<u8>, part: &PartRec) -> Result<(), NoMemory>
             part.stored,
         ],
     )?;
+    Ok(())
+}
+
+/// Appends the access lists after their number.
+fn put_acls(alloc: Global, out: &mut Vec<u8>, tree: &Tree) -> Result<(), NoMemory>
+    ensures { OnOk result (Appends out.old.items (list_items acl_items tree.now.acls) out.new.items) }
+{
+    let mut body = Vec::new(alloc);
+    let mut count = 0;
+    for (ino, acl) in tree.acls() {
+        put_acl(&mut body, ino, acl)?;
+        count = one_more(count)?;
+    }
+    put_list(out, count, &body)?;
+    Ok(())
+}
+
+fn put_acl(out: &mut Vec<u8>, ino: Ino, acl: &Acl) -> Result<(), NoMemory>
+    ensures { OnOk result (Appends out.old.items (acl_items (ino, acl.now)) out.new.items) }
+{
+    put_ids(out, &[ino])?;
+    put_numbers(out, &[u64::from(acl.owning)])?;
+    put_acl_entries(out, acl.users.as_slice())?;
+    put_acl_entries(out, acl.groups.as_slice())?;
+    Ok(())
+}
+
+/// Appends the entries of an access list after their number.
+fn put_acl_entries(out: &mut Vec<u8>, entries: &[AclEntry]) -> Result<(), NoMemory>
+    ensures { OnOk result (Appends out.old.items (list_items acl_entry_items entries.now) out.new.items) }
+{
+    put_numbers(out, &[entries.len() as u64])?;
+    for entry in entries {
+        put_acl_entry(out, entry)?;
+    }
+    Ok(())
+}
+
+fn put_acl_entry(out: &mut Vec<u8>, entry: &AclEntry) -> Result<(), NoMemory>
+    ensures { OnOk result (Appends out.old.items (acl_entry_items entry.now) out.new.items) }
+{
+    put_ids(out, &[entry.id])?;
+    put_numbers(out, &[u64::from(entry.bits)])?;
     Ok(())
 }

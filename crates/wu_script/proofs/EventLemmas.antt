@@ -1,7 +1,7 @@
 -- The events of a script are ones that a tree takes: no node that they make has number 0, and a mode has four octal digits.
 use Rattle.std.proofs.Common.{◌≡◌, ◌≢◌, ℕ, zero, suc, ◌<◌, ◌≤◌, ◌^◌, List, [], ◌∷◌, length, take, drop, map, Bool, true, false}
 use Rattle.std.proofs.Common.{Ok, Err, refl, arith}
-use Rattle.std.specs.Prelude.{◌&&◌, ◌||◌, ◌==◌, nat_lt, nat_le, Option, Some, None, Result, option_and_then, if◌then◌else◌}
+use Rattle.std.specs.Prelude.{◌&&◌, ◌||◌, ◌==◌, nat_lt, nat_le, Option, Some, None, Result, if◌then◌else◌}
 use Rattle.std.specs.Option.{option_map}
 use Rattle.std.specs.List.{AllByRecursion, list_all}
 use Rattle.std.specs.Char.{digit_value}
@@ -25,35 +25,14 @@ use Rattle.wu_script.specs.declared.words.Word.TheVariants as words
 use Rattle.wu_script.specs.Words.{word_of}
 use Rattle.wu_script.specs.Commands.{Wish, Operation, Entry, Happening, Asking, Operating, Refusing, Blank, LineSays, Whole, TextHead}
 use Rattle.wu_script.specs.Commands.{event_line, query_line, operation_line, text_line, flush_of, work_of, stat_of, save_of}
-use Rattle.wu_script.specs.Commands.{user_of, new_node_of, mkdir_event, create_event, link_of, place_of, unlink_event, rmdir_event}
+use Rattle.wu_script.specs.Commands.{acl_of, user_of, new_node_of, mkdir_event, create_event, link_of, place_of, unlink_event, rmdir_event}
 use Rattle.wu_script.specs.Commands.{rename_of, chmod_of, chown_of, text_head_of, count_of, find_of, rank_of, paths_of, command_of}
 use Rattle.wu_script.specs.Commands.{fields_say, is_blank, line_says}
 use Rattle.wu_script.specs.Commands.{id_of, ids_of, node_of, nonzero, perm_of}
 use Rattle.wu_script.specs.Said.{Reading, Said, Happens, said_of, question_in, asked}
+use Rattle.wu_script.proofs.AclLemmas.{acl_given}
+use Rattle.wu_script.proofs.GivenValues.{Given, after_any, any_given, map_given, then_given}
 use Rattle.wu_script.specs.Items.{First, line_at, after_line, has_feed, body_entry, text_at, entry_at, first_of, items_within, items_of}
-
--- ---- what is true of a value, if there is one
-
-abbrev Given : {A : Type 0} → (A → Type 0) → Option A → Type 0
-Given P None = Unit {0}
-Given P (Some x) = P x
-
-any_given : {A : Type 0} (o : Option A) → Given (λ (x : A). Unit {0}) o
-any_given None = tt
-any_given (Some x) = tt
-
-then_given : {A B : Type 0} (P : A → Type 0) (Q : B → Type 0) (f : A → Option B) (o : Option A) → Given P o
-    → ((x : A) → P x → Given Q (f x)) → Given Q (option_and_then f o)
-then_given P Q f None g h = tt
-then_given P Q f (Some x) g h = h x g
-
-after_any : {A B : Type 0} (Q : B → Type 0) (f : A → Option B) (o : Option A) → ((x : A) → Given Q (f x)) → Given Q (option_and_then f o)
-after_any Q f o h = then_given (λ x. Unit {0}) Q f o (any_given o) (λ x u. h x)
-
-map_given : {A B : Type 0} (P : A → Type 0) (Q : B → Type 0) (f : A → B) (o : Option A) → Given P o → ((x : A) → P x → Q (f x))
-    → Given Q (option_map f o)
-map_given P Q f None g h = tt
-map_given P Q f (Some x) g h = h x g
 
 -- ---- fields
 
@@ -187,6 +166,7 @@ command_says words.Rmdir fields = event_says (option_map rmdir_event (place_of f
 command_says words.Rename fields = event_says (rename_of fields) (rename_given fields)
 command_says words.Chmod fields = event_says (chmod_of fields) (chmod_given fields)
 command_says words.Chown fields = event_says (chown_of fields) (chown_given fields)
+command_says words.Acl fields = event_says (acl_of fields) (acl_given fields)
 command_says words.Count fields = query_says (count_of fields)
 command_says words.Find fields = query_says (find_of fields)
 command_says words.Rank fields = query_says (rank_of fields)

@@ -7,3 +7,5 @@ pub mod ReadLemmas
 pub mod TokenLemmas
 pub mod UnclosedLemmas
 pub mod EventLemmas
+pub mod AclLemmas
+pub mod GivenValues

@@ -19,7 +19,7 @@ use Rattle.wu_script.specs.declared.words.Word.TheVariants as words
 use Rattle.wu_script.specs.Words.{word_of}
 use Rattle.wu_script.specs.Commands.{Wish, Operation, Entry, Happening, Asking, Operating, Refusing, Blank, LineSays, Whole, TextHead}
 use Rattle.wu_script.specs.Commands.{event_line, query_line, operation_line, text_line, flush_of, work_of, stat_of, save_of}
-use Rattle.wu_script.specs.Commands.{user_of, new_node_of, mkdir_event, create_event, link_of, place_of, unlink_event, rmdir_event, rename_of}
+use Rattle.wu_script.specs.Commands.{acl_of, user_of, new_node_of, mkdir_event, create_event, link_of, place_of, unlink_event, rmdir_event, rename_of}
 use Rattle.wu_script.specs.Commands.{chmod_of, chown_of, text_head_of, count_of, find_of, rank_of, paths_of, command_of, fields_say, is_blank, line_says}
 use Rattle.wu_script.specs.Said.{Reading, said_of, question_in, asked, event_tokens, tokens_given, text_given}
 use Rattle.wu_script.specs.Items.{line_at, after_line, has_feed, body_entry, text_at, entry_at, first_of, items_within, items_of}
@@ -114,6 +114,7 @@ command_none words.Rmdir fields = event_line_none (option_map rmdir_event (place
 command_none words.Rename fields = event_line_none (rename_of fields)
 command_none words.Chmod fields = event_line_none (chmod_of fields)
 command_none words.Chown fields = event_line_none (chown_of fields)
+command_none words.Acl fields = event_line_none (acl_of fields)
 command_none words.Count fields = query_line_none (count_of fields)
 command_none words.Find fields = query_line_none (find_of fields)
 command_none words.Rank fields = query_line_none (rank_of fields)

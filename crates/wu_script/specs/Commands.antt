@@ -4,21 +4,29 @@
 -- expressions read, a case of `question_in` in Said; what it asks and when it can be answered, cases of `Question`, `question_of` and
 -- `IsSound` in wu_ask; and the bytes of its answer, a case of `answer_bytes` in Replies. The items of a script, the reader and its
 -- laws stay as they are.
-use Rattle.std.specs.Prelude.{ℕ, ◌-◌, ◌^◌, ◌==◌, nat_lt, Bool, true, List, [], ◌∷◌, length, Option, Some, None, map, option_and_then, if◌then◌else◌}
+use Rattle.std.specs.Prelude.{ℕ, ◌-◌, ◌^◌, ◌==◌, nat_lt, Bool, true, false, not, List, [], ◌∷◌, codes, drop, length, take, Option, Some, None, map, option_and_then, if◌then◌else◌}
 use Rattle.std.specs.Option.{option_map}
+use Rattle.std.specs.Ordering.{nat_cmp}
+use Rattle.std.specs.List.{after_first, before_first, position_or_len, slice_split}
 use Rattle.wu_base.specs.declared.limits.TheConstants.{LINE_MAX, K_MAX, INPUT_MAX, WORK_MAX}
+use Rattle.wu_access.specs.declared.acls.Acl.{Acl}
+use Rattle.wu_access.specs.declared.acls.AclEntry.{AclEntry}
 use Rattle.wu_access.specs.declared.Perm.{Perm}
 use Rattle.wu_tree.specs.declared.events.Event.{Event}
 use Rattle.wu_tree.specs.declared.events.Event.TheVariants as events
-use Rattle.wu_fields.specs.Numbers.{number_of, mode_of}
+use Rattle.wu_tree.specs.Lists.{ascends}
+use Rattle.wu_fields.specs.Numbers.{is_octal_digit, number_of, mode_of}
 use Rattle.wu_fields.specs.Fields.{fields_of, all_some}
 use Rattle.wu_script.specs.declared.types.Why.{Why}
 use Rattle.wu_script.specs.declared.types.Why.TheVariants.{LongLine, Syntax}
+use Rattle.wu_script.specs.declared.acls.Piece.{Piece}
+use Rattle.wu_script.specs.declared.acls.Tag.{Tag}
+use Rattle.wu_script.specs.declared.acls.Tag.TheVariants.{Owning, User, Group, Mask}
 use Rattle.wu_script.specs.declared.events.NewNode.{NewNode}
 use Rattle.wu_script.specs.declared.events.Place.{Place}
 use Rattle.wu_script.specs.declared.words.Word.{Word}
 use Rattle.wu_script.specs.declared.words.Word.TheVariants as words
-use Rattle.wu_script.specs.Words.{word_of}
+use Rattle.wu_script.specs.Words.{is, word_of}
 
 infixl 10 ◌>>=◌
 abbrev pub ◌>>=◌ : {A B : Type 0} → Option A → (A → Option B) → Option B
@@ -116,6 +124,126 @@ chown_of (ino ∷ uid ∷ gid ∷ []) = do
   g ← id_of gid
   Some (events.Chown i u g)
 chown_of _ = None
+
+-- ---- access lists: `g::B`, then `u:U:B` and then `g:G:B`, as many as there are, by ascending numbers, and last `m::B`, with a comma
+-- between each two
+
+abbrev pub is_comma : ℕ → Bool
+is_comma byte = byte == 44
+
+abbrev pub is_colon : ℕ → Bool
+is_colon byte = byte == 58
+
+-- one digit from 0 to 7
+unfoldable pub bits_of : List ℕ → Option ℕ
+bits_of (digit ∷ []) = if is_octal_digit digit then Some (digit - 48) else None
+bits_of _ = None
+
+-- whose an entry is, and the number of that user or group, or 0 where it has none
+abbrev pub named : Tag → List ℕ → Option (Tag × ℕ)
+named tag number = do
+  n ← id_of number
+  Some (tag, n)
+
+abbrev pub group_or_owning : List ℕ → Option (Tag × ℕ)
+group_or_owning [] = Some (Owning, 0)
+group_or_owning (digit ∷ digits) = named Group (digit ∷ digits)
+
+abbrev pub mask_alone : List ℕ → Option (Tag × ℕ)
+mask_alone [] = Some (Mask, 0)
+mask_alone (digit ∷ digits) = None
+
+unfoldable pub whose : List ℕ → List ℕ → Option (Tag × ℕ)
+whose word number =
+    if is word (codes "u") then named User number
+    else if is word (codes "g") then group_or_owning number
+    else if is word (codes "m") then mask_alone number
+    else None
+
+-- an entry with its bits, if there are both
+abbrev pub piece_with : Option (Tag × ℕ) → Option ℕ → Option Piece
+piece_with owner bits = do
+  o ← owner
+  b ← bits
+  Some (record { tag = o.0; entry = record { id = o.1; bits = b } })
+
+-- an entry, which has three parts with a colon between each two
+abbrev pub piece_of : List ℕ → Option Piece
+piece_of written =
+    piece_with (whose (before_first is_colon written) (before_first is_colon (after_first is_colon written)))
+    (bits_of (after_first is_colon (after_first is_colon written)))
+
+-- the entries, if each is one
+unfoldable pub pieces_of : List ℕ → Option (List Piece)
+pieces_of field = all_some (map piece_of (slice_split is_comma field))
+
+abbrev pub is_owning : Tag → Bool
+is_owning Owning = true
+is_owning _ = false
+
+abbrev pub is_user : Tag → Bool
+is_user User = true
+is_user _ = false
+
+abbrev pub is_group : Tag → Bool
+is_group Group = true
+is_group _ = false
+
+abbrev pub is_mask : Tag → Bool
+is_mask Mask = true
+is_mask _ = false
+
+-- how many entries at the front are users', and how many are groups'
+abbrev pub users_at_front : List Piece → ℕ
+users_at_front pieces = position_or_len (λ piece. not (is_user piece.tag)) pieces
+
+abbrev pub groups_at_front : List Piece → ℕ
+groups_at_front pieces = position_or_len (λ piece. not (is_group piece.tag)) pieces
+
+-- the entries, if their numbers ascend
+unfoldable pub entries_in : List Piece → Option (List AclEntry)
+entries_in pieces =
+    if ascends nat_cmp (map (λ piece. piece.entry.id) pieces) then Some (map (λ piece. piece.entry) pieces) else None
+
+-- the mask, if that is all
+abbrev pub mask_in : List Piece → Option ℕ
+mask_in (piece ∷ []) = if is_mask piece.tag then Some piece.entry.bits else None
+mask_in _ = None
+
+-- an access list and its mask, if there are all of its parts
+abbrev pub acl_with : ℕ → Option (List AclEntry) → Option (List AclEntry) → Option ℕ → Option (Acl × ℕ)
+acl_with owning users groups mask = do
+  u ← users
+  g ← groups
+  m ← mask
+  Some (record { owning = owning; users = u; groups = g }, m)
+
+-- what the entries of groups and the mask say, behind those of users
+abbrev pub after_users : ℕ → Option (List AclEntry) → List Piece → Option (Acl × ℕ)
+after_users owning users pieces =
+    acl_with owning users (entries_in (take (groups_at_front pieces) pieces)) (mask_in (drop (groups_at_front pieces) pieces))
+
+abbrev pub after_owning : ℕ → List Piece → Option (Acl × ℕ)
+after_owning owning pieces =
+    after_users owning (entries_in (take (users_at_front pieces) pieces)) (drop (users_at_front pieces) pieces)
+
+unfoldable pub acl_in : List Piece → Option (Acl × ℕ)
+acl_in [] = None
+acl_in (piece ∷ pieces) = if is_owning piece.tag then after_owning piece.entry.bits pieces else None
+
+-- a node gets an access list, or has none any more where there is no entry
+abbrev pub setting_of : ℕ → List ℕ → Option Event
+setting_of ino [] = Some (events.Acl ino None 0)
+setting_of ino (byte ∷ bytes) = do
+  pieces ← pieces_of (byte ∷ bytes)
+  read ← acl_in pieces
+  Some (events.Acl ino (Some read.0) read.1)
+
+unfoldable pub acl_of : List (List ℕ) → Option Event
+acl_of (ino ∷ entries ∷ []) = do
+  i ← node_of ino
+  setting_of i entries
+acl_of _ = None
 
 -- ---- lines
 
@@ -234,6 +362,7 @@ command_of words.Rmdir fields = event_line (option_map rmdir_event (place_of fie
 command_of words.Rename fields = event_line (rename_of fields)
 command_of words.Chmod fields = event_line (chmod_of fields)
 command_of words.Chown fields = event_line (chown_of fields)
+command_of words.Acl fields = event_line (acl_of fields)
 command_of words.Count fields = query_line (count_of fields)
 command_of words.Find fields = query_line (find_of fields)
 command_of words.Rank fields = query_line (rank_of fields)

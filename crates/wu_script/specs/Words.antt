@@ -2,7 +2,7 @@
 use Rattle.std.specs.Prelude.{ℕ, Bool, List, codes, nat_eq, if◌then◌else◌}
 use Rattle.std.specs.Cmp.Lexicographic.{pointwise}
 use Rattle.wu_script.specs.declared.words.Word.{Word}
-use Rattle.wu_script.specs.declared.words.Word.TheVariants.{User, Mkdir, Create, Text, Link, Unlink, Rmdir, Rename, Chmod, Chown, Count, Find, Rank, Paths, Flush, Work, Stat, Save, Unknown}
+use Rattle.wu_script.specs.declared.words.Word.TheVariants.{User, Mkdir, Create, Text, Link, Unlink, Rmdir, Rename, Chmod, Chown, Acl, Count, Find, Rank, Paths, Flush, Work, Stat, Save, Unknown}
 
 abbrev pub is : List ℕ → List ℕ → Bool
 is field word = pointwise nat_eq field word
@@ -19,6 +19,7 @@ word_of field =
     else if is field (codes "rename") then Rename
     else if is field (codes "chmod") then Chmod
     else if is field (codes "chown") then Chown
+    else if is field (codes "acl") then Acl
     else if is field (codes "count") then Count
     else if is field (codes "find") then Find
     else if is field (codes "rank") then Rank

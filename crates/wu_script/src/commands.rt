@@ -9,6 +9,7 @@ ghost use Rattle.wu_script.specs.Said.{IsReading, Reading, IsLine, IsSoundLine};
 ghost use Rattle.wu_script.specs.declared.types.Line.TheVariants.{Command as ACommand};
 ghost use Rattle.wu_script.specs.declared.types.Command.TheVariants.{Ask as AQuestion};
 
+use crate::acls::acl;
 use crate::events::{
     chmod, chown, create, id_of, link, mkdir, node_of, rename, rmdir, unlink, user,
 };
@@ -83,6 +84,7 @@ fn read_by_word(alloc: Global, word: Word, fields: &[Bytes]) -> Result<Line, NoM
         Word::Rename => Ok(update(rename(alloc, fields)?)),
         Word::Chmod => Ok(update(chmod(fields))),
         Word::Chown => Ok(update(chown(fields))),
+        Word::Acl => Ok(update(acl(alloc, fields)?)),
         Word::Count => count(alloc, fields),
         Word::Find => find(alloc, fields),
         Word::Rank => rank(alloc, fields),

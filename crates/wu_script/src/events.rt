@@ -12,11 +12,18 @@ use wu_fields::{read_decimal, read_octal_mode};
 use wu_tree::Event;
 
 /// The number of a user or a group.
-#[tactic(auto, unfolding(crate::specs::Commands::id_of))]
 pub fn id_of(field: &Bytes) -> Option<u32>
     ensures { result ≡ id_of field.now }
 {
-    let number = read_decimal(field.as_slice(), u32::MAX as u64)?;
+    id_in(field.as_slice())
+}
+
+/// The number of a user or a group that these bytes spell.
+#[tactic(auto, unfolding(crate::specs::Commands::id_of))]
+pub fn id_in(field: &[u8]) -> Option<u32>
+    ensures { result ≡ id_of field.now }
+{
+    let number = read_decimal(field, u32::MAX as u64)?;
     Some(number as u32)
 }
 

@@ -1,6 +1,7 @@
 //! The script: its lines, the items that they and their bodies make, and the replies.
 #![tactic(auto)]
 
+mod acls;
 mod bodies;
 mod commands;
 mod ends;

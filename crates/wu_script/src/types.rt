@@ -28,7 +28,7 @@ pub enum Why {
 }
 
 /// A command without a body.
-#[derive(Debug, Drop)]
+#[derive(Drop)]
 pub enum Command {
     /// Something happened to the file tree.
     Update(Event),
@@ -45,7 +45,7 @@ pub enum Command {
 }
 
 /// What one line says.
-#[derive(Debug, Drop)]
+#[derive(Drop)]
 pub enum Line {
     /// A whole command.
     Command(Command),
@@ -63,7 +63,7 @@ pub enum Line {
 }
 
 /// One item of a script: what a line says, with the body that follows it.
-#[derive(Debug, Drop)]
+#[derive(Drop)]
 pub enum Item {
     /// A whole command.
     Command(Command),

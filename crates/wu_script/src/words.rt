@@ -15,6 +15,7 @@ pub enum Word {
     Rename,
     Chmod,
     Chown,
+    Acl,
     Count,
     Find,
     Rank,
@@ -51,6 +52,8 @@ pub fn word_of(field: &[u8]) -> Word
         Word::Chmod
     } else if field == b"chown".as_slice() {
         Word::Chown
+    } else if field == b"acl".as_slice() {
+        Word::Acl
     } else if field == b"count".as_slice() {
         Word::Count
     } else if field == b"find".as_slice() {

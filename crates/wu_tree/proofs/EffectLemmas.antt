@@ -4,19 +4,21 @@ use Rattle.std.specs.Prelude.{◌↔◌, ◌⊎◌, ◌&&◌, ◌==◌, Option, 
 use Rattle.std.specs.Ordering.{is_eq, nat_cmp}
 use Rattle.std.specs.Cmp.{nat_cmp_total}
 use Rattle.std.specs.Map.{lookup, remove_entry}
-use Rattle.std.specs.BTreeMap.{is_at}
+use Rattle.std.specs.BTreeMap.{is_at, insert_entry}
 use Rattle.std.proofs.lemmas.Map.{lookup-none}
 use Rattle.std.proofs.lemmas.Bool.{or_parts}
 use borrow.Author.Tests.{eqb-true, eqb-false}
+use Rattle.wu_access.specs.declared.acls.Acl.{Acl}
 use Rattle.wu_access.specs.declared.Perm.{Perm}
 use Rattle.wu_tree.specs.declared.events.Kind.TheVariants.{Directory, File}
 use Rattle.wu_tree.specs.declared.events.Node.{Node}
 use Rattle.wu_tree.specs.declared.events.Event.{Event}
 use Rattle.wu_tree.specs.declared.events.Event.TheVariants.{User, Mkdir, Create, Text, Link, Unlink, Rmdir, Rename, Chmod, Chown}
+use Rattle.wu_tree.specs.declared.events.Event.TheVariants.{Acl as SetAcl}
 use Rattle.wu_tree.specs.declared.events.Effect.{Effect}
-use Rattle.wu_tree.specs.FileSystems.{FileSystem, is_file, is_file_node, is_there, is_kind_file, is_used, node_of, child_of, link_count}
+use Rattle.wu_tree.specs.FileSystems.{FileSystem, is_file, is_file_node, is_there, is_kind_file, is_used, acl_of, node_of, child_of, link_count}
 use Rattle.wu_tree.specs.Rules.{IsTree}
-use Rattle.wu_tree.specs.Steps.{mkdir_rules, create_rules, text_rules, unlink_rules, rmdir_rules, named_by, no_effect, dropped_at, without_link, with_link_moved, with_node, refusal_of, next, effect_of, step, with_perm, is_last_link, is_link_to}
+use Rattle.wu_tree.specs.Steps.{mkdir_rules, create_rules, text_rules, unlink_rules, rmdir_rules, named_by, no_effect, dropped_at, without_link, with_link_moved, with_node, refusal_of, next, effect_of, step, with_mask, with_perm, without_acl, is_last_link, is_link_to}
 use Rattle.wu_tree.specs.Effects.{TellsFiles}
 use Rattle.wu_base.proofs.MapEntries.{lookup-insert_entry, lookup-remove_other, none_left, number_itself}
 use Rattle.wu_base.proofs.Options.{none_either_way}
@@ -164,6 +166,19 @@ perm_changed fs change ino (Some node) h =
     unchanged fs (with_perm change fs ino (Some node))
     (λ q. set_same is_file_node (is_at (nat_cmp q)) (is_at (nat_cmp ino)) fs.nodes node (record node { perm = change node.perm }) h refl)
 
+-- ---- access lists
+acl_changed : (fs : FileSystem) (acls : List (ℕ × Acl)) (change : Perm → Perm) (ino : ℕ) (o : Option Node) → node_of fs ino ≡ o
+    → TellsFiles fs no_effect (with_perm change (record fs { acls = acls }) ino o)
+acl_changed fs acls change ino None h = unchanged fs (record fs { acls = acls }) (λ q. refl)
+acl_changed fs acls change ino (Some node) h =
+    unchanged fs (with_perm change (record fs { acls = acls }) ino (Some node))
+    (λ q. set_same is_file_node (is_at (nat_cmp q)) (is_at (nat_cmp ino)) fs.nodes node (record node { perm = change node.perm }) h refl)
+
+acl_taken : (fs : FileSystem) (ino : ℕ) (o : Option Acl) → TellsFiles fs no_effect (without_acl fs ino o)
+acl_taken fs ino None = unchanged fs fs (λ q. refl)
+acl_taken fs ino (Some acl) =
+    acl_changed fs (remove_entry (is_at (nat_cmp ino)) fs.acls) (with_mask acl.owning) ino (node_of fs ino) refl
+
 -- ---- any event
 module _ (fs : FileSystem) (t : IsTree fs) where
   tells : (event : Event) → refusal_of fs event ≡ None → TellsFiles fs (effect_of fs event) (next fs event)
@@ -204,6 +219,9 @@ module _ (fs : FileSystem) (t : IsTree fs) where
       ]
   tells (Chmod ino mode) h = perm_changed fs (λ perm. record perm { mode = mode }) ino (node_of fs ino) refl
   tells (Chown ino uid gid) h = perm_changed fs (λ perm. record perm { uid = uid; gid = gid }) ino (node_of fs ino) refl
+  tells (SetAcl ino None mask) h = acl_taken fs ino (acl_of fs ino)
+  tells (SetAcl ino (Some acl) mask) h =
+      acl_changed fs (insert_entry nat_cmp fs.acls ino acl) (with_mask mask) ino (node_of fs ino) refl
 
   pub effects_tell_files : (event : Event) (after : FileSystem) (effect : Effect) → step fs event ≡ Ok (after, effect)
       → TellsFiles fs effect after

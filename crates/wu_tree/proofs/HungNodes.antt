@@ -118,7 +118,7 @@ same_numbers links (n ∷ nodes) = ap (λ (l : List ℕ). n.0 ∷ l) (same_numbe
 
 -- whether a link names a node that is there and isn't the root
 pub told_child : (links : List Link) (nodes : List (ℕ × Node)) (hung : List HungNode) (child : ℕ) → hung ≡ map (hung_node links) nodes
-    → (has_number hung child && not (child == 1)) ≡ child_test (listed nodes [] []) child
+    → (has_number hung child && not (child == 1)) ≡ child_test (listed nodes [] [] []) child
 told_child links nodes hung child h =
     ap (λ (l : List ℕ). list_any (is_at (nat_cmp child)) l && not (child == 1)) (ap numbers h ∙ same_numbers links nodes)
     ∙ ap (λ (b : Bool). b && not (child == 1)) (sym (is_some-lookup (is_at (nat_cmp child)) nodes))

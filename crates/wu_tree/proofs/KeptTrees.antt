@@ -5,26 +5,29 @@ use Rattle.std.specs.Ordering.{nat_cmp}
 use Rattle.std.specs.Cmp.{nat_cmp_total}
 use Rattle.std.specs.List.{AllByRecursion}
 use Rattle.std.specs.List.Sorted.{IsStrictlySortedBy}
-use Rattle.std.specs.BTreeMap.{is_at}
+use Rattle.std.specs.Map.{remove_entry}
+use Rattle.std.specs.BTreeMap.{is_at, insert_entry}
 use Rattle.std.proofs.lemmas.Bool.{leb-false, or_parts}
 use Rattle.std.proofs.lemmas.Map.Lookups.{exact_unsigned}
 use borrow.Author.Tests.{eqb-true, eqb-false}
 use Rattle.wu_base.specs.SortedOnce.{sorted_once}
 use Rattle.wu_base.proofs.SortedLists.{sorted-sorted_once}
+use Rattle.wu_access.specs.declared.acls.Acl.{Acl}
 use Rattle.wu_access.specs.declared.Perm.{Perm}
 use Rattle.wu_tree.specs.declared.events.Kind.TheVariants.{Directory, File}
 use Rattle.wu_tree.specs.declared.events.Node.{Node}
 use Rattle.wu_tree.specs.declared.events.Event.{Event}
 use Rattle.wu_tree.specs.declared.events.Event.TheVariants.{User, Mkdir, Create, Text, Link, Unlink, Rmdir, Rename, Chmod, Chown}
+use Rattle.wu_tree.specs.declared.events.Event.TheVariants.{Acl as SetAcl}
 use Rattle.wu_tree.specs.declared.events.Effect.{Effect}
-use Rattle.wu_tree.specs.FileSystems.{FileSystem, IsLeaf, place_cmp, is_name, node_of, child_of, is_there, is_file}
+use Rattle.wu_tree.specs.FileSystems.{FileSystem, IsLeaf, place_cmp, is_name, acl_of, node_of, child_of, is_there, is_file}
 use Rattle.wu_tree.specs.FileSystems.{is_directory, is_used, has_entries}
 use Rattle.wu_tree.specs.FileSystems.{is_within, link_count, path_up, depth}
 use Rattle.wu_tree.specs.Paths.{through}
 use Rattle.wu_tree.specs.Rules.{IsTree, IsLink, IsNumbered}
-use Rattle.wu_tree.specs.Steps.{mkdir_rules, create_rules, link_rules, unlink_rules, rmdir_rules, rename_rules, move_rules}
+use Rattle.wu_tree.specs.Steps.{absent_rules, mkdir_rules, create_rules, link_rules, unlink_rules, rmdir_rules, rename_rules, move_rules}
 use Rattle.wu_tree.specs.Steps.{named, is_link_to, is_too_deep, refusal_of, next, effect_of, IsEvent}
-use Rattle.wu_tree.specs.Steps.{with_node, with_user, with_perm, without_link, with_link_moved}
+use Rattle.wu_tree.specs.Steps.{with_node, with_user, with_perm, without_acl, without_link, with_link_moved}
 use Rattle.wu_tree.specs.Steps.{step as tree_step}
 use Rattle.wu_base.proofs.MapEntries.{All-found, All-insert_entry, All-map, ascend-insert_entry}
 use Rattle.wu_tree.proofs.ParentPaths.{reached, leaf_links}
@@ -34,6 +37,7 @@ use Rattle.wu_tree.proofs.NewNodes.{node_keeps}
 use Rattle.wu_tree.proofs.NewLinks.{link_keeps}
 use Rattle.wu_tree.proofs.LinkRemovals.{gone_keeps, kept_keeps, is_gone, is_kept}
 use Rattle.wu_tree.proofs.Permissions.{perm_keeps}
+use Rattle.wu_tree.proofs.AclChanges.{acl_found, acl_gone, acl_put, masked_keeps}
 use Rattle.wu_tree.proofs.MovedLinks.{move_keeps}
 use Rattle.wu_tree.proofs.RenameRules.{Above, conditions, places_apart, left_fs, is_left, left_found, left_free, left_directory, left_path}
 use Rattle.wu_tree.proofs.RenameRules.{left_above, parent_apart}
@@ -51,12 +55,14 @@ module _ (fs : FileSystem) (t : IsTree fs) where
             (λ q e. ascends) ascends;
         nodes_ascend = t.nodes_ascend;
         links_ascend = t.links_ascend;
+        acls_ascend = t.acls_ascend;
         numbered = t.numbered;
         root = t.root;
         links =
             All-map (IsLink fs) (IsLink (with_user fs uid groups)) fs.links
             (λ l p. record { parent = p.parent; child = p.child; no_root = p.no_root; name = p.name }) t.links;
         nodes = t.nodes;
+        acls = t.acls;
       }
 
   -- ---- nodes and links that are made
@@ -83,6 +89,14 @@ module _ (fs : FileSystem) (t : IsTree fs) where
             let more : link_count fs.links c ≢ 1 = eqb-false (link_count fs.links c) 1 e in
             subst IsTree (is_kept fs t parent name c found bare more) (kept_keeps fs t parent name c found bare more)
       ] refl
+
+  -- ---- other access lists
+
+  acl_taken : (ino : ℕ) (o : Option Acl) → acl_of fs ino ≡ o → IsTree (without_acl fs ino o)
+  acl_taken ino None found = t
+  acl_taken ino (Some acl) found =
+      masked_keeps (record fs { acls = remove_entry (is_at (nat_cmp ino)) fs.acls }) (acl_gone fs t ino) acl.owning ino (node_of fs ino) refl
+      (acl_found fs t ino acl found).owning
 
   -- ---- other permissions
 
@@ -179,6 +193,11 @@ module _ (fs : FileSystem) (t : IsTree fs) where
   next_keeps (Chmod ino mode) v h = perm_change (λ perm. record perm { mode = mode }) ino (node_of fs ino) refl (λ perm low. v)
   next_keeps (Chown ino uid gid) v h =
       perm_change (λ perm. record perm { uid = uid; gid = gid }) ino (node_of fs ino) refl (λ perm low. low)
+  next_keeps (SetAcl ino None mask) v h = acl_taken ino (acl_of fs ino) refl
+  next_keeps (SetAcl ino (Some acl) mask) v h =
+      let there : is_there fs ino ≡ true = not_false (is_there fs ino) (none_applies (absent_rules fs ino) h).0 in
+      masked_keeps (record fs { acls = insert_entry nat_cmp fs.acls ino acl }) (acl_put fs t ino acl there v.0) mask ino (node_of fs ino) refl
+      v.1
 
   pub step_keeps : (event : Event) (after : FileSystem) (effect : Effect) → IsEvent event → tree_step fs event ≡ Ok (after, effect)
       → IsTree after

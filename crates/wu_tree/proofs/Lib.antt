@@ -4,6 +4,7 @@ pub mod NewNodes
 pub mod NewLinks
 pub mod LinkRemovals
 pub mod Permissions
+pub mod AclChanges
 pub mod NodeLookups
 pub mod TreeInvariant
 pub mod LinkChanges
@@ -14,6 +15,7 @@ pub mod ReachedDirectories
 pub mod HungNodes
 pub mod MadeMaps
 pub mod LinkRuns
+pub mod RebuiltAcls
 pub mod RebuiltTrees
 pub mod MovedLinks
 pub mod RenameRules

@@ -11,13 +11,19 @@ use Rattle.wu_tree.specs.declared.events.Kind.TheVariants.{Directory, File}
 use Rattle.wu_tree.specs.declared.events.Node.{Node}
 use Rattle.wu_tree.specs.FileSystems.{FileSystem, Link, place_cmp, is_directory_node, is_there, node_of, child_of, link_count}
 use Rattle.wu_tree.specs.Steps.{without_link}
-use Rattle.wu_tree.specs.Rules.{IsLink, Hangs, IsNumbered, IsTree}
+use Rattle.wu_tree.specs.Rules.{IsAclOf, IsLink, Hangs, IsNumbered, IsTree}
 use Rattle.wu_base.proofs.MapEntries.{All-found, All-map, All-map2, All-remove_entry, ascend-remove_entry, counted-remove_entry, lookup-remove_other, none_left, number_itself}
 use Rattle.wu_tree.proofs.ParentPaths.{same_number, other_number, SameElsewhere, same_elsewhere_remove, same_hangs, none_counted}
 
 -- a test of a number fails at another one
 pub apart_from : (c q k : ℕ) → q ≢ c → is_eq (nat_cmp c k) ≡ true → is_eq (nat_cmp q k) ≡ false
 apart_from c q k d h = other_number q k (λ e. d (e ∙ sym (same_number c k h)))
+
+-- a number at which the test of another fails
+not_at : (c q : ℕ) → is_eq (nat_cmp c q) ≡ false → q ≢ c
+not_at c q n s =
+    let f : is_eq (nat_cmp c q) ≡ true = subst (λ x. is_eq (nat_cmp x q) ≡ true) s (number_itself q) in
+    absurd (let g : true ≡ false = sym f ∙ n in cc)
 
 module _ (fs : FileSystem) (t : IsTree fs) (parent : ℕ) (name : List ℕ) (c : ℕ) (found : child_of fs parent name ≡ Some c)
     (leaf : AllByRecursion (λ l. l.0.0 ≢ c) fs.links) where
@@ -40,7 +46,11 @@ module _ (fs : FileSystem) (t : IsTree fs) (parent : ℕ) (name : List ℕ) (c :
 
   -- ---- the last link
   abbrev pub gone : FileSystem
-  gone = record fs { nodes = remove_entry (is_at (nat_cmp c)) fs.nodes; links = fewer }
+  gone = record fs {
+    nodes = remove_entry (is_at (nat_cmp c)) fs.nodes;
+    links = fewer;
+    acls = remove_entry (is_at (nat_cmp c)) fs.acls;
+  }
 
   node_left : (q : ℕ) → q ≢ c → node_of gone q ≡ node_of fs q
   node_left q h = lookup-remove_other (is_at (nat_cmp q)) (is_at (nat_cmp c)) (λ k p. apart_from c q k h p) fs.nodes
@@ -65,18 +75,21 @@ module _ (fs : FileSystem) (t : IsTree fs) (parent : ℕ) (name : List ℕ) (c :
         groups_ascend = t.groups_ascend;
         nodes_ascend = ascend-remove_entry nat_cmp (is_at (nat_cmp c)) fs.nodes t.nodes_ascend;
         links_ascend = ascend-remove_entry place_cmp (is_at (place_cmp (parent, name))) fs.links t.links_ascend;
+        acls_ascend = ascend-remove_entry nat_cmp (is_at (nat_cmp c)) fs.acls t.acls_ascend;
         numbered = All-remove_entry IsNumbered (is_at (nat_cmp c)) fs.nodes t.numbered;
         root = ap is_directory_node (node_left 1 (λ e. child_no_root (sym e))) ∙ t.root;
         links = All-map2 (IsLink fs) (λ l. (l.0.0 ≢ c) × (l.1 ≢ c)) (IsLink gone) fewer link_left both
             (All-remove_entry (IsLink fs) (is_at (place_cmp (parent, name))) fs.links t.links);
         nodes =
             All-map2 (λ e. Hangs fs.links e.0 e.1.kind) (λ e. is_eq (nat_cmp c e.0) ≡ false) (λ e. Hangs fewer e.0 e.1.kind) gone.nodes
-            (λ e n p. same_hangs drop_around e.0 e.1.kind
-            (λ s. let f : is_eq (nat_cmp c e.0)
-            ≡ true = subst (λ x. is_eq (nat_cmp x e.0) ≡ true) s (number_itself e.0) in absurd
-            (let g : true ≡ false = sym f ∙ n in cc)) p)
+            (λ e n p. same_hangs drop_around e.0 e.1.kind (not_at c e.0 n) p)
             (none_left c fs.nodes t.nodes_ascend)
             (All-remove_entry (λ e. Hangs fs.links e.0 e.1.kind) (is_at (nat_cmp c)) fs.nodes t.nodes);
+        acls =
+            All-map2 (IsAclOf fs) (λ e. is_eq (nat_cmp c e.0) ≡ false) (IsAclOf gone) gone.acls
+            (λ e n p. (ap is_some (node_left e.0 (not_at c e.0 n)) ∙ p.0, p.1))
+            (none_left c fs.acls t.acls_ascend)
+            (All-remove_entry (IsAclOf fs) (is_at (nat_cmp c)) fs.acls t.acls);
       }
 
   -- ---- a link of several
@@ -103,12 +116,14 @@ module _ (fs : FileSystem) (t : IsTree fs) (parent : ℕ) (name : List ℕ) (c :
     groups_ascend = t.groups_ascend;
     nodes_ascend = t.nodes_ascend;
     links_ascend = ascend-remove_entry place_cmp (is_at (place_cmp (parent, name))) fs.links t.links_ascend;
+    acls_ascend = t.acls_ascend;
     numbered = t.numbered;
     root = t.root;
     links = All-map (IsLink fs) (IsLink kept) fewer
         (λ l p. record { parent = p.parent; child = p.child; no_root = p.no_root; name = p.name })
         (All-remove_entry (IsLink fs) (is_at (place_cmp (parent, name))) fs.links t.links);
     nodes = All-map (λ e. Hangs fs.links e.0 e.1.kind) (λ e. Hangs fewer e.0 e.1.kind) fs.nodes (still_hangs more) t.nodes;
+    acls = t.acls;
   }
 
   -- ---- what the definition says of either

@@ -17,6 +17,10 @@ abbrev pub Decides : Bool → Type 0 → Type 0
 Decides true fact = fact
 Decides false fact = fact → ⊥
 
+pub decides_by : (b : Bool) (P : Type 0) → (b ≡ true → P) → (P → b ≡ true) → Decides b P
+decides_by true P f g = f refl
+decides_by false P f g = λ p. let h : false ≡ true = g p in cc
+
 pub same_answer : (a b : Bool) (fact : Type 0) → Decides a fact → Decides b fact → a ≡ b
 same_answer true true fact x y = refl
 same_answer false false fact x y = refl

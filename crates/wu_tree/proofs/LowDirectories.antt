@@ -6,6 +6,7 @@ use Rattle.std.specs.List.{AllByRecursion}
 use Rattle.std.specs.Map.{lookup, set_value}
 use Rattle.std.specs.BTreeMap.{is_at}
 use borrow.Author.Tests.{eqb-true, eqb-false, ne_eqb}
+use Rattle.wu_access.specs.declared.acls.Acl.{Acl}
 use Rattle.wu_access.specs.declared.UserRec.{UserRec}
 use Rattle.std.proofs.lemmas.Bool.{and_parts}
 use Rattle.wu_base.proofs.Members.{Has, any_has}
@@ -19,19 +20,20 @@ use Rattle.wu_tree.proofs.DirectoryHeights.{set_here, set_other, set_heights, se
 use Rattle.wu_tree.proofs.DirectoryHeights.{found_again}
 use Rattle.wu_tree.proofs.NodeLookups.{directory_inode, parent_kept}
 
-module _ (inodes : List (ℕ × Inode)) (links : List Link) (users : List (ℕ × UserRec)) (s : IsSound inodes links users) where
+module _ (inodes : List (ℕ × Inode)) (links : List Link) (users : List (ℕ × UserRec)) (acls : List (ℕ × Acl))
+    (s : IsSound inodes links users acls) where
   abbrev fs : FileSystem
-  fs = file_system inodes links users
+  fs = file_system inodes links users acls
 
   -- a directory in another one is lower
   lower : (d c : ℕ) → is_directory fs c ≡ true → c ≢ 1 → parent_of links c ≡ Some d → min (height_at inodes c + 1) 255 ≤ height_at inodes d
   lower d c k n p =
       elim (lookup (is_at (nat_cmp c)) inodes) as
       (λ o. lookup (is_at (nat_cmp c)) inodes ≡ o → min (height_at inodes c + 1) 255 ≤ height_at inodes d) [
-        | None ↦ λ f. absurd (directory_inode inodes links users s c k f)
+        | None ↦ λ f. absurd (directory_inode inodes links users acls s c k f)
         | Some inode ↦ λ f.
             let higher : higher_of c inode ≡ Some d =
-            ap (λ (b : Bool). cond b None (parent_in inode.hold)) (ne_eqb c 1 n) ∙ parent_kept inodes links users s c inode f k n ∙ p in
+            ap (λ (b : Bool). cond b None (parent_in inode.hold)) (ne_eqb c 1 n) ∙ parent_kept inodes links users acls s c inode f k n ∙ p in
             omega (arith, s.heights c inode f d higher, ap height_in f)
       ] refl
 

@@ -150,6 +150,7 @@ module _ (fs : FileSystem) (t : IsTree fs) (parent : ℕ) (name : List ℕ) (new
     nodes_ascend = t.nodes_ascend;
     links_ascend = ascend-insert_entry place_total gap (new_parent, new_name) c
         (ascend-remove_entry place_cmp (is_at (place_cmp (parent, name))) fs.links t.links_ascend);
+    acls_ascend = t.acls_ascend;
     numbered = t.numbered;
     root = t.root;
     links =
@@ -162,6 +163,7 @@ module _ (fs : FileSystem) (t : IsTree fs) (parent : ℕ) (name : List ℕ) (new
     nodes =
         All-map2 (λ e. Hangs fs.links e.0 e.1.kind) StaysShallow (λ e. Hangs moved e.0 e.1.kind) fs.nodes
         (λ e b p. hangs_moved e.0 e.1.kind (reached fs t new_parent directory) o p b) a t.nodes;
+    acls = t.acls;
   }
 
 -- ---- that no directory comes to lie too deep, from the rule that says so

@@ -63,6 +63,7 @@ module _ (fs : FileSystem) (t : IsTree fs) (ino parent : ℕ) (name : List ℕ) 
     groups_ascend = t.groups_ascend;
     nodes_ascend = t.nodes_ascend;
     links_ascend = ascend-insert_entry place_total fs.links (parent, name) ino t.links_ascend;
+    acls_ascend = t.acls_ascend;
     numbered = t.numbered;
     root = t.root;
     links =
@@ -73,4 +74,5 @@ module _ (fs : FileSystem) (t : IsTree fs) (ino parent : ℕ) (name : List ℕ) 
         (link_made directory n);
     nodes = All-map2 (λ e. Hangs fs.links e.0 e.1.kind) (λ e. node_of fs e.0 ≡ Some e.1) (λ e. Hangs more e.0 e.1.kind) fs.nodes hangs_more
         (all_found fs.nodes t.nodes_ascend) t.nodes;
+    acls = t.acls;
   }

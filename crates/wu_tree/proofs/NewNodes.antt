@@ -15,7 +15,7 @@ use Rattle.wu_tree.specs.Inodes.{IsHeld, first_hold}
 use Rattle.wu_tree.specs.FileSystems.{FileSystem, Link, place_cmp, is_name, is_directory, is_directory_node, is_there, node_of, child_of}
 use Rattle.wu_tree.specs.FileSystems.{is_within, link_count, parent_of, path_up, depth}
 use Rattle.wu_tree.specs.Steps.{with_node}
-use Rattle.wu_tree.specs.Rules.{IsLink, Hangs, IsNumbered, IsTree}
+use Rattle.wu_tree.specs.Rules.{IsAclOf, IsLink, Hangs, IsNumbered, IsTree}
 use Rattle.wu_base.proofs.MapEntries.{lookup-insert_entry, All-insert_entry, All-map, All-map2, ascend-insert_entry, counted-insert_entry}
 use Rattle.wu_base.proofs.MapEntries.{number_itself}
 use Rattle.wu_tree.proofs.ParentPaths.{place_total, place_exact, other_number, SameElsewhere, same_elsewhere_insert, same_hangs, same_path}
@@ -97,6 +97,7 @@ module _ (fs : FileSystem) (t : IsTree fs) (ino parent : ℕ) (name : List ℕ) 
     groups_ascend = t.groups_ascend;
     nodes_ascend = ascend-insert_entry nat_cmp_total fs.nodes ino node t.nodes_ascend;
     links_ascend = ascend-insert_entry place_total fs.links (parent, name) ino t.links_ascend;
+    acls_ascend = t.acls_ascend;
     numbered = All-insert_entry IsNumbered nat_cmp fs.nodes ino node t.numbered
         (λ q e. (subst (λ x. 1 ≤ x) (exact_unsigned ino q e) low, mode)) (low, mode);
     root = kept_directory 1 t.root;
@@ -116,4 +117,5 @@ module _ (fs : FileSystem) (t : IsTree fs) (ino parent : ℕ) (name : List ℕ) 
         no_number t.nodes)
         (λ q e. subst (λ x. Hangs links' x node.kind) (exact_unsigned ino q e) (new_hangs node.kind d w))
         (new_hangs node.kind d w);
+    acls = All-map (IsAclOf fs) (IsAclOf (with_node fs ino parent name node)) fs.acls (λ a p. (kept_there a.0 p.0, p.1)) t.acls;
   }

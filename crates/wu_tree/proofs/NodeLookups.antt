@@ -9,6 +9,7 @@ use Rattle.std.specs.Map.{keys_of, lookup}
 use Rattle.std.specs.BTreeMap.{is_at}
 use Rattle.std.proofs.lemmas.Map.Made.{lookup-map_values, keys_of-map_values}
 use borrow.Author.Tests.{eq-eqb}
+use Rattle.wu_access.specs.declared.acls.Acl.{Acl}
 use Rattle.wu_access.specs.declared.UserRec.{UserRec}
 use Rattle.wu_tree.specs.declared.events.Node.{Node}
 use Rattle.wu_tree.specs.declared.inodes.Hold.{Hold}
@@ -26,16 +27,16 @@ pub found_counted : (links : List Link) (t : Place → Bool) (c : ℕ) → looku
 found_counted links t c h = let e : cond {A = ℕ} (c == c) 1 0
     ≡ 1 = rw (eq-eqb c c refl) refl in omega (arith, counted-remove_entry (λ v. v == c) t links c h)
 
-module _ (inodes : List (ℕ × Inode)) (links : List Link) (users : List (ℕ × UserRec)) (s : IsSound inodes links users) where
+module _ (inodes : List (ℕ × Inode)) (links : List Link) (users : List (ℕ × UserRec)) (acls : List (ℕ × Acl)) (s : IsSound inodes links users acls) where
   -- ---- nodes
   pub node_found : (ino : ℕ) (inode : Inode) → lookup (is_at (nat_cmp ino)) inodes ≡ Some inode
-      → node_of (file_system inodes links users) ino ≡ Some (node_in inode)
+      → node_of (file_system inodes links users acls) ino ≡ Some (node_in inode)
   node_found ino inode h = lookup-map_values node_in (is_at (nat_cmp ino)) inodes ∙ ap (option_map node_in) h
 
-  pub node_absent : (ino : ℕ) → lookup (is_at (nat_cmp ino)) inodes ≡ None → node_of (file_system inodes links users) ino ≡ None
+  pub node_absent : (ino : ℕ) → lookup (is_at (nat_cmp ino)) inodes ≡ None → node_of (file_system inodes links users acls) ino ≡ None
   node_absent ino h = lookup-map_values node_in (is_at (nat_cmp ino)) inodes ∙ ap (option_map node_in) h
 
-  pub inode_absent : (ino : ℕ) → node_of (file_system inodes links users) ino ≡ None → lookup (is_at (nat_cmp ino)) inodes ≡ None
+  pub inode_absent : (ino : ℕ) → node_of (file_system inodes links users acls) ino ≡ None → lookup (is_at (nat_cmp ino)) inodes ≡ None
   inode_absent ino h = mapped_none node_in (lookup (is_at (nat_cmp ino)) inodes)
       (sym (lookup-map_values node_in (is_at (nat_cmp ino)) inodes) ∙ h)
 
@@ -61,20 +62,20 @@ module _ (inodes : List (ℕ × Inode)) (links : List Link) (users : List (ℕ �
 
   pub has_one : (c : ℕ) (inode : Inode) → lookup (is_at (nat_cmp c)) inodes ≡ Some inode → 1 ≤ link_count links c
       → has_one_link inode.hold ≡ (link_count links c == 1)
-  has_one c inode h l = one_link c inode.hold (linked (file_system inodes links users) links c s.tree.links l).1 (held_at c inode h)
+  has_one c inode h l = one_link c inode.hold (linked (file_system inodes links users acls) links c s.tree.links l).1 (held_at c inode h)
       (hangs_at c inode h)
 
   pub linked_there : (c : ℕ) → 1 ≤ link_count links c → lookup (is_at (nat_cmp c)) inodes ≡ None → ⊥
-  linked_there c l h = let f : is_there (file_system inodes links users) c
-      ≡ false = ap is_some (node_absent c h) in let g : is_there (file_system inodes links users) c
-      ≡ true = (linked (file_system inodes links users) links c s.tree.links l).0 in let x : true ≡ false = sym g ∙ f in cc
+  linked_there c l h = let f : is_there (file_system inodes links users acls) c
+      ≡ false = ap is_some (node_absent c h) in let g : is_there (file_system inodes links users acls) c
+      ≡ true = (linked (file_system inodes links users acls) links c s.tree.links l).0 in let x : true ≡ false = sym g ∙ f in cc
 
-  pub found_linked : (parent : ℕ) (name : List ℕ) (c : ℕ) → child_of (file_system inodes links users) parent name ≡ Some c
+  pub found_linked : (parent : ℕ) (name : List ℕ) (c : ℕ) → child_of (file_system inodes links users acls) parent name ≡ Some c
       → 1 ≤ link_count links c
   found_linked parent name c h = found_counted links (is_at (place_cmp (parent, name))) c h
 
-  pub file_inode : (ino : ℕ) → is_file (file_system inodes links users) ino ≡ true → lookup (is_at (nat_cmp ino)) inodes ≡ None → ⊥
-  file_inode ino f h = let g : is_file (file_system inodes links users) ino ≡ false = ap is_file_node (node_absent ino h) in let x : true
+  pub file_inode : (ino : ℕ) → is_file (file_system inodes links users acls) ino ≡ true → lookup (is_at (nat_cmp ino)) inodes ≡ None → ⊥
+  file_inode ino f h = let g : is_file (file_system inodes links users acls) ino ≡ false = ap is_file_node (node_absent ino h) in let x : true
       ≡ false = sym f ∙ g in cc
 
   counted_hold : (ino count : ℕ) (h : Hold) → h ≡ Links count → IsHeld links ino h → link_count links ino ≡ count
@@ -95,21 +96,21 @@ module _ (inodes : List (ℕ × Inode)) (links : List Link) (users : List (ℕ �
   not_file false h = refl
 
   pub parent_kept : (d : ℕ) (inode : Inode) → lookup (is_at (nat_cmp d)) inodes ≡ Some inode
-      → is_directory (file_system inodes links users) d ≡ true → d ≢ 1 → parent_in inode.hold ≡ parent_of links d
+      → is_directory (file_system inodes links users acls) d ≡ true → d ≢ 1 → parent_in inode.hold ≡ parent_of links d
   parent_kept d inode h k r = parent_held d inode.hold (not_file _ (ap is_directory_node (sym (node_found d inode h)) ∙ k)) r
       (held_at d inode h)
 
-  pub directory_inode : (d : ℕ) → is_directory (file_system inodes links users) d ≡ true → lookup (is_at (nat_cmp d)) inodes ≡ None → ⊥
-  directory_inode d f h = let g : is_directory (file_system inodes links users) d
+  pub directory_inode : (d : ℕ) → is_directory (file_system inodes links users acls) d ≡ true → lookup (is_at (nat_cmp d)) inodes ≡ None → ⊥
+  directory_inode d f h = let g : is_directory (file_system inodes links users acls) d
       ≡ false = ap is_directory_node (node_absent d h) in let x : true ≡ false = sym f ∙ g in cc
 
 -- a directory's node is there
-pub directory_kept : (inodes : List (ℕ × Inode)) (links : List Link) (users : List (ℕ × UserRec)) → IsSound inodes links users
-    → (fs : FileSystem) → file_system inodes links users ≡ fs
+pub directory_kept : (inodes : List (ℕ × Inode)) (links : List Link) (users : List (ℕ × UserRec)) (acls : List (ℕ × Acl)) → IsSound inodes links users acls
+    → (fs : FileSystem) → file_system inodes links users acls ≡ fs
     → (d : ℕ) → is_directory fs d ≡ true → is_some (lookup (is_at (nat_cmp d)) inodes) ≡ true
-directory_kept inodes links users s fs view d h =
+directory_kept inodes links users acls s fs view d h =
     elim (lookup (is_at (nat_cmp d)) inodes) as (λ o. lookup (is_at (nat_cmp d)) inodes ≡ o → is_some o ≡ true) [
-      | None ↦ λ e. absurd (directory_inode inodes links users s d (subst (λ (v : FileSystem). is_directory v d ≡ true) (sym view) h) e)
+      | None ↦ λ e. absurd (directory_inode inodes links users acls s d (subst (λ (v : FileSystem). is_directory v d ≡ true) (sym view) h) e)
       | Some inode ↦ λ e. refl
     ] refl
 

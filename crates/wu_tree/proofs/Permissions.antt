@@ -10,7 +10,7 @@ use Rattle.wu_tree.specs.declared.events.Node.{Node}
 use Rattle.wu_tree.specs.declared.inodes.Inode.{Inode}
 use Rattle.wu_tree.specs.Inodes.{IsHeld}
 use Rattle.wu_tree.specs.FileSystems.{FileSystem, Link, is_directory, is_directory_node, is_there, node_of}
-use Rattle.wu_tree.specs.Rules.{IsLink, Hangs, IsNumbered, IsTree}
+use Rattle.wu_tree.specs.Rules.{IsAclOf, IsLink, Hangs, IsNumbered, IsTree}
 use Rattle.wu_base.proofs.MapEntries.{All-found, All-map, All-set_value}
 use Rattle.wu_tree.proofs.ParentPaths.{same_number}
 
@@ -70,10 +70,12 @@ module _ (fs : FileSystem) (t : IsTree fs) (ino : ℕ) (old node : Node) (found 
     groups_ascend = t.groups_ascend;
     nodes_ascend = rw (keys-set_value (is_at (nat_cmp ino)) fs.nodes node) t.nodes_ascend;
     links_ascend = t.links_ascend;
+    acls_ascend = t.acls_ascend;
     numbered = All-set_value IsNumbered (is_at (nat_cmp ino)) fs.nodes node t.numbered (still_numbered mode);
     root = same_directory 1 ∙ t.root;
     links = All-map (IsLink fs) (IsLink permitted) fs.links still_link t.links;
     nodes = All-set_value (λ e. Hangs fs.links e.0 e.1.kind) (is_at (nat_cmp ino)) fs.nodes node t.nodes still_hangs;
+    acls = All-map (IsAclOf fs) (IsAclOf permitted) fs.acls (λ a p. (same_there a.0 ∙ p.0, p.1)) t.acls;
   }
 
 -- and what ties it to the links stays

@@ -7,6 +7,7 @@ use Rattle.std.specs.List.Sorted.{IsStrictlySortedBy}
 use Rattle.std.specs.Map.{keys_of, lookup}
 use Rattle.std.specs.BTreeMap.{is_at}
 use borrow.Author.Tests.{eqb-true, eqb-false, eq-eqb, ne_eqb, leb-true, le-leb, ltb-true, lt-ltb}
+use Rattle.wu_access.specs.declared.acls.Acl.{Acl}
 use Rattle.wu_access.specs.declared.UserRec.{UserRec}
 use Rattle.std.proofs.lemmas.Bool.{and_parts, and_from}
 use Rattle.wu_tree.specs.declared.events.Kind.{Kind}
@@ -18,23 +19,20 @@ use Rattle.wu_tree.specs.declared.tallies.Hung.{Hung}
 use Rattle.wu_tree.specs.declared.tallies.HungNode.{HungNode}
 use Rattle.wu_tree.specs.FileSystems.{FileSystem, Link, place_cmp, node_of, is_directory, is_there, is_name, is_kind_file}
 use Rattle.wu_tree.specs.Inodes.{nodes_in, users_in, kind_of, file_system, IsHeld, IsSound, height_in, height_at, higher_of, AreHeights, without_heights}
-use Rattle.wu_tree.specs.Lists.{WasWalked, ascends, below, child_test, children_test, first_height, hold_of, hung_node, hung_of, inode_of, link_of, linked_test, listed, low_test, number_test, order_test, place_test, reached_test, stand_test, user_of}
+use Rattle.wu_tree.specs.Lists.{WasWalked, acls_test, ascends, below, child_test, children_test, first_height, hold_of, hung_node, hung_of, inode_of, link_of, linked_test, listed, low_test, number_test, order_test, place_test, reached_test, stand_test, user_of}
 use Rattle.wu_tree.specs.Rules.{IsLink, IsNumbered, IsTree}
 use Rattle.wu_base.proofs.MapEntries.{All-map, All-map2, all_found}
 use Rattle.wu_base.proofs.Members.{Has, Has-from_Contains, Contains-from_Has, any_has, has_any}
 use Rattle.wu_tree.proofs.PathsDown.{no_deeper, parent_there}
 use Rattle.wu_tree.proofs.DirectoryHeights.{higher_is_parent}
 use Rattle.wu_tree.proofs.ParentPaths.{directory_found}
-use Rattle.wu_tree.proofs.ListTests.{Decides, decided_yes, decided_no, decides_both, decides_all, decides_ascends, all_mapped}
+use Rattle.wu_tree.proofs.ListTests.{Decides, decided_yes, decided_no, decides_by, decides_both, decides_all, decides_ascends, all_mapped}
+use Rattle.wu_tree.proofs.RebuiltAcls.{AreAcls, acls_decided}
 use Rattle.wu_tree.proofs.ReachedDirectories.{all_tested, tested_all, hang_from_tests, links_from_hang, walk_from_hang, each_held}
 use Rattle.wu_tree.proofs.TreeInvariant.{same_sound, same_system}
 
 pub true_false : true ≡ false → ⊥
 true_false h = cc
-
-decides_by : (b : Bool) (P : Type 0) → (b ≡ true → P) → (P → b ≡ true) → Decides b P
-decides_by true P f g = f refl
-decides_by false P f g = λ p. let h : false ≡ true = g p in cc
 
 decides_same : (a b : Bool) (P : Type 0) → a ≡ b → Decides b P → Decides a P
 decides_same a b P e d = subst (λ x. Decides x P) (sym e) d
@@ -88,14 +86,24 @@ pub in_order : (nodes : List (ℕ × Node)) (links : List LinkRec) (users : List
     → Order nodes links users
 in_order nodes links users h = decided_yes (order_test nodes links users) (Order nodes links users) (order_decided nodes links users) h
 
-pub tree_in_order : (nodes : List (ℕ × Node)) (links : List LinkRec) (users : List UserRec) → IsTree (listed nodes links users)
-    → Order nodes links users
-tree_in_order nodes links users t = ((((t.nodes_ascend, t.numbered), t.users_ascend), t.groups_ascend), t.links_ascend)
+pub tree_in_order : (nodes : List (ℕ × Node)) (links : List LinkRec) (users : List UserRec) (acls : List (ℕ × Acl))
+    → IsTree (listed nodes links users acls) → Order nodes links users
+tree_in_order nodes links users acls t = ((((t.nodes_ascend, t.numbered), t.users_ascend), t.groups_ascend), t.links_ascend)
 
-pub no_order : (nodes : List (ℕ × Node)) (links : List LinkRec) (users : List UserRec) → order_test nodes links users ≡ false
-    → IsTree (listed nodes links users) → ⊥
-no_order nodes links users h t = decided_no (order_test nodes links users) (Order nodes links users) (order_decided nodes links users) h
-    (tree_in_order nodes links users t)
+pub no_order : (nodes : List (ℕ × Node)) (links : List LinkRec) (users : List UserRec) (acls : List (ℕ × Acl))
+    → order_test nodes links users ≡ false → IsTree (listed nodes links users acls) → ⊥
+no_order nodes links users acls h t = decided_no (order_test nodes links users) (Order nodes links users) (order_decided nodes links users) h
+    (tree_in_order nodes links users acls t)
+
+pub acls_in_order : (nodes : List (ℕ × Node)) (links : List LinkRec) (users : List UserRec) (acls : List (ℕ × Acl))
+    → Order nodes links users → acls_test nodes acls ≡ true → AreAcls nodes acls
+acls_in_order nodes links users acls order h =
+    decided_yes (acls_test nodes acls) (AreAcls nodes acls) (acls_decided nodes acls order.0.0.0.0) h
+
+pub no_acls : (nodes : List (ℕ × Node)) (links : List LinkRec) (users : List UserRec) (acls : List (ℕ × Acl))
+    → Order nodes links users → acls_test nodes acls ≡ false → IsTree (listed nodes links users acls) → ⊥
+no_acls nodes links users acls order h t =
+    decided_no (acls_test nodes acls) (AreAcls nodes acls) (acls_decided nodes acls order.0.0.0.0) h (t.acls_ascend, t.acls)
 
 -- ---- a link
 abbrev pub link_test : FileSystem → Link → Bool
@@ -191,16 +199,16 @@ module _ (links : List LinkRec) where
   entries_hung [] = refl
   entries_hung (n ∷ nodes) = ap (λ (l : List (ℕ × Inode)). entry n ∷ l) (entries_hung nodes)
 
-  module _ (nodes : List (ℕ × Node)) (users : List UserRec) where
+  module _ (nodes : List (ℕ × Node)) (users : List UserRec) (acls : List (ℕ × Acl)) where
     abbrev fs : FileSystem
-    fs = listed nodes links users
+    fs = listed nodes links users acls
 
-    -- without the users
+    -- without users and access lists
     abbrev bare : FileSystem
-    bare = record { nodes = nodes; links = map link_of links; users = [] }
+    bare = record { nodes = nodes; links = map link_of links; users = []; acls = [] }
 
     abbrev placed_by : List (ℕ × Inode) → Bool
-    placed_by inodes = children_test nodes links && place_test (file_system inodes [] []) links
+    placed_by inodes = children_test nodes links && place_test (file_system inodes [] [] []) links
 
     abbrev pub Placed : Type 0
     Placed = (is_directory fs 1 ≡ true) × AllByRecursion (IsLink fs) fs.links
@@ -208,7 +216,7 @@ module _ (links : List LinkRec) where
     place_decided : Decides (placed_by (map entry nodes)) Placed
     place_decided =
         decides_same (placed_by (map entry nodes)) (is_directory fs 1 && list_all (link_test fs) (map link_of links)) Placed
-        (ap (λ (n : List (ℕ × Node)). children_test nodes links && place_test (record { nodes = n; links = []; users = [] }) links)
+        (ap (λ (n : List (ℕ × Node)). children_test nodes links && place_test (record { nodes = n; links = []; users = []; acls = [] }) links)
         (nodes_back nodes)
         ∙ swapped (children_test nodes links) (is_directory fs 1) (list_all (λ link. stand_test fs (link_of link)) links)
         ∙ ap (λ (b : Bool). is_directory fs 1 && b)
@@ -218,15 +226,15 @@ module _ (links : List LinkRec) where
         (AllByRecursion (IsLink fs) fs.links) (decides_by (is_directory fs 1) (is_directory fs 1 ≡ true) (λ h. h) (λ h. h))
         (decides_all (link_test fs) (IsLink fs) fs.links (link_decided fs)))
 
-    pub placed_from_test : children_test nodes links ≡ true → place_test (file_system (map entry nodes) [] []) links ≡ true → Placed
+    pub placed_from_test : children_test nodes links ≡ true → place_test (file_system (map entry nodes) [] [] []) links ≡ true → Placed
     placed_from_test c h = decided_yes (placed_by (map entry nodes)) Placed place_decided
-        (and_from (children_test nodes links) (place_test (file_system (map entry nodes) [] []) links) c h)
+        (and_from (children_test nodes links) (place_test (file_system (map entry nodes) [] [] []) links) c h)
 
     pub no_children : children_test nodes links ≡ false → IsTree fs → ⊥
     no_children h t = decided_no (placed_by (map entry nodes)) Placed place_decided
-        (ap (λ (b : Bool). b && place_test (file_system (map entry nodes) [] []) links) h) (t.root, t.links)
+        (ap (λ (b : Bool). b && place_test (file_system (map entry nodes) [] [] []) links) h) (t.root, t.links)
 
-    pub no_place : place_test (file_system (map entry nodes) [] []) links ≡ false → IsTree fs → ⊥
+    pub no_place : place_test (file_system (map entry nodes) [] [] []) links ≡ false → IsTree fs → ⊥
     no_place h t = decided_no (placed_by (map entry nodes)) Placed place_decided
         (ap (λ (b : Bool). children_test nodes links && b) h ∙ and_false (children_test nodes links)) (t.root, t.links)
 
@@ -234,15 +242,16 @@ module _ (links : List LinkRec) where
     bare_links a = All-map (IsLink fs) (IsLink bare) fs.links
         (λ l p. record { parent = p.parent; child = p.child; no_root = p.no_root; name = p.name }) a
 
-    pub built_view : file_system (map entry nodes) (map link_of links) (map (λ (u : UserRec). (u.uid, u)) users) ≡ fs
+    pub built_view : file_system (map entry nodes) (map link_of links) (map (λ (u : UserRec). (u.uid, u)) users) acls ≡ fs
     built_view =
         ap (λ (n : List (ℕ × Node)). record {
           nodes = n;
           links = map link_of links;
           users = users_in
               (map (λ (u : UserRec). (u.uid, u)) users);
+          acls = acls;
         }) (nodes_back nodes)
-        ∙ ap (λ (u : List (ℕ × List ℕ)). record { nodes = nodes; links = map link_of links; users = u }) (users_back users)
+        ∙ ap (λ (u : List (ℕ × List ℕ)). record { nodes = nodes; links = map link_of links; users = u; acls = acls }) (users_back users)
 
     -- whether each node has as many links as its kind has to
     abbrev pub are_linked : Bool
@@ -258,10 +267,12 @@ module _ (links : List LinkRec) where
       groups_ascend = tt;
       nodes_ascend = t.nodes_ascend;
       links_ascend = t.links_ascend;
+      acls_ascend = tt;
       numbered = t.numbered;
       root = t.root;
       links = bare_links t.links;
       nodes = t.nodes;
+      acls = tt;
     }
 
     -- whether a walk down from the root comes to a directory
@@ -330,20 +341,22 @@ module _ (links : List LinkRec) where
         no_low : are_low ≡ false → IsTree fs → ⊥
         no_low h t = true_false (sym (low_if_tree t) ∙ h)
 
-        module _ (low : are_low ≡ true) where
+        module _ (low : are_low ≡ true) (lists : AreAcls nodes acls) where
           built_tree : IsTree fs
           built_tree = record {
             users_ascend = order.0.0.1;
             groups_ascend = order.0.1;
             nodes_ascend = order.0.0.0.0;
             links_ascend = order.1;
+            acls_ascend = lists.0;
             numbered = order.0.0.0.1;
             root = placed.0;
             links = placed.1;
             nodes = hang_from_tests bare (bare_links placed.1) order.0.0.0.0 linked (met_if_low low);
+            acls = lists.1;
           }
 
-          first_sound : IsSound (map entry nodes) (map link_of links) (map (λ (u : UserRec). (u.uid, u)) users)
+          first_sound : IsSound (map entry nodes) (map link_of links) (map (λ (u : UserRec). (u.uid, u)) users) acls
           first_sound = record {
             tree = subst (λ (v : FileSystem). IsTree v) (sym built_view) built_tree;
             held = first_held;
@@ -351,19 +364,19 @@ module _ (links : List LinkRec) where
             heights = first_heights;
           }
 
-          built_sound : IsSound after (map link_of links) (map (λ (u : UserRec). (u.uid, u)) users)
-          built_sound = same_sound (map entry nodes) after (map link_of links) (map (λ (u : UserRec). (u.uid, u)) users) same first_sound
-              heights
+          built_sound : IsSound after (map link_of links) (map (λ (u : UserRec). (u.uid, u)) users) acls
+          built_sound = same_sound (map entry nodes) after (map link_of links) (map (λ (u : UserRec). (u.uid, u)) users) acls same
+              first_sound heights
 
     -- ---- the same of the maps that are made
     module _ (inodes : List (ℕ × Inode)) (i : inodes ≡ map entry nodes) (kept : List Link) (k : kept ≡ map link_of links)
         (order : order_test nodes links users ≡ true) (children : children_test nodes links ≡ true)
-        (placed : place_test (file_system inodes [] []) links ≡ true) (linked : are_linked ≡ true) where
+        (placed : place_test (file_system inodes [] [] []) links ≡ true) (linked : are_linked ≡ true) where
       in_order_so : Order nodes links users
       in_order_so = in_order nodes links users order
 
       placed_so : Placed
-      placed_so = placed_from_test children (ap (λ (es : List (ℕ × Inode)). place_test (file_system es [] []) links) (sym i) ∙ placed)
+      placed_so = placed_from_test children (ap (λ (es : List (ℕ × Inode)). place_test (file_system es [] [] []) links) (sym i) ∙ placed)
 
       pub made_held : AllByRecursion (λ e. IsHeld kept e.0 e.1.hold) inodes
       made_held = rw (i, k) (first_held in_order_so placed_so linked)
@@ -372,26 +385,27 @@ module _ (links : List LinkRec) where
       made_heights = subst (λ (es : List (ℕ × Inode)). AreHeights es) (sym i) (first_heights in_order_so placed_so linked)
 
       module _ (after : List (ℕ × Inode)) (same : without_heights after ≡ without_heights inodes) (heights : AreHeights after)
-          (walked : WasWalked (file_system inodes kept []) inodes after 255 1) where
+          (walked : WasWalked (file_system inodes kept [] []) inodes after 255 1) where
         same_so : without_heights after ≡ without_heights (map entry nodes)
         same_so = same ∙ ap without_heights i
 
         walked_so : WasWalked bare (map entry nodes) after 255 1
         walked_so =
             subst (λ (v : FileSystem). WasWalked v (map entry nodes) after 255 1)
-            (ap (λ (n : List (ℕ × Node)). record { nodes = n; links = map link_of links; users = [] }) (nodes_back nodes))
-            (subst (λ (l : List Link). WasWalked (file_system (map entry nodes) l []) (map entry nodes) after 255 1) k
-            (subst (λ (es : List (ℕ × Inode)). WasWalked (file_system es kept []) es after 255 1) i walked))
+            (ap (λ (n : List (ℕ × Node)). record { nodes = n; links = map link_of links; users = []; acls = [] }) (nodes_back nodes))
+            (subst (λ (l : List Link). WasWalked (file_system (map entry nodes) l [] []) (map entry nodes) after 255 1) k
+            (subst (λ (es : List (ℕ × Inode)). WasWalked (file_system es kept [] []) es after 255 1) i walked))
 
         pub no_reach : list_all (low_test after) nodes ≡ false → IsTree fs → ⊥
         no_reach = no_low in_order_so placed_so linked after same_so heights walked_so
 
-        pub made_view : file_system after (map link_of links) (map (λ (u : UserRec). (u.uid, u)) users) ≡ fs
-        made_view = same_system (map entry nodes) after (map link_of links) (map (λ (u : UserRec). (u.uid, u)) users) same_so ∙ built_view
+        pub made_view : file_system after (map link_of links) (map (λ (u : UserRec). (u.uid, u)) users) acls ≡ fs
+        made_view = same_system (map entry nodes) after (map link_of links) (map (λ (u : UserRec). (u.uid, u)) users) acls same_so
+            ∙ built_view
 
-        pub made_tree : list_all (low_test after) nodes ≡ true → IsTree fs
+        pub made_tree : list_all (low_test after) nodes ≡ true → AreAcls nodes acls → IsTree fs
         made_tree = built_tree in_order_so placed_so linked after same_so heights walked_so
 
-        pub made_sound : list_all (low_test after) nodes ≡ true
-            → IsSound after (map link_of links) (map (λ (u : UserRec). (u.uid, u)) users)
+        pub made_sound : list_all (low_test after) nodes ≡ true → AreAcls nodes acls
+            → IsSound after (map link_of links) (map (λ (u : UserRec). (u.uid, u)) users) acls
         made_sound = built_sound in_order_so placed_so linked after same_so heights walked_so

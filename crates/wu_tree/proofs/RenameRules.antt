@@ -53,6 +53,7 @@ module _ (fs : FileSystem) (t : IsTree fs) (new_parent : ℕ) (new_name : List �
     nodes = cond (link_count fs.links tg == 1)
         (remove_entry (is_at (nat_cmp tg)) fs.nodes) fs.nodes;
     links = left_links;
+    acls = cond (link_count fs.links tg == 1) (remove_entry (is_at (nat_cmp tg)) fs.acls) fs.acls;
   }
 
   pub is_left : without_link fs new_parent new_name ≡ left_fs

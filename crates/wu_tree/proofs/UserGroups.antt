@@ -9,6 +9,7 @@ use Rattle.std.specs.Map.{lookup}
 use Rattle.std.specs.BTreeMap.{is_at, insert_entry}
 use Rattle.std.specs.Cmp.{nat_cmp_total}
 use Rattle.std.proofs.lemmas.Map.Lookups.{exact_unsigned}
+use Rattle.wu_access.specs.declared.acls.Acl.{Acl}
 use Rattle.wu_access.specs.declared.UserRec.{UserRec}
 use Rattle.wu_tree.specs.declared.inodes.Inode.{Inode}
 use Rattle.wu_tree.specs.Inodes.{users_in, file_system, IsSound}
@@ -26,7 +27,7 @@ groups_ascend fs t uid =
     ] refl
 
 -- ---- a user with other groups
-module _ (inodes : List (ℕ × Inode)) (links : List Link) (users : List (ℕ × UserRec)) (s : IsSound inodes links users) where
+module _ (inodes : List (ℕ × Inode)) (links : List Link) (users : List (ℕ × UserRec)) (acls : List (ℕ × Acl)) (s : IsSound inodes links users acls) where
   module _ (uid : ℕ) (groups : List ℕ) where
     abbrev pub user_of : UserRec
     user_of = record { uid = uid; groups = groups }
@@ -34,30 +35,32 @@ module _ (inodes : List (ℕ × Inode)) (links : List Link) (users : List (ℕ �
     users_put : users_in (insert_entry nat_cmp users uid user_of) ≡ insert_entry nat_cmp (users_in users) uid groups
     users_put = sym (insert_entry-read (λ (u : UserRec). u.groups) nat_cmp users uid user_of)
 
-    pub user_view : file_system inodes links (insert_entry nat_cmp users uid user_of)
-        ≡ record (file_system inodes links users) { users = insert_entry nat_cmp (users_in users) uid groups }
-    user_view = ap (λ (u : List (ℕ × List ℕ)). record (file_system inodes links users) { users = u }) users_put
+    pub user_view : file_system inodes links (insert_entry nat_cmp users uid user_of) acls
+        ≡ record (file_system inodes links users acls) { users = insert_entry nat_cmp (users_in users) uid groups }
+    user_view = ap (λ (u : List (ℕ × List ℕ)). record (file_system inodes links users acls) { users = u }) users_put
 
     pub user_keeps : IsStrictlySortedBy nat_cmp groups
-        → IsTree (record (file_system inodes links users) { users = insert_entry nat_cmp (users_in users) uid groups })
+        → IsTree (record (file_system inodes links users acls) { users = insert_entry nat_cmp (users_in users) uid groups })
     user_keeps ascends = record {
       users_ascend = ascend-insert_entry nat_cmp_total (users_in users) uid groups s.tree.users_ascend;
       groups_ascend = All-insert_entry (λ user. IsStrictlySortedBy nat_cmp user.1) nat_cmp (users_in users) uid groups s.tree.groups_ascend
           (λ q e. ascends) ascends;
       nodes_ascend = s.tree.nodes_ascend;
       links_ascend = s.tree.links_ascend;
+      acls_ascend = s.tree.acls_ascend;
       numbered = s.tree.numbered;
       root = s.tree.root;
       links =
-          All-map (IsLink (file_system inodes links users))
-          (IsLink (record (file_system inodes links users) { users = insert_entry nat_cmp (users_in users) uid groups })) links
+          All-map (IsLink (file_system inodes links users acls))
+          (IsLink (record (file_system inodes links users acls) { users = insert_entry nat_cmp (users_in users) uid groups })) links
           (λ l p. record { parent = p.parent; child = p.child; no_root = p.no_root; name = p.name }) s.tree.links;
       nodes = s.tree.nodes;
+      acls = s.tree.acls;
     }
 
-    pub user_sound : IsStrictlySortedBy nat_cmp groups → IsSound inodes links (insert_entry nat_cmp users uid user_of)
+    pub user_sound : IsStrictlySortedBy nat_cmp groups → IsSound inodes links (insert_entry nat_cmp users uid user_of) acls
     user_sound ascends = record {
-      tree = subst (λ (u : List (ℕ × List ℕ)). IsTree (record (file_system inodes links users) { users = u })) (sym users_put)
+      tree = subst (λ (u : List (ℕ × List ℕ)). IsTree (record (file_system inodes links users acls) { users = u })) (sym users_put)
           (user_keeps ascends);
       held = s.held;
       keyed = All-insert_entry (λ e. e.1.uid ≡ e.0) nat_cmp users uid user_of s.keyed (λ q e. exact_unsigned uid q e) refl;

@@ -53,7 +53,7 @@ over_at_most inodes q =
 
 -- one that asks none is no directory
 pub no_directory : (inodes : List (ℕ × Inode)) (links : List Link) (q : ℕ) → height_over_at inodes q ≤ 0
-    → is_directory (file_system inodes links []) q ≡ false
+    → is_directory (file_system inodes links [] []) q ≡ false
 no_directory inodes links q h =
     ap is_directory_node (lookup-map_values node_in (is_at (nat_cmp q)) inodes)
     ∙ elim (lookup (is_at (nat_cmp q)) inodes) as
@@ -67,7 +67,7 @@ no_directory inodes links q h =
     ] h
 
 pub a_directory : (inodes : List (ℕ × Inode)) (links : List Link) (q : ℕ) → 0 < height_over_at inodes q
-    → is_directory (file_system inodes links []) q ≡ true
+    → is_directory (file_system inodes links [] []) q ≡ true
 a_directory inodes links q h =
     ap is_directory_node (lookup-map_values node_in (is_at (nat_cmp q)) inodes)
     ∙ elim (lookup (is_at (nat_cmp q)) inodes) as

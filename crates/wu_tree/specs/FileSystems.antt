@@ -1,5 +1,5 @@
--- A file system after POSIX.1, without the texts of its files: nodes by number, links by directory and name, and users with
--- their groups. Each of the three is a finite map, as the list of its entries in the order of the keys.
+-- A file system after POSIX.1, without the texts of its files: nodes by number, links by directory and name, users with their
+-- groups, and the access lists of nodes. Each of the four is a finite map, as the list of its entries in the order of the keys.
 use Rattle.std.specs.Prelude.{◌≡◌, ◌⊎◌, ℕ, zero, suc, Bool, true, false, ◌&&◌, ◌||◌, not, cond, ◌==◌, nat_eq, nat_lt, nat_le, Option, None, Some, is_some, unwrap_or, List, [], ◌∷◌, map, filter, length, count_by}
 use Rattle.std.specs.declared.cmp.Ordering.{Ordering}
 use Rattle.std.specs.Ordering.{nat_cmp, ordering_then}
@@ -8,6 +8,7 @@ use Rattle.std.specs.List.{list_any, list_all}
 use Rattle.std.specs.Map.{lookup}
 use Rattle.std.specs.BTreeMap.{is_at}
 use Rattle.wu_base.specs.declared.limits.TheConstants.{DEPTH_MAX, NAME_MAX}
+use Rattle.wu_access.specs.declared.acls.Acl.{Acl}
 use Rattle.wu_tree.specs.declared.events.Kind.{Kind}
 use Rattle.wu_tree.specs.declared.events.Kind.TheVariants.{Directory, File}
 use Rattle.wu_tree.specs.declared.events.Node.{Node}
@@ -31,6 +32,8 @@ pub record FileSystem : Type 0 where
   pub links : List Link
   -- each user's groups, ascending, by the user's number
   pub users : List (ℕ × List ℕ)
+  -- the access lists, by the number of the node that has it
+  pub acls : List (ℕ × Acl)
 
 abbrev pub is_name_length : List ℕ → Bool
 is_name_length name = nat_lt 0 (length name) && nat_le (length name) NAME_MAX
@@ -50,6 +53,10 @@ is_name name = is_name_length name && are_name_bytes name && not (is_dots name)
 -- the node of that number
 abbrev pub node_of : FileSystem → ℕ → Option Node
 node_of fs ino = lookup (is_at (nat_cmp ino)) fs.nodes
+
+-- the access list of that node
+abbrev pub acl_of : FileSystem → ℕ → Option Acl
+acl_of fs ino = lookup (is_at (nat_cmp ino)) fs.acls
 
 -- the number of the node that the name has in the directory
 abbrev pub child_of : FileSystem → ℕ → List ℕ → Option ℕ
@@ -127,6 +134,7 @@ root_alone = record {
       (1, record { kind = Directory; perm = record { uid = 0; gid = 0; mode = 0x1ED } }) ∷ [];
   links = [];
   users = [];
+  acls = [];
 }
 
 -- a directory's names with what they name, by the bytes of the names

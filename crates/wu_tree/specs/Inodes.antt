@@ -5,6 +5,7 @@ use Rattle.std.specs.Ordering.{nat_cmp}
 use Rattle.std.specs.Map.{lookup, remove_entry, set_value}
 use Rattle.std.specs.BTreeMap.{is_at}
 use Rattle.wu_base.specs.declared.limits.TheConstants.{DEPTH_MAX}
+use Rattle.wu_access.specs.declared.acls.Acl.{Acl}
 use Rattle.wu_access.specs.declared.UserRec.{UserRec}
 use Rattle.wu_tree.specs.declared.events.Kind.{Kind}
 use Rattle.wu_tree.specs.declared.events.Kind.TheVariants.{Directory, File}
@@ -52,9 +53,9 @@ abbrev pub has_one_link : Hold → Bool
 has_one_link (Entries parent) = true
 has_one_link (Links count) = count == 1
 
--- the file system that the nodes, links and users of a tree stand for
-abbrev pub file_system : List (ℕ × Inode) → List Link → List (ℕ × UserRec) → FileSystem
-file_system inodes links users = record { nodes = nodes_in inodes; links = links; users = users_in users }
+-- the file system that the nodes, links, users and access lists of a tree stand for
+abbrev pub file_system : List (ℕ × Inode) → List Link → List (ℕ × UserRec) → List (ℕ × Acl) → FileSystem
+file_system inodes links users acls = record { nodes = nodes_in inodes; links = links; users = users_in users; acls = acls }
 
 -- ---- heights: at most so many levels of directories lie below a directory, or any number of them where it is DEPTH_MAX
 
@@ -96,8 +97,8 @@ abbrev pub without_heights : List (ℕ × Inode) → List (ℕ × Inode)
 without_heights inodes = map (λ e. (e.0, without_height e.1)) inodes
 
 -- what is true of every tree
-pub record IsSound (inodes : List (ℕ × Inode)) (links : List Link) (users : List (ℕ × UserRec)) : Type 0 where
-  pub tree : IsTree (file_system inodes links users)
+pub record IsSound (inodes : List (ℕ × Inode)) (links : List Link) (users : List (ℕ × UserRec)) (acls : List (ℕ × Acl)) : Type 0 where
+  pub tree : IsTree (file_system inodes links users acls)
   pub held : AllByRecursion (λ e. IsHeld links e.0 e.1.hold) inodes
   pub keyed : AllByRecursion (λ e. e.1.uid ≡ e.0) users
   pub heights : AreHeights inodes
@@ -122,3 +123,8 @@ with_parent parent (Some inode) ino inodes = set_value (is_at (nat_cmp ino)) ino
 abbrev pub with_height : ℕ → Option Inode → ℕ → List (ℕ × Inode) → List (ℕ × Inode)
 with_height height None ino inodes = inodes
 with_height height (Some inode) ino inodes = set_value (is_at (nat_cmp ino)) inodes (record inode { height = height })
+
+-- the access lists after one of the nodes, if it is there, lost a link
+abbrev pub with_acl_lost : Option Inode → ℕ → List (ℕ × Acl) → List (ℕ × Acl)
+with_acl_lost None ino acls = acls
+with_acl_lost (Some inode) ino acls = cond (has_one_link inode.hold) (remove_entry (is_at (nat_cmp ino)) acls) acls

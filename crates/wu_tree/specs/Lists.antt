@@ -7,6 +7,8 @@ use Rattle.std.specs.List.{AllByRecursion, Contains, flat_map, list_all, list_an
 use Rattle.std.specs.Map.{keys_of}
 use Rattle.std.specs.BTreeMap.{is_at}
 use Rattle.wu_base.specs.declared.limits.TheConstants.{DEPTH_MAX}
+use Rattle.wu_access.specs.declared.acls.Acl.{Acl}
+use Rattle.wu_access.specs.declared.acls.AclEntry.{AclEntry}
 use Rattle.wu_access.specs.declared.UserRec.{UserRec}
 use Rattle.wu_tree.specs.declared.events.Kind.{Kind}
 use Rattle.wu_tree.specs.declared.events.Kind.TheVariants.{Directory, File}
@@ -27,9 +29,9 @@ link_of link = ((link.parent, link.name), link.child)
 abbrev pub user_of : UserRec → ℕ × List ℕ
 user_of user = (user.uid, user.groups)
 
--- the file system of these nodes, links and users
-abbrev pub listed : List (ℕ × Node) → List LinkRec → List UserRec → FileSystem
-listed nodes links users = record { nodes = nodes; links = map link_of links; users = map user_of users }
+-- the file system of these nodes, links, users and access lists
+abbrev pub listed : List (ℕ × Node) → List LinkRec → List UserRec → List (ℕ × Acl) → FileSystem
+listed nodes links users acls = record { nodes = nodes; links = map link_of links; users = map user_of users; acls = acls }
 
 -- a link's name, and the number of the node that it names
 abbrev pub named_child : LinkRec → List ℕ × ℕ
@@ -61,6 +63,32 @@ abbrev pub order_test : List (ℕ × Node) → List LinkRec → List UserRec →
 order_test nodes links users =
     ascends nat_cmp (keys_of nodes) && list_all number_test nodes && ascends nat_cmp (keys_of (map user_of users))
     && list_all (λ user. ascends nat_cmp user.groups) users && ascends place_cmp (keys_of (map link_of links))
+
+-- access lists without the first, if it is that of the node
+abbrev pub acls_past : ℕ → List (ℕ × Acl) → List (ℕ × Acl)
+acls_past ino [] = []
+acls_past ino (acl ∷ acls) = cond (acl.0 == ino) acls (acl ∷ acls)
+
+-- what is left of access lists that ascend, after a walk over nodes that ascend, each of which takes its list away
+abbrev pub acls_left : List (ℕ × Node) → List (ℕ × Acl) → List (ℕ × Acl)
+acls_left [] acls = acls
+acls_left (node ∷ nodes) acls = acls_left nodes (acls_past node.0 acls)
+
+abbrev pub is_empty : {X : Type 0} → List X → Bool
+is_empty [] = true
+is_empty (x ∷ xs) = false
+
+-- whether bits are at most 7, and the entries ascend by number
+abbrev pub entries_test : List AclEntry → Bool
+entries_test entries = list_all (λ entry. nat_le entry.bits 7) entries && ascends nat_cmp (map (λ entry. entry.id) entries)
+
+-- whether a node may have the access list
+abbrev pub acl_test : Acl → Bool
+acl_test acl = nat_le acl.owning 7 && entries_test acl.users && entries_test acl.groups
+
+-- whether the access lists ascend, are each that of a node, and may be
+abbrev pub acls_test : List (ℕ × Node) → List (ℕ × Acl) → Bool
+acls_test nodes acls = ascends nat_cmp (keys_of acls) && list_all (λ acl. acl_test acl.1) acls && is_empty (acls_left nodes acls)
 
 -- how a node hangs: the directory of its first link, and how many links it has
 abbrev pub hung_by : ℕ → Option ℕ → Option Hung
@@ -108,7 +136,7 @@ child_test fs ino = is_there fs ino && not (ino == 1)
 
 -- each link names a node that is there and isn't the root
 abbrev pub children_test : List (ℕ × Node) → List LinkRec → Bool
-children_test nodes links = list_all (λ link. child_test (listed nodes [] []) link.child) links
+children_test nodes links = list_all (λ link. child_test (listed nodes [] [] []) link.child) links
 
 -- each node with how it hangs by the links, none of which names the root or no node
 pub record AreHung (nodes : List (ℕ × Node)) (links : List LinkRec) (hung : List HungNode) : Type 0 where

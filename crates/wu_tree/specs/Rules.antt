@@ -4,6 +4,8 @@ use Rattle.std.specs.Ordering.{nat_cmp}
 use Rattle.std.specs.List.{AllByRecursion}
 use Rattle.std.specs.List.Sorted.{IsStrictlySortedBy}
 use Rattle.std.specs.Map.{keys_of}
+use Rattle.wu_access.specs.declared.acls.Acl.{Acl}
+use Rattle.wu_access.specs.Access.{IsAcl}
 use Rattle.wu_tree.specs.declared.events.Kind.{Kind}
 use Rattle.wu_tree.specs.declared.events.Kind.TheVariants.{Directory, File}
 use Rattle.wu_tree.specs.declared.events.Node.{Node}
@@ -25,14 +27,20 @@ Hangs links ino File = 1 ≤ link_count links ino
 abbrev pub IsNumbered : ℕ × Node → Type 0
 IsNumbered node = (1 ≤ node.0) × (node.1.perm.mode ≤ 0xFFF)
 
+-- an access list is that of a node that is there, and is one that a node may have
+abbrev pub IsAclOf : FileSystem → ℕ × Acl → Type 0
+IsAclOf fs acl = (is_there fs acl.0 ≡ true) × IsAcl acl.1
+
 pub record IsTree (fs : FileSystem) : Type 0 where
-  -- users, their groups, nodes and links ascend, without repeats
+  -- users, their groups, nodes, links and access lists ascend, without repeats
   pub users_ascend : IsStrictlySortedBy nat_cmp (keys_of fs.users)
   pub groups_ascend : AllByRecursion (λ user. IsStrictlySortedBy nat_cmp user.1) fs.users
   pub nodes_ascend : IsStrictlySortedBy nat_cmp (keys_of fs.nodes)
   pub links_ascend : IsStrictlySortedBy place_cmp (keys_of fs.links)
+  pub acls_ascend : IsStrictlySortedBy nat_cmp (keys_of fs.acls)
   pub numbered : AllByRecursion IsNumbered fs.nodes
   -- node 1 is a directory
   pub root : is_directory fs 1 ≡ true
   pub links : AllByRecursion (IsLink fs) fs.links
   pub nodes : AllByRecursion (λ node. Hangs fs.links node.0 node.1.kind) fs.nodes
+  pub acls : AllByRecursion (IsAclOf fs) fs.acls

@@ -1,22 +1,26 @@
 -- What each event does to a file system: it is refused by the first rule of its list that applies, and changes nothing, or
--- it is accepted, and gives the next file system. Links, removal and renaming are those of POSIX.1.
-use Rattle.std.specs.Prelude.{◌≡◌, ℕ, ◌+◌, ◌-◌, ◌≤◌, Bool, false, ◌&&◌, ◌||◌, not, cond, ◌==◌, nat_lt, nat_le, Option, None, Some, Result, Ok, Err, MatchResult, List, [], ◌∷◌, ◌++◌}
+-- it is accepted, and gives the next file system. Links, removal and renaming are those of POSIX.1. An access list has the
+-- mode's group bits as its mask; what changes of modes and of lists do to each other is this project's choice.
+use Rattle.std.specs.Prelude.{◌≡◌, ℕ, ◌+◌, ◌-◌, ◌*◌, ◌/◌, ◌%◌, ◌≤◌, Bool, false, ◌&&◌, ◌||◌, not, cond, ◌==◌, nat_lt, nat_le, Option, None, Some, IfSome, Result, Ok, Err, MatchResult, List, [], ◌∷◌, ◌++◌}
 use Rattle.std.specs.Ordering.{nat_cmp}
 use Rattle.std.specs.List.{list_any}
 use Rattle.std.specs.Map.{remove_entry, set_value}
 use Rattle.std.specs.BTreeMap.{is_at, insert_entry}
 use Rattle.wu_base.specs.declared.limits.TheConstants.{DEPTH_MAX}
 use Rattle.wu_base.specs.SortedOnce.{sorted_once}
+use Rattle.wu_access.specs.declared.acls.Acl.{Acl}
 use Rattle.wu_access.specs.declared.Perm.{Perm}
+use Rattle.wu_access.specs.Access.{IsAcl}
 use Rattle.wu_tree.specs.declared.events.Kind.TheVariants.{Directory, File}
 use Rattle.wu_tree.specs.declared.events.Node.{Node}
 use Rattle.wu_tree.specs.declared.events.Event.{Event}
 use Rattle.wu_tree.specs.declared.events.Event.TheVariants.{User, Mkdir, Create, Text, Link, Unlink, Rmdir, Rename, Chmod, Chown}
+use Rattle.wu_tree.specs.declared.events.Event.TheVariants.{Acl as SetAcl}
 use Rattle.wu_tree.specs.declared.events.Refusal.{Refusal}
 use Rattle.wu_tree.specs.declared.events.Refusal.TheVariants.{BadName, NoSuch, Exists, NotEmpty, Loop, Deep}
 use Rattle.wu_tree.specs.declared.events.Refusal.TheVariants.{Kind as OfWrongKind}
 use Rattle.wu_tree.specs.declared.events.Effect.{Effect}
-use Rattle.wu_tree.specs.FileSystems.{FileSystem, place_cmp, is_name, node_of, child_of, is_there, is_file, is_directory, is_kind_file, is_used, has_entries, link_count, depth, is_within}
+use Rattle.wu_tree.specs.FileSystems.{FileSystem, place_cmp, is_name, node_of, acl_of, child_of, is_there, is_file, is_directory, is_kind_file, is_used, has_entries, link_count, depth, is_within}
 
 -- ---- refusals
 
@@ -127,10 +131,11 @@ refusal_of fs (Rmdir parent name) = first_of (rmdir_rules fs parent name)
 refusal_of fs (Rename parent name new_parent new_name) = first_of (rename_rules fs parent name new_parent new_name)
 refusal_of fs (Chmod ino mode) = first_of (absent_rules fs ino)
 refusal_of fs (Chown ino uid gid) = first_of (absent_rules fs ino)
+refusal_of fs (SetAcl ino acl mask) = first_of (absent_rules fs ino)
 
 -- ---- changes
 
--- with a new node and its link
+-- with a new node and its link. It has no access list, since only nodes that are there have one.
 abbrev pub with_node : FileSystem → ℕ → ℕ → List ℕ → Node → FileSystem
 with_node fs ino parent name node =
     record fs { nodes = insert_entry nat_cmp fs.nodes ino node; links = insert_entry place_cmp fs.links (parent, name) ino }
@@ -149,16 +154,40 @@ with_perm change fs ino None = fs
 with_perm change fs ino (Some node) =
     record fs { nodes = set_value (is_at (nat_cmp ino)) fs.nodes (record node { perm = change node.perm }) }
 
+-- a mode with other bits of the group
+abbrev pub with_group_digit : ℕ → ℕ → ℕ
+with_group_digit digit mode = (mode / 64) * 64 + digit * 8 + mode % 8
+
+-- permissions with that mask, which is the mode's group bits
+abbrev pub with_mask : ℕ → Perm → Perm
+with_mask mask perm = record perm { mode = with_group_digit mask perm.mode }
+
+-- with an access list of a node, and that mask
+abbrev pub with_acl : FileSystem → ℕ → Acl → ℕ → FileSystem
+with_acl fs ino acl mask = with_perm (with_mask mask) (record fs { acls = insert_entry nat_cmp fs.acls ino acl }) ino (node_of fs ino)
+
+-- without the node's access list, if it has that one, whose owning bits become the mode's group bits
+abbrev pub without_acl : FileSystem → ℕ → Option Acl → FileSystem
+without_acl fs ino None = fs
+without_acl fs ino (Some acl) =
+    with_perm (with_mask acl.owning) (record fs { acls = remove_entry (is_at (nat_cmp ino)) fs.acls }) ino (node_of fs ino)
+
+-- with that access list of a node, or without one
+abbrev pub with_acl_set : FileSystem → ℕ → Option Acl → ℕ → FileSystem
+with_acl_set fs ino None mask = without_acl fs ino (acl_of fs ino)
+with_acl_set fs ino (Some acl) mask = with_acl fs ino acl mask
+
 -- whether the link at that place is the last of its node
 abbrev pub is_last_link : FileSystem → ℕ → List ℕ → Bool
 is_last_link fs parent name = link_count fs.links (named_by fs parent name) == 1
 
--- without a link, and without its node where that was its last
+-- without a link, and without its node, and the node's access list, where that was its last
 abbrev pub without_link : FileSystem → ℕ → List ℕ → FileSystem
 without_link fs parent name =
     record fs {
       nodes = cond (is_last_link fs parent name) (remove_entry (is_at (nat_cmp (named_by fs parent name))) fs.nodes) fs.nodes;
       links = remove_entry (is_at (place_cmp (parent, name))) fs.links;
+      acls = cond (is_last_link fs parent name) (remove_entry (is_at (nat_cmp (named_by fs parent name))) fs.acls) fs.acls;
     }
 
 -- with a link at another place
@@ -189,6 +218,7 @@ next fs (Rmdir parent name) = without_link fs parent name
 next fs (Rename parent name new_parent new_name) = renamed fs parent name new_parent new_name
 next fs (Chmod ino mode) = with_perm (λ perm. record perm { mode = mode }) fs ino (node_of fs ino)
 next fs (Chown ino uid gid) = with_perm (λ perm. record perm { uid = uid; gid = gid }) fs ino (node_of fs ino)
+next fs (SetAcl ino acl mask) = with_acl_set fs ino acl mask
 
 -- no file was made, dropped or given a text
 abbrev pub no_effect : Effect
@@ -214,6 +244,7 @@ effect_of fs (Rmdir parent name) = no_effect
 effect_of fs (Rename parent name new_parent new_name) = rename_effect fs parent name new_parent new_name
 effect_of fs (Chmod ino mode) = no_effect
 effect_of fs (Chown ino uid gid) = no_effect
+effect_of fs (SetAcl ino acl mask) = no_effect
 
 -- ---- steps
 
@@ -230,7 +261,8 @@ abbrev pub IsStep : FileSystem → Event → Result Effect Refusal → FileSyste
 IsStep fs event answer after =
     MatchResult answer (λ effect. step fs event ≡ Ok (after, effect)) (λ refusal. (step fs event ≡ Err refusal) × (after ≡ fs))
 
--- what an event may carry: no node has number 0, and a mode has at most four octal digits
+-- what an event may carry: no node has number 0, a mode has at most four octal digits, an access list is one that a node may
+-- have, and a mask is an octal digit
 abbrev pub IsEvent : Event → Type 0
 IsEvent (User uid groups) = Unit {0}
 IsEvent (Mkdir ino parent name perm) = (1 ≤ ino) × (perm.mode ≤ 0xFFF)
@@ -242,3 +274,4 @@ IsEvent (Rmdir parent name) = Unit {0}
 IsEvent (Rename parent name new_parent new_name) = Unit {0}
 IsEvent (Chmod ino mode) = mode ≤ 0xFFF
 IsEvent (Chown ino uid gid) = Unit {0}
+IsEvent (SetAcl ino acl mask) = IfSome acl IsAcl × (mask ≤ 7)

@@ -99,7 +99,7 @@ impl Tree {
     {
         if let Some(child) = self.child(parent, name) {
             self.links.remove(parent, name);
-            drop_inode_link(&mut self.inodes, child);
+            drop_inode_link(&mut self.inodes, &mut self.acls, child);
         }
     }
 

@@ -1,6 +1,6 @@
 //! What a tree is made of, what happens to it, and what is answered.
 use thiserror::Error;
-use wu_access::Perm;
+use wu_access::{Acl, Perm};
 use wu_base::{Bytes, Gid, Ino, Sequence, Uid};
 
 /// What a node is.
@@ -22,7 +22,7 @@ pub struct Node {
 }
 
 /// A link: the name that a node has in a directory.
-#[derive(Debug, Drop)]
+#[derive(Drop)]
 pub struct LinkRec {
     /// The number of the directory.
     pub parent: Ino,
@@ -34,7 +34,7 @@ pub struct LinkRec {
 
 /// What happened to the machine's files and users. Nodes, users and groups stand as their numbers. A name
 /// is any bytes: an event whose name may not be one is refused.
-#[derive(Debug, Drop)]
+#[derive(Drop)]
 pub enum Event {
     /// A user is in these groups and no others.
     User {
@@ -104,7 +104,7 @@ pub enum Event {
         /// The name that it has there.
         new_name: Bytes,
     },
-    /// A node's mode was changed.
+    /// A node's mode was changed, and with it the mask of its access list, if it has one.
     Chmod {
         /// The node.
         ino: Ino,
@@ -119,6 +119,16 @@ pub enum Event {
         uid: Uid,
         /// The new group.
         gid: Gid,
+    },
+    /// A node's access list was set, or taken away.
+    Acl {
+        /// The node.
+        ino: Ino,
+        /// The new list, with bits of at most 7 and entries that ascend by number without repeats; or None where
+        /// the node has none any more.
+        acl: Option<Acl>,
+        /// The list's mask, from 0 to 7. It has no meaning beside None.
+        mask: u8,
     },
 }
 

@@ -82,7 +82,7 @@ pub(crate) fn lower(inodes: &mut BTreeMap<Ino, Inode>, links: &Links, directory:
     ensures nodes { without_heights inodes.new.entries ≡ without_heights inodes.old.entries }
     ensures heights { AreHeights inodes.new.entries }
     ensures lower { (ino : ℕ) → height_at inodes.new.entries ino ≤ height_at inodes.old.entries ino }
-    ensures walked { WasWalked (file_system inodes.old.entries links.now []) inodes.old.entries inodes.new.entries levels directory }
+    ensures walked { WasWalked (file_system inodes.old.entries links.now [] []) inodes.old.entries inodes.new.entries levels directory }
 {
     if levels == 0 {
         return;

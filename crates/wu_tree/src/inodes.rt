@@ -8,7 +8,7 @@ use wu_access::Perm;
 use wu_base::Ino;
 
 /// What a tree keeps of a node: its permissions, and of its links as much as saves a search among them.
-#[derive(Clone, Copy, Debug)]
+#[derive(Clone, Copy)]
 pub(crate) struct Inode {
     pub(crate) perm: Perm,
     pub(crate) hold: Hold,
@@ -19,7 +19,7 @@ pub(crate) struct Inode {
 
 /// What a tree keeps of the links that name a node, by which they hold it in the tree. It also tells the
 /// node's kind.
-#[derive(Clone, Copy, Debug)]
+#[derive(Clone, Copy)]
 pub(crate) enum Hold {
     /// Of a directory, which may have entries: the number of its parent, the directory in which its one link
     /// stands. The root, which has no link, counts as its own parent.

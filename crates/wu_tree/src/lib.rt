@@ -1,8 +1,9 @@
-//! A tree of directories and files with owners, groups and modes, and the users with their groups. It
-//! changes by events, each of which is one atomic step: accepted whole, or refused and without effect.
-//! What links, removal and renaming do is as in POSIX.1.
+//! A tree of directories and files with owners, groups, modes and access lists, and the users with their
+//! groups. It changes by events, each of which is one atomic step: accepted whole, or refused and without
+//! effect. What links, removal and renaming do is as in POSIX.1, and what an access list says is as in acl(5).
 #![tactic(auto)]
 
+mod acls;
 mod changes;
 mod depths;
 mod events;
@@ -21,4 +22,4 @@ mod walks;
 pub use events::{Effect, Event, Kind, LinkRec, Node, Refusal};
 pub use steps::effects_tell_files;
 pub use trees::Tree;
-pub use walks::{Entries, Nodes, Users};
+pub use walks::{Acls, Entries, Nodes, Users};

@@ -15,7 +15,7 @@ use std::marker::Model;
 use wu_base::{Ino, NoMemory};
 
 /// Links by directory and name. A directory without entries has no map here.
-#[derive(Debug, Drop)]
+#[derive(Drop)]
 pub(crate) struct Links {
     directories: BTreeMap<Ino, BTreeMap<Vec<u8>, Ino>>,
 }

@@ -3,12 +3,13 @@ ghost use Rattle.std.specs.Prelude.{◌≡◌, ◌≢◌, None, Some, OnOk, OnEr
 ghost use Rattle.std.specs.Ordering.{nat_cmp};
 ghost use Rattle.std.specs.BTreeMap.{get};
 ghost use Rattle.wu_tree.specs.FileSystems.{child_of, IsLeaf};
-ghost use Rattle.wu_tree.specs.Inodes.{with_link_lost, with_parent};
+ghost use Rattle.wu_tree.specs.Inodes.{with_acl_lost, with_link_lost, with_parent};
 
 use crate::heights::raise_over;
 use crate::inodes::Inode;
 use crate::trees::Tree;
 use std::collections::BTreeMap;
+use wu_access::Acl;
 use wu_base::{Ino, NoMemory};
 
 impl Tree {
@@ -56,15 +57,20 @@ impl Tree {
         self.links.insert(self.alloc, new_parent, new_name, child)?;
         raise_over(&mut self.inodes, new_parent, child);
         self.links.remove(parent, name);
-        drop_inode_link(&mut self.inodes, target);
+        drop_inode_link(&mut self.inodes, &mut self.acls, target);
         move_inode(&mut self.inodes, child, new_parent);
         Ok(())
     }
 }
 
-/// A node loses a link, and goes with its last.
-pub(crate) fn drop_inode_link(inodes: &mut BTreeMap<Ino, Inode>, ino: Ino)
-    ensures { inodes.new.entries ≡ with_link_lost (get nat_cmp inodes.old ino) ino inodes.old.entries }
+/// A node loses a link, and goes with its last, and its access list with it.
+pub(crate) fn drop_inode_link(
+    inodes: &mut BTreeMap<Ino, Inode>,
+    acls: &mut BTreeMap<Ino, Acl>,
+    ino: Ino,
+)
+    ensures nodes { inodes.new.entries ≡ with_link_lost (get nat_cmp inodes.old ino) ino inodes.old.entries }
+    ensures acls { acls.new.entries ≡ with_acl_lost (get nat_cmp inodes.old ino) ino acls.old.entries }
 {
     let last = match inodes.get(&ino) {
         Some(inode) => inode.hold.has_one_link(),
@@ -72,6 +78,7 @@ pub(crate) fn drop_inode_link(inodes: &mut BTreeMap<Ino, Inode>, ino: Ino)
     };
     if last {
         inodes.remove(&ino);
+        acls.remove(&ino);
     } else if let Some(inode) = inodes.get_mut(&ino) {
         inode.hold = inode.hold.fewer_links();
     }

@@ -9,6 +9,7 @@ ghost use Rattle.wu_tree.specs.Inodes.{file_system};
 ghost use Rattle.wu_tree.specs.Lists.{ascends, first_height, hold_of, inode_of, is_less, link_of, linked_test, listed, low_test, number_test, order_test, place_test, stand_test, user_of};
 ghost use Rattle.wu_tree.specs.Rules.{IsTree};
 
+use crate::acls::{acls_of, are_acls};
 use crate::events::{Kind, LinkRec, Node};
 use crate::heights::{height_of, lower};
 use crate::inodes::{Hold, Inode};
@@ -18,26 +19,33 @@ use crate::tallies::{Hung, HungNode, tally};
 use crate::trees::Tree;
 use std::alloc::Global;
 use std::collections::BTreeMap;
-use wu_access::UserRec;
+use wu_access::{Acl, UserRec};
 use wu_base::{DEPTH_MAX, Gid, Ino, NoMemory, ROOT, Sequence, Uid};
 
 impl Tree {
-    /// The tree of exactly these nodes, links and users, or None where they make no tree. They make one where
-    /// users ascend by number, nodes by number, and links by directory and then by name, without repeats, and
-    /// where they keep the rules: a user's groups ascend without repeats; no node has number 0, and a mode is
+    /// The tree of exactly these nodes, links, users and access lists, or None where they make no tree. They make
+    /// one where users ascend by number, nodes by number, links by directory and then by name, and access lists
+    /// by the number of the node that has it, without repeats, and where they keep the rules: a user's groups ascend without repeats; no node has number 0, and a mode is
     /// at most 7777 octal; node 1 is a directory, and no link names it; a link stands in a directory that is
     /// there and names a node that is there, and its name is a name; any other directory has one link, and is
-    /// reached from node 1 at a depth of at most 255; and a file has a link. The only error is out of memory.
-    /// The time is near linear: for each link a binary search and a look-up, and for each directory and user a few.
+    /// reached from node 1 at a depth of at most 255; a file has a link; an access list is of a node that is there,
+    /// its bits are at most 7, and its entries ascend by number without repeats. The only error is out of memory.
+    /// The time is near linear: for each link a binary search and a look-up, for each directory and user a few, and
+    /// one walk over nodes and access lists together.
     pub fn rebuild(
         alloc: Global,
         nodes: &[(Ino, Node)],
         links: &[LinkRec],
         users: &[UserRec],
+        acls: &[(Ino, Acl)],
     ) -> Result<Option<Tree>, NoMemory>
-        ensures { IfOk result (λ made. MatchOption made (IsTree (listed nodes.now links.now users.now) → ⊥) (λ tree. IsTree (listed nodes.now links.now users.now) × (tree ≡ listed nodes.now links.now users.now))) }
+        ensures { IfOk result (λ made. MatchOption made (IsTree (listed nodes.now links.now users.now acls.now) → ⊥)
+            (λ tree. IsTree (listed nodes.now links.now users.now acls.now) × (tree ≡ listed nodes.now links.now users.now acls.now))) }
     {
         if !are_in_order(nodes, links, users) {
+            return Ok(None);
+        }
+        if !are_acls(nodes, acls) {
             return Ok(None);
         }
         let Some(hung) = tally(alloc, nodes, links)? else {
@@ -58,11 +66,13 @@ impl Tree {
             return Ok(None);
         }
         let users = users_of(alloc, users)?;
+        let acls = acls_of(alloc, acls)?;
         Ok(Some(Tree {
             alloc,
             inodes,
             links,
             users,
+            acls,
         }))
     }
 }
@@ -182,7 +192,7 @@ fn first_height(kind: Kind) -> u8
 }
 
 fn is_directory(inodes: &BTreeMap<Ino, Inode>, ino: Ino) -> bool
-    ensures { result ≡ is_directory (file_system inodes.now.entries [] []) ino }
+    ensures { result ≡ is_directory (file_system inodes.now.entries [] [] []) ino }
 {
     match inodes.get(&ino) {
         Some(inode) => !inode.hold.is_file(),
@@ -192,15 +202,15 @@ fn is_directory(inodes: &BTreeMap<Ino, Inode>, ino: Ino) -> bool
 
 /// Whether there is a root, and each link stands in a directory, by a name.
 fn are_placed(inodes: &BTreeMap<Ino, Inode>, links: &[LinkRec]) -> bool
-    ensures { result ≡ place_test (file_system inodes.now.entries [] []) links.now }
+    ensures { result ≡ place_test (file_system inodes.now.entries [] [] []) links.now }
 {
     is_directory(inodes, ROOT) && links_stand(inodes, links)
 }
 
 /// Whether each link stands in a directory, by a name. Looks a directory up but once for all the links in it.
 fn links_stand(inodes: &BTreeMap<Ino, Inode>, links: &[LinkRec]) -> bool
-    requires { is_directory (file_system inodes.now.entries [] []) 1 ≡ true }
-    ensures { result ≡ list_all (λ link. stand_test (file_system inodes.now.entries [] []) (link_of link)) links.now }
+    requires { is_directory (file_system inodes.now.entries [] [] []) 1 ≡ true }
+    ensures { result ≡ list_all (λ link. stand_test (file_system inodes.now.entries [] [] []) (link_of link)) links.now }
 {
     let mut directory = ROOT;
     for link in links {

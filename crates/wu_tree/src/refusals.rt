@@ -41,7 +41,9 @@ impl Tree {
                 new_parent,
                 new_name,
             } => self.refuse_rename(*parent, name.as_slice(), *new_parent, new_name.as_slice()),
-            Event::Chmod { ino, .. } | Event::Chown { ino, .. } => self.refuse_absent(*ino),
+            Event::Chmod { ino, .. } | Event::Chown { ino, .. } | Event::Acl { ino, .. } => {
+                self.refuse_absent(*ino)
+            }
         }
     }
 

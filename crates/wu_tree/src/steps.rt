@@ -1,10 +1,11 @@
 //! The steps of a tree: each event is accepted whole or refused.
-ghost use Rattle.std.specs.Prelude.{◌≡◌, ◌≤◌, ◌+◌, ◌-◌, None, Some, IfOk, OnOk, OnErr};
+ghost use Rattle.std.specs.Prelude.{◌≡◌, ◌≤◌, ◌+◌, ◌-◌, None, Some, true, IfOk, IfSome, OnOk, OnErr, option_copied};
+ghost use Rattle.wu_access.specs.Access.{IsAcl};
 ghost use Rattle.wu_tree.specs.Effects.{EffectsTellFiles};
 
 use crate::events::{Effect, Event, Kind, Node, Refusal};
 use crate::trees::Tree;
-use wu_access::Perm;
+use wu_access::{Acl, Perm};
 use wu_base::{Gid, Ino, NoMemory, Uid};
 
 /// Of an event that makes no file, drops none and gives none a text.
@@ -15,12 +16,13 @@ const NO_EFFECT: Effect = Effect {
 };
 
 impl Tree {
-    ghost use Rattle.wu_tree.specs.FileSystems.{node_of};
-    ghost use Rattle.wu_tree.specs.Steps.{IsEvent, IsStep, absent_rules, create_rules, dropped_at, effect_of, first_of, link_rules, mkdir_rules, next, refusal_of, rename_effect, rename_rules, renamed, rmdir_rules, text_rules, unlink_rules, with_link, with_node, with_perm, with_user, without_link};
+    ghost use Rattle.wu_tree.specs.FileSystems.{is_there, node_of};
+    ghost use Rattle.wu_tree.specs.Steps.{IsEvent, IsStep, absent_rules, create_rules, dropped_at, effect_of, first_of, link_rules, mkdir_rules, next, refusal_of, rename_effect, rename_rules, renamed, rmdir_rules, text_rules, unlink_rules, with_acl_set, with_link, with_node, with_perm, with_user, without_link};
 
     /// One event: its effect where it is accepted, or why it is refused, by the first rule of its list that
     /// applies. A refused event changes nothing, and neither does one for which there is no memory, which is
-    /// the only error. Mkdir and Create carry no number 0, and a mode has at most four octal digits.
+    /// the only error. Mkdir and Create carry no number 0, a mode has at most four octal digits, an access list
+    /// has bits of at most 7 and entries that ascend by number without repeats, and a mask is at most 7.
     ///
     /// The time grows with the event's own bytes and with the number of look-ups by number or name, each of
     /// which is logarithmic in the tree. There are a few, and more at two events: Mkdir, and Rename of a
@@ -72,6 +74,7 @@ impl Tree {
             } => self.rename(*parent, name.as_slice(), *new_parent, new_name.as_slice()),
             Event::Chmod { ino, mode } => Ok(self.chmod(*ino, *mode)),
             Event::Chown { ino, uid, gid } => Ok(self.chown(*ino, *uid, *gid)),
+            Event::Acl { ino, acl, mask } => self.acl(*ino, acl.as_ref(), *mask),
         }
     }
 
@@ -215,6 +218,21 @@ impl Tree {
             self.set_perm(ino, Perm { uid, gid, mode });
         }
         NO_EFFECT
+    }
+
+    fn acl(&mut self, ino: Ino, acl: Option<&Acl>, mask: u8) -> Result<Effect, NoMemory>
+        requires acl { IfSome acl (λ acl. IsAcl acl.now) }
+        requires mask { mask ≤ 7 }
+        requires there { is_there self.old ino ≡ true }
+        ensures effect { IfOk result (λ effect. effect ≡ NO_EFFECT) }
+        ensures next { OnOk result (self.new ≡ with_acl_set self.old ino (option_copied acl.entry) mask) }
+        ensures err { OnErr result (self.new ≡ self.old) }
+    {
+        match acl {
+            Some(acl) => self.set_acl(ino, acl, mask)?,
+            None => self.remove_acl(ino),
+        }
+        Ok(NO_EFFECT)
     }
 
     /// The file whose last link stands at that place, if it is one.

@@ -11,7 +11,7 @@ use std::alloc::Global;
 use wu_base::{Ino, NoMemory, ROOT};
 
 /// What a list of links says of a node that some of them name: how it hangs in its tree, if they make one.
-#[derive(Clone, Copy, Debug)]
+#[derive(Clone, Copy)]
 pub(crate) struct Hung {
     /// The number of the directory in which its first link stands.
     pub(crate) parent: Ino,
@@ -20,7 +20,7 @@ pub(crate) struct Hung {
 }
 
 /// A node, and how it hangs by some links.
-#[derive(Clone, Copy, Debug)]
+#[derive(Clone, Copy)]
 pub(crate) struct HungNode {
     pub(crate) ino: Ino,
     pub(crate) node: Node,

@@ -1,5 +1,5 @@
 //! A tree, and what it tells.
-ghost use Rattle.std.specs.Prelude.{◌≡◌, ◌≢◌, true, IfOk, IfSome, ◌≤◌, [], map, MatchOption, slice_get};
+ghost use Rattle.std.specs.Prelude.{◌≡◌, ◌≢◌, true, IfOk, IfSome, ◌≤◌, [], map, MatchOption, option_copied, slice_get};
 ghost use Rattle.std.specs.Option.{option_map};
 ghost use Rattle.std.specs.Ordering.{nat_cmp};
 ghost use Rattle.std.specs.List.Sorted.{IsStrictlySortedBy};
@@ -10,17 +10,20 @@ use crate::links::Links;
 use std::alloc::Global;
 use std::collections::BTreeMap;
 use std::marker::Model;
-use wu_access::{Perm, UserRec};
+use wu_access::{Acl, Perm, UserRec};
 use wu_base::{DEPTH_MAX, Gid, Ino, NoMemory, ROOT, Uid};
 
 /// A tree of directories and files, and the users with their groups. Contracts see the file system that it
-/// stands for: its nodes, its links and its users. The numbers of nodes, users and groups have 32 bits.
-#[derive(Debug, Drop)]
+/// stands for: its nodes, its links, its users and its nodes' access lists. The numbers of nodes, users and
+/// groups have 32 bits.
+#[derive(Drop)]
 pub struct Tree {
     pub(crate) alloc: Global,
     pub(crate) inodes: BTreeMap<Ino, Inode>,
     pub(crate) links: Links,
     pub(crate) users: BTreeMap<Uid, UserRec>,
+    /// Of the nodes that have one, so that the others keep no room for it.
+    pub(crate) acls: BTreeMap<Ino, Acl>,
 }
 
 impl Model for Tree {
@@ -30,16 +33,16 @@ impl Model for Tree {
 
     ghost use Rattle.wu_tree.specs.Inodes.{file_system, IsSound};
 
-    ghost view = { λ t. file_system t.inodes.entries t.links t.users.entries };
+    ghost view = { λ t. file_system t.inodes.entries t.links t.users.entries t.acls.entries };
 
-    ghost invariant = { λ t. IsSound t.inodes.entries t.links t.users.entries };
+    ghost invariant = { λ t. IsSound t.inodes.entries t.links t.users.entries t.acls.entries };
 }
 
 impl Tree {
-    ghost use Rattle.wu_tree.specs.FileSystems.{FileSystem, child_of, depth as depth_of, entries_of, file_count as count_of_files, groups_of, has_entries, is_directory, is_kind_file, node_of, parent_of, root_alone};
+    ghost use Rattle.wu_tree.specs.FileSystems.{FileSystem, acl_of, child_of, depth as depth_of, entries_of, file_count as count_of_files, groups_of, has_entries, is_directory, is_kind_file, node_of, parent_of, root_alone};
     ghost use Rattle.wu_tree.specs.Rules.{IsTree};
 
-    /// The root directory alone, with owner 0, group 0 and mode 755 octal, and no users. The tree keeps the
+    /// The root directory alone, with owner 0, group 0 and mode 755 octal, no access list and no users. The tree keeps the
     /// allocator for its changes. The one error is out of memory.
     pub fn new(alloc: Global) -> Result<Tree, NoMemory>
         ensures { IfOk result (λ tree. tree ≡ root_alone) }
@@ -60,6 +63,7 @@ impl Tree {
             inodes,
             links: Links::new(alloc),
             users: BTreeMap::new(alloc),
+            acls: BTreeMap::new(alloc),
         })
     }
 
@@ -73,6 +77,14 @@ impl Tree {
             Some(inode) => Some(inode.node()),
             None => None,
         }
+    }
+
+    /// The access list of that node, or None where there is no such node or it has no list. Takes no memory, and
+    /// time logarithmic in the number of lists.
+    pub fn acl_of(&self, ino: Ino) -> Option<&Acl>
+        ensures { option_copied result ≡ acl_of self.now ino }
+    {
+        self.acls.get(&ino)
     }
 
     /// The number of the node that has that name in that directory, or None where the directory has no such
@@ -149,8 +161,8 @@ impl Tree {
             .count() as u64
     }
 
-    /// Returns nothing and does nothing, in constant time: its clause says that the tree's nodes, links and
-    /// users keep the rules of a tree, as they do at every moment. Proofs of callers cite it.
+    /// Returns nothing and does nothing, in constant time: its clause says that the tree's nodes, links,
+    /// users and access lists keep the rules of a tree, as they do at every moment. Proofs of callers cite it.
     pub fn keeps_the_rules(&self)
         ensures { IsTree self.now }
     {

@@ -7,7 +7,7 @@ use crate::inodes::Inode;
 use crate::trees::Tree;
 use std::collections::btree_map::{Iter, Values};
 use std::marker::Model;
-use wu_access::UserRec;
+use wu_access::{Acl, UserRec};
 use wu_base::{Ino, Uid};
 
 /// The nodes that are left of a walk over a tree's nodes, in order of number. Contracts see the list of them.
@@ -70,6 +70,37 @@ impl<'a> Iterator for Users<'a> {
     }
 }
 
+/// The access lists that are left of a walk over those of a tree, in order of the numbers of their nodes, each with
+/// that number. Contracts see the list of them.
+#[derive(Drop)]
+pub struct Acls<'a> {
+    rest: Iter<'a, Ino, Acl>,
+}
+
+impl<'a> Model for Acls<'a> {
+    ghost use Rattle.std.specs.Prelude.{ℕ, List};
+    ghost use Rattle.wu_access.specs.declared.acls.Acl.{Acl};
+
+    ghost Value = { List (ℕ × Acl) };
+
+    ghost view = { λ s. s.rest };
+}
+
+impl<'a> Iterator for Acls<'a> {
+    ghost use Rattle.std.specs.Iterator.{YieldsFirstBy, item_count};
+
+    type Item = (Ino, &'a Acl);
+
+    ghost next_gives = { YieldsFirstBy (λ item. (item.0, item.1.now)) (λ left. left) };
+
+    ghost remaining = { item_count (λ left. left) };
+
+    fn next(&mut self) -> Option<(Ino, &'a Acl)> {
+        let (ino, acl) = self.rest.next()?;
+        Some((*ino, acl))
+    }
+}
+
 /// The names that are left of a walk over a directory, in byte order, each with the number of the node that has
 /// it. Contracts see the list of them.
 #[derive(Drop)]
@@ -118,6 +149,16 @@ impl Tree {
     {
         Users {
             rest: self.users.values(),
+        }
+    }
+
+    /// The access lists of all nodes that have one, in order of the nodes' numbers, each with that number. Takes no
+    /// memory; a walk takes time that grows with the number of lists.
+    pub fn acls(&self) -> Acls<'_>
+        ensures { result ≡ self.now.acls }
+    {
+        Acls {
+            rest: self.acls.iter(),
         }
     }
 

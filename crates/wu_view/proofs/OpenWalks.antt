@@ -4,12 +4,13 @@ use Rattle.std.proofs.Common.{not, ◌&&◌, arith, inl, ⊎_elim}
 use Rattle.std.specs.Prelude.{Option, None, Some, ◌==◌, filter}
 use borrow.Author.Tests.{eqb-true, eq-eqb}
 use Rattle.std.proofs.lemmas.Bool.{and_parts, and_from}
+use Rattle.wu_access.specs.declared.acls.Acl.{Acl}
 use Rattle.wu_access.specs.declared.UserRec.{UserRec}
 use Rattle.wu_access.specs.declared.Want.TheVariants.{Read, Execute}
 use Rattle.wu_access.specs.Access.{is_allowed}
 use Rattle.wu_tree.specs.declared.events.Kind.TheVariants.{Directory, File}
 use Rattle.wu_tree.specs.declared.events.Node.{Node}
-use Rattle.wu_tree.specs.FileSystems.{FileSystem, Link, is_directory, is_directory_node, is_file_node, is_kind_file, link_count, node_of}
+use Rattle.wu_tree.specs.FileSystems.{FileSystem, Link, is_directory, is_directory_node, is_file_node, is_kind_file, link_count, acl_of, node_of}
 use Rattle.wu_tree.specs.FileSystems.{entries_of, depth}
 use Rattle.wu_tree.specs.Rules.{IsTree}
 use Rattle.wu_view.specs.declared.walks.Met.TheVariants.{Readable, Passable, Closed}
@@ -20,47 +21,47 @@ use Rattle.wu_view.proofs.LinkPaths.{some_link, linked_once, link_facts, depth_r
 use Rattle.wu_view.proofs.LinkPaths.{root_open, root_depth, open_root}
 
 -- ---- what the user meets
-module _ (user : UserRec) where
-  readable_met : (o : Option Node) → met_node user o ≡ Readable → (is_file_node o && is_granted_node user Read o) ≡ true
+module _ (user : UserRec) (acl : Option Acl) where
+  readable_met : (o : Option Node) → met_node user acl o ≡ Readable → (is_file_node o && is_granted_node user Read acl o) ≡ true
   readable_met None h = absurd cc
   readable_met (Some node) h =
       elim node.kind as
-      (λ k. met_as k (is_allowed user node.perm Read) (is_allowed user node.perm Execute) ≡ Readable
-      → (is_kind_file k && is_allowed user node.perm Read) ≡ true) [
-        | File ↦ λ g. elim (is_allowed user node.perm Read) as
+      (λ k. met_as k (is_allowed user node.perm acl Read) (is_allowed user node.perm acl Execute) ≡ Readable
+      → (is_kind_file k && is_allowed user node.perm acl Read) ≡ true) [
+        | File ↦ λ g. elim (is_allowed user node.perm acl Read) as
             (λ b. cond b Readable Closed ≡ Readable → b ≡ true) [ true ↦ λ e. refl | false ↦ λ e. absurd cc ] g
-        | Directory ↦ λ g. elim (is_allowed user node.perm Execute) as
+        | Directory ↦ λ g. elim (is_allowed user node.perm acl Execute) as
             (λ b. cond b Passable Closed ≡ Readable → false ≡ true) [ true ↦ λ e. absurd cc | false ↦ λ e. absurd cc ] g
       ] h
 
-  met_readable : (o : Option Node) → (is_file_node o && is_granted_node user Read o) ≡ true → met_node user o ≡ Readable
+  met_readable : (o : Option Node) → (is_file_node o && is_granted_node user Read acl o) ≡ true → met_node user acl o ≡ Readable
   met_readable None h = absurd cc
   met_readable (Some node) h =
       elim node.kind as
-      (λ k. (is_kind_file k && is_allowed user node.perm Read) ≡ true
-      → met_as k (is_allowed user node.perm Read) (is_allowed user node.perm Execute) ≡ Readable) [
+      (λ k. (is_kind_file k && is_allowed user node.perm acl Read) ≡ true
+      → met_as k (is_allowed user node.perm acl Read) (is_allowed user node.perm acl Execute) ≡ Readable) [
         | File ↦ λ g. rw g refl
         | Directory ↦ λ g. absurd cc
       ] h
 
-  passable_met : (o : Option Node) → met_node user o ≡ Passable → (is_directory_node o && is_granted_node user Execute o) ≡ true
+  passable_met : (o : Option Node) → met_node user acl o ≡ Passable → (is_directory_node o && is_granted_node user Execute acl o) ≡ true
   passable_met None h = absurd cc
   passable_met (Some node) h =
       elim node.kind as
-      (λ k. met_as k (is_allowed user node.perm Read) (is_allowed user node.perm Execute) ≡ Passable
-      → (not (is_kind_file k) && is_allowed user node.perm Execute) ≡ true) [
-        | File ↦ λ g. elim (is_allowed user node.perm Read) as
+      (λ k. met_as k (is_allowed user node.perm acl Read) (is_allowed user node.perm acl Execute) ≡ Passable
+      → (not (is_kind_file k) && is_allowed user node.perm acl Execute) ≡ true) [
+        | File ↦ λ g. elim (is_allowed user node.perm acl Read) as
             (λ b. cond b Readable Closed ≡ Passable → false ≡ true) [ true ↦ λ e. absurd cc | false ↦ λ e. absurd cc ] g
-        | Directory ↦ λ g. elim (is_allowed user node.perm Execute) as
+        | Directory ↦ λ g. elim (is_allowed user node.perm acl Execute) as
             (λ b. cond b Passable Closed ≡ Passable → b ≡ true) [ true ↦ λ e. refl | false ↦ λ e. absurd cc ] g
       ] h
 
-  met_passable : (o : Option Node) → (is_directory_node o && is_granted_node user Execute o) ≡ true → met_node user o ≡ Passable
+  met_passable : (o : Option Node) → (is_directory_node o && is_granted_node user Execute acl o) ≡ true → met_node user acl o ≡ Passable
   met_passable None h = absurd cc
   met_passable (Some node) h =
       elim node.kind as
-      (λ k. (not (is_kind_file k) && is_allowed user node.perm Execute) ≡ true
-      → met_as k (is_allowed user node.perm Read) (is_allowed user node.perm Execute) ≡ Passable) [
+      (λ k. (not (is_kind_file k) && is_allowed user node.perm acl Execute) ≡ true
+      → met_as k (is_allowed user node.perm acl Read) (is_allowed user node.perm acl Execute) ≡ Passable) [
         | File ↦ λ g. absurd cc
         | Directory ↦ λ g. rw g refl
       ] h
@@ -131,7 +132,7 @@ module _ (fs : FileSystem) (t : IsTree fs) (user : UserRec) where
               record {
                 within = within;
                 file = ap (λ (x : Found). x.0) i;
-                readable = subst (λ (x : Found). is_readable fs user x.0 ≡ true) i (readable_met user (node_of fs entry.1) e);
+                readable = subst (λ (x : Found). is_readable fs user x.0 ≡ true) i (readable_met user (acl_of fs entry.1) (node_of fs entry.1) e);
                 opened = o;
                 path = spelled ∙ ap (λ (x : Found). x.1) i;
               },
@@ -139,7 +140,7 @@ module _ (fs : FileSystem) (t : IsTree fs) (user : UserRec) where
             (λ i. absurd i)
             g
         | Passable ↦ λ e g.
-            let b = and_parts (is_directory fs entry.1) (may fs user Execute entry.1) (passable_met user (node_of fs entry.1) e) in
+            let b = and_parts (is_directory fs entry.1) (may fs user Execute entry.1) (passable_met user (acl_of fs entry.1) (node_of fs entry.1) e) in
             sound n entry.1 (path ++ 47 ∷ entry.0)
             (open_below fs t user link within b.0 ∙ and_from (may fs user Execute entry.1) (is_open fs user directory) b.1 o)
             (path_below_is fs t link within b.0 ∙ spelled) found g
@@ -183,7 +184,7 @@ module _ (fs : FileSystem) (t : IsTree fs) (user : UserRec) where
   read (suc m) link h l found f r p =
       let path : List ℕ = directory_path fs.links link.0.0 in
       let e : met_at fs user link.1
-      ≡ Readable = met_readable user (node_of fs link.1) (subst (λ x. is_readable fs user x ≡ true) (sym f) r) in
+      ≡ Readable = met_readable user (acl_of fs link.1) (node_of fs link.1) (subst (λ x. is_readable fs user x ≡ true) (sym f) r) in
       Has-flat_map
       (λ (entry : List ℕ × ℕ). found_at (met_at fs user entry.1) (entry.1, path ++ 47 ∷ entry.0)
       (walked fs user m entry.1 (path ++ 47 ∷ entry.0))) found (link.0.1, link.1) (entries_of fs.links link.0.0)
@@ -218,7 +219,7 @@ module _ (fs : FileSystem) (t : IsTree fs) (user : UserRec) where
       (sym r.1.1) z in let g = depth_below fs t link r.1.0 dir in omega arith) in
       reach k (suc m) link.0.0 (omega arith) (link_facts fs t link r.1.0).parent b.1 dep found
       (enter m link r.1.0
-      (met_passable user (node_of fs link.1) (and_from (is_directory fs link.1) (may fs user Execute link.1) dir b.0)) found
+      (met_passable user (acl_of fs link.1) (node_of fs link.1) (and_from (is_directory fs link.1) (may fs user Execute link.1) dir b.0)) found
       (subst (λ (p : List ℕ). Has found (walked fs user m link.1 p)) (path_below_is fs t link r.1.0 dir)
       (subst (λ x. Has found (walked fs user m x (directory_path fs.links x))) (sym r.1.1) h)))
 
@@ -237,7 +238,7 @@ module _ (fs : FileSystem) (t : IsTree fs) (user : UserRec) where
       elim (met_at fs user 1) as (λ m. met_at fs user 1 ≡ m → Has found (if_passable m (walked fs user 255 1 [])) → Opened fs user found) [
         | Readable ↦ λ e g. absurd g
         | Passable ↦ λ e g.
-            let b = and_parts (is_directory fs 1) (may fs user Execute 1) (passable_met user (node_of fs 1) e) in
+            let b = and_parts (is_directory fs 1) (may fs user Execute 1) (passable_met user (acl_of fs 1) (node_of fs 1) e) in
             sound 255 1 [] (root_open fs t user b.1) (root_path fs t) found g
         | Closed ↦ λ e g. absurd g
       ] refl h
@@ -246,5 +247,5 @@ module _ (fs : FileSystem) (t : IsTree fs) (user : UserRec) where
   found_opened found (link, i) =
       let o : may fs user Execute 1 ≡ true = open_root fs t user link.0.0 (link_facts fs t link i.within).parent i.opened in
       let e : met_at fs user 1
-      ≡ Passable = met_passable user (node_of fs 1) (and_from (is_directory fs 1) (may fs user Execute 1) t.root o) in
+      ≡ Passable = met_passable user (acl_of fs 1) (node_of fs 1) (and_from (is_directory fs 1) (may fs user Execute 1) t.root o) in
       subst (λ m. Has found (if_passable m (walked fs user 255 1 []))) (sym e) (complete found (link, i))

@@ -10,13 +10,14 @@ use Rattle.std.proofs.lemmas.Map.Lookups.{exact_bytes}
 use Rattle.std.proofs.lemmas.Map.Views.{Contains-from_lookup, lookup-from_Contains, tells_apart}
 use borrow.Author.Tests.{eqb-true, eq-eqb}
 use Rattle.std.proofs.lemmas.Bool.{and_parts, and_from}
+use Rattle.wu_access.specs.declared.acls.Acl.{Acl}
 use Rattle.wu_access.specs.declared.UserRec.{UserRec}
 use Rattle.wu_access.specs.declared.Want.{Want}
 use Rattle.wu_access.specs.declared.Want.TheVariants.{Read, Execute}
 use Rattle.wu_access.specs.Access.{IsDecidedByCases}
 use Rattle.wu_tree.specs.declared.events.Node.{Node}
 use Rattle.wu_tree.specs.FileSystems.{FileSystem, Link, place_cmp, child_of, is_directory, is_directory_node, is_file, is_file_node}
-use Rattle.wu_tree.specs.FileSystems.{node_of, depth, ancestors}
+use Rattle.wu_tree.specs.FileSystems.{acl_of, node_of, depth, ancestors}
 use Rattle.wu_tree.specs.Rules.{IsTree}
 use Rattle.wu_tree.proofs.ParentPaths.{place_total, place_exact, path_is}
 use Rattle.wu_view.specs.Views.{directory_path, path_of, may, is_open, open_paths, Leads, IsOpenWay, joined, IsOpenPath, is_readable}
@@ -42,20 +43,20 @@ unfolding ancestors
 first_on_way links n d p h = (and_parts (p d) _ h).0
 
 -- ---- what a node grants, as a test and case by case
-module _ (law : IsDecidedByCases) (user : UserRec) (want : Want) where
-  node_granted : (o : Option Node) → is_granted_node user want o ≡ true → GrantsNode user want o
+module _ (law : IsDecidedByCases) (user : UserRec) (want : Want) (acl : Option Acl) where
+  node_granted : (o : Option Node) → is_granted_node user want acl o ≡ true → GrantsNode user want acl o
   node_granted None h = absurd cc
-  node_granted (Some node) h = (law user node.perm want).0 h
+  node_granted (Some node) h = (law user node.perm acl want).0 h
 
-  granted_node : (o : Option Node) → GrantsNode user want o → is_granted_node user want o ≡ true
+  granted_node : (o : Option Node) → GrantsNode user want acl o → is_granted_node user want acl o ≡ true
   granted_node None h = absurd h
-  granted_node (Some node) h = (law user node.perm want).1 h
+  granted_node (Some node) h = (law user node.perm acl want).1 h
 
 pub readable_by_cases : (law : IsDecidedByCases) (fs : FileSystem) (user : UserRec) (ino : ℕ)
     → IsTrue (is_readable fs user ino) ↔ (IsTrue (is_file fs ino) × Grants fs user Read ino)
 readable_by_cases law fs user ino = (
-  λ h. let b = and_parts (is_file fs ino) (may fs user Read ino) h in (b.0, node_granted law user Read (node_of fs ino) b.1),
-  λ g. and_from (is_file fs ino) (may fs user Read ino) g.0 (granted_node law user Read (node_of fs ino) g.1),
+  λ h. let b = and_parts (is_file fs ino) (may fs user Read ino) h in (b.0, node_granted law user Read (acl_of fs ino) (node_of fs ino) b.1),
+  λ g. and_from (is_file fs ino) (may fs user Read ino) g.0 (granted_node law user Read (acl_of fs ino) (node_of fs ino) g.1),
 )
 
 pub child_found : (fs : FileSystem) → IsTree fs → (link : Link) → Has link fs.links → child_of fs link.0.0 link.0.1 ≡ Some link.1
@@ -83,7 +84,7 @@ module _ (law : IsDecidedByCases) (fs : FileSystem) (t : IsTree fs) (user : User
   open_by : (d : ℕ) (names : List (List ℕ)) (ino : ℕ) → LeadsOpen d names ino → IsOpenWay fs user d names
   open_by d [] ino l = tt
   open_by d (name ∷ names) ino l = (
-    node_granted law user Execute (node_of fs d) l.0,
+    node_granted law user Execute (acl_of fs d) (node_of fs d) l.0,
     λ child h. let e : l.1.0
         ≡ child = cc (l.1.1, h) in subst (λ c. IsOpenWay fs user c names) e (open_by l.1.0 names ino l.1.2),
   )
@@ -91,7 +92,7 @@ module _ (law : IsDecidedByCases) (fs : FileSystem) (t : IsTree fs) (user : User
   both_lead : (d : ℕ) (names : List (List ℕ)) (ino : ℕ) → Leads fs d names ino → IsOpenWay fs user d names → LeadsOpen d names ino
   both_lead d [] ino l o = l
   both_lead d (name ∷ names) ino l o =
-      (granted_node law user Execute (node_of fs d) o.0, (l.0, l.1, both_lead l.0 names ino l.2 (o.1 l.0 l.1)))
+      (granted_node law user Execute (acl_of fs d) (node_of fs d) o.0, (l.0, l.1, both_lead l.0 names ino l.2 (o.1 l.0 l.1)))
 
   leads-push : (a d c : ℕ) (names : List (List ℕ)) (name : List ℕ) → LeadsOpen a names d → may fs user Execute d ≡ true
       → child_of fs d name ≡ Some c → LeadsOpen a (names ++ name ∷ []) c

@@ -6,12 +6,13 @@ use Rattle.std.specs.Ordering.{nat_cmp, ordering_then}
 use Rattle.std.specs.Cmp.Lexicographic.{slice_cmp}
 use Rattle.std.specs.List.{list_all}
 use Rattle.wu_base.specs.SortedOnce.{sorted_once}
+use Rattle.wu_access.specs.declared.acls.Acl.{Acl}
 use Rattle.wu_access.specs.declared.UserRec.{UserRec}
 use Rattle.wu_access.specs.declared.Want.{Want}
 use Rattle.wu_access.specs.declared.Want.TheVariants.{Read, Execute}
 use Rattle.wu_access.specs.Access.{Allows, is_allowed}
 use Rattle.wu_tree.specs.declared.events.Node.{Node}
-use Rattle.wu_tree.specs.FileSystems.{FileSystem, Link, Place, node_of, child_of, groups_of, is_file, path_up}
+use Rattle.wu_tree.specs.FileSystems.{FileSystem, Link, Place, acl_of, node_of, child_of, groups_of, is_file, path_up}
 use Rattle.wu_view.specs.declared.Seen.{Seen}
 
 -- ---- paths from the links up
@@ -52,21 +53,21 @@ joined (name ∷ names) = 47 ∷ (name ++ joined names)
 
 -- ---- access
 
-abbrev pub is_granted_node : UserRec → Want → Option Node → Bool
-is_granted_node user want None = false
-is_granted_node user want (Some node) = is_allowed user node.perm want
+abbrev pub is_granted_node : UserRec → Want → Option Acl → Option Node → Bool
+is_granted_node user want acl None = false
+is_granted_node user want acl (Some node) = is_allowed user node.perm acl want
 
--- the node is there and grants the user what she wants
-abbrev pub GrantsNode : UserRec → Want → Option Node → Type 0
-GrantsNode user want None = ⊥
-GrantsNode user want (Some node) = Allows user node.perm want
+-- the node, which has that access list or none, is there and grants the user what she wants
+abbrev pub GrantsNode : UserRec → Want → Option Acl → Option Node → Type 0
+GrantsNode user want acl None = ⊥
+GrantsNode user want acl (Some node) = Allows user node.perm acl want
 
 abbrev pub Grants : FileSystem → UserRec → Want → ℕ → Type 0
-Grants fs user want ino = GrantsNode user want (node_of fs ino)
+Grants fs user want ino = GrantsNode user want (acl_of fs ino) (node_of fs ino)
 
 -- the same as a test
 abbrev pub may : FileSystem → UserRec → Want → ℕ → Bool
-may fs user want ino = is_granted_node user want (node_of fs ino)
+may fs user want ino = is_granted_node user want (acl_of fs ino) (node_of fs ino)
 
 -- each directory in which one of the names is looked up, from that one on, grants the user execute
 abbrev pub IsOpenWay : FileSystem → UserRec → ℕ → List (List ℕ) → Type 0

@@ -3,13 +3,14 @@ use Rattle.std.specs.Prelude.{ℕ, zero, suc, Bool, cond, Option, None, Some, Li
 use Rattle.std.specs.List.{flat_map}
 use Rattle.wu_base.specs.declared.limits.TheConstants.{DEPTH_MAX}
 use Rattle.wu_base.specs.declared.addresses.TheConstants.{ROOT}
+use Rattle.wu_access.specs.declared.acls.Acl.{Acl}
 use Rattle.wu_access.specs.declared.UserRec.{UserRec}
 use Rattle.wu_access.specs.declared.Want.TheVariants.{Read, Execute}
 use Rattle.wu_access.specs.Access.{is_allowed}
 use Rattle.wu_tree.specs.declared.events.Kind.{Kind}
 use Rattle.wu_tree.specs.declared.events.Kind.TheVariants.{Directory, File}
 use Rattle.wu_tree.specs.declared.events.Node.{Node}
-use Rattle.wu_tree.specs.FileSystems.{FileSystem, node_of, entries_of}
+use Rattle.wu_tree.specs.FileSystems.{FileSystem, acl_of, node_of, entries_of}
 use Rattle.wu_view.specs.declared.walks.Met.{Met}
 use Rattle.wu_view.specs.declared.walks.Met.TheVariants.{Readable, Passable, Closed}
 
@@ -21,13 +22,13 @@ abbrev pub met_as : Kind → Bool → Bool → Met
 met_as File reads enters = cond reads Readable Closed
 met_as Directory reads enters = cond enters Passable Closed
 
-abbrev pub met_node : UserRec → Option Node → Met
-met_node user None = Closed
-met_node user (Some node) = met_as node.kind (is_allowed user node.perm Read) (is_allowed user node.perm Execute)
+abbrev pub met_node : UserRec → Option Acl → Option Node → Met
+met_node user acl None = Closed
+met_node user acl (Some node) = met_as node.kind (is_allowed user node.perm acl Read) (is_allowed user node.perm acl Execute)
 
 -- what the user meets at the node of that number
 abbrev pub met_at : FileSystem → UserRec → ℕ → Met
-met_at fs user ino = met_node user (node_of fs ino)
+met_at fs user ino = met_node user (acl_of fs ino) (node_of fs ino)
 
 -- what is found at an entry, where `below` is what is found below it if it is a directory
 abbrev pub found_at : Met → Found → List Found → List Found

@@ -1,11 +1,11 @@
 //! The walk from the root through the directories that a user may enter.
-ghost use Rattle.std.specs.Prelude.{◌≡◌, ◌∷◌, ◌++◌, OnOk, IfOk};
+ghost use Rattle.std.specs.Prelude.{◌≡◌, ◌∷◌, ◌++◌, OnOk, IfOk, option_copied};
 ghost use Rattle.std.specs.Ordering.{nat_cmp};
 ghost use Rattle.std.specs.List.Sorted.{IsStrictlySortedBy};
 ghost use Rattle.wu_view.specs.Walks.{met_at, met_node, walked, walked_whole};
 
 use std::alloc::Global;
-use wu_access::{UserRec, Want, allows};
+use wu_access::{Acl, UserRec, Want, allows};
 use wu_base::{Bytes, DEPTH_MAX, Ino, NoMemory, ROOT};
 use wu_tree::{Kind, Node, Tree};
 
@@ -82,20 +82,21 @@ fn meet(tree: &Tree, user: &UserRec, ino: Ino) -> Met
     ensures { result ≡ met_at tree.now user.now ino }
 {
     match tree.node(ino) {
-        Some(node) => meet_node(user, &node),
+        Some(node) => meet_node(user, &node, tree.acl_of(ino)),
         None => Met::Closed,
     }
 }
 
-fn meet_node(user: &UserRec, node: &Node) -> Met
+/// What the user meets at that node, which has that access list or none.
+fn meet_node(user: &UserRec, node: &Node, acl: Option<&Acl>) -> Met
     requires { IsStrictlySortedBy nat_cmp user.now.groups }
-    ensures { result ≡ met_node user.now (Some node.now) }
+    ensures { result ≡ met_node user.now (option_copied acl.entry) (Some node.now) }
 {
     let (want, met) = match node.kind {
         Kind::File => (Want::Read, Met::Readable),
         Kind::Directory => (Want::Execute, Met::Passable),
     };
-    if allows(user, &node.perm, want) {
+    if allows(user, &node.perm, acl, want) {
         met
     } else {
         Met::Closed

@@ -16,8 +16,8 @@ loop-preserved c =
     next-turn _ c.args.kept.now.entries now c.loop.counter c.loop.invariant.turned
     (omega (arith, c.loop-test.true, c.len-end.ensures.len)) in
     let last = last-same now turn.rest turn.entry c.in-Some.uid.now c.in-Some.field-0-1.now turn.now_is c.in-Some.ensures in
-    let same : c.is_spared.result ≡ is_spared c.args.tree.now c.args.change turn.entry.0 =
-    c.is_spared.ensures ∙ ap (λ (x : ℕ × Frames). is_spared c.args.tree.now c.args.change x.0) last in
+    let same : c.is_spared.result ≡ is_spared c.args.tree.now c.args.change.now turn.entry.0 =
+    c.is_spared.ensures ∙ ap (λ (x : ℕ × Frames). is_spared c.args.tree.now c.args.change.now x.0) last in
     elim c.if-is_spared.branch [
       | then-is_spared w ↦ record {
         turned =
@@ -25,7 +25,7 @@ loop-preserved c =
             (ap (λ (k : LruCache ℕ Frames). k.entries) w.kept-is
             ∙ w.last_to_front.ensures.entries turn.rest turn.entry turn.now_is)
             (λ gone done b.
-            spared-first (is_spared c.args.tree.now c.args.change) turn.entry gone done (sym same ∙ w.if-is_spared.true) b);
+            spared-first (is_spared c.args.tree.now c.args.change.now) turn.entry gone done (sym same ∙ w.if-is_spared.true) b);
         cap = ap (λ (k : LruCache ℕ Frames). k.cap) w.kept-is ∙ w.last_to_front.ensures.cap ∙ c.loop.invariant.cap;
       }
       | else-is_spared w ↦ record {
@@ -34,7 +34,7 @@ loop-preserved c =
             (ap (λ (k : LruCache ℕ Frames). k.entries) (w.kept-is ∙ w.pop_lru.ensures.entries)
             ∙ (last-is now turn.rest turn.entry turn.now_is).1)
             (λ gone done b.
-            forgotten-first (is_spared c.args.tree.now c.args.change) turn.entry gone done (sym same ∙ w.if-is_spared.false) b);
+            forgotten-first (is_spared c.args.tree.now c.args.change.now) turn.entry gone done (sym same ∙ w.if-is_spared.false) b);
         cap = ap (λ (k : LruCache ℕ Frames). k.cap) (w.kept-is ∙ w.pop_lru.ensures.entries) ∙ c.loop.invariant.cap;
       }
     ]

@@ -15,6 +15,7 @@ returns c = λ files layout. record {
         files = c.args.files.now;
         parts = c.args.parts.now;
       })
-      _ _ _ _ _ _ (c.in_ok-extend_from_slice.ensures.items ∙ ap (λ (l : List ℕ). l ++ codes "WUMPUSC1") c.new-out.ensures.items)
-      c.in_ok-put_numbers.ensures c.in_ok-put_users.ensures c.in_ok-put_nodes.ensures c.in_ok-put_links.ensures c.in_ok-put_parts.ensures;
+      _ _ _ _ _ _ _ (c.in_ok-extend_from_slice.ensures.items ∙ ap (λ (l : List ℕ). l ++ codes "WUMPUSC2") c.new-out.ensures.items)
+      c.in_ok-put_numbers.ensures c.in_ok-put_users.ensures c.in_ok-put_nodes.ensures c.in_ok-put_links.ensures c.in_ok-put_parts.ensures
+      c.in_ok-put_acls.ensures;
 }

@@ -25,13 +25,13 @@ bare t c =
 -- the walk to no level, and through no names
 pub returns-then-levels-eq0-clause-walked : goal.returns-then-levels-eq0-clause-walked
 returns-then-levels-eq0-clause-walked t c =
-    no_levels (file_system c.args.inodes.now.entries c.args.links.now []) c.args.levels c.args.directory c.args.inodes.now.entries
+    no_levels (file_system c.args.inodes.now.entries c.args.links.now [] []) c.args.levels c.args.directory c.args.inodes.now.entries
     c.if-levels-eq0.true
 
 pub returns-in_default-clause-walked : goal.returns-in_default-clause-walked
 returns-in_default-clause-walked t c =
     let inodes = c.args.inodes.now.entries in
-    let fs = file_system inodes c.args.links.now [] in
+    let fs = file_system inodes c.args.links.now [] [] in
     let none : [] ≡ children_of c.args.links.now c.args.directory =
     sym (ap (λ (l : List (List ℕ × ℕ)). map (λ e. e.1) l) c.in_default.ensures) in
     let low = (bare t (goal.at.returns-in_default-clause-walked t c).After-set_height).lower in
@@ -56,7 +56,7 @@ loop-child-init t c =
     ∙ sym (c.into_iter-child-iterator.ensures.into_iter_gives ∙ c.values-child-items.ensures.rest)
     in (
       record { nodes = refl; heights = c.requires.heights; lower = λ ino. omega arith },
-      walk_starts (file_system c.args.inodes.now.entries c.args.links.now []) c.args.levels c.args.directory c.if-levels-eq0.false
+      walk_starts (file_system c.args.inodes.now.entries c.args.links.now [] []) c.args.levels c.args.directory c.if-levels-eq0.false
           c.args.inodes.now.entries c.into_iter-child-iterator.result (sym e),
       λ child h. inl (subst (λ l. Has child l) e h),
     )
@@ -65,21 +65,21 @@ pub lower-requires : goal.lower-requires
 lower-requires t c = (
   omega arith,
   (
-    same_holds c.args.inodes.now.entries c.loop-child.inodes.entries c.args.links.now [] c.loop-child.invariant.0.nodes
+    same_holds c.args.inodes.now.entries c.loop-child.inodes.entries c.args.links.now [] [] c.loop-child.invariant.0.nodes
         c.requires.held,
     c.loop-child.invariant.0.heights,
   ),
 )
 
 -- the file system that the nodes stand for so far
-same_so_far : (t : ℕ) (c : After-next t) → file_system c.loop-child.inodes.entries c.args.links.now []
-    ≡ file_system c.args.inodes.now.entries c.args.links.now []
+same_so_far : (t : ℕ) (c : After-next t) → file_system c.loop-child.inodes.entries c.args.links.now [] []
+    ≡ file_system c.args.inodes.now.entries c.args.links.now [] []
 same_so_far t c =
-    same_system c.args.inodes.now.entries c.loop-child.inodes.entries c.args.links.now [] c.loop-child.invariant.0.nodes
+    same_system c.args.inodes.now.entries c.loop-child.inodes.entries c.args.links.now [] [] c.loop-child.invariant.0.nodes
 
 pub loop-child-preserved-then-height_over-gt0 : goal.loop-child-preserved-then-height_over-gt0
 loop-child-preserved-then-height_over-gt0 t c =
-    let fs = file_system c.args.inodes.now.entries c.args.links.now [] in
+    let fs = file_system c.args.inodes.now.entries c.args.links.now [] [] in
     let so_far = c.loop-child.inodes.entries in
     let now = c.lower.new.inodes.entries in
     let child = c.in-Some-child.child.now in
@@ -110,7 +110,7 @@ loop-child-preserved-then-height_over-gt0 t c =
 -- a file
 pub loop-child-preserved : goal.loop-child-preserved
 loop-child-preserved t c =
-    let fs = file_system c.args.inodes.now.entries c.args.links.now [] in
+    let fs = file_system c.args.inodes.now.entries c.args.links.now [] [] in
     let so_far = c.loop-child.inodes.entries in
     let child = c.in-Some-child.child.now in (
       c.loop-child.invariant.0,
@@ -136,7 +136,7 @@ last t c =
     → height_over_at c.loop-child.inodes.entries child ≤ c.loop-child.height =
     λ child h. ⊎_elim (λ i. absurd (subst (λ l. Has child l) c.in-None.ensures.steps.0 i)) (λ low. low)
     (c.loop-child.invariant.2 child h) in
-    let held = same_holds c.args.inodes.now.entries c.loop-child.inodes.entries c.args.links.now [] c.loop-child.invariant.0.nodes
+    let held = same_holds c.args.inodes.now.entries c.loop-child.inodes.entries c.args.links.now [] [] c.loop-child.invariant.0.nodes
     c.requires.held in
     rw c.set_height-2.ensures
     (lowered c.args.links.now c.loop-child.inodes.entries held c.loop-child.invariant.0.heights c.args.directory c.loop-child.height all
@@ -157,7 +157,7 @@ returns-clause-lower t c = (full t c).lower
 
 pub returns-clause-walked : goal.returns-clause-walked
 returns-clause-walked t c =
-    let fs = file_system c.args.inodes.now.entries c.args.links.now [] in
+    let fs = file_system c.args.inodes.now.entries c.args.links.now [] [] in
     let before = c.args.inodes.now.entries in
     let so_far = c.loop-child.inodes.entries in
     subst (λ (es : List (ℕ × Inode)). WasWalked fs before es c.args.levels c.args.directory) (sym c.set_height-2.ensures)

@@ -13,7 +13,7 @@ decreases-lower l = l.levels
 abbrev pub invariant-loop-child : goal.invariant-loop-child
 invariant-loop-child l =
     IsLowered l.fn.inodes.entries l.inodes.entries
-    × IsWalked (file_system l.fn.inodes.entries l.links []) l.fn.inodes.entries l.inodes.entries l.levels l.directory l.height
+    × IsWalked (file_system l.fn.inodes.entries l.links [] []) l.fn.inodes.entries l.inodes.entries l.levels l.directory l.height
     l.child-iterator
     × ((child : ℕ) → Has child (children_of l.links l.directory)
     → Has child l.child-iterator ⊎ (height_over_at l.inodes.entries child ≤ l.height))

@@ -7,5 +7,5 @@ use Rattle.wu_tree.proofs.rebuild.links_stand.Given as goal
 
 abbrev pub invariant-loop-link : goal.invariant-loop-link
 invariant-loop-link l =
-    (is_directory (file_system l.inodes.entries [] []) l.directory ≡ true)
-    × (list_all (λ link. stand_test (file_system l.inodes.entries [] []) (link_of link)) (take l.link-index l.links) ≡ true)
+    (is_directory (file_system l.inodes.entries [] [] []) l.directory ≡ true)
+    × (list_all (λ link. stand_test (file_system l.inodes.entries [] [] []) (link_of link)) (take l.link-index l.links) ≡ true)

@@ -21,20 +21,20 @@ hang-requires c =
     c.requires
 
 -- what is told of the link that comes
-told : (c : In_ok-hang) → c.in_ok-hang.field-0 ≡ child_test (listed c.args.nodes.now [] []) c.link-item.result.child
+told : (c : In_ok-hang) → c.in_ok-hang.field-0 ≡ child_test (listed c.args.nodes.now [] [] []) c.link-item.result.child
 told c =
     c.in_ok-hang.ensures.told
     ∙ told_child (map link_of (take c.loop-link.link-index c.args.links.now)) c.args.nodes.now c.as_mut_slice.result.now
     c.link-item.result.child (c.as_mut_slice.ensures.value ∙ c.loop-link.invariant.nodes_hung)
 
 told_there : (c : In_ok-hang)
-    → child_test (listed c.args.nodes.now [] []) (get_or c.args.links.now c.loop-link.link-index c.link-item.result).child
+    → child_test (listed c.args.nodes.now [] [] []) (get_or c.args.links.now c.loop-link.link-index c.link-item.result).child
     ≡ c.in_ok-hang.field-0
-told_there c = ap (λ (l : LinkRec). child_test (listed c.args.nodes.now [] []) l.child) (sym c.link-item.is) ∙ sym (told c)
+told_there c = ap (λ (l : LinkRec). child_test (listed c.args.nodes.now [] [] []) l.child) (sym c.link-item.is) ∙ sym (told c)
 
 pub returns-then-not-branch : goal.returns-then-not-branch
 returns-then-not-branch c =
-    list_all_at (λ (l : LinkRec). child_test (listed c.args.nodes.now [] []) l.child) c.args.links.now c.loop-link.link-index
+    list_all_at (λ (l : LinkRec). child_test (listed c.args.nodes.now [] [] []) l.child) c.args.links.now c.loop-link.link-index
     c.link-item.result c.loop-link-test.true
     (told_there (goal.at.returns-then-not-branch c).In_ok-hang ∙ c.if-not-branch.true)
 
@@ -45,10 +45,10 @@ loop-link-preserved c =
     let long : c.loop-link.hung.len ≡ length c.hang.new.nodes = omega arith in
     let hung : List HungNode = c.loop-link.hung.items in
     record {
-      children = list_all_more (λ (l : LinkRec). child_test (listed c.args.nodes.now [] []) l.child) c.args.links.now
+      children = list_all_more (λ (l : LinkRec). child_test (listed c.args.nodes.now [] [] []) l.child) c.args.links.now
           c.loop-link.link-index link c.loop-link-test.true
           ∙ ap
-          (λ (b : Bool). b && child_test (listed c.args.nodes.now [] []) (get_or c.args.links.now c.loop-link.link-index link).child)
+          (λ (b : Bool). b && child_test (listed c.args.nodes.now [] [] []) (get_or c.args.links.now c.loop-link.link-index link).child)
           c.loop-link.invariant.children
           ∙ told_there (goal.at.loop-link-preserved c).In_ok-hang ∙ c.if-not-branch.false;
       nodes_hung = ap (λ (n : ℕ). take n (c.hang.new.nodes ++ drop (length c.hang.new.nodes) hung)) long

@@ -54,5 +54,5 @@ returns t c =
 -- the directory is too low
 pub returns-then-from-levels : goal.returns-then-from-levels
 returns-then-from-levels t c =
-    sym (too_low c.self.inside.inodes.entries c.self.inside.links c.self.inside.users.entries c.self.invariant
+    sym (too_low c.self.inside.inodes.entries c.self.inside.links c.self.inside.users.entries c.self.inside.acls.entries c.self.invariant
     c.args.self.now c.self.view_is c.args.levels c.args.directory c.requires.levels (omega arith))

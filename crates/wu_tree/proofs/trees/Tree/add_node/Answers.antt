@@ -6,20 +6,20 @@ use Rattle.wu_tree.proofs.TreeInvariant.{IsNewNode, node_added, put_back, same_s
 use Rattle.wu_tree.proofs.trees.Tree.add_node.Goals as goal
 
 pub raise-requires-clause-there : goal.raise-requires-clause-there
-raise-requires-clause-there c = directory_kept _ _ _ c.self.invariant _ c.self.view_is c.args.parent c.requires.directory
+raise-requires-clause-there c = directory_kept _ _ _ _ c.self.invariant _ c.self.view_is c.args.parent c.requires.directory
 
 pub raise-requires-clause-heights : goal.raise-requires-clause-heights
 raise-requires-clause-heights c = c.self.invariant.heights
 
 -- out of memory: the nodes are as they were, but for heights
 pub invariant_of-self : goal.invariant_of-self
-invariant_of-self c = rw c.in_err-insert.ensures.err (same_sound _ _ _ _ c.raise.ensures.nodes c.self.invariant c.raise.ensures.heights)
+invariant_of-self c = rw c.in_err-insert.ensures.err (same_sound _ _ _ _ _ c.raise.ensures.nodes c.self.invariant c.raise.ensures.heights)
 
 pub returns-in_err-insert-clause-err : goal.returns-in_err-insert-clause-err
 returns-in_err-insert-clause-err c =
-    let e : file_system c.insert.new.self.entries c.self.inside.links c.self.inside.users.entries ≡ c.args.self.now =
+    let e : file_system c.insert.new.self.entries c.self.inside.links c.self.inside.users.entries c.self.inside.acls.entries ≡ c.args.self.now =
     rw c.in_err-insert.ensures.err
-    (same_system _ _ c.self.inside.links c.self.inside.users.entries c.raise.ensures.nodes ∙ c.self.view_is) in
+    (same_system _ _ c.self.inside.links c.self.inside.users.entries c.self.inside.acls.entries c.raise.ensures.nodes ∙ c.self.view_is) in
     search (e, rules)
 
 pub invariant_of-self-in-Err : goal.invariant_of-self-in-Err
@@ -29,10 +29,10 @@ invariant_of-self-in-Err c =
       c.in_ok-insert.ensures.entries,
       c.in-Err.ensures.err,
       c.first.ensures,
-      put_back _ _ _ _ c.self.invariant c.raise.ensures.nodes c.raise.ensures.heights _ c.self.view_is c.args.ino
+      put_back _ _ _ _ _ c.self.invariant c.raise.ensures.nodes c.raise.ensures.heights _ c.self.view_is c.args.ino
           c.args.parent c.args.node c.requires.new,
     )
-    (same_sound _ _ _ _ c.raise.ensures.nodes c.self.invariant c.raise.ensures.heights)
+    (same_sound _ _ _ _ _ c.raise.ensures.nodes c.self.invariant c.raise.ensures.heights)
 
 pub returns-in-Err-clause-err : goal.returns-in-Err-clause-err
 returns-in-Err-clause-err c =
@@ -41,10 +41,10 @@ returns-in-Err-clause-err c =
       c.in_ok-insert.ensures.entries,
       c.in-Err.ensures.err,
       c.first.ensures,
-      put_back _ _ _ _ c.self.invariant c.raise.ensures.nodes c.raise.ensures.heights _ c.self.view_is c.args.ino
+      put_back _ _ _ _ _ c.self.invariant c.raise.ensures.nodes c.raise.ensures.heights _ c.self.view_is c.args.ino
           c.args.parent c.args.node c.requires.new,
     )
-    (same_system _ _ c.self.inside.links c.self.inside.users.entries c.raise.ensures.nodes ∙ c.self.view_is)
+    (same_system _ _ c.self.inside.links c.self.inside.users.entries c.self.inside.acls.entries c.raise.ensures.nodes ∙ c.self.view_is)
 
 abbrev asked : (c : goal.In_default) → IsNewNode c.args.self.now c.args.ino c.args.parent c.args.name.now c.args.node
 asked c = record {
@@ -71,11 +71,11 @@ room c =
 pub invariant_of-self-in_default : goal.invariant_of-self-in_default
 invariant_of-self-in_default c =
     rw (c.in_ok-insert.ensures.entries, c.in_default.ensures.ok, c.first.ensures)
-    (node_added _ _ _ _ c.self.invariant c.raise.ensures.nodes c.raise.ensures.heights _ c.self.view_is c.args.ino
+    (node_added _ _ _ _ _ c.self.invariant c.raise.ensures.nodes c.raise.ensures.heights _ c.self.view_is c.args.ino
     c.args.parent c.args.node c.args.name.now (asked c) (room c)).0
 
 pub returns-clause-ok : goal.returns-clause-ok
 returns-clause-ok c =
     rw (c.in_ok-insert.ensures.entries, c.in_default.ensures.ok, c.first.ensures)
-    (node_added _ _ _ _ c.self.invariant c.raise.ensures.nodes c.raise.ensures.heights _ c.self.view_is c.args.ino
+    (node_added _ _ _ _ _ c.self.invariant c.raise.ensures.nodes c.raise.ensures.heights _ c.self.view_is c.args.ino
     c.args.parent c.args.node c.args.name.now (asked c) (room c)).1

@@ -12,7 +12,7 @@ use Rattle.wu_tree.proofs.trees.Tree.groups_of.Goals as goal
 pub returns-in-Some : goal.returns-in-Some
 returns-in-Some c =
     let groups : c.as_slice.result.now
-    ≡ groups_of (file_system c.self.inside.inodes.entries c.self.inside.links c.self.inside.users.entries) c.args.uid =
+    ≡ groups_of (file_system c.self.inside.inodes.entries c.self.inside.links c.self.inside.users.entries c.self.inside.acls.entries) c.args.uid =
     c.as_slice.ensures ∙ ap (λ o. unwrap_or (option_map (λ u. u.groups) o) []) c.in-Some.ensures.value
     ∙ ap (λ o. unwrap_or o []) (sym (lookup-map_values (λ u. u.groups) _ c.self.inside.users.entries)) in
     record {
@@ -22,7 +22,7 @@ returns-in-Some c =
 
 pub returns-in-None : goal.returns-in-None
 returns-in-None c =
-    let groups : [] ≡ groups_of (file_system c.self.inside.inodes.entries c.self.inside.links c.self.inside.users.entries) c.args.uid =
+    let groups : [] ≡ groups_of (file_system c.self.inside.inodes.entries c.self.inside.links c.self.inside.users.entries c.self.inside.acls.entries) c.args.uid =
     ap (λ o. unwrap_or (option_map (λ u. u.groups) o) []) c.in-None.ensures.value
     ∙ ap (λ o. unwrap_or o []) (sym (lookup-map_values (λ u. u.groups) _ c.self.inside.users.entries)) in
     record {

@@ -9,7 +9,7 @@ pub lower-requires-clause-heights : goal.lower-requires-clause-heights
 lower-requires-clause-heights c = c.self.invariant.heights
 
 pub invariant_of-self : goal.invariant_of-self
-invariant_of-self c = same_sound _ _ _ _ c.lower.ensures.nodes c.self.invariant c.lower.ensures.heights
+invariant_of-self c = same_sound _ _ _ _ _ c.lower.ensures.nodes c.self.invariant c.lower.ensures.heights
 
 pub returns : goal.returns
-returns c = same_system _ _ c.self.inside.links c.self.inside.users.entries c.lower.ensures.nodes ∙ c.self.view_is
+returns c = same_system _ _ c.self.inside.links c.self.inside.users.entries c.self.inside.acls.entries c.lower.ensures.nodes ∙ c.self.view_is

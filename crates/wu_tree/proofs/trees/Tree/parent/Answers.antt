@@ -9,28 +9,28 @@ use Rattle.wu_tree.proofs.trees.Tree.parent.Goals as goal
 pub returns-clause-parent : goal.returns-clause-parent
 returns-clause-parent c =
     let t = c.self.inside in
-    let directory : is_directory (file_system t.inodes.entries t.links t.users.entries) c.args.directory
+    let directory : is_directory (file_system t.inodes.entries t.links t.users.entries t.acls.entries) c.args.directory
     ≡ true = subst (λ (v : FileSystem). is_directory v c.args.directory ≡ true) (sym c.self.view_is) c.requires.found in
     rw (← c.self.view_is)
     (c.parent.ensures
-    ∙ parent_kept _ _ _ c.self.invariant c.args.directory c.in_ok-get.field-0.now
+    ∙ parent_kept _ _ _ _ c.self.invariant c.args.directory c.in_ok-get.field-0.now
     (sym c.in_ok-get.ensures.value) directory c.requires.below)
 
 pub returns-clause-directory : goal.returns-clause-directory
 returns-clause-directory c =
     let t = c.self.inside in
-    let directory : is_directory (file_system t.inodes.entries t.links t.users.entries) c.args.directory
+    let directory : is_directory (file_system t.inodes.entries t.links t.users.entries t.acls.entries) c.args.directory
     ≡ true = subst (λ (v : FileSystem). is_directory v c.args.directory ≡ true) (sym c.self.view_is) c.requires.found in
     rw (c.parent.ensures
-    ∙ parent_kept _ _ _ c.self.invariant c.args.directory c.in_ok-get.field-0.now
+    ∙ parent_kept _ _ _ _ c.self.invariant c.args.directory c.in_ok-get.field-0.now
     (sym c.in_ok-get.ensures.value) directory c.requires.below
     ∙ ap (λ (v : FileSystem). parent_of v.links c.args.directory) c.self.view_is)
     (subst (λ (v : FileSystem). IfSome (parent_of v.links c.args.directory) (λ p. is_directory v p ≡ true)) c.self.view_is
-    (parent_directory (file_system t.inodes.entries t.links t.users.entries) t.links c.self.invariant.tree.links c.args.directory))
+    (parent_directory (file_system t.inodes.entries t.links t.users.entries t.acls.entries) t.links c.self.invariant.tree.links c.args.directory))
 
 pub returns-in_err-get : goal.returns-in_err-get
 returns-in_err-get c =
     let t = c.self.inside in
-    let directory : is_directory (file_system t.inodes.entries t.links t.users.entries) c.args.directory
+    let directory : is_directory (file_system t.inodes.entries t.links t.users.entries t.acls.entries) c.args.directory
     ≡ true = subst (λ (v : FileSystem). is_directory v c.args.directory ≡ true) (sym c.self.view_is) c.requires.found in
-    absurd (directory_inode _ _ _ c.self.invariant c.args.directory directory (sym c.in_err-get.ensures.value))
+    absurd (directory_inode _ _ _ _ c.self.invariant c.args.directory directory (sym c.in_err-get.ensures.value))
