@@ -6,3 +6,4 @@ pub mod ViewsAlike
 pub mod UnseenEvents
 pub mod UnseenCases
 pub mod UnseenItems
+pub mod Purging

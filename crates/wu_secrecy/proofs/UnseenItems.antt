@@ -138,11 +138,31 @@ unseen-items flush_at uid s (said ∷ saids) valid states unseen =
     unseen-items flush_at uid (after flush_at s said) saids valid.1 states.1 unseen.1
     ∙ unseen-item flush_at uid s said states.0 valid.0 unseen.0
 
+-- while nothing is seen, each item is met with the same view
+views-same : (flush_at uid : ℕ) (view : List Shown) (s : State) (saids : List Said) → view_of s uid ≡ view
+    → AllByRecursion TellsEvent saids → AllByRecursion (λ m. IsState m.0) (met flush_at s saids)
+    → AllByRecursion (λ m. IsUnseenItem uid m.0 m.1) (met flush_at s saids)
+    → AllByRecursion (λ m. view_of m.0 uid ≡ view) (met flush_at s saids)
+views-same flush_at uid view s [] same valid states unseen = tt
+views-same flush_at uid view s (said ∷ saids) same valid states unseen = (
+  same,
+  views-same flush_at uid view (after flush_at s said) saids
+      (unseen-item flush_at uid s said states.0 valid.0 unseen.0 ∙ same) valid.1 states.1 unseen.1,
+)
+
 -- a script of which she sees nothing
 pub unseen-script : (flush_at uid : ℕ) (read : Reading) (s : State) (bytes : List ℕ) → IsState s
     → AllByRecursion (λ m. IsUnseenItem uid m.0 m.1) (met flush_at s (map (said_of read) (items_of bytes)))
     → view_of (last_state flush_at s (map (said_of read) (items_of bytes))) uid ≡ view_of s uid
 unseen-script flush_at uid read s bytes is unseen =
     unseen-items flush_at uid s (map (said_of read) (items_of bytes)) (script_tells read bytes)
+    (recursion_from_All (λ (m : Met). IsState m.0) (met flush_at s (map (said_of read) (items_of bytes)))
+    (met_states flush_at read s bytes is)) unseen
+
+pub script-views : (flush_at uid : ℕ) (read : Reading) (s : State) (bytes : List ℕ) → IsState s
+    → AllByRecursion (λ m. IsUnseenItem uid m.0 m.1) (met flush_at s (map (said_of read) (items_of bytes)))
+    → AllByRecursion (λ m. view_of m.0 uid ≡ view_of s uid) (met flush_at s (map (said_of read) (items_of bytes)))
+script-views flush_at uid read s bytes is unseen =
+    views-same flush_at uid (view_of s uid) s (map (said_of read) (items_of bytes)) refl (script_tells read bytes)
     (recursion_from_All (λ (m : Met). IsState m.0) (met flush_at s (map (said_of read) (items_of bytes)))
     (met_states flush_at read s bytes is)) unseen

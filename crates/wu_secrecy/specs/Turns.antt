@@ -54,3 +54,9 @@ asked_by uid turns = map (asked_in uid) (hers uid turns)
 -- what she was told, in turn
 abbrev pub told_to : ℕ → List Turn → List (List ℕ)
 told_to uid turns = map (λ turn. turn.reply) (hers uid turns)
+
+-- ---- without the others
+
+-- her queries among items, without what anybody else did
+abbrev pub purged : ℕ → List Entry → List Entry
+purged uid entries = filter (is_asked_by uid) entries

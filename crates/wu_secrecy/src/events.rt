@@ -10,7 +10,8 @@ ghost use Rattle.wu_tree.specs.declared.events.Event.{Event};
 ghost use Rattle.wu_tree.specs.declared.events.Event.TheVariants.{Chmod, Chown, Text, User};
 ghost use Rattle.wu_engine.specs.States.{IsState, State, after_event};
 ghost use Rattle.wu_engine.specs.View.{view_of};
-ghost use Rattle.wumpus_run.specs.Replies.{after_operation, last_state, met};
+ghost use Rattle.wumpus_run.specs.Replies.{Rules, after_operation, last_state, met};
+ghost use Rattle.wu_secrecy.specs.Turns.{purged, told_to, turns_of};
 ghost use Rattle.wu_secrecy.specs.Unseen.{IsBelowClosed, IsUnseen, admits, is_reachable, is_searchable};
 ghost use Rattle.wu_secrecy.specs.UnseenItems.{IsUnseenItem};
 
@@ -47,4 +48,12 @@ pub fn events_that_change_no_links()
         → view_of (after_event flush_at s (Chown ino owner group) []) uid ≡ view_of s uid }
     ensures groups { (flush_at uid other : ℕ) (groups : List ℕ) (s : State) → IsState s → uid ≢ other
         → view_of (after_event flush_at s (User other groups) []) uid ≡ view_of s uid }
+{}
+
+/// Noninterference as Goguen and Meseguer state it, by purging: in a session in which nothing that anybody does shows to her, a user
+/// is told exactly what she is told in the session that has her queries alone.
+pub fn what_is_unseen_can_be_left_out()
+    ensures { (rules : Rules) (uid : ℕ) (s : State) (bytes : List ℕ) → IsState s
+        → AllByRecursion (λ m. IsUnseenItem uid m.0 m.1) (met rules.flush_at s (map (said_of rules.read) (items_of bytes)))
+        → told_to uid (turns_of rules s (items_of bytes)) ≡ told_to uid (turns_of rules s (purged uid (items_of bytes))) }
 {}

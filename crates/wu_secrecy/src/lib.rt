@@ -10,7 +10,7 @@ mod runs;
 
 pub use events::{
     events_below_a_closed_directory, events_that_change_no_links,
-    her_view_is_moved_by_what_she_may_see,
+    her_view_is_moved_by_what_she_may_see, what_is_unseen_can_be_left_out,
 };
 pub use laws::{
     a_reply_is_over_her_view, a_session_tells_her_alike, turns_are_the_output,
