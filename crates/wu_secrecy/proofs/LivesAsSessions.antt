@@ -4,7 +4,8 @@ use Rattle.std.specs.Prelude.{IfSome, IsSome, option_map}
 use Rattle.std.specs.List.{AllByRecursion}
 use Rattle.wu_outside.specs.Content.{Content}
 use Rattle.wu_outside.specs.Crash.{IsPartly, LeftNow, MayLeave, Moments, starts_with}
-use Rattle.wu_outside.specs.Surviving.{IsLeft, LeavesNow}
+use Rattle.wu_outside.specs.Surviving.{IsLeft, LeavesNow, LeavesOnly}
+use Rattle.wu_layout.specs.Invariants.{SomeOf}
 use Rattle.wu_outside.proofs.Survival.{same_content}
 use Rattle.wu_script.specs.Commands.{Entry}
 use Rattle.wu_script.specs.Items.{items_of}
@@ -15,13 +16,13 @@ use Rattle.wu_engine.specs.Opening.{HoldsImage}
 use Rattle.wu_engine.specs.States.{State}
 use Rattle.wumpus_run.specs.declared.statuses.Status.{Status}
 use Rattle.wumpus_run.specs.declared.statuses.Status.TheVariants.{Done, Usage, ReadFault, WriteFault, NoMemory, InputTooLong, StoreFault, Damaged, Spent}
-use Rattle.wumpus_run.specs.Crashes.{Acknowledges, IsUnopened, LeavesAcknowledged, LeavesLast, last_save, left_to_next, next_save}
+use Rattle.wumpus_run.specs.Crashes.{Acknowledges, IsImageOfOne, IsUnopened, LeavesAcknowledged, LeavesLast, last_save, left_to_next, next_save, saves_of}
 use Rattle.wumpus_run.specs.Permitted.{Reaches}
 use Rattle.wumpus_run.specs.Replies.{AreRules, Rules, state_after}
 use Rattle.wumpus_run.specs.Session.{Moment}
 use Rattle.wu_secrecy.specs.Turns.{turn_of, turns_of}
 use Rattle.wu_secrecy.specs.Histories.{AnswersInTurn, AreCoursesOf, Course, IsCourseOf, Session, rules_with, session_from}
-use Rattle.wu_secrecy.specs.Lives.{AreInTurn, AreStarts, Begins, GoesOn, IsAcknowledged, IsLife, IsRun, IsSavedBy, MayBeFound, Restarts, Run, Started, sessions_of}
+use Rattle.wu_secrecy.specs.Lives.{AreInTurn, AreStarts, Begins, GoesOn, IsAcknowledged, IsLife, History, IsRun, IsSavedBy, MayBeFound, Restarts, Run, Started, SurvivesStop, sessions_of}
 
 -- ---- options
 
@@ -160,6 +161,32 @@ module _ (read : Reading) (are : IsReading read) (first : State) where
               (λ content left. subst (IsFound (started ∷ earlier)) (sym (begun-anew r.content content left)) found),
         )) how
 
+  -- ---- a crash while a run goes on
+
+  one-of : (content : Content) (saves : List State) → IsImageOfOne saves content
+      → (s : State) × SomeOf (λ saved. s ≡ saved) saves × IsImageOf s content
+  one-of content [] h = absurd h
+  one-of content (save ∷ saves) h =
+      ⊎_elim (λ i. (save, inl refl, i)) (λ later. let r = one-of content saves later in (r.0, inr r.1, r.2)) h
+
+  pub survives-stop : (earlier : List Started) (run : Run) (s : State) → IsRun run → HoldsImage run.before.holds s
+      → SurvivesStop read first earlier (run, s)
+  survives-stop earlier run s is image old =
+      let rules : Rules = rules_with read run.told in
+      let adds = told-some
+      (λ (bytes : List ℕ). (rs : Rules) → AreRules run.before.holds run.told rs
+      → LeavesOnly (Some run.old) (Some run.new)
+      (λ content. IsLeft (Some run.old) content ⊎ IsImageOfOne (saves_of rs s (items_of bytes)) content))
+      run.before.left run.input is.given (is.crash s image) rules (are, refl, held-there run.before.holds s image) in
+      record {
+        added = adds.added;
+        before = adds.before;
+        leaves = λ k d h content left.
+            ⊎_elim (λ l. let found = old content l in (found.0, inl found.1, found.2))
+            (λ o. let saved = one-of content (saves_of rules s (items_of run.input)) o in (saved.0, inr saved.1, saved.2))
+            (adds.leaves k d h content left);
+      }
+
   -- ---- a life
 
   -- the states from which its runs went on, and their courses
@@ -181,8 +208,9 @@ module _ (read : Reading) (are : IsReading read) (first : State) where
       let rest = lives-on ((run, s) ∷ earlier) next later are_runs.1 in_turn.1 found_next.0.0 found_next.0.1 found_next.0.2 found_next.1 in
       (s ∷ rest.0, (image, found, rest.1), (course.0 ∷ rest.2.0, (course.1, rest.2.1)))
 
-  pub life-sessions : (runs : List Run) → IsLife first runs → Lives [] runs
-  life-sessions [] life = ([], tt, ([], tt))
-  life-sessions (run ∷ later) life =
-      lives-on [] run later life.2 life.1 first life.0.image refl
-      (λ content left. (first, refl, life.0.alone content left))
+  pub life-history : (runs : List Run) → IsLife first runs → History read first runs
+  life-history [] life = record { starts = []; from = tt; courses = []; took = tt }
+  life-history (run ∷ later) life =
+      let lives = lives-on [] run later life.2 life.1 first life.0.image refl
+      (λ content left. (first, refl, life.0.alone content left)) in
+      record { starts = lives.0; from = lives.1; courses = lives.2.0; took = lives.2.1 }

@@ -4,7 +4,8 @@ use Rattle.std.specs.Io.KnownBytes.{Appends}
 use Rattle.std.specs.List.{AllByRecursion}
 use Rattle.wu_outside.specs.Content.{Content}
 use Rattle.wu_outside.specs.Crash.{AreAlike, LeftNow, Moments, starts_with}
-use Rattle.wu_outside.specs.Surviving.{LeavesNow}
+use Rattle.wu_outside.specs.Surviving.{LeavesNow, LeavesOnly}
+use Rattle.wu_layout.specs.Invariants.{SomeOf}
 use Rattle.wu_script.specs.Commands.{Entry}
 use Rattle.wu_script.specs.Items.{items_of}
 use Rattle.wu_script.specs.Said.{Reading}
@@ -14,10 +15,10 @@ use Rattle.wu_engine.specs.Opening.{HoldsImage}
 use Rattle.wu_engine.specs.States.{State}
 use Rattle.wumpus_run.specs.declared.statuses.Status.{Status}
 use Rattle.wumpus_run.specs.declared.statuses.Status.TheVariants.{Done}
-use Rattle.wumpus_run.specs.Crashes.{IsUnopened, LeavesAcknowledged, LeavesLast, last_save, left_to_next, next_save}
+use Rattle.wumpus_run.specs.Crashes.{IsUnopened, LeavesAcknowledged, LeavesLast, LeavesSaves, last_save, left_to_next, next_save, saves_of}
 use Rattle.wumpus_run.specs.Replies.{Rules, output_of, state_after}
 use Rattle.wumpus_run.specs.Session.{FromImage, Moment}
-use Rattle.wu_secrecy.specs.Histories.{AnswersInTurn, Session, rules_with, session_from}
+use Rattle.wu_secrecy.specs.Histories.{AnswersInTurn, AreCoursesOf, Course, Session, rules_with, session_from}
 
 -- ---- runs
 
@@ -32,11 +33,13 @@ pub record Run : Type 0 where
   pub old : Moments
   pub new : Moments
 
--- what the contract of `run` says of it, in the clauses `turns`, `durable` and `acknowledged`; and that its store tells alike what it
--- holds and what a crash leaves
+-- What the contract of `run` says of it in the clauses `turns`, `crash`, `durable` and `acknowledged`; and that its store tells alike what
+-- it holds and what a crash leaves. A run that is killed is like one whose source, sink and store fail from then on.
 pub record IsRun (run : Run) : Type 0 where
   pub given : run.before.left ≡ Some run.input
   pub turns : FromImage run.before.holds (λ s. AnswersInTurn s run.status (Some run.told) run.before run.now)
+  pub crash : FromImage run.before.holds (λ s.
+      LeavesSaves s (Some run.told) run.before.holds run.before.left (Some run.old) (Some run.new))
   pub durable : run.status ≡ Done
       → FromImage run.before.holds (λ s. LeavesLast s (Some run.told) run.before.holds run.before.left (Some run.new))
   pub acknowledged : FromImage run.before.holds (λ s.
@@ -115,3 +118,26 @@ sessions_of [] starts = []
 sessions_of (run ∷ runs) [] = []
 sessions_of (run ∷ runs) (s ∷ starts) =
     session_from s (Some run.told) run.status run.before run.now ∷ sessions_of runs starts
+
+-- A life as a history: for each run a state from which it went on, and the course that it took.
+pub record History (read : Reading) (first : State) (runs : List Run) : Type 0 where
+  pub starts : List State
+  pub from : AreStarts read first [] runs starts
+  pub courses : List Course
+  pub took : AreCoursesOf read (sessions_of runs starts) courses
+
+-- ---- a crash while a run goes on
+
+-- an image of a state that the run might have found, or of one that it saves
+abbrev pub IsFoundOrSaved : Reading → State → List Started → Started → Content → Type 0
+IsFoundOrSaved read first earlier started content =
+    (s : State)
+    × (MayBeFound read first earlier s
+    ⊎ SomeOf (λ saved. s ≡ saved) (saves_of (rules_with read started.0.told) started.1 (items_of started.0.input)))
+    × IsImageOf s content
+
+-- Where a crash before it would leave images of such states alone, so it is with a crash while it goes on.
+abbrev pub SurvivesStop : Reading → State → List Started → Started → Type 0
+SurvivesStop read first earlier started =
+    ((content : Content) → LeftNow started.0.old content → (s : State) × MayBeFound read first earlier s × IsImageOf s content)
+    → LeavesOnly (Some started.0.old) (Some started.0.new) (IsFoundOrSaved read first earlier started)

@@ -2,7 +2,7 @@ use Rattle.std.proofs.Common.{Option, Some, subst}
 use Rattle.wu_outside.specs.Crash.{AreAlike, Moments}
 use Rattle.wu_options.specs.CommandLines.{texts_of}
 use Rattle.wu_options.specs.declared.command_lines.Settings.{Settings}
-use Rattle.wumpus_run.specs.Crashes.{LeavesAcknowledged, LeavesLast}
+use Rattle.wumpus_run.specs.Crashes.{LeavesAcknowledged, LeavesLast, LeavesSaves}
 use Rattle.wumpus_run.specs.Session.{moment, settings_of}
 use Rattle.wu_secrecy.specs.Histories.{AnswersInTurn}
 use Rattle.wu_secrecy.proofs.RunTurns.{has-course, reached}
@@ -35,6 +35,12 @@ returns-clause-life g c = λ told input old new asked given had has.
           subst (λ (settings : Option Settings). AnswersInTurn s c.run.result settings before now) asked
           (reached s c.run.result (settings_of (texts_of c.args.words.now)) before now
           (g.D.Store.reads c.args.store.now) (g.D.Store.reads c.run.new.store) image (c.run.ensures.permitted s image));
+      crash = λ s image.
+          subst (λ (moments : Option Moments). LeavesSaves s (Some told) before.holds before.left (Some old) moments) has
+          (subst (λ (moments : Option Moments). LeavesSaves s (Some told) before.holds before.left moments
+          (g.D.Store.moments c.run.new.store)) had
+          (subst (λ (settings : Option Settings). LeavesSaves s settings before.holds before.left
+          (g.D.Store.moments c.args.store.now) (g.D.Store.moments c.run.new.store)) asked (c.run.ensures.crash s image)));
       durable = λ done s image.
           subst (λ (moments : Option Moments). LeavesLast s (Some told) before.holds before.left moments) has
           (subst (λ (settings : Option Settings). LeavesLast s settings before.holds before.left (g.D.Store.moments c.run.new.store)) asked
