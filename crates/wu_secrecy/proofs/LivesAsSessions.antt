@@ -1,28 +1,27 @@
 -- A life is a history of sessions, each from a state that was saved by the one before.
-use Rattle.std.proofs.Common.{◌≡◌, ◌⊎◌, ℕ, List, [], ◌∷◌, ◌++◌, Option, None, Some, refl, sym, ap, ◌∙◌, subst, inl, inr, ⊎_elim}
+use Rattle.std.proofs.Common.{◌≡◌, ◌⊎◌, ℕ, List, [], ◌∷◌, Option, None, Some, refl, sym, ◌∙◌, subst, inl, inr, ⊎_elim}
 use Rattle.std.specs.Prelude.{IfSome, IsSome, option_map}
 use Rattle.std.specs.List.{AllByRecursion}
 use Rattle.wu_outside.specs.Content.{Content}
-use Rattle.wu_outside.specs.Crash.{IsPartly, LeftNow, MayLeave, Moments, starts_with}
+use Rattle.wu_outside.specs.Crash.{IsPartly, LeftNow, Moments, starts_with}
 use Rattle.wu_outside.specs.Surviving.{IsLeft, LeavesNow, LeavesOnly}
 use Rattle.wu_layout.specs.Invariants.{SomeOf}
 use Rattle.wu_outside.proofs.Survival.{same_content}
-use Rattle.wu_script.specs.Commands.{Entry}
 use Rattle.wu_script.specs.Items.{items_of}
 use Rattle.wu_script.specs.Said.{IsReading, Reading}
 use Rattle.wu_options.specs.declared.command_lines.Settings.{Settings}
-use Rattle.wu_engine.specs.Crashes.{IsImageOf, IsImageOfEither}
+use Rattle.wu_engine.specs.Crashes.{IsImageOf}
 use Rattle.wu_engine.specs.Opening.{HoldsImage}
 use Rattle.wu_engine.specs.States.{State}
 use Rattle.wumpus_run.specs.declared.statuses.Status.{Status}
 use Rattle.wumpus_run.specs.declared.statuses.Status.TheVariants.{Done, Usage, ReadFault, WriteFault, NoMemory, InputTooLong, StoreFault, Damaged, Spent}
-use Rattle.wumpus_run.specs.Crashes.{Acknowledges, IsImageOfOne, IsUnopened, LeavesAcknowledged, LeavesLast, last_save, left_to_next, next_save, saves_of}
+use Rattle.wumpus_run.specs.Crashes.{Acknowledges, IsImageOfOne, IsUnopened, last_save, left_to_next, next_save, saves_of}
 use Rattle.wumpus_run.specs.Permitted.{Reaches}
 use Rattle.wumpus_run.specs.Replies.{AreRules, Rules, state_after}
 use Rattle.wumpus_run.specs.Session.{Moment}
 use Rattle.wu_secrecy.specs.Turns.{turn_of, turns_of}
-use Rattle.wu_secrecy.specs.Histories.{AnswersInTurn, AreCoursesOf, Course, IsCourseOf, Session, rules_with, session_from}
-use Rattle.wu_secrecy.specs.Lives.{AreInTurn, AreStarts, Begins, GoesOn, IsAcknowledged, IsLife, History, IsRun, IsSavedBy, MayBeFound, Restarts, Run, Started, SurvivesStop, sessions_of}
+use Rattle.wu_secrecy.specs.Histories.{AnswersInTurn, AreCoursesOf, Course, IsCourseOf, rules_with, session_from}
+use Rattle.wu_secrecy.specs.Lives.{AreInTurn, AreStarts, GoesOn, IsAcknowledged, IsLife, History, IsRun, MayBeFound, Restarts, Run, Started, SurvivesStop, sessions_of}
 
 -- ---- options
 
@@ -136,6 +135,7 @@ module _ (read : Reading) (are : IsReading read) (first : State) where
           all = a.all;
           part = a.part;
           gained = a.gained;
+          cut = a.cut;
           is = how;
         }
 

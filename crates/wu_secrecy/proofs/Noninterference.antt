@@ -1,8 +1,7 @@
 -- Two machines tell a user alike whatever else they do, where they show her alike.
-use Rattle.std.proofs.Common.{◌≡◌, ◌⊎◌, ℕ, zero, suc, Bool, true, List, [], ◌∷◌, ◌++◌, map, take, Option, None, Some, IfSome, refl, ap, sym, ◌∙◌, subst}
+use Rattle.std.proofs.Common.{◌≡◌, ℕ, List, [], ◌∷◌, ◌++◌, map, take, Option, None, Some, IfSome, refl, ap, sym, ◌∙◌, subst}
 use Rattle.std.specs.Prelude.{slice_get, option_map}
 use Rattle.std.specs.Io.KnownBytes.{Appends}
-use Rattle.std.specs.List.{flat_map}
 use Rattle.std.proofs.lemmas.List.{take-map}
 use Rattle.std.proofs.lemmas.Option.{slice_get-map}
 use Rattle.std.proofs.Common.{append-nil}
@@ -10,10 +9,9 @@ use Rattle.std.specs.Option.{option_to_list}
 use Rattle.wu_script.specs.Commands.{Entry}
 use Rattle.wu_script.specs.Said.{Reading, said_of}
 use Rattle.wu_engine.specs.States.{State}
-use Rattle.wu_engine.specs.View.{view_of}
 use Rattle.wumpus_run.specs.Replies.{Rules, output_of, said_bytes, state_after}
-use Rattle.wu_secrecy.specs.Turns.{Turn, Asked, asked_by, asked_in, is_asked_by, output_in, told_to, turn_of, turns_of}
-use Rattle.wu_secrecy.specs.Answers.{answer_to, bytes_over}
+use Rattle.wu_secrecy.specs.Turns.{Turn, asked_by, asked_in, output_in, told_to, turn_of, turns_of}
+use Rattle.wu_secrecy.specs.Answers.{answer_to}
 use Rattle.wu_secrecy.specs.Histories.{AreCoursesOf, BeginsAlike, Course, IsCourseOf, IsPartOf, Sends, Session, TellAlike, rules_with, turns_in}
 use Rattle.wu_secrecy.proofs.TurnLemmas.{AreWhole, output_of-turns, reply-hers, told-answers, whole-append, whole-turns}
 

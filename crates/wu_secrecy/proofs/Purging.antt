@@ -1,11 +1,10 @@
 -- What others do unseen can be left out.
-use Rattle.std.proofs.Common.{◌≡◌, ℕ, Bool, true, false, cond, List, [], ◌∷◌, map, Result, Ok, Err, refl, ap, sym, ◌∙◌, subst}
-use Rattle.std.specs.Prelude.{filter}
+use Rattle.std.proofs.Common.{◌≡◌, ℕ, Bool, true, false, cond, List, [], ◌∷◌, map, Result, Ok, Err, refl, ap, sym, ◌∙◌}
 use Rattle.std.specs.List.{AllByRecursion}
 use Rattle.wu_ask.specs.Questions.{Question}
 use Rattle.wu_script.specs.Commands.{Entry, Asking}
 use Rattle.wu_script.specs.Items.{items_of}
-use Rattle.wu_script.specs.Said.{Reading, asked, question_in, said_of}
+use Rattle.wu_script.specs.Said.{asked, question_in, said_of}
 use Rattle.wu_script.specs.declared.types.Why.{Why}
 use Rattle.wu_engine.specs.States.{IsState, State}
 use Rattle.wu_engine.specs.View.{Shown, view_of}

@@ -1,18 +1,17 @@
 -- What a run answered, by what it read.
-use Rattle.std.proofs.Common.{◌≡◌, ℕ, List, Option, None, Some, refl, sym, subst}
+use Rattle.std.proofs.Common.{◌≡◌, List, Option, None, Some, refl}
 use Rattle.std.specs.Prelude.{IfSome, IsSome}
 use Rattle.wu_outside.specs.Content.{Content}
 use Rattle.wu_outside.specs.declared.ranges.ReadRange.{ReadRange}
 use Rattle.wu_script.specs.Items.{items_of}
-use Rattle.wu_script.specs.Said.{IsReading, Reading}
 use Rattle.wu_options.specs.declared.command_lines.Settings.{Settings}
 use Rattle.wu_engine.specs.Opening.{HoldsImage}
 use Rattle.wu_engine.specs.States.{State}
 use Rattle.wumpus_run.specs.declared.statuses.Status.{Status}
-use Rattle.wumpus_run.specs.Permitted.{Reaches, ReadsInSession, ReadsPermitted}
+use Rattle.wumpus_run.specs.Permitted.{ReadsInSession, ReadsPermitted}
 use Rattle.wumpus_run.specs.Replies.{AreRules, Rules}
 use Rattle.wumpus_run.specs.Session.{Moment}
-use Rattle.wu_secrecy.specs.Histories.{AnswersInTurn, Course, HasCourse, IsCourseOf, session_from}
+use Rattle.wu_secrecy.specs.Histories.{AnswersInTurn, HasCourse, session_from}
 use Rattle.wu_secrecy.proofs.LivesAsSessions.{course-reached}
 
 if-some-then : {X : Type 0} (P Q : X → Type 0) (o : Option X) → ((x : X) → o ≡ Some x → P x → Q x) → IfSome o P → IfSome o Q

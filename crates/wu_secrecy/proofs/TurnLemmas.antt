@@ -1,17 +1,17 @@
 -- The turns of a session and its output, and her replies as functions of her views.
-use Rattle.std.proofs.Common.{◌≡◌, ℕ, Bool, true, false, cond, List, [], ◌∷◌, ◌++◌, map, refl, ap, sym, ◌∙◌}
-use Rattle.std.specs.Prelude.{◌==◌, filter, Result, Ok, Err}
+use Rattle.std.proofs.Common.{◌≡◌, ℕ, true, false, cond, List, [], ◌∷◌, ◌++◌, map, refl, ap, ◌∙◌}
+use Rattle.std.specs.Prelude.{Result, Ok, Err}
 use Rattle.std.specs.List.{AllByRecursion}
 use Rattle.std.proofs.lemmas.Bool.{eqb-true}
 use Rattle.wu_ask.specs.Questions.{Question}
-use Rattle.wu_script.specs.Commands.{Entry, Happening, Asking, Operating, Refusing, Blank, Wish}
+use Rattle.wu_script.specs.Commands.{Entry, Asking, Wish}
 use Rattle.wu_script.specs.Replies.{reply_bytes}
 use Rattle.wu_script.specs.Said.{Reading, asked, question_in, said_of}
 use Rattle.wu_script.specs.declared.types.Why.{Why}
 use Rattle.wu_engine.specs.States.{State}
 use Rattle.wu_engine.specs.View.{view_of}
 use Rattle.wumpus_run.specs.Replies.{Rules, after, output_of, said_bytes}
-use Rattle.wu_secrecy.specs.Turns.{Turn, asked_by, asked_in, hers, is_asked_by, output_in, told_to, turn_of, turns_of}
+use Rattle.wu_secrecy.specs.Turns.{Turn, asked_by, asked_in, hers, is_asked_by, output_in, told_to, turns_of}
 use Rattle.wu_secrecy.specs.Answers.{answer_to, bytes_over, reply_over}
 
 -- the replies of a session's turns are its output

@@ -1,26 +1,24 @@
 -- Kinds of events that show in nothing that a user may search.
 use Rattle.std.proofs.Common.{◌≡◌, ◌≢◌, ℕ, Bool, true, false, cond, ◌&&◌, ◌||◌, not, List, refl, ap, sym, ◌∙◌, subst}
-use Rattle.std.specs.Prelude.{Option, None, Some, is_some}
+use Rattle.std.specs.Prelude.{Option, None, Some}
 use Rattle.std.specs.Cmp.{nat_cmp_total}
 use Rattle.std.specs.Ordering.{is_eq, nat_cmp}
 use Rattle.wu_base.specs.SortedOnce.{sorted_once}
 use Rattle.wu_base.proofs.MapEntries.{lookup-insert_entry}
 use Rattle.wu_access.specs.declared.Perm.{Perm}
-use Rattle.wu_access.specs.declared.UserRec.{UserRec}
 use Rattle.wu_access.specs.Access.{is_allowed}
 use Rattle.wu_tree.specs.declared.events.Event.{Event}
 use Rattle.wu_tree.specs.declared.events.Event.TheVariants.{User, Mkdir, Create, Text, Link, Unlink, Rmdir, Rename, Chmod, Chown}
 use Rattle.wu_tree.specs.declared.events.Kind.TheVariants.{File}
 use Rattle.wu_tree.specs.declared.events.Node.{Node}
 use Rattle.wu_tree.specs.FileSystems.{FileSystem, child_of, groups_of, is_directory, node_of}
-use Rattle.wu_tree.specs.Steps.{next, with_perm, with_user}
+use Rattle.wu_tree.specs.Steps.{with_perm, with_user}
 use Rattle.wu_tree.proofs.ParentPaths.{other_number, same_number}
 use Rattle.wu_tree.proofs.PathsDown.{no_second}
 use Rattle.wu_view.specs.Views.{is_open, user_with}
-use Rattle.wu_frames.specs.declared.links.ChangedLink.{ChangedLink}
-use Rattle.wu_frames.specs.Links.{is_shown, is_some_shown, link_to, node_at}
+use Rattle.wu_frames.specs.Links.{is_some_shown, link_to, node_at}
 use Rattle.wu_frames.specs.Permissions.{user_in, want_of}
-use Rattle.wu_secrecy.specs.Unseen.{AdmitsAlike, IsBelowClosed, IsUnseen, admits, admits_node, is_closed, is_reachable, is_searchable}
+use Rattle.wu_secrecy.specs.Unseen.{AdmitsAlike, IsBelowClosed, IsUnseen, admits, admits_node, is_closed, is_reachable}
 use Rattle.wu_secrecy.proofs.UnseenEvents.{node-now}
 
 -- ---- a directory that is closed to her

@@ -1,18 +1,17 @@
 -- An event that shows in nothing that a user may search leaves the files of her view, and their paths.
-use Rattle.std.proofs.Common.{◌≡◌, ℕ, Bool, true, false, cond, List, refl, ap, sym, ◌∙◌, subst}
+use Rattle.std.proofs.Common.{◌≡◌, ℕ, Bool, true, false, cond, refl, ap, sym, ◌∙◌, subst}
 use Rattle.std.specs.Prelude.{Option, None, Some, is_some}
 use Rattle.std.specs.Cmp.{nat_cmp_total, eq_by_cmp_equiv}
 use Rattle.std.specs.Ordering.{is_eq, nat_cmp}
-use Rattle.std.specs.Map.{set_value}
 use Rattle.std.specs.BTreeMap.{is_at}
 use Rattle.std.proofs.lemmas.Map.{lookup-set_value}
 use Rattle.wu_access.specs.declared.Perm.{Perm}
 use Rattle.wu_tree.specs.declared.events.Event.{Event}
 use Rattle.wu_tree.specs.declared.events.Event.TheVariants.{User, Mkdir, Create, Text, Link, Unlink, Rmdir, Rename, Chmod, Chown}
 use Rattle.wu_tree.specs.declared.events.Node.{Node}
-use Rattle.wu_tree.specs.FileSystems.{FileSystem, is_directory, is_directory_node, is_file, is_file_node, node_of}
+use Rattle.wu_tree.specs.FileSystems.{FileSystem, is_directory_node, is_file_node, node_of}
 use Rattle.wu_tree.specs.Rules.{IsTree}
-use Rattle.wu_tree.specs.Steps.{IsEvent, effect_of, next, refusal_of, with_perm}
+use Rattle.wu_tree.specs.Steps.{next, refusal_of, with_perm}
 use Rattle.wu_tree.proofs.ParentPaths.{same_number}
 use Rattle.wu_view.specs.Views.{view_of}
 use Rattle.wu_frames.specs.declared.links.LinkChanges.{LinkChanges}

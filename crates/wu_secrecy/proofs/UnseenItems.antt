@@ -1,5 +1,5 @@
 -- What shows in nothing that a user may search leaves her view as it was, texts too.
-use Rattle.std.proofs.Common.{◌≡◌, ◌≢◌, ℕ, Bool, true, false, cond, List, [], ◌∷◌, map, Ok, refl, ap, sym, ◌∙◌, subst, inl, inr}
+use Rattle.std.proofs.Common.{◌≡◌, ℕ, Bool, true, false, cond, List, [], ◌∷◌, map, Ok, refl, ap, sym, ◌∙◌, subst, inl, inr}
 use Rattle.std.specs.Prelude.{Option, None, Some}
 use Rattle.std.specs.List.{AllByRecursion}
 use Rattle.std.proofs.lemmas.List.Elements.{recursion_from_All}
@@ -24,7 +24,7 @@ use Rattle.wu_script.specs.Said.{Asks, Happens, IsRefused, Operates, Reading, Sa
 use Rattle.wu_script.proofs.EventLemmas.{TellsEvent, script_tells}
 use Rattle.wu_engine.specs.States.{IsState, State, Texts, after_event, flushed_if_full, text_in, texts_after, with_text, without_text}
 use Rattle.wu_engine.specs.View.{Shown, shown_of, view_of}
-use Rattle.wu_engine.proofs.FileChanges.{ChangesFiles, changes}
+use Rattle.wu_engine.proofs.FileChanges.{changes}
 use Rattle.wu_engine.proofs.KeptStates.{after_cases, after_effect}
 use Rattle.wu_engine.proofs.StateTexts.{text-elsewhere, text-left}
 use Rattle.wumpus_run.specs.Replies.{Met, after, after_operation, last_state, met}

@@ -1,17 +1,15 @@
 -- The reply to a query as a function of the query and of a view.
-use Rattle.std.specs.Prelude.{◌≡◌, ℕ, List, [], Result, Ok, Err}
+use Rattle.std.specs.Prelude.{ℕ, List, [], Result, Ok, Err}
 use Rattle.wu_ask.specs.Questions.{Question}
 use Rattle.wu_engine.specs.Answer.{answer}
-use Rattle.wu_engine.specs.States.{State}
-use Rattle.wu_engine.specs.View.{Shown, view_of}
-use Rattle.wu_script.specs.Commands.{Entry, Asking, Wish}
+use Rattle.wu_engine.specs.View.{Shown}
+use Rattle.wu_script.specs.Commands.{Entry, Asking}
 use Rattle.wu_script.specs.Replies.{reply_bytes}
-use Rattle.wu_script.specs.Said.{Reading, question_in, said_of}
+use Rattle.wu_script.specs.Said.{Reading, question_in}
 use Rattle.wu_script.specs.declared.types.Reply.{Reply}
 use Rattle.wu_script.specs.declared.types.Reply.TheVariants.{Answered, Refused}
 use Rattle.wu_script.specs.declared.types.Why.{Why}
-use Rattle.wumpus_run.specs.Replies.{Rules, said_bytes}
-use Rattle.wu_secrecy.specs.Turns.{Asked, asked_by, told_to, turns_of}
+use Rattle.wu_secrecy.specs.Turns.{Asked}
 
 -- the answer to a question over a view, or why there is none
 abbrev pub reply_over : List Shown → Result Question Why → Reply

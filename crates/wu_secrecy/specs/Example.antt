@@ -1,5 +1,5 @@
 -- Two histories that a user can't tell apart: in the one she is alone, in the other somebody else keeps a file and searches it.
-use Rattle.std.specs.Prelude.{ℕ, List, [], ◌∷◌, ◌++◌, codes}
+use Rattle.std.specs.Prelude.{ℕ, List, [], ◌∷◌, codes}
 use Rattle.wu_access.specs.declared.Perm.{Perm}
 use Rattle.wu_tree.specs.declared.events.Event.TheVariants.{Create, Text}
 use Rattle.wu_script.specs.Commands.{Asking, Entry, Happening, Operating, PathsOf, Save}

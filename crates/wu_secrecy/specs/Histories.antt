@@ -2,7 +2,6 @@
 use Rattle.std.specs.Prelude.{◌≡◌, ℕ, true, List, [], ◌∷◌, ◌++◌, take, slice_get, Option, Some, IfSome, option_map}
 use Rattle.std.specs.Io.KnownBytes.{Appends}
 use Rattle.std.specs.List.{flat_map}
-use Rattle.wu_outside.specs.Content.{Content}
 use Rattle.wu_script.specs.Items.{items_of}
 use Rattle.wu_script.specs.Said.{IsReading, Reading}
 use Rattle.wu_options.specs.declared.command_lines.Settings.{Settings}

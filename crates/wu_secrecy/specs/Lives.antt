@@ -1,5 +1,5 @@
 -- The life of a machine: runs over one store, each of which finds it as the last one left it, or as a crash then left it.
-use Rattle.std.specs.Prelude.{◌≡◌, ◌⊎◌, ℕ, List, [], ◌∷◌, ◌++◌, Option, Some}
+use Rattle.std.specs.Prelude.{◌≡◌, ◌⊎◌, ℕ, ◌<◌, List, [], ◌∷◌, ◌++◌, length, take, Some}
 use Rattle.std.specs.Io.KnownBytes.{Appends}
 use Rattle.std.specs.List.{AllByRecursion}
 use Rattle.wu_outside.specs.Content.{Content}
@@ -16,7 +16,7 @@ use Rattle.wu_engine.specs.States.{State}
 use Rattle.wumpus_run.specs.declared.statuses.Status.{Status}
 use Rattle.wumpus_run.specs.declared.statuses.Status.TheVariants.{Done}
 use Rattle.wumpus_run.specs.Crashes.{IsUnopened, LeavesAcknowledged, LeavesLast, LeavesSaves, last_save, left_to_next, next_save, saves_of}
-use Rattle.wumpus_run.specs.Replies.{Rules, output_of, state_after}
+use Rattle.wumpus_run.specs.Replies.{output_of, state_after}
 use Rattle.wumpus_run.specs.Session.{FromImage, Moment}
 use Rattle.wu_secrecy.specs.Histories.{AnswersInTurn, AreCoursesOf, Course, Session, rules_with, session_from}
 
@@ -88,6 +88,10 @@ pub record IsAcknowledged (read : Reading) (started : Started) (s : State) : Typ
   pub part : List ℕ
   pub gained : Appends started.0.before.gained started.0.now.gained
       (output_of (rules_with read started.0.told) started.1 answered ++ part)
+  pub cut : (part ≡ [])
+      ⊎ ((missing : List ℕ) × (0 < length missing)
+      × (part ++ missing ≡ output_of (rules_with read started.0.told) (state_after (rules_with read started.0.told) started.1 answered)
+      (take 1 left)))
   pub is : (s ≡ last_save (rules_with read started.0.told) started.1 answered)
       ⊎ (s ≡ next_save (rules_with read started.0.told) (state_after (rules_with read started.0.told) started.1 answered) left)
 

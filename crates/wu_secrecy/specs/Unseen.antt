@@ -36,9 +36,10 @@ is_searchable fs uid ino = is_reachable fs uid ino && admits fs uid ino
 abbrev pub AdmitsAlike : FileSystem → FileSystem → ℕ → Type 0
 AdmitsAlike before after uid = (ino : ℕ) → is_reachable before uid ino ≡ true → admits after uid ino ≡ admits before uid ino
 
--- What the event does shows in nothing that she may search: a text is that of a file that she may not; a mode, an owner or groups make no
--- difference to her at any node that she can reach; and of the links that come or go none leads her, from an open directory, to a node
--- that lets her in. A link to a directory that is made or removed isn't among these: it is empty.
+-- What the event does shows in nothing that she may search. A text is that of a file that she may not. A mode, an owner or groups make no
+-- difference to her at any node that she can reach. Of the links that an event of another kind makes, removes or moves none leads her,
+-- at either end, from a directory that is open for her to a node that lets her in; one to a directory that is made or removed isn't
+-- among them, as that is empty.
 abbrev pub IsUnseen : FileSystem → ℕ → Event → Type 0
 IsUnseen fs uid (User other groups) = AdmitsAlike fs (next fs (User other groups)) uid
 IsUnseen fs uid (Text ino) = is_searchable fs uid ino ≡ false
