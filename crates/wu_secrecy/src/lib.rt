@@ -1,6 +1,6 @@
-//! What a user is told over whole histories of sessions depends on what she may search at each of her queries, and on
-//! nothing else: noninterference for the output that is hers (Goguen and Meseguer, "Security Policies and Security
-//! Models", 1982).
+//! What a user is told over whole histories of sessions depends on what she may search at each of
+//! her queries, and on nothing else: noninterference for the output that is hers (Goguen and
+//! Meseguer, "Security Policies and Security Models", 1982).
 #![tactic(auto)]
 
 mod events;

@@ -13,9 +13,10 @@ use std::alloc::Global;
 use wu_outside::{Sink, Source, Store};
 use wumpus_run::{Status, run};
 
-/// Runs a session, as [`run`](wumpus_run::run) does. However it ended, the first items of its input were answered in turn, and the
-/// sink gained their replies and a part of the next one's: so it is a session that has a course, and over a store that tells what
-/// a crash leaves it is a run of a life.
+/// Runs a session, as [`run`](wumpus_run::run) does. However it ended, the first items of its input
+/// were answered in turn, and the sink gained their replies and a part of the next one's: so it is
+/// a session that has a course, and over a store that tells what a crash leaves it is a run of a
+/// life.
 pub fn run_in_turns<I: Source, O: Sink, D: Store>(
     alloc: Global,
     words: &[&str],
@@ -24,14 +25,17 @@ pub fn run_in_turns<I: Source, O: Sink, D: Store>(
     store: &mut D,
 ) -> Status
     requires { I.ended source.old ≡ false }
-    ensures turns { FromImage (D.holds store.old) (λ s. AnswersInTurn s result (settings_of (texts_of words.now))
+    ensures turns { FromImage (D.holds store.old) (λ s.
+        AnswersInTurn s result (settings_of (texts_of words.now))
         (moment I.Source O.Sink D.Store source.old sink.old store.old)
         (moment I.Source O.Sink D.Store source.new sink.new store.new)) }
-    ensures course { FromImage (D.holds store.old) (λ s. HasCourse (session_from s (settings_of (texts_of words.now)) result
+    ensures course { FromImage (D.holds store.old) (λ s.
+        HasCourse (session_from s (settings_of (texts_of words.now)) result
         (moment I.Source O.Sink D.Store source.old sink.old store.old)
         (moment I.Source O.Sink D.Store source.new sink.new store.new))) }
-    ensures life { (told : Settings) (input : List ℕ) (old new : Moments) → settings_of (texts_of words.now) ≡ Some told
-        → I.left source.old ≡ Some input → D.moments store.old ≡ Some old → D.moments store.new ≡ Some new
+    ensures life { (told : Settings) (input : List ℕ) (old new : Moments)
+        → settings_of (texts_of words.now) ≡ Some told → I.left source.old ≡ Some input
+        → D.moments store.old ≡ Some old → D.moments store.new ≡ Some new
         → IsRun (record {
           told = told;
           input = input;
@@ -45,9 +49,9 @@ pub fn run_in_turns<I: Source, O: Sink, D: Store>(
     run(alloc, words, source, sink, store)
 }
 
-/// Two runs over any objects tell a user alike: where her first n queries were the same and over equal views, the first n
-/// replies that their sinks gained are the same bytes; and of a query under way the one sent the beginning of what the other
-/// replied.
+/// Two runs over any objects tell a user alike: where her first n queries were the same and over
+/// equal views, the first n replies that their sinks gained are the same bytes; and of a query
+/// under way the one sent the beginning of what the other replied.
 pub fn two_runs_tell_her_alike<I: Source, O: Sink, D: Store, J: Source, P: Sink, E: Store>(
     alloc: Global,
     words: &[&str],
@@ -61,10 +65,12 @@ pub fn two_runs_tell_her_alike<I: Source, O: Sink, D: Store, J: Source, P: Sink,
 ) -> (Status, Status)
     requires one { I.ended source.old ≡ false }
     requires other { J.ended other_source.old ≡ false }
-    ensures one { FromImage (D.holds store.old) (λ s. HasCourse (session_from s (settings_of (texts_of words.now)) result.0
+    ensures one { FromImage (D.holds store.old) (λ s.
+        HasCourse (session_from s (settings_of (texts_of words.now)) result.0
         (moment I.Source O.Sink D.Store source.old sink.old store.old)
         (moment I.Source O.Sink D.Store source.new sink.new store.new))) }
-    ensures other { FromImage (E.holds other_store.old) (λ s. HasCourse (session_from s (settings_of (texts_of other_words.now)) result.1
+    ensures other { FromImage (E.holds other_store.old) (λ s.
+        HasCourse (session_from s (settings_of (texts_of other_words.now)) result.1
         (moment J.Source P.Sink E.Store other_source.old other_sink.old other_store.old)
         (moment J.Source P.Sink E.Store other_source.new other_sink.new other_store.new))) }
     ensures alike { (read : Reading) (s t : State) (one other : Course)
@@ -74,7 +80,8 @@ pub fn two_runs_tell_her_alike<I: Source, O: Sink, D: Store, J: Source, P: Sink,
         → IsCourseOf read (session_from t (settings_of (texts_of other_words.now)) result.1
         (moment J.Source P.Sink E.Store other_source.old other_sink.old other_store.old)
         (moment J.Source P.Sink E.Store other_source.new other_sink.new other_store.new)) other
-        → (uid : ℕ) → TellAlike uid one.answered other.answered × BeginsAlike uid one other.answered }
+        → (uid : ℕ)
+        → TellAlike uid one.answered other.answered × BeginsAlike uid one other.answered }
 {
     let one = run_in_turns(alloc, words, source, sink, store);
     let other = run_in_turns(alloc, other_words, other_source, other_sink, other_store);
