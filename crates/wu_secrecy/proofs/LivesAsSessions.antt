@@ -16,11 +16,11 @@ use Rattle.wu_engine.specs.States.{State}
 use Rattle.wumpus_run.specs.declared.statuses.Status.{Status}
 use Rattle.wumpus_run.specs.declared.statuses.Status.TheVariants.{Done, Usage, ReadFault, WriteFault, NoMemory, InputTooLong, StoreFault, Damaged, Spent}
 use Rattle.wumpus_run.specs.Crashes.{Acknowledges, IsImageOfOne, IsUnopened, last_save, left_to_next, next_save, saves_of}
-use Rattle.wumpus_run.specs.Permitted.{Reaches}
+use Rattle.wumpus_run.specs.Permitted.{AnswersInTurn, Reaches}
 use Rattle.wumpus_run.specs.Replies.{AreRules, Rules, state_after}
 use Rattle.wumpus_run.specs.Session.{Moment}
 use Rattle.wu_secrecy.specs.Turns.{turn_of, turns_of}
-use Rattle.wu_secrecy.specs.Histories.{AnswersInTurn, AreCoursesOf, Course, IsCourseOf, rules_with, session_from}
+use Rattle.wu_secrecy.specs.Histories.{AreCoursesOf, Course, IsCourseOf, rules_with, session_from}
 use Rattle.wu_secrecy.specs.Lives.{AreInTurn, AreStarts, GoesOn, IsAcknowledged, IsLife, History, IsRun, MayBeFound, Restarts, Run, Started, SurvivesStop, sessions_of}
 
 -- ---- options

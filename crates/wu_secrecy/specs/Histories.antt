@@ -8,7 +8,7 @@ use Rattle.wu_options.specs.declared.command_lines.Settings.{Settings}
 use Rattle.wu_engine.specs.States.{State}
 use Rattle.wumpus_run.specs.declared.statuses.Status.{Status}
 use Rattle.wumpus_run.specs.Permitted.{Reaches}
-use Rattle.wumpus_run.specs.Replies.{AreRules, Rules, state_after}
+use Rattle.wumpus_run.specs.Replies.{Rules, state_after}
 use Rattle.wumpus_run.specs.Session.{Moment}
 use Rattle.wu_secrecy.specs.Turns.{Turn, asked_by, asked_in, is_asked_by, output_in, told_to, turn_of, turns_of}
 
@@ -84,12 +84,6 @@ BeginsAlike uid course other = (turn : Turn) → course.under_way ≡ Some turn 
     → IfSome (slice_get (told_to uid other) place) (IsPartOf course.part)
 
 -- ---- what `run` answered
-
--- The first items of the input were answered in turn, and the sink gained their replies and a part of the next one's; by every reading
--- of the expressions, of which there is one.
-abbrev pub AnswersInTurn : State → Status → Option Settings → Moment → Moment → Type 0
-AnswersInTurn start status settings before now = IfSome settings (λ told. IfSome before.left (λ input. (rules : Rules)
-    → AreRules before.holds told rules → Reaches rules start (items_of input) status before.gained now.gained))
 
 -- a session that was asked for, over a source and a store that tell what they have, has a course
 abbrev pub HasCourse : Session → Type 0

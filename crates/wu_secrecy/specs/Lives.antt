@@ -17,8 +17,9 @@ use Rattle.wumpus_run.specs.declared.statuses.Status.{Status}
 use Rattle.wumpus_run.specs.declared.statuses.Status.TheVariants.{Done}
 use Rattle.wumpus_run.specs.Crashes.{IsUnopened, LeavesAcknowledged, LeavesLast, LeavesSaves, last_save, left_to_next, next_save, saves_of}
 use Rattle.wumpus_run.specs.Replies.{output_of, state_after}
+use Rattle.wumpus_run.specs.Permitted.{AnswersInTurn}
 use Rattle.wumpus_run.specs.Session.{FromImage, Moment}
-use Rattle.wu_secrecy.specs.Histories.{AnswersInTurn, AreCoursesOf, Course, Session, rules_with, session_from}
+use Rattle.wu_secrecy.specs.Histories.{AreCoursesOf, Course, Session, rules_with, session_from}
 
 -- ---- runs
 

@@ -6,7 +6,7 @@ ghost use Rattle.wu_options.specs.CommandLines.{texts_of};
 ghost use Rattle.wu_options.specs.declared.command_lines.Settings.{Settings};
 ghost use Rattle.wu_engine.specs.States.{State};
 ghost use Rattle.wumpus_run.specs.Session.{FromImage, moment, settings_of};
-ghost use Rattle.wu_secrecy.specs.Histories.{AnswersInTurn, BeginsAlike, Course, HasCourse, IsCourseOf, TellAlike, session_from};
+ghost use Rattle.wu_secrecy.specs.Histories.{BeginsAlike, Course, HasCourse, IsCourseOf, TellAlike, session_from};
 ghost use Rattle.wu_secrecy.specs.Lives.{IsRun};
 
 use std::alloc::Global;
@@ -25,10 +25,6 @@ pub fn run_in_turns<I: Source, O: Sink, D: Store>(
     store: &mut D,
 ) -> Status
     requires { I.ended source.old ≡ false }
-    ensures turns { FromImage (D.holds store.old) (λ s.
-        AnswersInTurn s result (settings_of (texts_of words.now))
-        (moment I.Source O.Sink D.Store source.old sink.old store.old)
-        (moment I.Source O.Sink D.Store source.new sink.new store.new)) }
     ensures course { FromImage (D.holds store.old) (λ s.
         HasCourse (session_from s (settings_of (texts_of words.now)) result
         (moment I.Source O.Sink D.Store source.old sink.old store.old)

@@ -3,27 +3,17 @@ use Rattle.wu_outside.specs.Crash.{AreAlike, Moments}
 use Rattle.wu_options.specs.CommandLines.{texts_of}
 use Rattle.wu_options.specs.declared.command_lines.Settings.{Settings}
 use Rattle.wumpus_run.specs.Crashes.{LeavesAcknowledged, LeavesLast, LeavesSaves}
+use Rattle.wumpus_run.specs.Permitted.{AnswersInTurn}
 use Rattle.wumpus_run.specs.Session.{moment, settings_of}
-use Rattle.wu_secrecy.specs.Histories.{AnswersInTurn}
-use Rattle.wu_secrecy.proofs.RunTurns.{has-course, reached}
+use Rattle.wu_secrecy.proofs.RunTurns.{has-course}
 use Rattle.wu_secrecy.proofs.runs.run_in_turns.Goals as goal
-
-pub returns-clause-turns : goal.returns-clause-turns
-returns-clause-turns g c = λ s image.
-    reached s c.run.result (settings_of (texts_of c.args.words.now))
-    (moment g.I.Source g.O.Sink g.D.Store c.args.source.now c.args.sink.now c.args.store.now)
-    (moment g.I.Source g.O.Sink g.D.Store c.run.new.source c.run.new.sink c.run.new.store)
-    (g.D.Store.reads c.args.store.now) (g.D.Store.reads c.run.new.store) image (c.run.ensures.permitted s image)
 
 pub returns-clause-course : goal.returns-clause-course
 returns-clause-course g c = λ s image.
     has-course s c.run.result (settings_of (texts_of c.args.words.now))
     (moment g.I.Source g.O.Sink g.D.Store c.args.source.now c.args.sink.now c.args.store.now)
     (moment g.I.Source g.O.Sink g.D.Store c.run.new.source c.run.new.sink c.run.new.store)
-    (reached s c.run.result (settings_of (texts_of c.args.words.now))
-    (moment g.I.Source g.O.Sink g.D.Store c.args.source.now c.args.sink.now c.args.store.now)
-    (moment g.I.Source g.O.Sink g.D.Store c.run.new.source c.run.new.sink c.run.new.store)
-    (g.D.Store.reads c.args.store.now) (g.D.Store.reads c.run.new.store) image (c.run.ensures.permitted s image))
+    (c.run.ensures.turns s image)
 
 pub returns-clause-life : goal.returns-clause-life
 returns-clause-life g c = λ told input old new asked given had has.
@@ -33,8 +23,7 @@ returns-clause-life g c = λ told input old new asked given had has.
       given = given;
       turns = λ s image.
           subst (λ (settings : Option Settings). AnswersInTurn s c.run.result settings before now) asked
-          (reached s c.run.result (settings_of (texts_of c.args.words.now)) before now
-          (g.D.Store.reads c.args.store.now) (g.D.Store.reads c.run.new.store) image (c.run.ensures.permitted s image));
+          (c.run.ensures.turns s image);
       crash = λ s image.
           subst (λ (moments : Option Moments). LeavesSaves s (Some told) before.holds before.left (Some old) moments) has
           (subst (λ (moments : Option Moments). LeavesSaves s (Some told) before.holds before.left moments
