@@ -6,6 +6,7 @@ use Rattle.std.proofs.lemmas.List.Elements.{recursion_from_All}
 use Rattle.wu_base.proofs.Members.{Has}
 use Rattle.wu_tree.specs.declared.events.Event.{Event}
 use Rattle.wu_tree.specs.declared.events.Event.TheVariants.{User, Mkdir, Create, Text, Link, Unlink, Rmdir, Rename, Chmod, Chown}
+use Rattle.wu_tree.specs.declared.events.Event.TheVariants.{Acl as SetAcl}
 use Rattle.wu_tree.specs.declared.events.Effect.{Effect}
 use Rattle.wu_tree.specs.FileSystems.{FileSystem, is_file}
 use Rattle.wu_tree.specs.Rules.{IsTree}
@@ -74,6 +75,7 @@ texted-unseen fs uid (Rename parent name new_parent new_name) unseen q e h =
     none_some q (sym (none-texted (is_same_node fs parent name new_parent new_name) (dropped_at fs new_parent new_name)) ∙ e)
 texted-unseen fs uid (Chmod ino mode) unseen q e h = none_some q e
 texted-unseen fs uid (Chown ino owner group) unseen q e h = none_some q e
+texted-unseen fs uid (SetAcl ino acl mask) unseen q e h = none_some q e
 
 -- ---- an event
 

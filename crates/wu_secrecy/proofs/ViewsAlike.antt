@@ -7,6 +7,7 @@ use Rattle.std.proofs.lemmas.Cmp.{nat_list_cmp_total}
 use Rattle.std.proofs.lemmas.Map.Lookups.{exact_bytes}
 use Rattle.wu_base.proofs.Members.{Has, has_any}
 use Rattle.wu_base.proofs.SortedLists.{same-sorted_once, sorted_once_has}
+use Rattle.wu_access.specs.declared.acls.Acl.{Acl}
 use Rattle.wu_access.specs.declared.UserRec.{UserRec}
 use Rattle.wu_access.specs.declared.Want.{Want}
 use Rattle.wu_access.specs.declared.Want.TheVariants.{Read, Execute}
@@ -14,7 +15,7 @@ use Rattle.wu_access.specs.Access.{is_allowed}
 use Rattle.wu_tree.specs.declared.events.Kind.{Kind}
 use Rattle.wu_tree.specs.declared.events.Kind.TheVariants.{Directory, File}
 use Rattle.wu_tree.specs.declared.events.Node.{Node}
-use Rattle.wu_tree.specs.FileSystems.{FileSystem, Link, depth, is_directory, is_directory_node, is_file, is_file_node, is_kind_file, node_of}
+use Rattle.wu_tree.specs.FileSystems.{FileSystem, Link, acl_of, depth, is_directory, is_directory_node, is_file, is_file_node, is_kind_file, node_of}
 use Rattle.wu_tree.specs.Rules.{IsTree}
 use Rattle.wu_tree.proofs.ParentPaths.{path_of_root}
 use Rattle.wu_tree.proofs.PathsDown.{no_second}
@@ -74,31 +75,36 @@ want-of_directory : (kind : Kind) → not (is_kind_file kind) ≡ true → want_
 want-of_directory File h = absurd cc
 want-of_directory Directory h = refl
 
-admits-file : (user : UserRec) (o : Option Node) → is_file_node o ≡ true → admits_node user o ≡ is_granted_node user Read o
-admits-file user None h = refl
-admits-file user (Some node) h = ap (λ (w : Want). is_allowed user node.perm w) (want-of_file node.kind h)
+admits-file : (user : UserRec) (acl : Option Acl) (o : Option Node) → is_file_node o ≡ true
+    → admits_node user acl o ≡ is_granted_node user Read acl o
+admits-file user acl None h = refl
+admits-file user acl (Some node) h = ap (λ (w : Want). is_allowed user node.perm acl w) (want-of_file node.kind h)
 
-admits-directory : (user : UserRec) (o : Option Node) → is_directory_node o ≡ true → admits_node user o ≡ is_granted_node user Execute o
-admits-directory user None h = refl
-admits-directory user (Some node) h = ap (λ (w : Want). is_allowed user node.perm w) (want-of_directory node.kind h)
+admits-directory : (user : UserRec) (acl : Option Acl) (o : Option Node) → is_directory_node o ≡ true
+    → admits_node user acl o ≡ is_granted_node user Execute acl o
+admits-directory user acl None h = refl
+admits-directory user acl (Some node) h = ap (λ (w : Want). is_allowed user node.perm acl w) (want-of_directory node.kind h)
+
+-- whether the node lets the user in
+abbrev lets_in : FileSystem → UserRec → ℕ → Bool
+lets_in fs user q = admits_node user (acl_of fs q) (node_of fs q)
 
 -- ---- the same links
 
 module _ (a b : FileSystem) (s : IsTree a) (t : IsTree b) (u v : UserRec) (links : b.links ≡ a.links)
     (files : (q : ℕ) → is_file b q ≡ is_file a q) (directories : (q : ℕ) → is_directory b q ≡ is_directory a q)
-    (root : admits_node v (node_of b 1) ≡ admits_node u (node_of a 1))
-    (alike : (link : Link) → Has link a.links → is_open a u link.0.0 ≡ true
-    → admits_node v (node_of b link.1) ≡ admits_node u (node_of a link.1)) where
-  passed : (q : ℕ) → is_directory a q ≡ true → admits_node v (node_of b q) ≡ admits_node u (node_of a q)
-      → may b v Execute q ≡ may a u Execute q
-  passed q d e = sym (admits-directory v (node_of b q) (directories q ∙ d)) ∙ e ∙ admits-directory u (node_of a q) d
+    (root : lets_in b v 1 ≡ lets_in a u 1)
+    (alike : (link : Link) → Has link a.links → is_open a u link.0.0 ≡ true → lets_in b v link.1 ≡ lets_in a u link.1) where
+  passed : (q : ℕ) → is_directory a q ≡ true → lets_in b v q ≡ lets_in a u q → may b v Execute q ≡ may a u Execute q
+  passed q d e =
+      sym (admits-directory v (acl_of b q) (node_of b q) (directories q ∙ d)) ∙ e ∙ admits-directory u (acl_of a q) (node_of a q) d
 
-  readable : (q : ℕ) → admits_node v (node_of b q) ≡ admits_node u (node_of a q) → is_readable b v q ≡ is_readable a u q
+  readable : (q : ℕ) → lets_in b v q ≡ lets_in a u q → is_readable b v q ≡ is_readable a u q
   readable q e =
       elim (is_file a q) as (λ f. is_file a q ≡ f → is_readable b v q ≡ is_readable a u q) [
         | true ↦ λ h.
             let r : may b v Read q ≡ may a u Read q =
-            sym (admits-file v (node_of b q) (files q ∙ h)) ∙ e ∙ admits-file u (node_of a q) h in
+            sym (admits-file v (acl_of b q) (node_of b q) (files q ∙ h)) ∙ e ∙ admits-file u (acl_of a q) (node_of a q) h in
             λ i. files q i && r i
         | false ↦ λ h. ap (λ (f : Bool). f && may b v Read q) (files q ∙ h) ∙ sym (ap (λ (f : Bool). f && may a u Read q) h)
       ] refl
@@ -197,7 +203,7 @@ module _ (fs : FileSystem) (s : IsTree fs) (uid : ℕ) where
       let reached : is_reachable fs uid r.0 ≡ true =
       subst (λ (n : ℕ). is_reachable fs uid n ≡ true) o.2 (reached-by fs uid o.0 o.1 o.3) in
       subst (λ (n : ℕ). is_searchable fs uid n ≡ true) same
-      (and_from (is_reachable fs uid r.0) (admits fs uid r.0) reached (admits-file u (node_of fs r.0) parts.0 ∙ parts.1))
+      (and_from (is_reachable fs uid r.0) (admits fs uid r.0) reached (admits-file u (acl_of fs r.0) (node_of fs r.0) parts.0 ∙ parts.1))
 
   pub view-searchable : (file : Seen) → Has file (view_of fs uid) → is_searchable fs uid file.ino ≡ true
   unfolding view_of

@@ -1,13 +1,15 @@
 //! Laws of what can change a user's view.
-ghost use Rattle.std.specs.Prelude.{◌≡◌, ◌≢◌, ℕ, true, false, List, [], map};
+ghost use Rattle.std.specs.Prelude.{◌≡◌, ◌≢◌, ℕ, true, false, Option, List, [], map};
 ghost use Rattle.std.specs.List.{AllByRecursion};
 ghost use Rattle.wu_script.specs.Commands.{Operation};
 ghost use Rattle.wu_script.specs.Items.{items_of};
 ghost use Rattle.wu_script.specs.Said.{Reading, said_of};
+ghost use Rattle.wu_access.specs.declared.acls.Acl.{Acl};
 ghost use Rattle.wu_tree.specs.FileSystems.{FileSystem};
 ghost use Rattle.wu_tree.specs.Steps.{IsEvent, next};
 ghost use Rattle.wu_tree.specs.declared.events.Event.{Event};
 ghost use Rattle.wu_tree.specs.declared.events.Event.TheVariants.{Chmod, Chown, Text, User};
+ghost use Rattle.wu_tree.specs.declared.events.Event.TheVariants.{Acl as SetAcl};
 ghost use Rattle.wu_engine.specs.States.{IsState, State, after_event};
 ghost use Rattle.wu_engine.specs.View.{view_of};
 ghost use Rattle.wumpus_run.specs.Replies.{Rules, after_operation, last_state, met};
@@ -16,10 +18,10 @@ ghost use Rattle.wu_secrecy.specs.Unseen.{IsBelowClosed, IsUnseen, admits, is_re
 ghost use Rattle.wu_secrecy.specs.UnseenItems.{IsUnseenItem};
 
 /// What a user may search is changed by nothing but what shows there. An event leaves her view as
-/// it was, texts and all, where it is a text of a file that she may not search; a mode, an owner or
-/// groups by which each node that she can reach lets her in as before; or a change of links none of
-/// which leads her, from a directory that is open for her, to a node that lets her in. So do
-/// flushes, background work and saves, and a whole script of such items.
+/// it was, texts and all, where it is a text of a file that she may not search; a mode, an owner,
+/// an access list or groups by which each node that she can reach lets her in as before; or a
+/// change of links none of which leads her, from a directory that is open for her, to a node that
+/// lets her in. So do flushes, background work and saves, and a whole script of such items.
 pub fn her_view_is_moved_by_what_she_may_see()
     ensures event { (flush_at uid : ℕ) (s : State) (event : Event) (text : List ℕ)
         → IsState s → IsEvent event → IsUnseen s.tree uid event
@@ -34,8 +36,8 @@ pub fn her_view_is_moved_by_what_she_may_see()
 {}
 
 /// What an administrator may rely on of a closed directory: whatever happens below it, to files,
-/// directories, links, texts, modes and owners, leaves the view of each user as it was to whom it
-/// is closed.
+/// directories, links, texts, modes, owners and access lists, leaves the view of each user as it
+/// was to whom it is closed.
 pub fn events_below_a_closed_directory()
     ensures { (flush_at uid : ℕ) (s : State) (event : Event) (text : List ℕ)
         → IsState s → IsEvent event → IsBelowClosed s.tree uid event
@@ -43,8 +45,8 @@ pub fn events_below_a_closed_directory()
 {}
 
 /// Events that change no links leave her view as it was: a text of a file that she may not search;
-/// a mode or an owner, where she can't reach the node or it lets her in as before; and the groups
-/// of another user.
+/// a mode, an owner or an access list, where she can't reach the node or it lets her in as before;
+/// and the groups of another user.
 pub fn events_that_change_no_links()
     ensures text { (flush_at uid ino : ℕ) (s : State) (text : List ℕ)
         → IsState s → is_searchable s.tree uid ino ≡ false
@@ -57,6 +59,11 @@ pub fn events_that_change_no_links()
         → (is_reachable s.tree uid ino ≡ true
         → admits (next s.tree (Chown ino owner group)) uid ino ≡ admits s.tree uid ino)
         → view_of (after_event flush_at s (Chown ino owner group) []) uid ≡ view_of s uid }
+    ensures list { (flush_at uid ino : ℕ) (acl : Option Acl) (mask : ℕ) (s : State) → IsState s
+        → IsEvent (SetAcl ino acl mask)
+        → (is_reachable s.tree uid ino ≡ true
+        → admits (next s.tree (SetAcl ino acl mask)) uid ino ≡ admits s.tree uid ino)
+        → view_of (after_event flush_at s (SetAcl ino acl mask) []) uid ≡ view_of s uid }
     ensures groups { (flush_at uid other : ℕ) (groups : List ℕ) (s : State)
         → IsState s → uid ≢ other
         → view_of (after_event flush_at s (User other groups) []) uid ≡ view_of s uid }
