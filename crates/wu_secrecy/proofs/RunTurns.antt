@@ -1,15 +1,11 @@
 -- What a run answered, by what it read.
-use Rattle.std.proofs.Common.{◌≡◌, List, Option, None, Some, refl}
+use Rattle.std.proofs.Common.{◌≡◌, Option, None, Some, refl}
 use Rattle.std.specs.Prelude.{IfSome, IsSome}
 use Rattle.wu_outside.specs.Content.{Content}
-use Rattle.wu_outside.specs.declared.ranges.ReadRange.{ReadRange}
-use Rattle.wu_script.specs.Items.{items_of}
 use Rattle.wu_options.specs.declared.command_lines.Settings.{Settings}
-use Rattle.wu_engine.specs.Opening.{HoldsImage}
 use Rattle.wu_engine.specs.States.{State}
 use Rattle.wumpus_run.specs.declared.statuses.Status.{Status}
-use Rattle.wumpus_run.specs.Permitted.{AnswersInTurn, ReadsInSession, ReadsPermitted}
-use Rattle.wumpus_run.specs.Replies.{AreRules, Rules}
+use Rattle.wumpus_run.specs.Permitted.{AnswersInTurn}
 use Rattle.wumpus_run.specs.Session.{Moment}
 use Rattle.wu_secrecy.specs.Histories.{HasCourse, session_from}
 use Rattle.wu_secrecy.proofs.LivesAsSessions.{course-reached}

@@ -1,5 +1,5 @@
 -- What a session answered, by what it read.
-use Rattle.std.proofs.Common.{◌≡◌, List, ℕ, Option, None, Some}
+use Rattle.std.proofs.Common.{List, Option, None, Some}
 use Rattle.std.specs.Prelude.{IfSome}
 use Rattle.wu_outside.specs.Content.{Content}
 use Rattle.wu_outside.specs.declared.ranges.ReadRange.{ReadRange}
