@@ -5,6 +5,7 @@ use Rattle.std.proofs.lemmas.Bool.{or_parts}
 use Rattle.wu_base.proofs.Options.{none_either_way}
 use Rattle.wu_tree.specs.declared.events.Event.{Event}
 use Rattle.wu_tree.specs.declared.events.Event.TheVariants.{User, Mkdir, Create, Text, Link, Unlink, Rmdir, Rename, Chmod, Chown}
+use Rattle.wu_tree.specs.declared.events.Event.TheVariants.{Acl as SetAcl}
 use Rattle.wu_tree.specs.declared.events.Effect.{Effect}
 use Rattle.wu_tree.specs.FileSystems.{FileSystem, is_file, is_file_node, is_there, is_used, node_of, child_of}
 use Rattle.wu_tree.specs.Steps.{create_rules, named, no_effect, dropped_at, is_last_link, is_same_node, refusal_of, next, effect_of}
@@ -109,6 +110,7 @@ module _ (fs : FileSystem) where
       ]
   made (Chmod ino mode) h = nothing
   made (Chown ino uid gid) h = nothing
+  made (SetAcl ino acl mask) h = nothing
 
   -- what an accepted event's effect is
   pub changes : (event : Event) (after : FileSystem) (effect : Effect) → tree_step fs event ≡ Ok (after, effect)

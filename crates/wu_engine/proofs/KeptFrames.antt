@@ -8,14 +8,16 @@ use Rattle.std.specs.Cmp.{nat_cmp_total}
 use Rattle.wu_base.specs.declared.addresses.Range.{Range}
 use Rattle.wu_base.proofs.MapEntries.{number_itself, lookup-insert_entry, lookup-remove_other}
 use Rattle.wu_token.specs.Tokens.{tokens_of}
+use Rattle.wu_access.specs.declared.acls.Acl.{Acl}
 use Rattle.wu_access.specs.declared.Perm.{Perm}
 use Rattle.wu_tree.specs.declared.events.Event.{Event}
 use Rattle.wu_tree.specs.declared.events.Event.TheVariants.{User, Mkdir, Create, Text, Link, Unlink, Rmdir, Rename, Chmod, Chown}
+use Rattle.wu_tree.specs.declared.events.Event.TheVariants.{Acl as SetAcl}
 use Rattle.wu_tree.specs.declared.events.Effect.{Effect}
-use Rattle.wu_tree.specs.FileSystems.{FileSystem, node_of}
+use Rattle.wu_tree.specs.FileSystems.{FileSystem, acl_of, node_of}
 use Rattle.wu_tree.specs.Effects.{TellsFiles}
 use Rattle.wu_tree.specs.Rules.{IsTree}
-use Rattle.wu_tree.specs.Steps.{dropped_at, effect_of, is_same_node, next, no_effect, refusal_of, with_perm}
+use Rattle.wu_tree.specs.Steps.{dropped_at, effect_of, is_same_node, next, no_effect, refusal_of, with_acl_set, with_perm}
 use Rattle.wu_tree.specs.Steps.{step as tree_step}
 use Rattle.wu_tree.proofs.EventRules.{accepted}
 use Rattle.wu_tree.proofs.LinkRemovals.{apart_from}
@@ -28,6 +30,7 @@ use Rattle.wu_frames.proofs.LinkEvents.{links-create, links-link, links-mkdir, l
 use Rattle.wu_engine.specs.Indexing.{space_after, space_made, with_file, without_file}
 use Rattle.wu_engine.specs.declared.renewing.Touched.TheVariants.{Links}
 use Rattle.wu_engine.specs.Renewing.{Touches, perm_touched, range_touched, touched_of, GaveText}
+use Rattle.wu_engine.proofs.AclFrames.{list_set}
 use Rattle.wu_engine.proofs.FileChanges.{ChangesFiles}
 
 -- an effect that gives a file a text, and does no more
@@ -70,12 +73,21 @@ module _ (fs : FileSystem) (space : Addresses) (text : List ℕ) where
       ] refl
 
   perm_touches : (change : Perm → Perm) (ino : ℕ)
-      → Touches fs space (with_perm change fs ino (node_of fs ino)) space (perm_touched ino (node_of fs ino))
+      → Touches fs space (with_perm change fs ino (node_of fs ino)) space (perm_touched ino (node_of fs ino) (acl_of fs ino))
   perm_touches change ino =
       elim (node_of fs ino) as
-      (λ o. node_of fs ino ≡ o → Touches fs space (with_perm change fs ino o) space (perm_touched ino o)) [
+      (λ o. node_of fs ino ≡ o → Touches fs space (with_perm change fs ino o) space (perm_touched ino o (acl_of fs ino))) [
         | None ↦ λ e. tt
-        | Some node ↦ λ e. (refl, record { perm = change node.perm; there = e; changed = refl })
+        | Some node ↦ λ e. (refl, record { perm = change node.perm; acls = fs.acls; there = e; had = refl; others = λ q n. refl; changed = refl })
+      ] refl
+
+  acl_touches : (ino : ℕ) (acl : Option Acl) (mask : ℕ)
+      → Touches fs space (with_acl_set fs ino acl mask) space (perm_touched ino (node_of fs ino) (acl_of fs ino))
+  acl_touches ino acl mask =
+      elim (node_of fs ino) as
+      (λ o. node_of fs ino ≡ o → Touches fs space (with_acl_set fs ino acl mask) space (perm_touched ino o (acl_of fs ino))) [
+        | None ↦ λ e. tt
+        | Some node ↦ λ e. (refl, list_set fs ino node e acl mask)
       ] refl
 
   -- links, and the ranges of the file that comes and of the one that goes with them
@@ -116,6 +128,7 @@ module _ (fs : FileSystem) (space : Addresses) (text : List ℕ) where
         (none_texted (is_same_node fs parent name new_parent new_name) (dropped_at fs new_parent new_name)) tells files
     touches_next rules (Chmod ino mode) h tells files = perm_touches (λ perm. record perm { mode = mode }) ino
     touches_next rules (Chown ino uid gid) h tells files = perm_touches (λ perm. record perm { uid = uid; gid = gid }) ino
+    touches_next rules (SetAcl ino acl mask) h tells files = acl_touches ino acl mask
 
   pub touches : IsTree fs → IsSpace space → (event : Event) (after : FileSystem) (effect : Effect)
       → tree_step fs event ≡ Ok (after, effect) → TellsFiles fs effect after → ChangesFiles fs effect

@@ -4,6 +4,7 @@ use Rattle.std.specs.Prelude.{nat_lt}
 use Rattle.std.proofs.lemmas.Bool.{and_parts, ltb-true}
 use Rattle.wu_tree.specs.declared.events.Event.{Event}
 use Rattle.wu_tree.specs.declared.events.Event.TheVariants.{User, Mkdir, Create, Text, Link, Unlink, Rmdir, Rename, Chmod, Chown}
+use Rattle.wu_tree.specs.declared.events.Event.TheVariants.{Acl as SetAcl}
 use Rattle.wu_tree.specs.declared.events.Effect.{Effect}
 use Rattle.wu_tree.specs.FileSystems.{FileSystem}
 use Rattle.wu_tree.specs.Steps.{effect_of, no_effect, dropped_at, is_same_node}
@@ -31,6 +32,7 @@ stored-effect fs (Rename parent name new_parent new_name) text =
     ]
 stored-effect fs (Chmod ino mode) text = refl
 stored-effect fs (Chown ino uid gid) text = refl
+stored-effect fs (SetAcl ino acl mask) text = refl
 
 negated : (b : Bool) → not b ≡ true → b ≡ false
 negated true h = sym h

@@ -1,5 +1,6 @@
 pub mod NumberedEntries
 pub mod FileChanges
+pub mod AclFrames
 pub mod KeptFrames
 pub mod StateTexts
 pub mod StateLayouts

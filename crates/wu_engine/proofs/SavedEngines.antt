@@ -11,6 +11,7 @@ use Rattle.wu_space.specs.Addresses.{Addresses}
 use Rattle.wu_parts.specs.Contents.{Contents}
 use Rattle.wu_parts.specs.Flushing.{Told}
 use Rattle.wu_image.specs.declared.checkpoints.Checkpoint.{Checkpoint}
+use Rattle.wu_image.specs.declared.checkpoints.Version.TheVariants.{Second}
 use Rattle.wu_image.specs.declared.records.FileRec.{FileRec}
 use Rattle.wu_image.specs.declared.roots.Root.{Root}
 use Rattle.wu_image.specs.Checkpoints.{file_numbers}
@@ -131,7 +132,7 @@ module _ (tree : FileSystem) (space : Addresses) (contents : Contents) (files : 
     checkpoint = checkpoint;
     spelled = record {
       size = refl;
-      spelled = spelled numbers rules;
+      spelled = record { holds = (spelled numbers rules).holds; version = Second; spelled = (spelled numbers rules).spelled };
       next_address = refl;
       next_blob = refl;
       of_no_text = no_text;

@@ -8,7 +8,8 @@ use Rattle.wu_space.specs.Addresses.{Addresses}
 use Rattle.wu_parts.specs.Contents.{Contents}
 use Rattle.wu_parts.specs.Flushing.{EmptiesMemory, Flushes, Told}
 use Rattle.wu_parts.specs.Memory.{HasPostings}
-use Rattle.wu_image.specs.Checkpoints.{SpellsCheckpoint, file_numbers}
+use Rattle.wu_image.specs.declared.checkpoints.Version.TheVariants.{Second}
+use Rattle.wu_image.specs.Checkpoints.{SpellsVersion, file_numbers}
 use Rattle.wu_image.specs.LayoutRules.{AreLayoutRules}
 use Rattle.wu_image.specs.Roots.{SpellsRoot}
 use Rattle.wu_image.specs.declared.records.FileRec.{FileRec}
@@ -42,13 +43,13 @@ try_removal blob moments = try_change (Remove blob) (with_blob blob None) moment
 abbrev pub recorded_files : Records → List FileRec
 recorded_files files = map (λ file. file.1) files
 
--- The bytes are those of the checkpoint of the tree and the index, where the records are those of its regular files and keep the rules
--- of the layout.
+-- The bytes are those of the checkpoint of the tree and the index, in the second version, where the records are those of its regular
+-- files and keep the rules of the layout.
 abbrev pub IsSpelledOf : FileSystem → Addresses → Records → Contents → List ℕ → Type 0
 IsSpelledOf tree space files contents bytes =
     map (λ file. file.ino) (recorded_files files) ≡ file_numbers tree.nodes
     → AreLayoutRules space.next contents.next_blob contents.flushes (recorded_files files) contents.parts
-    → SpellsCheckpoint (record {
+    → SpellsVersion Second (record {
       next_address = space.next;
       next_blob = contents.next_blob;
       flushes = contents.flushes;

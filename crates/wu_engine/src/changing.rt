@@ -94,7 +94,7 @@ impl Engine {
         effects_tell_files(&self.tree);
         self.tree.keeps_the_rules();
         self.space.keeps_the_rules();
-        let touched = touched_by(&self.tree, &self.space, event);
+        let touched = touched_by(self.alloc, &self.tree, &self.space, event)?;
         match self.tree.apply(event)? {
             Ok(effect) => {
                 let followed = follow(

@@ -45,8 +45,8 @@ invariant_of-self-in-Ok-followed g c =
     let done = c.in-Ok-followed.ensures.done in
     let sound = old.sound c.in_default.is in
     let rules = c.keeps_the_rules-2.ensures in
-    let touched : Touches old.tree old.space tree space c.touched_by-touched.result =
-    rw c.touched_by-touched.ensures
+    let touched : Touches old.tree old.space tree space c.in_ok-touched.touched =
+    rw c.in_ok-touched.ensures
     (touches old.tree old.space text c.keeps_the_rules.ensures rules event tree effect step
     (c.effects_tell_files.ensures event tree effect step) (changes old.tree event tree effect step).1 space
     (ap (λ (k : Catalog). k.space) done.catalog)) in
@@ -165,12 +165,16 @@ returns-in-Ok-followed-clause-frames g c =
     let tree = c.apply.new.self in
     let space = c.follow-followed.new.space in
     let step = rw c.in-Ok.is at c.in_ok-effect.ensures.step in
-    let is = c.touched_by-touched.ensures in
+    let is = c.in_ok-touched.ensures in
     let touched : Touches old.tree old.space tree space (touched_of old.tree old.space.ranges event) =
     touches old.tree old.space c.args.body.now c.keeps_the_rules.ensures c.keeps_the_rules-2.ensures event tree c.in-Ok.effect step
     (c.effects_tell_files.ensures event tree c.in-Ok.effect step) (changes old.tree event tree c.in-Ok.effect step).1 space
     (ap (λ (k : Catalog). k.space) c.in-Ok-followed.ensures.done.catalog) in
     (rw is at c.renew_frames.ensures.left) old.tree old.space touched (old.sound c.in_default.is).frames
+
+pub returns-in_err-touched-clause-tried : goal.returns-in_err-touched-clause-tried
+returns-in_err-touched-clause-tried g c =
+    let next = c.args.self.now.parts.next_blob in no_puts next (next + 2) 2 (g.D.Store.moments c.args.store.now) (omega arith)
 
 pub returns-in_err-effect-clause-tried : goal.returns-in_err-effect-clause-tried
 returns-in_err-effect-clause-tried g c =
@@ -186,6 +190,9 @@ returns-in-Some g c =
     search (rules, draws_none 2 c.args.self.now.parts, no_puts next (next + 2) 2 (g.D.Store.moments c.args.store.now) (omega arith))
 
 -- ---- the numbers
+
+pub returns-in_err-touched-clause-numbers : goal.returns-in_err-touched-clause-numbers
+returns-in_err-touched-clause-numbers g c = draws_none 2 c.args.self.now.parts
 
 pub returns-in_err-effect-clause-numbers : goal.returns-in_err-effect-clause-numbers
 returns-in_err-effect-clause-numbers g c = draws_none 2 c.args.self.now.parts
