@@ -6,8 +6,9 @@ mod asking;
 
 use crate::trees::events;
 use std::alloc::Global;
-use wu_base::{ADDRESSES_MAX, Ino, Range, Sequence, Uid};
-use wu_frames::{FrameCache, LinkChanges, links_changed};
+use wu_access::Acl;
+use wu_base::{ADDRESSES_MAX, Ino, NoMemory, Range, Sequence, Uid};
+use wu_frames::{FrameCache, LinkChanges, copied_acl, links_changed};
 use wu_rows::{NoAnswer, number, plain_text, small_number, small_numbers};
 use wu_space::Space;
 use wu_tree::{Effect, Event, Node, Tree};
@@ -19,6 +20,14 @@ pub struct Rows {
     pub tree: Tree,
     pub space: Space,
     kept: FrameCache,
+}
+
+/// A node before an event.
+#[derive(Drop)]
+struct Before {
+    ino: Ino,
+    node: Node,
+    acl: Option<Acl>,
 }
 
 impl Rows {
@@ -69,8 +78,8 @@ impl Rows {
     fn apply(&mut self, alloc: Global, event: &Event, len: u64) -> Result<String, NoAnswer>
         requires { IsEvent event.now }
     {
-        let before = node_before(&self.tree, event);
-        let links = links_changed(&self.tree, event);
+        let before = node_before(alloc, &self.tree, event)?;
+        let links = links_changed(alloc, &self.tree, event)?;
         match self.tree.apply(event)? {
             Ok(effect) => {
                 self.follow(event, effect, before, links, len)?;
@@ -85,7 +94,7 @@ impl Rows {
         &mut self,
         event: &Event,
         effect: Effect,
-        before: Option<(Ino, Node)>,
+        before: Option<Before>,
         links: LinkChanges,
         len: u64,
     ) -> Result<(), NoAnswer> {
@@ -103,11 +112,13 @@ impl Rows {
     }
 
     /// Forgets the kept frames that the event may have changed, where `before` is the node to which it gave other
-    /// permissions, and `links` are those that it made and removed.
-    fn renew(&mut self, event: &Event, before: Option<(Ino, Node)>, links: LinkChanges) {
+    /// permissions or another list, and `links` are those that it made and removed.
+    fn renew(&mut self, event: &Event, before: Option<Before>, links: LinkChanges) {
         match (event, before) {
             (Event::User { uid, .. }, _) => self.kept.forget(*uid),
-            (_, Some((ino, node))) => self.kept.recheck(&self.tree, ino, node),
+            (_, Some(was)) => {
+                self.kept.recheck(&self.tree, was.ino, was.node, was.acl)
+            }
             _ => self.kept.relink(&self.tree, links),
         }
     }
@@ -158,11 +169,24 @@ fn event_of(alloc: Global, fields: &[&str]) -> Result<Event, NoAnswer>
     }
 }
 
-/// The node to which the event gives other permissions, as it is before.
-fn node_before(tree: &Tree, event: &Event) -> Option<(Ino, Node)> {
+/// The node to which the event gives other permissions or another access list, as it is before.
+fn node_before(alloc: Global, tree: &Tree, event: &Event) -> Result<Option<Before>, NoMemory> {
     match event {
-        Event::Chmod { ino, .. } | Event::Chown { ino, .. } => Some((*ino, tree.node(*ino)?)),
-        _ => None,
+        Event::Chmod { ino, .. } | Event::Chown { ino, .. } | Event::Acl { ino, .. } => {
+            before(alloc, tree, *ino)
+        }
+        _ => Ok(None),
+    }
+}
+
+fn before(alloc: Global, tree: &Tree, ino: Ino) -> Result<Option<Before>, NoMemory> {
+    match tree.node(ino) {
+        Some(node) => Ok(Some(Before {
+            ino,
+            node,
+            acl: copied_acl(alloc, tree, ino)?,
+        })),
+        None => Ok(None),
     }
 }
 

@@ -1,4 +1,5 @@
 //! What trees answer to events, what they tell then, and what makes a tree.
+mod acls;
 pub mod events;
 mod nodes;
 mod rebuilding;
@@ -25,7 +26,12 @@ pub fn answer(
             let words = words(alloc, arguments)?;
             told::answered(alloc, tree, call, words.as_slice())
         }
-        ("rebuild", [nodes, links, users]) => rebuilding::made(alloc, tree, nodes, links, users),
+        ("rebuild", [nodes, links, users]) => {
+            rebuilding::made(alloc, tree, nodes, links, users, "")
+        }
+        ("rebuild", [nodes, links, users, acls]) => {
+            rebuilding::made(alloc, tree, nodes, links, users, acls)
+        }
         ("chain", [depth, letters]) => rebuilding::chain_made(alloc, tree, depth, letters),
         ("refusal", [name]) => refusals::text(alloc, name),
         _ => Err(NoAnswer::BadRow),

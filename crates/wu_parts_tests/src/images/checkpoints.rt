@@ -1,5 +1,6 @@
 //! Answers of the calls on checkpoints.
 use std::alloc::Global;
+use wu_access::Acl;
 use wu_base::Ino;
 use wu_image::{Checkpoint, read_checkpoint, write_checkpoint};
 use wu_rows::{NoAnswer, bytes_text, numbers_text, plain_text};
@@ -52,6 +53,9 @@ fn put_checkpoint(
     ];
     text.push_str(numbers_text(alloc, &numbers)?.as_str())?;
     put_tree(text, alloc, &checkpoint.tree)?;
+    for (ino, acl) in checkpoint.tree.acls() {
+        put_acl(text, ino, acl)?;
+    }
     for file in checkpoint.files.as_slice() {
         let (ino, len, blob) = (file.ino, file.len, file.blob);
         let (start, addresses) = (file.range.start, file.range.len);
@@ -80,6 +84,17 @@ fn put_tree(text: &mut String, alloc: Global, tree: &Tree) -> Result<(), NoAnswe
             text.push_str(bytes_text(alloc, name)?.as_str())?;
             write!(text, "={child}")?;
         }
+    }
+    Ok(())
+}
+
+fn put_acl(text: &mut String, ino: Ino, acl: &Acl) -> Result<(), NoAnswer> {
+    write!(text, " acl {ino} {}", acl.owning)?;
+    for entry in acl.users.as_slice() {
+        write!(text, " u {} {}", entry.id, entry.bits)?;
+    }
+    for entry in acl.groups.as_slice() {
+        write!(text, " g {} {}", entry.id, entry.bits)?;
     }
     Ok(())
 }

@@ -2,6 +2,7 @@
 ghost use Rattle.std.specs.Prelude.{◌≤◌, IfOk};
 ghost use Rattle.wu_tree.specs.Steps.{IsEvent};
 
+use crate::trees::acls;
 use crate::trees::nodes::mode_of;
 use crate::trees::refusals::name_of;
 use std::alloc::Global;
@@ -157,6 +158,8 @@ fn changed(alloc: Global, words: &[&str]) -> Result<Event, NoAnswer>
             uid: small_number(uid)?,
             groups: numbers_of(alloc, groups)?,
         }),
+        ["acl", ino] => acls::event(alloc, ino, ""),
+        ["acl", ino, entries] => acls::event(alloc, ino, entries),
         _ => Err(NoAnswer::BadRow),
     }
 }

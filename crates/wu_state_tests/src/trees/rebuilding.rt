@@ -1,23 +1,26 @@
-//! Nodes, links and users of which a tree is rebuilt.
+//! Nodes, links, users and access lists of which a tree is rebuilt.
+use crate::trees::acls::acl;
 use crate::trees::events::{name_of_word, numbers_of};
 use crate::trees::nodes::node;
 use std::alloc::Global;
-use wu_access::{Perm, UserRec};
+use wu_access::{Acl, Perm, UserRec};
 use wu_base::{Bytes, Ino, NoMemory};
 use wu_rows::{NoAnswer, flag_text, small_number, words};
 use wu_tree::{Kind, LinkRec, Node, Tree};
 
-/// Whether the nodes, links and users make a tree, which then stands in the place of the other. Each is a list, with a comma between
-/// each two.
+/// Whether the nodes, links, users and access lists make a tree, which then stands in the place of the other. Each is a list, with a
+/// comma between each two.
 pub fn made(
     alloc: Global,
     tree: &mut Tree,
     nodes: &str,
     links: &str,
     users: &str,
+    acls: &str,
 ) -> Result<String, NoAnswer> {
     let nodes = nodes_of(alloc, nodes)?;
-    made_with(alloc, tree, nodes.as_slice(), links, users)
+    let acls = acls_of(alloc, acls)?;
+    made_with(alloc, tree, nodes.as_slice(), links, users, acls.as_slice())
 }
 
 fn made_with(
@@ -26,10 +29,11 @@ fn made_with(
     nodes: &[(Ino, Node)],
     links: &str,
     users: &str,
+    acls: &[(Ino, Acl)],
 ) -> Result<String, NoAnswer> {
     let users = users_of(alloc, users)?;
     let links = links_of(alloc, links)?;
-    made_of(alloc, tree, nodes, links.as_slice(), users.as_slice())
+    made_of(alloc, tree, nodes, links.as_slice(), users.as_slice(), acls)
 }
 
 fn made_of(
@@ -38,8 +42,9 @@ fn made_of(
     nodes: &[(Ino, Node)],
     links: &[LinkRec],
     users: &[UserRec],
+    acls: &[(Ino, Acl)],
 ) -> Result<String, NoAnswer> {
-    let made = put_rebuilt(alloc, tree, nodes, links, users)?;
+    let made = put_rebuilt(alloc, tree, nodes, links, users, acls)?;
     flag_text(alloc, made)
 }
 
@@ -50,8 +55,9 @@ fn put_rebuilt(
     nodes: &[(Ino, Node)],
     links: &[LinkRec],
     users: &[UserRec],
+    acls: &[(Ino, Acl)],
 ) -> Result<bool, NoMemory> {
-    match Tree::rebuild(alloc, nodes, links, users)? {
+    match Tree::rebuild(alloc, nodes, links, users, acls)? {
         Some(rebuilt) => {
             *tree = rebuilt;
             Ok(true)
@@ -108,6 +114,17 @@ fn users_of(alloc: Global, field: &str) -> Result<Vec<UserRec>, NoAnswer> {
     Ok(users)
 }
 
+fn acls_of(alloc: Global, field: &str) -> Result<Vec<(Ino, Acl)>, NoAnswer> {
+    let mut acls = Vec::new(alloc);
+    for item in field.split(',') {
+        let words = words(alloc, item)?;
+        if !words.is_empty() {
+            acls.push(acl(alloc, words.as_slice())?)?;
+        }
+    }
+    Ok(acls)
+}
+
 /// Whether a chain of as many directories makes a tree, where each has a name of each of the letters in the one before. It then stands in
 /// the place of the other.
 pub fn chain_made(
@@ -124,7 +141,7 @@ pub fn chain_made(
         put_links(alloc, &mut links, parent, letters)?;
     }
     nodes.push(directory(depth))?;
-    made_of(alloc, tree, nodes.as_slice(), links.as_slice(), &[])
+    made_of(alloc, tree, nodes.as_slice(), links.as_slice(), &[], &[])
 }
 
 /// Appends a link of each letter to the directory after the parent.

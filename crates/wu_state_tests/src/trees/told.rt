@@ -1,4 +1,5 @@
 //! What a tree tells.
+use crate::trees::acls;
 use crate::trees::events::name_of_word;
 use crate::trees::nodes;
 use std::alloc::{AllocError, Global};
@@ -19,6 +20,8 @@ pub fn answered(
         ("node" | "node_at" | "nodes" | "file_count", _) => {
             of_nodes(alloc, tree, call, arguments)
         }
+        ("acl_of", [ino]) => acl_of(alloc, tree, small_number(ino)?),
+        ("acls", []) => all_acls(alloc, tree),
         ("names" | "entry" | "entries" | "child", _) => of_names(alloc, tree, call, arguments),
         ("users" | "user_at" | "groups_of", _) => of_users(alloc, tree, call, arguments),
         ("searchable", [uid]) => paths(alloc, tree, small_number(uid)?),
@@ -59,6 +62,22 @@ fn all_nodes(alloc: Global, tree: &Tree) -> Result<String, NoAnswer> {
     let mut text = String::new(alloc);
     for (ino, node) in tree.nodes() {
         put_item(&mut text, nodes::text(alloc, ino, &node)?.as_str())?;
+    }
+    Ok(text)
+}
+
+fn acl_of(alloc: Global, tree: &Tree, ino: Ino) -> Result<String, NoAnswer> {
+    match tree.acl_of(ino) {
+        Some(acl) => acls::text(alloc, acl),
+        None => plain_text(alloc, "none"),
+    }
+}
+
+fn all_acls(alloc: Global, tree: &Tree) -> Result<String, NoAnswer> {
+    let mut text = String::new(alloc);
+    for (ino, acl) in tree.acls() {
+        let acl = acls::text(alloc, acl)?;
+        put_item(&mut text, format!(in alloc; "{ino} {acl}")?.as_str())?;
     }
     Ok(text)
 }
