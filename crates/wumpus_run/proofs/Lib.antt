@@ -34,4 +34,5 @@ pub mod SavesOfItems
 pub mod CrashesUnderWay
 pub mod CrashesAtEnd
 pub mod ReadsAtEnd
+pub mod AnsweredTurns
 pub mod NamedCheckpoints

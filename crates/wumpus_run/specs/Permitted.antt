@@ -68,6 +68,11 @@ pub record Reaches (rules : Rules) (start : State) (items : List Entry) (status 
 
 -- ---- a session
 
+-- Its first items were answered in turn, from that state on, and the sink gained their replies and a part of the next one's.
+abbrev pub AnswersInTurn : State → Status → Option Settings → Moment → Moment → Type 0
+AnswersInTurn start status settings before now = IfSome settings (λ told. IfSome before.left (λ input. (rules : Rules)
+    → AreRules before.holds told rules → Reaches rules start (items_of input) status before.gained now.gained))
+
 -- First what one opening of a store with that content reads, and then what the items do that were answered and the one under way: for the
 -- later ones nothing is read. Or the opening stopped and with it the session, before it took or wrote a byte, and so before all items: then
 -- some of the ranges that an opening reads, and no other.

@@ -23,7 +23,7 @@ ghost use Rattle.wu_engine.specs.States.{State, rested_state, saved_state};
 ghost use Rattle.wu_engine.specs.declared.faults.BeginFault.TheVariants.{Damaged as SavedIsDamaged};
 ghost use Rattle.wumpus_run.specs.Demo.{IfDemo, IsShown};
 ghost use Rattle.wumpus_run.specs.Kept.{AddsDrawnFor, KeepsDrawn, KeepsEitherSave, KeepsRootsCheckpoint, TouchesNoStray};
-ghost use Rattle.wumpus_run.specs.Permitted.{ReadsPermitted};
+ghost use Rattle.wumpus_run.specs.Permitted.{AnswersInTurn, ReadsPermitted};
 ghost use Rattle.wumpus_run.specs.Ended.{IsSession, status_of, status_of_fault, status_of_opening, status_of_saving, status_of_trouble};
 ghost use Rattle.wumpus_run.specs.Session.{AnswersAll, AnswersPrefix, AnswersTaken, Completes, FromImage, HasRoom, HoldsNothingBack, IsCounted, IsSpent, IsTooLong, IsUsage, KeepsStrays, LeavesNoStray, OpensAlone, PutsOnlyDrawn, SavesAll, StaysShut, StaysWithin, TakesAll, UnlessTaken, moment, settings_of};
 ghost use Rattle.wumpus_run.specs.Raised.{SavesOnce};
@@ -75,6 +75,12 @@ pub fn run<I: Source, O: Sink, D: Store>(
         (moment I.Source O.Sink D.Store source.old sink.old store.old)
         (moment I.Source O.Sink D.Store source.new sink.new store.new)) }
     ensures named { result ≡ Status.Done → FromImage (D.holds store.old) (λ s. LeavesNoStray s (settings_of (texts_of words.now))
+        (moment I.Source O.Sink D.Store source.old sink.old store.old)
+        (moment I.Source O.Sink D.Store source.new sink.new store.new)) }
+
+    // Whatever the status, the first items of the input were answered in turn, and the sink gained their replies and a part of the
+    // next one's.
+    ensures turns { FromImage (D.holds store.old) (λ s. AnswersInTurn s result (settings_of (texts_of words.now))
         (moment I.Source O.Sink D.Store source.old sink.old store.old)
         (moment I.Source O.Sink D.Store source.new sink.new store.new)) }
 

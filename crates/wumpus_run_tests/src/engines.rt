@@ -24,10 +24,26 @@ const SIZE: usize = 82;
 /// What a count of the word is answered by an engine that gave a file the word alone and flushed, where the last byte of the part that
 /// it put was changed to this one after that; where there is none the part is as it was put.
 pub fn counted_over(alloc: Global, field: &str) -> Result<String, NoAnswer> {
+    let last = bytes(alloc, field)?;
     let mut store = MemStore::new(alloc, Vec::new(alloc), u64::MAX);
-    let Ok(mut engine) = Engine::begin(alloc, &mut store, u64::from(FLUSH_DEFAULT)) else {
-        return Err(NoAnswer::BadRow);
-    };
+    begin_and_count(alloc, &mut store, last.as_slice())
+}
+
+/// The same over a new store.
+fn begin_and_count(alloc: Global, store: &mut MemStore, last: &[u8]) -> Result<String, NoAnswer> {
+    match Engine::begin(alloc, store, u64::from(FLUSH_DEFAULT)) {
+        Ok(mut engine) => change_and_count(alloc, &mut engine, store, last),
+        Err(_) => Err(NoAnswer::BadRow),
+    }
+}
+
+/// The same with an engine that was just begun.
+fn change_and_count(
+    alloc: Global,
+    engine: &mut Engine,
+    store: &mut MemStore,
+    last: &[u8],
+) -> Result<String, NoAnswer> {
     let create = Event::Create {
         ino: 2,
         parent: 1,
@@ -38,11 +54,11 @@ pub fn counted_over(alloc: Global, field: &str) -> Result<String, NoAnswer> {
             mode: 0o600,
         },
     };
-    update(&mut engine, &mut store, &create, b"")?;
-    update(&mut engine, &mut store, &Event::Text { ino: 2 }, b"apple")?;
-    flush(&mut engine, &mut store)?;
-    change_last(&mut store, bytes(alloc, field)?.as_slice())?;
-    count(alloc, &mut engine, &mut store)
+    update(engine, store, &create, b"")?;
+    update(engine, store, &Event::Text { ino: 2 }, b"apple")?;
+    flush(engine, store)?;
+    change_last(store, last)?;
+    count(alloc, engine, store)
 }
 
 /// Whether there are so many addresses left, and blobs and flushes for an event.

@@ -1,6 +1,7 @@
 use Rattle.std.proofs.Common.{Option, Some, inl, refl, sym, ap, ◌∙◌, subst}
 use Rattle.wu_options.specs.CommandLines.{command_line_of, texts_of}
 use Rattle.wu_options.specs.declared.command_lines.Settings.{Settings}
+use Rattle.wumpus_run.specs.Permitted.{AnswersInTurn}
 use Rattle.wumpus_run.specs.Session.{moment, settings_of, Completes}
 use Rattle.wumpus_run.specs.declared.statuses.Status.TheVariants.{NoMemory, ReadFault, StoreFault}
 use Rattle.wumpus_run.proofs.DemoLemmas.{nothing-shown, other-calm}
@@ -13,6 +14,7 @@ use Rattle.wumpus_run.proofs.TakenReplies.{AnswersTaken-untouched}
 use Rattle.wumpus_run.proofs.PutsAtEnd.{puts_none}
 use Rattle.wumpus_run.proofs.RootRoom.{has_room}
 use Rattle.wumpus_run.proofs.NamedCheckpoints.{checkpoint_same}
+use Rattle.wumpus_run.proofs.AnsweredTurns.{answered-turns}
 use Rattle.wumpus_run.proofs.ReadsAtEnd.{permitted_untouched}
 use Rattle.wumpus_run.proofs.ShutStores.{shut-unread}
 use Rattle.wumpus_run.proofs.StrayBlobs.{strays_alone}
@@ -137,3 +139,23 @@ pub returns-in-Err-clause-puts : goal.returns-in-Err-clause-puts
 returns-in-Err-clause-puts g c = λ s image.
     let before = moment g.I.Source g.O.Sink g.D.Store c.args.source.now c.args.sink.now c.args.store.now in
     puts_none (settings_of (texts_of c.args.words.now)) s before before refl refl
+
+pub returns-in-Err-clause-turns : goal.returns-in-Err-clause-turns
+returns-in-Err-clause-turns g c =
+    let before = moment g.I.Source g.O.Sink g.D.Store c.args.source.now c.args.sink.now c.args.store.now in
+    let reads = g.D.Store.reads c.args.store.now in
+    λ s image.
+    answered-turns s NoMemory (settings_of (texts_of c.args.words.now)) before before reads reads image
+    (permitted_untouched s (settings_of (texts_of c.args.words.now)) before reads)
+
+pub returns-in-Ok-Some-Run-clause-turns : goal.returns-in-Ok-Some-Run-clause-turns
+returns-in-Ok-Some-Run-clause-turns g c =
+    let ran = c.in-Ok-Some-Run in
+    let before = moment g.I.Source g.O.Sink g.D.Store c.args.source.now c.args.sink.now c.args.store.now in
+    let now = moment g.I.Source g.O.Sink g.D.Store c.answer_script.new.source c.answer_script.new.sink c.answer_script.new.store in
+    let asked = settings_asked ran.field-0 (texts_of c.args.words.now) ran.settings
+    (ran.field-0-is ∙ ap Some ran.field-0-0-is) ran.ensures in
+    λ s image.
+    subst (λ (told : Option Settings). AnswersInTurn s c.answer_script.result told before now) (sym asked)
+    (answered-turns s c.answer_script.result (Some ran.settings) before now (g.D.Store.reads c.args.store.now)
+    (g.D.Store.reads c.answer_script.new.store) image (c.answer_script.ensures.permitted s image))

@@ -1,0 +1,25 @@
+//! The law of lives.
+ghost use Rattle.std.specs.Prelude.{ℕ, List};
+ghost use Rattle.wu_engine.specs.Opening.{HoldsImage};
+ghost use Rattle.wu_engine.specs.States.{State};
+ghost use Rattle.wu_script.specs.Said.{IsReading, Reading};
+ghost use Rattle.wu_secrecy.specs.Histories.{TellAlike, turns_in};
+ghost use Rattle.wu_secrecy.specs.Lives.{History, IsLife, IsRun, Run, Started, SurvivesStop};
+
+/// The life of a machine is a history of sessions, of which
+/// [`two_machines_tell_her_alike`](crate::two_machines_tell_her_alike) speaks. Where each run over
+/// a store finds it as the run before left it, or as a crash after that left it, there is a state
+/// for each run of which its store held an image and from which it took its course: at first the
+/// one of which the store held an image then, and later the state that the last run left, where it
+/// was done, else its last save whose reply its sink has, or the next one. A crash while a run goes
+/// on leaves an image of a state that the run might have found, or of one that it saves.
+pub fn a_life_is_a_history()
+    ensures history { (read : Reading) → IsReading read → (first : State) (runs : List Run)
+        → IsLife first runs → History read first runs }
+    ensures alike { (read : Reading) (first second : State) (ones others : List Run)
+        (one : History read first ones) (other : History read second others)
+        (uid : ℕ) → TellAlike uid (turns_in one.courses) (turns_in other.courses) }
+    ensures stop { (read : Reading) → IsReading read → (first : State) (earlier : List Started)
+        (run : Run) (s : State) → IsRun run → HoldsImage run.before.holds s
+        → SurvivesStop read first earlier (run, s) }
+{}
