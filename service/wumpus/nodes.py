@@ -68,6 +68,12 @@ class Tree:
         return depths
 
 
+def first_tree() -> Tree:
+    """The tree of a program to which nothing was told: the root, and nothing in it."""
+    root = Node(ROOT, True, Rights(0o755, 0, 0), b"", (0, 0), 0, 0)
+    return Tree({ROOT: root}, {ROOT: {}})
+
+
 def meet(old: Rights, new: Rights) -> Rights:
     """Rights that give nobody more than either: those that both give where classes are equal."""
     if old[1:] == new[1:]:

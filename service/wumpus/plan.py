@@ -8,9 +8,9 @@ and directories are removed from the lowest up and placed from the highest down.
 
 from collections import Counter
 from collections.abc import Iterator
-from dataclasses import dataclass, field
+from dataclasses import dataclass, field, replace
 
-from .nodes import CLOSED, Node, Rights, Tree, meet
+from .nodes import CLOSED, ROOT, Node, Rights, Tree, meet
 from .script import spell, spell_mode
 
 Groups = dict[int, tuple[int, ...]]
@@ -95,19 +95,13 @@ def lines_to(number: int, old: Rights, new: Rights) -> Iterator[bytes]:
         yield spell(b"chmod", number, spell_mode(new.mode))
 
 
-def keep_users(old: Groups, new: Groups) -> Iterator[bytes]:
-    """Takes each user out of the groups in which she isn't any more."""
-    for user, groups in old.items():
-        left = [group for group in groups if group in new.get(user, ())]
-        if len(left) < len(groups):
-            yield spell(b"user", user, *left)
-
-
-def give_users(old: Groups, new: Groups) -> Iterator[bytes]:
-    """Puts each user into the groups in which she is now."""
+def set_users(old: Groups, new: Groups) -> list[bytes]:
+    """Sets the groups of each user who has others now."""
+    lines = [spell(b"user", user) for user, groups in old.items() if groups and user not in new]
     for user, groups in new.items():
-        if not set(groups) <= set(old.get(user, ())):
-            yield spell(b"user", user, *groups)
+        if groups != old.get(user, ()):
+            lines.append(spell(b"user", user, *groups))
+    return lines
 
 
 def remove(old: Tree, new: Tree, changes: Changes) -> Iterator[bytes]:
@@ -217,15 +211,28 @@ class Plan:
 
 
 def plan_all(old: Tree, new: Tree, old_users: Groups, new_users: Groups) -> Plan:
-    """From one tree with its users to another. The texts that differ come in between."""
+    """From one tree with its users to another. The texts that differ come in between.
+
+    Being in a group can deny as well as grant, so there are no groups that give nobody more than
+    the old and the new ones; where a user's groups change, the root is shut from first to last.
+    """
+    users = set_users(old_users, new_users)
     pairs = changed_nodes(old, new)
+    roots = [pair for pair in pairs if pair[1].number == ROOT]
+    others = [pair for pair in pairs if pair[1].number != ROOT]
+    if users:
+        root = old.nodes[ROOT]
+        shut = replace(root, rights=Rights(0, *root.rights[1:]))
+        head = [*take_rights([(root, shut)]), *users]
+        last = [*lines_to(ROOT, shut.rights, new.nodes[ROOT].rights)]
+    else:
+        head = list(take_rights(roots))
+        last = list(give_rights(roots))
     changes = changes_of(old, new)
-    head = [*take_rights(pairs), *keep_users(old_users, new_users)]
+    head += take_rights(others)
     head += remove(old, new, changes)
     head += place(old, new, changes)
-    tail = list(give_users(old_users, new_users))
-    tail += give_rights(pairs)
-    tail += give_new(old, new, changes)
+    tail = [*give_rights(others), *give_new(old, new, changes), *last]
     return Plan(head, tail)
 
 

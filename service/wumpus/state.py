@@ -13,7 +13,7 @@ from dataclasses import dataclass, field
 from pathlib import Path
 from typing import Any
 
-from .nodes import FIRST, Node, Rights, Tree
+from .nodes import FIRST, Node, Rights, Tree, first_tree
 from .plan import Groups
 
 FORMAT = 1
@@ -34,7 +34,7 @@ class State:
     """
 
     serial: str = ""
-    tree: Tree = field(default_factory=Tree)
+    tree: Tree = field(default_factory=first_tree)
     users: Groups = field(default_factory=dict)
     following: int = FIRST
     lists: bool = False
