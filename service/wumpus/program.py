@@ -28,7 +28,8 @@ class Refused(Exception):
     """A line of a batch wasn't answered `ok`."""
 
 
-def _die_with_parent() -> None:
+def die_with_parent() -> None:
+    """Has this process killed when its parent ends; for a child before it begins."""
     _libc.prctl(_PARENT_DEATH, signal.SIGKILL, 0, 0, 0)
 
 
@@ -43,7 +44,7 @@ class Program:
             cwd=folder,
             stdin=subprocess.PIPE,
             stdout=subprocess.PIPE,
-            preexec_fn=_die_with_parent,
+            preexec_fn=die_with_parent,
             umask=0o077,
         )
         assert self.child.stdin is not None and self.child.stdout is not None
