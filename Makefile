@@ -1,6 +1,7 @@
 # make try     runs the examples of one session on an unproved build, to have a look: under a minute and a half
 # make demo    proves what the program needs, builds it, and runs the examples
-# make         proves and builds; make install PREFIX=.. copies the built program
+# make         proves and builds; make install PREFIX=.. copies the built program, and those around it
+# make deb     a package of all that; make service-test tries the programs around it, as root
 # make check   the gate
 PREFIX ?= /usr/local
 JOBS ?= $(shell nproc)
@@ -31,6 +32,7 @@ demo: all
 install: all
 	install -d $(DESTDIR)$(PREFIX)/bin
 	install -m 755 $(WUMPUS) $(DESTDIR)$(PREFIX)/bin/wumpus
+	@$(MAKE) --no-print-directory install-service
 
 check:
 	rt ci
@@ -48,3 +50,5 @@ endef
 $(foreach name,$(CRATES),$(eval $(call crate_rule,$(name))))
 
 $(WUMPUS): out/wumpus.proved ;
+
+include service/service.mk
