@@ -107,6 +107,18 @@ class Trial:
                 self.ask(user, b'count\t%d\t"%s"\n' % (user.number, word), due.count(word))
                 self.ask(user, b'find\t%d\t10000\t"%s"\n' % (user.number, word), due.find(word))
 
+    def unknown_lists(self) -> None:
+        """Gives nodes lists that the program doesn't know: nothing is shown too much."""
+        self.changes.kinds = [self.changes.access_list]
+        self.changes.some(60)
+        self.mirror_once()
+        paths = paths_below(self.top)
+        for user in self.users:
+            due = Due(opened_by(user, paths)).paths()
+            reply = self.reach.talk.ask_whole(b"paths\t%d\n" % user.number)
+            more = set(reply[1:]) - set(due[1:])
+            self.score.check(not more, f"user {user.number}, without lists: {more}")
+
     def ask(self, user: User, line: bytes, due: list[bytes]) -> None:
         """Compares one reply."""
         reply = self.reach.talk.ask_whole(line)
@@ -141,6 +153,8 @@ def main() -> int:
                 trial.kill()
             trial.mirror_once()
             trial.compare()
+        if not trial.lists:
+            trial.unknown_lists()
         trial.reach.abandon()
         kind = "with" if trial.lists else "without"
         print(

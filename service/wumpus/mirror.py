@@ -34,6 +34,7 @@ class Report:
     """What a turn did."""
 
     files: int = 0
+    fresh: int = 0  # files that have to be looked at
     looked: int = 0
     texts: int = 0
     size: int = 0
@@ -111,6 +112,9 @@ class Turn:
         old = self.state.tree.nodes.get(found.number)
         if not found.fresh and found.known is not None:
             return found.known
+        self.report.fresh += 1
+        if found.torn:
+            self.report.shut += 1
         if old is None:
             return Node(found.number, False, Rights(0, 0, 0), b"", found.identity, 0, found.size)
         return Node(found.number, False, old.rights.shut(), old.digest, found.identity, 0, 0)
@@ -135,11 +139,15 @@ class Turn:
                 self.report.shut += 1
                 continue
             self._take(tree, looked, texts)
-            told = f"{self.report.looked} files looked at, {self.report.size >> 20} MiB sent"
-            self.progress.tell(told)
+            self._tell()
             if texts.size >= TEXTS_AT_MOST:
                 return True
         return False
+
+    def _tell(self) -> None:
+        """Tells how far it is."""
+        done, left = self.report.looked, self.report.fresh - self.report.looked
+        self.progress.tell(f"{done} files looked at, {left} left, {self.report.size >> 20} MiB")
 
     def _take(self, tree: Tree, looked: Looked, texts: Texts) -> None:
         """Puts a file that was looked at into the tree and its text, where it differs, beside."""

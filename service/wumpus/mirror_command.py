@@ -1,6 +1,7 @@
 """The command line of `wumpus-mirror`."""
 
 import argparse
+import gc
 import os
 import signal
 import sys
@@ -78,7 +79,7 @@ def one_session(given: argparse.Namespace, folder: Path, progress: Progress) -> 
             if given.dry_run:
                 report(dry_run(mirror, wish, sys.stdout.buffer), began, given.quiet)
                 return
-            told = mirror.turn(wish)
+            told = one_turn(mirror, wish)
             reach.done()
             report(told, began, given.quiet or (given.every is not None and told.batches == 0))
             if given.every is None:
@@ -90,6 +91,15 @@ def one_session(given: argparse.Namespace, folder: Path, progress: Progress) -> 
             reach.close()
         else:
             reach.abandon()
+
+
+def one_turn(mirror: Mirror, wish: Wish) -> Report:
+    """A turn, while which nobody looks for cycles: its many small objects are in none."""
+    gc.disable()
+    try:
+        return mirror.turn(wish)
+    finally:
+        gc.enable()
 
 
 def report(told: Report, began: float, quiet: bool) -> None:

@@ -1,7 +1,8 @@
 """What the mirror knows of the program's tree, kept in a file between its turns.
 
-The file `mirror.state` has one JSON value a line: first the whole state, then one line for each
-later batch of texts, with the nodes that it changed. A whole state that is about to be fed stands
+The file `mirror.state` has one JSON value a line: first the whole state, in a line of its own and
+one for each directory, and then one line for each later batch of texts, with the nodes that it
+changed. A whole state that is about to be fed stands
 in `mirror.next` first. Both are written before their batch is fed: which of them is true, the
 program tells, since each batch has a serial of its own, the name of a directory in the closed one.
 """
@@ -9,6 +10,7 @@ program tells, since each batch has a serial of its own, the name of a directory
 import json
 import os
 import secrets
+from collections.abc import Iterable, Iterator
 from dataclasses import dataclass, field
 from pathlib import Path
 from typing import Any
@@ -88,22 +90,30 @@ class _Reader:
         return Node(number, bool(directory), rights, text, identity, changed, size)
 
 
-def spell_state(state: State) -> str:
-    """The line of a whole state."""
-    entries = [
-        [number, [os.fsdecode(name) for name in names], list(names.values())]
-        for number, names in state.tree.entries.items()
-    ]
-    told = {
+def spell_state(state: State) -> Iterator[str]:
+    """The lines of a whole state: one of its own, and one for each directory.
+
+    A file's node stands with the first directory that names it.
+    """
+    head = {
         "format": FORMAT,
         "serial": state.serial,
         "following": state.following,
         "lists": state.lists,
         "users": [[user, *groups] for user, groups in state.users.items()],
-        "nodes": [_spell_node(node) for node in state.tree.nodes.values()],
-        "entries": entries,
+        "directories": len(state.tree.entries),
     }
-    return json.dumps(told, separators=(",", ":")) + "\n"
+    yield json.dumps(head, separators=(",", ":")) + "\n"
+    told: set[int] = set()
+    nodes = state.tree.nodes
+    for number, names in state.tree.entries.items():
+        children = list(names.values())
+        new = [child for child in children if child not in told and not nodes[child].is_directory]
+        told.update(new)
+        files = [_spell_node(nodes[child]) for child in dict.fromkeys(new)]
+        spelled = [os.fsdecode(name) for name in names]
+        line = [_spell_node(nodes[number]), spelled, children, files]
+        yield json.dumps(line, separators=(",", ":")) + "\n"
 
 
 def spell_addition(addition: Addition) -> str:
@@ -118,28 +128,32 @@ def read_state(path: Path) -> tuple[State, list[Addition]] | None:
 
     A last line that was cut off counts for nothing. Raises `BadState`.
     """
-    try:
-        text = path.read_text(encoding="utf-8")
-    except FileNotFoundError:
-        return None
-    lines = text.split("\n")[:-1]
     reader = _Reader()
     try:
-        told = json.loads(lines[0])
-        if told["format"] != FORMAT:
-            raise BadState(f"{path}: another format")
-        nodes = {node.number: node for node in map(reader.node, told["nodes"])}
-        entries = {
-            number: dict(zip(map(os.fsencode, names), children))
-            for number, names, children in told["entries"]
-        }
-        users = {user: tuple(groups) for user, *groups in told["users"]}
-        state = State(told["serial"], Tree(nodes, entries), users, told["following"])
-        state.lists = told["lists"]
-        additions = [_read_addition(reader, line) for line in lines[1:]]
-    except (ValueError, KeyError, IndexError, TypeError) as error:
+        with open(path, encoding="utf-8") as lines:
+            told = json.loads(next(lines))
+            if told["format"] != FORMAT:
+                raise BadState(f"{path}: another format")
+            users = {user: tuple(groups) for user, *groups in told["users"]}
+            state = State(told["serial"], Tree(), users, told["following"], told["lists"])
+            for _ in range(told["directories"]):
+                _read_directory(reader, state.tree, next(lines))
+            additions = [_read_addition(reader, line) for line in lines if line.endswith("\n")]
+    except FileNotFoundError:
+        return None
+    except (ValueError, KeyError, TypeError, StopIteration) as error:
         raise BadState(f"{path}: it can't be read: {error}") from error
     return state, additions
+
+
+def _read_directory(reader: _Reader, tree: Tree, line: str) -> None:
+    node, names, children, files = json.loads(line)
+    directory = reader.node(node)
+    tree.nodes[directory.number] = directory
+    tree.entries[directory.number] = dict(zip(map(os.fsencode, names), children))
+    for file in files:
+        told = reader.node(file)
+        tree.nodes[told.number] = told
 
 
 def _read_addition(reader: _Reader, line: str) -> Addition:
@@ -187,7 +201,7 @@ class Files:
 
     def add(self, addition: Addition) -> None:
         """Writes a later batch that is about to be fed."""
-        self._write(self.path, spell_addition(addition), os.O_APPEND)
+        self._write(self.path, [spell_addition(addition)], os.O_APPEND)
 
     def forget(self) -> None:
         """Removes what is known: all has to be fed anew."""
@@ -195,9 +209,9 @@ class Files:
         self.drop()
 
     @staticmethod
-    def _write(path: Path, text: str, flag: int) -> None:
+    def _write(path: Path, lines: Iterable[str], flag: int) -> None:
         descriptor = os.open(path, os.O_WRONLY | os.O_CREAT | os.O_CLOEXEC | flag, 0o600)
         with open(descriptor, "w", encoding="utf-8") as out:
-            out.write(text)
+            out.writelines(lines)
             out.flush()
             os.fsync(out.fileno())

@@ -62,7 +62,10 @@ class Found:
     torn: bool = False
     links: int = 0
     number: int = 0
-    entries: dict[bytes, "Found"] = field(default_factory=dict)
+    entries: "dict[bytes, Found]" = field(default_factory=dict)
+
+
+_NO_ENTRIES: dict[bytes, Found] = {}  # of all files
 
 
 @dataclass(slots=True)
@@ -348,7 +351,9 @@ class Walk:
             elif known.changed == changed and known.size == status.st_size:
                 plain = (status.st_mode & 0o7777, status.st_uid, status.st_gid)
                 fresh = known.rights[:3] != plain
-        found = Found(identity, False, known, None, changed, status.st_size, fresh)
+                identity = known.identity
+        size = status.st_size
+        found = Found(identity, False, known, None, changed, size, fresh, entries=_NO_ENTRIES)
         self.found[identity] = found
         return found
 
