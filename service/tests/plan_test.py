@@ -154,7 +154,8 @@ def some_tree(draw: random.Random, old: Tree, following: int) -> tuple[Tree, int
     for node in kept:
         again = draw.random() < 0.5
         rights = node.rights if again and node.number in old.nodes else some_rights(draw)
-        text = node.digest if again or node.is_directory else b"%d" % draw.randrange(3)
+        same = node.is_directory or draw.random() < 0.5
+        text = node.digest if same else b"%d" % draw.randrange(3)
         tree.nodes[node.number] = Node(
             node.number, node.is_directory, rights, text, (0, 0), draw.randrange(9), 0
         )

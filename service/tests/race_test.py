@@ -25,6 +25,7 @@ OWNER = User(1000, (1000,))
 ASKER = 1001
 SECRET = b"secret secret\n"
 PUBLIC = b"apple pie\n"
+LARGE = 4_000_000  # bytes before the end of a file that takes a while to read
 
 
 def write(path: str, text: bytes) -> None:
@@ -43,7 +44,7 @@ class Attack:
         self.file = f"{top}/open/file"
         self.ways: list[Callable[[], None]] = [
             self.by_mode, self.by_directory, self.by_link, self.by_rename, self.by_symlink,
-            self.by_parent,
+            self.by_parent, self.by_other_name, self.while_read,
         ]  # fmt: skip
 
     def prepare(self) -> None:
@@ -54,6 +55,13 @@ class Attack:
         os.chmod(self.file, 0o644)
         write(f"{self.top}/closed/secret", SECRET)
         os.chmod(f"{self.top}/closed/secret", 0o644)
+        write(f"{self.top}/open/large", b" " * LARGE + PUBLIC)
+        os.chmod(f"{self.top}/open/large", 0o644)
+        write(f"{self.top}/open/pair", PUBLIC)
+        os.chmod(f"{self.top}/open/pair", 0o644)
+        for name in ("closed", "also", "b", "z"):
+            os.makedirs(f"{self.top}/{name}", 0o700, exist_ok=True)
+            os.link(f"{self.top}/open/pair", f"{self.top}/{name}/pair")
 
     def pause(self) -> None:
         """Waits a moment, sometimes so long that the mirror may trust what it reads."""
@@ -115,6 +123,28 @@ class Attack:
         self.pause()
         write(f"{self.top}/closed/open/file", PUBLIC)
         os.rename(f"{self.top}/closed/open", f"{self.top}/open")
+
+
+    def by_other_name(self) -> None:
+        """A file of several names has the secret while only closed directories have it."""
+        os.unlink(f"{self.top}/open/pair")
+        write(f"{self.top}/closed/pair", SECRET)
+        self.pause()
+        write(f"{self.top}/closed/pair", PUBLIC)
+        os.link(f"{self.top}/closed/pair", f"{self.top}/open/pair")
+
+    def while_read(self) -> None:
+        """A large file has the secret at its end while it is shut, and then no more."""
+        large = f"{self.top}/open/large"
+        os.chmod(large, 0o600)
+        with open(large, "r+b") as opened:
+            opened.seek(LARGE)
+            opened.write(SECRET[: len(PUBLIC)])
+            opened.flush()
+            time.sleep(self.draw.choice((0.0005, 0.002)))
+            opened.seek(LARGE)
+            opened.write(PUBLIC)
+        os.chmod(large, 0o644)
 
 
 def attack(top: str, seed: int) -> int:

@@ -174,13 +174,9 @@ class Mirror:
 
     def begin(self, anew: bool) -> None:
         """Finds out where the program stands. Raises `Failed`, and `BadState`."""
-        found = self._stand()
+        found = None if anew else self._stand()
         if found is None:
-            known = self.files.path.exists() or self.files.next.exists()
-            if known or anew:
-                self.progress.warn("the store isn't as the mirror left it; all is fed anew")
-                self.reach.reset()
-            self.files.forget()
+            self._anew(anew)
             found = State()
         self.state = found
         node = MARK if found.serial else ROOT
@@ -188,6 +184,18 @@ class Mirror:
         if reply not in (b"ok", b"refused\tsyntax"):
             raise Failed(f"the program answered {reply!r} to an access list")
         self.state.lists = reply == b"ok"
+
+    def _anew(self, wanted: bool) -> None:
+        """Begins with an empty store; one that no mirror filled is moved aside where that's wanted.
+
+        Raises `Failed` where it isn't.
+        """
+        if self.files.path.exists() or wanted:
+            self.progress.warn("the store isn't as the mirror left it; all is fed anew")
+            self.reach.reset()
+        elif self.reach.ask(b"stat\n").split(b"\t")[:2] != [b"stat", b"0"]:
+            raise Failed("the store has files that no mirror put there: --anew moves it aside")
+        self.files.forget()
 
     def _stand(self) -> State | None:
         """The state that the program is in, of those that are written."""
