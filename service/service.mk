@@ -11,7 +11,7 @@ VERSION = $(shell sed -n 's/^VERSION = "\(.*\)"/\1/p' service/wumpus/__init__.py
 DEB_ARCH = $(shell dpkg --print-architecture)
 DEB = out/wumpus_$(VERSION)_$(DEB_ARCH).deb
 
-.PHONY: install-service service-test service-check deb
+.PHONY: install-service service-test service-check deb package
 
 # Python files are copied without what an interpreter left beside them.
 install-service:
@@ -51,10 +51,9 @@ service-check:
 
 # The package has the proved program. No network is used.
 deb: all
-	@$(MAKE) --no-print-directory $(DEB)
+	@$(MAKE) --no-print-directory package
 
-.PHONY: $(DEB)
-$(DEB):
+package:
 	rm -rf out/deb
 	install -D -m 755 $(WUMPUS) out/deb/usr/bin/wumpus
 	$(MAKE) --no-print-directory install-service DESTDIR=out/deb PREFIX=/usr \

@@ -136,7 +136,7 @@ class Asking:
 
 
 def as_json(value: dict[str, Any]) -> str:
-    """A JSON value on a line; bytes that are no UTF-8 stand beside in base 64."""
+    """A JSON value on a line, in printable ASCII. What is no UTF-8 stands beside in base 64."""
     told: dict[str, Any] = {}
     for key, one in value.items():
         if isinstance(one, bytes):
@@ -145,7 +145,7 @@ def as_json(value: dict[str, Any]) -> str:
                 told[key + "_base64"] = base64.b64encode(one).decode("ascii")
         else:
             told[key] = one
-    return json.dumps(told, ensure_ascii=False)
+    return json.dumps(told).replace("\x7f", "\\u007f")
 
 
 def lines_with(path: bytes, words: frozenset[bytes]) -> list[tuple[int, bytes]]:

@@ -1,11 +1,14 @@
 """The command line of `wumpus-mirror`."""
 
 import argparse
+import contextlib
+import fcntl
 import gc
 import os
 import signal
 import sys
 import time
+from collections.abc import Iterator
 from pathlib import Path
 from types import FrameType
 
@@ -67,6 +70,23 @@ def reach_of(given: argparse.Namespace, folder: Path) -> Direct | Served:
 
 def one_session(given: argparse.Namespace, folder: Path, progress: Progress) -> None:
     """Turns over one reach of the program, as many as are wanted or until something fails."""
+    with only_one(folder):
+        turns(given, folder, progress)
+
+
+@contextlib.contextmanager
+def only_one(folder: Path) -> Iterator[None]:
+    """Keeps other mirrors away from a folder. Raises `Failed` where one is there."""
+    with open(folder / "mirror.lock", "ab") as lock:
+        try:
+            fcntl.flock(lock, fcntl.LOCK_EX | fcntl.LOCK_NB)
+        except BlockingIOError as error:
+            raise Failed(f"another mirror is at work in {folder}") from error
+        yield
+
+
+def turns(given: argparse.Namespace, folder: Path, progress: Progress) -> None:
+    """What `one_session` does, alone in its folder."""
     reach = reach_of(given, folder)
     whole = False
     try:

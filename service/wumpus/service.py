@@ -24,6 +24,7 @@ from .reach import move_aside
 from .script import BadReply, escape, lines_after, spell, unescape
 
 WORK = b"work\t200\n"
+STAT = b"stat\n"
 
 
 @dataclass(frozen=True)
@@ -84,6 +85,7 @@ class Doing(Enum):
     QUESTION = 3  # of the mirror
     BATCH = 4
     WORK = 5
+    OPENING = 6  # its store, which may take long: no query is late for that
 
 
 class Service:
@@ -143,9 +145,12 @@ class Service:
             return
         self.program = self.start()
         self.groups = {}
-        self.doing = Doing.NOTHING
         self.idle = False
         self.selector.register(self.program.output, selectors.EVENT_READ, self._replies)
+        try:
+            self._send(Doing.OPENING, STAT)
+        except Ended as error:
+            self._drop(str(error))
 
     def _drop(self, why: str) -> None:
         """Kills the program: nothing is saved. It begins again at once, or later if it fails."""
@@ -229,7 +234,7 @@ class Service:
             self._tell(b"reply\t" + escape(line) + b"\n")
         elif self.doing is Doing.BATCH:
             self._batch_line(line)
-        elif self.doing is Doing.WORK:
+        elif self.doing in (Doing.WORK, Doing.OPENING):
             self.idle = line == b"idle"
             self.doing = Doing.NOTHING
         else:
@@ -549,8 +554,8 @@ class Service:
             self._drop(f"a query of user {client.peer.user} took too long")
             self._answer(client, queries.TOO_SLOW)
             self.failures = 0
-        elif self.doing in (Doing.BATCH, Doing.QUESTION) and taken > self.bounds.batch_seconds:
-            self._drop("a batch took too long")
+        elif self.doing is not Doing.NOTHING and taken > self.bounds.batch_seconds:
+            self._drop("the program took too long")
         for client in list(self.clients.values()):
             idle = now - client.moved > self.bounds.idle_seconds and not client.asking
             if idle or (now - client.since > self.bounds.age_seconds and not client.asking):
@@ -581,7 +586,8 @@ class Service:
         status = 0
         if self.program is not None:
             self._forget_program()
-            if self.doing in (Doing.NOTHING, Doing.WORK) and not self.program.waiting:
+            harmless = (Doing.NOTHING, Doing.WORK, Doing.OPENING)
+            if self.doing in harmless and not self.program.waiting:
                 status = self.program.finish(600.0)
             else:
                 self.program.kill()
