@@ -216,9 +216,11 @@ def history(seed: int) -> None:
     model.entries = {ROOT: {b"closed": CLOSED}, CLOSED: {}}
     first = Node(ROOT, True, Rights(0o755, 0, 0), b"", (0, 0), 1, 0)
     tree, following = Tree({ROOT: first}, {ROOT: {}}), 4
+    users: Groups = {}
     for _ in range(12):
         new, following = some_tree(draw, tree, following)
-        users = {user: tuple(g for g in (20, 21, 22) if draw.random() < 0.5) for user in USERS}
+        if not users or draw.random() < 0.2:
+            users = {user: tuple(g for g in (20, 21, 22) if draw.random() < 0.5) for user in USERS}
         round_of(draw, model, tree, new, users)
         tree = new
 
