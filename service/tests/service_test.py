@@ -130,6 +130,8 @@ def identity(served: Served, score: Score) -> None:
     score.check(again == b"count\t1\t1", "and hers again")
     many = User(1003, (*range(3000, 6000), 2000))
     score.check(served.ask(many, b'count\t"apple"') == b"count\t1\t1", "three thousand groups")
+    more = User(1003, (*range(100_000, 120_000), 2000))
+    score.check(served.ask(more, b"paths") == b"refused\tgroups", "twenty thousand")
 
 
 def other_lines(served: Served, score: Score) -> None:

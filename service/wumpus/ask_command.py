@@ -38,6 +38,7 @@ REFUSALS = {
     b"toolargereply": "there are too many results: ask for fewer with -n",
     b"stopped": "the search was ended in its midst: ask again",
     b"nobody": "your number is that of nobody (65534), for whom nothing is searched",
+    b"groups": "you are in more groups than the service can tell the program",
     b"connections": "there are too many connections: ask again soon",
     b"notquery": "the service didn't take this for a query",
 }

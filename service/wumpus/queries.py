@@ -17,6 +17,7 @@ TOO_SLOW = b"refused\ttooslow\n"
 TOO_LARGE = b"refused\ttoolargereply\n"
 STOPPED = b"refused\tstopped\n"
 NOBODY = b"refused\tnobody\n"
+MANY_GROUPS = b"refused\tgroups\n"
 TOO_MANY = b"refused\tconnections\n"
 
 ROOM_FOR_USER = 16

@@ -47,6 +47,12 @@ def spell(*fields: bytes | int) -> bytes:
     return b"\t".join(spelled) + b"\n"
 
 
+def spell_user(user: int, groups: tuple[int, ...]) -> bytes | None:
+    """The line that sets a user's groups, or None where they are too many for a line."""
+    line = spell(b"user", user, *groups)
+    return line if len(line) <= LINE_MAX else None
+
+
 def spell_mode(mode: int) -> bytes:
     """The field of a mode: its low twelve bits as three or four octal digits."""
     return b"%03o" % (mode & 0o7777)

@@ -21,7 +21,7 @@ from . import queries
 from .peers import NOBODY, Peer, peer_of
 from .program import PIECE, Ended, Program
 from .reach import move_aside
-from .script import BadReply, escape, lines_after, spell, unescape
+from .script import BadReply, escape, lines_after, spell_user, unescape
 
 WORK = b"work\t200\n"
 STAT = b"stat\n"
@@ -313,9 +313,10 @@ class Service:
             return True
         self.query = query
         peer = query.client.peer
-        if peer.user != 0 and self.groups.get(peer.user) != peer.groups:
+        line = spell_user(peer.user, peer.groups)
+        if line is not None and peer.user != 0 and self.groups.get(peer.user) != peer.groups:
             self.groups[peer.user] = peer.groups
-            self._send(Doing.USER, spell(b"user", peer.user, *peer.groups))
+            self._send(Doing.USER, line)
         else:
             self._send(Doing.QUERY, query.line)
         return True
@@ -388,6 +389,8 @@ class Service:
         """Why nothing is answered on a new connection; empty where something is."""
         if peer.user == NOBODY:
             return queries.NOBODY
+        if spell_user(peer.user, peer.groups) is None:
+            return queries.MANY_GROUPS
         of_user = sum(one.peer.user == peer.user for one in self.clients.values())
         if of_user >= self.bounds.connections_of_user:
             return queries.TOO_MANY

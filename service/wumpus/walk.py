@@ -20,7 +20,7 @@ from dataclasses import dataclass, field
 
 from .access import BadList, rights_at
 from .nodes import Identity, Node, Rights
-from .script import DEPTH_MAX
+from .script import DEPTH_MAX, NAME_MAX
 
 ATTEMPTS = 5
 YOUNG = 50_000_000  # nanoseconds in which two changes may have one ctime
@@ -322,6 +322,8 @@ class Walk:
                 name = os.fsencode(entry.name)
                 if patterned and self.fits(name, path + b"/" + name):
                     entries.pop(name, None)
+                elif len(name) > NAME_MAX:
+                    self.warn(f"{os.fsdecode(path)}: a name over 255 bytes is left out")
                 elif entry.is_dir(follow_symlinks=False):
                     directories.append(name)
                 elif entry.is_file(follow_symlinks=False):
