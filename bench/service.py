@@ -18,6 +18,10 @@ import time
 from pathlib import Path
 
 SERVICE = Path(__file__).resolve().parent.parent / "service"
+sys.path.insert(0, str(SERVICE))
+
+from wumpus.script import lines_after  # noqa: E402
+
 USER = 12345
 SECONDS = 10.0
 TICKS = os.sysconf("SC_CLK_TCK")
@@ -42,7 +46,7 @@ def spent_by(process: int) -> float:
 
 
 def ask(sockets: Path, query: bytes, seconds: float) -> tuple[int, bytes]:
-    """Asks one query again and again on one connection: how many answers, and the last one."""
+    """Asks one query again and again: how many answers came, and the last one's first line."""
     count = 0
     until = time.monotonic() + seconds
     with socket.socket(socket.AF_UNIX, socket.SOCK_STREAM) as connection:
@@ -51,6 +55,8 @@ def ask(sockets: Path, query: bytes, seconds: float) -> tuple[int, bytes]:
             while True:
                 connection.sendall(query)
                 line = answers.readline()
+                for _ in range(lines_after(line.rstrip(b"\n"))):
+                    answers.readline()
                 count += 1
                 if time.monotonic() >= until:
                     return count, line
@@ -87,18 +93,20 @@ class Bench:
         before = spent_by(self.program)
         clock, spent, peak = timed([*self.mirror, *roots])
         told = f"{clock:.1f} s, the mirror's processor {spent:.2f} s, its peak {peak} MB"
-        print(f"| {what} | {told}; the program's {spent_by(self.program) - before:.2f} s |")
+        program = spent_by(self.program) - before
+        print(f"| {what} | {told}; the program's {program:.2f} s |", flush=True)
 
-    def answers(self, clients: int, query: bytes) -> None:
-        """Answers a second for so many clients, as a row."""
+    def answers(self, clients: int, users: int, query: bytes) -> None:
+        """Answers a second for so many clients of so many users, as a row."""
         before = spent_by(self.program), spent_by(self.service.pid)
-        jobs = [(self.sockets, query, USER + one) for one in range(clients)]
+        jobs = [(self.sockets, query, USER + one % users) for one in range(clients)]
         with multiprocessing.get_context("fork").Pool(clients) as pool:
             count = sum(pool.starmap(client, jobs, 1))
         program = (spent_by(self.program) - before[0]) / count * 1000
         service = (spent_by(self.service.pid) - before[1]) / count * 1000
         told = f"{count / SECONDS:.0f} a second; {service:.3f} ms of the service's processor each"
-        print(f"| {query!r}, {clients} clients | {told}, {program:.3f} ms of the program's |")
+        what = f"{query.split(chr(9).encode())[0].decode()}, {clients} clients of {users} users"
+        print(f"| {what} | {told}, {program:.3f} ms of the program's |", flush=True)
 
     def changed(self, roots: list[str]) -> None:
         """From a changed file to an answer that knows it, as a row."""
@@ -121,8 +129,8 @@ def rows(bench: Bench, word: str) -> None:
     bench.turn("next turn", *roots)
     bench.turn("the one after", *roots)
     for query in (b'count\t"%s"\n' % word.encode(), b"rank\t10\tfile\t%s\n" % word.encode()):
-        for clients in (1, 32):
-            bench.answers(clients, query)
+        for clients, users in ((1, 1), (32, 1), (32, 8), (32, 32)):
+            bench.answers(clients, users, query)
     bench.changed(roots)
     if shutil.which("rg"):
         words = ["setpriv", f"--reuid={USER}", f"--regid={USER}", "--clear-groups", "rg"]

@@ -25,6 +25,8 @@ from .script import BadReply, escape, lines_after, spell_user, unescape
 
 WORK = b"work\t200\n"
 STAT = b"stat\n"
+KEPT = 15  # the program keeps which files it may show to so many users who asked last
+PATIENCE = 1.0  # seconds in which users of whom it keeps that go before others
 
 
 @dataclass(frozen=True)
@@ -65,6 +67,7 @@ class Query:
 
     client: Client
     line: bytes
+    since: float
 
 
 @dataclass(slots=True)
@@ -114,6 +117,7 @@ class Service:
         self.queues: collections.OrderedDict[int, collections.deque[Query]] = (
             collections.OrderedDict()
         )
+        self.recent: collections.deque[int] = collections.deque(maxlen=KEPT)
         self.punished: dict[int, float] = {}
         self.groups: dict[int, tuple[int, ...]] = {}  # what the program was told
         self.ready = False
@@ -305,12 +309,16 @@ class Service:
     def _next_query(self) -> bool:
         if not self.queues:
             return False
-        user, queue = self.queues.popitem(last=False)
+        user = self._whose_turn()
+        queue = self.queues.pop(user)
         query = queue.popleft()
         if queue:
             self.queues[user] = queue
         if query.client.ended:
             return True
+        if user in self.recent:
+            self.recent.remove(user)
+        self.recent.append(user)
         self.query = query
         peer = query.client.peer
         line = spell_user(peer.user, peer.groups)
@@ -320,6 +328,13 @@ class Service:
         else:
             self._send(Doing.QUERY, query.line)
         return True
+
+    def _whose_turn(self) -> int:
+        """The user who is answered next: the first one, unless it is dear and may wait a little."""
+        first, queue = next(iter(self.queues.items()))
+        if first in self.recent or time.monotonic() - queue[0].since > PATIENCE:
+            return first
+        return next((user for user in self.queues if user in self.recent), first)
 
     def _next_work(self) -> bool:
         if self.idle or self.stopping:
@@ -435,10 +450,10 @@ class Service:
             self._flush(client)
         self._watch(client)
 
-    def _queue(self, client: Client, query: bytes) -> None:
+    def _queue(self, client: Client, asked: bytes) -> None:
         """Queues a query, or says why not."""
         user = client.peer.user
-        line = queries.line_for(user, query)
+        line = queries.line_for(user, asked)
         if line is None:
             client.sending += queries.NOT_A_QUERY
             client.faults += 1
@@ -449,7 +464,8 @@ class Service:
             client.sending += queries.TOO_SLOW
         else:
             client.asking = True
-            self.queues.setdefault(user, collections.deque()).append(Query(client, line))
+            query = Query(client, line, time.monotonic())
+            self.queues.setdefault(user, collections.deque()).append(query)
 
     def _answer(self, client: Client, reply: bytes) -> None:
         """Sends a client its reply, and then takes its next query."""
