@@ -44,7 +44,7 @@ service-test:
 	done; exit $$failed
 
 service-check:
-	cd service && mypy --strict wumpus tests
+	cd service && mypy --strict wumpus tests ../bench/service.py
 	mandoc -Tlint -W warning service/man/*
 	bash -n service/completions/wumpus.bash
 	zsh -n service/completions/_wumpus

@@ -108,6 +108,12 @@ def losses(place: Place, score: Score) -> None:
     status, _, told = place.mirror()
     score.check(status == 0 and "anew" in told, f"it is found: {told}")
     score.check(place.paths() == due, "and all is there again")
+    with open(place.store / "mirror.state", "a") as out:
+        out.write('{"serial":"7-')
+    (place.store / "mirror.next").write_text('{"format":1,"ser')
+    for _ in range(2):
+        status, _, told = place.mirror()
+        score.check(status == 0 and "in 0 batches" in told, f"lines that were cut off: {told}")
     old = place.store / "copy"
     shutil.copytree(place.store / "wumpus-store", old)
     (place.tree / "new").write_text("new\n")

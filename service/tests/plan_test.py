@@ -8,13 +8,12 @@ nor after the batch.
 import random
 import sys
 from dataclasses import dataclass, field
-from pathlib import Path
 
-sys.path.insert(0, str(Path(__file__).resolve().parent.parent))
+from harness import Score, options
 
-from wumpus.nodes import CLOSED, ROOT, Node, Rights, Tree  # noqa: E402
-from wumpus.plan import Groups, Plan, plan_all  # noqa: E402
-from wumpus.script import unescape  # noqa: E402
+from wumpus.nodes import CLOSED, ROOT, Node, Rights, Tree  # isort: skip
+from wumpus.plan import Groups, Plan, plan_all  # isort: skip
+from wumpus.script import unescape  # isort: skip
 
 USERS = (5, 6, 7, 8)
 
@@ -226,17 +225,18 @@ def history(seed: int) -> None:
 
 
 def main() -> int:
-    """Tries histories: `plan_test.py [HOW_MANY]`."""
-    passed = failed = 0
-    for seed in range(int(sys.argv[1]) if len(sys.argv) > 1 else 400):
+    """Runs the test; it needs no program."""
+    parser = options(__doc__ or "")
+    parser.add_argument("--histories", type=int, default=400)
+    given = parser.parse_args()
+    score = Score("plan")
+    for seed in range(given.seed, given.seed + given.histories):
         try:
             history(seed)
-            passed += 1
+            score.check(True, "")
         except (AssertionError, KeyError) as error:
-            failed += 1
-            print(f"history {seed}: {type(error).__name__} {error}")
-    print(f"plan: {passed} passed, {failed} failed")
-    return 1 if failed else 0
+            score.check(False, f"history {seed}: {type(error).__name__} {error}")
+    return score.end()
 
 
 if __name__ == "__main__":

@@ -14,7 +14,7 @@ from .plan import Groups, Plan, plan_all, plan_nodes
 from .progress import Progress
 from .reach import Failed, Reach
 from .script import spell
-from .state import Addition, Files, State, apply, new_serial, read_state
+from .state import Addition, BadState, Files, State, apply, new_serial, read_state
 from .walk import ATTEMPTS, Found, Limits, Walk
 
 TEXTS_AT_MOST = 64 << 20  # bytes of texts in a batch
@@ -199,10 +199,10 @@ class Mirror:
 
     def _stand(self) -> State | None:
         """The state that the program is in, of those that are written."""
-        prepared = read_state(self.files.next)
-        if prepared is not None and self._is_at(prepared[0].serial):
+        prepared = self._prepared()
+        if prepared is not None and self._is_at(prepared.serial):
             self.files.commit()
-            return prepared[0]
+            return prepared
         self.files.drop()
         written = read_state(self.files.path)
         if written is None:
@@ -213,11 +213,19 @@ class Mirror:
             if self._is_at(serials[count]):
                 for addition in additions[:count]:
                     apply(state, addition)
-                if count < len(additions):
+                if additions or not self.files.is_whole():
                     self.files.prepare(state)
                     self.files.commit()
                 return state
         return None
+
+    def _prepared(self) -> State | None:
+        """The state that was about to be fed; one that was cut off was never fed."""
+        try:
+            found = read_state(self.files.next)
+        except BadState:
+            return None
+        return found[0] if found is not None else None
 
     def _is_at(self, serial: str) -> bool:
         return self.reach.ask(question(serial)) == b"ok"

@@ -203,6 +203,12 @@ class Files:
         """Writes a later batch that is about to be fed."""
         self._write(self.path, [spell_addition(addition)], os.O_APPEND)
 
+    def is_whole(self) -> bool:
+        """Whether the last line of the state wasn't cut off."""
+        with open(self.path, "rb") as file:
+            file.seek(-1, os.SEEK_END)
+            return file.read(1) == b"\n"
+
     def forget(self) -> None:
         """Removes what is known: all has to be fed anew."""
         self.path.unlink(missing_ok=True)
