@@ -26,7 +26,7 @@ from .script import BadReply, escape, lines_after, spell_user, unescape
 WORK = b"work\t200\n"
 STAT = b"stat\n"
 KEPT = 15  # the program keeps which files it may show to so many users who asked last
-PATIENCE = 1.0  # seconds in which users of whom it keeps that go before others
+PATIENCE = 0.25  # seconds in which users of whom it keeps that go before others
 
 
 @dataclass(frozen=True)
@@ -118,6 +118,9 @@ class Service:
             collections.OrderedDict()
         )
         self.recent: collections.deque[int] = collections.deque(maxlen=KEPT)
+        self.is_dear = False  # the query under way, of a user of whom nothing is kept
+        self.dear_spent = 0.0  # seconds of the last dear query
+        self.cheap_spent = 0.0  # seconds of the queries after it
         self.punished: dict[int, float] = {}
         self.groups: dict[int, tuple[int, ...]] = {}  # what the program was told
         self.ready = False
@@ -259,7 +262,16 @@ class Service:
             self.reply = bytearray()
             self.failures = 0
             self.doing = Doing.NOTHING
+            self._count_time()
             self._answer(client, reply or queries.TOO_LARGE)
+
+    def _count_time(self) -> None:
+        """Counts what the query took that was just answered."""
+        taken = time.monotonic() - self.since
+        if self.is_dear:
+            self.dear_spent, self.cheap_spent = taken, 0.0
+        else:
+            self.cheap_spent += taken
 
     def _batch_line(self, line: bytes) -> None:
         """Takes a reply to a line of a batch."""
@@ -316,7 +328,8 @@ class Service:
             self.queues[user] = queue
         if query.client.ended:
             return True
-        if user in self.recent:
+        self.is_dear = user not in self.recent
+        if not self.is_dear:
             self.recent.remove(user)
         self.recent.append(user)
         self.query = query
@@ -330,9 +343,13 @@ class Service:
         return True
 
     def _whose_turn(self) -> int:
-        """The user who is answered next: the first one, unless it is dear and may wait a little."""
+        """The user who is answered next: the first one, unless it is dear and may wait.
+
+        Between two dear queries the others get as much time as the first of them took.
+        """
         first, queue = next(iter(self.queues.items()))
-        if first in self.recent or time.monotonic() - queue[0].since > PATIENCE:
+        late = time.monotonic() - queue[0].since > PATIENCE
+        if first in self.recent or (late and self.cheap_spent >= self.dear_spent):
             return first
         return next((user for user in self.queues if user in self.recent), first)
 
