@@ -40,6 +40,8 @@ class Served:
 
     def start(self) -> None:
         """Starts the service, and waits until it listens."""
+        for one in self.sockets.iterdir():
+            one.unlink()
         self.process = subprocess.Popen(
             [
                 str(SERVICE / "wumpusd"), "--folder", str(self.store), "--sockets",
@@ -55,10 +57,19 @@ class Served:
         """Starts a turn of the mirror."""
         return subprocess.Popen(
             [
-                str(SERVICE / "wumpus-mirror"), "--quiet", "--folder", str(self.store),
+                str(SERVICE / "wumpus-mirror"), "--quiet", "--served", "--folder", str(self.store),
                 "--sockets", str(self.sockets), "--program", self.program, str(self.tree),
             ]
         )  # fmt: skip
+
+    def other_programs(self) -> list[int]:
+        """The statuses of a second service, and of a mirror that would run the program."""
+        places = ["--folder", str(self.store), "--program", self.program]
+        elsewhere = [*places, "--sockets", str(self.folder)]
+        service = subprocess.run([str(SERVICE / "wumpusd"), *elsewhere], capture_output=True)
+        words = [str(SERVICE / "wumpus-mirror"), *elsewhere, str(self.tree)]
+        mirror = subprocess.run(words, capture_output=True)
+        return [service.returncode, mirror.returncode]
 
     def end(self, number: int) -> int:
         """Sends the service a signal, and waits for its end."""
@@ -146,6 +157,8 @@ def other_lines(served: Served, score: Score) -> None:
         score.check(reply == b"refused\tnotquery", f"{line!r}: {reply!r}")
     score.check(served.ask(CAROL, b'count\t"apple"') == b"count\t0\t0", "she sees what she saw")
     score.check(served.ask(CAROL, b"count\tapple") == b"refused\tnotexpr", "the language refuses")
+    others = served.other_programs()
+    score.check(others == [2, 2], f"other programs over the store: {others}")
     denied = as_user(CAROL, lambda: control_here(served.sockets))
     score.check(denied == b"denied", f"the control socket: {denied!r}")
 

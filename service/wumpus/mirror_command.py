@@ -1,14 +1,11 @@
 """The command line of `wumpus-mirror`."""
 
 import argparse
-import contextlib
-import fcntl
 import gc
 import os
 import signal
 import sys
 import time
-from collections.abc import Iterator
 from pathlib import Path
 from types import FrameType
 
@@ -16,7 +13,7 @@ from . import VERSION
 from .mirror import Mirror, Report, Wish, dry_run
 from .nodes import Identity
 from .progress import Progress, plain
-from .reach import CONTROL, Direct, Failed, Served
+from .reach import CONTROL, Direct, Failed, Served, only_one
 from .state import BadState
 from .users import BadUsers, of_file, of_system
 from .walk import BadRoot, Limits
@@ -41,6 +38,7 @@ def parser() -> argparse.ArgumentParser:
         help="leave out names that fit, or with a / paths; may be given again")  # fmt: skip
     add("--one-file-system", action="store_true", help="stay on the file system of each root")
     add("--users", metavar="FILE", help="a user and her groups a line, in place of the system's")
+    add("--served", action="store_true", help="only by a service: never run the program itself")
     add("--every", type=float, metavar="SECONDS", help="go on for ever, a turn so often")
     add("--anew", action="store_true", help="move the store aside, and feed all anew")
     add("--dry-run", action="store_true", help="write what would be fed, and feed nothing")
@@ -61,28 +59,22 @@ def wish_of(given: argparse.Namespace, folder: Path) -> Wish:
 
 
 def reach_of(given: argparse.Namespace, folder: Path) -> Direct | Served:
-    """The program by its service, where one answers, or else as a child."""
+    """The program by its service, where one answers, or else as a child.
+
+    Raises `Failed` where no service answers and one has to.
+    """
     try:
         return Served(Path(given.sockets) / CONTROL)
-    except (FileNotFoundError, ConnectionRefusedError):
+    except (FileNotFoundError, ConnectionRefusedError) as error:
+        if given.served:
+            raise Failed(f"no service answers at {given.sockets}/{CONTROL}") from error
         return Direct(given.program, folder)
 
 
 def one_session(given: argparse.Namespace, folder: Path, progress: Progress) -> None:
     """Turns over one reach of the program, as many as are wanted or until something fails."""
-    with only_one(folder):
+    with only_one(folder / "mirror.lock", "another mirror"):
         turns(given, folder, progress)
-
-
-@contextlib.contextmanager
-def only_one(folder: Path) -> Iterator[None]:
-    """Keeps other mirrors away from a folder. Raises `Failed` where one is there."""
-    with open(folder / "mirror.lock", "ab") as lock:
-        try:
-            fcntl.flock(lock, fcntl.LOCK_EX | fcntl.LOCK_NB)
-        except BlockingIOError as error:
-            raise Failed(f"another mirror is at work in {folder}") from error
-        yield
 
 
 def turns(given: argparse.Namespace, folder: Path, progress: Progress) -> None:

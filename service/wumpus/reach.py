@@ -6,9 +6,12 @@ file, feeds it whole; `reset` moves the store aside; `done` tells that a turn is
 answer to the last three, or `failed WHY`.
 """
 
+import contextlib
+import fcntl
 import os
 import shutil
 import socket
+from collections.abc import Iterator
 from pathlib import Path
 from typing import Protocol
 
@@ -46,6 +49,22 @@ class Reach(Protocol):
         """Ends the connection, or the program."""
 
 
+@contextlib.contextmanager
+def only_one(path: Path, who: str) -> Iterator[None]:
+    """Holds the lock of a file, which is made. Raises `Failed` where another process has it."""
+    with open(path, "ab") as lock:
+        try:
+            fcntl.flock(lock, fcntl.LOCK_EX | fcntl.LOCK_NB)
+        except BlockingIOError as error:
+            raise Failed(f"{who} is at work in {path.parent}") from error
+        yield
+
+
+def only_program(folder: Path) -> contextlib.AbstractContextManager[None]:
+    """Held by whoever runs the program over the store of a folder."""
+    return only_one(folder / "program.lock", "another program, perhaps that of a service,")
+
+
 def move_aside(folder: Path) -> None:
     """Moves a store out of the way, and removes the one that was moved before it."""
     aside = folder / ASIDE
@@ -55,11 +74,16 @@ def move_aside(folder: Path) -> None:
 
 
 class Direct:
-    """The program as a child of the mirror. What isn't finished is never saved."""
+    """The program as a child of the mirror. What isn't finished is never saved.
+
+    Raises `Failed` where another process runs it over the same folder.
+    """
 
     def __init__(self, program: str, folder: Path) -> None:
         self.path = program
         self.folder = folder
+        self.lock = contextlib.ExitStack()
+        self.lock.enter_context(only_program(folder))
         self._start()
 
     def _start(self) -> None:
@@ -101,12 +125,14 @@ class Direct:
         """Ends the program as it should end: all batches are saved, and the end saves too."""
         self.talk.close()
         status = self.program.finish(END_SECONDS)
+        self.lock.close()
         if status != 0:
             raise Failed(f"the program ended with status {status}")
 
     def abandon(self) -> None:
         """Kills the program."""
         self._stop()
+        self.lock.close()
 
 
 class Served:

@@ -25,6 +25,7 @@ from .script import BadReply, escape, lines_after, spell_user, unescape
 
 WORK = b"work\t200\n"
 STAT = b"stat\n"
+RESET = b"reset\n"
 KEPT = 15  # the program keeps which files it may show to so many users who asked last
 PATIENCE = 0.25  # seconds in which users of whom it keeps that go before others
 
@@ -171,8 +172,17 @@ class Service:
         query, self.query = self.query, None
         if query is not None:
             self._answer(query.client, queries.STOPPED)
-        self._end_batch(b"failed\t" + escape(why.encode("utf-8", "replace")) + b"\n")
+        self._fail_controls(b"failed\t" + escape(why.encode("utf-8", "replace")) + b"\n")
         self.doing = Doing.NOTHING
+
+    def _fail_controls(self, answer: bytes) -> None:
+        """Tells each mirror that waits for something that it isn't done."""
+        self._end_batch(answer)
+        for control in list(self.controls.values()):
+            if control.received:
+                control.received.clear()
+                self.batch_of = control
+                self._tell(answer)
 
     def _forget_program(self) -> None:
         assert self.program is not None
@@ -380,15 +390,6 @@ class Service:
             self.batch_whole = False
             self.groups = {}  # a batch may set users
             self._send(Doing.BATCH, b"")
-        elif fields == [b"reset"]:
-            assert self.program is not None
-            self._forget_program()
-            self.program.kill()
-            self.program = None
-            move_aside(self.folder)
-            self.ready = False
-            self._begin()
-            self._tell(b"ok\n")
         elif fields == [b"done"]:
             self.ready = True
             self._tell(b"ok\n")
@@ -561,8 +562,21 @@ class Service:
             data, files = b"", []
         control.files += files
         control.received += data
+        if control.received == RESET:
+            control.received.clear()
+            self._reset(control)
         if not data:
             self._close_control(control)
+
+    def _reset(self, control: Control) -> None:
+        """Moves the store aside, also one that the program can't open, and begins anew."""
+        self._drop("the store is moved aside")
+        move_aside(self.folder)
+        self.ready = False
+        self.failures = 0
+        self.begin_at = 0.0
+        self.batch_of = control
+        self._tell(b"ok\n")
 
     def _close_control(self, control: Control) -> None:
         """Forgets a mirror. A batch of it that is under way goes in whole: its file is here."""

@@ -13,7 +13,7 @@ from types import FrameType
 from . import VERSION
 from .mirror_command import FOLDER, SOCKETS
 from .program import Program, die_with_parent
-from .reach import CONTROL
+from .reach import CONTROL, Failed, only_program
 from .service import Bounds, Service
 
 ASK = "ask"
@@ -86,7 +86,7 @@ class Mirrors:
         self.child: subprocess.Popen[bytes] | None = None
         self.begun = 0.0
         if given.mirror:
-            places = ["--folder", given.folder, "--sockets", given.sockets]
+            places = ["--served", "--folder", given.folder, "--sockets", given.sockets]
             self.words = [given.mirror, *places, *given.words]
 
     def look(self) -> None:
@@ -107,23 +107,29 @@ class Mirrors:
 def main() -> int:
     """Runs the command line: 0 after SIGTERM or SIGINT, 1 where the program failed at its end."""
     given = parser().parse_args()
-    folder, sockets = Path(given.folder), Path(given.sockets)
-    mirrors = Mirrors(given)
     try:
-        ask = listening(sockets / ASK, 0o666)
-        control = listening(sockets / CONTROL, 0o600)
-        service = Service(
-            lambda: Program(given.program, folder),
-            folder,
-            ask,
-            control,
-            bounds_of(given),
-            log,
-            mirrors.look,
-        )
-    except OSError as error:
+        with only_program(Path(given.folder)):
+            return serve(given)
+    except (Failed, OSError) as error:
         log(str(error))
         return 2
+
+
+def serve(given: argparse.Namespace) -> int:
+    """What `main` does, while nobody else runs the program: the exit status. Raises `OSError`."""
+    folder, sockets = Path(given.folder), Path(given.sockets)
+    mirrors = Mirrors(given)
+    ask = listening(sockets / ASK, 0o666)
+    control = listening(sockets / CONTROL, 0o600)
+    service = Service(
+        lambda: Program(given.program, folder),
+        folder,
+        ask,
+        control,
+        bounds_of(given),
+        log,
+        mirrors.look,
+    )
 
     def stop(_number: int, _frame: FrameType | None) -> None:
         service.stop()
