@@ -17,6 +17,7 @@ from harness import Score, folder_of_own, needs_program, needs_root, options
 from kernel import User, become
 
 from wumpus.mirror import Mirror, Wish  # isort: skip
+from wumpus.program import die_with_parent  # isort: skip
 from wumpus.progress import Progress  # isort: skip
 from wumpus.reach import Direct  # isort: skip
 from wumpus.walk import Limits  # isort: skip
@@ -153,6 +154,7 @@ def attack(top: str, seed: int) -> int:
     if child == 0:
         try:
             become(OWNER)
+            die_with_parent()
             os.umask(0o022)
             one = Attack(top, random.Random(seed))
             one.prepare()
