@@ -7,6 +7,8 @@
 # make clean    removes what was proved and built
 # make no-memory  refuses each growth of memory in turn, in sessions of the built program; needs a C compiler
 # make edge     runs the built program over real descriptors and folders: closed, full, forbidden, taken
+# make deb      a package of the program and the programs around it
+# make service-test  tries the programs around it beside the kernel, as root
 PREFIX ?= /usr/local
 JOBS ?= $(shell nproc)
 WUMPUS := crates/wumpus/out/wumpus
@@ -37,6 +39,7 @@ edge: all
 install: all
 	install -d $(DESTDIR)$(PREFIX)/bin
 	install -m 755 $(WUMPUS) $(DESTDIR)$(PREFIX)/bin/wumpus
+	@$(MAKE) --no-print-directory install-service
 
 check:
 	rt ci
@@ -84,3 +87,5 @@ install: install-manual
 install-manual:
 	install -d $(DESTDIR)$(PREFIX)/share/man/man1
 	install -m 644 docs/wumpus.1 $(DESTDIR)$(PREFIX)/share/man/man1/wumpus.1
+
+include service/service.mk

@@ -1,0 +1,52 @@
+# Completions for bash of wumpus and the programs around it.
+
+_wumpus_options() {
+    local options=$1 current=${COMP_WORDS[COMP_CWORD]} before=${COMP_WORDS[COMP_CWORD - 1]}
+    case $before in
+    --folder | --sockets)
+        mapfile -t COMPREPLY < <(compgen -d -- "$current")
+        return
+        ;;
+    --program | --mirror | --users)
+        mapfile -t COMPREPLY < <(compgen -f -- "$current")
+        return
+        ;;
+    esac
+    if [[ $current == -* ]]; then
+        mapfile -t COMPREPLY < <(compgen -W "$options" -- "$current")
+    else
+        mapfile -t COMPREPLY < <(compgen -"$2" -- "$current")
+    fi
+}
+
+_wumpus() {
+    mapfile -t COMPREPLY < <(
+        compgen -W "run demo --max-input= --flush=" -- "${COMP_WORDS[COMP_CWORD]}"
+    )
+}
+
+_wumpus_mirror() {
+    _wumpus_options "--folder --program --sockets --exclude --one-file-system --users --served --every
+        --anew --dry-run --quiet --version --help" d
+}
+
+_wumpusd() {
+    _wumpus_options "--folder --program --sockets --mirror --query-seconds --idle-seconds
+        --age-seconds --connections --connections-of-user --reply-bytes --version --help" f
+}
+
+_wumpus_ask() {
+    [[ ${COMP_WORDS[COMP_CWORD]} == -* || ${COMP_WORDS[COMP_CWORD - 1]} == --sockets ]] || return
+    _wumpus_options "--count --list --expression --number --json --no-color --sockets --version
+        --help -c -l -e -n" d
+}
+
+_wumpus_lint() {
+    _wumpus_options "--version --help" f
+}
+
+complete -F _wumpus wumpus
+complete -o filenames -F _wumpus_mirror wumpus-mirror
+complete -o filenames -F _wumpusd wumpusd
+complete -F _wumpus_ask wumpus-ask
+complete -o filenames -F _wumpus_lint wumpus-lint

@@ -1,0 +1,70 @@
+# The programs around wumpus: make install-service, make service-test, make deb. None is proved.
+# WUMPUS is the built program, and PREFIX and DESTDIR are those of the file that includes this one.
+SERVICE_SBIN := wumpus-mirror wumpusd
+SERVICE_BIN := wumpus-ask wumpus-lint
+SERVICE_TESTS := plan mirror client kernel race service
+SERVICE_TEST_PROGRAM ?= $(abspath $(WUMPUS))
+UNITDIR ?= $(PREFIX)/lib/systemd/system
+SYSCONFDIR ?= /etc
+
+VERSION = $(shell sed -n 's/^VERSION = "\(.*\)"/\1/p' service/wumpus/__init__.py)
+DEB_ARCH = $(shell dpkg --print-architecture)
+DEB = out/wumpus_$(VERSION)_$(DEB_ARCH).deb
+
+.PHONY: install-service service-test service-check deb package
+
+# Python files are copied without what an interpreter left beside them.
+install-service:
+	install -d $(addprefix $(DESTDIR)$(PREFIX)/,bin sbin share/wumpus/wumpus share/man/man1 \
+		share/man/man8 share/bash-completion/completions share/zsh/site-functions \
+		lib/sysusers.d) $(DESTDIR)$(UNITDIR) $(DESTDIR)$(SYSCONFDIR)/default
+	install -m 755 $(addprefix service/,$(SERVICE_BIN)) $(DESTDIR)$(PREFIX)/bin
+	install -m 755 $(addprefix service/,$(SERVICE_SBIN)) $(DESTDIR)$(PREFIX)/sbin
+	install -m 644 service/wumpus/*.py $(DESTDIR)$(PREFIX)/share/wumpus/wumpus
+	install -m 644 service/man/*.1 $(DESTDIR)$(PREFIX)/share/man/man1
+	install -m 644 service/man/*.8 $(DESTDIR)$(PREFIX)/share/man/man8
+	for name in wumpus $(SERVICE_BIN) $(SERVICE_SBIN); do \
+		install -m 644 service/completions/wumpus.bash \
+			$(DESTDIR)$(PREFIX)/share/bash-completion/completions/$$name || exit; \
+	done
+	install -m 644 service/completions/_wumpus $(DESTDIR)$(PREFIX)/share/zsh/site-functions
+	install -m 644 service/systemd/wumpus.sysusers $(DESTDIR)$(PREFIX)/lib/sysusers.d/wumpus.conf
+	for unit in service/systemd/*.service; do \
+		sed -e 's,/usr/sbin/,$(PREFIX)/sbin/,' -e 's,/usr/bin/,$(PREFIX)/bin/,' $$unit \
+			>$(DESTDIR)$(UNITDIR)/$${unit##*/} || exit; \
+	done
+	test -e $(DESTDIR)$(SYSCONFDIR)/default/wumpus || \
+		install -m 644 service/systemd/default $(DESTDIR)$(SYSCONFDIR)/default/wumpus
+
+# As root; without it, the tests that take on the ids of users say that they are skipped.
+service-test:
+	@failed=0; for name in $(SERVICE_TESTS); do \
+		/usr/bin/env python3 service/tests/$${name}_test.py \
+			--program $(SERVICE_TEST_PROGRAM) || failed=1; \
+	done; exit $$failed
+
+service-check:
+	cd service && mypy --strict wumpus tests ../bench/service.py
+	mandoc -Tlint -W warning service/man/*
+	bash -n service/completions/wumpus.bash
+	zsh -n service/completions/_wumpus
+
+# The package has the proved program. No network is used.
+deb: all
+	@$(MAKE) --no-print-directory package
+
+package:
+	rm -rf out/deb
+	install -D -m 755 $(WUMPUS) out/deb/usr/bin/wumpus
+	$(MAKE) --no-print-directory install-service DESTDIR=out/deb PREFIX=/usr \
+		UNITDIR=/lib/systemd/system
+	gzip -9n out/deb/usr/share/man/man*/*
+	install -d out/deb/DEBIAN out/deb/usr/share/doc/wumpus
+	cp README.md docs/*.md out/deb/usr/share/doc/wumpus
+	sed -e 's/@VERSION@/$(VERSION)/' -e 's/@ARCH@/$(DEB_ARCH)/' service/debian/control \
+		>out/deb/DEBIAN/control
+	echo /etc/default/wumpus >out/deb/DEBIAN/conffiles
+	install -m 755 service/debian/postinst service/debian/prerm service/debian/postrm \
+		out/deb/DEBIAN
+	chmod -R u=rwX,go=rX out/deb
+	dpkg-deb --root-owner-group --build out/deb $(DEB)

@@ -1,0 +1,66 @@
+"""What the tests of the service share."""
+
+import argparse
+import os
+import sys
+import tempfile
+from pathlib import Path
+
+SERVICE = Path(__file__).resolve().parent.parent
+sys.path.insert(0, str(SERVICE))
+
+BUILT = SERVICE.parent / "crates" / "wumpus" / "out" / "wumpus"
+
+
+class Score:
+    """Counts what passed and what failed; the last line says it."""
+
+    def __init__(self, name: str) -> None:
+        self.name = name
+        self.passed = 0
+        self.failed = 0
+
+    def check(self, holds: bool, what: str) -> bool:
+        """Counts one thing, and tells what failed, the first twenty times."""
+        if holds:
+            self.passed += 1
+        else:
+            self.failed += 1
+            if self.failed <= 20:
+                print(f"{self.name}: {what}", flush=True)
+        return holds
+
+    def end(self) -> int:
+        """Prints the count: the exit status."""
+        print(f"{self.name}: {self.passed} passed, {self.failed} failed", flush=True)
+        return 1 if self.failed else 0
+
+
+def options(about: str) -> argparse.ArgumentParser:
+    """Options that each test has."""
+    parser = argparse.ArgumentParser(description=about)
+    parser.add_argument("--program", default=str(BUILT), help="the program wumpus")
+    parser.add_argument("--seed", type=int, default=1)
+    return parser
+
+
+def needs_root(name: str) -> None:
+    """Ends a test that has to take on the ids of users, where that isn't allowed."""
+    if os.geteuid() != 0:
+        print(f"{name}: skipped, it needs root to take on the ids of users")
+        print(f"{name}: 0 passed, 0 failed")
+        sys.exit(0)
+
+
+def needs_program(name: str, program: str) -> None:
+    """Ends a test where there is no program."""
+    if not os.access(program, os.X_OK):
+        print(f"{name}: there is no program at {program}: make builds it")
+        sys.exit(1)
+
+
+def folder_of_own() -> tempfile.TemporaryDirectory[str]:
+    """A new folder that everybody may pass through."""
+    folder = tempfile.TemporaryDirectory(prefix="wumpus-test-")
+    os.chmod(folder.name, 0o755)
+    return folder

@@ -1,0 +1,172 @@
+"""The mirror by itself: its options, what it leaves out, and what it does after a loss."""
+
+import os
+import shutil
+import subprocess
+import sys
+from pathlib import Path
+
+from harness import SERVICE, Score, folder_of_own, needs_program, options
+
+
+class Place:
+    """A tree, and a folder for the store."""
+
+    def __init__(self, folder: Path, program: str) -> None:
+        self.program = program
+        self.tree = folder / "tree"
+        self.store = folder / "store"
+        self.tree.mkdir()
+        self.store.mkdir(mode=0o700)
+
+    def mirror(self, *words: str) -> tuple[int, bytes, str]:
+        """Runs the mirror: its status, and what it wrote."""
+        command = [
+            str(SERVICE / "wumpus-mirror"), "--folder", str(self.store), "--program",
+            self.program, "--sockets", "/nonexistent", *words, str(self.tree),
+        ]  # fmt: skip
+        told = subprocess.run(command, capture_output=True, timeout=300)
+        return told.returncode, told.stdout, told.stderr.decode("utf-8", "replace")
+
+    def ask(self, script: bytes) -> list[bytes]:
+        """The program's replies over the store as it is."""
+        told = subprocess.run(
+            [self.program, "run"], input=script, capture_output=True, cwd=self.store, timeout=300
+        )
+        return told.stdout.splitlines()
+
+    def paths(self) -> list[str]:
+        """The paths that user 0 is told, below the tree."""
+        top = str(self.tree) + "/"
+        lines = self.ask(b"paths\t0\n")[1:]
+        return [os.fsdecode(line).removeprefix(top) for line in lines]
+
+
+def options_of(place: Place, score: Score) -> None:
+    """Excludes, a dry run, a turn without a change."""
+    for name in ("a", "b.o", "c/d", "c/e.o", ".git/f", "g/.git/h", "keep/x"):
+        path = place.tree / name
+        path.parent.mkdir(parents=True, exist_ok=True)
+        path.write_text(f"apple of {name}\n")
+    status, out, _ = place.mirror("--dry-run", "--quiet")
+    score.check(status == 0 and b"apple of a\n" in out, f"a dry run: {status}")
+    score.check(out.count(b"\ncreate\t") == 7 and out.count(b"\ntext\t") == 7, "its lines")
+    score.check(place.paths() == [], "it feeds nothing")
+    status, _, told = place.mirror("--exclude", "*.o", "--exclude", "*/.git/*")
+    score.check(place.paths() == ["a", "c/d", "keep/x"], f"excludes: {place.paths()}")
+    status, _, told = place.mirror("--exclude", ".git", "--exclude", "*/c")
+    score.check(place.paths() == ["a", "b.o", "keep/x"], f"other ones: {place.paths()}")
+    place.mirror()
+    score.check(len(place.paths()) == 7, "none")
+    score.check("in 0 batches" in place.mirror()[2], "nothing is sent twice")
+    (place.tree / "a").write_text("apple of a\n")
+    score.check("in 0 batches" in place.mirror()[2], "a file that was written with the same text")
+
+
+def odd_files(place: Place, score: Score) -> None:
+    """What has no text, or no place."""
+    (place.tree / "large").write_bytes(b"apple " * 3_000_000)
+    (place.tree / "binary").write_bytes(b"apple\0apple")
+    (place.tree / "late").write_bytes(b"x" * 9000 + b"\0 pomegranate")
+    os.mkfifo(place.tree / "fifo")
+    (place.tree / "link").symlink_to("a")
+    (place.tree / "outside").symlink_to("/etc")
+    status, _, told = place.mirror()
+    paths = place.paths()
+    score.check(status == 0 and {"large", "binary", "late"} <= set(paths), f"paths: {paths}")
+    score.check(not {"fifo", "link", "outside"} & set(paths), "links and FIFOs are left out")
+    score.check("large: over 16 MiB" in told, f"it warns: {told}")
+    count = place.ask(b'count\t0\t"apple"\ncount\t0\t"pomegranate"\n')
+    score.check(count == [b"count\t7\t7", b"count\t1\t1"], f"texts: {count}")
+    deep = place.tree / "deep"
+    deep.mkdir()
+    descriptor = os.open(deep, os.O_RDONLY)
+    for _ in range(260):
+        os.mkdir("d", dir_fd=descriptor)
+        below = os.open("d", os.O_RDONLY, dir_fd=descriptor)
+        os.close(descriptor)
+        descriptor = below
+    os.close(descriptor)
+    status, _, told = place.mirror()
+    score.check(status == 0 and "too deep" in told, f"a deep tree: {told}")
+    subprocess.run(["rm", "-rf", str(deep)], check=True)
+    score.check(place.mirror()[0] == 0, "and without it")
+
+
+def losses(place: Place, score: Score) -> None:
+    """A lost state, a store in the midst of a batch, and a store of somebody else."""
+    due = place.paths()
+    (place.store / "mirror.state").unlink()
+    status, _, told = place.mirror()
+    score.check(status == 2 and "--anew" in told, f"a store without its state: {told}")
+    status, _, told = place.mirror("--anew")
+    score.check(status == 0 and place.paths() == due, f"fed anew: {told}")
+    state = (place.store / "mirror.state").read_text()
+    serial = state.split('"serial":"')[1].split('"')[0]
+    line = f"rename\t2\tserial-{serial}\t2\tbusy-x\nchmod\t1\t777\n"
+    score.check(place.ask(line.encode()) == [b"ok", b"ok"], "a batch that stopped in its midst")
+    status, _, told = place.mirror()
+    score.check(status == 0 and "anew" in told, f"it is found: {told}")
+    score.check(place.paths() == due, "and all is there again")
+    with open(place.store / "mirror.state", "a") as out:
+        out.write('{"serial":"7-')
+    (place.store / "mirror.next").write_text('{"format":1,"ser')
+    for _ in range(2):
+        status, _, told = place.mirror()
+        score.check(status == 0 and "in 0 batches" in told, f"lines that were cut off: {told}")
+    old = place.store / "copy"
+    shutil.copytree(place.store / "wumpus-store", old)
+    (place.tree / "new").write_text("new\n")
+    place.mirror()
+    shutil.rmtree(place.store / "wumpus-store")
+    old.rename(place.store / "wumpus-store")
+    status, _, told = place.mirror()
+    score.check(status == 0 and "new" in place.paths(), f"a store that was restored: {told}")
+    (place.store / "mirror.state").write_text("{}\n")
+    status, _, told = place.mirror()
+    score.check(status == 2 and "can't be read" in told, f"a broken state: {told}")
+    score.check(place.mirror("--anew")[0] == 0, "and anew")
+    status, _, told = place.mirror(str(place.tree / "none"))
+    score.check(status == 2 and "none" in told, f"a root that isn't there: {told}")
+
+
+def other_systems(place: Place, score: Score) -> None:
+    """Another file system below the root, and a directory in two places."""
+    mounted, twice = place.tree / "mounted", place.tree / "twice"
+    mounted.mkdir()
+    twice.mkdir()
+    if subprocess.run(["mount", "-t", "tmpfs", "none", str(mounted)]).returncode != 0:
+        print("mirror: no mounts here, one part is skipped")
+        return
+    try:
+        subprocess.run(["mount", "--bind", str(place.tree / "keep"), str(twice)], check=True)
+        (mounted / "m").write_text("m\n")
+        place.mirror("--one-file-system")
+        score.check("mounted/m" not in place.paths(), "one file system only")
+        place.mirror()
+        paths = place.paths()
+        score.check("mounted/m" in paths, "all file systems")
+        one = [path for path in paths if path.endswith("/x")]
+        score.check(len(one) == 1, f"a directory in two places: {one}")
+    finally:
+        subprocess.run(["umount", str(mounted)])
+        subprocess.run(["umount", str(twice)])
+
+
+def main() -> int:
+    """Runs the test."""
+    given = options(__doc__ or "").parse_args()
+    needs_program("mirror", given.program)
+    score = Score("mirror")
+    with folder_of_own() as name:
+        place = Place(Path(name), given.program)
+        options_of(place, score)
+        odd_files(place, score)
+        losses(place, score)
+        if os.geteuid() == 0:
+            other_systems(place, score)
+    return score.end()
+
+
+if __name__ == "__main__":
+    sys.exit(main())

@@ -1,0 +1,120 @@
+"""The package in a clean root: installed, used by a user, removed and purged.
+
+    debootstrap --variant=minbase --include=python3 bookworm ROOT
+    python3 package_test.py --root ROOT --package out/wumpus_1.0_amd64.deb
+
+The services are run as their units have them, with the same user and capabilities, but without
+systemd, which a clean root doesn't run.
+"""
+
+import argparse
+import shutil
+import subprocess
+import sys
+import time
+from pathlib import Path
+
+from harness import Score, needs_root
+
+LEFT = (
+    "usr/bin/wumpus", "usr/bin/wumpus-ask", "usr/sbin/wumpusd", "usr/share/wumpus",
+    "etc/default/wumpus", "var/lib/wumpus", "lib/systemd/system/wumpusd.service",
+    "usr/share/doc/wumpus",
+)  # fmt: skip
+
+
+class Root:
+    """A clean root."""
+
+    def __init__(self, folder: Path) -> None:
+        self.folder = folder
+
+    def run(self, *words: str) -> tuple[int, str]:
+        """Runs a command in it: the status, and what it wrote."""
+        told = subprocess.run(["chroot", str(self.folder), *words], capture_output=True, text=True)
+        return told.returncode, told.stdout + told.stderr
+
+    def start(self, *words: str) -> subprocess.Popen[bytes]:
+        """Starts a command in it."""
+        return subprocess.Popen(["chroot", str(self.folder), *words])
+
+    def service(self, *words: str, capability: str = "") -> subprocess.Popen[bytes]:
+        """Starts a program as the service's user, with one capability at most."""
+        limits = [f"--bounding-set=-all{',+' + capability if capability else ''}"]
+        if capability:
+            limits += [f"--inh-caps=-all,+{capability}", f"--ambient-caps=-all,+{capability}"]
+        as_user = ["setpriv", "--reuid=wumpus", "--regid=wumpus", "--clear-groups", *limits]
+        return self.start(*as_user, "--no-new-privs", *words)
+
+    def ask(self, user: str, *words: str) -> tuple[int, str]:
+        """Asks as a user."""
+        as_user = ["setpriv", f"--reuid={user}", f"--regid={user}", "--init-groups"]
+        return self.run(*as_user, "wumpus-ask", *words)
+
+
+def installed(root: Root, package: Path, score: Score) -> None:
+    """Installs the package."""
+    shutil.copy(package, root.folder / "wumpus.deb")
+    status, told = root.run("dpkg", "-i", "/wumpus.deb")
+    score.check(status == 0, f"dpkg -i: {told}")
+    score.check(root.run("id", "wumpus")[0] == 0, "the user of the service")
+    mode = (root.folder / "var/lib/wumpus").stat().st_mode & 0o7777
+    score.check(mode == 0o700, f"the mode of its folder: {mode:o}")
+    for program in ("wumpus-mirror", "wumpusd", "wumpus-ask", "wumpus-lint"):
+        status, told = root.run(program, "--version")
+        score.check(status == 0 and program in told, f"{program} --version: {told}")
+
+
+def used(root: Root, score: Score) -> None:
+    """Two users, a private file and a shared one."""
+    for user in ("ann", "bob"):
+        root.run("useradd", "--create-home", user)
+        root.run("chmod", "755", f"/home/{user}")
+        (root.folder / f"home/{user}/diary").write_text(f"budget of {user}\n")
+        root.run("chown", f"{user}:{user}", f"/home/{user}/diary")
+        root.run("chmod", "600", f"/home/{user}/diary")
+    root.run("install", "-d", "-o", "wumpus", "-m", "755", "/run/wumpus")
+    service = root.service("wumpusd", "--program", "/usr/bin/wumpus")
+    time.sleep(1)
+    mirror = root.service(
+        "wumpus-mirror", "--quiet", "--one-file-system", "/home", capability="dac_read_search"
+    )
+    score.check(mirror.wait() == 0, "a turn of the mirror")
+    for user in ("ann", "bob"):
+        status, told = root.ask(user, "budget")
+        due = f"/home/{user}/diary\n  1: budget of {user}\n"
+        score.check((status, told) == (0, due), f"{user}: {told}")
+    score.check(root.ask("bob", "-c", "ann")[0] == 1, "bob isn't told of ann's diary")
+    service.terminate()
+    score.check(service.wait() == 0, "the end of the service")
+
+
+def removed(root: Root, score: Score) -> None:
+    """Removes the package, and purges it."""
+    status, told = root.run("dpkg", "-r", "wumpus")
+    score.check(status == 0, f"dpkg -r: {told}")
+    score.check((root.folder / "var/lib/wumpus/wumpus-store").exists(), "the store stays")
+    status, told = root.run("dpkg", "-P", "wumpus")
+    score.check(status == 0, f"dpkg -P: {told}")
+    left = [one for one in LEFT if (root.folder / one).exists()]
+    score.check(left == [], f"after a purge: {left}")
+    score.check(root.run("id", "wumpus")[0] != 0, "the user is gone")
+
+
+def main() -> int:
+    """Runs the test."""
+    parser = argparse.ArgumentParser(description=__doc__)
+    parser.add_argument("--root", required=True)
+    parser.add_argument("--package", required=True)
+    given = parser.parse_args()
+    needs_root("package")
+    score = Score("package")
+    root = Root(Path(given.root))
+    installed(root, Path(given.package), score)
+    used(root, score)
+    removed(root, score)
+    return score.end()
+
+
+if __name__ == "__main__":
+    sys.exit(main())

@@ -1,0 +1,243 @@
+"""The order of a batch, over random pairs of trees.
+
+Each line is carried out on a small model of the program's tree: none may be refused, the last tree
+is the new one, and between two lines nobody sees a path, or a text, that she sees neither before
+nor after the batch.
+"""
+
+import random
+import sys
+from dataclasses import dataclass, field
+
+from harness import Score, options
+
+from wumpus.nodes import CLOSED, ROOT, Node, Rights, Tree  # isort: skip
+from wumpus.plan import Groups, Plan, plan_all  # isort: skip
+from wumpus.script import unescape  # isort: skip
+
+USERS = (5, 6, 7, 8)
+
+
+@dataclass
+class Model:
+    """The program's tree, by the rules of docs/SCRIPT.md; `do` fails where a line is refused."""
+
+    rights: dict[int, Rights] = field(default_factory=dict)
+    texts: dict[int, bytes] = field(default_factory=dict)
+    entries: dict[int, dict[bytes, int]] = field(default_factory=dict)
+    groups: dict[int, set[int]] = field(default_factory=dict)
+
+    def do(self, line: bytes) -> None:
+        """Carries out one line."""
+        fields = [unescape(one) or b"" for one in line.rstrip(b"\n").split(b"\t")]
+        getattr(self, "do_" + fields[0].decode())(*fields[1:])
+
+    def do_user(self, user: bytes, *groups: bytes) -> None:
+        self.groups[int(user)] = {int(group) for group in groups}
+
+    def _make(self, number: bytes, parent: bytes, name: bytes, rights: Rights) -> None:
+        names = self.entries[int(parent)]
+        assert name not in names and int(number) not in self.rights
+        names[name] = int(number)
+        self.rights[int(number)] = rights
+
+    def do_mkdir(self, i: bytes, p: bytes, n: bytes, u: bytes, g: bytes, m: bytes) -> None:
+        self._make(i, p, n, Rights(int(m, 8), int(u), int(g)))
+        self.entries[int(i)] = {}
+
+    def do_create(self, i: bytes, p: bytes, n: bytes, u: bytes, g: bytes, m: bytes) -> None:
+        self._make(i, p, n, Rights(int(m, 8), int(u), int(g)))
+        self.texts[int(i)] = b""
+
+    def do_link(self, i: bytes, parent: bytes, name: bytes) -> None:
+        assert int(i) in self.texts and name not in self.entries[int(parent)]
+        self.entries[int(parent)][name] = int(i)
+
+    def do_unlink(self, parent: bytes, name: bytes) -> None:
+        child = self.entries[int(parent)].pop(name)
+        assert child in self.texts
+        if not any(child in names.values() for names in self.entries.values()):
+            del self.texts[child], self.rights[child]
+
+    def do_rmdir(self, parent: bytes, name: bytes) -> None:
+        child = self.entries[int(parent)].pop(name)
+        assert self.entries[child] == {}
+        del self.entries[child], self.rights[child]
+
+    def do_rename(self, parent: bytes, name: bytes, other: bytes, new: bytes) -> None:
+        child = self.entries[int(parent)][name]
+        assert new not in self.entries[int(other)]
+        above = int(other)
+        while above != ROOT:
+            assert above != child
+            above = next(at for at, names in self.entries.items() if above in names.values())
+        del self.entries[int(parent)][name]
+        self.entries[int(other)][new] = child
+
+    def do_chmod(self, i: bytes, mode: bytes) -> None:
+        old = self.rights[int(i)]
+        self.rights[int(i)] = Rights(int(mode, 8), *old[1:])
+
+    def do_chown(self, i: bytes, owner: bytes, group: bytes) -> None:
+        old = self.rights[int(i)]
+        self.rights[int(i)] = Rights(old.mode, int(owner), int(group), old.entries)
+
+    def do_acl(self, i: bytes, entries: bytes) -> None:
+        old = self.rights[int(i)]
+        mode = old.mode
+        if entries:
+            mode = mode & ~0o070 | int(entries[-1:]) << 3
+        elif old.entries:
+            mode = mode & ~0o070 | int(old.entries[3:4]) << 3
+        self.rights[int(i)] = Rights(mode, old.owner, old.group, entries)
+
+    def allows(self, user: int, number: int, bit: int) -> bool:
+        """Whether the node grants the user this bit."""
+        rights = self.rights[number]
+        groups = self.groups.get(user, set())
+        if user == rights.owner:
+            return bool(rights.mode >> 6 & bit)
+        if not rights.entries:
+            return bool(rights.mode >> (3 if rights.group in groups else 0) & bit)
+        mask = rights.mode >> 3 & 7
+        granting = []
+        for entry in rights.entries.split(b",")[:-1]:
+            kind, who, bits = entry.split(b":")
+            if kind == b"u" and int(who) == user:
+                return bool(int(bits) & mask & bit)
+            if kind == b"g" and (int(who) if who else rights.group) in groups:
+                granting.append(int(bits))
+        if granting:
+            return bool(mask & bit) and any(bits & bit for bits in granting)
+        return bool(rights.mode & bit)
+
+    def seen(self) -> set[tuple[int, int, bytes]]:
+        """Which user sees which file with which text."""
+        found: set[tuple[int, int, bytes]] = set()
+        for user in USERS:
+            waiting = [ROOT]
+            while waiting:
+                directory = waiting.pop()
+                if not self.allows(user, directory, 1):
+                    continue
+                for child in self.entries[directory].values():
+                    if child in self.entries:
+                        waiting.append(child)
+                    elif self.allows(user, child, 4):
+                        found.add((user, child, self.texts[child]))
+        return found
+
+
+def some_rights(draw: random.Random) -> Rights:
+    """Random rights, with a list one time in four."""
+    mode, owner, group = draw.choice((0o755, 0o700, 0o640, 0o077, 0o711, 0)), 0, 0
+    owner, group = draw.choice(USERS), draw.choice((20, 21))
+    if draw.random() < 0.75:
+        return Rights(mode, owner, group)
+    mask = draw.randrange(1, 8)
+    entries = b"g::%d,u:%d:%d,g:%d:%d,m::%d" % (
+        draw.randrange(8), draw.choice(USERS), draw.randrange(8),
+        draw.choice((20, 21, 22)), draw.randrange(8), mask,
+    )  # fmt: skip
+    return Rights(mode & ~0o070 | mask << 3, owner, group, entries)
+
+
+def some_tree(draw: random.Random, old: Tree, following: int) -> tuple[Tree, int]:
+    """A tree in which most nodes of an old one are again, at other places and with other rights."""
+    tree = Tree({ROOT: Node(ROOT, True, some_rights(draw), b"", (0, 0), 1, 0)}, {ROOT: {}})
+    kept = [node for node in old.nodes.values() if node.number != ROOT and draw.random() < 0.8]
+    draw.shuffle(kept)
+    for _ in range(draw.randrange(5)):
+        kept.append(Node(following, draw.random() < 0.5, Rights(0, 0, 0), b"", (0, 0), 1, 0))
+        following += 1
+    for node in kept:
+        again = draw.random() < 0.5
+        rights = node.rights if again and node.number in old.nodes else some_rights(draw)
+        same = node.is_directory or draw.random() < 0.5
+        text = node.digest if same else b"%d" % draw.randrange(3)
+        tree.nodes[node.number] = Node(
+            node.number, node.is_directory, rights, text, (0, 0), draw.randrange(9), 0
+        )
+        if node.is_directory:
+            tree.entries[node.number] = {}
+    placed = [ROOT]
+    for node in kept:
+        for _ in range(1 if node.is_directory else draw.choice((1, 1, 1, 2, 3))):
+            names = tree.entries[draw.choice(placed)]
+            name = draw.choice((b"a", b"b", b"c", b"d", b"e\t", b"%d" % node.number))
+            while name in names:
+                name += b"x"
+            names[name] = node.number
+        if node.is_directory:
+            placed.append(node.number)
+    return tree, following
+
+
+def lines_of(plan: Plan, old: Tree, new: Tree) -> list[bytes | tuple[int, bytes]]:
+    """The lines of a batch, and the texts in their midst."""
+    texts: list[bytes | tuple[int, bytes]] = []
+    for number, node in new.nodes.items():
+        before = old.nodes[number].digest if number in old.nodes else b""
+        if before != node.digest:
+            texts.append((number, node.digest))
+    return [*plan.head, *texts, *plan.tail]
+
+
+def round_of(draw: random.Random, model: Model, old: Tree, new: Tree, users: Groups) -> None:
+    """Carries out one batch, and looks at each moment of it."""
+    before_users = {user: tuple(sorted(groups)) for user, groups in model.groups.items()}
+    plan = plan_all(old, new, before_users, users)
+    seen = [model.seen()]
+    for line in lines_of(plan, old, new):
+        if isinstance(line, bytes):
+            model.do(line)
+        else:
+            model.texts[line[0]] = line[1]
+        seen.append(model.seen())
+    for moment in seen:
+        assert moment <= seen[0] | seen[-1], moment - (seen[0] | seen[-1])
+    assert model.entries.pop(CLOSED) == {}
+    del model.entries[ROOT][b"closed"]
+    assert model.entries == new.entries
+    assert model.rights == {number: node.rights for number, node in new.nodes.items()} | {
+        CLOSED: Rights(0, 0, 0)
+    }
+    model.entries[CLOSED] = {}
+    model.entries[ROOT][b"closed"] = CLOSED
+    assert model.texts == {n: one.digest for n, one in new.nodes.items() if not one.is_directory}
+    assert {user: tuple(sorted(model.groups.get(user, ()))) for user in users} == users
+
+
+def history(seed: int) -> None:
+    """Twelve batches, one after the other."""
+    draw = random.Random(seed)
+    model = Model({ROOT: Rights(0o755, 0, 0), CLOSED: Rights(0, 0, 0)}, {}, {})
+    model.entries = {ROOT: {b"closed": CLOSED}, CLOSED: {}}
+    first = Node(ROOT, True, Rights(0o755, 0, 0), b"", (0, 0), 1, 0)
+    tree, following = Tree({ROOT: first}, {ROOT: {}}), 4
+    users: Groups = {}
+    for _ in range(12):
+        new, following = some_tree(draw, tree, following)
+        if not users or draw.random() < 0.2:
+            users = {user: tuple(g for g in (20, 21, 22) if draw.random() < 0.5) for user in USERS}
+        round_of(draw, model, tree, new, users)
+        tree = new
+
+
+def main() -> int:
+    """Runs the test; it needs no program."""
+    parser = options(__doc__ or "")
+    parser.add_argument("--histories", type=int, default=400)
+    given = parser.parse_args()
+    score = Score("plan")
+    for seed in range(given.seed, given.seed + given.histories):
+        try:
+            history(seed)
+            score.check(True, "")
+        except (AssertionError, KeyError) as error:
+            score.check(False, f"history {seed}: {type(error).__name__} {error}")
+    return score.end()
+
+
+if __name__ == "__main__":
+    sys.exit(main())

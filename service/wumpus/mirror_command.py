@@ -1,0 +1,153 @@
+"""The command line of `wumpus-mirror`."""
+
+import argparse
+import gc
+import os
+import signal
+import sys
+import time
+from pathlib import Path
+from types import FrameType
+
+from . import VERSION
+from .mirror import Mirror, Report, Wish, dry_run
+from .nodes import Identity
+from .progress import Progress, plain
+from .reach import CONTROL, Direct, Failed, Served, only_one
+from .state import BadState
+from .users import BadUsers, of_file, of_system
+from .walk import BadRoot, Limits
+
+FOLDER = "/var/lib/wumpus"
+SOCKETS = "/run/wumpus"
+
+
+def parser() -> argparse.ArgumentParser:
+    """The options."""
+    options = argparse.ArgumentParser(
+        prog="wumpus-mirror",
+        description="Feeds real directory trees to Wumpus: what changed since the last time.",
+        allow_abbrev=False,
+    )
+    add = options.add_argument
+    add("roots", nargs="+", metavar="ROOT", help="a directory to mirror with all below it")
+    add("--folder", default=FOLDER, metavar="DIR", help=f"the folder of the store ({FOLDER})")
+    add("--program", default="wumpus", metavar="PATH", help="the program (wumpus)")
+    add("--sockets", default=SOCKETS, metavar="DIR", help=f"of the service ({SOCKETS})")
+    add("--exclude", action="append", default=[], metavar="PATTERN",
+        help="leave out names that fit, or with a / paths; may be given again")  # fmt: skip
+    add("--one-file-system", action="store_true", help="stay on the file system of each root")
+    add("--users", metavar="FILE", help="a user and her groups a line, in place of the system's")
+    add("--served", action="store_true", help="only by a service: never run the program itself")
+    add("--every", type=float, metavar="SECONDS", help="go on for ever, a turn so often")
+    add("--anew", action="store_true", help="move the store aside, and feed all anew")
+    add("--dry-run", action="store_true", help="write what would be fed, and feed nothing")
+    add("--quiet", action="store_true", help="no warnings, no progress, no report")
+    add("--version", action="version", version=f"wumpus-mirror {VERSION}")
+    return options
+
+
+def wish_of(given: argparse.Namespace, folder: Path) -> Wish:
+    """What the options ask for. Raises `BadUsers`, and `OSError`."""
+    omitted: set[Identity] = set()
+    status = folder.stat()
+    omitted.add((status.st_dev, status.st_ino))
+    excludes = tuple(os.fsencode(pattern) for pattern in given.exclude)
+    limits = Limits(excludes, given.one_file_system, frozenset(omitted))
+    users = of_file(Path(given.users)) if given.users else of_system()
+    return Wish(tuple(os.fsencode(root) for root in given.roots), limits, users)
+
+
+def reach_of(given: argparse.Namespace, folder: Path) -> Direct | Served:
+    """The program by its service, where one answers, or else as a child.
+
+    Raises `Failed` where no service answers and one has to.
+    """
+    try:
+        return Served(Path(given.sockets) / CONTROL)
+    except (FileNotFoundError, ConnectionRefusedError) as error:
+        if given.served:
+            raise Failed(f"no service answers at {given.sockets}/{CONTROL}") from error
+        return Direct(given.program, folder)
+
+
+def one_session(given: argparse.Namespace, folder: Path, progress: Progress) -> None:
+    """Turns over one reach of the program, as many as are wanted or until something fails."""
+    with only_one(folder / "mirror.lock", "another mirror"):
+        turns(given, folder, progress)
+
+
+def turns(given: argparse.Namespace, folder: Path, progress: Progress) -> None:
+    """What `one_session` does, alone in its folder."""
+    reach = reach_of(given, folder)
+    whole = False
+    try:
+        mirror = Mirror(reach, folder, progress)
+        mirror.begin(given.anew)
+        given.anew = False
+        while True:
+            began = time.monotonic()
+            wish = wish_of(given, folder)
+            if given.dry_run:
+                report(dry_run(mirror, wish, sys.stdout.buffer), began, given.quiet)
+                return
+            told = one_turn(mirror, wish)
+            reach.done()
+            report(told, began, given.quiet or (given.every is not None and told.batches == 0))
+            if given.every is None:
+                break
+            time.sleep(max(0.0, given.every - (time.monotonic() - began)))
+        whole = True
+    finally:
+        if whole:
+            reach.close()
+        else:
+            reach.abandon()
+
+
+def one_turn(mirror: Mirror, wish: Wish) -> Report:
+    """A turn, while which nobody looks for cycles: its many small objects are in none."""
+    gc.disable()
+    try:
+        return mirror.turn(wish)
+    finally:
+        gc.enable()
+
+
+def report(told: Report, began: float, quiet: bool) -> None:
+    """Tells what a turn did, on standard error."""
+    if quiet:
+        return
+    seconds = time.monotonic() - began
+    shut = f", {told.shut} shut" if told.shut else ""
+    print(
+        f"wumpus-mirror: {told.files} files, {told.looked} looked at{shut}, "
+        f"{told.texts} texts of {told.size} bytes sent in {told.batches} batches, "
+        f"{seconds:.1f} s",
+        file=sys.stderr,
+    )
+
+
+def end(_number: int, _frame: FrameType | None) -> None:
+    """Ends by an exception, so that what is under way is undone."""
+    raise SystemExit(0)
+
+
+def main() -> int:
+    """Runs the command line: 0, or 2 where something failed."""
+    given = parser().parse_args()
+    folder = Path(given.folder)
+    progress = Progress("wumpus-mirror", given.quiet)
+    signal.signal(signal.SIGTERM, end)
+    while True:
+        try:
+            one_session(given, folder, progress)
+            return 0
+        except (Failed, BadRoot, BadState, BadUsers, OSError) as error:
+            progress.clear()
+            print(f"wumpus-mirror: {plain(str(error))}", file=sys.stderr)
+            if given.every is None:
+                return 2
+            time.sleep(given.every)
+        except KeyboardInterrupt:
+            return 2

@@ -1,0 +1,81 @@
+"""Files and directories as the program has them: rights, nodes, and the tree of their names."""
+
+from collections.abc import Iterator
+from dataclasses import dataclass, field
+from typing import NamedTuple
+
+ROOT = 1
+CLOSED = 2  # the mirror's own directory, mode 000: what moves goes through it
+MARK = 3  # the directory in it whose name tells which batch was the last
+FIRST = 4  # the least number of a node that stands for a real one
+
+Identity = tuple[int, int]  # device and inode
+
+
+class Rights(NamedTuple):
+    """Who may use a node: mode, owner, group, and the access list as the line `acl` has it."""
+
+    mode: int
+    owner: int
+    group: int
+    entries: bytes = b""
+
+    def shut(self) -> "Rights":
+        """The same owner and group, and nobody but user 0 may use the node."""
+        return Rights(0, self.owner, self.group)
+
+
+@dataclass(slots=True)
+class Node:
+    """A node as the program has it, and the status of the real one that it was made from.
+
+    `digest` is that of the text that the program has, empty for the empty text. `changed` is the
+    real node's ctime in nanoseconds, or 0 where it has to be looked at again in the next turn.
+    """
+
+    number: int
+    is_directory: bool
+    rights: Rights
+    digest: bytes
+    identity: Identity
+    changed: int
+    size: int
+
+
+@dataclass(slots=True)
+class Tree:
+    """Nodes by their numbers, and the names in each directory. Only `ROOT` has no name."""
+
+    nodes: dict[int, Node] = field(default_factory=dict)
+    entries: dict[int, dict[bytes, int]] = field(default_factory=dict)
+
+    def links(self) -> Iterator[tuple[int, bytes, int]]:
+        """Each name: its directory, the name, and what it names."""
+        for parent, names in self.entries.items():
+            for name, child in names.items():
+                yield parent, name, child
+
+    def depths(self) -> dict[int, int]:
+        """The depth of each directory that is reached from the root, whose own is 1."""
+        depths = {ROOT: 1}
+        waiting = [ROOT]
+        while waiting:
+            parent = waiting.pop()
+            for child in self.entries.get(parent, {}).values():
+                if child in self.entries:
+                    depths[child] = depths[parent] + 1
+                    waiting.append(child)
+        return depths
+
+
+def first_tree() -> Tree:
+    """The tree of a program to which nothing was told: the root, and nothing in it."""
+    root = Node(ROOT, True, Rights(0o755, 0, 0), b"", (0, 0), 0, 0)
+    return Tree({ROOT: root}, {ROOT: {}})
+
+
+def meet(old: Rights, new: Rights) -> Rights:
+    """Rights that give nobody more than either: those that both give where classes are equal."""
+    if old[1:] == new[1:]:
+        return Rights(old.mode & new.mode, new.owner, new.group, new.entries)
+    return new.shut()

@@ -1,0 +1,199 @@
+"""How the mirror reaches the program: through the service, or by running it itself.
+
+The control socket of the service takes lines with TABs between their fields, and answers each with
+one: `ask LINE` passes a line to the program and answers `reply LINE`; `batch DUE`, which brings a
+file, feeds it whole; `reset` moves the store aside; `done` tells that a turn is over. `ok` is the
+answer to the last three, or `failed WHY`.
+"""
+
+import contextlib
+import fcntl
+import os
+import shutil
+import socket
+from collections.abc import Iterator
+from pathlib import Path
+from typing import Protocol
+
+from .batch import Batch
+from .program import Ended, Program, Refused, Talk
+from .script import escape, unescape
+
+STORE = "wumpus-store"
+ASIDE = "wumpus-store.old"
+CONTROL = "control"
+WORK = b"work\t100000\n"
+END_SECONDS = 600.0
+
+
+class Failed(Exception):
+    """What was asked of the program wasn't done; the text says why."""
+
+
+class Reach(Protocol):
+    """What the mirror needs of the program."""
+
+    def ask(self, line: bytes) -> bytes:
+        """The reply to a line that has a reply of one line."""
+
+    def feed(self, batch: Batch) -> None:
+        """Feeds a batch whole, or not at all."""
+
+    def reset(self) -> None:
+        """Moves the store aside: the program begins with an empty one."""
+
+    def done(self) -> None:
+        """A turn is over."""
+
+    def close(self) -> None:
+        """Ends the connection, or the program."""
+
+
+@contextlib.contextmanager
+def only_one(path: Path, who: str) -> Iterator[None]:
+    """Holds the lock of a file, which is made. Raises `Failed` where another process has it."""
+    with open(path, "ab") as lock:
+        try:
+            fcntl.flock(lock, fcntl.LOCK_EX | fcntl.LOCK_NB)
+        except BlockingIOError as error:
+            raise Failed(f"{who} is at work in {path.parent}") from error
+        yield
+
+
+def only_program(folder: Path) -> contextlib.AbstractContextManager[None]:
+    """Held by whoever runs the program over the store of a folder."""
+    return only_one(folder / "program.lock", "another program, perhaps that of a service,")
+
+
+def move_aside(folder: Path) -> None:
+    """Moves a store out of the way, and removes the one that was moved before it."""
+    aside = folder / ASIDE
+    if (folder / STORE).exists():
+        shutil.rmtree(aside, ignore_errors=True)
+        os.rename(folder / STORE, aside)
+
+
+class Direct:
+    """The program as a child of the mirror. What isn't finished is never saved.
+
+    Raises `Failed` where another process runs it over the same folder.
+    """
+
+    def __init__(self, program: str, folder: Path) -> None:
+        self.path = program
+        self.folder = folder
+        self.lock = contextlib.ExitStack()
+        self.lock.enter_context(only_program(folder))
+        self._start()
+
+    def _start(self) -> None:
+        self.program = Program(self.path, self.folder)
+        self.talk = Talk(self.program)
+
+    def _stop(self) -> None:
+        self.talk.close()
+        self.program.kill()
+
+    def ask(self, line: bytes) -> bytes:
+        """The reply to a line."""
+        try:
+            return self.talk.ask(line)
+        except Ended as error:
+            raise Failed(f"{error}: is a service running over the same folder?") from error
+
+    def feed(self, batch: Batch) -> None:
+        """Feeds a batch; where a reply isn't `ok`, the program is killed and started anew."""
+        try:
+            self.talk.feed(batch.file, batch.due)
+        except (Ended, Refused) as error:
+            self._stop()
+            self._start()
+            raise Failed(str(error)) from error
+
+    def reset(self) -> None:
+        """Moves the store aside."""
+        self._stop()
+        move_aside(self.folder)
+        self._start()
+
+    def done(self) -> None:
+        """Merges the parts of the index until there is nothing to do; the end saves that."""
+        while self.ask(WORK) == b"busy":
+            pass
+
+    def close(self) -> None:
+        """Ends the program as it should end: all batches are saved, and the end saves too."""
+        self.talk.close()
+        status = self.program.finish(END_SECONDS)
+        self.lock.close()
+        if status != 0:
+            raise Failed(f"the program ended with status {status}")
+
+    def abandon(self) -> None:
+        """Kills the program."""
+        self._stop()
+        self.lock.close()
+
+
+class Served:
+    """The program that a service holds, by its control socket."""
+
+    def __init__(self, path: Path) -> None:
+        self.socket = socket.socket(socket.AF_UNIX, socket.SOCK_STREAM)
+        self.socket.connect(str(path))
+        self.answers = self.socket.makefile("rb")
+
+    def _answer(self) -> list[bytes]:
+        try:
+            line = self.answers.readline()
+        except OSError as error:
+            raise Failed(f"the service is gone: {error}") from error
+        if not line.endswith(b"\n"):
+            raise Failed("the service is gone")
+        return line[:-1].split(b"\t")
+
+    def _expect(self) -> None:
+        fields = self._answer()
+        if fields != [b"ok"]:
+            raise Failed("the service says: " + b" ".join(fields).decode("utf-8", "replace"))
+
+    def _send(self, line: bytes) -> None:
+        try:
+            self.socket.sendall(line)
+        except OSError as error:
+            raise Failed(f"the service is gone: {error}") from error
+
+    def ask(self, line: bytes) -> bytes:
+        """The reply to a line."""
+        self._send(b"ask\t" + escape(line.rstrip(b"\n")) + b"\n")
+        fields = self._answer()
+        told = unescape(fields[-1])
+        if fields[0] != b"reply" or told is None:
+            raise Failed("the service says: " + b" ".join(fields).decode("utf-8", "replace"))
+        return told
+
+    def feed(self, batch: Batch) -> None:
+        """Hands a batch over as a file."""
+        try:
+            line = b"batch\t%d\n" % batch.due
+            socket.send_fds(self.socket, [line], [batch.file.fileno()])
+        except OSError as error:
+            raise Failed(f"the service is gone: {error}") from error
+        self._expect()
+
+    def reset(self) -> None:
+        """Has the store moved aside."""
+        self._send(b"reset\n")
+        self._expect()
+
+    def done(self) -> None:
+        """Tells that a turn is over."""
+        self._send(b"done\n")
+        self._expect()
+
+    def close(self) -> None:
+        """Closes the connection."""
+        self.answers.close()
+        self.socket.close()
+
+    abandon = close

@@ -1,0 +1,223 @@
+"""What the mirror knows of the program's tree, kept in a file between its turns.
+
+The file `mirror.state` has one JSON value a line: first the whole state, in a line of its own and
+one for each directory, and then one line for each later batch of texts, with the nodes that it
+changed. A whole state that is about to be fed stands
+in `mirror.next` first. Both are written before their batch is fed: which of them is true, the
+program tells, since each batch has a serial of its own, the name of a directory in the closed one.
+"""
+
+import json
+import os
+import secrets
+from collections.abc import Iterable, Iterator
+from dataclasses import dataclass, field
+from pathlib import Path
+from typing import Any
+
+from .nodes import FIRST, Node, Rights, Tree, first_tree
+from .plan import Groups
+
+FORMAT = 1
+NAME = "mirror.state"
+NEXT = "mirror.next"
+
+
+class BadState(Exception):
+    """The file isn't one that this mirror wrote."""
+
+
+@dataclass(slots=True)
+class State:
+    """The tree and the users as they are after the batch with this serial.
+
+    `lists` tells whether the program knew access lists then; `following` is the number to try
+    first for a new node.
+    """
+
+    serial: str = ""
+    tree: Tree = field(default_factory=first_tree)
+    users: Groups = field(default_factory=dict)
+    following: int = FIRST
+    lists: bool = False
+
+
+@dataclass(slots=True)
+class Addition:
+    """A later batch of texts: its serial, and the nodes that it changed."""
+
+    serial: str
+    nodes: list[Node]
+
+
+def new_serial(before: str) -> str:
+    """A serial that no other batch has, with the count of batches for people to read."""
+    count = int(before.split("-")[0]) + 1 if before else 1
+    return f"{count}-{secrets.token_hex(12)}"
+
+
+def _spell_node(node: Node) -> list[Any]:
+    rights = node.rights
+    return [
+        node.number,
+        int(node.is_directory),
+        rights.mode,
+        rights.owner,
+        rights.group,
+        rights.entries.decode("ascii"),
+        node.digest.hex(),
+        *node.identity,
+        node.changed,
+        node.size,
+    ]
+
+
+class _Reader:
+    """Makes nodes of what a file says; equal rights are kept once."""
+
+    def __init__(self) -> None:
+        self.rights: dict[tuple[int, int, int, str], Rights] = {}
+
+    def node(self, told: list[Any]) -> Node:
+        """The node that was spelled."""
+        number, directory, mode, owner, group, entries, digest, device, inode, changed, size = told
+        key = (mode, owner, group, entries)
+        rights = self.rights.get(key)
+        if rights is None:
+            rights = self.rights[key] = Rights(mode, owner, group, entries.encode("ascii"))
+        identity = (device, inode)
+        text = bytes.fromhex(digest)
+        return Node(number, bool(directory), rights, text, identity, changed, size)
+
+
+def spell_state(state: State) -> Iterator[str]:
+    """The lines of a whole state: one of its own, and one for each directory.
+
+    A file's node stands with the first directory that names it.
+    """
+    head = {
+        "format": FORMAT,
+        "serial": state.serial,
+        "following": state.following,
+        "lists": state.lists,
+        "users": [[user, *groups] for user, groups in state.users.items()],
+        "directories": len(state.tree.entries),
+    }
+    yield json.dumps(head, separators=(",", ":")) + "\n"
+    told: set[int] = set()
+    nodes = state.tree.nodes
+    for number, names in state.tree.entries.items():
+        children = list(names.values())
+        new = [child for child in children if child not in told and not nodes[child].is_directory]
+        told.update(new)
+        files = [_spell_node(nodes[child]) for child in dict.fromkeys(new)]
+        spelled = [os.fsdecode(name) for name in names]
+        line = [_spell_node(nodes[number]), spelled, children, files]
+        yield json.dumps(line, separators=(",", ":")) + "\n"
+
+
+def spell_addition(addition: Addition) -> str:
+    """The line of a later batch."""
+    nodes = [_spell_node(node) for node in addition.nodes]
+    told = {"serial": addition.serial, "nodes": nodes}
+    return json.dumps(told, separators=(",", ":")) + "\n"
+
+
+def read_state(path: Path) -> tuple[State, list[Addition]] | None:
+    """The state in a file and the batches after it, or None where there is no file.
+
+    A last line that was cut off counts for nothing. Raises `BadState`.
+    """
+    reader = _Reader()
+    try:
+        with open(path, encoding="utf-8") as lines:
+            told = json.loads(next(lines))
+            if told["format"] != FORMAT:
+                raise BadState(f"{path}: another format")
+            users = {user: tuple(groups) for user, *groups in told["users"]}
+            state = State(told["serial"], Tree(), users, told["following"], told["lists"])
+            for _ in range(told["directories"]):
+                _read_directory(reader, state.tree, next(lines))
+            additions = [_read_addition(reader, line) for line in lines if line.endswith("\n")]
+    except FileNotFoundError:
+        return None
+    except (ValueError, KeyError, TypeError, StopIteration) as error:
+        raise BadState(f"{path}: it can't be read: {error}") from error
+    return state, additions
+
+
+def _read_directory(reader: _Reader, tree: Tree, line: str) -> None:
+    node, names, children, files = json.loads(line)
+    directory = reader.node(node)
+    tree.nodes[directory.number] = directory
+    tree.entries[directory.number] = dict(zip(map(os.fsencode, names), children))
+    for file in files:
+        told = reader.node(file)
+        tree.nodes[told.number] = told
+
+
+def _read_addition(reader: _Reader, line: str) -> Addition:
+    told = json.loads(line)
+    return Addition(told["serial"], [reader.node(one) for one in told["nodes"]])
+
+
+def apply(state: State, addition: Addition) -> None:
+    """Brings a state to what it is after a later batch."""
+    state.serial = addition.serial
+    for node in addition.nodes:
+        state.tree.nodes[node.number] = node
+
+
+def sync_folder(folder: Path) -> None:
+    """Makes the names in a folder survive a crash."""
+    descriptor = os.open(folder, os.O_RDONLY | os.O_DIRECTORY)
+    try:
+        os.fsync(descriptor)
+    finally:
+        os.close(descriptor)
+
+
+class Files:
+    """The files of a state in a folder. Their mode is 0600: they have everybody's paths."""
+
+    def __init__(self, folder: Path) -> None:
+        self.folder = folder
+        self.path = folder / NAME
+        self.next = folder / NEXT
+
+    def prepare(self, state: State) -> None:
+        """Writes a whole state that is about to be fed."""
+        self._write(self.next, spell_state(state), os.O_TRUNC)
+        sync_folder(self.folder)
+
+    def commit(self) -> None:
+        """The prepared state was fed, and saved."""
+        os.replace(self.next, self.path)
+        sync_folder(self.folder)
+
+    def drop(self) -> None:
+        """The prepared state wasn't fed."""
+        self.next.unlink(missing_ok=True)
+
+    def add(self, addition: Addition) -> None:
+        """Writes a later batch that is about to be fed."""
+        self._write(self.path, [spell_addition(addition)], os.O_APPEND)
+
+    def is_whole(self) -> bool:
+        """Whether the last line of the state wasn't cut off."""
+        with open(self.path, "rb") as file:
+            file.seek(-1, os.SEEK_END)
+            return file.read(1) == b"\n"
+
+    def forget(self) -> None:
+        """Removes what is known: all has to be fed anew."""
+        self.path.unlink(missing_ok=True)
+        self.drop()
+
+    @staticmethod
+    def _write(path: Path, lines: Iterable[str], flag: int) -> None:
+        descriptor = os.open(path, os.O_WRONLY | os.O_CREAT | os.O_CLOEXEC | flag, 0o600)
+        with open(descriptor, "w", encoding="utf-8") as out:
+            out.writelines(lines)
+            out.flush()
+            os.fsync(out.fileno())

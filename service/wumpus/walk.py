@@ -1,0 +1,405 @@
+"""The walk: what is below the roots, by descriptors, without following links.
+
+What the walk says of a file was true of it at some moment of the walk, together with what it says
+of each directory on the file's path: each directory is read in a *window*, between two looks at
+all directories from `/` down to it, by name from above. A window counts where both looks see the
+same directories with the same ctimes. A directory that is seen with two different owners, modes or
+places in one walk is *torn*: it is shut, and the caller walks again.
+
+That a ctime tells of each change holds once the clock has gone on since: what changed in the last
+50 ms is waited for.
+"""
+
+import fnmatch
+import os
+import re
+import stat
+import time
+from collections.abc import Callable
+from dataclasses import dataclass, field
+
+from .access import BadList, rights_at
+from .nodes import Identity, Node, Rights
+from .script import DEPTH_MAX, NAME_MAX
+
+ATTEMPTS = 5
+YOUNG = 50_000_000  # nanoseconds in which two changes may have one ctime
+DIRECTORY_FLAGS = os.O_RDONLY | os.O_DIRECTORY | os.O_NOFOLLOW | os.O_CLOEXEC
+DEEPEST = DEPTH_MAX - 1  # a directory that moves passes through one at depth 2
+
+# File systems that hold no files of anybody, and those whose server decides who may read.
+LEFT_OUT = frozenset(
+    "autofs binfmt_misc bpf cgroup cgroup2 configfs debugfs devpts devtmpfs efivarfs fusectl "
+    "hugetlbfs mqueue nsfs proc pstore rpc_pipefs securityfs selinuxfs sysfs tracefs "
+    "9p afs ceph cifs coda fuse fuse.gvfsd-fuse fuse.sshfs fuse.portal nfs nfs4 smb3".split()
+)
+
+
+class Torn(Exception):
+    """A directory isn't where, or what, the walk saw first."""
+
+
+class BadRoot(Exception):
+    """A root that can't be walked; the text says why."""
+
+
+@dataclass(slots=True)
+class Found:
+    """A file or directory that the walk saw. `known` is the node that it is known as.
+
+    For a file whose status is the known one nothing has to be looked at again, and `fresh` is
+    False. `rights` are a directory's own. `number` and `links`, the count of its names, are set
+    when the walk is done.
+    """
+
+    identity: Identity
+    is_directory: bool
+    known: Node | None
+    rights: Rights | None
+    changed: int
+    size: int
+    fresh: bool
+    torn: bool = False
+    links: int = 0
+    number: int = 0
+    entries: "dict[bytes, Found]" = field(default_factory=dict)
+
+
+_NO_ENTRIES: dict[bytes, Found] = {}  # of all files
+
+
+@dataclass(slots=True)
+class Step:
+    """A directory on the way from `/` to the one that is read, open at `descriptor`."""
+
+    descriptor: int
+    name: bytes
+    found: Found
+    changed: int
+
+
+@dataclass(frozen=True)
+class Limits:
+    """What a walk leaves out: patterns, other file systems, and directories by identity."""
+
+    excludes: tuple[bytes, ...] = ()
+    one_file_system: bool = False
+    omitted: frozenset[Identity] = frozenset()
+
+
+def wait_until_old(changed: int) -> None:
+    """Waits until a change that comes now has another ctime than this one."""
+    age = time.time_ns() - changed
+    if 0 <= age < YOUNG:
+        time.sleep((YOUNG - age) / 1e9)
+
+
+def pattern_of(patterns: tuple[bytes, ...]) -> Callable[[bytes, bytes], bool]:
+    """Tells of a name and its path whether a pattern fits: one with `/` the path, else the name."""
+
+    def compiled(chosen: list[bytes]) -> re.Pattern[bytes] | None:
+        texts = [fnmatch.translate(one.decode("latin-1")).encode("latin-1") for one in chosen]
+        return re.compile(b"|".join(b"(?:%s)" % text for text in texts)) if texts else None
+
+    of_names = compiled([one for one in patterns if b"/" not in one])
+    of_paths = compiled([one for one in patterns if b"/" in one])
+
+    def fits(name: bytes, path: bytes) -> bool:
+        if of_names is not None and of_names.match(name):
+            return True
+        return of_paths is not None and of_paths.match(path) is not None
+
+    return fits
+
+
+class Way:
+    """The directories from `/` to the one that is read, each held open."""
+
+    def __init__(self) -> None:
+        self.steps: list[Step] = []
+
+    def look(self) -> list[int]:
+        """The ctimes of all directories on the way, by name from above.
+
+        Raises `Torn` where one isn't the directory that was seen first, or has other rights.
+        """
+        seen = []
+        for place, step in enumerate(self.steps):
+            status = self._status(place, step)
+            if status.st_ctime_ns != step.changed:
+                self._compare(step, status)
+            wait_until_old(status.st_ctime_ns)
+            seen.append(status.st_ctime_ns)
+        return seen
+
+    def _status(self, place: int, step: Step) -> os.stat_result:
+        """The status of what has the step's name now."""
+        if place == 0:
+            return os.fstat(step.descriptor)
+        above = self.steps[place - 1].descriptor
+        try:
+            status = os.stat(step.name, dir_fd=above, follow_symlinks=False)
+        except OSError as error:
+            self._tear(step.found)
+            raise Torn from error
+        if (status.st_dev, status.st_ino) != step.found.identity:
+            self._tear(step.found)
+            raise Torn
+        return status
+
+    def _compare(self, step: Step, status: os.stat_result) -> None:
+        """Accepts a directory whose ctime is another one where its rights are the same."""
+        try:
+            rights = rights_at(step.descriptor, status)
+        except (BadList, OSError):
+            rights = None
+        if rights is None or rights != step.found.rights:
+            self._tear(step.found)
+            raise Torn
+        step.changed = status.st_ctime_ns
+
+    @staticmethod
+    def _tear(found: Found) -> None:
+        found.torn = True
+
+    def enter(self, name: bytes, found: Found, descriptor: int) -> None:
+        """Goes down to a directory that is open there."""
+        self.steps.append(Step(descriptor, name, found, found.changed))
+
+    def leave(self) -> None:
+        """Goes up again."""
+        os.close(self.steps.pop().descriptor)
+
+
+def file_systems_left_out() -> frozenset[int]:
+    """The devices of the mounts whose files aren't ordinary ones, or aren't this machine's."""
+    devices = set()
+    try:
+        with open("/proc/self/mountinfo", encoding="utf-8", errors="surrogateescape") as mounts:
+            lines = mounts.readlines()
+    except OSError:
+        return frozenset()
+    for line in lines:
+        fields = line.split(" ")
+        kind = fields[fields.index("-") + 1]
+        if kind in LEFT_OUT or kind.startswith("fuse."):
+            major, minor = fields[2].split(":")
+            devices.add(os.makedev(int(major), int(minor)))
+    return frozenset(devices)
+
+
+class Walk:
+    """One walk. `top` is `/` afterwards, and `found` all that was seen, by identity."""
+
+    def __init__(
+        self,
+        known: dict[Identity, Node],
+        limits: Limits,
+        warn: Callable[[str], None],
+        tick: Callable[[int], None],
+    ) -> None:
+        self.known = known
+        self.limits = limits
+        self.warn = warn
+        self.tick = tick
+        self.fits = pattern_of(limits.excludes)
+        self.left_out = file_systems_left_out()
+        self.found: dict[Identity, Found] = {}
+        self.way = Way()
+        self.torn = False
+        self.seen = 0
+        self.device: int | None = None
+        self.full: set[Identity] = set()  # directories that were read whole
+        descriptor = os.open(b"/", DIRECTORY_FLAGS)
+        self.top = self._directory(descriptor)
+        self.way.enter(b"/", self.top, descriptor)
+
+    def close(self) -> None:
+        """Closes all that is open."""
+        while self.way.steps:
+            self.way.leave()
+
+    def root(self, path: bytes) -> None:
+        """Walks what is below a root, an absolute path of a directory.
+
+        The directories above it are seen too, with no more names than lead to it.
+        Raises `BadRoot` where the path is no such thing.
+        """
+        names = [name for name in path.split(b"/") if name]
+        if not path.startswith(b"/") or any(name in (b".", b"..") for name in names):
+            raise BadRoot("a root is an absolute path without . and ..")
+        try:
+            for name in names:
+                self._down(name)
+            last = self.way.steps[-1]
+            self.device = last.found.identity[0]
+            self._read(path.rstrip(b"/"))
+        except Torn:
+            self.torn = True
+        finally:
+            while len(self.way.steps) > 1:
+                self.way.leave()
+
+    def _down(self, name: bytes) -> None:
+        """Goes down to a directory on the way to a root."""
+        above = self.way.steps[-1]
+        try:
+            descriptor = os.open(name, DIRECTORY_FLAGS, dir_fd=above.descriptor)
+        except OSError as error:
+            raise BadRoot(f"{os.fsdecode(name)}: {error.strerror}, or a symbolic link") from error
+        found = above.found.entries.get(name)
+        status = os.fstat(descriptor)
+        if found is None or found.identity != (status.st_dev, status.st_ino):
+            found = self.found.get((status.st_dev, status.st_ino)) or self._directory(descriptor)
+            above.found.entries[name] = found
+        self.way.enter(name, found, descriptor)
+
+    def _directory(self, descriptor: int) -> Found:
+        """What is seen of the directory that is open there, with its rights."""
+        status = os.fstat(descriptor)
+        wait_until_old(status.st_ctime_ns)
+        status = os.fstat(descriptor)
+        identity = (status.st_dev, status.st_ino)
+        known = self.known.get(identity)
+        plain = (status.st_mode & 0o7777, status.st_uid, status.st_gid)
+        if known is not None and not known.is_directory:
+            known = None
+        torn = False
+        if known is not None and known.changed == status.st_ctime_ns and known.rights[:3] == plain:
+            rights = known.rights
+        else:
+            try:
+                rights = rights_at(descriptor, status)
+            except (BadList, OSError) as error:
+                self.warn(f"an access list that can't be read: {error}")
+                rights, torn = Rights(0, status.st_uid, status.st_gid), True
+        found = Found(identity, True, known, rights, status.st_ctime_ns, 0, True, torn)
+        self.found[identity] = found
+        return found
+
+    def _read(self, path: bytes) -> None:
+        """Reads the directory at the end of the way, and all below it."""
+        here = self.way.steps[-1]
+        if here.found.identity in self.full:
+            return
+        self.full.add(here.found.identity)
+        directories = self._window(here, path)
+        self.seen += len(here.found.entries)
+        self.tick(self.seen)
+        for name in directories:
+            self._visit(here, name, path + b"/" + name)
+
+    def _window(self, here: Step, path: bytes) -> list[bytes]:
+        """Reads the names of a directory in a window, and gives those of directories."""
+        kept = dict(here.found.entries)  # names that lead to other roots
+        count = len(self.found)
+        directories: list[bytes] = []
+        for _ in range(ATTEMPTS):
+            before = self.way.look()
+            here.found.entries = dict(kept)
+            while len(self.found) > count:
+                self.found.popitem()
+            try:
+                directories = self._names(here, path)
+            except OSError as error:
+                self.warn(f"{os.fsdecode(path) or '/'}: {error.strerror}")
+                return []
+            for name in kept.keys() - set(directories):
+                here.found.entries.pop(name, None)
+            if self.way.look() == before:
+                return directories
+        here.found.torn = True
+        self.torn = True
+        return directories
+
+    def _names(self, here: Step, path: bytes) -> list[bytes]:
+        """The files of a directory, as its entries, and the names of its directories."""
+        directories = []
+        entries = here.found.entries
+        patterned = bool(self.limits.excludes)
+        with os.scandir(here.descriptor) as listing:
+            for entry in listing:
+                name = os.fsencode(entry.name)
+                if patterned and self.fits(name, path + b"/" + name):
+                    entries.pop(name, None)
+                elif len(name) > NAME_MAX:
+                    self.warn(f"{os.fsdecode(path)}: a name over 255 bytes is left out")
+                elif entry.is_dir(follow_symlinks=False):
+                    directories.append(name)
+                elif entry.is_file(follow_symlinks=False):
+                    try:
+                        status = entry.stat(follow_symlinks=False)
+                    except FileNotFoundError:
+                        continue
+                    if stat.S_ISREG(status.st_mode):
+                        entries[name] = self._file(status)
+        return directories
+
+    def _file(self, status: os.stat_result) -> Found:
+        """What is seen of a file. Where it was seen with another status, it is torn."""
+        identity = (status.st_dev, status.st_ino)
+        changed = status.st_ctime_ns
+        found = self.found.get(identity)
+        if found is not None and not found.is_directory:
+            if found.changed != changed:
+                found.torn = found.fresh = True
+                self.torn = True
+            return found
+        known = self.known.get(identity)
+        fresh = True
+        if known is not None:
+            if known.is_directory:
+                known = None
+            elif known.changed == changed and known.size == status.st_size:
+                plain = (status.st_mode & 0o7777, status.st_uid, status.st_gid)
+                fresh = known.rights[:3] != plain
+                identity = known.identity
+        size = status.st_size
+        found = Found(identity, False, known, None, changed, size, fresh, entries=_NO_ENTRIES)
+        self.found[identity] = found
+        return found
+
+    def _visit(self, here: Step, name: bytes, path: bytes) -> None:
+        """Walks a directory below the one that is read."""
+        if len(self.way.steps) >= DEEPEST:
+            self.warn(f"{os.fsdecode(path[:200])}..: too deep, it is left out")
+            return
+        try:
+            descriptor = os.open(name, DIRECTORY_FLAGS, dir_fd=here.descriptor)
+        except OSError as error:
+            self.warn(f"{os.fsdecode(path)}: {error.strerror}")
+            return
+        status = os.fstat(descriptor)
+        identity = (status.st_dev, status.st_ino)
+        if identity in self.limits.omitted or self._is_elsewhere(identity, path):
+            os.close(descriptor)
+            here.found.entries.pop(name, None)
+            return
+        found = here.found.entries.get(name)
+        if found is None or found.identity != identity:
+            if identity in self.found:
+                self.warn(f"{os.fsdecode(path)}: in two places, it is taken once")
+                os.close(descriptor)
+                return
+            found = self._directory(descriptor)
+            here.found.entries[name] = found
+        self.way.enter(name, found, descriptor)
+        try:
+            self._read(path)
+        except Torn:
+            self.torn = True
+            if any(step.found.torn for step in self.way.steps[:-1]):
+                raise
+        finally:
+            self.way.leave()
+
+    def _is_elsewhere(self, identity: Identity, path: bytes) -> bool:
+        """Whether a directory is on a file system that is left out."""
+        if identity[0] == self.device:
+            return False
+        if self.limits.one_file_system:
+            return True
+        if identity[0] in self.left_out:
+            self.warn(f"{os.fsdecode(path)}: a file system that is left out")
+            return True
+        return False
