@@ -116,9 +116,7 @@ impl Rows {
     fn renew(&mut self, event: &Event, before: Option<Before>, links: LinkChanges) {
         match (event, before) {
             (Event::User { uid, .. }, _) => self.kept.forget(*uid),
-            (_, Some(was)) => {
-                self.kept.recheck(&self.tree, was.ino, was.node, was.acl)
-            }
+            (_, Some(was)) => { self.kept.recheck(&self.tree, was.ino, was.node, was.acl) }
             _ => self.kept.relink(&self.tree, links),
         }
     }
@@ -173,13 +171,13 @@ fn event_of(alloc: Global, fields: &[&str]) -> Result<Event, NoAnswer>
 fn node_before(alloc: Global, tree: &Tree, event: &Event) -> Result<Option<Before>, NoMemory> {
     match event {
         Event::Chmod { ino, .. } | Event::Chown { ino, .. } | Event::Acl { ino, .. } => {
-            before(alloc, tree, *ino)
+            node_now(alloc, tree, *ino)
         }
         _ => Ok(None),
     }
 }
 
-fn before(alloc: Global, tree: &Tree, ino: Ino) -> Result<Option<Before>, NoMemory> {
+fn node_now(alloc: Global, tree: &Tree, ino: Ino) -> Result<Option<Before>, NoMemory> {
     match tree.node(ino) {
         Some(node) => Ok(Some(Before {
             ino,

@@ -1,7 +1,6 @@
 //! What a tree tells.
-use crate::trees::acls;
 use crate::trees::events::name_of_word;
-use crate::trees::nodes;
+use crate::trees::{acls, nodes};
 use std::alloc::{AllocError, Global};
 use wu_access::UserRec;
 use wu_base::{Bytes, Ino, Uid};
