@@ -5,7 +5,7 @@
 PREFIX ?= /usr/local
 JOBS ?= $(shell nproc)
 WUMPUS := crates/wumpus/out/wumpus
-EXAMPLES := home regions ranking find flush work
+EXAMPLES := home lists regions ranking find flush work
 CRATES := $(shell sed -n -e '/_tests:/d' -e '/^wu_rows:/d' -e 's/^\([a-z_0-9]*\):.*/\1/p' crates.txt)
 
 .PHONY: all try demo install check clean
