@@ -15,6 +15,7 @@ import sys
 import threading
 import time
 from collections.abc import Callable
+from contextlib import suppress
 from pathlib import Path
 
 from harness import SERVICE, Score, folder_of_own, needs_program, needs_root, options
@@ -94,7 +95,8 @@ def ask_here(sockets: Path, query: bytes) -> bytes:
     with socket.socket(socket.AF_UNIX, socket.SOCK_STREAM) as connection:
         connection.settimeout(20)
         connection.connect(str(sockets / "ask"))
-        connection.sendall(query + b"\n")
+        with suppress(BrokenPipeError, ConnectionResetError):
+            connection.sendall(query + b"\n")
         with connection.makefile("rb") as answers:
             return answers.readline().rstrip(b"\n")
 

@@ -9,6 +9,7 @@ import socket
 import stat
 import sys
 from collections.abc import Iterator
+from contextlib import suppress
 from dataclasses import dataclass
 from pathlib import Path
 from typing import Any
@@ -118,7 +119,9 @@ class Asking:
         if len(line) > QUERY_MAX:
             raise Trouble("the query is too long")
         try:
-            self.socket.sendall(line)
+            # A service that refuses the connection says why and closes it, maybe before the query is sent.
+            with suppress(BrokenPipeError, ConnectionResetError):
+                self.socket.sendall(line)
             first = self._line()
             lines = [first, *(self._line() for _ in range(lines_after(first)))]
         except (OSError, BadReply) as error:
