@@ -1,20 +1,20 @@
 -- How many tokens a text has at most, and how long they are.
 use Rattle.std.proofs.Common.{◌≡◌, ℕ, ◌+◌, ◌*◌, ◌<◌, ◌≤◌, Bool, true, false, cond, List, [], ◌∷◌, length, filter, map, refl, sym, ◌∙◌, ap, subst, inl, inr, arith}
 use Rattle.std.specs.List.{slice_split, onto_first, flat_map, sum_by, All}
-use Rattle.std.specs.Char.{to_ascii_lowercase}
 use Rattle.std.proofs.lemmas.Bool.{cases_Bool, cond-true, cond-false}
 use Rattle.std.proofs.lemmas.Bool.Decides.{nat_tests}
 use Rattle.std.proofs.lemmas.List.{length-map, length-append, length-take}
 use Rattle.std.proofs.lemmas.List.Elements.{All-nil, All-cons, All-append, All-filter, All-map, All-weaker}
 use Rattle.wu_base.specs.declared.limits.TheConstants.{WORD_MAX}
 use Rattle.wu_token.specs.declared.spans.Token.{Token}
-use Rattle.wu_token.specs.Words.{has_bytes, is_separator, runs_of, word_of, words_of, IsTerm}
+use Rattle.wu_token.specs.Words.{has_bytes, is_separator, runs_of, folded_run, word_of, words_of, IsTerm}
 use Rattle.wu_token.specs.Tokens.{is_line_feed, file_start, file_end, line_start, line_end, lines_of_pieces, lines_of, line_tokens_of, tokens_of}
 use Rattle.wu_token.specs.Places.{Piece, placed, runs_at, tag_at, word_at, line_tokens_at, placed_tokens_of}
 use Rattle.wu_token.specs.Pieces.{EndsBy}
 use Rattle.std.proofs.lemmas.List.Sums.{sum_by-cons}
 use Rattle.wu_token.proofs.PlacesLemmas.{term-placed_tokens_of, bytes-runs_at}
 use Rattle.wu_token.proofs.CutLemmas.{split-cons}
+use Rattle.wu_token.proofs.OwnWords.{some_word}
 
 -- ---- at most three tokens for each byte, and two
 has_bytes-cons : (byte : ℕ) (part : List ℕ) → has_bytes (byte ∷ part) ≡ true
@@ -107,8 +107,8 @@ IsTerm-word_of : (run : List ℕ) → has_bytes run ≡ true → IsTerm (word_of
 unfolding word_of
 IsTerm-word_of run some =
     let bytes : 0 < length run = grind (arith, nat_tests) in
-    let len = length-take WORD_MAX (map to_ascii_lowercase run) in
-    let lowered = length-map run to_ascii_lowercase in
+    let len = length-take WORD_MAX (folded_run run) in
+    let least = some_word run bytes in
     (omega arith, omega arith)
 
 pub IsTerm-words_of : (bytes : List ℕ) → All IsTerm (words_of bytes)

@@ -1,6 +1,6 @@
 //! The words of a byte string, and the tokens of a text.
 ghost use Rattle.std.specs.Prelude.{◌≡◌, ◌+◌, ◌*◌, ◌^◌, ◌<◌, ◌≤◌, ◌++◌, IfOk, OnOk, All, map, length, vec_len};
-ghost use Rattle.wu_token.specs.Words.{IsTerm, words_of};
+ghost use Rattle.wu_token.specs.Words.{EachWordIsItsOwn, IsTerm, words_of};
 ghost use Rattle.wu_token.specs.Tokens.{tokens_of};
 ghost use Rattle.wu_token.specs.Places.{line_tokens_at, placed_tokens_of};
 ghost use Rattle.wu_token.specs.Pieces.{GiveTheTerms, end_of, piece_of};
@@ -12,9 +12,10 @@ use std::alloc::Global;
 use wu_base::{Bytes, NoMemory, TEXT_MAX};
 
 /// The words of these bytes, in order: the maximal runs of ASCII letters, ASCII digits and bytes of
-/// 0x80 and above, each cut to its first [`WORD_MAX`](wu_base::WORD_MAX) bytes, with ASCII letters
-/// in lower case. So each has from 1 to [`WORD_MAX`](wu_base::WORD_MAX) bytes. The one error is out of
-/// memory.
+/// 0x80 and above, each folded and then cut to its first [`WORD_MAX`](wu_base::WORD_MAX) bytes. What is
+/// folded is the longest front of a run that is UTF-8, by Unicode's full default case folding; in the
+/// rest ASCII letters come in lower case. So each word has from 1 to
+/// [`WORD_MAX`](wu_base::WORD_MAX) bytes. The one error is out of memory.
 pub fn words(alloc: Global, bytes: &[u8]) -> Result<Vec<Bytes>, NoMemory>
     ensures words { IfOk result (λ v. v.items ≡ words_of bytes.now) }
     ensures lengths { IfOk result (λ v. All IsTerm v.items) }
@@ -86,4 +87,9 @@ pub fn token_count(text: &[u8]) -> u64
 /// of the text's tokens, in order.
 pub fn pieces_give_the_terms()
     ensures { GiveTheTerms }
+{}
+
+/// A law: a word of some bytes, taken as bytes, has one word, which is itself.
+pub fn each_word_is_its_own()
+    ensures { EachWordIsItsOwn }
 {}
