@@ -10,7 +10,7 @@ use Rattle.std.proofs.lemmas.Bool.Decides.{nat_tests}
 use Rattle.wu_base.specs.declared.addresses.Extent.{Extent}
 use Rattle.wu_gcl.specs.Extents.{holds, hits, is_in, is_term_at, is_token_at, token_hits}
 use Rattle.wu_gcl.specs.Regions.{WholeFile}
-use Rattle.wu_gcl.proofs.WordLaws.{IsWord, words_of_are}
+use Rattle.wu_token.proofs.OwnWords.{IsWord, words_of_are}
 use Rattle.wu_solve.specs.Listing.{Has, IsExtentIn, Lists}
 use Rattle.wu_solve.specs.Merging.{AreInnermost, IsSpan, span}
 use Rattle.wu_solve.proofs.Combining.{file_listed, followed_by_combined}
@@ -33,7 +33,7 @@ inner_word : (word : List ℕ) → IsWord word → IsInner word
 unfolding file_start file_end
 inner_word [] is = absurd (omega (arith, is.some))
 inner_word (byte ∷ word) is =
-    let other = no_bracket byte is.bytes.0.0 in record { no_start = rw other refl; no_end = rw other refl }
+    let other = no_bracket byte is.bytes.0 in record { no_start = rw other refl; no_end = rw other refl }
 
 inner_words : (words : List (List ℕ)) → AllByRecursion IsWord words → AllByRecursion IsInner words
 inner_words [] are = tt

@@ -18,7 +18,7 @@ use Rattle.wu_gcl.specs.Grammar.{Syntax, Single, Group, Join, tokens_in}
 use Rattle.wu_gcl.specs.Regions.{Region, Phrase, Mark, WholeFile, WholeLine, Window, Both, region_of, IsProper}
 use Rattle.wu_gcl.specs.Reading.{Value, tag_at, quoted_value, phrase_of, window_with, window_of, value_of, join, meaning, Spells, Reads}
 use Rattle.wu_gcl.specs.Reading.{seen}
-use Rattle.wu_gcl.proofs.WordLaws.{IsWord, words_of_are}
+use Rattle.wu_token.proofs.OwnWords.{IsWord, words_of_are}
 
 abbrev pub IsReadable : Region → Type 0
 IsReadable (Phrase words) = (0 < length words) × AllByRecursion IsWord words
