@@ -8,13 +8,25 @@ WORD_MAX = 64
 WORDS_OF_RANKING = 64
 
 
+def word_of(run: bytes) -> bytes:
+    """The word of a run: the text at its front folded, in the rest ASCII letters lowered, cut to 64 bytes.
+
+    Python folds by its own version of Unicode, which may not know the newest letters.
+    """
+    try:
+        text, rest = run.decode(), b""
+    except UnicodeDecodeError as fault:
+        text, rest = run[: fault.start].decode(), run[fault.start :]
+    return (text.casefold().encode() + rest.lower())[:WORD_MAX]
+
+
 def words_of(text: bytes) -> list[bytes]:
-    """The words of a text, lowered, each cut to 64 bytes."""
-    return [found.group()[:WORD_MAX].lower() for found in WORD.finditer(text)]
+    """The words of a text."""
+    return [word_of(found.group()) for found in WORD.finditer(text)]
 
 
 def spans_of(line: bytes, wanted: frozenset[bytes]) -> Iterator[tuple[int, int]]:
     """Where a line has one of some words."""
     for found in WORD.finditer(line):
-        if found.group()[:WORD_MAX].lower() in wanted:
+        if word_of(found.group()) in wanted:
             yield found.span()
