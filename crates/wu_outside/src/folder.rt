@@ -1,5 +1,5 @@
 //! A store in a folder: blob n in the file `b` and the decimal n, the root in the file `root`.
-ghost use Rattle.std.specs.Prelude.{◌≡◌, ◌==◌, None, true, position, IfOk, IfSome, IsSome, OnOk};
+ghost use Rattle.std.specs.Prelude.{◌≡◌, ◌==◌, None, true, position, IfOk, IfSome, IsSome, OnOk, option_copied};
 ghost use Rattle.wu_outside.specs.Faults.{HasFaultCause};
 
 use crate::disk::{
@@ -51,7 +51,8 @@ where
     /// The store in this folder, which isn't touched yet, with no fault counted. The one error is out of
     /// memory.
     pub fn new(files: &'a R, folder: &str) -> Result<DirStore<'a, R>, NoMemory>
-        ensures { IfOk result (λ store. store.failures.count ≡ 0) }
+        ensures count { IfOk result (λ store. store.failures.count ≡ 0) }
+        ensures none_failed { IfOk result (λ store. store.failures.last ≡ None) }
     {
         Ok(DirStore {
             files,
@@ -73,7 +74,9 @@ where
 
     /// The last call of the system that failed, for a person to read. None also where there was no
     /// memory to keep it.
-    pub fn last_failure(&self) -> Option<&Failure> {
+    pub fn last_failure(&self) -> Option<&Failure>
+        ensures { option_copied result ≡ self.now.failures.last }
+    {
         self.failures.last()
     }
 

@@ -1,6 +1,6 @@
 //! Objects in memory that count their calls and fail where they are told to, for tests. They tell
 //! their content.
-ghost use Rattle.std.specs.Prelude.{◌≡◌, ◌≤◌, min, length, [], Some, None, true, false, IfOk, OnErr, MatchResult, Err};
+ghost use Rattle.std.specs.Prelude.{◌≡◌, ◌≤◌, min, max, length, [], Some, None, true, false, IfOk, OnErr, MatchResult, Err};
 ghost use Rattle.std.specs.Io.KnownBytes.{ReadConsumes, WriteAppends};
 ghost use Rattle.wu_outside.specs.Ends.{GivesEnd};
 ghost use Rattle.wu_outside.specs.Faults.{HasCause, HasWriteCause};
@@ -31,7 +31,7 @@ impl Model for MemSource {
 impl MemSource {
     /// A source that gives these bytes and then its end. The named calls, counted from 0, fail.
     pub fn new(bytes: Vec<u8>, fails: Vec<u64>) -> MemSource
-        ensures bytes { result.source ≡ record { left = bytes.items; ended = false; last_read = 0 } }
+        ensures bytes { result.source ≡ record { left = bytes.items; ended = false; last_read = 0; most_asked = 0 } }
         ensures calls { result.schedule ≡ record { calls = 0; faults = 0; fails = fails.items; stop_from = None } }
     {
         MemSource {
@@ -62,6 +62,8 @@ impl Source for MemSource {
 
     ghost last_read = { λ s. s.source.last_read };
 
+    ghost most_asked = { λ s. s.source.most_asked };
+
     ghost faults = { λ s. s.schedule.faults };
 
     /// Gives as many of the bytes as are left and have room. A read that is to fail changes nothing
@@ -72,6 +74,7 @@ impl Source for MemSource {
         ensures all_that_fits { IfOk result (λ n. n ≡ min (length self.old.source.left) (length buf.new)) }
         ensures end { IfOk result (λ n. GivesEnd self.old.source.ended self.new.source.ended n (length buf.new)) }
         ensures gave { IfOk result (λ n. self.new.source.last_read ≡ n) }
+        ensures asked { IfOk result (λ _. self.new.source.most_asked ≡ max self.old.source.most_asked (length buf.new)) }
         ensures fails { MatchResult result
             (λ _. is_failing self.old.schedule ≡ false)
             (λ _. is_failing self.old.schedule ≡ true) }

@@ -1,7 +1,7 @@
 //! The standard streams: the trusted edge. Each counts its errors. What a file or a terminal gives or
 //! takes no contract can say, so over the streams of the process they tell nothing of their content;
 //! over a reader or a writer whose bytes are known they tell these.
-ghost use Rattle.std.specs.Prelude.{◌≡◌, ◌≤◌, ◌<◌, length, false, IfOk, IfErr, IsOkAnd, MatchResult};
+ghost use Rattle.std.specs.Prelude.{◌≡◌, ◌≤◌, ◌<◌, length, max, false, IfOk, IfErr, IsOkAnd, MatchResult};
 ghost use Rattle.std.specs.Io.KnownBytes.{ReadConsumes, WriteAppends};
 ghost use Rattle.wu_outside.specs.Ends.{GivesEnd};
 ghost use Rattle.wu_outside.specs.Faults.{HasCause, HasWriteCause, CountsFault};
@@ -18,6 +18,7 @@ pub struct StdIn<R = Stdin> {
     reader: R,
     ended: bool,
     last_read: usize,
+    most_asked: usize,
     faults: u64,
 }
 
@@ -27,12 +28,14 @@ impl<R: Read> StdIn<R> {
     pub fn new(reader: R) -> Result<StdIn<R>, NoMemory>
         ensures left { IsOkAnd result (λ s. ⟦<StdIn<R> as Source>⟧.left s ≡ R.remaining reader) }
         ensures going { IsOkAnd result (λ s. ⟦<StdIn<R> as Source>⟧.ended s ≡ false) }
+        ensures none_asked { IsOkAnd result (λ s. ⟦<StdIn<R> as Source>⟧.most_asked s ≡ 0) }
         ensures none_failed { IsOkAnd result (λ s. ⟦<StdIn<R> as Source>⟧.faults s ≡ 0) }
     {
         Ok(StdIn {
             reader,
             ended: false,
             last_read: 0,
+            most_asked: 0,
             faults: 0,
         })
     }
@@ -44,6 +47,8 @@ impl<R: Read> Source for StdIn<R> {
     ghost ended = { λ s. s.ended };
 
     ghost last_read = { λ s. s.last_read };
+
+    ghost most_asked = { λ s. s.most_asked };
 
     ghost faults = { λ s. s.faults };
 
@@ -58,6 +63,9 @@ impl<R: Read> Source for StdIn<R> {
         ensures gave { MatchResult result
             (λ n. self.new.last_read ≡ n)
             (λ _. self.new.last_read ≡ self.old.last_read) }
+        ensures asked { MatchResult result
+            (λ _. self.new.most_asked ≡ max self.old.most_asked (length buf.new))
+            (λ _. self.new.most_asked ≡ self.old.most_asked) }
         ensures counted { MatchResult result
             (λ _. self.new.faults ≡ self.old.faults)
             (λ _. CountsFault self.old.faults self.new.faults) }
@@ -65,6 +73,7 @@ impl<R: Read> Source for StdIn<R> {
         let count = count_error(&mut self.faults, self.reader.read(buf))?;
         self.ended = count == 0 && !buf.is_empty();
         self.last_read = count;
+        self.most_asked = self.most_asked.max(buf.len());
         Ok(count)
     }
 }

@@ -1,5 +1,5 @@
 //! What the system answers, handed on: each error counts as a fault, an interrupted call included.
-ghost use Rattle.std.specs.Prelude.{◌≡◌, IfErr};
+ghost use Rattle.std.specs.Prelude.{◌≡◌, None, Err, IfErr, IfSome, MatchResult, option_copied, string_bytes};
 ghost use Rattle.std.specs.IoError.{error_kind};
 ghost use Rattle.wu_outside.specs.Faults.{HandsOn, HandsOnFound, HasCause, HasFaultCause};
 ghost use Rattle.wu_outside.specs.declared.traits.Fault.TheVariants.{Failed as CallFailed};
@@ -47,7 +47,8 @@ pub struct Failures {
 impl Failures {
     /// None so far. Takes no memory.
     pub fn new(alloc: Global) -> Failures
-        ensures { result.count ≡ 0 }
+        ensures count { result.count ≡ 0 }
+        ensures none { result.last ≡ None }
     {
         Failures {
             alloc,
@@ -64,14 +65,19 @@ impl Failures {
     }
 
     /// The last one that failed. None also where there was no memory to keep its path.
-    pub fn last(&self) -> Option<&Failure> {
+    pub fn last(&self) -> Option<&Failure>
+        ensures { option_copied result ≡ self.now.last }
+    {
         self.last.as_ref()
     }
 
-    /// The value of a call of the system on a file. An error counts.
+    /// The value of a call of the system on a file. An error counts, and is kept with the path.
     pub fn note<T: Drop>(&mut self, path: &str, answer: io::Result<T>) -> Result<T, Fault>
         ensures handed_on { HandsOn self.old.count self.new.count answer result }
         ensures failed { IfErr result (λ fault. fault ≡ CallFailed) }
+        ensures kept { MatchResult answer
+            (λ _. self.new.last ≡ self.old.last)
+            (λ error. IfSome self.new.last (λ last. (string_bytes last.path ≡ path.now) × (last.reason ≡ error))) }
         ensures cause { HasFaultCause self.old.count self.new.count result }
     {
         if let Err(reason) = &answer {
@@ -81,13 +87,16 @@ impl Failures {
     }
 
     /// The value of a call of the system on a file, None where the file isn't there. Any other error
-    /// counts.
+    /// counts, and is kept with the path.
     pub fn note_found<T: Drop>(
         &mut self,
         path: &str,
         answer: io::Result<T>,
     ) -> Result<Option<T>, Fault>
         ensures handed_on { HandsOnFound (λ error. error_kind error ≡ ErrorKind.NotFound) self.old.count self.new.count answer result }
+        ensures kept { MatchResult result
+            (λ _. self.new.last ≡ self.old.last)
+            (λ _. IfSome self.new.last (λ last. (string_bytes last.path ≡ path.now) × (answer ≡ Err last.reason))) }
         ensures cause { HasFaultCause self.old.count self.new.count result }
     {
         match answer {
@@ -102,7 +111,8 @@ impl Failures {
 
     /// Keeps why a call failed, where there is memory for the path.
     fn keep(&mut self, path: &str, reason: io::Error)
-        ensures { self.new.count ≡ self.old.count }
+        ensures count { self.new.count ≡ self.old.count }
+        ensures kept { IfSome self.new.last (λ last. (string_bytes last.path ≡ path.now) × (last.reason ≡ reason)) }
     {
         self.last = match String::from_str(self.alloc, path) {
             Ok(path) => Some(Failure { path, reason }),

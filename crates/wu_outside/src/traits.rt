@@ -1,5 +1,5 @@
 //! The three traits of the outside, and how their calls fail.
-ghost use Rattle.std.specs.Prelude.{◌≡◌, List, Option, None, ℕ, ◌≤◌, Bool, false, length, option_map, IfOk, IfSome, MatchResult};
+ghost use Rattle.std.specs.Prelude.{◌≡◌, List, Option, None, ℕ, ◌≤◌, max, Bool, false, length, option_map, IfOk, IfSome, MatchResult};
 ghost use Rattle.std.specs.Io.KnownBytes.{ReadConsumes, WriteAppends};
 ghost use Rattle.wu_outside.specs.Content.{Content, with_blob, with_root, ReadsFrom, GivesRoot, Does, Writes};
 ghost use Rattle.wu_outside.specs.Crash.{Moments, Put, Remove, SetRoot, Tries, try_change, settle, AreAlike};
@@ -89,6 +89,9 @@ pub trait Source {
     /// How many bytes the last read gave that didn't fail.
     ghost last_read: { Self → ℕ };
 
+    /// How many bytes a read asked for at most that didn't fail: the greatest length of its buffer.
+    ghost most_asked: { Self → ℕ };
+
     /// How many faults there were. The count stands still at 2^64 - 1.
     ghost faults: { Self → ℕ };
 
@@ -106,6 +109,9 @@ pub trait Source {
         ensures gave { MatchResult result
             (λ n. last_read self.new ≡ n)
             (λ _. last_read self.new ≡ last_read self.old) }
+        ensures asked { MatchResult result
+            (λ _. most_asked self.new ≡ max (most_asked self.old) (length buf.new))
+            (λ _. most_asked self.new ≡ most_asked self.old) }
         ensures cause { HasCause (faults self.old) (faults self.new) result };
 }
 

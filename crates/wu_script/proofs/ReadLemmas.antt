@@ -1,6 +1,7 @@
--- Lemmas on how many bytes the last read of a source gave.
-use Rattle.std.proofs.Common.{ℕ, ◌≤◌, List, Option, refl, ◌∙◌, inl, inr, arith}
+-- Lemmas on how many bytes the last read of a source gave, and how many one asked for at most.
+use Rattle.std.proofs.Common.{ℕ, ◌≤◌, max, List, Option, refl, ◌∙◌, inl, inr, arith}
 use Rattle.std.proofs.KnownBytes.{Keeps-refl, Keeps-trans}
+use Rattle.wu_base.specs.declared.limits.TheConstants.{READ_MAX}
 use Rattle.wu_script.specs.Holding.{GivesAtMost, asked_at_once}
 
 -- nothing was read
@@ -21,3 +22,13 @@ pub GivesAtMost-then : (spare later : ℕ) (left mid left' : Option (List ℕ)) 
     → GivesAtMost (asked_at_once spare) left left' before now
 GivesAtMost-then spare later left mid left' before between now within first second =
     GivesAtMost-more (asked_at_once spare) (asked_at_once later) left mid left' before between now (omega (arith, within)) first second
+
+-- later reads ask for no more than the earlier ones might, since no more may be given later
+pub asked_then : (spare later before between now : ℕ) → later ≤ spare → between ≤ max before (asked_at_once spare)
+    → now ≤ max between (asked_at_once later) → now ≤ max before (asked_at_once spare)
+asked_then spare later before between now within first second = omega (arith, within, first, second)
+
+-- nothing asks for more than READ_MAX
+pub asked_within : (spare before between now : ℕ) → between ≤ max before READ_MAX → now ≤ max between (asked_at_once spare)
+    → now ≤ max before READ_MAX
+asked_within spare before between now so_far more = omega (arith, so_far, more)

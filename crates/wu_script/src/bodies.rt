@@ -1,5 +1,5 @@
 //! Bodies, as they are taken from a source in whatever pieces it gives them.
-ghost use Rattle.std.specs.Prelude.{◌≡◌, ◌++◌, ◌≤◌, ◌<◌, List, ℕ, false, true, length, min, take, drop, IfErr, IfOk, OnOk};
+ghost use Rattle.std.specs.Prelude.{◌≡◌, ◌++◌, ◌≤◌, ◌<◌, List, ℕ, false, true, length, min, max, take, drop, IfErr, IfOk, OnOk};
 ghost use Rattle.wu_script.specs.Holding.{Held, Uses, Follows, EndsEarly, HasReadCause, GivesAtMost, asked_at_once};
 ghost use Rattle.wu_script.specs.Taking.{TakesBytes};
 
@@ -26,6 +26,7 @@ pub fn take_bytes<I: Source>(
     ensures still { count ≤ length input.old.bytes → source.new ≡ source.old }
     ensures early { IfErr result (EndsEarly (λ bytes. length bytes < count) (I.left source.old) (I.left source.new) (I.last_read source.new) input.old) }
     ensures brief { GivesAtMost (asked_at_once input.old.spare) (I.left source.old) (I.left source.new) (I.last_read source.old) (I.last_read source.new) }
+    ensures asked { I.most_asked source.new ≤ max (I.most_asked source.old) (asked_at_once input.old.spare) }
     ensures cause { HasReadCause (I.faults source.old) (I.faults source.new) result }
 {
     let mut missing = count;

@@ -1,5 +1,5 @@
 //! What a source gave and no item has used yet.
-ghost use Rattle.std.specs.Prelude.{◌≡◌, ◌≤◌, ◌<◌, ◌+◌, [], false, true, length, Ok, Err, OnOk, IfErr, IfOk, MatchOption, MatchResult, take, drop, slice_range, vec_len};
+ghost use Rattle.std.specs.Prelude.{◌≡◌, ◌≤◌, ◌<◌, ◌+◌, max, [], false, true, length, Ok, Err, OnOk, IfErr, IfOk, MatchOption, MatchResult, take, drop, slice_range, vec_len};
 ghost use Rattle.std.specs.Io.KnownBytes.{Consumes, Keeps, IsAtEnd};
 ghost use Rattle.wu_base.specs.declared.limits.TheConstants.{READ_MAX as MostAtOnce};
 ghost use Rattle.wu_outside.specs.Ends.{GivesEnd};
@@ -71,6 +71,7 @@ impl Input {
         ensures still { 0 < length self.old.bytes → (result ≡ Ok true) × (self.new ≡ self.old) × (source.new ≡ source.old) }
         ensures early { IfErr result (EndsEarly (λ bytes. bytes ≡ []) (I.left source.old) (I.left source.new) (I.last_read source.new) self.old) }
         ensures brief { GivesAtMost (asked_at_once self.old.spare) (I.left source.old) (I.left source.new) (I.last_read source.old) (I.last_read source.new) }
+        ensures asked { I.most_asked source.new ≤ max (I.most_asked source.old) (asked_at_once self.old.spare) }
         ensures cause { HasReadCause (I.faults source.old) (I.faults source.new) result }
     {
         if !self.bytes().is_empty() {
@@ -97,6 +98,7 @@ impl Input {
         ensures follows { OnOk result (Follows (I.ended source.new) (I.last_read source.new) self.new) }
         ensures early { IfErr result (EndsEarly (λ bytes. bytes ≡ []) (I.left source.old) (I.left source.new) (I.last_read source.new) self.old) }
         ensures brief { GivesAtMost (asked_at_once self.old.spare) (I.left source.old) (I.left source.new) (I.last_read source.old) (I.last_read source.new) }
+        ensures asked { I.most_asked source.new ≤ max (I.most_asked source.old) (asked_at_once self.old.spare) }
         ensures cause { HasReadCause (I.faults source.old) (I.faults source.new) result }
     {
         self.at = 0;
@@ -133,6 +135,7 @@ fn read_front<I: Source>(source: &mut I, buffer: &mut [u8], room: usize) -> Resu
     ensures gave { MatchResult result
         (λ n. I.last_read source.new ≡ n)
         (λ _. I.last_read source.new ≡ I.last_read source.old) }
+    ensures asked { I.most_asked source.new ≤ max (I.most_asked source.old) room }
     ensures cause { HasCause (I.faults source.old) (I.faults source.new) result }
 {
     source.read(&mut buffer[..room])

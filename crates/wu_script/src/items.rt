@@ -1,5 +1,5 @@
 //! Items, as they are taken from a source in whatever pieces it gives them.
-ghost use Rattle.std.specs.Prelude.{◌≡◌, ◌≤◌, ◌<◌, [], false, true, length, vec_capacity, OnOk, IfErr, IfOk, MatchBool};
+ghost use Rattle.std.specs.Prelude.{◌≡◌, ◌≤◌, ◌<◌, max, [], false, true, length, vec_capacity, OnOk, IfErr, IfOk, MatchBool};
 ghost use Rattle.wu_base.specs.declared.limits.TheConstants.{READ_MAX as MostAtOnce, TEXT_MAX as MostOfText};
 ghost use Rattle.wu_script.specs.Commands.{line_says};
 ghost use Rattle.wu_script.specs.Holding.{Follows, EndsEarly, HasReadCause, GivesAtMost, asked_at_once};
@@ -43,6 +43,7 @@ pub fn take_item<I: Source>(
     ensures idle { (first_of input.old.bytes).closed ≡ true → source.new ≡ source.old }
     ensures early { IfErr result (EndsEarly (λ bytes. (first_of bytes).closed ≡ false) (I.left source.old) (I.left source.new) (I.last_read source.new) input.old) }
     ensures brief { GivesAtMost (asked_at_once input.old.spare) (I.left source.old) (I.left source.new) (I.last_read source.old) (I.last_read source.new) }
+    ensures asked { I.most_asked source.new ≤ max (I.most_asked source.old) (asked_at_once input.old.spare) }
     ensures cause { HasReadCause (I.faults source.old) (I.faults source.new) result }
 {
     let alloc = *line.allocator();
@@ -110,6 +111,7 @@ fn take_text<I: Source>(
     ensures idle { (text_at ino len input.old.bytes).closed ≡ true → source.new ≡ source.old }
     ensures early { IfErr result (EndsEarly (λ bytes. (text_at ino len bytes).closed ≡ false) (I.left source.old) (I.left source.new) (I.last_read source.new) input.old) }
     ensures brief { GivesAtMost (asked_at_once input.old.spare) (I.left source.old) (I.left source.new) (I.last_read source.old) (I.last_read source.new) }
+    ensures asked { I.most_asked source.new ≤ max (I.most_asked source.old) (asked_at_once input.old.spare) }
     ensures cause { HasReadCause (I.faults source.old) (I.faults source.new) result }
 {
     let kept = is_kept(len);

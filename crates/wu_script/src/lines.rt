@@ -1,5 +1,5 @@
 //! Lines, as they are taken from a source in whatever pieces it gives them.
-ghost use Rattle.std.specs.Prelude.{◌≡◌, ◌++◌, ◌∷◌, ◌<◌, ◌==◌, List, ℕ, [], false, true, length, Ok, Err, OnOk, IfErr, IfOk, MatchOption};
+ghost use Rattle.std.specs.Prelude.{◌≡◌, ◌++◌, ◌∷◌, ◌<◌, ◌≤◌, ◌==◌, max, List, ℕ, [], false, true, length, Ok, Err, OnOk, IfErr, IfOk, MatchOption};
 ghost use Rattle.std.specs.List.{list_any};
 ghost use Rattle.wu_base.specs.declared.limits.TheConstants.{READ_MAX as MostAtOnce};
 ghost use Rattle.wu_script.specs.Holding.{Held, Uses, Follows, EndsEarly, HasReadCause, GivesAtMost, asked_at_once};
@@ -37,6 +37,7 @@ pub fn take_line<I: Source>(
     ensures still { list_any (λ byte. byte == 10) input.old.bytes ≡ true → source.new ≡ source.old }
     ensures early { IfErr result (EndsEarly IsOneLine (I.left source.old) (I.left source.new) (I.last_read source.new) input.old) }
     ensures brief { GivesAtMost (asked_at_once input.old.spare) (I.left source.old) (I.left source.new) (I.last_read source.old) (I.last_read source.new) }
+    ensures asked { I.most_asked source.new ≤ max (I.most_asked source.old) (asked_at_once input.old.spare) }
     ensures cause { HasReadCause (I.faults source.old) (I.faults source.new) result }
 {
     line.clear();

@@ -1,5 +1,5 @@
 //! The reader that gives a script's items as they come.
-ghost use Rattle.std.specs.Prelude.{◌≡◌, ◌<◌, [], false, true, length, Err, OnOk, IfErr, IfOk};
+ghost use Rattle.std.specs.Prelude.{◌≡◌, ◌<◌, ◌≤◌, max, [], false, true, length, Err, OnOk, IfErr, IfOk};
 ghost use Rattle.std.specs.Io.KnownBytes.{IsAtEnd, prepend_known};
 ghost use Rattle.wu_base.specs.declared.limits.TheConstants.{READ_MAX};
 ghost use Rattle.wu_script.specs.Holding.{Held, Follows, GivesAtMost, GivesTooMuch, HasReadCause, asked_at_once};
@@ -64,6 +64,8 @@ impl Reader {
         // or the source, as far as it tells, gave nothing.
         ensures few { OnOk result (length self.new.bytes < READ_MAX) }
         ensures brief { GivesAtMost (asked_at_once self.old.spare) (I.left source.old) (I.left source.new) (I.last_read source.old) (I.last_read source.new) }
+        // Nor did a read of it that didn't fail ask for more at once.
+        ensures asked { I.most_asked source.new ≤ max (I.most_asked source.old) (asked_at_once self.old.spare) }
         // No item was whole where reading ended, and the source gave no more than it may, or one byte more, which came alone.
         ensures early { IfErr result (EndsBeforeItem (I.left source.old) (I.left source.new) (I.last_read source.new) self.old) }
         ensures long { result ≡ Err InputTooLong → GivesTooMuch (I.left source.old) (I.left source.new) (I.last_read source.new) self.old }

@@ -11,6 +11,7 @@ use wumpus_run::run;
 struct Pieces {
     plain: PlainSource,
     most: usize,
+    most_asked: usize,
     ghost some: { 1 ≤ most },
 }
 
@@ -21,9 +22,12 @@ impl Source for Pieces {
 
     ghost last_read = { λ s. s.plain.last_read };
 
+    ghost most_asked = { λ s. s.most_asked };
+
     ghost faults = { λ _. 0 };
 
     fn read(&mut self, buf: &mut [u8]) -> Result<usize, Failed> {
+        self.most_asked = self.most_asked.max(buf.len());
         let room = buf.len().min(self.most);
         self.most = if self.most < 7 { self.most + 1 } else { 1 };
         self.plain.read(&mut buf[..room])
@@ -34,7 +38,11 @@ impl Source for Pieces {
 pub fn output(alloc: Global, most: &str, field: &str) -> Result<String, NoAnswer> {
     let most = number(most)?.max(1) as usize;
     let plain = PlainSource::new(script(alloc, field)?);
-    let mut source = Pieces { plain, most };
+    let mut source = Pieces {
+        plain,
+        most,
+        most_asked: 0,
+    };
     let mut sink = MemSink::new(alloc, Vec::new(alloc));
     let mut store = PlainStore::new(alloc);
     let status = run(alloc, &["run"], &mut source, &mut sink, &mut store);

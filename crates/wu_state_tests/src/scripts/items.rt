@@ -28,6 +28,7 @@ fn read_in_pieces(alloc: Global, script: &[u8], most: u64) -> Result<String, NoA
     let mut source = Trickle {
         plain,
         most: most as usize,
+        most_asked: 0,
     };
     words_of_items(alloc, &mut source, INPUT_MAX)
 }

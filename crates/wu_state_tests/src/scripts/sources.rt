@@ -12,6 +12,7 @@ use wu_script::{Command, Item, ReadEnd, Reader, Why};
 pub struct Trickle {
     pub plain: PlainSource,
     pub most: usize,
+    pub most_asked: usize,
 }
 
 impl Source for Trickle {
@@ -21,9 +22,12 @@ impl Source for Trickle {
 
     ghost last_read = { λ s. s.plain.last_read };
 
+    ghost most_asked = { λ s. s.most_asked };
+
     ghost faults = { λ _. 0 };
 
     fn read(&mut self, buf: &mut [u8]) -> Result<usize, Failed> {
+        self.most_asked = self.most_asked.max(buf.len());
         let room = self.most.max(1).min(buf.len());
         self.plain.read(&mut buf[..room])
     }
@@ -43,6 +47,8 @@ impl Source for Noting {
     ghost ended = { λ s. s.plain.ended };
 
     ghost last_read = { λ s. s.plain.last_read };
+
+    ghost most_asked = { λ s. s.plain.most_asked };
 
     ghost faults = { λ _. 0 };
 

@@ -1,10 +1,10 @@
-use Rattle.std.proofs.Common.{◌++◌, ◌<◌, [], refl, Ok, length, take, ap, ◌∙◌, append_assoc, append-nil, length-append, sym, arith}
+use Rattle.std.proofs.Common.{◌++◌, ◌<◌, ◌≤◌, max, [], refl, Ok, length, take, ap, ◌∙◌, append_assoc, append-nil, length-append, sym, arith}
 use Rattle.std.proofs.lemmas.List.{length-take}
 use Rattle.wu_script.specs.Holding.{Held, GivesAtMost, asked_at_once}
 use Rattle.wu_script.specs.declared.ends.ReadEnd.TheVariants.{NoMemory}
 use Rattle.wu_script.proofs.InputLemmas.{Uses-none, Uses-filled, part_taken, part_follows}
 use Rattle.wu_script.proofs.EarlyEndLemmas.{UsesShort, EndsEarly-filling, EndsEarly-filled, IsCounted-after, cause_of}
-use Rattle.wu_script.proofs.ReadLemmas.{GivesAtMost-none, GivesAtMost-then}
+use Rattle.wu_script.proofs.ReadLemmas.{GivesAtMost-none, GivesAtMost-then, asked_then}
 use Rattle.wu_script.proofs.bodies.take_bytes.Given as given
 use Rattle.wu_script.proofs.bodies.take_bytes.Goals as goal
 use Rattle.wu_script.proofs.bodies.take_bytes.Goals.{After-fill}
@@ -32,6 +32,7 @@ parts-init g c = record {
   follows = c.requires;
   brief =
       GivesAtMost-none (asked_at_once c.args.input.now.spare) (g.I.Source.left c.args.source.now) (g.I.Source.last_read c.args.source.now);
+  asked = omega arith;
   unkept = λ e. refl;
   steady = refl;
   still = λ all. (refl, all);
@@ -49,6 +50,13 @@ filled g c few =
     GivesAtMost-then c.args.input.now.spare c.parts.input.spare (left c.args.source.now) (left c.parts.source) (left c.fill.new.source)
     (last_read c.args.source.now) (last_read c.parts.source) (last_read c.fill.new.source)
     (omega (arith, c.parts.invariant.so_far.1.counted)) c.parts.invariant.brief few
+
+asked : (g : given.Over) (c : After-fill g)
+    → g.I.Source.most_asked c.fill.new.source ≤ max (g.I.Source.most_asked c.parts.source) (asked_at_once c.parts.input.spare)
+    → g.I.Source.most_asked c.fill.new.source ≤ max (g.I.Source.most_asked c.args.source.now) (asked_at_once c.args.input.now.spare)
+asked g c = asked_then c.args.input.now.spare c.parts.input.spare (g.I.Source.most_asked c.args.source.now)
+    (g.I.Source.most_asked c.parts.source) (g.I.Source.most_asked c.fill.new.source)
+    (omega (arith, c.parts.invariant.so_far.1.counted)) c.parts.invariant.asked
 
 pub parts-preserved : goal.parts-preserved
 parts-preserved g c =
@@ -69,6 +77,7 @@ parts-preserved g c =
       follows = part_follows (g.I.Source.ended c.fill.new.source)
           (g.I.Source.last_read c.fill.new.source) n c.fill.new.self c.take_part.new.input c.in-Ok-true.ensures.follows c.in_ok-part.ensures.rest;
       brief = filled g (goal.at.parts-preserved g c).After-fill c.in-Ok-true.ensures.brief;
+      asked = asked g (goal.at.parts-preserved g c).After-fill c.in-Ok-true.ensures.asked;
       unkept = λ e. c.take_part.ensures.unkept e ∙ c.parts.invariant.unkept e;
       steady = c.in-Ok-true.ensures.cause ∙ c.parts.invariant.steady;
       still = λ all.
@@ -134,3 +143,15 @@ returns-in_err-part-clause-brief g c = filled g (goal.at.returns-in_err-part-cla
 
 pub returns-clause-brief : goal.returns-clause-brief
 returns-clause-brief g c = c.parts.invariant.brief
+
+pub returns-in-Ok-false-clause-asked : goal.returns-in-Ok-false-clause-asked
+returns-in-Ok-false-clause-asked g c = asked g (goal.at.returns-in-Ok-false-clause-asked g c).After-fill c.in-Ok-false.ensures.asked
+
+pub returns-in-Err-clause-asked : goal.returns-in-Err-clause-asked
+returns-in-Err-clause-asked g c = asked g (goal.at.returns-in-Err-clause-asked g c).After-fill c.in-Err.ensures.asked
+
+pub returns-in_err-part-clause-asked : goal.returns-in_err-part-clause-asked
+returns-in_err-part-clause-asked g c = asked g (goal.at.returns-in_err-part-clause-asked g c).After-fill c.in-Ok-true.ensures.asked
+
+pub returns-clause-asked : goal.returns-clause-asked
+returns-clause-asked g c = c.parts.invariant.asked

@@ -9,7 +9,7 @@ use Rattle.wu_script.specs.declared.items.Heard.TheVariants as heard
 use Rattle.wu_script.proofs.InputLemmas.{Uses-trans}
 use Rattle.wu_script.proofs.LineLemmas.{one_line, kept_whole, kept_long, nothing_used}
 use Rattle.wu_script.proofs.EarlyEndLemmas.{EndsEarly-memory, EndsEarly-also, EndsEarly-after, Uses-first_of, if_end}
-use Rattle.wu_script.proofs.ReadLemmas.{GivesAtMost-then}
+use Rattle.wu_script.proofs.ReadLemmas.{GivesAtMost-then, asked_then}
 use Rattle.wu_script.proofs.UnclosedLemmas.{one_line-take, line_open, closed_feed, head_open, headed_open, body_held, closing_recent}
 use Rattle.wu_script.proofs.ItemLemmas.{long_item, heard_as, heard_item, head_says, head_item, item_before_end}
 use Rattle.wu_script.proofs.items.take_item.Given as given
@@ -144,3 +144,15 @@ returns-in-Ok-clause-brief g c =
     GivesAtMost-then c.args.input.now.spare c.take_line.new.input.spare (left c.args.source.now) (left c.take_line.new.source)
     (left c.take_text.new.source) (last_read c.args.source.now) (last_read c.take_line.new.source) (last_read c.take_text.new.source)
     (omega (arith, c.in_ok-cut.ensures.taken.1.uses.counted)) c.in_ok-cut.ensures.brief c.in-Ok.ensures.brief
+
+pub returns-in-Err-clause-asked : goal.returns-in-Err-clause-asked
+returns-in-Err-clause-asked g c =
+    let most_asked = g.I.Source.most_asked in
+    asked_then c.args.input.now.spare c.take_line.new.input.spare (most_asked c.args.source.now) (most_asked c.take_line.new.source)
+    (most_asked c.take_text.new.source) (omega (arith, c.in_ok-cut.ensures.taken.1.uses.counted)) c.in_ok-cut.ensures.asked c.in-Err.ensures.asked
+
+pub returns-in-Ok-clause-asked : goal.returns-in-Ok-clause-asked
+returns-in-Ok-clause-asked g c =
+    let most_asked = g.I.Source.most_asked in
+    asked_then c.args.input.now.spare c.take_line.new.input.spare (most_asked c.args.source.now) (most_asked c.take_line.new.source)
+    (most_asked c.take_text.new.source) (omega (arith, c.in_ok-cut.ensures.taken.1.uses.counted)) c.in_ok-cut.ensures.asked c.in-Ok.ensures.asked

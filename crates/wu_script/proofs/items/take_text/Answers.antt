@@ -6,7 +6,7 @@ use Rattle.wu_script.proofs.InputLemmas.{Uses-trans}
 use Rattle.wu_script.proofs.EarlyEndLemmas.{EndsEarly-after}
 use Rattle.wu_script.proofs.UnclosedLemmas.{tail_held, closed_body, text_open-body, text_open-line}
 use Rattle.wu_script.proofs.ItemLemmas.{taken_body}
-use Rattle.wu_script.proofs.ReadLemmas.{GivesAtMost-then}
+use Rattle.wu_script.proofs.ReadLemmas.{GivesAtMost-then, asked_then}
 use Rattle.wu_script.proofs.items.take_text.Goals as goal
 
 pub returns-clause-taken : goal.returns-clause-taken
@@ -86,3 +86,15 @@ returns-clause-brief g c =
     GivesAtMost-then c.args.input.now.spare c.take_bytes.new.input.spare (left c.args.source.now) (left c.take_bytes.new.source)
     (left c.take_line.new.source) (last_read c.args.source.now) (last_read c.take_bytes.new.source) (last_read c.take_line.new.source)
     (omega (arith, c.in_ok-all.ensures.taken.1.uses.counted)) c.in_ok-all.ensures.brief c.in-Ok.ensures.brief
+
+pub returns-in-Err-clause-asked : goal.returns-in-Err-clause-asked
+returns-in-Err-clause-asked g c =
+    let most_asked = g.I.Source.most_asked in
+    asked_then c.args.input.now.spare c.take_bytes.new.input.spare (most_asked c.args.source.now) (most_asked c.take_bytes.new.source)
+    (most_asked c.take_line.new.source) (omega (arith, c.in_ok-all.ensures.taken.1.uses.counted)) c.in_ok-all.ensures.asked c.in-Err.ensures.asked
+
+pub returns-clause-asked : goal.returns-clause-asked
+returns-clause-asked g c =
+    let most_asked = g.I.Source.most_asked in
+    asked_then c.args.input.now.spare c.take_bytes.new.input.spare (most_asked c.args.source.now) (most_asked c.take_bytes.new.source)
+    (most_asked c.take_line.new.source) (omega (arith, c.in_ok-all.ensures.taken.1.uses.counted)) c.in_ok-all.ensures.asked c.in-Ok.ensures.asked

@@ -1,9 +1,9 @@
-use Rattle.std.proofs.Common.{◌++◌, refl, ◌∙◌, arith}
+use Rattle.std.proofs.Common.{◌++◌, ◌≤◌, max, refl, ◌∙◌, arith}
 use Rattle.wu_script.specs.Holding.{GivesAtMost, asked_at_once}
 use Rattle.wu_script.specs.Taking.{IsOneLine}
 use Rattle.wu_script.specs.declared.ends.ReadEnd.TheVariants.{NoMemory}
 use Rattle.wu_script.proofs.EarlyEndLemmas.{UsesShort, EndsEarly-filling, EndsEarly-filled, IsCounted-after, cause_of}
-use Rattle.wu_script.proofs.ReadLemmas.{GivesAtMost-then}
+use Rattle.wu_script.proofs.ReadLemmas.{GivesAtMost-then, asked_then}
 use Rattle.wu_script.proofs.UnclosedLemmas.{one_line-take}
 use Rattle.wu_script.proofs.LineLemmas.{one_line, piece_taken, piece_follows, piece_ends, piece_open, feed_held, no_feed_held}
 use Rattle.wu_script.proofs.lines.take_line.Given as given
@@ -52,6 +52,13 @@ filled g c few =
     (last_read c.args.source.now) (last_read c.pieces.source) (last_read c.fill.new.source)
     (omega (arith, c.pieces.invariant.so_far.1.counted)) c.pieces.invariant.brief few
 
+asked : (g : given.Over) (c : After-fill g)
+    → g.I.Source.most_asked c.fill.new.source ≤ max (g.I.Source.most_asked c.pieces.source) (asked_at_once c.pieces.input.spare)
+    → g.I.Source.most_asked c.fill.new.source ≤ max (g.I.Source.most_asked c.args.source.now) (asked_at_once c.args.input.now.spare)
+asked g c = asked_then c.args.input.now.spare c.pieces.input.spare (g.I.Source.most_asked c.args.source.now)
+    (g.I.Source.most_asked c.pieces.source) (g.I.Source.most_asked c.fill.new.source)
+    (omega (arith, c.pieces.invariant.so_far.1.counted)) c.pieces.invariant.asked
+
 pub pieces-preserved : goal.pieces-preserved
 pieces-preserved g c =
     let text = c.pieces.invariant.so_far.0 in
@@ -74,6 +81,7 @@ pieces-preserved g c =
       follows = piece_follows (g.I.Source.ended c.fill.new.source)
           (g.I.Source.last_read c.fill.new.source) c.fill.new.self c.take_piece.new.input c.in_ok-piece.piece.closed piece c.in-Ok-true.ensures.follows taken;
       brief = filled g (goal.at.pieces-preserved g c).After-fill c.in-Ok-true.ensures.brief;
+      asked = asked g (goal.at.pieces-preserved g c).After-fill c.in-Ok-true.ensures.asked;
       steady = c.in-Ok-true.ensures.cause ∙ c.pieces.invariant.steady;
       still = λ feed.
           let still = c.pieces.invariant.still feed in
@@ -148,3 +156,15 @@ returns-then-piece-clause-brief g c = filled g (goal.at.returns-then-piece-claus
 
 pub returns-then-piece-clause-few : goal.returns-then-piece-clause-few
 returns-then-piece-clause-few g c = c.in_ok-piece.ensures.few c.if-piece.true
+
+pub returns-in-Ok-false-clause-asked : goal.returns-in-Ok-false-clause-asked
+returns-in-Ok-false-clause-asked g c = asked g (goal.at.returns-in-Ok-false-clause-asked g c).After-fill c.in-Ok-false.ensures.asked
+
+pub returns-in-Err-clause-asked : goal.returns-in-Err-clause-asked
+returns-in-Err-clause-asked g c = asked g (goal.at.returns-in-Err-clause-asked g c).After-fill c.in-Err.ensures.asked
+
+pub returns-in_err-piece-clause-asked : goal.returns-in_err-piece-clause-asked
+returns-in_err-piece-clause-asked g c = asked g (goal.at.returns-in_err-piece-clause-asked g c).After-fill c.in-Ok-true.ensures.asked
+
+pub returns-then-piece-clause-asked : goal.returns-then-piece-clause-asked
+returns-then-piece-clause-asked g c = asked g (goal.at.returns-then-piece-clause-asked g c).After-fill c.in-Ok-true.ensures.asked

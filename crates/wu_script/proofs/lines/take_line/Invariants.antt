@@ -1,4 +1,4 @@
-use Rattle.std.proofs.Common.{◌≡◌, ◌+◌, ◌==◌, ℕ, true, List, length}
+use Rattle.std.proofs.Common.{◌≡◌, ◌+◌, ◌≤◌, ◌==◌, max, ℕ, true, List, length}
 use Rattle.std.specs.List.{list_any}
 use Rattle.wu_script.specs.Holding.{Uses, Follows, GivesAtMost, asked_at_once}
 use Rattle.wu_script.specs.Taking.{Kept, IsOneLine}
@@ -12,6 +12,7 @@ invariant-pieces g l = record {
   follows : Follows (g.I.Source.ended l.source) (g.I.Source.last_read l.source) l.input;
   brief : GivesAtMost (asked_at_once l.fn.input.spare) (g.I.Source.left l.fn.source) (g.I.Source.left l.source)
       (g.I.Source.last_read l.fn.source) (g.I.Source.last_read l.source);
+  asked : g.I.Source.most_asked l.source ≤ max (g.I.Source.most_asked l.fn.source) (asked_at_once l.fn.input.spare);
   steady : g.I.Source.faults l.source ≡ g.I.Source.faults l.fn.source;
   still : list_any (λ byte. byte == 10) l.fn.input.bytes ≡ true → (l.input ≡ l.fn.input) × (l.source ≡ l.fn.source);
 }
