@@ -15,13 +15,14 @@ use Rattle.wu_parts.specs.Contents.{Contents}
 use Rattle.wu_parts.specs.Flushing.{Flushes, Told}
 use Rattle.wu_parts.specs.Memory.{Gains, HasPostings, Memory}
 use Rattle.wu_parts.specs.Units.{DoUnits, DoesUnit, GoesOn, IsMade, Vanishes}
+use Rattle.wu_query.specs.Records.{Records}
+use Rattle.wu_query.specs.States.{State, IsState}
 use Rattle.wu_engine.specs.Indexing.{Follows, FlushesIfFull, is_stored, terms_after}
 use Rattle.wu_engine.specs.Naming.{AddsNamed, IsNamed}
-use Rattle.wu_engine.specs.Records.{Records}
 use Rattle.wu_engine.specs.SavedStores.{Saves, all_done, remove_blob}
 use Rattle.wu_engine.specs.Saving.{removed_by_save}
 use Rattle.wu_engine.specs.Stands.{IsEngineOf}
-use Rattle.wu_engine.specs.States.{State, IsState, saved_state}
+use Rattle.wu_engine.specs.States.{saved_state}
 use Rattle.wu_engine.proofs.FlushLemmas.{memory_held}
 use Rattle.wu_engine.proofs.IndexLemmas.{postings_gained}
 use Rattle.wu_engine.proofs.NamedBlobs.{KeepsNames, save_names}

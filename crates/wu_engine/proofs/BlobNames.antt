@@ -23,7 +23,8 @@ use Rattle.wu_layout.proofs.EntryLemmas.{none_after_removal}
 use Rattle.wu_layout.proofs.HomeLemmas.{parts_split}
 use Rattle.wu_layout.proofs.TextLemmas.{entry_for}
 use Rattle.wu_image.proofs.RuleLemmas.{sum_of_map}
-use Rattle.wu_engine.specs.States.{State, IsState, after_event, indexed, layout_after, layout_with, layout_without}
+use Rattle.wu_query.specs.States.{State, IsState, indexed}
+use Rattle.wu_engine.specs.States.{after_event, layout_after, layout_with, layout_without}
 use Rattle.wu_engine.proofs.FileChanges.{ChangesFiles, changes}
 use Rattle.wu_engine.proofs.KeptStates.{after_cases}
 use Rattle.wu_engine.proofs.StateLayouts.{left_kept, made_absent, made_kept}

@@ -22,10 +22,10 @@ use Rattle.wu_image.specs.Breakage.{HasBrokenPart, IsBrokenCheckpoint, IsBrokenR
 use Rattle.wu_image.specs.Texts.{IsBrokenText}
 use Rattle.wu_image.specs.declared.checkpoints.Checkpoint.{Checkpoint}
 use Rattle.wu_image.specs.declared.roots.Root.{Root}
-use Rattle.wu_engine.specs.Causes.{IsDamagedAt, IsDamagedIn}
+use Rattle.wu_query.specs.Causes.{IsDamagedAt, IsDamagedIn}
+use Rattle.wu_query.specs.Records.{Records}
 use Rattle.wu_engine.specs.Going.{HasBroken, IsSavedPart, IsSoundIn, IsSoundJob, IsSoundOver, IsSoundPart, IsSoundText}
 use Rattle.wu_engine.specs.Opening.{HasCheckpoint, HasOpenRoot, IsDamagedAtOpening}
-use Rattle.wu_engine.specs.Records.{Records}
 
 module _ (start content : Content) (blob : ℕ) where
   -- a text

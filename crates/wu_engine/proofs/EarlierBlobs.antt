@@ -11,11 +11,11 @@ use Rattle.wu_parts.specs.Memory.{HasPostings}
 use Rattle.wu_image.specs.declared.roots.Root.{Root}
 use Rattle.wu_image.specs.Roots.{SpellsRoot}
 use Rattle.wu_image.proofs.RootLemmas.{same_root}
+use Rattle.wu_query.specs.Records.{Records}
 use Rattle.wu_engine.specs.Earlier.{IsAsItWasOrGone, LeavesEarlier}
 use Rattle.wu_engine.specs.Opened.{FindsRoot}
 use Rattle.wu_engine.specs.Opening.{HasRoot}
 use Rattle.wu_engine.specs.Puts.{MayPut}
-use Rattle.wu_engine.specs.Records.{Records}
 use Rattle.wu_engine.specs.Saving.{removed_by_save}
 use Rattle.wu_engine.specs.SavedStores.{IsFlushed, IsPrepared, Saves, SomeDone, StopsSave, remove_blob, with_checkpoint, with_new_root}
 use Rattle.wu_engine.specs.Stands.{KeepsOthers}

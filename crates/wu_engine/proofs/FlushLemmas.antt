@@ -23,10 +23,12 @@ use Rattle.wu_parts.specs.Holdings.{HoldParts}
 use Rattle.wu_parts.specs.Memory.{HasPostings}
 use Rattle.wu_parts.specs.Working.{Tells, TellsParts}
 use Rattle.wu_parts.proofs.KeptJobs.{tells_flushed}
+use Rattle.wu_query.specs.Records.{Records}
+use Rattle.wu_query.specs.Searched.{HoldsTexts, KeepsBlocks}
+use Rattle.wu_query.specs.States.{State, Texts, IsState}
 use Rattle.wu_engine.specs.Indexing.{FlushesFull, FlushesIfFull}
-use Rattle.wu_engine.specs.Records.{Records}
-use Rattle.wu_engine.specs.Stands.{HoldsTexts, IsEngineOf, KeepsBlocks, KeepsJob}
-use Rattle.wu_engine.specs.States.{State, Texts, IsState, flushed_if_full, flushed_state}
+use Rattle.wu_engine.specs.Stands.{IsEngineOf, KeepsJob}
+use Rattle.wu_engine.specs.States.{flushed_if_full, flushed_state}
 use Rattle.wu_engine.proofs.FlushedStates.{flushed_kept}
 use Rattle.wu_engine.proofs.HeldParts.{blocks_stay, put_agrees, texts_stay}
 use Rattle.wu_engine.proofs.StoredTexts.{blobs_below}

@@ -5,7 +5,8 @@ use Rattle.wu_layout.specs.Layouts.{Layout, ranges_of}
 use Rattle.wu_layout.specs.Postings.{Posting, live_of}
 use Rattle.wu_layout.specs.Steps.{flush, flush_if_full, flushed}
 use Rattle.wu_layout.proofs.Flushes.{layout_after_flush, layout_after_full}
-use Rattle.wu_engine.specs.States.{State, IsState, flushed_if_full, flushed_state}
+use Rattle.wu_query.specs.States.{State, IsState}
+use Rattle.wu_engine.specs.States.{flushed_if_full, flushed_state}
 
 pub flushed_kept : (s : State) → IsState s → IsState (flushed_state s)
 flushed_kept s is = record {

@@ -21,11 +21,11 @@ use Rattle.wu_image.specs.declared.checkpoints.Checkpoint.{Checkpoint}
 use Rattle.wu_image.specs.declared.records.FileRec.{FileRec}
 use Rattle.wu_image.specs.declared.roots.Root.{Root}
 use Rattle.wu_image.specs.LayoutRules.{AreLayoutRules, named_blobs}
+use Rattle.wu_query.specs.Records.{Records}
 use Rattle.wu_engine.specs.declared.engines.Engine.{Engine}
 use Rattle.wu_engine.specs.Going.{Goes, HasSaved, IsSoundIn, IsSoundPart, IsSoundText, entries_of, entry_for}
 use Rattle.wu_engine.specs.Opened.{IsEngineFor, IsFirstEngine, numbered}
 use Rattle.wu_engine.specs.Opening.{HasCheckpoint, HasOpenRoot, HasRoot}
-use Rattle.wu_engine.specs.Records.{Records}
 use Rattle.wu_engine.proofs.GoingUnits.{named_by_blobs, named_by_parts}
 use Rattle.wu_engine.proofs.OpenedStates.{its_load}
 use Rattle.wu_engine.proofs.SavedBlobs.{times, times-positive}

@@ -16,8 +16,8 @@ use Rattle.wu_parts.proofs.HeldParts.{put_elsewhere}
 use Rattle.wu_parts.proofs.KeptJobs.{SameBlob, right_stays}
 use Rattle.wu_image.specs.Texts.{IsBrokenText}
 use Rattle.wu_image.specs.declared.records.FileRec.{FileRec}
+use Rattle.wu_query.specs.Records.{Records}
 use Rattle.wu_engine.specs.Going.{IsSavedText, IsSavedPart, IsSoundIn, IsSoundJob, IsSoundPart, IsSoundText, entries_of, entry_for}
-use Rattle.wu_engine.specs.Records.{Records}
 
 -- ---- the blobs that are named
 

@@ -23,10 +23,10 @@ use Rattle.wu_parts.specs.Memory.{HasPostings, Memory, emptied}
 use Rattle.wu_parts.specs.Units.{bare, bares}
 use Rattle.wu_parts.proofs.HeldParts.{put_there}
 use Rattle.wu_parts.proofs.RunningJobs.{running_more, zip-append}
+use Rattle.wu_query.specs.Records.{Records, recorded_ranges}
 use Rattle.wu_engine.specs.declared.engines.Engine.{Engine}
 use Rattle.wu_engine.specs.Going.{Goes, IsSoundIn, IsSoundJob, IsSoundOver, IsSoundPart, entries_of}
 use Rattle.wu_engine.specs.Indexing.{Follows, FlushesIfFull, catalog_of, drawn_for, is_stored, stored_at, terms_after, without_file}
-use Rattle.wu_engine.specs.Records.{Records, recorded_ranges}
 use Rattle.wu_engine.proofs.GoingBlobs.{sound_after_put}
 use Rattle.wu_engine.proofs.GoingRecords.{IsSoundCatalog, catalog_followed}
 use Rattle.wu_engine.proofs.IndexLemmas.{postings_gained}

@@ -19,9 +19,9 @@ use Rattle.wu_layout.proofs.BlobLemmas.{blobs_after_place, blobs_after_release}
 use Rattle.wu_space.specs.Addresses.{Addresses, Ranges, range_of}
 use Rattle.wu_image.specs.Texts.{IsBrokenText}
 use Rattle.wu_image.specs.declared.records.FileRec.{FileRec}
+use Rattle.wu_query.specs.Records.{Records, recorded_ranges}
 use Rattle.wu_engine.specs.Going.{IsSavedText, IsSoundText, entries_of, entry_for}
 use Rattle.wu_engine.specs.Indexing.{Catalog, blob_for, blob_of, catalog_after, catalog_made, catalog_with, catalog_without, is_stored, record_for, space_made, without_file}
-use Rattle.wu_engine.specs.Records.{Records, recorded_ranges}
 use Rattle.wu_engine.proofs.KeptStates.{none-stored}
 use Rattle.wu_engine.proofs.NumberedEntries.{none-removed}
 use Rattle.wu_engine.proofs.RecordLemmas.{ranges-with, ranges-without}

@@ -11,8 +11,8 @@ use Rattle.wu_parts.specs.Contents.{Contents}
 use Rattle.wu_parts.specs.Flushing.{Told}
 use Rattle.wu_parts.specs.Memory.{HasPostings}
 use Rattle.wu_parts.specs.Units.{bares}
+use Rattle.wu_query.specs.Records.{Records}
 use Rattle.wu_engine.specs.Going.{IsSoundIn, IsSoundOver, entries_of}
-use Rattle.wu_engine.specs.Records.{Records}
 use Rattle.wu_engine.specs.Saving.{removed_by_save}
 use Rattle.wu_engine.specs.SavedStores.{Saves, all_done, remove_blob}
 use Rattle.wu_engine.proofs.GoingBlobs.{sound_stays}

@@ -23,8 +23,8 @@ use Rattle.wu_parts.proofs.HeldParts.{put_there, zip-drop, zip-take}
 use Rattle.wu_parts.proofs.LayoutUnits.{if_told}
 use Rattle.wu_parts.proofs.RunningJobs.{running_later, zip-append}
 use Rattle.wu_parts.proofs.UnitChains.{right_next}
+use Rattle.wu_query.specs.Records.{Records}
 use Rattle.wu_engine.specs.Going.{IsSoundIn, IsSoundJob, IsSoundOver, IsSoundPart, entries_of}
-use Rattle.wu_engine.specs.Records.{Records}
 use Rattle.wu_engine.proofs.GoingBlobs.{blobs_drawn, sound_after_put}
 
 -- ---- how often blobs are named

@@ -9,8 +9,8 @@ use Rattle.wu_layout.proofs.EntryLemmas.{IfSome-map2}
 use Rattle.wu_lists.specs.declared.blocks.Block.{Block}
 use Rattle.wu_lists.specs.Blocks.{bytes_of}
 use Rattle.wu_lists.specs.Keeping.{Kept}
-use Rattle.wu_engine.specs.States.{Texts, text_in}
-use Rattle.wu_engine.specs.Stands.{HoldsTexts, KeepsBlocks}
+use Rattle.wu_query.specs.States.{Texts, text_in}
+use Rattle.wu_query.specs.Searched.{HoldsTexts, KeepsBlocks}
 
 -- ---- what has the same blobs below a number
 

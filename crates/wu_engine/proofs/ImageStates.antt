@@ -23,12 +23,13 @@ use Rattle.wu_image.specs.Checkpoints.{SpellsCheckpoint}
 use Rattle.wu_image.specs.Images.{HasSaved, HoldsText, IsCheckpointOf, IsFirst, IsImage, IsSaved}
 use Rattle.wu_image.proofs.ListedLemmas.{same_checkpoint}
 use Rattle.wu_image.proofs.RootLemmas.{same_root}
+use Rattle.wu_query.specs.Records.{Records, record_of, records_of}
+use Rattle.wu_query.specs.Searched.{HoldsTexts, KeepsBlocks}
+use Rattle.wu_query.specs.States.{State, Texts, text_in}
 use Rattle.wu_engine.specs.declared.engines.Engine.{Engine}
 use Rattle.wu_engine.specs.Opened.{FindsRoot, IsEngineFor, IsFirstEngine, numbered, ranges_recorded}
 use Rattle.wu_engine.specs.Opening.{HasCheckpoint, HasOpenRoot, HasRoot, HoldsImage, IsDamagedAtOpening}
-use Rattle.wu_engine.specs.Records.{Records, record_of, records_of}
-use Rattle.wu_engine.specs.Stands.{HoldsTexts, KeepsBlocks, KeepsJob, Stands}
-use Rattle.wu_engine.specs.States.{State, Texts, text_in}
+use Rattle.wu_engine.specs.Stands.{KeepsJob, Stands}
 use Rattle.wu_engine.proofs.FlushLemmas.{no_job, nothing_held, nothing_kept}
 use Rattle.wu_engine.proofs.OpenedParts.{none_broken, opened_held}
 

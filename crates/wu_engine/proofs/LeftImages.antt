@@ -8,12 +8,12 @@ use Rattle.wu_outside.specs.Surviving.{IsLeft, Leaves, LeavesNow, NamesOnly}
 use Rattle.wu_outside.proofs.Survival.{Ignores, kept, leaves_then, left_now, more_now, put_leaves, strays, sync_leaves, synced}
 use Rattle.wu_parts.specs.Working.{MayChange}
 use Rattle.wu_image.proofs.ImageLemmas.{image_kept}
+use Rattle.wu_query.specs.States.{State}
 use Rattle.wu_engine.specs.Crashes.{IsImageOf, IsSavedLast}
 use Rattle.wu_engine.specs.Naming.{IsNamed}
 use Rattle.wu_engine.specs.Opening.{HoldsImage}
 use Rattle.wu_engine.specs.Puts.{try_put, MayTryPut, MayTryPuts}
 use Rattle.wu_engine.specs.Stands.{Stands}
-use Rattle.wu_engine.specs.States.{State}
 use Rattle.wu_engine.specs.declared.engines.Engine.{Engine}
 
 -- ---- images

@@ -11,9 +11,10 @@ use Rattle.wu_layout.specs.Invariants.{times_named}
 use Rattle.wu_layout.specs.Steps.{flush, flushed, rest, work}
 use Rattle.wu_layout.proofs.BlobLemmas.{count-append, count-cons, once_other}
 use Rattle.wu_parts.specs.Contents.{Contents}
+use Rattle.wu_query.specs.States.{State, IsState}
 use Rattle.wu_engine.specs.Naming.{AddsNamed, HasNoStray, IsNamed}
 use Rattle.wu_engine.specs.Saving.{AreRemoved, checkpoint_blob, removed_by_save}
-use Rattle.wu_engine.specs.States.{State, IsState, after_event, flushed_state, saved_state, worked_state}
+use Rattle.wu_engine.specs.States.{after_event, flushed_state, saved_state, worked_state}
 use Rattle.wu_engine.proofs.SavedContents.{checkpoint_count}
 use Rattle.wu_engine.proofs.BlobNames.{IsCounted, NamesOn, drawn_by_save, named_by_save, names_event, names_flush, names_work}
 

@@ -13,11 +13,11 @@ use Rattle.wu_parts.specs.Memory.{HasPostings}
 use Rattle.wu_parts.proofs.HeldParts.{put_elsewhere, put_there}
 use Rattle.wu_image.specs.declared.roots.Root.{Root}
 use Rattle.wu_image.specs.Roots.{SpellsRoot}
+use Rattle.wu_query.specs.Records.{Records}
 use Rattle.wu_engine.specs.Earlier.{KeepsCheckpoint, LeavesEarlier}
 use Rattle.wu_engine.specs.Going.{IsSoundIn, IsSoundOver}
 use Rattle.wu_engine.specs.Opening.{HasRoot}
 use Rattle.wu_engine.specs.Puts.{MayPut}
-use Rattle.wu_engine.specs.Records.{Records}
 use Rattle.wu_engine.specs.Saving.{checkpoint_blob, removed_by_save}
 use Rattle.wu_engine.specs.SavedStores.{IsFlushed, IsPrepared, Saves, SomeDone, StopsSave, remove_blob, with_new_root}
 use Rattle.wu_engine.proofs.EarlierBlobs.{saved_earlier, stopped_earlier}

@@ -28,9 +28,9 @@ use Rattle.wu_image.specs.declared.records.FileRec.{FileRec}
 use Rattle.wu_image.specs.Checkpoints.{IsCheckpoint, file_numbers}
 use Rattle.wu_image.specs.LayoutRules.{AreLayoutRules, IsText}
 use Rattle.wu_image.proofs.RuleLemmas.{sum_of_map}
+use Rattle.wu_query.specs.Records.{recorded_ranges}
+use Rattle.wu_query.specs.Soundness.{IsRecord, IsSound}
 use Rattle.wu_engine.specs.Opened.{numbered, ranges_recorded}
-use Rattle.wu_engine.specs.Records.{recorded_ranges}
-use Rattle.wu_engine.specs.Soundness.{IsRecord, IsSound}
 use Rattle.wu_engine.proofs.OpenedParts.{end_below}
 
 -- ---- the files' numbers ascend

@@ -15,14 +15,14 @@ use Rattle.wu_image.specs.declared.roots.Root.{Root}
 use Rattle.wu_image.specs.Breakage.{IsBrokenCheckpoint}
 use Rattle.wu_image.specs.Checkpoints.{SpellsCheckpoint}
 use Rattle.wu_image.proofs.ListedLemmas.{same_checkpoint}
+use Rattle.wu_query.specs.States.{State}
+use Rattle.wu_query.proofs.PermittedBlocks.{reads_joined}
 use Rattle.wu_engine.specs.declared.engines.Engine.{Engine}
 use Rattle.wu_engine.specs.declared.faults.BeginFault.{BeginFault}
 use Rattle.wu_engine.specs.declared.faults.BeginFault.TheVariants as faults
 use Rattle.wu_engine.specs.Opened.{FindsRoot, IsEngineFor, IsFoundIn, IsOf, ReadsCheckpoint}
 use Rattle.wu_engine.specs.Opening.{HasCheckpoint, HasOpenRoot, HoldsImage, IsBeginCause, IsDamagedAtOpening, IsOpen, IsOpeningRange, IsSpentWhere, Opens, ReadsAtOpening, checkpoint_range}
 use Rattle.wu_engine.specs.Stands.{Stands}
-use Rattle.wu_engine.specs.States.{State}
-use Rattle.wu_engine.proofs.PermittedBlocks.{reads_joined}
 use Rattle.wu_engine.proofs.ImageStates.{image_undamaged, saved_stands}
 
 -- ---- the checkpoint

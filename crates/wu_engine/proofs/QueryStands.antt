@@ -6,14 +6,14 @@ use Rattle.wu_outside.specs.declared.ranges.ReadRange.{ReadRange}
 use Rattle.wu_layout.specs.Layouts.{FileEntry}
 use Rattle.wu_lists.specs.Keeping.{Kept}
 use Rattle.wu_ask.specs.Questions.{Question}
+use Rattle.wu_query.specs.Asked.{terms_asked}
+use Rattle.wu_query.specs.Finding.{KeepsTexts}
+use Rattle.wu_query.specs.Reads.{AreTexts, ReadsForQuery, texts_read}
+use Rattle.wu_query.specs.Searched.{HoldsTexts, IsIndexOf, TellsPostings}
+use Rattle.wu_query.specs.States.{State, Texts}
+use Rattle.wu_query.proofs.ToldPostings.{blocks_kept}
 use Rattle.wu_engine.specs.declared.engines.Engine.{Engine}
-use Rattle.wu_engine.specs.Asked.{terms_asked}
-use Rattle.wu_engine.specs.Finding.{KeepsTexts}
-use Rattle.wu_engine.specs.Reads.{AreTexts, ReadsForQuery, texts_read}
-use Rattle.wu_engine.specs.Stands.{HoldsTexts, KeepsJob, Stands}
-use Rattle.wu_engine.specs.States.{State, Texts}
-use Rattle.wu_engine.specs.Searched.{IsIndexOf, TellsPostings}
-use Rattle.wu_engine.proofs.ToldPostings.{blocks_kept}
+use Rattle.wu_engine.specs.Stands.{KeepsJob, Stands}
 
 is_told : (holds : Option Content) (texts : Texts) (files : List (ℕ × FileEntry)) → HoldsTexts holds texts files → IsSome holds
 is_told None texts files held = absurd held

@@ -1,5 +1,5 @@
 -- The records of files, after the record of one is put in or taken out.
-use Rattle.std.proofs.Common.{◌≡◌, ◌≢◌, ℕ, ◌<◌, ◌≤◌, ◌^◌, ◌==◌, Bool, true, false, not, cond, List, [], ◌∷◌, length, refl, ap, sym, ◌∙◌, subst, arith}
+use Rattle.std.proofs.Common.{◌≡◌, ◌≢◌, ℕ, ◌≤◌, ◌==◌, Bool, true, false, not, cond, List, [], ◌∷◌, length, refl, ap, sym, ◌∙◌, arith}
 use Rattle.std.specs.Prelude.{Option, Some, None}
 use Rattle.std.specs.declared.cmp.Ordering.TheVariants.{Less, Equal, Greater}
 use Rattle.std.specs.Ordering.{is_eq, match_ordering, nat_cmp}
@@ -19,24 +19,13 @@ use Rattle.wu_layout.specs.Layouts.{FileEntry, entry_of}
 use Rattle.wu_layout.specs.Steps.{text_blob}
 use Rattle.wu_space.specs.Addresses.{Ranges}
 use Rattle.wu_image.specs.declared.records.FileRec.{FileRec}
-use Rattle.wu_engine.specs.States.{Texts, text_in}
-use Rattle.wu_engine.specs.Records.{Records, record_of, records_of, recorded_ranges}
-use Rattle.wu_engine.specs.Soundness.{IsRecord}
+use Rattle.wu_query.specs.States.{Texts, text_in}
+use Rattle.wu_query.specs.Records.{Records, record_of, records_of, recorded_ranges}
+use Rattle.wu_query.specs.Soundness.{IsRecord}
 use Rattle.wu_engine.specs.Indexing.{Catalog, blob_for, blob_of, record_for, records_with, records_without, catalog_with, catalog_without}
 use Rattle.wu_engine.proofs.StateTexts.{text-there, text-elsewhere}
 
 -- ---- live ranges
-
-recorded-short : (files : Records) → AllByRecursion IsRecord files
-    → AllByRecursion (λ (file : ℕ × Range). file.1.len < 2 ^ 26) (recorded_ranges files)
-recorded-short [] all = tt
-recorded-short (file ∷ files) all = (omega (arith, all.0.tokens, all.0.short), recorded-short files all.1)
-
--- each live range is shorter than a ranking may have units
-pub ranges-short : (files : Records) (ranges : Ranges) → recorded_ranges files ≡ ranges → AllByRecursion IsRecord files
-    → AllByRecursion (λ (file : ℕ × Range). file.1.len < 2 ^ 26) ranges
-ranges-short files ranges same all =
-    subst (AllByRecursion (λ (file : ℕ × Range). file.1.len < 2 ^ 26)) same (recorded-short files all)
 
 module _ (catalog : Catalog) (same : recorded_ranges catalog.files ≡ catalog.space.ranges) where
   pub ranges-without : (o : Option ℕ) → recorded_ranges (catalog_without o catalog).files ≡ (catalog_without o catalog).space.ranges

@@ -9,7 +9,7 @@ use Rattle.wu_layout.specs.Invariants.{BlobsAreDistinct}
 use Rattle.wu_layout.proofs.BlobLemmas.{count-append, count-cons, once, once_other, once_same}
 use Rattle.wu_image.specs.LayoutRules.{named_blobs}
 use Rattle.wu_image.proofs.RuleLemmas.{sum_of_map}
-use Rattle.wu_engine.specs.States.{Texts}
+use Rattle.wu_query.specs.States.{Texts}
 use Rattle.wu_engine.proofs.SavedTexts.{file_records}
 
 -- ---- numbers that are counted

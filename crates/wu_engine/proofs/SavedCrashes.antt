@@ -19,16 +19,17 @@ use Rattle.wu_tree.specs.FileSystems.{FileSystem}
 use Rattle.wu_space.specs.Addresses.{Addresses}
 use Rattle.wu_parts.specs.Contents.{Contents}
 use Rattle.wu_parts.specs.Flushing.{Flushes, Told}
+use Rattle.wu_query.specs.Records.{Records}
+use Rattle.wu_query.specs.States.{State}
 use Rattle.wu_engine.specs.declared.engines.Engine.{Engine}
 use Rattle.wu_engine.specs.Crashes.{IsImageOf, IsImageOfEither, IsSavedLast}
 use Rattle.wu_engine.specs.Naming.{IsNamed}
 use Rattle.wu_engine.specs.Opening.{HoldsImage}
 use Rattle.wu_engine.specs.Puts.{MayTryPut}
-use Rattle.wu_engine.specs.Records.{Records}
 use Rattle.wu_engine.specs.Saving.{checkpoint_blob, removed_by_save}
 use Rattle.wu_engine.specs.SavedStores.{IsFlushed, IsPrepared, Saves, SomeDone, StopsSave, TriesPut, TriesRoot, all_done, remove_blob, try_removal, with_checkpoint, with_new_root}
 use Rattle.wu_engine.specs.Stands.{IsEngineOf, Stands}
-use Rattle.wu_engine.specs.States.{State, flushed_state, rested_state, saved_state}
+use Rattle.wu_engine.specs.States.{flushed_state, rested_state, saved_state}
 use Rattle.wu_engine.proofs.FlushLemmas.{memory_held}
 use Rattle.wu_engine.proofs.LeftImages.{image_ignores, image_strays, tried_put}
 use Rattle.wu_engine.proofs.SavedContents.{all_removed, all_some, others_stay, root_stays, without}

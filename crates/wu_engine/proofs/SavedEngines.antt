@@ -19,15 +19,16 @@ use Rattle.wu_image.specs.Images.{HasSaved, HoldsText, IsImage, IsSaved}
 use Rattle.wu_image.specs.LayoutRules.{AreLayoutRules}
 use Rattle.wu_image.specs.Roots.{SpellsRoot}
 use Rattle.wu_frames.specs.UserFrames.{Kept}
+use Rattle.wu_query.specs.Records.{Records}
+use Rattle.wu_query.specs.Soundness.{IsSound}
+use Rattle.wu_query.specs.States.{State}
 use Rattle.wu_engine.specs.declared.engines.Engine.{Engine}
 use Rattle.wu_engine.specs.Naming.{AddsNamed}
 use Rattle.wu_engine.specs.Opening.{HoldsImage}
-use Rattle.wu_engine.specs.Records.{Records}
 use Rattle.wu_engine.specs.Saving.{AreRemoved, checkpoint_blob, removed_by_save}
 use Rattle.wu_engine.specs.SavedStores.{IsSpelledOf, Saves, all_done, recorded_files, remove_blob, with_drawn}
-use Rattle.wu_engine.specs.Soundness.{IsSound}
 use Rattle.wu_engine.specs.Stands.{IsEngineOf, Stands}
-use Rattle.wu_engine.specs.States.{State, flushed_state, rested_state, saved_state}
+use Rattle.wu_engine.specs.States.{flushed_state, rested_state, saved_state}
 use Rattle.wu_engine.proofs.AddedBlobs.{save_draws, save_named}
 use Rattle.wu_engine.proofs.FlushLemmas.{IsStored, flush_stands, is_told}
 use Rattle.wu_engine.proofs.FlushedStates.{rises-flush}

@@ -21,8 +21,8 @@ use Rattle.wu_part.proofs.ReadingLemmas.{numbers_length}
 use Rattle.wu_parts.specs.Holdings.{HoldParts, HoldsPart}
 use Rattle.wu_image.specs.declared.records.FileRec.{FileRec}
 use Rattle.wu_image.specs.LayoutRules.{IsPart, NeverRise, SpansAscend, lies_in, live_in}
-use Rattle.wu_engine.specs.Records.{record_of}
-use Rattle.wu_engine.specs.States.{Texts}
+use Rattle.wu_query.specs.Records.{record_of}
+use Rattle.wu_query.specs.States.{Texts}
 use Rattle.wu_engine.proofs.SavedTexts.{file_records}
 
 -- ---- the records of parts

@@ -30,9 +30,11 @@ use Rattle.wu_parts.proofs.HeldParts.{parts_below, put_elsewhere, put_there}
 use Rattle.wu_parts.proofs.KeptJobs.{SameBlob, right_stays}
 use Rattle.wu_image.specs.Images.{HoldsText}
 use Rattle.wu_image.specs.Images.{HoldsPart as HoldsSavedPart}
-use Rattle.wu_engine.specs.States.{State, Texts, IsState, flushed_state, rested_state, saved_state, text_in}
-use Rattle.wu_engine.specs.Records.{records_of}
-use Rattle.wu_engine.specs.Stands.{HoldsTexts, KeepsBlocks, KeepsJob}
+use Rattle.wu_query.specs.States.{State, Texts, IsState, text_in}
+use Rattle.wu_query.specs.Records.{records_of}
+use Rattle.wu_query.specs.Searched.{HoldsTexts, KeepsBlocks}
+use Rattle.wu_engine.specs.States.{flushed_state, rested_state, saved_state}
+use Rattle.wu_engine.specs.Stands.{KeepsJob}
 use Rattle.wu_engine.specs.Saving.{checkpoint_blob}
 use Rattle.wu_engine.specs.SavedStores.{recorded_files}
 use Rattle.wu_engine.proofs.FlushedStates.{flushed_kept}

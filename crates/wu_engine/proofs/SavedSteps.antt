@@ -13,7 +13,7 @@ use Rattle.wu_parts.specs.Flushing.{EmptiesMemory, Flushes, Told}
 use Rattle.wu_parts.specs.Memory.{HasPostings}
 use Rattle.wu_image.specs.declared.roots.Root.{Root}
 use Rattle.wu_image.specs.Roots.{SpellsRoot}
-use Rattle.wu_engine.specs.Records.{Records}
+use Rattle.wu_query.specs.Records.{Records}
 use Rattle.wu_engine.specs.Saving.{checkpoint_blob}
 use Rattle.wu_engine.specs.SavedStores.{IsSpelledOf, Saves, all_done, remove_blob, try_removal, with_drawn}
 

@@ -27,8 +27,8 @@ use Rattle.wu_image.specs.declared.records.FileRec.{FileRec}
 use Rattle.wu_image.specs.Checkpoints.{file_numbers}
 use Rattle.wu_image.specs.LayoutRules.{IsText}
 use Rattle.wu_token.specs.Tokens.{tokens_of}
-use Rattle.wu_engine.specs.Records.{record_of, records_of}
-use Rattle.wu_engine.specs.States.{State, IsState, Texts, indexed, text_in}
+use Rattle.wu_query.specs.Records.{record_of, records_of}
+use Rattle.wu_query.specs.States.{State, IsState, Texts, indexed, text_in}
 
 -- the records alone, in the order of their numbers
 abbrev pub file_records : Texts → List (ℕ × FileEntry) → List FileRec

@@ -14,11 +14,11 @@ use Rattle.wu_space.specs.Addresses.{live_total}
 use Rattle.wu_space.proofs.Files.{sum_by-map}
 use Rattle.wu_parts.specs.Contents.{stored_in, stored_in_parts}
 use Rattle.wu_parts.specs.Holdings.{HoldParts}
+use Rattle.wu_query.specs.Records.{Records, record_of}
+use Rattle.wu_query.specs.States.{State}
 use Rattle.wu_engine.specs.declared.engines.Engine.{Engine}
-use Rattle.wu_engine.specs.Records.{Records, record_of}
 use Rattle.wu_engine.specs.Reports.{stat_of}
 use Rattle.wu_engine.specs.Stands.{Stands}
-use Rattle.wu_engine.specs.States.{State}
 
 -- so many parts are held, with so many postings
 pub record AreCounted (records : List PartRec) (parts : List Part) : Type 0 where

@@ -22,8 +22,8 @@ use Rattle.wu_parts.specs.Contents.{Contents}
 use Rattle.wu_parts.specs.Flushing.{EmptiesMemory, Told}
 use Rattle.wu_parts.proofs.Gaining.{end_within}
 use Rattle.wu_frames.specs.UserFrames.{Kept}
-use Rattle.wu_engine.specs.Records.{Records, recorded_ranges}
-use Rattle.wu_engine.specs.Soundness.{IsSound, IsRecord}
+use Rattle.wu_query.specs.Records.{Records, recorded_ranges}
+use Rattle.wu_query.specs.Soundness.{IsSound, IsRecord}
 use Rattle.wu_engine.specs.Stands.{taken_by}
 use Rattle.wu_engine.specs.Indexing.{Follows, IsIndexable, Catalog, KeepsParts, blob_for, drawn_for, catalog_of, catalog_made, catalog_after, catalog_without, terms_given, terms_after, with_file, without_file, space_made, space_after}
 use Rattle.wu_engine.proofs.NumberedEntries.{is_that, has, has-put, has-removed}

@@ -19,10 +19,12 @@ use Rattle.wu_parts.specs.Contents.{Contents}
 use Rattle.wu_parts.specs.Working.{TellsJobs, TellsParts}
 use Rattle.wu_parts.proofs.Gaining.{holds_more}
 use Rattle.wu_parts.proofs.KeptJobs.{tells_with_blob}
+use Rattle.wu_query.specs.States.{State}
+use Rattle.wu_query.specs.Searched.{HoldsTexts, KeepsBlocks}
 use Rattle.wu_engine.specs.declared.engines.Engine.{Engine}
 use Rattle.wu_engine.specs.declared.verdicts.Verdict.TheVariants.{Made, Refused}
-use Rattle.wu_engine.specs.States.{State, flushed_if_full, flushed_state, followed, step, after_event}
-use Rattle.wu_engine.specs.Stands.{HoldsTexts, IsEngineOf, KeepsBlocks, KeepsJob, Stands, verdict_of}
+use Rattle.wu_engine.specs.States.{flushed_if_full, flushed_state, followed, step, after_event}
+use Rattle.wu_engine.specs.Stands.{IsEngineOf, KeepsJob, Stands, verdict_of}
 use Rattle.wu_engine.specs.Indexing.{Catalog, Follows, blob_for, catalog_of, is_stored, stored_at, terms_after}
 use Rattle.wu_engine.proofs.FileChanges.{ChangesFiles}
 use Rattle.wu_engine.proofs.FlushedStates.{rises-flush, rises-full}

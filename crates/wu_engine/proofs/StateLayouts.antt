@@ -13,7 +13,8 @@ use Rattle.wu_layout.specs.Layouts.{Text, Layout}
 use Rattle.wu_layout.specs.Changes.{DiffersAt}
 use Rattle.wu_layout.specs.Invariants.{IsLayoutOf}
 use Rattle.wu_layout.proofs.Updates.{layout_after_release, layout_after_place, layout_after_text, layout_after_other}
-use Rattle.wu_engine.specs.States.{State, Texts, text_in, without_text, with_text, texts_after, indexed, layout_without, layout_with, layout_after}
+use Rattle.wu_query.specs.States.{State, Texts, text_in, indexed}
+use Rattle.wu_engine.specs.States.{without_text, with_text, texts_after, layout_without, layout_with, layout_after}
 use Rattle.wu_engine.proofs.NumberedEntries.{is_that}
 use Rattle.wu_engine.proofs.FileChanges.{ChangesFiles, files_without, files_with, files-after}
 use Rattle.wu_engine.proofs.StateTexts.{text-there, text-elsewhere, text-left}

@@ -17,7 +17,8 @@ use Rattle.wu_tree.proofs.ParentPaths.{other_number, same_number}
 use Rattle.wu_tree.proofs.TreeInvariant.{not_passed}
 use Rattle.wu_tree.proofs.LinkRemovals.{apart_from}
 use Rattle.wu_layout.specs.Layouts.{Layout}
-use Rattle.wu_engine.specs.States.{State, Texts, AreShort, HasTheTexts, first_state, has_text, text_in, without_text, with_text, texts_after}
+use Rattle.wu_query.specs.States.{State, Texts, AreShort, HasTheTexts, has_text, text_in}
+use Rattle.wu_engine.specs.States.{first_state, without_text, with_text, texts_after}
 use Rattle.wu_engine.proofs.NumberedEntries.{is_that, has-put, has-removed, none-removed}
 use Rattle.wu_engine.proofs.FileChanges.{files-after, files-texted}
 

@@ -13,8 +13,9 @@ use Rattle.wu_layout.specs.Layouts.{FileEntry, Layout, Part, entry_of}
 use Rattle.wu_layout.specs.Invariants.{BlobsAreDistinct, times_named}
 use Rattle.wu_layout.proofs.EntryLemmas.{IfSome-same, IfSome-map2, entry_put, others_after_put, none_after_removal, others_after_removal}
 use Rattle.wu_layout.proofs.BlobLemmas.{once_same}
-use Rattle.wu_engine.specs.States.{Texts, text_in, without_text, with_text, layout_without, layout_with, indexed}
-use Rattle.wu_engine.specs.Stands.{HoldsTexts}
+use Rattle.wu_query.specs.States.{Texts, text_in, indexed}
+use Rattle.wu_query.specs.Searched.{HoldsTexts}
+use Rattle.wu_engine.specs.States.{without_text, with_text, layout_without, layout_with}
 use Rattle.wu_engine.specs.Indexing.{is_stored, stored_at}
 use Rattle.wu_engine.proofs.StateTexts.{text-there, text-elsewhere, text-left}
 

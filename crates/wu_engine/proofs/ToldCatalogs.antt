@@ -18,9 +18,10 @@ use Rattle.wu_layout.proofs.EntryLemmas.{none_after_removal}
 use Rattle.wu_layout.proofs.NumberedRanges.{ranges_by_number-put, ranges_by_number-removal}
 use Rattle.wu_layout.proofs.Fetches.{placed-append}
 use Rattle.wu_space.specs.Addresses.{Ranges}
-use Rattle.wu_engine.specs.States.{State, Texts, IsState, texts_after, without_text, with_text, layout_without, layout_with, layout_after}
-use Rattle.wu_engine.specs.Records.{Records, records_of}
-use Rattle.wu_engine.specs.Stands.{HoldsTexts}
+use Rattle.wu_query.specs.States.{State, Texts, IsState}
+use Rattle.wu_query.specs.Records.{Records, records_of}
+use Rattle.wu_query.specs.Searched.{HoldsTexts}
+use Rattle.wu_engine.specs.States.{texts_after, without_text, with_text, layout_without, layout_with, layout_after}
 use Rattle.wu_engine.specs.Indexing.{Catalog, blob_for, blob_left, catalog_after, catalog_made, catalog_with, catalog_without, record_for, stored_at, terms_after, terms_given}
 use Rattle.wu_engine.proofs.FileChanges.{ChangesFiles}
 use Rattle.wu_engine.proofs.StateTexts.{text-left}

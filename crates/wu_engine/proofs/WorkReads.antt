@@ -32,11 +32,12 @@ use Rattle.wu_parts.proofs.HeldParts.{hold-taken, taken_zipped}
 use Rattle.wu_parts.proofs.LayoutUnits.{HasJob, next_job_is}
 use Rattle.wu_parts.proofs.LayoutWork.{tells_work}
 use Rattle.wu_parts.proofs.StartedJobs.{own_number}
+use Rattle.wu_query.specs.Permitted.{IsOneOf, ReadsOnly}
+use Rattle.wu_query.specs.States.{State}
+use Rattle.wu_query.proofs.PermittedBlocks.{each_one}
 use Rattle.wu_engine.specs.declared.engines.Engine.{Engine}
-use Rattle.wu_engine.specs.Permitted.{IsBlockOf, IsBlockOfFirst, IsBlockOfJob, IsOneOf, MayReadForWork, ReadsOnly}
+use Rattle.wu_engine.specs.Permitted.{IsBlockOf, IsBlockOfFirst, IsBlockOfJob, MayReadForWork}
 use Rattle.wu_engine.specs.Stands.{Stands}
-use Rattle.wu_engine.specs.States.{State}
-use Rattle.wu_engine.proofs.PermittedBlocks.{each_one}
 use Rattle.wu_engine.proofs.WorkedStates.{parts_told}
 
 -- ---- a term's blocks

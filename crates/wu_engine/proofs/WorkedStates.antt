@@ -10,10 +10,12 @@ use Rattle.wu_layout.proofs.Units.{layout_after_work}
 use Rattle.wu_parts.specs.Contents.{Contents}
 use Rattle.wu_parts.specs.Memory.{held}
 use Rattle.wu_parts.specs.Working.{ChangesParts, MayChange, Tells, TellsParts}
+use Rattle.wu_query.specs.Records.{records_of}
+use Rattle.wu_query.specs.Searched.{HoldsTexts, KeepsBlocks}
+use Rattle.wu_query.specs.States.{State, IsState}
 use Rattle.wu_engine.specs.declared.engines.Engine.{Engine}
-use Rattle.wu_engine.specs.Records.{records_of}
-use Rattle.wu_engine.specs.Stands.{HoldsTexts, IsEngineOf, KeepsBlocks, KeepsOthers, Stands}
-use Rattle.wu_engine.specs.States.{State, IsState, worked_state}
+use Rattle.wu_engine.specs.Stands.{IsEngineOf, KeepsOthers, Stands}
+use Rattle.wu_engine.specs.States.{worked_state}
 use Rattle.wu_engine.proofs.FlushLemmas.{told_here}
 use Rattle.wu_engine.proofs.HeldParts.{AgreesBelow, blocks_stay, texts_stay}
 use Rattle.wu_engine.proofs.OtherBlobs.{others_put, others_same, others_then, others_wider}

@@ -5,11 +5,11 @@ use Rattle.wu_outside.specs.Content.{Content}
 use Rattle.wu_outside.specs.Crash.{Moments}
 use Rattle.wu_outside.specs.Surviving.{Leaves}
 use Rattle.wu_parts.specs.Contents.{Contents}
+use Rattle.wu_query.specs.States.{State}
 use Rattle.wu_engine.specs.declared.engines.Engine.{Engine}
 use Rattle.wu_engine.specs.Crashes.{IsImageOf, IsSavedLast}
 use Rattle.wu_engine.specs.Going.{Goes}
 use Rattle.wu_engine.specs.Stands.{Stands}
-use Rattle.wu_engine.specs.States.{State}
 
 -- an engine that a trouble ended answers that trouble, and neither the engine nor the store is changed
 abbrev pub AnswersAgain : {T S : Type 0} → Engine → Engine → S → S → Result T Trouble → Type 0

@@ -3,8 +3,8 @@ use Rattle.std.specs.Prelude.{◌⊎◌, ◌≤◌, Option, Some}
 use Rattle.wu_outside.specs.Content.{Content}
 use Rattle.wu_outside.specs.Crash.{Moments}
 use Rattle.wu_outside.specs.Surviving.{LeavesNow}
+use Rattle.wu_query.specs.States.{State}
 use Rattle.wu_engine.specs.Opening.{HoldsImage}
-use Rattle.wu_engine.specs.States.{State}
 
 -- the content is an image of the state
 abbrev pub IsImageOf : State → Content → Type 0

@@ -19,8 +19,8 @@ use Rattle.wu_image.specs.Texts.{IsBrokenText}
 use Rattle.wu_image.specs.declared.checkpoints.Checkpoint.{Checkpoint}
 use Rattle.wu_image.specs.declared.records.FileRec.{FileRec}
 use Rattle.wu_image.specs.declared.roots.Root.{Root}
+use Rattle.wu_query.specs.Records.{Records}
 use Rattle.wu_engine.specs.Opening.{HasCheckpoint, HasRoot}
-use Rattle.wu_engine.specs.Records.{Records}
 use Rattle.wu_engine.specs.declared.engines.Engine.{Engine}
 
 -- ---- what was saved

@@ -14,7 +14,7 @@ use Rattle.wu_parts.specs.Contents.{Contents}
 use Rattle.wu_parts.specs.Flushing.{EmptiesMemory, Flushes, Told}
 use Rattle.wu_parts.specs.Memory.{Gains, HasPostings}
 use Rattle.wu_image.specs.declared.records.FileRec.{FileRec}
-use Rattle.wu_engine.specs.Records.{Records}
+use Rattle.wu_query.specs.Records.{Records}
 
 -- ---- addresses
 

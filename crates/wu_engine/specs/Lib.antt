@@ -1,16 +1,7 @@
--- ---- What a reader of the contracts trusts: the state, what a user sees of it, the answer to her, and the engine
+-- ---- What a reader of the contracts trusts: what an event makes of a state, and the engine
 
 pub mod States
-pub mod View
-pub mod Hits
-pub mod Rankings
-pub mod Answer
-pub mod Asked
-pub mod Reads
-pub mod Records
-pub mod Soundness
 pub mod Stands
-pub mod Searched
 pub mod Reports
 pub mod Causes
 pub mod Opening
@@ -27,6 +18,4 @@ pub mod Earlier
 -- ---- What only private functions and proofs need
 
 pub mod Indexing
-pub mod Units
-pub mod Finding
 pub mod Opened

@@ -11,11 +11,11 @@ use Rattle.wu_image.specs.declared.records.FileRec.{FileRec}
 use Rattle.wu_image.specs.declared.roots.Root.{Root}
 use Rattle.wu_image.specs.Checkpoints.{SpellsCheckpoint}
 use Rattle.wu_image.specs.Roots.{SpellsRoot}
+use Rattle.wu_query.specs.Records.{Records}
 use Rattle.wu_engine.specs.declared.engines.Engine.{Engine}
 use Rattle.wu_engine.specs.declared.faults.BeginFault.{BeginFault}
 use Rattle.wu_engine.specs.declared.faults.BeginFault.TheVariants.{NoMemory, StoreFault, Damaged, Spent}
 use Rattle.wu_engine.specs.Opening.{HasOpenRoot, checkpoint_range, spent_of}
-use Rattle.wu_engine.specs.Records.{Records}
 
 -- ---- the root
 

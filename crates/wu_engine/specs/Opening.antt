@@ -17,9 +17,9 @@ use Rattle.wu_image.specs.declared.roots.Root.{Root}
 use Rattle.wu_image.specs.Breakage.{IsBrokenCheckpoint, IsBrokenRoot}
 use Rattle.wu_image.specs.Images.{IsCheckpointOf, IsImage}
 use Rattle.wu_image.specs.Roots.{SpellsRoot}
+use Rattle.wu_query.specs.States.{State, IsState}
 use Rattle.wu_engine.specs.declared.faults.BeginFault.{BeginFault}
 use Rattle.wu_engine.specs.declared.faults.BeginFault.TheVariants as faults
-use Rattle.wu_engine.specs.States.{State, IsState}
 
 -- the store tells what it holds, and that is an image of the state
 abbrev pub HoldsImage : Option Content → State → Type 0

@@ -5,7 +5,7 @@ use Rattle.wu_base.specs.declared.reports.Worked.{Worked}
 use Rattle.wu_layout.specs.Layouts.{postings_of}
 use Rattle.wu_layout.specs.Steps.{is_idle}
 use Rattle.wu_parts.specs.Working.{answer_of}
-use Rattle.wu_engine.specs.States.{State}
+use Rattle.wu_query.specs.States.{State}
 
 -- Idle exactly where no job is under way and the policy names none, and else Busy
 abbrev pub worked_in : State → Worked

@@ -13,8 +13,8 @@ use Rattle.wu_image.specs.Checkpoints.{SpellsVersion, file_numbers}
 use Rattle.wu_image.specs.LayoutRules.{AreLayoutRules}
 use Rattle.wu_image.specs.Roots.{SpellsRoot}
 use Rattle.wu_image.specs.declared.records.FileRec.{FileRec}
+use Rattle.wu_query.specs.Records.{Records}
 use Rattle.wu_engine.specs.Puts.{MayPut, MayTryPut}
-use Rattle.wu_engine.specs.Records.{Records}
 use Rattle.wu_engine.specs.Saving.{removed_by_save}
 
 -- ---- a step for each of several blobs

@@ -1,8 +1,7 @@
 -- How an engine and its store stand for a state, and what it answers to an event.
 use Rattle.std.specs.Prelude.{◌≡◌, ◌⊎◌, ⊤, ℕ, ◌+◌, ◌<◌, ◌≤◌, Bool, true, false, not, ◌&&◌, nat_lt, List, [], length, Option, None, Some, IfSome, Result, Ok, Err}
-use Rattle.std.specs.List.{AllByRecursion}
 use Rattle.wu_outside.specs.Content.{Content}
-use Rattle.wu_layout.specs.Layouts.{FileEntry, Layout, entry_of, ranges_by_number}
+use Rattle.wu_layout.specs.Layouts.{Layout, ranges_by_number}
 use Rattle.wu_layout.specs.Postings.{addresses_of}
 use Rattle.wu_token.specs.Words.{has_bytes}
 use Rattle.wu_token.specs.Tokens.{tokens_of}
@@ -11,17 +10,17 @@ use Rattle.wu_tree.specs.declared.events.Event.{Event}
 use Rattle.wu_tree.specs.declared.events.Event.TheVariants.{Create, Text}
 use Rattle.wu_tree.specs.declared.events.Refusal.{Refusal}
 use Rattle.wu_space.specs.Addresses.{Addresses}
-use Rattle.wu_lists.specs.Keeping.{AreHeld, Kept}
 use Rattle.wu_parts.specs.Contents.{Contents}
 use Rattle.wu_parts.specs.Holdings.{HoldParts}
 use Rattle.wu_parts.specs.Memory.{held}
 use Rattle.wu_parts.specs.Units.{IsRunning}
 use Rattle.wu_parts.specs.Working.{TellsJobs}
+use Rattle.wu_query.specs.States.{State, IsState}
+use Rattle.wu_query.specs.Records.{Records, records_of}
+use Rattle.wu_query.specs.Searched.{HoldsTexts, KeepsBlocks}
 use Rattle.wu_engine.specs.declared.engines.Engine.{Engine}
 use Rattle.wu_engine.specs.declared.verdicts.Verdict.{Verdict}
 use Rattle.wu_engine.specs.declared.verdicts.Verdict.TheVariants.{Made, Refused}
-use Rattle.wu_engine.specs.States.{State, Texts, IsState, text_in}
-use Rattle.wu_engine.specs.Records.{Records, records_of}
 
 -- Each part of an engine tells the state's. It keeps no text, only where each is.
 pub record IsEngineOf (fs : FileSystem) (addresses : Addresses) (contents : Contents) (records : Records) (s : State) : Type 0 where
@@ -38,18 +37,6 @@ pub record IsEngineOf (fs : FileSystem) (addresses : Addresses) (contents : Cont
   pub memory : (term : List ℕ) → held contents.memory term ≡ addresses_of term s.layout.memory
   pub stored : contents.memory.stored ≡ length s.layout.memory
   pub flushes : contents.flushes ≡ s.layout.flushes
-
--- the store tells what it holds, and that is the text of each file, under the blob that the layout has for it; the empty text is in
--- no blob
-abbrev pub HoldsTexts : Option Content → Texts → List (ℕ × FileEntry) → Type 0
-HoldsTexts None texts files = ⊥
-HoldsTexts (Some content) texts files =
-    (ino : ℕ) → IfSome (entry_of files ino) (λ entry. 0 < entry.blob → content.blobs entry.blob ≡ Some (text_in texts ino))
-
--- Each kept block was read of a blob that was drawn, and is what the content has at its place.
-pub record KeepsBlocks (content : Content) (next_blob : ℕ) (kept : Kept) : Type 0 where
-  pub below : AllByRecursion (λ entry. entry.0.blob < next_blob) kept.entries
-  pub same : (blob : ℕ) (bytes : List ℕ) → content.blobs blob ≡ Some bytes → AreHeld blob bytes kept
 
 -- The job under way is the layout's, as far as it has gone, and the lists that it has made are right by the content. Its parts are some of
 -- those that are kept.

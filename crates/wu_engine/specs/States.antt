@@ -1,39 +1,20 @@
--- The state: a file tree, the texts of its files, and the layout of the index over them.
-use Rattle.std.specs.Prelude.{◌≡◌, ℕ, ◌≤◌, Bool, List, [], length, Option, Some, None, Result, Ok, Err, is_some, unwrap_or}
+-- What an event, a flush, background work and a save make of a state, and the first one.
+use Rattle.std.specs.Prelude.{ℕ, List, [], Option, Some, None, Result, Ok, Err}
 use Rattle.std.specs.Ordering.{nat_cmp}
-use Rattle.std.specs.List.Sorted.{IsStrictlySortedBy}
-use Rattle.std.specs.Map.{keys_of, lookup, remove_entry}
+use Rattle.std.specs.Map.{remove_entry}
 use Rattle.std.specs.BTreeMap.{is_at, insert_entry}
-use Rattle.wu_base.specs.declared.limits.TheConstants.{TEXT_MAX}
-use Rattle.wu_layout.specs.Layouts.{Text, Layout, first_layout}
-use Rattle.wu_layout.specs.Invariants.{IsLayoutOf}
+use Rattle.wu_layout.specs.Layouts.{Layout, first_layout}
 use Rattle.wu_layout.specs.Steps.{release, place, flush, flush_if_full, work, save, rest}
-use Rattle.wu_token.specs.Words.{has_bytes}
-use Rattle.wu_token.specs.Tokens.{tokens_of}
-use Rattle.wu_tree.specs.Rules.{IsTree}
-use Rattle.wu_tree.specs.FileSystems.{FileSystem, root_alone, is_file}
+use Rattle.wu_tree.specs.FileSystems.{FileSystem, root_alone}
 use Rattle.wu_tree.specs.Steps.{step as tree_step}
 use Rattle.wu_tree.specs.declared.events.Event.{Event}
 use Rattle.wu_tree.specs.declared.events.Effect.{Effect}
 use Rattle.wu_tree.specs.declared.events.Refusal.{Refusal}
-
--- texts by the number of their file, in the order of the numbers
-abbrev pub Texts : Type 0
-Texts = List (ℕ × List ℕ)
-
--- a file system, the texts of exactly its files, and how these are indexed
-pub record State : Type 0 where
-  pub tree : FileSystem
-  pub texts : Texts
-  pub layout : Layout
+use Rattle.wu_query.specs.States.{State, Texts, indexed}
 
 -- the root directory alone
 abbrev pub first_state : State
 first_state = record { tree = root_alone; texts = []; layout = first_layout }
-
--- the text of a file, and no text of what is no file
-abbrev pub text_in : Texts → ℕ → List ℕ
-text_in texts ino = unwrap_or (lookup (is_at (nat_cmp ino)) texts) []
 
 -- a file without a text
 abbrev pub without_text : Option ℕ → Texts → Texts
@@ -50,10 +31,6 @@ abbrev pub texts_after : Effect → List ℕ → Texts → Texts
 texts_after effect text texts = with_text effect.texted text (with_text effect.made [] (without_text effect.dropped texts))
 
 -- ---- the index
-
--- what the index is given of a text: its tokens
-abbrev pub indexed : List ℕ → Text
-indexed text = record { terms = tokens_of text; has_bytes = has_bytes text }
 
 abbrev pub layout_without : Option ℕ → Layout → Layout
 layout_without None layout = layout
@@ -117,27 +94,3 @@ saved_state s = record s { layout = save s.layout }
 -- the state as it is opened again: no job is under way
 abbrev pub rested_state : State → State
 rested_state s = record s { layout = rest s.layout }
-
--- ---- what is always true
-
--- no text is longer than a text may be
-abbrev pub AreShort : Texts → Type 0
-AreShort texts = (ino : ℕ) → length (text_in texts ino) ≤ TEXT_MAX
-
--- whether there is a text of that number
-abbrev pub has_text : Texts → ℕ → Bool
-has_text texts ino = is_some (lookup (is_at (nat_cmp ino)) texts)
-
--- the texts of a state are those of its regular files
-pub record HasTheTexts (s : State) : Type 0 where
-  -- their numbers ascend, without repeats
-  pub ascend : IsStrictlySortedBy nat_cmp (keys_of s.texts)
-  -- there is a text of a number exactly where that is the number of a regular file
-  pub files : (ino : ℕ) → has_text s.texts ino ≡ is_file s.tree ino
-
--- what is true of a state at each moment: the rules of the tree, texts of exactly its files, none too long, and all of them indexed
-pub record IsState (s : State) : Type 0 where
-  pub tree : IsTree s.tree
-  pub texts : HasTheTexts s
-  pub short : AreShort s.texts
-  pub layout : IsLayoutOf (is_file s.tree) (λ ino. indexed (text_in s.texts ino)) s.layout

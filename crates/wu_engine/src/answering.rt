@@ -8,23 +8,24 @@ ghost use Rattle.wu_ask.specs.Questions.{question_of, IsSoundAsk};
 ghost use Rattle.wu_base.specs.declared.troubles.Trouble.{Trouble};
 
 use crate::engines::Engine;
-use crate::querying::answered;
 use wu_ask::{Answered, Query};
 use wu_base::{Stat, Trouble};
 use wu_outside::Store;
+use wu_query::answered;
 
 impl Engine {
-    ghost use Rattle.wu_engine.specs.States.{State};
+    ghost use Rattle.wu_query.specs.States.{State};
+    ghost use Rattle.wu_query.specs.Causes.{IsDamagedFor, WasRead};
+    ghost use Rattle.wu_query.specs.View.{view_of};
+    ghost use Rattle.wu_query.specs.Answer.{answer};
+    ghost use Rattle.wu_query.specs.Reads.{AreTexts, ReadsForQuery, texts_read};
     ghost use Rattle.wu_engine.specs.Reports.{stat_of};
     ghost use Rattle.wu_engine.specs.Stands.{Stands};
     ghost use Rattle.wu_engine.specs.Calls.{AnswersAgain, StillGoes};
-    ghost use Rattle.wu_engine.specs.Causes.{HasTroubleCause, IsDamagedFor, WasRead};
-    ghost use Rattle.wu_engine.specs.View.{view_of};
-    ghost use Rattle.wu_engine.specs.Answer.{answer};
-    ghost use Rattle.wu_engine.specs.Reads.{AreTexts, ReadsForQuery, texts_read};
+    ghost use Rattle.wu_engine.specs.Causes.{HasTroubleCause};
     ghost use Rattle.wu_engine.specs.Going.{Goes, HasBroken};
     ghost use Rattle.wu_frames.specs.UserFrames.{HasAsked};
-    ghost use Rattle.wu_engine.specs.Permitted.{AreReadForQuery, ReadsSuch};
+    ghost use Rattle.wu_query.specs.Permitted.{AreReadForQuery, ReadsSuch};
 
     /// Answers a user's query from the index: over her view alone, whatever other files there are. The store
     /// is only read: first those blocks of the query's terms that her frames need and that aren't kept, and

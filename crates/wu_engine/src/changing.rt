@@ -17,7 +17,9 @@ use wu_outside::Store;
 use wu_tree::{Event, effects_tell_files};
 
 impl Engine {
-    ghost use Rattle.wu_engine.specs.States.{State, after_event, flushed_state, step, worked_state};
+    ghost use Rattle.wu_query.specs.States.{State};
+    ghost use Rattle.wu_query.specs.Permitted.{ReadsOnly};
+    ghost use Rattle.wu_engine.specs.States.{after_event, flushed_state, step, worked_state};
     ghost use Rattle.wu_engine.specs.Reports.{worked_in};
     ghost use Rattle.wu_engine.specs.Stands.{KeepsOthers, Stands, leaves_store, taken_by, verdict_of};
     ghost use Rattle.wu_engine.specs.Causes.{HasTroubleCause};
@@ -27,7 +29,7 @@ impl Engine {
     ghost use Rattle.wu_engine.specs.declared.verdicts.Verdict.TheVariants.{Refused};
     ghost use Rattle.wu_engine.specs.Puts.{MayTryPut, MayTryPuts};
     ghost use Rattle.wu_engine.specs.Renewing.{LeavesFrames, touched_of};
-    ghost use Rattle.wu_engine.specs.Permitted.{MayReadForWork, ReadsOnly};
+    ghost use Rattle.wu_engine.specs.Permitted.{MayReadForWork};
 
     /// Applies an event, where `body` is the text that it gives to a file; other events give none. The event
     /// happens or is refused, and a refused event changes nothing in engine and store. A text that isn't empty is

@@ -7,7 +7,7 @@ ghost use Rattle.wu_outside.specs.Crash.{settle};
 ghost use Rattle.wu_outside.specs.Surviving.{IsLeft, Leaves, LeavesNow};
 ghost use Rattle.lru.specs.LruCache.{lru_cache};
 ghost use Rattle.std.specs.Coded.{→_prop};
-ghost use Rattle.wu_engine.specs.Soundness.{IsSound, IsSound-prop};
+ghost use Rattle.wu_query.specs.Soundness.{IsSound, IsSound-prop};
 
 use crate::faults::BeginFault;
 use crate::opening::{open_first, open_root, open_saved};
@@ -42,7 +42,8 @@ pub struct Engine {
 }
 
 impl Engine {
-    ghost use Rattle.wu_engine.specs.States.{State, rested_state, saved_state};
+    ghost use Rattle.wu_query.specs.States.{State};
+    ghost use Rattle.wu_engine.specs.States.{rested_state, saved_state};
     ghost use Rattle.wu_engine.specs.Stands.{Stands};
     ghost use Rattle.wu_engine.specs.Calls.{AnswersAgain, DrawsAtMost, StillGoes};
     ghost use Rattle.wu_engine.specs.Causes.{HasTroubleCause};

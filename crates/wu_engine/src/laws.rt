@@ -7,10 +7,11 @@ ghost use Rattle.wu_outside.specs.Surviving.{Leaves, LeavesNow, NamesOnly};
 ghost use Rattle.wu_outside.specs.declared.traits.Fault.{Fault};
 ghost use Rattle.wu_tree.specs.Steps.{IsEvent};
 ghost use Rattle.wu_tree.specs.declared.events.Event.{Event};
+ghost use Rattle.wu_query.specs.States.{State, IsState};
 ghost use Rattle.wu_engine.specs.Crashes.{IsImageOf};
 ghost use Rattle.wu_engine.specs.Naming.{IsNamed};
 ghost use Rattle.wu_engine.specs.Stands.{taken_by};
-ghost use Rattle.wu_engine.specs.States.{State, IsState, after_event, first_state, flushed_state, worked_state};
+ghost use Rattle.wu_engine.specs.States.{after_event, first_state, flushed_state, worked_state};
 
 /// Each event, accepted or refused, and each flush make a state of a state: the tree keeps its rules, there are
 /// texts of exactly its regular files, none of them too long, and the layout is one of these files and texts.

@@ -3,20 +3,12 @@
 
 mod answering;
 mod changing;
-mod counting;
 mod engines;
 mod faults;
-mod fetching;
-mod finding;
 mod laws;
-mod listing;
 mod opening;
-mod querying;
-mod ranking;
-mod reading;
 mod renewing;
 mod saving;
-mod units;
 mod updating;
 mod verdicts;
 

@@ -10,12 +10,12 @@ ghost use Rattle.wu_outside.specs.Faults.{HasFaultCause};
 ghost use Rattle.wu_space.specs.Addresses.{AreLive};
 ghost use Rattle.wu_parts.specs.Loading.{end_of};
 ghost use Rattle.wu_image.specs.Checkpoints.{IsCheckpoint};
+ghost use Rattle.wu_query.specs.States.{State};
 ghost use Rattle.wu_engine.specs.declared.faults.BeginFault.TheVariants.{Damaged as SavedIsDamaged};
 ghost use Rattle.wu_engine.specs.Going.{Goes};
 ghost use Rattle.wu_engine.specs.Opened.{FindsRoot, HasRoom, IsEngineFor, IsFirstEngine, IsFoundIn, IsGivenRoot, IsOf, IsRootFault, IsSpentBy, ReadsCheckpoint, numbered, ranges_recorded};
 ghost use Rattle.wu_engine.specs.Opening.{HasCheckpoint, HasOpenRoot, HoldsImage, IsBeginCause, IsOpen, IsSpentWhere, ReadsAtOpening, spent_of};
 ghost use Rattle.wu_engine.specs.Stands.{Stands};
-ghost use Rattle.wu_engine.specs.States.{State};
 
 use crate::engines::Engine;
 use crate::faults::BeginFault;

@@ -10,9 +10,9 @@ use Rattle.wu_outside.proofs.Survival.{same_content}
 use Rattle.wu_script.specs.Items.{items_of}
 use Rattle.wu_script.specs.Said.{IsReading, Reading}
 use Rattle.wu_options.specs.declared.command_lines.Settings.{Settings}
+use Rattle.wu_query.specs.States.{State}
 use Rattle.wu_engine.specs.Crashes.{IsImageOf}
 use Rattle.wu_engine.specs.Opening.{HoldsImage}
-use Rattle.wu_engine.specs.States.{State}
 use Rattle.wumpus_run.specs.declared.statuses.Status.{Status}
 use Rattle.wumpus_run.specs.declared.statuses.Status.TheVariants.{Done, Usage, ReadFault, WriteFault, NoMemory, InputTooLong, StoreFault, Damaged, Spent}
 use Rattle.wumpus_run.specs.Crashes.{Acknowledges, IsImageOfOne, IsUnopened, last_save, left_to_next, next_save, saves_of}

@@ -8,7 +8,7 @@ use Rattle.std.proofs.Common.{append-nil}
 use Rattle.std.specs.Option.{option_to_list}
 use Rattle.wu_script.specs.Commands.{Entry}
 use Rattle.wu_script.specs.Said.{Reading, said_of}
-use Rattle.wu_engine.specs.States.{State}
+use Rattle.wu_query.specs.States.{State}
 use Rattle.wumpus_run.specs.Replies.{Rules, output_of, said_bytes, state_after}
 use Rattle.wu_secrecy.specs.Turns.{Turn, asked_by, asked_in, output_in, told_to, turn_of, turns_of}
 use Rattle.wu_secrecy.specs.Answers.{answer_to}

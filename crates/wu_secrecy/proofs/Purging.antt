@@ -6,8 +6,8 @@ use Rattle.wu_script.specs.Commands.{Entry, Asking}
 use Rattle.wu_script.specs.Items.{items_of}
 use Rattle.wu_script.specs.Said.{asked, question_in, said_of}
 use Rattle.wu_script.specs.declared.types.Why.{Why}
-use Rattle.wu_engine.specs.States.{IsState, State}
-use Rattle.wu_engine.specs.View.{Shown, view_of}
+use Rattle.wu_query.specs.States.{IsState, State}
+use Rattle.wu_query.specs.View.{Shown, view_of}
 use Rattle.wumpus_run.specs.Replies.{Rules, after, met}
 use Rattle.wu_secrecy.specs.Turns.{Asked, Turn, asked_by, asked_in, hers, is_asked_by, purged, told_to, turn_of, turns_of}
 use Rattle.wu_secrecy.specs.Answers.{answer_to}

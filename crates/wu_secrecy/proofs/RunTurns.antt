@@ -3,7 +3,7 @@ use Rattle.std.proofs.Common.{◌≡◌, Option, None, Some, refl}
 use Rattle.std.specs.Prelude.{IfSome, IsSome}
 use Rattle.wu_outside.specs.Content.{Content}
 use Rattle.wu_options.specs.declared.command_lines.Settings.{Settings}
-use Rattle.wu_engine.specs.States.{State}
+use Rattle.wu_query.specs.States.{State}
 use Rattle.wumpus_run.specs.declared.statuses.Status.{Status}
 use Rattle.wumpus_run.specs.Permitted.{AnswersInTurn}
 use Rattle.wumpus_run.specs.Session.{Moment}

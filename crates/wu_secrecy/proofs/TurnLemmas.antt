@@ -8,8 +8,8 @@ use Rattle.wu_script.specs.Commands.{Entry, Asking, Wish}
 use Rattle.wu_script.specs.Replies.{reply_bytes}
 use Rattle.wu_script.specs.Said.{Reading, asked, question_in, said_of}
 use Rattle.wu_script.specs.declared.types.Why.{Why}
-use Rattle.wu_engine.specs.States.{State}
-use Rattle.wu_engine.specs.View.{view_of}
+use Rattle.wu_query.specs.States.{State}
+use Rattle.wu_query.specs.View.{view_of}
 use Rattle.wumpus_run.specs.Replies.{Rules, after, output_of, said_bytes}
 use Rattle.wu_secrecy.specs.Turns.{Turn, asked_by, asked_in, hers, is_asked_by, output_in, told_to, turns_of}
 use Rattle.wu_secrecy.specs.Answers.{answer_to, bytes_over, reply_over}

@@ -23,8 +23,9 @@ use Rattle.wu_script.specs.Commands.{Flush, Operation, Save, Stat, Work}
 use Rattle.wu_script.specs.Items.{items_of}
 use Rattle.wu_script.specs.Said.{Asks, Happens, IsRefused, Operates, Reading, Said, SaysNothing, said_of}
 use Rattle.wu_script.proofs.EventLemmas.{TellsEvent, script_tells}
-use Rattle.wu_engine.specs.States.{IsState, State, Texts, after_event, flushed_if_full, text_in, texts_after, with_text, without_text}
-use Rattle.wu_engine.specs.View.{Shown, shown_of, view_of}
+use Rattle.wu_query.specs.States.{IsState, State, Texts, text_in}
+use Rattle.wu_query.specs.View.{Shown, shown_of, view_of}
+use Rattle.wu_engine.specs.States.{after_event, flushed_if_full, texts_after, with_text, without_text}
 use Rattle.wu_engine.proofs.FileChanges.{changes}
 use Rattle.wu_engine.proofs.KeptStates.{after_cases, after_effect}
 use Rattle.wu_engine.proofs.StateTexts.{text-elsewhere, text-left}

@@ -1,8 +1,8 @@
 -- The reply to a query as a function of the query and of a view.
 use Rattle.std.specs.Prelude.{ℕ, List, [], Result, Ok, Err}
 use Rattle.wu_ask.specs.Questions.{Question}
-use Rattle.wu_engine.specs.Answer.{answer}
-use Rattle.wu_engine.specs.View.{Shown}
+use Rattle.wu_query.specs.Answer.{answer}
+use Rattle.wu_query.specs.View.{Shown}
 use Rattle.wu_script.specs.Commands.{Entry, Asking}
 use Rattle.wu_script.specs.Replies.{reply_bytes}
 use Rattle.wu_script.specs.Said.{Reading, question_in}

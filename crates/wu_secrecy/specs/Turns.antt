@@ -3,8 +3,8 @@ use Rattle.std.specs.Prelude.{ℕ, Bool, false, ◌==◌, List, [], ◌∷◌, m
 use Rattle.std.specs.List.{flat_map}
 use Rattle.wu_script.specs.Commands.{Entry, Asking}
 use Rattle.wu_script.specs.Said.{Reading, said_of}
-use Rattle.wu_engine.specs.States.{State}
-use Rattle.wu_engine.specs.View.{Shown, view_of}
+use Rattle.wu_query.specs.States.{State}
+use Rattle.wu_query.specs.View.{Shown, view_of}
 use Rattle.wumpus_run.specs.Replies.{Rules, after, said_bytes}
 
 -- an item of a script, the state that it meets, and the bytes that answer it

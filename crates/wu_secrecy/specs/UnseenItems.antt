@@ -1,7 +1,7 @@
 -- Which items of a script can't change what a user may search.
 use Rattle.std.specs.Prelude.{ℕ}
 use Rattle.wu_script.specs.Said.{Asks, Happens, IsRefused, Operates, Said, SaysNothing}
-use Rattle.wu_engine.specs.States.{State}
+use Rattle.wu_query.specs.States.{State}
 use Rattle.wu_secrecy.specs.Unseen.{IsUnseen}
 
 -- only an event can

@@ -1,7 +1,8 @@
 //! Laws of turns, sessions and histories.
 ghost use Rattle.std.specs.Prelude.{◌≡◌, ℕ, List, [], ◌∷◌, map, codes, Some};
-ghost use Rattle.wu_engine.specs.States.{State, first_state};
-ghost use Rattle.wu_engine.specs.View.{view_of};
+ghost use Rattle.wu_query.specs.States.{State};
+ghost use Rattle.wu_query.specs.View.{view_of};
+ghost use Rattle.wu_engine.specs.States.{first_state};
 ghost use Rattle.wu_script.specs.Commands.{Asking, Entry, Wish};
 ghost use Rattle.wu_script.specs.Said.{Reading, said_of};
 ghost use Rattle.wumpus_run.specs.Replies.{Rules, output_of, said_bytes};

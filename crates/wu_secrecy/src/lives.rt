@@ -1,7 +1,7 @@
 //! The law of lives.
 ghost use Rattle.std.specs.Prelude.{ℕ, List};
+ghost use Rattle.wu_query.specs.States.{State};
 ghost use Rattle.wu_engine.specs.Opening.{HoldsImage};
-ghost use Rattle.wu_engine.specs.States.{State};
 ghost use Rattle.wu_script.specs.Said.{IsReading, Reading};
 ghost use Rattle.wu_secrecy.specs.Histories.{TellAlike, turns_in};
 ghost use Rattle.wu_secrecy.specs.Lives.{History, IsLife, IsRun, Run, Started, SurvivesStop};

@@ -4,7 +4,7 @@ ghost use Rattle.wu_outside.specs.Crash.{Moments};
 ghost use Rattle.wu_script.specs.Said.{Reading};
 ghost use Rattle.wu_options.specs.CommandLines.{texts_of};
 ghost use Rattle.wu_options.specs.declared.command_lines.Settings.{Settings};
-ghost use Rattle.wu_engine.specs.States.{State};
+ghost use Rattle.wu_query.specs.States.{State};
 ghost use Rattle.wumpus_run.specs.Session.{FromImage, moment, settings_of};
 ghost use Rattle.wu_secrecy.specs.Histories.{BeginsAlike, Course, HasCourse, IsCourseOf, TellAlike, session_from};
 ghost use Rattle.wu_secrecy.specs.Lives.{IsRun};

@@ -5,8 +5,8 @@ use Rattle.wu_outside.specs.Content.{Content}
 use Rattle.wu_outside.specs.declared.ranges.ReadRange.{ReadRange}
 use Rattle.wu_script.specs.Items.{items_of}
 use Rattle.wu_options.specs.declared.command_lines.Settings.{Settings}
+use Rattle.wu_query.specs.States.{State}
 use Rattle.wu_engine.specs.Opening.{HoldsImage}
-use Rattle.wu_engine.specs.States.{State}
 use Rattle.wumpus_run.specs.declared.statuses.Status.{Status}
 use Rattle.wumpus_run.specs.Permitted.{AnswersInTurn, ReadsInSession, ReadsPermitted}
 use Rattle.wumpus_run.specs.Replies.{AreRules, Rules}

@@ -19,12 +19,12 @@ use Rattle.wu_script.specs.Items.{IsBeforeEnd, IsFirstItem, IsNext, first_of, it
 use Rattle.wu_script.specs.Said.{IsReading, said_by, said_of}
 use Rattle.wu_script.proofs.ItemListLemmas.{items_of-none}
 use Rattle.wu_options.specs.declared.command_lines.Settings.{Settings}
+use Rattle.wu_query.specs.States.{State}
 use Rattle.wu_engine.specs.Crashes.{IsImageOf, IsImageOfEither, IsSavedLast}
 use Rattle.wu_engine.specs.declared.engines.Engine.{Engine}
 use Rattle.wu_engine.specs.declared.faults.BeginFault.{BeginFault}
 use Rattle.wu_engine.specs.declared.faults.BeginFault.TheVariants as opening
 use Rattle.wu_engine.specs.Stands.{Stands}
-use Rattle.wu_engine.specs.States.{State}
 use Rattle.wumpus_run.specs.Crashes.{Acknowledges, IsImageOfOne, IsUnopened, LeavesAcknowledged, LeavesSaves, Survives}
 use Rattle.wumpus_run.specs.Crashes.{last_or, last_save, left_to_next, next_save, saved_for, saves_of}
 use Rattle.wumpus_run.specs.Replies.{AreRules, Rules, after, output_of, said_bytes, state_after}

@@ -15,10 +15,10 @@ use Rattle.wu_script.specs.Items.{IsBeforeEnd, IsFirstItem, IsNext, first_of, it
 use Rattle.wu_script.specs.Said.{IsReading, Said, said_by, said_of}
 use Rattle.wu_script.proofs.ItemListLemmas.{items_of-some}
 use Rattle.wu_options.specs.declared.command_lines.Settings.{Settings}
+use Rattle.wu_query.specs.States.{State}
 use Rattle.wu_engine.specs.Crashes.{IsImageOf, IsImageOfEither, IsSavedLast}
 use Rattle.wu_engine.specs.declared.engines.Engine.{Engine}
 use Rattle.wu_engine.specs.Stands.{Stands}
-use Rattle.wu_engine.specs.States.{State}
 use Rattle.wu_engine.proofs.OpenedStates.{on_any_ok}
 use Rattle.wumpus_run.specs.Crashes.{IsImageOfOne, last_or, last_save, saved_for, saves_of}
 use Rattle.wu_engine.specs.Calls.{LeavesLast}

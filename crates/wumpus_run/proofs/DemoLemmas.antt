@@ -22,10 +22,11 @@ use Rattle.wu_script.proofs.ItemListLemmas.{items_of-none, items_of-some}
 use Rattle.wu_options.specs.declared.command_lines.CommandLine.{CommandLine}
 use Rattle.wu_options.specs.declared.command_lines.CommandLine.TheVariants.{Run, Demo}
 use Rattle.wu_image.specs.Images.{IsSaved}
+use Rattle.wu_query.specs.States.{State}
 use Rattle.wu_engine.specs.declared.engines.Engine.{Engine}
 use Rattle.wu_engine.specs.Opening.{HoldsImage}
 use Rattle.wu_engine.specs.Stands.{Stands}
-use Rattle.wu_engine.specs.States.{State, first_state}
+use Rattle.wu_engine.specs.States.{first_state}
 use Rattle.wu_engine.proofs.KeptStates.{first_is_state}
 use Rattle.wumpus_run.specs.declared.demo.TheConstants.{SCRIPT_MAX}
 use Rattle.wumpus_run.specs.declared.statuses.Status.{Status}

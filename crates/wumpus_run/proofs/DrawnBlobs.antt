@@ -8,11 +8,11 @@ use Rattle.wu_parts.specs.Contents.{Contents}
 use Rattle.wu_script.specs.Commands.{Save}
 use Rattle.wu_script.specs.Said.{Operates, Said, said_by}
 use Rattle.wu_script.specs.declared.types.Item.{Item}
+use Rattle.wu_query.specs.States.{State, IsState}
 use Rattle.wu_engine.specs.declared.engines.Engine.{Engine}
 use Rattle.wu_engine.specs.Naming.{HasNoStray, IsNamed}
 use Rattle.wu_engine.specs.Saving.{KeepsNamed, removed_by_save}
 use Rattle.wu_engine.specs.Stands.{KeepsOthers, Stands}
-use Rattle.wu_engine.specs.States.{State, IsState}
 use Rattle.wumpus_run.specs.Kept.{AddsDrawnFor}
 use Rattle.wumpus_run.specs.Session.{HasOnlyDrawn, drawn_by}
 use Rattle.wumpus_run.specs.Strays.{AddsDrawn}

@@ -1,11 +1,12 @@
 -- A save leaves no stray blob.
 use Rattle.std.specs.Prelude.{Option}
 use Rattle.wu_outside.specs.Content.{Content}
+use Rattle.wu_query.specs.States.{State}
 use Rattle.wu_engine.specs.declared.engines.Engine.{Engine}
 use Rattle.wu_engine.specs.Naming.{AddsNamed}
 use Rattle.wu_engine.specs.Saving.{AreRemoved, removed_by_save}
 use Rattle.wu_engine.specs.Stands.{Stands}
-use Rattle.wu_engine.specs.States.{State, rested_state, saved_state}
+use Rattle.wu_engine.specs.States.{rested_state, saved_state}
 use Rattle.wu_engine.proofs.NamedBlobs.{no_stray_after_save, no_stray_rested}
 use Rattle.wumpus_run.specs.Strays.{AddsNoStray}
 

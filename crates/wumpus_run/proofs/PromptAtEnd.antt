@@ -14,7 +14,7 @@ use Rattle.wu_script.specs.Items.{whole_items_of, IsBeforeEnd, IsOneItem, TakesI
 use Rattle.wu_script.proofs.ItemListLemmas.{whole_items_of-none}
 use Rattle.wu_script.proofs.ReadLemmas.{GivesAtMost-more, GivesAtMost-none}
 use Rattle.wu_options.specs.declared.command_lines.Settings.{Settings}
-use Rattle.wu_engine.specs.States.{State}
+use Rattle.wu_query.specs.States.{State}
 use Rattle.wumpus_run.specs.Replies.{Rules, output_of}
 use Rattle.wumpus_run.specs.Ended.{status_of}
 use Rattle.wumpus_run.specs.Session.{Moment, AnswersWholeItems, AnswersAllButOneRead, HoldsNothingBack}

@@ -12,8 +12,8 @@ use Rattle.wu_script.specs.Items.{IsBeforeEnd, IsFirstItem, IsNext, first_of, it
 use Rattle.wu_script.specs.Said.{IsReading, Operates, Said, said_by, said_of}
 use Rattle.wu_script.proofs.ItemListLemmas.{items_of-none, items_of-some}
 use Rattle.wu_options.specs.declared.command_lines.Settings.{Settings}
+use Rattle.wu_query.specs.States.{State}
 use Rattle.wu_engine.specs.declared.engines.Engine.{Engine}
-use Rattle.wu_engine.specs.States.{State}
 use Rattle.wu_engine.proofs.NamedBlobs.{no_stray_at_first}
 use Rattle.wumpus_run.specs.Kept.{AddsDrawnFor}
 use Rattle.wumpus_run.specs.Replies.{AreRules, Rules, output_of, said_bytes, state_after}

@@ -21,11 +21,11 @@ use Rattle.wu_script.specs.Items.{IsBeforeEnd, IsFirstItem, IsNext, first_of, it
 use Rattle.wu_script.specs.Said.{IsReading, said_by}
 use Rattle.wu_script.proofs.ItemListLemmas.{items_of-none}
 use Rattle.wu_options.specs.declared.command_lines.Settings.{Settings}
+use Rattle.wu_query.specs.Permitted.{ReadsSuch}
+use Rattle.wu_query.specs.States.{State}
 use Rattle.wu_engine.specs.declared.engines.Engine.{Engine}
 use Rattle.wu_engine.specs.Opening.{ReadsAtOpening}
-use Rattle.wu_engine.specs.Permitted.{ReadsSuch}
 use Rattle.wu_engine.specs.Stands.{Stands}
-use Rattle.wu_engine.specs.States.{State}
 use Rattle.wu_engine.proofs.OpenedStates.{reads_nothing as unread_at_opening}
 use Rattle.wumpus_run.specs.declared.statuses.Status.{Status}
 use Rattle.wumpus_run.specs.declared.statuses.Status.TheVariants.{Done, NoMemory, StoreFault, Spent}

@@ -3,9 +3,9 @@ use Rattle.std.proofs.Common.{◌≡◌, ℕ, Some, ap}
 use Rattle.wu_ask.specs.Questions.{Question}
 use Rattle.wu_script.specs.Said.{Asks}
 use Rattle.wu_script.specs.declared.types.Reply.TheVariants.{Answered}
-use Rattle.wu_engine.specs.States.{State}
-use Rattle.wu_engine.specs.View.{view_of}
-use Rattle.wu_engine.specs.Answer.{answer}
+use Rattle.wu_query.specs.States.{State}
+use Rattle.wu_query.specs.View.{view_of}
+use Rattle.wu_query.specs.Answer.{answer}
 use Rattle.wumpus_run.specs.Replies.{reply_to}
 
 pub alike : (one other : State) (uid : ℕ) (question : Question) → view_of one uid ≡ view_of other uid

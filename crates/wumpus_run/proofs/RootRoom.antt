@@ -7,8 +7,8 @@ use Rattle.wu_outside.specs.Content.{Content}
 use Rattle.wu_image.specs.declared.roots.Root.{Root}
 use Rattle.wu_image.specs.Images.{HasSaved, IsSaved}
 use Rattle.wu_image.proofs.RootLemmas.{same_root}
+use Rattle.wu_query.specs.States.{State}
 use Rattle.wu_engine.specs.Opening.{HasRoot, HoldsImage, IsSpentAt, spent_of}
-use Rattle.wu_engine.specs.States.{State}
 use Rattle.wumpus_run.specs.Session.{HasRoom}
 
 -- a root with such numbers leaves room

@@ -5,7 +5,7 @@ use Rattle.wu_layout.specs.Invariants.{SomeOf}
 use Rattle.wu_layout.proofs.KeptLemmas.{SomeOf-left, SomeOf-right}
 use Rattle.wu_script.specs.Commands.{Entry, Save}
 use Rattle.wu_script.specs.Said.{Operates, Said, said_of}
-use Rattle.wu_engine.specs.States.{State}
+use Rattle.wu_query.specs.States.{State}
 use Rattle.wumpus_run.specs.Crashes.{first_or, last_or, last_save, left_to_next, next_save, saved_by, saved_for, saves_of}
 use Rattle.wumpus_run.specs.Replies.{Rules, after, state_after}
 use Rattle.wumpus_run.proofs.SessionLemmas.{state-append}

@@ -13,7 +13,7 @@ use Rattle.wu_script.proofs.ItemListLemmas.{StartsWithFirst, first_more, items_o
 use Rattle.wu_script.proofs.ItemListLemmas.{whole_items_of-closed}
 use Rattle.wu_script.proofs.UnclosedLemmas.{open_none}
 use Rattle.wu_options.specs.declared.command_lines.Settings.{Settings}
-use Rattle.wu_engine.specs.States.{State}
+use Rattle.wu_query.specs.States.{State}
 use Rattle.wumpus_run.specs.Replies.{Rules, AreRules, after, said_bytes, output_of}
 use Rattle.wumpus_run.proofs.SessionLemmas.{one_item}
 

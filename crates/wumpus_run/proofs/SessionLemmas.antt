@@ -13,7 +13,7 @@ use Rattle.wu_script.specs.Said.{said_of, said_by, IsReadAs, IsReading}
 use Rattle.wu_script.specs.Items.{first_of, items_of, IsBeforeEnd, IsItem, IsOneItem, TakesItem, IsFirstItem, IsNext}
 use Rattle.wu_script.proofs.ItemListLemmas.{items_of-none, items_of-some}
 use Rattle.wu_options.specs.declared.command_lines.Settings.{Settings}
-use Rattle.wu_engine.specs.States.{State}
+use Rattle.wu_query.specs.States.{State}
 use Rattle.wumpus_run.specs.Replies.{Rules, AreRules, after, said_bytes, output_of, state_after}
 
 -- a prefix of the output was gained, and the rest is still to come

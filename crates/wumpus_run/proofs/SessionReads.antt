@@ -13,13 +13,13 @@ use Rattle.wu_script.specs.Items.{IsBeforeEnd, IsFirstItem, IsNext, first_of, it
 use Rattle.wu_script.specs.Said.{Asks, Happens, IsReading, IsRefused, Operates, Said, SaysNothing, said_by, said_of}
 use Rattle.wu_script.proofs.ItemListLemmas.{items_of-some}
 use Rattle.wu_options.specs.declared.command_lines.Settings.{Settings}
+use Rattle.wu_query.specs.Permitted.{ReadsSuch}
+use Rattle.wu_query.specs.Reads.{texts_read}
+use Rattle.wu_query.specs.States.{State}
+use Rattle.wu_query.proofs.PermittedBlocks.{reads_joined}
 use Rattle.wu_engine.specs.declared.engines.Engine.{Engine}
 use Rattle.wu_engine.specs.Opening.{IsOpen, Opens}
-use Rattle.wu_engine.specs.Permitted.{ReadsSuch}
-use Rattle.wu_engine.specs.Reads.{texts_read}
 use Rattle.wu_engine.specs.Stands.{Stands}
-use Rattle.wu_engine.specs.States.{State}
-use Rattle.wu_engine.proofs.PermittedBlocks.{reads_joined}
 use Rattle.wumpus_run.specs.Crashes.{met_by}
 use Rattle.wumpus_run.specs.Permitted.{AreReadFor, AreReadInTurn}
 use Rattle.wumpus_run.specs.Replies.{AreRules, Rules, after, output_of, said_bytes, state_after}

@@ -19,11 +19,11 @@ use Rattle.wu_part.specs.Directories.{PartDirectory}
 use Rattle.wu_lists.specs.Causes.{IsNoPart}
 use Rattle.wu_parts.specs.Causes.{IsBrokenPart}
 use Rattle.wu_parts.specs.Holdings.{HoldsPart, HoldParts}
+use Rattle.wu_query.specs.Causes.{IsDamagedAt, IsDamagedIn}
+use Rattle.wu_query.specs.Records.{record_of, records_of}
+use Rattle.wu_query.specs.States.{State, Texts, indexed, text_in}
 use Rattle.wu_engine.specs.declared.engines.Engine.{Engine}
-use Rattle.wu_engine.specs.Causes.{IsDamagedAt, IsDamagedIn}
-use Rattle.wu_engine.specs.Records.{record_of, records_of}
 use Rattle.wu_engine.specs.Stands.{Stands}
-use Rattle.wu_engine.specs.States.{State, Texts, indexed, text_in}
 
 -- the file's text is in its blob, unless it is empty, and its range has an address for each token
 abbrev IsKept : Content → Texts → ℕ × FileEntry → Type 0

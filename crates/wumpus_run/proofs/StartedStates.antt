@@ -16,6 +16,7 @@ use Rattle.wu_script.specs.Said.{IsSoundItem, said_by, tokens_given}
 use Rattle.wu_script.specs.Items.{IsBeforeEnd, IsNext, EndsBeforeItem, TakesItem}
 use Rattle.wu_script.proofs.ReadLemmas.{GivesAtMost-none}
 use Rattle.wu_options.specs.declared.command_lines.Settings.{Settings}
+use Rattle.wu_query.specs.States.{State}
 use Rattle.wu_engine.specs.declared.engines.Engine.{Engine}
 use Rattle.wu_engine.specs.declared.faults.BeginFault.{BeginFault}
 use Rattle.wu_engine.specs.declared.faults.BeginFault.TheVariants as opening
@@ -23,7 +24,7 @@ use Rattle.wu_engine.specs.Causes.{HasTroubleCause}
 use Rattle.wu_engine.specs.Opening.{HoldsImage, IsBeginCause, IsSpentWhere}
 use Rattle.wu_engine.specs.Naming.{HasNoStray}
 use Rattle.wu_engine.specs.Stands.{Stands}
-use Rattle.wu_engine.specs.States.{State, rested_state, saved_state}
+use Rattle.wu_engine.specs.States.{rested_state, saved_state}
 use Rattle.wu_engine.proofs.NamedBlobs.{no_stray_at_first}
 use Rattle.wumpus_run.specs.Raised.{IsRaised}
 use Rattle.wumpus_run.specs.Replies.{after, said_bytes}

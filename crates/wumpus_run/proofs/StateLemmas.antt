@@ -7,7 +7,7 @@ use Rattle.wu_script.specs.Commands.{Operation, Flush, Work, Stat, Save}
 use Rattle.wu_script.specs.Said.{Reading, Said, Happens, Asks, Operates, IsRefused, SaysNothing, said_of}
 use Rattle.wu_script.specs.Items.{items_of}
 use Rattle.wu_script.proofs.EventLemmas.{TellsEvent, script_tells}
-use Rattle.wu_engine.specs.States.{State, IsState}
+use Rattle.wu_query.specs.States.{State, IsState}
 use Rattle.wu_engine.proofs.FlushedStates.{flushed_kept}
 use Rattle.wu_engine.proofs.KeptStates.{state_kept}
 use Rattle.wu_engine.proofs.WorkedStates.{worked_kept}

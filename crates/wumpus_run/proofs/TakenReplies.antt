@@ -10,7 +10,7 @@ use Rattle.wu_script.specs.Items.{first_of, items_of, IsBeforeEnd, IsOneItem, Ta
 use Rattle.wu_script.specs.Said.{IsReading, said_by}
 use Rattle.wu_script.proofs.ItemListLemmas.{items_of-closed}
 use Rattle.wu_options.specs.declared.command_lines.Settings.{Settings}
-use Rattle.wu_engine.specs.States.{State}
+use Rattle.wu_query.specs.States.{State}
 use Rattle.wumpus_run.specs.Replies.{Rules, after, output_of, said_bytes}
 use Rattle.wumpus_run.specs.Session.{AnswersTaken, Moment}
 use Rattle.wumpus_run.proofs.SessionLemmas.{one_item}

@@ -8,8 +8,9 @@ use Rattle.wu_tree.specs.declared.events.Refusal.{Refusal}
 use Rattle.wu_view.specs.Views.{view_of as files_of}
 use Rattle.wu_script.specs.Commands.{Operation, Flush, Work, Stat, Save}
 use Rattle.wu_script.specs.Said.{Said, Happens, Asks, Operates, IsRefused, SaysNothing}
-use Rattle.wu_engine.specs.States.{State, Texts, after_event, followed, step, stepped, texts_after}
-use Rattle.wu_engine.specs.View.{shown_of, view_of}
+use Rattle.wu_query.specs.States.{State, Texts}
+use Rattle.wu_query.specs.View.{shown_of, view_of}
+use Rattle.wu_engine.specs.States.{after_event, followed, step, stepped, texts_after}
 use Rattle.wumpus_run.specs.Replies.{after, after_operation, last_state}
 
 -- one tree and the same texts, indexed in whatever way

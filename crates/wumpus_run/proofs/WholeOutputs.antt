@@ -5,7 +5,7 @@ use Rattle.std.proofs.lemmas.List.{take-append-drop}
 use Rattle.wu_script.specs.Holding.{but_last}
 use Rattle.wu_script.specs.Items.{whole_items_of}
 use Rattle.wu_script.proofs.ItemListLemmas.{whole_items_more}
-use Rattle.wu_engine.specs.States.{State}
+use Rattle.wu_query.specs.States.{State}
 use Rattle.wumpus_run.specs.Replies.{Rules, output_of, state_after}
 use Rattle.wumpus_run.proofs.SessionLemmas.{output-append}
 use Rattle.wumpus_run.proofs.SentReplies.{whole_output, HasSentUsed}

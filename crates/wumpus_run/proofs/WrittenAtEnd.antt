@@ -17,7 +17,7 @@ use Rattle.wu_script.specs.Holding.{Held}
 use Rattle.wu_script.specs.Items.{items_of, IsBeforeEnd, IsNext, EndsBeforeItem, TakesItem}
 use Rattle.wu_options.specs.declared.command_lines.Settings.{Settings}
 use Rattle.wumpus_run.specs.declared.statuses.Status.{Status}
-use Rattle.wu_engine.specs.States.{State}
+use Rattle.wu_query.specs.States.{State}
 use Rattle.wu_engine.specs.declared.faults.BeginFault.{BeginFault}
 use Rattle.wu_engine.specs.declared.faults.BeginFault.TheVariants as opening
 use Rattle.wumpus_run.specs.Replies.{AreRules, Rules, output_of, said_bytes, state_after}

@@ -10,8 +10,9 @@ use Rattle.wu_script.specs.Commands.{Entry, Flush, Save, Stat, Work}
 use Rattle.wu_script.specs.Items.{items_of}
 use Rattle.wu_script.specs.Said.{Asks, Happens, IsRefused, Operates, Said, SaysNothing, said_of}
 use Rattle.wu_options.specs.declared.command_lines.Settings.{Settings}
+use Rattle.wu_query.specs.States.{State}
 use Rattle.wu_engine.specs.Crashes.{IsImageOf, IsImageOfEither}
-use Rattle.wu_engine.specs.States.{State, rested_state, saved_state}
+use Rattle.wu_engine.specs.States.{rested_state, saved_state}
 use Rattle.wumpus_run.specs.declared.statuses.Status.{Status}
 use Rattle.wumpus_run.specs.declared.statuses.Status.TheVariants.{Done, NoMemory, StoreFault, Spent}
 use Rattle.wumpus_run.specs.Replies.{AreRules, Met, Rules, met, output_of, state_after}

@@ -16,9 +16,10 @@ use Rattle.wu_script.specs.Said.{Reading, IsReading, said_of}
 use Rattle.wu_demo.specs.Script.{demo_script}
 use Rattle.wu_options.specs.declared.command_lines.CommandLine.{CommandLine}
 use Rattle.wu_options.specs.declared.command_lines.CommandLine.TheVariants.{Run, Demo}
+use Rattle.wu_query.specs.States.{State}
 use Rattle.wu_engine.specs.declared.engines.Engine.{Engine}
 use Rattle.wu_engine.specs.Stands.{Stands}
-use Rattle.wu_engine.specs.States.{State, first_state}
+use Rattle.wu_engine.specs.States.{first_state}
 use Rattle.wumpus_run.specs.declared.demo.TheConstants.{SCRIPT_MAX}
 use Rattle.wumpus_run.specs.declared.statuses.Status.{Status}
 use Rattle.wumpus_run.specs.declared.statuses.Status.TheVariants.{Done, WriteFault, NoMemory}

@@ -11,9 +11,9 @@ use Rattle.wu_options.specs.declared.command_lines.Settings.{Settings}
 use Rattle.wumpus_run.specs.declared.statuses.Status.{Status}
 use Rattle.wumpus_run.specs.declared.statuses.Status.TheVariants.{Done, Usage, ReadFault, WriteFault, NoMemory, InputTooLong, StoreFault}
 use Rattle.wumpus_run.specs.declared.statuses.Status.TheVariants.{Damaged, Spent}
+use Rattle.wu_query.specs.States.{State}
 use Rattle.wu_engine.specs.declared.faults.BeginFault.{BeginFault}
 use Rattle.wu_engine.specs.declared.faults.BeginFault.TheVariants as opening
-use Rattle.wu_engine.specs.States.{State}
 use Rattle.wumpus_run.specs.Session.{AnswersAll, AnswersPrefix, AnswersTaken, FromImage, HoldsNothingBack, IsCounted, IsSpent, IsTooLong}
 use Rattle.wumpus_run.specs.Session.{LeavesNoStray, Moment, SavesAll, StaysWithin, TakesAll}
 

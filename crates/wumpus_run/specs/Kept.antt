@@ -9,14 +9,14 @@ use Rattle.wu_outside.specs.declared.ranges.ReadRange.{ReadRange}
 use Rattle.wu_image.specs.declared.roots.Root.{Root}
 use Rattle.wu_script.specs.Said.{Said}
 use Rattle.wu_script.specs.declared.types.Reply.{Reply}
+use Rattle.wu_query.specs.Permitted.{ReadsSuch}
+use Rattle.wu_query.specs.States.{State}
 use Rattle.wu_engine.specs.declared.engines.Engine.{Engine}
 use Rattle.wu_engine.specs.Crashes.{IsImageOf, IsImageOfEither, IsSavedLast}
 use Rattle.wu_engine.specs.Earlier.{KeepsCheckpoint, LeavesEarlier}
 use Rattle.wu_engine.specs.Going.{Goes, HasBroken}
 use Rattle.wu_engine.specs.Opening.{HasRoot}
-use Rattle.wu_engine.specs.Permitted.{ReadsSuch}
 use Rattle.wu_engine.specs.Stands.{Stands}
-use Rattle.wu_engine.specs.States.{State}
 use Rattle.wumpus_run.specs.Crashes.{IsImageOfOne, last_or, left_to_next, saved_for}
 use Rattle.wumpus_run.specs.Permitted.{AreReadFor}
 use Rattle.wumpus_run.specs.Replies.{after, reply_to}

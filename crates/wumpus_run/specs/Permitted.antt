@@ -9,9 +9,10 @@ use Rattle.wu_script.specs.Commands.{Entry, Flush, Save, Stat, Work}
 use Rattle.wu_script.specs.Items.{items_of}
 use Rattle.wu_script.specs.Said.{Asks, Happens, IsRefused, Operates, Said, SaysNothing}
 use Rattle.wu_options.specs.declared.command_lines.Settings.{Settings}
+use Rattle.wu_query.specs.Permitted.{AreReadForQuery}
+use Rattle.wu_query.specs.States.{State}
 use Rattle.wu_engine.specs.Opening.{IsOpeningRange, Opens}
-use Rattle.wu_engine.specs.Permitted.{AreReadForQuery, MayReadForWork}
-use Rattle.wu_engine.specs.States.{State}
+use Rattle.wu_engine.specs.Permitted.{MayReadForWork}
 use Rattle.wumpus_run.specs.declared.statuses.Status.{Status}
 use Rattle.wumpus_run.specs.declared.statuses.Status.TheVariants.{Done, Usage, ReadFault, WriteFault, NoMemory, InputTooLong, StoreFault}
 use Rattle.wumpus_run.specs.declared.statuses.Status.TheVariants.{Damaged, Spent}

@@ -9,11 +9,12 @@ use Rattle.wu_script.specs.Commands.{Entry, Operation, Flush, Work, Stat, Save}
 use Rattle.wu_script.specs.Said.{Reading, IsReading, Said, Happens, Asks, Operates, IsRefused, SaysNothing, said_of}
 use Rattle.wu_script.specs.Replies.{reply_bytes}
 use Rattle.wu_options.specs.declared.command_lines.Settings.{Settings}
-use Rattle.wu_engine.specs.States.{State, step, after_event, flushed_state, saved_state, worked_state}
+use Rattle.wu_query.specs.States.{State}
+use Rattle.wu_query.specs.View.{view_of}
+use Rattle.wu_query.specs.Answer.{answer}
+use Rattle.wu_engine.specs.States.{step, after_event, flushed_state, saved_state, worked_state}
 use Rattle.wu_engine.specs.Reports.{stat_of, worked_in}
 use Rattle.wu_engine.specs.Stands.{verdict_of}
-use Rattle.wu_engine.specs.View.{view_of}
-use Rattle.wu_engine.specs.Answer.{answer}
 use Rattle.wu_engine.specs.declared.verdicts.Verdict.{Verdict}
 use Rattle.wu_engine.specs.declared.verdicts.Verdict.TheVariants as verdicts
 

@@ -19,8 +19,9 @@ use Rattle.wu_options.specs.declared.command_lines.Settings.{Settings}
 use Rattle.wumpus_run.specs.declared.statuses.Status.{Status}
 use Rattle.wumpus_run.specs.declared.statuses.Status.TheVariants.{Done, Usage, ReadFault, WriteFault, NoMemory, InputTooLong, StoreFault, Damaged, Spent}
 use Rattle.wu_layout.specs.Layouts.{Layout}
+use Rattle.wu_query.specs.States.{State}
 use Rattle.wu_engine.specs.Naming.{HasNoStray, IsNamed}
-use Rattle.wu_engine.specs.States.{State, rested_state, saved_state}
+use Rattle.wu_engine.specs.States.{rested_state, saved_state}
 use Rattle.wu_engine.specs.Opening.{HoldsImage, IsSpentAt, Opens}
 use Rattle.wu_script.specs.Commands.{Entry, Flush, Save, Work}
 use Rattle.wu_script.specs.Said.{Happens, Operates, Said, said_of}

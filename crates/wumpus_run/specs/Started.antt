@@ -7,12 +7,12 @@ use Rattle.wu_outside.specs.Surviving.{LeavesNow}
 use Rattle.wu_script.specs.Holding.{Held}
 use Rattle.wu_image.specs.declared.roots.Root.{Root}
 use Rattle.wu_options.specs.declared.command_lines.Settings.{Settings}
+use Rattle.wu_query.specs.States.{State}
 use Rattle.wu_engine.specs.declared.engines.Engine.{Engine}
 use Rattle.wu_engine.specs.Crashes.{IsImageOf}
 use Rattle.wu_engine.specs.Going.{Goes}
 use Rattle.wu_engine.specs.Opening.{HasRoot, HoldsImage, IsSpentAt}
 use Rattle.wu_engine.specs.Stands.{Stands}
-use Rattle.wu_engine.specs.States.{State}
 
 -- the settings that they were made with
 abbrev pub settings_by : Held → Engine → Settings

@@ -5,8 +5,8 @@ ghost use Rattle.wu_ask.specs.Questions.{Question};
 ghost use Rattle.wu_script.specs.Commands.{Operation};
 ghost use Rattle.wu_script.specs.Said.{Asks, Operates, Reading, Said, said_of};
 ghost use Rattle.wu_script.specs.Items.{items_of};
-ghost use Rattle.wu_engine.specs.States.{State, IsState};
-ghost use Rattle.wu_engine.specs.View.{view_of};
+ghost use Rattle.wu_query.specs.States.{State, IsState};
+ghost use Rattle.wu_query.specs.View.{view_of};
 ghost use Rattle.wumpus_run.specs.Replies.{last_state, met, reply_to};
 
 /// Equal views are answered alike: where a user has the same view in two states, each question of

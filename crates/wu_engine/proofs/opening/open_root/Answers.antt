@@ -1,7 +1,7 @@
 use Rattle.std.proofs.Common.{◌≡◌, length, rules}
+use Rattle.wu_query.proofs.PassedCauses.{err_from}
 use Rattle.wu_engine.proofs.OpenedRoots.{finds_root, root_cause, root_spent, unspent_where}
 use Rattle.wu_engine.proofs.OpenedStates.{error_passed}
-use Rattle.wu_engine.proofs.PassedCauses.{err_from}
 use Rattle.wu_engine.proofs.opening.open_root.Goals as goal
 
 pub returns-in_ok-root_given-in-Some-clause-found : goal.returns-in_ok-root_given-in-Some-clause-found

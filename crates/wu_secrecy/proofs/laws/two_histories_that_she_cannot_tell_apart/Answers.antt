@@ -4,9 +4,9 @@ use Rattle.wu_fields.specs.Fields.{letter_of}
 use Rattle.wu_tree.specs.FileSystems.{ancestors, path_up}
 use Rattle.wu_view.specs.Views.{view_for, view_of as files_of}
 use Rattle.wu_script.specs.Replies.{answer_bytes, reply_bytes}
-use Rattle.wu_engine.specs.Answer.{answer}
+use Rattle.wu_query.specs.Answer.{answer}
+use Rattle.wu_query.specs.View.{view_of}
 use Rattle.wu_engine.specs.States.{step}
-use Rattle.wu_engine.specs.View.{view_of}
 use Rattle.wu_secrecy.proofs.laws.two_histories_that_she_cannot_tell_apart.Goals as goal
 
 pub returns-clause-asked : goal.returns-clause-asked

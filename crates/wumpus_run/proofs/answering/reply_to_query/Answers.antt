@@ -3,7 +3,7 @@ use Rattle.wu_base.specs.declared.troubles.Trouble.TheVariants.{Damaged}
 use Rattle.wu_ask.specs.Questions.{question_of}
 use Rattle.wu_ask.specs.declared.Answered.{Answered}
 use Rattle.wu_script.specs.declared.types.Reply.TheVariants as replies
-use Rattle.wu_engine.proofs.DamagedTexts.{damaged_in}
+use Rattle.wu_query.proofs.DamagedTexts.{damaged_in}
 use Rattle.wumpus_run.proofs.SoundBlobs.{same_trouble, undamaged}
 use Rattle.wumpus_run.proofs.answering.reply_to_query.Goals as goal
 

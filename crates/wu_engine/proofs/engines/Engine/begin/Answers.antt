@@ -1,11 +1,11 @@
 use Rattle.std.proofs.Common.{◌∙◌, inr}
 use Rattle.std.proofs.lemmas.Result.{IfOk-weaker, on_ok_weaker}
+use Rattle.wu_query.proofs.PassedCauses.{err_from}
 use Rattle.wu_engine.proofs.EarlierBlobs.{drawn_by_root, drawn_without}
 use Rattle.wu_engine.proofs.GoingAtFirst.{first_goes}
 use Rattle.wu_engine.proofs.ImageStates.{first_stands}
 use Rattle.wu_engine.proofs.LeftImages.{opened_durable, opened_left}
 use Rattle.wu_engine.proofs.OpenedStates.{error_passed, never_damaged, on_any_err, on_any_ok, opens_nothing, reads_nothing, spent_on}
-use Rattle.wu_engine.proofs.PassedCauses.{err_from}
 use Rattle.wu_engine.proofs.engines.Engine.begin.Goals as goal
 
 pub returns-in-Some-clause-stands : goal.returns-in-Some-clause-stands

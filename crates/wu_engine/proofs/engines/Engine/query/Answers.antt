@@ -1,8 +1,8 @@
 use Rattle.std.proofs.Common.{◌≡◌, refl}
 use Rattle.wu_base.specs.declared.troubles.Trouble.TheVariants.{Damaged}
 use Rattle.wu_ask.specs.Questions.{question_of}
+use Rattle.wu_query.proofs.DamagedTexts.{damaged_in}
 use Rattle.wu_engine.proofs.BrokenBlobs.{found_is_broken}
-use Rattle.wu_engine.proofs.DamagedTexts.{damaged_in}
 use Rattle.wu_engine.proofs.QueryStands.{postings_told, ranges_told, reads_of_engine, stands_on, texts_kept}
 use Rattle.wu_engine.proofs.engines.Engine.query.Goals as goal
 

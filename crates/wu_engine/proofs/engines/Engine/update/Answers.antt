@@ -1,5 +1,6 @@
 use Rattle.std.proofs.Common.{[], ◌+◌, ap, refl, arith, rules}
 use Rattle.wu_parts.specs.Flushing.{Told}
+use Rattle.wu_query.proofs.Searching.{sound_prepared}
 use Rattle.wu_engine.specs.Indexing.{Catalog}
 use Rattle.wu_engine.specs.Renewing.{Touches, touched_of}
 use Rattle.wu_engine.specs.States.{after_event}
@@ -11,7 +12,6 @@ use Rattle.wu_engine.proofs.KeptFrames.{touches}
 use Rattle.wu_engine.proofs.LeftImages.{no_puts, puts_left, still_left}
 use Rattle.wu_engine.proofs.LeftStores.{left_alone}
 use Rattle.wu_engine.proofs.NamedBlobs.{event_names}
-use Rattle.wu_engine.proofs.Searching.{sound_prepared}
 use Rattle.wu_engine.proofs.SoundLemmas.{indexable, length-terms_after, sound_followed}
 use Rattle.wu_engine.proofs.StandLemmas.{accepted, refused}
 use Rattle.wu_engine.proofs.engines.Engine.update.Goals as goal

@@ -1,0 +1,98 @@
+-- How many tokens the empty text has, and that a text of another size or another number of tokens than recorded is broken.
+use Rattle.std.proofs.Common.{◌≡◌, ◌≢◌, ◌==◌, ◌<◌, ◌≤◌, ℕ, List, [], ◌∷◌, ◌++◌, true, length, take, refl, ap, sym, ◌∙◌, subst, inl, inr, arith, length-append}
+use Rattle.std.specs.Prelude.{Option, Some, None, IfSome, option_map}
+use Rattle.std.specs.List.{flat_map}
+use Rattle.std.proofs.lemmas.Bool.{eq-eqb, eqb-true}
+use Rattle.std.proofs.lemmas.List.{length-take}
+use Rattle.wu_base.specs.declared.troubles.Trouble.{Trouble}
+use Rattle.wu_base.specs.declared.troubles.Trouble.TheVariants.{Damaged}
+use Rattle.wu_outside.specs.Content.{Content, ReadsFrom}
+use Rattle.wu_outside.specs.declared.ranges.ReadRange.{ReadRange}
+use Rattle.wu_token.specs.Tokens.{file_end, line_tokens_of, lines_of, tokens_of}
+use Rattle.wu_image.specs.declared.records.FileRec.{FileRec}
+use Rattle.wu_image.specs.Texts.{IsBrokenText}
+use Rattle.wu_query.specs.Causes.{IsBrokenIn, WasRead}
+use Rattle.wu_query.specs.Finding.{IsCause}
+use Rattle.wu_query.specs.Soundness.{IsRecord}
+
+-- as many as its record says, or more
+pub empty_long : (file : FileRec) → IsRecord (file.ino, file) → file.blob ≡ 0 → file.range.len ≤ length (tokens_of [])
+unfolding tokens_of
+empty_long file is none =
+    let stored : true ≡ (file.len == 0) = sym (eq-eqb file.blob 0 none) ∙ is.stored in
+    let zero_len : file.len ≡ 0 = eqb-true file.len 0 (sym stored) in
+    omega (arith, zero_len, length-append (flat_map line_tokens_of (lines_of [])) (file_end ∷ []), is.tokens)
+
+-- it was read whole, in one read
+abbrev pub IsReadWhole : FileRec → Option (List ReadRange) → Option (List ReadRange) → Type 0
+IsReadWhole file ranges ranges_now = ranges_now ≡ option_map (λ rs. rs ++ record { blob = file.blob; at = 0; len = file.len } ∷ []) ranges
+
+-- a broken text that was read, whose blob is told
+broken_cause : (holds : Option Content) (file : FileRec) (before now : ℕ) {ranges ranges_now : Option (List ReadRange)} (trouble : Trouble)
+    → 0 < file.blob → IfSome holds (λ content. IsBrokenText file (content.blobs file.blob)) → trouble ≡ Damaged file.blob
+    → now ≡ before → IsReadWhole file ranges ranges_now → IsCause (IsBrokenIn holds file) before now ranges ranges_now trouble
+broken_cause holds file before now {ranges} {ranges_now} trouble some broken is same is_read = record {
+  kept = omega (arith, same);
+  store_fault = λ e. absurd (cc (e, is));
+  calm = λ _. same;
+  damaged = λ blob e.
+      let told : Damaged file.blob ≡ Damaged blob = sym is ∙ e in
+      let its : file.blob ≡ blob = cc in
+      subst (λ (b : ℕ). (file.blob ≡ b) × (0 < b) × IfSome holds (λ content. IsBrokenText file (content.blobs b))) its
+      (refl, some, broken);
+  read = λ blob e.
+      let told : Damaged file.blob ≡ Damaged blob = sym is ∙ e in
+      let its : file.blob ≡ blob = cc in
+      subst (WasRead ranges ranges_now) its (record { blob = file.blob; at = 0; len = file.len } ∷ [], inl refl, is_read);
+}
+
+-- not all of it was there to be read
+pub count_cause : (holds : Option Content) (file : FileRec) (count : Option ℕ) (buffer : List ℕ) (before now : ℕ)
+    {ranges ranges_now : Option (List ReadRange)} (trouble : Trouble) → 0 < file.blob
+    → IfSome holds (λ content. ReadsFrom (content.blobs file.blob) 0 count buffer) → length buffer ≡ file.len
+    → trouble ≡ Damaged file.blob → count ≢ Some file.len → now ≡ before → IsReadWhole file ranges ranges_now
+    → IsCause (IsBrokenIn holds file) before now ranges ranges_now trouble
+count_cause holds file count buffer before now trouble some told whole is other same is_read =
+    broken_cause holds file before now trouble some (broken holds told) is same is_read
+  where
+    of_count : (held : Option (List ℕ)) → ReadsFrom held 0 count buffer → IsBrokenText file held
+    of_count None e = tt
+    of_count (Some bytes) e =
+        inl (λ same_size.
+        let all : length (take (length buffer) bytes) ≡ file.len = length-take (length buffer) bytes ∙ omega (arith, same_size, whole) in
+        other (e.0 ∙ ap (λ (n : ℕ). Some n) all))
+
+    broken : (held : Option Content) → IfSome held (λ content. ReadsFrom (content.blobs file.blob) 0 count buffer)
+        → IfSome held (λ content. IsBrokenText file (content.blobs file.blob))
+    broken None h = tt
+    broken (Some content) h = of_count (content.blobs file.blob) h
+
+-- it is of another size than recorded
+pub size_cause : (holds : Option Content) (file : FileRec) (size : Option ℕ) (before now : ℕ) {ranges ranges_now : Option (List ReadRange)}
+    (trouble : Trouble) → 0 < file.blob → IfSome holds (λ content. size ≡ option_map length (content.blobs file.blob))
+    → (trouble ≡ Damaged file.blob) × (size ≢ Some file.len) → now ≡ before → IsReadWhole file ranges ranges_now
+    → IsCause (IsBrokenIn holds file) before now ranges ranges_now trouble
+size_cause holds file size before now trouble some told other same is_read =
+    broken_cause holds file before now trouble some (broken holds told) other.0 same is_read
+  where
+    of_size : (held : Option (List ℕ)) → size ≡ option_map length held → IsBrokenText file held
+    of_size None e = tt
+    of_size (Some bytes) e = inl (λ same_size. other.1 (e ∙ ap (λ (n : ℕ). Some n) same_size))
+
+    broken : (held : Option Content) → IfSome held (λ content. size ≡ option_map length (content.blobs file.blob))
+        → IfSome held (λ content. IsBrokenText file (content.blobs file.blob))
+    broken None h = tt
+    broken (Some content) h = of_size (content.blobs file.blob) h
+
+-- it has another number of tokens
+pub tokens_cause : (holds : Option Content) (file : FileRec) (text : List ℕ) (before now : ℕ) {ranges ranges_now : Option (List ReadRange)}
+    (trouble : Trouble) → 0 < file.blob → IfSome holds (λ content. content.blobs file.blob ≡ Some text)
+    → (trouble ≡ Damaged file.blob) × (length (tokens_of text) ≢ file.range.len) → now ≡ before → IsReadWhole file ranges ranges_now
+    → IsCause (IsBrokenIn holds file) before now ranges ranges_now trouble
+tokens_cause holds file text before now trouble some held other same is_read =
+    broken_cause holds file before now trouble some (broken holds held) other.0 same is_read
+  where
+    broken : (told : Option Content) → IfSome told (λ content. content.blobs file.blob ≡ Some text)
+        → IfSome told (λ content. IsBrokenText file (content.blobs file.blob))
+    broken None h = tt
+    broken (Some content) h = subst (IsBrokenText file) (sym h) (inr other.1)

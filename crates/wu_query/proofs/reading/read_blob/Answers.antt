@@ -1,0 +1,41 @@
+use Rattle.std.proofs.Common.{◌∙◌, [], ◌∷◌, rules}
+use Rattle.wu_query.proofs.PassedCauses.{err_from}
+use Rattle.wu_query.proofs.PermittedTexts.{all_read}
+use Rattle.wu_query.proofs.ReadTexts.{IsReadWhole, count_cause, size_cause}
+use Rattle.wu_query.proofs.reading.read_blob.Goals as goal
+
+pub returns-in_err-check_count-clause-only : goal.returns-in_err-check_count-clause-only
+returns-in_err-check_count-clause-only g c =
+    all_read (record { blob = c.args.file.now.blob; at = 0; len = c.args.file.now.len } ∷ []) (g.D.Store.reads c.args.store.now)
+    (g.D.Store.reads c.read.new.self) (search rules)
+
+pub returns-in_err-size-clause-only : goal.returns-in_err-size-clause-only
+returns-in_err-size-clause-only g c =
+    all_read (record { blob = c.args.file.now.blob; at = 0; len = c.args.file.now.len } ∷ []) (g.D.Store.reads c.args.store.now)
+    (g.D.Store.reads c.size.new.self) (search rules)
+
+pub returns-in_err-check_size-clause-only : goal.returns-in_err-check_size-clause-only
+returns-in_err-check_size-clause-only g c =
+    all_read (record { blob = c.args.file.now.blob; at = 0; len = c.args.file.now.len } ∷ []) (g.D.Store.reads c.args.store.now)
+    (g.D.Store.reads c.size.new.self) (search rules)
+
+pub returns-clause-only : goal.returns-clause-only
+returns-clause-only g c =
+    all_read (record { blob = c.args.file.now.blob; at = 0; len = c.args.file.now.len } ∷ []) (g.D.Store.reads c.args.store.now)
+    (g.D.Store.reads c.size.new.self) (search rules)
+
+pub returns-in_err-check_count-clause-cause : goal.returns-in_err-check_count-clause-cause
+returns-in_err-check_count-clause-cause g c =
+    err_from _ c.from_residual-in_err-check_count.result c.in_err-check_count.field-0.0 c.from_residual-in_err-check_count.ensures.1
+    (count_cause (g.D.Store.holds c.args.store.now) c.args.file.now c.in_ok-count.count c.read.new.buf (g.D.Store.faults c.args.store.now)
+    (g.D.Store.faults c.read.new.self) c.in_err-check_count.field-0.0 c.requires c.in_ok-count.ensures.bytes (search rules)
+    c.in_err-check_count.ensures.damaged.0 c.in_err-check_count.ensures.damaged.1 c.in_ok-count.ensures.cause.calm (search rules))
+
+pub returns-in_err-check_size-clause-cause : goal.returns-in_err-check_size-clause-cause
+returns-in_err-check_size-clause-cause g c =
+    let file = c.args.file.now in
+    let is_read : IsReadWhole file (g.D.Store.reads c.args.store.now) (g.D.Store.reads c.size.new.self) = search rules in
+    err_from _ c.from_residual-in_err-check_size.result c.in_err-check_size.field-0.0 c.from_residual-in_err-check_size.ensures.1
+    (size_cause (g.D.Store.holds c.args.store.now) file c.in_ok-size.size (g.D.Store.faults c.args.store.now)
+    (g.D.Store.faults c.size.new.self) c.in_err-check_size.field-0.0 c.requires (rw c.read.ensures.same at c.in_ok-size.ensures.size)
+    c.in_err-check_size.ensures.damaged (c.in_ok-size.ensures.cause.calm ∙ c.in_ok-count.ensures.cause.calm) is_read)

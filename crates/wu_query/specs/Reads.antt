@@ -1,0 +1,94 @@
+-- Which ranges of the store a query reads: blocks of its terms, and then the texts of the files of which a line is shown.
+use Rattle.std.specs.Prelude.{◌≡◌, ⊤, ℕ, ◌-◌, ◌==◌, nat_lt, min, List, [], ◌∷◌, ◌++◌, length, Option, None, Some, IfSome, option_map, if◌then◌else◌}
+use Rattle.std.specs.List.{AllByRecursion}
+use Rattle.wu_outside.specs.declared.ranges.ReadRange.{ReadRange}
+use Rattle.wu_outside.specs.Content.{Content}
+use Rattle.wu_layout.specs.Invariants.{SomeOf}
+use Rattle.wu_layout.specs.Layouts.{FileEntry, entry_of}
+use Rattle.wu_image.specs.declared.records.FileRec.{FileRec}
+use Rattle.wu_lists.specs.declared.blocks.Block.{Block}
+use Rattle.wu_lists.specs.Keeping.{Asks, Kept}
+use Rattle.wu_view.specs.declared.Seen.{Seen}
+use Rattle.wu_view.specs.Views.{view_of as files_of}
+use Rattle.wu_ask.specs.Questions.{Question, Counting, Finding, Ranking, ListingPaths}
+use Rattle.wu_token.specs.Tokens.{tokens_of}
+use Rattle.wu_tree.specs.FileSystems.{FileSystem}
+use Rattle.wu_space.specs.Addresses.{Ranges}
+use Rattle.wu_parts.specs.Contents.{Contents}
+use Rattle.wu_frames.specs.declared.Frames.{Frames}
+use Rattle.wu_frames.specs.UserFrames.{AreFrames}
+use Rattle.wu_query.specs.Asked.{blocks_for, terms_asked}
+use Rattle.wu_query.specs.States.{State, text_in}
+use Rattle.wu_query.specs.View.{shown_of}
+use Rattle.wu_query.specs.Hits.{hits_in}
+use Rattle.wu_query.specs.Records.{Records}
+
+-- a text of so many bytes, whole, in one read; the empty text, which is in no blob, takes none
+abbrev pub whole_text : ℕ → ℕ → List ReadRange
+whole_text blob len = if blob == 0 then [] else record { blob = blob; at = 0; len = len } ∷ []
+
+-- the text of a file with that entry
+abbrev pub text_at_entry : ℕ → Option FileEntry → List ReadRange
+text_at_entry len None = []
+text_at_entry len (Some entry) = whole_text entry.blob len
+
+-- the text of the file
+abbrev pub text_of_file : State → Seen → List ReadRange
+text_of_file s file = text_at_entry (length (text_in s.texts file.ino)) (entry_of s.layout.files file.ino)
+
+-- What is read to show so many lines, file by file, where functions tell how many extents each file has and what its text is: the
+-- texts of the files of which a line is shown, in the order of the files.
+abbrev pub texts_shown : (Seen → ℕ) → (Seen → List ReadRange) → ℕ → List Seen → List ReadRange
+texts_shown hits text lines [] = []
+texts_shown hits text lines (file ∷ files) =
+    (if nat_lt 0 (min lines (hits file)) then text file else []) ++ texts_shown hits text (lines - hits file) files
+
+-- the texts that a query of that user reads
+unfoldable pub texts_read : State → ℕ → Question → List ReadRange
+texts_read s uid (Counting region) = []
+texts_read s uid (Finding k region) =
+    texts_shown (λ file. length (hits_in region (shown_of s.texts file))) (text_of_file s) k (files_of s.tree uid)
+texts_read s uid (Ranking k unit words) = []
+texts_read s uid ListingPaths = []
+
+-- the question has no line of a text shown
+abbrev pub ShowsNoText : Question → Type 0
+ShowsNoText (Counting region) = ⊤
+ShowsNoText (Finding k region) = k ≡ 0
+ShowsNoText (Ranking k unit words) = ⊤
+ShowsNoText ListingPaths = ⊤
+
+-- the text is there, as long as was recorded, and has as many tokens as the range of its file is long
+abbrev pub IsWholeText : FileRec → Option (List ℕ) → Type 0
+IsWholeText file None = ⊥
+IsWholeText file (Some text) = (length text ≡ file.len) × (length (tokens_of text) ≡ file.range.len)
+
+-- a store that tells what it holds has the text so
+abbrev pub HasWholeText : Option Content → FileRec → Type 0
+HasWholeText holds file = IfSome holds (λ content. IsWholeText file (content.blobs file.blob))
+
+-- the range is all of the recorded text of one of the files, which the store has as it was recorded
+abbrev pub IsTextOf : Option Content → Records → ReadRange → Type 0
+IsTextOf holds files range = SomeOf (λ file. (whole_text file.1.blob file.1.len ≡ range ∷ []) × HasWholeText holds file.1) files
+
+-- texts of files, and none where the question has none shown
+pub record AreTexts (holds : Option Content) (files : Records) (question : Question) (texts : List ReadRange) : Type 0 where
+  pub of_files : AllByRecursion (IsTextOf holds files) texts
+  pub none : ShowsNoText question → texts ≡ []
+
+-- The blocks were asked for in turn, so that those that weren't kept were read, and then such texts were read.
+pub record ReadsInTurn (blocks : List Block) (Texts : List ReadRange → Type 0) (holds : Option Content) (old new : Kept)
+    (before after : Option (List ReadRange)) : Type 0 where
+  pub between : Option (List ReadRange)
+  pub asks : Asks blocks holds old new before between
+  pub texts : List ReadRange
+  pub are : Texts texts
+  pub read : after ≡ option_map (λ ranges. ranges ++ texts) between
+
+-- What a query of a user reads: with her frames, for that tree and those live ranges, the blocks of the terms that it asks for, and
+-- then such texts.
+pub record ReadsForQuery (fs : FileSystem) (live : Ranges) (uid : ℕ) (question : Question) (contents : Contents) (kept : Kept)
+    (Texts : List ReadRange → Type 0) (holds : Option Content) (before after : Option (List ReadRange)) : Type 0 where
+  pub frames : Frames
+  pub hers : AreFrames fs live uid frames
+  pub reads : ReadsInTurn (blocks_for contents frames.ranges (terms_asked question)) Texts holds contents.kept kept before after

@@ -1,0 +1,13 @@
+//! The answer to a query: the lists of its terms are fetched, cut to the frames of the user who asks, and counted, shown or ranked.
+#![tactic(auto)]
+
+mod counting;
+mod fetching;
+mod finding;
+mod listing;
+mod querying;
+mod ranking;
+mod reading;
+mod units;
+
+pub use querying::answered;
