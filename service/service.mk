@@ -45,7 +45,7 @@ service-test:
 
 service-check:
 	cd service && mypy --strict wumpus tests ../bench/service.py
-	mandoc -Tlint -W warning service/man/*
+	mandoc -Tlint -W warning docs/wumpus.1 service/man/*
 	bash -n service/completions/wumpus.bash
 	zsh -n service/completions/_wumpus
 
