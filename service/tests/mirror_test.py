@@ -48,7 +48,8 @@ def options_of(place: Place, score: Score) -> None:
         path = place.tree / name
         path.parent.mkdir(parents=True, exist_ok=True)
         path.write_text(f"apple of {name}\n")
-    status, out, _ = place.mirror("--dry-run", "--quiet")
+    relative = os.path.relpath(place.program)
+    status, out, _ = place.mirror("--dry-run", "--quiet", "--program", relative)
     score.check(status == 0 and b"apple of a\n" in out, f"a dry run: {status}")
     score.check(out.count(b"\ncreate\t") == 7 and out.count(b"\ntext\t") == 7, "its lines")
     score.check(place.paths() == [], "it feeds nothing")

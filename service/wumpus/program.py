@@ -39,6 +39,8 @@ class Program:
     def __init__(self, program: str, folder: Path) -> None:
         self.waiting: deque[memoryview] = deque()
         self.begun = bytearray()  # of a line that isn't whole yet
+        if "/" in program:
+            program = os.path.abspath(program)  # the child begins in another folder
         self.child = subprocess.Popen(
             [program, "run"],
             cwd=folder,
