@@ -51,6 +51,15 @@ at_least low (x ∷ xs) zero d a l = a.0
 at_least low (x ∷ xs) (suc j) d a l =
     let r : x + 1 ≤ get_or xs j d = at_least (x + 1) xs j d a.1 (omega arith) in omega (arith, a.0)
 
+-- up to an address below the limit, all are below it
+pub all_below_place : (limit low k : ℕ) (xs : List ℕ) (d : ℕ) → AscendFrom low xs → k < length xs → get_or xs k d < limit
+    → AllByRecursion (λ x. x < limit) (take (suc k) xs)
+all_below_place limit low k [] d a l h = absurd (omega arith)
+all_below_place limit low zero (x ∷ xs) d a l h = (h, tt)
+all_below_place limit low (suc k) (x ∷ xs) d a l h =
+    let r : x + 1 ≤ get_or xs k d = at_least (x + 1) xs k d a.1 (omega arith) in
+    (omega arith, all_below_place limit (x + 1) k xs d a.1 (omega arith) h)
+
 pub addresses-rise : (low : ℕ) (xs : List ℕ) → AscendFrom low xs → IsNonDecreasingBy (λ (x : ℕ). x) xs
 addresses-rise low [] a i j d l h = absurd (omega arith)
 addresses-rise low (x ∷ xs) a zero zero d l h = omega arith

@@ -9,3 +9,4 @@ pub mod Orders
 pub mod FirstUnits
 pub mod Shifting
 pub mod Reordering
+pub mod Bounds

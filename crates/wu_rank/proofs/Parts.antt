@@ -23,7 +23,7 @@ use Rattle.wu_rank.proofs.Sparse.{all_hold, all_mapped, all_listed_by, entries-a
 use Rattle.wu_rank.proofs.Sums.{sum_of, sum-entries, sum-small}
 use Rattle.wu_rank.proofs.Weights.{weigh-zero, weigh-lt}
 
-positive-eqb : (n : ℕ) → 0 < n → (n == 0) ≡ false
+pub positive-eqb : (n : ℕ) → 0 < n → (n == 0) ≡ false
 positive-eqb zero h = absurd (omega arith)
 positive-eqb (suc n) h = eqb-suc-zero n
 
@@ -64,14 +64,14 @@ holders-positive word units i d l h =
     omega (arith, one, within)
 
 -- a word that the unit holds adds its weight
-part-some : (units : List RankedUnit) (unit : RankedUnit) (word : TermList) → 0 < holders count_at units word
+pub part-some : (units : List RankedUnit) (unit : RankedUnit) (word : TermList) → 0 < holders count_at units word
     → weigh (idf_of count_at units word) (count_at word unit) (length_of unit.extent) (length units) (total_length units)
     ≡ part count_at units unit word
 unfolding part
 part-some units unit word h = rw (positive-eqb (holders count_at units word) h) refl
 
 -- a word that it does not hold adds nothing
-part-nothing : (units : List RankedUnit) (unit : RankedUnit) (word : TermList) → count_at word unit ≡ 0
+pub part-nothing : (units : List RankedUnit) (unit : RankedUnit) (word : TermList) → count_at word unit ≡ 0
     → part count_at units unit word ≡ 0
 unfolding part
 part-nothing units unit word e =
@@ -166,7 +166,7 @@ score-append : (units : List RankedUnit) (unit : RankedUnit) (some others : List
 unfolding score
 score-append units unit some others = sum_by-append (part count_at units unit) some others
 
-holds-append : (unit : RankedUnit) (some others : List TermList)
+pub holds-append : (unit : RankedUnit) (some others : List TermList)
     → holds count_at (some ++ others) unit ≡ (holds count_at some unit || holds count_at others unit)
 unfolding holds
 holds-append unit some others = list_any-append (λ word. has count_at word unit) some others

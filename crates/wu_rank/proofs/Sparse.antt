@@ -103,7 +103,7 @@ sweep_first (u ∷ us) later d before rest all n end place l m o e b a w i t p =
 
 -- ---- what an entry says
 
-place_of : (units front us : List RankedUnit) (u : RankedUnit) → units ≡ front ++ u ∷ us
+pub place_of : (units front us : List RankedUnit) (u : RankedUnit) → units ≡ front ++ u ∷ us
     → (length units - length (u ∷ us) ≡ length front) × (unit_at units (length units - length (u ∷ us)) ≡ u)
 place_of units front us u e =
     let total : length units ≡ length front + length (u ∷ us) = ap length e ∙ length-append front (u ∷ us) in

@@ -4,3 +4,4 @@ pub mod Entries
 pub mod Sweeps
 pub mod Order
 pub mod Choices
+pub mod Pruning

@@ -14,10 +14,10 @@ use wu_base::NoMemory;
 
 /// Of the units seen so far the first ones of a ranking, and maybe others.
 #[derive(Drop)]
-struct Choice {
-    ranked: Vec<Ranked>,
+pub(crate) struct Choice {
+    pub ranked: Vec<Ranked>,
     /// No unit of a lower score is one of the first.
-    least: u64,
+    pub least: u64,
 }
 
 /// The first `count` of the entries' units, in the order of a ranking, with the entries' values as their
@@ -43,7 +43,7 @@ pub(crate) fn choose(
 }
 
 /// The choice, where the entry's unit is seen too.
-fn with_entry(
+pub(crate) fn with_entry(
     alloc: Global,
     choice: Choice,
     units: &[Unit],
@@ -76,7 +76,7 @@ fn room_for(count: usize) -> usize {
 }
 
 /// The score of the last of `count` units, 0 for fewer.
-fn score_to_reach(ranked: &[Ranked], count: usize) -> u64
+pub(crate) fn score_to_reach(ranked: &[Ranked], count: usize) -> u64
     ensures { result ≡ (if length ranked.now == count then (ranked_or_none ranked.now (count - 1)).score else 0) }
 {
     match ranked {

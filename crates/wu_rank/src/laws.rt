@@ -1,10 +1,11 @@
 //! Laws on rankings.
-ghost use Rattle.std.specs.Prelude.{◌≡◌, List};
+ghost use Rattle.std.specs.Prelude.{◌≡◌, ◌≤◌, List};
 ghost use Rattle.std.specs.List.Sorted.{IsPermutation};
 ghost use Rattle.wu_base.specs.declared.addresses.TermList.{TermList};
 ghost use Rattle.wu_rank.specs.declared.results.Ranked.{Ranked};
 ghost use Rattle.wu_rank.specs.declared.results.Unit.{Unit as RankedUnit};
-ghost use Rattle.wu_rank.specs.Scores.{count_at};
+ghost use Rattle.wu_rank.specs.Pruning.{bound};
+ghost use Rattle.wu_rank.specs.Scores.{count_at, score};
 ghost use Rattle.wu_rank.specs.Order.{IsInOrder, in_order, listed};
 
 /// Units have one order: a sorted list of the same units is that of `in_order`.
@@ -18,4 +19,10 @@ pub fn one_order()
 pub fn any_order_of_units()
     ensures { (units other : List RankedUnit) (lists : List TermList) → IsPermutation units other
         → listed count_at other lists ≡ listed count_at units lists }
+{}
+
+/// No unit's score is above its bound, which tells only which of the words the unit holds.
+pub fn score_within_bound()
+    ensures { (units : List RankedUnit) (lists : List TermList) (unit : RankedUnit)
+        → score count_at units lists unit ≤ bound count_at units lists unit }
 {}

@@ -10,12 +10,14 @@ mod galloping;
 mod laws;
 mod merging;
 mod ordering;
+mod pruning;
 mod results;
 mod scoring;
 mod sweeping;
 
 pub use bm25::{Ranker, bm25_weigh};
 pub use counting::summed_length;
-pub use laws::{any_order_of_units, one_order};
-pub use results::{Ranked, Ranking, Unit};
+pub use laws::{any_order_of_units, one_order, score_within_bound};
+pub use pruning::rank_pruned;
+pub use results::{Pruned, Ranked, Ranking, Unit};
 pub use scoring::rank;

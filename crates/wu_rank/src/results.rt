@@ -25,3 +25,11 @@ pub struct Ranking {
     /// The first of them, at most as many as were asked for.
     pub top: Sequence<Ranked>,
 }
+
+/// A ranking, and the units that had to be weighed for it.
+#[derive(Clone, Debug, PartialEq, Eq, Drop)]
+pub struct Pruned {
+    pub ranking: Ranking,
+    /// The listed units that may be among the first ones, by the words that they hold, in the order of the units.
+    pub weighed: Sequence<Unit>,
+}
