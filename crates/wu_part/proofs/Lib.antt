@@ -11,6 +11,7 @@ pub mod OrderLemmas
 pub mod PartLemmas
 pub mod ReadBackLemmas
 pub mod ReadingLemmas
+pub mod SinceLemmas
 pub mod SpellingLemmas
 pub mod TermLemmas
 pub mod TotalsLemmas

@@ -7,6 +7,7 @@ pub mod Entries
 pub mod Headers
 pub mod Marks
 pub mod Parts
+pub mod Searches
 pub mod Totals
 pub mod Views
 pub mod Walks

@@ -1,14 +1,15 @@
 //! The directory of a part, as it was read.
-ghost use Rattle.std.specs.Prelude.{◌≡◌, ℕ, List, Contains, IfOk, MatchOption, get_or, length, ◌<◌, ◌≤◌};
+ghost use Rattle.std.specs.Prelude.{◌≡◌, ℕ, List, Contains, IfOk, MatchOption, filter, get_or, length, ◌<◌, ◌≤◌};
 ghost use Rattle.wu_part.specs.Directories.{PartDirectory, SpellsDirectory};
 ghost use Rattle.wu_part.specs.declared.entries.TermEntry.{TermEntry};
 ghost use Rattle.wu_part.specs.Marks.{mark_of};
+ghost use Rattle.wu_part.specs.Searches.{is_from};
 
 use crate::cursors::Entry;
 use crate::entry_bytes::EntryBytes;
 use crate::marks::{Mark, mark_before, mark_up_to};
 use crate::reading::Head;
-use crate::walks::{Terms, entry_after, entry_among, terms_from};
+use crate::walks::{Terms, entries_since, entry_after, entry_among, terms_from};
 use std::alloc::Global;
 use std::marker::Model;
 use wu_base::NoMemory;
@@ -111,6 +112,17 @@ impl Directory {
         let bytes = self.bytes.as_slice();
         let mark = mark_before(bytes, &self.marks, first_mark(self.place), term);
         entry_among(terms_from(&self.head, self.size, bytes, mark), term)
+    }
+
+    /// The entries of the terms from this one on, in order: of all those that don't stand before it. The first
+    /// is found in a time logarithmic in the number of terms, and each entry then takes a time that doesn't
+    /// depend on that number.
+    pub fn terms_from(&self, term: &[u8]) -> Terms<'_>
+        ensures { result ≡ filter (is_from term.now) self.now.terms }
+    {
+        let bytes = self.bytes.as_slice();
+        let mark = mark_before(bytes, &self.marks, first_mark(self.place), term);
+        entries_since(terms_from(&self.head, self.size, bytes, mark), term)
     }
 
     /// A copy of the directory.

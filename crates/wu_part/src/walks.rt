@@ -1,5 +1,5 @@
 //! Walks over a directory's entries.
-ghost use Rattle.std.specs.Prelude.{◌≡◌, [], ◌<◌, ◌≤◌, ◌⊎◌, ℕ, List, Contains, MatchOption, drop, get_or, length, map};
+ghost use Rattle.std.specs.Prelude.{◌≡◌, [], ◌<◌, ◌≤◌, ◌⊎◌, ℕ, List, Contains, MatchOption, drop, filter, get_or, length, map};
 ghost use Rattle.std.specs.List.{AllByRecursion};
 ghost use Rattle.std.specs.List.Sorted.{IsStrictlySortedBy};
 ghost use Rattle.std.specs.Cmp.Lexicographic.{slice_cmp};
@@ -8,9 +8,10 @@ ghost use Rattle.wu_base.specs.declared.limits.TheConstants.{ADDRESSES_MAX};
 ghost use Rattle.wu_part.specs.declared.entries.TermEntry.{TermEntry};
 ghost use Rattle.wu_part.specs.declared.marks.TheConstants.{TERMS_BETWEEN};
 ghost use Rattle.wu_part.specs.Marks.{IsAfter, IsMark, entries_from};
+ghost use Rattle.wu_part.specs.Searches.{begins_before, is_from};
 
 use crate::cursors::Entry;
-use crate::entry_reading::take_entry;
+use crate::entry_reading::{take_entry, take_term};
 use crate::marks::Mark;
 use crate::reading::Head;
 use std::cmp::Ordering;
@@ -62,6 +63,21 @@ impl<'a> Iterator for Terms<'a> {
     }
 }
 
+impl<'a> Terms<'a> {
+    /// Whether an entry is left, and the term of the first one stands before this one.
+    fn begins_before(&self, term: &[u8]) -> bool
+        ensures { result ≡ begins_before term.now self.now }
+    {
+        if self.left == 0 {
+            return false;
+        }
+        match take_term(self.rest) {
+            Some((first, _)) => first.cmp(&term).is_lt(),
+            None => false,
+        }
+    }
+}
+
 /// A walk over the entries from the mark on.
 pub(crate) fn terms_from<'a>(head: &'a Head, size: u64, bytes: &'a [u8], mark: Mark) -> Terms<'a>
     requires mark { IsMark head.now size bytes.now mark (entries_from head.now bytes.now mark) }
@@ -92,6 +108,19 @@ pub(crate) fn entry_among<'a>(terms: Terms<'a>, term: &[u8]) -> Option<Entry<'a>
         }
     }
     None
+}
+
+/// The entries whose terms don't stand before this one, among entries whose terms ascend.
+pub(crate) fn entries_since<'a>(mut terms: Terms<'a>, term: &[u8]) -> Terms<'a>
+    requires { IsStrictlySortedBy (slice_cmp nat_cmp) (map (λ entry. entry.term) terms) }
+    ensures { result ≡ filter (is_from term.now) terms.entry }
+{
+    while terms.begins_before(term) {
+        let Some(_) = terms.next() else {
+            return terms;
+        };
+    }
+    terms
 }
 
 /// The entry after so many others: few of them, or else few are left.

@@ -1,0 +1,5 @@
+pub mod Terms
+pub mod Prefixes
+pub mod Listings
+pub mod Collections
+pub mod Laws
