@@ -17,7 +17,8 @@ use Rattle.wu_gcl.specs.Regions.{Region}
 use Rattle.wu_gcl.specs.Extents.{hits}
 use Rattle.wu_solve.specs.Addresses.{stands_by}
 use Rattle.wu_solve.specs.Listing.{IsAscending, Has}
-use Rattle.wu_solve.specs.Solving.{moved, frame_hits, frames_hits, AreApart, IsFrame}
+use Rattle.wu_solve.specs.Solving.{moved, frame_hits, frames_hits, IsFrame}
+use Rattle.wu_base.specs.Ranges.{AreApart}
 use Rattle.wu_solve.proofs.Results.{hits_listed, hits_ascend, from_moved, moved_ascend, extent_lies}
 use Rattle.wu_solve.proofs.Moving.{moved_has}
 use Rattle.wu_solve.proofs.FramePlaces.{apart_at}

@@ -3,7 +3,8 @@ ghost use Rattle.std.specs.Prelude.{◌≡◌, All};
 ghost use Rattle.wu_cursor.specs.Access.{first_starting, first_ending, last_ending, last_starting};
 ghost use Rattle.wu_gcl.specs.Regions.{region_of};
 ghost use Rattle.wu_solve.specs.Addresses.{AreLists};
-ghost use Rattle.wu_solve.specs.Solving.{frames_hits, IsFrame, AreApart};
+ghost use Rattle.wu_solve.specs.Solving.{frames_hits, IsFrame};
+ghost use Rattle.wu_base.specs.Ranges.{AreApart};
 
 use crate::frames::{first_over, last_over};
 use wu_base::{Extent, Range, TermList};

@@ -4,7 +4,8 @@ ghost use Rattle.wu_base.specs.declared.addresses.Range.{Range};
 ghost use Rattle.wu_cursor.specs.Access.{first_starting, last_ending};
 ghost use Rattle.wu_gcl.specs.Regions.{region_of};
 ghost use Rattle.wu_solve.specs.Addresses.{AreLists};
-ghost use Rattle.wu_solve.specs.Solving.{moved, frame_hits, frames_hits, IsFrame, AreApart};
+ghost use Rattle.wu_solve.specs.Solving.{moved, frame_hits, frames_hits, IsFrame};
+ghost use Rattle.wu_base.specs.Ranges.{AreApart};
 
 use crate::access::nearest_at;
 use crate::directions::Direction;

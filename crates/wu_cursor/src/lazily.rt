@@ -3,7 +3,8 @@ ghost use Rattle.std.specs.Prelude.{◌≡◌, ◌++◌, All, IfOk, OnOk, IsTrue
 ghost use Rattle.wu_gcl.specs.Regions.{region_of};
 ghost use Rattle.wu_solve.specs.Addresses.{AreLists};
 ghost use Rattle.wu_solve.specs.Listing.{IsAscending};
-ghost use Rattle.wu_solve.specs.Solving.{frames_hits, IsFrame, AreApart};
+ghost use Rattle.wu_solve.specs.Solving.{frames_hits, IsFrame};
+ghost use Rattle.wu_base.specs.Ranges.{AreApart};
 
 use crate::cursors::Cursor;
 use std::alloc::Global;

@@ -1,6 +1,6 @@
-//! The extents that a region expression means, one at a time, from a place on: by the four access
-//! functions of Clarke, Cormack and Burkowski, "An Algebra for Structured Text Search and a Framework for
-//! its Implementation", The Computer Journal 38(1), 1995.
+//! The program doesn't use this crate yet. It gives the extents that a region expression means, one at a
+//! time, from a place on: by the four access functions of Clarke, Cormack and Burkowski, "An Algebra for
+//! Structured Text Search and a Framework for its Implementation", The Computer Journal 38(1), 1995.
 //!
 //! Within a frame an expression answers its calls from those of its operands. `+`, `^` and `..` ask
 //! each operand once for where an extent ends, and once for where one starts. A containment goes over

@@ -1,4 +1,5 @@
-//! Which slots of the memory an expression and its operands take.
+//! Which slots of the memory an expression and its operands take. Only time depends on it: a slot that is
+//! taken wrongly remembers less, and every answer is the same. So nothing here has a contract.
 use wu_gcl::{Expr, Op};
 
 /// The place of a slot where there are none: nothing is counted then.

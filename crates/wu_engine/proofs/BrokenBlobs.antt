@@ -9,9 +9,8 @@ use Rattle.wu_outside.specs.Content.{Content}
 use Rattle.wu_layout.specs.Invariants.{SomeOf}
 use Rattle.wu_layout.proofs.EntryLemmas.{IfSome-map}
 use Rattle.wu_part.specs.Directories.{PartDirectory}
-use Rattle.wu_part.specs.Parts.{IsBroken, SpellsPart}
+use Rattle.wu_part.specs.Parts.{IsBroken, SpellsPart, IsNoPart}
 use Rattle.wu_part.proofs.LawLemmas.{one_directory}
-use Rattle.wu_lists.specs.Causes.{IsNoPart}
 use Rattle.wu_parts.specs.Causes.{IsBrokenPart}
 use Rattle.wu_job.specs.Jobs.{IsRight}
 use Rattle.wu_parts.specs.Contents.{Contents, JobAt}

@@ -1,5 +1,6 @@
 -- What is left of the blobs that a store held before some number was drawn, call by call.
-use Rattle.std.proofs.Common.{◌≡◌, ◌⊎◌, inl, inr, ℕ, ◌+◌, ◌≤◌, ◌==◌, true, false, cond, List, [], ◌∷◌, refl, ap, sym, ◌∙◌, subst, arith, ⊎_elim}
+use Rattle.std.proofs.Common.{◌≡◌, ◌⊎◌, inl, inr, ℕ, ◌+◌, ◌≤◌, ◌==◌, true, false, cond, List, [], ◌∷◌, refl, ap, sym, ◌∙◌, subst, arith}
+use Rattle.std.proofs.Common.{⊎_elim}
 use Rattle.std.specs.Prelude.{Option, Some, None, IfSome, option_map}
 use Rattle.wu_outside.specs.Content.{Content, MayDo, with_blob, with_root}
 use Rattle.wu_layout.specs.Postings.{Posting}
@@ -12,7 +13,7 @@ use Rattle.wu_image.specs.declared.roots.Root.{Root}
 use Rattle.wu_image.specs.Roots.{SpellsRoot}
 use Rattle.wu_image.proofs.RootLemmas.{same_root}
 use Rattle.wu_query.specs.Records.{Records}
-use Rattle.wu_engine.specs.Earlier.{IsAsItWasOrGone, LeavesEarlier}
+use Rattle.wu_engine.specs.Earlier.{IsSameOrRemoved, LeavesEarlier}
 use Rattle.wu_engine.specs.Opened.{FindsRoot}
 use Rattle.wu_engine.specs.Opening.{HasRoot}
 use Rattle.wu_engine.specs.Puts.{MayPut}
@@ -30,8 +31,8 @@ pub earlier_same : (low : ℕ) (told : Option Content) → LeavesEarlier low tol
 earlier_same low None = tt
 earlier_same low (Some content) = inl (record { root = refl; blobs = λ blob l. refl })
 
-was_then : (before between after : Content) (blob : ℕ) → IsAsItWasOrGone before between blob → IsAsItWasOrGone between after blob
-    → IsAsItWasOrGone before after blob
+was_then : (before between after : Content) (blob : ℕ) → IsSameOrRemoved before between blob → IsSameOrRemoved between after blob
+    → IsSameOrRemoved before after blob
 was_then before between after blob (inl first) (inl second) = inl (second ∙ first)
 was_then before between after blob (inr gone) (inl second) = inr (second ∙ gone)
 was_then before between after blob first (inr gone) = inr gone
@@ -129,7 +130,7 @@ one_removed low root blob later (Some content) has = inr (record {
   blobs = λ number below. left number;
 })
   where
-    left : (number : ℕ) → IsAsItWasOrGone content (remove_blob blob content) number
+    left : (number : ℕ) → IsSameOrRemoved content (remove_blob blob content) number
     left number =
         elim (number == blob) as
         (λ b. (cond b None (content.blobs number) ≡ content.blobs number) ⊎ (cond b None (content.blobs number) ≡ None)) [

@@ -1,5 +1,6 @@
 -- What an engine records is sound when it is opened.
-use Rattle.std.proofs.Common.{◌≡◌, ◌≢◌, inl, inr, ⊎_elim, ℕ, ◌+◌, ◌<◌, ◌≤◌, ◌==◌, nat_lt, eqb, true, false, cond, List, [], ◌∷◌, length, map, filter, count_by, refl, ap, sym, ◌∙◌, subst, arith}
+use Rattle.std.proofs.Common.{◌≡◌, ◌≢◌, inl, inr, ⊎_elim, ℕ, ◌+◌, ◌<◌, ◌≤◌, ◌==◌, nat_lt, eqb, true, false, cond, List, [], ◌∷◌, length}
+use Rattle.std.proofs.Common.{map, filter, count_by, refl, ap, sym, ◌∙◌, subst, arith}
 use Rattle.std.specs.Prelude.{Option, Some, None, IfSome, zip}
 use Rattle.std.specs.List.{AllByRecursion, IsDistinct}
 use Rattle.std.proofs.lemmas.Bool.{cases_eq, eq-eqb}
@@ -15,7 +16,7 @@ use Rattle.wu_part.specs.Directories.{PartDirectory}
 use Rattle.wu_part.specs.Parts.{IsDirectoryOf}
 use Rattle.wu_parts.specs.Contents.{Contents, no_contents}
 use Rattle.wu_parts.specs.Loading.{AreOpened, HasDirectory, IsLoaded, loaded_contents}
-use Rattle.wu_parts.specs.Units.{bares}
+use Rattle.wu_parts.specs.Units.{as_parts}
 use Rattle.wu_parts.proofs.Putting.{has-none}
 use Rattle.wu_image.specs.declared.checkpoints.Checkpoint.{Checkpoint}
 use Rattle.wu_image.specs.declared.records.FileRec.{FileRec}
@@ -93,7 +94,7 @@ module _ (content : Content) (root : Root) (found : HasRoot content root) (check
 
   -- texts and parts name each blob as often as the rules count it
   both_counted : (number : ℕ) → 0 < number
-      → count_by (λ file. file.1.blob == number) (entries_of (numbered files)) + count_by (λ part. part.blob == number) (bares parts)
+      → count_by (λ file. file.1.blob == number) (entries_of (numbered files)) + count_by (λ part. part.blob == number) (as_parts parts)
       ≡ times number blobs
   both_counted number l =
       omega (
@@ -108,7 +109,7 @@ module _ (content : Content) (root : Root) (found : HasRoot content root) (check
 
   -- the checkpoint's own blob is none of theirs
   its_own : (number : ℕ) → root.checkpoint ≡ number
-      → count_by (λ file. file.1.blob == number) (entries_of (numbered files)) + count_by (λ part. part.blob == number) (bares parts) ≡ 0
+      → count_by (λ file. file.1.blob == number) (entries_of (numbered files)) + count_by (λ part. part.blob == number) (as_parts parts) ≡ 0
   its_own number same =
       omega (
         arith,
@@ -140,7 +141,7 @@ module _ (content : Content) (root : Root) (found : HasRoot content root) (check
             (Has-map (λ (recorded : PartRec). recorded.blob) part parts is))).0,
       ))
 
-  blobs_distinct : BlobsAreDistinct checkpoint.next_blob (entries_of (numbered files)) (bares parts) root.checkpoint []
+  blobs_distinct : BlobsAreDistinct checkpoint.next_blob (entries_of (numbered files)) (as_parts parts) root.checkpoint []
   blobs_distinct = record {
     positive = omega (arith, found.spelled.drawn, has.spelled.next_blob);
     distinct = λ number l.

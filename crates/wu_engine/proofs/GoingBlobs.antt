@@ -1,5 +1,6 @@
 -- What an engine records stays sound in a content that has of the recorded blobs what was there, and its blobs stay distinct.
-use Rattle.std.proofs.Common.{◌≡◌, ◌⊎◌, inl, inr, ⊎_elim, ℕ, zero, suc, ◌+◌, ◌<◌, ◌≤◌, ◌==◌, List, [], ◌∷◌, length, map, take, drop, refl, sym, ◌∙◌, subst, arith}
+use Rattle.std.proofs.Common.{◌≡◌, ◌⊎◌, inl, inr, ⊎_elim, ℕ, zero, suc, ◌+◌, ◌<◌, ◌≤◌, ◌==◌, List, [], ◌∷◌, length, map, take, drop, refl}
+use Rattle.std.proofs.Common.{sym, ◌∙◌, subst, arith}
 use Rattle.std.specs.Prelude.{Option, count_by, zip}
 use Rattle.std.specs.List.{AllByRecursion}
 use Rattle.wu_base.specs.declared.addresses.PartRec.{PartRec}
@@ -11,7 +12,7 @@ use Rattle.wu_layout.proofs.BlobLemmas.{count-cons, once_same}
 use Rattle.wu_layout.proofs.EntryLemmas.{IfSome-map}
 use Rattle.wu_part.specs.Directories.{PartDirectory}
 use Rattle.wu_parts.specs.Contents.{Contents, JobAt}
-use Rattle.wu_parts.specs.Units.{bare, bares}
+use Rattle.wu_parts.specs.Units.{as_part, as_parts}
 use Rattle.wu_parts.proofs.HeldParts.{put_elsewhere}
 use Rattle.wu_parts.proofs.KeptJobs.{SameBlob, right_stays}
 use Rattle.wu_image.specs.Texts.{IsBrokenText}
@@ -59,11 +60,11 @@ of_texts P (file ∷ files) all =
     )
 
 -- and of each that a part is recorded in
-of_parts : (P : ℕ → Type 0) (parts : List PartRec) → ((number : ℕ) → 0 < count_by (λ part. part.blob == number) (bares parts) → P number)
+of_parts : (P : ℕ → Type 0) (parts : List PartRec) → ((number : ℕ) → 0 < count_by (λ part. part.blob == number) (as_parts parts) → P number)
     → AllByRecursion (λ part. P part.blob) parts
 of_parts P [] all = tt
 of_parts P (part ∷ parts) all =
-    let counted = λ (number : ℕ). count-cons (λ (p : Part). p.blob == number) (bare part) (bares parts) in (
+    let counted = λ (number : ℕ). count-cons (λ (p : Part). p.blob == number) (as_part part) (as_parts parts) in (
       all part.blob (omega (arith, counted part.blob, once_same part.blob part.blob refl)),
       of_parts P parts (λ number some. all number (omega (arith, counted number, some))),
     )
@@ -148,7 +149,7 @@ job_stays content after contents same running sound =
     )
 
 pub sound_stays : (start content after : Content) (files : Records) (contents : Contents) (checkpoint : ℕ)
-    → ((number : ℕ) → 0 < count_by (λ file. file.1.blob == number) (entries_of files) + count_by (λ part. part.blob == number) (bares contents.parts)
+    → ((number : ℕ) → 0 < count_by (λ file. file.1.blob == number) (entries_of files) + count_by (λ part. part.blob == number) (as_parts contents.parts)
     → 0 < number → after.blobs number ≡ content.blobs number)
     → IsSoundIn start content files contents checkpoint → IsSoundIn start after files contents checkpoint
 sound_stays start content after files contents checkpoint same sound =
@@ -166,7 +167,7 @@ sound_stays start content after files contents checkpoint same sound =
       job = IfSome-map (IsSoundJob content contents) (IsSoundJob after contents) contents.job (job_stays content after contents pairs) sound.job;
     }
   where
-    positive : (number : ℕ) → 0 < count_by (λ part. part.blob == number) (bares contents.parts) → 0 < number
+    positive : (number : ℕ) → 0 < count_by (λ part. part.blob == number) (as_parts contents.parts) → 0 < number
     positive zero named = absurd (omega (arith, named, sound.blobs.of_parts))
     positive (suc number) named = omega arith
 

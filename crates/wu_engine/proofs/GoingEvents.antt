@@ -1,5 +1,6 @@
 -- What an engine records stays sound through flushes and events, and memory is that of some postings.
-use Rattle.std.proofs.Common.{◌≡◌, ◌⊎◌, inl, inr, ℕ, ◌+◌, ◌≤◌, ◌<◌, Bool, true, false, cond, List, [], ◌∷◌, ◌++◌, length, map, refl, ap, sym, ◌∙◌, subst, arith, length-append}
+use Rattle.std.proofs.Common.{◌≡◌, ◌⊎◌, inl, inr, ℕ, ◌+◌, ◌≤◌, ◌<◌, Bool, true, false, cond, List, [], ◌∷◌, ◌++◌, length, map, refl, ap}
+use Rattle.std.proofs.Common.{sym, ◌∙◌, subst, arith, length-append}
 use Rattle.std.specs.Prelude.{Option, Some, None, IfSome, nat_le, option_map, zip}
 use Rattle.std.specs.List.{AllByRecursion}
 use Rattle.std.proofs.lemmas.List.{map-append}
@@ -20,7 +21,7 @@ use Rattle.wu_part.specs.Parts.{IsRecorded, SpellsPart}
 use Rattle.wu_parts.specs.Contents.{Contents, with_part, without_postings}
 use Rattle.wu_parts.specs.Flushing.{EmptiesMemory, Flushes, Told}
 use Rattle.wu_parts.specs.Memory.{HasPostings, Memory, emptied}
-use Rattle.wu_parts.specs.Units.{bare, bares}
+use Rattle.wu_parts.specs.Units.{as_part, as_parts}
 use Rattle.wu_parts.proofs.HeldParts.{put_there}
 use Rattle.wu_parts.proofs.RunningJobs.{running_more, zip-append}
 use Rattle.wu_query.specs.Records.{Records, recorded_ranges}
@@ -73,11 +74,11 @@ has_none next old new (inr made) = rw made.2 (emptied_has next old.memory)
 -- ---- a part more
 
 module _ (next : ℕ) (files : List (ℕ × FileEntry)) (parts : List PartRec) (check : ℕ) (stale : List ℕ)
-    (d : BlobsAreDistinct next files (bares parts) check stale) (recorded : PartRec) (e : recorded.blob ≡ next) where
-  blobs_more : BlobsAreDistinct (next + 1) files (bares (parts ++ recorded ∷ [])) check stale
+    (d : BlobsAreDistinct next files (as_parts parts) check stale) (recorded : PartRec) (e : recorded.blob ≡ next) where
+  blobs_more : BlobsAreDistinct (next + 1) files (as_parts (parts ++ recorded ∷ [])) check stale
   blobs_more =
-      subst (λ all. BlobsAreDistinct (next + 1) files all check stale) (sym (map-append bare parts (recorded ∷ [])))
-      (blobs_after_flush next files (bares parts) check stale d (bare recorded) e)
+      subst (λ all. BlobsAreDistinct (next + 1) files all check stale) (sym (map-append as_part parts (recorded ∷ [])))
+      (blobs_after_flush next files (as_parts parts) check stale d (as_part recorded) e)
 
 -- ---- flushes
 
@@ -212,9 +213,9 @@ module _ (start : Content) (checkpoint : ℕ) (effect : Effect) (text : List ℕ
         let stays : IsSoundIn start now files parts checkpoint =
         stored_sound start content files parts checkpoint text (is_stored effect.texted text) sound in
         let high : ℕ = parts.next_blob + cond (is_stored effect.texted text) 1 0 in
-        let catalog : IsSoundCatalog start now (bares parts.parts) checkpoint high (catalog_of space_now files_now f.indexed) =
-        subst (IsSoundCatalog start now (bares parts.parts) checkpoint high) (sym f.catalog)
-        (catalog_followed start now (bares parts.parts) checkpoint effect text f.blob parts.next_blob (catalog_of space files drawn)
+        let catalog : IsSoundCatalog start now (as_parts parts.parts) checkpoint high (catalog_of space_now files_now f.indexed) =
+        subst (IsSoundCatalog start now (as_parts parts.parts) checkpoint high) (sym f.catalog)
+        (catalog_followed start now (as_parts parts.parts) checkpoint effect text f.blob parts.next_blob (catalog_of space files drawn)
         (record { texts = stays.texts; blobs = stays.blobs }) same sorted new f.drawn
         (text_there start content files parts checkpoint text (is_stored effect.texted text) f.blob f.drawn)) in
         subst (λ (c : Contents). IsSoundIn start now files_now c checkpoint) (sym f.others)

@@ -10,7 +10,7 @@ use Rattle.wu_space.specs.Addresses.{Addresses}
 use Rattle.wu_parts.specs.Contents.{Contents}
 use Rattle.wu_parts.specs.Flushing.{Told}
 use Rattle.wu_parts.specs.Memory.{HasPostings}
-use Rattle.wu_parts.specs.Units.{bares}
+use Rattle.wu_parts.specs.Units.{as_parts}
 use Rattle.wu_query.specs.Records.{Records}
 use Rattle.wu_engine.specs.Going.{IsSoundIn, IsSoundOver, entries_of}
 use Rattle.wu_engine.specs.Saving.{removed_by_save}
@@ -29,7 +29,7 @@ layout_for files contents checkpoint = record {
   flushes = 0;
   files = entries_of files;
   memory = [];
-  parts = bares contents.parts;
+  parts = as_parts contents.parts;
   stale = contents.stale;
   job = None;
 }

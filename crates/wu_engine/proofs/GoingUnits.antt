@@ -1,5 +1,6 @@
 -- What an engine records stays sound through units of background work.
-use Rattle.std.proofs.Common.{◌≡◌, inl, inr, ⊎_elim, ℕ, zero, suc, ◌+◌, ◌==◌, Bool, cond, List, [], ◌∷◌, ◌++◌, length, map, take, drop, refl, ap, sym, ◌∙◌, subst, arith, length-append, length-drop}
+use Rattle.std.proofs.Common.{◌≡◌, inl, inr, ⊎_elim, ℕ, zero, suc, ◌+◌, ◌==◌, Bool, cond, List, [], ◌∷◌, ◌++◌, length, map, take, drop}
+use Rattle.std.proofs.Common.{refl, ap, sym, ◌∙◌, subst, arith, length-append, length-drop}
 use Rattle.std.specs.Prelude.{Option, Some, None, count_by, min, option_map, zip}
 use Rattle.std.specs.List.{AllByRecursion}
 use Rattle.std.proofs.lemmas.Bool.{cases_eq}
@@ -18,7 +19,7 @@ use Rattle.wu_outside.specs.declared.ranges.ReadRange.{ReadRange}
 use Rattle.wu_job.specs.Jobs.{IsRight, JobState}
 use Rattle.wu_parts.specs.Contents.{Contents, JobAt}
 use Rattle.wu_parts.specs.Flushing.{Told}
-use Rattle.wu_parts.specs.Units.{DoUnits, DoesUnit, GoesOn, IsMade, Vanishes, bare, bares, replaced}
+use Rattle.wu_parts.specs.Units.{DoUnits, DoesUnit, GoesOn, IsMade, Vanishes, as_part, as_parts, replaced}
 use Rattle.wu_parts.proofs.HeldParts.{put_there, zip-drop, zip-take}
 use Rattle.wu_parts.proofs.LayoutUnits.{if_told}
 use Rattle.wu_parts.proofs.RunningJobs.{running_later, zip-append}
@@ -33,8 +34,8 @@ abbrev pub has_blob : ℕ → PartRec → Bool
 has_blob number recorded = recorded.blob == number
 
 pub named_by_parts : (number : ℕ) (parts : List PartRec)
-    → count_by (λ part. part.blob == number) (bares parts) ≡ count_by (has_blob number) parts
-named_by_parts number parts = sum_by-map (λ (p : Part). cond {A = ℕ} (p.blob == number) 1 0) bare parts
+    → count_by (λ part. part.blob == number) (as_parts parts) ≡ count_by (has_blob number) parts
+named_by_parts number parts = sum_by-map (λ (p : Part). cond {A = ℕ} (p.blob == number) 1 0) as_part parts
 
 pub named_by_blobs : (number : ℕ) (parts : List PartRec)
     → count_by (λ other. other == number) (map (λ recorded. recorded.blob) parts) ≡ count_by (has_blob number) parts
@@ -58,15 +59,15 @@ count_replaced number place count made parts =
     )
 
 module _ (next : ℕ) (files : List (ℕ × FileEntry)) (parts : List PartRec) (check : ℕ) (stale : List ℕ)
-    (d : BlobsAreDistinct next files (bares parts) check stale) (place count : ℕ) where
+    (d : BlobsAreDistinct next files (as_parts parts) check stale) (place count : ℕ) where
   abbrev freed : List ℕ
   freed = map (λ recorded. recorded.blob) (take count (drop place parts))
 
   -- parts and stale blobs together name as many as before, and the part that was made
   counted : (made : List PartRec) (number : ℕ)
-      → count_by (λ part. part.blob == number) (bares (replaced place count made parts))
+      → count_by (λ part. part.blob == number) (as_parts (replaced place count made parts))
       + count_by (λ other. other == number) (stale ++ freed)
-      ≡ count_by (λ part. part.blob == number) (bares parts) + count_by (λ other. other == number) stale + count_by (has_blob number) made
+      ≡ count_by (λ part. part.blob == number) (as_parts parts) + count_by (λ other. other == number) stale + count_by (has_blob number) made
   counted made number =
       omega (
         arith,
@@ -77,19 +78,19 @@ module _ (next : ℕ) (files : List (ℕ × FileEntry)) (parts : List PartRec) (
         count_replaced number place count made parts,
       )
 
-  blobs_left : BlobsAreDistinct next files (bares (replaced place count [] parts)) check (stale ++ freed)
+  blobs_left : BlobsAreDistinct next files (as_parts (replaced place count [] parts)) check (stale ++ freed)
   blobs_left =
-      blobs_drawn next next files files (bares parts) (bares (replaced place count [] parts)) check check stale (stale ++ freed) d (omega arith)
+      blobs_drawn next next files files (as_parts parts) (as_parts (replaced place count [] parts)) check check stale (stale ++ freed) d (omega arith)
       (λ number l. inl (omega (arith, counted [] number)))
       (omega (arith, counted [] 0, d.of_parts, d.of_stale))
       (omega (arith, counted [] 0, d.of_parts, d.of_stale))
 
   blobs_replaced : (made : PartRec) → made.blob ≡ next
-      → BlobsAreDistinct (next + 1) files (bares (replaced place count (made ∷ []) parts)) check (stale ++ freed)
+      → BlobsAreDistinct (next + 1) files (as_parts (replaced place count (made ∷ []) parts)) check (stale ++ freed)
   blobs_replaced made e =
       let one = λ (number : ℕ). count-cons (has_blob number) made [] in
       let zeroth : once made.blob 0 ≡ 0 = once_other made.blob 0 (λ same. omega (arith, e, same, d.positive)) in
-      blobs_drawn next (next + 1) files files (bares parts) (bares (replaced place count (made ∷ []) parts)) check check stale (stale ++ freed) d
+      blobs_drawn next (next + 1) files files (as_parts parts) (as_parts (replaced place count (made ∷ []) parts)) check check stale (stale ++ freed) d
       (omega arith)
       (λ number l.
       ⊎_elim

@@ -23,7 +23,7 @@ use Rattle.wu_tree.proofs.EventRules.{accepted}
 use Rattle.wu_tree.proofs.LinkRemovals.{apart_from}
 use Rattle.wu_tree.proofs.ParentPaths.{other_number}
 use Rattle.wu_space.specs.Addresses.{Addresses, IsSpace, Ranges, range_of, released}
-use Rattle.wu_frames.specs.UserFrames.{AreFor, IsMove, Kept, StayMendable, kept_mendable, with_range}
+use Rattle.wu_frames.specs.UserFrames.{CacheMatchesTree, IsMove, Kept, StayMendable, kept_mendable, with_range}
 use Rattle.wu_frames.specs.declared.links.LinkChanges.{LinkChanges}
 use Rattle.wu_frames.specs.Links.{IsLinkChange, links_changed}
 use Rattle.wu_frames.proofs.LinkEvents.{links-create, links-link, links-mkdir, links-rename, links-rmdir, links-unlink}
@@ -154,8 +154,8 @@ given_range before now ino old gave =
 module _ (fs : FileSystem) (before now : Addresses) (ino : ℕ) (old new : Range) (kept kept_now : Kept)
     (gave : GaveText before now (ino, old))
     (has : range_of now.ranges ino ≡ Some new)
-    (mends : (tree : FileSystem) (space : Addresses) → IsMove space ino old new → AreFor tree space.ranges kept
-    → AreFor tree (with_range ino new space.ranges) kept_now) where
+    (mends : (tree : FileSystem) (space : Addresses) → IsMove space ino old new → CacheMatchesTree tree space.ranges kept
+    → CacheMatchesTree tree (with_range ino new space.ranges) kept_now) where
   abbrev given : Range
   given = record { start = before.next; len = gave.len }
 
@@ -167,15 +167,15 @@ module _ (fs : FileSystem) (before now : Addresses) (ino : ℕ) (old new : Range
   moves : IsMove before ino old new
   moves = record { rules = gave.rules; from = gave.had; to = omega (arith, ap (λ (r : Range). r.start) is_given) }
 
-  pub renewed : AreFor fs before.ranges kept → AreFor fs now.ranges kept_now
+  pub renewed : CacheMatchesTree fs before.ranges kept → CacheMatchesTree fs now.ranges kept_now
   renewed right =
-      let moved : AreFor fs (with_range ino new before.ranges) kept_now = mends fs before moves right in
+      let moved : CacheMatchesTree fs (with_range ino new before.ranges) kept_now = mends fs before moves right in
       let same : with_range ino new before.ranges ≡ now.ranges =
       ap (λ (r : Range). with_range ino r before.ranges) is_given ∙ sym (ap (λ (s : Addresses). s.ranges) gave.has) in
-      subst (λ (l : Ranges). AreFor fs l kept_now) same moved
+      subst (λ (l : Ranges). CacheMatchesTree fs l kept_now) same moved
 
   -- exactly those users' frames stay that may be mended
-  pub who_stays : StayMendable ino old new kept kept_now → IsSpace now → AreFor fs before.ranges kept
+  pub who_stays : StayMendable ino old new kept kept_now → IsSpace now → CacheMatchesTree fs before.ranges kept
       → keys_of kept_now ≡ keys_of (kept_mendable old kept)
   who_stays stay rules right =
       let start : new.start ≡ before.next = ap (λ (r : Range). r.start) is_given in

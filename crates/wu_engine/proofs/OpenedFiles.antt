@@ -1,5 +1,6 @@
 -- The files that a checkpoint records, as an engine is made of them.
-use Rattle.std.proofs.Common.{◌≡◌, ℕ, ◌+◌, ◌<◌, ◌≤◌, Bool, true, false, cond, List, [], ◌∷◌, refl, ap, sym, ◌∙◌, subst, arith, inl, inr, ⊎_elim}
+use Rattle.std.proofs.Common.{◌≡◌, ℕ, ◌+◌, ◌<◌, ◌≤◌, Bool, true, false, cond, List, [], ◌∷◌, refl, ap, sym, ◌∙◌, subst, arith, inl, inr}
+use Rattle.std.proofs.Common.{⊎_elim}
 use Rattle.std.specs.Prelude.{◌==◌, ◌↔◌, IsPermutation, Some, is_some, map, filter}
 use Rattle.std.specs.declared.cmp.Ordering.TheVariants.{Less}
 use Rattle.std.specs.Ordering.{is_eq, nat_cmp, ordering_reverse}
@@ -14,7 +15,7 @@ use Rattle.wu_base.specs.declared.addresses.Range.{Range}
 use Rattle.wu_base.specs.declared.limits.TheConstants.{SPENT_AT}
 use Rattle.wu_base.proofs.Members.{Contains-from_Has, Has, Has-from_Contains, Has-map, all_has}
 use Rattle.wu_engine.proofs.SavedTexts.{file_numbers_ascend, kept_above}
-use Rattle.wu_layout.specs.Postings.{is_in}
+use Rattle.wu_base.specs.Ranges.{is_in}
 use Rattle.wu_tree.specs.declared.events.Node.{Node}
 use Rattle.wu_tree.specs.FileSystems.{is_file_node, is_kind_file}
 use Rattle.wu_tree.proofs.ListTests.{keys_mapped}

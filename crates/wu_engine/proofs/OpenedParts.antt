@@ -12,7 +12,7 @@ use Rattle.wu_part.specs.Parts.{SpellsPart}
 use Rattle.wu_part.proofs.LawLemmas.{one_directory}
 use Rattle.wu_parts.specs.Holdings.{HoldParts}
 use Rattle.wu_parts.specs.Loading.{AreLoadable, AreOpened, HasDirectory, HasNoDirectory, IsFirstBroken, SpansFollow, end_of}
-use Rattle.wu_parts.specs.Units.{bare, bares}
+use Rattle.wu_parts.specs.Units.{as_part, as_parts}
 use Rattle.wu_image.specs.declared.records.FileRec.{FileRec}
 use Rattle.wu_image.specs.Images.{HoldsPart}
 use Rattle.wu_image.specs.LayoutRules.{AreLayoutRules, IsPart, SpansAscend}
@@ -35,12 +35,12 @@ parts_drawn next [] (part ∷ parts) a = (a.0.1, parts_drawn next [] parts a.1)
 parts_drawn next (blob ∷ front) parts a = parts_drawn next front parts a.1
 
 stay_within : (limit bound : ℕ) (parts : List PartRec) → limit ≤ bound → StayBelow limit parts
-    → AllByRecursion (λ later. later.generation ≤ bound) (bares parts)
+    → AllByRecursion (λ later. later.generation ≤ bound) (as_parts parts)
 stay_within limit bound [] l n = tt
 stay_within limit bound (part ∷ parts) l n =
     (omega (arith, n.0, l), stay_within part.generation bound parts (omega (arith, n.0, l)) n.1)
 
-never_rise : (limit : ℕ) (parts : List PartRec) → StayBelow limit parts → NeverRise (bares parts)
+never_rise : (limit : ℕ) (parts : List PartRec) → StayBelow limit parts → NeverRise (as_parts parts)
 never_rise limit [] n = tt
 never_rise limit (part ∷ parts) n =
     (stay_within part.generation part.generation parts (omega arith) n.1, never_rise part.generation parts n.1)
@@ -51,7 +51,7 @@ loadable next next_blob flushes files parts rules = record {
   spans = spans_follow 0 parts next rules.spans rules.parts_hold;
   below = parts_drawn next_blob _ parts rules.drawn;
   never_rise = never_rise _ parts rules.generations;
-  flushed = omega (arith, sum_of_map (λ (part : Part). 2 ^ part.generation) bare parts, rules.flushed);
+  flushed = omega (arith, sum_of_map (λ (part : Part). 2 ^ part.generation) as_part parts, rules.flushed);
   few = omega (arith, rules.few);
 }
 

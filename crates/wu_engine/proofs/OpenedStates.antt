@@ -20,20 +20,21 @@ use Rattle.wu_query.proofs.PermittedBlocks.{reads_joined}
 use Rattle.wu_engine.specs.declared.engines.Engine.{Engine}
 use Rattle.wu_engine.specs.declared.faults.BeginFault.{BeginFault}
 use Rattle.wu_engine.specs.declared.faults.BeginFault.TheVariants as faults
-use Rattle.wu_engine.specs.Opened.{FindsRoot, IsEngineFor, IsFoundIn, IsOf, ReadsCheckpoint}
-use Rattle.wu_engine.specs.Opening.{HasCheckpoint, HasOpenRoot, HoldsImage, IsBeginCause, IsDamagedAtOpening, IsOpen, IsOpeningRange, IsSpentWhere, Opens, ReadsAtOpening, checkpoint_range}
+use Rattle.wu_engine.specs.Opened.{FindsRoot, IsEngineFor, IsFoundIn, MatchesRoot, ReadsCheckpoint}
+use Rattle.wu_engine.specs.Opening.{HasCheckpoint, HasOpenRoot, HoldsImage, IsBeginCause, IsDamagedAtOpening, IsOpen, IsOpeningRange}
+use Rattle.wu_engine.specs.Opening.{IsSpentWhere, Opens, ReadsAtOpening, checkpoint_range}
 use Rattle.wu_engine.specs.Stands.{Stands}
 use Rattle.wu_engine.proofs.ImageStates.{image_undamaged, saved_stands}
 
 -- ---- the checkpoint
 
 none_of_it : (root : Root) (held : Option (List ℕ)) (found : Option Checkpoint) → IsFoundIn root.size held found
-    → IfSome found (λ checkpoint. IsOf root checkpoint → ⊥) → IsBrokenCheckpoint root held
+    → IfSome found (λ checkpoint. MatchesRoot root checkpoint → ⊥) → IsBrokenCheckpoint root held
 none_of_it root None found h other = tt
 none_of_it root (Some bytes) None h other = λ checkpoint is. h is.size checkpoint is.spelled
 none_of_it root (Some bytes) (Some read) h other = λ checkpoint is.
     let same : checkpoint ≡ read = same_checkpoint checkpoint read bytes is.spelled h.1 in
-    other (subst (IsOf root) same (record {
+    other (subst (MatchesRoot root) same (record {
       next_address = is.next_address;
       next_blob = is.next_blob;
       of_no_text = is.of_no_text;
@@ -43,7 +44,7 @@ none_of_it root (Some bytes) (Some read) h other = λ checkpoint is.
 pub checkpoint_broken : (holds : Option Content) (root : Root) (found : Option Checkpoint)
     → IfSome holds (λ content. HasOpenRoot content root)
     → IfSome holds (λ content. IsFoundIn root.size (content.blobs root.checkpoint) found)
-    → IfSome found (λ checkpoint. IsOf root checkpoint → ⊥)
+    → IfSome found (λ checkpoint. MatchesRoot root checkpoint → ⊥)
     → IfSome holds (λ content. IsDamagedAtOpening content root.checkpoint)
 checkpoint_broken None root found roomy h other = tt
 checkpoint_broken (Some content) root found roomy h other =
@@ -51,7 +52,7 @@ checkpoint_broken (Some content) root found roomy h other =
 
 pub checkpoint_found : (holds : Option Content) (root : Root) (found : Option Checkpoint)
     → IfSome holds (λ content. IsFoundIn root.size (content.blobs root.checkpoint) found)
-    → (checkpoint : Checkpoint) → (found ≡ Some checkpoint) × IsOf root checkpoint
+    → (checkpoint : Checkpoint) → (found ≡ Some checkpoint) × MatchesRoot root checkpoint
     → IfSome holds (λ content. HasCheckpoint content root checkpoint)
 checkpoint_found None root found h checkpoint own = tt
 checkpoint_found (Some content) root found h checkpoint own =

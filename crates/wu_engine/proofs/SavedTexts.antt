@@ -1,5 +1,6 @@
 -- The records of a state's files keep the rules of a checkpoint on texts, and are those of the tree's regular files, in their order.
-use Rattle.std.proofs.Common.{◌≡◌, ◌≢◌, ◌↔◌, ℕ, ◌+◌, ◌<◌, ◌≤◌, ◌==◌, Bool, true, false, true≢false, not, cond, List, [], ◌∷◌, length, map, filter, count_by, Some, IfSome, is_some, Less, refl, ap, sym, ◌∙◌, subst, inl, inr, ⊎_elim, arith}
+use Rattle.std.proofs.Common.{◌≡◌, ◌≢◌, ◌↔◌, ℕ, ◌+◌, ◌<◌, ◌≤◌, ◌==◌, Bool, true, false, true≢false, not, cond, List, [], ◌∷◌, length, map}
+use Rattle.std.proofs.Common.{filter, count_by, Some, IfSome, is_some, Less, refl, ap, sym, ◌∙◌, subst, inl, inr, ⊎_elim, arith}
 use Rattle.std.specs.Ordering.{nat_cmp, is_eq}
 use Rattle.std.specs.Cmp.{nat_cmp_total}
 use Rattle.std.specs.List.{AllByRecursion}
@@ -18,8 +19,8 @@ use Rattle.wu_tree.specs.declared.events.Node.{Node}
 use Rattle.wu_tree.specs.FileSystems.{is_file_node, is_kind_file}
 use Rattle.wu_tree.proofs.ParentPaths.{same_number}
 use Rattle.wu_layout.specs.Layouts.{FileEntry, entry_of, homes_of, postings_of}
-use Rattle.wu_layout.specs.Postings.{is_in}
-use Rattle.wu_layout.specs.Invariants.{AreApart, IsIndexed, RangesAreDisjoint}
+use Rattle.wu_base.specs.Ranges.{is_in, AreDisjoint}
+use Rattle.wu_layout.specs.Invariants.{IsIndexed, RangesAreDisjoint}
 use Rattle.wu_layout.proofs.BlobLemmas.{count-cons}
 use Rattle.wu_layout.proofs.EntryLemmas.{IfSome-found}
 use Rattle.wu_layout.proofs.PostingLemmas.{outside_above, outside_below}
@@ -88,7 +89,7 @@ module _ (s : State) (is : IsState s) where
 
 -- ---- an address is in one file's range at most
 
-not_in_other : (range other : Range) (address : ℕ) → AreApart range other → is_in range address ≡ true → is_in other address ≡ false
+not_in_other : (range other : Range) (address : ℕ) → AreDisjoint range other → is_in range address ≡ true → is_in other address ≡ false
 not_in_other range other address h t =
     let parts = and_parts _ _ t in
     let from : range.start ≤ address = leb-true range.start address parts.0 in
@@ -103,7 +104,7 @@ module _ (texts : Texts) (address : ℕ) where
   holds file = is_in file.range address
 
   none_apart : (range : Range) (files : List (ℕ × FileEntry)) → is_in range address ≡ true
-      → AllByRecursion (λ e. AreApart range e.1.range) files → count_by holds (file_records texts files) ≡ 0
+      → AllByRecursion (λ e. AreDisjoint range e.1.range) files → count_by holds (file_records texts files) ≡ 0
   none_apart range [] t a = refl
   none_apart range (file ∷ files) t a =
       let none : cond {A = ℕ} (is_in file.1.range address) 1 0 ≡ 0 =
@@ -113,11 +114,11 @@ module _ (texts : Texts) (address : ℕ) where
 module _ (is_file : ℕ → Bool) (next : ℕ) (files : List (ℕ × FileEntry)) (d : RangesAreDisjoint is_file next files) where
   apart_from : (file : ℕ × FileEntry) (es : List (ℕ × FileEntry)) → entry_of files file.0 ≡ Some file.1
       → AllByRecursion (λ e. entry_of files e.0 ≡ Some e.1) es → AllByRecursion (λ k. nat_cmp file.0 k ≡ Less) (keys_of es)
-      → AllByRecursion (λ e. AreApart file.1.range e.1.range) es
+      → AllByRecursion (λ e. AreDisjoint file.1.range e.1.range) es
   apart_from file [] f a s = tt
   apart_from file (e ∷ es) f a s = (
-    IfSome-found (λ other. AreApart file.1.range other.range) (entry_of files e.0) e.1 a.0
-        (IfSome-found (λ entry. IfSome (entry_of files e.0) (λ other. AreApart entry.range other.range)) (entry_of files file.0) file.1 f
+    IfSome-found (λ other. AreDisjoint file.1.range other.range) (entry_of files e.0) e.1 a.0
+        (IfSome-found (λ entry. IfSome (entry_of files e.0) (λ other. AreDisjoint entry.range other.range)) (entry_of files file.0) file.1 f
         (d.apart file.0 e.0 (other_key file.0 e.0 s.0))),
     apart_from file es f a.1 s.1,
   )

@@ -5,8 +5,8 @@ use Rattle.wu_image.specs.declared.roots.Root.{Root}
 use Rattle.wu_engine.specs.Opening.{HasRoot}
 
 -- the blob is as it was, or it is gone
-abbrev pub IsAsItWasOrGone : Content → Content → ℕ → Type 0
-IsAsItWasOrGone before after blob = (after.blobs blob ≡ before.blobs blob) ⊎ (after.blobs blob ≡ None)
+abbrev pub IsSameOrRemoved : Content → Content → ℕ → Type 0
+IsSameOrRemoved before after blob = (after.blobs blob ≡ before.blobs blob) ⊎ (after.blobs blob ≡ None)
 
 -- none of them has changed, nor has the root
 pub record KeepsAllBelow (low : ℕ) (before after : Content) : Type 0 where
@@ -18,7 +18,7 @@ pub record HasLaterRoot (low : ℕ) (before after : Content) : Type 0 where
   pub root : Root
   pub there : HasRoot after root
   pub later : low ≤ root.checkpoint
-  pub blobs : (blob : ℕ) → blob < low → IsAsItWasOrGone before after blob
+  pub blobs : (blob : ℕ) → blob < low → IsSameOrRemoved before after blob
 
 -- The store tells as much as before, and of the blobs below the number it has what is left of them so.
 abbrev pub LeavesEarlier : ℕ → Option Content → Option Content → Type 0

@@ -8,12 +8,11 @@ use Rattle.wu_layout.specs.Invariants.{BlobsAreDistinct}
 use Rattle.wu_layout.specs.Layouts.{FileEntry}
 use Rattle.wu_layout.specs.Postings.{Posting}
 use Rattle.wu_part.specs.Directories.{PartDirectory}
-use Rattle.wu_part.specs.Parts.{IsDirectoryOf, IsRecorded}
-use Rattle.wu_lists.specs.Causes.{IsNoPart}
+use Rattle.wu_part.specs.Parts.{IsDirectoryOf, IsRecorded, IsNoPart}
 use Rattle.wu_job.specs.Jobs.{IsRight}
 use Rattle.wu_parts.specs.Contents.{Contents, JobAt}
 use Rattle.wu_parts.specs.Memory.{HasPostings}
-use Rattle.wu_parts.specs.Units.{IsRunning, bares}
+use Rattle.wu_parts.specs.Units.{IsRunning, as_parts}
 use Rattle.wu_image.specs.Breakage.{IsBrokenBlob}
 use Rattle.wu_image.specs.Texts.{IsBrokenText}
 use Rattle.wu_image.specs.declared.checkpoints.Checkpoint.{Checkpoint}
@@ -88,7 +87,7 @@ IsSoundJob content contents running = IsRunning contents.parts contents.director
 -- under way is sound.
 pub record IsSoundIn (start content : Content) (files : Records) (contents : Contents) (checkpoint : ℕ) : Type 0 where
   pub paired : length contents.parts ≡ length contents.directories
-  pub blobs : BlobsAreDistinct contents.next_blob (entries_of files) (bares contents.parts) checkpoint contents.stale
+  pub blobs : BlobsAreDistinct contents.next_blob (entries_of files) (as_parts contents.parts) checkpoint contents.stale
   pub texts : AllByRecursion (IsSoundText start content) files
   pub parts : AllByRecursion (IsSoundPart start content) (zip contents.parts contents.directories)
   pub job : IfSome contents.job (IsSoundJob content contents)

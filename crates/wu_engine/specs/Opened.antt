@@ -58,7 +58,7 @@ IsFoundIn size (Some bytes) None = length bytes ≡ size → (checkpoint : Check
 IsFoundIn size (Some bytes) (Some checkpoint) = (length bytes ≡ size) × SpellsCheckpoint checkpoint bytes
 
 -- the checkpoint has the root's numbers, and names its own blob for no text and no part
-pub record IsOf (root : Root) (checkpoint : Checkpoint) : Type 0 where
+pub record MatchesRoot (root : Root) (checkpoint : Checkpoint) : Type 0 where
   pub next_address : checkpoint.next_address ≡ root.next_address
   pub next_blob : checkpoint.next_blob ≡ root.next_blob
   pub of_no_text : AllByRecursion (λ file. file.blob ≢ root.checkpoint) checkpoint.files

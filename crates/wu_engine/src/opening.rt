@@ -1,5 +1,6 @@
 //! Opening of an engine over a store: the root, the checkpoint that it names, and the parts.
-ghost use Rattle.std.specs.Prelude.{◌≡◌, ◌⊎◌, ◌≢◌, ◌<◌, ◌^◌, IfErr, IfNone, IfOk, IfSome, MatchBool, Some, OnOk, OnSome, None, [], length, map};
+ghost use Rattle.std.specs.Prelude.{◌≡◌, ◌⊎◌, ◌≢◌, ◌<◌, ◌^◌, IfErr, IfNone, IfOk, IfSome, MatchBool, Some, OnOk, OnSome, None, [], length};
+ghost use Rattle.std.specs.Prelude.{map};
 ghost use Rattle.std.specs.List.{AllByRecursion};
 ghost use Rattle.std.specs.List.Sorted.{IsStrictlySortedBy};
 ghost use Rattle.std.specs.Ordering.{nat_cmp};
@@ -13,8 +14,10 @@ ghost use Rattle.wu_image.specs.Checkpoints.{IsCheckpoint};
 ghost use Rattle.wu_query.specs.States.{State};
 ghost use Rattle.wu_engine.specs.declared.faults.BeginFault.TheVariants.{Damaged as SavedIsDamaged};
 ghost use Rattle.wu_engine.specs.Going.{Goes};
-ghost use Rattle.wu_engine.specs.Opened.{FindsRoot, HasRoom, IsEngineFor, IsFirstEngine, IsFoundIn, IsGivenRoot, IsOf, IsRootFault, IsSpentBy, ReadsCheckpoint, numbered, ranges_recorded};
-ghost use Rattle.wu_engine.specs.Opening.{HasCheckpoint, HasOpenRoot, HoldsImage, IsBeginCause, IsOpen, IsSpentWhere, ReadsAtOpening, spent_of};
+ghost use Rattle.wu_engine.specs.Opened.{FindsRoot, HasRoom, IsEngineFor, IsFirstEngine, IsFoundIn, IsGivenRoot, MatchesRoot, IsRootFault};
+ghost use Rattle.wu_engine.specs.Opened.{IsSpentBy, ReadsCheckpoint, numbered, ranges_recorded};
+ghost use Rattle.wu_engine.specs.Opening.{HasCheckpoint, HasOpenRoot, HoldsImage, IsBeginCause, IsOpen, IsSpentWhere, ReadsAtOpening};
+ghost use Rattle.wu_engine.specs.Opening.{spent_of};
 ghost use Rattle.wu_engine.specs.Stands.{Stands};
 
 use crate::engines::Engine;
@@ -195,7 +198,7 @@ fn open_checkpoint<D: Store>(
     requires { IfSome (D.holds store.old) (λ content. HasOpenRoot content root.now) }
     ensures saved { IfOk result (λ checkpoint. IfSome (D.holds store.old) (λ content. HasCheckpoint content root.now checkpoint)) }
     ensures rules { IfOk result IsCheckpoint }
-    ensures own { IfOk result (IsOf root.now) }
+    ensures own { IfOk result (MatchesRoot root.now) }
     ensures holds { D.holds store.new ≡ D.holds store.old }
     ensures moments { D.moments store.new ≡ D.moments store.old }
     ensures read { OnOk result (ReadsCheckpoint root.now (D.reads store.old) (D.reads store.new)) }
@@ -209,9 +212,9 @@ fn open_checkpoint<D: Store>(
 
 /// The checkpoint that was found, where it is the root's. Takes no memory.
 fn own_checkpoint(found: Option<Checkpoint>, root: &Root) -> Result<Checkpoint, BeginFault>
-    ensures own { IfOk result (λ checkpoint. (found ≡ Some checkpoint) × IsOf root.now checkpoint) }
+    ensures own { IfOk result (λ checkpoint. (found ≡ Some checkpoint) × MatchesRoot root.now checkpoint) }
     ensures damaged { IfErr result (λ fault. (fault ≡ SavedIsDamaged root.now.checkpoint)
-        × IfSome found (λ checkpoint. IsOf root.now checkpoint → ⊥)) }
+        × IfSome found (λ checkpoint. MatchesRoot root.now checkpoint → ⊥)) }
 {
     match found {
         Some(checkpoint) if is_of(&checkpoint, root) => Ok(checkpoint),
@@ -269,7 +272,7 @@ fn named_blob<D: Store>(alloc: Global, store: &mut D, root: &Root) -> Result<Opt
 
 /// Whether the checkpoint has the root's numbers, and its own blob is none of its texts' and parts'.
 fn is_of(checkpoint: &Checkpoint, root: &Root) -> bool
-    ensures { MatchBool result (IsOf root.now checkpoint.now) (IsOf root.now checkpoint.now → ⊥) }
+    ensures { MatchBool result (MatchesRoot root.now checkpoint.now) (MatchesRoot root.now checkpoint.now → ⊥) }
 {
     checkpoint.next_address == root.next_address
         && checkpoint.next_blob == root.next_blob

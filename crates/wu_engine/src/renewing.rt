@@ -2,7 +2,7 @@
 ghost use Rattle.std.specs.Prelude.{◌≡◌, IfOk};
 ghost use Rattle.wu_space.specs.Addresses.{Addresses};
 ghost use Rattle.wu_tree.specs.FileSystems.{FileSystem, acl_of, node_of};
-ghost use Rattle.wu_frames.specs.UserFrames.{AreFor};
+ghost use Rattle.wu_frames.specs.UserFrames.{CacheMatchesTree};
 ghost use Rattle.wu_engine.specs.Renewing.{AreLeft, Touches, perm_touched, touched_of};
 
 use std::alloc::Global;
@@ -65,9 +65,9 @@ fn perm_touched(alloc: Global, tree: &Tree, ino: Ino) -> Result<Touched, NoMemor
 /// those stay that it doesn't change.
 pub(crate) fn renew_frames(frames: &mut FrameCache, tree: &Tree, space: &Space, touched: Touched)
     ensures right { (fs : FileSystem) (before : Addresses) → Touches fs before tree.now space.now touched
-        → AreFor fs before.ranges frames.old → AreFor tree.now space.now.ranges frames.new }
+        → CacheMatchesTree fs before.ranges frames.old → CacheMatchesTree tree.now space.now.ranges frames.new }
     ensures left { (fs : FileSystem) (before : Addresses) → Touches fs before tree.now space.now touched
-        → AreFor fs before.ranges frames.old → AreLeft tree.now touched frames.old frames.new }
+        → CacheMatchesTree fs before.ranges frames.old → AreLeft tree.now touched frames.old frames.new }
 {
     space.keeps_the_rules();
     match touched {

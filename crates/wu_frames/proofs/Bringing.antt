@@ -5,11 +5,12 @@ use Rattle.std.specs.List.Sorted.{IsNonDecreasingBy}
 use Rattle.std.proofs.lemmas.List.{get_or_default}
 use Rattle.wu_base.specs.declared.addresses.Range.{Range}
 use Rattle.wu_tree.specs.FileSystems.{FileSystem}
-use Rattle.wu_space.specs.Addresses.{AreApart, Ranges}
+use Rattle.wu_space.specs.Addresses.{Ranges}
+use Rattle.wu_base.specs.Ranges.{AreApart}
 use Rattle.wu_frames.specs.declared.Frame.{Frame}
 use Rattle.wu_frames.specs.declared.Frames.{Frames}
-use Rattle.wu_frames.specs.UserFrames.{AreFor, AreFrames, HasFrameAt, Kept, StayOrMove, is_mendable, with_range}
-use Rattle.wu_frames.specs.Mending.{IsBrought, IsMoved, MayForget, MayMove, with_last}
+use Rattle.wu_frames.specs.UserFrames.{CacheMatchesTree, AreFrames, HasFrameAt, Kept, StayOrMove, is_mendable, with_range}
+use Rattle.wu_frames.specs.Mending.{IsCacheAfterMove, IsMoved, MayForget, MayMove, with_last}
 use Rattle.wu_frames.proofs.Mendable.{keys-both, keys-none, keys-one, mendable-few, mendable-without, only-worn, unmendable}
 use Rattle.wu_frames.proofs.MovedFrames.{right-moved, right-without, starts-ascend}
 
@@ -33,7 +34,7 @@ stay-both old (entry ∷ kept) (first ∷ now) more after s t =
           (λ gone. inr (stay-both old kept (first ∷ now) more after gone t)) other.1,
     )) s
 
-for-both : (fs : FileSystem) (live : Ranges) (kept more : Kept) → AreFor fs live kept → AreFor fs live more → AreFor fs live (kept ++ more)
+for-both : (fs : FileSystem) (live : Ranges) (kept more : Kept) → CacheMatchesTree fs live kept → CacheMatchesTree fs live more → CacheMatchesTree fs live (kept ++ more)
 for-both fs live [] more a b = b
 for-both fs live (entry ∷ kept) more a b = (a.0, for-both fs live kept more a.1 b)
 
@@ -53,11 +54,11 @@ module _ (ino : ℕ) (old new : Range) where
   abbrev test : ℕ × Frames → Bool
   test entry = is_mendable old entry.1
 
-  pub brought-none : IsBrought ino old new [] []
+  pub brought-none : IsCacheAfterMove ino old new [] []
   brought-none = record { stays = refl; users = λ fs space m fits a. refl; right = λ fs space m a. tt }
 
-  pub brought-both : (entry : ℕ × Frames) (first gone done : Kept) → IsBrought ino old new (entry ∷ []) first
-      → IsBrought ino old new gone done → IsBrought ino old new (entry ∷ gone) (first ++ done)
+  pub brought-both : (entry : ℕ × Frames) (first gone done : Kept) → IsCacheAfterMove ino old new (entry ∷ []) first
+      → IsCacheAfterMove ino old new gone done → IsCacheAfterMove ino old new (entry ∷ gone) (first ++ done)
   brought-both entry first gone done a b = record {
     stays = stay-both old (entry ∷ []) first gone done a.stays b.stays;
     users = λ fs space m fits r. keys-both test entry first gone done (a.users fs space m fits (r.0, tt)) (b.users fs space m fits r.1);
@@ -70,7 +71,7 @@ module _ (ino : ℕ) (old new : Range) where
   pub brought-same : (uid : ℕ) (frames : Frames)
       → (IsNonDecreasingBy (λ (x : Frame). x.range.start) frames.by_address
       → AllByRecursion (λ (x : Frame). x.range.start ≢ old.start) frames.by_address)
-      → IsBrought ino old new ((uid, frames) ∷ []) ((uid, frames) ∷ [])
+      → IsCacheAfterMove ino old new ((uid, frames) ∷ []) ((uid, frames) ∷ [])
   brought-same uid frames none = record {
     stays = inl (refl, refl);
     users = λ fs space m fits r. keys-one test (uid, frames) (mendable-without old frames (none (ascend fs space.ranges uid frames r.0)));
@@ -95,7 +96,7 @@ module _ (ino : ℕ) (old new : Range) where
     }
 
     pub brought-moved : (last : Frame) (sum : ℕ) → MayMove place ino new frames last sum
-        → IsBrought ino old new ((uid, frames) ∷ []) ((uid, with_last place last sum frames) ∷ [])
+        → IsCacheAfterMove ino old new ((uid, frames) ∷ []) ((uid, with_last place last sum frames) ∷ [])
     brought-moved last sum may = record {
       stays = inr (has, inl (refl, (may.few, refl), refl));
       users = λ fs space m fits r. keys-one test (uid, frames) (mendable-few old frames may.few);
@@ -103,7 +104,7 @@ module _ (ino : ℕ) (old new : Range) where
           (right-moved space ino old new m fs uid frames r.0 place inside (with_last place last sum frames) (is-moved last sum may), tt);
     }
 
-    pub brought-forgotten : MayForget place ino new frames → IsBrought ino old new ((uid, frames) ∷ []) []
+    pub brought-forgotten : MayForget place ino new frames → IsCacheAfterMove ino old new ((uid, frames) ∷ []) []
     brought-forgotten may = record {
       stays = (has, refl);
       users = λ fs space m fits r.

@@ -6,9 +6,10 @@ use mathlib.Core.Logic.{∥∥₁_prop}
 use Rattle.wu_base.specs.declared.addresses.Range.{Range}
 use Rattle.wu_tree.specs.FileSystems.{FileSystem}
 use Rattle.wu_view.specs.declared.Seen.{Seen}
-use Rattle.wu_space.specs.Addresses.{Ranges, AreApart}
+use Rattle.wu_space.specs.Addresses.{Ranges}
+use Rattle.wu_base.specs.Ranges.{AreApart}
 use Rattle.wu_frames.specs.declared.Frames.{Frames}
-use Rattle.wu_frames.specs.UserFrames.{AreFrames, AreFor, Kept}
+use Rattle.wu_frames.specs.UserFrames.{AreFrames, CacheMatchesTree, Kept}
 
 abbrev coded_range : Coded Range
 coded_range = code_by (ℕ × ℕ) (coded× coded_ℕ coded_ℕ) (λ r. (r.start, r.len)) (λ p. record { start = p.0; len = p.1 }) (λ _. refl)
@@ -31,5 +32,5 @@ AreFrames-prop fs live uid frames a b = λ i. record {
   sum = Coded-set coded_ℕ _ _ a.sum b.sum i;
 }
 
-pub AreFor-prop : (fs : FileSystem) (live : Ranges) (kept : Kept) → IsProp (AreFor fs live kept)
-AreFor-prop fs live kept = AllByRecursion-prop _ (λ entry. AreFrames-prop fs live entry.0 entry.1) kept
+pub CacheMatchesTree-prop : (fs : FileSystem) (live : Ranges) (kept : Kept) → IsProp (CacheMatchesTree fs live kept)
+CacheMatchesTree-prop fs live kept = AllByRecursion-prop _ (λ entry. AreFrames-prop fs live entry.0 entry.1) kept

@@ -1,5 +1,6 @@
 -- What is kept of users after one asked or was put in.
-use Rattle.std.proofs.Common.{◌≡◌, ℕ, zero, suc, ◌-◌, ◌<◌, ◌≤◌, true, false, cond, List, [], ◌∷◌, length, take, nat_eq, refl, ap, sym, ◌∙◌, subst, arith}
+use Rattle.std.proofs.Common.{◌≡◌, ℕ, zero, suc, ◌-◌, ◌<◌, ◌≤◌, true, false, cond, List, [], ◌∷◌, length, take, nat_eq, refl, ap, sym, ◌∙◌}
+use Rattle.std.proofs.Common.{subst, arith}
 use Rattle.std.specs.Prelude.{Option, None, Some, IsSome, is_some}
 use Rattle.std.specs.Option.{option_map_or}
 use Rattle.std.specs.List.{AllByRecursion}
@@ -18,7 +19,7 @@ use Rattle.wu_tree.specs.FileSystems.{FileSystem}
 use Rattle.wu_space.specs.Addresses.{Ranges}
 use Rattle.wu_frames.specs.declared.Frames.{Frames}
 use Rattle.wu_frames.specs.declared.caches.TheConstants.{USERS_KEPT}
-use Rattle.wu_frames.specs.UserFrames.{AreFor, AreFrames, AskedLast, HasAsked, Kept, after_asked, frames_for}
+use Rattle.wu_frames.specs.UserFrames.{CacheMatchesTree, AreFrames, AskedLast, HasAsked, Kept, after_asked, frames_for}
 use Rattle.wu_frames.proofs.Turns.{passed-none}
 
 All-take : {X : Type 0} (P : X → Type 0) (n : ℕ) (xs : List X) → AllByRecursion P xs → AllByRecursion P (take n xs)
@@ -58,11 +59,11 @@ module _ (fs : FileSystem) (live : Ranges) where
   abbrev IsRight : ℕ × Frames → Type 0
   IsRight entry = AreFrames fs live entry.0 entry.1
 
-  pub right-put : (cache : LruCache ℕ Frames) (uid : ℕ) (frames : Frames) → AreFor fs live cache.entries → AreFrames fs live uid frames
-      → AreFor fs live (put_entries nat_eq cache uid frames)
+  pub right-put : (cache : LruCache ℕ Frames) (uid : ℕ) (frames : Frames) → CacheMatchesTree fs live cache.entries → AreFrames fs live uid frames
+      → CacheMatchesTree fs live (put_entries nat_eq cache uid frames)
   right-put cache uid frames a p = all-put IsRight cache uid frames a p
 
-  pub right-found : (uid : ℕ) (kept : Kept) (frames : Frames) → AreFor fs live kept → Some frames ≡ frames_for kept uid
+  pub right-found : (uid : ℕ) (kept : Kept) (frames : Frames) → CacheMatchesTree fs live kept → Some frames ≡ frames_for kept uid
       → AreFrames fs live uid frames
   right-found uid kept frames a h =
       let r = All-found IsRight (nat_eq uid) kept frames a (sym h) in
@@ -73,8 +74,8 @@ module _ (fs : FileSystem) (live : Ranges) where
   right-counted uid mends frames a =
       record { view = a.view; of_view = a.of_view; ascending = a.ascending; ranges_alone = a.ranges_alone; sum = a.sum }
 
-  pub right-asked : (uid : ℕ) (kept : Kept) (frames : Frames) → AreFor fs live kept → Some frames ≡ frames_for kept uid
-      → AreFor fs live (set_value (nat_eq uid) (promoted (nat_eq uid) kept) (record frames { mends = 0 }))
+  pub right-asked : (uid : ℕ) (kept : Kept) (frames : Frames) → CacheMatchesTree fs live kept → Some frames ≡ frames_for kept uid
+      → CacheMatchesTree fs live (set_value (nat_eq uid) (promoted (nat_eq uid) kept) (record frames { mends = 0 }))
   right-asked uid kept frames a h =
       All-set_value IsRight (nat_eq uid) (promoted (nat_eq uid) kept) (record frames { mends = 0 }) (all-promoted IsRight uid kept a)
       (λ n q. subst (λ (k : ℕ). AreFrames fs live k (record frames { mends = 0 })) (eqb-true uid n q)

@@ -1,5 +1,6 @@
 -- Right frames are made anew only where they were mended too often.
-use Rattle.std.proofs.Common.{◌≡◌, ◌≢◌, ℕ, ◌+◌, ◌<◌, ◌≤◌, ◌^◌, Bool, true, false, ltb, List, [], ◌∷◌, ◌++◌, length, get_or, refl, ap, sym, ◌∙◌, subst, inl, inr, ⊎_elim, arith}
+use Rattle.std.proofs.Common.{◌≡◌, ◌≢◌, ℕ, ◌+◌, ◌<◌, ◌≤◌, ◌^◌, Bool, true, false, ltb, List, [], ◌∷◌, ◌++◌, length, get_or, refl, ap, sym}
+use Rattle.std.proofs.Common.{◌∙◌, subst, inl, inr, ⊎_elim, arith}
 use Rattle.std.specs.Prelude.{◌==◌, ◌||◌, not, Some, map, filter, sum_by, IsPermutation}
 use Rattle.std.specs.Coded.{le_prop}
 use Rattle.std.specs.List.{AllByRecursion, HoldsAt, list_any}
@@ -14,7 +15,8 @@ use Rattle.wu_base.specs.declared.addresses.Range.{Range}
 use Rattle.wu_base.proofs.Members.{Has-from_Contains, all_has}
 use Rattle.wu_tree.specs.FileSystems.{FileSystem}
 use Rattle.wu_view.specs.Views.{view_of}
-use Rattle.wu_space.specs.Addresses.{Addresses, AreApart, range_of}
+use Rattle.wu_space.specs.Addresses.{Addresses, range_of}
+use Rattle.wu_base.specs.Ranges.{AreApart}
 use Rattle.wu_space.proofs.Apart.{apart-from_live, filled-from_live}
 use Rattle.wu_space.proofs.Files.{sum_by-map}
 use Rattle.wu_frames.specs.declared.Frame.{Frame}

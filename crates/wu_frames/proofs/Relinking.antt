@@ -11,7 +11,7 @@ use Rattle.wu_space.specs.Addresses.{Ranges, range_of}
 use Rattle.wu_frames.specs.declared.Frame.{Frame}
 use Rattle.wu_frames.specs.declared.Frames.{Frames}
 use Rattle.wu_frames.specs.declared.links.LinkChanges.{LinkChanges}
-use Rattle.wu_frames.specs.UserFrames.{AreFor, AreFrames, Kept, frame_of, frame_with, frames_in}
+use Rattle.wu_frames.specs.UserFrames.{CacheMatchesTree, AreFrames, Kept, frame_of, frame_with, frames_in}
 use Rattle.wu_frames.specs.Links.{IsLinkChange, KeepRanges, kept_unshown, sees_none}
 use Rattle.wu_frames.proofs.Rechecking.{all-kept}
 use Rattle.wu_frames.proofs.SeenLinks.{file-of_view, view_of-relinked}
@@ -50,12 +50,12 @@ module _ (live now : Ranges) where
           sum = a.sum;
         }
 
-    pub right-unshown : (kept : Kept) → AreFor before live kept → AreFor after now (kept_unshown after links kept)
+    pub right-unshown : (kept : Kept) → CacheMatchesTree before live kept → CacheMatchesTree after now (kept_unshown after links kept)
     right-unshown [] a = tt
     right-unshown (entry ∷ kept) a =
         let rest : Kept = kept_unshown after links kept in
         elim (sees_none after links entry.0) as
-        (λ b. sees_none after links entry.0 ≡ b → AreFor after now (cond b (entry ∷ rest) rest)) [
+        (λ b. sees_none after links entry.0 ≡ b → CacheMatchesTree after now (cond b (entry ∷ rest) rest)) [
           | true ↦ λ h. (frames-relinked entry.0 entry.1 h a.0, right-unshown kept a.1)
           | false ↦ λ h. right-unshown kept a.1
         ] refl

@@ -1,5 +1,6 @@
 -- Frames of a view: their numbers, their ranges, and their order by address.
-use Rattle.std.proofs.Common.{◌≡◌, ℕ, suc, ◌+◌, ◌<◌, ◌≤◌, ◌^◌, cond, List, [], ◌∷◌, ◌++◌, length, get_or, take, refl, ap, sym, ◌∙◌, subst, ⊎_elim, arith}
+use Rattle.std.proofs.Common.{◌≡◌, ℕ, suc, ◌+◌, ◌<◌, ◌≤◌, ◌^◌, cond, List, [], ◌∷◌, ◌++◌, length, get_or, take, refl, ap, sym, ◌∙◌, subst}
+use Rattle.std.proofs.Common.{⊎_elim, arith}
 use Rattle.std.specs.Prelude.{◌==◌, Option, None, Some, count_by, map, filter_map, option_map, IsPermutation}
 use Rattle.std.specs.Option.{option_to_list}
 use Rattle.std.specs.List.{AllByRecursion, cons_option, enumerate_from}
@@ -15,7 +16,8 @@ use Rattle.wu_base.proofs.EachLemmas.{each-push}
 use Rattle.wu_view.specs.declared.Seen.{Seen}
 use Rattle.wu_tree.specs.FileSystems.{FileSystem}
 use Rattle.wu_view.specs.Views.{view_of}
-use Rattle.wu_space.specs.Addresses.{Addresses, Ranges, AreApart, AreLive, IsSpace, range_of}
+use Rattle.wu_space.specs.Addresses.{Addresses, Ranges, AreLive, IsSpace, range_of}
+use Rattle.wu_base.specs.Ranges.{AreApart}
 use Rattle.wu_space.proofs.Files.{sum-positive}
 use Rattle.wu_space.proofs.Apart.{apart-from_live, filled-from_live, given-from_live}
 use Rattle.wu_frames.specs.declared.Frame.{Frame}

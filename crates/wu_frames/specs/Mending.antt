@@ -7,7 +7,7 @@ use Rattle.wu_space.specs.Addresses.{Addresses}
 use Rattle.wu_frames.specs.declared.Frame.{Frame}
 use Rattle.wu_frames.specs.declared.Frames.{Frames}
 use Rattle.wu_frames.specs.declared.mending.TheConstants.{MENDS_MAX}
-use Rattle.wu_frames.specs.UserFrames.{AreFor, IsMove, Kept, StayMendable, StayOrMove, with_range}
+use Rattle.wu_frames.specs.UserFrames.{CacheMatchesTree, IsMove, Kept, StayMendable, StayOrMove, with_range}
 
 -- the frame at that place, which is the file's, comes last, with the new range
 pub record IsMoved (place ino : ℕ) (new : Range) (before after : Frames) : Type 0 where
@@ -49,13 +49,13 @@ with_last place last sum frames = record {
 }
 
 -- what is kept after a file went from the old range to the new one
-pub record IsBrought (ino : ℕ) (old new : Range) (before after : Kept) : Type 0 where
+pub record IsCacheAfterMove (ino : ℕ) (old new : Range) (before after : Kept) : Type 0 where
   pub stays : StayOrMove old before after
   pub users : StayMendable ino old new before after
-  pub right : (fs : FileSystem) (space : Addresses) → IsMove space ino old new → AreFor fs space.ranges before
-      → AreFor fs (with_range ino new space.ranges) after
+  pub right : (fs : FileSystem) (space : Addresses) → IsMove space ino old new → CacheMatchesTree fs space.ranges before
+      → CacheMatchesTree fs (with_range ino new space.ranges) after
 
 -- the user who asked longest ago stands before all others now, or is forgotten
 abbrev pub MendsLast : ℕ → Range → Range → Kept → Kept → Type 0
 MendsLast ino old new before after = (rest : Kept) (entry : ℕ × Frames) → before ≡ rest ++ entry ∷ []
-    → (first : Kept) × (after ≡ first ++ rest) × IsBrought ino old new (entry ∷ []) first
+    → (first : Kept) × (after ≡ first ++ rest) × IsCacheAfterMove ino old new (entry ∷ []) first

@@ -9,7 +9,8 @@ use Rattle.wu_base.specs.declared.addresses.Range.{Range}
 use Rattle.wu_tree.specs.FileSystems.{FileSystem}
 use Rattle.wu_view.specs.declared.Seen.{Seen}
 use Rattle.wu_view.specs.Views.{view_of}
-use Rattle.wu_space.specs.Addresses.{Addresses, Ranges, AreApart, IsSpace, range_of}
+use Rattle.wu_space.specs.Addresses.{Addresses, Ranges, IsSpace, range_of}
+use Rattle.wu_base.specs.Ranges.{AreApart}
 use Rattle.wu_frames.specs.declared.caches.TheConstants.{USERS_KEPT}
 use Rattle.wu_frames.specs.declared.mending.TheConstants.{MENDS_MAX}
 use Rattle.wu_frames.specs.declared.Frame.{Frame}
@@ -47,8 +48,8 @@ abbrev pub frames_for : Kept → ℕ → Option Frames
 frames_for kept uid = lookup (nat_eq uid) kept
 
 -- what is kept was made for that tree and those live ranges
-abbrev pub AreFor : FileSystem → Ranges → Kept → Type 0
-AreFor fs live kept = AllByRecursion (λ entry. AreFrames fs live entry.0 entry.1) kept
+abbrev pub CacheMatchesTree : FileSystem → Ranges → Kept → Type 0
+CacheMatchesTree fs live kept = AllByRecursion (λ entry. AreFrames fs live entry.0 entry.1) kept
 
 -- nobody's frames were mended more often than that since she asked
 abbrev pub AreSeldomMended : Kept → Type 0
@@ -111,4 +112,4 @@ kept_mendable old kept = filter (λ entry. is_mendable old entry.1) kept
 -- where what is kept was right, and the file moves to a range whose addresses have 64 bits, frames stay for exactly these users
 abbrev pub StayMendable : ℕ → Range → Range → Kept → Kept → Type 0
 StayMendable ino old new before after = (fs : FileSystem) (space : Addresses) → IsMove space ino old new → new.start + new.len < 2 ^ 64
-    → AreFor fs space.ranges before → keys_of after ≡ keys_of (kept_mendable old before)
+    → CacheMatchesTree fs space.ranges before → keys_of after ≡ keys_of (kept_mendable old before)

@@ -3,7 +3,8 @@ ghost use Rattle.std.specs.Prelude.{◌≡◌, [], nat_eq, IfOk, IsOk, OnOk, OnE
 ghost use Rattle.std.specs.Map.{remove_entry};
 ghost use Rattle.wu_tree.specs.FileSystems.{FileSystem};
 ghost use Rattle.wu_space.specs.Addresses.{Addresses, Ranges};
-ghost use Rattle.wu_frames.specs.UserFrames.{AreFor, AreFrames, AreSeldomMended, AskedLast, HasAsked, IsMove, StayMendable, StayOrMove, frames_for, with_range};
+ghost use Rattle.wu_frames.specs.UserFrames.{CacheMatchesTree, AreFrames, AreSeldomMended, AskedLast, HasAsked, IsMove, StayMendable};
+ghost use Rattle.wu_frames.specs.UserFrames.{StayOrMove, frames_for, with_range};
 ghost use Rattle.wu_frames.specs.Permissions.{IsGroupChange, IsPermChange, kept_as_before};
 ghost use Rattle.wu_frames.specs.Links.{IsLinkChange, KeepRanges, kept_unshown};
 
@@ -67,11 +68,11 @@ impl FrameCache {
     /// Takes no more than a look-up where her frames are kept; else time near linear in the entries of the
     /// directories that she may reach and in the bytes of her view.
     pub fn frames_of(&mut self, tree: &Tree, space: &Space, uid: Uid) -> Result<&Frames, NoMemory>
-        requires { AreFor tree.now space.now.ranges self.old }
+        requires { CacheMatchesTree tree.now space.now.ranges self.old }
         ensures frames { IfOk result (λ frames. AreFrames tree.now space.now.ranges uid frames.now) }
         ensures ready { IsSome (frames_for self.old uid) → IsOk result }
         // What is kept once the answer is let go.
-        ensures* right { sem 𝓛 (Rests the_row self.entry (λ kept. AreFor tree.now space.now.ranges kept
+        ensures* right { sem 𝓛 (Rests the_row self.entry (λ kept. CacheMatchesTree tree.now space.now.ranges kept
             × MatchResult result (λ frames. AskedLast uid kept × (frames_for kept uid ≡ Some frames.now) × HasAsked uid self.old kept)
             (λ _. kept ≡ self.old))) }
     {
@@ -86,8 +87,8 @@ impl FrameCache {
     /// follow in their order, without the one who asked longest ago where there is no room. Out of memory, which is the
     /// one error, nothing changes. Frames that are kept take none.
     pub fn prepare(&mut self, tree: &Tree, space: &Space, uid: Uid) -> Result<(), NoMemory>
-        requires { AreFor tree.now space.now.ranges self.old }
-        ensures right { AreFor tree.now space.now.ranges self.new }
+        requires { CacheMatchesTree tree.now space.now.ranges self.old }
+        ensures right { CacheMatchesTree tree.now space.now.ranges self.new }
         ensures kept { OnOk result (IsSome (frames_for self.new uid)) }
         ensures asked { OnOk result (AskedLast uid self.new) }
         ensures entries { OnOk result (HasAsked uid self.old self.new) }
@@ -121,7 +122,7 @@ impl FrameCache {
     /// Takes no memory, and time linear in the frames behind the old ones.
     pub fn move_range(&mut self, ino: Ino, old: Range, new: Range)
         ensures right { (fs : FileSystem) (space : Addresses) → IsMove space ino old new
-            → AreFor fs space.ranges self.old → AreFor fs (with_range ino new space.ranges) self.new }
+            → CacheMatchesTree fs space.ranges self.old → CacheMatchesTree fs (with_range ino new space.ranges) self.new }
         ensures stays { StayOrMove old self.old self.new }
         ensures users { StayMendable ino old new self.old self.new }
         ensures few { AreSeldomMended self.new }
@@ -135,7 +136,7 @@ impl FrameCache {
     /// Takes no memory.
     pub fn recheck(&mut self, tree: &Tree, ino: Ino, before: Node, acl: Option<Acl>)
         ensures right { (fs : FileSystem) (live : Ranges) → IsPermChange fs ino before acl tree.now
-            → AreFor fs live self.old → AreFor tree.now live self.new }
+            → CacheMatchesTree fs live self.old → CacheMatchesTree tree.now live self.new }
         ensures stays { self.new ≡ kept_as_before tree.now ino before acl self.old }
     {
         tree.keeps_the_rules();
@@ -151,7 +152,7 @@ impl FrameCache {
     /// Takes no memory, and for each user that is kept at most three ways up to the root; where no link changes, no time.
     pub fn relink(&mut self, tree: &Tree, links: LinkChanges)
         ensures right { (fs : FileSystem) (live now : Ranges) → IsLinkChange fs links tree.now → KeepRanges fs tree.now live now
-            → AreFor fs live self.old → AreFor tree.now now self.new }
+            → CacheMatchesTree fs live self.old → CacheMatchesTree tree.now now self.new }
         ensures stays { self.new ≡ kept_unshown tree.now links self.old }
         ensures quiet { links.made ≡ None → links.removed ≡ None → links.replaced ≡ None → self.new ≡ self.old }
     {
@@ -170,7 +171,7 @@ impl FrameCache {
     /// Forgets the frames of a user who is in other groups now, and no others. Takes no memory.
     pub fn forget(&mut self, uid: Uid)
         ensures right { (before after : FileSystem) (live : Ranges) → IsGroupChange before uid after
-            → AreFor before live self.old → AreFor after live self.new }
+            → CacheMatchesTree before live self.old → CacheMatchesTree after live self.new }
         ensures others { self.new ≡ remove_entry (nat_eq uid) self.old }
     {
         // That no user is there twice is said of the length.

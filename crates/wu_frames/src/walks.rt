@@ -3,7 +3,7 @@
 //! memory, so nobody's frames depend on it.
 ghost use Rattle.std.specs.Prelude.{◌≡◌, filter};
 ghost use Rattle.wu_frames.specs.Changes.{is_spared};
-ghost use Rattle.wu_frames.specs.Mending.{IsBrought, MendsLast};
+ghost use Rattle.wu_frames.specs.Mending.{IsCacheAfterMove, MendsLast};
 ghost use Rattle.wu_frames.specs.UserFrames.{AreSeldomMended};
 ghost use Rattle.wu_frames.specs.Walks.{MovesLast};
 
@@ -39,7 +39,7 @@ pub(crate) fn mend_each(
     old: Range,
     new: Range,
 )
-    ensures entries { IsBrought ino old new kept.old.entries kept.new.entries }
+    ensures entries { IsCacheAfterMove ino old new kept.old.entries kept.new.entries }
     ensures few { AreSeldomMended kept.old.entries → AreSeldomMended kept.new.entries }
     ensures cap { kept.new.cap ≡ kept.old.cap }
 {

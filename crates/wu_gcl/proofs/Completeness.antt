@@ -3,7 +3,7 @@ use Rattle.std.proofs.Common.{◌≡◌, ℕ, ◌<◌, ◌≤◌, List, [], ◌�
 use Rattle.std.proofs.lemmas.Bool.Decides.{nat_tests}
 use Rattle.wu_gcl.specs.declared.expressions.Op.{Op}
 use Rattle.wu_gcl.specs.Lexical.{Token, Operator, Close}
-use Rattle.wu_gcl.specs.Grammar.{Syntax, Single, Group, Join, tokens_in, precedence, tightness, IsGrouped}
+use Rattle.wu_gcl.specs.Grammar.{Syntax, Single, Group, Join, tokens_in, precedence, binding_strength, IsGrouped}
 use Rattle.wu_gcl.specs.Reading.{Value, value_of, join, meaning}
 use Rattle.wu_gcl.specs.Pending.{Waiting, Paren, Left, reduced, operand_wanted, operand_held, closed_at, ended_at, run, evaluated}
 
@@ -34,7 +34,7 @@ pub record Holds (syntax : Syntax) (waiting : List Waiting) (rest : List Token) 
   pub waiting_on : List Waiting
   pub value : Value
   pub reached : run (tokens_in syntax ++ rest) (operand_wanted waiting) ≡ run rest (operand_held waiting_on value)
-  pub worth : (level : ℕ) → level ≤ tightness syntax → reduced level waiting_on value ≡ reduced level waiting (meaning syntax)
+  pub worth : (level : ℕ) → level ≤ binding_strength syntax → reduced level waiting_on value ≡ reduced level waiting (meaning syntax)
 
 -- a closing parenthesis ends what its opening one began
 pub closed : (rest : List Token) (waiting_on : List Waiting) (value : Value) (waiting : List Waiting) (inner : Value) →
@@ -49,7 +49,7 @@ pub joined : (op : Op) (rest : List Token) (waiting_on : List Waiting) (value : 
 joined op rest waiting_on value waiting left same = ap
     (λ (joined : List Waiting × Value). run rest (operand_wanted (Left joined.1 op ∷ joined.0))) same
 
-pub holds : (syntax : Syntax) → IsGrouped syntax → (waiting : List Waiting) (rest : List Token) → IsBelow (tightness syntax) waiting
+pub holds : (syntax : Syntax) → IsGrouped syntax → (waiting : List Waiting) (rest : List Token) → IsBelow (binding_strength syntax) waiting
     → Holds syntax waiting rest
 holds (Single atom) grouped waiting rest below =
     record { waiting_on = waiting; value = value_of atom; reached = refl; worth = λ level up. refl }

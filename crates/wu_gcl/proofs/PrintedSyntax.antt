@@ -19,7 +19,8 @@ use Rattle.wu_gcl.specs.declared.expressions.Op.{Op}
 use Rattle.wu_gcl.specs.declared.expressions.TheConstants.{WINDOW_MAX}
 use Rattle.wu_gcl.specs.declared.expressions.ExprFault.TheVariants.{BadWindow}
 use Rattle.wu_gcl.specs.Lexical.{Atom, Quoted, Bracketed, FileWord, LineWord, Token, Operand, Operator, Open, Close}
-use Rattle.wu_gcl.specs.Grammar.{Syntax, Single, Group, Join, tokens_in, precedence, tightness, IsGrouped, operator_count, open_count}
+use Rattle.wu_gcl.specs.Grammar.{Syntax, Single, Group, Join, tokens_in, precedence, binding_strength, IsGrouped, operator_count}
+use Rattle.wu_gcl.specs.Grammar.{open_count}
 use Rattle.wu_gcl.specs.Regions.{Region, Phrase, Mark, WholeFile, WholeLine, Window, Both}
 use Rattle.wu_gcl.specs.Reading.{Value, tag_text, tag_at, quoted_value, phrase_of, window_with, window_of, value_of, join, meaning}
 use Rattle.wu_gcl.proofs.Soundness.{precedence_below}
@@ -157,7 +158,7 @@ syntax_counts (Both op left right) =
     }
 
 -- ---- parentheses stand round each operand that has an operator
-grouped_tight : (region : Region) → tightness (grouped region (syntax_of region)) ≡ 4
+grouped_tight : (region : Region) → binding_strength (grouped region (syntax_of region)) ≡ 4
 grouped_tight (Phrase words) = refl
 grouped_tight (Mark tag) = refl
 grouped_tight WholeFile = refl

@@ -6,7 +6,7 @@ use Rattle.wu_gcl.specs.declared.expressions.Op.{Op}
 use Rattle.wu_gcl.specs.declared.expressions.Op.TheVariants.{Containing, ContainedIn, NotContaining, NotContainedIn, OneOf, BothOf}
 use Rattle.wu_gcl.specs.declared.expressions.Op.TheVariants.{FollowedBy}
 use Rattle.wu_gcl.specs.Lexical.{Atom, Token, Operand, Operator, Open, Close}
-use Rattle.wu_gcl.specs.Grammar.{Syntax, Single, Group, Join, tokens_in, precedence, tightness, IsGrouped}
+use Rattle.wu_gcl.specs.Grammar.{Syntax, Single, Group, Join, tokens_in, precedence, binding_strength, IsGrouped}
 use Rattle.wu_gcl.specs.Reading.{Value, value_of, join, meaning}
 use Rattle.wu_gcl.specs.Pending.{Waiting, Paren, Left, reduced, operand_held, closed_at, ended_at, run, evaluated}
 use Rattle.wu_gcl.proofs.Completeness.{IsBelow, reduced-below, reduced-join}
@@ -16,7 +16,7 @@ pub record Opens (used before : List Token) (left : Value) (op : Op) : Type 0 wh
   pub syntax : Syntax
   pub spelled : used ≡ before ++ (tokens_in syntax ++ Operator op ∷ [])
   pub grouped : IsGrouped syntax
-  pub tight : precedence op ≤ tightness syntax
+  pub tight : precedence op ≤ binding_strength syntax
   pub meant : meaning syntax ≡ left
 
 -- these tokens lead to what waits
@@ -32,9 +32,9 @@ pub record Held (level : ℕ) (waiting : List Waiting) (value : Value) (used : L
   pub syntax : Syntax
   pub spelled : used ≡ before ++ tokens_in syntax
   pub grouped : IsGrouped syntax
-  pub tight : level ≤ tightness syntax
+  pub tight : level ≤ binding_strength syntax
   pub meant : meaning syntax ≡ value
-  pub below : IsBelow (tightness syntax) waiting
+  pub below : IsBelow (binding_strength syntax) waiting
   pub leads : Leads waiting before
 
 regrouped : (before used left : List Token) (op : Op) (more : List Token) → used ≡ before ++ (left ++ Operator op ∷ []) →

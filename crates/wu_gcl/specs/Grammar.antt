@@ -27,10 +27,10 @@ precedence BothOf = 2
 precedence FollowedBy = 3
 
 -- an operand and what stands in parentheses hold together most tightly
-abbrev pub tightness : Syntax → ℕ
-tightness (Single atom) = 4
-tightness (Group inner) = 4
-tightness (Join op left right) = precedence op
+abbrev pub binding_strength : Syntax → ℕ
+binding_strength (Single atom) = 4
+binding_strength (Group inner) = 4
+binding_strength (Join op left right) = precedence op
 
 -- Each operator is left associative: what stands on its left may have an operator of its own level,
 -- and what stands on its right only operators that bind more tightly.
@@ -38,7 +38,7 @@ abbrev pub IsGrouped : Syntax → Type 0
 IsGrouped (Single atom) = Unit {0}
 IsGrouped (Group inner) = IsGrouped inner
 IsGrouped (Join op left right) =
-    (precedence op ≤ tightness left) × (precedence op < tightness right) × IsGrouped left × IsGrouped right
+    (precedence op ≤ binding_strength left) × (precedence op < binding_strength right) × IsGrouped left × IsGrouped right
 
 -- how many operators and opening parentheses there are
 abbrev pub operator_count : List Token → ℕ

@@ -13,7 +13,7 @@ use Rattle.wu_base.specs.declared.addresses.PartRec.{PartRec}
 use Rattle.wu_base.proofs.EachLemmas.{each-push}
 use Rattle.wu_image.specs.declared.records.FileRec.{FileRec}
 use Rattle.wu_image.specs.LayoutRules.{SpansAscend, lies_in, live_in}
-use Rattle.wu_image.specs.Checks.{HaveHomes}
+use Rattle.wu_image.specs.Checks.{RangesLieInParts}
 use Rattle.wu_image.proofs.RuleLemmas.{all_at, all_has_at}
 
 -- ---- spans
@@ -176,7 +176,7 @@ one_file_asked files parts asked next place file e d room new r s more is some i
 -- the part has less room than the range is long
 pub too_long : (files : List FileRec) (parts : List PartRec) (asked place : ℕ) (file e : FileRec) (d : PartRec) (room : List ℕ)
     → RoomLeft files parts asked room → asked < length files → file ≡ get_or files asked e → place < length parts
-    → lies_in file.range (get_or parts place d) ≡ true → get_or room place 0 < file.range.len → HaveHomes files parts → ⊥
+    → lies_in file.range (get_or parts place d) ≡ true → get_or room place 0 < file.range.len → RangesLieInParts files parts → ⊥
 too_long files parts asked place file e d room r more is inside t short h =
     let f : FileRec → ℕ = λ f. cond (lies_in f.range (get_or parts place d)) f.range.len 0 in
     let before = r.sums place d inside in
@@ -188,14 +188,14 @@ too_long files parts asked place file e d room r more is inside t short h =
 
 -- no part has the range
 pub homeless : (files : List FileRec) (parts : List PartRec) (asked : ℕ) (file e : FileRec) → asked < length files
-    → file ≡ get_or files asked e → list_any (λ part. lies_in file.range part) parts ≡ false → HaveHomes files parts → ⊥
+    → file ≡ get_or files asked e → list_any (λ part. lies_in file.range part) parts ≡ false → RangesLieInParts files parts → ⊥
 homeless files parts asked file e more is none h =
     let its = all_has_at (λ (f : FileRec). list_any (λ p. lies_in f.range p) parts ≡ true) files asked e h.homes more in
     let mine = subst (λ (f : FileRec). list_any (λ p. lies_in f.range p) parts ≡ true) (sym is) its in
     false≢true (sym none ∙ mine)
 
 pub all_files_asked : (files : List FileRec) (parts : List PartRec) (asked : ℕ) (room : List ℕ) → RoomLeft files parts asked room
-    → length files ≤ asked → HaveHomes files parts
+    → length files ≤ asked → RangesLieInParts files parts
 all_files_asked files [] asked room r long = record {
   homes = subst (λ (l : List FileRec). AllByRecursion (λ f. list_any (λ p. lies_in f.range p) [] ≡ true) l) (take_all asked files long)
       r.homes;

@@ -9,7 +9,7 @@ use Rattle.std.proofs.lemmas.List.Sorted.{sum_by-IsPermutation, IsNonDecreasingB
 use Rattle.wu_base.specs.declared.addresses.Range.{Range}
 use Rattle.wu_base.proofs.Members.{Has, all_from_has, all_has as all_of}
 use Rattle.wu_base.proofs.EachLemmas.{each-permuted}
-use Rattle.wu_layout.specs.Postings.{is_in}
+use Rattle.wu_base.specs.Ranges.{is_in}
 use Rattle.wu_image.specs.declared.records.FileRec.{FileRec}
 use Rattle.wu_image.specs.Checks.{AreApart, AreInOrder}
 use Rattle.wu_image.proofs.RuleLemmas.{all_at, sum_of_map, sum_has}

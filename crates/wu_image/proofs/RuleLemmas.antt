@@ -10,7 +10,7 @@ use Rattle.wu_base.specs.declared.limits.TheConstants.{GENERATION_MAX}
 use Rattle.wu_base.proofs.Members.{Has}
 use Rattle.wu_image.specs.declared.records.FileRec.{FileRec}
 use Rattle.wu_image.specs.LayoutRules.{AreLayoutRules, IsPart, IsText, NeverRise, SpansAscend, named_blobs}
-use Rattle.wu_image.specs.Checks.{AreApart, ArePartsFrom, HaveHomes, IsNextPart}
+use Rattle.wu_image.specs.Checks.{AreApart, ArePartsFrom, RangesLieInParts, IsNextPart}
 
 -- ---- lists
 
@@ -152,12 +152,12 @@ parts_of_layout next next_blob flushes files parts r =
     (record { spans = r.spans; generations = r.generations; hold = r.parts_hold; flushed = r.flushed })
 
 pub homes_of_layout : (next next_blob flushes : ℕ) (files : List FileRec) (parts : List PartRec)
-    → AreLayoutRules next next_blob flushes files parts → HaveHomes files parts
+    → AreLayoutRules next next_blob flushes files parts → RangesLieInParts files parts
 homes_of_layout next next_blob flushes files parts r = record { homes = r.homes; stored = r.stored }
 
 pub layout_of_checks : (next next_blob flushes : ℕ) (files : List FileRec) (parts : List PartRec)
     → ArePartsFrom 0 GENERATION_MAX flushes next parts → flushes < 2 ^ 62 → AllByRecursion (IsText next) files → AreApart files
-    → HaveHomes files parts → IsDistinct eqb (named_blobs files parts)
+    → RangesLieInParts files parts → IsDistinct eqb (named_blobs files parts)
     → AllByRecursion (λ blob. (0 < blob) × (blob < next_blob)) (named_blobs files parts)
     → AreLayoutRules next next_blob flushes files parts
 layout_of_checks next next_blob flushes files parts a few texts apart homes distinct drawn =

@@ -3,7 +3,7 @@ use Rattle.std.specs.Prelude.{◌≡◌, ℕ, ◌+◌, ◌-◌, ◌^◌, ◌<◌
 use Rattle.std.specs.List.{AllByRecursion, list_any}
 use Rattle.wu_base.specs.declared.addresses.Range.{Range}
 use Rattle.wu_base.specs.declared.addresses.PartRec.{PartRec}
-use Rattle.wu_layout.specs.Postings.{is_in}
+use Rattle.wu_base.specs.Ranges.{is_in}
 use Rattle.wu_image.specs.declared.records.FileRec.{FileRec}
 use Rattle.wu_image.specs.LayoutRules.{IsPart, lies_in, live_in}
 
@@ -36,7 +36,7 @@ AreInOrder from [] = Unit {0}
 AreInOrder from (range ∷ ranges) = (from ≤ range.start) × AreInOrder (range.start + range.len) ranges
 
 -- each range lies in a part, which has as many addresses as all that lie in it, or more
-pub record HaveHomes (files : List FileRec) (parts : List PartRec) : Type 0 where
+pub record RangesLieInParts (files : List FileRec) (parts : List PartRec) : Type 0 where
   pub homes : AllByRecursion (λ file. list_any (λ part. lies_in file.range part) parts ≡ true) files
   pub stored : AllByRecursion (λ part. live_in part files ≤ part.stored) parts
 

@@ -5,7 +5,7 @@ use Rattle.std.specs.List.{AllByRecursion, IsDistinct, list_any}
 use Rattle.wu_base.specs.declared.addresses.Range.{Range}
 use Rattle.wu_base.specs.declared.addresses.PartRec.{PartRec}
 use Rattle.wu_base.specs.declared.limits.TheConstants.{GENERATION_MAX, TEXT_MAX}
-use Rattle.wu_layout.specs.Postings.{is_in}
+use Rattle.wu_base.specs.Ranges.{is_in}
 use Rattle.wu_image.specs.declared.records.FileRec.{FileRec}
 
 -- A text has a blob unless it is empty. Its range has the two addresses of the file's tags, at most three more for each byte, and

@@ -1,10 +1,11 @@
 //! The rules of the layout, on what is recorded of texts and parts.
-ghost use Rattle.std.specs.Prelude.{◌≡◌, ◌↔◌, ℕ, [], ◌∷◌, ◌++◌, ◌+◌, ◌*◌, ◌^◌, ◌<◌, ◌≤◌, true, false, eqb, nat_lt, IfOk, IfSome, IfNone, MatchBool, OnOk, filter, get_or, length, map};
+ghost use Rattle.std.specs.Prelude.{◌≡◌, ◌↔◌, ℕ, [], ◌∷◌, ◌++◌, ◌+◌, ◌*◌, ◌^◌, ◌<◌, ◌≤◌, true, false, eqb, nat_lt, IfOk, IfSome, IfNone};
+ghost use Rattle.std.specs.Prelude.{MatchBool, OnOk, filter, get_or, length, map};
 ghost use Rattle.std.specs.List.{AllByRecursion, IsDistinct, list_any};
 ghost use Rattle.wu_base.specs.declared.addresses.PartRec.{PartRec};
 ghost use Rattle.wu_base.specs.declared.limits.TheConstants.{GENERATION_MAX, TEXT_MAX};
 ghost use Rattle.wu_image.specs.LayoutRules.{AreLayoutRules, IsPart, IsText, SpansAscend, lies_in, named_blobs};
-ghost use Rattle.wu_image.specs.Checks.{AreApart, AreInOrder, ArePartsFrom, HaveHomes, IsNextPart, RiseFrom};
+ghost use Rattle.wu_image.specs.Checks.{AreApart, AreInOrder, ArePartsFrom, RangesLieInParts, IsNextPart, RiseFrom};
 
 use crate::records::FileRec;
 use std::alloc::Global;
@@ -186,7 +187,7 @@ fn are_in_order(ranges: &[Range]) -> bool
 fn have_homes(alloc: Global, files: &[FileRec], parts: &[PartRec]) -> Result<bool, NoMemory>
     requires filled { AllByRecursion (λ file. 0 < file.range.len) files.now }
     requires spans { (next : ℕ) × SpansAscend 0 parts.now next }
-    ensures { IfOk result (λ have. MatchBool have (HaveHomes files.now parts.now) (HaveHomes files.now parts.now → ⊥)) }
+    ensures { IfOk result (λ have. MatchBool have (RangesLieInParts files.now parts.now) (RangesLieInParts files.now parts.now → ⊥)) }
 {
     let mut room = stored_of(alloc, parts)?;
     for file in files {

@@ -1,5 +1,6 @@
 -- An address of a term that stands in a list that was made of another: its part has it in two lists.
-use Rattle.std.proofs.Common.{◌≡◌, ℕ, ◌≤◌, eqb, Bool, true, false, List, [], ◌∷◌, ◌++◌, filter, refl, ap, sym, ◌∙◌, subst, arith, ⊎_elim, inl, inr, append-nil}
+use Rattle.std.proofs.Common.{◌≡◌, ℕ, ◌≤◌, eqb, Bool, true, false, List, [], ◌∷◌, ◌++◌, filter, refl, ap, sym, ◌∙◌, subst, arith, ⊎_elim}
+use Rattle.std.proofs.Common.{inl, inr, append-nil}
 use Rattle.std.specs.Prelude.{◌⊎◌, Option, None, Some}
 use Rattle.std.specs.declared.cmp.Ordering.TheVariants.{Less}
 use Rattle.std.specs.List.{AllByRecursion, IsDistinct}
@@ -20,7 +21,8 @@ use Rattle.wu_job.specs.Jobs.{JobPart, JobState, HoldsEntry, HoldsTerm, HoldTerm
 use Rattle.wu_job.specs.Keeping.{AreMarks, addresses_in}
 use Rattle.wu_job.specs.Reading.{IsNoPartOf, IsRefused, IsSomeMarked}
 use Rattle.wu_job.specs.Sources.{AreSources, HasEntries, part_of, parts_of}
-use Rattle.wu_job.specs.Steps.{HasNoFirst, IsBrokenPart, IsNoPart, SharesAddress, IsDamagedPart}
+use Rattle.wu_job.specs.Steps.{HasNoFirst, IsBrokenPart, SharesAddress, IsDamagedPart}
+use Rattle.wu_part.specs.Parts.{IsNoPart}
 use Rattle.wu_job.proofs.Made.{entry_or_none, list_at_entry, terms_in_up}
 use Rattle.wu_job.proofs.Marking.{marked_twice}
 use Rattle.wu_job.proofs.Merging.{text_cmp, IsUp, less_itself}

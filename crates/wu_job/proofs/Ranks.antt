@@ -1,5 +1,7 @@
 -- Live ranges in order, and how many live addresses are below one.
-use Rattle.std.proofs.Common.{◌≡◌, ℕ, zero, suc, ◌+◌, ◌-◌, ◌<◌, ◌≤◌, max, min, nat_le, nat_lt, Bool, true, false, cond, List, [], ◌∷◌, ◌++◌, length, map, take, drop, get_or, filter, sum_by, All, refl, ap, ap₂, sym, ◌∙◌, subst, arith, ⊎_elim, append_assoc}
+use Rattle.std.proofs.Common.{◌≡◌, ℕ, zero, suc, ◌+◌, ◌-◌, ◌<◌, ◌≤◌, max, min, nat_le, nat_lt, Bool, true, false, cond, List, [], ◌∷◌, ◌++◌}
+use Rattle.std.proofs.Common.{length, map, take, drop, get_or, filter, sum_by, All, refl, ap, ap₂, sym, ◌∙◌, subst, arith, ⊎_elim}
+use Rattle.std.proofs.Common.{append_assoc}
 use Rattle.std.specs.Prelude.{Option, None, Some}
 use Rattle.std.specs.List.{AllByRecursion}
 use Rattle.std.specs.List.Sorted.{IsNonDecreasingBy}
@@ -11,10 +13,11 @@ use Rattle.std.proofs.lemmas.List.Sums.{sum_by-cons}
 use Rattle.wu_base.specs.declared.addresses.Range.{Range}
 use Rattle.wu_layout.specs.Ascending.{AscendBetween}
 use Rattle.wu_layout.proofs.Ascending.{ascend-drop}
-use Rattle.wu_layout.specs.Postings.{is_in, is_live}
-use Rattle.wu_space.specs.Addresses.{AreApart}
+use Rattle.wu_layout.specs.Postings.{is_live}
+use Rattle.wu_base.specs.Ranges.{is_in, AreApart}
 use Rattle.wu_job.specs.declared.live.LiveRange.{LiveRange}
-use Rattle.wu_job.specs.Live.{AreInOrder, AreRanked, FirstEndsAfter, find_place, first_from, live_below, ranges_alone, ranked_from, total_of, with_place, place_alone}
+use Rattle.wu_job.specs.Live.{AreInOrder, AreRanked, FirstEndsAfter, find_place, first_from, live_below, ranges_alone, ranked_from}
+use Rattle.wu_job.specs.Live.{total_of, with_place, place_alone}
 
 abbrev pub len_of : Range → ℕ
 len_of range = range.len

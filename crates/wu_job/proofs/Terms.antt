@@ -1,5 +1,6 @@
 -- The entry of a term in a directory, and what a part's blob holds of it.
-use Rattle.std.proofs.Common.{◌≡◌, ℕ, zero, suc, ◌+◌, ◌<◌, ◌≤◌, nat_eq, true, false, cond, List, [], ◌∷◌, ◌++◌, length, map, get_or, refl, ap, sym, ◌∙◌, subst, arith, ⊎_elim, inl, inr, append-nil}
+use Rattle.std.proofs.Common.{◌≡◌, ℕ, zero, suc, ◌+◌, ◌<◌, ◌≤◌, nat_eq, true, false, cond, List, [], ◌∷◌, ◌++◌, length, map, get_or, refl}
+use Rattle.std.proofs.Common.{ap, sym, ◌∙◌, subst, arith, ⊎_elim, inl, inr, append-nil}
 use Rattle.std.specs.Prelude.{Option, None, Some, IfSome, Contains, slice_get}
 use Rattle.std.specs.declared.cmp.Ordering.TheVariants.{Less}
 use Rattle.std.specs.Cmp.Lexicographic.{pointwise, nat_list_eq_equiv, same_text}
@@ -16,7 +17,8 @@ use Rattle.wu_part.specs.Directories.{PartDirectory, IsDirectory, IsEntry, Stand
 use Rattle.wu_part.proofs.ReadingLemmas.{stand_within}
 use Rattle.wu_job.specs.Jobs.{JobPart, HoldsEntry, HoldsTerm}
 use Rattle.wu_job.specs.Reading.{AreNoBlocks, IsFound, LieIn, StandsAt}
-use Rattle.wu_job.specs.Steps.{HasNoTerm, HasWholeRange, HasWholeRanges, IsNoPart, block_ranges, ranges_of, ranges_of_entries}
+use Rattle.wu_job.specs.Steps.{HasNoTerm, HasWholeRange, HasWholeRanges, block_ranges, ranges_of, ranges_of_entries}
+use Rattle.wu_part.specs.Parts.{IsNoPart}
 use Rattle.wu_job.proofs.Made.{list_at_entry}
 use Rattle.wu_job.proofs.Merging.{text_cmp, IsUp, less_itself}
 

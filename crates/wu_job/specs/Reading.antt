@@ -1,5 +1,6 @@
 -- What is read of the blocks of a term.
-use Rattle.std.specs.Prelude.{◌≡◌, ◌⊎◌, ℕ, ◌+◌, ◌<◌, ◌≤◌, Bool, true, false, List, length, map, filter, get_or, slice_range, Contains, Option, None, Some, IfSome}
+use Rattle.std.specs.Prelude.{◌≡◌, ◌⊎◌, ℕ, ◌+◌, ◌<◌, ◌≤◌, Bool, true, false, List, length, map, filter, get_or, slice_range, Contains}
+use Rattle.std.specs.Prelude.{Option, None, Some, IfSome}
 use Rattle.std.specs.List.{AllByRecursion, list_any}
 use Rattle.wu_base.specs.declared.addresses.Range.{Range}
 use Rattle.wu_outside.specs.Content.{Content}
@@ -8,10 +9,10 @@ use Rattle.wu_layout.specs.Invariants.{SomeOf}
 use Rattle.wu_layout.specs.Postings.{is_live}
 use Rattle.wu_part.specs.declared.entries.BlockEntry.{BlockEntry}
 use Rattle.wu_part.specs.declared.entries.TermEntry.{TermEntry}
-use Rattle.wu_part.specs.Parts.{HoldsBlock}
+use Rattle.wu_part.specs.Parts.{HoldsBlock, IsNoPart}
 use Rattle.wu_job.specs.Jobs.{JobPart, JobState, HoldsEntry, HoldsTerm}
 use Rattle.wu_job.specs.Live.{live_below}
-use Rattle.wu_job.specs.Steps.{HasNoTerm, IsBrokenPart, IsDamagedPart, IsNoPart}
+use Rattle.wu_job.specs.Steps.{HasNoTerm, IsBrokenPart, IsDamagedPart}
 use Rattle.wu_job.specs.declared.live.Cut.{Cut}
 
 -- ---- one block

@@ -1,8 +1,8 @@
 -- What a step reads of the store, and why it answers a trouble.
-use Rattle.std.specs.Prelude.{◌≡◌, ◌≢◌, ◌⊎◌, ℕ, ◌+◌, ◌≤◌, ◌==◌, true, List, [], ◌∷◌, ◌++◌, length, map, take, nat_eq, Contains, Option, None, Some, IfSome, option_map, if◌then◌else◌}
+use Rattle.std.specs.Prelude.{◌≡◌, ◌≢◌, ◌⊎◌, ℕ, ◌+◌, ◌≤◌, ◌==◌, true, List, [], ◌∷◌, ◌++◌, length, map, take, nat_eq, Contains, Option}
+use Rattle.std.specs.Prelude.{None, Some, IfSome, option_map, if◌then◌else◌}
 use Rattle.std.specs.Cmp.Lexicographic.{pointwise}
 use Rattle.std.specs.List.{AllByRecursion, flat_map, list_any}
-use Rattle.wu_base.specs.declared.addresses.TermList.{TermList}
 use Rattle.wu_base.specs.declared.troubles.Trouble.{Trouble}
 use Rattle.wu_base.specs.declared.troubles.Trouble.TheVariants.{StoreFault, Damaged}
 use Rattle.wu_outside.specs.Content.{Content}
@@ -11,8 +11,6 @@ use Rattle.wu_outside.specs.declared.ranges.ReadRange.{ReadRange}
 use Rattle.wu_layout.specs.Invariants.{SomeOf}
 use Rattle.wu_part.specs.declared.entries.BlockEntry.{BlockEntry}
 use Rattle.wu_part.specs.declared.entries.TermEntry.{TermEntry}
-use Rattle.wu_part.specs.Directories.{PartDirectory}
-use Rattle.wu_part.specs.Parts.{SpellsPart}
 use Rattle.wu_job.specs.Jobs.{JobPart, JobState, HoldsTerm, IsRight}
 
 -- ---- reads
@@ -56,11 +54,6 @@ pub record ReadsFront (ranges : List ReadRange) (old new : Option (List ReadRang
   pub damaged : (blob : ℕ) → trouble ≡ Damaged blob → list_any (λ range. range.blob == blob) (take count ranges) ≡ true
 
 -- ---- troubles
-
--- what the store has of the blob is no part with that directory
-abbrev pub IsNoPart : PartDirectory → Option (List ℕ) → Type 0
-IsNoPart directory None = Unit {0}
-IsNoPart directory (Some blob) = (lists : List TermList) → SpellsPart directory lists blob → ⊥
 
 -- The first term left has an address in the part that stands in a list that was made. Then the part is none, where the lists that were
 -- made are right.

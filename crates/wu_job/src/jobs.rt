@@ -1,6 +1,7 @@
 //! Jobs on parts, as a log-structured index has them: Büttcher, Clarke and Cormack, Information Retrieval,
 //! chapter 7.
-ghost use Rattle.std.specs.Prelude.{◌≡◌, ℕ, ◌+◌, ◌-◌, ◌^◌, ◌<◌, ◌≤◌, ◌∷◌, ◌++◌, [], eqb, length, map, min, sum_by, All, IfOk, IfErr, IfSome, IfNone, OnOk, OnErr};
+ghost use Rattle.std.specs.Prelude.{◌≡◌, ℕ, ◌+◌, ◌-◌, ◌^◌, ◌<◌, ◌≤◌, ◌∷◌, ◌++◌, [], eqb, length, map, min, sum_by, All, IfOk, IfErr};
+ghost use Rattle.std.specs.Prelude.{IfSome, IfNone, OnOk, OnErr};
 ghost use Rattle.std.specs.Ordering.{nat_cmp};
 ghost use Rattle.std.specs.Cmp.Lexicographic.{slice_cmp};
 ghost use Rattle.std.specs.List.{AllByRecursion, IsDistinct, flat_map};
@@ -9,7 +10,7 @@ ghost use Rattle.wu_base.specs.declared.limits.TheConstants.{ADDRESSES_MAX, GENE
 ghost use Rattle.wu_part.specs.Directories.{PartDirectory};
 ghost use Rattle.wu_part.specs.Parts.{IsList, IsRecorded, SpellsPart};
 ghost use Rattle.wu_part.specs.Writing.{first_of};
-ghost use Rattle.wu_space.specs.Addresses.{AreApart};
+ghost use Rattle.wu_base.specs.Ranges.{AreApart};
 ghost use Rattle.wu_job.specs.Jobs.{Answers, DoesTerm, StandWithin, list_for, started};
 ghost use Rattle.wu_job.specs.Keeping.{addresses_in};
 ghost use Rattle.wu_job.specs.Reading.{IsFoundDamaged};

@@ -2,10 +2,11 @@
 //! A. C. Yao, An almost optimal algorithm for unbounded searching, 1976.
 ghost use Rattle.std.specs.Prelude.{◌≡◌, ℕ, ◌+◌, ◌<◌, ◌≤◌, ◌^◌, true, [], ◌++◌, drop, length, nat_le, sum_by, take, IfOk, All, OnOk};
 ghost use Rattle.std.specs.List.{AllByRecursion};
-ghost use Rattle.wu_space.specs.Addresses.{AreApart};
+ghost use Rattle.wu_base.specs.Ranges.{AreApart};
 ghost use Rattle.wu_layout.specs.Ascending.{AscendBetween};
 ghost use Rattle.wu_layout.specs.Postings.{is_live};
-ghost use Rattle.wu_job.specs.Live.{AreInOrder, AreRanked, FirstEndsAfter, IsCut, find_place, first_from, place_alone, ranges_alone, with_place};
+ghost use Rattle.wu_job.specs.Live.{AreInOrder, AreRanked, FirstEndsAfter, IsCut, find_place, first_from, place_alone, ranges_alone};
+ghost use Rattle.wu_job.specs.Live.{with_place};
 
 use std::alloc::Global;
 use wu_base::{ADDRESSES_MAX, NoMemory, Range};

@@ -6,7 +6,8 @@ use Rattle.std.proofs.lemmas.Bool.{cases_Bool, eq-eqb, ne_eqb, and_from, le-leb,
 use Rattle.std.proofs.lemmas.List.Elements.{filter-append}
 use Rattle.std.proofs.lemmas.List.Sums.{sum_by-cons}
 use Rattle.wu_base.specs.declared.addresses.Range.{Range}
-use Rattle.wu_layout.specs.Postings.{Posting, placed_from, is_of, addresses_of, is_in, is_live, fetched}
+use Rattle.wu_layout.specs.Postings.{Posting, placed_from, is_of, addresses_of, is_live, fetched}
+use Rattle.wu_base.specs.Ranges.{is_in}
 use Rattle.wu_layout.specs.Layouts.{Text, Part, stored_in, postings_of}
 use Rattle.wu_layout.specs.Invariants.{HasText, IsAmong}
 use Rattle.wu_layout.proofs.KeptLemmas.{live_at}

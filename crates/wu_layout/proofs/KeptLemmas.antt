@@ -7,7 +7,8 @@ use Rattle.std.proofs.lemmas.Bool.{or_left, or_right, or_parts, cases_Bool}
 use Rattle.std.proofs.lemmas.List.{nil_from_length}
 use Rattle.std.proofs.lemmas.List.Concat.{flat_map-append}
 use Rattle.wu_base.specs.declared.addresses.Range.{Range}
-use Rattle.wu_layout.specs.Postings.{Posting, is_in, cut, has_some, is_live, live_of, Ascend}
+use Rattle.wu_layout.specs.Postings.{Posting, cut, has_some, is_live, live_of, Ascend}
+use Rattle.wu_base.specs.Ranges.{is_in}
 use Rattle.wu_layout.specs.Layouts.{Text, FileEntry, entry_of, ranges_of}
 use Rattle.wu_layout.specs.Invariants.{SomeOf, HasText, IsAmong}
 use Rattle.wu_layout.proofs.PostingLemmas.{Ascend-filter, cut-append, cut_from_none, length-placed}

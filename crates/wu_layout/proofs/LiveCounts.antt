@@ -9,9 +9,10 @@ use Rattle.std.proofs.lemmas.List.Sums.{sum_by-cons}
 use Rattle.std.proofs.lemmas.List.Filters.{length-filter_both}
 use Rattle.wu_base.specs.declared.addresses.Range.{Range}
 use Rattle.wu_base.proofs.MapEntries.{number_itself, all_found}
-use Rattle.wu_layout.specs.Postings.{Posting, placed_from, is_in, cut, is_live, live_of, dead_of, Ascend}
+use Rattle.wu_layout.specs.Postings.{Posting, placed_from, cut, is_live, live_of, dead_of, Ascend}
+use Rattle.wu_base.specs.Ranges.{is_in, AreDisjoint}
 use Rattle.wu_layout.specs.Layouts.{Text, FileEntry, Part, Layout, entry_of, ranges_of, ranges_by_number, homes_of, stored_in, first_address, last_address}
-use Rattle.wu_layout.specs.Invariants.{AreApart, RangesAreDisjoint, SomeOf, HasText, IsIndexed, IsLayoutOf}
+use Rattle.wu_layout.specs.Invariants.{RangesAreDisjoint, SomeOf, HasText, IsIndexed, IsLayoutOf}
 use Rattle.wu_layout.specs.Steps.{is_half_dead}
 use Rattle.wu_layout.proofs.PostingLemmas.{Ascend-above, Ascend-length, Ascend-bounds, Ascend-split, Ascend-filter, length-placed, outside_below, outside_above, cut_below, cut_above}
 use Rattle.wu_layout.proofs.EntryLemmas.{IfSome-found}
@@ -23,14 +24,14 @@ use Rattle.wu_layout.proofs.ExchangeLemmas.{AreHomes, flat-append}
 
 abbrev AllApart : List Range → Type 0
 AllApart [] = Unit {0}
-AllApart (range ∷ ranges) = AllByRecursion (AreApart range) ranges × AllApart ranges
+AllApart (range ∷ ranges) = AllByRecursion (AreDisjoint range) ranges × AllApart ranges
 
 in_range : (range : Range) (a : ℕ) → is_in range a ≡ true → (range.start ≤ a) × (a < range.start + range.len)
 in_range range a t =
     let parts = and_parts (nat_le range.start a) (nat_lt a (range.start + range.len)) t in
     (leb-true range.start a parts.0, ltb-true a (range.start + range.len) parts.1)
 
-not_in_other : (range other : Range) (a : ℕ) → AreApart range other → is_in range a ≡ true → is_in other a ≡ false
+not_in_other : (range other : Range) (a : ℕ) → AreDisjoint range other → is_in range a ≡ true → is_in other a ≡ false
 not_in_other range other a h t =
     let within = in_range range a t in
     ⊎_elim
@@ -38,7 +39,7 @@ not_in_other range other a h t =
     (λ l. outside_above other a (omega (arith, within.0)))
     h
 
-not_in_others : (range : Range) (ranges : List Range) (a : ℕ) → AllByRecursion (AreApart range) ranges → is_in range a ≡ true
+not_in_others : (range : Range) (ranges : List Range) (a : ℕ) → AllByRecursion (AreDisjoint range) ranges → is_in range a ≡ true
     → is_live ranges a ≡ false
 not_in_others range [] a h t = refl
 not_in_others range (other ∷ ranges) a h t =
@@ -109,11 +110,11 @@ other_key p q l e =
 module _ (is_file : ℕ → Bool) (next : ℕ) (files : List (ℕ × FileEntry)) (d : RangesAreDisjoint is_file next files) where
   apart_from : (file : ℕ × FileEntry) (es : List (ℕ × FileEntry)) → entry_of files file.0 ≡ Some file.1
       → AllByRecursion (λ e. entry_of files e.0 ≡ Some e.1) es → AllByRecursion (λ k. nat_cmp file.0 k ≡ Less) (keys_of es)
-      → AllByRecursion (AreApart file.1.range) (ranges_of es)
+      → AllByRecursion (AreDisjoint file.1.range) (ranges_of es)
   apart_from file [] f a s = tt
   apart_from file (e ∷ es) f a s = (
-    IfSome-found (λ other. AreApart file.1.range other.range) (entry_of files e.0) e.1 a.0
-        (IfSome-found (λ entry. IfSome (entry_of files e.0) (λ other. AreApart entry.range other.range)) (entry_of files file.0) file.1 f
+    IfSome-found (λ other. AreDisjoint file.1.range other.range) (entry_of files e.0) e.1 a.0
+        (IfSome-found (λ entry. IfSome (entry_of files e.0) (λ other. AreDisjoint entry.range other.range)) (entry_of files file.0) file.1 f
         (d.apart file.0 e.0 (other_key file.0 e.0 s.0))),
     apart_from file es f a.1 s.1,
   )

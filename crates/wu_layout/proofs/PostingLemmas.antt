@@ -3,7 +3,8 @@ use Rattle.std.proofs.Common.{◌≡◌, ℕ, suc, ◌+◌, ◌<◌, ◌≤◌, 
 use Rattle.std.proofs.lemmas.Bool.{le-leb, lt-leb, lt-ltb, le-ltb, and_left, and_right, or_parts}
 use Rattle.std.proofs.lemmas.List.Elements.{filter-append}
 use Rattle.wu_base.specs.declared.addresses.Range.{Range}
-use Rattle.wu_layout.specs.Postings.{Posting, placed_from, is_in, cut, has_some, Ascend}
+use Rattle.wu_layout.specs.Postings.{Posting, placed_from, cut, has_some, Ascend}
+use Rattle.wu_base.specs.Ranges.{is_in}
 
 -- ---- ascending addresses
 

@@ -8,7 +8,8 @@ use Rattle.std.proofs.lemmas.Bool.{cases_eq}
 use Rattle.wu_base.proofs.MapEntries.{ascend-insert_entry, ascend-remove_entry}
 use Rattle.wu_layout.specs.Layouts.{FileEntry, entry_of}
 use Rattle.wu_layout.specs.Changes.{DiffersAt}
-use Rattle.wu_layout.specs.Invariants.{AreApart, RangesAreDisjoint}
+use Rattle.wu_layout.specs.Invariants.{RangesAreDisjoint}
+use Rattle.wu_base.specs.Ranges.{AreDisjoint}
 use Rattle.wu_layout.proofs.EntryLemmas.{IfSome-map, IfSome-all, IfSome-same, entry_put, others_after_put, none_after_removal, others_after_removal}
 
 -- two properties of the entries of p and q
@@ -16,7 +17,7 @@ abbrev Both : (FileEntry → FileEntry → Type 0) → Option FileEntry → Opti
 Both R o p = IfSome o (λ entry. IfSome p (λ other. R entry other))
 
 abbrev RangesApart : FileEntry → FileEntry → Type 0
-RangesApart entry other = AreApart entry.range other.range
+RangesApart entry other = AreDisjoint entry.range other.range
 
 none_left_apart : (o : Option FileEntry) → Both RangesApart o None
 none_left_apart o = IfSome-all (λ entry. IfSome {T = FileEntry} None (λ other. RangesApart entry other)) o (λ entry. tt)

@@ -8,7 +8,8 @@ use Rattle.std.proofs.lemmas.List.{map-append}
 use Rattle.std.proofs.lemmas.List.Elements.{filter-append}
 use Rattle.std.proofs.lemmas.Map.Keys.{IsStrictlyIncreasing-from_sorted}
 use Rattle.wu_base.specs.declared.addresses.Range.{Range}
-use Rattle.wu_layout.specs.Postings.{Posting, is_of, addresses_of, is_in, cut, is_live, live_of, Ascend}
+use Rattle.wu_layout.specs.Postings.{Posting, is_of, addresses_of, cut, is_live, live_of, Ascend}
+use Rattle.wu_base.specs.Ranges.{is_in}
 use Rattle.wu_layout.proofs.PostingLemmas.{Ascend-bounds, Ascend-filter}
 
 module _ (term : List ℕ) where

@@ -1,6 +1,7 @@
 -- What an event does to the layout: a file's range is released, and a file gets a text. After each step the layout is one of the
 -- files and texts after the event.
-use Rattle.std.proofs.Common.{◌≡◌, ◌≢◌, ◌⊎◌, ℕ, ◌+◌, ◌==◌, ◌&&◌, not, Bool, true, false, List, ◌++◌, length, Option, Some, None, IfSome, refl, ap, sym, ◌∙◌, subst, arith, ⊎_elim, inl, length-append, eq-zero-or-pos}
+use Rattle.std.proofs.Common.{◌≡◌, ◌≢◌, ◌⊎◌, ℕ, ◌+◌, ◌==◌, ◌&&◌, not, Bool, true, false, List, ◌++◌, length, Option, Some, None, IfSome}
+use Rattle.std.proofs.Common.{refl, ap, sym, ◌∙◌, subst, arith, ⊎_elim, inl, length-append, eq-zero-or-pos}
 use Rattle.std.specs.Ordering.{nat_cmp}
 use Rattle.std.specs.List.Sorted.{IsStrictlySortedBy}
 use Rattle.std.specs.Map.{remove_entry}
@@ -8,9 +9,11 @@ use Rattle.std.specs.BTreeMap.{is_at, insert_entry}
 use Rattle.std.proofs.lemmas.Bool.{cases_eq, eq-eqb, ne_eqb, and_left, not_from_true}
 use Rattle.wu_base.proofs.Options.{not_some}
 use Rattle.wu_layout.specs.Postings.{Posting, placed_from, has_some, Ascend}
-use Rattle.wu_layout.specs.Layouts.{homes_of, Text, FileEntry, Part, Job, Layout, first_layout, entry_of, stored_in, postings_of, parts_taken}
-use Rattle.wu_layout.specs.Invariants.{IsIndexed, RangesAreDisjoint, AddressesAscend, GenerationsAreBounded, IsAmong, JobIsUnderWay, IsLayoutOf}
-use Rattle.wu_layout.specs.Changes.{DiffersAt, IsWithout, IsWith}
+use Rattle.wu_layout.specs.Layouts.{homes_of, Text, FileEntry, Part, Job, Layout, first_layout, entry_of, stored_in, postings_of}
+use Rattle.wu_layout.specs.Layouts.{parts_taken}
+use Rattle.wu_layout.specs.Invariants.{IsIndexed, RangesAreDisjoint, AddressesAscend, GenerationsAreBounded, IsAmong, JobIsUnderWay}
+use Rattle.wu_layout.specs.Invariants.{IsLayoutOf}
+use Rattle.wu_layout.specs.Changes.{DiffersAt, DropsFile, AddsFile}
 use Rattle.wu_layout.specs.Steps.{release, place}
 use Rattle.wu_layout.proofs.PostingLemmas.{Ascend-append, Ascend-placed, length-placed, cut_below, none_from_cut}
 use Rattle.wu_layout.proofs.EntryLemmas.{IfSome-same, entry_put, others_after_put, none_after_removal, others_after_removal}
@@ -110,7 +113,7 @@ first_is_layout text_of = record {
 
 -- a file's range is released: it is a file no more, or gets a new text at once
 pub layout_after_release : (is_file is_file_after : ℕ → Bool) (text_of text_of_after : ℕ → Text) (layout : Layout) (ino : ℕ)
-    → IsWithout ino is_file is_file_after text_of text_of_after
+    → DropsFile ino is_file is_file_after text_of text_of_after
     → IsLayoutOf is_file text_of layout → IsLayoutOf is_file_after text_of_after (release ino layout)
 layout_after_release is_file is_file_after text_of text_of_after layout ino w d = record {
   ranges = ranges_after_release is_file is_file_after layout.next layout.files ino d.ranges w.files;
@@ -124,7 +127,7 @@ layout_after_release is_file is_file_after text_of text_of_after layout ino w d 
 
 -- a file gets a text: it is made, or its range was released
 pub layout_after_place : (is_file is_file_after : ℕ → Bool) (text_of text_of_after : ℕ → Text) (layout : Layout) (ino : ℕ) (text : Text)
-    → IsWith ino text is_file is_file_after text_of text_of_after
+    → AddsFile ino text is_file is_file_after text_of text_of_after
     → IsLayoutOf is_file text_of layout → IsLayoutOf is_file_after text_of_after (place ino text layout)
 layout_after_place is_file is_file_after text_of text_of_after layout ino text w d =
     let entry : FileEntry = entry_for text layout.next layout.blob in

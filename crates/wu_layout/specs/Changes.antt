@@ -11,12 +11,12 @@ pub record DiffersAt {X : Type 0} (number : ℕ) (before after : ℕ → X) (val
   pub elsewhere : (n : ℕ) → n ≢ number → after n ≡ before n
 
 -- The file of that number is one no more. The texts of others are as they were.
-pub record IsWithout (ino : ℕ) (is_file is_file_after : ℕ → Bool) (text_of text_of_after : ℕ → Text) : Type 0 where
+pub record DropsFile (ino : ℕ) (is_file is_file_after : ℕ → Bool) (text_of text_of_after : ℕ → Text) : Type 0 where
   pub files : DiffersAt ino is_file is_file_after false
   pub texts : (n : ℕ) → n ≢ ino → text_of_after n ≡ text_of n
 
 -- There is one more file, with that text. The texts of others are as they were.
-pub record IsWith (ino : ℕ) (text : Text) (is_file is_file_after : ℕ → Bool) (text_of text_of_after : ℕ → Text) : Type 0 where
+pub record AddsFile (ino : ℕ) (text : Text) (is_file is_file_after : ℕ → Bool) (text_of text_of_after : ℕ → Text) : Type 0 where
   pub absent : is_file ino ≡ false
   pub files : DiffersAt ino is_file is_file_after true
   pub texts : DiffersAt ino text_of text_of_after text

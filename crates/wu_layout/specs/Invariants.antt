@@ -5,14 +5,11 @@ use Rattle.std.specs.List.{AllByRecursion}
 use Rattle.std.specs.List.Sorted.{IsStrictlySortedBy}
 use Rattle.std.specs.Map.{keys_of}
 use Rattle.wu_base.specs.declared.addresses.Range.{Range}
+use Rattle.wu_base.specs.Ranges.{AreDisjoint}
 use Rattle.wu_layout.specs.Postings.{Posting, placed_from, cut, has_some, live_of, dead_of, Ascend}
 use Rattle.wu_layout.specs.Layouts.{Text, FileEntry, Part, Job, Layout, entry_of, stored_in, homes_of, postings_of, terms_of, parts_before, parts_taken}
 
 -- ---- ranges
-
--- one range ends before the other starts
-abbrev pub AreApart : Range → Range → Type 0
-AreApart range other = (range.start + range.len ≤ other.start) ⊎ (other.start + other.len ≤ range.start)
 
 -- The live ranges are disjoint, belong to exactly the regular files, and end by the next address.
 pub record RangesAreDisjoint (is_file : ℕ → Bool) (next : ℕ) (files : List (ℕ × FileEntry)) : Type 0 where
@@ -20,7 +17,7 @@ pub record RangesAreDisjoint (is_file : ℕ → Bool) (next : ℕ) (files : List
   pub of_files : (ino : ℕ) → is_some (entry_of files ino) ≡ is_file ino
   pub within : (ino : ℕ) → IfSome (entry_of files ino) (λ entry. entry.range.start + entry.range.len ≤ next)
   pub apart : (p q : ℕ) → p ≢ q
-      → IfSome (entry_of files p) (λ entry. IfSome (entry_of files q) (λ other. AreApart entry.range other.range))
+      → IfSome (entry_of files p) (λ entry. IfSome (entry_of files q) (λ other. AreDisjoint entry.range other.range))
 
 -- ---- addresses
 

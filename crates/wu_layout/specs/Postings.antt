@@ -1,9 +1,10 @@
 -- Postings, as in an inverted index with addresses of its own (a schema-independent index): each says that a term stands at an
 -- address. See Büttcher, Clarke and Cormack, Information Retrieval, chapters 2 and 4.
-use Rattle.std.specs.Prelude.{ℕ, ◌+◌, ◌≤◌, ◌&&◌, not, Bool, nat_eq, nat_le, nat_lt, List, [], ◌∷◌, filter, map}
+use Rattle.std.specs.Prelude.{ℕ, ◌+◌, ◌≤◌, not, Bool, nat_eq, List, [], ◌∷◌, filter, map}
 use Rattle.std.specs.List.{list_any}
 use Rattle.std.specs.Cmp.Lexicographic.{pointwise}
 use Rattle.wu_base.specs.declared.addresses.Range.{Range}
+use Rattle.wu_base.specs.Ranges.{is_in}
 
 -- the term stands at the address
 pub record Posting : Type 0 where
@@ -22,10 +23,6 @@ is_of term posting = pointwise nat_eq posting.term term
 -- the addresses at which the term stands, in the order of the postings
 abbrev pub addresses_of : List ℕ → List Posting → List ℕ
 addresses_of term postings = map (λ posting. posting.address) (filter (is_of term) postings)
-
--- the address is one of the range
-abbrev pub is_in : Range → ℕ → Bool
-is_in range address = nat_le range.start address && nat_lt address (range.start + range.len)
 
 -- the postings whose addresses are in the range
 abbrev pub cut : Range → List Posting → List Posting

@@ -3,16 +3,16 @@ ghost use Rattle.std.specs.Prelude.{◌≡◌, ℕ, Bool, true, false};
 ghost use Rattle.wu_layout.specs.Layouts.{Text, Layout, first_layout, ranges_of};
 ghost use Rattle.wu_layout.specs.Invariants.{IsLayoutOf, AreFewParts};
 ghost use Rattle.wu_layout.specs.Steps.{release, place, flush, flush_if_full, work, save, rest, is_idle};
-ghost use Rattle.wu_layout.specs.Changes.{IsWithout, IsWith, KeepsLivePostings};
+ghost use Rattle.wu_layout.specs.Changes.{DropsFile, AddsFile, KeepsLivePostings};
 
 /// Each step keeps the invariants of the layout, whether or not a job is under way.
 pub fn each_step_keeps_the_layout()
     ensures first { (text_of : ℕ → Text) → IsLayoutOf (λ ino. false) text_of first_layout }
     ensures release { (is_file is_file_after : ℕ → Bool) (text_of text_of_after : ℕ → Text) (layout : Layout) (ino : ℕ)
-        → IsWithout ino is_file is_file_after text_of text_of_after → IsLayoutOf is_file text_of layout
+        → DropsFile ino is_file is_file_after text_of text_of_after → IsLayoutOf is_file text_of layout
         → IsLayoutOf is_file_after text_of_after (release ino layout) }
     ensures place { (is_file is_file_after : ℕ → Bool) (text_of text_of_after : ℕ → Text) (layout : Layout) (ino : ℕ) (text : Text)
-        → IsWith ino text is_file is_file_after text_of text_of_after → IsLayoutOf is_file text_of layout
+        → AddsFile ino text is_file is_file_after text_of text_of_after → IsLayoutOf is_file text_of layout
         → IsLayoutOf is_file_after text_of_after (place ino text layout) }
     ensures flush { (is_file : ℕ → Bool) (text_of : ℕ → Text) (flush_at : ℕ) (layout : Layout) → IsLayoutOf is_file text_of layout
         → IsLayoutOf is_file text_of (flush layout) × IsLayoutOf is_file text_of (flush_if_full flush_at layout) }

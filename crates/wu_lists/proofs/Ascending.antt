@@ -4,7 +4,7 @@ use Rattle.std.specs.List.{AllByRecursion}
 use Rattle.std.specs.List.Sorted.{IsNonDecreasingBy}
 use Rattle.wu_base.specs.declared.addresses.Range.{Range}
 use Rattle.wu_base.specs.declared.limits.TheConstants.{ADDRESSES_MAX}
-use Rattle.wu_space.specs.Addresses.{AreApart}
+use Rattle.wu_base.specs.Ranges.{AreApart}
 use Rattle.wu_lists.specs.Ascending.{AreInOrder}
 pub use Rattle.wu_layout.proofs.Ascending.{addresses-rise, addresses_increase, all_from, all_from_place, ascend-bounds, ascend-drop, ascend-filter, ascend-first, ascend-from, ascend-higher, ascend-join, ascend-last, ascend-length, ascend-lower, ascend-push, ascend-take}
 

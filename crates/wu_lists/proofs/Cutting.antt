@@ -1,10 +1,12 @@
 -- Ascending addresses, cut to frames in order.
-use Rattle.std.proofs.Common.{◌≡◌, ℕ, ◌+◌, ◌<◌, ◌≤◌, nat_le, Bool, true, false, cond, List, [], ◌∷◌, ◌++◌, filter, length, get_or, drop, refl, ap, ap₂, sym, ◌∙◌, subst, arith, ⊎_elim}
+use Rattle.std.proofs.Common.{◌≡◌, ℕ, ◌+◌, ◌<◌, ◌≤◌, nat_le, Bool, true, false, cond, List, [], ◌∷◌, ◌++◌, filter, length, get_or, drop}
+use Rattle.std.proofs.Common.{refl, ap, ap₂, sym, ◌∙◌, subst, arith, ⊎_elim}
 use Rattle.std.specs.List.{AllByRecursion}
 use Rattle.std.proofs.lemmas.Bool.{cases_lt, le-leb, lt-leb, lt-ltb, le-ltb, and_left, and_right, and_from}
 use Rattle.std.proofs.lemmas.List.Elements.{filter-append}
 use Rattle.wu_base.specs.declared.addresses.Range.{Range}
-use Rattle.wu_layout.specs.Postings.{is_in, is_live}
+use Rattle.wu_layout.specs.Postings.{is_live}
+use Rattle.wu_base.specs.Ranges.{is_in}
 use Rattle.wu_lists.specs.Ascending.{AscendBetween, AreInOrder}
 use Rattle.wu_lists.proofs.Ascending.{all_from}
 

@@ -1,5 +1,6 @@
 -- The entry of a term in a directory, and what a part has of its blocks.
-use Rattle.std.proofs.Common.{◌≡◌, ℕ, ◌+◌, ◌-◌, ◌≤◌, true, false, cond, List, [], ◌∷◌, filter, length, take, drop, map, min, refl, ap, sym, ◌∙◌, subst, arith, inl, inr}
+use Rattle.std.proofs.Common.{◌≡◌, ℕ, ◌+◌, ◌-◌, ◌≤◌, true, false, cond, List, [], ◌∷◌, filter, length, take, drop, map, min, refl, ap, sym}
+use Rattle.std.proofs.Common.{◌∙◌, subst, arith, inl, inr}
 use Rattle.std.specs.Prelude.{Option, None, Some, IfSome, nat_eq}
 use Rattle.std.specs.List.{AllByRecursion, AllZip, Contains}
 use Rattle.std.specs.List.Sorted.{IsStrictlySortedBy}
@@ -15,7 +16,7 @@ use Rattle.wu_vbyte.specs.declared.blocks.TheConstants.{BLOCK_LEN}
 use Rattle.wu_part.specs.declared.entries.BlockEntry.{BlockEntry}
 use Rattle.wu_part.specs.declared.entries.TermEntry.{TermEntry}
 use Rattle.wu_part.specs.Directories.{AreBlocks, IsEntry, PartDirectory, SpellsDirectory, StandFrom, all_blocks}
-use Rattle.wu_part.specs.Parts.{HoldBlocks, HoldsList, SpellsPart}
+use Rattle.wu_part.specs.Parts.{HoldBlocks, HoldsList, SpellsPart, IsNoPart}
 use Rattle.wu_part.proofs.ReadingLemmas.{stand_within}
 use Rattle.wu_lists.specs.declared.blocks.Block.{Block}
 use Rattle.wu_lists.specs.Blocks.{IsSpelledIn, blocks_from, blocks_in, bytes_of, entry_of, meets, needed}
@@ -23,7 +24,6 @@ use Rattle.wu_lists.specs.Fetching.{AreFetched, HasBlocks, HasEntry, HasTerm}
 use Rattle.wu_lists.specs.Keeping.{AreHeld, Kept}
 use Rattle.wu_layout.specs.Postings.{is_live}
 use Rattle.wu_base.specs.declared.addresses.Range.{Range}
-use Rattle.wu_lists.specs.Causes.{IsNoPart}
 use Rattle.wu_lists.proofs.Walks.{block_with, spelled-block}
 
 -- ---- the entry

@@ -1,23 +1,16 @@
 -- Why a call that asks for blocks answers a trouble.
-use Rattle.std.specs.Prelude.{ℕ, ◌<◌, ◌≤◌, ◌≡◌, ◌≢◌, List, ◌++◌, length, map, Option, None, Some, IfSome, option_map}
+use Rattle.std.specs.Prelude.{ℕ, ◌<◌, ◌≤◌, ◌≡◌, ◌≢◌, List, ◌++◌, length, map, Option, IfSome, option_map}
 use Rattle.std.specs.Map.{keys_of}
 use Rattle.wu_base.specs.declared.addresses.Range.{Range}
-use Rattle.wu_base.specs.declared.addresses.TermList.{TermList}
 use Rattle.wu_base.specs.declared.troubles.Trouble.{Trouble}
 use Rattle.wu_base.specs.declared.troubles.Trouble.TheVariants.{StoreFault, Damaged}
 use Rattle.wu_outside.specs.Content.{Content}
 use Rattle.wu_outside.specs.Faults.{Rose}
 use Rattle.wu_outside.specs.declared.ranges.ReadRange.{ReadRange}
 use Rattle.wu_part.specs.Directories.{PartDirectory}
-use Rattle.wu_part.specs.Parts.{SpellsPart}
 use Rattle.wu_lists.specs.declared.blocks.Block.{Block}
 use Rattle.wu_lists.specs.Blocks.{needed, range_of}
 use Rattle.wu_lists.specs.Keeping.{Kept, all_missing}
-
--- the blob is absent, or it isn't a part with that directory
-abbrev pub IsNoPart : PartDirectory → Option (List ℕ) → Type 0
-IsNoPart directory None = Unit {0}
-IsNoPart directory (Some blob) = (lists : List TermList) → SpellsPart directory lists blob → ⊥
 
 -- A store fault is answered only where the store's count of faults rose, which else is as it was. A damaged blob is this one, of which
 -- something was read, and broken. Of the blocks that were to be read, the first ones were, each in one read of its range.

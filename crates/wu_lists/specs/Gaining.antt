@@ -3,7 +3,7 @@ use Rattle.std.specs.Prelude.{ℕ, ◌≡◌, ◌+◌, ◌-◌, ◌≤◌, ◌^�
 use Rattle.std.specs.List.{AllByRecursion, list_any}
 use Rattle.std.proofs.Common.{refl, ap, ◌∙◌, cond}
 use Rattle.wu_base.specs.declared.addresses.Range.{Range}
-use Rattle.wu_layout.specs.Postings.{is_in}
+use Rattle.wu_base.specs.Ranges.{is_in}
 use Rattle.wu_lists.specs.declared.tallies.Tally.{Tally}
 use Rattle.wu_lists.specs.Tallying.{after_last}
 

@@ -14,5 +14,5 @@ mod walking;
 pub use blocks::Block;
 pub use frames::{put_within, tally_within};
 pub use lists::Lists;
-pub use sinks::{Sink, Unasked};
+pub use sinks::{AddressSink, Discard};
 pub use tallies::Tally;

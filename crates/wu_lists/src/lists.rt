@@ -2,7 +2,7 @@
 ghost use Rattle.std.specs.Prelude.{◌≡◌, ◌+◌, ◌≤◌, [], All, IfOk, IfErr, OnErr, OnOk};
 ghost use Rattle.lru.specs.LruCache.{lru_cache};
 ghost use Rattle.wu_base.specs.declared.limits.TheConstants.{ADDRESSES_MAX};
-ghost use Rattle.wu_space.specs.Addresses.{AreApart};
+ghost use Rattle.wu_base.specs.Ranges.{AreApart};
 ghost use Rattle.wu_lists.specs.Blocks.{needed};
 ghost use Rattle.wu_lists.specs.Causes.{IsTermCause};
 ghost use Rattle.wu_lists.specs.Fetching.{AreFetched, AreInFrames, HasTerm};
@@ -10,7 +10,7 @@ ghost use Rattle.wu_lists.specs.Keeping.{Asks, AsksFirst};
 ghost use Rattle.wu_lists.specs.Tallying.{Tallies};
 
 use crate::blocks::Block;
-use crate::sinks::Unasked;
+use crate::sinks::Discard;
 use crate::tallies::Tally;
 use lru::LruCache;
 use std::alloc::Global;
@@ -148,6 +148,6 @@ impl Lists {
         ensures cause { IfErr result (IsTermCause self.old blob dir.now term.now frames.now (D.holds store.old)
             (D.faults store.old) (D.faults store.new) (D.reads store.old) (D.reads store.new)) }
     {
-        self.walk(store, blob, dir, term, frames, &mut Unasked)
+        self.walk(store, blob, dir, term, frames, &mut Discard)
     }
 }

@@ -13,7 +13,7 @@ use crate::tallies::Tally;
 use wu_base::{NoMemory, Range};
 
 /// What gains the addresses that lie in frames.
-pub trait Sink {
+pub trait AddressSink {
     /// Whether it does. Else the blocks are asked for alone.
     ghost wanted: { Bool };
 
@@ -40,7 +40,7 @@ pub trait Sink {
 }
 
 /// Puts them at the end.
-impl Sink for Vec<u64> {
+impl AddressSink for Vec<u64> {
     ghost wanted = { true };
 
     ghost gained = { λ _ more before after. after.items ≡ before.items ++ more };
@@ -62,7 +62,7 @@ impl Sink for Vec<u64> {
 }
 
 /// Counts them.
-impl Sink for Tally {
+impl AddressSink for Tally {
     ghost wanted = { true };
 
     ghost gained = { λ frames more before after. after ≡ tally_on frames before more };
@@ -87,9 +87,9 @@ impl Sink for Tally {
 
 /// Wants none.
 #[derive(Clone, Copy)]
-pub struct Unasked;
+pub struct Discard;
 
-impl Sink for Unasked {
+impl AddressSink for Discard {
     ghost wanted = { false };
 
     ghost gained = { λ _ _ before after. after ≡ before };

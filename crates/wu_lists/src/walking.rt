@@ -3,7 +3,7 @@ ghost use Rattle.std.specs.Prelude.{◌≡◌, ◌+◌, ◌-◌, ◌^◌, ◌<�
 ghost use Rattle.std.specs.List.{AllByRecursion};
 ghost use Rattle.std.specs.Map.{keys_of};
 ghost use Rattle.wu_base.specs.declared.limits.TheConstants.{ADDRESSES_MAX};
-ghost use Rattle.wu_space.specs.Addresses.{AreApart};
+ghost use Rattle.wu_base.specs.Ranges.{AreApart};
 ghost use Rattle.wu_part.specs.Directories.{AreBlocks};
 ghost use Rattle.wu_lists.specs.Ascending.{AreInOrder};
 ghost use Rattle.wu_lists.specs.Blocks.{IsSpelledIn, blocks_from, meets, needed};
@@ -15,7 +15,7 @@ ghost use Rattle.wu_lists.specs.Keeping.{Asks, AsksFirst, all_missing};
 use crate::blocks::Block;
 use crate::frames::{frames_from, is_needed};
 use crate::lists::Lists;
-use crate::sinks::Sink;
+use crate::sinks::AddressSink;
 use wu_base::{Range, Trouble};
 use wu_outside::Store;
 use wu_part::{Directory, Entry};
@@ -25,7 +25,7 @@ impl Lists {
     /// addresses that lie in the frames; after an error it has gained some addresses that do, or none.
     ///
     /// The blob is damaged where [`Lists::fetch`] would find it so.
-    pub fn walk<D: Store, S: Sink>(
+    pub fn walk<D: Store, S: AddressSink>(
         &mut self,
         store: &mut D,
         blob: u64,
@@ -60,7 +60,7 @@ impl Lists {
     }
 
     /// The same of the entry's blocks.
-    fn walk_blocks<D: Store, S: Sink>(
+    fn walk_blocks<D: Store, S: AddressSink>(
         &mut self,
         store: &mut D,
         blob: u64,
@@ -114,7 +114,7 @@ impl Lists {
     /// Asks for the block if a frame overlaps with it. A sink that wants them gains its addresses that lie in the
     /// frames, and none after an error.
     #[inline]
-    fn visit<D: Store, S: Sink>(
+    fn visit<D: Store, S: AddressSink>(
         &mut self,
         store: &mut D,
         block: &Block,
@@ -180,7 +180,7 @@ impl Lists {
     /// The sink gains the addresses of the block that lie in the frames, and none after an error. A block that no
     /// frame overlaps with isn't asked for.
     #[inline]
-    fn put_block<D: Store, S: Sink>(
+    fn put_block<D: Store, S: AddressSink>(
         &mut self,
         store: &mut D,
         block: &Block,

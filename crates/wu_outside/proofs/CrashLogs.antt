@@ -1,8 +1,9 @@
 -- A log after a crash: what the code builds is what is defined, and a crash may leave it.
-use Rattle.std.proofs.Common.{◌≡◌, ℕ, ◌+◌, ◌-◌, ◌≤◌, ◌==◌, List, [], ◌∷◌, ◌++◌, length, take, drop, reverse, Bool, true, false, cond, T, ◌⊎◌, inl, inr, Option, Some, None, refl, sym, ap, ◌∙◌, subst, arith, add-one, append_assoc, eqb→eq}
+use Rattle.std.proofs.Common.{◌≡◌, ℕ, ◌+◌, ◌-◌, ◌≤◌, ◌==◌, List, [], ◌∷◌, ◌++◌, length, take, drop, reverse, Bool, true, false, cond, T}
+use Rattle.std.proofs.Common.{◌⊎◌, inl, inr, Option, Some, None, refl, sym, ap, ◌∙◌, subst, arith, add-one, append_assoc, eqb→eq}
 use Rattle.std.proofs.lemmas.List.{reverse-append, length-reverse, length-drop, length-take-le, take-append-drop}
 use Rattle.std.proofs.Math.Seq.{take-append_seam, drop-append_seam}
-use Rattle.wu_outside.specs.Crash.{MayBlobBe, IsPartly, MayLeave}
+use Rattle.wu_outside.specs.Crash.{MayBlobBe, MixesChanges, MayLeave}
 use Rattle.wu_outside.specs.Logs.{moments_of, content_of, changes_since_sync, is_kept, left_of, left_of_all, crash_log}
 use Rattle.wu_outside.specs.declared.logs.Entry.{Entry}
 use Rattle.wu_outside.specs.declared.logs.Entry.TheVariants.{HasPut, HasRemoved, HasSetRoot, HasSynced}
@@ -54,8 +55,8 @@ removed_blob : (blob other : ℕ) (here : Bool) (old : Option (List ℕ)) (P : O
 removed_blob blob other true old P same kept = inl (same tt, refl)
 removed_blob blob other false old P same kept = inr kept
 
-after_put : (kept : Bool) (blob : ℕ) (bytes : List ℕ) (earlier left : List Entry) → IsPartly (moments_of earlier).now (content_of left)
-    → IsPartly (moments_of (HasPut blob bytes ∷ earlier)).now (content_of (left_of kept (HasPut blob bytes) ++ left))
+after_put : (kept : Bool) (blob : ℕ) (bytes : List ℕ) (earlier left : List Entry) → MixesChanges (moments_of earlier).now (content_of left)
+    → MixesChanges (moments_of (HasPut blob bytes ∷ earlier)).now (content_of (left_of kept (HasPut blob bytes) ++ left))
 after_put true blob bytes earlier left partly = record {
   blobs = λ other. put_blob other blob (other == blob) (Some bytes) ((content_of left).blobs other)
       (MayBlobBe (moments_of earlier).now.tried other ((moments_of earlier).now.synced.blobs other))
@@ -69,8 +70,8 @@ after_put false blob bytes earlier left partly = record {
   root = partly.root;
 }
 
-after_removal : (kept : Bool) (blob : ℕ) (earlier left : List Entry) → IsPartly (moments_of earlier).now (content_of left)
-    → IsPartly (moments_of (HasRemoved blob ∷ earlier)).now (content_of (left_of kept (HasRemoved blob) ++ left))
+after_removal : (kept : Bool) (blob : ℕ) (earlier left : List Entry) → MixesChanges (moments_of earlier).now (content_of left)
+    → MixesChanges (moments_of (HasRemoved blob ∷ earlier)).now (content_of (left_of kept (HasRemoved blob) ++ left))
 after_removal true blob earlier left partly = record {
   blobs = λ other. removed_blob other blob (other == blob) ((content_of left).blobs other)
       (MayBlobBe (moments_of earlier).now.tried other ((moments_of earlier).now.synced.blobs other))
@@ -79,29 +80,29 @@ after_removal true blob earlier left partly = record {
 }
 after_removal false blob earlier left partly = record { blobs = λ other. inr (partly.blobs other); root = partly.root }
 
-after_root : (kept : Bool) (bytes : List ℕ) (earlier left : List Entry) → IsPartly (moments_of earlier).now (content_of left)
-    → IsPartly (moments_of (HasSetRoot bytes ∷ earlier)).now (content_of (left_of kept (HasSetRoot bytes) ++ left))
+after_root : (kept : Bool) (bytes : List ℕ) (earlier left : List Entry) → MixesChanges (moments_of earlier).now (content_of left)
+    → MixesChanges (moments_of (HasSetRoot bytes ∷ earlier)).now (content_of (left_of kept (HasSetRoot bytes) ++ left))
 after_root true bytes earlier left partly = record { blobs = partly.blobs; root = inl refl }
 after_root false bytes earlier left partly = record { blobs = partly.blobs; root = inr partly.root }
 
 -- what is left of a log is in part what was done
-crash_partly : (choice : ℕ) (log : List Entry) → IsPartly (moments_of log).now (content_of (crash_log choice log))
+crash_partly : (choice : ℕ) (log : List Entry) → MixesChanges (moments_of log).now (content_of (crash_log choice log))
 crash_partly choice [] = record { blobs = λ _. refl; root = refl }
 crash_partly choice (HasSynced ∷ earlier) = record { blobs = λ _. refl; root = refl }
 crash_partly choice (HasPut blob bytes ∷ earlier) =
     let since = changes_since_sync earlier in
     let more = crash_more choice since (HasPut blob bytes) earlier (within_log earlier) in
-    let P : List Entry → Type 0 = λ left. IsPartly (moments_of (HasPut blob bytes ∷ earlier)).now (content_of left) in
+    let P : List Entry → Type 0 = λ left. MixesChanges (moments_of (HasPut blob bytes ∷ earlier)).now (content_of left) in
     subst P (sym more) (after_put (is_kept choice since) blob bytes earlier (crash_log choice earlier) (crash_partly choice earlier))
 crash_partly choice (HasRemoved blob ∷ earlier) =
     let since = changes_since_sync earlier in
     let more = crash_more choice since (HasRemoved blob) earlier (within_log earlier) in
-    let P : List Entry → Type 0 = λ left. IsPartly (moments_of (HasRemoved blob ∷ earlier)).now (content_of left) in
+    let P : List Entry → Type 0 = λ left. MixesChanges (moments_of (HasRemoved blob ∷ earlier)).now (content_of left) in
     subst P (sym more) (after_removal (is_kept choice since) blob earlier (crash_log choice earlier) (crash_partly choice earlier))
 crash_partly choice (HasSetRoot bytes ∷ earlier) =
     let since = changes_since_sync earlier in
     let more = crash_more choice since (HasSetRoot bytes) earlier (within_log earlier) in
-    let P : List Entry → Type 0 = λ left. IsPartly (moments_of (HasSetRoot bytes ∷ earlier)).now (content_of left) in
+    let P : List Entry → Type 0 = λ left. MixesChanges (moments_of (HasSetRoot bytes ∷ earlier)).now (content_of left) in
     subst P (sym more) (after_root (is_kept choice since) bytes earlier (crash_log choice earlier) (crash_partly choice earlier))
 
 -- a crash may leave it

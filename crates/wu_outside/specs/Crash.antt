@@ -33,13 +33,13 @@ MayRootBe (Remove b ∷ earlier) synced left = MayRootBe earlier synced left
 MayRootBe (SetRoot bytes ∷ earlier) synced left = (left ≡ Some bytes) ⊎ MayRootBe earlier synced left
 
 -- of each blob, and of the root, what may be left
-pub record IsPartly (moment : Moment) (left : Content) : Type 0 where
+pub record MixesChanges (moment : Moment) (left : Content) : Type 0 where
   pub blobs : (blob : ℕ) → MayBlobBe moment.tried blob (moment.synced.blobs blob) (left.blobs blob)
   pub root : MayRootBe moment.tried moment.synced.root left.root
 
 -- what a crash at this moment may leave: all that is held, or the changes since the sync in part
 abbrev pub MayLeave : Moment → Content → Type 0
-MayLeave moment left = (left ≡ moment.held) ⊎ IsPartly moment left
+MayLeave moment left = (left ≡ moment.held) ⊎ MixesChanges moment left
 
 -- a store now and at the moments after each earlier change and sync, newest first
 pub record Moments : Type 0 where

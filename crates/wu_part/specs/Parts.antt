@@ -45,6 +45,11 @@ pub record SpellsPart (directory : PartDirectory) (lists : List TermList) (blob 
   pub lists_held : AllZip (HoldsList directory.low blob) directory.terms lists
   pub distinct : IsDistinct eqb (flat_map (λ list. list.at) lists)
 
+-- the blob is absent, or it isn't a part with that directory
+abbrev pub IsNoPart : PartDirectory → Option (List ℕ) → Type 0
+IsNoPart directory None = Unit {0}
+IsNoPart directory (Some blob) = (lists : List TermList) → SpellsPart directory lists blob → ⊥
+
 -- ---- what is recorded of a part, and what it may be found to be
 
 -- the directory tells what the record tells

@@ -1,5 +1,6 @@
 -- What is asked of several parts, one after another, and why it fails.
-use Rattle.std.proofs.Common.{◌≡◌, ℕ, ◌-◌, ◌<◌, true, false, cond, Bool, List, [], ◌∷◌, ◌++◌, length, filter, Option, None, Some, refl, ap, ap₂, sym, ◌∙◌, subst, arith, append-nil, append_assoc, inl, inr}
+use Rattle.std.proofs.Common.{◌≡◌, ℕ, ◌-◌, ◌<◌, true, false, cond, Bool, List, [], ◌∷◌, ◌++◌, length, filter, Option, None, Some, refl, ap}
+use Rattle.std.proofs.Common.{ap₂, sym, ◌∙◌, subst, arith, append-nil, append_assoc, inl, inr}
 use Rattle.std.specs.Prelude.{IfErr, IfSome, IsErrAnd, Result, Ok, Err, zip}
 use Rattle.std.specs.List.{AllByRecursion, list_any}
 use Rattle.std.specs.Map.{keys_of}
@@ -17,7 +18,8 @@ use Rattle.wu_part.specs.declared.entries.TermEntry.{TermEntry}
 use Rattle.wu_part.specs.Directories.{PartDirectory}
 use Rattle.wu_lists.specs.declared.blocks.Block.{Block}
 use Rattle.wu_lists.specs.Blocks.{blocks_from, blocks_in, blocks_of, entry_of, meets, needed}
-use Rattle.wu_lists.specs.Causes.{IsCause, IsNoPart}
+use Rattle.wu_lists.specs.Causes.{IsCause}
+use Rattle.wu_part.specs.Parts.{IsNoPart}
 use Rattle.wu_lists.specs.Keeping.{Asks, Kept, all_asked, all_missing, asked, is_same, missing}
 use Rattle.wu_parts.specs.Causes.{IsAskCause, IsFetchCause}
 use Rattle.wu_parts.specs.Contents.{Contents}

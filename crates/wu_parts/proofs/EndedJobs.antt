@@ -1,5 +1,6 @@
 -- What is kept of the parts, when a job ends or goes on.
-use Rattle.std.proofs.Common.{◌≡◌, ℕ, zero, suc, ◌+◌, ◌<◌, ◌≤◌, List, [], ◌∷◌, ◌++◌, length, map, take, drop, insert, refl, ap, sym, ◌∙◌, subst, arith}
+use Rattle.std.proofs.Common.{◌≡◌, ℕ, zero, suc, ◌+◌, ◌<◌, ◌≤◌, List, [], ◌∷◌, ◌++◌, length, map, take, drop, insert, refl, ap, sym, ◌∙◌}
+use Rattle.std.proofs.Common.{subst, arith}
 use Rattle.std.specs.Prelude.{Option, None, Some, option_map}
 use Rattle.std.specs.List.{flat_map}
 use Rattle.std.proofs.lemmas.List.{length-map}
@@ -14,8 +15,8 @@ use Rattle.wu_part.proofs.LawLemmas.{one_directory}
 use Rattle.wu_job.specs.Jobs.{JobState, MakesList, StandWithin}
 use Rattle.wu_parts.specs.Contents.{Contents, JobAt}
 use Rattle.wu_parts.specs.Flushing.{Told}
-use Rattle.wu_parts.specs.StoredParts.{AreSound, IsKeptJob, IsPutAs, directories_of, records_of, running_at}
-use Rattle.wu_parts.specs.Units.{IsRunning, bare, bares, replaced, with_made, without_taken}
+use Rattle.wu_parts.specs.StoredParts.{AreSound, IsKeptJob, StoresPart, directories_of, records_of, running_at}
+use Rattle.wu_parts.specs.Units.{IsRunning, as_part, as_parts, replaced, with_made, without_taken}
 use Rattle.wu_parts.specs.UnitsOfParts.{EndsJob}
 use Rattle.wu_parts.specs.declared.working.Running.{Running}
 use Rattle.wu_parts.specs.declared.writing.StoredPart.{StoredPart}
@@ -33,16 +34,16 @@ insert_back {X} place old ys now new x l e f = f ∙ ap (λ (zs : List X). inser
     back (suc place) (y ∷ old) l = ap (λ (zs : List X). y ∷ zs) (back place old (omega (arith, l)))
 
 module _ (place count : ℕ) (parts : List StoredPart) where
-  pub bares_before : take place (bares (records_of parts)) ≡ bares (records_of (take place parts))
+  pub bares_before : take place (as_parts (records_of parts)) ≡ as_parts (records_of (take place parts))
   bares_before =
-      sym (map-take bare place (records_of parts))
-      ∙ ap bares (sym (map-take (λ (p : StoredPart). p.recorded) place parts))
+      sym (map-take as_part place (records_of parts))
+      ∙ ap as_parts (sym (map-take (λ (p : StoredPart). p.recorded) place parts))
 
-  pub bares_taken : take count (drop place (bares (records_of parts))) ≡ bares (records_of (take count (drop place parts)))
-  bares_taken =
-      ap (take count) (sym (map-drop bare place (records_of parts)))
-      ∙ sym (map-take bare count (drop place (records_of parts)))
-      ∙ ap bares (ap (take count) (sym (map-drop (λ (p : StoredPart). p.recorded) place parts))
+  pub as_parts_taken : take count (drop place (as_parts (records_of parts))) ≡ as_parts (records_of (take count (drop place parts)))
+  as_parts_taken =
+      ap (take count) (sym (map-drop as_part place (records_of parts)))
+      ∙ sym (map-take as_part count (drop place (records_of parts)))
+      ∙ ap as_parts (ap (take count) (sym (map-drop (λ (p : StoredPart). p.recorded) place parts))
       ∙ sym (map-take (λ (p : StoredPart). p.recorded) count (drop place parts)))
 
 -- some parts are taken out
@@ -69,7 +70,7 @@ sound_partly low next most flushes place out parts now job under_way s l n e =
 pub sound_ended : (low next flushes place count : ℕ) (parts now : List StoredPart) (job under_way : Option Running) (part : StoredPart)
     (bytes : List ℕ) (before after : Told) → AreSound low next flushes parts job → under_way ≡ None
     → EndsJob (records_of parts) (directories_of parts) place count (Some bytes)
-    → IsPutAs bytes next part.recorded part.directory before after → now ≡ replaced place count (part ∷ []) parts
+    → StoresPart bytes next part.recorded part.directory before after → now ≡ replaced place count (part ∷ []) parts
     → AreSound low (next + 1) flushes now under_way
 sound_ended low next flushes place count parts now job under_way part bytes before after s n ends put e =
     let d : PartDirectory = ends.made.0 in
@@ -86,12 +87,12 @@ sound_ended low next flushes place count parts now job under_way part bytes befo
     subst (λ (o : Option Running). AreSound low (next + 1) flushes now o) (sym n)
     (subst (λ ps. AreSound low (next + 1) flushes ps None) (sym e)
     (sound_made low next flushes place count parts s.stored s.below s.never_rise s.flushed s.few part put.told put.blob_of
-    (subst (λ ps. MayBeTaken ps (bares (records_of taken))) (bares_before place count parts)
-    (subst (λ ps. MayBeTaken (take place (bares (records_of parts))) ps) (bares_taken place count parts) ends.taken))
+    (subst (λ ps. MayBeTaken ps (as_parts (records_of taken))) (bares_before place count parts)
+    (subst (λ ps. MayBeTaken (take place (as_parts (records_of parts))) ps) (as_parts_taken place count parts) ends.taken))
     (sym put.told.generation
     ∙ ap (λ (x : PartDirectory). x.generation) same
     ∙ ends.made.2
-    ∙ ap made_generation (bares_taken place count parts))
+    ∙ ap made_generation (as_parts_taken place count parts))
     (omega (arith, numbers.0, low_is))
     (omega (arith, numbers.1.0, low_is, high_is, stored_is))
     (omega (arith, numbers.1.1, high_is))))

@@ -1,5 +1,6 @@
 -- The parts that a content holds, cut and put together, and after a blob was put that none of them has.
-use Rattle.std.proofs.Common.{◌≡◌, ◌≢◌, ℕ, zero, suc, ◌+◌, ◌<◌, ◌≤◌, ◌==◌, cond, List, [], ◌∷◌, ◌++◌, length, map, take, drop, refl, ap, ap₂, sym, ◌∙◌, subst, arith}
+use Rattle.std.proofs.Common.{◌≡◌, ◌≢◌, ℕ, zero, suc, ◌+◌, ◌<◌, ◌≤◌, ◌==◌, cond, List, [], ◌∷◌, ◌++◌, length, map, take, drop, refl, ap}
+use Rattle.std.proofs.Common.{ap₂, sym, ◌∙◌, subst, arith}
 use Rattle.std.specs.Prelude.{Some, Option, zip, count_by}
 use Rattle.std.specs.List.{AllByRecursion, AllZip}
 use Rattle.std.proofs.lemmas.Bool.{eq-eqb, ne_eqb}
@@ -11,7 +12,7 @@ use Rattle.wu_layout.specs.Invariants.{BlobsAreDistinct}
 use Rattle.wu_part.specs.Directories.{PartDirectory}
 use Rattle.wu_job.specs.Postings.{HoldPostings}
 use Rattle.wu_parts.specs.Holdings.{HoldParts}
-use Rattle.wu_parts.specs.Units.{bares, parts_at}
+use Rattle.wu_parts.specs.Units.{as_parts, parts_at}
 
 -- ---- lists side by side
 
@@ -78,7 +79,7 @@ module _ (content : Content) where
 
   -- records tell generations and blobs
   pub hold-generations : (records : List PartRec) (directories : List PartDirectory) (parts : List Part)
-      → HoldParts content records directories parts → AllZip (λ a b. a.generation ≡ b.generation) (bares records) parts
+      → HoldParts content records directories parts → AllZip (λ a b. a.generation ≡ b.generation) (as_parts records) parts
   hold-generations [] [] [] h = tt
   hold-generations [] [] (part ∷ parts) h = absurd h
   hold-generations [] (d ∷ directories) parts h = absurd h

@@ -1,5 +1,6 @@
 -- A unit of work on the parts is a unit of the layout's.
-use Rattle.std.proofs.Common.{◌≡◌, ℕ, suc, ◌+◌, ◌<◌, ◌≤◌, Bool, List, [], ◌∷◌, ◌++◌, length, map, take, drop, Option, Some, None, option_map, refl, ap, ap₂, sym, ◌∙◌, subst, arith, ⊎_elim, sum_by}
+use Rattle.std.proofs.Common.{◌≡◌, ℕ, suc, ◌+◌, ◌<◌, ◌≤◌, Bool, List, [], ◌∷◌, ◌++◌, length, map, take, drop, Option, Some, None}
+use Rattle.std.proofs.Common.{option_map, refl, ap, ap₂, sym, ◌∙◌, subst, arith, ⊎_elim, sum_by}
 use Rattle.std.specs.Prelude.{IfSome}
 use Rattle.std.specs.Option.{option_or}
 use Rattle.std.specs.List.{AllByRecursion, AllZip}
@@ -24,9 +25,10 @@ use Rattle.wu_job.proofs.Made.{all_made}
 use Rattle.wu_parts.specs.Contents.{Contents, JobAt}
 use Rattle.wu_parts.specs.Flushing.{Told}
 use Rattle.wu_parts.specs.Holdings.{HoldParts, HoldsPart}
-use Rattle.wu_parts.specs.Units.{DoesUnit, GoesOn, IsMade, IsNext, Vanishes, bare, bares, parts_at, with_made, without_taken}
+use Rattle.wu_parts.specs.Units.{DoesUnit, GoesOn, IsMade, IsNext, Vanishes, as_part, as_parts, parts_at, with_made, without_taken}
 use Rattle.wu_parts.specs.Working.{Tells, TellsJob, TellsJobs, TellsParts}
-use Rattle.wu_parts.proofs.HeldParts.{hold-append, hold-blobs, hold-drop, hold-generations, hold-stay, hold-take, hold-taken, map-drop, map-take, parts_below, postings_taken, put_there}
+use Rattle.wu_parts.proofs.HeldParts.{hold-append, hold-blobs, hold-drop, hold-generations, hold-stay, hold-take, hold-taken, map-drop}
+use Rattle.wu_parts.proofs.HeldParts.{map-take, parts_below, postings_taken, put_there}
 use Rattle.wu_parts.proofs.NewParts.{numbers_of}
 use Rattle.wu_parts.proofs.RunningJobs.{running_later}
 use Rattle.wu_parts.proofs.StartedJobs.{job, picks_job, tells_started}
@@ -284,10 +286,10 @@ module _ (is_file : ℕ → Bool) (text_of : ℕ → Text) (layout : Layout) (co
             m.generation
             ∙ same_generation
             ∙ u.running.generation
-            ∙ ap₂ (λ (place count : ℕ). made_generation (take count (drop place (bares old.parts)))) own.tells.place own.tells.count
-            ∙ ap (λ (ps : List Part). made_generation (take own.its.count ps)) (sym (map-drop bare own.its.place old.parts))
-            ∙ ap (λ (ps : List Part). made_generation ps) (sym (map-take bare own.its.count (drop own.its.place old.parts)))
-            ∙ made_same (bares (take own.its.count (drop own.its.place old.parts))) (parts_taken own.its layout.parts)
+            ∙ ap₂ (λ (place count : ℕ). made_generation (take count (drop place (as_parts old.parts)))) own.tells.place own.tells.count
+            ∙ ap (λ (ps : List Part). made_generation (take own.its.count ps)) (sym (map-drop as_part own.its.place old.parts))
+            ∙ ap (λ (ps : List Part). made_generation ps) (sym (map-take as_part own.its.count (drop own.its.place old.parts)))
+            ∙ made_same (as_parts (take own.its.count (drop own.its.place old.parts))) (parts_taken own.its layout.parts)
             (hold-generations content (take own.its.count (drop own.its.place old.parts))
             (take own.its.count (drop own.its.place old.directories)) (parts_taken own.its layout.parts)
             (hold-taken content own.its.place own.its.count old.parts old.directories layout.parts t.parts))

@@ -1,5 +1,6 @@
 -- Several units of work on the parts are as many of the layout's; and where no work is left, there are few parts.
-use Rattle.std.proofs.Common.{◌≡◌, ℕ, zero, suc, ◌+◌, ◌-◌, ◌*◌, ◌^◌, ◌<◌, ◌≤◌, ◌&&◌, not, Bool, true, false, List, [], ◌∷◌, length, Option, Some, None, is_some, position, zip, refl, ap, ap₂, sym, ◌∙◌, subst, arith, ⊎_elim}
+use Rattle.std.proofs.Common.{◌≡◌, ℕ, zero, suc, ◌+◌, ◌-◌, ◌*◌, ◌^◌, ◌<◌, ◌≤◌, ◌&&◌, not, Bool, true, false, List, [], ◌∷◌, length, Option}
+use Rattle.std.proofs.Common.{Some, None, is_some, position, zip, refl, ap, ap₂, sym, ◌∙◌, subst, arith, ⊎_elim}
 use Rattle.std.specs.Option.{option_or}
 use Rattle.std.proofs.lemmas.Bool.{cases_lt, leb-false}
 use Rattle.wu_base.specs.declared.addresses.PartRec.{PartRec}
@@ -16,11 +17,11 @@ use Rattle.wu_layout.proofs.Garbage.{files_after_work}
 use Rattle.wu_layout.proofs.Units.{layout_after_work}
 use Rattle.wu_part.specs.Directories.{PartDirectory}
 use Rattle.wu_space.specs.Addresses.{Ranges, live_in}
-use Rattle.wu_lists.specs.Causes.{IsNoPart}
+use Rattle.wu_part.specs.Parts.{IsNoPart}
 use Rattle.wu_parts.specs.Contents.{Contents, JobAt}
 use Rattle.wu_parts.specs.Flushing.{Told}
 use Rattle.wu_parts.specs.Holdings.{HoldParts}
-use Rattle.wu_parts.specs.Units.{DoUnits, DoesUnit, bares, count_of, is_half_dead, next_job, place_of}
+use Rattle.wu_parts.specs.Units.{DoUnits, DoesUnit, as_parts, count_of, is_half_dead, next_job, place_of}
 use Rattle.wu_parts.specs.Working.{AreFew, DoesWork, IsDamaged, Tells, TellsJobs, TellsParts, is_idle}
 use Rattle.wu_parts.proofs.LayoutUnits.{tells_after_unit}
 use Rattle.wu_parts.proofs.Policy.{picked_is}
@@ -129,7 +130,7 @@ undamaged (Some content) contents layout blob t b =
 
 -- ---- few parts
 
-length_bares : (records : List PartRec) → length (bares records) ≡ length records
+length_bares : (records : List PartRec) → length (as_parts records) ≡ length records
 length_bares [] = refl
 length_bares (r ∷ records) = ap (λ (n : ℕ). suc n) (length_bares records)
 
@@ -138,18 +139,18 @@ no_next None b e = refl
 no_next (Some x) true e = absurd cc
 no_next (Some x) false e = absurd cc
 
-pub few_left : (ranges : Ranges) (contents : Contents) → NeverRise (bares contents.parts)
-    → flushes_for (bares contents.parts) ≤ contents.flushes → is_idle ranges contents ≡ true → AreFew ranges contents
+pub few_left : (ranges : Ranges) (contents : Contents) → NeverRise (as_parts contents.parts)
+    → flushes_for (as_parts contents.parts) ≤ contents.flushes → is_idle ranges contents ≡ true → AreFew ranges contents
 few_left ranges contents n f e =
     let none : next_job ranges contents.parts ≡ None = no_next (next_job ranges contents.parts) (not (is_some contents.job)) e in
     let either = neither _ _ none in
-    let fall : Fall (bares contents.parts) =
-    fall (bares contents.parts) (mapped_none _ (alike_neighbours (bares contents.parts)) either.0) n in
+    let fall : Fall (as_parts contents.parts) =
+    fall (as_parts contents.parts) (mapped_none _ (alike_neighbours (as_parts contents.parts)) either.0) n in
     record {
       fall = fall;
       few =
-          let r : 2 ^ length (bares contents.parts) ≤ flushes_for (bares contents.parts) + 1 = few (bares contents.parts) fall in
-          let same : 2 ^ length (bares contents.parts) ≡ 2 ^ length contents.parts =
+          let r : 2 ^ length (as_parts contents.parts) ≤ flushes_for (as_parts contents.parts) + 1 = few (as_parts contents.parts) fall in
+          let same : 2 ^ length (as_parts contents.parts) ≡ 2 ^ length contents.parts =
           ap (λ (k : ℕ). 2 ^ k) (length_bares contents.parts) in
           omega (arith, f);
       mostly_live =

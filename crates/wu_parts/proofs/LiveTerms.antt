@@ -1,5 +1,6 @@
 -- The lists of the live postings in memory: what is made of memory's lists is what a part of these postings has.
-use Rattle.std.proofs.Common.{◌≡◌, ℕ, ◌+◌, ◌<◌, ◌≤◌, ◌||◌, nat_eq, nat_lt, eqb, Bool, true, false, cond, List, [], ◌∷◌, ◌++◌, nat_le, length, map, filter, unwrap_or, None, Some, Option, refl, ap, sym, ◌∙◌, subst, arith}
+use Rattle.std.proofs.Common.{◌≡◌, ℕ, ◌+◌, ◌<◌, ◌≤◌, ◌||◌, nat_eq, nat_lt, eqb, Bool, true, false, cond, List, [], ◌∷◌, ◌++◌, nat_le}
+use Rattle.std.proofs.Common.{length, map, filter, unwrap_or, None, Some, Option, refl, ap, sym, ◌∙◌, subst, arith}
 use Rattle.std.specs.Prelude.{IsPermutation, IsSome}
 use Rattle.std.specs.List.{AllByRecursion, IsDistinct, flat_map}
 use Rattle.std.specs.List.Sorted.{IsStrictlySortedBy}
@@ -14,7 +15,8 @@ use Rattle.std.proofs.lemmas.Map.Views.{lookup-from_Contains, Contains-keys_from
 use Rattle.wu_base.specs.declared.addresses.Range.{Range}
 use Rattle.wu_base.specs.declared.addresses.TermList.{TermList}
 use Rattle.wu_base.proofs.Members.{Has, Has-from_Contains, Contains-from_Has, Has-map, all_from_has, all_has, map_has, filter_has}
-use Rattle.wu_layout.specs.Postings.{Posting, addresses_of, is_in, is_live, live_of, Ascend}
+use Rattle.wu_layout.specs.Postings.{Posting, addresses_of, is_live, live_of, Ascend}
+use Rattle.wu_base.specs.Ranges.{is_in}
 use Rattle.wu_layout.specs.Layouts.{list_of, lists_of, terms_of}
 use Rattle.wu_layout.proofs.ListLemmas.{all_terms, lists_by_terms, terms_sorted, term_long}
 use Rattle.wu_layout.proofs.ListTotals.{lists_distinct}

@@ -12,7 +12,7 @@ use Rattle.wu_part.specs.Parts.{IsRecorded}
 use Rattle.wu_parts.specs.Loading.{AreLoadable, AreOpened, SpansFollow, end_of}
 use Rattle.wu_parts.specs.OpenedParts.{ArePartsOpened}
 use Rattle.wu_parts.specs.StoredParts.{AreSound, SpansAscend, directories_of, records_of}
-use Rattle.wu_parts.specs.Units.{bares}
+use Rattle.wu_parts.specs.Units.{as_parts}
 use Rattle.wu_parts.specs.declared.writing.StoredPart.{StoredPart}
 
 -- ---- the end of the last part
@@ -75,8 +75,8 @@ module _ (holds : Option Content) (records : List PartRec) (before after : Optio
           (spans_from_zero parts (subst (SpansFollow 0) (sym opened.same) l.spans));
     };
     below = subst (AllByRecursion (λ recorded. recorded.blob < next_blob)) (sym opened.same) l.below;
-    never_rise = subst (λ rs. NeverRise (bares rs)) (sym opened.same) l.never_rise;
-    flushed = subst (λ rs. flushes_for (bares rs) ≤ flushes) (sym opened.same) l.flushed;
+    never_rise = subst (λ rs. NeverRise (as_parts rs)) (sym opened.same) l.never_rise;
+    flushed = subst (λ rs. flushes_for (as_parts rs) ≤ flushes) (sym opened.same) l.flushed;
     few = l.few;
     job = tt;
   }

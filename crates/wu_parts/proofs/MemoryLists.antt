@@ -1,5 +1,6 @@
 -- The lists that a flush makes of the chains in memory.
-use Rattle.std.proofs.Common.{◌≡◌, ℕ, ◌+◌, ◌-◌, ◌^◌, ◌<◌, ◌≤◌, nat_eq, nat_lt, Bool, true, false, cond, All, filter, nat_le, List, [], ◌∷◌, ◌++◌, length, map, take, get_or, zero, suc, refl, ap, sym, subst, ◌∙◌, arith, Vec, Global}
+use Rattle.std.proofs.Common.{◌≡◌, ℕ, ◌+◌, ◌-◌, ◌^◌, ◌<◌, ◌≤◌, nat_eq, nat_lt, Bool, true, false, cond, All, filter, nat_le, List, [], ◌∷◌}
+use Rattle.std.proofs.Common.{◌++◌, length, map, take, get_or, zero, suc, refl, ap, sym, subst, ◌∙◌, arith, Vec, Global}
 use Rattle.std.specs.Prelude.{IsPermutation}
 use Rattle.std.specs.List.{AllByRecursion, IsDistinct}
 use Rattle.std.specs.List.Sorted.{IsStrictlySortedBy}
@@ -14,7 +15,8 @@ use Rattle.wu_base.proofs.EachLemmas.{each-permuted}
 use Rattle.wu_layout.proofs.Ascending.{ascend-bounds}
 use Rattle.wu_layout.specs.Postings.{Posting, is_live, live_of}
 use Rattle.wu_layout.specs.Layouts.{lists_of as lists_of_postings}
-use Rattle.wu_space.specs.Addresses.{AreApart, Ranges, live_ranges, shared}
+use Rattle.wu_space.specs.Addresses.{Ranges, live_ranges, shared}
+use Rattle.wu_base.specs.Ranges.{AreApart}
 use Rattle.wu_parts.specs.declared.chains.Chain.{Chain}
 use Rattle.wu_parts.specs.Memory.{HasPostings, Lists}
 use Rattle.wu_lists.specs.Ascending.{AreInOrder, AscendBetween}

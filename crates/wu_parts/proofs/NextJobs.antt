@@ -1,5 +1,6 @@
 -- The first two parts alike, found one after another; parts taken out one by one.
-use Rattle.std.proofs.Common.{◌≡◌, ℕ, zero, suc, ◌+◌, ◌<◌, ◌≤◌, ◌==◌, true, false, List, [], ◌∷◌, ◌++◌, length, take, drop, get_or, remove, Option, Some, None, option_map, refl, ap, ap₂, sym, ◌∙◌, arith}
+use Rattle.std.proofs.Common.{◌≡◌, ℕ, zero, suc, ◌+◌, ◌<◌, ◌≤◌, ◌==◌, true, false, List, [], ◌∷◌, ◌++◌, length, take, drop, get_or, remove}
+use Rattle.std.proofs.Common.{Option, Some, None, option_map, refl, ap, ap₂, sym, ◌∙◌, arith}
 use Rattle.std.specs.Prelude.{nat_lt, position, zip}
 use Rattle.std.specs.Option.{option_or}
 use Rattle.std.specs.List.{position_or_len}
@@ -11,12 +12,12 @@ use Rattle.wu_space.specs.Addresses.{Ranges}
 use Rattle.wu_layout.specs.Steps.{alike_neighbours}
 use Rattle.wu_layout.proofs.Picks.{alike}
 use Rattle.wu_parts.specs.StoredParts.{records_of}
-use Rattle.wu_parts.specs.Units.{bare, bares, is_half_dead, next_job, replaced}
+use Rattle.wu_parts.specs.Units.{as_part, as_parts, is_half_dead, next_job, replaced}
 use Rattle.wu_parts.specs.declared.working.NextJob.TheVariants.{Merge, Collect}
 use Rattle.wu_parts.specs.declared.writing.StoredPart.{StoredPart}
 
 abbrev pub alike_of : List StoredPart → Option ℕ
-alike_of parts = alike_neighbours (bares (records_of parts))
+alike_of parts = alike_neighbours (as_parts (records_of parts))
 
 module _ (a b : StoredPart) where
   later_at : (parts : List StoredPart) (place : ℕ) → suc place < length parts → a ≡ get_or parts place a → b ≡ get_or parts (suc place) b
@@ -25,7 +26,7 @@ module _ (a b : StoredPart) where
   later_at [] place l e f g = absurd (omega (arith, l))
   later_at (x ∷ []) place l e f g = absurd (omega (arith, l))
   later_at (x ∷ y ∷ parts) zero l e f g =
-      first_later alike (bare x.recorded, bare y.recorded) (zip (bares (records_of (y ∷ parts))) (bares (records_of parts)))
+      first_later alike (as_part x.recorded, as_part y.recorded) (zip (as_parts (records_of (y ∷ parts))) (as_parts (records_of parts)))
       (ap₂ (λ (n m : ℕ). n == m) (sym (ap (λ (p : StoredPart). p.recorded.generation) e))
       (sym (ap (λ (p : StoredPart). p.recorded.generation) f)) ∙ g)
   later_at (x ∷ y ∷ parts) (suc place) l e f g = later_at (y ∷ parts) place (omega (arith, l)) e f g
@@ -35,7 +36,7 @@ module _ (a b : StoredPart) where
   here_at [] place l e f g = absurd (omega (arith, l))
   here_at (x ∷ []) place l e f g = absurd (omega (arith, l))
   here_at (x ∷ y ∷ parts) zero l e f g =
-      first_here alike (bare x.recorded, bare y.recorded) (zip (bares (records_of (y ∷ parts))) (bares (records_of parts)))
+      first_here alike (as_part x.recorded, as_part y.recorded) (zip (as_parts (records_of (y ∷ parts))) (as_parts (records_of parts)))
       (ap₂ (λ (n m : ℕ). n == m) (sym (ap (λ (p : StoredPart). p.recorded.generation) e))
       (sym (ap (λ (p : StoredPart). p.recorded.generation) f)) ∙ g)
   here_at (x ∷ y ∷ parts) (suc place) l e f g = here_at (y ∷ parts) place (omega (arith, l)) e f g
@@ -83,14 +84,14 @@ collect_from None (Some q) place e = cc
 collect_from (Some q) p place e = absurd cc
 
 pub merge_at : (ranges : Ranges) (records : List PartRec) (place : ℕ) → next_job ranges records ≡ Some (Merge place)
-    → alike_neighbours (bares records) ≡ Some place
-merge_at ranges records place e = merge_from (alike_neighbours (bares records)) (position (is_half_dead ranges) records) place e
+    → alike_neighbours (as_parts records) ≡ Some place
+merge_at ranges records place e = merge_from (alike_neighbours (as_parts records)) (position (is_half_dead ranges) records) place e
 
 pub collect_at : (ranges : Ranges) (records : List PartRec) (place : ℕ) → next_job ranges records ≡ Some (Collect place)
     → place < length records
 collect_at ranges records place e =
     let found : position (is_half_dead ranges) records ≡ Some place =
-    collect_from (alike_neighbours (bares records)) (position (is_half_dead ranges) records) place e in
+    collect_from (alike_neighbours (as_parts records)) (position (is_half_dead ranges) records) place e in
     let r = cond_some (nat_lt (position_or_len (is_half_dead ranges) records) (length records))
     (position_or_len (is_half_dead ranges) records) place found in
     omega (arith, ltb-true _ _ r.0, r.1)

@@ -1,5 +1,6 @@
 -- What turns of a loop over the parts come to.
-use Rattle.std.proofs.Common.{◌≡◌, ℕ, ◌+◌, ◌<◌, List, [], ◌∷◌, ◌++◌, length, drop, get_or, zero, suc, Option, ap, sym, ◌∙◌, subst, arith, append-nil, append_assoc}
+use Rattle.std.proofs.Common.{◌≡◌, ℕ, ◌+◌, ◌<◌, List, [], ◌∷◌, ◌++◌, length, drop, get_or, zero, suc, Option, ap, sym, ◌∙◌, subst, arith}
+use Rattle.std.proofs.Common.{append-nil, append_assoc}
 use Rattle.std.specs.Prelude.{IfSome}
 use Rattle.std.specs.List.{AllByRecursion}
 use Rattle.std.specs.Map.{keys_of}
@@ -8,9 +9,9 @@ use Rattle.wu_base.specs.declared.addresses.Range.{Range}
 use Rattle.wu_base.specs.declared.troubles.Trouble.{Trouble}
 use Rattle.wu_outside.specs.Content.{Content}
 use Rattle.wu_outside.specs.declared.ranges.ReadRange.{ReadRange}
-use Rattle.wu_part.specs.Parts.{IsRecorded}
+use Rattle.wu_part.specs.Parts.{IsRecorded, IsNoPart}
 use Rattle.wu_lists.specs.Blocks.{needed}
-use Rattle.wu_lists.specs.Causes.{IsCause, IsNoPart}
+use Rattle.wu_lists.specs.Causes.{IsCause}
 use Rattle.wu_lists.specs.Fetching.{AreFetched, HasTerm}
 use Rattle.wu_lists.specs.Keeping.{Asks, Kept, all_missing}
 use Rattle.wu_parts.specs.Causes.{IsFetchCause}

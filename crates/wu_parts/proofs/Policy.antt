@@ -1,5 +1,6 @@
 -- The job that the policy names by records and live ranges is the one that it names in the layout.
-use Rattle.std.proofs.Common.{◌≡◌, ℕ, suc, ◌+◌, ◌*◌, ◌<◌, ◌==◌, not, nat_le, nat_lt, Bool, cond, List, [], ◌∷◌, ◌++◌, length, map, drop, Option, Some, None, option_map, position, zip, refl, ap, ap₂, sym, ◌∙◌, subst, append_assoc}
+use Rattle.std.proofs.Common.{◌≡◌, ℕ, suc, ◌+◌, ◌*◌, ◌<◌, ◌==◌, not, nat_le, nat_lt, Bool, cond, List, [], ◌∷◌, ◌++◌, length, map, drop}
+use Rattle.std.proofs.Common.{Option, Some, None, option_map, position, zip, refl, ap, ap₂, sym, ◌∙◌, subst, append_assoc}
 use Rattle.std.specs.Option.{option_or}
 use Rattle.std.specs.List.{AllByRecursion, AllZip, position_or_len}
 use Rattle.wu_base.specs.declared.addresses.PartRec.{PartRec}
@@ -14,7 +15,7 @@ use Rattle.wu_layout.proofs.PostingLemmas.{Ascend-split}
 use Rattle.wu_part.specs.Directories.{PartDirectory}
 use Rattle.wu_space.specs.Addresses.{Ranges, live_in}
 use Rattle.wu_parts.specs.Holdings.{HoldParts}
-use Rattle.wu_parts.specs.Units.{bares, count_of, is_half_dead, next_job, place_of}
+use Rattle.wu_parts.specs.Units.{as_parts, count_of, is_half_dead, next_job, place_of}
 use Rattle.wu_parts.specs.declared.working.NextJob.{NextJob}
 use Rattle.wu_parts.specs.declared.working.NextJob.TheVariants.{Merge, Collect}
 use Rattle.wu_parts.proofs.HeldParts.{hold-generations}
@@ -105,10 +106,10 @@ module _ (is_file : ℕ → Bool) (text_of : ℕ → Text) (layout : Layout) (co
     -- the job that the policy names
     pub picked_is : pick layout ≡ option_map (λ next. job_at layout (count_of next) (place_of next)) (next_job ranges records)
     picked_is =
-        let same : alike_neighbours (bares records) ≡ alike_neighbours layout.parts =
-        neighbours_alike (bares records) layout.parts (hold-generations content records directories layout.parts h) in
+        let same : alike_neighbours (as_parts records) ≡ alike_neighbours layout.parts =
+        neighbours_alike (as_parts records) layout.parts (hold-generations content records directories layout.parts h) in
         ap₂ (λ (o p : Option ℕ). option_or (option_map (job_at layout 2) o) (option_map (job_at layout 1) p)) (sym same) (sym half_dead_is)
-        ∙ named (alike_neighbours (bares records)) (position (is_half_dead ranges) records)
+        ∙ named (alike_neighbours (as_parts records)) (position (is_half_dead ranges) records)
       where
         named : (o p : Option ℕ) → option_or (option_map (job_at layout 2) o) (option_map (job_at layout 1) p)
             ≡ option_map (λ (next : NextJob). job_at layout (count_of next) (place_of next))

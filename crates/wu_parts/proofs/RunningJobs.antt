@@ -1,5 +1,6 @@
 -- A job that may be under way on some parts: where they stand, after a term was done, and after a part was put at the end.
-use Rattle.std.proofs.Common.{◌≡◌, ℕ, zero, suc, ◌+◌, ◌<◌, ◌≤◌, List, [], ◌∷◌, ◌++◌, length, map, take, drop, refl, ap, sym, ◌∙◌, subst, arith, length-append, length-take, length-drop}
+use Rattle.std.proofs.Common.{◌≡◌, ℕ, zero, suc, ◌+◌, ◌<◌, ◌≤◌, List, [], ◌∷◌, ◌++◌, length, map, take, drop, refl, ap, sym, ◌∙◌, subst}
+use Rattle.std.proofs.Common.{arith, length-append, length-take, length-drop}
 use Rattle.std.specs.Prelude.{zip}
 use Rattle.std.proofs.lemmas.List.{length-map, map-append, take-append-le}
 use Rattle.wu_base.specs.declared.addresses.PartRec.{PartRec}
@@ -10,7 +11,7 @@ use Rattle.wu_layout.specs.Steps.{made_generation}
 use Rattle.wu_part.specs.Directories.{PartDirectory}
 use Rattle.wu_job.specs.Jobs.{JobPart, JobState}
 use Rattle.wu_parts.specs.Contents.{JobAt}
-use Rattle.wu_parts.specs.Units.{IsRunning, bare, bares, parts_at}
+use Rattle.wu_parts.specs.Units.{IsRunning, as_part, as_parts, parts_at}
 
 -- ---- lists
 
@@ -43,8 +44,8 @@ module _ (records : List PartRec) (directories : List PartDirectory) (job : JobA
   room_of_running =
       let number : count ≡ length (take count (drop job.place (zip records directories))) =
       ap (λ (ps : List JobPart). length ps) r.parts ∙ length-map (take count (drop job.place (zip records directories))) _ in
-      let filled : 0 < length (take count (drop job.place (bares records))) =
-      taken_some (take job.place (bares records)) (take count (drop job.place (bares records))) r.taken in
+      let filled : 0 < length (take count (drop job.place (as_parts records))) =
+      taken_some (take job.place (as_parts records)) (take count (drop job.place (as_parts records))) r.taken in
       omega (
         arith,
         number,
@@ -52,22 +53,22 @@ module _ (records : List PartRec) (directories : List PartDirectory) (job : JobA
         long_zip records directories r.paired,
         length-take count (drop job.place (zip records directories)),
         length-drop job.place (zip records directories),
-        length-take count (drop job.place (bares records)),
+        length-take count (drop job.place (as_parts records)),
       )
 
   -- one more part at the end
   pub running_more : (recorded : PartRec) (directory : PartDirectory)
       → IsRunning (records ++ recorded ∷ []) (directories ++ directory ∷ []) job
   running_more recorded directory =
-      let long : length (bares records) ≡ length records = length-map records bare in
+      let long : length (as_parts records) ≡ length records = length-map records as_part in
       let whole : length (zip records directories) ≡ length records = long_zip records directories r.paired in
       let room : job.place + count ≤ length records = room_of_running in
-      let all : bares (records ++ recorded ∷ []) ≡ bares records ++ bare recorded ∷ [] = map-append bare records (recorded ∷ []) in
-      let before : take job.place (bares (records ++ recorded ∷ [])) ≡ take job.place (bares records) =
-      ap (take job.place) all ∙ take-append-le job.place (bares records) (bare recorded ∷ []) (omega (arith, room, long)) in
-      let own : take count (drop job.place (bares (records ++ recorded ∷ []))) ≡ take count (drop job.place (bares records)) =
+      let all : as_parts (records ++ recorded ∷ []) ≡ as_parts records ++ as_part recorded ∷ [] = map-append as_part records (recorded ∷ []) in
+      let before : take job.place (as_parts (records ++ recorded ∷ [])) ≡ take job.place (as_parts records) =
+      ap (take job.place) all ∙ take-append-le job.place (as_parts records) (as_part recorded ∷ []) (omega (arith, room, long)) in
+      let own : take count (drop job.place (as_parts (records ++ recorded ∷ []))) ≡ take count (drop job.place (as_parts records)) =
       ap (λ (ps : List Part). take count (drop job.place ps)) all
-      ∙ take_kept job.place count (bares records) (bare recorded ∷ []) (omega (arith, room, long)) in
+      ∙ take_kept job.place count (as_parts records) (as_part recorded ∷ []) (omega (arith, room, long)) in
       let same : take count (drop job.place (zip (records ++ recorded ∷ []) (directories ++ directory ∷ [])))
       ≡ take count (drop job.place (zip records directories)) =
       ap (λ (ps : List (PartRec × PartDirectory)). take count (drop job.place ps))
@@ -82,8 +83,8 @@ module _ (records : List PartRec) (directories : List PartDirectory) (job : JobA
             r.parts
             ∙ ap (map (λ (part : PartRec × PartDirectory). record { recorded = part.0; directory = part.1 })) (sym same);
         taken =
-            subst (λ ps. MayBeTaken ps (take count (drop job.place (bares (records ++ recorded ∷ []))))) (sym before)
-            (subst (λ ps. MayBeTaken (take job.place (bares records)) ps) (sym own) r.taken);
+            subst (λ ps. MayBeTaken ps (take count (drop job.place (as_parts (records ++ recorded ∷ []))))) (sym before)
+            (subst (λ ps. MayBeTaken (take job.place (as_parts records)) ps) (sym own) r.taken);
         generation = r.generation ∙ ap (λ (ps : List Part). made_generation ps) (sym own);
         left = r.left;
       }
@@ -97,8 +98,8 @@ module _ (records : List PartRec) (directories : List PartDirectory) (job : JobA
         paired = r.paired;
         parts = parts ∙ r.parts ∙ ap (λ (n : ℕ). parts_at job.place n records directories) (sym long);
         taken =
-            subst (λ n. MayBeTaken (take job.place (bares records)) (take n (drop job.place (bares records)))) (sym long) r.taken;
+            subst (λ n. MayBeTaken (take job.place (as_parts records)) (take n (drop job.place (as_parts records)))) (sym long) r.taken;
         generation =
-            generation ∙ r.generation ∙ ap (λ (n : ℕ). made_generation (take n (drop job.place (bares records)))) (sym long);
+            generation ∙ r.generation ∙ ap (λ (n : ℕ). made_generation (take n (drop job.place (as_parts records)))) (sym long);
         left = left;
       }

@@ -1,5 +1,6 @@
 -- What is kept of the parts stays true when a part is put at their end, and when a job's parts are replaced.
-use Rattle.std.proofs.Common.{◌≡◌, ℕ, ◌+◌, ◌^◌, ◌<◌, ◌≤◌, ◌==◌, List, [], ◌∷◌, ◌++◌, length, map, take, drop, refl, ap, ap₂, sym, ◌∙◌, subst, arith, append-nil, take-append-drop}
+use Rattle.std.proofs.Common.{◌≡◌, ℕ, ◌+◌, ◌^◌, ◌<◌, ◌≤◌, ◌==◌, List, [], ◌∷◌, ◌++◌, length, map, take, drop, refl, ap, ap₂, sym, ◌∙◌}
+use Rattle.std.proofs.Common.{subst, arith, append-nil, take-append-drop}
 use Rattle.std.specs.Prelude.{Option, None}
 use Rattle.std.specs.List.{AllByRecursion, flat_map}
 use Rattle.std.proofs.lemmas.Bool.{eqb-true}
@@ -21,7 +22,7 @@ use Rattle.wu_part.specs.Parts.{IsRecorded, SpellsPart}
 use Rattle.wu_job.specs.Jobs.{JobPart, StandWithin, highest, lowest}
 use Rattle.wu_parts.specs.Contents.{JobAt}
 use Rattle.wu_parts.specs.StoredParts.{AreSound, AreStored, IsKeptJob, SpansAscend, directories_of, records_of}
-use Rattle.wu_parts.specs.Units.{IsRunning, bare, bares, parts_at, replaced}
+use Rattle.wu_parts.specs.Units.{IsRunning, as_part, as_parts, parts_at, replaced}
 use Rattle.wu_parts.specs.declared.working.Running.{Running}
 use Rattle.wu_parts.specs.declared.writing.StoredPart.{StoredPart}
 use Rattle.wu_parts.proofs.Asking.{zipped}
@@ -91,8 +92,8 @@ pub sound_pushed : (low high next flushes : ℕ) (parts : List StoredPart) (part
     → AreSound low next flushes parts job → AreStored high (parts ++ part ∷ []) → part.recorded.blob ≡ next
     → part.recorded.generation ≡ 0 → flushes + 1 < 2 ^ 63 → AreSound high (next + 1) (flushes + 1) (parts ++ part ∷ []) job
 sound_pushed low high next flushes parts part job s stored blob new room =
-    let all : bares (records_of (parts ++ part ∷ [])) ≡ bares (records_of parts) ++ bare part.recorded ∷ [] =
-    ap bares (records-push parts part) ∙ map-append bare (records_of parts) (part.recorded ∷ []) in
+    let all : as_parts (records_of (parts ++ part ∷ [])) ≡ as_parts (records_of parts) ++ as_part part.recorded ∷ [] =
+    ap as_parts (records-push parts part) ∙ map-append as_part (records_of parts) (part.recorded ∷ []) in
     record {
       stored = stored;
       below =
@@ -103,16 +104,16 @@ sound_pushed low high next flushes parts part job s stored blob new room =
           (omega (arith, blob), tt));
       never_rise =
           subst NeverRise (sym all)
-          (never_rise_between (bares (records_of parts)) [] (bare part.recorded)
-          (subst NeverRise (sym (append-nil (bares (records_of parts)))) s.never_rise)
-          (all_from_zero part.recorded.generation (bares (records_of parts)) new) tt);
+          (never_rise_between (as_parts (records_of parts)) [] (as_part part.recorded)
+          (subst NeverRise (sym (append-nil (as_parts (records_of parts)))) s.never_rise)
+          (all_from_zero part.recorded.generation (as_parts (records_of parts)) new) tt);
       flushed =
           let one : 2 ^ part.recorded.generation ≡ 1 = ap (λ (g : ℕ). 2 ^ g) new in
-          let sums : flushes_for (bares (records_of (parts ++ part ∷ [])))
-          ≡ flushes_for (bares (records_of parts)) + flushes_for (bare part.recorded ∷ []) =
-          ap flushes_for all ∙ sum_by-append (λ (p : Part). 2 ^ p.generation) (bares (records_of parts)) (bare part.recorded ∷ []) in
-          let last : flushes_for (bare part.recorded ∷ []) ≡ 2 ^ part.recorded.generation + 0 =
-          sum_by-cons (λ (p : Part). 2 ^ p.generation) (bare part.recorded) [] in
+          let sums : flushes_for (as_parts (records_of (parts ++ part ∷ [])))
+          ≡ flushes_for (as_parts (records_of parts)) + flushes_for (as_part part.recorded ∷ []) =
+          ap flushes_for all ∙ sum_by-append (λ (p : Part). 2 ^ p.generation) (as_parts (records_of parts)) (as_part part.recorded ∷ []) in
+          let last : flushes_for (as_part part.recorded ∷ []) ≡ 2 ^ part.recorded.generation + 0 =
+          sum_by-cons (λ (p : Part). 2 ^ p.generation) (as_part part.recorded) [] in
           omega (arith, one, sums, last, s.flushed);
       few = room;
       job =
@@ -175,8 +176,8 @@ numbers_within parts d lists bytes s within =
 -- ---- a job's parts replaced
 
 module _ (low next flushes place count : ℕ) (parts : List StoredPart) (stored : AreStored low parts)
-    (below : AllByRecursion (λ recorded. recorded.blob < next) (records_of parts)) (never_rise : NeverRise (bares (records_of parts)))
-    (flushed : flushes_for (bares (records_of parts)) ≤ flushes) (few : flushes < 2 ^ 63) where
+    (below : AllByRecursion (λ recorded. recorded.blob < next) (records_of parts)) (never_rise : NeverRise (as_parts (records_of parts)))
+    (flushed : flushes_for (as_parts (records_of parts)) ≤ flushes) (few : flushes < 2 ^ 63) where
   abbrev before : List StoredPart
   before = take place parts
 
@@ -192,21 +193,21 @@ module _ (low next flushes place count : ℕ) (parts : List StoredPart) (stored 
       let back = spans_split front.0 low taken after front.1.1 in
       (front.0, back.0, (front.1.0, back.1.0, back.1.1))
 
-  records_split : bares (records_of parts) ≡ bares (records_of before) ++ (bares (records_of taken) ++ bares (records_of after))
+  records_split : as_parts (records_of parts) ≡ as_parts (records_of before) ++ (as_parts (records_of taken) ++ as_parts (records_of after))
   records_split =
-      ap (λ (ps : List StoredPart). bares (records_of ps)) (cut_split place count parts)
-      ∙ ap bares (map-append (λ (p : StoredPart). p.recorded) before (taken ++ after))
-      ∙ map-append bare (records_of before) (records_of (taken ++ after))
-      ∙ ap (λ (ps : List Part). bares (records_of before) ++ ps)
-      (ap bares (map-append (λ (p : StoredPart). p.recorded) taken after) ∙ map-append bare (records_of taken) (records_of after))
+      ap (λ (ps : List StoredPart). as_parts (records_of ps)) (cut_split place count parts)
+      ∙ ap as_parts (map-append (λ (p : StoredPart). p.recorded) before (taken ++ after))
+      ∙ map-append as_part (records_of before) (records_of (taken ++ after))
+      ∙ ap (λ (ps : List Part). as_parts (records_of before) ++ ps)
+      (ap as_parts (map-append (λ (p : StoredPart). p.recorded) taken after) ∙ map-append as_part (records_of taken) (records_of after))
 
-  joined : (made : List StoredPart) → bares (records_of (replaced place count made parts))
-      ≡ bares (records_of before) ++ (bares (records_of made) ++ bares (records_of after))
+  joined : (made : List StoredPart) → as_parts (records_of (replaced place count made parts))
+      ≡ as_parts (records_of before) ++ (as_parts (records_of made) ++ as_parts (records_of after))
   joined made =
-      ap bares (map-append (λ (p : StoredPart). p.recorded) before (made ++ after))
-      ∙ map-append bare (records_of before) (records_of (made ++ after))
-      ∙ ap (λ (ps : List Part). bares (records_of before) ++ ps)
-      (ap bares (map-append (λ (p : StoredPart). p.recorded) made after) ∙ map-append bare (records_of made) (records_of after))
+      ap as_parts (map-append (λ (p : StoredPart). p.recorded) before (made ++ after))
+      ∙ map-append as_part (records_of before) (records_of (made ++ after))
+      ∙ ap (λ (ps : List Part). as_parts (records_of before) ++ ps)
+      (ap as_parts (map-append (λ (p : StoredPart). p.recorded) made after) ∙ map-append as_part (records_of made) (records_of after))
 
   told_with : (made : List StoredPart) → AllByRecursion (λ p. IsRecorded p.recorded p.directory) made
       → AllByRecursion (λ p. IsRecorded p.recorded p.directory) (replaced place count made parts)
@@ -243,14 +244,14 @@ module _ (low next flushes place count : ℕ) (parts : List StoredPart) (stored 
         below = below_with next [] (omega arith) tt;
         never_rise =
             subst NeverRise (sym (joined []))
-            (never_rise_without (bares (records_of before)) (bares (records_of taken)) (bares (records_of after))
+            (never_rise_without (as_parts (records_of before)) (as_parts (records_of taken)) (as_parts (records_of after))
             (subst NeverRise records_split never_rise));
         flushed =
             omega (
               arith,
               ap flushes_for (joined []),
               ap flushes_for records_split,
-              flushes_without (bares (records_of before)) (bares (records_of taken)) (bares (records_of after)),
+              flushes_without (as_parts (records_of before)) (as_parts (records_of taken)) (as_parts (records_of after)),
               flushed,
             );
         few = few;
@@ -258,16 +259,16 @@ module _ (low next flushes place count : ℕ) (parts : List StoredPart) (stored 
       }
 
   pub sound_made : (part : StoredPart) → IsRecorded part.recorded part.directory → part.recorded.blob ≡ next
-      → MayBeTaken (bares (records_of before)) (bares (records_of taken))
-      → part.recorded.generation ≡ made_generation (bares (records_of taken))
+      → MayBeTaken (as_parts (records_of before)) (as_parts (records_of taken))
+      → part.recorded.generation ≡ made_generation (as_parts (records_of taken))
       → lowest (map job_part taken) ≤ part.recorded.low → part.recorded.low + part.recorded.stored ≤ part.recorded.high + 1
       → part.recorded.high ≤ highest (map job_part taken) → AreSound low (next + 1) flushes (replaced place count (part ∷ []) parts) None
   sound_made part told blob may generation least room most =
       let some : 0 < length taken =
       omega (
         arith,
-        taken_some (bares (records_of before)) (bares (records_of taken)) may,
-        length-map (records_of taken) bare,
+        taken_some (as_parts (records_of before)) (as_parts (records_of taken)) may,
+        length-map (records_of taken) as_part,
         length-map taken (λ (p : StoredPart). p.recorded),
       ) in
       let own_told : AllByRecursion (λ p. IsRecorded p.recorded p.directory) taken =
@@ -287,14 +288,14 @@ module _ (low next flushes place count : ℕ) (parts : List StoredPart) (stored 
         below = below_with (next + 1) (part ∷ []) (omega arith) (omega (arith, blob), tt);
         never_rise =
             subst NeverRise (sym (joined (part ∷ [])))
-            (never_rise_made (bares (records_of before)) (bares (records_of taken)) (bares (records_of after)) (bare part.recorded) may
+            (never_rise_made (as_parts (records_of before)) (as_parts (records_of taken)) (as_parts (records_of after)) (as_part part.recorded) may
             generation (subst NeverRise records_split never_rise));
         flushed =
             omega (
               arith,
               ap flushes_for (joined (part ∷ [])),
               ap flushes_for records_split,
-              flushes_made (bares (records_of before)) (bares (records_of taken)) (bares (records_of after)) (bare part.recorded) may
+              flushes_made (as_parts (records_of before)) (as_parts (records_of taken)) (as_parts (records_of after)) (as_part part.recorded) may
                   generation,
               flushed,
             );

@@ -1,5 +1,6 @@
 -- A job at its start is that of the layout.
-use Rattle.std.proofs.Common.{◌≡◌, ℕ, ◌+◌, ◌<◌, ◌≤◌, Bool, true, false, cond, ◌||◌, List, [], ◌∷◌, ◌++◌, length, map, filter, take, drop, Some, option_map, refl, ap, sym, ◌∙◌, subst, arith, append-nil}
+use Rattle.std.proofs.Common.{◌≡◌, ℕ, ◌+◌, ◌<◌, ◌≤◌, Bool, true, false, cond, ◌||◌, List, [], ◌∷◌, ◌++◌, length, map, filter, take, drop}
+use Rattle.std.proofs.Common.{Some, option_map, refl, ap, sym, ◌∙◌, subst, arith, append-nil}
 use Rattle.std.specs.Prelude.{IsPermutation, zip}
 use Rattle.std.specs.List.{AllByRecursion, flat_map}
 use Rattle.std.proofs.lemmas.List.{length-map}
@@ -10,7 +11,8 @@ use Rattle.wu_base.proofs.EachLemmas.{each-drop, each-take}
 use Rattle.wu_layout.proofs.NumberedRanges.{ranges-alone}
 use Rattle.wu_outside.specs.Content.{Content}
 use Rattle.wu_layout.specs.Layouts.{Job, Part, Layout, Text, first_address, last_address, ranges_by_number, ranges_of, stored_in, terms_of}
-use Rattle.wu_layout.specs.Postings.{Ascend, Posting, has_some, is_in, is_live, live_of}
+use Rattle.wu_layout.specs.Postings.{Ascend, Posting, has_some, is_live, live_of}
+use Rattle.wu_base.specs.Ranges.{is_in}
 use Rattle.wu_layout.specs.Invariants.{IsLayoutOf, IsUnderWay, JobIsUnderWay}
 use Rattle.wu_layout.specs.Steps.{job_at, pick}
 use Rattle.wu_layout.proofs.HomeLemmas.{taken_bounded}

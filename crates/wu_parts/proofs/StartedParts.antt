@@ -1,5 +1,6 @@
 -- The job that the policy names, at its start, is on parts that may be taken.
-use Rattle.std.proofs.Common.{◌≡◌, ℕ, zero, suc, ◌+◌, ◌^◌, ◌<◌, ◌≤◌, ◌==◌, true, false, List, [], ◌∷◌, length, map, take, drop, get_or, Some, option_map, zip, refl, ap, ap₂, sym, ◌∙◌, subst, arith, ⊎_elim, pow_mono}
+use Rattle.std.proofs.Common.{◌≡◌, ℕ, zero, suc, ◌+◌, ◌^◌, ◌<◌, ◌≤◌, ◌==◌, true, false, List, [], ◌∷◌, length, map, take, drop, get_or}
+use Rattle.std.proofs.Common.{Some, option_map, zip, refl, ap, ap₂, sym, ◌∙◌, subst, arith, ⊎_elim, pow_mono}
 use Rattle.std.specs.Prelude.{IsPermutation}
 use Rattle.std.specs.List.{AllByRecursion}
 use Rattle.std.proofs.lemmas.Bool.{cases_Bool, cases_lt, eqb-true, eqb-false}
@@ -17,10 +18,10 @@ use Rattle.wu_part.specs.Parts.{IsRecorded}
 use Rattle.wu_space.specs.Addresses.{Ranges, live_ranges}
 use Rattle.wu_job.specs.Jobs.{JobPart, JobState, highest, lowest, started}
 use Rattle.wu_parts.specs.StoredParts.{IsStarted, MayBeMerged, SpansAscend, directories_of, records_of}
-use Rattle.wu_parts.specs.Units.{bare, bares, parts_at}
+use Rattle.wu_parts.specs.Units.{as_part, as_parts, parts_at}
 use Rattle.wu_parts.specs.declared.working.NextJob.TheVariants.{Merge, Collect}
 use Rattle.wu_parts.specs.declared.writing.StoredPart.{StoredPart}
-use Rattle.wu_parts.proofs.EndedJobs.{bares_taken}
+use Rattle.wu_parts.proofs.EndedJobs.{as_parts_taken}
 use Rattle.wu_parts.proofs.SoundParts.{job_part, parts_at_stored, same_length}
 
 -- ---- the leftmost pair
@@ -141,8 +142,8 @@ module _ (ranges : Ranges) (parts : List StoredPart) (place : ℕ) (ready : MayB
     its_part : parts_at place 1 (records_of parts) (directories_of parts) ≡ job_part part ∷ []
     its_part = parts_at_stored place 1 parts ∙ ap (map job_part) (take_one place parts part l e)
 
-    its_bare : take 1 (drop place (bares (records_of parts))) ≡ bare part.recorded ∷ []
-    its_bare = bares_taken place 1 parts ∙ ap (λ (ps : List StoredPart). bares (records_of ps)) (take_one place parts part l e)
+    its_bare : take 1 (drop place (as_parts (records_of parts))) ≡ as_part part.recorded ∷ []
+    its_bare = as_parts_taken place 1 parts ∙ ap (λ (ps : List StoredPart). as_parts (records_of ps)) (take_one place parts part l e)
 
     its_told : IsRecorded part.recorded part.directory
     its_told = each-at (λ (p : StoredPart). IsRecorded p.recorded p.directory) parts place part ready.told l e
@@ -165,15 +166,15 @@ module _ (ranges : Ranges) (parts : List StoredPart) (place : ℕ) (ready : MayB
               its_parts ∙ sym its_part
               ∙ ap (λ (count : ℕ). parts_at place count (records_of parts) (directories_of parts)) (sym (ap length its_parts));
           taken =
-              subst (λ count. MayBeTaken (take place (bares (records_of parts))) (take count (drop place (bares (records_of parts)))))
+              subst (λ count. MayBeTaken (take place (as_parts (records_of parts))) (take count (drop place (as_parts (records_of parts)))))
               (sym (ap length its_parts))
-              (subst (MayBeTaken (take place (bares (records_of parts)))) (sym its_bare) tt);
+              (subst (MayBeTaken (take place (as_parts (records_of parts)))) (sym its_bare) tt);
           generation =
               let none : part.recorded.generation ≡ part.recorded.generation + 0 = omega arith in
               its_generation
               ∙ none
               ∙ ap made (sym its_bare)
-              ∙ ap (λ (count : ℕ). made (take count (drop place (bares (records_of parts))))) (sym (ap length its_parts));
+              ∙ ap (λ (count : ℕ). made (take count (drop place (as_parts (records_of parts))))) (sym (ap length its_parts));
           left = left;
         };
         count = sym (ap length its_parts);
@@ -192,28 +193,28 @@ module _ (ranges : Ranges) (parts : List StoredPart) (place : ℕ) (ready : MayB
 
   module _ (first second : StoredPart) (l : place + 1 < length parts)
       (e : first ≡ get_or parts place first) (f : second ≡ get_or parts (place + 1) second)
-      (named : alike_neighbours (bares (records_of parts)) ≡ Some place) where
+      (named : alike_neighbours (as_parts (records_of parts)) ≡ Some place) where
     both_parts : parts_at place 2 (records_of parts) (directories_of parts) ≡ job_part first ∷ job_part second ∷ []
     both_parts = parts_at_stored place 2 parts ∙ ap (map job_part) (take_two place parts first second l e f)
 
-    both_bare : take 2 (drop place (bares (records_of parts))) ≡ bare first.recorded ∷ bare second.recorded ∷ []
+    both_bare : take 2 (drop place (as_parts (records_of parts))) ≡ as_part first.recorded ∷ as_part second.recorded ∷ []
     both_bare =
-        bares_taken place 2 parts ∙ ap (λ (ps : List StoredPart). bares (records_of ps)) (take_two place parts first second l e f)
+        as_parts_taken place 2 parts ∙ ap (λ (ps : List StoredPart). as_parts (records_of ps)) (take_two place parts first second l e f)
 
-    both_taken : MayBeTaken (take place (bares (records_of parts))) (bare first.recorded ∷ bare second.recorded ∷ [])
+    both_taken : MayBeTaken (take place (as_parts (records_of parts))) (as_part first.recorded ∷ as_part second.recorded ∷ [])
     both_taken =
-        subst (MayBeTaken (take place (bares (records_of parts)))) both_bare
-        (pair_taken (bares (records_of parts)) place named ready.never_rise).1
+        subst (MayBeTaken (take place (as_parts (records_of parts)))) both_bare
+        (pair_taken (as_parts (records_of parts)) place named ready.never_rise).1
 
     pub both_alike : first.recorded.generation ≡ second.recorded.generation
     both_alike = both_taken.0
 
     pub both_below : first.recorded.generation < GENERATION_MAX
     both_below =
-        below_greatest first.recorded.generation (flushes_for (bares (records_of parts)))
+        below_greatest first.recorded.generation (flushes_for (as_parts (records_of parts)))
         (omega (
           arith,
-          pair_cost (bares (records_of parts)) place (bare first.recorded) (bare second.recorded) both_bare,
+          pair_cost (as_parts (records_of parts)) place (as_part first.recorded) (as_part second.recorded) both_bare,
           ap (λ (g : ℕ). 2 ^ g) both_alike,
         ))
         ready.few
@@ -245,13 +246,13 @@ module _ (ranges : Ranges) (parts : List StoredPart) (place : ℕ) (ready : MayB
                 own_parts ∙ sym both_parts
                 ∙ ap (λ (count : ℕ). parts_at place count (records_of parts) (directories_of parts)) (sym (ap length own_parts));
             taken =
-                subst (λ count. MayBeTaken (take place (bares (records_of parts))) (take count (drop place (bares (records_of parts)))))
+                subst (λ count. MayBeTaken (take place (as_parts (records_of parts))) (take count (drop place (as_parts (records_of parts)))))
                 (sym (ap length own_parts))
-                (subst (MayBeTaken (take place (bares (records_of parts)))) (sym both_bare) both_taken);
+                (subst (MayBeTaken (take place (as_parts (records_of parts)))) (sym both_bare) both_taken);
             generation =
                 own_generation
                 ∙ ap made (sym both_bare)
-                ∙ ap (λ (count : ℕ). made (take count (drop place (bares (records_of parts))))) (sym (ap length own_parts));
+                ∙ ap (λ (count : ℕ). made (take count (drop place (as_parts (records_of parts))))) (sym (ap length own_parts));
             left = left;
           };
           count = sym (ap length own_parts);

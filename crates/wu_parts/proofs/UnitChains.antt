@@ -1,5 +1,6 @@
 -- What several units of background work do, one after another.
-use Rattle.std.proofs.Common.{◌≡◌, ◌≢◌, ℕ, zero, suc, ◌+◌, ◌<◌, ◌≤◌, List, [], ◌∷◌, ◌++◌, length, Option, Some, None, option_map, refl, ap, sym, ◌∙◌, subst, arith, ⊎_elim, inl, inr, append-nil, append_assoc}
+use Rattle.std.proofs.Common.{◌≡◌, ◌≢◌, ℕ, zero, suc, ◌+◌, ◌<◌, ◌≤◌, List, [], ◌∷◌, ◌++◌, length, Option, Some, None, option_map, refl, ap}
+use Rattle.std.proofs.Common.{sym, ◌∙◌, subst, arith, ⊎_elim, inl, inr, append-nil, append_assoc}
 use Rattle.std.specs.Prelude.{◌⊎◌, IfSome, zip}
 use Rattle.std.specs.List.{Contains}
 use Rattle.wu_base.specs.declared.addresses.PartRec.{PartRec}
@@ -17,7 +18,7 @@ use Rattle.wu_job.specs.Keeping.{addresses_in}
 use Rattle.wu_job.specs.Steps.{adds}
 use Rattle.wu_job.proofs.Fronts.{adds-more}
 use Rattle.wu_job.proofs.Marking.{addresses_more}
-use Rattle.wu_lists.specs.Causes.{IsNoPart}
+use Rattle.wu_part.specs.Parts.{IsNoPart}
 use Rattle.wu_parts.specs.Contents.{Contents, JobAt}
 use Rattle.wu_parts.specs.Flushing.{Told}
 use Rattle.wu_parts.specs.Units.{DoUnits, DoesUnit, GoesOn, IsMade, IsNext, Starts, Vanishes}

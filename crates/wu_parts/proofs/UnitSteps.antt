@@ -1,5 +1,6 @@
 -- A step of a job, as a part of a unit of background work.
-use Rattle.std.proofs.Common.{◌≡◌, ℕ, Vec, Global, ◌+◌, ◌<◌, ◌≤◌, List, [], ◌∷◌, length, map, take, drop, Option, Some, None, option_map, refl, ap, sym, ◌∙◌, subst, arith, ⊎_elim, inl, inr}
+use Rattle.std.proofs.Common.{◌≡◌, ℕ, Vec, Global, ◌+◌, ◌<◌, ◌≤◌, List, [], ◌∷◌, length, map, take, drop, Option, Some, None, option_map}
+use Rattle.std.proofs.Common.{refl, ap, sym, ◌∙◌, subst, arith, ⊎_elim, inl, inr}
 use Rattle.std.specs.Prelude.{◌⊎◌, IfSome, zip}
 use Rattle.std.specs.List.{Contains, flat_map}
 use Rattle.wu_base.specs.declared.addresses.PartRec.{PartRec}
@@ -14,19 +15,18 @@ use Rattle.wu_layout.specs.Invariants.{MayBeTaken, SomeOf}
 use Rattle.wu_layout.specs.Steps.{made_generation}
 use Rattle.wu_layout.proofs.HomeLemmas.{SomeOf-map}
 use Rattle.wu_part.specs.Directories.{PartDirectory}
-use Rattle.wu_part.specs.Parts.{SpellsPart}
+use Rattle.wu_part.specs.Parts.{SpellsPart, IsNoPart as IsNone, IsNoPart}
 use Rattle.wu_part.proofs.LawLemmas.{one_directory}
 use Rattle.wu_space.specs.Addresses.{Ranges}
 use Rattle.wu_job.specs.Jobs.{Answers, IsRight, JobPart, JobState, StandWithin}
 use Rattle.wu_job.specs.declared.jobs.Progress.TheVariants.{Done}
-use Rattle.wu_job.specs.Steps.{adds, step_ranges, IsDamaged as IsDamagedJob, IsDamagedPart as IsDamagedInJob, IsNoPart as IsNone, SharesAddress as SharesInJob}
+use Rattle.wu_job.specs.Steps.{adds, step_ranges, IsDamaged as IsDamagedJob, IsDamagedPart as IsDamagedInJob, SharesAddress as SharesInJob}
 use Rattle.wu_job.proofs.Fronts.{adds-none, front_all}
-use Rattle.wu_lists.specs.Causes.{IsNoPart}
 use Rattle.wu_parts.specs.Causes.{IsStoreCause}
 use Rattle.wu_parts.specs.Contents.{Contents, JobAt}
 use Rattle.wu_parts.specs.Flushing.{Told}
 use Rattle.wu_parts.specs.StoredParts.{IsKeptJob, running_at}
-use Rattle.wu_parts.specs.Units.{GoesOn, IsMade, IsNext, IsRunning, Leaves, Vanishes, bares, parts_at, with_made, without_taken}
+use Rattle.wu_parts.specs.Units.{GoesOn, IsMade, IsNext, IsRunning, Leaves, Vanishes, as_parts, parts_at, with_made, without_taken}
 use Rattle.wu_parts.specs.UnitsOfParts.{EndsJob, IsMadeOf, Replaces, StopsStep, StopsUnit}
 use Rattle.wu_parts.specs.Working.{IsDamaged, IsDamagedPart, SharesIn, as_taken}
 use Rattle.wu_parts.specs.declared.working.Running.{Running}
@@ -88,7 +88,7 @@ pub ends_job : (records : List PartRec) (directories : List PartDirectory) (own 
     → StandWithin own.job.parts (flat_map (λ list. list.at) done) → EndsJob records directories own.place own.count written
 ends_job records directories own done written k made within = record {
   taken =
-      subst (λ n. MayBeTaken (take own.place (bares records)) (take n (drop own.place (bares records)))) (sym k.count) k.running.taken;
+      subst (λ n. MayBeTaken (take own.place (as_parts records)) (take n (drop own.place (as_parts records)))) (sym k.count) k.running.taken;
   number = room;
   made = of_written written made;
 }
@@ -105,7 +105,7 @@ ends_job records directories own done written k made within = record {
       done,
       m.1
           ∙ k.running.generation
-          ∙ ap (λ (n : ℕ). made_generation (take n (drop own.place (bares records)))) (sym k.count),
+          ∙ ap (λ (n : ℕ). made_generation (take n (drop own.place (as_parts records)))) (sym k.count),
       (
         m.2,
         subst (λ ps. StandWithin ps (flat_map (λ list. list.at) done))

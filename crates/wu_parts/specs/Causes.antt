@@ -12,7 +12,7 @@ use Rattle.wu_layout.specs.Invariants.{SomeOf}
 use Rattle.wu_part.specs.Directories.{PartDirectory}
 use Rattle.wu_lists.specs.declared.blocks.Block.{Block}
 use Rattle.wu_lists.specs.Blocks.{range_of}
-use Rattle.wu_lists.specs.Causes.{IsNoPart}
+use Rattle.wu_part.specs.Parts.{IsNoPart}
 use Rattle.wu_lists.specs.Keeping.{Kept, all_missing}
 use Rattle.wu_parts.specs.Contents.{Contents}
 use Rattle.wu_parts.specs.Holdings.{all_needed}

@@ -15,7 +15,7 @@ use Rattle.wu_part.specs.Headers.{SpellsHeader}
 use Rattle.wu_part.specs.Parts.{IsDirectoryOf, IsRecorded}
 use Rattle.wu_job.specs.Steps.{adds}
 use Rattle.wu_parts.specs.Contents.{Contents}
-use Rattle.wu_parts.specs.Units.{bares}
+use Rattle.wu_parts.specs.Units.{as_parts}
 
 -- ---- which records may be opened
 
@@ -29,8 +29,8 @@ SpansFollow from (recorded ∷ records) =
 pub record AreLoadable (records : List PartRec) (next_blob flushes : ℕ) : Type 0 where
   pub spans : SpansFollow 0 records
   pub below : AllByRecursion (λ recorded. recorded.blob < next_blob) records
-  pub never_rise : NeverRise (bares records)
-  pub flushed : flushes_for (bares records) ≤ flushes
+  pub never_rise : NeverRise (as_parts records)
+  pub flushed : flushes_for (as_parts records) ≤ flushes
   pub few : flushes < 2 ^ 63
 
 -- ---- what a blob is

@@ -19,7 +19,7 @@ use Rattle.wu_parts.specs.Contents.{Contents, JobAt}
 use Rattle.wu_parts.specs.Flushing.{Told, put_into}
 use Rattle.wu_parts.specs.Holdings.{AreKept, HoldTerm}
 use Rattle.wu_lists.specs.Ascending.{AscendBetween}
-use Rattle.wu_parts.specs.Units.{IsRunning, bares, count_of, parts_at, place_of}
+use Rattle.wu_parts.specs.Units.{IsRunning, as_parts, count_of, parts_at, place_of}
 
 abbrev pub records_of : List StoredPart → List PartRec
 records_of parts = map (λ part. part.recorded) parts
@@ -31,7 +31,7 @@ abbrev pub pairs_of : List StoredPart → List (PartRec × PartDirectory)
 pairs_of parts = map (λ part. (part.recorded, part.directory)) parts
 
 -- a part with these bytes is in the blob
-pub record IsPutAs (bytes : List ℕ) (blob : ℕ) (recorded : PartRec) (directory : PartDirectory) (before after : Told) : Type 0 where
+pub record StoresPart (bytes : List ℕ) (blob : ℕ) (recorded : PartRec) (directory : PartDirectory) (before after : Told) : Type 0 where
   pub blob_of : recorded.blob ≡ blob
   pub told : IsRecorded recorded directory
   pub own : IsDirectoryOf directory bytes
@@ -74,8 +74,8 @@ pub record MayBeMerged (parts : List StoredPart) : Type 0 where
   pub low : ℕ
   pub high : ℕ
   pub spans : SpansAscend low high parts
-  pub never_rise : NeverRise (bares (records_of parts))
-  pub few : flushes_for (bares (records_of parts)) < 2 ^ 63
+  pub never_rise : NeverRise (as_parts (records_of parts))
+  pub few : flushes_for (as_parts (records_of parts)) < 2 ^ 63
 
 -- The job is the named one, at its start.
 pub record IsStarted (ranges : Ranges) (parts : List StoredPart) (next : NextJob) (running : Running) : Type 0 where
@@ -90,8 +90,8 @@ pub record IsStarted (ranges : Ranges) (parts : List StoredPart) (next : NextJob
 pub record AreSound (low next_blob flushes : ℕ) (parts : List StoredPart) (under_way : Option Running) : Type 0 where
   pub stored : AreStored low parts
   pub below : AllByRecursion (λ recorded. recorded.blob < next_blob) (records_of parts)
-  pub never_rise : NeverRise (bares (records_of parts))
-  pub flushed : flushes_for (bares (records_of parts)) ≤ flushes
+  pub never_rise : NeverRise (as_parts (records_of parts))
+  pub flushed : flushes_for (as_parts (records_of parts)) ≤ flushes
   pub few : flushes < 2 ^ 63
   pub job : IfSome under_way (IsKeptJob (records_of parts) (directories_of parts))
 

@@ -1,6 +1,7 @@
 -- What a unit of background work does to the parts. Which job is next is a matter of records and live ranges alone: no posting is looked
 -- at.
-use Rattle.std.specs.Prelude.{◌≡◌, ◌⊎◌, ℕ, suc, zero, ◌+◌, ◌*◌, ◌<◌, Bool, nat_le, Option, None, Some, IfSome, option_map, List, [], ◌∷◌, ◌++◌, length, map, take, drop, position, zip, IsPermutation}
+use Rattle.std.specs.Prelude.{◌≡◌, ◌⊎◌, ℕ, suc, zero, ◌+◌, ◌*◌, ◌<◌, Bool, nat_le, Option, None, Some, IfSome, option_map, List, [], ◌∷◌}
+use Rattle.std.specs.Prelude.{◌++◌, length, map, take, drop, position, zip, IsPermutation}
 use Rattle.std.specs.Option.{option_or}
 use Rattle.std.specs.List.{AllByRecursion}
 use Rattle.wu_base.specs.declared.addresses.PartRec.{PartRec}
@@ -21,11 +22,11 @@ use Rattle.wu_parts.specs.declared.working.NextJob.TheVariants.{Merge, Collect}
 -- ---- the policy
 
 -- the parts, without their postings
-abbrev pub bare : PartRec → Part
-bare recorded = record { blob = recorded.blob; generation = recorded.generation; postings = [] }
+abbrev pub as_part : PartRec → Part
+as_part recorded = record { blob = recorded.blob; generation = recorded.generation; postings = [] }
 
-abbrev pub bares : List PartRec → List Part
-bares records = map bare records
+abbrev pub as_parts : List PartRec → List Part
+as_parts records = map as_part records
 
 -- at most half of as many addresses as the part has postings are live from its first address to its last
 abbrev pub is_half_dead : Ranges → PartRec → Bool
@@ -36,7 +37,7 @@ is_half_dead ranges recorded = nat_le (2 * live_in ranges recorded.low recorded.
 abbrev pub next_job : Ranges → List PartRec → Option NextJob
 next_job ranges records =
     option_or
-    (option_map (λ place. Merge place) (alike_neighbours (bares records)))
+    (option_map (λ place. Merge place) (alike_neighbours (as_parts records)))
     (option_map (λ place. Collect place) (position (is_half_dead ranges) records))
 
 abbrev pub place_of : NextJob → ℕ
@@ -59,8 +60,8 @@ parts_at place count records directories =
 pub record IsRunning (records : List PartRec) (directories : List PartDirectory) (job : JobAt) : Type 0 where
   pub paired : length records ≡ length directories
   pub parts : job.state.parts ≡ parts_at job.place (length job.state.parts) records directories
-  pub taken : MayBeTaken (take job.place (bares records)) (take (length job.state.parts) (drop job.place (bares records)))
-  pub generation : job.state.generation ≡ made_generation (take (length job.state.parts) (drop job.place (bares records)))
+  pub taken : MayBeTaken (take job.place (as_parts records)) (take (length job.state.parts) (drop job.place (as_parts records)))
+  pub generation : job.state.generation ≡ made_generation (take (length job.state.parts) (drop job.place (as_parts records)))
   pub left : 0 < length job.state.terms_left
 
 -- the job is the one that the policy names, at its start

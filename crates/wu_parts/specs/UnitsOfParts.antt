@@ -18,8 +18,8 @@ use Rattle.wu_parts.specs.declared.working.Running.{Running}
 use Rattle.wu_space.specs.Addresses.{Ranges}
 use Rattle.wu_parts.specs.Contents.{Contents, JobAt}
 use Rattle.wu_parts.specs.Flushing.{Told}
-use Rattle.wu_parts.specs.StoredParts.{IsKeptJob, IsPutAs, running_at}
-use Rattle.wu_parts.specs.Units.{DoesUnit, IsNext, Leaves, bares, parts_at, with_made, without_taken}
+use Rattle.wu_parts.specs.StoredParts.{IsKeptJob, StoresPart, running_at}
+use Rattle.wu_parts.specs.Units.{DoesUnit, IsNext, Leaves, as_parts, parts_at, with_made, without_taken}
 use Rattle.wu_parts.specs.Working.{IsDamaged as IsDamagedBefore, ReadsSome, is_idle}
 
 -- the job under way, or the one that is named, or none
@@ -35,12 +35,12 @@ FindsJob ranges contents (Some running) =
 abbrev pub IsMadeOf : List PartRec → List PartDirectory → ℕ → ℕ → List ℕ → Type 0
 IsMadeOf records directories place count bytes =
     (directory : PartDirectory) × (lists : List TermList)
-    × (directory.generation ≡ made_generation (take count (drop place (bares records))))
+    × (directory.generation ≡ made_generation (take count (drop place (as_parts records))))
     × (SpellsPart directory lists bytes × StandWithin (parts_at place count records directories) (flat_map (λ list. list.at) lists))
 
 -- the job was on so many parts from the place on, and these are the bytes of the part that it made of them
 pub record EndsJob (records : List PartRec) (directories : List PartDirectory) (place count : ℕ) (written : Option (List ℕ)) : Type 0 where
-  pub taken : MayBeTaken (take place (bares records)) (take count (drop place (bares records)))
+  pub taken : MayBeTaken (take place (as_parts records)) (take count (drop place (as_parts records)))
   pub number : place + count ≤ length records
   pub made : IfSome written (IsMadeOf records directories place count)
 
@@ -48,7 +48,7 @@ pub record EndsJob (records : List PartRec) (directories : List PartDirectory) (
 pub record IsReplaced (place count : ℕ) (bytes : List ℕ) (old new : Contents) (before after : Told) : Type 0 where
   pub recorded : PartRec
   pub directory : PartDirectory
-  pub put : IsPutAs bytes old.next_blob recorded directory before after
+  pub put : StoresPart bytes old.next_blob recorded directory before after
   pub contents : new ≡ with_made recorded directory place count old
 
 abbrev pub Replaces : ℕ → ℕ → Option (List ℕ) → Contents → Contents → Told → Told → Type 0

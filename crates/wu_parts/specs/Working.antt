@@ -1,5 +1,6 @@
 -- What background work does to the parts in a store, what it answers, and which steps of the index's layout that is.
-use Rattle.std.specs.Prelude.{◌≡◌, ◌≢◌, ◌⊎◌, ⊤, ℕ, suc, zero, ◌+◌, ◌*◌, ◌<◌, ◌≤◌, ◌^◌, ◌==◌, ◌&&◌, Bool, true, false, not, Option, None, Some, IfSome, is_some, List, [], ◌∷◌, ◌++◌, length, take, zip, Contains}
+use Rattle.std.specs.Prelude.{◌≡◌, ◌≢◌, ◌⊎◌, ⊤, ℕ, suc, zero, ◌+◌, ◌*◌, ◌<◌, ◌≤◌, ◌^◌, ◌==◌, ◌&&◌, Bool, true, false, not, Option, None}
+use Rattle.std.specs.Prelude.{Some, IfSome, is_some, List, [], ◌∷◌, ◌++◌, length, take, zip, Contains}
 use Rattle.std.specs.List.{AllByRecursion, flat_map, list_any}
 use Rattle.wu_base.specs.declared.addresses.PartRec.{PartRec}
 use Rattle.wu_base.specs.declared.addresses.Range.{Range}
@@ -17,11 +18,11 @@ use Rattle.wu_space.specs.Addresses.{Ranges, live_in}
 use Rattle.wu_part.specs.Directories.{PartDirectory}
 use Rattle.wu_job.specs.Jobs.{AreKept, HoldsTerm, IsRight, JobPart, JobState}
 use Rattle.wu_job.specs.Steps.{adds, step_ranges}
-use Rattle.wu_lists.specs.Causes.{IsNoPart}
+use Rattle.wu_part.specs.Parts.{IsNoPart}
 use Rattle.wu_parts.specs.Contents.{Contents, JobAt}
 use Rattle.wu_parts.specs.Flushing.{Told}
 use Rattle.wu_parts.specs.Holdings.{HoldParts}
-use Rattle.wu_parts.specs.Units.{DoUnits, IsNext, IsRunning, bares, next_job}
+use Rattle.wu_parts.specs.Units.{DoUnits, IsNext, IsRunning, as_parts, next_job}
 
 -- ---- answers
 
@@ -36,7 +37,7 @@ answer_of false = Busy
 -- Generations fall from left to right, so there are at most as many parts as the logarithm of the number of flushes, and more than half
 -- as many addresses as a part has postings are live in its span.
 pub record AreFew (ranges : Ranges) (contents : Contents) : Type 0 where
-  pub fall : Fall (bares contents.parts)
+  pub fall : Fall (as_parts contents.parts)
   pub few : 2 ^ length contents.parts ≤ contents.flushes + 1
   pub mostly_live : AllByRecursion (λ part. part.stored < 2 * live_in ranges part.low part.high) contents.parts
 

@@ -4,7 +4,7 @@ ghost use Rattle.std.specs.List.{AllByRecursion, concat};
 ghost use Rattle.std.specs.List.Sorted.{IsStrictlyIncreasing};
 ghost use Rattle.wu_layout.specs.Layouts.{Part, stored_in as postings_in};
 ghost use Rattle.wu_layout.specs.Postings.{fetched, is_live};
-ghost use Rattle.wu_space.specs.Addresses.{AreApart};
+ghost use Rattle.wu_base.specs.Ranges.{AreApart};
 ghost use Rattle.wu_parts.specs.Memory.{held};
 ghost use Rattle.wu_lists.specs.Gaining.{Gains};
 ghost use Rattle.wu_lists.specs.Tallying.{tally_of};
@@ -15,7 +15,7 @@ ghost use Rattle.wu_parts.specs.StoredParts.{AreFetchedIn};
 use crate::parts::Parts;
 use crate::reading::walk_parts;
 use wu_base::{ADDRESSES_MAX, NoMemory, Range, Sequence, Trouble};
-use wu_lists::{Sink, Tally, Unasked};
+use wu_lists::{AddressSink, Discard, Tally};
 use wu_outside::Store;
 
 impl Parts {
@@ -136,13 +136,13 @@ impl Parts {
         ensures cause { IfErr result (IsAskCause self.old term.now frames.now (D.holds store.old)
             (D.faults store.old) (D.faults store.new) (D.reads store.old) (D.reads store.new)) }
     {
-        self.walk(store, term, frames, &mut Unasked)?;
+        self.walk(store, term, frames, &mut Discard)?;
         Ok(())
     }
 
     /// Asks for the blocks of the term that the frames need in the parts, from left to right. A sink that wants them
     /// gains the addresses that lie in the frames.
-    fn walk<D: Store, S: Sink>(
+    fn walk<D: Store, S: AddressSink>(
         &mut self,
         store: &mut D,
         term: &[u8],

@@ -1,7 +1,7 @@
 //! A walk over the parts for a term.
 ghost use Rattle.std.specs.Prelude.{◌≡◌, ◌+◌, ◌≤◌, true, All, IfErr, OnOk};
 ghost use Rattle.std.specs.List.{AllByRecursion};
-ghost use Rattle.wu_space.specs.Addresses.{AreApart};
+ghost use Rattle.wu_base.specs.Ranges.{AreApart};
 ghost use Rattle.wu_part.specs.Parts.{IsRecorded};
 ghost use Rattle.wu_lists.specs.Gaining.{Gains};
 ghost use Rattle.wu_lists.specs.Keeping.{Asks};
@@ -11,12 +11,12 @@ ghost use Rattle.wu_parts.specs.StoredParts.{AreFetchedFrom, pairs_of};
 
 use crate::writing::StoredPart;
 use wu_base::{ADDRESSES_MAX, Range, Trouble};
-use wu_lists::{Lists, Sink};
+use wu_lists::{Lists, AddressSink};
 use wu_outside::Store;
 
 /// Asks for the blocks of the term that the frames need in the parts, from left to right. A sink that wants them
 /// gains the addresses that lie in the frames.
-pub(crate) fn walk_parts<D: Store, S: Sink>(
+pub(crate) fn walk_parts<D: Store, S: AddressSink>(
     store: &mut D,
     lists: &mut Lists,
     parts: &[StoredPart],

@@ -1,9 +1,11 @@
 //! Background work: which job is next, how it starts, and what becomes of its parts.
-ghost use Rattle.std.specs.Prelude.{◌≡◌, ◌+◌, ◌<◌, ◌≤◌, ◌++◌, ℕ, List, [], Some, All, IfOk, IsPermutation, OnErr, OnOk, drop, length, map, position, take, vec_len};
+ghost use Rattle.std.specs.Prelude.{◌≡◌, ◌+◌, ◌<◌, ◌≤◌, ◌++◌, ℕ, List, [], Some, All, IfOk, IsPermutation, OnErr, OnOk, drop, length, map};
+ghost use Rattle.std.specs.Prelude.{position, take, vec_len};
 ghost use Rattle.wu_layout.specs.Steps.{alike_neighbours as alike_in};
-ghost use Rattle.wu_space.specs.Addresses.{AreApart, live_ranges};
+ghost use Rattle.wu_space.specs.Addresses.{live_ranges};
+ghost use Rattle.wu_base.specs.Ranges.{AreApart};
 ghost use Rattle.wu_parts.specs.StoredParts.{IsStarted, MayBeMerged, records_of};
-ghost use Rattle.wu_parts.specs.Units.{bares, is_half_dead as half_dead_by, next_job as next_of, replaced};
+ghost use Rattle.wu_parts.specs.Units.{as_parts, is_half_dead as half_dead_by, next_job as next_of, replaced};
 ghost use Rattle.wu_parts.specs.declared.working.NextJob.TheVariants.{Merge as MergeAt, Collect as CollectAt};
 
 use crate::writing::StoredPart;
@@ -47,7 +49,7 @@ pub(crate) fn next_job(parts: &[StoredPart], space: &Space) -> Option<NextJob>
 
 /// The place of the leftmost part that has the generation of its right neighbour.
 fn alike_neighbours(parts: &[StoredPart]) -> Option<usize>
-    ensures { result ≡ alike_in (bares (records_of parts.now)) }
+    ensures { result ≡ alike_in (as_parts (records_of parts.now)) }
 {
     for place in 0..parts.len().saturating_sub(1) {
         if parts[place].recorded.generation == parts[place + 1].recorded.generation {
@@ -99,7 +101,7 @@ fn start_merge(
     space: &Space,
 ) -> Result<Running, NoMemory>
     requires place { place + 1 < length parts.now }
-    requires alike { alike_in (bares (records_of parts.now)) ≡ Some place }
+    requires alike { alike_in (as_parts (records_of parts.now)) ≡ Some place }
     requires space { space.now.next ≤ ADDRESSES_MAX }
     requires parts { MayBeMerged parts.now }
     ensures { IfOk result (IsStarted space.now.ranges parts.now (MergeAt place)) }

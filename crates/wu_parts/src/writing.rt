@@ -7,7 +7,7 @@ ghost use Rattle.wu_part.specs.Directories.{PartDirectory};
 ghost use Rattle.wu_part.specs.Parts.{IsDirectoryOf, IsRecorded};
 ghost use Rattle.wu_parts.specs.Causes.{IsStoreCause};
 ghost use Rattle.wu_parts.specs.LiveLists.{AreEncodable};
-ghost use Rattle.wu_parts.specs.StoredParts.{IsPut, IsPutAs};
+ghost use Rattle.wu_parts.specs.StoredParts.{IsPut, StoresPart};
 
 use std::alloc::Global;
 use wu_base::{NoMemory, PartRec, Trouble};
@@ -55,7 +55,7 @@ pub(crate) fn put_bytes<D: Store>(
     bytes: &[u8],
 ) -> Result<StoredPart, Trouble>
     requires { (directory : PartDirectory) × IsDirectoryOf directory bytes.now }
-    ensures put { IfOk result (λ part. IsPutAs bytes.now blob part.recorded part.directory
+    ensures put { IfOk result (λ part. StoresPart bytes.now blob part.recorded part.directory
         (D.holds store.old, D.moments store.old) (D.holds store.new, D.moments store.new)) }
     ensures elsewhere { (written : Option (List ℕ)) × MayDo (with_blob blob written) (D.holds store.old) (D.holds store.new) }
     ensures tried { (written : Option (List ℕ))

@@ -2,7 +2,7 @@
 ghost use Rattle.std.specs.Prelude.{◌+◌, ◌≤◌, All};
 ghost use Rattle.wu_base.specs.declared.limits.TheConstants.{ADDRESSES_MAX};
 ghost use Rattle.wu_part.specs.Parts.{IsRecorded};
-ghost use Rattle.wu_space.specs.Addresses.{AreApart};
+ghost use Rattle.wu_base.specs.Ranges.{AreApart};
 
 mod parts;
 mod ranges;

@@ -31,7 +31,6 @@ use Rattle.wu_query.specs.View.{view_of}
 use Rattle.wu_query.proofs.CountLemmas.{counted}
 use Rattle.wu_query.proofs.FramesOfFiles.{lists_have}
 use Rattle.wu_query.proofs.FramesOfView.{found_ascend}
-use Rattle.wu_query.proofs.UnitLemmas.{apart}
 
 module _ (region : Region) (term : List ℕ) (alone : IsTermAlone region term) where
   sorted_alone : IsStrictlySortedBy (slice_cmp nat_cmp) (term ∷ [])
@@ -63,7 +62,7 @@ module _ (region : Region) (term : List ℕ) (alone : IsTermAlone region term) w
         let all_live = recursion_from_All (λ (address : ℕ). is_live frames.ranges address ≡ true) found
         (filter_passes (is_live frames.ranges) (addresses_of term (postings_of s.layout.parts s.layout.memory))) in
         sym (all_lie frames.ranges found all_live)
-        ∙ term_hits lists frames.ranges (apart frames.ranges can.apart) term found are_addresses
+        ∙ term_hits lists frames.ranges can.apart term found are_addresses
         ∙ ap length (alike_everywhere (Phrase (term ∷ [])) region alone.same lists frames.ranges)
 
     files_told : frames_with frames.ranges found ≡ count_by (λ frame. nat_lt 0 (length (frame_hits region lists frame))) frames.ranges

@@ -1,5 +1,6 @@
 -- The units that are whole files are the frames of these files.
-use Rattle.std.proofs.Common.{◌≡◌, ℕ, zero, suc, ◌+◌, ◌-◌, ◌≤◌, ◌<◌, ◌^◌, Bool, true, false, cond, List, [], ◌∷◌, ◌++◌, length, map, refl, sym, ap, ap₂, ◌∙◌, subst, arith, length-append}
+use Rattle.std.proofs.Common.{◌≡◌, ℕ, zero, suc, ◌+◌, ◌-◌, ◌≤◌, ◌<◌, ◌^◌, Bool, true, false, cond, List, [], ◌∷◌, ◌++◌, length, map, refl}
+use Rattle.std.proofs.Common.{sym, ap, ap₂, ◌∙◌, subst, arith, length-append}
 use Rattle.std.proofs.Math.Logic.{∥∥₁_elim}
 use Rattle.std.proofs.lemmas.Bool.Decides.{nat_tests}
 use Rattle.std.proofs.lemmas.List.Elements.{All-from_recursion}
@@ -15,7 +16,8 @@ use Rattle.wu_gcl.specs.Regions.{WholeFile}
 use Rattle.wu_gcl.specs.Terms.{terms_in}
 use Rattle.wu_rank.specs.declared.results.Unit.{Unit as RankedUnit}
 use Rattle.wu_rank.specs.Scores.{length_of}
-use Rattle.wu_solve.specs.Solving.{moved, frame_hits, AreApart}
+use Rattle.wu_solve.specs.Solving.{moved, frame_hits}
+use Rattle.wu_base.specs.Ranges.{AreApart}
 use Rattle.wu_space.specs.Addresses.{Ranges}
 use Rattle.wu_view.specs.Views.{view_of as files_of}
 use Rattle.wu_frames.specs.declared.Frame.{Frame}
@@ -28,7 +30,6 @@ use Rattle.wu_query.specs.View.{Shown, view_of}
 use Rattle.wu_query.proofs.FramesOfFiles.{HasTerms, IsFrameOf, frame_of_file}
 use Rattle.wu_query.proofs.FramesOfView.{are_of_view}
 use Rattle.wu_query.proofs.Places.{all_places, tokens_after}
-use Rattle.wu_query.proofs.UnitLemmas.{apart}
 use Rattle.wu_query.proofs.UnitsOfFrames.{both_all}
 use Rattle.wu_query.proofs.WholeFiles.{IsWhole, text_whole}
 
@@ -93,7 +94,7 @@ files_fit frames units can is =
             arith,
             few_in 0 frames.by_address (omega arith) (above (map (λ (frame : Frame). frame.range) frames.by_address))
                 (subst (AllByRecursion (λ (range : Range). range.start + range.len ≤ ADDRESSES_MAX)) can.of_frames can.bounded)
-                (subst AreApart can.of_frames (apart frames.ranges can.apart)),
+                (subst AreApart can.of_frames can.apart),
           );
     }) where
       above : (ranges : List Range) → AllByRecursion (λ range. 0 ≤ range.start) ranges

@@ -1,5 +1,6 @@
 -- Frames of files at any addresses, in any order: their extents, and how many these are. A number tells each file: its place in a view.
-use Rattle.std.proofs.Common.{◌≡◌, ℕ, zero, suc, ◌+◌, ◌≤◌, ◌<◌, ◌^◌, Bool, true, false, cond, ◌&&◌, ◌||◌, ◌⊎◌, List, [], ◌∷◌, length, map, get_or, refl, sym, ap, ap₂, ◌∙◌, subst, inl, inr, arith, length-append}
+use Rattle.std.proofs.Common.{◌≡◌, ℕ, zero, suc, ◌+◌, ◌≤◌, ◌<◌, ◌^◌, Bool, true, false, cond, ◌&&◌, ◌||◌, ◌⊎◌, List, [], ◌∷◌, length, map}
+use Rattle.std.proofs.Common.{get_or, refl, sym, ap, ap₂, ◌∙◌, subst, inl, inr, arith, length-append}
 use Rattle.std.proofs.Math.Bool.{or-true}
 use Rattle.std.proofs.lemmas.List.{length-map}
 use Rattle.std.proofs.lemmas.List.Concat.{length-flat_map}
@@ -21,7 +22,8 @@ use Rattle.wu_gcl.specs.Regions.{Region}
 use Rattle.wu_gcl.specs.Terms.{terms_in}
 use Rattle.wu_solve.specs.Addresses.{is_among, has_address, stands_by, AreLists}
 use Rattle.wu_solve.specs.Listing.{IsBefore, IsAscending}
-use Rattle.wu_solve.specs.Solving.{moved, frame_hits, frames_hits, IsFrame, AreApart}
+use Rattle.wu_solve.specs.Solving.{moved, frame_hits, frames_hits, IsFrame}
+use Rattle.wu_base.specs.Ranges.{AreApart}
 use Rattle.wu_query.specs.Units.{list_at}
 use Rattle.wu_solve.proofs.Results.{frame_of_text, hits_listed}
 use Rattle.wu_solve.proofs.Sets.{all_from}

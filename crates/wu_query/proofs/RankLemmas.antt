@@ -22,7 +22,7 @@ use Rattle.wu_query.specs.Answer.{answer, line_of}
 use Rattle.wu_query.specs.Rankings.{frequency_in, ranking_of, tokens_at}
 use Rattle.wu_query.specs.States.{State, Texts}
 use Rattle.wu_query.specs.Searched.{Indexes}
-use Rattle.wu_query.specs.Units.{AreUnitsIn, found_in, in_its_file, list_at, range_at, unshifted}
+use Rattle.wu_query.specs.Units.{AreUnitsIn, found_in, in_its_file, list_at, range_at, relative_to_file}
 use Rattle.wu_query.specs.View.{Shown, shown_of, view_of}
 use Rattle.wu_query.proofs.FramesOfView.{are_of_view}
 use Rattle.wu_query.proofs.Places.{all_places, units_of-places}
@@ -36,7 +36,7 @@ coded_ranked =
     (λ p. record { score = p.0.0; unit = record { extent = record { start = p.1.0; end = p.1.1 }; place = p.0.1 } }) (λ _. refl)
 
 lines_back : (view : List Shown) (start : ℕ → ℕ) (rs : List Ranked)
-    → map (λ r. line_of view (unshifted start r)) (map (shifted_ranked start) rs) ≡ map (line_of view) rs
+    → map (λ r. line_of view (relative_to_file start r)) (map (shifted_ranked start) rs) ≡ map (line_of view) rs
 lines_back view start [] = refl
 lines_back view start (r ∷ rs) =
     ap₂ (λ (x : Ranked) (lines : List RankLine). line_of view x ∷ lines) (shifted_back_one start r) (lines_back view start rs)
@@ -70,7 +70,7 @@ module _ (frames : Frames) (live : Ranges) (s : State) (uid : ℕ) (is : Indexes
       let view = view_of s uid in
       let ranking = ranking_of view region words in
       shown_is
-      ∙ ap (map (λ (r : Ranked). line_of view (unshifted start_at r)))
+      ∙ ap (map (λ (r : Ranked). line_of view (relative_to_file start_at r)))
       (top_is ∙ ap (take k) ranked_at ∙ take-map (shifted_ranked start_at) k ranking)
       ∙ lines_back view start_at (take k ranking)
 

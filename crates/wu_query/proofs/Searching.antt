@@ -15,7 +15,7 @@ use Rattle.wu_parts.specs.Contents.{Contents}
 use Rattle.wu_view.specs.Views.{view_of as files_of}
 use Rattle.wu_frames.specs.declared.Frame.{Frame}
 use Rattle.wu_frames.specs.declared.Frames.{Frames}
-use Rattle.wu_frames.specs.UserFrames.{AreFor, AreFrames, Kept}
+use Rattle.wu_frames.specs.UserFrames.{CacheMatchesTree, AreFrames, Kept}
 use Rattle.wu_frames.proofs.ViewFrames.{HasRange, all-have}
 use Rattle.wu_query.specs.Records.{Records, recorded_ranges}
 use Rattle.wu_query.specs.Soundness.{IsRecord, IsSound}
@@ -78,7 +78,7 @@ module _ (fs : FileSystem) (space : Addresses) (parts : Contents) (files : Recor
 
 -- An engine stays sound when blocks are kept anew, and frames that were made for its tree and its live ranges.
 pub sound_prepared : (fs : FileSystem) (space : Addresses) (parts parts_now : Contents) (files : Records) (kept kept_now : Kept)
-    → parts_now ≡ record parts { kept = parts_now.kept } → AreFor fs space.ranges kept_now → IsSound fs space parts files kept
+    → parts_now ≡ record parts { kept = parts_now.kept } → CacheMatchesTree fs space.ranges kept_now → IsSound fs space parts files kept
     → IsSound fs space parts_now files kept_now
 sound_prepared fs space parts parts_now files kept kept_now same right sound =
     subst (λ (c : Contents). IsSound fs space c files kept_now) (sym same)

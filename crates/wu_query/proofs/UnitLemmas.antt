@@ -1,5 +1,6 @@
 -- The units of frames, at addresses: which there are, by the places of their frames, and how long they are.
-use Rattle.std.proofs.Common.{◌≡◌, ◌==◌, ℕ, suc, ◌+◌, ◌-◌, ◌*◌, ◌≤◌, ◌<◌, ◌^◌, Bool, false, List, [], ◌∷◌, ◌++◌, length, take, drop, map, refl, sym, ap, ap₂, ◌∙◌, subst, arith, length-append}
+use Rattle.std.proofs.Common.{◌≡◌, ◌==◌, ℕ, suc, ◌+◌, ◌-◌, ◌*◌, ◌≤◌, ◌<◌, ◌^◌, Bool, false, List, [], ◌∷◌, ◌++◌, length, take, drop, map}
+use Rattle.std.proofs.Common.{refl, sym, ap, ap₂, ◌∙◌, subst, arith, length-append}
 use Rattle.std.proofs.lemmas.Bool.{lt-ltb, le-ltb}
 use Rattle.std.proofs.lemmas.List.{length-map}
 use Rattle.std.proofs.lemmas.List.Elements.{All-head, All-tail, All-from_recursion}
@@ -18,10 +19,10 @@ use Rattle.wu_rank.specs.declared.results.Unit.{Unit as RankedUnit}
 use Rattle.wu_rank.specs.Scores.{length_of, total_length}
 use Rattle.wu_solve.specs.Addresses.{stands_by}
 use Rattle.wu_solve.specs.Listing.{IsExtentIn}
-use Rattle.wu_solve.specs.Solving.{moved, frame_hits, frames_hits, AreApart}
+use Rattle.wu_solve.specs.Solving.{moved, frame_hits, frames_hits}
+use Rattle.wu_base.specs.Ranges.{AreApart}
 use Rattle.wu_solve.proofs.Results.{hits_in as inside_text}
 use Rattle.wu_solve.proofs.Sets.{all_from}
-use Rattle.wu_space.specs.Addresses.{AreApart as LieApart}
 use Rattle.wu_frames.specs.declared.Frame.{Frame}
 use Rattle.wu_frames.specs.declared.Frames.{Frames}
 use Rattle.wu_query.specs.Rankings.{unit_at}
@@ -32,15 +33,11 @@ use Rattle.wu_query.proofs.UnitsOfFrames.{both_all}
 
 -- ---- the frames, as the solver takes them
 
-pub apart : (ranges : List Range) → LieApart ranges → AreApart ranges
-apart [] a = tt
-apart (range ∷ ranges) a = (a.0, apart ranges a.1)
-
 -- they have no more extents than there are addresses
 pub searched_few : (region : Region) (lists : List TermList) (frames : Frames) → CanBeSearched frames
     → length (frames_hits region lists frames.ranges) ≤ 2 ^ 47
 searched_few region lists frames can =
-    frames_few region lists frames.ranges frames.ranges (IsPermutation-refl frames.ranges) (apart frames.ranges can.apart) can.bounded
+    frames_few region lists frames.ranges frames.ranges (IsPermutation-refl frames.ranges) can.apart can.bounded
 
 -- ---- extents, frame by frame
 
@@ -193,7 +190,7 @@ module _ (region : Region) (frames : Frames) (can : CanBeSearched frames) (lists
   in_frames : units ≡ units_in region lists frames.by_address
   in_frames =
       put ∙ ap (placed frames.by_address) (found ∙ ap (frames_hits region lists) can.of_frames)
-      ∙ placed_by_frame region lists frames.by_address (subst AreApart can.of_frames (apart frames.ranges can.apart))
+      ∙ placed_by_frame region lists frames.by_address (subst AreApart can.of_frames can.apart)
 
   pub units_searched : AreUnits region frames lists units
   units_searched =

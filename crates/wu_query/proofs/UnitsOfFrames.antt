@@ -1,9 +1,11 @@
 -- The units of a query in frames of files, at any addresses and in any order: how often a word is in one, and their ranking.
-use Rattle.std.proofs.Common.{◌≡◌, ℕ, zero, suc, ◌+◌, ◌-◌, ◌≤◌, ◌<◌, Bool, true, false, cond, ◌||◌, List, [], ◌∷◌, ◌++◌, length, take, drop, get_or, map, refl, sym, ap, ap₂, ◌∙◌, subst, arith, append_assoc, length-append, length-drop, eqb}
+use Rattle.std.proofs.Common.{◌≡◌, ℕ, zero, suc, ◌+◌, ◌-◌, ◌≤◌, ◌<◌, Bool, true, false, cond, ◌||◌, List, [], ◌∷◌, ◌++◌, length, take, drop}
+use Rattle.std.proofs.Common.{get_or, map, refl, sym, ap, ap₂, ◌∙◌, subst, arith, append_assoc, length-append, length-drop, eqb}
 use Rattle.std.proofs.lemmas.Bool.Decides.{nat_tests}
 use Rattle.std.proofs.lemmas.Grind.{flat_map-append}
 use Rattle.std.proofs.lemmas.List.{length-map, map-append}
-use Rattle.std.proofs.lemmas.List.Sorted.{IsPermutation-refl, IsPermutation-trans, IsPermutation-append_left, IsPermutation-append_right, IsPermutation-append_comm, sum_by-IsPermutation}
+use Rattle.std.proofs.lemmas.List.Sorted.{IsPermutation-refl, IsPermutation-trans, IsPermutation-append_left, IsPermutation-append_right}
+use Rattle.std.proofs.lemmas.List.Sorted.{IsPermutation-append_comm, sum_by-IsPermutation}
 use Rattle.std.proofs.lemmas.List.Sums.{sum_by-cons, sum_by-append}
 use Rattle.std.specs.Prelude.{nat_eq, count_by}
 use Rattle.std.specs.List.{flat_map, AllByRecursion, sum_by}
@@ -28,7 +30,7 @@ use Rattle.wu_solve.proofs.Numbers.{increasing_rest}
 use Rattle.wu_solve.proofs.Results.{hits_in as inside_text}
 use Rattle.wu_solve.proofs.Sets.{all_from}
 use Rattle.wu_query.specs.Rankings.{unit_at}
-use Rattle.wu_query.specs.Units.{list_at, unshifted}
+use Rattle.wu_query.specs.Units.{list_at, relative_to_file}
 use Rattle.wu_query.proofs.FramesOfFiles.{IsFrameOf, FramesOf, HasTerms, frame_of_file}
 
 -- the units of the files with these places, where a function tells each file's extents
@@ -301,7 +303,7 @@ frames_ranked region addresses terms words tokens frame places order all framed 
 abbrev ranked_of : ℕ → ℕ → ℕ → ℕ → Ranked
 ranked_of points place first last = record { score = points; unit = unit_at place (from_to first last) }
 
-pub shifted_back_one : (start : ℕ → ℕ) (r : Ranked) → unshifted start (shifted_ranked start r) ≡ r
+pub shifted_back_one : (start : ℕ → ℕ) (r : Ranked) → relative_to_file start (shifted_ranked start r) ≡ r
 shifted_back_one start r =
     let s = start r.unit.place in
     let first : (s + r.unit.extent.start) - s ≡ r.unit.extent.start = omega arith in

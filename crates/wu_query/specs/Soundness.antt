@@ -8,8 +8,8 @@ use Rattle.wu_tree.specs.FileSystems.{FileSystem, is_file}
 use Rattle.wu_space.specs.Addresses.{Addresses, range_of}
 use Rattle.wu_parts.specs.Contents.{Contents}
 use Rattle.wu_image.specs.declared.records.FileRec.{FileRec}
-use Rattle.wu_frames.specs.UserFrames.{AreFor, Kept}
-use Rattle.wu_frames.proofs.FrameFacts.{AreFor-prop}
+use Rattle.wu_frames.specs.UserFrames.{CacheMatchesTree, Kept}
+use Rattle.wu_frames.proofs.FrameFacts.{CacheMatchesTree-prop}
 use Rattle.wu_query.specs.Records.{Records, recorded_ranges}
 
 -- What the record of a file keeps: its length is one that a text may have, its tokens are no more than such a text has, three for
@@ -29,7 +29,7 @@ pub record IsSound (tree : FileSystem) (space : Addresses) (parts : Contents) (f
   pub few : space.next ≤ ADDRESSES_MAX
   pub below : parts.memory.end ≤ space.next
   pub blobs : 1 ≤ parts.next_blob
-  pub frames : AreFor tree space.ranges kept
+  pub frames : CacheMatchesTree tree space.ranges kept
 
 -- ---- each of these has one proof at most
 
@@ -53,5 +53,5 @@ IsSound-prop tree space parts files kept a b = λ i. record {
   few = le_prop a.few b.few i;
   below = le_prop a.below b.below i;
   blobs = le_prop a.blobs b.blobs i;
-  frames = AreFor-prop tree space.ranges kept a.frames b.frames i;
+  frames = CacheMatchesTree-prop tree space.ranges kept a.frames b.frames i;
 }

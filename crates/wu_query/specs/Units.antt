@@ -1,6 +1,7 @@
 -- A search over a user's frames: where terms stand in them, the extents of an expression with the places of their files, and how
 -- frames and postings stand for the user's view.
-use Rattle.std.specs.Prelude.{◌≡◌, ℕ, suc, ◌+◌, ◌-◌, ◌<◌, ◌≤◌, ◌^◌, Contains, List, [], ◌∷◌, ◌++◌, length, map, take, drop, nat_eq, nat_le, nat_lt, true, filter, find, option_map, if◌then◌else◌, slice_get, option_and_then, unwrap_or, zip, Option}
+use Rattle.std.specs.Prelude.{◌≡◌, ℕ, suc, ◌+◌, ◌-◌, ◌<◌, ◌≤◌, ◌^◌, Contains, List, [], ◌∷◌, ◌++◌, length, map, take, drop, nat_eq, nat_le}
+use Rattle.std.specs.Prelude.{nat_lt, true, filter, find, option_map, if◌then◌else◌, slice_get, option_and_then, unwrap_or, zip, Option}
 use Rattle.std.specs.List.{All, AllByRecursion, flat_map, list_any}
 use Rattle.std.specs.Cmp.Lexicographic.{pointwise}
 use Rattle.wu_base.specs.declared.addresses.Extent.{Extent}
@@ -19,7 +20,8 @@ use Rattle.wu_rank.specs.declared.results.Unit.{Unit as RankedUnit}
 use Rattle.wu_rank.specs.declared.results.Ranked.{Ranked}
 use Rattle.wu_rank.specs.Scores.{length_of}
 use Rattle.wu_solve.specs.Solving.{frame_hits}
-use Rattle.wu_space.specs.Addresses.{Ranges, AreApart, range_of}
+use Rattle.wu_space.specs.Addresses.{Ranges, range_of}
+use Rattle.wu_base.specs.Ranges.{AreApart}
 use Rattle.wu_parts.specs.Causes.{IsFetchCause}
 use Rattle.wu_parts.specs.Contents.{Contents}
 use Rattle.wu_frames.specs.declared.Frame.{Frame}
@@ -114,8 +116,8 @@ abbrev pub range_at : Ranges → List Seen → ℕ → Range
 range_at live view place = unwrap_or (option_and_then (λ file. range_of live file.ino) (slice_get view place)) no_range
 
 -- the unit, with its extent counted from its file's first token, where the file at each place starts at some address
-abbrev pub unshifted : (ℕ → ℕ) → Ranked → Ranked
-unshifted start r = record {
+abbrev pub relative_to_file : (ℕ → ℕ) → Ranked → Ranked
+relative_to_file start r = record {
   score = r.score;
   unit = record {
     extent = record { start = r.unit.extent.start - start r.unit.place; end = r.unit.extent.end - start r.unit.place };
@@ -124,7 +126,7 @@ unshifted start r = record {
 }
 
 abbrev pub in_its_file : Ranges → List Seen → Ranked → Ranked
-in_its_file live view ranked = unshifted (λ place. (range_at live view place).start) ranked
+in_its_file live view ranked = relative_to_file (λ place. (range_at live view place).start) ranked
 
 -- ---- the state
 

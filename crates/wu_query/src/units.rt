@@ -1,10 +1,11 @@
 //! The units of a ranking, at addresses, each with the place of its file in the view.
-ghost use Rattle.std.specs.Prelude.{◌≡◌, ◌≤◌, ◌<◌, ◌+◌, ◌^◌, ◌||◌, ◌==◌, ◌++◌, ◌∷◌, [], All, List, ℕ, false, if◌then◌else◌, drop, length, map, take, slice_index_or, vec_len, IfOk, OnOk};
+ghost use Rattle.std.specs.Prelude.{◌≡◌, ◌≤◌, ◌<◌, ◌+◌, ◌^◌, ◌||◌, ◌==◌, ◌++◌, ◌∷◌, [], All, List, ℕ, false, if◌then◌else◌, drop, length};
+ghost use Rattle.std.specs.Prelude.{map, take, slice_index_or, vec_len, IfOk, OnOk};
 ghost use Rattle.std.specs.List.{AllByRecursion, list_any};
 ghost use Rattle.wu_gcl.specs.Regions.{region_of};
 ghost use Rattle.wu_base.specs.declared.addresses.Extent.{Extent as AnExtent};
 ghost use Rattle.wu_solve.specs.Addresses.{AreLists};
-ghost use Rattle.wu_solve.specs.Solving.{AreApart};
+ghost use Rattle.wu_base.specs.Ranges.{AreApart};
 ghost use Rattle.wu_query.specs.Finding.{is_at_place, with_units};
 ghost use Rattle.wu_query.specs.Rankings.{unit_at};
 ghost use Rattle.wu_query.specs.Units.{AreUnits, CanBeSearched, count_before, end_of, file_unit, file_units, placed};

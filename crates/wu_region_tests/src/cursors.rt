@@ -1,7 +1,8 @@
 //! What a cursor is asked for.
 ghost use Rattle.std.specs.Prelude.{All};
 ghost use Rattle.wu_solve.specs.Addresses.{AreLists};
-ghost use Rattle.wu_solve.specs.Solving.{IsFrame, AreApart};
+ghost use Rattle.wu_solve.specs.Solving.{IsFrame};
+ghost use Rattle.wu_base.specs.Ranges.{AreApart};
 
 use crate::expressions::expression;
 use crate::fixtures::{are_apart, corpus_of, frames_of, lists_of};

@@ -4,7 +4,8 @@ ghost use Rattle.std.specs.List.Sorted.{IsStrictlyIncreasing, IsStrictlySortedBy
 ghost use Rattle.std.specs.Cmp.Lexicographic.{slice_cmp};
 ghost use Rattle.std.specs.Ordering.{nat_cmp};
 ghost use Rattle.wu_solve.specs.Addresses.{AreLists};
-ghost use Rattle.wu_solve.specs.Solving.{IsFrame, AreApart};
+ghost use Rattle.wu_solve.specs.Solving.{IsFrame};
+ghost use Rattle.wu_base.specs.Ranges.{AreApart};
 
 use std::alloc::Global;
 use wu_base::{Bytes, Extent, NoMemory, Range, Sequence, TEXT_MAX, TermList};

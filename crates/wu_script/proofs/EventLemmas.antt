@@ -23,7 +23,8 @@ use Rattle.wu_script.specs.declared.events.NewNode.{NewNode}
 use Rattle.wu_script.specs.declared.words.Word.{Word}
 use Rattle.wu_script.specs.declared.words.Word.TheVariants as words
 use Rattle.wu_script.specs.Words.{word_of}
-use Rattle.wu_script.specs.Commands.{Wish, Operation, Entry, Happening, Asking, Operating, Refusing, Blank, LineSays, Whole, TextHead}
+use Rattle.wu_script.specs.Commands.{QuerySyntax, Operation, Entry, Happening, Asking, Operating, Refusing, Blank, LineSays, Whole}
+use Rattle.wu_script.specs.Commands.{TextHead}
 use Rattle.wu_script.specs.Commands.{event_line, query_line, operation_line, text_line, flush_of, work_of, stat_of, save_of}
 use Rattle.wu_script.specs.Commands.{acl_of, user_of, new_node_of, mkdir_event, create_event, link_of, place_of, unlink_event, rmdir_event}
 use Rattle.wu_script.specs.Commands.{rename_of, chmod_of, chown_of, text_head_of, count_of, find_of, rank_of, paths_of, command_of}
@@ -138,7 +139,7 @@ event_says : (event : Option Event) → Given IsEvent event → SaysEvent (event
 event_says None g = tt
 event_says (Some event) g = g
 
-query_says : (query : Option (ℕ × Wish)) → SaysEvent (query_line query)
+query_says : (query : Option (ℕ × QuerySyntax)) → SaysEvent (query_line query)
 query_says None = tt
 query_says (Some query) = tt
 

@@ -1,5 +1,6 @@
 -- Lemmas on the first item of bytes.
-use Rattle.std.proofs.Common.{not, ◌≡◌, ℕ, ◌<◌, ◌≤◌, Bool, true, false, eqb, List, [], ◌∷◌, ◌++◌, length, refl, ap, sym, ◌∙◌, subst, append_assoc}
+use Rattle.std.proofs.Common.{not, ◌≡◌, ℕ, ◌<◌, ◌≤◌, Bool, true, false, eqb, List, [], ◌∷◌, ◌++◌, length, refl, ap, sym, ◌∙◌, subst}
+use Rattle.std.proofs.Common.{append_assoc}
 use Rattle.std.proofs.Common.{append-nil, length-append, MatchBool, arith}
 use Rattle.std.proofs.Math.Seq.{take-append_seam, drop-append_seam}
 use Rattle.std.specs.Prelude.{nat_lt}
@@ -10,15 +11,16 @@ use Rattle.wu_tree.specs.declared.events.Event.TheVariants.{Text}
 use Rattle.wu_script.specs.declared.types.Why.TheVariants.{LongLine, Truncated, TooLong, BadBody}
 use Rattle.wu_script.specs.declared.types.Item.{Item}
 use Rattle.wu_script.specs.declared.types.Item.TheVariants as items
-use Rattle.wu_script.specs.declared.items.Heard.{Heard}
-use Rattle.wu_script.specs.declared.items.Heard.TheVariants as heard
+use Rattle.wu_script.specs.declared.items.ParsedLine.{ParsedLine}
+use Rattle.wu_script.specs.declared.items.ParsedLine.TheVariants as heard
 use Rattle.wu_script.specs.Holding.{Held, EndsAt}
 use Rattle.wu_script.specs.Taking.{IsOneLine, Kept, closing}
-use Rattle.wu_script.specs.Taken.{IsHeard}
+use Rattle.wu_script.specs.Taken.{IsParsed}
 use Rattle.wu_script.proofs.LineLemmas.{kept_whole}
 use Rattle.wu_script.specs.Commands.{Entry, Blank, Refusing, LineSays, Whole, TextHead, line_says}
 use Rattle.wu_script.specs.Said.{Reading, IsReading, Said, Happens, SaysNothing, IsReadAs}
-use Rattle.wu_script.specs.Items.{First, line_at, after_line, has_feed, body_entry, text_at, entry_at, first_of, IsBeforeEnd, IsOneItem, IsOneBody, IsItem}
+use Rattle.wu_script.specs.Items.{First, line_at, after_line, has_feed, body_entry, text_at, entry_at, first_of, IsBeforeEnd, IsOneItem}
+use Rattle.wu_script.specs.Items.{IsOneBody, IsItem}
 
 -- a line and what follows it
 pub line_at-closed : (text rest : List ℕ) → IsOneLine text
@@ -62,27 +64,27 @@ head_in (Whole said) = Whole Blank
 head_in (TextHead ino len) = TextHead ino len
 
 -- a line that was read as an item says one
-pub whole_line : (says : LineSays Entry) (item : Item) → IsHeard says (heard.Item item)
+pub whole_line : (says : LineSays Entry) (item : Item) → IsParsed says (heard.Item item)
     → (entry : Entry) × (says ≡ Whole entry) × IsReadAs item entry
 whole_line (Whole entry) item is = (entry, refl, λ read reading. ap said_in (is read reading))
 whole_line (TextHead ino len) item is = absurd (cc (is a_reading a_reading-is))
 
 -- and one that was read as the first line of a text is one
-head_line : (says : LineSays Entry) (ino len : ℕ) → IsHeard says (heard.TextHead ino len) → says ≡ TextHead ino len
+head_line : (says : LineSays Entry) (ino len : ℕ) → IsParsed says (heard.TextHead ino len) → says ≡ TextHead ino len
 head_line (Whole entry) ino len is = absurd (cc (is a_reading a_reading-is))
 head_line (TextHead i n) ino len is = ap head_in (sym (is a_reading a_reading-is))
 
 -- what was read of the line's own bytes
-pub heard_as : (h is : Heard) (line text : List ℕ) → IsHeard (line_says line) h → h ≡ is → line ≡ text → IsHeard (line_says text) is
-heard_as h is line text says e same = subst (λ t. IsHeard (line_says t) is) same (subst (IsHeard (line_says line)) e says)
+pub parsed_as : (h is : ParsedLine) (line text : List ℕ) → IsParsed (line_says line) h → h ≡ is → line ≡ text → IsParsed (line_says text) is
+parsed_as h is line text says e same = subst (λ t. IsParsed (line_says t) is) same (subst (IsParsed (line_says line)) e says)
 
 -- a line that was kept whole and read as the first line of a text is one
-pub head_says : (limit : ℕ) (text kept : List ℕ) (whole : Bool) (read : Heard) (ino len : ℕ)
-    → Kept limit text whole kept → not whole ≡ false → IsHeard (line_says kept) read → read ≡ heard.TextHead ino len
+pub head_says : (limit : ℕ) (text kept : List ℕ) (whole : Bool) (read : ParsedLine) (ino len : ℕ)
+    → Kept limit text whole kept → not whole ≡ false → IsParsed (line_says kept) read → read ≡ heard.TextHead ino len
     → line_says text ≡ TextHead ino len
 head_says limit text kept whole read ino len is no_cut says e =
     head_line (line_says text) ino len
-    (heard_as read (heard.TextHead ino len) kept text says e (kept_whole limit text kept whole is no_cut))
+    (parsed_as read (heard.TextHead ino len) kept text says e (kept_whole limit text kept whole is no_cut))
 
 -- a line of more bytes than a line may have
 pub line_says-long : (text : List ℕ) → LINE_MAX < length text → line_says text ≡ Whole (Refusing LongLine)
@@ -124,7 +126,7 @@ item_before_end last_read new _ used more is = is
 -- a line that was read as an item
 pub heard_item : (last_read : ℕ) (new : Held) (item : Item) (text : List ℕ) (closed : Bool)
     → IsOneLine text → EndsAt closed last_read new → (closed ≡ false → 0 < length text)
-    → IsHeard (line_says text) (heard.Item item) → IsBeforeEnd item → IsItem last_read new item (text ++ closing closed)
+    → IsParsed (line_says text) (heard.Item item) → IsBeforeEnd item → IsItem last_read new item (text ++ closing closed)
 heard_item last_read new item text closed one last some is more =
     let whole = whole_line (line_says text) item is in
     item_before_end last_read new item (text ++ closing closed) more

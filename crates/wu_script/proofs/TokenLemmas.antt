@@ -1,5 +1,6 @@
 -- Lemmas on how many tokens the items of a script give.
-use Rattle.std.proofs.Common.{◌≡◌, ℕ, zero, suc, ◌+◌, ◌*◌, ◌<◌, ◌≤◌, Bool, true, false, List, [], ◌∷◌, length, take, drop, Option, Some, None, Result, Ok, Err, refl, ap, arith}
+use Rattle.std.proofs.Common.{◌≡◌, ℕ, zero, suc, ◌+◌, ◌*◌, ◌<◌, ◌≤◌, Bool, true, false, List, [], ◌∷◌, length, take, drop, Option, Some}
+use Rattle.std.proofs.Common.{None, Result, Ok, Err, refl, ap, arith}
 use Rattle.std.specs.Prelude.{nat_lt, if◌then◌else◌}
 use Rattle.std.specs.List.{sum_by}
 use Rattle.std.specs.Option.{option_map}
@@ -17,10 +18,13 @@ use Rattle.wu_script.specs.declared.types.Why.TheVariants.{LongLine}
 use Rattle.wu_script.specs.declared.words.Word.{Word}
 use Rattle.wu_script.specs.declared.words.Word.TheVariants as words
 use Rattle.wu_script.specs.Words.{word_of}
-use Rattle.wu_script.specs.Commands.{Wish, Operation, Entry, Happening, Asking, Operating, Refusing, Blank, LineSays, Whole, TextHead}
+use Rattle.wu_script.specs.Commands.{QuerySyntax, Operation, Entry, Happening, Asking, Operating, Refusing, Blank, LineSays, Whole}
+use Rattle.wu_script.specs.Commands.{TextHead}
 use Rattle.wu_script.specs.Commands.{event_line, query_line, operation_line, text_line, flush_of, work_of, stat_of, save_of}
-use Rattle.wu_script.specs.Commands.{acl_of, user_of, new_node_of, mkdir_event, create_event, link_of, place_of, unlink_event, rmdir_event, rename_of}
-use Rattle.wu_script.specs.Commands.{chmod_of, chown_of, text_head_of, count_of, find_of, rank_of, paths_of, command_of, fields_say, is_blank, line_says}
+use Rattle.wu_script.specs.Commands.{acl_of, user_of, new_node_of, mkdir_event, create_event, link_of, place_of, unlink_event, rmdir_event}
+use Rattle.wu_script.specs.Commands.{rename_of}
+use Rattle.wu_script.specs.Commands.{chmod_of, chown_of, text_head_of, count_of, find_of, rank_of, paths_of, command_of, fields_say}
+use Rattle.wu_script.specs.Commands.{is_blank, line_says}
 use Rattle.wu_script.specs.Said.{Reading, said_of, question_in, asked, event_tokens, tokens_given, text_given}
 use Rattle.wu_script.specs.Items.{line_at, after_line, has_feed, body_entry, text_at, entry_at, first_of, items_within, items_of}
 use Rattle.wu_script.proofs.ItemListLemmas.{after_short, after_shorter}
@@ -90,7 +94,7 @@ event_line_none : (event : Option Event) → IsWithoutText (event_line event)
 event_line_none None = tt
 event_line_none (Some event) = refl
 
-query_line_none : (query : Option (ℕ × Wish)) → IsWithoutText (query_line query)
+query_line_none : (query : Option (ℕ × QuerySyntax)) → IsWithoutText (query_line query)
 query_line_none None = tt
 query_line_none (Some query) = tt
 

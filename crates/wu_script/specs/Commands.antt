@@ -1,10 +1,11 @@
 -- What a command's line says.
 --
--- A new query needs: a case of `Wish` and, where its line is read, a word in Words and a case of `command_of`; what it says with its
+-- A new query needs: a case of `QuerySyntax` and, where its line is read, a word in Words and a case of `command_of`; what it says with its
 -- expressions read, a case of `question_in` in Said; what it asks and when it can be answered, cases of `Question`, `question_of` and
 -- `IsSound` in wu_ask; and the bytes of its answer, a case of `answer_bytes` in Replies. The items of a script, the reader and its
 -- laws stay as they are.
-use Rattle.std.specs.Prelude.{ℕ, ◌-◌, ◌^◌, ◌==◌, nat_lt, Bool, true, false, not, List, [], ◌∷◌, codes, drop, length, take, Option, Some, None, map, option_and_then, if◌then◌else◌}
+use Rattle.std.specs.Prelude.{ℕ, ◌-◌, ◌^◌, ◌==◌, nat_lt, Bool, true, false, not, List, [], ◌∷◌, codes, drop, length, take, Option, Some}
+use Rattle.std.specs.Prelude.{None, map, option_and_then, if◌then◌else◌}
 use Rattle.std.specs.Option.{option_map}
 use Rattle.std.specs.Ordering.{nat_cmp}
 use Rattle.std.specs.List.{after_first, before_first, position_or_len, slice_split}
@@ -248,11 +249,11 @@ acl_of _ = None
 -- ---- lines
 
 -- a query as its line has it: an expression stands as its text, and so do words
-pub data Wish : Type 0 where
-  CountOf : (text : List ℕ) → Wish
-  FindOf : (k : ℕ) (text : List ℕ) → Wish
-  RankOf : (k : ℕ) (unit words : List ℕ) → Wish
-  PathsOf : Wish
+pub data QuerySyntax : Type 0 where
+  CountOf : (text : List ℕ) → QuerySyntax
+  FindOf : (k : ℕ) (text : List ℕ) → QuerySyntax
+  RankOf : (k : ℕ) (unit words : List ℕ) → QuerySyntax
+  PathsOf : QuerySyntax
 
 -- what the operator of the index asks for: a flush, so many units of background work, the size of the index, or a save
 pub data Operation : Type 0 where
@@ -265,7 +266,7 @@ pub data Operation : Type 0 where
 -- operation; a refusal; nothing
 pub data Entry : Type 0 where
   Happening : (event : Event) (text : List ℕ) → Entry
-  Asking : (uid : ℕ) (wish : Wish) → Entry
+  Asking : (uid : ℕ) (wish : QuerySyntax) → Entry
   Operating : (operation : Operation) → Entry
   Refusing : (why : Why) → Entry
   Blank : Entry
@@ -280,7 +281,7 @@ abbrev pub event_line : Option Event → LineSays Entry
 event_line None = Whole (Refusing Syntax)
 event_line (Some event) = Whole (Happening event [])
 
-abbrev pub query_line : Option (ℕ × Wish) → LineSays Entry
+abbrev pub query_line : Option (ℕ × QuerySyntax) → LineSays Entry
 query_line None = Whole (Refusing Syntax)
 query_line (Some query) = Whole (Asking query.0 query.1)
 
@@ -300,28 +301,28 @@ text_head_of (ino ∷ len ∷ []) = do
   Some (i, n)
 text_head_of _ = None
 
-unfoldable pub count_of : List (List ℕ) → Option (ℕ × Wish)
+unfoldable pub count_of : List (List ℕ) → Option (ℕ × QuerySyntax)
 count_of (uid ∷ text ∷ []) = do
   u ← id_of uid
   Some (u, CountOf text)
 count_of _ = None
 
 -- at most K_MAX regions are shown
-unfoldable pub find_of : List (List ℕ) → Option (ℕ × Wish)
+unfoldable pub find_of : List (List ℕ) → Option (ℕ × QuerySyntax)
 find_of (uid ∷ k ∷ text ∷ []) = do
   u ← id_of uid
   n ← number_of k K_MAX
   Some (u, FindOf n text)
 find_of _ = None
 
-unfoldable pub rank_of : List (List ℕ) → Option (ℕ × Wish)
+unfoldable pub rank_of : List (List ℕ) → Option (ℕ × QuerySyntax)
 rank_of (uid ∷ k ∷ unit ∷ words ∷ []) = do
   u ← id_of uid
   n ← number_of k K_MAX
   Some (u, RankOf n unit words)
 rank_of _ = None
 
-unfoldable pub paths_of : List (List ℕ) → Option (ℕ × Wish)
+unfoldable pub paths_of : List (List ℕ) → Option (ℕ × QuerySyntax)
 paths_of (uid ∷ []) = do
   u ← id_of uid
   Some (u, PathsOf)

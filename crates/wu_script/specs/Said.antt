@@ -16,7 +16,8 @@ use Rattle.wu_script.specs.declared.types.Line.{Line}
 use Rattle.wu_script.specs.declared.types.Line.TheVariants as lines
 use Rattle.wu_script.specs.declared.types.Item.{Item}
 use Rattle.wu_script.specs.declared.types.Item.TheVariants as items
-use Rattle.wu_script.specs.Commands.{Wish, CountOf, FindOf, RankOf, PathsOf, Operation, Flush, Work, Stat, Save, Entry, Happening, Asking, Operating, Refusing, Blank, LineSays, Whole, TextHead}
+use Rattle.wu_script.specs.Commands.{QuerySyntax, CountOf, FindOf, RankOf, PathsOf, Operation, Flush, Work, Stat, Save, Entry, Happening}
+use Rattle.wu_script.specs.Commands.{Asking, Operating, Refusing, Blank, LineSays, Whole, TextHead}
 
 -- what each text says as a region expression; there is one such function, since each text has one reading
 abbrev pub Reading : Type 0
@@ -52,7 +53,7 @@ rank_question k (Ok unit) words =
 rank_question k (Err fault) words = Err (Expr fault)
 
 -- the question that a query is, or why it is none
-abbrev pub question_in : Reading → Wish → Result Question Why
+abbrev pub question_in : Reading → QuerySyntax → Result Question Why
 question_in read (CountOf text) = count_question (read text)
 question_in read (FindOf k text) = find_question k (read text)
 question_in read (RankOf k unit words) = rank_question k (read unit) (words_of words)

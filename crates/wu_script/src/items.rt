@@ -5,7 +5,7 @@ ghost use Rattle.wu_script.specs.Commands.{line_says};
 ghost use Rattle.wu_script.specs.Holding.{Follows, EndsEarly, HasReadCause, GivesAtMost, asked_at_once};
 ghost use Rattle.wu_script.specs.Items.{IsBeforeEnd, TakesItem, TakesBody, first_of, text_at};
 ghost use Rattle.wu_script.specs.Said.{IsSoundItem, IsSoundLine, said_by_line};
-ghost use Rattle.wu_script.specs.Taken.{IsHeard, IsSoundHeard, heard_said};
+ghost use Rattle.wu_script.specs.Taken.{IsParsed, IsSoundParsed, parsed_said};
 ghost use Rattle.wu_script.specs.declared.types.Item.TheVariants.{Refused, Text};
 ghost use Rattle.wu_script.specs.declared.types.Why.TheVariants.{TooLong, BadBody};
 
@@ -21,7 +21,7 @@ use wu_outside::Source;
 
 /// What a line that was read is.
 #[derive(Drop)]
-pub enum Heard {
+pub enum ParsedLine {
     /// A whole item, and not the end.
     Item(Item),
     /// The first line of a text.
@@ -54,9 +54,9 @@ pub fn take_item<I: Source>(
     if is_end(cut, line) {
         return Ok(Item::End);
     }
-    match hear(alloc, line)? {
-        Heard::Item(item) => Ok(item),
-        Heard::TextHead { ino, len } => match take_text(input, source, line, ino, len) {
+    match parse_line(alloc, line)? {
+        ParsedLine::Item(item) => Ok(item),
+        ParsedLine::TextHead { ino, len } => match take_text(input, source, line, ino, len) {
             Ok(item) => Ok(item),
             Err(end) => Err(end),
         },
@@ -71,25 +71,25 @@ fn is_end(cut: Cut, line: &Vec<u8>) -> bool
 }
 
 /// What the line is.
-fn hear(alloc: Global, line: &Vec<u8>) -> Result<Heard, NoMemory>
-    ensures says { IfOk result (IsHeard (line_says line.now.items)) }
-    ensures sound { IfOk result IsSoundHeard }
+fn parse_line(alloc: Global, line: &Vec<u8>) -> Result<ParsedLine, NoMemory>
+    ensures says { IfOk result (IsParsed (line_says line.now.items)) }
+    ensures sound { IfOk result IsSoundParsed }
 {
     let line = read_command(alloc, line.as_slice())?;
     Ok(item_or_head(line))
 }
 
 /// The item that the line is, if it is one.
-fn item_or_head(line: Line) -> Heard
+fn item_or_head(line: Line) -> ParsedLine
     requires { IsSoundLine line }
-    ensures says { heard_said result ≡ said_by_line line }
-    ensures sound { IsSoundHeard result }
+    ensures says { parsed_said result ≡ said_by_line line }
+    ensures sound { IsSoundParsed result }
 {
     match line {
-        Line::Command(command) => Heard::Item(Item::Command(command)),
-        Line::TextHead { ino, len } => Heard::TextHead { ino, len },
-        Line::Refused(why) => Heard::Item(Item::Refused(why)),
-        Line::Blank => Heard::Item(Item::Blank),
+        Line::Command(command) => ParsedLine::Item(Item::Command(command)),
+        Line::TextHead { ino, len } => ParsedLine::TextHead { ino, len },
+        Line::Refused(why) => ParsedLine::Item(Item::Refused(why)),
+        Line::Blank => ParsedLine::Item(Item::Blank),
     }
 }
 

@@ -3,7 +3,7 @@ use Rattle.std.proofs.Common.{◌≡◌, ◌⊎◌, ℕ, List, [], ◌∷◌, Op
 use Rattle.std.specs.Prelude.{IfSome, IsSome, option_map}
 use Rattle.std.specs.List.{AllByRecursion}
 use Rattle.wu_outside.specs.Content.{Content}
-use Rattle.wu_outside.specs.Crash.{IsPartly, LeftNow, Moments, starts_with}
+use Rattle.wu_outside.specs.Crash.{MixesChanges, LeftNow, Moments, starts_with}
 use Rattle.wu_outside.specs.Surviving.{IsLeft, LeavesNow, LeavesOnly}
 use Rattle.wu_layout.specs.Invariants.{SomeOf}
 use Rattle.wu_outside.proofs.Survival.{same_content}
@@ -14,14 +14,16 @@ use Rattle.wu_query.specs.States.{State}
 use Rattle.wu_engine.specs.Crashes.{IsImageOf}
 use Rattle.wu_engine.specs.Opening.{HoldsImage}
 use Rattle.wumpus_run.specs.declared.statuses.Status.{Status}
-use Rattle.wumpus_run.specs.declared.statuses.Status.TheVariants.{Done, Usage, ReadFault, WriteFault, NoMemory, InputTooLong, StoreFault, Damaged, Spent}
+use Rattle.wumpus_run.specs.declared.statuses.Status.TheVariants.{Done, Usage, ReadFault, WriteFault, NoMemory, InputTooLong, StoreFault}
+use Rattle.wumpus_run.specs.declared.statuses.Status.TheVariants.{Damaged, Spent}
 use Rattle.wumpus_run.specs.Crashes.{Acknowledges, IsImageOfOne, IsUnopened, last_save, left_to_next, next_save, saves_of}
 use Rattle.wumpus_run.specs.Permitted.{AnswersInTurn, Reaches}
 use Rattle.wumpus_run.specs.Replies.{AreRules, Rules, state_after}
 use Rattle.wumpus_run.specs.Session.{Moment}
 use Rattle.wu_secrecy.specs.Turns.{turn_of, turns_of}
 use Rattle.wu_secrecy.specs.Histories.{AreCoursesOf, Course, IsCourseOf, rules_with, session_from}
-use Rattle.wu_secrecy.specs.Lives.{AreInTurn, AreStarts, GoesOn, IsAcknowledged, IsLife, History, IsRun, MayBeFound, Restarts, Run, Started, SurvivesStop, sessions_of}
+use Rattle.wu_secrecy.specs.Lives.{AreInTurn, AreStarts, GoesOn, IsAcknowledged, IsLife, History, IsRun, MayBeFound, Restarts, Run, Started}
+use Rattle.wu_secrecy.specs.Lives.{SurvivesStop, sessions_of}
 
 -- ---- options
 
@@ -84,7 +86,7 @@ course-of read are start told status before now input given there answers =
 -- after a crash a store holds that content alone
 begun-anew : (content left : Content) → LeftNow (starts_with content) left → left ≡ content
 begun-anew content left h =
-    ⊎_elim (λ e. e) (λ (p : IsPartly (starts_with content).now left). same_content left content p.blobs p.root) h
+    ⊎_elim (λ e. e) (λ (p : MixesChanges (starts_with content).now left). same_content left content p.blobs p.root) h
 
 module _ (read : Reading) (are : IsReading read) (first : State) where
   -- an image of a state that may be found

@@ -4,7 +4,7 @@ use Rattle.std.specs.Prelude.{Result, Ok, Err}
 use Rattle.std.specs.List.{AllByRecursion}
 use Rattle.std.proofs.lemmas.Bool.{eqb-true}
 use Rattle.wu_ask.specs.Questions.{Question}
-use Rattle.wu_script.specs.Commands.{Entry, Asking, Wish}
+use Rattle.wu_script.specs.Commands.{Entry, Asking, QuerySyntax}
 use Rattle.wu_script.specs.Replies.{reply_bytes}
 use Rattle.wu_script.specs.Said.{Reading, asked, question_in, said_of}
 use Rattle.wu_script.specs.declared.types.Why.{Why}
@@ -28,7 +28,7 @@ bytes-asked : (uid : ℕ) (s : State) (question : Result Question Why)
 bytes-asked uid s (Ok question) = refl
 bytes-asked uid s (Err why) = refl
 
-pub bytes-query : (read : Reading) (s : State) (uid : ℕ) (wish : Wish)
+pub bytes-query : (read : Reading) (s : State) (uid : ℕ) (wish : QuerySyntax)
     → said_bytes s (said_of read (Asking uid wish)) ≡ bytes_over read (Asking uid wish) (view_of s uid)
 bytes-query read s uid wish = bytes-asked uid s (question_in read wish)
 

@@ -3,7 +3,7 @@ ghost use Rattle.std.specs.Prelude.{◌≡◌, ℕ, List, [], ◌∷◌, map, co
 ghost use Rattle.wu_query.specs.States.{State};
 ghost use Rattle.wu_query.specs.View.{view_of};
 ghost use Rattle.wu_engine.specs.States.{first_state};
-ghost use Rattle.wu_script.specs.Commands.{Asking, Entry, Wish};
+ghost use Rattle.wu_script.specs.Commands.{Asking, Entry, QuerySyntax};
 ghost use Rattle.wu_script.specs.Said.{Reading, said_of};
 ghost use Rattle.wumpus_run.specs.Replies.{Rules, output_of, said_bytes};
 ghost use Rattle.wu_secrecy.specs.Answers.{answer_to, bytes_over};
@@ -20,7 +20,7 @@ pub fn turns_are_the_output()
 /// The reply to a query is a function of its line and of its user's view, and of nothing else in
 /// the state.
 pub fn a_reply_is_over_her_view()
-    ensures { (read : Reading) (s : State) (uid : ℕ) (wish : Wish)
+    ensures { (read : Reading) (s : State) (uid : ℕ) (wish : QuerySyntax)
         → said_bytes s (said_of read (Asking uid wish))
         ≡ bytes_over read (Asking uid wish) (view_of s uid) }
 {}

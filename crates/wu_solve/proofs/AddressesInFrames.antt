@@ -7,7 +7,7 @@ use Rattle.wu_base.specs.declared.addresses.Extent.{Extent}
 use Rattle.wu_base.specs.declared.addresses.Range.{Range}
 use Rattle.wu_solve.specs.Frames.{lies_in_one, EndsAfter}
 use Rattle.wu_solve.specs.Operands.{run_around}
-use Rattle.wu_solve.specs.Solving.{AreApart}
+use Rattle.wu_base.specs.Ranges.{AreApart}
 use Rattle.wu_solve.proofs.Numbers.{increasing_not_below}
 use Rattle.wu_solve.proofs.FramePlaces.{ends_here}
 use Rattle.wu_solve.proofs.ExtentsInFrames.{lies_nowhere, lies_in_no_gap, lies_here}

@@ -9,7 +9,8 @@ use Rattle.std.proofs.lemmas.List.Elements.{All-from_recursion, recursion_from_A
 use Rattle.wu_base.specs.declared.addresses.Extent.{Extent}
 use Rattle.wu_base.specs.declared.addresses.Range.{Range}
 use Rattle.wu_solve.specs.Frames.{lies_in_one, EndsAfter}
-use Rattle.wu_solve.specs.Solving.{IsFrame, AreApart}
+use Rattle.wu_solve.specs.Solving.{IsFrame}
+use Rattle.wu_base.specs.Ranges.{AreApart}
 use Rattle.wu_solve.proofs.OneFrame.{frame_all, one_lies, lies_one_by}
 use Rattle.wu_solve.proofs.Sets.{all_from, from_filter}
 use Rattle.wu_solve.proofs.FramePlaces.{apart_at, frame_place, place_frame}

@@ -13,7 +13,8 @@ use Rattle.wu_base.specs.declared.addresses.TermList.{TermList}
 use Rattle.wu_gcl.specs.Regions.{Region}
 use Rattle.wu_solve.specs.FirstExtents.{skipped, from_start}
 use Rattle.wu_solve.specs.Listing.{Has}
-use Rattle.wu_solve.specs.Solving.{frame_hits, frames_hits, AreApart}
+use Rattle.wu_solve.specs.Solving.{frame_hits, frames_hits}
+use Rattle.wu_base.specs.Ranges.{AreApart}
 use Rattle.wu_solve.proofs.Results.{extent_lies, lies_behind}
 
 -- the frame has an extent

@@ -9,7 +9,8 @@ use Rattle.std.proofs.lemmas.List.{get_or-drop, get_or-take, get_or_default, len
 use Rattle.std.proofs.lemmas.List.Elements.{All-from_recursion, recursion_from_All, All-take, All-drop, All-filter}
 use Rattle.wu_base.specs.declared.addresses.Range.{Range}
 use Rattle.wu_solve.specs.Frames.{EndsAfter}
-use Rattle.wu_solve.specs.Solving.{IsFrame, AreApart}
+use Rattle.wu_solve.specs.Solving.{IsFrame}
+use Rattle.wu_base.specs.Ranges.{AreApart}
 use Rattle.wu_solve.proofs.OneFrame.{HasFrame}
 
 pub apart_at : (frames : List Range) → AreApart frames → (i j : ℕ) (d : Range) → i < j → j < length frames

@@ -7,7 +7,7 @@ use Rattle.std.proofs.lemmas.Bool.{false_from_ne_true, and_parts, and_from, or_l
 use Rattle.std.proofs.lemmas.List.Elements.{All-from_recursion}
 use Rattle.wu_base.specs.declared.addresses.Range.{Range}
 use Rattle.wu_solve.specs.Frames.{is_place_of, has_one_of, EndsAfter}
-use Rattle.wu_solve.specs.Solving.{AreApart}
+use Rattle.wu_base.specs.Ranges.{AreApart}
 use Rattle.std.specs.List.Sorted.{IsStrictlyIncreasing}
 use Rattle.wu_solve.proofs.Numbers.{kept_from, increasing_not_below}
 

@@ -11,7 +11,8 @@ use Rattle.wu_gcl.specs.Regions.{Region}
 use Rattle.wu_solve.specs.Frames.{is_place_of, lies_in, lies_in_one}
 use Rattle.wu_solve.specs.Listing.{Has}
 use Rattle.wu_solve.specs.Merging.{AreInnermost}
-use Rattle.wu_solve.specs.Solving.{frame_hits, frames_hits, AreApart}
+use Rattle.wu_solve.specs.Solving.{frame_hits, frames_hits}
+use Rattle.wu_base.specs.Ranges.{AreApart}
 use Rattle.wu_solve.proofs.Sets.{Holds, holds_means, same_ends, has_left, has_right, has_either, from_filter, to_filter}
 use Rattle.wu_solve.proofs.Order.{one_list, filter_ordered, ordered_from}
 use Rattle.wu_solve.proofs.Operators.{no_other, holds_through}

@@ -18,7 +18,8 @@ use Rattle.wu_solve.specs.Frames.{is_place_of, lies_in_one, has_one_of}
 use Rattle.wu_solve.specs.Listing.{Has}
 use Rattle.wu_solve.specs.Needed.{HasNone}
 use Rattle.wu_solve.specs.Operands.{run_around}
-use Rattle.wu_solve.specs.Solving.{moved, frame_hits, frames_hits, AreApart}
+use Rattle.wu_solve.specs.Solving.{moved, frame_hits, frames_hits}
+use Rattle.wu_base.specs.Ranges.{AreApart}
 use Rattle.wu_solve.proofs.OneFrame.{lies_one_by}
 use Rattle.wu_solve.proofs.FramePlaces.{place_frame}
 use Rattle.wu_solve.proofs.FrameCounts.{has_hits}

@@ -14,7 +14,8 @@ use Rattle.wu_solve.specs.Addresses.{is_among, has_address, stands_by, AreAddres
 use Rattle.wu_solve.specs.Frames.{lies_in_one}
 use Rattle.wu_solve.specs.Listing.{Has}
 use Rattle.wu_solve.specs.Operands.{run_around, runs_around}
-use Rattle.wu_solve.specs.Solving.{moved, frame_hits, frames_hits, AreApart}
+use Rattle.wu_solve.specs.Solving.{moved, frame_hits, frames_hits}
+use Rattle.wu_base.specs.Ranges.{AreApart}
 use Rattle.wu_solve.proofs.Sets.{same_ends, all_from, from_filter, to_filter}
 use Rattle.wu_solve.proofs.Order.{one_list, filter_ordered, ordered_from}
 use Rattle.wu_solve.proofs.Phrases.{Among, from_among, to_among, from_kept, to_kept, has_map, map_has, runs_ascending, words_moved}

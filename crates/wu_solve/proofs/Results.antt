@@ -23,7 +23,8 @@ use Rattle.wu_solve.specs.Listing.{IsBefore, IsAscending, Has, IsExtentIn, Lists
 use Rattle.wu_solve.specs.Addresses.{has_address, stands_by}
 use Rattle.wu_solve.specs.Operands.{run_from}
 use Rattle.wu_solve.specs.Merging.{holding, held}
-use Rattle.wu_solve.specs.Solving.{moved, frame_hits, frames_hits, AreApart}
+use Rattle.wu_solve.specs.Solving.{moved, frame_hits, frames_hits}
+use Rattle.wu_base.specs.Ranges.{AreApart}
 use Rattle.wu_solve.proofs.Sets.{all_has, all_from, has_either}
 use Rattle.wu_solve.proofs.Order.{listed, some_found, some_from, extents_in}
 use Rattle.wu_solve.proofs.Operators.{filter_lists}

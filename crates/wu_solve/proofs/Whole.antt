@@ -16,7 +16,8 @@ use Rattle.wu_solve.specs.Addresses.{stands_by}
 use Rattle.wu_solve.specs.Frames.{lies_in_one}
 use Rattle.wu_solve.specs.Listing.{Has, Lists}
 use Rattle.wu_solve.specs.Merging.{is_wanted, holding, held, cover, IsOneOf, IsCover, IsSpan, AreInnermost}
-use Rattle.wu_solve.specs.Solving.{moved, frame_hits, frames_hits, AreApart}
+use Rattle.wu_solve.specs.Solving.{moved, frame_hits, frames_hits}
+use Rattle.wu_base.specs.Ranges.{AreApart}
 use Rattle.wu_solve.proofs.Sets.{Holds, holds_means, found, finds}
 use Rattle.wu_solve.proofs.Order.{listed}
 use Rattle.wu_solve.proofs.Unions.{union, union_inner}

@@ -16,7 +16,8 @@ use Rattle.wu_solve.specs.Frames.{lies_in_one}
 use Rattle.wu_solve.specs.Listing.{Lists}
 use Rattle.wu_solve.specs.Merging.{is_wanted}
 use Rattle.wu_solve.specs.Operands.{run_from}
-use Rattle.wu_solve.specs.Solving.{moved, frame_hits, frames_hits, AreApart}
+use Rattle.wu_solve.specs.Solving.{moved, frame_hits, frames_hits}
+use Rattle.wu_base.specs.Ranges.{AreApart}
 use Rattle.wu_solve.specs.Windows.{lies_in_window, holds_window}
 use Rattle.wu_solve.proofs.Combining.{both_listed}
 use Rattle.wu_solve.proofs.Results.{LiesIn, extent_lies, hits_listed}

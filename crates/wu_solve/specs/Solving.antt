@@ -1,6 +1,6 @@
 -- The extents of an expression over frames of the address space.
-use Rattle.std.specs.Prelude.{ℕ, ◌+◌, ◌^◌, ◌≤◌, List, [], ◌∷◌, map}
-use Rattle.std.specs.List.{flat_map, AllByRecursion}
+use Rattle.std.specs.Prelude.{ℕ, ◌+◌, ◌^◌, ◌≤◌, List, map}
+use Rattle.std.specs.List.{flat_map}
 use Rattle.wu_base.specs.declared.addresses.Extent.{Extent}
 use Rattle.wu_base.specs.declared.addresses.Range.{Range}
 use Rattle.wu_base.specs.declared.addresses.TermList.{TermList}
@@ -25,7 +25,3 @@ frames_hits region lists frames = flat_map (frame_hits region lists) frames
 abbrev pub IsFrame : Range → Type 0
 IsFrame frame = frame.start + frame.len ≤ 2 ^ 47
 
--- each frame ends before the next one starts
-abbrev pub AreApart : List Range → Type 0
-AreApart [] = Unit {0}
-AreApart (frame ∷ frames) = AllByRecursion (λ next. frame.start + frame.len ≤ next.start) frames × AreApart frames

@@ -8,7 +8,8 @@ ghost use Rattle.wu_gcl.specs.Terms.{terms_in};
 ghost use Rattle.wu_solve.specs.Addresses.{AreLists};
 ghost use Rattle.wu_solve.specs.Frames.{lies_in_one, has_one_of};
 ghost use Rattle.wu_solve.specs.Operands.{run_around};
-ghost use Rattle.wu_solve.specs.Solving.{frame_hits, frames_hits, IsFrame, AreApart};
+ghost use Rattle.wu_solve.specs.Solving.{frame_hits, frames_hits, IsFrame};
+ghost use Rattle.wu_base.specs.Ranges.{AreApart};
 
 use crate::first_extents::starting_from;
 use crate::framing::{are_apart, end_of, frame_at};

@@ -2,7 +2,8 @@
 ghost use Rattle.std.specs.Prelude.{◌≡◌, ℕ, ◌+◌, ◌<◌, ◌≤◌, All, length, filter, slice_index_or, IsTrue, IfOk, ◌↔◌};
 ghost use Rattle.wu_base.specs.declared.addresses.Range.{Range};
 ghost use Rattle.wu_solve.specs.Frames.{is_place_of, lies_in_one, EndsAfter};
-ghost use Rattle.wu_solve.specs.Solving.{IsFrame, AreApart};
+ghost use Rattle.wu_solve.specs.Solving.{IsFrame};
+ghost use Rattle.wu_base.specs.Ranges.{AreApart};
 
 use std::alloc::Global;
 use wu_base::{Extent, NoMemory, Range};

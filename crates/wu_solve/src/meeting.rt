@@ -4,7 +4,8 @@ ghost use Rattle.std.specs.List.Sorted.{IsStrictlyIncreasing};
 ghost use Rattle.wu_gcl.specs.Regions.{region_of};
 ghost use Rattle.wu_solve.specs.Addresses.{AreLists, AreAddressesOf};
 ghost use Rattle.wu_solve.specs.Frames.{has_one_of};
-ghost use Rattle.wu_solve.specs.Solving.{frame_hits, frames_hits, IsFrame, AreApart};
+ghost use Rattle.wu_solve.specs.Solving.{frame_hits, frames_hits, IsFrame};
+ghost use Rattle.wu_base.specs.Ranges.{AreApart};
 
 use crate::framing::{end_of, frame_at};
 use crate::lookup::{addresses_from, addresses_of, rarest};

@@ -9,7 +9,8 @@ ghost use Rattle.wu_base.specs.declared.addresses.TermList.{TermList};
 ghost use Rattle.wu_solve.specs.Frames.{lies_in_one};
 ghost use Rattle.wu_solve.specs.Operands.{run_from, run_around, runs_around};
 ghost use Rattle.wu_solve.specs.Prefixes.{PrefixStands};
-ghost use Rattle.wu_solve.specs.Solving.{moved, frame_hits, frames_hits, IsFrame, AreApart};
+ghost use Rattle.wu_solve.specs.Solving.{moved, frame_hits, frames_hits, IsFrame};
+ghost use Rattle.wu_base.specs.Ranges.{AreApart};
 
 use crate::framing::{end_of, frame_at};
 use crate::lookup::{

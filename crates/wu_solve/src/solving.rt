@@ -5,7 +5,8 @@ ghost use Rattle.wu_gcl.specs.declared.expressions.Op.TheVariants.{FollowedBy};
 ghost use Rattle.wu_gcl.specs.Regions.{Region, region_of, Mark, Window, Both};
 ghost use Rattle.wu_solve.specs.Addresses.{AreLists};
 ghost use Rattle.wu_solve.specs.Listing.{IsAscending};
-ghost use Rattle.wu_solve.specs.Solving.{frames_hits, IsFrame, AreApart};
+ghost use Rattle.wu_solve.specs.Solving.{frames_hits, IsFrame};
+ghost use Rattle.wu_base.specs.Ranges.{AreApart};
 
 use crate::containment::{held, holding};
 use crate::framing::{are_apart, lying_in};

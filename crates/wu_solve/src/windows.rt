@@ -2,7 +2,8 @@
 ghost use Rattle.std.specs.Prelude.{◌≡◌, ◌-◌, ◌≤◌, ◌&&◌, true, All, nat_le, nat_lt, IfOk, IsTrue, filter};
 ghost use Rattle.wu_solve.specs.Frames.{lies_in_one};
 ghost use Rattle.wu_solve.specs.Merging.{is_wanted};
-ghost use Rattle.wu_solve.specs.Solving.{IsFrame, AreApart};
+ghost use Rattle.wu_solve.specs.Solving.{IsFrame};
+ghost use Rattle.wu_base.specs.Ranges.{AreApart};
 ghost use Rattle.wu_solve.specs.Windows.{lies_in_window, holds_window};
 
 use crate::containment::is_kept;

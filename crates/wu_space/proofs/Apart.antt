@@ -5,7 +5,8 @@ use Rattle.std.proofs.lemmas.Bool.{cases_lt, le-leb, lt-ltb}
 use Rattle.std.proofs.lemmas.List.Sums.{sum_by-cons}
 use Rattle.wu_base.specs.declared.addresses.Range.{Range}
 use Rattle.wu_base.proofs.Members.{Has, all_has}
-use Rattle.wu_space.specs.Addresses.{Ranges, AreLive, is_in, range_of}
+use Rattle.wu_space.specs.Addresses.{Ranges, AreLive, range_of}
+use Rattle.wu_base.specs.Ranges.{is_in}
 use Rattle.wu_space.proofs.Files.{sum-positive}
 use Rattle.wu_space.proofs.Live.{has_from_lookup}
 

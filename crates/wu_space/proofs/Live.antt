@@ -17,7 +17,8 @@ use Rattle.wu_base.specs.declared.addresses.Range.{Range}
 use Rattle.wu_base.proofs.MapEntries.{ascend-insert_entry, ascend-remove_entry}
 use Rattle.wu_base.proofs.Members.{Has, Has-from_Contains, all_from_has}
 use Rattle.wu_space.specs.declared.slots.Slot.{Slot}
-use Rattle.wu_space.specs.Addresses.{Ranges, AreLive, IsSpace, is_in, owner_at, live_in, live_ranges, shared}
+use Rattle.wu_space.specs.Addresses.{Ranges, AreLive, IsSpace, owner_at, live_in, live_ranges, shared}
+use Rattle.wu_base.specs.Ranges.{is_in}
 use Rattle.wu_space.specs.Slots.{AreInOrder, Parts, SameFiles, IsSound, Releases, below, count_below, file_of, is_live, length_of, meets, range_of_slot, tidied, weight}
 use Rattle.wu_space.proofs.Files.{mark, mark-itself, marked_file, sum_by-same, sum_by-one, sum_by-map, sum_by-filter, sum-insert_entry, sum-remove_entry, sum-positive, positive-has, find-none, find-is, IsPermutation-from_sums, same_range, alike_range, exact_range}
 use Rattle.wu_space.proofs.Order.{below-none, below-sum, holder-is, holder-none, order-push, slot-ends}

@@ -1,5 +1,6 @@
 -- Ranges that were written down: which keep the rules, and the slots and entries made of them.
-use Rattle.std.proofs.Common.{◌≡◌, ℕ, suc, ◌+◌, ◌<◌, ◌≤◌, cond, List, [], ◌∷◌, length, get_or, drop, refl, ap, sym, ◌∙◌, subst, ⊎_elim, Bool, true, false, arith}
+use Rattle.std.proofs.Common.{◌≡◌, ℕ, suc, ◌+◌, ◌<◌, ◌≤◌, cond, List, [], ◌∷◌, length, get_or, drop, refl, ap, sym, ◌∙◌, subst, ⊎_elim}
+use Rattle.std.proofs.Common.{Bool, true, false, arith}
 use Rattle.std.specs.Prelude.{◌==◌, Option, Some, None, sum_by, count_by, map, IsPermutation}
 use Rattle.std.specs.Ordering.{eq_by_cmp, is_eq, nat_cmp}
 use Rattle.std.specs.Cmp.{nat_cmp_total, eq_by_cmp_equiv}
@@ -19,11 +20,13 @@ use Rattle.wu_base.specs.declared.addresses.Range.{Range}
 use Rattle.wu_base.proofs.MapEntries.{ascend-remove_entry, is_equal, number_itself}
 use Rattle.wu_base.proofs.Members.{Has, Has-map, map_has, Has-from_Contains, Contains-from_Has, all_has, all_from_has}
 use Rattle.wu_space.specs.declared.slots.Slot.{Slot}
-use Rattle.wu_space.specs.Addresses.{Ranges, AreLive, is_in}
+use Rattle.wu_space.specs.Addresses.{Ranges, AreLive}
+use Rattle.wu_base.specs.Ranges.{is_in}
 use Rattle.wu_space.specs.Slots.{AreInOrder, IsSound, file_of, length_of, range_of_slot, weight}
-use Rattle.wu_space.specs.Rebuilding.{HasOnce, IsFiles, IsOrderedTo, slot_of}
+use Rattle.wu_space.specs.Rebuilding.{HasEachOnce, IsFiles, IsOrderedTo, slot_of}
 use Rattle.wu_space.proofs.Collected.{distinct_from_len, found-distinct, len-distinct}
-use Rattle.wu_space.proofs.Files.{sum_by-map, sum_by-one, sum-remove_entry, has-from_sums, IsPermutation-from_sums, same_file, alike_file, exact_file}
+use Rattle.wu_space.proofs.Files.{sum_by-map, sum_by-one, sum-remove_entry, has-from_sums, IsPermutation-from_sums, same_file, alike_file}
+use Rattle.wu_space.proofs.Files.{exact_file}
 use Rattle.wu_space.proofs.Order.{total-le}
 use Rattle.wu_space.proofs.Live.{once-from_sorted}
 
@@ -85,7 +88,7 @@ numbers_apart ino (file ∷ ranges) h =
       numbers_apart ino ranges (omega (arith, h, count)),
     )
 
-distinct-from_once : (ranges : Ranges) → HasOnce ranges → IsDistinct (eq_by_cmp nat_cmp) (keys_of ranges)
+distinct-from_once : (ranges : Ranges) → HasEachOnce ranges → IsDistinct (eq_by_cmp nat_cmp) (keys_of ranges)
 unfolding IsDistinct
 distinct-from_once [] once = tt
 distinct-from_once (file ∷ ranges) once =
@@ -116,7 +119,7 @@ sums-same f (file ∷ ranges) files d s h =
     omega (arith, sum-remove_entry f ino files file.1 here, rest, sum_by-cons f file ranges)
 
 module _ (ranges : Ranges) (by_number : BTreeMap ℕ Range) (collected : IsFromIterResult nat_cmp ranges by_number) where
-  pub len-once : HasOnce ranges → btree_map_len by_number ≡ length ranges
+  pub len-once : HasEachOnce ranges → btree_map_len by_number ≡ length ranges
   len-once once = len-distinct ranges by_number collected (distinct-from_once ranges once)
 
   pub files-collected : length ranges ≤ btree_map_len by_number → IsFiles ranges by_number.entries
@@ -127,7 +130,7 @@ module _ (ranges : Ranges) (by_number : BTreeMap ℕ Range) (collected : IsFromI
         sums-same f ranges by_number.entries distinct collected.1 (found-distinct ranges by_number collected distinct);
   }
 
-pub once-from_files : (ranges files : Ranges) → IsFiles ranges files → HasOnce ranges
+pub once-from_files : (ranges files : Ranges) → IsFiles ranges files → HasEachOnce ranges
 once-from_files ranges files s ino = omega (arith, s.same (λ file. cond (file.0 == ino) 1 0), once-from_sorted files s.by_number ino)
 
 -- ---- by address

@@ -4,7 +4,8 @@ use Rattle.std.specs.Prelude.{◌⊎◌, map, filter}
 use Rattle.std.specs.List.{AllByRecursion}
 use Rattle.std.proofs.lemmas.Bool.{le-ltb}
 use Rattle.wu_space.specs.declared.slots.Slot.{Slot}
-use Rattle.wu_space.specs.Addresses.{shared, AreApart}
+use Rattle.wu_space.specs.Addresses.{shared}
+use Rattle.wu_base.specs.Ranges.{AreApart}
 use Rattle.wu_space.specs.Slots.{AreInOrder, Parts, meets, range_of_slot}
 
 module _ (low high : ℕ) where

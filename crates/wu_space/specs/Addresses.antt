@@ -1,13 +1,14 @@
 -- The space of addresses, as its callers see it. Each token of each text that was ever indexed has an address; a file's tokens
 -- have a range of them, which is live until the file is given up or has a new text.
-use Rattle.std.specs.Prelude.{ℕ, ◌+◌, ◌-◌, ◌^◌, ◌<◌, ◌≤◌, ◌==◌, min, max, Bool, ◌&&◌, nat_lt, nat_le, Option}
-use Rattle.std.specs.Prelude.{List, [], ◌∷◌, map, filter, find, sum_by, count_by, option_map}
+use Rattle.std.specs.Prelude.{ℕ, ◌+◌, ◌-◌, ◌^◌, ◌<◌, ◌≤◌, ◌==◌, min, max, nat_lt, Option}
+use Rattle.std.specs.Prelude.{List, map, filter, find, sum_by, count_by, option_map}
 use Rattle.std.specs.Ordering.{nat_cmp}
 use Rattle.std.specs.List.{AllByRecursion}
 use Rattle.std.specs.List.Sorted.{IsStrictlySortedBy}
 use Rattle.std.specs.Map.{keys_of, lookup, remove_entry}
 use Rattle.std.specs.BTreeMap.{is_at, insert_entry}
 use Rattle.wu_base.specs.declared.addresses.Range.{Range}
+use Rattle.wu_base.specs.Ranges.{is_in}
 
 -- numbers of files, each with its live range
 abbrev pub Ranges : Type 0
@@ -22,9 +23,6 @@ pub record Addresses : Type 0 where
 
 abbrev pub range_of : Ranges → ℕ → Option Range
 range_of ranges ino = lookup (is_at (nat_cmp ino)) ranges
-
-abbrev pub is_in : Range → ℕ → Bool
-is_in range address = nat_le range.start address && nat_lt address (range.start + range.len)
 
 -- the file whose range has the address, and which address of that range it is, counted from 0
 abbrev pub owner_at : Ranges → ℕ → Option (ℕ × ℕ)
@@ -43,11 +41,6 @@ live_in ranges low high = sum_by (λ file. shared low high file.1) ranges
 -- the ranges that have an address from low to high
 abbrev pub live_ranges : Ranges → ℕ → ℕ → List Range
 live_ranges ranges low high = filter (λ range. nat_lt 0 (shared low high range)) (map (λ file. file.1) ranges)
-
--- each range ends before the next one starts
-abbrev pub AreApart : List Range → Type 0
-AreApart [] = Unit {0}
-AreApart (range ∷ ranges) = AllByRecursion (λ later. range.start + range.len ≤ later.start) ranges × AreApart ranges
 
 -- ---- what changes it
 

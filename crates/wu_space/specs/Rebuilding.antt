@@ -10,8 +10,8 @@ use Rattle.wu_space.specs.Addresses.{Ranges}
 use Rattle.wu_space.specs.Slots.{AreInOrder}
 
 -- no file has two ranges
-abbrev pub HasOnce : Ranges → Type 0
-HasOnce ranges = (ino : ℕ) → count_by (λ file. file.0 == ino) ranges ≤ 1
+abbrev pub HasEachOnce : Ranges → Type 0
+HasEachOnce ranges = (ino : ℕ) → count_by (λ file. file.0 == ino) ranges ≤ 1
 
 abbrev pub slot_of : ℕ × Range → Slot
 slot_of file = record { start = file.1.start; len = file.1.len; ino = file.0 }

@@ -4,7 +4,7 @@ ghost use Rattle.std.specs.Ordering.{nat_cmp};
 ghost use Rattle.std.specs.List.{AllByRecursion};
 ghost use Rattle.std.specs.List.Sorted.{IsNonDecreasingBy};
 ghost use Rattle.wu_space.specs.Addresses.{AreLive};
-ghost use Rattle.wu_space.specs.Rebuilding.{HasOnce, IsFiles, slot_of};
+ghost use Rattle.wu_space.specs.Rebuilding.{HasEachOnce, IsFiles, slot_of};
 ghost use Rattle.wu_space.specs.Slots.{AreInOrder, length_of};
 
 use crate::slots::{Slot, Slots, length};
@@ -47,8 +47,8 @@ fn by_number(
     alloc: Global,
     ranges: &[(Ino, Range)],
 ) -> Result<Option<BTreeMap<Ino, Range>>, NoMemory>
-    ensures none { IfOk result (λ found. IfNone found (HasOnce ranges.now → ⊥)) }
-    ensures some { IfOk result (λ found. OnSome found (HasOnce ranges.now)) }
+    ensures none { IfOk result (λ found. IfNone found (HasEachOnce ranges.now → ⊥)) }
+    ensures some { IfOk result (λ found. OnSome found (HasEachOnce ranges.now)) }
     ensures entries { IfOk result (λ found. IfSome found (λ map. IsFiles ranges.now map.entries)) }
 {
     let by_number: BTreeMap<Ino, Range> = ranges.iter().copied().collect(alloc)?;

@@ -34,7 +34,8 @@ impl Model for Space {
 }
 
 impl Space {
-    ghost use Rattle.wu_space.specs.Addresses.{Addresses, AreApart, AreLive, IsSpace, live_in as count_of_live, live_ranges as ranges_from_to, live_total as count_of_all, owner_at as owner_of, placed, range_of as range_with, released};
+    ghost use Rattle.wu_space.specs.Addresses.{Addresses, AreLive, IsSpace, live_in as count_of_live, live_ranges as ranges_from_to, live_total as count_of_all, owner_at as owner_of, placed, range_of as range_with, released};
+    ghost use Rattle.wu_base.specs.Ranges.{AreApart};
 
     /// A space of which the addresses below `next` were given and none is live. Takes no memory; the
     /// space keeps the allocator for its changes.

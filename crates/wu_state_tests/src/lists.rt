@@ -1,7 +1,7 @@
 //! The rows of a table: parts that are put into a store, and terms that are fetched.
 ghost use Rattle.std.specs.Prelude.{◌+◌, ◌≤◌, All};
 ghost use Rattle.wu_base.specs.declared.limits.TheConstants.{ADDRESSES_MAX};
-ghost use Rattle.wu_space.specs.Addresses.{AreApart};
+ghost use Rattle.wu_base.specs.Ranges.{AreApart};
 
 mod fixtures;
 

@@ -16,10 +16,13 @@ use Rattle.wu_tree.specs.declared.events.Node.{Node}
 use Rattle.wu_tree.specs.declared.events.LinkRec.{LinkRec}
 use Rattle.wu_tree.specs.declared.inodes.Inode.{Inode}
 use Rattle.wu_tree.specs.declared.tallies.Hung.{Hung}
-use Rattle.wu_tree.specs.declared.tallies.HungNode.{HungNode}
+use Rattle.wu_tree.specs.declared.tallies.LinkedNode.{LinkedNode}
 use Rattle.wu_tree.specs.FileSystems.{FileSystem, Link, place_cmp, node_of, is_directory, is_there, is_name, is_kind_file}
-use Rattle.wu_tree.specs.Inodes.{nodes_in, users_in, kind_of, file_system, IsHeld, IsSound, height_in, height_at, higher_of, AreHeights, without_heights}
-use Rattle.wu_tree.specs.Lists.{WasWalked, acls_test, ascends, below, child_test, children_test, first_height, hold_of, hung_node, hung_of, inode_of, link_of, linked_test, listed, low_test, number_test, order_test, place_test, reached_test, stand_test, user_of}
+use Rattle.wu_tree.specs.Inodes.{nodes_in, users_in, kind_of, file_system, IsHeld, IsSound, height_in, height_at, higher_of, AreHeights}
+use Rattle.wu_tree.specs.Inodes.{without_heights}
+use Rattle.wu_tree.specs.Lists.{WasWalked, acls_test, ascends, below, child_test, children_test, first_height, hold_of, hung_node, hung_of}
+use Rattle.wu_tree.specs.Lists.{inode_of, link_of, linked_test, listed, low_test, number_test, order_test, place_test, reached_test}
+use Rattle.wu_tree.specs.Lists.{stand_test, user_of}
 use Rattle.wu_tree.specs.Rules.{IsLink, IsNumbered, IsTree}
 use Rattle.wu_base.proofs.MapEntries.{All-map, All-map2, all_found}
 use Rattle.wu_base.proofs.Members.{Has, Has-from_Contains, Contains-from_Has, any_has, has_any}
@@ -195,7 +198,7 @@ module _ (links : List LinkRec) where
 
   -- of the nodes with how they hang
   pub entries_hung : (nodes : List (ℕ × Node))
-      → map (λ (n : HungNode). (n.ino, inode_of n.hung n.node)) (map (hung_node (map link_of links)) nodes) ≡ map entry nodes
+      → map (λ (n : LinkedNode). (n.ino, inode_of n.hung n.node)) (map (hung_node (map link_of links)) nodes) ≡ map entry nodes
   entries_hung [] = refl
   entries_hung (n ∷ nodes) = ap (λ (l : List (ℕ × Inode)). entry n ∷ l) (entries_hung nodes)
 

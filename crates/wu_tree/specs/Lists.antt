@@ -1,5 +1,6 @@
 -- A file system told as lists, and what is counted and walked to see whether it is a tree.
-use Rattle.std.specs.Prelude.{◌≡◌, ◌⊎◌, ◌<◌, ◌++◌, length, ℕ, zero, suc, ◌+◌, Bool, true, false, ◌&&◌, ◌||◌, not, cond, ◌==◌, nat_le, nat_lt, Option, None, Some, List, [], ◌∷◌, map}
+use Rattle.std.specs.Prelude.{◌≡◌, ◌⊎◌, ◌<◌, ◌++◌, length, ℕ, zero, suc, ◌+◌, Bool, true, false, ◌&&◌, ◌||◌, not, cond, ◌==◌, nat_le}
+use Rattle.std.specs.Prelude.{nat_lt, Option, None, Some, List, [], ◌∷◌, map}
 use Rattle.std.specs.declared.cmp.Ordering.{Ordering}
 use Rattle.std.specs.declared.cmp.Ordering.TheVariants.{Less, Equal, Greater}
 use Rattle.std.specs.Ordering.{nat_cmp}
@@ -18,7 +19,7 @@ use Rattle.wu_tree.specs.declared.inodes.Inode.{Inode}
 use Rattle.wu_tree.specs.declared.inodes.Hold.{Hold}
 use Rattle.wu_tree.specs.declared.inodes.Hold.TheVariants.{Entries, Links}
 use Rattle.wu_tree.specs.declared.tallies.Hung.{Hung}
-use Rattle.wu_tree.specs.declared.tallies.HungNode.{HungNode}
+use Rattle.wu_tree.specs.declared.tallies.LinkedNode.{LinkedNode}
 use Rattle.wu_tree.specs.FileSystems.{FileSystem, Link, place_cmp, is_directory, is_there, is_name, link_count, parent_of}
 use Rattle.wu_tree.specs.Paths.{children_of, reaches}
 use Rattle.wu_tree.specs.Inodes.{height_at}
@@ -104,15 +105,15 @@ one_more None parent = record { parent = parent; count = 1 }
 one_more (Some hung) parent = record { parent = hung.parent; count = hung.count + 1 }
 
 -- a node with how it hangs by the links
-abbrev pub hung_node : List Link → ℕ × Node → HungNode
+abbrev pub hung_node : List Link → ℕ × Node → LinkedNode
 hung_node links node = record { ino = node.0; node = node.1; hung = hung_of links node.0 }
 
 -- the same with one more link, of that child in that parent
-abbrev pub with_link : ℕ → ℕ → HungNode → HungNode
+abbrev pub with_link : ℕ → ℕ → LinkedNode → LinkedNode
 with_link parent child n = record n { hung = cond (child == n.ino) (Some (one_more n.hung parent)) n.hung }
 
 -- whether one of the nodes has that number
-abbrev pub has_number : List HungNode → ℕ → Bool
+abbrev pub has_number : List LinkedNode → ℕ → Bool
 has_number nodes ino = list_any (is_at (nat_cmp ino)) (map (λ n. n.ino) nodes)
 
 -- how a node that hangs so is held. The root counts as its own parent.
@@ -139,7 +140,7 @@ abbrev pub children_test : List (ℕ × Node) → List LinkRec → Bool
 children_test nodes links = list_all (λ link. child_test (listed nodes [] [] []) link.child) links
 
 -- each node with how it hangs by the links, none of which names the root or no node
-pub record AreHung (nodes : List (ℕ × Node)) (links : List LinkRec) (hung : List HungNode) : Type 0 where
+pub record AreHung (nodes : List (ℕ × Node)) (links : List LinkRec) (hung : List LinkedNode) : Type 0 where
   pub children : children_test nodes links ≡ true
   pub nodes_hung : hung ≡ map (hung_node (map link_of links)) nodes
 

@@ -6,7 +6,8 @@ ghost use Rattle.std.specs.List.Sorted.{IsStrictlySortedBy};
 ghost use Rattle.std.specs.Map.{keys_of};
 ghost use Rattle.wu_tree.specs.FileSystems.{is_directory, place_cmp};
 ghost use Rattle.wu_tree.specs.Inodes.{file_system};
-ghost use Rattle.wu_tree.specs.Lists.{ascends, first_height, hold_of, inode_of, is_less, link_of, linked_test, listed, low_test, number_test, order_test, place_test, stand_test, user_of};
+ghost use Rattle.wu_tree.specs.Lists.{ascends, first_height, hold_of, inode_of, is_less, link_of, linked_test, listed, low_test};
+ghost use Rattle.wu_tree.specs.Lists.{number_test, order_test, place_test, stand_test, user_of};
 ghost use Rattle.wu_tree.specs.Rules.{IsTree};
 
 use crate::acls::{acls_of, are_acls};
@@ -15,7 +16,7 @@ use crate::heights::{height_of, lower};
 use crate::inodes::{Hold, Inode};
 use crate::links::Links;
 use crate::names::is_name;
-use crate::tallies::{Hung, HungNode, tally};
+use crate::tallies::{Hung, LinkedNode, tally};
 use crate::trees::Tree;
 use std::alloc::Global;
 use std::collections::BTreeMap;
@@ -141,7 +142,7 @@ fn are_numbered(nodes: &[(Ino, Node)]) -> bool
 }
 
 /// The nodes by number, each with what ties it to the links.
-fn inodes_of(alloc: Global, nodes: &[HungNode]) -> Result<BTreeMap<Ino, Inode>, NoMemory>
+fn inodes_of(alloc: Global, nodes: &[LinkedNode]) -> Result<BTreeMap<Ino, Inode>, NoMemory>
     requires { IsStrictlySortedBy nat_cmp (map (λ n. n.ino) nodes.now) }
     ensures { IfOk result (λ inodes. inodes.entries ≡ map (λ n. (n.ino, inode_of n.hung n.node)) nodes.now) }
 {
@@ -248,7 +249,7 @@ fn copy(alloc: Global, user: &UserRec) -> Result<UserRec, NoMemory>
 }
 
 /// Whether each node has as many links as its kind has to.
-fn are_linked(nodes: &[HungNode]) -> bool
+fn are_linked(nodes: &[LinkedNode]) -> bool
     ensures { result ≡ list_all (λ n. linked_test n.ino n.node.kind n.hung) nodes.now }
 {
     nodes

@@ -21,7 +21,7 @@ pub(crate) struct Hung {
 
 /// A node, and how it hangs by some links.
 #[derive(Clone, Copy)]
-pub(crate) struct HungNode {
+pub(crate) struct LinkedNode {
     pub(crate) ino: Ino,
     pub(crate) node: Node,
     /// None where no link names it.
@@ -34,13 +34,13 @@ pub(crate) fn tally(
     alloc: Global,
     nodes: &[(Ino, Node)],
     links: &[LinkRec],
-) -> Result<Option<Vec<HungNode>>, NoMemory>
+) -> Result<Option<Vec<LinkedNode>>, NoMemory>
     requires { IsStrictlySortedBy nat_cmp (keys_of nodes.now) }
     ensures { IfOk result (λ it. MatchOption it (children_test nodes.now links.now ≡ false) (λ it. AreHung nodes.now links.now it.items)) }
 {
     let mut hung = without_links(alloc, nodes)?;
     for link in links {
-        if !hang(hung.as_mut_slice(), link.parent, link.child)? {
+        if !attach_link(hung.as_mut_slice(), link.parent, link.child)? {
             return Ok(None);
         }
     }
@@ -48,12 +48,12 @@ pub(crate) fn tally(
 }
 
 /// The nodes where there are no links.
-fn without_links(alloc: Global, nodes: &[(Ino, Node)]) -> Result<Vec<HungNode>, NoMemory>
+fn without_links(alloc: Global, nodes: &[(Ino, Node)]) -> Result<Vec<LinkedNode>, NoMemory>
     ensures { IfOk result (λ hung. hung.items ≡ map (hung_node []) nodes.now) }
 {
     let hung = nodes
         .iter()
-        .map(|(ino, node)| HungNode {
+        .map(|(ino, node)| LinkedNode {
             ino: *ino,
             node: *node,
             hung: None,
@@ -63,7 +63,7 @@ fn without_links(alloc: Global, nodes: &[(Ino, Node)]) -> Result<Vec<HungNode>, 
 }
 
 /// Hangs a child by one more link, in that parent. Tells whether it is one of the nodes and isn't the root.
-fn hang(nodes: &mut [HungNode], parent: Ino, child: Ino) -> Result<bool, NoMemory>
+fn attach_link(nodes: &mut [LinkedNode], parent: Ino, child: Ino) -> Result<bool, NoMemory>
     requires { IsStrictlySortedBy nat_cmp (map (λ n. n.ino) nodes.old) }
     ensures told { IfOk result (λ told. told ≡ (has_number nodes.old child && not (child == 1))) }
     ensures hung { IfOk result (λ told. told ≡ true → nodes.new ≡ map (with_link parent child) nodes.old) }
@@ -78,7 +78,7 @@ fn hang(nodes: &mut [HungNode], parent: Ino, child: Ino) -> Result<bool, NoMemor
 }
 
 /// The place of the node of that number.
-fn place_of(nodes: &[HungNode], ino: Ino) -> Option<usize>
+fn place_of(nodes: &[LinkedNode], ino: Ino) -> Option<usize>
     requires { IsStrictlySortedBy nat_cmp (map (λ n. n.ino) nodes.now) }
     ensures { MatchOption result (has_number nodes.now ino ≡ false) (λ k. (k < length nodes.now) × HoldsAt (λ n. n.ino ≡ ino) nodes.now k) }
 {

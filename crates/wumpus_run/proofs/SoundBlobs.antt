@@ -16,7 +16,7 @@ use Rattle.wu_layout.specs.Invariants.{IsIndexed, SomeOf}
 use Rattle.wu_layout.proofs.EntryLemmas.{IfSome-found, IfSome-map}
 use Rattle.wu_image.specs.Texts.{IsBrokenText}
 use Rattle.wu_part.specs.Directories.{PartDirectory}
-use Rattle.wu_lists.specs.Causes.{IsNoPart}
+use Rattle.wu_part.specs.Parts.{IsNoPart}
 use Rattle.wu_parts.specs.Causes.{IsBrokenPart}
 use Rattle.wu_parts.specs.Holdings.{HoldsPart, HoldParts}
 use Rattle.wu_query.specs.Causes.{IsDamagedAt, IsDamagedIn}

@@ -1,7 +1,7 @@
 //! Live ranges of which a row gives the starts and lengths.
 ghost use Rattle.std.specs.Prelude.{◌≡◌, ◌+◌, ◌≤◌, All, IfOk, IsTrue};
 ghost use Rattle.wu_base.specs.declared.limits.TheConstants.{ADDRESSES_MAX};
-ghost use Rattle.wu_space.specs.Addresses.{AreApart};
+ghost use Rattle.wu_base.specs.Ranges.{AreApart};
 
 use std::alloc::Global;
 use wu_base::{ADDRESSES_MAX, Ino, Range};

@@ -1,6 +1,6 @@
 //! A Parts over a store in memory, with the space of its files.
 ghost use Rattle.std.specs.Prelude.{◌≡◌, ◌+◌, ◌≤◌, All, IfOk, OnOk};
-ghost use Rattle.wu_space.specs.Addresses.{AreApart};
+ghost use Rattle.wu_base.specs.Ranges.{AreApart};
 
 use crate::parts::fixtures::are_bounded;
 use std::alloc::{AllocError, Global};

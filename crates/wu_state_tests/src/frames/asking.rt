@@ -1,5 +1,5 @@
 //! Questions for the frames of users.
-ghost use Rattle.wu_frames.specs.UserFrames.{AreFor};
+ghost use Rattle.wu_frames.specs.UserFrames.{CacheMatchesTree};
 
 use std::alloc::Global;
 use wu_base::Uid;
@@ -26,7 +26,7 @@ fn told_by(
     space: &Space,
     fields: &[&str],
 ) -> Result<String, NoAnswer>
-    requires { AreFor tree.now space.now.ranges cache.old }
+    requires { CacheMatchesTree tree.now space.now.ranges cache.old }
 {
     match fields {
         ["frames", uid] => frames(alloc, cache, tree, space, small_number(uid)?),
@@ -45,7 +45,7 @@ fn frames(
     space: &Space,
     uid: Uid,
 ) -> Result<String, NoAnswer>
-    requires { AreFor tree.now space.now.ranges cache.old }
+    requires { CacheMatchesTree tree.now space.now.ranges cache.old }
 {
     cache.prepare(tree, space, uid)?;
     written(alloc, cache.frames_of(tree, space, uid)?)
@@ -125,7 +125,7 @@ fn in_turn(
     users: &str,
     times: &str,
 ) -> Result<String, NoAnswer>
-    requires { AreFor tree.now space.now.ranges cache.old }
+    requires { CacheMatchesTree tree.now space.now.ranges cache.old }
 {
     let users = small_number(users)?.max(1);
     let times = small_number(times)?;
@@ -141,7 +141,7 @@ fn agreed(
     users: Uid,
     times: u32,
 ) -> Result<u32, NoAnswer>
-    requires { AreFor tree.now space.now.ranges cache.old }
+    requires { CacheMatchesTree tree.now space.now.ranges cache.old }
 {
     let mut agreed: u32 = 0;
     for time in 0..times {
@@ -176,7 +176,7 @@ fn is_same(
     uid: Uid,
     frames: &Frames,
 ) -> Result<bool, NoAnswer>
-    requires { AreFor tree.now space.now.ranges cache.old }
+    requires { CacheMatchesTree tree.now space.now.ranges cache.old }
 {
     let anew = cache.frames_of(tree, space, uid)?;
     Ok(

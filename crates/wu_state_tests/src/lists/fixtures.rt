@@ -1,7 +1,7 @@
 //! Directories and frames as rows write them.
 ghost use Rattle.std.specs.Prelude.{◌+◌, ◌≤◌, ◌↔◌, All, IsTrue, IfOk};
 ghost use Rattle.wu_base.specs.declared.limits.TheConstants.{ADDRESSES_MAX};
-ghost use Rattle.wu_space.specs.Addresses.{AreApart};
+ghost use Rattle.wu_base.specs.Ranges.{AreApart};
 
 use std::alloc::Global;
 use wu_base::{ADDRESSES_MAX, Range};

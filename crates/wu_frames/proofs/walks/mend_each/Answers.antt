@@ -1,5 +1,5 @@
 use Rattle.std.proofs.Common.{refl, ◌∙◌, arith}
-use Rattle.wu_frames.specs.Mending.{IsBrought}
+use Rattle.wu_frames.specs.Mending.{IsCacheAfterMove}
 use Rattle.wu_frames.proofs.Turns.{next-turn, turned-all, turned-none}
 use Rattle.wu_frames.proofs.Bringing.{brought-both, brought-none}
 use Rattle.wu_frames.proofs.SeldomMended.{seldom-moved}
@@ -8,7 +8,7 @@ use Rattle.wu_frames.proofs.walks.mend_each.Goals as goal
 pub loop-init : goal.loop-init
 loop-init c = record {
   turned =
-      turned-none (IsBrought c.args.ino c.args.old c.args.new) c.args.kept.now.entries
+      turned-none (IsCacheAfterMove c.args.ino c.args.old c.args.new) c.args.kept.now.entries
       (brought-none c.args.ino c.args.old c.args.new);
   cap = refl;
 }
@@ -16,7 +16,7 @@ loop-init c = record {
 pub loop-preserved : goal.loop-preserved
 loop-preserved c =
     let turn =
-    next-turn (IsBrought c.args.ino c.args.old c.args.new) c.args.kept.now.entries c.loop.kept.entries c.loop.counter
+    next-turn (IsCacheAfterMove c.args.ino c.args.old c.args.new) c.args.kept.now.entries c.loop.kept.entries c.loop.counter
     c.loop.invariant.turned (omega (arith, c.loop-test.true, c.len-end.ensures.len)) in
     let became = c.mend_last.ensures.entries turn.rest turn.entry turn.now_is in
     record {
@@ -28,12 +28,12 @@ loop-preserved c =
 
 pub returns-clause-entries : goal.returns-clause-entries
 returns-clause-entries c =
-    turned-all (IsBrought c.args.ino c.args.old c.args.new) c.args.kept.now.entries c.loop.kept.entries c.loop.counter
+    turned-all (IsCacheAfterMove c.args.ino c.args.old c.args.new) c.args.kept.now.entries c.loop.kept.entries c.loop.counter
     c.loop.invariant.turned (omega (arith, c.loop-test.false, c.len-end.ensures.len))
 
 pub returns-clause-few : goal.returns-clause-few
 returns-clause-few c =
     let brought =
-    turned-all (IsBrought c.args.ino c.args.old c.args.new) c.args.kept.now.entries c.loop.kept.entries c.loop.counter
+    turned-all (IsCacheAfterMove c.args.ino c.args.old c.args.new) c.args.kept.now.entries c.loop.kept.entries c.loop.counter
     c.loop.invariant.turned (omega (arith, c.loop-test.false, c.len-end.ensures.len)) in
     seldom-moved c.args.old c.args.kept.now.entries c.loop.kept.entries brought.stays

@@ -3,7 +3,7 @@ use Rattle.std.specs.List.{HoldsAt}
 use Rattle.lru.specs.LruCache.{LruCache}
 use Rattle.wu_frames.specs.declared.Frame.{Frame}
 use Rattle.wu_frames.specs.declared.Frames.{Frames}
-use Rattle.wu_frames.specs.Mending.{IsBrought, with_last}
+use Rattle.wu_frames.specs.Mending.{IsCacheAfterMove, with_last}
 use Rattle.wu_frames.proofs.Turns.{found-last, found-same, last-is, last-same, replaced-now}
 use Rattle.wu_frames.proofs.Bringing.{brought-forgotten, brought-moved, brought-same}
 use Rattle.wu_frames.proofs.walks.mend_last.Goals as goal
@@ -13,7 +13,7 @@ returns-in-None-clause-entries c = λ rest entry e.
     let peeked = last-same c.args.kept.now.entries rest entry c.in-Some.uid.now c.in-Some.frames.now e c.in-Some.ensures in (
       entry ∷ [],
       c.last_to_front.ensures.entries rest entry e,
-      subst (λ (x : ℕ × Frames). IsBrought c.args.ino c.args.old c.args.new (x ∷ []) (x ∷ [])) peeked
+      subst (λ (x : ℕ × Frames). IsCacheAfterMove c.args.ino c.args.old c.args.new (x ∷ []) (x ∷ [])) peeked
           (brought-same c.args.ino c.args.old c.args.new c.in-Some.uid.now c.in-Some.frames.now
           (λ up. rw (← c.as_slice.ensures) (c.in-None.ensures.none (rw c.as_slice.ensures up)))),
     )
@@ -29,7 +29,7 @@ returns-in-None-moved-clause-entries c = λ rest entry e.
     rw (← c.as_slice.ensures) c.in-Some-place_of.ensures.there in (
       [],
       ap (λ (k : LruCache ℕ Frames). k.entries) c.pop_lru.ensures.entries ∙ (last-is now rest entry e).1,
-      subst (λ (x : ℕ × Frames). IsBrought c.args.ino c.args.old c.args.new (x ∷ []) []) peeked
+      subst (λ (x : ℕ × Frames). IsCacheAfterMove c.args.ino c.args.old c.args.new (x ∷ []) []) peeked
           (brought-forgotten c.args.ino c.args.old c.args.new c.in-Some.uid.now place frames inside starts c.in-None-moved.ensures.none),
     )
 
@@ -60,8 +60,8 @@ returns-in-Some-get_mut-clause-entries c = λ rest entry e.
     brought-moved c.args.ino c.args.old c.args.new uid place frames inside starts last sum c.in-Some-moved.ensures.may in (
       (entry.0, c.mend.new.frames) ∷ [],
       replaced-now now rest entry uid c.mend.new.frames e (ap (λ (x : ℕ × Frames). x.0) peeked) apart,
-      subst (λ (x : ℕ × Frames). IsBrought c.args.ino c.args.old c.args.new (x ∷ []) ((x.0, c.mend.new.frames) ∷ [])) peeked
-          (subst (λ (f : Frames). IsBrought c.args.ino c.args.old c.args.new ((uid, frames) ∷ []) ((uid, f) ∷ [])) (sym is) brought),
+      subst (λ (x : ℕ × Frames). IsCacheAfterMove c.args.ino c.args.old c.args.new (x ∷ []) ((x.0, c.mend.new.frames) ∷ [])) peeked
+          (subst (λ (f : Frames). IsCacheAfterMove c.args.ino c.args.old c.args.new ((uid, frames) ∷ []) ((uid, f) ∷ [])) (sym is) brought),
     )
 
 pub returns-in_default-get_mut-clause-entries : goal.returns-in_default-get_mut-clause-entries

@@ -1,6 +1,6 @@
 use Rattle.std.proofs.Common.{Bool, subst, arith}
 use Rattle.std.specs.Prelude.{MatchBool}
-use Rattle.wu_image.specs.Checks.{AreApart, HaveHomes}
+use Rattle.wu_image.specs.Checks.{AreApart, RangesLieInParts}
 use Rattle.wu_image.proofs.RuleLemmas.{decided, homes_of_layout, layout_of_checks, parts_of_layout, rules_of_parts, texts_end, texts_filled}
 use Rattle.wu_image.proofs.rules.keep_rules.Goals as goal
 
@@ -29,7 +29,7 @@ returns-then-not-apart c = λ rules.
 pub returns-then-not-homes : goal.returns-then-not-homes
 returns-then-not-homes c = λ rules.
     let no = subst
-    (λ (b : Bool). MatchBool b (HaveHomes c.args.files.now c.args.parts.now) (HaveHomes c.args.files.now c.args.parts.now → ⊥))
+    (λ (b : Bool). MatchBool b (RangesLieInParts c.args.files.now c.args.parts.now) (RangesLieInParts c.args.files.now c.args.parts.now → ⊥))
     c.if-not-homes.true c.in_ok-homes.ensures in
     no (homes_of_layout _ _ _ _ _ rules)
 
@@ -38,7 +38,7 @@ returns c =
     let apart = subst (λ (b : Bool). MatchBool b (AreApart c.args.files.now) (AreApart c.args.files.now → ⊥)) c.if-not-apart.false
     c.in_ok-apart.ensures in
     let homes = subst
-    (λ (b : Bool). MatchBool b (HaveHomes c.args.files.now c.args.parts.now) (HaveHomes c.args.files.now c.args.parts.now → ⊥))
+    (λ (b : Bool). MatchBool b (RangesLieInParts c.args.files.now c.args.parts.now) (RangesLieInParts c.args.files.now c.args.parts.now → ⊥))
     c.if-not-homes.false c.in_ok-homes.ensures in
     decided c.in_ok-blobs.blobs c.in_ok-blobs.ensures
     (λ distinct drawn. layout_of_checks _ _ _ _ _ c.if-not-are_parts.ensures.0 c.if-not-are_parts.ensures.1 c.if-not-are_texts.ensures

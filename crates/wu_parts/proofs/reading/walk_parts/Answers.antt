@@ -13,7 +13,7 @@ loop-part-init g c = record {
       (g.D.Store.reads c.args.store.now);
   gains = λ wanted.
       gains_to-none c.args.parts.now c.args.term.now c.args.frames.now (g.D.Store.holds c.args.store.now) c.args.lists.now
-      (g.S.Sink.gained c.args.frames.now) c.args.found.now (g.met.S.Sink.none c.args.frames.now c.args.found.now);
+      (g.S.AddressSink.gained c.args.frames.now) c.args.found.now (g.met.S.AddressSink.none c.args.frames.now c.args.found.now);
 }
 
 pub returns-in_err-walk-clause-cause : goal.returns-in_err-walk-clause-cause
@@ -42,7 +42,7 @@ loop-part-preserved g c =
           turn-gains c.args.parts.now c.loop-part.part-index c.part-item.result c.args.term.now c.args.frames.now
           (g.D.Store.holds c.args.store.now) (g.D.Store.holds c.loop-part.store) c.args.lists.now c.loop-part.lists
           (g.D.Store.reads c.args.store.now) (g.D.Store.reads c.loop-part.store) within c.part-item.is
-          c.loop-part.invariant.holds (g.S.Sink.gained c.args.frames.now) (g.met.S.Sink.joins c.args.frames.now) c.args.found.now
+          c.loop-part.invariant.holds (g.S.AddressSink.gained c.args.frames.now) (g.met.S.AddressSink.joins c.args.frames.now) c.args.found.now
           c.loop-part.found c.walk.new.found (c.loop-part.invariant.gains wanted) _ _ c.requires.told
           (c.in_ok-walk.ensures.addresses wanted) c.in_ok-walk.ensures.blocks;
     }
@@ -50,7 +50,7 @@ loop-part-preserved g c =
 pub returns-clause-addresses : goal.returns-clause-addresses
 returns-clause-addresses g c = λ wanted.
     gains_to-end c.args.parts.now c.args.term.now c.args.frames.now (g.D.Store.holds c.args.store.now) c.args.lists.now c.loop-part.lists
-    (g.S.Sink.gained c.args.frames.now) c.args.found.now c.loop-part.found _
+    (g.S.AddressSink.gained c.args.frames.now) c.args.found.now c.loop-part.found _
     (drop_all c.loop-part.part-index c.args.parts.now (omega arith)) (c.loop-part.invariant.gains wanted)
 
 pub returns-clause-blocks : goal.returns-clause-blocks

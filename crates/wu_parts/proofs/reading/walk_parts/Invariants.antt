@@ -9,6 +9,6 @@ invariant-loop-part g l = record {
   calm : g.D.Store.faults l.store ≡ g.D.Store.faults l.fn.store;
   leads : Leads l.parts (drop l.part-index l.parts) l.term l.frames (g.D.Store.holds l.fn.store) l.fn.lists l.lists
       (g.D.Store.reads l.fn.store) (g.D.Store.reads l.store);
-  gains : g.S.Sink.wanted ≡ true → GainsTo (g.S.Sink.gained l.frames) l.parts (drop l.part-index l.parts) l.term l.frames
+  gains : g.S.AddressSink.wanted ≡ true → GainsTo (g.S.AddressSink.gained l.frames) l.parts (drop l.part-index l.parts) l.term l.frames
       (g.D.Store.holds l.fn.store) l.fn.lists l.lists l.fn.found l.found;
 }

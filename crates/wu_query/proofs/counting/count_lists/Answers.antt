@@ -6,7 +6,7 @@ use Rattle.wu_query.proofs.AskedTerms.{terms_named}
 use Rattle.wu_query.proofs.CountLemmas.{counted}
 use Rattle.wu_query.proofs.FramesOfFiles.{are_lists}
 use Rattle.wu_query.proofs.PassedCauses.{cause_at_last, cause_at_once, cause_passed}
-use Rattle.wu_query.proofs.UnitLemmas.{apart, searched_few}
+use Rattle.wu_query.proofs.UnitLemmas.{searched_few}
 use Rattle.wu_query.proofs.counting.count_lists.Goals as goal
 
 pub count_apart-requires-clause-lists : goal.count_apart-requires-clause-lists
@@ -52,4 +52,4 @@ returns-in_err-counts-clause-cause g c =
     c.from_residual-in_err-counts.ensures.1
 
 pub count_apart-requires-clause-apart : goal.count_apart-requires-clause-apart
-count_apart-requires-clause-apart g c = rw c.as_slice.ensures (apart c.args.frames.now.ranges c.requires.apart)
+count_apart-requires-clause-apart g c = rw c.as_slice.ensures c.requires.apart

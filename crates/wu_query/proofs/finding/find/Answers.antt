@@ -13,7 +13,7 @@ use Rattle.wu_query.proofs.DamagedTexts.{cause_of_text}
 use Rattle.wu_query.proofs.QueryReads.{cause_of_fetch, cause_of_memory}
 use Rattle.wu_query.proofs.PermittedBlocks.{asked_permitted, failed_permitted}
 use Rattle.wu_query.proofs.PermittedTexts.{shown_permitted}
-use Rattle.wu_query.proofs.UnitLemmas.{apart, searched_few}
+use Rattle.wu_query.proofs.UnitLemmas.{searched_few}
 use Rattle.wu_query.proofs.finding.find.Goals as goal
 
 pub count_apart-requires-clause-lists : goal.count_apart-requires-clause-lists
@@ -27,7 +27,7 @@ count_apart-requires-clause-few g c =
     rw c.as_slice.ensures (searched_few (region_of c.args.expr.now) c.deref-2.result.now c.args.frames.now c.requires.fit)
 
 pub count_apart-requires-clause-apart : goal.count_apart-requires-clause-apart
-count_apart-requires-clause-apart g c = rw c.as_slice.ensures (apart c.args.frames.now.ranges c.requires.fit.apart)
+count_apart-requires-clause-apart g c = rw c.as_slice.ensures c.requires.fit.apart
 
 pub lines_shown-requires-clause-lists : goal.lines_shown-requires-clause-lists
 lines_shown-requires-clause-lists g c =

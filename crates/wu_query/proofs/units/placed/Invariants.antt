@@ -1,6 +1,6 @@
 use Rattle.std.proofs.Common.{◌≡◌, ◌+◌, ◌≤◌, ◌<◌, ◌^◌, ◌++◌, length, map}
 use Rattle.std.specs.Prelude.{All}
-use Rattle.wu_solve.specs.Solving.{AreApart}
+use Rattle.wu_base.specs.Ranges.{AreApart}
 use Rattle.wu_query.specs.Units.{placed}
 use Rattle.wu_query.proofs.units.placed.Given as goal
 

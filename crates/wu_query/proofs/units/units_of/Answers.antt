@@ -1,12 +1,12 @@
 use Rattle.std.proofs.Common.{subst}
 use Rattle.wu_gcl.specs.Regions.{region_of}
-use Rattle.wu_solve.specs.Solving.{AreApart}
+use Rattle.wu_base.specs.Ranges.{AreApart}
 use Rattle.wu_query.proofs.AnswerLemmas.{if_ok}
-use Rattle.wu_query.proofs.UnitLemmas.{apart, ends_fit, units_searched}
+use Rattle.wu_query.proofs.UnitLemmas.{ends_fit, units_searched}
 use Rattle.wu_query.proofs.units.units_of.Goals as goal
 
 pub solve_apart-requires-clause-apart : goal.solve_apart-requires-clause-apart
-solve_apart-requires-clause-apart c = rw c.as_slice.ensures (apart c.args.frames.now.ranges c.requires.fit.apart)
+solve_apart-requires-clause-apart c = rw c.as_slice.ensures c.requires.fit.apart
 
 pub placed-requires-clause-ends : goal.placed-requires-clause-ends
 placed-requires-clause-ends c = rw c.as_slice-2.ensures (ends_fit c.args.frames.now c.requires.fit)
@@ -14,7 +14,7 @@ placed-requires-clause-ends c = rw c.as_slice-2.ensures (ends_fit c.args.frames.
 pub placed-requires-clause-apart : goal.placed-requires-clause-apart
 placed-requires-clause-apart c =
     let frames = c.args.frames.now in
-    rw c.as_slice-2.ensures (subst AreApart c.requires.fit.of_frames (apart frames.ranges c.requires.fit.apart))
+    rw c.as_slice-2.ensures (subst AreApart c.requires.fit.of_frames c.requires.fit.apart)
 
 pub returns : goal.returns
 returns c =

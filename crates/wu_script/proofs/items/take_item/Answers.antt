@@ -1,17 +1,17 @@
 use Rattle.std.proofs.Common.{◌≡◌, ◌++◌, ◌<◌, List, ℕ, [], true, false, length, take, refl, sym, subst, ◌∙◌, arith}
 use Rattle.wu_script.specs.Holding.{EndsEarly}
 use Rattle.wu_script.specs.Taking.{closing, IsOneLine}
-use Rattle.wu_script.specs.Taken.{IsSoundHeard}
+use Rattle.wu_script.specs.Taken.{IsSoundParsed}
 use Rattle.wu_script.specs.Items.{first_of, text_at}
 use Rattle.wu_script.specs.Commands.{TextHead, line_says}
 use Rattle.wu_script.specs.declared.ends.ReadEnd.TheVariants.{NoMemory}
-use Rattle.wu_script.specs.declared.items.Heard.TheVariants as heard
+use Rattle.wu_script.specs.declared.items.ParsedLine.TheVariants as heard
 use Rattle.wu_script.proofs.InputLemmas.{Uses-trans}
 use Rattle.wu_script.proofs.LineLemmas.{one_line, kept_whole, kept_long, nothing_used}
 use Rattle.wu_script.proofs.EarlyEndLemmas.{EndsEarly-memory, EndsEarly-also, EndsEarly-after, Uses-first_of, if_end}
 use Rattle.wu_script.proofs.ReadLemmas.{GivesAtMost-then, asked_then}
 use Rattle.wu_script.proofs.UnclosedLemmas.{one_line-take, line_open, closed_feed, head_open, headed_open, body_held, closing_recent}
-use Rattle.wu_script.proofs.ItemLemmas.{long_item, heard_as, heard_item, head_says, head_item, item_before_end}
+use Rattle.wu_script.proofs.ItemLemmas.{long_item, parsed_as, heard_item, head_says, head_item, item_before_end}
 use Rattle.wu_script.proofs.items.take_item.Given as given
 use Rattle.wu_script.proofs.items.take_item.Goals as goal
 use Rattle.wu_script.proofs.items.take_item.Goals.{After-take_text}
@@ -37,13 +37,13 @@ returns-in-Item-clause-taken g c =
     let taken = c.in_ok-cut.ensures.taken in
     let closed = c.in_ok-cut.cut.closed in
     let kept = kept_whole _ taken.0 c.take_line.new.line.items c.in_ok-cut.cut.whole taken.2 c.if-not-cut.false in
-    let says = heard_as c.in_ok-item.field-0
+    let says = parsed_as c.in_ok-item.field-0
     (heard.Item c.in-Item.item) c.take_line.new.line.items taken.0 c.in_ok-item.ensures.says c.in-Item.is kept in (
       taken.0 ++ closing closed,
       taken.1.uses,
       heard_item (g.I.Source.last_read c.take_line.new.source) c.take_line.new.input c.in-Item.item taken.0 closed taken.1.one taken.1.last
           (λ unclosed. subst (λ (xs : List ℕ). 0 < length xs) kept (c.if-is_end.ensures unclosed)) says
-          (subst IsSoundHeard c.in-Item.is c.in_ok-item.ensures.sound).1,
+          (subst IsSoundParsed c.in-Item.is c.in_ok-item.ensures.sound).1,
     )
 
 pub returns-in-Ok-clause-taken : goal.returns-in-Ok-clause-taken

@@ -2,7 +2,8 @@ use Rattle.std.proofs.Common.{◌≡◌}
 use Rattle.std.proofs.lemmas.Result.{IfOk-weaker}
 use Rattle.wu_gcl.specs.Regions.{region_of}
 use Rattle.wu_solve.specs.Listing.{IsAscending}
-use Rattle.wu_solve.specs.Solving.{frames_hits, AreApart}
+use Rattle.wu_solve.specs.Solving.{frames_hits}
+use Rattle.wu_base.specs.Ranges.{AreApart}
 use Rattle.wu_solve.proofs.Results.{frames_ascend}
 use Rattle.wu_solve.proofs.solving.solve_apart.Goals as goal
 

@@ -9,7 +9,7 @@ use Rattle.std.proofs.lemmas.Iterator.Adapters.{fact_from_collect}
 use Rattle.std.proofs.lemmas.Iterator.Consumers.{YieldsList-at}
 use Rattle.std.proofs.lemmas.Map.Lookups.{exact_unsigned}
 use Rattle.wu_tree.specs.declared.inodes.Inode.{Inode}
-use Rattle.wu_tree.specs.declared.tallies.HungNode.{HungNode}
+use Rattle.wu_tree.specs.declared.tallies.LinkedNode.{LinkedNode}
 use Rattle.wu_tree.specs.Lists.{inode_of}
 use Rattle.wu_tree.proofs.ListTests.{keys_mapped}
 use Rattle.wu_tree.proofs.MadeMaps.{made_entries}
@@ -17,7 +17,7 @@ use Rattle.wu_tree.proofs.rebuild.inodes_of.Goals as goal
 
 pub returns : goal.returns
 returns c =
-    let entry : HungNode → ℕ × Inode = λ n. (n.ino, inode_of n.hung n.node) in
+    let entry : LinkedNode → ℕ × Inode = λ n. (n.ino, inode_of n.hung n.node) in
     let made : IfOk c.collect.result (IsFromIterResult nat_cmp (map entry c.args.nodes.now)) =
     fact_from_collect (IsFromIterResult nat_cmp) c.collect.result c.collect.ensures.ran
     (YieldsList-from_map _ entry (YieldsList-at c.map.ensures.source (YieldsList-from_slice _ c.iter.ensures.rest)) c.map.ensures.closure

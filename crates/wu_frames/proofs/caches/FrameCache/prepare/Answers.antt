@@ -1,15 +1,16 @@
 use Rattle.std.proofs.Common.{ℕ, ◌≤◌, length, nat_eq, refl, sym, subst}
 use Rattle.std.specs.Map.{set_value}
 use Rattle.lru.specs.LruCache.{promoted, put_entries}
-use Rattle.wu_frames.specs.UserFrames.{AreFor, HasAsked, Kept}
-use Rattle.wu_frames.proofs.Keeping.{absent, asked-again, asked-put, has-asked-again, has-asked-put, kept-asked, kept-put, right-asked, right-put}
+use Rattle.wu_frames.specs.UserFrames.{CacheMatchesTree, HasAsked, Kept}
+use Rattle.wu_frames.proofs.Keeping.{absent, asked-again, asked-put, has-asked-again, has-asked-put, kept-asked, kept-put, right-asked}
+use Rattle.wu_frames.proofs.Keeping.{right-put}
 use Rattle.wu_frames.proofs.SeldomMended.{seldom-asked, seldom-put}
 use Rattle.wu_frames.proofs.caches.FrameCache.prepare.Goals as goal
 
 pub returns-in-Some-clause-right : goal.returns-in-Some-clause-right
 returns-in-Some-clause-right c =
-    let old : AreFor c.args.tree.now c.args.space.now.ranges c.self.inside.kept.entries =
-    subst (λ (k : Kept). AreFor c.args.tree.now c.args.space.now.ranges k) (sym c.self.view_is) c.requires in
+    let old : CacheMatchesTree c.args.tree.now c.args.space.now.ranges c.self.inside.kept.entries =
+    subst (λ (k : Kept). CacheMatchesTree c.args.tree.now c.args.space.now.ranges k) (sym c.self.view_is) c.requires in
     right-asked _ _ c.args.uid _ c.in-Some.frames.now old c.in-Some.ensures.value
 
 pub returns-in-Some-clause-kept : goal.returns-in-Some-clause-kept
@@ -17,17 +18,17 @@ returns-in-Some-clause-kept c = kept-asked c.args.uid _ c.in-Some.frames.now _ c
 
 pub returns-in_err-frames-clause-right : goal.returns-in_err-frames-clause-right
 returns-in_err-frames-clause-right c =
-    subst (λ (k : Kept). AreFor c.args.tree.now c.args.space.now.ranges k) (sym c.self.view_is) c.requires
+    subst (λ (k : Kept). CacheMatchesTree c.args.tree.now c.args.space.now.ranges k) (sym c.self.view_is) c.requires
 
 pub returns-in_err-put-clause-right : goal.returns-in_err-put-clause-right
 returns-in_err-put-clause-right c =
     rw c.in_err-put.ensures.err
-    (subst (λ (k : Kept). AreFor c.args.tree.now c.args.space.now.ranges k) (sym c.self.view_is) c.requires)
+    (subst (λ (k : Kept). CacheMatchesTree c.args.tree.now c.args.space.now.ranges k) (sym c.self.view_is) c.requires)
 
 pub returns-clause-right : goal.returns-clause-right
 returns-clause-right c =
-    let old : AreFor c.args.tree.now c.args.space.now.ranges c.self.inside.kept.entries =
-    subst (λ (k : Kept). AreFor c.args.tree.now c.args.space.now.ranges k) (sym c.self.view_is) c.requires in
+    let old : CacheMatchesTree c.args.tree.now c.args.space.now.ranges c.self.inside.kept.entries =
+    subst (λ (k : Kept). CacheMatchesTree c.args.tree.now c.args.space.now.ranges k) (sym c.self.view_is) c.requires in
     rw c.in_ok-put.ensures.entries (right-put _ _ c.self.inside.kept c.args.uid c.in_ok-frames.frames old c.in_ok-frames.ensures.right)
 
 pub returns-clause-kept : goal.returns-clause-kept

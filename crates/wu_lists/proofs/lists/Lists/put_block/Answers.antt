@@ -11,8 +11,8 @@ use Rattle.wu_lists.proofs.lists.Lists.put_block.Goals as goal
 pub returns-then-not-is_needed-clause-addresses : goal.returns-then-not-is_needed-clause-addresses
 returns-then-not-is_needed-clause-addresses g c =
     let missed : c.is_needed.result ≡ false = search rules in
-    fetched-none _ (g.S.Sink.gained c.args.frames.now) c.args.block.now c.args.frames.now (g.D.Store.holds c.args.store.now)
-    c.args.self.now c.args.found.now (g.met.S.Sink.none c.args.frames.now c.args.found.now) c.requires.span
+    fetched-none _ (g.S.AddressSink.gained c.args.frames.now) c.args.block.now c.args.frames.now (g.D.Store.holds c.args.store.now)
+    c.args.self.now c.args.found.now (g.met.S.AddressSink.none c.args.frames.now c.args.found.now) c.requires.span
     (sym c.is_needed.ensures ∙ missed)
 
 pub returns-then-not-is_needed-clause-blocks : goal.returns-then-not-is_needed-clause-blocks
@@ -25,7 +25,7 @@ returns-then-not-is_needed-clause-blocks g c =
 
 pub returns-in_err-addresses-clause-none : goal.returns-in_err-addresses-clause-none
 returns-in_err-addresses-clause-none g c =
-    on_err c.from_residual.result (g.met.S.Sink.none c.args.frames.now c.args.found.now)
+    on_err c.from_residual.result (g.met.S.AddressSink.none c.args.frames.now c.args.found.now)
 
 pub returns-in_err-addresses-clause-kept : goal.returns-in_err-addresses-clause-kept
 returns-in_err-addresses-clause-kept g c =
@@ -53,9 +53,9 @@ gain-requires-clause-ascend g c =
 pub returns-clause-addresses : goal.returns-clause-addresses
 returns-clause-addresses g c =
     let frames = c.args.frames.now in
-    let gained : g.S.Sink.gained frames (filter (is_live frames) c.in_ok-addresses.addresses.items) c.args.found.now c.gain.new.self =
+    let gained : g.S.AddressSink.gained frames (filter (is_live frames) c.in_ok-addresses.addresses.items) c.args.found.now c.gain.new.self =
     rw c.deref.ensures.value at c.in_ok-gain.ensures.ok in
-    fetched-some _ (g.S.Sink.gained frames) c.args.block.now frames (g.D.Store.holds c.args.store.now) c.args.self.now c.args.found.now
+    fetched-some _ (g.S.AddressSink.gained frames) c.args.block.now frames (g.D.Store.holds c.args.store.now) c.args.self.now c.args.found.now
     c.gain.new.self c.in_ok-addresses.addresses.items c.in_ok-addresses.ensures.ascend c.in_ok-addresses.ensures.told gained
 
 pub returns-clause-blocks : goal.returns-clause-blocks

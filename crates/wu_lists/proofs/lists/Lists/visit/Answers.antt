@@ -3,4 +3,4 @@ use Rattle.wu_lists.proofs.lists.Lists.visit.Goals as goal
 
 pub returns-else-wants-clause-none : goal.returns-else-wants-clause-none
 returns-else-wants-clause-none g c =
-    on_err c.touch_block.result (g.met.S.Sink.none c.args.frames.now c.args.found.now)
+    on_err c.touch_block.result (g.met.S.AddressSink.none c.args.frames.now c.args.found.now)

@@ -21,9 +21,9 @@ loop-block-init g c = record {
   moments = refl;
   calm = refl;
   walked =
-      walked-none _ (g.S.Sink.gained c.args.frames.now) (g.S.Sink.wanted ≡ true) c.args.frames.now c.args.blob c.args.dir.now.low
+      walked-none _ (g.S.AddressSink.gained c.args.frames.now) (g.S.AddressSink.wanted ≡ true) c.args.frames.now c.args.blob c.args.dir.now.low
       c.args.dir.now.high c.args.entry (g.D.Store.holds c.args.store.now) c.args.self.now (g.D.Store.reads c.args.store.now)
-      c.args.found.now (g.met.S.Sink.none c.args.frames.now c.args.found.now) c.requires.cut c.requires.span c.requires.order;
+      c.args.found.now (g.met.S.AddressSink.none c.args.frames.now c.args.found.now) c.requires.cut c.requires.span c.requires.order;
 }
 
 pub loop-block-preserved : goal.loop-block-preserved
@@ -38,8 +38,8 @@ loop-block-preserved g c =
     let asks : Asks (filter (meets nearer) (block ∷ [])) holds c.loop-block.self c.visit.new.self (g.D.Store.reads c.loop-block.store)
     (g.D.Store.reads c.visit.new.store) =
     rw (c.low.ensures, c.loop-block.invariant.holds) at c.in_ok-visit.ensures.blocks in
-    let gains : g.S.Sink.wanted ≡ true
-    → Gains (g.S.Sink.gained nearer) (AreFetched (HasBlock block) nearer blob entry.first (entry.last + 1) holds c.loop-block.self)
+    let gains : g.S.AddressSink.wanted ≡ true
+    → Gains (g.S.AddressSink.gained nearer) (AreFetched (HasBlock block) nearer blob entry.first (entry.last + 1) holds c.loop-block.self)
     c.loop-block.found c.visit.new.found =
     rw (c.low.ensures, c.loop-block.invariant.holds) at c.in_ok-visit.ensures.addresses in
     record {
@@ -47,13 +47,13 @@ loop-block-preserved g c =
       moments = c.in_ok-visit.ensures.moments ∙ c.loop-block.invariant.moments;
       calm = c.in_ok-visit.ensures.calm ∙ c.loop-block.invariant.calm;
       walked =
-          walked-next _ (g.S.Sink.gained frames) (g.S.Sink.wanted ≡ true) frames blob low c.args.dir.now.high c.args.entry holds
+          walked-next _ (g.S.AddressSink.gained frames) (g.S.AddressSink.wanted ≡ true) frames blob low c.args.dir.now.high c.args.entry holds
           c.args.self.now (g.D.Store.reads c.args.store.now) c.args.found.now c.loop-block.left.now c.loop-block.entry c.loop-block.self
           (g.D.Store.reads c.loop-block.store) c.loop-block.found
           c.loop-block.invariant.walked entry c.next_block.new.self c.in-Some.count c.in-Some.ensures.0 c.in-Some.ensures.1
           c.in-Some.ensures.2 nearer c.frames_from-left.ensures.order c.frames_from-left.ensures.live c.frames_from-left.ensures.needed
-          c.frames_from-left.ensures.opens (g.S.Sink.gained nearer) (g.met.S.Sink.joins frames)
-          (g.met.S.Sink.nearer nearer frames entry.first)
+          c.frames_from-left.ensures.opens (g.S.AddressSink.gained nearer) (g.met.S.AddressSink.joins frames)
+          (g.met.S.AddressSink.nearer nearer frames entry.first)
           c.visit.new.self (g.D.Store.reads c.visit.new.store) c.visit.new.found asks gains;
     }
 
@@ -92,7 +92,7 @@ returns-in_err-visit-clause-cause g c =
     (λ trouble is.
     subst (λ (bs : List Block). IsCause (all_missing c.args.self.now.cap (keys_of c.args.self.now.entries) bs) blob Other
     (faults c.args.store.now) (faults c.visit.new.store) (reads c.args.store.now) (reads c.visit.new.store) trouble)
-    (asked-split _ (g.S.Sink.gained frames) (g.S.Sink.wanted ≡ true) frames blob low c.args.dir.now.high all holds c.args.self.now
+    (asked-split _ (g.S.AddressSink.gained frames) (g.S.AddressSink.wanted ≡ true) frames blob low c.args.dir.now.high all holds c.args.self.now
     (reads c.args.store.now) c.args.found.now c.loop-block.left.now
     c.loop-block.entry now (reads c.loop-block.store) c.loop-block.found w entry next c.in-Some.count c.in-Some.ensures.0
     c.in-Some.ensures.1 c.in-Some.ensures.2 nearer c.frames_from-left.ensures.order c.frames_from-left.ensures.live
@@ -101,7 +101,7 @@ returns-in_err-visit-clause-cause g c =
     (filter (meets frames) (blocks_from blob low next.count next.blocks)) blob Broken Other (faults c.args.store.now)
     (faults c.loop-block.store) (faults c.visit.new.store) (reads c.args.store.now) (reads c.loop-block.store)
     (reads c.visit.new.store) trouble
-    (block-broken _ (g.S.Sink.gained frames) (g.S.Sink.wanted ≡ true) frames blob low c.args.dir.now.high all holds c.args.self.now
+    (block-broken _ (g.S.AddressSink.gained frames) (g.S.AddressSink.wanted ≡ true) frames blob low c.args.dir.now.high all holds c.args.self.now
     (reads c.args.store.now) c.args.found.now c.loop-block.left.now
     c.loop-block.entry now (reads c.loop-block.store) c.loop-block.found w entry next c.in-Some.count c.in-Some.ensures.0
     c.in-Some.ensures.1 c.in-Some.ensures.2)
@@ -114,12 +114,12 @@ returns-in_err-visit-clause-some g c =
     let nearer = c.frames_from-left.result.now in
     let entry = c.in-Some.block in
     on_err c.from_residual.result
-    (gained-before _ (g.S.Sink.gained frames) (g.S.Sink.wanted ≡ true) frames c.args.blob c.args.dir.now.low c.args.dir.now.high
+    (gained-before _ (g.S.AddressSink.gained frames) (g.S.AddressSink.wanted ≡ true) frames c.args.blob c.args.dir.now.low c.args.dir.now.high
     c.args.entry (g.D.Store.holds c.args.store.now) c.args.self.now (g.D.Store.reads c.args.store.now) c.args.found.now
     c.loop-block.left.now c.loop-block.entry c.loop-block.self (g.D.Store.reads c.loop-block.store) c.loop-block.found
     c.loop-block.invariant.walked entry c.next_block.new.self c.in-Some.count c.in-Some.ensures.0 c.in-Some.ensures.1
     c.in-Some.ensures.2 nearer c.frames_from-left.ensures.order c.frames_from-left.ensures.live c.frames_from-left.ensures.needed
-    c.frames_from-left.ensures.opens (g.S.Sink.gained nearer) (g.met.S.Sink.joins frames) (g.met.S.Sink.nearer nearer frames entry.first)
+    c.frames_from-left.ensures.opens (g.S.AddressSink.gained nearer) (g.met.S.AddressSink.joins frames) (g.met.S.AddressSink.nearer nearer frames entry.first)
     c.visit.new.found (λ _. c.in_err-visit.ensures.none))
 
 pub returns-in_err-visit-clause-kept : goal.returns-in_err-visit-clause-kept
@@ -139,7 +139,7 @@ returns-in_err-visit-clause-kept g c =
     rw (c.low.ensures, c.loop-block.invariant.holds) at c.in_err-visit.ensures.kept in
     on_err c.from_residual.result
     (subst (λ (bs : List Block). AsksFirst bs holds c.args.self.now c.visit.new.self)
-    (asked-split _ (g.S.Sink.gained frames) (g.S.Sink.wanted ≡ true) frames blob low c.args.dir.now.high all holds c.args.self.now
+    (asked-split _ (g.S.AddressSink.gained frames) (g.S.AddressSink.wanted ≡ true) frames blob low c.args.dir.now.high all holds c.args.self.now
     (reads c.args.store.now) c.args.found.now c.loop-block.left.now c.loop-block.entry c.loop-block.self (reads c.loop-block.store)
     c.loop-block.found w entry next c.in-Some.count c.in-Some.ensures.0 c.in-Some.ensures.1 c.in-Some.ensures.2 nearer
     c.frames_from-left.ensures.order c.frames_from-left.ensures.live c.frames_from-left.ensures.needed c.frames_from-left.ensures.opens)
@@ -149,7 +149,7 @@ returns-in_err-visit-clause-kept g c =
 
 pub returns-clause-addresses : goal.returns-clause-addresses
 returns-clause-addresses g c = λ wanted.
-    walked-found _ (g.S.Sink.gained c.args.frames.now) (g.S.Sink.wanted ≡ true) c.args.frames.now c.args.blob c.args.dir.now.low
+    walked-found _ (g.S.AddressSink.gained c.args.frames.now) (g.S.AddressSink.wanted ≡ true) c.args.frames.now c.args.blob c.args.dir.now.low
     c.args.dir.now.high c.args.entry (g.D.Store.holds c.args.store.now) c.args.self.now (g.D.Store.reads c.args.store.now)
     c.args.found.now c.loop-block.left.now
     c.loop-block.entry c.loop-block.self (g.D.Store.reads c.loop-block.store) c.loop-block.found c.loop-block.invariant.walked

@@ -8,7 +8,7 @@ invariant-loop-block g l = record {
   holds : g.D.Store.holds l.store ≡ g.D.Store.holds l.fn.store;
   moments : g.D.Store.moments l.store ≡ g.D.Store.moments l.fn.store;
   calm : g.D.Store.faults l.store ≡ g.D.Store.faults l.fn.store;
-  walked : IsWalked (g.S.Sink.gained l.frames) (g.S.Sink.wanted ≡ true) l.frames l.left l.blob l.dir.low l.dir.high l.fn.entry l.entry
+  walked : IsWalked (g.S.AddressSink.gained l.frames) (g.S.AddressSink.wanted ≡ true) l.frames l.left l.blob l.dir.low l.dir.high l.fn.entry l.entry
       (g.D.Store.holds l.fn.store) l.fn.self l.self (g.D.Store.reads l.fn.store) (g.D.Store.reads l.store) l.fn.found l.found;
 }
 

@@ -2,7 +2,7 @@ use Rattle.std.proofs.Common.{◌≡◌, ℕ, ◌+◌, ◌∷◌, [], List, Some
 use Rattle.std.proofs.lemmas.Result.{err_from_is_err_and}
 use Rattle.wu_parts.specs.Contents.{Contents}
 use Rattle.wu_parts.specs.Flushing.{Told}
-use Rattle.wu_parts.specs.StoredParts.{IsPutAs, directories_of, records_of}
+use Rattle.wu_parts.specs.StoredParts.{StoresPart, directories_of, records_of}
 use Rattle.wu_parts.specs.Units.{replaced, with_made, without_taken}
 use Rattle.wu_parts.specs.UnitsOfParts.{EndsJob, Replaces}
 use Rattle.wu_parts.specs.ViewOfParts.{contents_of}
@@ -56,8 +56,8 @@ invariant_of-self-in-Some g c =
     (subst (λ (k : Contents). EndsJob k.parts k.directories c.args.place c.args.count (option_map (λ b. b.items) c.args.made))
     (sym c.self.view_is) c.requires.job) in
     let room = ends.number in
-    let put : IsPutAs bytes i.next_blob part.recorded part.directory before after =
-    subst (λ (l : List ℕ). IsPutAs l i.next_blob part.recorded part.directory before after) c.deref.ensures.value
+    let put : StoresPart bytes i.next_blob part.recorded part.directory before after =
+    subst (λ (l : List ℕ). StoresPart l i.next_blob part.recorded part.directory before after) c.deref.ensures.value
     c.in_ok-part-in-Some.ensures.put in
     let placed : c.insert.new.self.items ≡ replaced c.args.place c.args.count (part ∷ []) parts =
     insert_back c.args.place parts (drop c.args.count (drop c.args.place parts)) c.take_out-in-Some.new.parts.items c.insert.new.self.items
@@ -93,9 +93,9 @@ returns-in_ok-insert-in-Some-clause-done g c =
     let after : Told = (g.D.Store.holds c.put_bytes.new.store, g.D.Store.moments c.put_bytes.new.store) in
     let room = subst (λ (k : Contents). EndsJob k.parts k.directories c.args.place c.args.count (option_map (λ b. b.items) c.args.made))
     (sym c.self.view_is) c.requires.job in
-    let put : IsPutAs bytes c.args.self.now.next_blob part.recorded part.directory before after =
-    subst (λ n. IsPutAs bytes n part.recorded part.directory before after) (ap (λ (k : Contents). k.next_blob) c.self.view_is)
-    (subst (λ (l : List ℕ). IsPutAs l i.next_blob part.recorded part.directory before after) c.deref.ensures.value
+    let put : StoresPart bytes c.args.self.now.next_blob part.recorded part.directory before after =
+    subst (λ n. StoresPart bytes n part.recorded part.directory before after) (ap (λ (k : Contents). k.next_blob) c.self.view_is)
+    (subst (λ (l : List ℕ). StoresPart l i.next_blob part.recorded part.directory before after) c.deref.ensures.value
     c.in_ok-part-in-Some.ensures.put) in
     let placed : c.insert.new.self.items ≡ replaced c.args.place c.args.count (part ∷ []) parts =
     insert_back c.args.place parts (drop c.args.count (drop c.args.place parts)) c.take_out-in-Some.new.parts.items c.insert.new.self.items

@@ -6,7 +6,7 @@ use Rattle.wu_base.specs.declared.addresses.PartRec.{PartRec}
 use Rattle.wu_layout.specs.Layouts.{Part}
 use Rattle.wu_layout.specs.Invariants.{flushes_for}
 use Rattle.wu_parts.specs.Loading.{AreLoadable}
-use Rattle.wu_parts.specs.Units.{bare, bares}
+use Rattle.wu_parts.specs.Units.{as_part, as_parts}
 use Rattle.wu_parts_tests.proofs.parts.openings.two_records.Goals as goal
 
 loadable_two : (first second : PartRec)
@@ -16,10 +16,10 @@ loadable_two : (first second : PartRec)
 loadable_two first second h =
     let few : 2 ^ first.generation ≤ 2 ^ 2 = pow_mono h.5 in
     let fewer : 2 ^ second.generation ≤ 2 ^ first.generation = pow_mono h.6 in
-    let sum : flushes_for (bares (first ∷ second ∷ [])) ≡ 2 ^ first.generation + flushes_for (bare second ∷ []) =
-    sum_by-cons (λ (part : Part). 2 ^ part.generation) (bare first) (bare second ∷ []) in
-    let last : flushes_for (bare second ∷ []) ≡ 2 ^ second.generation + 0 =
-    sum_by-cons (λ (part : Part). 2 ^ part.generation) (bare second) [] in
+    let sum : flushes_for (as_parts (first ∷ second ∷ [])) ≡ 2 ^ first.generation + flushes_for (as_part second ∷ []) =
+    sum_by-cons (λ (part : Part). 2 ^ part.generation) (as_part first) (as_part second ∷ []) in
+    let last : flushes_for (as_part second ∷ []) ≡ 2 ^ second.generation + 0 =
+    sum_by-cons (λ (part : Part). 2 ^ part.generation) (as_part second) [] in
     record {
       spans = (omega arith, h.0, (omega (arith, h.1), h.2, tt));
       below = (h.3, (h.4, tt));

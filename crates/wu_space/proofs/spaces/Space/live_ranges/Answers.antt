@@ -3,7 +3,8 @@ use Rattle.std.specs.Prelude.{map, IsPermutation}
 use Rattle.std.proofs.lemmas.Result.{IfOk-weaker}
 use Rattle.wu_base.specs.declared.addresses.Range.{Range}
 use Rattle.wu_space.specs.declared.slots.Slot.{Slot}
-use Rattle.wu_space.specs.Addresses.{AreApart, live_ranges}
+use Rattle.wu_space.specs.Addresses.{live_ranges}
+use Rattle.wu_base.specs.Ranges.{AreApart}
 use Rattle.wu_space.specs.Slots.{IsSound, meets, range_of_slot}
 use Rattle.wu_space.proofs.Order.{starts-rise, order-filter}
 use Rattle.wu_space.proofs.Live.{ranges-same}

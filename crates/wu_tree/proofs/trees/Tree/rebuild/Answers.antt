@@ -4,12 +4,13 @@ use Rattle.std.specs.Ordering.{nat_cmp}
 use Rattle.std.specs.List.{list_all}
 use Rattle.std.specs.List.Sorted.{IsStrictlySortedBy}
 use Rattle.wu_tree.specs.declared.inodes.Inode.{Inode}
-use Rattle.wu_tree.specs.declared.tallies.HungNode.{HungNode}
+use Rattle.wu_tree.specs.declared.tallies.LinkedNode.{LinkedNode}
 use Rattle.wu_tree.specs.Inodes.{file_system}
 use Rattle.wu_tree.specs.Lists.{hung_node, inode_of, link_of, linked_test, hung_of, place_test}
 use Rattle.wu_tree.proofs.HungNodes.{numbers, same_numbers}
 use Rattle.wu_tree.proofs.ListTests.{all_mapped}
-use Rattle.wu_tree.proofs.RebuiltTrees.{acls_in_order, in_order, no_acls, no_order, no_children, no_place, no_linked, no_reach, entries_hung, entry, made_heights}
+use Rattle.wu_tree.proofs.RebuiltTrees.{acls_in_order, in_order, no_acls, no_order, no_children, no_place, no_linked, no_reach}
+use Rattle.wu_tree.proofs.RebuiltTrees.{entries_hung, entry, made_heights}
 use Rattle.wu_tree.proofs.RebuiltTrees.{made_held, made_tree, made_sound, made_view}
 use Rattle.wu_tree.proofs.trees.Tree.rebuild.Goals as goal
 use Rattle.wu_tree.proofs.trees.Tree.rebuild.Goals.{In_ok-inodes, After-are_linked}
@@ -39,7 +40,7 @@ inodes_of-requires c =
 made : (c : In_ok-inodes) → c.in_ok-inodes.inodes.entries ≡ map (entry c.args.links.now) c.args.nodes.now
 made c =
     c.in_ok-inodes.ensures
-    ∙ ap (λ (l : List HungNode). map (λ n. (n.ino, inode_of n.hung n.node)) l)
+    ∙ ap (λ (l : List LinkedNode). map (λ n. (n.ino, inode_of n.hung n.node)) l)
     (c.as_slice.ensures.value ∙ (rw c.in-Some.is at c.in_ok-hung.ensures).nodes_hung)
     ∙ entries_hung c.args.links.now c.args.nodes.now
 
@@ -58,10 +59,10 @@ linked : (c : After-are_linked)
     → list_all (λ node. linked_test node.0 node.1.kind (hung_of (map link_of c.args.links.now) node.0)) c.args.nodes.now
     ≡ c.are_linked.result
 linked c =
-    all_mapped (λ (n : HungNode). linked_test n.ino n.node.kind n.hung) (hung_node (map link_of c.args.links.now)) c.args.nodes.now
+    all_mapped (λ (n : LinkedNode). linked_test n.ino n.node.kind n.hung) (hung_node (map link_of c.args.links.now)) c.args.nodes.now
     ∙ sym
     (c.are_linked.ensures
-    ∙ ap (λ (l : List HungNode). list_all (λ n. linked_test n.ino n.node.kind n.hung) l)
+    ∙ ap (λ (l : List LinkedNode). list_all (λ n. linked_test n.ino n.node.kind n.hung) l)
     (c.as_slice-2.ensures.value ∙ (rw c.in-Some.is at c.in_ok-hung.ensures).nodes_hung))
 
 pub returns-then-not-are_linked : goal.returns-then-not-are_linked

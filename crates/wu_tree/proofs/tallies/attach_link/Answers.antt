@@ -1,6 +1,6 @@
 use Rattle.std.proofs.Common.{Bool, sym, ap, not, ◌&&◌, ◌==◌}
 use Rattle.wu_tree.proofs.HungNodes.{found, hung_more}
-use Rattle.wu_tree.proofs.tallies.hang.Goals as goal
+use Rattle.wu_tree.proofs.tallies.attach_link.Goals as goal
 
 pub returns-in_ok-one_more-in-Some-clause-told : goal.returns-in_ok-one_more-in-Some-clause-told
 returns-in_ok-one_more-in-Some-clause-told c =

@@ -1,6 +1,6 @@
 use Rattle.std.proofs.Common.{append-nil, sym, ◌∙◌}
 use Rattle.std.proofs.lemmas.Result.{on_err_weaker}
-use Rattle.wu_lists.proofs.sinks.VecU64Sink.gain.Goals as goal
+use Rattle.wu_lists.proofs.sinks.VecU64AddressSink.gain.Goals as goal
 
 pub returns-clause-err : goal.returns-clause-err
 returns-clause-err c =
