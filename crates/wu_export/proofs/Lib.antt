@@ -1,0 +1,4 @@
+pub mod CutPaths
+pub mod FoundDirectories
+pub mod NumberedDirectories
+pub mod WrittenCommands

@@ -1,0 +1,18 @@
+use Rattle.std.proofs.Common.{ℕ, ◌<◌, ◌^◌, arith}
+use Rattle.std.specs.Prelude.{codes}
+use Rattle.wu_export.specs.Exports.{command_of, file_entry, last_name, number_of, parent_path}
+use Rattle.wu_export.specs.Finding.{placed}
+use Rattle.wu_export.proofs.WrittenCommands.{file-command, in_two}
+use Rattle.wu_export.proofs.writing.put_file.Goals as goal
+
+pub returns : goal.returns
+returns c =
+    let directories = c.args.directories.now in
+    let path = c.args.path.now in
+    let number : ℕ = c.args.number in
+    let small : number < 2 ^ 64 = omega arith in
+    let parent : ℕ = number_of directories (parent_path path) in
+    in_two c.args.out.now.items c.put_place.new.out.items c.extend_from_slice.new.self.items
+    (placed (codes "create") number parent (last_name path)) (codes "\t0\t0\t644\n") (command_of (file_entry directories number path))
+    c.in_ok-put_place.ensures.bytes c.in_ok-extend_from_slice.ensures.items
+    (file-command number parent (last_name path) small c.in_ok-put_place.ensures.small)

@@ -1,0 +1,6 @@
+-- ---- What a reader of the contracts trusts
+
+pub mod Exports
+-- ---- What only private functions and proofs need: how directories are found, and how a line is put together
+
+pub mod Finding

@@ -1,0 +1,43 @@
+//! The export of what a user may search: a script that makes her files from nothing.
+#![tactic(auto)]
+
+ghost use Rattle.std.specs.Prelude.{◌≡◌, IfOk};
+ghost use Rattle.wu_export.specs.Exports.{export_of};
+
+mod directories;
+mod paths;
+mod writing;
+
+use crate::directories::Directories;
+use crate::writing::{put_directories, put_files, room_for};
+use std::alloc::Global;
+use wu_base::{Bytes, NoMemory, Sequence};
+
+/// A file that a user may search, as she sees it.
+#[derive(Debug, PartialEq, Eq, Drop)]
+pub struct Shown {
+    /// The paths that are open for her, at least one, in byte order and without repeats. A path is `/` and the
+    /// names from the root to the file, joined by `/`.
+    pub paths: Sequence<Bytes>,
+    /// The file's text.
+    pub text: Bytes,
+}
+
+/// The script that makes these files from nothing: the directories on their paths, each file at its least path,
+/// its other paths as links to it, and its text, where that isn't empty. The files are a user's view, in its
+/// order, so their least paths ascend. Directories have numbers from 2 on, in the order of their paths, and the
+/// files those after them. The only error is out of memory.
+///
+/// The time is near linear in the bytes of the paths and of the script. The script is built in one piece, with
+/// the memory taken at once; no text is copied but into it. Beside it there are 16 bytes for each path and for
+/// each directory, some of them twice.
+#[tactic(auto, unfolding(crate::specs::Exports::export_of))]
+pub fn export(alloc: Global, view: &[Shown]) -> Result<Bytes, NoMemory>
+    ensures { IfOk result (λ script. script ≡ export_of view.now) }
+{
+    let directories = Directories::of_view(alloc, view)?;
+    let mut script = Vec::with_capacity(alloc, room_for(&directories, view))?;
+    put_directories(&mut script, &directories)?;
+    put_files(&mut script, &directories, view)?;
+    Ok(Bytes::from(script))
+}
