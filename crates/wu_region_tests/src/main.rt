@@ -6,9 +6,11 @@ mod cursors;
 mod expressions;
 mod fixtures;
 mod plain;
+mod pruned;
 mod questions;
 mod rankings;
 mod regions;
+mod scattered;
 
 use std::alloc::Global;
 use std::io;

@@ -6,11 +6,14 @@ ghost use Rattle.wu_rank.specs.Scores.{length_of};
 
 use crate::expressions::expression;
 use crate::fixtures::{Corpus, corpus_of, frame_of, solved, word_lists};
+use crate::pruned::rank_plainly;
+use crate::scattered::{scattered_lists, scattered_units};
 use std::alloc::Global;
 use wu_base::{NoMemory, TermList};
 use wu_gcl::Expr;
 use wu_rank::{
-    Ranked, Ranker, Ranking, Unit, any_order_of_units, bm25_weigh, one_order, rank, summed_length,
+    Pruned, Ranked, Ranker, Ranking, Unit, any_order_of_units, bm25_weigh, one_order, rank,
+    rank_pruned, summed_length,
 };
 use wu_rows::{
     NoAnswer, byte_strings, number, number_text, numbers_text, optional_numbers, plain_text,
@@ -31,6 +34,16 @@ pub fn answer(alloc: Global, call: &str, arguments: &[&str]) -> Result<String, N
         ("rank", [texts, places, k, unit, words]) => {
             ranked(alloc, texts, places, small_number(k)?, unit, words)
         }
+        ("rank_pruned", [texts, places, k, unit, words]) => {
+            pruned(alloc, texts, places, small_number(k)?, unit, words)
+        }
+        ("rank_pruned, at random", [seed, units, words, k]) => pruned_at_random(
+            alloc,
+            number(seed)?,
+            small_number(units)?,
+            small_number(words)?,
+            small_number(k)?,
+        ),
         ("one_order", []) => {
             one_order();
             plain_text(alloc, "a law")
@@ -167,4 +180,93 @@ fn shown(
         numbers.extend_from_slice(&line_of(corpus, places, ranked))?;
     }
     Ok(numbers)
+}
+
+/// The pruned ranking of the units, where they may be ranked; nothing also where `rank`, or a ranking that weighs each
+/// unit, differs from it.
+fn pruned_of(
+    alloc: Global,
+    units: &[Unit],
+    lists: &[TermList],
+    k: u32,
+) -> Result<Option<Pruned>, NoMemory>
+    requires { All (λ word. IsStrictlyIncreasing word.at) lists.now }
+{
+    if lists.len() > 64 || !are_short(units) {
+        return Ok(None);
+    }
+    let n = (units.len() as u64).max(1);
+    let t = summed_length(units).max(u128::from(units.is_empty()));
+    if n > 1 << 47 || t == 0 || t >= 1 << 73 {
+        return Ok(None);
+    }
+    let ranker = Ranker::new(|idf, f, l| bm25_weigh(idf, f, l, n, t), n, t);
+    let pruned = rank_pruned(alloc, units, lists, k, &ranker)?;
+    if pruned == rank_plainly(alloc, units, lists, k, t)? {
+        Ok(Some(pruned))
+    } else {
+        Ok(None)
+    }
+}
+
+/// How many units are listed, how many weighed, and then each of these. The ranking is that of `rank`.
+fn pruned(
+    alloc: Global,
+    texts: &str,
+    places: &str,
+    k: u32,
+    unit: &str,
+    words: &str,
+) -> Result<String, NoAnswer> {
+    let corpus = corpus_of(alloc, texts)?;
+    let places = optional_numbers(alloc, places)?;
+    let units = units_of(alloc, &corpus, &places, &expression(alloc, unit)?)?;
+    let lists = word_lists(alloc, &byte_strings(alloc, words)?, &corpus.terms)?;
+    let Some(pruned) = pruned_of(alloc, &units, &lists, k)? else {
+        return plain_text(alloc, "another ranking than plainly");
+    };
+    if ranking_of(alloc, &units, &lists, k)? != Some(pruned.ranking.clone()?) {
+        return plain_text(alloc, "another ranking than by rank");
+    }
+    numbers_text(alloc, &weighed(alloc, &corpus, &places, &pruned)?)
+}
+
+fn weighed(
+    alloc: Global,
+    corpus: &Corpus,
+    places: &[Option<u32>],
+    pruned: &Pruned,
+) -> Result<Vec<u64>, NoMemory> {
+    let mut numbers = Vec::new(alloc);
+    numbers.push(pruned.ranking.listed)?;
+    numbers.push(pruned.weighed.as_slice().len() as u64)?;
+    for unit in pruned.weighed.as_slice() {
+        let start = start_of(corpus, places, unit.place);
+        numbers.push(u64::from(unit.place))?;
+        numbers.push(unit.extent.start.saturating_sub(start))?;
+        numbers.push(unit.extent.end.saturating_sub(start))?;
+    }
+    Ok(numbers)
+}
+
+/// How many of the units are listed and how many weighed, where words stand at random places in as many units.
+fn pruned_at_random(
+    alloc: Global,
+    seed: u64,
+    units: u32,
+    words: u32,
+    k: u32,
+) -> Result<String, NoAnswer> {
+    let units = scattered_units(alloc, seed, units)?;
+    let lists = scattered_lists(alloc, seed, &units, words)?;
+    match pruned_of(alloc, &units, &lists, k)? {
+        Some(pruned) => numbers_text(
+            alloc,
+            &[
+                pruned.ranking.listed,
+                pruned.weighed.as_slice().len() as u64,
+            ],
+        ),
+        None => plain_text(alloc, "another ranking than plainly"),
+    }
 }
