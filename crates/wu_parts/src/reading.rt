@@ -11,7 +11,7 @@ ghost use Rattle.wu_parts.specs.StoredParts.{AreFetchedFrom, pairs_of};
 
 use crate::writing::StoredPart;
 use wu_base::{ADDRESSES_MAX, Range, Trouble};
-use wu_lists::{Lists, AddressSink};
+use wu_lists::{AddressSink, Lists};
 use wu_outside::Store;
 
 /// Asks for the blocks of the term that the frames need in the parts, from left to right. A sink that wants them

@@ -45,13 +45,7 @@ fn weight(idf: u32, f: u64, extent: Extent, n: u64, t: u128) -> u64 {
 }
 
 /// The unit, if it is listed.
-fn plain_of(
-    unit: Unit,
-    lists: &[TermList],
-    rarities: &[u32],
-    n: u64,
-    t: u128,
-) -> Option<Plain> {
+fn plain_of(unit: Unit, lists: &[TermList], rarities: &[u32], n: u64, t: u128) -> Option<Plain> {
     let mut listed = false;
     let mut score: u64 = 0;
     let mut bound: u64 = 0;

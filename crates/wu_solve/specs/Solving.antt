@@ -24,4 +24,3 @@ frames_hits region lists frames = flat_map (frame_hits region lists) frames
 -- ends at or before 2 ^ 47
 abbrev pub IsFrame : Range → Type 0
 IsFrame frame = frame.start + frame.len ≤ 2 ^ 47
-
