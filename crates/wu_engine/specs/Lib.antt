@@ -13,6 +13,7 @@ pub mod Stands
 pub mod Searched
 pub mod Reports
 pub mod Causes
+pub mod Reindexing
 pub mod Opening
 pub mod Crashes
 pub mod Saving
@@ -30,3 +31,4 @@ pub mod Indexing
 pub mod Units
 pub mod Finding
 pub mod Opened
+pub mod Reindexed

@@ -14,6 +14,7 @@ mod opening;
 mod querying;
 mod ranking;
 mod reading;
+mod reindexing;
 mod renewing;
 mod saving;
 mod units;
