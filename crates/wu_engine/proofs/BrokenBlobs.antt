@@ -2,9 +2,10 @@
 use Rattle.std.proofs.Common.{◌≡◌, inl, inr, ⊎_elim, ℕ, ◌<◌, List, [], ◌∷◌, refl, sym, ◌∙◌, subst}
 use Rattle.std.specs.Prelude.{Option, None, Some, zip}
 use Rattle.std.specs.List.{AllByRecursion}
+use Rattle.std.proofs.lemmas.List.Sorted.{IsPermutation-sym}
 use Rattle.wu_base.specs.declared.addresses.PartRec.{PartRec}
 use Rattle.wu_base.specs.declared.addresses.TermList.{TermList}
-use Rattle.wu_base.proofs.Members.{Contains-from_Has, Has}
+use Rattle.wu_base.proofs.Members.{Contains-from_Has, Has, Has-append_right}
 use Rattle.wu_outside.specs.Content.{Content}
 use Rattle.wu_layout.specs.Invariants.{SomeOf}
 use Rattle.wu_layout.proofs.EntryLemmas.{IfSome-map}
@@ -17,14 +18,17 @@ use Rattle.wu_parts.specs.Contents.{Contents, JobAt}
 use Rattle.wu_parts.specs.Loading.{HasNoDirectory, IsFirstBroken}
 use Rattle.wu_parts.specs.Working.{IsDamaged}
 use Rattle.wu_parts.proofs.UnitChains.{broken_parts}
-use Rattle.wu_image.specs.Breakage.{HasBrokenPart, IsBrokenCheckpoint, IsBrokenRoot}
+use Rattle.wu_image.specs.Breakage.{HasBrokenPart, HasBrokenText, IsBrokenCheckpoint, IsBrokenRoot}
 use Rattle.wu_image.specs.Texts.{IsBrokenText}
 use Rattle.wu_image.specs.declared.checkpoints.Checkpoint.{Checkpoint}
+use Rattle.wu_image.specs.declared.records.FileRec.{FileRec}
 use Rattle.wu_image.specs.declared.roots.Root.{Root}
+use Rattle.wu_image.proofs.FileOrder.{moved_has}
 use Rattle.wu_query.specs.Causes.{IsDamagedAt, IsDamagedIn}
 use Rattle.wu_query.specs.Records.{Records}
-use Rattle.wu_engine.specs.Going.{HasBroken, IsSavedPart, IsSoundIn, IsSoundJob, IsSoundOver, IsSoundPart, IsSoundText}
-use Rattle.wu_engine.specs.Opening.{HasCheckpoint, HasOpenRoot, IsDamagedAtOpening}
+use Rattle.wu_engine.specs.Going.{HasBroken, IsSavedPart, IsSoundIn, IsSoundJob, IsSoundOver, IsSoundPart, IsSoundText, parts_kept}
+use Rattle.wu_engine.specs.Opening.{HasCheckpoint, HasOpenRoot, IsDamagedAtOpening, IsIndexDamaged}
+use Rattle.wu_engine.specs.Reindexing.{IsFirstBrokenText}
 
 module _ (start content : Content) (blob : ℕ) where
   -- a text
@@ -141,6 +145,23 @@ broken_part content parts blob first =
     let found = first_broken content parts blob first in
     record { part = found.0; recorded = Contains-from_Has found.0 parts found.1; its = found.2; broken = found.3 }
 
+-- the first text that is broken is so by its record
+broken_text : (content : Content) (files : List FileRec) (blob : ℕ) → IsFirstBrokenText (Some content) files blob
+    → HasBrokenText content files blob
+broken_text content files blob is =
+    let first = is.first in
+    let among : Has first.file is.order =
+    subst (Has first.file) (sym first.split) (Has-append_right first.file first.before (first.file ∷ first.after) (inl refl)) in
+    record {
+      file = first.file;
+      recorded =
+          Contains-from_Has first.file files
+          (moved_has is.order files first.file (IsPermutation-sym files is.order is.by_address.moved) among);
+      its = first.its;
+      some = first.some;
+      broken = first.broken;
+    }
+
 -- what an opening finds broken
 pub opening_is_broken : (content : Content) (blob : ℕ) → IsDamagedAtOpening content blob → HasBroken content blob
 opening_is_broken content blob damaged =
@@ -157,20 +178,27 @@ opening_is_broken content blob damaged =
       its = saved.2;
       broken = saved.3;
     }))))
-    (λ (part : (root : Root) × HasOpenRoot content root × (checkpoint : Checkpoint) × HasCheckpoint content root checkpoint
-    × IsFirstBroken (Some content) checkpoint.parts blob).
+    (λ (saved : (root : Root) × HasOpenRoot content root × (checkpoint : Checkpoint) × HasCheckpoint content root checkpoint
+    × IsIndexDamaged content root.version checkpoint blob).
     inr (
-      part.2.files,
-      part.2.parts,
+      saved.2.files,
+      parts_kept saved.0.version saved.2,
       record {
-        root = part.0;
-        found = part.1.has;
-        checkpoint = part.2;
-        saved = part.3;
+        root = saved.0;
+        found = saved.1.has;
+        checkpoint = saved.2;
+        saved = saved.3;
         of_files = refl;
         of_parts = refl;
       },
-      inr (inr (inl (broken_part content part.2.parts blob part.4))),
+      ⊎_elim
+          (λ (part : (saved.0.version ≡ 2) × IsFirstBroken (Some content) saved.2.parts blob).
+          let all : parts_kept saved.0.version saved.2 ≡ saved.2.parts = rw part.0 refl in
+          inr (inr (inl (subst (λ (parts : List PartRec). HasBrokenPart content parts blob) (sym all)
+          (broken_part content saved.2.parts blob part.1)))))
+          (λ (text : (saved.0.version ≡ 1) × IsFirstBrokenText (Some content) saved.2.files blob).
+          inr (inr (inr (broken_text content saved.2.files blob text.1))))
+          saved.4,
     ))
     later)
     damaged

@@ -1,8 +1,7 @@
 -- What an engine records is sound when it is opened.
-use Rattle.std.proofs.Common.{◌≡◌, ◌≢◌, inl, inr, ⊎_elim, ℕ, ◌+◌, ◌<◌, ◌≤◌, ◌==◌, nat_lt, eqb, true, false, cond, List, [], ◌∷◌, length}
-use Rattle.std.proofs.Common.{map, filter, count_by, refl, ap, sym, ◌∙◌, subst, arith}
+use Rattle.std.proofs.Common.{◌≡◌, ◌≢◌, inl, inr, ⊎_elim, ℕ, ◌+◌, ◌<◌, ◌≤◌, ◌==◌, nat_lt, eqb, true, false, cond, List, [], ◌∷◌, length, map, filter, count_by, refl, ap, sym, ◌∙◌, subst, arith}
 use Rattle.std.specs.Prelude.{Option, Some, None, IfSome, zip}
-use Rattle.std.specs.List.{AllByRecursion, IsDistinct}
+use Rattle.std.specs.List.{AllByRecursion, Contains, IsDistinct}
 use Rattle.std.proofs.lemmas.Bool.{cases_eq, eq-eqb}
 use Rattle.wu_base.specs.declared.addresses.PartRec.{PartRec}
 use Rattle.wu_base.proofs.Members.{Contains-from_Has, Has, Has-append_right, Has-map, all_from_has, all_has}
@@ -15,20 +14,24 @@ use Rattle.wu_space.proofs.Files.{sum_by-map}
 use Rattle.wu_part.specs.Directories.{PartDirectory}
 use Rattle.wu_part.specs.Parts.{IsDirectoryOf}
 use Rattle.wu_parts.specs.Contents.{Contents, no_contents}
+use Rattle.wu_parts.specs.Memory.{HasPostings, Memory}
 use Rattle.wu_parts.specs.Loading.{AreOpened, HasDirectory, IsLoaded, loaded_contents}
 use Rattle.wu_parts.specs.Units.{as_parts}
 use Rattle.wu_parts.proofs.Putting.{has-none}
 use Rattle.wu_image.specs.declared.checkpoints.Checkpoint.{Checkpoint}
 use Rattle.wu_image.specs.declared.records.FileRec.{FileRec}
 use Rattle.wu_image.specs.declared.roots.Root.{Root}
+use Rattle.wu_image.specs.Images.{postings_from}
 use Rattle.wu_image.specs.LayoutRules.{AreLayoutRules, named_blobs}
+use Rattle.wu_space.specs.Addresses.{Addresses}
+use Rattle.wu_query.specs.Finding.{text_held}
 use Rattle.wu_query.specs.Records.{Records}
 use Rattle.wu_engine.specs.declared.engines.Engine.{Engine}
-use Rattle.wu_engine.specs.Going.{Goes, HasSaved, IsSoundIn, IsSoundPart, IsSoundText, entries_of, entry_for}
+use Rattle.wu_engine.specs.Going.{Goes, HasSaved, IsSoundIn, IsSoundPart, IsSoundText, entries_of, entry_for, parts_kept}
 use Rattle.wu_engine.specs.Opened.{IsEngineFor, IsFirstEngine, numbered}
 use Rattle.wu_engine.specs.Opening.{HasCheckpoint, HasOpenRoot, HasRoot}
+use Rattle.wu_engine.specs.Reindexed.{IsReindexed}
 use Rattle.wu_engine.proofs.GoingUnits.{named_by_blobs, named_by_parts}
-use Rattle.wu_engine.proofs.OpenedStates.{its_load}
 use Rattle.wu_engine.proofs.SavedBlobs.{times, times-positive}
 
 -- ---- numbers that are counted
@@ -164,8 +167,11 @@ module _ (content : Content) (root : Root) (found : HasRoot content root) (check
 
   -- ---- texts and parts
 
-  its_records : HasSaved content files parts
+  its_records : HasSaved content files (parts_kept root.version checkpoint)
   its_records = record { root = root; found = found; checkpoint = checkpoint; saved = has; of_files = refl; of_parts = refl }
+
+  all_kept : root.version ≡ 2 → parts_kept root.version checkpoint ≡ parts
+  all_kept second = rw second refl
 
   texts_saved : (some : List FileRec) → ((file : FileRec) → Has file some → Has file files)
       → AllByRecursion (IsSoundText content content) (numbered some)
@@ -173,7 +179,7 @@ module _ (content : Content) (root : Root) (found : HasRoot content root) (check
   texts_saved (file ∷ some) among = (
     λ stored. inl (record {
       files = files;
-      parts = parts;
+      parts = parts_kept root.version checkpoint;
       saved = its_records;
       recorded = Contains-from_Has file files (among file (inl refl));
       same = refl;
@@ -186,12 +192,12 @@ module _ (content : Content) (root : Root) (found : HasRoot content root) (check
   directory_there directory directory_length None own = absurd own
   directory_there directory directory_length (Some bytes) own = (bytes, refl, own.0)
 
-  parts_saved : (some : List PartRec) (directories : List PartDirectory) (read : List ReadRange)
+  parts_saved : root.version ≡ 2 → (some : List PartRec) (directories : List PartDirectory) (read : List ReadRange)
       → ((part : PartRec) → Has part some → Has part parts) → AreOpened (Some content) some directories read
       → AllByRecursion (IsSoundPart content content) (zip some directories)
-  parts_saved [] directories read among opened = tt
-  parts_saved (recorded ∷ some) [] read among opened = tt
-  parts_saved (recorded ∷ some) (directory ∷ directories) read among opened =
+  parts_saved second [] directories read among opened = tt
+  parts_saved second (recorded ∷ some) [] read among opened = tt
+  parts_saved second (recorded ∷ some) (directory ∷ directories) read among opened =
       let own = directory_there directory opened.0 (content.blobs recorded.blob) opened.2.own in (
         record {
           told = opened.2.told;
@@ -200,13 +206,15 @@ module _ (content : Content) (root : Root) (found : HasRoot content root) (check
           own = own.2;
           sound = inl (record {
             files = files;
-            parts = parts;
+            parts = parts_kept root.version checkpoint;
             saved = its_records;
-            recorded_so = Contains-from_Has recorded parts (among recorded (inl refl));
+            recorded_so =
+                subst (λ (kept : List PartRec). Contains kept recorded) (sym (all_kept second))
+                (Contains-from_Has recorded parts (among recorded (inl refl)));
             same = refl;
           });
         },
-        parts_saved some directories opened.1 (λ other is. among other (inr is)) opened.4,
+        parts_saved second some directories opened.1 (λ other is. among other (inr is)) opened.4,
       )
 
   opened_paired : (some : List PartRec) (directories : List PartDirectory) (read : List ReadRange)
@@ -216,14 +224,36 @@ module _ (content : Content) (root : Root) (found : HasRoot content root) (check
   opened_paired (recorded ∷ some) [] read opened = absurd opened
   opened_paired (recorded ∷ some) (directory ∷ directories) read opened = omega (arith, opened_paired some directories opened.1 opened.4)
 
-  saved_sound : (directories : List PartDirectory) (read : List ReadRange) (flush_at : ℕ) → AreOpened (Some content) parts directories read
+  saved_sound : root.version ≡ 2 → (directories : List PartDirectory) (read : List ReadRange) (flush_at : ℕ) → AreOpened (Some content) parts directories read
       → IsSoundIn content content (numbered files)
       (loaded_contents parts directories flush_at checkpoint.next_blob checkpoint.flushes) root.checkpoint
-  saved_sound directories read flush_at opened = record {
+  saved_sound second directories read flush_at opened = record {
     paired = opened_paired parts directories read opened;
     blobs = blobs_distinct;
     texts = texts_saved files (λ file is. is);
-    parts = parts_saved parts directories read (λ part is. is) opened;
+    parts = parts_saved second parts directories read (λ part is. is) opened;
+    job = tt;
+  }
+
+  -- ---- texts that are indexed anew
+
+  blobs_retired : BlobsAreDistinct checkpoint.next_blob (entries_of (numbered files)) [] root.checkpoint (map (λ part. part.blob) parts)
+  blobs_retired = record {
+    positive = blobs_distinct.positive;
+    distinct = λ number l. omega (arith, blobs_distinct.distinct number l, named_by_parts number parts, named_by_blobs number parts);
+    below = λ number above. omega (arith, blobs_distinct.below number above, named_by_parts number parts, named_by_blobs number parts);
+    of_parts = refl;
+    of_stale = omega (arith, blobs_distinct.of_parts, named_by_parts 0 parts, named_by_blobs 0 parts);
+  }
+
+  reindexed_sound : (memory : Memory) (flush_at : ℕ)
+      → IsSoundIn content content (numbered files)
+      (record (no_contents flush_at checkpoint.next_blob) { memory = memory; stale = map (λ part. part.blob) parts }) root.checkpoint
+  reindexed_sound memory flush_at = record {
+    paired = refl;
+    blobs = blobs_retired;
+    texts = texts_saved files (λ file is. is);
+    parts = tt;
     job = tt;
   }
 
@@ -272,15 +302,14 @@ first_goes engine flush_at is before opened same content told =
     (nothing_sound content flush_at))
 
 -- and so does one of what was saved
-module _ (root : Root) (checkpoint : Checkpoint) {before between : Option Content} (same : between ≡ before) {records : List PartRec}
-    (recorded : records ≡ checkpoint.parts) (roomy : IfSome before (λ content. HasOpenRoot content root))
-    (has : IfSome before (λ content. HasCheckpoint content root checkpoint)) {parts : Contents} {flush_at : ℕ}
-    {middle last : Option (List ReadRange)}
-    (loaded : IsLoaded between records flush_at checkpoint.next_blob checkpoint.flushes middle last parts) where
+module _ (root : Root) (checkpoint : Checkpoint) {before between : Option Content} (same : between ≡ before)
+    (roomy : IfSome before (λ content. HasOpenRoot content root)) (has : IfSome before (λ content. HasCheckpoint content root checkpoint))
+    {parts : Contents} {flush_at : ℕ} {middle last : Option (List ReadRange)} (second : root.version ≡ 2)
+    (loaded : IsLoaded between checkpoint.parts flush_at checkpoint.next_blob checkpoint.flushes middle last parts) where
   pub saved_goes : {engine : Engine} → IsEngineFor root.checkpoint checkpoint parts engine → {after : Option Content} → after ≡ between
       → (content : Content) → before ≡ Some content → Goes engine content after
   saved_goes {engine} is unchanged content told =
-      let load = its_load root checkpoint same recorded roomy has loaded in
+      let load : IsLoaded before checkpoint.parts flush_at checkpoint.next_blob checkpoint.flushes middle last parts = rw same at loaded in
       let found : HasOpenRoot content root = rw told at roomy in
       let saved : HasCheckpoint content root checkpoint = rw told at has in
       let opened : AreOpened (Some content) checkpoint.parts parts.directories load.read =
@@ -289,4 +318,39 @@ module _ (root : Root) (checkpoint : Checkpoint) {before between : Option Conten
       (at_first engine content (numbered checkpoint.files)
       (loaded_contents checkpoint.parts parts.directories flush_at checkpoint.next_blob checkpoint.flushes) root.checkpoint is.goes_on
       is.files (is.parts_kept ∙ load.kept) is.of_blob refl refl
-      (saved_sound content root found.has checkpoint saved parts.directories load.read flush_at opened))
+      (saved_sound content root found.has checkpoint saved second parts.directories load.read flush_at opened))
+
+-- and one that indexed the texts anew
+module _ (root : Root) (checkpoint : Checkpoint) {before between : Option Content} (same : between ≡ before)
+    (roomy : IfSome before (λ content. HasOpenRoot content root)) (has : IfSome before (λ content. HasCheckpoint content root checkpoint))
+    {parts : Contents} {flush_at : ℕ} {middle last : Option (List ReadRange)}
+    (opened : IsReindexed between checkpoint flush_at middle last parts) where
+  pub reindexed_goes : {engine : Engine} → IsEngineFor root.checkpoint checkpoint parts engine → {after : Option Content} → after ≡ between
+      → (content : Content) → before ≡ Some content → Goes engine content after
+  reindexed_goes {engine} is unchanged content told =
+      let found : HasOpenRoot content root = rw told at roomy in
+      let saved : HasCheckpoint content root checkpoint = rw told at has in
+      let memory : IfSome (Some content)
+      (λ c. HasPostings 0 parts.memory.end parts.memory (postings_from (text_held c) opened.order)) =
+      subst (λ (h : Option Content). IfSome h (λ c. HasPostings 0 parts.memory.end parts.memory (postings_from (text_held c) opened.order)))
+      (same ∙ told) opened.memory in
+      rw (unchanged ∙ same ∙ told)
+      (record {
+        goes_on = is.goes_on;
+        low = 0;
+        high = parts.memory.end;
+        below = omega (arith, opened.below, ap (λ (a : Addresses). a.next) is.space);
+        postings = postings_from (text_held content) opened.order;
+        memory =
+            subst (λ (c : Contents). HasPostings 0 parts.memory.end c.memory (postings_from (text_held content) opened.order))
+            (sym is.parts_kept) memory;
+        sound =
+            subst (λ (rs : Records). IsSoundIn content content rs engine.parts engine.checkpoint) (sym is.files)
+            (subst (λ (c : Contents). IsSoundIn content content (numbered checkpoint.files) c engine.checkpoint)
+            (sym (is.parts_kept ∙ opened.kept))
+            (subst (λ (n : ℕ). IsSoundIn content content (numbered checkpoint.files)
+            (record (no_contents flush_at checkpoint.next_blob) {
+              memory = parts.memory;
+              stale = map (λ part. part.blob) checkpoint.parts;
+            }) n) (sym is.of_blob) (reindexed_sound content root found.has checkpoint saved parts.memory flush_at)));
+      })

@@ -44,6 +44,9 @@ pub mod SavedStates
 pub mod SavedEngines
 pub mod GoingSaves
 pub mod GoingAtFirst
+pub mod ReindexedStates
+pub mod OpenedIndexes
+pub mod ReindexedTexts
 pub mod LeftImages
 pub mod StoppedSaves
 pub mod EarlierBlobs

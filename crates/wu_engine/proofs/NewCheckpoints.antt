@@ -136,6 +136,7 @@ module _ (tree : FileSystem) (space : Addresses) (files : Records) (checkpoint :
   -- the root that it sets
   abbrev its_root : IsPrepared tree space files old before → Root
   its_root prepared = record {
+    version = 2;
     checkpoint = prepared.first.flushed.next_blob;
     size = length prepared.bytes;
     next_address = space.next;

@@ -1,6 +1,5 @@
 -- The files that a checkpoint records, as an engine is made of them.
-use Rattle.std.proofs.Common.{◌≡◌, ℕ, ◌+◌, ◌<◌, ◌≤◌, Bool, true, false, cond, List, [], ◌∷◌, refl, ap, sym, ◌∙◌, subst, arith, inl, inr}
-use Rattle.std.proofs.Common.{⊎_elim}
+use Rattle.std.proofs.Common.{◌≡◌, ℕ, ◌+◌, ◌<◌, ◌≤◌, Bool, true, false, cond, List, [], ◌∷◌, refl, ap, sym, ◌∙◌, subst, arith, inl, inr, ⊎_elim}
 use Rattle.std.specs.Prelude.{◌==◌, ◌↔◌, IsPermutation, Some, is_some, map, filter}
 use Rattle.std.specs.declared.cmp.Ordering.TheVariants.{Less}
 use Rattle.std.specs.Ordering.{is_eq, nat_cmp, ordering_reverse}
@@ -23,7 +22,6 @@ use Rattle.wu_tree.proofs.ParentPaths.{same_number}
 use Rattle.wu_space.specs.Addresses.{Addresses, AreLive, IsSpace, Ranges}
 use Rattle.wu_space.proofs.Live.{once-from_sorted}
 use Rattle.wu_parts.specs.Contents.{Contents}
-use Rattle.wu_parts.specs.Loading.{end_of}
 use Rattle.wu_image.specs.declared.checkpoints.Checkpoint.{Checkpoint}
 use Rattle.wu_image.specs.declared.records.FileRec.{FileRec}
 use Rattle.wu_image.specs.Checkpoints.{IsCheckpoint, file_numbers}
@@ -32,7 +30,6 @@ use Rattle.wu_image.proofs.RuleLemmas.{sum_of_map}
 use Rattle.wu_query.specs.Records.{recorded_ranges}
 use Rattle.wu_query.specs.Soundness.{IsRecord, IsSound}
 use Rattle.wu_engine.specs.Opened.{numbered, ranges_recorded}
-use Rattle.wu_engine.proofs.OpenedParts.{end_below}
 
 -- ---- the files' numbers ascend
 
@@ -197,17 +194,13 @@ file_among ino (node ∷ nodes) s =
 
 -- ---- what an engine of them keeps
 
-records_kept : (next : ℕ) (files : List FileRec) → AllByRecursion (IsText next) files → AllByRecursion IsRecord (numbered files)
-records_kept next [] a = tt
-records_kept next (file ∷ files) a = (
-  record {
-    number = refl;
-    short = a.0.short;
-    tokens = a.0.long;
-    stored = both_or_none file.blob file.len a.0.kept;
-  },
-  records_kept next files a.1,
-)
+pub text_recorded : (next : ℕ) (file : FileRec) → IsText next file → IsRecord (file.ino, file)
+text_recorded next file is = record {
+  number = refl;
+  short = is.short;
+  tokens = is.long;
+  stored = both_or_none file.blob file.len is.kept;
+}
   where
     both_or_none : (m n : ℕ) → ((m ≡ 0) ↔ (n ≡ 0)) → (m == 0) ≡ (n == 0)
     both_or_none m n h =
@@ -216,12 +209,16 @@ records_kept next (file ∷ files) a = (
         (λ (e : m ≡ 0 → ⊥). ne_eqb m 0 e ∙ sym (ne_eqb n 0 (λ f. e (h.1 f))))
         (cases_eq m 0)
 
+records_kept : (next : ℕ) (files : List FileRec) → AllByRecursion (IsText next) files → AllByRecursion IsRecord (numbered files)
+records_kept next [] a = tt
+records_kept next (file ∷ files) a = (text_recorded next file a.0, records_kept next files a.1)
+
 ranges_of_records : (files : List FileRec) → recorded_ranges (numbered files) ≡ ranges_recorded files
 ranges_of_records [] = refl
 ranges_of_records (file ∷ files) = ap (λ (ranges : Ranges). (file.ino, file.range) ∷ ranges) (ranges_of_records files)
 
 pub sound_engine : (c : Checkpoint) (parts : Contents) → IsCheckpoint c → c.next_address < SPENT_AT → 0 < c.next_blob
-    → parts.next_blob ≡ c.next_blob → parts.memory.end ≡ end_of c.parts
+    → parts.next_blob ≡ c.next_blob → parts.memory.end ≤ c.next_address
     → IsSound c.tree (record { next = c.next_address; ranges = ranges_recorded c.files }) parts (numbered c.files) []
 sound_engine c parts is room drawn blob end = record {
   of_files = λ ino.
@@ -229,7 +226,7 @@ sound_engine c parts is room drawn blob end = record {
   ranges = ranges_of_records c.files;
   records = records_kept c.next_address c.files is.layout.texts;
   few = omega (arith, room);
-  below = omega (arith, end, end_below 0 c.parts c.next_address is.layout.spans);
+  below = omega (arith, end);
   blobs = omega (arith, blob, drawn);
   frames = tt;
 }

@@ -187,7 +187,7 @@ opened_given count bytes root (Err fault) given same = tt
 pub opened_room : (root : Root) (bytes : List ℕ) (r : Result Root BeginFault) → SpellsRoot root bytes
     → IfOk r (λ opened. opened ≡ root) → OnOk r (spent_of root ≡ None) → IfOk r HasRoom
 opened_room root bytes (Ok opened) spelled same unspent =
-    subst HasRoom (sym same) (record { unspent = unspent; drawn = omega (arith, spelled.some, spelled.drawn) })
+    subst HasRoom (sym same) (record { version = spelled.version; unspent = unspent; drawn = omega (arith, spelled.some, spelled.drawn) })
 opened_room root bytes (Err fault) spelled same unspent = tt
 
 pub spent_fault : (count : ℕ) (bytes : List ℕ) (root : Root) → IsGivenRoot count bytes root → (fault : BeginFault)

@@ -2,14 +2,9 @@
 use Rattle.std.proofs.Common.{◌≡◌, ℕ, List, [], ◌∷◌, ◌++◌, length, refl, ap, sym, ◌∙◌, subst, ◌⊎◌, inl, inr, ⊎_elim}
 use Rattle.std.specs.Prelude.{Option, Some, None, IfErr, IfNone, IfSome, IsErrAnd, OnErr, OnOk, Result, Ok, Err, option_map}
 use Rattle.std.specs.List.{AllByRecursion}
-use Rattle.wu_base.specs.declared.addresses.PartRec.{PartRec}
 use Rattle.wu_outside.specs.Content.{Content}
 use Rattle.wu_outside.specs.declared.ranges.ReadRange.{ReadRange}
-use Rattle.wu_layout.specs.Invariants.{SomeOf}
 use Rattle.wu_lists.proofs.Asking.{ranges-none}
-use Rattle.wu_part.specs.Directories.{PartDirectory}
-use Rattle.wu_parts.specs.Contents.{Contents}
-use Rattle.wu_parts.specs.Loading.{AreOpened, IsFrontOf, IsLoaded, ReadsFronts}
 use Rattle.wu_image.specs.declared.checkpoints.Checkpoint.{Checkpoint}
 use Rattle.wu_image.specs.declared.roots.Root.{Root}
 use Rattle.wu_image.specs.Breakage.{IsBrokenCheckpoint}
@@ -17,14 +12,12 @@ use Rattle.wu_image.specs.Checkpoints.{SpellsCheckpoint}
 use Rattle.wu_image.proofs.ListedLemmas.{same_checkpoint}
 use Rattle.wu_query.specs.States.{State}
 use Rattle.wu_query.proofs.PermittedBlocks.{reads_joined}
-use Rattle.wu_engine.specs.declared.engines.Engine.{Engine}
 use Rattle.wu_engine.specs.declared.faults.BeginFault.{BeginFault}
 use Rattle.wu_engine.specs.declared.faults.BeginFault.TheVariants as faults
-use Rattle.wu_engine.specs.Opened.{FindsRoot, IsEngineFor, IsFoundIn, MatchesRoot, ReadsCheckpoint}
-use Rattle.wu_engine.specs.Opening.{HasCheckpoint, HasOpenRoot, HoldsImage, IsBeginCause, IsDamagedAtOpening, IsOpen, IsOpeningRange}
-use Rattle.wu_engine.specs.Opening.{IsSpentWhere, Opens, ReadsAtOpening, checkpoint_range}
-use Rattle.wu_engine.specs.Stands.{Stands}
-use Rattle.wu_engine.proofs.ImageStates.{image_undamaged, saved_stands}
+use Rattle.wu_engine.specs.Opened.{FindsRoot, IsFoundIn, MatchesRoot, ReadsCheckpoint}
+use Rattle.wu_engine.specs.Opening.{HasCheckpoint, HasOpenRoot, HoldsImage, IsBeginCause, IsDamagedAtOpening, IsIndexRange, IsOpen, IsOpeningRange, IsSpentWhere, Opens, OpensIndex, ReadsAtOpening, checkpoint_range}
+use Rattle.wu_engine.specs.Reindexed.{ReadsIndex}
+use Rattle.wu_engine.proofs.ImageStates.{image_undamaged}
 
 -- ---- the checkpoint
 
@@ -104,19 +97,18 @@ module _ (root : Root) where
       one_read (Some content) h = ((root, h, inl refl), tt)
 
   module _ (checkpoint : Checkpoint) where
-    fronts_opening : (content : Content) → HasOpenRoot content root → HasCheckpoint content root checkpoint → (read : List ReadRange)
-        → AllByRecursion (λ range. SomeOf (IsFrontOf (Some content) range) checkpoint.parts) read
-        → AllByRecursion (IsOpeningRange content) read
-    fronts_opening content roomy has [] a = tt
-    fronts_opening content roomy has (range ∷ read) a =
-        ((root, roomy, inr (checkpoint, has, a.0)), fronts_opening content roomy has read a.1)
+    index_opening : (content : Content) → HasOpenRoot content root → HasCheckpoint content root checkpoint → (read : List ReadRange)
+        → AllByRecursion (IsIndexRange content root.version checkpoint) read → AllByRecursion (IsOpeningRange content) read
+    index_opening content roomy has [] a = tt
+    index_opening content roomy has (range ∷ read) a =
+        ((root, roomy, inr (checkpoint, has, a.0)), index_opening content roomy has read a.1)
 
-    -- the checkpoint, and then headers and directories
-    pub reads_fronts : (holds : Option Content) (before between after : Option (List ReadRange))
+    -- the checkpoint, and then of its index
+    pub reads_index : (holds : Option Content) (before between after : Option (List ReadRange))
         → IfSome holds (λ content. HasOpenRoot content root) → IfSome holds (λ content. HasCheckpoint content root checkpoint)
-        → ReadsCheckpoint root before between → ReadsFronts holds checkpoint.parts between after
+        → ReadsCheckpoint root before between → ReadsIndex holds root.version checkpoint between after
         → ReadsAtOpening holds before after
-    reads_fronts holds before between after roomy has first later = (
+    reads_index holds before between after roomy has first later = (
       checkpoint_range root ∷ later.0,
       all_opening holds roomy has later.1,
       later.2 ∙ (ap (option_map (λ earlier. earlier ++ later.0)) first ∙ reads_joined before (checkpoint_range root ∷ []) later.0),
@@ -124,24 +116,24 @@ module _ (root : Root) where
       where
         all_opening : (held : Option Content) → IfSome held (λ content. HasOpenRoot content root)
             → IfSome held (λ content. HasCheckpoint content root checkpoint)
-            → AllByRecursion (λ range. SomeOf (IsFrontOf held range) checkpoint.parts) later.0
+            → IfSome held (λ content. AllByRecursion (IsIndexRange content root.version checkpoint) later.0)
             → IfSome held (λ content. AllByRecursion (IsOpeningRange content) (checkpoint_range root ∷ later.0))
         all_opening None o h a = tt
-        all_opening (Some content) o h a = ((root, o, inl refl), fronts_opening content o h later.0 a)
+        all_opening (Some content) o h a = ((root, o, inl refl), index_opening content o h later.0 a)
 
-    pub opens_saved : (holds : Option Content) (before between after : Option (List ReadRange)) (directories : List PartDirectory)
-        (read : List ReadRange)
+    pub opens_saved : (holds : Option Content) (before between after : Option (List ReadRange)) (read : List ReadRange)
         → IfSome holds (λ content. HasOpenRoot content root) → IfSome holds (λ content. HasCheckpoint content root checkpoint)
-        → ReadsCheckpoint root before between → AreOpened holds checkpoint.parts directories read
+        → ReadsCheckpoint root before between → IfSome holds (λ content. OpensIndex content root.version checkpoint read)
         → after ≡ option_map (λ earlier. earlier ++ read) between → IsOpen holds before after
-    opens_saved holds before between after directories read roomy has first opened later = (
+    opens_saved holds before between after read roomy has first opened later = (
       checkpoint_range root ∷ read,
       all_open holds roomy has opened,
       later ∙ (ap (option_map (λ earlier. earlier ++ read)) first ∙ reads_joined before (checkpoint_range root ∷ []) read),
     )
       where
         all_open : (held : Option Content) → IfSome held (λ content. HasOpenRoot content root)
-            → IfSome held (λ content. HasCheckpoint content root checkpoint) → AreOpened held checkpoint.parts directories read
+            → IfSome held (λ content. HasCheckpoint content root checkpoint)
+            → IfSome held (λ content. OpensIndex content root.version checkpoint read)
             → IfSome held (λ content. Opens content (checkpoint_range root ∷ read))
         all_open None o h a = tt
         all_open (Some content) o h a = inr (record {
@@ -149,9 +141,8 @@ module _ (root : Root) where
           found = o;
           checkpoint = checkpoint;
           saved = h;
-          directories = directories;
-          fronts = read;
-          parts = a;
+          later = read;
+          index = a;
           read_are = refl;
         })
 
@@ -172,32 +163,6 @@ checkpoint_read None root buffer given found e there long spelled none = tt
 checkpoint_read (Some content) root buffer given found e there long spelled none =
     rw (there ∙ ap (λ (b : List ℕ). Some b) (sym e))
     (found_in root given found (ap length e ∙ long) spelled none)
-
--- ---- after the checkpoint was read
-
-module _ (root : Root) (checkpoint : Checkpoint) {before between : Option Content} (same : between ≡ before) {records : List PartRec}
-    (recorded : records ≡ checkpoint.parts) (roomy : IfSome before (λ content. HasOpenRoot content root))
-    (has : IfSome before (λ content. HasCheckpoint content root checkpoint)) where
-  pub opening_reads : (first middle last : Option (List ReadRange)) → ReadsCheckpoint root first middle
-      → ReadsFronts between records middle last → ReadsAtOpening before first last
-  opening_reads first middle last read fronts =
-      reads_fronts root checkpoint before first middle last roomy has read (rw (recorded, same) at fronts)
-
-  module _ {parts : Contents} {flush_at : ℕ} {middle last : Option (List ReadRange)}
-      (loaded : IsLoaded between records flush_at checkpoint.next_blob checkpoint.flushes middle last parts) where
-    pub its_load : IsLoaded before checkpoint.parts flush_at checkpoint.next_blob checkpoint.flushes middle last parts
-    its_load = rw (recorded, same) at loaded
-
-    pub opening_done : (first : Option (List ReadRange)) → ReadsCheckpoint root first middle → IsOpen before first last
-    opening_done first read =
-        opens_saved root checkpoint before first middle last parts.directories its_load.read roomy has read its_load.opened
-        its_load.read_are
-
-    pub opening_stands : {engine : Engine} → IsEngineFor root.checkpoint checkpoint parts engine → {after : Option Content}
-        → after ≡ between → (s : State) → HoldsImage before s → Stands engine after s
-    opening_stands {engine} is unchanged s image =
-        rw (unchanged ∙ same)
-        (saved_stands engine root checkpoint parts flush_at its_load.read is its_load.kept before roomy has its_load.opened s image)
 
 -- ---- an opening, whole
 

@@ -1,5 +1,5 @@
 -- Engine and store stand for the saved state after a save, and the store holds its image.
-use Rattle.std.proofs.Common.{◌≡◌, ◌≢◌, ℕ, ◌+◌, ◌≤◌, List, [], ◌++◌, length, map, refl, ap, sym, ◌∙◌, subst, arith}
+use Rattle.std.proofs.Common.{◌≡◌, ◌≢◌, inl, ℕ, ◌+◌, ◌≤◌, List, [], ◌++◌, length, map, refl, ap, sym, ◌∙◌, subst, arith}
 use Rattle.std.specs.Prelude.{Option, Some, None, option_map}
 use Rattle.std.specs.List.{AllByRecursion, AllZip}
 use Rattle.wu_base.specs.declared.limits.TheConstants.{ADDRESSES_MAX}
@@ -49,6 +49,7 @@ contents_saved contents = record contents { next_blob = contents.next_blob + 1; 
 
 abbrev root_for : ℕ → Contents → Addresses → Root
 root_for size contents space = record {
+  version = 2;
   checkpoint = contents.next_blob;
   size = size;
   next_address = space.next;
@@ -144,19 +145,22 @@ module _ (tree : FileSystem) (space : Addresses) (contents : Contents) (files : 
     tree_saved = index.tree;
     next = index.next;
     blob = ap (λ (n : ℕ). n + 1) index.next_blob;
-    flushes = index.flushes;
     check = index.next_blob;
     files =
         subst (λ (rs : Records). AllZip (HoldsText after s.texts) s.layout.files (recorded_files rs)) (sym index.files)
         (files_imaged s.layout d content bytes root s.texts index.is_state.layout.ranges.by_number stored_saved.texts);
-    parts = parts_imaged s.layout d content bytes root contents.parts contents.directories s.layout.parts stored_saved.parts;
+    job = refl;
+    index = inl (record {
+      version = refl;
+      memory = empty;
+      stale = refl;
+      flushes = index.flushes;
+      parts = parts_imaged s.layout d content bytes root contents.parts contents.directories s.layout.parts stored_saved.parts;
+    });
   }
 
   image_saved : IsImage after s.tree s.texts (rest (checkpointed s.layout))
   image_saved = record {
-    memory = empty;
-    stale = refl;
-    job = refl;
     saved =
         subst (λ (r : Option (List ℕ)). IsSaved after r s.tree s.texts (rest (checkpointed s.layout)))
         (sym (root_there s.layout d content bytes root)) has_saved;

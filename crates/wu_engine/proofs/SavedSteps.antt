@@ -44,7 +44,8 @@ taken_all {X} xs ys i many none is =
 -- ---- the calls
 
 abbrev pub root_of : ℕ → ℕ → ℕ → ℕ → Root
-root_of checkpoint size address blob = record { checkpoint = checkpoint; size = size; next_address = address; next_blob = blob }
+root_of checkpoint size address blob =
+    record { version = 2; checkpoint = checkpoint; size = size; next_address = address; next_blob = blob }
 
 pub stale_stays : (old flushed : Contents) → EmptiesMemory old flushed → flushed.stale ≡ old.stale
 stale_stays old flushed empties =

@@ -1,6 +1,6 @@
 -- How an engine goes on from what a store held when it was opened, also where that was no image of a state: what it records is as the
 -- checkpoint says, or was put into the store since, as recorded.
-use Rattle.std.specs.Prelude.{◌≡◌, ◌⊎◌, ℕ, ◌<◌, ◌≤◌, List, [], Option, None, Some, IfSome, length, map, zip}
+use Rattle.std.specs.Prelude.{◌≡◌, ◌⊎◌, ℕ, ◌<◌, ◌≤◌, ◌==◌, if◌then◌else◌, List, [], Option, None, Some, IfSome, length, map, zip}
 use Rattle.std.specs.List.{AllByRecursion, Contains}
 use Rattle.wu_base.specs.declared.addresses.PartRec.{PartRec}
 use Rattle.wu_outside.specs.Content.{Content}
@@ -24,14 +24,18 @@ use Rattle.wu_engine.specs.declared.engines.Engine.{Engine}
 
 -- ---- what was saved
 
--- the content has a checkpoint with these records of texts and parts
+-- the parts that an opening goes on with: none where the root is of the first version
+abbrev pub parts_kept : ℕ → Checkpoint → List PartRec
+parts_kept version checkpoint = if version == 1 then [] else checkpoint.parts
+
+-- the content has a checkpoint with these records of texts and of parts that an opening goes on with
 pub record HasSaved (content : Content) (files : List FileRec) (parts : List PartRec) : Type 0 where
   pub root : Root
   pub found : HasRoot content root
   pub checkpoint : Checkpoint
   pub saved : HasCheckpoint content root checkpoint
   pub of_files : checkpoint.files ≡ files
-  pub of_parts : checkpoint.parts ≡ parts
+  pub of_parts : parts_kept root.version checkpoint ≡ parts
 
 -- the content has the blob broken, by its root and by the records of the checkpoint that it names, if it names one
 abbrev pub HasBroken : Content → ℕ → Type 0

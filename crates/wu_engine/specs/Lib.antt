@@ -4,6 +4,7 @@ pub mod States
 pub mod Stands
 pub mod Reports
 pub mod Causes
+pub mod Reindexing
 pub mod Opening
 pub mod Crashes
 pub mod Saving
@@ -19,3 +20,4 @@ pub mod Earlier
 
 pub mod Indexing
 pub mod Opened
+pub mod Reindexed

@@ -10,7 +10,7 @@ use Rattle.wu_image.specs.declared.checkpoints.Checkpoint.{Checkpoint}
 use Rattle.wu_image.specs.declared.records.FileRec.{FileRec}
 use Rattle.wu_image.specs.declared.roots.Root.{Root}
 use Rattle.wu_image.specs.Checkpoints.{SpellsCheckpoint}
-use Rattle.wu_image.specs.Roots.{SpellsRoot}
+use Rattle.wu_image.specs.Roots.{IsVersion, SpellsRoot}
 use Rattle.wu_query.specs.Records.{Records}
 use Rattle.wu_engine.specs.declared.engines.Engine.{Engine}
 use Rattle.wu_engine.specs.declared.faults.BeginFault.{BeginFault}
@@ -24,8 +24,9 @@ abbrev pub FindsRoot : Option Root → Content → Type 0
 FindsRoot None content = content.root ≡ None
 FindsRoot (Some root) content = HasOpenRoot content root
 
--- the root leaves room, and its checkpoint's blob was drawn
+-- the root is of a version, it leaves room, and its checkpoint's blob was drawn
 pub record HasRoom (root : Root) : Type 0 where
+  pub version : IsVersion root.version
   pub unspent : spent_of root ≡ None
   pub drawn : 0 < root.next_blob
 

@@ -1,4 +1,5 @@
--- How an engine is opened over a store: from the root, the checkpoint that it names, and the parts that this records.
+-- How an engine is opened over a store: from the root, the checkpoint that it names, and then, by the version of the root, the parts or
+-- the texts that this records.
 use Rattle.std.specs.Prelude.{◌≡◌, ◌⊎◌, ℕ, ◌≤◌, nat_le, if◌then◌else◌, List, [], ◌∷◌, ◌++◌, Option, None, Some, IfSome, option_map, Result, Err}
 use Rattle.std.specs.List.{AllByRecursion}
 use Rattle.wu_base.specs.declared.troubles.Trouble.{Trouble}
@@ -20,6 +21,7 @@ use Rattle.wu_image.specs.Roots.{SpellsRoot}
 use Rattle.wu_query.specs.States.{State, IsState}
 use Rattle.wu_engine.specs.declared.faults.BeginFault.{BeginFault}
 use Rattle.wu_engine.specs.declared.faults.BeginFault.TheVariants as faults
+use Rattle.wu_engine.specs.Reindexing.{IsFirstBrokenText, IsTextOfOne, OpensTexts}
 
 -- the store tells what it holds, and that is an image of the state
 abbrev pub HoldsImage : Option Content → State → Type 0
@@ -58,12 +60,18 @@ pub record HasCheckpoint (content : Content) (root : Root) (checkpoint : Checkpo
 abbrev pub checkpoint_range : Root → ReadRange
 checkpoint_range root = record { blob = root.checkpoint; at = 0; len = root.size }
 
--- the range is the checkpoint's, or a header's or a directory's of one of its parts
+-- of the index, in the second version, the range is a header's or a directory's of one of the parts; in the first, a text's
+abbrev pub IsIndexRange : Content → ℕ → Checkpoint → ReadRange → Type 0
+IsIndexRange content version checkpoint range =
+    (version ≡ 2) × SomeOf (IsFrontOf (Some content) range) checkpoint.parts
+    ⊎ (version ≡ 1) × IsTextOfOne checkpoint.files range
+
+-- the range is the checkpoint's, or one of its index
 abbrev pub IsOpeningRange : Content → ReadRange → Type 0
 IsOpeningRange content range =
     (root : Root) × HasOpenRoot content root
     × ((range ≡ checkpoint_range root)
-    ⊎ ((checkpoint : Checkpoint) × HasCheckpoint content root checkpoint × SomeOf (IsFrontOf (Some content) range) checkpoint.parts))
+    ⊎ ((checkpoint : Checkpoint) × HasCheckpoint content root checkpoint × IsIndexRange content root.version checkpoint range))
 
 -- nothing else was read
 abbrev pub ReadsAtOpening : Option Content → Option (List ReadRange) → Option (List ReadRange) → Type 0
@@ -85,16 +93,21 @@ fault_of_trouble (troubles.Damaged blob) = faults.Damaged blob
 
 -- ---- what comes of it
 
--- the root leaves room, and its checkpoint and that one's parts were opened, which took these reads
+-- in the second version the parts were opened, in the first the texts, which took these reads
+abbrev pub OpensIndex : Content → ℕ → Checkpoint → List ReadRange → Type 0
+OpensIndex content version checkpoint read =
+    (version ≡ 2) × ((directories : List PartDirectory) × AreOpened (Some content) checkpoint.parts directories read)
+    ⊎ (version ≡ 1) × OpensTexts content checkpoint.files read
+
+-- the root leaves room, and its checkpoint and that one's index were opened, which took these reads
 pub record OpensSaved (content : Content) (read : List ReadRange) : Type 0 where
   pub root : Root
   pub found : HasOpenRoot content root
   pub checkpoint : Checkpoint
   pub saved : HasCheckpoint content root checkpoint
-  pub directories : List PartDirectory
-  pub fronts : List ReadRange
-  pub parts : AreOpened (Some content) checkpoint.parts directories fronts
-  pub read_are : read ≡ checkpoint_range root ∷ fronts
+  pub later : List ReadRange
+  pub index : OpensIndex content root.version checkpoint later
+  pub read_are : read ≡ checkpoint_range root ∷ later
 
 -- there is no root, and nothing is read; or what was saved is opened
 abbrev pub Opens : Content → List ReadRange → Type 0
@@ -108,16 +121,22 @@ IsOpen holds before after = (read : List ReadRange) × IfSome holds (λ content.
 abbrev pub IsSpentAt : Content → ℕ → Type 0
 IsSpentAt content number = (root : Root) × HasRoot content root × (spent_of root ≡ Some number)
 
--- the root is broken; or it leaves room and the checkpoint is broken; or that isn't and the leftmost part that can't be opened is the one
+-- in the second version the blob is that of the leftmost part that can't be opened, in the first that of the first broken text
+abbrev pub IsIndexDamaged : Content → ℕ → Checkpoint → ℕ → Type 0
+IsIndexDamaged content version checkpoint blob =
+    (version ≡ 2) × IsFirstBroken (Some content) checkpoint.parts blob
+    ⊎ (version ≡ 1) × IsFirstBrokenText (Some content) checkpoint.files blob
+
+-- the root is broken; or it leaves room and the checkpoint is broken; or that isn't and of its index the blob is the first
 abbrev pub IsDamagedAtOpening : Content → ℕ → Type 0
 IsDamagedAtOpening content blob =
     (blob ≡ 0) × IsBrokenRoot content.root
     ⊎ ((root : Root) × HasOpenRoot content root × (root.checkpoint ≡ blob) × IsBrokenCheckpoint root (content.blobs blob))
     ⊎ ((root : Root) × HasOpenRoot content root × (checkpoint : Checkpoint) × HasCheckpoint content root checkpoint
-    × IsFirstBroken (Some content) checkpoint.parts blob)
+    × IsIndexDamaged content root.version checkpoint blob)
 
 -- Why an engine couldn't be opened. A store fault is answered only where the store's count of faults rose, which else is as it was;
--- of what a store tells, the first of these that is so: the root is broken, it leaves no room, the checkpoint is broken, a part is.
+-- of what a store tells, the first of these that is so: the root is broken, it leaves no room, the checkpoint is broken, a part or text is.
 pub record IsBeginCause (holds : Option Content) (before now : ℕ) (fault : BeginFault) : Type 0 where
   pub counted : before ≤ now
   pub store_fault : fault ≡ faults.StoreFault → Rose before now

@@ -79,6 +79,7 @@ pub record Saves (tree : FileSystem) (space : Addresses) (files : Records) (chec
   pub spelled : IsSpelledOf tree space files (with_drawn flushed) bytes
   pub root : List ℕ
   pub root_spelled : SpellsRoot (record {
+    version = 2;
     checkpoint = flushed.next_blob;
     size = length bytes;
     next_address = space.next;
@@ -139,6 +140,7 @@ pub record IsPrepared (tree : FileSystem) (space : Addresses) (files : Records) 
   pub spelled : IsSpelledOf tree space files (with_drawn first.flushed) bytes
   pub root : List ℕ
   pub root_spelled : SpellsRoot (record {
+    version = 2;
     checkpoint = first.flushed.next_blob;
     size = length bytes;
     next_address = space.next;

@@ -61,10 +61,12 @@ impl Engine {
     /// without a root is that of the root directory alone, without a posting. The engine keeps the allocator.
     ///
     /// The store is synced, and then the root is read, the checkpoint that it names, and of each part, from left
-    /// to right, the header and the directory: no text and no block. Nothing else is changed.
+    /// to right, the header and the directory: no text and no block. Where the root is of the first version, no part
+    /// is read, but each text that isn't empty, whole, in the order of their addresses, and indexed anew: its terms
+    /// are in memory then, and the parts' blobs are no longer needed. Nothing else is changed.
     ///
     /// `Damaged` comes exactly where one of these is broken, with the first of them: the root, which is blob 0, the
-    /// checkpoint, the parts from left to right. `Spent` comes after the root and before the checkpoint, exactly
+    /// checkpoint, the parts from left to right or, by the root's version, the texts. `Spent` comes after the root and before the checkpoint, exactly
     /// where the root's next address is at least SPENT_AT or its next blob at least BLOBS_SPENT_AT, with the first of
     /// the two that is. Other errors are a fault of the store and out of memory.
     pub fn begin<D: Store>(

@@ -7,6 +7,7 @@ mod engines;
 mod faults;
 mod laws;
 mod opening;
+mod reindexing;
 mod renewing;
 mod saving;
 mod updating;

@@ -1,6 +1,5 @@
-//! Opening of an engine over a store: the root, the checkpoint that it names, and the parts.
-ghost use Rattle.std.specs.Prelude.{◌≡◌, ◌⊎◌, ◌≢◌, ◌<◌, ◌^◌, IfErr, IfNone, IfOk, IfSome, MatchBool, Some, OnOk, OnSome, None, [], length};
-ghost use Rattle.std.specs.Prelude.{map};
+//! Opening of an engine over a store: the root, the checkpoint that it names, and the index.
+ghost use Rattle.std.specs.Prelude.{◌≡◌, ◌⊎◌, ◌≢◌, ◌<◌, ◌≤◌, ◌^◌, IfErr, IfNone, IfOk, IfSome, MatchBool, Some, OnOk, OnSome, None, [], length, map};
 ghost use Rattle.std.specs.List.{AllByRecursion};
 ghost use Rattle.std.specs.List.Sorted.{IsStrictlySortedBy};
 ghost use Rattle.std.specs.Ordering.{nat_cmp};
@@ -9,19 +8,17 @@ ghost use Rattle.wu_base.specs.declared.limits.TheConstants.{BLOBS_SPENT_AT, SPE
 ghost use Rattle.wu_outside.specs.Content.{Content};
 ghost use Rattle.wu_outside.specs.Faults.{HasFaultCause};
 ghost use Rattle.wu_space.specs.Addresses.{AreLive};
-ghost use Rattle.wu_parts.specs.Loading.{end_of};
 ghost use Rattle.wu_image.specs.Checkpoints.{IsCheckpoint};
 ghost use Rattle.wu_query.specs.States.{State};
 ghost use Rattle.wu_engine.specs.declared.faults.BeginFault.TheVariants.{Damaged as SavedIsDamaged};
 ghost use Rattle.wu_engine.specs.Going.{Goes};
-ghost use Rattle.wu_engine.specs.Opened.{FindsRoot, HasRoom, IsEngineFor, IsFirstEngine, IsFoundIn, IsGivenRoot, MatchesRoot, IsRootFault};
-ghost use Rattle.wu_engine.specs.Opened.{IsSpentBy, ReadsCheckpoint, numbered, ranges_recorded};
-ghost use Rattle.wu_engine.specs.Opening.{HasCheckpoint, HasOpenRoot, HoldsImage, IsBeginCause, IsOpen, IsSpentWhere, ReadsAtOpening};
-ghost use Rattle.wu_engine.specs.Opening.{spent_of};
+ghost use Rattle.wu_engine.specs.Opened.{FindsRoot, HasRoom, IsEngineFor, IsFirstEngine, IsFoundIn, IsGivenRoot, MatchesRoot, IsRootFault, IsSpentBy, ReadsCheckpoint, numbered, ranges_recorded};
+ghost use Rattle.wu_engine.specs.Opening.{HasCheckpoint, HasOpenRoot, HoldsImage, IsBeginCause, IsOpen, IsSpentWhere, ReadsAtOpening, spent_of};
 ghost use Rattle.wu_engine.specs.Stands.{Stands};
 
 use crate::engines::Engine;
 use crate::faults::BeginFault;
+use crate::reindexing::open_index;
 use std::alloc::Global;
 use std::collections::BTreeMap;
 use wu_base::{BLOBS_SPENT_AT, Ino, NoMemory, PartRec, Range, SPENT_AT};
@@ -133,18 +130,11 @@ pub(crate) fn open_saved<D: Store>(
     ensures cause { IfErr result (IsBeginCause (D.holds store.old) (D.faults store.old) (D.faults store.new)) }
 {
     let checkpoint = open_checkpoint(alloc, store, root)?;
-    let parts = Parts::load(
-        alloc,
-        store,
-        checkpoint.parts.as_slice(),
-        flush_at,
-        checkpoint.next_blob,
-        checkpoint.flushes,
-    )?;
+    let parts = open_index(alloc, store, root.version, &checkpoint, flush_at)?;
     Ok(engine_of(alloc, root.checkpoint, checkpoint, parts)?)
 }
 
-/// The engine of the checkpoint and its parts.
+/// The engine of the checkpoint, with these parts.
 fn engine_of(
     alloc: Global,
     blob: u64,
@@ -155,7 +145,7 @@ fn engine_of(
     requires room { checkpoint.next_address < SPENT_AT }
     requires drawn { 0 < checkpoint.next_blob }
     requires next_blob { parts.next_blob ≡ checkpoint.next_blob }
-    requires end { parts.memory.end ≡ end_of checkpoint.parts }
+    requires end { parts.memory.end ≤ checkpoint.next_address }
     ensures { IfOk result (IsEngineFor blob checkpoint parts) }
 {
     let (space, files, frames) = index_of(alloc, &checkpoint)?;

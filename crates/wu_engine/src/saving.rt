@@ -48,6 +48,7 @@ pub(crate) fn save<D: Store>(
     let bytes = checkpoint_bytes(alloc, tree, space, parts, files)?;
     put_checkpoint(store, blob, &bytes)?;
     let root = Root {
+        version: 2,
         checkpoint: blob,
         size: bytes.len() as u64,
         next_address: space.next(),

@@ -1,6 +1,6 @@
 -- Lemmas on the images of a state.
 use Rattle.std.proofs.Common.{◌≡◌, ℕ, ◌<◌, ◌≤◌, Bool, true, cond, List, [], ◌∷◌, ◌++◌, refl, ap, sym, subst, ◌∙◌, inl, inr}
-use Rattle.std.proofs.Common.{arith}
+use Rattle.std.proofs.Common.{arith, ⊎_elim}
 use Rattle.std.specs.Prelude.{◌==◌, Option, None, Some, count_by, map}
 use Rattle.std.specs.List.{AllByRecursion, AllZip}
 use Rattle.std.proofs.lemmas.Bool.{eq-eqb}
@@ -11,7 +11,7 @@ use Rattle.wu_layout.specs.Invariants.{times_named}
 use Rattle.wu_outside.specs.Content.{Content}
 use Rattle.wu_tree.specs.FileSystems.{FileSystem}
 use Rattle.wu_image.specs.declared.records.FileRec.{FileRec}
-use Rattle.wu_image.specs.Images.{Texts, HoldsText, HoldsPart, HasSaved, IsSaved, IsImage, Names}
+use Rattle.wu_image.specs.Images.{Texts, HoldsText, HoldsPart, HasParts, HasSaved, IsSaved, IsImage, Names}
 use Rattle.wu_image.proofs.RuleLemmas.{sum_has}
 
 -- the second content has what the first has under the blob
@@ -82,19 +82,30 @@ saved a b code tree texts layout same s =
       tree_saved = s.tree_saved;
       next = s.next;
       blob = s.blob;
-      flushes = s.flushes;
       check = s.check;
       files = texts_held a b texts layout.files s.checkpoint.files
           (λ entry h some. same entry.1.blob (
             some,
             let one = counted (λ (e : ℕ × FileEntry). e.1.blob) entry layout.files h in omega arith,
           )) s.files;
-      parts = parts_held a b layout.parts s.checkpoint.parts
-          (λ part h some. same part.blob (
-            some,
-            let one = counted (λ (p : Part). p.blob) part layout.parts h in omega arith,
-          ))
-          (drawn_parts s.checkpoint.next_blob _ s.checkpoint.parts drawn) s.parts;
+      job = s.job;
+      index =
+          ⊎_elim
+          (λ (has : HasParts a s.root s.checkpoint layout).
+          inl (record {
+            version = has.version;
+            memory = has.memory;
+            stale = has.stale;
+            flushes = has.flushes;
+            parts = parts_held a b layout.parts s.checkpoint.parts
+                (λ part h some. same part.blob (
+                  some,
+                  let one = counted (λ (p : Part). p.blob) part layout.parts h in omega arith,
+                ))
+                (drawn_parts s.checkpoint.next_blob _ s.checkpoint.parts drawn) has.parts;
+          }))
+          (λ renewed. inr renewed)
+          s.index;
     }
   where
     of_check : 0 < times_named s.root.checkpoint layout.files layout.parts layout.check []
@@ -111,9 +122,6 @@ saved_by_root a b (Some code) tree texts layout same s = saved a b code tree tex
 pub image_kept : (a b : Content) (tree : FileSystem) (texts : Texts) (layout : Layout) → IsImage a tree texts layout → b.root ≡ a.root
     → ((blob : ℕ) → Names layout blob → b.blobs blob ≡ a.blobs blob) → IsImage b tree texts layout
 image_kept a b tree texts layout i root same = record {
-  memory = i.memory;
-  stale = i.stale;
-  job = i.job;
   saved = subst (λ (r : Option (List ℕ)). IsSaved b r tree texts layout) (sym root)
       (saved_by_root a b a.root tree texts layout same i.saved);
 }

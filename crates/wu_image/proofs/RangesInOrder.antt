@@ -5,7 +5,7 @@ use Rattle.std.specs.List.{AllByRecursion}
 use Rattle.std.specs.List.Sorted.{IsNonDecreasingBy}
 use Rattle.std.proofs.lemmas.Bool.{and_parts, leb-true, ltb-true, le-leb, lt-ltb, cases_lt}
 use Rattle.std.proofs.lemmas.List.Sums.{sum_by-cons}
-use Rattle.std.proofs.lemmas.List.Sorted.{sum_by-IsPermutation, IsNonDecreasingBy-drop}
+use Rattle.std.proofs.lemmas.List.Sorted.{sum_by-IsPermutation, IsNonDecreasingBy-drop, IsPermutation-map}
 use Rattle.wu_base.specs.declared.addresses.Range.{Range}
 use Rattle.wu_base.proofs.Members.{Has, all_from_has, all_has as all_of}
 use Rattle.wu_base.proofs.EachLemmas.{each-permuted}
@@ -173,3 +173,29 @@ apart_decided files ranges true p s a m = apart_in_order files ranges p m
 apart_decided files ranges false p s a m = λ apart.
     m (order_of_apart files ranges p s
     (first_of_both (λ (r : Range). 0 < r.len) (λ (r : Range). r.start + r.len < 2 ^ 64) ranges (ranges_fit files ranges p a)) apart)
+
+-- ---- files by address
+
+files_rise : (files : List FileRec) → IsNonDecreasingBy (λ file. file.range.start) files → StartsRise (map (λ file. file.range) files)
+files_rise [] s = tt
+files_rise (file ∷ files) s = (
+  all_mapped (λ (later : Range). file.range.start ≤ later.start) (λ (f : FileRec). f.range) files
+      (all_at (λ (later : FileRec). file.range.start ≤ later.range.start) files file (λ k l. s 0 (suc k) file (omega arith) (omega arith))),
+  files_rise files (IsNonDecreasingBy-drop (λ (f : FileRec). f.range.start) 1 (file ∷ files) s),
+)
+
+from_zero : (ranges : List Range) → AllByRecursion (λ range. 0 ≤ range.start) ranges
+from_zero [] = tt
+from_zero (range ∷ ranges) = (omega arith, from_zero ranges)
+
+pub files_in_order : (files order : List FileRec) → IsPermutation files order → IsNonDecreasingBy (λ file. file.range.start) order
+    → AllByRecursion (λ file. 0 < file.range.len) files → AreApart files → AreInOrder 0 (map (λ file. file.range) order)
+files_in_order files order p s filled apart =
+    let ranges : List Range = map (λ (file : FileRec). file.range) order in
+    let moved : IsPermutation (map (λ (file : FileRec). file.range) files) ranges =
+    IsPermutation-map (λ (file : FileRec). file.range) files order p in
+    in_order 0 ranges (files_rise order s)
+    (each-permuted (λ (r : Range). 0 < r.len) (map (λ (file : FileRec). file.range) files) ranges moved
+    (all_mapped (λ (r : Range). 0 < r.len) (λ (file : FileRec). file.range) files filled))
+    (from_zero ranges)
+    (λ address. rw (sym (files_counted files ranges address moved)) (apart address))

@@ -1,14 +1,11 @@
 -- Lemmas on the root's bytes.
-use Rattle.std.proofs.Common.{◌≡◌, ℕ, ◌^◌, ◌<◌, ◌≤◌, List, [], ◌∷◌, ◌++◌, length, get_or, take, drop, refl, ap, sym, ◌∙◌}
-use Rattle.std.proofs.Common.{true, arith}
-use Rattle.std.specs.Prelude.{codes, nat_eq}
+use Rattle.std.proofs.Common.{◌≡◌, ℕ, ◌+◌, ◌^◌, ◌<◌, ◌≤◌, List, [], ◌∷◌, ◌++◌, length, get_or, take, drop, refl, ap, sym, subst, ◌∙◌}
+use Rattle.std.proofs.Common.{arith}
 use Rattle.std.specs.Int.{w64, from_be_bytes}
-use Rattle.std.specs.List.{starts_with}
-use Rattle.std.specs.Cmp.Lexicographic.{same_text}
 use Rattle.std.proofs.lemmas.List.{drop-drop, take-append-drop, take_all, length-drop}
 use Rattle.std.proofs.lemmas.Nat.{from_be_bytes-to_be_bytes_8}
 use Rattle.wu_image.specs.declared.roots.Root.{Root}
-use Rattle.wu_image.specs.Roots.{SpellsRoot, eight_bytes}
+use Rattle.wu_image.specs.Roots.{IsVersion, SpellsRoot, eight_bytes, root_mark}
 
 -- the first eight of so many bytes
 pub first_eight : (bytes : List ℕ) → 8 ≤ length bytes
@@ -46,15 +43,16 @@ four_eights bytes long =
     (second ∙ ap (λ (l : List ℕ). take 8 (drop 16 bytes) ++ l)
     (third ∙ ap (λ (l : List ℕ). take 8 (drop 24 bytes) ++ l) last)))
 
-pub root_read : (bytes : List ℕ) (root : Root) → length bytes ≡ 40 → true ≡ starts_with nat_eq bytes (codes "WUMPUSR1")
+pub root_read : (bytes : List ℕ) (root : Root) → length bytes ≡ 40 → IsVersion root.version → root_mark root.version ≡ take 8 bytes
     → eight_bytes root.checkpoint ≡ take 8 (drop 8 bytes) → eight_bytes root.size ≡ take 8 (drop 16 bytes)
     → eight_bytes root.next_address ≡ take 8 (drop 24 bytes) → eight_bytes root.next_blob ≡ take 8 (drop 32 bytes)
     → 0 < root.checkpoint → root.checkpoint < root.next_blob → root.size < 2 ^ 64 → root.next_address < 2 ^ 64 → root.next_blob < 2 ^ 64
     → SpellsRoot root bytes
-root_read bytes root long mark a b c d some drawn size address blob =
-    let front : codes "WUMPUSR1" ≡ take 8 bytes = same_text (codes "WUMPUSR1") (take 8 bytes) mark in
+root_read bytes root long version front a b c d some drawn size address blob =
+    let mark : List ℕ = root_mark root.version in
     let join : List ℕ → List ℕ → List ℕ → List ℕ → List ℕ → List ℕ = λ m x y z w. m ++ (x ++ (y ++ (z ++ w))) in
     record {
+      version = version;
       some = some;
       drawn = drawn;
       size_fits = size;
@@ -63,19 +61,16 @@ root_read bytes root long mark a b c d some drawn size address blob =
       spelled = four_eights bytes long
           ∙ (ap (λ (m : List ℕ). join m (take 8 (drop 8 bytes)) (take 8 (drop 16 bytes)) (take 8 (drop 24 bytes)) (take 8 (drop 32 bytes)))
           (sym front)
-          ∙ (ap (λ (x : List ℕ). join (codes "WUMPUSR1") x (take 8 (drop 16 bytes)) (take 8 (drop 24 bytes)) (take 8 (drop 32 bytes)))
-          (sym a)
-          ∙ (ap (λ (y : List ℕ). join (codes "WUMPUSR1") (eight_bytes root.checkpoint) y (take 8 (drop 24 bytes)) (take 8 (drop 32 bytes)))
-          (sym b)
-          ∙ (ap (λ (z : List ℕ). join (codes "WUMPUSR1") (eight_bytes root.checkpoint) (eight_bytes root.size) z (take 8 (drop 32 bytes)))
-          (sym c)
-          ∙ ap
-          (λ (w : List ℕ). join (codes "WUMPUSR1") (eight_bytes root.checkpoint) (eight_bytes root.size) (eight_bytes root.next_address) w)
+          ∙ (ap (λ (x : List ℕ). join mark x (take 8 (drop 16 bytes)) (take 8 (drop 24 bytes)) (take 8 (drop 32 bytes))) (sym a)
+          ∙ (ap (λ (y : List ℕ). join mark (eight_bytes root.checkpoint) y (take 8 (drop 24 bytes)) (take 8 (drop 32 bytes))) (sym b)
+          ∙ (ap (λ (z : List ℕ). join mark (eight_bytes root.checkpoint) (eight_bytes root.size) z (take 8 (drop 32 bytes))) (sym c)
+          ∙ ap (λ (w : List ℕ). join mark (eight_bytes root.checkpoint) (eight_bytes root.size) (eight_bytes root.next_address) w)
           (sym d)))));
     }
 
--- the numbers of a root stand at their places
+-- the mark and the numbers of a root stand at their places
 pub record StandAt (root : Root) (bytes : List ℕ) : Type 0 where
+  pub mark : take 8 bytes ≡ root_mark root.version
   pub checkpoint : take 8 (drop 8 bytes) ≡ eight_bytes root.checkpoint
   pub size : take 8 (drop 16 bytes) ≡ eight_bytes root.size
   pub next_address : take 8 (drop 24 bytes) ≡ eight_bytes root.next_address
@@ -83,11 +78,18 @@ pub record StandAt (root : Root) (bytes : List ℕ) : Type 0 where
 
 pub numbers_stand : (root : Root) (bytes : List ℕ) → SpellsRoot root bytes → StandAt root bytes
 numbers_stand root bytes s = record {
+  mark = ap (λ (l : List ℕ). take 8 l) s.spelled;
   checkpoint = ap (λ (l : List ℕ). take 8 (drop 8 l)) s.spelled;
   size = ap (λ (l : List ℕ). take 8 (drop 16 l)) s.spelled;
   next_address = ap (λ (l : List ℕ). take 8 (drop 24 l)) s.spelled;
   next_blob = ap (λ (l : List ℕ). take 8 (drop 32 l)) s.spelled;
 }
+
+-- a mark is that of one version
+version_of_one : (n m : ℕ) → root_mark n ≡ root_mark m → n ≡ m
+version_of_one n m e =
+    let digits : 48 + n ≡ 48 + m = ap (λ (l : List ℕ). get_or l 7 0) e in
+    omega (arith, digits)
 
 pub same_root : (root other : Root) (bytes : List ℕ) → SpellsRoot root bytes → SpellsRoot other bytes → root ≡ other
 same_root root other bytes s t =
@@ -100,8 +102,11 @@ same_root root other bytes s t =
     let address = eight_bytes_of_one root.next_address other.next_address s.address_fits t.address_fits
     (sym a.next_address ∙ b.next_address) in
     let blob = eight_bytes_of_one root.next_blob other.next_blob s.blob_fits t.blob_fits (sym a.next_blob ∙ b.next_blob) in
-    let make : ℕ → ℕ → ℕ → ℕ → Root = λ c n a b. record { checkpoint = c; size = n; next_address = a; next_blob = b } in
-    ap (λ x. make x root.size root.next_address root.next_blob) checkpoint
-    ∙ (ap (λ x. make other.checkpoint x root.next_address root.next_blob) size
-    ∙ (ap (λ x. make other.checkpoint other.size x root.next_blob) address
-    ∙ ap (λ x. make other.checkpoint other.size other.next_address x) blob))
+    let version = version_of_one root.version other.version (sym a.mark ∙ b.mark) in
+    let make : ℕ → ℕ → ℕ → ℕ → ℕ → Root =
+    λ v c n a b. record { version = v; checkpoint = c; size = n; next_address = a; next_blob = b } in
+    ap (λ x. make x root.checkpoint root.size root.next_address root.next_blob) version
+    ∙ (ap (λ x. make other.version x root.size root.next_address root.next_blob) checkpoint
+    ∙ (ap (λ x. make other.version other.checkpoint x root.next_address root.next_blob) size
+    ∙ (ap (λ x. make other.version other.checkpoint other.size x root.next_blob) address
+    ∙ ap (λ x. make other.version other.checkpoint other.size other.next_address x) blob)))

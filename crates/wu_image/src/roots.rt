@@ -1,32 +1,38 @@
 //! The root of a store: the few bytes that name its checkpoint.
-ghost use Rattle.std.specs.Prelude.{◌≡◌, ◌+◌, ◌^◌, ◌<◌, ◌≤◌, IfSome, IfNone, MatchBool, length, take, drop};
+ghost use Rattle.std.specs.Prelude.{◌≡◌, ℕ, ◌+◌, ◌^◌, ◌<◌, ◌≤◌, IfSome, IfNone, MatchBool, length, take, drop};
 ghost use Rattle.wu_image.specs.declared.roots.Root.{Root};
-ghost use Rattle.wu_image.specs.Roots.{SpellsRoot, eight_bytes};
+ghost use Rattle.wu_image.specs.Roots.{IsVersion, SpellsRoot, eight_bytes, root_mark};
 
-/// The first bytes of a root.
-const MARK: [u8; 8] = *b"WUMPUSR1";
+/// The first bytes of a root of the first version, and of the second.
+const FIRST_MARK: [u8; 8] = *b"WUMPUSR1";
+
+const SECOND_MARK: [u8; 8] = *b"WUMPUSR2";
 
 /// How many bytes a root has.
 pub const ROOT_LEN: usize = 40;
 
-/// What a root tells: the blob of the checkpoint and its size in bytes, and the next address and the
-/// next blob number, as the checkpoint has them.
+/// What a root tells: the version of the store, the blob of the checkpoint and its size in bytes, and the
+/// next address and the next blob number, as the checkpoint has them.
 #[derive(Clone, Copy, Debug, PartialEq, Eq)]
 pub struct Root {
+    /// 1 or 2. Both are read, and 2 is written. The version of the checkpoint is another thing.
+    pub version: u8,
     pub checkpoint: u64,
     pub size: u64,
     pub next_address: u64,
     pub next_blob: u64,
 }
 
-/// The bytes of the root. Its checkpoint's blob isn't 0 and is below the next blob. Takes no memory.
+/// The bytes of the root. Its version is 2, and its checkpoint's blob isn't 0 and is below the next blob. Takes
+/// no memory.
 pub fn write_root(root: &Root) -> [u8; 40]
+    requires version { root.now.version ≡ 2 }
     requires some { 0 < root.now.checkpoint }
     requires drawn { root.now.checkpoint < root.now.next_blob }
     ensures { SpellsRoot root.now result }
 {
     let mut bytes = [0; ROOT_LEN];
-    bytes[..8].copy_from_slice(&MARK);
+    bytes[..8].copy_from_slice(&SECOND_MARK);
     bytes[8..16].copy_from_slice(&bytes_of(root.checkpoint));
     bytes[16..24].copy_from_slice(&bytes_of(root.size));
     bytes[24..32].copy_from_slice(&bytes_of(root.next_address));
@@ -42,8 +48,8 @@ fn bytes_of(number: u64) -> [u8; 8]
     number.to_be_bytes()
 }
 
-/// The root whose bytes these are. `None` exactly where they are no root's: they aren't 40, or begin
-/// otherwise, or the checkpoint's blob is 0 or isn't below the next blob. Takes no memory.
+/// The root whose bytes these are, in either version. `None` exactly where they are no root's: they aren't 40, or
+/// begin otherwise, or the checkpoint's blob is 0 or isn't below the next blob. Takes no memory.
 pub fn read_root(bytes: &[u8]) -> Option<Root>
     ensures found { IfSome result (λ root. SpellsRoot root bytes.now) }
     ensures none { IfNone result ((root : Root) → SpellsRoot root bytes.now → ⊥) }
@@ -51,10 +57,11 @@ pub fn read_root(bytes: &[u8]) -> Option<Root>
     if bytes.len() != ROOT_LEN {
         return None;
     }
-    if !bytes.starts_with(&MARK) {
+    let Some(version) = version_of(bytes) else {
         return None;
-    }
+    };
     let root = Root {
+        version,
         checkpoint: number_at(bytes, 8),
         size: number_at(bytes, 16),
         next_address: number_at(bytes, 24),
@@ -62,6 +69,21 @@ pub fn read_root(bytes: &[u8]) -> Option<Root>
     };
     if may_name(root.checkpoint, root.next_blob) {
         Some(root)
+    } else {
+        None
+    }
+}
+
+/// The version whose mark the bytes begin with.
+fn version_of(bytes: &[u8]) -> Option<u8>
+    ensures found { IfSome result (λ version. IsVersion version × (root_mark version ≡ take 8 bytes.now)) }
+    ensures none { IfNone result ((version : ℕ) → IsVersion version → root_mark version ≡ take 8 bytes.now → ⊥) }
+{
+    if bytes.starts_with(&FIRST_MARK) {
+        return Some(1);
+    }
+    if bytes.starts_with(&SECOND_MARK) {
+        Some(2)
     } else {
         None
     }

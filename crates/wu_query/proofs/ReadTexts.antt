@@ -8,6 +8,7 @@ use Rattle.wu_base.specs.declared.troubles.Trouble.{Trouble}
 use Rattle.wu_base.specs.declared.troubles.Trouble.TheVariants.{Damaged}
 use Rattle.wu_outside.specs.Content.{Content, ReadsFrom}
 use Rattle.wu_outside.specs.declared.ranges.ReadRange.{ReadRange}
+use Rattle.wu_token.proofs.LengthLemmas.{length-tokens_of}
 use Rattle.wu_token.specs.Tokens.{file_end, line_tokens_of, lines_of, tokens_of}
 use Rattle.wu_image.specs.declared.records.FileRec.{FileRec}
 use Rattle.wu_image.specs.Texts.{IsBrokenText}
@@ -22,6 +23,21 @@ empty_long file is none =
     let stored : true ≡ (file.len == 0) = sym (eq-eqb file.blob 0 none) ∙ is.stored in
     let zero_len : file.len ≡ 0 = eqb-true file.len 0 (sym stored) in
     omega (arith, zero_len, length-append (flat_map line_tokens_of (lines_of [])) (file_end ∷ []), is.tokens)
+
+-- and just as many, where two are recorded at least
+pub empty_exact : (file : FileRec) → IsRecord (file.ino, file) → file.blob ≡ 0 → 2 ≤ file.range.len → length (tokens_of []) ≡ file.range.len
+unfolding tokens_of
+empty_exact file is none some =
+    let stored : true ≡ (file.len == 0) = sym (eq-eqb file.blob 0 none) ∙ is.stored in
+    let zero_len : file.len ≡ 0 = eqb-true file.len 0 (sym stored) in
+    omega (
+      arith,
+      zero_len,
+      length-append (flat_map line_tokens_of (lines_of [])) (file_end ∷ []),
+      is.tokens,
+      some,
+      length-tokens_of [],
+    )
 
 -- it was read whole, in one read
 abbrev pub IsReadWhole : FileRec → Option (List ReadRange) → Option (List ReadRange) → Type 0

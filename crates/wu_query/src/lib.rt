@@ -11,3 +11,4 @@ mod reading;
 mod units;
 
 pub use querying::answered;
+pub use reading::read_text;

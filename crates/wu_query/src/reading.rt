@@ -23,6 +23,7 @@ pub fn read_text<D: Store>(alloc: Global, store: &mut D, file: &FileRec) -> Resu
     ensures text { IfOk result (λ text. IfSome (D.holds store.old) (λ content. text.items ≡ text_held content file.now)) }
     ensures short { IfOk result (λ text. length text.items ≤ TEXT_MAX) }
     ensures tokens { IfOk result (λ text. file.now.range.len ≤ length (tokens_of text.items)) }
+    ensures exact { IfOk result (λ text. 2 ≤ file.now.range.len → length (tokens_of text.items) ≡ file.now.range.len) }
     ensures sound { OnOk result (0 < file.now.blob → HasWholeText (D.holds store.old) file.now) }
     ensures holds { D.holds store.new ≡ D.holds store.old }
     ensures moments { D.moments store.new ≡ D.moments store.old }

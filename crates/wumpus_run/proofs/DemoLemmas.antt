@@ -60,9 +60,6 @@ pub fresh_image : (content : Content) → content.root ≡ None → HoldsImage (
 fresh_image content none = (
   first_is_state,
   record {
-    memory = refl;
-    stale = refl;
-    job = refl;
     saved = subst (λ (root : Option (List ℕ)). IsSaved content root first_state.tree first_state.texts first_state.layout) (sym none)
         (record { tree_alone = refl; no_texts = refl; layout_empty = refl });
   },

@@ -3,12 +3,13 @@ use std::alloc::Global;
 use wu_image::{Root, read_root, write_root};
 use wu_rows::{NoAnswer, bytes_text, numbers_text, plain_text};
 
-/// The root's numbers.
+/// The root's version and its numbers.
 pub fn read(alloc: Global, bytes: &[u8]) -> Result<String, NoAnswer> {
     match read_root(bytes) {
         Some(root) => numbers_text(
             alloc,
             &[
+                u64::from(root.version),
                 root.checkpoint,
                 root.size,
                 root.next_address,
@@ -19,7 +20,7 @@ pub fn read(alloc: Global, bytes: &[u8]) -> Result<String, NoAnswer> {
     }
 }
 
-/// The root's bytes.
+/// The bytes of the root of the second version.
 pub fn written(
     alloc: Global,
     checkpoint: u64,
@@ -31,6 +32,7 @@ pub fn written(
         return Err(NoAnswer::BadRow);
     }
     let root = Root {
+        version: 2,
         checkpoint,
         size,
         next_address,

@@ -1,22 +1,22 @@
 use Rattle.std.proofs.Common.{◌∙◌, ap, arith}
+use Rattle.wu_image.specs.declared.checkpoints.Checkpoint.{Checkpoint}
 use Rattle.wu_space.specs.Addresses.{Addresses}
 use Rattle.wu_parts.specs.Contents.{Contents}
-use Rattle.wu_parts.specs.Loading.{end_of}
+use Rattle.wu_query.proofs.PassedCauses.{err_from}
 use Rattle.wu_engine.specs.Opening.{ReadsAtOpening}
-use Rattle.wu_engine.proofs.GoingAtFirst.{saved_goes}
-use Rattle.wu_engine.proofs.OpenedParts.{loadable}
+use Rattle.wu_engine.proofs.OpenedIndexes.{IndexNumbers, index_cause, index_goes, index_numbers, index_open, index_reads, index_stands}
 use Rattle.wu_engine.proofs.OpenedRoots.{room_left}
-use Rattle.wu_engine.proofs.OpenedStates.{opening_done, opening_reads, opening_stands, reads_checkpoint}
+use Rattle.wu_engine.proofs.OpenedStates.{reads_checkpoint}
 use Rattle.wu_engine.proofs.opening.open_saved.Given as given
 use Rattle.wu_engine.proofs.opening.open_saved.Goals as goal
-use Rattle.wu_engine.proofs.opening.open_saved.Goals.{After-load}
+use Rattle.wu_engine.proofs.opening.open_saved.Goals.{After-open_index}
 
-pub load-requires : goal.load-requires
-load-requires g c =
-    let checkpoint = c.in_ok-checkpoint.checkpoint in
-    rw c.as_slice.ensures
-    (loadable checkpoint.next_address checkpoint.next_blob checkpoint.flushes checkpoint.files checkpoint.parts
-    c.in_ok-checkpoint.ensures.rules.layout)
+pub open_index-requires-clause-version : goal.open_index-requires-clause-version
+open_index-requires-clause-version g c = c.requires.room.version
+
+pub open_index-requires-clause-room : goal.open_index-requires-clause-room
+open_index-requires-clause-room g c =
+    omega (arith, c.in_ok-checkpoint.ensures.own.next_address, (room_left c.args.root.now c.requires.room.unspent).0)
 
 pub engine_of-requires-clause-room : goal.engine_of-requires-clause-room
 engine_of-requires-clause-room g c =
@@ -26,26 +26,27 @@ pub engine_of-requires-clause-drawn : goal.engine_of-requires-clause-drawn
 engine_of-requires-clause-drawn g c = omega (arith, c.in_ok-checkpoint.ensures.own.next_blob, c.requires.room.drawn)
 
 pub engine_of-requires-clause-next_blob : goal.engine_of-requires-clause-next_blob
-engine_of-requires-clause-next_blob g c = ap (λ (p : Contents). p.next_blob) c.in_ok-parts.ensures.loaded.kept
+engine_of-requires-clause-next_blob g c =
+    (index_numbers c.in_ok-checkpoint.ensures.rules c.in_ok-parts.ensures.opened).next_blob
 
 pub engine_of-requires-clause-end : goal.engine_of-requires-clause-end
 engine_of-requires-clause-end g c =
-    ap (λ (p : Contents). p.memory.end) c.in_ok-parts.ensures.loaded.kept ∙ ap end_of c.as_slice.ensures
+    (index_numbers c.in_ok-checkpoint.ensures.rules c.in_ok-parts.ensures.opened).end
 
 pub returns-clause-stands : goal.returns-clause-stands
 returns-clause-stands g c =
-    opening_stands c.args.root.now c.in_ok-checkpoint.checkpoint c.open_checkpoint.ensures.holds c.as_slice.ensures c.requires.found
-    c.in_ok-checkpoint.ensures.saved c.in_ok-parts.ensures.loaded c.in_ok-engine_of.ensures c.load.ensures.holds
+    index_stands c.args.root.now c.in_ok-checkpoint.checkpoint c.open_checkpoint.ensures.holds c.requires.found
+    c.in_ok-checkpoint.ensures.saved c.in_ok-parts.ensures.opened c.in_ok-engine_of.ensures c.open_index.ensures.holds
 
 pub returns-clause-goes : goal.returns-clause-goes
 returns-clause-goes g c = λ content told.
-    saved_goes c.args.root.now c.in_ok-checkpoint.checkpoint c.open_checkpoint.ensures.holds c.as_slice.ensures c.requires.found
-    c.in_ok-checkpoint.ensures.saved c.in_ok-parts.ensures.loaded c.in_ok-engine_of.ensures c.load.ensures.holds content told
+    index_goes c.args.root.now c.in_ok-checkpoint.checkpoint c.open_checkpoint.ensures.holds c.requires.found
+    c.in_ok-checkpoint.ensures.saved c.in_ok-parts.ensures.opened c.in_ok-engine_of.ensures c.open_index.ensures.holds content told
 
 pub returns-clause-open : goal.returns-clause-open
 returns-clause-open g c =
-    opening_done c.args.root.now c.in_ok-checkpoint.checkpoint c.open_checkpoint.ensures.holds c.as_slice.ensures c.requires.found
-    c.in_ok-checkpoint.ensures.saved c.in_ok-parts.ensures.loaded (g.D.Store.reads c.args.store.now) c.in_ok-checkpoint.ensures.read
+    index_open c.args.root.now c.in_ok-checkpoint.checkpoint c.open_checkpoint.ensures.holds c.requires.found
+    c.in_ok-checkpoint.ensures.saved c.in_ok-parts.ensures.opened (g.D.Store.reads c.args.store.now) c.in_ok-checkpoint.ensures.read
 
 pub returns-clause-next : goal.returns-clause-next
 returns-clause-next g c =
@@ -61,7 +62,7 @@ returns-clause-next_blob g c =
     omega (
       arith,
       ap (λ (p : Contents). p.next_blob) c.in_ok-engine_of.ensures.parts_kept,
-      ap (λ (p : Contents). p.next_blob) c.in_ok-parts.ensures.loaded.kept,
+      (index_numbers c.in_ok-checkpoint.ensures.rules c.in_ok-parts.ensures.opened).next_blob,
       c.in_ok-checkpoint.ensures.own.next_blob,
       (room_left c.args.root.now c.requires.room.unspent).1,
     )
@@ -71,44 +72,45 @@ returns-clause-flushes g c =
     omega (
       arith,
       ap (λ (p : Contents). p.flushes) c.in_ok-engine_of.ensures.parts_kept,
-      ap (λ (p : Contents). p.flushes) c.in_ok-parts.ensures.loaded.kept,
+      (index_numbers c.in_ok-checkpoint.ensures.rules c.in_ok-parts.ensures.opened).flushes,
       c.in_ok-checkpoint.ensures.rules.layout.few,
     )
 
 pub returns-clause-flush_at : goal.returns-clause-flush_at
 returns-clause-flush_at g c =
     ap (λ (p : Contents). p.flush_at) c.in_ok-engine_of.ensures.parts_kept
-    ∙ ap (λ (p : Contents). p.flush_at) c.in_ok-parts.ensures.loaded.kept
+    ∙ (index_numbers c.in_ok-checkpoint.ensures.rules c.in_ok-parts.ensures.opened).flush_at_same
 
 pub returns-clause-kept : goal.returns-clause-kept
 returns-clause-kept g c =
-    ap (λ (p : Contents). p.kept) c.in_ok-engine_of.ensures.parts_kept ∙ ap (λ (p : Contents). p.kept) c.in_ok-parts.ensures.loaded.kept
+    ap (λ (p : Contents). p.kept) c.in_ok-engine_of.ensures.parts_kept
+    ∙ (index_numbers c.in_ok-checkpoint.ensures.rules c.in_ok-parts.ensures.opened).kept
 
 pub returns-clause-drawn : goal.returns-clause-drawn
 returns-clause-drawn g c =
     ap (λ (p : Contents). p.next_blob) c.in_ok-engine_of.ensures.parts_kept
-    ∙ ap (λ (p : Contents). p.next_blob) c.in_ok-parts.ensures.loaded.kept
+    ∙ (index_numbers c.in_ok-checkpoint.ensures.rules c.in_ok-parts.ensures.opened).next_blob
     ∙ c.in_ok-checkpoint.ensures.own.next_blob
 
 pub returns-clause-goes_on : goal.returns-clause-goes_on
 returns-clause-goes_on g c = c.in_ok-engine_of.ensures.goes_on
 
 pub returns-clause-holds : goal.returns-clause-holds
-returns-clause-holds g c = c.load.ensures.holds ∙ c.open_checkpoint.ensures.holds
+returns-clause-holds g c = c.open_index.ensures.holds ∙ c.open_checkpoint.ensures.holds
 
 pub returns-clause-moments : goal.returns-clause-moments
-returns-clause-moments g c = c.load.ensures.moments ∙ c.open_checkpoint.ensures.moments
+returns-clause-moments g c = c.open_index.ensures.moments ∙ c.open_checkpoint.ensures.moments
 
--- once the parts were asked for, what was read are the checkpoint and some of their fronts
-reads_then : (g : given.Over) (c : After-load g)
-    → ReadsAtOpening (g.D.Store.holds c.args.store.now) (g.D.Store.reads c.args.store.now) (g.D.Store.reads c.load.new.store)
+-- once the index was asked for, what was read are the checkpoint and some of its ranges
+reads_then : (g : given.Over) (c : After-open_index g)
+    → ReadsAtOpening (g.D.Store.holds c.args.store.now) (g.D.Store.reads c.args.store.now) (g.D.Store.reads c.open_index.new.store)
 reads_then g c =
-    opening_reads c.args.root.now c.in_ok-checkpoint.checkpoint c.open_checkpoint.ensures.holds c.as_slice.ensures c.requires.found
+    index_reads c.args.root.now c.in_ok-checkpoint.checkpoint c.open_checkpoint.ensures.holds c.requires.found
     c.in_ok-checkpoint.ensures.saved (g.D.Store.reads c.args.store.now) (g.D.Store.reads c.open_checkpoint.new.store)
-    (g.D.Store.reads c.load.new.store) c.in_ok-checkpoint.ensures.read c.load.ensures.fronts
+    (g.D.Store.reads c.open_index.new.store) c.in_ok-checkpoint.ensures.read c.open_index.ensures.reads
 
 pub returns-clause-reads : goal.returns-clause-reads
-returns-clause-reads g c = reads_then g (goal.at.returns-clause-reads g c).After-load
+returns-clause-reads g c = reads_then g (goal.at.returns-clause-reads g c).After-open_index
 
 pub returns-clause-calm : goal.returns-clause-calm
 returns-clause-calm g c = c.in_ok-parts.ensures.calm ∙ c.in_ok-checkpoint.ensures.calm
@@ -119,7 +121,13 @@ returns-in_err-checkpoint-clause-reads g c =
     (g.D.Store.reads c.open_checkpoint.new.store) c.requires.found c.open_checkpoint.ensures.reads
 
 pub returns-in_err-parts-clause-reads : goal.returns-in_err-parts-clause-reads
-returns-in_err-parts-clause-reads g c = reads_then g (goal.at.returns-in_err-parts-clause-reads g c).After-load
+returns-in_err-parts-clause-reads g c = reads_then g (goal.at.returns-in_err-parts-clause-reads g c).After-open_index
+
+pub returns-in_err-parts-clause-cause : goal.returns-in_err-parts-clause-cause
+returns-in_err-parts-clause-cause g c =
+    err_from _ c.from_residual-in_err-parts.result _ c.from_residual-in_err-parts.ensures.1
+    (index_cause c.args.root.now c.in_ok-checkpoint.checkpoint c.open_checkpoint.ensures.holds c.requires.found
+    c.in_ok-checkpoint.ensures.saved c.in_ok-checkpoint.ensures.calm c.in_err-parts.field-0.0 c.in_err-parts.ensures.cause)
 
 pub returns-in_err-engine_of-clause-reads : goal.returns-in_err-engine_of-clause-reads
-returns-in_err-engine_of-clause-reads g c = reads_then g (goal.at.returns-in_err-engine_of-clause-reads g c).After-load
+returns-in_err-engine_of-clause-reads g c = reads_then g (goal.at.returns-in_err-engine_of-clause-reads g c).After-open_index

@@ -1,10 +1,13 @@
 use Rattle.std.proofs.Common.{◌≡◌, ◌<◌, arith, rules}
 use Rattle.wu_query.proofs.PassedCauses.{err_from}
-use Rattle.wu_query.proofs.ReadTexts.{empty_long, tokens_cause}
+use Rattle.wu_query.proofs.ReadTexts.{empty_exact, empty_long, tokens_cause}
 use Rattle.wu_query.proofs.reading.read_text.Goals as goal
 
 pub returns-then-file-eq0-clause-tokens : goal.returns-then-file-eq0-clause-tokens
 returns-then-file-eq0-clause-tokens g c = rw c.new.ensures.items (empty_long c.args.file.now c.requires (search rules))
+
+pub returns-then-file-eq0-clause-exact : goal.returns-then-file-eq0-clause-exact
+returns-then-file-eq0-clause-exact g c = λ some. rw c.new.ensures.items (empty_exact c.args.file.now c.requires (search rules) some)
 
 pub returns-then-file-eq0-clause-sound : goal.returns-then-file-eq0-clause-sound
 returns-then-file-eq0-clause-sound g c = λ some. let none : c.args.file.now.blob ≡ 0 = search rules in absurd (omega (arith, none, some))
