@@ -1,7 +1,7 @@
 //! A session: the script is read as it comes, and each item is answered in turn.
-ghost use Rattle.std.specs.Prelude.{◌≡◌, ◌≢◌, ◌⊎◌, ℕ, ◌+◌, ◌<◌, ◌≤◌, ◌^◌, List, [], Option, None, Some, Err, false, IfOk, IfErr, IfSome, OnErr, OnOk, MatchBool, option_map};
+ghost use Rattle.std.specs.Prelude.{◌≡◌, ◌≢◌, ◌⊎◌, ℕ, ◌+◌, ◌<◌, ◌≤◌, ◌^◌, max, List, [], Option, None, Some, Err, false, IfOk, IfErr, IfSome, OnErr, OnOk, MatchBool, option_map};
 ghost use Rattle.std.specs.Io.KnownBytes.{Appends};
-ghost use Rattle.wu_base.specs.declared.limits.TheConstants.{BLOBS_SPENT_AT, INPUT_MAX, SPENT_AT};
+ghost use Rattle.wu_base.specs.declared.limits.TheConstants.{BLOBS_SPENT_AT, INPUT_MAX, READ_MAX, SPENT_AT};
 ghost use Rattle.wu_base.specs.declared.troubles.Trouble.{Trouble};
 ghost use Rattle.wu_outside.specs.Content.{Content};
 ghost use Rattle.wu_outside.specs.Crash.{Moments, settle};
@@ -156,6 +156,8 @@ pub fn run<I: Source, O: Sink, D: Store>(
     ensures only_taken { FromImage (D.holds store.old) (λ s. AnswersTaken s (settings_of (texts_of words.now))
         (moment I.Source O.Sink D.Store source.old sink.old store.old)
         (moment I.Source O.Sink D.Store source.new sink.new store.new)) }
+    // No read that didn't fail asked for more than READ_MAX bytes at once, also of a long text.
+    ensures asked { I.most_asked source.new ≤ max (I.most_asked source.old) READ_MAX }
 
     // No reply was held back: where the source failed or gave too much, the sink gained exactly the
     // replies to the whole items that the source gave; where sink or store failed or there was no memory,
@@ -212,6 +214,7 @@ fn answer_script<I: Source, O: Sink, D: Store>(
         (moment I.Source O.Sink D.Store source.old sink.old store.old)
         (moment I.Source O.Sink D.Store source.new sink.new store.new)
         (D.moments store.old) (D.moments store.new) }
+    ensures asked { I.most_asked source.new ≤ max (I.most_asked source.old) READ_MAX }
     ensures unopened { (next : ℕ) → result ≡ Status.Spent next → D.holds store.new ≡ D.holds store.old }
     ensures shut { StaysShut (Some settings)
         (moment I.Source O.Sink D.Store source.old sink.old store.old)
@@ -259,6 +262,7 @@ fn answer_items<I: Source, O: Sink, D: Store>(
         (moment I.Source O.Sink D.Store source.new sink.new store.new)) }
     ensures untaken { UnlessTaken (I.left source.old) (I.left source.new)
         ((D.holds store.new ≡ D.holds store.old) × (D.moments store.new ≡ D.moments store.old)) }
+    ensures asked { I.most_asked source.new ≤ max (I.most_asked source.old) READ_MAX }
     ensures broken { (content : Content) → D.holds store.old ≡ Some content → (blob : ℕ) → result ≡ Status.Damaged blob
         → HasBroken content blob }
     ensures opened { (next : ℕ) → result ≡ Status.Spent next → ⊥ }

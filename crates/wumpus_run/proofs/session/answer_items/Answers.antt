@@ -3,6 +3,7 @@ use Rattle.std.specs.Io.KnownBytes.{prepend_known}
 use Rattle.wu_script.specs.Holding.{Held}
 use Rattle.wu_script.specs.Items.{IsNext, TakesItem}
 use Rattle.wu_script.specs.Said.{said_by, tokens_given}
+use Rattle.wu_script.proofs.ReadLemmas.{asked_within}
 use Rattle.wumpus_run.specs.Replies.{said_bytes}
 use Rattle.wumpus_run.specs.Session.{moment}
 use Rattle.wumpus_run.specs.Started.{settings_by}
@@ -145,6 +146,8 @@ items-preserved g c =
       untaken = untaken_item _ (g.I.Source.left c.args.source.now) (g.I.Source.left c.items.source) (g.I.Source.left c.next.new.source)
           i.taken.0 (g.I.Source.last_read c.next.new.source) c.items.reader c.next.new.self item i.taken.1 c.if-is_end.ensures
           c.in-Ok.ensures.taken (untaken_map _ _ _ _ (λ so. so.0) c.items.invariant.untaken);
+      asked = asked_within c.items.reader.spare (g.I.Source.most_asked c.args.source.now) (g.I.Source.most_asked c.items.source)
+          (g.I.Source.most_asked c.next.new.source) c.items.invariant.asked c.in-Ok.ensures.asked;
       follows = c.in-Ok.ensures.follows;
     }
 
@@ -188,6 +191,7 @@ items-init g c =
       checkpoint = checkpoint_same 0 before.holds before.holds refl;
       rooted = drawn_at_first before.holds engine.parts.next_blob i.drawn;
       untaken = untaken_so _ before.left before.left (ap (λ (held : Held). held.bytes) i.unread, refl, refl);
+      asked = omega arith;
       follows = rw i.unread (record { going = λ h. c.requires.goes_on; recent = omega arith });
     }
 
@@ -447,3 +451,27 @@ returns-in-Err-write_reply-clause-puts g c = λ s image.
     (appended c.answer.new.out.items c.clear.new.self.items (said_bytes so_far.state (said_by item))
     (c.in-Ok-answer.ensures.answer so_far.state so_far.stands).0 c.clear.ensures.items)
     c.as_slice.ensures.value c.in-Err-write_reply.ensures.err
+
+pub returns-in-Err-clause-asked : goal.returns-in-Err-clause-asked
+returns-in-Err-clause-asked g c =
+    let most_asked = g.I.Source.most_asked in
+    asked_within c.items.reader.spare (most_asked c.args.source.now) (most_asked c.items.source) (most_asked c.next.new.source)
+    c.items.invariant.asked c.in-Err.ensures.asked
+
+pub returns-then-is_end-clause-asked : goal.returns-then-is_end-clause-asked
+returns-then-is_end-clause-asked g c =
+    let most_asked = g.I.Source.most_asked in
+    asked_within c.items.reader.spare (most_asked c.args.source.now) (most_asked c.items.source) (most_asked c.next.new.source)
+    c.items.invariant.asked c.in-Ok.ensures.asked
+
+pub returns-in-Err-answer-clause-asked : goal.returns-in-Err-answer-clause-asked
+returns-in-Err-answer-clause-asked g c =
+    let most_asked = g.I.Source.most_asked in
+    asked_within c.items.reader.spare (most_asked c.args.source.now) (most_asked c.items.source) (most_asked c.next.new.source)
+    c.items.invariant.asked c.in-Ok.ensures.asked
+
+pub returns-in-Err-write_reply-clause-asked : goal.returns-in-Err-write_reply-clause-asked
+returns-in-Err-write_reply-clause-asked g c =
+    let most_asked = g.I.Source.most_asked in
+    asked_within c.items.reader.spare (most_asked c.args.source.now) (most_asked c.items.source) (most_asked c.next.new.source)
+    c.items.invariant.asked c.in-Ok.ensures.asked

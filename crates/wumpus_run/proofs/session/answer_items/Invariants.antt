@@ -1,8 +1,9 @@
-use Rattle.std.proofs.Common.{◌≡◌, ◌+◌, List, [], length, Option, Some}
+use Rattle.std.proofs.Common.{◌≡◌, ◌+◌, ◌≤◌, max, List, [], length, Option, Some}
 use Rattle.wu_outside.specs.Content.{Content}
 use Rattle.wu_outside.specs.Crash.{Moments}
 use Rattle.wu_outside.specs.Surviving.{IsLeft, Leaves}
 use Rattle.wu_outside.specs.declared.ranges.ReadRange.{ReadRange}
+use Rattle.wu_base.specs.declared.limits.TheConstants.{READ_MAX}
 use Rattle.wu_script.specs.Holding.{Follows}
 use Rattle.wu_engine.specs.Earlier.{KeepsCheckpoint}
 use Rattle.wu_engine.specs.Going.{Goes}
@@ -38,6 +39,7 @@ invariant-items g l = record {
   rooted : NamesDrawn l.engine.parts.next_blob (g.D.Store.holds l.store);
   untaken : UnlessTaken (g.I.Source.left l.fn.source) (g.I.Source.left l.source) ((l.reader.bytes ≡ [])
       × (g.D.Store.holds l.store ≡ g.D.Store.holds l.fn.store) × (g.D.Store.moments l.store ≡ g.D.Store.moments l.fn.store));
+  asked : g.I.Source.most_asked l.source ≤ max (g.I.Source.most_asked l.fn.source) READ_MAX;
   follows : Follows (g.I.Source.ended l.source) (g.I.Source.last_read l.source) l.reader;
 }
 
