@@ -11,6 +11,7 @@ use Rattle.wu_outside.specs.declared.ranges.ReadRange.{ReadRange}
 use Rattle.wu_layout.specs.Invariants.{SomeOf}
 use Rattle.wu_part.specs.declared.entries.BlockEntry.{BlockEntry}
 use Rattle.wu_part.specs.declared.entries.TermEntry.{TermEntry}
+use Rattle.wu_part.specs.Parts.{IsNoPart}
 use Rattle.wu_job.specs.Jobs.{JobPart, JobState, HoldsTerm, IsRight}
 
 -- ---- reads

@@ -8,6 +8,7 @@ use Rattle.wu_outside.specs.Content.{Content}
 use Rattle.wu_outside.specs.Faults.{Rose}
 use Rattle.wu_outside.specs.declared.ranges.ReadRange.{ReadRange}
 use Rattle.wu_part.specs.Directories.{PartDirectory}
+use Rattle.wu_part.specs.Parts.{IsNoPart}
 use Rattle.wu_lists.specs.declared.blocks.Block.{Block}
 use Rattle.wu_lists.specs.Blocks.{needed, range_of}
 use Rattle.wu_lists.specs.Keeping.{Kept, all_missing}
