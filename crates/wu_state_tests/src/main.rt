@@ -1,7 +1,6 @@
-//! Compares what trees, spaces of addresses, frames of users, exports, lists of postings and scripts answer with the tables on standard input.
+//! Compares what trees, spaces of addresses, frames of users, lists of postings and scripts answer with the tables on standard input.
 #![tactic(auto)]
 
-mod exports;
 mod frames;
 mod lists;
 mod scripts;
@@ -53,7 +52,6 @@ impl Subject for Tables {
     fn answer(&mut self, alloc: Global, kind: &str, fields: &[&str]) -> Result<String, NoAnswer> {
         match kind {
             "space" => spaces::answer(alloc, &mut self.files.space, fields),
-            "export" => exports::answer(alloc, fields),
             "frames" | "kept" => self.files.answer(alloc, fields),
             "lists" => self.lists.answer(alloc, fields),
             "events" | "rebuild" | "chain" | "refusal" => {
