@@ -1,7 +1,8 @@
 -- The access check of POSIX.1 ("file access permissions"), with the access lists of POSIX.1e as acl(5) tells it ("access check
 -- algorithm"): the first rule decides that applies to the user. The mask is the mode's group bits. That user 0 passes every
 -- check is this project's choice.
-use Rattle.std.specs.Prelude.{◌≡◌, ◌≢◌, ◌↔◌, ◌⊎◌, ℕ, ◌/◌, ◌%◌, ◌≤◌, Bool, true, false, cond, ◌==◌, ◌&&◌, ◌||◌, Option, None, Some, IsSome, is_some, List, [], ◌∷◌, find, map, IsTrue}
+use Rattle.std.specs.Prelude.{◌≡◌, ◌≢◌, ◌↔◌, ◌⊎◌, ℕ, ◌/◌, ◌%◌, ◌≤◌, Bool, true, false, cond, ◌==◌, ◌&&◌, ◌||◌, Option, None, Some, IsSome}
+use Rattle.std.specs.Prelude.{is_some, List, [], ◌∷◌, find, map, IsTrue}
 use Rattle.std.specs.Ordering.{nat_cmp}
 use Rattle.std.specs.List.{AllByRecursion, list_any}
 use Rattle.std.specs.List.Sorted.{IsStrictlySortedBy}

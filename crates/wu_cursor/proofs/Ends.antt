@@ -11,7 +11,8 @@ use Rattle.wu_cursor.specs.declared.directions.Direction.{Direction}
 use Rattle.wu_cursor.specs.declared.directions.Direction.TheVariants.{Forward, Backward}
 use Rattle.wu_cursor.specs.Directions.{Reaches, Precedes, next_place, near, far, nearer, nearer_of, farther}
 use Rattle.wu_cursor.specs.Within.{IsMember, NoneReached, IsFarEnd}
-use Rattle.wu_cursor.proofs.Orders.{before_held, before_or_reached, before_through, cover_far, cover_reached, far_held, farther_reaches, near_held, nearer_one, nearer_other, nearer_reaches, next_before, next_none, next_reached, not_both}
+use Rattle.wu_cursor.proofs.Orders.{before_held, before_or_reached, before_through, cover_far, cover_reached, far_held, farther_reaches}
+use Rattle.wu_cursor.proofs.Orders.{near_held, nearer_one, nearer_other, nearer_reaches, next_before, next_none, next_reached, not_both}
 
 module _ (n : ℕ) (left right : Extent → Bool) where
   -- in either set

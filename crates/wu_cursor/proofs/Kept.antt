@@ -1,18 +1,21 @@
 -- What a containment keeps, by going over the extents of its left operand.
-use Rattle.std.proofs.Common.{◌≡◌, ℕ, ◌+◌, ◌-◌, ◌<◌, ◌≤◌, Bool, true, false, ◌&&◌, ◌⊎◌, List, refl, sym, ◌∙◌, subst, inl, inr, arith, leb, leb-true, le-leb}
+use Rattle.std.proofs.Common.{◌≡◌, ℕ, ◌+◌, ◌-◌, ◌<◌, ◌≤◌, Bool, true, false, ◌&&◌, ◌⊎◌, List, refl, sym, ◌∙◌, subst, inl, inr, arith, leb}
+use Rattle.std.proofs.Common.{leb-true, le-leb}
 use Rattle.std.specs.Prelude.{Option, Some, None, MatchOption}
 use Rattle.std.specs.Cmp.{both_ways}
 use Rattle.std.proofs.lemmas.Bool.{and_parts, and_from, false≢true, false_from_ne_true}
 use Rattle.wu_base.specs.declared.addresses.Extent.{Extent}
 use Rattle.wu_gcl.specs.declared.expressions.Op.{Op}
-use Rattle.wu_gcl.specs.declared.expressions.Op.TheVariants.{Containing, ContainedIn, NotContaining, NotContainedIn, OneOf, BothOf, FollowedBy}
+use Rattle.wu_gcl.specs.declared.expressions.Op.TheVariants.{Containing, ContainedIn, NotContaining, NotContainedIn, OneOf, BothOf}
+use Rattle.wu_gcl.specs.declared.expressions.Op.TheVariants.{FollowedBy}
 use Rattle.wu_gcl.specs.Regions.{Region, Both}
 use Rattle.wu_gcl.specs.Extents.{holds, some_extent, combined, containing, contained_in, not_containing, not_contained_in, is_in}
 use Rattle.wu_solve.proofs.Sets.{Holds, holds_means, holds_from}
 use Rattle.wu_solve.proofs.Order.{some_found, some_from}
 use Rattle.wu_cursor.specs.declared.directions.Direction.{Direction}
 use Rattle.wu_cursor.specs.Directions.{Reaches, Precedes, next_place, near}
-use Rattle.wu_cursor.specs.Within.{IsMember, IsNearest, NoneReached, IsFirst, NoneStarts, IsFirstEnd, IsLastStart, IsFirstEnding, NoneEndsFrom, IsContainment, AreKept, keeps}
+use Rattle.wu_cursor.specs.Within.{IsMember, IsNearest, NoneReached, IsFirst, NoneStarts, IsFirstEnd, IsLastStart, IsFirstEnding}
+use Rattle.wu_cursor.specs.Within.{NoneEndsFrom, IsContainment, AreKept, keeps}
 use Rattle.wu_cursor.proofs.Flat.{IsFlat, starts_before}
 use Rattle.wu_cursor.proofs.Orders.{before_or_reached, holds_near, next_none, next_reached, not_both, through}
 

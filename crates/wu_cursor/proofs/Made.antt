@@ -10,7 +10,8 @@ use Rattle.wu_cursor.specs.declared.directions.Direction.{Direction}
 use Rattle.wu_cursor.specs.Directions.{next_place, nearer_of, farther}
 use Rattle.wu_cursor.specs.Within.{NoneReached, IsFarEnd}
 use Rattle.wu_cursor.proofs.Inner.{far_end_inner, none_inner}
-use Rattle.wu_cursor.proofs.Ends.{first_of, far_end_of_either, far_end_of_both, none_of_both_left, none_of_both_right, far_end_in_order, none_in_order_first, none_in_order_second, none_in_order_behind}
+use Rattle.wu_cursor.proofs.Ends.{first_of, far_end_of_either, far_end_of_both, none_of_both_left, none_of_both_right, far_end_in_order}
+use Rattle.wu_cursor.proofs.Ends.{none_in_order_first, none_in_order_second, none_in_order_behind}
 
 made_inner : (d : Direction) (n : ℕ) (set : Extent → Bool) (place : ℕ) (r : Option ℕ)
     → MatchOption r (NoneReached d n set place) (IsFarEnd d n set place)

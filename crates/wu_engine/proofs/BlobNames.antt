@@ -1,5 +1,6 @@
 -- A step names each blob that it draws, leaves a name to each that had one, and names no other.
-use Rattle.std.proofs.Common.{◌≡◌, ◌⊎◌, inl, inr, ℕ, zero, suc, ◌+◌, ◌<◌, ◌≤◌, ◌==◌, Bool, true, false, cond, if◌then◌else◌, List, [], ◌∷◌, ◌++◌, length, drop, map, count_by, Option, None, Some, refl, ap, ◌∙◌, subst, ⊎_elim, arith}
+use Rattle.std.proofs.Common.{◌≡◌, ◌⊎◌, inl, inr, ℕ, zero, suc, ◌+◌, ◌<◌, ◌≤◌, ◌==◌, Bool, true, false, cond, if◌then◌else◌, List, [], ◌∷◌}
+use Rattle.std.proofs.Common.{◌++◌, length, drop, map, count_by, Option, None, Some, refl, ap, ◌∙◌, subst, ⊎_elim, arith}
 use Rattle.std.specs.Prelude.{nat_le}
 use Rattle.std.specs.Ordering.{nat_cmp}
 use Rattle.std.specs.List.Sorted.{IsStrictlySortedBy}
@@ -15,9 +16,11 @@ use Rattle.wu_tree.specs.FileSystems.{FileSystem}
 use Rattle.wu_tree.specs.Effects.{TellsFiles}
 use Rattle.wu_tree.proofs.EffectLemmas.{effects_tell_files}
 use Rattle.wu_layout.specs.Postings.{Posting, live_of}
-use Rattle.wu_layout.specs.Layouts.{FileEntry, Job, Layout, Part, Text, entry_of, parts_after, parts_before, parts_taken, ranges_of, stored_in}
+use Rattle.wu_layout.specs.Layouts.{FileEntry, Job, Layout, Part, Text, entry_of, parts_after, parts_before, parts_taken, ranges_of}
+use Rattle.wu_layout.specs.Layouts.{stored_in}
 use Rattle.wu_layout.specs.Invariants.{times_named}
-use Rattle.wu_layout.specs.Steps.{flush, flush_if_full, flushed, job_of, made_generation, place, release, replaced, text_blob, unit, unit_of, with_terms_left, work}
+use Rattle.wu_layout.specs.Steps.{flush, flush_if_full, flushed, job_of, made_generation, place, release, replaced, text_blob, unit}
+use Rattle.wu_layout.specs.Steps.{unit_of, with_terms_left, work}
 use Rattle.wu_layout.proofs.BlobLemmas.{count-append, count-cons, once, once_other, once_same, released_count, removed_count}
 use Rattle.wu_layout.proofs.EntryLemmas.{none_after_removal}
 use Rattle.wu_layout.proofs.HomeLemmas.{parts_split}

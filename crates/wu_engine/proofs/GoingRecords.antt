@@ -1,5 +1,6 @@
 -- What is recorded of texts stays sound where records are taken out and put in.
-use Rattle.std.proofs.Common.{◌≡◌, ◌⊎◌, inr, ⊎_elim, ℕ, ◌+◌, ◌<◌, cond, List, [], ◌++◌, length, Bool, refl, ap, sym, ◌∙◌, subst, arith, append-nil}
+use Rattle.std.proofs.Common.{◌≡◌, ◌⊎◌, inr, ⊎_elim, ℕ, ◌+◌, ◌<◌, cond, List, [], ◌++◌, length, Bool, refl, ap, sym, ◌∙◌, subst, arith}
+use Rattle.std.proofs.Common.{append-nil}
 use Rattle.std.specs.Prelude.{Option, Some, None, IfSome, option_map}
 use Rattle.std.specs.Ordering.{nat_cmp}
 use Rattle.std.specs.List.{AllByRecursion}
@@ -21,7 +22,8 @@ use Rattle.wu_image.specs.Texts.{IsBrokenText}
 use Rattle.wu_image.specs.declared.records.FileRec.{FileRec}
 use Rattle.wu_query.specs.Records.{Records, recorded_ranges}
 use Rattle.wu_engine.specs.Going.{IsSavedText, IsSoundText, entries_of, entry_for}
-use Rattle.wu_engine.specs.Indexing.{Catalog, blob_for, blob_of, catalog_after, catalog_made, catalog_with, catalog_without, is_stored, record_for, space_made, without_file}
+use Rattle.wu_engine.specs.Indexing.{Catalog, blob_for, blob_of, catalog_after, catalog_made, catalog_with, catalog_without, is_stored}
+use Rattle.wu_engine.specs.Indexing.{record_for, space_made, without_file}
 use Rattle.wu_engine.proofs.KeptStates.{none-stored}
 use Rattle.wu_engine.proofs.NumberedEntries.{none-removed}
 use Rattle.wu_engine.proofs.RecordLemmas.{ranges-with, ranges-without}

@@ -18,7 +18,8 @@ use Rattle.wu_layout.specs.Layouts.{Layout}
 use Rattle.wu_layout.specs.Steps.{flush_if_full}
 use Rattle.wu_layout.proofs.Updates.{first_is_layout, layout_after_other}
 use Rattle.wu_query.specs.States.{State, IsState}
-use Rattle.wu_engine.specs.States.{first_state, flushed_if_full, followed, step, stepped, after_event, texts_after, layout_without, layout_with, layout_after}
+use Rattle.wu_engine.specs.States.{first_state, flushed_if_full, followed, step, stepped, after_event, texts_after, layout_without}
+use Rattle.wu_engine.specs.States.{layout_with, layout_after}
 use Rattle.wu_engine.specs.Stands.{taken_by}
 use Rattle.wu_engine.specs.Indexing.{is_stored, terms_given}
 use Rattle.wu_engine.proofs.FileChanges.{changes}

@@ -1,5 +1,6 @@
 -- After a save, also one that fails, a store has the root that it had, or one whose checkpoint is there.
-use Rattle.std.proofs.Common.{◌≡◌, ℕ, ◌+◌, ◌<◌, ◌≤◌, ◌==◌, cond, List, [], ◌∷◌, ◌++◌, length, refl, ap, sym, ◌∙◌, subst, arith, inl, inr, ⊎_elim}
+use Rattle.std.proofs.Common.{◌≡◌, ℕ, ◌+◌, ◌<◌, ◌≤◌, ◌==◌, cond, List, [], ◌∷◌, ◌++◌, length, refl, ap, sym, ◌∙◌, subst, arith, inl, inr}
+use Rattle.std.proofs.Common.{⊎_elim}
 use Rattle.std.specs.Prelude.{Option, Some, None, IfSome, count_by, option_map}
 use Rattle.wu_outside.specs.Content.{Content, with_blob, with_root}
 use Rattle.wu_layout.specs.Layouts.{Layout}

@@ -21,7 +21,8 @@ use Rattle.wu_base.specs.declared.troubles.Trouble.TheVariants as troubles
 use Rattle.wu_base.specs.declared.troubles.Trouble.TheVariants.{Damaged}
 use Rattle.wu_query.specs.Permitted.{ReadsOnly}
 use Rattle.wu_query.specs.States.{State}
-use Rattle.wu_engine.specs.Opening.{HasCheckpoint, HasOpenRoot, HoldsImage, IsBeginCause, IsDamagedAtOpening, IsIndexDamaged, IsIndexRange, IsOpen, OpensIndex, ReadsAtOpening, fault_of_trouble}
+use Rattle.wu_engine.specs.Opening.{HasCheckpoint, HasOpenRoot, HoldsImage, IsBeginCause, IsDamagedAtOpening, IsIndexDamaged, IsIndexRange}
+use Rattle.wu_engine.specs.Opening.{IsOpen, OpensIndex, ReadsAtOpening, fault_of_trouble}
 use Rattle.wu_engine.specs.Reindexed.{IsIndexCause, IsIndexOpened, IsReindexed, ReadsIndex}
 use Rattle.wu_engine.specs.Reindexing.{IsFirstBrokenText, IsTextOfOne, texts_whole}
 use Rattle.wu_engine.specs.Stands.{Stands}

@@ -15,7 +15,8 @@ use Rattle.wu_query.proofs.PermittedBlocks.{reads_joined}
 use Rattle.wu_engine.specs.declared.faults.BeginFault.{BeginFault}
 use Rattle.wu_engine.specs.declared.faults.BeginFault.TheVariants as faults
 use Rattle.wu_engine.specs.Opened.{FindsRoot, IsFoundIn, MatchesRoot, ReadsCheckpoint}
-use Rattle.wu_engine.specs.Opening.{HasCheckpoint, HasOpenRoot, HoldsImage, IsBeginCause, IsDamagedAtOpening, IsIndexRange, IsOpen, IsOpeningRange, IsSpentWhere, Opens, OpensIndex, ReadsAtOpening, checkpoint_range}
+use Rattle.wu_engine.specs.Opening.{HasCheckpoint, HasOpenRoot, HoldsImage, IsBeginCause, IsDamagedAtOpening, IsIndexRange, IsOpen}
+use Rattle.wu_engine.specs.Opening.{IsOpeningRange, IsSpentWhere, Opens, OpensIndex, ReadsAtOpening, checkpoint_range}
 use Rattle.wu_engine.specs.Reindexed.{ReadsIndex}
 use Rattle.wu_engine.proofs.ImageStates.{image_undamaged}
 

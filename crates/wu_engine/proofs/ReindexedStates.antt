@@ -1,5 +1,6 @@
 -- An engine that indexed the texts of an image anew stands for its state.
-use Rattle.std.proofs.Common.{◌≡◌, ℕ, zero, suc, ◌<◌, ◌==◌, Bool, true, false, cond, List, [], ◌∷◌, ◌++◌, length, map, refl, ap, sym, ◌∙◌, subst, inl, inr, ⊎_elim, arith}
+use Rattle.std.proofs.Common.{◌≡◌, ℕ, zero, suc, ◌<◌, ◌==◌, Bool, true, false, cond, List, [], ◌∷◌, ◌++◌, length, map, refl, ap, sym, ◌∙◌}
+use Rattle.std.proofs.Common.{subst, inl, inr, ⊎_elim, arith}
 use Rattle.std.specs.Prelude.{Option, Some, None, IfSome, unwrap_or}
 use Rattle.std.specs.List.{AllByRecursion, AllZip}
 use Rattle.std.proofs.lemmas.Bool.{eqb-true}
@@ -28,7 +29,8 @@ use Rattle.wu_engine.specs.Opening.{HasCheckpoint, HasOpenRoot, HoldsImage}
 use Rattle.wu_engine.specs.Reindexed.{IsReindexed}
 use Rattle.wu_engine.specs.Stands.{Stands}
 use Rattle.wu_engine.proofs.FlushLemmas.{nothing_held}
-use Rattle.wu_engine.proofs.ImageStates.{checkpoint_is, files_told, live_told, none_kept, renewed_there, resting, root_is, saved, texts_there}
+use Rattle.wu_engine.proofs.ImageStates.{checkpoint_is, files_told, live_told, none_kept, renewed_there, resting, root_is, saved}
+use Rattle.wu_engine.proofs.ImageStates.{texts_there}
 
 -- ---- the texts of an image are those that the store holds
 

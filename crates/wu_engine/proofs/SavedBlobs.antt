@@ -1,5 +1,6 @@
 -- The blobs that a layout names of texts and parts, by the rules of a checkpoint.
-use Rattle.std.proofs.Common.{◌≡◌, ℕ, ◌+◌, ◌<◌, ◌≤◌, ◌==◌, nat_lt, eqb, true, false, cond, List, [], ◌∷◌, map, filter, count_by, refl, ap, sym, ◌∙◌, subst, inl, inr, ⊎_elim, arith, eq-zero-or-pos}
+use Rattle.std.proofs.Common.{◌≡◌, ℕ, ◌+◌, ◌<◌, ◌≤◌, ◌==◌, nat_lt, eqb, true, false, cond, List, [], ◌∷◌, map, filter, count_by, refl, ap}
+use Rattle.std.proofs.Common.{sym, ◌∙◌, subst, inl, inr, ⊎_elim, arith, eq-zero-or-pos}
 use Rattle.std.specs.List.{AllByRecursion, IsDistinct}
 use Rattle.std.proofs.lemmas.Bool.{cases_lt, ltb-false, ltb-true, ne_eqb}
 use Rattle.wu_base.specs.declared.addresses.PartRec.{PartRec}

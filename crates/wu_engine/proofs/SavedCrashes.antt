@@ -9,7 +9,8 @@ use Rattle.wu_outside.specs.declared.traits.Fault.{Fault}
 use Rattle.wu_outside.specs.Content.{Content, no_content, with_blob, with_root}
 use Rattle.wu_outside.specs.Crash.{AreAlike, MayTry, Moments, Put, SetRoot, settle, try_change}
 use Rattle.wu_outside.specs.Surviving.{Leaves, LeavesNow}
-use Rattle.wu_outside.proofs.Survival.{Ignores, both_now, kept, leaves_more, leaves_then, more_now, remove_leaves, root_may_leave, strays, sync_leaves, synced}
+use Rattle.wu_outside.proofs.Survival.{Ignores, both_now, kept, leaves_more, leaves_then, more_now, remove_leaves, root_may_leave, strays}
+use Rattle.wu_outside.proofs.Survival.{sync_leaves, synced}
 use Rattle.wu_layout.specs.Invariants.{BlobsAreDistinct}
 use Rattle.wu_layout.specs.Layouts.{Layout}
 use Rattle.wu_layout.specs.Postings.{Posting, live_of}
@@ -27,7 +28,8 @@ use Rattle.wu_engine.specs.Naming.{IsNamed}
 use Rattle.wu_engine.specs.Opening.{HoldsImage}
 use Rattle.wu_engine.specs.Puts.{MayTryPut}
 use Rattle.wu_engine.specs.Saving.{checkpoint_blob, removed_by_save}
-use Rattle.wu_engine.specs.SavedStores.{IsFlushed, IsPrepared, Saves, SomeDone, StopsSave, TriesPut, TriesRoot, all_done, remove_blob, try_removal, with_checkpoint, with_new_root}
+use Rattle.wu_engine.specs.SavedStores.{IsFlushed, IsPrepared, Saves, SomeDone, StopsSave, TriesPut, TriesRoot, all_done, remove_blob}
+use Rattle.wu_engine.specs.SavedStores.{try_removal, with_checkpoint, with_new_root}
 use Rattle.wu_engine.specs.Stands.{IsEngineOf, Stands}
 use Rattle.wu_engine.specs.States.{flushed_state, rested_state, saved_state}
 use Rattle.wu_engine.proofs.FlushLemmas.{memory_held}

@@ -34,7 +34,9 @@ use Rattle.wu_engine.proofs.FlushLemmas.{IsStored, flush_stands, is_told}
 use Rattle.wu_engine.proofs.FlushedStates.{rises-flush}
 use Rattle.wu_engine.proofs.SavedContents.{all_removed, are_removed}
 use Rattle.wu_engine.proofs.SavedLayouts.{saved_files, saved_rules}
-use Rattle.wu_engine.proofs.SavedStates.{blocks_saved, checkpoint_there, files_imaged, job_saved, layout_checkpointed, left, memory_flushed, of_no_part, of_no_text, parts_imaged, parts_saved, rested_kept, root_there, saved_kept, texts_saved}
+use Rattle.wu_engine.proofs.SavedStates.{blocks_saved, checkpoint_there, files_imaged, job_saved, layout_checkpointed, left, memory_flushed}
+use Rattle.wu_engine.proofs.SavedStates.{of_no_part, of_no_text, parts_imaged, parts_saved, rested_kept, root_there, saved_kept}
+use Rattle.wu_engine.proofs.SavedStates.{texts_saved}
 use Rattle.wu_engine.proofs.SavedSteps.{stale_stays}
 use Rattle.wu_engine.proofs.SoundLemmas.{LeavesNumbers, numbers_left}
 

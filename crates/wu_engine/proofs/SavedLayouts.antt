@@ -20,7 +20,8 @@ use Rattle.wu_image.specs.LayoutRules.{AreLayoutRules, lies_in}
 use Rattle.wu_query.specs.Records.{records_of}
 use Rattle.wu_query.specs.States.{State, IsState, indexed, text_in}
 use Rattle.wu_engine.proofs.SavedBlobs.{named_distinct, named_drawn}
-use Rattle.wu_engine.proofs.SavedSpans.{flushes_recorded, generations_recorded, generations_up_to, home_recorded, live_stored, parts_recorded, spans_recorded}
+use Rattle.wu_engine.proofs.SavedSpans.{flushes_recorded, generations_recorded, generations_up_to, home_recorded, live_stored}
+use Rattle.wu_engine.proofs.SavedSpans.{parts_recorded, spans_recorded}
 use Rattle.wu_engine.proofs.SavedTexts.{file_records, in_one_file, numbers_are_files, texts_recorded, two_tokens}
 
 -- the addresses of the parts ascend, and are below the next

@@ -1,5 +1,6 @@
 -- The records of a layout's parts, and the ranges that lie in them, keep the rules of a checkpoint.
-use Rattle.std.proofs.Common.{◌≡◌, ℕ, ◌+◌, ◌-◌, ◌^◌, ◌<◌, ◌≤◌, nat_le, Bool, true, false, cond, List, [], ◌∷◌, ◌++◌, length, sum_by, refl, ap, sym, ◌∙◌, subst, ⊎_elim, arith, append_assoc, length-append}
+use Rattle.std.proofs.Common.{◌≡◌, ℕ, ◌+◌, ◌-◌, ◌^◌, ◌<◌, ◌≤◌, nat_le, Bool, true, false, cond, List, [], ◌∷◌, ◌++◌, length, sum_by, refl}
+use Rattle.std.proofs.Common.{ap, sym, ◌∙◌, subst, ⊎_elim, arith, append_assoc, length-append}
 use Rattle.std.specs.List.{AllByRecursion, list_any}
 use Rattle.std.proofs.lemmas.Bool.{and_from, and_parts, le-leb, leb-true, or_left, or_right}
 use Rattle.std.proofs.lemmas.List.Sums.{sum_by-cons}
@@ -8,7 +9,8 @@ use Rattle.wu_base.specs.declared.addresses.PartRec.{PartRec}
 use Rattle.wu_base.specs.declared.limits.TheConstants.{GENERATION_MAX}
 use Rattle.wu_outside.specs.Content.{Content}
 use Rattle.wu_layout.specs.Postings.{Posting, Ascend, live_of}
-use Rattle.wu_layout.specs.Layouts.{FileEntry, Layout, Part, Text, first_address, homes_of, last_address, ranges_by_number, ranges_of, stored_in}
+use Rattle.wu_layout.specs.Layouts.{FileEntry, Layout, Part, Text, first_address, homes_of, last_address, ranges_by_number, ranges_of}
+use Rattle.wu_layout.specs.Layouts.{stored_in}
 use Rattle.wu_layout.specs.Invariants.{HasText, IsLayoutOf, SomeOf, flushes_for}
 use Rattle.wu_layout.specs.Invariants.{NeverRise as NeverRiseIn}
 use Rattle.wu_layout.proofs.GenerationLemmas.{AreUpTo}

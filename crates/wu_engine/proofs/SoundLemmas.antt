@@ -1,5 +1,6 @@
 -- What an engine keeps, whatever is asked of it, it keeps with each accepted event.
-use Rattle.std.proofs.Common.{◌≡◌, ◌⊎◌, inl, inr, ℕ, ◌+◌, ◌≤◌, ◌==◌, List, [], length, Bool, true, false, cond, refl, ap, sym, ◌∙◌, subst, arith, length-append}
+use Rattle.std.proofs.Common.{◌≡◌, ◌⊎◌, inl, inr, ℕ, ◌+◌, ◌≤◌, ◌==◌, List, [], length, Bool, true, false, cond, refl, ap, sym, ◌∙◌, subst}
+use Rattle.std.proofs.Common.{arith, length-append}
 use Rattle.std.specs.Prelude.{Option, Some, None, Ok, IfSome}
 use Rattle.std.specs.Ordering.{nat_cmp}
 use Rattle.std.specs.Cmp.{nat_cmp_total}
@@ -25,7 +26,9 @@ use Rattle.wu_frames.specs.UserFrames.{Kept}
 use Rattle.wu_query.specs.Records.{Records, recorded_ranges}
 use Rattle.wu_query.specs.Soundness.{IsSound, IsRecord}
 use Rattle.wu_engine.specs.Stands.{taken_by}
-use Rattle.wu_engine.specs.Indexing.{Follows, IsIndexable, Catalog, KeepsParts, blob_for, drawn_for, catalog_of, catalog_made, catalog_after, catalog_without, terms_given, terms_after, with_file, without_file, space_made, space_after}
+use Rattle.wu_engine.specs.Indexing.{Follows, IsIndexable, Catalog, KeepsParts, blob_for, drawn_for, catalog_of, catalog_made}
+use Rattle.wu_engine.specs.Indexing.{catalog_after, catalog_without, terms_given, terms_after, with_file, without_file, space_made}
+use Rattle.wu_engine.specs.Indexing.{space_after}
 use Rattle.wu_engine.proofs.NumberedEntries.{is_that, has, has-put, has-removed}
 use Rattle.wu_engine.proofs.KeptStates.{taken_with, taken-effect}
 use Rattle.wu_engine.proofs.FileChanges.{ChangesFiles, changes, files_without, files-after, files-texted}

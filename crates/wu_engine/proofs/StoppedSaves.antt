@@ -13,7 +13,8 @@ use Rattle.wu_image.specs.Roots.{SpellsRoot}
 use Rattle.wu_query.specs.Records.{Records}
 use Rattle.wu_engine.specs.Puts.{MayPut, MayTryPut}
 use Rattle.wu_engine.specs.Saving.{checkpoint_blob}
-use Rattle.wu_engine.specs.SavedStores.{IsFlushed, IsPrepared, IsSpelledOf, SomeDone, StopsSave, remove_blob, try_removal, with_checkpoint, with_drawn}
+use Rattle.wu_engine.specs.SavedStores.{IsFlushed, IsPrepared, IsSpelledOf, SomeDone, StopsSave, remove_blob, try_removal, with_checkpoint}
+use Rattle.wu_engine.specs.SavedStores.{with_drawn}
 use Rattle.wu_engine.proofs.SavedSteps.{root_of}
 
 module _ (tree : FileSystem) (space : Addresses) (files : Records) (checkpoint : ℕ) (old : Contents) (before : Told) where

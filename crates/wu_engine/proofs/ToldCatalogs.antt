@@ -22,7 +22,8 @@ use Rattle.wu_query.specs.States.{State, Texts, IsState}
 use Rattle.wu_query.specs.Records.{Records, records_of}
 use Rattle.wu_query.specs.Searched.{HoldsTexts}
 use Rattle.wu_engine.specs.States.{texts_after, without_text, with_text, layout_without, layout_with, layout_after}
-use Rattle.wu_engine.specs.Indexing.{Catalog, blob_for, blob_left, catalog_after, catalog_made, catalog_with, catalog_without, record_for, stored_at, terms_after, terms_given}
+use Rattle.wu_engine.specs.Indexing.{Catalog, blob_for, blob_left, catalog_after, catalog_made, catalog_with, catalog_without, record_for}
+use Rattle.wu_engine.specs.Indexing.{stored_at, terms_after, terms_given}
 use Rattle.wu_engine.proofs.FileChanges.{ChangesFiles}
 use Rattle.wu_engine.proofs.StateTexts.{text-left}
 use Rattle.wu_engine.proofs.StateLayouts.{layout_dropped, left_kept, made_absent, made_kept}

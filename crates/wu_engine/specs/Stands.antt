@@ -1,5 +1,6 @@
 -- How an engine and its store stand for a state, and what it answers to an event.
-use Rattle.std.specs.Prelude.{◌≡◌, ◌⊎◌, ⊤, ℕ, ◌+◌, ◌<◌, ◌≤◌, Bool, true, false, not, ◌&&◌, nat_lt, List, [], length, Option, None, Some, IfSome, Result, Ok, Err}
+use Rattle.std.specs.Prelude.{◌≡◌, ◌⊎◌, ⊤, ℕ, ◌+◌, ◌<◌, ◌≤◌, Bool, true, false, not, ◌&&◌, nat_lt, List, [], length, Option, None, Some}
+use Rattle.std.specs.Prelude.{IfSome, Result, Ok, Err}
 use Rattle.wu_outside.specs.Content.{Content}
 use Rattle.wu_layout.specs.Layouts.{Layout, ranges_by_number}
 use Rattle.wu_layout.specs.Postings.{addresses_of}

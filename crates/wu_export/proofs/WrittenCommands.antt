@@ -1,5 +1,6 @@
 -- What is written for a command.
-use Rattle.std.proofs.Common.{◌≡◌, ℕ, ◌+◌, ◌%◌, ◌^◌, ◌<◌, ◌≤◌, false, eqb, List, [], ◌∷◌, ◌++◌, length, get_or, take, drop, refl, ap, sym, ◌∙◌, append_assoc, arith}
+use Rattle.std.proofs.Common.{◌≡◌, ℕ, ◌+◌, ◌%◌, ◌^◌, ◌<◌, ◌≤◌, false, eqb, List, [], ◌∷◌, ◌++◌, length, get_or, take, drop, refl, ap, sym}
+use Rattle.std.proofs.Common.{◌∙◌, append_assoc, arith}
 use Rattle.std.specs.Prelude.{Option, None, codes, decimal, ◌==◌, map}
 use Rattle.std.proofs.Math.Nat.{mod-lt}
 use Rattle.std.proofs.lemmas.Bool.{ne_eqb}
@@ -8,7 +9,8 @@ use Rattle.std.proofs.lemmas.Grind.{flat_map-append}
 use Rattle.std.proofs.lemmas.List.{append-nil, at_drop_more, map-append, take_more}
 use Rattle.wu_fields.specs.Fields.{escaped, escaped_byte, with_letter, letter_of}
 use Rattle.wu_export.specs.declared.Shown.{Shown}
-use Rattle.wu_export.specs.Exports.{Directory, File, Link, Entry, text_line, text_entries, command_of, commands_of, file_entry, link_entry, path_entries, file_entries, files_from}
+use Rattle.wu_export.specs.Exports.{Directory, File, Link, Entry, text_line, text_entries, command_of, commands_of, file_entry, link_entry}
+use Rattle.wu_export.specs.Exports.{path_entries, file_entries, files_from}
 use Rattle.wu_export.specs.Finding.{placed}
 
 -- ---- numbers

@@ -1,7 +1,8 @@
 -- The export of what a user may search: a script that makes its files from nothing. In it the directories have numbers from 2 on, in
 -- the order of their paths, and the files the numbers after them, in the order of the view. All are user 0's and group 0's; directories
 -- have mode 755 and files 644, so everyone may read them.
-use Rattle.std.specs.Prelude.{ℕ, ◌+◌, ◌==◌, Bool, List, [], ◌∷◌, ◌++◌, map, filter, take, drop, length, slice_index, count_by, codes, decimal, if◌then◌else◌}
+use Rattle.std.specs.Prelude.{ℕ, ◌+◌, ◌==◌, Bool, List, [], ◌∷◌, ◌++◌, map, filter, take, drop, length, slice_index, count_by, codes}
+use Rattle.std.specs.Prelude.{decimal, if◌then◌else◌}
 use Rattle.std.specs.List.{flat_map, list_any, range_with_len}
 use Rattle.std.specs.Ordering.{is_lt}
 use Rattle.wu_base.specs.SortedOnce.{sorted_once}

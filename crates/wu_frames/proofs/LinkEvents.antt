@@ -9,7 +9,8 @@ use Rattle.std.specs.BTreeMap.{insert_entry, is_at}
 use Rattle.std.proofs.lemmas.Bool.{ne_eqb, or_parts}
 use Rattle.std.proofs.lemmas.Map.{lookup-none}
 use Rattle.std.proofs.lemmas.Map.Views.{Contains-from_lookup, tells_apart}
-use Rattle.wu_base.proofs.MapEntries.{All-found, All-insert_entry, All-remove_entry, is_equal, lookup-insert_entry, lookup-remove_other, none_left, number_itself}
+use Rattle.wu_base.proofs.MapEntries.{All-found, All-insert_entry, All-remove_entry, is_equal, lookup-insert_entry, lookup-remove_other}
+use Rattle.wu_base.proofs.MapEntries.{none_left, number_itself}
 use Rattle.wu_base.proofs.Members.{Contains-from_Has, Has, all_from_has, all_has}
 use Rattle.wu_view.proofs.PathResolution.{child_found}
 use Rattle.wu_access.specs.declared.acls.Acl.{Acl}
@@ -17,9 +18,11 @@ use Rattle.wu_access.specs.declared.Perm.{Perm}
 use Rattle.wu_tree.specs.declared.events.Event.TheVariants.{Mkdir, Create, Link as AddLink, Unlink, Rmdir, Rename}
 use Rattle.wu_tree.specs.declared.events.Kind.TheVariants.{Directory, File}
 use Rattle.wu_tree.specs.declared.events.Node.{Node}
-use Rattle.wu_tree.specs.FileSystems.{FileSystem, Link, Place, acl_of, child_of, has_entries, is_directory, is_directory_node, is_file, is_there, is_used, node_of, place_cmp}
+use Rattle.wu_tree.specs.FileSystems.{FileSystem, Link, Place, acl_of, child_of, has_entries, is_directory, is_directory_node, is_file}
+use Rattle.wu_tree.specs.FileSystems.{is_there, is_used, node_of, place_cmp}
 use Rattle.wu_tree.specs.Rules.{IsAclOf, IsLink, IsTree}
-use Rattle.wu_tree.specs.Steps.{create_rules, is_same_node, link_rules, mkdir_rules, named, named_by, next, refusal_of, rename_rules, rmdir_rules, with_link, with_link_moved, with_node, without_link}
+use Rattle.wu_tree.specs.Steps.{create_rules, is_same_node, link_rules, mkdir_rules, named, named_by, next, refusal_of, rename_rules}
+use Rattle.wu_tree.specs.Steps.{rmdir_rules, with_link, with_link_moved, with_node, without_link}
 use Rattle.wu_tree.proofs.EventRules.{absent, kind_directory, none_applies, not_false, place, present}
 use Rattle.wu_tree.proofs.LinkRemovals.{apart_from}
 use Rattle.wu_tree.proofs.ParentPaths.{absent_directory, place_exact, place_total, same_number}

@@ -17,12 +17,14 @@ use Rattle.wu_access.specs.Access.{is_allowed}
 use Rattle.wu_tree.specs.declared.events.Kind.{Kind}
 use Rattle.wu_tree.specs.declared.events.Kind.TheVariants.{Directory, File}
 use Rattle.wu_tree.specs.declared.events.Node.{Node}
-use Rattle.wu_tree.specs.FileSystems.{FileSystem, Link, acl_of, ancestors, above, groups_of, is_directory, is_directory_node, is_file_node, is_kind_file, node_of, parent_of, path_up}
+use Rattle.wu_tree.specs.FileSystems.{FileSystem, Link, acl_of, ancestors, above, groups_of, is_directory, is_directory_node, is_file_node}
+use Rattle.wu_tree.specs.FileSystems.{is_kind_file, node_of, parent_of, path_up}
 use Rattle.wu_tree.specs.Rules.{IsLink, IsTree}
 use Rattle.wu_tree.specs.Steps.{with_user}
 use Rattle.wu_tree.proofs.ParentPaths.{parent_found, path_is, same_number, other_number}
 use Rattle.wu_view.specs.declared.Seen.{Seen}
-use Rattle.wu_view.specs.Views.{is_granted_node, is_empty, is_open, is_readable, may, path_cmp, path_of, seen_as, seen_cmp, user_with, view_for, view_of}
+use Rattle.wu_view.specs.Views.{is_granted_node, is_empty, is_open, is_readable, may, path_cmp, path_of, seen_as, seen_cmp, user_with}
+use Rattle.wu_view.specs.Views.{view_for, view_of}
 use Rattle.wu_frames.specs.Permissions.{want_of}
 
 -- ---- lists

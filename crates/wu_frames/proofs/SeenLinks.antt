@@ -1,5 +1,6 @@
 -- A view depends on the links that lead to readable files from directories that are open.
-use Rattle.std.proofs.Common.{◌≡◌, ℕ, zero, suc, ◌≤◌, Bool, true, false, ◌&&◌, ◌||◌, not, List, [], ◌∷◌, ◌++◌, refl, ap, sym, ◌∙◌, subst, ⊎_elim, arith}
+use Rattle.std.proofs.Common.{◌≡◌, ℕ, zero, suc, ◌≤◌, Bool, true, false, ◌&&◌, ◌||◌, not, List, [], ◌∷◌, ◌++◌, refl, ap, sym, ◌∙◌, subst}
+use Rattle.std.proofs.Common.{⊎_elim, arith}
 use Rattle.std.specs.Prelude.{◌==◌, Option, None, Some, IfSome, is_some, unwrap_or}
 use Rattle.std.specs.Ordering.{nat_cmp}
 use Rattle.std.specs.List.{AllByRecursion}
@@ -17,12 +18,14 @@ use Rattle.wu_access.specs.Access.{is_allowed}
 use Rattle.wu_tree.specs.declared.events.Kind.{Kind}
 use Rattle.wu_tree.specs.declared.events.Kind.TheVariants.{Directory, File}
 use Rattle.wu_tree.specs.declared.events.Node.{Node}
-use Rattle.wu_tree.specs.FileSystems.{FileSystem, Link, acl_of, depth, groups_of, has_entries, is_directory, is_directory_node, is_file, is_file_node, is_kind_file, is_there, node_of}
+use Rattle.wu_tree.specs.FileSystems.{FileSystem, Link, acl_of, depth, groups_of, has_entries, is_directory, is_directory_node, is_file}
+use Rattle.wu_tree.specs.FileSystems.{is_file_node, is_kind_file, is_there, node_of}
 use Rattle.wu_tree.specs.Rules.{IsTree}
 use Rattle.wu_tree.proofs.ParentPaths.{directory_found}
 use Rattle.wu_view.specs.declared.Seen.{Seen}
 use Rattle.wu_view.specs.Views.{directory_path, is_granted_node, is_open, is_readable, may, path_of, seen_as, user_with, view_for, view_of}
-use Rattle.wu_view.proofs.LinkPaths.{depth_below, depth_range, link_facts, linked_once, open_below, open_root, path_below_is, root_open, root_path, some_link}
+use Rattle.wu_view.proofs.LinkPaths.{depth_below, depth_range, link_facts, linked_once, open_below, open_root, path_below_is, root_open}
+use Rattle.wu_view.proofs.LinkPaths.{root_path, some_link}
 use Rattle.wu_view.proofs.ShownFiles.{has_opened, has_seen, opened_has, opened_paths, seen_exact, seen_has, seen_total, unsorted}
 use Rattle.wu_frames.specs.declared.links.ChangedLink.{ChangedLink}
 use Rattle.wu_frames.specs.declared.links.LinkChanges.{LinkChanges}

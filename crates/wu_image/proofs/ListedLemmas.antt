@@ -24,7 +24,8 @@ use Rattle.wu_image.specs.LayoutRules.{AreLayoutRules, IsText, NeverRise, SpansA
 use Rattle.wu_image.specs.Checkpoints.{CanTell, HasItems, SpellsCheckpoint, acl_items, acl_section, checkpoint_items, file_numbers, mark_of}
 use Rattle.wu_image.specs.Checkpoints.{user_items, tree_items}
 use Rattle.wu_image.specs.Checkpoints.{link_items, part_items}
-use Rattle.wu_image.specs.Reading.{FitsAcl, FitsEntry, FitsPart, HasRecord, IsEntry, StartsWithTree, entry_items, nodes_of, files_of, record_list}
+use Rattle.wu_image.specs.Reading.{FitsAcl, FitsEntry, FitsPart, HasRecord, IsEntry, StartsWithTree, entry_items, nodes_of, files_of}
+use Rattle.wu_image.specs.Reading.{record_list}
 use Rattle.wu_image.specs.Lists.{IsListed}
 use Rattle.wu_image.proofs.ItemLemmas.{IsUnique, joined, parted, one_code, unique_list}
 use Rattle.wu_image.proofs.RecordedNumbers.{same_numbers, unique_part}

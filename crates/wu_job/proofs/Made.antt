@@ -1,5 +1,6 @@
 -- The lists that a job makes, term by term, and what they are of postings.
-use Rattle.std.proofs.Common.{◌≡◌, ℕ, nat_eq, true, false, cond, List, [], ◌∷◌, ◌++◌, length, map, filter, refl, ap, ap₂, sym, ◌∙◌, subst, arith, ⊎_elim, inl, inr, append_assoc, append-nil}
+use Rattle.std.proofs.Common.{◌≡◌, ℕ, nat_eq, true, false, cond, List, [], ◌∷◌, ◌++◌, length, map, filter, refl, ap, ap₂, sym, ◌∙◌, subst}
+use Rattle.std.proofs.Common.{arith, ⊎_elim, inl, inr, append_assoc, append-nil}
 use Rattle.std.specs.Prelude.{◌⊎◌, Some}
 use Rattle.std.specs.Ordering.{nat_cmp}
 use Rattle.std.specs.Cmp.Lexicographic.{pointwise, slice_cmp, same_text, nat_list_eq_equiv}
@@ -21,7 +22,8 @@ use Rattle.wu_layout.proofs.ListLemmas.{all_terms, has_addresses, lists_of_live}
 use Rattle.wu_layout.proofs.TermLemmas.{addresses_of-append, addresses_of-live_of}
 use Rattle.wu_part.specs.declared.entries.TermEntry.{TermEntry}
 use Rattle.wu_part.specs.Parts.{HoldsList}
-use Rattle.wu_job.specs.Jobs.{JobPart, JobState, HoldsEntry, HoldsTerm, HoldTerm, AreKept, AreMade, IsRight, list_for, terms_in, terms_of_part}
+use Rattle.wu_job.specs.Jobs.{JobPart, JobState, HoldsEntry, HoldsTerm, HoldTerm, AreKept, AreMade, IsRight, list_for, terms_in}
+use Rattle.wu_job.specs.Jobs.{terms_of_part}
 use Rattle.wu_job.specs.Postings.{HoldsPostings, HoldPostings}
 use Rattle.wu_job.proofs.Spans.{entry_same}
 

@@ -1,5 +1,6 @@
 -- The homes of postings, where some are exchanged for what is kept of them.
-use Rattle.std.proofs.Common.{◌≡◌, ℕ, ◌+◌, ◌<◌, List, [], ◌∷◌, ◌++◌, length, IfSome, ap, sym, ◌∙◌, subst, arith, ⊎_elim, inl, length-append, append-nil}
+use Rattle.std.proofs.Common.{◌≡◌, ℕ, ◌+◌, ◌<◌, List, [], ◌∷◌, ◌++◌, length, IfSome, ap, sym, ◌∙◌, subst, arith, ⊎_elim, inl, length-append}
+use Rattle.std.proofs.Common.{append-nil}
 use Rattle.std.proofs.lemmas.List.{nil_from_length}
 use Rattle.std.proofs.lemmas.List.Concat.{flat_map-append}
 use Rattle.wu_layout.specs.Postings.{Posting, cut, Ascend}

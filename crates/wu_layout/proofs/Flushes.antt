@@ -1,12 +1,16 @@
 -- What a flush and a checkpoint do to the layout.
-use Rattle.std.proofs.Common.{◌≡◌, ◌⊎◌, ℕ, ◌+◌, ◌^◌, ◌<◌, ◌≤◌, ◌==◌, nat_le, Bool, true, false, cond, List, [], ◌∷◌, ◌++◌, length, take, drop, Option, Some, None, IfSome, if◌then◌else◌, refl, ap, sym, ◌∙◌, subst, arith, ⊎_elim, append-nil, length-take, length-drop}
+use Rattle.std.proofs.Common.{◌≡◌, ◌⊎◌, ℕ, ◌+◌, ◌^◌, ◌<◌, ◌≤◌, ◌==◌, nat_le, Bool, true, false, cond, List, [], ◌∷◌, ◌++◌, length, take}
+use Rattle.std.proofs.Common.{drop, Option, Some, None, IfSome, if◌then◌else◌, refl, ap, sym, ◌∙◌, subst, arith, ⊎_elim, append-nil}
+use Rattle.std.proofs.Common.{length-take, length-drop}
 use Rattle.std.proofs.lemmas.Bool.{cases_eq}
 use Rattle.std.proofs.lemmas.List.{map-append, take-append-le, drop-append-le}
 use Rattle.std.proofs.lemmas.List.Sums.{sum_by_push}
 use Rattle.wu_base.proofs.EachLemmas.{each-append}
 use Rattle.wu_layout.specs.Postings.{Posting, has_some, live_of}
-use Rattle.wu_layout.specs.Layouts.{Text, FileEntry, Part, Job, Layout, entry_of, ranges_of, stored_in, homes_of, terms_of, parts_before, parts_taken}
-use Rattle.wu_layout.specs.Invariants.{AddressesAscend, TextsAreIndexed, NeverRise, GenerationsAreBounded, MayBeTaken, IsSuffixOf, IsAmong, JobIsUnderWay, times_named, BlobsAreDistinct, IsLayoutOf}
+use Rattle.wu_layout.specs.Layouts.{Text, FileEntry, Part, Job, Layout, entry_of, ranges_of, stored_in, homes_of, terms_of, parts_before}
+use Rattle.wu_layout.specs.Layouts.{parts_taken}
+use Rattle.wu_layout.specs.Invariants.{AddressesAscend, TextsAreIndexed, NeverRise, GenerationsAreBounded, MayBeTaken, IsSuffixOf, IsAmong}
+use Rattle.wu_layout.specs.Invariants.{JobIsUnderWay, times_named, BlobsAreDistinct, IsLayoutOf}
 use Rattle.wu_layout.specs.Steps.{flushed, flush, flush_if_full, checkpointed, save, rest}
 use Rattle.wu_layout.proofs.BlobLemmas.{once, once_same, once_other}
 use Rattle.wu_layout.proofs.HomeLemmas.{postings_in}

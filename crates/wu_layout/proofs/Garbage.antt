@@ -1,7 +1,9 @@
 -- Flushes and jobs drop dead postings, and nothing else.
-use Rattle.std.proofs.Common.{◌≡◌, ℕ, zero, suc, Bool, true, false, cond, List, [], ◌∷◌, ◌++◌, filter, drop, Option, Some, None, IfSome, refl, ap, sym, ◌∙◌, subst, ⊎_elim, inl, inr, append-nil}
+use Rattle.std.proofs.Common.{◌≡◌, ℕ, zero, suc, Bool, true, false, cond, List, [], ◌∷◌, ◌++◌, filter, drop, Option, Some, None, IfSome}
+use Rattle.std.proofs.Common.{refl, ap, sym, ◌∙◌, subst, ⊎_elim, inl, inr, append-nil}
 use Rattle.wu_layout.specs.Postings.{Posting, is_live, live_of, cut}
-use Rattle.wu_layout.specs.Layouts.{Text, Part, Job, Layout, entry_of, ranges_of, stored_in, homes_of, postings_of, parts_before, parts_taken, parts_after}
+use Rattle.wu_layout.specs.Layouts.{Text, Part, Job, Layout, entry_of, ranges_of, stored_in, homes_of, postings_of, parts_before}
+use Rattle.wu_layout.specs.Layouts.{parts_taken, parts_after}
 use Rattle.wu_layout.specs.Invariants.{IsIndexed, IsLayoutOf}
 use Rattle.wu_layout.specs.Steps.{flushed, flush, save, replaced, end_job, job_of, with_terms_left, unit_of, unit, work}
 use Rattle.wu_layout.specs.Changes.{IsSublist, KeepsLivePostings}

@@ -1,5 +1,6 @@
 -- Postings of which some are dropped, but none of a live range: what a flush does to memory, and a job to its parts.
-use Rattle.std.proofs.Common.{◌≡◌, ◌⊎◌, ℕ, ◌+◌, ◌≤◌, true, false, cond, List, [], ◌∷◌, ◌++◌, length, Some, IfSome, refl, ap, sym, ◌∙◌, arith, ⊎_elim, inl, inr, length-append, append-nil}
+use Rattle.std.proofs.Common.{◌≡◌, ◌⊎◌, ℕ, ◌+◌, ◌≤◌, true, false, cond, List, [], ◌∷◌, ◌++◌, length, Some, IfSome, refl, ap, sym, ◌∙◌}
+use Rattle.std.proofs.Common.{arith, ⊎_elim, inl, inr, length-append, append-nil}
 use Rattle.std.specs.Ordering.{nat_cmp}
 use Rattle.std.specs.List.{flat_map}
 use Rattle.std.specs.BTreeMap.{is_at}

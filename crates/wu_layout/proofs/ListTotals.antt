@@ -1,5 +1,6 @@
 -- Each posting stands in one list, and no address in two.
-use Rattle.std.proofs.Common.{◌≡◌, ℕ, ◌+◌, ◌≤◌, nat_eq, eqb, Bool, true, false, cond, List, [], ◌∷◌, ◌++◌, length, map, filter, sum_by, count_by, refl, ap, sym, ◌∙◌, subst, arith, ⊎_elim, inl, inr, Less, Equal}
+use Rattle.std.proofs.Common.{◌≡◌, ℕ, ◌+◌, ◌≤◌, nat_eq, eqb, Bool, true, false, cond, List, [], ◌∷◌, ◌++◌, length, map, filter, sum_by}
+use Rattle.std.proofs.Common.{count_by, refl, ap, sym, ◌∙◌, subst, arith, ⊎_elim, inl, inr, Less, Equal}
 use Rattle.std.specs.Ordering.{nat_cmp}
 use Rattle.std.specs.List.{AllByRecursion, IsDistinct, flat_map}
 use Rattle.std.specs.List.Sorted.{IsStrictlySortedBy}

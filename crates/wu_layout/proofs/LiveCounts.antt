@@ -1,5 +1,6 @@
 -- How many of a part's postings are live, told by the live ranges alone.
-use Rattle.std.proofs.Common.{◌≡◌, ◌≢◌, ℕ, ◌+◌, ◌-◌, ◌*◌, ◌<◌, ◌≤◌, not, nat_le, nat_lt, min, max, Bool, true, false, cond, List, [], ◌∷◌, ◌++◌, length, sum_by, count_by, Some, IfSome, refl, ap, sym, ◌∙◌, subst, arith, ⊎_elim, eq-zero-or-pos, Less}
+use Rattle.std.proofs.Common.{◌≡◌, ◌≢◌, ℕ, ◌+◌, ◌-◌, ◌*◌, ◌<◌, ◌≤◌, not, nat_le, nat_lt, min, max, Bool, true, false, cond, List, [], ◌∷◌}
+use Rattle.std.proofs.Common.{◌++◌, length, sum_by, count_by, Some, IfSome, refl, ap, sym, ◌∙◌, subst, arith, ⊎_elim, eq-zero-or-pos, Less}
 use Rattle.std.specs.Ordering.{nat_cmp, is_eq}
 use Rattle.std.specs.List.{AllByRecursion}
 use Rattle.std.specs.List.Sorted.{IsStrictlySortedBy}
@@ -11,10 +12,12 @@ use Rattle.wu_base.specs.declared.addresses.Range.{Range}
 use Rattle.wu_base.proofs.MapEntries.{number_itself, all_found}
 use Rattle.wu_layout.specs.Postings.{Posting, placed_from, cut, is_live, live_of, dead_of, Ascend}
 use Rattle.wu_base.specs.Ranges.{is_in, AreDisjoint}
-use Rattle.wu_layout.specs.Layouts.{Text, FileEntry, Part, Layout, entry_of, ranges_of, ranges_by_number, homes_of, stored_in, first_address, last_address}
+use Rattle.wu_layout.specs.Layouts.{Text, FileEntry, Part, Layout, entry_of, ranges_of, ranges_by_number, homes_of, stored_in}
+use Rattle.wu_layout.specs.Layouts.{first_address, last_address}
 use Rattle.wu_layout.specs.Invariants.{RangesAreDisjoint, SomeOf, HasText, IsIndexed, IsLayoutOf}
 use Rattle.wu_layout.specs.Steps.{is_half_dead}
-use Rattle.wu_layout.proofs.PostingLemmas.{Ascend-above, Ascend-length, Ascend-bounds, Ascend-split, Ascend-filter, length-placed, outside_below, outside_above, cut_below, cut_above}
+use Rattle.wu_layout.proofs.PostingLemmas.{Ascend-above, Ascend-length, Ascend-bounds, Ascend-split, Ascend-filter, length-placed}
+use Rattle.wu_layout.proofs.PostingLemmas.{outside_below, outside_above, cut_below, cut_above}
 use Rattle.wu_layout.proofs.EntryLemmas.{IfSome-found}
 use Rattle.wu_layout.proofs.HomeLemmas.{postings_in, homes_split}
 use Rattle.wu_layout.proofs.KeptLemmas.{flat, SomeOf-cases}

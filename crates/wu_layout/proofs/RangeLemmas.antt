@@ -1,5 +1,6 @@
 -- The live ranges, after a file's range is released and after a file gets a text.
-use Rattle.std.proofs.Common.{◌≡◌, ◌≢◌, ℕ, ◌+◌, ◌≤◌, Bool, true, false, List, Option, Some, None, IfSome, is_some, ap, sym, ◌∙◌, subst, inl, inr, ⊎_elim, arith}
+use Rattle.std.proofs.Common.{◌≡◌, ◌≢◌, ℕ, ◌+◌, ◌≤◌, Bool, true, false, List, Option, Some, None, IfSome, is_some, ap, sym, ◌∙◌, subst, inl}
+use Rattle.std.proofs.Common.{inr, ⊎_elim, arith}
 use Rattle.std.specs.Ordering.{nat_cmp}
 use Rattle.std.specs.Cmp.{nat_cmp_total}
 use Rattle.std.specs.Map.{remove_entry}
@@ -10,7 +11,8 @@ use Rattle.wu_layout.specs.Layouts.{FileEntry, entry_of}
 use Rattle.wu_layout.specs.Changes.{DiffersAt}
 use Rattle.wu_layout.specs.Invariants.{RangesAreDisjoint}
 use Rattle.wu_base.specs.Ranges.{AreDisjoint}
-use Rattle.wu_layout.proofs.EntryLemmas.{IfSome-map, IfSome-all, IfSome-same, entry_put, others_after_put, none_after_removal, others_after_removal}
+use Rattle.wu_layout.proofs.EntryLemmas.{IfSome-map, IfSome-all, IfSome-same, entry_put, others_after_put, none_after_removal}
+use Rattle.wu_layout.proofs.EntryLemmas.{others_after_removal}
 
 -- two properties of the entries of p and q
 abbrev Both : (FileEntry → FileEntry → Type 0) → Option FileEntry → Option FileEntry → Type 0

@@ -1,5 +1,6 @@
 -- Units of background work keep the layout one of the same files and texts.
-use Rattle.std.proofs.Common.{◌≡◌, ℕ, zero, suc, ◌<◌, Bool, List, [], ◌∷◌, ◌++◌, length, drop, Option, Some, None, refl, sym, ◌∙◌, subst, arith, append_assoc}
+use Rattle.std.proofs.Common.{◌≡◌, ℕ, zero, suc, ◌<◌, Bool, List, [], ◌∷◌, ◌++◌, length, drop, Option, Some, None, refl, sym, ◌∙◌, subst}
+use Rattle.std.proofs.Common.{arith, append_assoc}
 use Rattle.std.specs.Option.{option_or}
 use Rattle.wu_layout.specs.Layouts.{Text, FileEntry, Part, Job, Layout}
 use Rattle.wu_layout.specs.Invariants.{IsSuffixOf, IsUnderWay, JobIsUnderWay, IsLayoutOf}

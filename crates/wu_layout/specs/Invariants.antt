@@ -1,5 +1,6 @@
 -- What is true of the layout at each moment, also between two units of a job.
-use Rattle.std.specs.Prelude.{◌≡◌, ◌≢◌, ◌⊎◌, ℕ, ◌+◌, ◌<◌, ◌≤◌, ◌^◌, ◌==◌, Bool, false, not, if◌then◌else◌, Option, is_some, IfSome, List, [], ◌∷◌, ◌++◌, length, count_by, sum_by}
+use Rattle.std.specs.Prelude.{◌≡◌, ◌≢◌, ◌⊎◌, ℕ, ◌+◌, ◌<◌, ◌≤◌, ◌^◌, ◌==◌, Bool, false, not, if◌then◌else◌, Option, is_some, IfSome, List}
+use Rattle.std.specs.Prelude.{[], ◌∷◌, ◌++◌, length, count_by, sum_by}
 use Rattle.std.specs.Ordering.{nat_cmp}
 use Rattle.std.specs.List.{AllByRecursion}
 use Rattle.std.specs.List.Sorted.{IsStrictlySortedBy}
@@ -7,7 +8,8 @@ use Rattle.std.specs.Map.{keys_of}
 use Rattle.wu_base.specs.declared.addresses.Range.{Range}
 use Rattle.wu_base.specs.Ranges.{AreDisjoint}
 use Rattle.wu_layout.specs.Postings.{Posting, placed_from, cut, has_some, live_of, dead_of, Ascend}
-use Rattle.wu_layout.specs.Layouts.{Text, FileEntry, Part, Job, Layout, entry_of, stored_in, homes_of, postings_of, terms_of, parts_before, parts_taken}
+use Rattle.wu_layout.specs.Layouts.{Text, FileEntry, Part, Job, Layout, entry_of, stored_in, homes_of, postings_of, terms_of, parts_before}
+use Rattle.wu_layout.specs.Layouts.{parts_taken}
 
 -- ---- ranges
 

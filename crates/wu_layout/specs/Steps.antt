@@ -1,12 +1,14 @@
 -- How each step changes the layout.
-use Rattle.std.specs.Prelude.{ℕ, zero, suc, ◌+◌, ◌==◌, Bool, not, nat_le, if◌then◌else◌, Option, None, Some, option_map, is_some, List, [], ◌∷◌, ◌++◌, map, filter, take, drop, length, position, zip}
+use Rattle.std.specs.Prelude.{ℕ, zero, suc, ◌+◌, ◌==◌, Bool, not, nat_le, if◌then◌else◌, Option, None, Some, option_map, is_some, List, []}
+use Rattle.std.specs.Prelude.{◌∷◌, ◌++◌, map, filter, take, drop, length, position, zip}
 use Rattle.std.specs.Ordering.{nat_cmp}
 use Rattle.std.specs.Option.{option_or}
 use Rattle.std.specs.Map.{remove_entry}
 use Rattle.std.specs.BTreeMap.{is_at, insert_entry}
 use Rattle.wu_base.specs.declared.addresses.Range.{Range}
 use Rattle.wu_layout.specs.Postings.{Posting, placed_from, live_of, dead_of, has_some}
-use Rattle.wu_layout.specs.Layouts.{Text, FileEntry, Part, Job, Layout, entry_of, ranges_of, stored_in, terms_of, parts_before, parts_taken, parts_after}
+use Rattle.wu_layout.specs.Layouts.{Text, FileEntry, Part, Job, Layout, entry_of, ranges_of, stored_in, terms_of, parts_before, parts_taken}
+use Rattle.wu_layout.specs.Layouts.{parts_after}
 
 -- ---- texts
 

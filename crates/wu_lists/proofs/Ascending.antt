@@ -6,7 +6,9 @@ use Rattle.wu_base.specs.declared.addresses.Range.{Range}
 use Rattle.wu_base.specs.declared.limits.TheConstants.{ADDRESSES_MAX}
 use Rattle.wu_base.specs.Ranges.{AreApart}
 use Rattle.wu_lists.specs.Ascending.{AreInOrder}
-pub use Rattle.wu_layout.proofs.Ascending.{addresses-rise, addresses_increase, all_from, all_from_place, ascend-bounds, ascend-drop, ascend-filter, ascend-first, ascend-from, ascend-higher, ascend-join, ascend-last, ascend-length, ascend-lower, ascend-push, ascend-take}
+pub use Rattle.wu_layout.proofs.Ascending.{addresses-rise, addresses_increase, all_from, all_from_place, ascend-bounds, ascend-drop}
+pub use Rattle.wu_layout.proofs.Ascending.{ascend-filter, ascend-first, ascend-from, ascend-higher, ascend-join, ascend-last, ascend-length}
+pub use Rattle.wu_layout.proofs.Ascending.{ascend-lower, ascend-push, ascend-take}
 
 order-bounds : (low high : ℕ) (frames : List Range) → AreInOrder low high frames → low ≤ high
 order-bounds low high [] o = o

@@ -9,11 +9,11 @@ use Rattle.std.proofs.lemmas.List.Folds.{list_any-append}
 use Rattle.std.proofs.lemmas.List.Sums.{sum_by-cons}
 use Rattle.wu_base.specs.declared.addresses.Range.{Range}
 use Rattle.wu_layout.specs.Postings.{is_live}
-use Rattle.wu_base.specs.Ranges.{is_in}
+use Rattle.wu_base.specs.Ranges.{frames_with, is_in}
 use Rattle.wu_lists.specs.declared.tallies.Tally.{Tally}
 use Rattle.wu_lists.specs.Ascending.{AscendBetween, AreInOrder}
 use Rattle.wu_lists.specs.Gaining.{Gains, opens, tally_on, tally_on-alike, tally_on-append, with_address, with_frame}
-use Rattle.wu_lists.specs.Tallying.{Counts, Tallies, after_last, frames_with, tally_of}
+use Rattle.wu_lists.specs.Tallying.{Counts, Tallies, after_last, tally_of}
 use Rattle.wu_lists.proofs.Ascending.{all_from, ascend-bounds, ascend-filter, ascend-last, ascend-length, order-lower}
 use Rattle.wu_lists.proofs.Cutting.{all_front, dead_below}
 

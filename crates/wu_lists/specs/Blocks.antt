@@ -1,5 +1,6 @@
 -- The blocks of a term in a part: which of them frames need, and what their bytes are.
-use Rattle.std.specs.Prelude.{ℕ, ◌+◌, ◌-◌, ◌≡◌, ◌&&◌, min, nat_eq, nat_lt, nat_le, Bool, List, [], ◌∷◌, Option, None, Some, filter, find, length, slice_range}
+use Rattle.std.specs.Prelude.{ℕ, ◌+◌, ◌-◌, ◌≡◌, ◌&&◌, min, nat_eq, nat_lt, nat_le, Bool, List, [], ◌∷◌, Option, None, Some, filter, find}
+use Rattle.std.specs.Prelude.{length, slice_range}
 use Rattle.std.specs.List.{list_any}
 use Rattle.std.specs.Cmp.Lexicographic.{pointwise}
 use Rattle.wu_base.specs.declared.addresses.Range.{Range}

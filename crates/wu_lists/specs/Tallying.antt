@@ -1,14 +1,9 @@
 -- How many addresses there are, and how many of the frames have one of them.
-use Rattle.std.specs.Prelude.{ℕ, ◌≡◌, ◌+◌, ◌-◌, ◌^◌, List, [], ◌∷◌, ◌++◌, length, count_by}
-use Rattle.std.specs.List.{list_any}
+use Rattle.std.specs.Prelude.{ℕ, ◌≡◌, ◌+◌, ◌-◌, ◌^◌, List, [], ◌∷◌, ◌++◌, length}
 use Rattle.wu_base.specs.declared.addresses.Range.{Range}
-use Rattle.wu_base.specs.Ranges.{is_in}
+use Rattle.wu_base.specs.Ranges.{frames_with}
 use Rattle.wu_lists.specs.declared.tallies.Tally.{Tally}
 use Rattle.wu_lists.specs.Ascending.{AscendBetween}
-
--- how many of the frames have one of the addresses
-abbrev pub frames_with : List Range → List ℕ → ℕ
-frames_with frames addresses = count_by (λ frame. list_any (is_in frame) addresses) frames
 
 -- the address after the last of these, or `before` where there are none
 abbrev pub after_last : ℕ → List ℕ → ℕ

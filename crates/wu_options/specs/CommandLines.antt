@@ -1,5 +1,6 @@
 -- The command-line arguments, read from left to right, and what they ask for.
-use Rattle.std.specs.Prelude.{ℕ, ◌^◌, ◌-◌, List, [], ◌∷◌, Option, Some, None, ◌==◌, nat_le, codes, if◌then◌else◌, option_map, option_and_then, unwrap_or, map}
+use Rattle.std.specs.Prelude.{ℕ, ◌^◌, ◌-◌, List, [], ◌∷◌, Option, Some, None, ◌==◌, nat_le, codes, if◌then◌else◌, option_map}
+use Rattle.std.specs.Prelude.{option_and_then, unwrap_or, map}
 use Rattle.std.specs.Borrow.{Bor}
 use Rattle.std.specs.Str.{bytes_eq}
 use Rattle.wu_base.specs.declared.limits.TheConstants.{INPUT_MAX, FLUSH_DEFAULT}

@@ -1,5 +1,6 @@
 -- What a read out of memory takes.
-use Rattle.std.proofs.Common.{◌≡◌, ℕ, ◌+◌, ◌-◌, ◌≤◌, List, ◌++◌, Option, arith, length, take, drop, slice_range, sym, ap, ◌∙◌, subst, le_refl, drop_at, length-take-le}
+use Rattle.std.proofs.Common.{◌≡◌, ℕ, ◌+◌, ◌-◌, ◌≤◌, List, ◌++◌, Option, arith, length, take, drop, slice_range, sym, ap, ◌∙◌, subst}
+use Rattle.std.proofs.Common.{le_refl, drop_at, length-take-le}
 use Rattle.std.proofs.lemmas.List.{take-append-drop, take_at, drop-drop}
 use Rattle.std.proofs.lemmas.Slice.{take-put_mid_below}
 use Rattle.std.proofs.KnownBytes.{Consumes-trans}

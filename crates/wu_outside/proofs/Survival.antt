@@ -1,9 +1,11 @@
 -- What each call of a store leaves to a crash, and how calls compose, so that no layer above looks into a crash.
-use Rattle.std.proofs.Common.{◌≡◌, ℕ, ◌==◌, List, [], ◌∷◌, ◌++◌, T, Bool, true, false, cond, ◌⊎◌, inl, inr, Option, Some, None, Result, Ok, Err, option_map, refl, sym, ap, ◌∙◌, subst, append_assoc, eq-eqb, eqb→eq, MatchResult}
+use Rattle.std.proofs.Common.{◌≡◌, ℕ, ◌==◌, List, [], ◌∷◌, ◌++◌, T, Bool, true, false, cond, ◌⊎◌, inl, inr, Option, Some, None, Result, Ok}
+use Rattle.std.proofs.Common.{Err, option_map, refl, sym, ap, ◌∙◌, subst, append_assoc, eq-eqb, eqb→eq, MatchResult}
 use mathlib.Core.Path.{fun_ext}
 use Rattle.std.proofs.lemmas.List.Elements.{All-append, All-cons, All-nil}
 use Rattle.wu_outside.specs.Content.{Content, with_blob, with_root, MayDo, Does, Writes}
-use Rattle.wu_outside.specs.Crash.{Change, Put, Remove, SetRoot, Moment, Moments, MayBlobBe, MayRootBe, MayLeave, LeftNow, try_change, MayTry, settle, all_moments, AreAlike}
+use Rattle.wu_outside.specs.Crash.{Change, Put, Remove, SetRoot, Moment, Moments, MayBlobBe, MayRootBe, MayLeave, LeftNow, try_change}
+use Rattle.wu_outside.specs.Crash.{MayTry, settle, all_moments, AreAlike}
 use Rattle.wu_outside.specs.Surviving.{LeavesNow, LeavesOnly, Leaves, IsLeft, IsSameIn, NamesOnly}
 use Rattle.wu_outside.specs.declared.traits.Fault.{Fault}
 

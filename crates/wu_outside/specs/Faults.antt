@@ -1,6 +1,7 @@
 -- What a count of faults says of a call. A call of the outside may fail at any time; the count tells when it did, and
 -- stands still on every other answer.
-use Rattle.std.specs.Prelude.{◌≡◌, ℕ, ◌+◌, ◌-◌, ◌^◌, ◌≤◌, ◌<◌, List, length, min, OnOk, OnErr, IsErr, IfOk, MatchResult, Option, None, Some, Result, Ok, Err}
+use Rattle.std.specs.Prelude.{◌≡◌, ℕ, ◌+◌, ◌-◌, ◌^◌, ◌≤◌, ◌<◌, List, length, min, OnOk, OnErr, IsErr, IfOk, MatchResult, Option, None, Some}
+use Rattle.std.specs.Prelude.{Result, Ok, Err}
 use Rattle.wu_outside.specs.declared.traits.Fault.{Fault}
 use Rattle.wu_outside.specs.declared.traits.Fault.TheVariants.{Failed, NoMemory}
 use Rattle.wu_base.specs.declared.troubles.Trouble.{Trouble}

@@ -7,10 +7,3 @@ pub record OnlyReads {D T E : Type 0} (Store : stores.Ghosts D) (old new : D) (r
   pub holds : Store.holds new ≡ Store.holds old
   pub moments : Store.moments new ≡ Store.moments old
   pub calm : OnOk r (Store.faults new ≡ Store.faults old)
-
--- The store wasn't called: all that it tells is as it was.
-pub record IsAsBefore {D : Type 0} (Store : stores.Ghosts D) (old new : D) : Type 0 where
-  pub holds : Store.holds new ≡ Store.holds old
-  pub reads : Store.reads new ≡ Store.reads old
-  pub moments : Store.moments new ≡ Store.moments old
-  pub faults : Store.faults new ≡ Store.faults old

@@ -1,5 +1,6 @@
 -- Lemmas on searches among the marks in a directory's bytes.
-use Rattle.std.proofs.Common.{◌≡◌, ℕ, Bool, MatchBool, zero, suc, ◌+◌, ◌-◌, ◌<◌, ◌≤◌, ◌⊎◌, inl, inr, ⊎_elim, List, [], ◌∷◌, ◌++◌, length, take, drop, get_or, refl, ap, sym, subst, ◌∙◌, Contains, MatchOption, Option, None, Some, true, false, arith}
+use Rattle.std.proofs.Common.{◌≡◌, ℕ, Bool, MatchBool, zero, suc, ◌+◌, ◌-◌, ◌<◌, ◌≤◌, ◌⊎◌, inl, inr, ⊎_elim, List, [], ◌∷◌, ◌++◌, length}
+use Rattle.std.proofs.Common.{take, drop, get_or, refl, ap, sym, subst, ◌∙◌, Contains, MatchOption, Option, None, Some, true, false, arith}
 use Rattle.std.proofs.lemmas.Bool.{cases_lt}
 use Rattle.std.proofs.lemmas.List.{drop-drop, drop_all, get_or-drop, get_or_default, length-drop, take_all}
 use Rattle.std.proofs.lemmas.List.Elements.{All-drop, All-from_recursion, recursion_from_All}

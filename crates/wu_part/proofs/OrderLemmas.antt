@@ -1,5 +1,6 @@
 -- Lemmas on the order of two lists of bytes, which are compared a place after another.
-use Rattle.std.proofs.Common.{◌≡◌, ◌<◌, ◌≤◌, ◌+◌, ℕ, true, false, List, [], ◌∷◌, length, length-drop, drop, get_or, min, sym, ◌∙◌, ap, refl, nat_lt, MatchBool, arith}
+use Rattle.std.proofs.Common.{◌≡◌, ◌<◌, ◌≤◌, ◌+◌, ℕ, true, false, List, [], ◌∷◌, length, length-drop, drop, get_or, min, sym, ◌∙◌, ap, refl}
+use Rattle.std.proofs.Common.{nat_lt, MatchBool, arith}
 use Rattle.std.proofs.lemmas.Bool.{ltb-true, ltb-false}
 use Rattle.std.proofs.lemmas.List.{drop_more}
 use Rattle.std.specs.declared.cmp.Ordering.{Ordering}

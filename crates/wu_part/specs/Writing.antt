@@ -4,7 +4,8 @@ use Rattle.std.specs.List.{AllByRecursion, AllZip, flat_map}
 use Rattle.wu_base.specs.declared.addresses.TermList.{TermList}
 use Rattle.wu_part.specs.declared.entries.BlockEntry.{BlockEntry}
 use Rattle.wu_part.specs.declared.entries.TermEntry.{TermEntry}
-use Rattle.wu_part.specs.Directories.{AreBlocks, IsEntry, StandFrom, all_blocks, StartsWithNumbers, StartsWithEntry, SpellsEntries, block_numbers}
+use Rattle.wu_part.specs.Directories.{AreBlocks, IsEntry, StandFrom, all_blocks, StartsWithNumbers, StartsWithEntry, SpellsEntries}
+use Rattle.wu_part.specs.Directories.{block_numbers}
 use Rattle.wu_part.specs.Parts.{HoldBlocks, HoldsList}
 
 -- new is old with the numbers' spellings at its end

@@ -1,5 +1,7 @@
 -- Chains of places: what a new link leaves, what the map of chains says once it has a place more, and a chain walked back.
-use Rattle.std.proofs.Common.{◌≡◌, ℕ, zero, suc, ◌+◌, ◌-◌, ◌<◌, ◌≤◌, nat_eq, nat_le, Bool, true, false, cond, List, [], ◌∷◌, ◌++◌, length, length-append, filter, reverse, get_or, refl, ap, ap₂, sym, ◌∙◌, subst, arith, unwrap_or, None, Some, Vec, Global, append_assoc}
+use Rattle.std.proofs.Common.{◌≡◌, ℕ, zero, suc, ◌+◌, ◌-◌, ◌<◌, ◌≤◌, nat_eq, nat_le, Bool, true, false, cond, List, [], ◌∷◌, ◌++◌, length}
+use Rattle.std.proofs.Common.{length-append, filter, reverse, get_or, refl, ap, ap₂, sym, ◌∙◌, subst, arith, unwrap_or, None, Some, Vec}
+use Rattle.std.proofs.Common.{Global, append_assoc}
 use Rattle.std.specs.List.{AllByRecursion}
 use Rattle.std.specs.Map.{lookup, set_value}
 use Rattle.std.specs.Cmp.Lexicographic.{pointwise}

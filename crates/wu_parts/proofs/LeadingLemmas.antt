@@ -1,5 +1,6 @@
 -- Terms that are sorted by the number of their first bytes, and then by themselves, are sorted by themselves.
-use Rattle.std.proofs.Common.{◌≡◌, ℕ, zero, suc, ◌+◌, ◌*◌, ◌<◌, ◌≤◌, true, false, List, [], ◌∷◌, get_or, drop, map, refl, ap, subst, arith, Ordering, Less, Equal, Greater, nat_eq, Vec, Global}
+use Rattle.std.proofs.Common.{◌≡◌, ℕ, zero, suc, ◌+◌, ◌*◌, ◌<◌, ◌≤◌, true, false, List, [], ◌∷◌, get_or, drop, map, refl, ap, subst, arith}
+use Rattle.std.proofs.Common.{Ordering, Less, Equal, Greater, nat_eq, Vec, Global}
 use Rattle.std.specs.Prelude.{IsPermutation}
 use Rattle.std.specs.List.{AllByRecursion, IsDistinct}
 use Rattle.std.specs.List.Sorted.{IsSorted, IsSortedBy, IsStrictlySortedBy}

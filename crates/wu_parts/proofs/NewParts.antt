@@ -1,5 +1,6 @@
 -- The numbers of a part that was made of postings: its lowest and its highest address, and how many there are.
-use Rattle.std.proofs.Common.{◌≡◌, ℕ, ◌+◌, ◌-◌, ◌<◌, ◌≤◌, ◌==◌, List, [], ◌∷◌, ◌++◌, length, filter, take, drop, sum_by, Some, refl, ap, sym, ◌∙◌, subst, arith, ⊎_elim, inl, inr}
+use Rattle.std.proofs.Common.{◌≡◌, ℕ, ◌+◌, ◌-◌, ◌<◌, ◌≤◌, ◌==◌, List, [], ◌∷◌, ◌++◌, length, filter, take, drop, sum_by, Some, refl, ap}
+use Rattle.std.proofs.Common.{sym, ◌∙◌, subst, arith, ⊎_elim, inl, inr}
 use Rattle.std.specs.List.{AllByRecursion, AllZip, flat_map, last_or}
 use Rattle.std.specs.Cmp.Lexicographic.{nat_list_eq_equiv}
 use Rattle.std.proofs.lemmas.Bool.{eqb-true}
@@ -9,7 +10,8 @@ use Rattle.std.proofs.lemmas.List.{take-append-drop}
 use Rattle.std.proofs.lemmas.List.Sums.{sum_by-cons}
 use Rattle.wu_base.specs.declared.addresses.PartRec.{PartRec}
 use Rattle.wu_base.specs.declared.addresses.TermList.{TermList}
-use Rattle.wu_base.proofs.Members.{Has, Has-append_left, Has-append_right, Has-map, map_has, flat_map_has, Has-flat_map, filter_has, Has-filter, all_has, any_has}
+use Rattle.wu_base.proofs.Members.{Has, Has-append_left, Has-append_right, Has-map, map_has, flat_map_has, Has-flat_map, filter_has}
+use Rattle.wu_base.proofs.Members.{Has-filter, all_has, any_has}
 use Rattle.wu_base.proofs.SortedLists.{has-sorted_once}
 use Rattle.wu_layout.specs.Postings.{Posting, is_of, addresses_of, Ascend}
 use Rattle.wu_layout.specs.Layouts.{IsRecordOf, first_address, last_address, list_of, lists_of, terms_of}

@@ -1,5 +1,6 @@
 -- What one part's blob is found to be, and what several opened parts make together.
-use Rattle.std.proofs.Common.{◌≡◌, ℕ, ◌+◌, ◌<◌, List, [], ◌∷◌, ◌++◌, length, take, drop, get_or, Option, None, Some, refl, ap, sym, ◌∙◌, subst, arith, append-nil, append_assoc, take-append-drop, inl, inr}
+use Rattle.std.proofs.Common.{◌≡◌, ℕ, ◌+◌, ◌<◌, List, [], ◌∷◌, ◌++◌, length, take, drop, get_or, Option, None, Some, refl, ap, sym, ◌∙◌}
+use Rattle.std.proofs.Common.{subst, arith, append-nil, append_assoc, take-append-drop, inl, inr}
 use Rattle.std.specs.Prelude.{Bool, true, false, Result, Ok, Err, IfNone, IfSome, MatchBool, OnOk}
 use Rattle.std.specs.List.{AllByRecursion}
 use Rattle.std.proofs.lemmas.List.{drop_more, take_more}
@@ -19,8 +20,10 @@ use Rattle.wu_part.specs.Headers.{SpellsHeader}
 use Rattle.wu_part.specs.Parts.{IsRecorded}
 use Rattle.wu_part.proofs.LawLemmas.{one_directory}
 use Rattle.wu_job.specs.Steps.{adds}
-use Rattle.wu_parts.specs.Loading.{AreOpened, HasDirectory, HasHeader, HasNoDirectory, IsFirstBroken, IsFrontOf, IsLoadCause, IsOpened, ReadsFronts, WasHeaderRead, directory_range, header_range}
-use Rattle.wu_parts.specs.OpenedParts.{ArePartsOpened, CannotBeOpened, HasBytesAt, HasSize, IsDirectoryIn, IsDirectoryRead, IsHeaderOf, IsPartOpened, TellsLength, front_ranges}
+use Rattle.wu_parts.specs.Loading.{AreOpened, HasDirectory, HasHeader, HasNoDirectory, IsFirstBroken, IsFrontOf, IsLoadCause, IsOpened}
+use Rattle.wu_parts.specs.Loading.{ReadsFronts, WasHeaderRead, directory_range, header_range}
+use Rattle.wu_parts.specs.OpenedParts.{ArePartsOpened, CannotBeOpened, HasBytesAt, HasSize, IsDirectoryIn, IsDirectoryRead, IsHeaderOf}
+use Rattle.wu_parts.specs.OpenedParts.{IsPartOpened, TellsLength, front_ranges}
 use Rattle.wu_parts.specs.StoredParts.{directories_of}
 use Rattle.wu_parts.specs.declared.writing.StoredPart.{StoredPart}
 use Rattle.wu_parts.proofs.Spans.{directories-push, records-push}

@@ -1,5 +1,7 @@
 -- Postings put into lists by term.
-use Rattle.std.proofs.Common.{◌≡◌, ℕ, ◌+◌, ◌<◌, ◌≤◌, ◌==◌, true, false, cond, List, [], ◌∷◌, ◌++◌, length, length-append, length-take, get_or, take, map, filter, refl, ap, sym, ◌∙◌, arith, nat_eq, unwrap_or, None, Some, append-nil, append_assoc, ⊎_elim}
+use Rattle.std.proofs.Common.{◌≡◌, ℕ, ◌+◌, ◌<◌, ◌≤◌, ◌==◌, true, false, cond, List, [], ◌∷◌, ◌++◌, length, length-append, length-take}
+use Rattle.std.proofs.Common.{get_or, take, map, filter, refl, ap, sym, ◌∙◌, arith, nat_eq, unwrap_or, None, Some, append-nil, append_assoc}
+use Rattle.std.proofs.Common.{⊎_elim}
 use Rattle.std.specs.List.{AllByRecursion}
 use Rattle.std.specs.Map.{lookup}
 use Rattle.std.specs.Cmp.{IsEquivalence}

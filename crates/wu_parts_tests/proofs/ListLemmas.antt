@@ -1,5 +1,6 @@
 -- Lemmas on lists that are put together.
-use Rattle.std.proofs.Common.{◌≡◌, ℕ, ◌+◌, ◌<◌, List, [], ◌∷◌, ◌++◌, length, get_or, map, take, drop, eqb, refl, ap, sym, subst, ◌∙◌, append_assoc, Bool, true, false, ◌&&◌, ◌||◌, arith}
+use Rattle.std.proofs.Common.{◌≡◌, ℕ, ◌+◌, ◌<◌, List, [], ◌∷◌, ◌++◌, length, get_or, map, take, drop, eqb, refl, ap, sym, subst, ◌∙◌}
+use Rattle.std.proofs.Common.{append_assoc, Bool, true, false, ◌&&◌, ◌||◌, arith}
 use Rattle.std.proofs.Common.{◌-◌, ◌≤◌, ◌==◌, length-drop}
 use Rattle.std.specs.Prelude.{nat_lt}
 use Rattle.std.specs.declared.cmp.Ordering.TheVariants.{Equal}

@@ -1,5 +1,6 @@
 -- Answers over the files of a view.
-use Rattle.std.proofs.Common.{◌≡◌, ℕ, ◌+◌, ◌<◌, ◌≤◌, List, length, map, take, take_all, get_or, [], ◌∷◌, ◌++◌, Ok, Err, Result, IfOk, refl, ap, sym, ◌∙◌}
+use Rattle.std.proofs.Common.{◌≡◌, ℕ, ◌+◌, ◌<◌, ◌≤◌, List, length, map, take, take_all, get_or, [], ◌∷◌, ◌++◌, Ok, Err, Result, IfOk, refl}
+use Rattle.std.proofs.Common.{ap, sym, ◌∙◌}
 use Rattle.std.proofs.lemmas.List.{take_more}
 use Rattle.std.specs.List.{flat_map}
 use Rattle.wu_ask.specs.declared.Answered.{Answered}

@@ -6,10 +6,11 @@ use Rattle.std.specs.List.Sorted.{IsStrictlySortedBy}
 use Rattle.std.specs.Ordering.{nat_cmp}
 use Rattle.std.proofs.lemmas.List.Elements.{filter_passes, recursion_from_All}
 use Rattle.std.proofs.lemmas.List.Sums.{length-filter}
+use Rattle.wu_base.specs.Ranges.{frames_with}
 use Rattle.wu_base.specs.declared.addresses.TermList.{TermList}
 use Rattle.wu_layout.specs.Layouts.{postings_of}
 use Rattle.wu_layout.specs.Postings.{addresses_of, is_live}
-use Rattle.wu_lists.specs.Tallying.{frames_with, tally_of}
+use Rattle.wu_lists.specs.Tallying.{tally_of}
 use Rattle.wu_lists.specs.declared.tallies.Tally.{Tally}
 use Rattle.wu_gcl.specs.Regions.{Region, Phrase}
 use Rattle.wu_gcl.specs.Terms.{AreTerms}

@@ -1,5 +1,6 @@
 -- A text that a query finds damaged is one that it reads, of a file of the user's.
-use Rattle.std.proofs.Common.{◌≡◌, ℕ, zero, suc, ◌+◌, ◌<◌, ◌==◌, ◌∙◌, Bool, true, false, cond, List, [], ◌∷◌, ◌++◌, length, take, drop, min, map, refl, sym, ap, subst, inl, inr, ⊎_elim, arith}
+use Rattle.std.proofs.Common.{◌≡◌, ℕ, zero, suc, ◌+◌, ◌<◌, ◌==◌, ◌∙◌, Bool, true, false, cond, List, [], ◌∷◌, ◌++◌, length, take, drop, min}
+use Rattle.std.proofs.Common.{map, refl, sym, ap, subst, inl, inr, ⊎_elim, arith}
 use Rattle.std.specs.Prelude.{Option, None, Some, Result, IfErr, IsErrAnd, nat_lt, option_map}
 use Rattle.std.specs.Option.{IsSomeAnd}
 use Rattle.std.specs.List.{list_any}
@@ -23,7 +24,8 @@ use Rattle.wu_view.specs.declared.Seen.{Seen}
 use Rattle.wu_frames.specs.declared.Frames.{Frames}
 use Rattle.wu_parts.specs.Contents.{Contents}
 use Rattle.wu_query.specs.Causes.{IsBlobOf, IsBrokenIn, IsDamagedAt, IsDamagedFor, IsDamagedIn, IsDamagedOf, IsDamagedOver, IsDamagedText}
-use Rattle.wu_query.specs.Finding.{IsBrokenShown, IsCause, extents_of, hits_at, hits_recorded, is_at_place, looked_through, text_at, text_recorded, with_units}
+use Rattle.wu_query.specs.Finding.{IsBrokenShown, IsCause, extents_of, hits_at, hits_recorded, is_at_place, looked_through, text_at}
+use Rattle.wu_query.specs.Finding.{text_recorded, with_units}
 use Rattle.wu_query.specs.Records.{Records, record_at}
 use Rattle.wu_query.specs.Searched.{TellsPostings}
 use Rattle.wu_query.specs.States.{State}

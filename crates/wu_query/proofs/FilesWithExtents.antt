@@ -1,5 +1,6 @@
 -- Files without an extent may be left out of those that are looked through for lines.
-use Rattle.std.proofs.Common.{◌≡◌, ℕ, suc, ◌+◌, ◌-◌, take, Bool, true, false, cond, ◌||◌, List, [], ◌∷◌, ◌++◌, length, map, min, refl, sym, ap, ap₂, ◌∙◌, subst, inl, inr, arith, eqb, Some, None}
+use Rattle.std.proofs.Common.{◌≡◌, ℕ, suc, ◌+◌, ◌-◌, take, Bool, true, false, cond, ◌||◌, List, [], ◌∷◌, ◌++◌, length, map, min, refl, sym}
+use Rattle.std.proofs.Common.{ap, ap₂, ◌∙◌, subst, inl, inr, arith, eqb, Some, None}
 use Rattle.std.proofs.Math.Logic.{∥∥₁_elim}
 use Rattle.std.proofs.lemmas.Bool.{or_parts}
 use Rattle.std.proofs.lemmas.Bool.Decides.{nat_tests}
@@ -30,7 +31,8 @@ use Rattle.wu_view.specs.Views.{view_of as files_of}
 use Rattle.wu_frames.specs.declared.Frame.{Frame}
 use Rattle.wu_frames.specs.declared.Frames.{Frames}
 use Rattle.wu_query.specs.Answer.{answer, found_line}
-use Rattle.wu_query.specs.Finding.{KeepsTexts, extents_of, hits_at, hits_recorded, is_at_place, lines_at, lines_recorded, looked_through, text_at, text_held, with_units}
+use Rattle.wu_query.specs.Finding.{KeepsTexts, extents_of, hits_at, hits_recorded, is_at_place, lines_at, lines_recorded, looked_through}
+use Rattle.wu_query.specs.Finding.{text_at, text_held, with_units}
 use Rattle.wu_query.specs.Records.{Records, record_at, records_of}
 use Rattle.wu_query.specs.Hits.{hits_in}
 use Rattle.wu_query.specs.Rankings.{tokens_at, unit_at}

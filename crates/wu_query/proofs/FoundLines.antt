@@ -1,5 +1,6 @@
 -- The lines that are shown of a user's files, by what is recorded and held of their texts, are those of her view.
-use Rattle.std.proofs.Common.{◌≡◌, ◌==◌, ℕ, suc, ◌+◌, ◌-◌, ◌<◌, Bool, true, false, not, cond, List, [], ◌∷◌, ◌++◌, length, take, map, min, refl, sym, ap, ap₂, ◌∙◌, subst, arith}
+use Rattle.std.proofs.Common.{◌≡◌, ◌==◌, ℕ, suc, ◌+◌, ◌-◌, ◌<◌, Bool, true, false, not, cond, List, [], ◌∷◌, ◌++◌, length, take, map, min}
+use Rattle.std.proofs.Common.{refl, sym, ap, ap₂, ◌∙◌, subst, arith}
 use Rattle.std.proofs.Math.Dec.{eqb-suc-zero}
 use Rattle.std.proofs.Math.Logic.{∥∥₁_elim}
 use Rattle.std.specs.Coded.{Coded-set, coded_bool, coded_ℕ, Π_prop, →_prop}
@@ -36,7 +37,8 @@ use Rattle.wu_frames.specs.declared.Frame.{Frame}
 use Rattle.wu_frames.specs.declared.Frames.{Frames}
 use Rattle.wu_solve.specs.Solving.{frame_hits, frames_hits}
 use Rattle.wu_query.specs.Answer.{answer, found_line, lines_in}
-use Rattle.wu_query.specs.Finding.{KeepsTexts, counted_from, extents_of, hits_at, lines_at, lines_recorded, hits_recorded, text_recorded, text_at, text_held}
+use Rattle.wu_query.specs.Finding.{KeepsTexts, counted_from, extents_of, hits_at, lines_at, lines_recorded, hits_recorded, text_recorded}
+use Rattle.wu_query.specs.Finding.{text_at, text_held}
 use Rattle.wu_query.specs.Records.{Records, record_at, record_of, records_of}
 use Rattle.wu_query.specs.Hits.{hits_in, has_hit}
 use Rattle.wu_query.specs.Rankings.{tokens_at}

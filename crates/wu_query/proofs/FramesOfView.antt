@@ -1,6 +1,7 @@
 -- A user's frames, in a state whose index the engine keeps, are frames of the files of her view, one for each, in the order of their
 -- addresses.
-use Rattle.std.proofs.Common.{◌≡◌, ℕ, zero, suc, ◌+◌, true, List, [], ◌∷◌, ◌++◌, length, map, filter, refl, sym, ap, ap₂, ◌∙◌, subst, arith, inl, inr, Option, None, Some}
+use Rattle.std.proofs.Common.{◌≡◌, ℕ, zero, suc, ◌+◌, true, List, [], ◌∷◌, ◌++◌, length, map, filter, refl, sym, ap, ap₂, ◌∙◌, subst, arith}
+use Rattle.std.proofs.Common.{inl, inr, Option, None, Some}
 use Rattle.std.specs.Prelude.{is_some, slice_get, option_and_then, option_map, unwrap_or, IfSome, filter_map, not, IsPermutation}
 use Rattle.std.specs.List.{AllByRecursion, cons_option, enumerate_from, range_with_len}
 use Rattle.std.specs.List.Sorted.{IsStrictlyIncreasing}

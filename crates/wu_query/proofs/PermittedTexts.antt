@@ -1,5 +1,6 @@
 -- Of texts a query reads those of the files of which a line is shown, in turn, and where it fails on the way the first ones of them.
-use Rattle.std.proofs.Common.{◌≡◌, ℕ, ◌+◌, ◌-◌, ◌<◌, Bool, cond, List, [], ◌++◌, length, drop, map, min, get_or, refl, sym, ap, ◌∙◌, subst, arith, append-nil, append_assoc}
+use Rattle.std.proofs.Common.{◌≡◌, ℕ, ◌+◌, ◌-◌, ◌<◌, Bool, cond, List, [], ◌++◌, length, drop, map, min, get_or, refl, sym, ap, ◌∙◌, subst}
+use Rattle.std.proofs.Common.{arith, append-nil, append_assoc}
 use Rattle.std.specs.Prelude.{Option, nat_lt, option_map}
 use Rattle.wu_outside.specs.declared.ranges.ReadRange.{ReadRange}
 use Rattle.wu_ask.specs.Questions.{Finding}

@@ -1,6 +1,7 @@
 -- The bounds of scores, and the units that they leave to be weighed.
 use Rattle.std.proofs.Common.{◌≡◌, ℕ, suc, ◌+◌, ◌-◌, ◌*◌, ◌/◌, ◌^◌, ◌<◌, ◌≤◌, Bool, true, false, cond, eqb, ltb, leb, ◌||◌, ◌&&◌}
-use Rattle.std.proofs.Common.{Option, Some, None, List, [], ◌∷◌, ◌++◌, length, get_or, take, drop, map, refl, sym, subst, ap, ap₂, ◌∙◌, inl, ⊎_elim}
+use Rattle.std.proofs.Common.{Option, Some, None, List, [], ◌∷◌, ◌++◌, length, get_or, take, drop, map, refl, sym, subst, ap, ap₂, ◌∙◌, inl}
+use Rattle.std.proofs.Common.{⊎_elim}
 use Rattle.std.proofs.Common.{min, append_assoc, arith}
 use Rattle.std.specs.List.{AllByRecursion, list_any, filter}
 use Rattle.std.proofs.lemmas.Bool.{cases_eq, cases_lt, lt-ltb, ltb-false, or_parts, cond_both, cond-true, cond-false, eq-eqb, ne_eqb}

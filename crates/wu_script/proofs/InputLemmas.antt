@@ -1,5 +1,6 @@
 -- Lemmas on what is held and used.
-use Rattle.std.proofs.Common.{◌≡◌, ℕ, ◌+◌, ◌-◌, ◌≤◌, Bool, List, [], ◌++◌, length, take, drop, slice_range, Option, refl, sym, ap, ◌∙◌, append_assoc, append-nil, length-append, subst, arith}
+use Rattle.std.proofs.Common.{◌≡◌, ℕ, ◌+◌, ◌-◌, ◌≤◌, Bool, List, [], ◌++◌, length, take, drop, slice_range, Option, refl, sym, ap, ◌∙◌}
+use Rattle.std.proofs.Common.{append_assoc, append-nil, length-append, subst, arith}
 use Rattle.std.proofs.lemmas.List.{drop-take, drop-drop, length-drop, length-take, take-take, take-append-le, take-append-drop}
 use Rattle.std.proofs.KnownBytes.{Consumes-trans, Consumes-nil}
 use Rattle.wu_script.specs.Holding.{Held, Uses, Follows}

@@ -2,7 +2,8 @@
 use Rattle.std.specs.Prelude.{ℕ, Bool, List, codes, nat_eq, if◌then◌else◌}
 use Rattle.std.specs.Cmp.Lexicographic.{pointwise}
 use Rattle.wu_script.specs.declared.words.Word.{Word}
-use Rattle.wu_script.specs.declared.words.Word.TheVariants.{User, Mkdir, Create, Text, Link, Unlink, Rmdir, Rename, Chmod, Chown, Acl, Count, Find, Rank, Paths, Flush, Work, Stat, Save, Unknown}
+use Rattle.wu_script.specs.declared.words.Word.TheVariants.{User, Mkdir, Create, Text, Link, Unlink, Rmdir, Rename, Chmod, Chown, Acl}
+use Rattle.wu_script.specs.declared.words.Word.TheVariants.{Count, Find, Rank, Paths, Flush, Work, Stat, Save, Unknown}
 
 abbrev pub is : List ℕ → List ℕ → Bool
 is field word = pointwise nat_eq field word

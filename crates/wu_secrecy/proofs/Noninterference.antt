@@ -12,7 +12,8 @@ use Rattle.wu_query.specs.States.{State}
 use Rattle.wumpus_run.specs.Replies.{Rules, output_of, said_bytes, state_after}
 use Rattle.wu_secrecy.specs.Turns.{Turn, asked_by, asked_in, output_in, told_to, turn_of, turns_of}
 use Rattle.wu_secrecy.specs.Answers.{answer_to}
-use Rattle.wu_secrecy.specs.Histories.{AreCoursesOf, BeginsAlike, Course, IsCourseOf, IsPartOf, Sends, Session, TellAlike, rules_with, turns_in}
+use Rattle.wu_secrecy.specs.Histories.{AreCoursesOf, BeginsAlike, Course, IsCourseOf, IsPartOf, Sends, Session, TellAlike, rules_with}
+use Rattle.wu_secrecy.specs.Histories.{turns_in}
 use Rattle.wu_secrecy.proofs.TurnLemmas.{AreWhole, output_of-turns, reply-hers, told-answers, whole-append, whole-turns}
 
 -- ---- one machine and another

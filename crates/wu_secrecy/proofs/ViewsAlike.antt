@@ -15,7 +15,8 @@ use Rattle.wu_access.specs.Access.{is_allowed}
 use Rattle.wu_tree.specs.declared.events.Kind.{Kind}
 use Rattle.wu_tree.specs.declared.events.Kind.TheVariants.{Directory, File}
 use Rattle.wu_tree.specs.declared.events.Node.{Node}
-use Rattle.wu_tree.specs.FileSystems.{FileSystem, Link, acl_of, depth, is_directory, is_directory_node, is_file, is_file_node, is_kind_file, node_of}
+use Rattle.wu_tree.specs.FileSystems.{FileSystem, Link, acl_of, depth, is_directory, is_directory_node, is_file, is_file_node, is_kind_file}
+use Rattle.wu_tree.specs.FileSystems.{node_of}
 use Rattle.wu_tree.specs.Rules.{IsTree}
 use Rattle.wu_tree.proofs.ParentPaths.{path_of_root}
 use Rattle.wu_tree.proofs.PathsDown.{no_second}

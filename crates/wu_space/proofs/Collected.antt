@@ -9,7 +9,8 @@ use Rattle.std.specs.BTreeMap.{BTreeMap, IsFromIterResult, btree_map_len, is_at}
 use Rattle.std.specs.Set.{distinct_count}
 use Rattle.std.proofs.lemmas.Map.Entries.{length-keys_of}
 use Rattle.std.proofs.lemmas.Map.Keys.{IsDistinct-from_sorted}
-use Rattle.std.proofs.lemmas.Map.Made.{IsDistinct-from_count, distinct_count-from_IsDistinct, distinct_count-le, is_some-lookup, is_some-update_all, length-from_keys, update_all_none}
+use Rattle.std.proofs.lemmas.Map.Made.{IsDistinct-from_count, distinct_count-from_IsDistinct, distinct_count-le, is_some-lookup}
+use Rattle.std.proofs.lemmas.Map.Made.{is_some-update_all, length-from_keys, update_all_none}
 
 module _ {X : Type 0} (pairs : List (ℕ × X)) (made : BTreeMap ℕ X) (collected : IsFromIterResult nat_cmp pairs made) where
   -- no number has two pairs

@@ -1,5 +1,6 @@
 -- What the slots tell of the live ranges.
-use Rattle.std.proofs.Common.{◌≡◌, ℕ, zero, suc, ◌+◌, ◌-◌, ◌^◌, ◌<◌, ◌≤◌, Bool, true, false, cond, eqb, nat_lt, min, List, [], ◌∷◌, ◌++◌, length, get_or, take, refl, ap, sym, ◌∙◌, subst, ⊎_elim, arith}
+use Rattle.std.proofs.Common.{◌≡◌, ℕ, zero, suc, ◌+◌, ◌-◌, ◌^◌, ◌<◌, ◌≤◌, Bool, true, false, cond, eqb, nat_lt, min, List, [], ◌∷◌, ◌++◌}
+use Rattle.std.proofs.Common.{length, get_or, take, refl, ap, sym, ◌∙◌, subst, ⊎_elim, arith}
 use Rattle.std.specs.Prelude.{◌==◌, None, Some, sum_by, count_by, map, filter, find, IsPermutation}
 use Rattle.std.specs.declared.cmp.Ordering.TheVariants.{Less}
 use Rattle.std.specs.Ordering.{nat_cmp, MatchOrdering}
@@ -9,7 +10,8 @@ use Rattle.std.specs.List.Sorted.{IsStrictlySortedBy}
 use Rattle.std.specs.Map.{keys_of, lookup, remove_entry}
 use Rattle.std.specs.BTreeMap.{is_at, insert_entry}
 use Rattle.std.specs.Cmp.{nat_cmp_total}
-use Rattle.std.proofs.lemmas.Bool.{cases_lt, lt-ltb, ltb-true, ltb-false, leb-true, and_parts, false_from_ne_true, eqb-true, ne_eqb, le-leb, le-ltb, cond-false}
+use Rattle.std.proofs.lemmas.Bool.{cases_lt, lt-ltb, ltb-true, ltb-false, leb-true, and_parts, false_from_ne_true, eqb-true, ne_eqb, le-leb}
+use Rattle.std.proofs.lemmas.Bool.{le-ltb, cond-false}
 use Rattle.std.proofs.lemmas.List.{length_push}
 use Rattle.std.proofs.lemmas.List.Elements.{Contains-get_or}
 use Rattle.std.proofs.lemmas.List.Sums.{sum_by-cons, sum_by_push, sum_by_more, sum_by-take-le}
@@ -19,8 +21,11 @@ use Rattle.wu_base.proofs.Members.{Has, Has-from_Contains, all_from_has}
 use Rattle.wu_space.specs.declared.slots.Slot.{Slot}
 use Rattle.wu_space.specs.Addresses.{Ranges, AreLive, IsSpace, owner_at, live_in, live_ranges, shared}
 use Rattle.wu_base.specs.Ranges.{is_in}
-use Rattle.wu_space.specs.Slots.{AreInOrder, Parts, SameFiles, IsSound, Releases, below, count_below, file_of, is_live, length_of, meets, range_of_slot, tidied, weight}
-use Rattle.wu_space.proofs.Files.{mark, mark-itself, marked_file, sum_by-same, sum_by-one, sum_by-map, sum_by-filter, sum-insert_entry, sum-remove_entry, sum-positive, positive-has, find-none, find-is, IsPermutation-from_sums, same_range, alike_range, exact_range}
+use Rattle.wu_space.specs.Slots.{AreInOrder, Parts, SameFiles, IsSound, Releases, below, count_below, file_of, is_live, length_of, meets}
+use Rattle.wu_space.specs.Slots.{range_of_slot, tidied, weight}
+use Rattle.wu_space.proofs.Files.{mark, mark-itself, marked_file, sum_by-same, sum_by-one, sum_by-map, sum_by-filter, sum-insert_entry}
+use Rattle.wu_space.proofs.Files.{sum-remove_entry, sum-positive, positive-has, find-none, find-is, IsPermutation-from_sums, same_range}
+use Rattle.wu_space.proofs.Files.{alike_range, exact_range}
 use Rattle.wu_space.proofs.Order.{below-none, below-sum, holder-is, holder-none, order-push, slot-ends}
 use Rattle.wu_space.proofs.Kept.{KeepsLive-tidied, length-if_live, tidied-few}
 

@@ -1,5 +1,6 @@
 -- Slots: one for each range that a file was given, by address. A slot whose range was released has no addresses.
-use Rattle.std.specs.Prelude.{◌≡◌, ℕ, zero, suc, ◌+◌, ◌-◌, ◌*◌, ◌/◌, ◌<◌, ◌≤◌, ◌^◌, min, cond, nat_lt, Bool, List, [], ◌∷◌, sum, sum_by, length, take, filter}
+use Rattle.std.specs.Prelude.{◌≡◌, ℕ, zero, suc, ◌+◌, ◌-◌, ◌*◌, ◌/◌, ◌<◌, ◌≤◌, ◌^◌, min, cond, nat_lt, Bool, List, [], ◌∷◌, sum, sum_by}
+use Rattle.std.specs.Prelude.{length, take, filter}
 use Rattle.std.specs.Int.{div_ceil}
 use Rattle.std.specs.Ordering.{nat_cmp}
 use Rattle.std.specs.List.{AllByRecursion}

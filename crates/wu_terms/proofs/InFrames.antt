@@ -1,5 +1,6 @@
 -- Frames that have one of the addresses.
-use Rattle.std.proofs.Common.{◌≡◌, ℕ, zero, suc, ◌+◌, ◌-◌, ◌<◌, ◌≤◌, Bool, true, false, ◌||◌, cond, nat_lt, List, [], ◌∷◌, ◌++◌, length, drop, get_or}
+use Rattle.std.proofs.Common.{◌≡◌, ℕ, zero, suc, ◌+◌, ◌-◌, ◌<◌, ◌≤◌, Bool, true, false, ◌||◌, cond, nat_lt, List, [], ◌∷◌, ◌++◌, length}
+use Rattle.std.proofs.Common.{drop, get_or}
 use Rattle.std.proofs.Common.{refl, ap, ap₂, sym, subst, ◌∙◌, arith, ltb, take}
 use Rattle.std.specs.List.{AllByRecursion, list_any}
 use Rattle.std.specs.List.Sorted.{IsNonDecreasingBy, IsPartitionPoint, IsStrictlySortedBy}
@@ -13,7 +14,8 @@ use Rattle.std.proofs.lemmas.List.Sorted.{IsNonDecreasingBy-from_sort}
 use Rattle.std.proofs.lemmas.List.Sums.{sum_by-cons}
 use Rattle.wu_base.specs.declared.addresses.Range.{Range}
 use Rattle.wu_base.proofs.SortedLists.{IsSorted-from_strict}
-use Rattle.wu_terms.specs.Listings.{is_in, frames_with, StartInOrder}
+use Rattle.wu_base.specs.Ranges.{frames_with, is_in}
+use Rattle.wu_terms.specs.Listings.{StartInOrder}
 
 below_out : (frame : Range) (address : ℕ) → address < frame.start → is_in frame address ≡ false
 below_out frame address below = grind (arith, nat_tests)

@@ -8,7 +8,8 @@ use Rattle.std.proofs.lemmas.Bool.{ltb-true, lt-ltb}
 use Rattle.std.proofs.lemmas.List.Kept.{IsStrictlySortedBy-filter}
 use Rattle.std.proofs.lemmas.List.Sums.{sum_by-cons}
 use Rattle.std.proofs.lemmas.Map.Lookups.{exact_bytes}
-use Rattle.wu_base.proofs.Members.{Has, Has-from_Contains, Contains-from_Has, Has-filter, filter_has, any_has, has_any, Has-flat_map, flat_map_has}
+use Rattle.wu_base.proofs.Members.{Has, Has-from_Contains, Contains-from_Has, Has-filter, filter_has, any_has, has_any, Has-flat_map}
+use Rattle.wu_base.proofs.Members.{flat_map_has}
 use Rattle.wu_base.proofs.SortedLists.{same_sorted, sorted-sorted_once, has-sorted_once, sorted_once_has}
 use Rattle.wu_token.specs.Tokens.{tokens_of}
 use Rattle.wu_terms.specs.Terms.{counted, has_word, is_candidate, words_with}

@@ -3,7 +3,8 @@ ghost use Rattle.std.specs.Prelude.{◌≡◌, ◌<◌, ◌≤◌, ◌++◌, ℕ
 ghost use Rattle.std.specs.List.{AllByRecursion, list_any};
 ghost use Rattle.std.specs.List.Sorted.{IsStrictlyIncreasing, IsStrictlySortedBy};
 ghost use Rattle.std.specs.Ordering.{nat_cmp};
-ghost use Rattle.wu_terms.specs.Listings.{StartInOrder, frames_with, is_in};
+ghost use Rattle.wu_base.specs.Ranges.{frames_with, is_in};
+ghost use Rattle.wu_terms.specs.Listings.{StartInOrder};
 
 use wu_base::Range;
 

@@ -1,11 +1,10 @@
 //! The prefix that a field asks for.
 ghost use Rattle.std.specs.Prelude.{◌≡◌, IfOk};
-ghost use Rattle.wu_token.specs.Words.{is_word_byte};
 ghost use Rattle.wu_terms.specs.Prefixes.{is_run, prefix_in};
 
 use std::alloc::Global;
 use wu_base::{Bytes, NoMemory};
-use wu_token::Word;
+use wu_token::{Word, is_word_byte};
 
 /// The prefix of the field: the empty one of an empty field, and of a field that is one run its word, so
 /// that a prefix is folded and cut as a word is. `None` exactly where the field isn't empty and isn't one
@@ -28,11 +27,4 @@ fn is_run(bytes: &[u8]) -> bool
     ensures { result ≡ is_run bytes.now }
 {
     bytes.iter().all(|byte| is_word_byte(*byte))
-}
-
-/// Whether the byte belongs to a word.
-fn is_word_byte(byte: u8) -> bool
-    ensures { result ≡ is_word_byte byte }
-{
-    byte.is_ascii_alphanumeric() || byte >= 0x80
 }

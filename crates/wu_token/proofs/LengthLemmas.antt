@@ -1,5 +1,6 @@
 -- How many tokens a text has at most, and how long they are.
-use Rattle.std.proofs.Common.{◌≡◌, ℕ, ◌+◌, ◌*◌, ◌<◌, ◌≤◌, Bool, true, false, cond, List, [], ◌∷◌, length, filter, map, refl, sym, ◌∙◌, ap, subst, inl, inr, arith}
+use Rattle.std.proofs.Common.{◌≡◌, ℕ, ◌+◌, ◌*◌, ◌<◌, ◌≤◌, Bool, true, false, cond, List, [], ◌∷◌, length, filter, map, refl, sym, ◌∙◌, ap}
+use Rattle.std.proofs.Common.{subst, inl, inr, arith}
 use Rattle.std.specs.List.{slice_split, onto_first, flat_map, sum_by, All}
 use Rattle.std.proofs.lemmas.Bool.{cases_Bool, cond-true, cond-false}
 use Rattle.std.proofs.lemmas.Bool.Decides.{nat_tests}
@@ -8,7 +9,8 @@ use Rattle.std.proofs.lemmas.List.Elements.{All-nil, All-cons, All-append, All-f
 use Rattle.wu_base.specs.declared.limits.TheConstants.{WORD_MAX}
 use Rattle.wu_token.specs.declared.spans.Token.{Token}
 use Rattle.wu_token.specs.Words.{has_bytes, is_separator, runs_of, folded_run, word_of, words_of, IsTerm}
-use Rattle.wu_token.specs.Tokens.{is_line_feed, file_start, file_end, line_start, line_end, lines_of_pieces, lines_of, line_tokens_of, tokens_of}
+use Rattle.wu_token.specs.Tokens.{is_line_feed, file_start, file_end, line_start, line_end, lines_of_pieces, lines_of, line_tokens_of}
+use Rattle.wu_token.specs.Tokens.{tokens_of}
 use Rattle.wu_token.specs.Places.{Piece, placed, runs_at, tag_at, word_at, line_tokens_at, placed_tokens_of}
 use Rattle.wu_token.specs.Pieces.{EndsBy}
 use Rattle.std.proofs.lemmas.List.Sums.{sum_by-cons}

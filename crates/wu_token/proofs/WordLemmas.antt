@@ -1,5 +1,7 @@
 -- The folding of a run, from its front on.
-use Rattle.std.proofs.Common.{◌≡◌, ℕ, zero, suc, ◌+◌, ◌-◌, ◌<◌, ◌≤◌, Bool, true, false, cond, List, [], ◌∷◌, ◌++◌, map, length, take, drop, All, chars, encode_utf8, encode_utf8_all, IsUtf8, IsAscii, refl, sym, ◌∙◌, ap, ap₂, subst, inl, inr, ⊎_elim, arith, append_assoc, append-nil, min, ◌⊎◌}
+use Rattle.std.proofs.Common.{◌≡◌, ℕ, zero, suc, ◌+◌, ◌-◌, ◌<◌, ◌≤◌, Bool, true, false, cond, List, [], ◌∷◌, ◌++◌, map, length, take, drop}
+use Rattle.std.proofs.Common.{All, chars, encode_utf8, encode_utf8_all, IsUtf8, IsAscii, refl, sym, ◌∙◌, ap, ap₂, subst, inl, inr, ⊎_elim}
+use Rattle.std.proofs.Common.{arith, append_assoc, append-nil, min, ◌⊎◌}
 use Rattle.std.specs.Char.{to_ascii_lowercase}
 use Rattle.std.specs.Str.{is_utf8}
 use Rattle.std.specs.Str.Lossy.{valid_len_up_to, utf8_valid_len}
@@ -7,8 +9,10 @@ use Rattle.std.proofs.lemmas.Bool.{cases_Bool, cases_lt, cond-true, cond-false}
 use Rattle.std.proofs.lemmas.Bool.Decides.{nat_tests}
 use borrow.Rule.Slice.PartMut.{put_mid}
 use Rattle.std.proofs.lemmas.Slice.{take-put_mid}
-use Rattle.std.proofs.lemmas.List.{length-map, length-take, length-drop, length-append, take-append-drop, take_all, take_at, nil_from_length}
-use Rattle.std.proofs.lemmas.Str.{IsUtf8-from_is_utf8, is_utf8-from_IsUtf8, IsUtf8-append, IsUtf8-nil, IsUtf8-from_ascii, chars-append, chars-nil, chars-IsAscii, utf8_valid_len_le, encodes-append, encodes-IsAscii, IsUtf8-past_char}
+use Rattle.std.proofs.lemmas.List.{length-map, length-take, length-drop, length-append, take-append-drop, take_all, take_at}
+use Rattle.std.proofs.lemmas.List.{nil_from_length}
+use Rattle.std.proofs.lemmas.Str.{IsUtf8-from_is_utf8, is_utf8-from_IsUtf8, IsUtf8-append, IsUtf8-nil, IsUtf8-from_ascii, chars-append}
+use Rattle.std.proofs.lemmas.Str.{chars-nil, chars-IsAscii, utf8_valid_len_le, encodes-append, encodes-IsAscii, IsUtf8-past_char}
 use Rattle.std.proofs.Math.Seq.{take-append-add, drop-append-add, take-append_seam}
 use Rattle.caseless.specs.Caseless.{default_case_fold}
 use Rattle.caseless.proofs.CaselessLemmas.{default_case_fold-nil, default_case_fold-append, default_case_fold-ascii, All-chars}
@@ -110,7 +114,10 @@ word_of-ascii run n e ascii =
     let a = take n run in
     let b = drop n run in
     let len : length (map to_ascii_lowercase a) ≡ n = length-map a to_ascii_lowercase ∙ length-take n run ∙ omega arith in
-    let whole = ap (λ bytes. take WORD_MAX (folded_run bytes)) (sym (take-append-drop n run)) ∙ ap (take WORD_MAX) (folded_run-after a b (IsUtf8-from_ascii a ascii) ∙ ap (λ front. front ++ folded_run b) (folded_text-ascii a ascii)) in
+    let whole =
+    ap (λ bytes. take WORD_MAX (folded_run bytes)) (sym (take-append-drop n run))
+    ∙ ap (take WORD_MAX) (folded_run-after a b (IsUtf8-from_ascii a ascii)
+    ∙ ap (λ front. front ++ folded_run b) (folded_text-ascii a ascii)) in
     elim (cases_lt (length run) WORD_MAX) [
       | inl short ↦
           let none : b ≡ [] = nil_from_length b (length-drop n run ∙ omega arith) in

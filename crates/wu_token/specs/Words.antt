@@ -2,7 +2,8 @@
 -- differences of case and cut to WORD_MAX bytes.
 -- Case goes by full default case folding: toCasefold, R4 of section 3.13 of The Unicode Standard, over the text at the front
 -- of a run. Bytes that are not UTF-8 have no letters but those of ASCII. Which bytes make words is this project's own choice.
-use Rattle.std.specs.Prelude.{◌≡◌, ℕ, ◌≤◌, Bool, List, [], ◌∷◌, ◌++◌, ◌||◌, ◌==◌, nat_le, not, filter, map, take, drop, length, All, chars, encode_utf8_all}
+use Rattle.std.specs.Prelude.{◌≡◌, ℕ, ◌≤◌, Bool, List, [], ◌∷◌, ◌++◌, ◌||◌, ◌==◌, nat_le, not, filter, map, take, drop, length, All, chars}
+use Rattle.std.specs.Prelude.{encode_utf8_all}
 use Rattle.std.specs.List.{slice_split}
 use Rattle.std.specs.Char.{is_ascii_alphanumeric}
 use Rattle.std.specs.Str.{str_to_ascii_lowercase}

@@ -4,7 +4,7 @@ ghost use Rattle.wu_token.specs.Words.{is_word_byte, is_separator};
 ghost use Rattle.wu_token.specs.Pieces.{without_line_feed};
 
 /// Whether the byte belongs to a word: an ASCII letter, an ASCII digit, or 0x80 and above.
-fn is_word_byte(byte: u8) -> bool
+pub fn is_word_byte(byte: u8) -> bool
     ensures { result ≡ is_word_byte byte }
 {
     byte.is_ascii_alphanumeric() || byte >= 0x80

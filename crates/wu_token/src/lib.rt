@@ -12,6 +12,7 @@ mod pieces;
 mod spans;
 mod terms;
 
+pub use bytes::is_word_byte;
 pub use lowered::Word;
 pub use pieces::{Lines, Piece, Runs};
 pub use spans::{FILE_END, FILE_START, LINE_END, LINE_START, Token};

@@ -16,9 +16,12 @@ use Rattle.wu_tree.specs.declared.events.Event.{Event}
 use Rattle.wu_tree.specs.declared.events.Event.TheVariants.{User, Mkdir, Create, Text, Link, Unlink, Rmdir, Rename, Chmod, Chown}
 use Rattle.wu_tree.specs.declared.events.Event.TheVariants.{Acl as SetAcl}
 use Rattle.wu_tree.specs.declared.events.Effect.{Effect}
-use Rattle.wu_tree.specs.FileSystems.{FileSystem, is_file, is_file_node, is_there, is_kind_file, is_used, acl_of, node_of, child_of, link_count}
+use Rattle.wu_tree.specs.FileSystems.{FileSystem, is_file, is_file_node, is_there, is_kind_file, is_used, acl_of, node_of, child_of}
+use Rattle.wu_tree.specs.FileSystems.{link_count}
 use Rattle.wu_tree.specs.Rules.{IsTree}
-use Rattle.wu_tree.specs.Steps.{mkdir_rules, create_rules, text_rules, unlink_rules, rmdir_rules, named_by, no_effect, dropped_at, without_link, with_link_moved, with_node, refusal_of, next, effect_of, step, with_mask, with_perm, without_acl, is_last_link, is_link_to}
+use Rattle.wu_tree.specs.Steps.{mkdir_rules, create_rules, text_rules, unlink_rules, rmdir_rules, named_by, no_effect, dropped_at}
+use Rattle.wu_tree.specs.Steps.{without_link, with_link_moved, with_node, refusal_of, next, effect_of, step, with_mask, with_perm}
+use Rattle.wu_tree.specs.Steps.{without_acl, is_last_link, is_link_to}
 use Rattle.wu_tree.specs.Effects.{TellsFiles}
 use Rattle.wu_base.proofs.MapEntries.{lookup-insert_entry, lookup-remove_other, none_left, number_itself}
 use Rattle.wu_base.proofs.Options.{none_either_way}

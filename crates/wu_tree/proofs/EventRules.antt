@@ -6,7 +6,8 @@ use Rattle.std.specs.List.{AllByRecursion}
 use Rattle.wu_tree.specs.declared.events.Effect.{Effect}
 use Rattle.wu_tree.specs.declared.events.Node.{Node}
 use Rattle.wu_tree.specs.declared.events.Refusal.{Refusal}
-use Rattle.wu_tree.specs.FileSystems.{FileSystem, is_name, node_of, is_there, is_file, is_file_node, is_directory, is_directory_node, is_kind_file}
+use Rattle.wu_tree.specs.FileSystems.{FileSystem, is_name, node_of, is_there, is_file, is_file_node, is_directory, is_directory_node}
+use Rattle.wu_tree.specs.FileSystems.{is_kind_file}
 use Rattle.wu_tree.specs.Steps.{Rule, first_of, unless_refused}
 
 abbrev pub NoneApplies : List Rule → Type 0

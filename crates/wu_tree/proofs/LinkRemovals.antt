@@ -12,7 +12,8 @@ use Rattle.wu_tree.specs.declared.events.Node.{Node}
 use Rattle.wu_tree.specs.FileSystems.{FileSystem, Link, place_cmp, is_directory_node, is_there, node_of, child_of, link_count}
 use Rattle.wu_tree.specs.Steps.{without_link}
 use Rattle.wu_tree.specs.Rules.{IsAclOf, IsLink, Hangs, IsNumbered, IsTree}
-use Rattle.wu_base.proofs.MapEntries.{All-found, All-map, All-map2, All-remove_entry, ascend-remove_entry, counted-remove_entry, lookup-remove_other, none_left, number_itself}
+use Rattle.wu_base.proofs.MapEntries.{All-found, All-map, All-map2, All-remove_entry, ascend-remove_entry, counted-remove_entry}
+use Rattle.wu_base.proofs.MapEntries.{lookup-remove_other, none_left, number_itself}
 use Rattle.wu_tree.proofs.ParentPaths.{same_number, other_number, SameElsewhere, same_elsewhere_remove, same_hangs, none_counted}
 
 -- a test of a number fails at another one

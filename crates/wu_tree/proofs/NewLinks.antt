@@ -7,7 +7,8 @@ use borrow.Author.Tests.{eqb-true, eqb-false, eq-eqb}
 use Rattle.wu_tree.specs.declared.events.Kind.{Kind}
 use Rattle.wu_tree.specs.declared.events.Kind.TheVariants.{Directory, File}
 use Rattle.wu_tree.specs.declared.events.Node.{Node}
-use Rattle.wu_tree.specs.FileSystems.{FileSystem, Link, place_cmp, is_name, is_directory, is_directory_node, is_file, is_file_node, is_kind_file, node_of, child_of, link_count}
+use Rattle.wu_tree.specs.FileSystems.{FileSystem, Link, place_cmp, is_name, is_directory, is_directory_node, is_file, is_file_node}
+use Rattle.wu_tree.specs.FileSystems.{is_kind_file, node_of, child_of, link_count}
 use Rattle.wu_tree.specs.Rules.{IsLink, Hangs, IsTree}
 use Rattle.wu_base.proofs.MapEntries.{All-insert_entry, All-map, All-map2, ascend-insert_entry, counted-insert_entry, all_found}
 use Rattle.wu_tree.proofs.ParentPaths.{place_total, place_exact, SameElsewhere, same_elsewhere_insert, same_hangs, absent_directory}

@@ -1,5 +1,6 @@
 -- Which directories a walk from the root reaches, and how nodes hang.
-use Rattle.std.proofs.Common.{◌≡◌, ◌≢◌, ℕ, zero, suc, ◌+◌, ◌-◌, ◌≤◌, List, [], ◌∷◌, ◌++◌, length, refl, ap, sym, ◌∙◌, subst, Bool, true, false, cond, not, arith, inl, inr, ⊎_elim}
+use Rattle.std.proofs.Common.{◌≡◌, ◌≢◌, ℕ, zero, suc, ◌+◌, ◌-◌, ◌≤◌, List, [], ◌∷◌, ◌++◌, length, refl, ap, sym, ◌∙◌, subst, Bool, true}
+use Rattle.std.proofs.Common.{false, cond, not, arith, inl, inr, ⊎_elim}
 use Rattle.std.specs.Prelude.{Option, None, Some, ◌==◌}
 use Rattle.std.specs.Ordering.{nat_cmp}
 use Rattle.std.specs.List.{AllByRecursion, list_any, list_all, flat_map}
@@ -13,7 +14,8 @@ use Rattle.wu_base.proofs.Members.{Has, any_has, has_any, all_has, Has-flat_map,
 use Rattle.wu_tree.specs.declared.events.Kind.{Kind}
 use Rattle.wu_tree.specs.declared.events.Kind.TheVariants.{Directory, File}
 use Rattle.wu_tree.specs.declared.events.Node.{Node}
-use Rattle.wu_tree.specs.FileSystems.{FileSystem, Link, is_directory, is_directory_node, is_kind_file, node_of, is_within, link_count, parent_of, ancestors}
+use Rattle.wu_tree.specs.FileSystems.{FileSystem, Link, is_directory, is_directory_node, is_kind_file, node_of, is_within, link_count}
+use Rattle.wu_tree.specs.FileSystems.{parent_of, ancestors}
 use Rattle.wu_tree.specs.Paths.{children_of}
 use Rattle.wu_tree.specs.Lists.{hung_by, hung_of, one_more, below, hold_of, hung_once, is_hung, linked_test, reached_test}
 use Rattle.wu_tree.specs.Inodes.{IsHeld}

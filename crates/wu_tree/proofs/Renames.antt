@@ -15,7 +15,8 @@ use Rattle.wu_tree.specs.declared.inodes.Hold.{Hold}
 use Rattle.wu_tree.specs.declared.inodes.Hold.TheVariants.{Entries, Links}
 use Rattle.wu_tree.specs.declared.inodes.Inode.{Inode}
 use Rattle.wu_tree.specs.Inodes.{node_in, nodes_in, file_system, IsHeld, IsSound, kind_of, parent_in, height_at, height_over, AreHeights}
-use Rattle.wu_tree.specs.Inodes.{without_heights, moved_hold, with_acl_lost, with_link_lost, with_parent, height_in, height_over_in, height_over_at}
+use Rattle.wu_tree.specs.Inodes.{without_heights, moved_hold, with_acl_lost, with_link_lost, with_parent, height_in, height_over_in}
+use Rattle.wu_tree.specs.Inodes.{height_over_at}
 use Rattle.wu_tree.specs.FileSystems.{FileSystem, IsLeaf, Place, Link, place_cmp, child_of, is_directory, is_name, path_up}
 use Rattle.wu_tree.specs.Rules.{IsTree, IsLink, Hangs}
 use Rattle.wu_tree.specs.Steps.{without_link, with_link_moved, renamed}

@@ -1,6 +1,7 @@
 -- A file system after POSIX.1, without the texts of its files: nodes by number, links by directory and name, users with their
 -- groups, and the access lists of nodes. Each of the four is a finite map, as the list of its entries in the order of the keys.
-use Rattle.std.specs.Prelude.{◌≡◌, ◌⊎◌, ℕ, zero, suc, Bool, true, false, ◌&&◌, ◌||◌, not, cond, ◌==◌, nat_eq, nat_lt, nat_le, Option, None, Some, is_some, unwrap_or, List, [], ◌∷◌, map, filter, length, count_by}
+use Rattle.std.specs.Prelude.{◌≡◌, ◌⊎◌, ℕ, zero, suc, Bool, true, false, ◌&&◌, ◌||◌, not, cond, ◌==◌, nat_eq, nat_lt, nat_le, Option, None}
+use Rattle.std.specs.Prelude.{Some, is_some, unwrap_or, List, [], ◌∷◌, map, filter, length, count_by}
 use Rattle.std.specs.declared.cmp.Ordering.{Ordering}
 use Rattle.std.specs.Ordering.{nat_cmp, ordering_then}
 use Rattle.std.specs.Cmp.Lexicographic.{slice_cmp, pointwise}

@@ -1,7 +1,8 @@
 -- What each event does to a file system: it is refused by the first rule of its list that applies, and changes nothing, or
 -- it is accepted, and gives the next file system. Links, removal and renaming are those of POSIX.1. An access list has the
 -- mode's group bits as its mask; what changes of modes and of lists do to each other is this project's choice.
-use Rattle.std.specs.Prelude.{◌≡◌, ℕ, ◌+◌, ◌-◌, ◌*◌, ◌/◌, ◌%◌, ◌≤◌, Bool, false, ◌&&◌, ◌||◌, not, cond, ◌==◌, nat_lt, nat_le, Option, None, Some, IfSome, Result, Ok, Err, MatchResult, List, [], ◌∷◌, ◌++◌}
+use Rattle.std.specs.Prelude.{◌≡◌, ℕ, ◌+◌, ◌-◌, ◌*◌, ◌/◌, ◌%◌, ◌≤◌, Bool, false, ◌&&◌, ◌||◌, not, cond, ◌==◌, nat_lt, nat_le, Option, None}
+use Rattle.std.specs.Prelude.{Some, IfSome, Result, Ok, Err, MatchResult, List, [], ◌∷◌, ◌++◌}
 use Rattle.std.specs.Ordering.{nat_cmp}
 use Rattle.std.specs.List.{list_any}
 use Rattle.std.specs.Map.{remove_entry, set_value}
@@ -20,7 +21,8 @@ use Rattle.wu_tree.specs.declared.events.Refusal.{Refusal}
 use Rattle.wu_tree.specs.declared.events.Refusal.TheVariants.{BadName, NoSuch, Exists, NotEmpty, Loop, Deep}
 use Rattle.wu_tree.specs.declared.events.Refusal.TheVariants.{Kind as OfWrongKind}
 use Rattle.wu_tree.specs.declared.events.Effect.{Effect}
-use Rattle.wu_tree.specs.FileSystems.{FileSystem, place_cmp, is_name, node_of, acl_of, child_of, is_there, is_file, is_directory, is_kind_file, is_used, has_entries, link_count, depth, is_within}
+use Rattle.wu_tree.specs.FileSystems.{FileSystem, place_cmp, is_name, node_of, acl_of, child_of, is_there, is_file, is_directory}
+use Rattle.wu_tree.specs.FileSystems.{is_kind_file, is_used, has_entries, link_count, depth, is_within}
 
 -- ---- refusals
 

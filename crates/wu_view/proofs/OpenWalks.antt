@@ -10,7 +10,8 @@ use Rattle.wu_access.specs.declared.Want.TheVariants.{Read, Execute}
 use Rattle.wu_access.specs.Access.{is_allowed}
 use Rattle.wu_tree.specs.declared.events.Kind.TheVariants.{Directory, File}
 use Rattle.wu_tree.specs.declared.events.Node.{Node}
-use Rattle.wu_tree.specs.FileSystems.{FileSystem, Link, is_directory, is_directory_node, is_file_node, is_kind_file, link_count, acl_of, node_of}
+use Rattle.wu_tree.specs.FileSystems.{FileSystem, Link, is_directory, is_directory_node, is_file_node, is_kind_file, link_count, acl_of}
+use Rattle.wu_tree.specs.FileSystems.{node_of}
 use Rattle.wu_tree.specs.FileSystems.{entries_of, depth}
 use Rattle.wu_tree.specs.Rules.{IsTree}
 use Rattle.wu_view.specs.declared.walks.Met.TheVariants.{Readable, Passable, Closed}

@@ -1,5 +1,6 @@
 -- What a session did, by what source, sink and store told before and after it.
-use Rattle.std.specs.Prelude.{◌≡◌, ℕ, ◌+◌, ◌≤◌, ◌<◌, ◌⊎◌, ◌↔◌, List, [], ◌∷◌, ◌++◌, length, take, ⊤, Option, Some, None, IfSome, IsSome, option_and_then, option_map}
+use Rattle.std.specs.Prelude.{◌≡◌, ℕ, ◌+◌, ◌≤◌, ◌<◌, ◌⊎◌, ◌↔◌, List, [], ◌∷◌, ◌++◌, length, take, ⊤, Option, Some, None, IfSome, IsSome}
+use Rattle.std.specs.Prelude.{option_and_then, option_map}
 use Rattle.std.specs.Io.KnownBytes.{Appends, Consumes}
 use Rattle.wu_base.specs.declared.limits.TheConstants.{SPENT_AT, BLOBS_SPENT_AT, READ_MAX}
 use Rattle.wu_outside.specs.Content.{Content}
@@ -17,7 +18,8 @@ use Rattle.wu_options.specs.declared.command_lines.CommandLine.{CommandLine}
 use Rattle.wu_options.specs.declared.command_lines.CommandLine.TheVariants.{Run, Demo}
 use Rattle.wu_options.specs.declared.command_lines.Settings.{Settings}
 use Rattle.wumpus_run.specs.declared.statuses.Status.{Status}
-use Rattle.wumpus_run.specs.declared.statuses.Status.TheVariants.{Done, Usage, ReadFault, WriteFault, NoMemory, InputTooLong, StoreFault, Damaged, Spent}
+use Rattle.wumpus_run.specs.declared.statuses.Status.TheVariants.{Done, Usage, ReadFault, WriteFault, NoMemory, InputTooLong, StoreFault}
+use Rattle.wumpus_run.specs.declared.statuses.Status.TheVariants.{Damaged, Spent}
 use Rattle.wu_layout.specs.Layouts.{Layout}
 use Rattle.wu_query.specs.States.{State}
 use Rattle.wu_engine.specs.Naming.{HasNoStray, IsNamed}

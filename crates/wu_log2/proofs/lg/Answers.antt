@@ -1,5 +1,6 @@
 use Rattle.std.proofs.Common.{◌≡◌, ◌*◌, ◌%◌, ◌^◌, ◌<◌, ℕ, refl, sym, arith}
-use Rattle.wu_log2.proofs.Digits.{IsPlace, lg-at, lg-lt, lg-below, lg-within, first_mantissa, square-lt, digits_so_far, all_digits, turn_one, turn_zero}
+use Rattle.wu_log2.proofs.Digits.{IsPlace, lg-at, lg-lt, lg-below, lg-within, first_mantissa, square-lt, digits_so_far, all_digits}
+use Rattle.wu_log2.proofs.Digits.{turn_one, turn_zero}
 use Rattle.wu_log2.proofs.lg.Goals as goal
 use Rattle.wu_log2.proofs.lg.Goals.{then-square, else-square}
 

@@ -8,7 +8,8 @@ use Rattle.wu_base.specs.declared.limits.TheConstants.{INPUT_MAX, FLUSH_DEFAULT}
 use Rattle.wu_fields.specs.Numbers.{number_of}
 use Rattle.wu_options.specs.declared.command_lines.CommandLine.{CommandLine}
 use Rattle.wu_options.specs.CommandLines.{Key, Said, Sort, max_input, flush, at_least, asked_by, demo_by, number_in, without_options}
-use Rattle.wu_options.specs.CommandLines.{said_by, said_from, command_line_by, settings_by, settings_with, sort_of, value_before, word_before}
+use Rattle.wu_options.specs.CommandLines.{said_by, said_from, command_line_by, settings_by, settings_with, sort_of, value_before}
+use Rattle.wu_options.specs.CommandLines.{word_before}
 use Rattle.wu_options.specs.declared.command_lines.TheConstants.{FLUSH_MAX}
 use Rattle.wu_options.specs.declared.command_lines.CommandLine.TheVariants.{Run, Demo}
 use Rattle.wu_options.specs.declared.command_lines.Settings.{Settings}

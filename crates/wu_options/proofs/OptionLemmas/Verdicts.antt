@@ -1,5 +1,6 @@
 -- What a walk over the words comes to: the faults and the rows agree with the definition.
-use Rattle.std.proofs.Common.{◌≡◌, ◌∙◌, ◌++◌, Bool, codes, true, false, refl, sym, ap, subst, List, [], ◌∷◌, Option, Some, None, append-nil, append_assoc}
+use Rattle.std.proofs.Common.{◌≡◌, ◌∙◌, ◌++◌, Bool, codes, true, false, refl, sym, ap, subst, List, [], ◌∷◌, Option, Some, None, append-nil}
+use Rattle.std.proofs.Common.{append_assoc}
 use Rattle.std.specs.Prelude.{unwrap_or, option_and_then, slice_get, fold, ⊤}
 use Rattle.std.specs.Option.{option_to_list}
 use Rattle.clap.specs.Words.{Row, Text, all_of, first_of}
@@ -8,13 +9,18 @@ use Rattle.clap.specs.Kinds.{Kinds, or_else}
 use Rattle.clap.specs.Faults.{option_fault, other_fault, use_fault, settle_fault, walk_fault, word_fault}
 use Rattle.clap.specs.declared.error.kind.ErrorKind.TheVariants.{ArgumentConflict}
 use Rattle.wu_options.specs.declared.command_lines.CommandLine.{CommandLine}
-use Rattle.wu_options.specs.CommandLines.{Key, Said, only_words, said_from, command_line_by, sort_of, needs_value, with_value, fault, positional}
+use Rattle.wu_options.specs.CommandLines.{Key, Said, only_words, said_from, command_line_by, sort_of, needs_value, with_value, fault}
+use Rattle.wu_options.specs.CommandLines.{positional}
 use Rattle.wu_options.proofs.OptionLemmas.BuiltCommand.{name_of, rule_for, rules_built, shape_built, held, Fails, IsHyphened}
 use Rattle.wu_options.proofs.OptionLemmas.MatchedRows.{first_is}
 use Rattle.wu_options.proofs.OptionLemmas.WordLooks.{IsPlain, Look, look, two_dashes, option_use, refused, plain, no_text}
-use Rattle.wu_options.proofs.OptionLemmas.WalkSteps.{Pending, state, pending_fault, rows_with, turn, step, TakesStep, word_pending, trailing_step, dashes_step, no_subcommand, IsFree, plain_step, asked_step, use_turn, after_use, use_step}
-use Rattle.wu_options.proofs.OptionLemmas.SeenRows.{Seen, given_for, word_after, value_after, listed, alone, Holds, words_held, option_held, fresh_use, repeated_use, pending_is, rows_are, unvalued}
-use Rattle.wu_options.proofs.OptionLemmas.Prefixes.{joined, rest, rest_by, word_joined, value_joined, lost_repeated, lost_hyphened, lost_word}
+use Rattle.wu_options.proofs.OptionLemmas.WalkSteps.{Pending, state, pending_fault, rows_with, turn, step, TakesStep, word_pending}
+use Rattle.wu_options.proofs.OptionLemmas.WalkSteps.{trailing_step, dashes_step, no_subcommand, IsFree, plain_step, asked_step, use_turn}
+use Rattle.wu_options.proofs.OptionLemmas.WalkSteps.{after_use, use_step}
+use Rattle.wu_options.proofs.OptionLemmas.SeenRows.{Seen, given_for, word_after, value_after, listed, alone, Holds, words_held, option_held}
+use Rattle.wu_options.proofs.OptionLemmas.SeenRows.{fresh_use, repeated_use, pending_is, rows_are, unvalued}
+use Rattle.wu_options.proofs.OptionLemmas.Prefixes.{joined, rest, rest_by, word_joined, value_joined, lost_repeated, lost_hyphened}
+use Rattle.wu_options.proofs.OptionLemmas.Prefixes.{lost_word}
 
 -- the faults of the words from here on, and the rows at their end
 abbrev pub faults_from : Walk → List Text → Kinds

@@ -4,7 +4,9 @@ use Rattle.std.specs.Prelude.{⊤}
 use Rattle.std.specs.Str.{bytes_eq}
 use Rattle.clap.specs.Lexer.{long_of}
 use Rattle.clap.specs.Words.{Row, Text}
-use Rattle.clap.specs.Walk.{Held, long_or_other, next, plain_word, subcommand_or_other, trailing as to_trailing, Step, Walk, Waiting, after_step, arg_by_long, idle, is_pending, option, positional as to_positional, pushed, settled, settled_rows, subcommand_met, used, value as to_value, walked, word_met}
+use Rattle.clap.specs.Walk.{Held, long_or_other, next, plain_word, subcommand_or_other, trailing as to_trailing, Step, Walk, Waiting}
+use Rattle.clap.specs.Walk.{after_step, arg_by_long, idle, is_pending, option, positional as to_positional, pushed, settled, settled_rows}
+use Rattle.clap.specs.Walk.{subcommand_met, used, value as to_value, walked, word_met}
 use Rattle.clap.specs.Kinds.{Kinds, or_else}
 use Rattle.clap.specs.Faults.{option_fault, other_fault, settle_fault, step_fault, turn_fault, word_fault}
 use Rattle.wu_options.specs.CommandLines.{Key, max_input, flush}

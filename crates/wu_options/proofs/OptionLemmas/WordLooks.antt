@@ -1,5 +1,6 @@
 -- What a word is, to the definition and to the reader of command lines.
-use Rattle.std.proofs.Common.{◌≡◌, ◌∙◌, ◌&&◌, ℕ, Bool, cond, true, false, not, suc, refl, sym, ap, subst, List, [], ◌∷◌, Option, Some, None, one-add, add-one, eqb-true, eq-eqb, true≢false}
+use Rattle.std.proofs.Common.{◌≡◌, ◌∙◌, ◌&&◌, ℕ, Bool, cond, true, false, not, suc, refl, sym, ap, subst, List, [], ◌∷◌, Option, Some, None}
+use Rattle.std.proofs.Common.{one-add, add-one, eqb-true, eq-eqb, true≢false}
 use Rattle.std.specs.Prelude.{◌==◌, option_map, option_and_then, slice_get}
 use Rattle.std.specs.List.{list_all, before_first, after_first, position_or_len}
 use Rattle.std.specs.Str.{bytes_eq, chars}
@@ -8,7 +9,8 @@ use Rattle.clap.specs.Words.{Row, Text}
 use Rattle.clap.specs.Walk.{bundle_met, long_or_other, plain_word, Waiting, arg_by_long}
 use Rattle.clap.specs.Faults.{flags_fault, other_fault}
 use Rattle.clap.specs.declared.error.kind.ErrorKind.TheVariants.{UnknownArgument}
-use Rattle.wu_options.specs.CommandLines.{Key, Sort, rest_after, max_input, flush, sort_of, use_of, use_with, needs_value, with_value, fault, positional}
+use Rattle.wu_options.specs.CommandLines.{Key, Sort, rest_after, max_input, flush, sort_of, use_of, use_with, needs_value, with_value}
+use Rattle.wu_options.specs.CommandLines.{fault, positional}
 use Rattle.wu_options.proofs.OptionLemmas.BuiltCommand.{name_of, rule_for, rules_built, shape_built, held, Fails, IsHyphened}
 
 abbrev pub is_equals : ℕ → Bool

@@ -6,8 +6,10 @@ use Rattle.wu_cursor.specs.Directions.{next_place, near}
 use Rattle.wu_cursor.specs.Within.{set_in, keeps}
 use Rattle.wu_cursor.proofs.Orders.{next_on, through}
 use Rattle.wu_cursor.proofs.Flat.{region_flat, nearest_whole}
-use Rattle.wu_cursor.proofs.Made.{one_of_far_end, both_of_far_end, both_of_none_left, both_of_none_right, followed_by_far_end, followed_by_none_first, followed_by_none_behind}
-use Rattle.wu_cursor.proofs.Kept.{kept_of, nearest_kept, none_kept, next_passed, none_behind, holds_by_end, holds_none, held_by_first, held_by_none, ending_from}
+use Rattle.wu_cursor.proofs.Made.{one_of_far_end, both_of_far_end, both_of_none_left, both_of_none_right, followed_by_far_end}
+use Rattle.wu_cursor.proofs.Made.{followed_by_none_first, followed_by_none_behind}
+use Rattle.wu_cursor.proofs.Kept.{kept_of, nearest_kept, none_kept, next_passed, none_behind, holds_by_end, holds_none, held_by_first}
+use Rattle.wu_cursor.proofs.Kept.{held_by_none, ending_from}
 use Rattle.wu_cursor.proofs.access.+access.Goals as goal
 
 pub nearest-returns-in_ok-first-in-OneOf-clause-found : goal.nearest-returns-in_ok-first-in-OneOf-clause-found

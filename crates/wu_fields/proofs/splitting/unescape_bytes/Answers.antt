@@ -1,9 +1,12 @@
 use Rattle.std.proofs.Common.{◌+◌, ◌∷◌, drop, true, false, Some, sym, ◌∙◌, arith, ap}
 use Rattle.wu_fields.specs.Fields.{unescaped}
 use Rattle.std.proofs.lemmas.List.{at_drop_all}
-use Rattle.wu_fields.proofs.FieldLemmas.{onto, onto-step, onto-end, onto_nil, onto_absent, onto_none, unescaped-letter, unescaped-fault, unescaped-backslash, unescaped-plain}
+use Rattle.wu_fields.proofs.FieldLemmas.{onto, onto-step, onto-end, onto_nil, onto_absent, onto_none, unescaped-letter, unescaped-fault}
+use Rattle.wu_fields.proofs.FieldLemmas.{unescaped-backslash, unescaped-plain}
 use Rattle.wu_fields.proofs.splitting.unescape_bytes.Goals as goal
-use Rattle.wu_fields.proofs.splitting.unescape_bytes.Goals.{then-after_backslash+in-Some+in_ok-push-in-Some, else-after_backslash+then-byte-eq92, else-after_backslash+else-byte-eq92+in_ok-push}
+use Rattle.wu_fields.proofs.splitting.unescape_bytes.Goals.{then-after_backslash+in-Some+in_ok-push-in-Some}
+use Rattle.wu_fields.proofs.splitting.unescape_bytes.Goals.{else-after_backslash+then-byte-eq92}
+use Rattle.wu_fields.proofs.splitting.unescape_bytes.Goals.{else-after_backslash+else-byte-eq92+in_ok-push}
 
 pub loop-byte-init : goal.loop-byte-init
 loop-byte-init c = rw c.in_ok-field.ensures.items (sym (onto_none _))

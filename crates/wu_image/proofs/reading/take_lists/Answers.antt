@@ -3,7 +3,8 @@ use Rattle.wu_image.specs.Items.{Number, list_items}
 use Rattle.wu_image.specs.Checkpoints.{link_items, part_items, user_items}
 use Rattle.wu_image.specs.Reading.{entry_items}
 use Rattle.wu_image.proofs.ItemLemmas.{parted}
-use Rattle.wu_image.proofs.ListedLemmas.{acls_left, entries_left, links_left, listed_of_read, numbers_of, parts_left, same_acls, sections_at}
+use Rattle.wu_image.proofs.ListedLemmas.{acls_left, entries_left, links_left, listed_of_read, numbers_of, parts_left, same_acls}
+use Rattle.wu_image.proofs.ListedLemmas.{sections_at}
 use Rattle.wu_image.proofs.ListedLemmas.{users_and_later, users_left}
 use Rattle.wu_image.proofs.reading.take_lists.Goals as goal
 

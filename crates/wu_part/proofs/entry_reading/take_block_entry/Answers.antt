@@ -1,7 +1,8 @@
 use Rattle.std.proofs.Common.{◌-◌, arith}
 use Rattle.wu_part.proofs.ReadingLemmas.{block_of_numbers}
 use Rattle.wu_part.proofs.entry_reading.take_block_entry.Goals as goal
-use Rattle.wu_part.proofs.entry_reading.take_block_entry.Goals.{else-is_block-via-then-is_block+else-is_room, else-is_block-via-else-is_block}
+use Rattle.wu_part.proofs.entry_reading.take_block_entry.Goals.{else-is_block-via-then-is_block+else-is_room}
+use Rattle.wu_part.proofs.entry_reading.take_block_entry.Goals.{else-is_block-via-else-is_block}
 
 pub returns-in_default-clause-none : goal.returns-in_default-clause-none
 returns-in_default-clause-none c block rest b =

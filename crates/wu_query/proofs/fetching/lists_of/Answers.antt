@@ -1,6 +1,7 @@
 use Rattle.std.proofs.Common.{◌+◌, ◌<◌, ◌∙◌, length, rules}
 use Rattle.wu_query.specs.Units.{found_in}
-use Rattle.wu_query.proofs.FetchedLists.{ascending_next, asked_next, cause_next, fails_on_the_way, lists_next, named_next, others_next, tells_then}
+use Rattle.wu_query.proofs.FetchedLists.{ascending_next, asked_next, cause_next, fails_on_the_way, lists_next, named_next, others_next}
+use Rattle.wu_query.proofs.FetchedLists.{tells_then}
 use Rattle.wu_query.proofs.PassedCauses.{cause_at_once}
 use Rattle.wu_query.proofs.fetching.lists_of.Goals as goal
 

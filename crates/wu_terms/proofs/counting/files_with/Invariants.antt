@@ -1,7 +1,7 @@
 use Rattle.std.proofs.Common.{◌≡◌, ◌+◌, drop}
 use Rattle.std.specs.List.Sorted.{IsStrictlySortedBy}
 use Rattle.std.specs.Ordering.{nat_cmp}
-use Rattle.wu_terms.specs.Listings.{frames_with}
+use Rattle.wu_base.specs.Ranges.{frames_with}
 use Rattle.wu_terms.proofs.counting.files_with.Given as goal
 
 abbrev pub invariant-loop-frame : goal.invariant-loop-frame

@@ -4,7 +4,9 @@ use Rattle.std.proofs.lemmas.Result.{IfOk-weaker}
 use Rattle.wu_vbyte.proofs.BlockLemmas.{none_weaker}
 use Rattle.wu_vbyte.proofs.ShortLemmas.{block_single, summed_next, summed_all, summed_other}
 use Rattle.wu_vbyte.proofs.short.take_short.Goals as goal
-use Rattle.wu_vbyte.proofs.short.take_short.Goals.{else-before-lt128-via-then-before-lt128+then-taken-count+else-total-last, else-before-lt128-via-then-before-lt128+else-taken-count, else-before-lt128-via-else-before-lt128}
+use Rattle.wu_vbyte.proofs.short.take_short.Goals.{else-before-lt128-via-then-before-lt128+then-taken-count+else-total-last}
+use Rattle.wu_vbyte.proofs.short.take_short.Goals.{else-before-lt128-via-then-before-lt128+else-taken-count}
+use Rattle.wu_vbyte.proofs.short.take_short.Goals.{else-before-lt128-via-else-before-lt128}
 
 pub loop-at-preserved : goal.loop-at-preserved
 loop-at-preserved c =

@@ -12,7 +12,8 @@ use Rattle.wu_job.specs.Sources.{HasEntries, part_of, parts_of, terms_from}
 use Rattle.wu_job.specs.Steps.{HasWholeRanges, IsBrokenPart, IsCause, IsDamagedPart, ReadsFront, adds, ranges_of, step_ranges}
 use Rattle.wu_job.proofs.Doubles.{has_left, left_of, refused}
 use Rattle.wu_job.proofs.Fronts.{cause_after, front_all, if_both, no_memory}
-use Rattle.wu_job.proofs.Joining.{front_of_left, front_with, has_with, highest_alone, highest_with, kept_alone, kept_with, lowest_left, new_both, new_one, reads_alone, reads_with, some_with, spans_apart, whole_alone, whole_with}
+use Rattle.wu_job.proofs.Joining.{front_of_left, front_with, has_with, highest_alone, highest_with, kept_alone, kept_with, lowest_left}
+use Rattle.wu_job.proofs.Joining.{new_both, new_one, reads_alone, reads_with, some_with, spans_apart, whole_alone, whole_with}
 use Rattle.wu_job.proofs.Whole.{found_left, found_with}
 use Rattle.wu_job.proofs.jobs.Job.read_live.Goals as goal
 

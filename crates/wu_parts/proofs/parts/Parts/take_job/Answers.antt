@@ -10,7 +10,8 @@ use Rattle.wu_parts.specs.declared.working.NextJob.{NextJob}
 use Rattle.wu_parts.specs.declared.working.Running.{Running}
 use Rattle.wu_parts.specs.declared.writing.StoredPart.{StoredPart}
 use Rattle.wu_parts.proofs.parts.Parts.take_job.Goals as goal
-use Rattle.wu_parts.proofs.parts.Parts.take_job.Goals.{in-Some, in-None+in-Some-next_job+in_ok-running-in-Some-next_job, in-None+in-None-next_job}
+use Rattle.wu_parts.proofs.parts.Parts.take_job.Goals.{in-Some, in-None+in-Some-next_job+in_ok-running-in-Some-next_job}
+use Rattle.wu_parts.proofs.parts.Parts.take_job.Goals.{in-None+in-None-next_job}
 
 pub returns-clause-job : goal.returns-clause-job
 returns-clause-job c =
