@@ -37,6 +37,27 @@ pub enum Ask {
     },
     /// The paths of the user's files.
     Paths,
+    /// Which words that begin with the prefix stand in the user's files, each with how many of her files
+    /// have it.
+    Terms {
+        /// How many words to show at most, from 0 to K_MAX.
+        k: u32,
+        /// What the words begin with, without differences of case; every word begins with the empty one.
+        prefix: Bytes,
+        /// Whether the words of the most files come first.
+        top: bool,
+    },
+    /// A script that makes the user's files from nothing.
+    Export,
+    /// How many regions of the unit hold one of the words, and how many of these could be among the best.
+    Weighed {
+        /// How many regions a ranking would show at most, from 0 to K_MAX.
+        k: u32,
+        /// Its regions are what is ranked.
+        unit: Expr,
+        /// From 1 to RANK_WORDS_MAX words; one that stands here twice counts twice.
+        words: Sequence<Bytes>,
+    },
 }
 
 /// One region that was found, with the first line of its file that shares a place with it. A line's
@@ -70,6 +91,15 @@ pub struct RankLine {
     pub end: u64,
 }
 
+/// One word of a user's files.
+#[derive(Debug, PartialEq, Eq, Drop)]
+pub struct TermLine {
+    /// The word, without differences of case and at most WORD_MAX bytes long.
+    pub word: Bytes,
+    /// How many of the user's files have it, at least 1.
+    pub files: u64,
+}
+
 /// The answer to a question.
 #[derive(Debug, PartialEq, Eq, Drop)]
 pub enum Answered {
@@ -100,5 +130,22 @@ pub enum Answered {
     /// their bytes.
     Paths {
         paths: Sequence<Bytes>,
+    },
+    /// `total` words begin with the prefix; the first of them are shown.
+    Terms {
+        total: u64,
+        /// Whether the words of the most files come first.
+        top: bool,
+        /// At most `k` of the question: by bytes, or where `top` is set by files, falling, then by bytes.
+        shown: Sequence<TermLine>,
+    },
+    /// The script: the bytes of its commands.
+    Export {
+        script: Bytes,
+    },
+    /// `listed` regions hold one of the words; so many of them could have a score that is shown.
+    Weighed {
+        listed: u64,
+        weighed: u64,
     },
 }
