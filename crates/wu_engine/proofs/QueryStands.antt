@@ -6,6 +6,7 @@ use Rattle.wu_outside.specs.declared.ranges.ReadRange.{ReadRange}
 use Rattle.wu_layout.specs.Layouts.{FileEntry}
 use Rattle.wu_lists.specs.Keeping.{Kept}
 use Rattle.wu_ask.specs.Questions.{Question}
+use Rattle.wu_parts.specs.Candidates.{terms_held}
 use Rattle.wu_query.specs.Asked.{terms_asked}
 use Rattle.wu_query.specs.Finding.{KeepsTexts}
 use Rattle.wu_query.specs.Reads.{AreTexts, ReadsForQuery, texts_read}
@@ -68,8 +69,8 @@ module _ (engine : Engine) (holds : Option Content) (s : State) (stands : Stands
         texts = stands.texts;
         parts = rw parts stands.parts;
         job = rw parts (job_on new.parts.kept holds stands.job);
-        kept = blocks_kept engine.parts reads.frames.ranges (terms_asked question) new.parts.kept s holds before reads.reads.between
-            postings_told reads.reads.asks;
+        kept = blocks_kept engine.parts reads.frames.ranges (terms_asked (terms_held engine.parts) question) new.parts.kept s holds
+            before reads.reads.between postings_told reads.reads.asks;
         check = check ∙ stands.check;
       })
 

@@ -25,5 +25,6 @@ pub mod WholeTexts
 pub mod FilesWithExtents
 pub mod DamagedTexts
 pub mod QueryReads
+pub mod HeldTerms
 pub mod PermittedBlocks
 pub mod PermittedTexts

@@ -14,7 +14,7 @@ use Rattle.wu_base.specs.declared.troubles.Trouble.{Trouble}
 use Rattle.wu_base.proofs.EachLemmas.{each-append, each-map, each_left}
 use Rattle.wu_outside.specs.Content.{Content}
 use Rattle.wu_outside.specs.declared.ranges.ReadRange.{ReadRange}
-use Rattle.wu_ask.specs.Questions.{Question}
+use Rattle.wu_ask.specs.Questions.{Question, Counting, Finding, Ranking, ListingPaths, ListingTerms, Exporting, Weighing}
 use Rattle.wu_layout.specs.Invariants.{SomeOf}
 use Rattle.wu_layout.specs.Layouts.{Part}
 use Rattle.wu_layout.proofs.KeptLemmas.{SomeOf-cases}
@@ -25,6 +25,7 @@ use Rattle.wu_lists.specs.Keeping.{Asks, Kept, all_missing, asked, is_same, miss
 use Rattle.wu_view.specs.declared.Seen.{Seen}
 use Rattle.wu_view.specs.Views.{view_of as files_of}
 use Rattle.wu_space.specs.Addresses.{Ranges, range_of as live_range_of}
+use Rattle.wu_parts.specs.Candidates.{terms_held}
 use Rattle.wu_parts.specs.Contents.{Contents}
 use Rattle.wu_parts.specs.Holdings.{HoldParts, all_needed}
 use Rattle.wu_frames.specs.declared.Frame.{Frame}
@@ -36,6 +37,7 @@ use Rattle.wu_query.specs.Reads.{texts_read}
 use Rattle.wu_query.specs.States.{State}
 use Rattle.wu_query.specs.Searched.{Indexes, TellsPostings}
 use Rattle.wu_query.specs.Units.{IsCauseFor}
+use Rattle.wu_query.proofs.HeldTerms.{needed_of_words}
 
 -- ---- what is read
 
@@ -193,21 +195,38 @@ module _ (frames : Frames) (live : Ranges) (s : State) (uid : ℕ) (is : Indexes
         (SomeOf-cases (λ (block : Block). range_of block ≡ range) (all_needed (zip contents.parts contents.directories) term frames.ranges)
         (blocks_for contents frames.ranges terms) one)
 
+  abbrev IsNeeded : ReadRange → List ℕ → Type 0
+  IsNeeded range term = SomeOf (IsNeededBlockOf (live_ranges_of s uid) term range) s.layout.parts
+
+  -- a block of a term that is asked for of the index is one of a term that is asked for of the state
+  asked_of_state : (contents : Contents) (range : ReadRange) (question : Question)
+      → SomeOf (IsNeeded range) (terms_asked (terms_held contents) question) → IsBlockForQuery s uid question range
+  asked_of_state contents range (Counting region) some = some
+  asked_of_state contents range (Finding k region) some = some
+  asked_of_state contents range (Ranking k unit words) some = some
+  asked_of_state contents range ListingPaths some = some
+  asked_of_state contents range (ListingTerms k prefix top) some =
+      needed_of_words s (live_ranges_of s uid) range prefix (terms_held contents) some
+  asked_of_state contents range Exporting some = some
+  asked_of_state contents range (Weighing k unit words) some = some
+
   -- the blocks that her frames need of a question's terms are those that her query may read
   block_permitted : (contents : Contents) (holds : Option Content) → TellsPostings contents holds s
-      → (question : Question) (range : ReadRange) → IsOneOf (blocks_for contents frames.ranges (terms_asked question)) range
+      → (question : Question) (range : ReadRange)
+      → IsOneOf (blocks_for contents frames.ranges (terms_asked (terms_held contents) question)) range
       → IsBlockForQuery s uid question range
   block_permitted contents None tells question range one = let told = tells.told in absurd (cc)
   block_permitted contents (Some content) tells question range one =
-      in_terms content range contents tells.parts (terms_asked question) one
+      asked_of_state contents range question
+      (in_terms content range contents tells.parts (terms_asked (terms_held contents) question) one)
 
   module _ (contents : Contents) (holds : Option Content) (tells : TellsPostings contents holds s) (question : Question)
-      {terms : List (List ℕ)} (same : terms ≡ terms_asked question) (before after : Option (List ReadRange)) where
+      {terms : List (List ℕ)} (same : terms ≡ terms_asked (terms_held contents) question) (before after : Option (List ReadRange)) where
     blocks_permitted : ReadsOnly (IsOneOf (blocks_for contents frames.ranges terms)) before after
         → ReadsOnly (IsBlockForQuery s uid question) before after
     blocks_permitted only =
-        only_of (IsOneOf (blocks_for contents frames.ranges (terms_asked question))) (IsBlockForQuery s uid question) before after
-        (block_permitted contents holds tells question)
+        only_of (IsOneOf (blocks_for contents frames.ranges (terms_asked (terms_held contents) question))) (IsBlockForQuery s uid question)
+        before after (block_permitted contents holds tells question)
         (rw same at only)
 
     -- fetching the question's terms reads only blocks that her query may read, also where it fails

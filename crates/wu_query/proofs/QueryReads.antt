@@ -16,6 +16,7 @@ use Rattle.wu_lists.specs.declared.blocks.Block.{Block}
 use Rattle.wu_lists.specs.Blocks.{range_of}
 use Rattle.wu_lists.specs.Keeping.{Asks, Kept}
 use Rattle.wu_lists.proofs.Asking.{ranges-none}
+use Rattle.wu_parts.specs.Candidates.{terms_held}
 use Rattle.wu_parts.specs.Contents.{Contents}
 use Rattle.wu_query.specs.Causes.{IsBlobOf, IsDamagedOver}
 use Rattle.wu_query.specs.Asked.{blocks_for, terms_asked}
@@ -50,8 +51,8 @@ blob_of_block blob (block ∷ blocks) some = ⊎_elim (λ here. inl here) (λ la
 
 -- what a fetch answers is damage that the question may find
 pub cause_fetched : (frames : Frames) (question : Question) (contents : Contents) (files : Records) (holds : Option Content)
-    {terms : List (List ℕ)} → terms ≡ terms_asked question → {before now : ℕ} {ranges ranges_now : Option (List ReadRange)}
-    {trouble : Trouble} → IsCauseFor contents frames.ranges terms holds before now ranges ranges_now trouble
+    {terms : List (List ℕ)} → terms ≡ terms_asked (terms_held contents) question → {before now : ℕ}
+    {ranges ranges_now : Option (List ReadRange)} {trouble : Trouble} → IsCauseFor contents frames.ranges terms holds before now ranges ranges_now trouble
     → IsCause (IsDamagedOver frames question contents files holds) before now ranges ranges_now trouble
 cause_fetched frames question contents files holds same cause = record {
   kept = cause.counted;
@@ -70,8 +71,8 @@ cause_fetched frames question contents files holds same cause = record {
 -- over the frames that were made for the user
 pub reads_for : (fs : FileSystem) (live : Ranges) (uid : ℕ) (question : Question) (contents : Contents) (kept : Kept) (files : Records)
     (holds : Option Content) (before after : Option (List ReadRange)) (frames : Frames) → AreFrames fs live uid frames
-    → ReadsInTurn (blocks_for contents frames.ranges (terms_asked question)) (AreTextsOf frames contents files holds question) holds
-    contents.kept kept before after
+    → ReadsInTurn (blocks_for contents frames.ranges (terms_asked (terms_held contents) question))
+    (AreTextsOf frames contents files holds question) holds contents.kept kept before after
     → ReadsForQuery fs live uid question contents kept (λ texts. AreTexts holds files question texts × ((s : State) → fs ≡ s.tree
     → IsIndexOf live s → TellsPostings contents holds s → KeepsTexts files holds s → texts ≡ texts_read s uid question)) holds before after
 reads_for fs live uid question contents kept files holds before after frames hers reads = record {
@@ -111,8 +112,8 @@ module _ {T : Type 0} (r : Result T Trouble) where
 
   -- a trouble of the fetch
   pub cause_of_fetch : (frames : Frames) (question : Question) (contents : Contents) (files : Records) (holds : Option Content)
-      {trouble : Trouble} → IsErrAnd r (λ error. error ≡ trouble) → {terms : List (List ℕ)} → terms ≡ terms_asked question
-      → {before now : ℕ} {ranges ranges_now : Option (List ReadRange)}
+      {trouble : Trouble} → IsErrAnd r (λ error. error ≡ trouble) → {terms : List (List ℕ)}
+      → terms ≡ terms_asked (terms_held contents) question → {before now : ℕ} {ranges ranges_now : Option (List ReadRange)}
       → IsCauseFor contents frames.ranges terms holds before now ranges ranges_now trouble
       → IfErr r (IsCause (IsDamagedOver frames question contents files holds) before now ranges ranges_now)
   cause_of_fetch frames question contents files holds {trouble} is same cause =

@@ -3,6 +3,7 @@ use Rattle.std.proofs.lemmas.Result.{on_ok_weaker}
 use Rattle.wu_ask.specs.Questions.{Counting, ListingPaths, Ranking}
 use Rattle.wu_gcl.specs.Regions.{region_of}
 use Rattle.wu_lists.proofs.Asking.{asks-none}
+use Rattle.wu_parts.specs.Candidates.{terms_held}
 use Rattle.wu_query.specs.Asked.{blocks_for, terms_asked}
 use Rattle.wu_query.proofs.AnswerLemmas.{if_ok, paths_listed}
 use Rattle.wu_query.proofs.FirstLines.{none_counted, none_listed, none_ranked}
@@ -23,7 +24,7 @@ returns-in-Count-clause-reads g c =
     let question = Counting (region_of c.in-Count.expr) in
     rw c.in-Count.is
     (on_ok_weaker c.count.result
-    (blocks_alone question (blocks_for parts frames.ranges (terms_asked question)) frames parts c.args.files.now.entries
+    (blocks_alone question (blocks_for parts frames.ranges (terms_asked (terms_held parts) question)) frames parts c.args.files.now.entries
     (g.D.Store.holds c.args.store.now) parts.kept c.count.new.parts.kept (g.D.Store.reads c.args.store.now)
     (g.D.Store.reads c.count.new.store) (λ s uid. none_counted s uid (region_of c.in-Count.expr)))
     c.count.ensures.blocks)
@@ -64,7 +65,7 @@ returns-in-Rank-clause-reads g c =
     let question = Ranking c.in-Rank.k (region_of c.in-Rank.unit) c.in-Rank.words in
     rw c.in-Rank.is
     (on_ok_weaker c.ranked.result
-    (blocks_alone question (blocks_for parts frames.ranges (terms_asked question)) frames parts c.args.files.now.entries
+    (blocks_alone question (blocks_for parts frames.ranges (terms_asked (terms_held parts) question)) frames parts c.args.files.now.entries
     (g.D.Store.holds c.args.store.now) parts.kept c.ranked.new.parts.kept (g.D.Store.reads c.args.store.now)
     (g.D.Store.reads c.ranked.new.store) (λ s uid. none_ranked s uid c.in-Rank.k (region_of c.in-Rank.unit) c.in-Rank.words))
     (rw c.as_slice.ensures at c.ranked.ensures.blocks))
