@@ -19,7 +19,7 @@ once_is_once words =
     sym (sorted_once_is nat_list_cmp_total exact_bytes (once words) (once words) (sorted-sorted_once nat_list_cmp_total exact_bytes words)
     (λ q has. has) (λ q has. has))
 
-once_with : (words more : List (List ℕ)) → once (words ++ more) ≡ once (once words ++ more)
+pub once_with : (words more : List (List ℕ)) → once (words ++ more) ≡ once (once words ++ more)
 once_with words more =
     fold-append (insert_key (slice_cmp nat_cmp)) [] words more
     ∙ (ap (λ (ks : List (List ℕ)). fold (insert_key (slice_cmp nat_cmp)) ks more) (sym (once_is_once words))

@@ -10,7 +10,7 @@ use Rattle.std.proofs.lemmas.Bool.Decides.{nat_tests}
 use Rattle.std.proofs.lemmas.Bool.{ltb-true, ltb-false}
 use Rattle.std.proofs.lemmas.Cmp.{nat_cmp_total, ranked}
 use Rattle.std.proofs.lemmas.List.{drop_more}
-use Rattle.std.proofs.lemmas.List.Sorted.{IsNonDecreasingBy-from_sort}
+use Rattle.std.proofs.lemmas.List.Sorted.{IsNonDecreasingBy-drop, IsNonDecreasingBy-from_sort}
 use Rattle.std.proofs.lemmas.List.Sums.{sum_by-cons}
 use Rattle.wu_base.specs.declared.addresses.Range.{Range}
 use Rattle.wu_base.proofs.SortedLists.{IsSorted-from_strict}
@@ -107,10 +107,15 @@ frames_below limit (frame ∷ frames) front rest s a =
     ∙ (ap₂ (λ (m n : ℕ). m + n) (ap (λ b. cond b 1 0) (none_below frame front rest (still_below limit frame.start front s.0 a)))
     (frames_below limit frames front rest s.1 a) ∙ sym (one_more frame frames rest))
 
-starts_drop : (i : ℕ) (frames : List Range) → StartInOrder frames → StartInOrder (drop i frames)
-starts_drop zero frames o = o
-starts_drop (suc i) [] o = tt
-starts_drop (suc i) (frame ∷ frames) o = starts_drop i frames o.1
+each_from : (low : ℕ) (frames : List Range) → ((i : ℕ) (d : Range) → i < length frames → low ≤ (get_or frames i d).start)
+    → AllByRecursion (λ frame. low ≤ frame.start) frames
+each_from low [] from = tt
+each_from low (frame ∷ frames) from =
+    (from 0 frame (omega arith), each_from low frames (λ i d within. from (suc i) d (omega arith)))
+
+-- none of those that are left starts before the next one
+later_starts : (frame : Range) (left : List Range) → StartInOrder (frame ∷ left) → AllByRecursion (λ later. frame.start ≤ later.start) left
+later_starts frame left o = each_from frame.start left (λ i d within. o 0 (suc i) d (omega arith) (omega arith))
 
 -- what is left is counted with the next frame, and the addresses below its start are left out
 pub next_frame : (frames : List Range) (i : ℕ) (d : Range) (rest front later : List ℕ) → i < length frames → StartInOrder frames
@@ -121,11 +126,11 @@ next_frame frames i d rest front later within o is below =
     let frame = get_or frames i d in
     let left = drop (i + 1) frames in
     let cut : drop i frames ≡ frame ∷ left = drop_more frames i d within in
-    let order : StartInOrder (frame ∷ left) = subst StartInOrder cut (starts_drop i frames o) in
+    let order : StartInOrder (frame ∷ left) = subst StartInOrder cut (IsNonDecreasingBy-drop (λ (f : Range). f.start) i frames o) in
     ap₂ frames_with cut is
     ∙ (one_more frame left (front ++ later)
     ∙ ap₂ (λ (m n : ℕ). m + n) (ap (λ b. cond b 1 0) (none_below frame front later below))
-    (frames_below frame.start left front later order.0 below))
+    (frames_below frame.start left front later (later_starts frame left order) below))
 
 pub counted_next : (b : Bool) (count new before after total : ℕ) → count + before ≡ total → before ≡ cond b 1 0 + after
     → new ≡ cond b (count + 1) count → new + after ≡ total

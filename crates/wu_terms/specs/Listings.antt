@@ -1,6 +1,6 @@
 -- What is shown of a user's terms.
-use Rattle.std.specs.Prelude.{◌≤◌, Bool, List, [], ◌∷◌, if◌then◌else◌}
-use Rattle.std.specs.List.{AllByRecursion}
+use Rattle.std.specs.Prelude.{Bool, List, if◌then◌else◌}
+use Rattle.std.specs.List.Sorted.{IsNonDecreasingBy}
 use Rattle.wu_base.specs.declared.addresses.Range.{Range}
 use Rattle.wu_terms.specs.declared.listing.TermFiles.{TermFiles}
 use Rattle.wu_terms.specs.Terms.{top_of}
@@ -11,5 +11,4 @@ in_order top lines = if top then top_of lines else lines
 
 -- no frame starts before one that stands before it
 abbrev pub StartInOrder : List Range → Type 0
-StartInOrder [] = Unit {0}
-StartInOrder (frame ∷ frames) = AllByRecursion (λ later. frame.start ≤ later.start) frames × StartInOrder frames
+StartInOrder frames = IsNonDecreasingBy (λ frame. frame.start) frames
