@@ -2,6 +2,7 @@ pub mod Moving
 pub mod Putting
 pub mod Gaining
 pub mod Chaining
+pub mod MoreCandidates
 pub mod SortedTerms
 pub mod LeadingLemmas
 pub mod LiveTerms

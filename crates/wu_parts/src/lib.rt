@@ -4,6 +4,7 @@
 #![tactic(auto)]
 
 mod background;
+mod candidates;
 mod chains;
 mod fetching;
 mod flushing;

@@ -1,11 +1,13 @@
 //! Postings in memory.
 ghost use Rattle.std.specs.Prelude.{◌≡◌, ℕ, List, [], ◌+◌, ◌-◌, ◌++◌, ◌^◌, ◌<◌, ◌≤◌, All, length, map, filter, OnOk, OnErr, IfOk};
+ghost use Rattle.std.specs.Map.{keys_of};
 ghost use Rattle.wu_layout.specs.Layouts.{lists_of};
 ghost use Rattle.wu_layout.specs.Postings.{Posting, is_live, live_of};
 ghost use Rattle.wu_base.specs.Ranges.{AreApart};
 ghost use Rattle.wu_token.specs.Words.{IsTerm};
 ghost use Rattle.wu_token.specs.Tokens.{tokens_of};
 ghost use Rattle.wu_token.specs.Pieces.{line_terms, piece_of};
+ghost use Rattle.wu_parts.specs.Candidates.{GainsCandidates};
 ghost use Rattle.wu_parts.specs.Memory.{HasPostings, emptied, held, no_postings};
 ghost use Rattle.wu_lists.specs.Ascending.{AscendBetween, AreInOrder};
 ghost use Rattle.wu_lists.specs.Tallying.{Counts};
@@ -22,6 +24,7 @@ use wu_base::{ADDRESSES_MAX, NoMemory, Range, Sequence, TEXT_MAX};
 use wu_lists::{Tally, put_within, tally_within};
 use wu_part::Builder;
 use wu_space::Space;
+use wu_terms::Candidates;
 use wu_token::{FILE_END, FILE_START, LINE_END, LINE_START, Lines, Piece, Token, Word};
 
 /// The postings that are in memory, as chains of the addresses from `start` on: an address that no posting
@@ -189,6 +192,16 @@ impl MemoryPostings {
         let live = space.live_ranges(self.start, self.end())?;
         let entries = by_term(self.alloc, &self.chains)?;
         cut_to_live(self.alloc, &entries, &self.before, self.start, &live)
+    }
+
+    /// Adds the terms of which there are postings. Out of memory, some of them may have been added.
+    pub(crate) fn add_terms(&self, words: &mut Candidates) -> Result<(), NoMemory>
+        ensures { OnOk result (GainsCandidates (keys_of self.now.lists) words.old words.new) }
+    {
+        for (term, _) in self.chains.iter() {
+            words.add_term(term.as_slice())?;
+        }
+        Ok(())
     }
 
     /// Forgets the postings, and gives their memory back. No address below the end is used again.
