@@ -1,14 +1,14 @@
 -- The first lines of files, and the texts that are read for them, file by file.
 use Rattle.std.proofs.Common.{◌≡◌, ℕ, zero, suc, ◌+◌, ◌-◌, ◌<◌, cond, List, [], ◌∷◌, ◌++◌, length, take, drop, min, get_or, refl, sym, ap}
 use Rattle.std.proofs.Common.{ap₂, ◌∙◌, ◌⊎◌, inl, inr, arith, append_assoc, length-append}
-use Rattle.std.specs.Prelude.{Option, Some, None, IfSome, nat_lt, option_map}
+use Rattle.std.specs.Prelude.{Bool, Option, Some, None, IfSome, nat_lt, option_map}
 use Rattle.std.specs.List.{flat_map}
 use Rattle.std.proofs.lemmas.List.{length-take, drop_more, take-map}
 use Rattle.wu_outside.specs.Content.{Content}
 use Rattle.wu_outside.specs.declared.ranges.ReadRange.{ReadRange}
 use Rattle.wu_lists.proofs.Asking.{ranges-none}
 use Rattle.wu_ask.specs.declared.Found.{Found}
-use Rattle.wu_ask.specs.Questions.{Counting, Ranking, ListingPaths}
+use Rattle.wu_ask.specs.Questions.{Counting, Ranking, ListingPaths, ListingTerms}
 use Rattle.wu_base.specs.declared.addresses.Extent.{Extent}
 use Rattle.wu_base.specs.declared.addresses.TermList.{TermList}
 use Rattle.wu_gcl.specs.Regions.{Region}
@@ -124,6 +124,10 @@ none_ranked s uid k unit words = refl
 pub none_listed : (s : State) (uid : ℕ) → texts_read s uid ListingPaths ≡ []
 unfolding texts_read
 none_listed s uid = refl
+
+pub none_of_terms : (s : State) (uid k : ℕ) (prefix : List ℕ) (top : Bool) → texts_read s uid (ListingTerms k prefix top) ≡ []
+unfolding texts_read
+none_of_terms s uid k prefix top = refl
 
 -- where there are as many lines as are asked for, or no file is left
 abbrev pub IsEnough : ℕ → List Found → List Seen → Type 0

@@ -172,7 +172,7 @@ module _ (live : Ranges) (s : State) (is : IsIndexOf live s) where
       (all_has (λ (f : Seen). is_file s.tree f.ino ≡ true) file (files_of s.tree uid) (view_of_files s.tree uid) has))
 
   -- the file's text is indexed at its live range
-  indexed_at : (ino : ℕ) (range : Range) → range_of live ino ≡ Some range
+  pub indexed_at : (ino : ℕ) (range : Range) → range_of live ino ≡ Some range
       → (range.len ≡ length (tokens_of (text_in s.texts ino)))
       × HasText (indexed (text_in s.texts ino)) range (postings_of s.layout.parts s.layout.memory)
   indexed_at ino range there =

@@ -157,8 +157,8 @@ module _ (ranges : List Range) (range : ReadRange) (term : List ℕ) where
       (λ (here : IsNeededBlockOf ranges term range part).
       Has-append_left term (all_terms part.postings) (all_terms (stored_in parts))
       (sorted_once_has nat_list_cmp_total exact_bytes term (all_terms part.postings)
-      (subst (Has term) (listed here.0 part.postings here.1.0.bytes here.1.0.spelled)
-      (entry_listed part.blob here.0.low here.0.terms here.1.1))))
+      (subst (Has term) (listed here.0 part.postings here.1.bytes here.1.spelled)
+      (entry_listed part.blob here.0.low here.0.terms here.2))))
       (λ (later : SomeOf (IsNeededBlockOf ranges term range) parts).
       Has-append_right term (all_terms part.postings) (all_terms (stored_in parts)) (stored_there parts later))
       some)

@@ -26,5 +26,8 @@ pub mod FilesWithExtents
 pub mod DamagedTexts
 pub mod QueryReads
 pub mod HeldTerms
+pub mod FoundWords
+pub mod WordsInFrames
+pub mod UserTerms
 pub mod PermittedBlocks
 pub mod PermittedTexts

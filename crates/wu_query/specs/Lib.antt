@@ -15,4 +15,5 @@ pub mod Permitted
 -- ---- What only private functions and proofs need
 
 pub mod Units
+pub mod TermLines
 pub mod Finding

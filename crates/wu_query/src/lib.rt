@@ -8,6 +8,7 @@ mod listing;
 mod querying;
 mod ranking;
 mod reading;
+mod terms;
 mod units;
 
 pub use querying::answered;

@@ -20,6 +20,7 @@ use crate::counting::count;
 use crate::finding::find;
 use crate::listing::paths;
 use crate::ranking::ranked;
+use crate::terms::user_terms;
 use std::alloc::Global;
 use std::collections::BTreeMap;
 use wu_ask::{Answered, Ask, Query};
@@ -122,7 +123,15 @@ fn answer<D: Store>(
             )
         }
         Ask::Paths => Ok(paths(alloc, frames.seen.as_slice())?),
-        Ask::Terms { .. } => Err(Trouble::NoMemory),
+        Ask::Terms { k, prefix, top } => user_terms(
+            alloc,
+            store,
+            frames,
+            parts,
+            *k,
+            prefix.as_slice(),
+            *top,
+        ),
         Ask::Export => Err(Trouble::NoMemory),
         Ask::Weighed { .. } => Err(Trouble::NoMemory),
     }

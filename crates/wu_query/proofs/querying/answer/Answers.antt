@@ -1,12 +1,12 @@
 use Rattle.std.proofs.Common.{◌∙◌, [], refl}
 use Rattle.std.proofs.lemmas.Result.{on_ok_weaker}
-use Rattle.wu_ask.specs.Questions.{Counting, ListingPaths, Ranking}
+use Rattle.wu_ask.specs.Questions.{Counting, ListingPaths, ListingTerms, Ranking}
 use Rattle.wu_gcl.specs.Regions.{region_of}
 use Rattle.wu_lists.proofs.Asking.{asks-none}
 use Rattle.wu_parts.specs.Candidates.{terms_held}
 use Rattle.wu_query.specs.Asked.{blocks_for, terms_asked}
 use Rattle.wu_query.proofs.AnswerLemmas.{if_ok, paths_listed}
-use Rattle.wu_query.proofs.FirstLines.{none_counted, none_listed, none_ranked}
+use Rattle.wu_query.proofs.FirstLines.{none_counted, none_listed, none_of_terms, none_ranked}
 use Rattle.wu_query.proofs.PermittedBlocks.{fetched_permitted}
 use Rattle.wu_query.proofs.QueryReads.{blocks_alone, cause_fetched, cause_of_memory}
 use Rattle.wu_query.proofs.ReadCauses.{if_err}
@@ -102,3 +102,37 @@ returns-in_ok-paths-in-Paths-clause-reads g c =
 
 pub returns-in_err-paths-in-Paths-clause-cause : goal.returns-in_err-paths-in-Paths-clause-cause
 returns-in_err-paths-in-Paths-clause-cause g c = cause_of_memory c.from_residual.result _ _ _ refl c.from_residual.ensures.1
+
+pub returns-in-Terms-clause-answer : goal.returns-in-Terms-clause-answer
+returns-in-Terms-clause-answer g c =
+    rw c.in-Terms.is
+    (if_ok c.user_terms.result (rw c.as_slice-in-Terms.ensures at c.user_terms.ensures.answer)
+    (λ answered known. λ s uid is tells keeps. known c.args.space.now.ranges s uid is tells))
+
+pub returns-in-Terms-clause-reads : goal.returns-in-Terms-clause-reads
+returns-in-Terms-clause-reads g c =
+    let frames = c.args.frames.now in
+    let parts = c.args.parts.now in
+    let question = ListingTerms c.in-Terms.k c.in-Terms.prefix c.in-Terms.top in
+    rw c.in-Terms.is
+    (on_ok_weaker c.user_terms.result
+    (blocks_alone question (blocks_for parts frames.ranges (terms_asked (terms_held parts) question)) frames parts
+    c.args.files.now.entries (g.D.Store.holds c.args.store.now) parts.kept c.user_terms.new.parts.kept
+    (g.D.Store.reads c.args.store.now) (g.D.Store.reads c.user_terms.new.store)
+    (λ s uid. none_of_terms s uid c.in-Terms.k c.in-Terms.prefix c.in-Terms.top))
+    (rw c.as_slice-in-Terms.ensures at c.user_terms.ensures.blocks))
+
+pub returns-in-Terms-clause-permitted : goal.returns-in-Terms-clause-permitted
+returns-in-Terms-clause-permitted g c = λ s uid is tells keeps.
+    rw c.in-Terms.is
+    (fetched_permitted c.args.frames.now c.args.space.now.ranges s uid is c.args.parts.now (g.D.Store.holds c.args.store.now) tells
+    (ListingTerms c.in-Terms.k c.in-Terms.prefix c.in-Terms.top) refl (g.D.Store.reads c.args.store.now)
+    (g.D.Store.reads c.user_terms.new.store) c.user_terms.result c.user_terms.new.parts.kept _ _
+    (rw c.as_slice-in-Terms.ensures at c.user_terms.ensures.blocks) (rw c.as_slice-in-Terms.ensures at c.user_terms.ensures.cause))
+
+pub returns-in-Terms-clause-cause : goal.returns-in-Terms-clause-cause
+returns-in-Terms-clause-cause g c =
+    rw c.in-Terms.is
+    (if_err c.user_terms.result (rw c.as_slice-in-Terms.ensures at c.user_terms.ensures.cause)
+    (λ trouble cause. cause_fetched c.args.frames.now (ListingTerms c.in-Terms.k c.in-Terms.prefix c.in-Terms.top) c.args.parts.now
+    c.args.files.now.entries (g.D.Store.holds c.args.store.now) refl cause))
