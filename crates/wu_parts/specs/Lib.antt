@@ -8,6 +8,7 @@ pub mod Units
 pub mod Working
 pub mod Causes
 pub mod Loading
+pub mod Candidates
 -- ---- What only private functions and proofs need
 
 pub mod Lists

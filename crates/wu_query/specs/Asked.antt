@@ -9,7 +9,8 @@ use Rattle.wu_base.specs.declared.addresses.Range.{Range}
 use Rattle.wu_gcl.specs.Extents.{hits}
 use Rattle.wu_gcl.specs.Regions.{Region, Phrase}
 use Rattle.wu_gcl.specs.Terms.{terms_in}
-use Rattle.wu_ask.specs.Questions.{Question, Counting, Finding, Ranking, ListingPaths}
+use Rattle.wu_terms.specs.Terms.{words_with}
+use Rattle.wu_ask.specs.Questions.{Question, Counting, Finding, Ranking, ListingPaths, ListingTerms, Exporting, Weighing}
 use Rattle.wu_lists.specs.declared.blocks.Block.{Block}
 use Rattle.wu_lists.specs.Keeping.{all_missing}
 use Rattle.wu_parts.specs.Contents.{Contents}
@@ -33,13 +34,16 @@ abbrev pub with_words : List (List ℕ) → List (List ℕ) → List (List ℕ)
 with_words terms [] = terms
 with_words terms (word ∷ words) = with_words (with_word terms word) words
 
--- The terms that a question asks for, in turn: those of its expression, and for a ranking then those of its words that aren't among
--- these, in the order of their first occurrence.
-abbrev pub terms_asked : Question → List (List ℕ)
-terms_asked (Counting region) = terms_of region
-terms_asked (Finding k region) = terms_of region
-terms_asked (Ranking k unit words) = with_words (terms_of unit) words
-terms_asked ListingPaths = []
+-- The terms that a question asks for, in turn, of an index with these terms: those of its expression, and for a ranking then those of
+-- its words that aren't among these, in the order of their first occurrence; for a list of terms the index's words with the prefix.
+abbrev pub terms_asked : List (List ℕ) → Question → List (List ℕ)
+terms_asked terms (Counting region) = terms_of region
+terms_asked terms (Finding k region) = terms_of region
+terms_asked terms (Ranking k unit words) = with_words (terms_of unit) words
+terms_asked terms ListingPaths = []
+terms_asked terms (ListingTerms k prefix top) = words_with prefix terms
+terms_asked terms Exporting = []
+terms_asked terms (Weighing k unit words) = with_words (terms_of unit) words
 
 -- the blocks that frames need of these terms: term by term, and part by part from left to right
 abbrev pub blocks_for : Contents → List Range → List (List ℕ) → List Block

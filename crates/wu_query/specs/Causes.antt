@@ -15,6 +15,7 @@ use Rattle.wu_lists.specs.declared.blocks.Block.{Block}
 use Rattle.wu_image.specs.Texts.{IsBrokenText}
 use Rattle.wu_parts.specs.Causes.{IsBrokenPart}
 use Rattle.wu_parts.specs.Contents.{Contents}
+use Rattle.wu_parts.specs.Candidates.{terms_held}
 use Rattle.wu_query.specs.Asked.{blocks_read, terms_asked}
 use Rattle.wu_query.specs.Permitted.{ReadsSuch}
 use Rattle.wu_query.specs.Reads.{ShowsNoText, texts_read}
@@ -57,7 +58,7 @@ IsDamagedPart blocks contents holds blob =
     SomeOf (λ block. block.blob ≡ blob) blocks × SomeOf (IsBrokenPart holds blob) (zip contents.parts contents.directories)
 
 -- A text of a file of the frames' user is broken in that blob, and the question has texts shown. Where frames, postings and records are
--- those of a state, it is the text of a file of which a line is shown.
+-- those of a state, it is the text of a file that is exported or of which a line is shown.
 pub record IsDamagedText (frames : Frames) (question : Question) (contents : Contents) (files : Records) (holds : Option Content) (blob : ℕ)
     : Type 0 where
   pub damaged : IsDamagedOf frames.seen files holds blob
@@ -68,7 +69,7 @@ pub record IsDamagedText (frames : Frames) (question : Question) (contents : Con
 -- Such a text, or a part of which a block was to be read that the frames need of the question's terms.
 abbrev pub IsDamagedOver : Frames → Question → Contents → Records → Option Content → ℕ → Type 0
 IsDamagedOver frames question contents files holds blob =
-    IsDamagedPart (blocks_read contents frames.ranges (terms_asked question)) contents holds blob
+    IsDamagedPart (blocks_read contents frames.ranges (terms_asked (terms_held contents) question)) contents holds blob
     ⊎ IsDamagedText frames question contents files holds blob
 
 -- Over the user's frames, for that tree and those live ranges.

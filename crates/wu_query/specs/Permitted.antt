@@ -1,11 +1,11 @@
 -- Which ranges of the store a query may read. A range is the whole of a block or of a text.
-use Rattle.std.specs.Prelude.{◌≡◌, ℕ, List, ◌++◌, Option, filter_map, option_map}
+use Rattle.std.specs.Prelude.{◌≡◌, ℕ, List, ◌++◌, Option, filter_map, map, option_map}
 use Rattle.std.specs.List.{AllByRecursion}
 use Rattle.wu_base.specs.declared.addresses.PartRec.{PartRec}
 use Rattle.wu_base.specs.declared.addresses.Range.{Range}
 use Rattle.wu_outside.specs.declared.ranges.ReadRange.{ReadRange}
 use Rattle.wu_layout.specs.Invariants.{SomeOf}
-use Rattle.wu_layout.specs.Layouts.{IsRecordOf, Part, lists_of, ranges_by_number}
+use Rattle.wu_layout.specs.Layouts.{IsRecordOf, Part, lists_of, postings_of, ranges_by_number}
 use Rattle.wu_part.specs.Directories.{PartDirectory}
 use Rattle.wu_part.specs.Parts.{IsRecorded, SpellsPart}
 use Rattle.wu_lists.specs.declared.blocks.Block.{Block}
@@ -50,12 +50,18 @@ IsNeededBlockOf ranges term range part =
 abbrev pub live_ranges_of : State → ℕ → List Range
 live_ranges_of s uid = filter_map (λ file. live_range_of (ranges_by_number s.layout.files) file.ino) (files_of s.tree uid)
 
+-- the terms of which there are postings
+abbrev pub terms_indexed : State → List (List ℕ)
+terms_indexed s = map (λ posting. posting.term) (postings_of s.layout.parts s.layout.memory)
+
 -- a block of one of the question's terms that meets a live range of a file of the user's view
 abbrev pub IsBlockForQuery : State → ℕ → Question → ReadRange → Type 0
 IsBlockForQuery s uid question range =
-    SomeOf (λ term. SomeOf (IsNeededBlockOf (live_ranges_of s uid) term range) s.layout.parts) (terms_asked question)
+    SomeOf (λ term. SomeOf (IsNeededBlockOf (live_ranges_of s uid) term range) s.layout.parts)
+    (terms_asked (terms_indexed s) question)
 
--- For a query: such blocks, and then the texts of the files of which a line is shown, each once, or the first ones of these.
+-- For a query: such blocks, and then the texts of the files of which a line is shown, or which are exported, each once, or the first
+-- ones of these.
 pub record AreReadForQuery (s : State) (uid : ℕ) (question : Question) (read : List ReadRange) : Type 0 where
   pub blocks : List ReadRange
   pub needed : AllByRecursion (IsBlockForQuery s uid question) blocks

@@ -1,7 +1,8 @@
--- Which ranges of the store a query reads: blocks of its terms, and then the texts of the files of which a line is shown.
+-- Which ranges of the store a query reads: blocks of its terms, and then the texts of the files of which a line is shown, or which are
+-- exported.
 use Rattle.std.specs.Prelude.{◌≡◌, ⊤, ℕ, ◌-◌, ◌==◌, nat_lt, min, List, [], ◌∷◌, ◌++◌, length, Option, None, Some, IfSome, option_map}
 use Rattle.std.specs.Prelude.{if◌then◌else◌}
-use Rattle.std.specs.List.{AllByRecursion}
+use Rattle.std.specs.List.{AllByRecursion, flat_map}
 use Rattle.wu_outside.specs.declared.ranges.ReadRange.{ReadRange}
 use Rattle.wu_outside.specs.Content.{Content}
 use Rattle.wu_layout.specs.Invariants.{SomeOf}
@@ -11,13 +12,14 @@ use Rattle.wu_lists.specs.declared.blocks.Block.{Block}
 use Rattle.wu_lists.specs.Keeping.{Asks, Kept}
 use Rattle.wu_view.specs.declared.Seen.{Seen}
 use Rattle.wu_view.specs.Views.{view_of as files_of}
-use Rattle.wu_ask.specs.Questions.{Question, Counting, Finding, Ranking, ListingPaths}
+use Rattle.wu_ask.specs.Questions.{Question, Counting, Finding, Ranking, ListingPaths, ListingTerms, Exporting, Weighing}
 use Rattle.wu_token.specs.Tokens.{tokens_of}
 use Rattle.wu_tree.specs.FileSystems.{FileSystem}
 use Rattle.wu_space.specs.Addresses.{Ranges}
 use Rattle.wu_parts.specs.Contents.{Contents}
 use Rattle.wu_frames.specs.declared.Frames.{Frames}
 use Rattle.wu_frames.specs.UserFrames.{AreFrames}
+use Rattle.wu_parts.specs.Candidates.{terms_held}
 use Rattle.wu_query.specs.Asked.{blocks_for, terms_asked}
 use Rattle.wu_query.specs.States.{State, text_in}
 use Rattle.wu_query.specs.View.{shown_of}
@@ -51,13 +53,19 @@ texts_read s uid (Finding k region) =
     texts_shown (λ file. length (hits_in region (shown_of s.texts file))) (text_of_file s) k (files_of s.tree uid)
 texts_read s uid (Ranking k unit words) = []
 texts_read s uid ListingPaths = []
+texts_read s uid (ListingTerms k prefix top) = []
+texts_read s uid Exporting = flat_map (text_of_file s) (files_of s.tree uid)
+texts_read s uid (Weighing k unit words) = []
 
--- the question has no line of a text shown
+-- the question has no text shown, and no line of one
 abbrev pub ShowsNoText : Question → Type 0
 ShowsNoText (Counting region) = ⊤
 ShowsNoText (Finding k region) = k ≡ 0
 ShowsNoText (Ranking k unit words) = ⊤
 ShowsNoText ListingPaths = ⊤
+ShowsNoText (ListingTerms k prefix top) = ⊤
+ShowsNoText Exporting = ⊥
+ShowsNoText (Weighing k unit words) = ⊤
 
 -- the text is there, as long as was recorded, and has as many tokens as the range of its file is long
 abbrev pub IsWholeText : FileRec → Option (List ℕ) → Type 0
@@ -92,4 +100,5 @@ pub record ReadsForQuery (fs : FileSystem) (live : Ranges) (uid : ℕ) (question
     (Texts : List ReadRange → Type 0) (holds : Option Content) (before after : Option (List ReadRange)) : Type 0 where
   pub frames : Frames
   pub hers : AreFrames fs live uid frames
-  pub reads : ReadsInTurn (blocks_for contents frames.ranges (terms_asked question)) Texts holds contents.kept kept before after
+  pub reads : ReadsInTurn (blocks_for contents frames.ranges (terms_asked (terms_held contents) question)) Texts holds contents.kept kept
+      before after

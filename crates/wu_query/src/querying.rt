@@ -3,6 +3,7 @@ ghost use Rattle.std.specs.Prelude.{◌≡◌, ℕ, IfOk, IfErr, OnOk};
 ghost use Rattle.std.specs.List.{AllByRecursion};
 ghost use Rattle.wu_ask.specs.Questions.{question_of, IsSoundAsk};
 ghost use Rattle.wu_frames.specs.UserFrames.{HasAsked};
+ghost use Rattle.wu_parts.specs.Candidates.{terms_held};
 ghost use Rattle.wu_query.specs.Answer.{answer};
 ghost use Rattle.wu_query.specs.Asked.{blocks_for, terms_asked};
 ghost use Rattle.wu_query.specs.Causes.{IsDamagedFor, IsDamagedOver};
@@ -90,7 +91,8 @@ fn answer<D: Store>(
     ensures answer { IfOk result (λ answered. (s : State) (uid : ℕ) → Indexes frames.now space.now.ranges s uid
         → TellsPostings parts.old (D.holds store.old) s → KeepsTexts files.now.entries (D.holds store.old) s
         → answered ≡ answer (view_of s uid) (question_of ask.now)) }
-    ensures reads { OnOk result (ReadsInTurn (blocks_for parts.old frames.now.ranges (terms_asked (question_of ask.now)))
+    ensures reads { OnOk result (ReadsInTurn (blocks_for parts.old frames.now.ranges
+        (terms_asked (terms_held parts.old) (question_of ask.now)))
         (AreTextsOf frames.now parts.old files.now.entries (D.holds store.old) (question_of ask.now))
         (D.holds store.old) parts.old.kept parts.new.kept (D.reads store.old) (D.reads store.new)) }
     ensures permitted { (s : State) (uid : ℕ) → Indexes frames.now space.now.ranges s uid
@@ -120,5 +122,8 @@ fn answer<D: Store>(
             )
         }
         Ask::Paths => Ok(paths(alloc, frames.seen.as_slice())?),
+        Ask::Terms { .. } => Err(Trouble::NoMemory),
+        Ask::Export => Err(Trouble::NoMemory),
+        Ask::Weighed { .. } => Err(Trouble::NoMemory),
     }
 }
