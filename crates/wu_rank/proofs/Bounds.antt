@@ -1,28 +1,27 @@
 -- The bounds of scores, and the units that they leave to be weighed.
-use Rattle.std.proofs.Common.{◌≡◌, ℕ, suc, ◌+◌, ◌-◌, ◌*◌, ◌/◌, ◌^◌, ◌<◌, ◌≤◌, Bool, true, false, cond, eqb, ltb, leb, ◌||◌, ◌&&◌}
-use Rattle.std.proofs.Common.{Option, Some, None, List, [], ◌∷◌, ◌++◌, length, get_or, take, drop, map, refl, sym, subst, ap, ap₂, ◌∙◌, inl}
+use Rattle.std.proofs.Common.{◌≡◌, ℕ, ◌+◌, ◌-◌, ◌*◌, ◌/◌, ◌^◌, ◌<◌, ◌≤◌, Bool, true, false, cond, eqb, ltb, leb, ◌||◌, ◌&&◌}
+use Rattle.std.proofs.Common.{Option, Some, None, List, [], ◌∷◌, ◌++◌, length, take, map, refl, sym, subst, ap, ap₂, ◌∙◌}
 use Rattle.std.proofs.Common.{⊎_elim}
 use Rattle.std.proofs.Common.{min, append_assoc, arith}
 use Rattle.std.specs.List.{AllByRecursion, list_any, filter}
 use Rattle.std.proofs.lemmas.Bool.{cases_eq, cases_lt, lt-ltb, ltb-false, or_parts, cond_both, cond-true, cond-false, eq-eqb, ne_eqb}
-use Rattle.std.proofs.lemmas.List.{get_or-take, get_or_past, length-take, drop_more, take_at}
+use Rattle.std.proofs.lemmas.List.{get_or-take, get_or_past, length-take, take_at}
 use Rattle.std.proofs.lemmas.List.Sums.{sum_by-cons, sum_by-append, sum_by-le-sum_by}
 use Rattle.std.proofs.Math.Nat.{add-zero}
 use Rattle.wu_base.specs.declared.addresses.TermList.{TermList}
 use Rattle.wu_rank.specs.declared.entries.Entry.{Entry}
 use Rattle.wu_rank.specs.declared.results.Unit.{Unit as RankedUnit}
 use Rattle.wu_rank.specs.declared.results.Ranked.{Ranked}
-use Rattle.wu_rank.specs.Bm25.{weigh}
 use Rattle.wu_rank.specs.Choices.{ranked_or_none}
 use Rattle.wu_rank.specs.Entries.{with_entry, entries, times_in, unit_at, sparse_sum}
 use Rattle.wu_rank.specs.Order.{listed}
-use Rattle.wu_rank.specs.Pruning.{bound_part, bound, last_score, reaching, bound_if_listed, bounded, summed_weights, scored_at, reaching_at}
-use Rattle.wu_rank.specs.Scores.{has, count_at, holders, idf_of, length_of, total_length, part, score, holds, scored, all_listed}
+use Rattle.wu_rank.specs.Pruning.{bound_part, bound, last_score, reaching, bound_if_listed, bounded, reaching_at}
+use Rattle.wu_rank.specs.Scores.{has, count_at, holders, idf_of, length_of, total_length, part, score, holds}
 use Rattle.wu_rank.proofs.Counts.{times-some, times-none}
-use Rattle.wu_rank.proofs.Parts.{part-some, part-nothing, holds-append}
-use Rattle.wu_rank.proofs.Sparse.{all_hold, all_listed_by, entries-agree, place_of}
+use Rattle.wu_rank.proofs.Parts.{part-nothing, holds-append}
+use Rattle.wu_rank.proofs.Sparse.{entries-agree, place_of}
 use Rattle.wu_rank.proofs.Sums.{sum_of, sum-entries}
-use Rattle.wu_rank.proofs.Weights.{weigh-le, weigh-zero}
+use Rattle.wu_rank.proofs.Weights.{weigh-le}
 
 -- ---- the bounds of one word
 
@@ -103,11 +102,6 @@ kept_small most kept bounds rest counts l e m =
     subst (λ (es : List Entry). AllByRecursion (λ e. e.value ≤ 2 ^ 24) es) (sym (take_at bounds rest kept l ∙ e))
     (bounds_small most counts m)
 
-pub rare_too : (idfs : List ℕ) (idf : ℕ) → idf ≤ 2 ^ 22 → AllByRecursion (λ i. i ≤ 2 ^ 22) idfs
-    → AllByRecursion (λ i. i ≤ 2 ^ 22) (idfs ++ idf ∷ [])
-rare_too [] idf l a = (l, tt)
-rare_too (i ∷ idfs) idf l a = (a.0, rare_too idfs idf l a.1)
-
 -- ---- the bounds of some words, and of others
 
 bound-nothing : (units : List RankedUnit) (unit : RankedUnit) (words : List TermList) → holds count_at words unit ≡ false
@@ -158,19 +152,6 @@ summed_bounds units lists some others one other sum a b w e =
     (bound_if_listed count_at units (some ++ others)) (sum_of-bounds units some others) (length units) units
     ∙ ap (λ (ls : List TermList). entries (bound_if_listed count_at units ls) (length units) units) w
 
-map-append : (f : TermList → ℕ) (some others : List TermList) → map f (some ++ others) ≡ map f some ++ map f others
-map-append f [] others = refl
-map-append f (list ∷ some) others = ap (λ (idfs : List ℕ). f list ∷ idfs) (map-append f some others)
-
--- what the words of both halves put behind others
-pub both_put : (f : TermList → ℕ) (before middle after : List ℕ) (lists some others : List TermList) → middle ≡ before ++ map f some
-    → after ≡ middle ++ map f others → some ++ others ≡ lists → after ≡ before ++ map f lists
-both_put f before middle after lists some others e g w =
-    g
-    ∙ ap (λ (idfs : List ℕ). idfs ++ map f others) e
-    ∙ append_assoc before (map f some) (map f others)
-    ∙ ap (λ (idfs : List ℕ). before ++ idfs) (sym (map-append f some others) ∙ ap (map f) w)
-
 -- ---- a score is within its bound
 
 part-within : (units : List RankedUnit) (unit : RankedUnit) (word : TermList)
@@ -195,107 +176,23 @@ pub score-le : (units : List RankedUnit) (words : List TermList) (unit : RankedU
 unfolding score bound
 score-le units words unit = sum_by-le-sum_by (part count_at units unit) (bound_part count_at units unit) words (part-le units unit)
 
-pub scores_within : (units : List RankedUnit) (lists : List TermList)
-    → AllByRecursion (λ e. score count_at units lists (unit_at units e.unit) ≤ e.value)
-    (entries (bound_if_listed count_at units lists) (length units) units)
-scores_within units lists =
-    all_hold units (bound_if_listed count_at units lists) (λ e. score count_at units lists (unit_at units e.unit) ≤ e.value)
-    (λ place v l s.
-    let is : v ≡ bound count_at units lists (unit_at units place) = valued (holds count_at lists (unit_at units place)) _ v s in
-    omega (arith, is, score-le units lists (unit_at units place)))
-  where
-    valued : (b : Bool) (n v : ℕ) → cond b (Some n) None ≡ Some v → v ≡ n
-    valued true n v s = cc
-    valued false n v s = cc
-
--- ---- a unit is weighed
-
-weight-none : (units : List RankedUnit) (unit : RankedUnit) (word : TermList) → holders count_at units word ≡ 0
-    → weigh (idf_of count_at units word) (count_at word unit) (length_of unit.extent) (length units) (total_length units)
-    ≡ part count_at units unit word
-unfolding part idf_of
-weight-none units unit word e =
-    rw e (weigh-zero 0 (count_at word unit) (length_of unit.extent) (length units) (total_length units) (inl refl))
-
-weight-is : (units : List RankedUnit) (unit : RankedUnit) (word : TermList)
-    → weigh (idf_of count_at units word) (count_at word unit) (length_of unit.extent) (length units) (total_length units)
-    ≡ part count_at units unit word
-weight-is units unit word =
-    ⊎_elim
-    (λ (h : 0 < holders count_at units word). part-some units unit word h)
-    (λ (h : holders count_at units word ≤ 0). weight-none units unit word (omega arith))
-    (cases_lt 0 (holders count_at units word))
-
-pub weights_summed : (units : List RankedUnit) (unit : RankedUnit) (n t : ℕ) → n ≡ length units → t ≡ total_length units
-    → (lists : List TermList) → summed_weights unit n t (map (idf_of count_at units) lists) lists ≡ score count_at units lists unit
-unfolding score
-weights_summed units unit n t e f [] = refl
-weights_summed units unit n t e f (list ∷ lists) =
-    ap₂ (λ (a b : ℕ). a + b)
-    (ap₂ (λ (m s : ℕ). weigh (idf_of count_at units list) (count_at list unit) (length_of unit.extent) m s) e f
-    ∙ weight-is units unit list)
-    (weights_summed units unit n t e f lists)
-    ∙ sym (sum_by-cons (part count_at units unit) list lists)
-
--- one more word
-pub weight_more : (unit : RankedUnit) (n t i d : ℕ) (e : TermList) (idfs : List ℕ) (lists : List TermList) (so_far weight whole : ℕ)
-    → i < length idfs → i < length lists
-    → weight ≡ weigh (get_or idfs i d) (count_at (get_or lists i e) unit) (length_of unit.extent) n t
-    → so_far + summed_weights unit n t (drop i idfs) (drop i lists) ≡ whole
-    → so_far + weight + summed_weights unit n t (drop (i + 1) idfs) (drop (i + 1) lists) ≡ whole
-weight_more unit n t i d e idfs lists so_far weight whole l m w before =
-    let split : summed_weights unit n t (drop i idfs) (drop i lists)
-    ≡ weigh (get_or idfs i d) (count_at (get_or lists i e) unit) (length_of unit.extent) n t
-    + summed_weights unit n t (drop (i + 1) idfs) (drop (i + 1) lists) =
-    ap₂ (λ (xs : List ℕ) (ys : List TermList). summed_weights unit n t xs ys) (drop_more idfs i d l) (drop_more lists i e m) in
-    omega (arith, split, w, before)
-
-pub nothing_more : (unit : RankedUnit) (n t : ℕ) (idfs : List ℕ) (lists : List TermList)
-    → summed_weights unit n t (drop (length lists) idfs) (drop (length lists) lists) ≡ 0
-nothing_more unit n t [] [] = refl
-nothing_more unit n t [] (list ∷ lists) = refl
-nothing_more unit n t (idf ∷ idfs) [] = refl
-nothing_more unit n t (idf ∷ idfs) (list ∷ lists) = nothing_more unit n t idfs lists
-
--- ---- the listed units, by the entries of their bounds
-
-pub scored_are : (units : List RankedUnit) (lists : List TermList)
-    → map (scored_at units lists) (entries (bound_if_listed count_at units lists) (length units) units) ≡ all_listed count_at units lists
-unfolding all_listed
-scored_are units lists =
-    all_listed_by units (bound_if_listed count_at units lists) (scored_at units lists)
-    (λ us. map (scored count_at units lists) (filter (holds count_at lists) us)) refl
-    (λ place rest l. by (holds count_at lists (unit_at units place)) place (bound count_at units lists (unit_at units place)) rest)
-  where
-    by : (b : Bool) (place most : ℕ) (rest : List RankedUnit)
-        → map (scored_at units lists) (with_entry place (cond b (Some most) None) [])
-        ++ map (scored count_at units lists) (filter (holds count_at lists) rest)
-        ≡ map (scored count_at units lists)
-        (cond b (unit_at units place ∷ filter (holds count_at lists) rest) (filter (holds count_at lists) rest))
-    by true place most rest = refl
-    by false place most rest = refl
-
-pub length-bounds : (units : List RankedUnit) (lists : List TermList)
-    → length (entries (bound_if_listed count_at units lists) (length units) units) ≡ length (all_listed count_at units lists)
-length-bounds units lists =
-    sym (length-mapped (scored_at units lists) (entries (bound_if_listed count_at units lists) (length units) units))
-    ∙ ap length (scored_are units lists)
-  where
-    length-mapped : (f : Entry → Ranked) (es : List Entry) → length (map f es) ≡ length es
-    length-mapped f [] = refl
-    length-mapped f (e ∷ es) = ap suc (length-mapped f es)
-
 -- ---- the units that are left
 
 module _ (units : List RankedUnit) (lists : List TermList) (least : ℕ) where
   abbrev Reaches : RankedUnit → Bool
   Reaches unit = holds count_at lists unit && leb least (bound count_at units lists unit)
 
+  one_kept : (c : Bool) (e : Entry) (u : RankedUnit) (some : List Entry) (kept : List RankedUnit) → unit_at units e.unit ≡ u
+      → map (λ (x : Entry). unit_at units x.unit) some ≡ kept
+      → map (λ (x : Entry). unit_at units x.unit) (cond c (e ∷ some) some) ≡ cond c (u ∷ kept) kept
+  one_kept true e u some kept f r = ap₂ (λ (v : RankedUnit) (vs : List RankedUnit). v ∷ vs) f r
+  one_kept false e u some kept f r = r
+
   one_reached : (b : Bool) (most place : ℕ) (u : RankedUnit) (rest : List Entry) (kept : List RankedUnit) → unit_at units place ≡ u
       → reaching_at units least rest ≡ kept
       → reaching_at units least (with_entry place (cond b (Some most) None) rest) ≡ cond (b && leb least most) (u ∷ kept) kept
   one_reached true most place u rest kept e r =
-      ap₂ (λ (v : RankedUnit) (vs : List RankedUnit). cond (leb least most) (v ∷ vs) vs) e r
+      one_kept (leb least most) (record { unit = place; value = most }) u (filter (λ (x : Entry). leb least x.value) rest) kept e r
   one_reached false most place u rest kept e r = r
 
   some_reached : (front us : List RankedUnit) → units ≡ front ++ us
@@ -333,14 +230,14 @@ last_of_first all k l =
         (λ (g : k ≤ n). absurd (h (omega arith)))
         (cases_lt n k)
 
-pub reaching-some : (units : List RankedUnit) (lists : List TermList) (k : ℕ) (best : List Ranked) (bounds : List Entry) → 0 < k
+pub reaching-some : (units : List RankedUnit) (lists : List TermList) (k : ℕ) (best : List Ranked) → 0 < k
     → best ≡ take k (listed count_at units lists)
-    → bounds ≡ entries (bound_if_listed count_at units lists) (length units) units
-    → reaching_at units (cond (eqb (length best) k) (ranked_or_none best (k - 1)).score 0) bounds ≡ reaching count_at units lists k
+    → reaching_at units (cond (eqb (length best) k) (ranked_or_none best (k - 1)).score 0)
+    (entries (bound_if_listed count_at units lists) (length units) units)
+    ≡ reaching count_at units lists k
 unfolding reaching last_score
-reaching-some units lists k best bounds l e b =
-    ap (λ (es : List Entry). reaching_at units (cond (eqb (length best) k) (ranked_or_none best (k - 1)).score 0) es) b
-    ∙ ap (λ (rs : List Ranked). reaching_at units (cond (eqb (length rs) k) (ranked_or_none rs (k - 1)).score 0)
+reaching-some units lists k best l e =
+    ap (λ (rs : List Ranked). reaching_at units (cond (eqb (length rs) k) (ranked_or_none rs (k - 1)).score 0)
     (entries (bound_if_listed count_at units lists) (length units) units)) e
     ∙ ap (λ (least : ℕ). reaching_at units least (entries (bound_if_listed count_at units lists) (length units) units))
     (last_of_first (listed count_at units lists) k l)

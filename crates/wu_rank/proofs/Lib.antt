@@ -7,6 +7,7 @@ pub mod Parts
 pub mod Sorting
 pub mod Orders
 pub mod FirstUnits
+pub mod Reached
 pub mod Shifting
 pub mod Reordering
 pub mod Bounds

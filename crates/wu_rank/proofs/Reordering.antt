@@ -1,5 +1,6 @@
 -- The order in which units are given doesn't matter to a ranking.
 use Rattle.std.proofs.Common.{◌≡◌, ℕ, ◌+◌, Bool, true, false, cond, List, [], ◌∷◌, map, refl, sym, ap, ap₂, ◌∙◌, eqb, ◌-◌, arith}
+use Rattle.std.proofs.Common.{◌*◌, ◌/◌, ◌&&◌, leb, length}
 use Rattle.std.specs.List.{sum_by, filter}
 use Rattle.std.specs.List.Sorted.{IsPermutation}
 use Rattle.std.proofs.lemmas.List.Sorted.{sum_by-IsPermutation, length_permutation}
@@ -10,6 +11,9 @@ use Rattle.wu_rank.specs.declared.results.Ranked.{Ranked}
 use Rattle.wu_rank.specs.Bm25.{weigh}
 use Rattle.wu_rank.specs.Scores.{has, holders, idf_of, length_of, total_length, part, score, holds, scored, all_listed}
 use Rattle.wu_rank.specs.Order.{in_order, listed}
+use Rattle.wu_rank.specs.Choices.{ranked_or_none}
+use Rattle.wu_rank.specs.Pruning.{bound_part, bound, last_score, reaching}
+use Rattle.wu_rank.proofs.Reached.{idf_alike, reaches, length-reaching}
 use Rattle.wu_rank.proofs.Sorting.{in_order-is, Ascends-from_sorted, same_if_sums}
 
 -- sums of equal terms
@@ -84,3 +88,30 @@ pub listed-IsPermutation : {W : Type 0} (count : W → RankedUnit → ℕ) (unit
 unfolding listed
 listed-IsPermutation count units other words p =
     in_order-same (all_listed count other words) (all_listed count units words) (sum_listed count units other words p)
+
+-- ---- which of them could be among the first
+
+bound_part_same : {W : Type 0} (count : W → RankedUnit → ℕ) (units other : List RankedUnit) → IsPermutation units other
+    → (unit : RankedUnit) (word : W) → bound_part count other unit word ≡ bound_part count units unit word
+unfolding bound_part idf_of
+bound_part_same count units other p unit word =
+    ap (λ (idf : ℕ). cond (has count word unit) (22 * idf / 10) 0)
+    (idf_alike _ _ _ _ (holders_same count units other word p) (length_permutation units other p))
+
+reaches_same : {W : Type 0} (count : W → RankedUnit → ℕ) (units other : List RankedUnit) (words : List W) (k : ℕ)
+    → IsPermutation units other → (unit : RankedUnit) → reaches count other words k unit ≡ reaches count units words k unit
+unfolding bound last_score
+reaches_same count units other words k p unit =
+    ap₂ (λ (least most : ℕ). holds count words unit && leb least most)
+    (ap (λ (rs : List Ranked). (ranked_or_none rs (k - 1)).score) (listed-IsPermutation count units other words p))
+    (sum_alike (bound_part count other unit) (bound_part count units unit) (bound_part_same count units other p unit) words)
+
+pub length-reaching-IsPermutation : {W : Type 0} (count : W → RankedUnit → ℕ) (units other : List RankedUnit) (words : List W) (k : ℕ)
+    → IsPermutation units other → length (reaching count other words k) ≡ length (reaching count units words k)
+length-reaching-IsPermutation count units other words k p =
+    length-reaching count other words k
+    ∙ ap (λ (n : ℕ). cond (eqb k 0) 0 n)
+    (sum_by-IsPermutation (λ unit. cond (reaches count other words k unit) 1 0) units other p
+    ∙ sum_alike (λ unit. cond (reaches count other words k unit) 1 0) (λ unit. cond (reaches count units words k unit) 1 0)
+    (λ unit. ap (λ (b : Bool). cond b 1 0) (reaches_same count units other words k p unit)) units)
+    ∙ sym (length-reaching count units words k)

@@ -1,5 +1,6 @@
 -- A ranking of units at other places, whose words are counted in another way, is the same ranking there.
 use Rattle.std.proofs.Common.{◌≡◌, ℕ, ◌+◌, ◌-◌, ◌<◌, Bool, true, false, cond, ◌||◌, List, [], ◌∷◌, map, refl, sym, ap, ap₂, ◌∙◌, arith, eqb}
+use Rattle.std.proofs.Common.{zero, suc, ◌*◌, ◌/◌, ◌&&◌, leb, length}
 use Rattle.std.specs.Cmp.{nat_cmp_is}
 use Rattle.std.proofs.lemmas.Cmp.{ranked}
 use Rattle.std.proofs.lemmas.Map.Lookups.{exact_unsigned}
@@ -16,6 +17,9 @@ use Rattle.wu_rank.specs.declared.results.Ranked.{Ranked}
 use Rattle.wu_rank.specs.Bm25.{weigh}
 use Rattle.wu_rank.specs.Scores.{has, holders, idf_of, length_of, total_length, part, score, holds, scored, all_listed}
 use Rattle.wu_rank.specs.Order.{compare_ranked, comes_before, in_order, listed}
+use Rattle.wu_rank.specs.Choices.{ranked_or_none}
+use Rattle.wu_rank.specs.Pruning.{bound_part, bound, last_score, reaching}
+use Rattle.wu_rank.proofs.Reached.{idf_alike, reaches, length-reaching}
 use Rattle.wu_rank.proofs.Orders.{in_order-map}
 
 -- the unit, where the file at each place starts at some address
@@ -157,3 +161,62 @@ unfolding listed all_listed
 listed_shifted count other start known units words agree =
     ap in_order (some_listed count other start known units words units agree agree)
     ∙ in_order-map (shifted_ranked start) (before_same start) (map (scored other units words) (filter (holds other words) units))
+
+-- ---- which of them could be among the first
+
+bound_part_same : {V W : Type 0} (count : V → RankedUnit → ℕ) (other : W → RankedUnit → ℕ) (start : ℕ → ℕ) (known : W → V)
+    (units : List RankedUnit) (unit : RankedUnit) (word : W) → AllByRecursion (Agrees count other start known) units
+    → Agrees count other start known unit
+    → bound_part count (map (shifted start) units) (shifted start unit) (known word) ≡ bound_part other units unit word
+unfolding bound_part idf_of
+bound_part_same count other start known units unit word all agrees =
+    ap₂ (λ (f idf : ℕ). cond (nat_lt 0 f) (22 * idf / 10) 0) (agrees word)
+    (idf_alike _ _ _ _ (holders_same count other start known units word all) (length-map units (shifted start)))
+
+bound_same : {V W : Type 0} (count : V → RankedUnit → ℕ) (other : W → RankedUnit → ℕ) (start : ℕ → ℕ) (known : W → V)
+    (units : List RankedUnit) (unit : RankedUnit) (words : List W) → AllByRecursion (Agrees count other start known) units
+    → Agrees count other start known unit
+    → bound count (map (shifted start) units) (map known words) (shifted start unit) ≡ bound other units words unit
+unfolding bound
+bound_same count other start known units unit [] all agrees = refl
+bound_same count other start known units unit (word ∷ words) all agrees =
+    sum_by-cons (bound_part count (map (shifted start) units) (shifted start unit)) (known word) (map known words)
+    ∙ ap₂ (λ (m n : ℕ). m + n) (bound_part_same count other start known units unit word all agrees)
+    (bound_same count other start known units unit words all agrees)
+    ∙ sym (sum_by-cons (bound_part other units unit) word words)
+
+score_at : (start : ℕ → ℕ) (rs : List Ranked) (i : ℕ)
+    → (ranked_or_none (map (shifted_ranked start) rs) i).score ≡ (ranked_or_none rs i).score
+score_at start [] i = refl
+score_at start (r ∷ rs) zero = refl
+score_at start (r ∷ rs) (suc i) = score_at start rs i
+
+last_same : {V W : Type 0} (count : V → RankedUnit → ℕ) (other : W → RankedUnit → ℕ) (start : ℕ → ℕ) (known : W → V)
+    (units : List RankedUnit) (words : List W) (k : ℕ) → AllByRecursion (Agrees count other start known) units
+    → last_score count (map (shifted start) units) (map known words) k ≡ last_score other units words k
+unfolding last_score
+last_same count other start known units words k all =
+    ap (λ (rs : List Ranked). (ranked_or_none rs (k - 1)).score) (listed_shifted count other start known units words all)
+    ∙ score_at start (listed other units words) (k - 1)
+
+some_reach : {V W : Type 0} (count : V → RankedUnit → ℕ) (other : W → RankedUnit → ℕ) (start : ℕ → ℕ) (known : W → V)
+    (units : List RankedUnit) (words : List W) (k : ℕ) (some : List RankedUnit) → AllByRecursion (Agrees count other start known) units
+    → AllByRecursion (Agrees count other start known) some
+    → count_by (reaches count (map (shifted start) units) (map known words) k) (map (shifted start) some)
+    ≡ count_by (reaches other units words k) some
+some_reach count other start known units words k [] all agree = refl
+some_reach count other start known units words k (unit ∷ some) all agree =
+    let here : reaches count (map (shifted start) units) (map known words) k (shifted start unit) ≡ reaches other units words k unit =
+    ap₂ (λ (b c : Bool). b && c) (holds_same count other start known unit words agree.0)
+    (ap₂ leb (last_same count other start known units words k all) (bound_same count other start known units unit words all agree.0)) in
+    count_by-cons (reaches count (map (shifted start) units) (map known words) k) (shifted start unit) (map (shifted start) some)
+    ∙ ap₂ (λ (b : Bool) (n : ℕ). cond b 1 0 + n) here (some_reach count other start known units words k some all agree.1)
+    ∙ sym (count_by-cons (reaches other units words k) unit some)
+
+pub length-reaching-shifted : {V W : Type 0} (count : V → RankedUnit → ℕ) (other : W → RankedUnit → ℕ) (start : ℕ → ℕ) (known : W → V)
+    (units : List RankedUnit) (words : List W) (k : ℕ) → AllByRecursion (Agrees count other start known) units
+    → length (reaching count (map (shifted start) units) (map known words) k) ≡ length (reaching other units words k)
+length-reaching-shifted count other start known units words k agree =
+    length-reaching count (map (shifted start) units) (map known words) k
+    ∙ ap (λ (n : ℕ). cond (eqb k 0) 0 n) (some_reach count other start known units words k units agree agree)
+    ∙ sym (length-reaching other units words k)

@@ -1,13 +1,10 @@
 -- Pruned ranking: a unit needs weighing only where the words that it holds may lift it among the first ones. The bounds are
 -- MaxScore's, over units: H. Turtle and J. Flood, Query evaluation: strategies and optimizations, 1995.
-use Rattle.std.specs.Prelude.{ℕ, ◌+◌, ◌-◌, ◌*◌, ◌/◌, ◌&&◌, ◌==◌, nat_le, if◌then◌else◌, Option, Some, None, List, [], ◌∷◌}
-use Rattle.std.specs.Prelude.{sum_by, filter}
-use Rattle.wu_base.specs.declared.addresses.TermList.{TermList}
+use Rattle.std.specs.Prelude.{ℕ, ◌-◌, ◌*◌, ◌/◌, ◌&&◌, ◌==◌, nat_le, if◌then◌else◌}
+use Rattle.std.specs.Prelude.{Option, Some, None, List, [], sum_by, map, filter}
 use Rattle.wu_rank.specs.declared.entries.Entry.{Entry}
 use Rattle.wu_rank.specs.declared.results.Unit.{Unit as RankedUnit}
-use Rattle.wu_rank.specs.declared.results.Ranked.{Ranked}
-use Rattle.wu_rank.specs.Bm25.{weigh}
-use Rattle.wu_rank.specs.Scores.{has, count_at, idf_of, holds, length_of, scored}
+use Rattle.wu_rank.specs.Scores.{has, idf_of, holds}
 use Rattle.wu_rank.specs.Order.{listed}
 use Rattle.wu_rank.specs.Choices.{ranked_or_none}
 use Rattle.wu_rank.specs.Entries.{unit_at}
@@ -46,19 +43,7 @@ bound_if_listed count units words unit = if holds count words unit then Some (bo
 abbrev pub bounded : ℕ → Entry → Entry
 bounded most entry = record { unit = entry.unit; value = most }
 
--- the weights of the words of the lists, by the inverse document frequency of each
-abbrev pub summed_weights : RankedUnit → ℕ → ℕ → List ℕ → List TermList → ℕ
-summed_weights unit n t [] lists = 0
-summed_weights unit n t (idf ∷ idfs) [] = 0
-summed_weights unit n t (idf ∷ idfs) (list ∷ lists) =
-    weigh idf (count_at list unit) (length_of unit.extent) n t + summed_weights unit n t idfs lists
-
--- the entry's unit with its score
-abbrev pub scored_at : List RankedUnit → List TermList → Entry → Ranked
-scored_at units lists entry = scored count_at units lists (unit_at units entry.unit)
-
 -- the units of the entries whose value is the least one or a higher one
 abbrev pub reaching_at : List RankedUnit → ℕ → List Entry → List RankedUnit
-reaching_at units least [] = []
-reaching_at units least (entry ∷ rest) =
-    if nat_le least entry.value then unit_at units entry.unit ∷ reaching_at units least rest else reaching_at units least rest
+reaching_at units least some =
+    map (λ entry. unit_at units entry.unit) (filter (λ entry. nat_le least entry.value) some)

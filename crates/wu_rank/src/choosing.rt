@@ -14,10 +14,10 @@ use wu_base::NoMemory;
 
 /// Of the units seen so far the first ones of a ranking, and maybe others.
 #[derive(Drop)]
-pub(crate) struct Choice {
-    pub ranked: Vec<Ranked>,
+struct Choice {
+    ranked: Vec<Ranked>,
     /// No unit of a lower score is one of the first.
-    pub least: u64,
+    least: u64,
 }
 
 /// The first `count` of the entries' units, in the order of a ranking, with the entries' values as their
@@ -43,7 +43,7 @@ pub(crate) fn choose(
 }
 
 /// The choice, where the entry's unit is seen too.
-pub(crate) fn with_entry(
+fn with_entry(
     alloc: Global,
     choice: Choice,
     units: &[Unit],

@@ -2,11 +2,9 @@
 //! optimal algorithm for unbounded searching, 1976.
 ghost use Rattle.std.specs.Prelude.{◌≡◌, ◌<◌, ◌≤◌, ◌++◌, length, take, drop};
 ghost use Rattle.std.specs.List.{AllByRecursion};
-ghost use Rattle.wu_rank.specs.Scores.{frequency};
 ghost use Rattle.wu_rank.specs.Sweeps.{AscendFrom, UnitsAscend};
 
 use crate::results::Unit;
-use wu_base::Extent;
 
 /// The addresses below the limit, and the others. Takes time logarithmic in the number of those below.
 pub(crate) fn split_below(addresses: &[u64], limit: u64) -> (&[u64], &[u64])
@@ -29,31 +27,6 @@ pub(crate) fn count_up_to(addresses: &[u64], last: u64) -> usize
         Some(limit) => count_below(addresses, limit),
         None => addresses.len(),
     }
-}
-
-/// How many of the addresses the extent has, and how many are below its start. Where these are known to be at least
-/// `place`, it takes time logarithmic in the number of the others up to the extent's end.
-pub(crate) fn frequency_from(addresses: &[u64], place: usize, extent: Extent) -> (u64, usize)
-    requires { AscendFrom 0 addresses.now }
-    ensures { result.0 ≡ frequency extent addresses.now }
-{
-    let skipped = place_below(addresses, place, extent.start);
-    let later = addresses.split_at(skipped).1;
-    let (before, from_start) = split_below(later, extent.start);
-    let count = count_up_to(from_start, extent.end) as u64;
-    (count, skipped.saturating_add(before.len()))
-}
-
-/// The place, if all addresses before it are below the limit, and else 0.
-fn place_below(addresses: &[u64], place: usize, limit: u64) -> usize
-    requires { AscendFrom 0 addresses.now }
-    ensures within { result ≤ length addresses.now }
-    ensures below { AllByRecursion (λ address. address < limit) (take result addresses.now) }
-{
-    if place > 0 && place <= addresses.len() && addresses[place - 1] < limit {
-        return place;
-    }
-    0
 }
 
 /// How many of the addresses are below the limit.

@@ -26,10 +26,11 @@ pub struct Ranking {
     pub top: Sequence<Ranked>,
 }
 
-/// A ranking, and the units that had to be weighed for it.
+/// A ranking, and the units that no bound rules out of it.
 #[derive(Clone, Debug, PartialEq, Eq, Drop)]
 pub struct Pruned {
     pub ranking: Ranking,
-    /// The listed units that may be among the first ones, by the words that they hold, in the order of the units.
+    /// The listed units that may be among the first ones, by the words that they hold, in the
+    /// order of the units.
     pub weighed: Sequence<Unit>,
 }

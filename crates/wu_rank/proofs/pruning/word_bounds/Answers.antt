@@ -1,4 +1,4 @@
-use Rattle.std.proofs.Common.{◌≡◌, ◌*◌, ◌/◌, ◌++◌, ◌∷◌, [], ℕ, length, ap, ◌∙◌, refl, arith}
+use Rattle.std.proofs.Common.{◌≡◌, ◌*◌, ◌/◌, ℕ, length, ap, ◌∙◌, refl, arith}
 use Rattle.wu_rank.specs.Scores.{count_at, holders, idf_of}
 use Rattle.wu_rank.proofs.Bounds.{bounds_kept, kept_small}
 use Rattle.wu_rank.proofs.Parts.{holders-le, idf-is, length-times}
@@ -29,14 +29,3 @@ returns-clause-small c =
     kept_small _ c.in_ok-bounds.bounds.len c.put_bound.new.counts _ c.as_mut_slice.result.now
     (omega (arith, c.put_bound.auto.counts, c.as_mut_slice.ensures.len))
     c.put_bound.ensures (omega (arith, c.inverse_frequency-rarity.ensures.small))
-
-pub returns-clause-rarity : goal.returns-clause-rarity
-returns-clause-rarity c =
-    let held : c.len.result ≡ holders count_at c.args.units.now c.args.list.now =
-    (omega (arith, c.len.ensures, c.in_ok-bounds.bounds.ok.0))
-    ∙ ap length c.in_ok-bounds.ensures
-    ∙ length-times c.args.list.now (length c.args.units.now) c.args.units.now in
-    let is : c.inverse_frequency-rarity.result ≡ idf_of count_at c.args.units.now c.args.list.now =
-    idf-is c.args.units.now c.args.list.now c.len.result (length c.args.units.now) c.inverse_frequency-rarity.result held refl
-    c.inverse_frequency-rarity.ensures.value in
-    c.in_ok-push.ensures.items ∙ ap (λ (r : ℕ). c.args.rarities.now.items ++ r ∷ []) is
