@@ -20,6 +20,7 @@ use Rattle.wu_fields.specs.Fields.{fields_of}
 use Rattle.wu_script.specs.declared.types.Why.{Why}
 use Rattle.wu_script.specs.declared.types.Why.TheVariants.{LongLine, Truncated, TooLong, BadBody}
 use Rattle.wu_script.specs.declared.events.NewNode.{NewNode}
+use Rattle.wu_script.specs.declared.queries.Wanted.TheVariants.{Best, Weighed}
 use Rattle.wu_script.specs.declared.words.Word.{Word}
 use Rattle.wu_script.specs.declared.words.Word.TheVariants as words
 use Rattle.wu_script.specs.Words.{word_of}
@@ -27,7 +28,7 @@ use Rattle.wu_script.specs.Commands.{QuerySyntax, Operation, Entry, Happening, A
 use Rattle.wu_script.specs.Commands.{TextHead}
 use Rattle.wu_script.specs.Commands.{event_line, query_line, operation_line, text_line, flush_of, work_of, stat_of, save_of}
 use Rattle.wu_script.specs.Commands.{acl_of, user_of, new_node_of, mkdir_event, create_event, link_of, place_of, unlink_event, rmdir_event}
-use Rattle.wu_script.specs.Commands.{rename_of, chmod_of, chown_of, text_head_of, count_of, find_of, rank_of, paths_of, command_of}
+use Rattle.wu_script.specs.Commands.{rename_of, chmod_of, chown_of, text_head_of, count_of, find_of, rank_of, paths_of, terms_of, export_of, command_of}
 use Rattle.wu_script.specs.Commands.{fields_say, is_blank, line_says}
 use Rattle.wu_script.specs.Commands.{id_of, ids_of, node_of, nonzero, perm_of}
 use Rattle.wu_script.specs.Said.{Reading, Said, Happens, said_of, question_in, asked}
@@ -170,8 +171,12 @@ command_says words.Chown fields = event_says (chown_of fields) (chown_given fiel
 command_says words.Acl fields = event_says (acl_of fields) (acl_given fields)
 command_says words.Count fields = query_says (count_of fields)
 command_says words.Find fields = query_says (find_of fields)
-command_says words.Rank fields = query_says (rank_of fields)
+command_says words.Rank fields = query_says (rank_of Best fields)
 command_says words.Paths fields = query_says (paths_of fields)
+command_says words.Terms fields = query_says (terms_of false fields)
+command_says words.Top fields = query_says (terms_of true fields)
+command_says words.Export fields = query_says (export_of fields)
+command_says words.Weighed fields = query_says (rank_of Weighed fields)
 command_says words.Flush fields = operation_says (flush_of fields)
 command_says words.Work fields = operation_says (work_of fields)
 command_says words.Stat fields = operation_says (stat_of fields)

@@ -15,6 +15,7 @@ use Rattle.wu_ask.specs.Questions.{Question}
 use Rattle.wu_fields.specs.Fields.{fields_of}
 use Rattle.wu_script.specs.declared.types.Why.{Why}
 use Rattle.wu_script.specs.declared.types.Why.TheVariants.{LongLine}
+use Rattle.wu_script.specs.declared.queries.Wanted.TheVariants.{Best, Weighed}
 use Rattle.wu_script.specs.declared.words.Word.{Word}
 use Rattle.wu_script.specs.declared.words.Word.TheVariants as words
 use Rattle.wu_script.specs.Words.{word_of}
@@ -23,7 +24,8 @@ use Rattle.wu_script.specs.Commands.{TextHead}
 use Rattle.wu_script.specs.Commands.{event_line, query_line, operation_line, text_line, flush_of, work_of, stat_of, save_of}
 use Rattle.wu_script.specs.Commands.{acl_of, user_of, new_node_of, mkdir_event, create_event, link_of, place_of, unlink_event, rmdir_event}
 use Rattle.wu_script.specs.Commands.{rename_of}
-use Rattle.wu_script.specs.Commands.{chmod_of, chown_of, text_head_of, count_of, find_of, rank_of, paths_of, command_of, fields_say}
+use Rattle.wu_script.specs.Commands.{chmod_of, chown_of, text_head_of, count_of, find_of, rank_of, paths_of, terms_of, export_of}
+use Rattle.wu_script.specs.Commands.{command_of, fields_say}
 use Rattle.wu_script.specs.Commands.{is_blank, line_says}
 use Rattle.wu_script.specs.Said.{Reading, said_of, question_in, asked, event_tokens, tokens_given, text_given}
 use Rattle.wu_script.specs.Items.{line_at, after_line, has_feed, body_entry, text_at, entry_at, first_of, items_within, items_of}
@@ -121,8 +123,12 @@ command_none words.Chown fields = event_line_none (chown_of fields)
 command_none words.Acl fields = event_line_none (acl_of fields)
 command_none words.Count fields = query_line_none (count_of fields)
 command_none words.Find fields = query_line_none (find_of fields)
-command_none words.Rank fields = query_line_none (rank_of fields)
+command_none words.Rank fields = query_line_none (rank_of Best fields)
 command_none words.Paths fields = query_line_none (paths_of fields)
+command_none words.Terms fields = query_line_none (terms_of false fields)
+command_none words.Top fields = query_line_none (terms_of true fields)
+command_none words.Export fields = query_line_none (export_of fields)
+command_none words.Weighed fields = query_line_none (rank_of Weighed fields)
 command_none words.Flush fields = operation_line_none (flush_of fields)
 command_none words.Work fields = operation_line_none (work_of fields)
 command_none words.Stat fields = operation_line_none (stat_of fields)

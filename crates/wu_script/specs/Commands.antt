@@ -25,6 +25,8 @@ use Rattle.wu_script.specs.declared.acls.Tag.{Tag}
 use Rattle.wu_script.specs.declared.acls.Tag.TheVariants.{Owning, User, Group, Mask}
 use Rattle.wu_script.specs.declared.events.NewNode.{NewNode}
 use Rattle.wu_script.specs.declared.events.Place.{Place}
+use Rattle.wu_script.specs.declared.queries.Wanted.{Wanted}
+use Rattle.wu_script.specs.declared.queries.Wanted.TheVariants.{Best, Weighed}
 use Rattle.wu_script.specs.declared.words.Word.{Word}
 use Rattle.wu_script.specs.declared.words.Word.TheVariants as words
 use Rattle.wu_script.specs.Words.{is, word_of}
@@ -248,12 +250,15 @@ acl_of _ = None
 
 -- ---- lines
 
--- a query as its line has it: an expression stands as its text, and so do words
+-- a query as its line has it: an expression stands as its text, and so do words and a prefix
 pub data QuerySyntax : Type 0 where
   CountOf : (text : List ℕ) → QuerySyntax
   FindOf : (k : ℕ) (text : List ℕ) → QuerySyntax
   RankOf : (k : ℕ) (unit words : List ℕ) → QuerySyntax
   PathsOf : QuerySyntax
+  TermsOf : (k : ℕ) (top : Bool) (field : List ℕ) → QuerySyntax
+  ExportOf : QuerySyntax
+  WeighedOf : (k : ℕ) (unit words : List ℕ) → QuerySyntax
 
 -- what the operator of the index asks for: a flush, so many units of background work, the size of the index, or a save
 pub data Operation : Type 0 where
@@ -315,18 +320,37 @@ find_of (uid ∷ k ∷ text ∷ []) = do
   Some (u, FindOf n text)
 find_of _ = None
 
-unfoldable pub rank_of : List (List ℕ) → Option (ℕ × QuerySyntax)
-rank_of (uid ∷ k ∷ unit ∷ words ∷ []) = do
+-- what is asked of a ranking: `rank` and `weighed` have the same fields
+abbrev pub ranked : Wanted → ℕ → List ℕ → List ℕ → QuerySyntax
+ranked Best k unit words = RankOf k unit words
+ranked Weighed k unit words = WeighedOf k unit words
+
+unfoldable pub rank_of : Wanted → List (List ℕ) → Option (ℕ × QuerySyntax)
+rank_of wanted (uid ∷ k ∷ unit ∷ words ∷ []) = do
   u ← id_of uid
   n ← number_of k K_MAX
-  Some (u, RankOf n unit words)
-rank_of _ = None
+  Some (u, ranked wanted n unit words)
+rank_of wanted _ = None
 
 unfoldable pub paths_of : List (List ℕ) → Option (ℕ × QuerySyntax)
 paths_of (uid ∷ []) = do
   u ← id_of uid
   Some (u, PathsOf)
 paths_of _ = None
+
+-- `terms`, or where the words of the most files come first, `top`; at most K_MAX words are shown
+unfoldable pub terms_of : Bool → List (List ℕ) → Option (ℕ × QuerySyntax)
+terms_of top (uid ∷ k ∷ prefix ∷ []) = do
+  u ← id_of uid
+  n ← number_of k K_MAX
+  Some (u, TermsOf n top prefix)
+terms_of top _ = None
+
+unfoldable pub export_of : List (List ℕ) → Option (ℕ × QuerySyntax)
+export_of (uid ∷ []) = do
+  u ← id_of uid
+  Some (u, ExportOf)
+export_of _ = None
 
 unfoldable pub flush_of : List (List ℕ) → Option Operation
 flush_of [] = Some Flush
@@ -366,8 +390,12 @@ command_of words.Chown fields = event_line (chown_of fields)
 command_of words.Acl fields = event_line (acl_of fields)
 command_of words.Count fields = query_line (count_of fields)
 command_of words.Find fields = query_line (find_of fields)
-command_of words.Rank fields = query_line (rank_of fields)
+command_of words.Rank fields = query_line (rank_of Best fields)
 command_of words.Paths fields = query_line (paths_of fields)
+command_of words.Terms fields = query_line (terms_of false fields)
+command_of words.Top fields = query_line (terms_of true fields)
+command_of words.Export fields = query_line (export_of fields)
+command_of words.Weighed fields = query_line (rank_of Weighed fields)
 command_of words.Flush fields = operation_line (flush_of fields)
 command_of words.Work fields = operation_line (work_of fields)
 command_of words.Stat fields = operation_line (stat_of fields)

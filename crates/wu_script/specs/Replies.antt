@@ -1,5 +1,5 @@
 -- The bytes of a reply.
-use Rattle.std.specs.Prelude.{ℕ, List, [], ◌∷◌, ◌++◌, codes, decimal, length}
+use Rattle.std.specs.Prelude.{ℕ, Bool, false, true, List, [], ◌∷◌, ◌++◌, codes, decimal, length}
 use Rattle.std.specs.List.{flat_map}
 use Rattle.wu_base.specs.declared.reports.Stat.{Stat}
 use Rattle.wu_base.specs.declared.reports.Worked.{Worked}
@@ -10,6 +10,7 @@ use Rattle.wu_gcl.specs.declared.expressions.ExprFault.{ExprFault}
 use Rattle.wu_gcl.specs.declared.expressions.ExprFault.TheVariants as faults
 use Rattle.wu_ask.specs.declared.Found.{Found}
 use Rattle.wu_ask.specs.declared.RankLine.{RankLine}
+use Rattle.wu_ask.specs.declared.TermLine.{TermLine}
 use Rattle.wu_ask.specs.declared.Answered.{Answered}
 use Rattle.wu_ask.specs.declared.Answered.TheVariants as answers
 use Rattle.wu_fields.specs.Fields.{escaped}
@@ -43,6 +44,7 @@ why_word (why.Tree refusal) = refusal_word refusal
 why_word (why.Expr fault) = fault_word fault
 why_word why.NoWord = codes "noword"
 why_word why.ManyWords = codes "manywords"
+why_word why.BadPrefix = codes "badprefix"
 
 -- a path on a line of its own
 abbrev pub path_line : List ℕ → List ℕ
@@ -57,7 +59,16 @@ find_line line = escaped line.path ++ 9 ∷ [] ++ decimal line.start ++ 9 ∷ []
 abbrev pub rank_line : RankLine → List ℕ
 rank_line line = decimal line.score ++ 9 ∷ [] ++ escaped line.path ++ 9 ∷ [] ++ decimal line.start ++ 9 ∷ [] ++ decimal line.end ++ 10 ∷ []
 
--- its fields have a TAB between each two
+-- a word, and the number of the files that have it, on a line of their own
+abbrev pub term_line : TermLine → List ℕ
+term_line line = escaped line.word ++ 9 ∷ [] ++ decimal line.files ++ 10 ∷ []
+
+-- the first field of a list of words: the query that asked for it
+abbrev pub terms_front : Bool → List ℕ
+terms_front false = codes "terms\t"
+terms_front true = codes "top\t"
+
+-- its fields have a TAB between each two; the bytes of a script stand as they are
 unfoldable pub answer_bytes : Answered → List ℕ
 answer_bytes (answers.Count hits files) = codes "count\t" ++ decimal hits ++ 9 ∷ [] ++ decimal files ++ 10 ∷ []
 answer_bytes (answers.Find hits files shown) = codes "find\t" ++ decimal hits ++ 9 ∷ [] ++ decimal files ++ 9 ∷ []
@@ -65,6 +76,10 @@ answer_bytes (answers.Find hits files shown) = codes "find\t" ++ decimal hits ++
 answer_bytes (answers.Rank listed shown) = codes "rank\t" ++ decimal listed ++ 9 ∷ [] ++ decimal (length shown) ++ 10 ∷ []
     ++ flat_map rank_line shown
 answer_bytes (answers.Paths paths) = codes "paths\t" ++ decimal (length paths) ++ 10 ∷ [] ++ flat_map path_line paths
+answer_bytes (answers.Terms total top shown) = terms_front top ++ decimal total ++ 9 ∷ [] ++ decimal (length shown) ++ 10 ∷ []
+    ++ flat_map term_line shown
+answer_bytes (answers.Export script) = codes "export\t" ++ decimal (length script) ++ 10 ∷ [] ++ script ++ 10 ∷ []
+answer_bytes (answers.Weighed listed weighed) = codes "weighed\t" ++ decimal listed ++ 9 ∷ [] ++ decimal weighed ++ 10 ∷ []
 
 -- whether background work is left
 unfoldable pub worked_word : Worked → List ℕ

@@ -1,22 +1,28 @@
 -- What an item says, its expressions read. Replies and states are defined over this alone.
-use Rattle.std.specs.Prelude.{◌≡◌, ℕ, ◌≤◌, ◌==◌, nat_lt, List, [], length, Result, Ok, Err, if◌then◌else◌}
+use Rattle.std.specs.Prelude.{◌≡◌, ℕ, ◌≤◌, ◌==◌, nat_lt, Bool, List, [], length, Option, Some, None, Result, Ok, Err, if◌then◌else◌}
 use Rattle.wu_base.specs.declared.limits.TheConstants.{TEXT_MAX, RANK_WORDS_MAX, INPUT_MAX, WORK_MAX}
 use Rattle.wu_token.specs.Words.{words_of}
 use Rattle.wu_token.specs.Tokens.{tokens_of}
+use Rattle.wu_gcl.specs.Regions.{Region}
 use Rattle.wu_gcl.specs.Reading.{Value, Reads}
+use Rattle.wu_terms.specs.Prefixes.{prefix_in}
 use Rattle.wu_tree.specs.declared.events.Event.{Event}
 use Rattle.wu_tree.specs.declared.events.Event.TheVariants as events
 use Rattle.wu_tree.specs.Steps.{IsEvent}
-use Rattle.wu_ask.specs.Questions.{Question, Counting, Finding, Ranking, ListingPaths, question_of, IsSoundAsk}
+use Rattle.wu_ask.specs.Questions.{Question, Counting, Finding, Ranking, ListingPaths, ListingTerms, Exporting, Weighing}
+use Rattle.wu_ask.specs.Questions.{question_of, IsSoundAsk}
+use Rattle.wu_script.specs.declared.queries.Wanted.{Wanted}
+use Rattle.wu_script.specs.declared.queries.Wanted.TheVariants.{Best, Weighed}
 use Rattle.wu_script.specs.declared.types.Why.{Why}
-use Rattle.wu_script.specs.declared.types.Why.TheVariants.{Expr, NoWord, ManyWords}
+use Rattle.wu_script.specs.declared.types.Why.TheVariants.{Expr, NoWord, ManyWords, BadPrefix}
 use Rattle.wu_script.specs.declared.types.Command.{Command}
 use Rattle.wu_script.specs.declared.types.Command.TheVariants as commands
 use Rattle.wu_script.specs.declared.types.Line.{Line}
 use Rattle.wu_script.specs.declared.types.Line.TheVariants as lines
 use Rattle.wu_script.specs.declared.types.Item.{Item}
 use Rattle.wu_script.specs.declared.types.Item.TheVariants as items
-use Rattle.wu_script.specs.Commands.{QuerySyntax, CountOf, FindOf, RankOf, PathsOf, Operation, Flush, Work, Stat, Save, Entry, Happening}
+use Rattle.wu_script.specs.Commands.{QuerySyntax, CountOf, FindOf, RankOf, PathsOf, TermsOf, ExportOf, WeighedOf}
+use Rattle.wu_script.specs.Commands.{Operation, Flush, Work, Stat, Save, Entry, Happening}
 use Rattle.wu_script.specs.Commands.{Asking, Operating, Refusing, Blank, LineSays, Whole, TextHead}
 
 -- what each text says as a region expression; there is one such function, since each text has one reading
@@ -44,20 +50,33 @@ abbrev pub find_question : ℕ → Value → Result Question Why
 find_question k (Ok region) = Ok (Finding k region)
 find_question k (Err fault) = Err (Expr fault)
 
+-- what is asked of a ranking of a unit's regions by words
+abbrev pub ranking_question : Wanted → ℕ → Region → List (List ℕ) → Question
+ranking_question Best k unit words = Ranking k unit words
+ranking_question Weighed k unit words = Weighing k unit words
+
 -- a ranking takes from 1 to RANK_WORDS_MAX words; its unit is looked at before its words
-abbrev pub rank_question : ℕ → Value → List (List ℕ) → Result Question Why
-rank_question k (Ok unit) words =
+abbrev pub rank_question : Wanted → ℕ → Value → List (List ℕ) → Result Question Why
+rank_question wanted k (Ok unit) words =
     if length words == 0 then Err NoWord
     else if nat_lt RANK_WORDS_MAX (length words) then Err ManyWords
-    else Ok (Ranking k unit words)
-rank_question k (Err fault) words = Err (Expr fault)
+    else Ok (ranking_question wanted k unit words)
+rank_question wanted k (Err fault) words = Err (Expr fault)
+
+-- the prefix is looked at last
+abbrev pub terms_question : ℕ → Bool → Option (List ℕ) → Result Question Why
+terms_question k top (Some prefix) = Ok (ListingTerms k prefix top)
+terms_question k top None = Err BadPrefix
 
 -- the question that a query is, or why it is none
 abbrev pub question_in : Reading → QuerySyntax → Result Question Why
 question_in read (CountOf text) = count_question (read text)
 question_in read (FindOf k text) = find_question k (read text)
-question_in read (RankOf k unit words) = rank_question k (read unit) (words_of words)
+question_in read (RankOf k unit words) = rank_question Best k (read unit) (words_of words)
 question_in read PathsOf = Ok ListingPaths
+question_in read (TermsOf k top field) = terms_question k top (prefix_in field)
+question_in read ExportOf = Ok Exporting
+question_in read (WeighedOf k unit words) = rank_question Weighed k (read unit) (words_of words)
 
 abbrev pub asked : ℕ → Result Question Why → Said
 asked uid (Ok question) = Asks uid question

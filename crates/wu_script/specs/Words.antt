@@ -3,7 +3,7 @@ use Rattle.std.specs.Prelude.{ℕ, Bool, List, codes, nat_eq, if◌then◌else�
 use Rattle.std.specs.Cmp.Lexicographic.{pointwise}
 use Rattle.wu_script.specs.declared.words.Word.{Word}
 use Rattle.wu_script.specs.declared.words.Word.TheVariants.{User, Mkdir, Create, Text, Link, Unlink, Rmdir, Rename, Chmod, Chown, Acl}
-use Rattle.wu_script.specs.declared.words.Word.TheVariants.{Count, Find, Rank, Paths, Flush, Work, Stat, Save, Unknown}
+use Rattle.wu_script.specs.declared.words.Word.TheVariants.{Count, Find, Rank, Paths, Terms, Top, Export, Weighed, Flush, Work, Stat, Save, Unknown}
 
 abbrev pub is : List ℕ → List ℕ → Bool
 is field word = pointwise nat_eq field word
@@ -25,6 +25,10 @@ word_of field =
     else if is field (codes "find") then Find
     else if is field (codes "rank") then Rank
     else if is field (codes "paths") then Paths
+    else if is field (codes "terms") then Terms
+    else if is field (codes "top") then Top
+    else if is field (codes "export") then Export
+    else if is field (codes "weighed") then Weighed
     else if is field (codes "flush") then Flush
     else if is field (codes "work") then Work
     else if is field (codes "stat") then Stat

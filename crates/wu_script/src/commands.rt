@@ -1,33 +1,27 @@
 //! What the lines of a script say.
 ghost use Rattle.std.specs.Prelude.{◌≡◌, ◌≤◌, IfOk, IfSome};
 ghost use Rattle.wu_tree.specs.Steps.{IsEvent};
-ghost use Rattle.wu_gcl.specs.Reading.{seen};
-ghost use Rattle.wu_gcl.specs.Regions.{IsProper, region_of};
-ghost use Rattle.wu_base.specs.declared.limits.TheConstants.{K_MAX as MostRegions, WORK_MAX as MostUnits};
-ghost use Rattle.wu_script.specs.Commands.{command_of, event_line, fields_say, is_blank, line_says, query_line, operation_line, text_line, count_of, find_of, rank_of, paths_of, flush_of, units_of, work_of, stat_of, save_of, text_head_of, Whole, Asking, CountOf, FindOf, RankOf};
-ghost use Rattle.wu_script.specs.Said.{IsReading, Reading, IsLine, IsSoundLine};
-ghost use Rattle.wu_script.specs.declared.types.Line.TheVariants.{Command as ACommand};
-ghost use Rattle.wu_script.specs.declared.types.Command.TheVariants.{Ask as AQuestion};
+ghost use Rattle.wu_base.specs.declared.limits.TheConstants.{WORK_MAX as MostUnits};
+ghost use Rattle.wu_script.specs.Commands.{command_of, event_line, fields_say, is_blank, line_says, operation_line, text_line};
+ghost use Rattle.wu_script.specs.Commands.{flush_of, units_of, work_of, stat_of, save_of, text_head_of};
+ghost use Rattle.wu_script.specs.Said.{IsLine, IsSoundLine};
 
 use crate::acls::acl;
-use crate::events::{
-    chmod, chown, create, id_of, link, mkdir, node_of, rename, rmdir, unlink, user,
-};
+use crate::events::{chmod, chown, create, link, mkdir, node_of, rename, rmdir, unlink, user};
+use crate::queries::{Wanted, count, export, find, paths, rank, terms};
 use crate::types::{Command, Line, Why};
 use crate::words::{Word, word_of};
 use std::alloc::Global;
-use wu_ask::{Ask, Query};
-use wu_base::{Bytes, INPUT_MAX, K_MAX, LINE_MAX, NoMemory, RANK_WORDS_MAX, Sequence, WORK_MAX};
+use wu_base::{Bytes, INPUT_MAX, LINE_MAX, NoMemory, WORK_MAX};
 use wu_fields::{read_decimal, split_fields};
-use wu_gcl::{Expr, ExprFault, parse};
-use wu_token::words;
 use wu_tree::Event;
 
 /// What the line says, without its LF. The first rule that applies decides: `LongLine`, more than
-/// LINE_MAX bytes; blank, no byte or `#` at its front; `Syntax` for an escape fault, an unknown command, a
-/// wrong number of fields or a field out of form or range; the faults of the expression of a `count` or a `find`, or of a `rank`'s unit;
-/// `NoWord` and `ManyWords` for a `rank` by no word, or by more than RANK_WORDS_MAX. The one error is
-/// `NoMemory`: out of memory.
+/// LINE_MAX bytes; blank, no byte or `#` at its front; `Syntax` for an escape fault, an unknown
+/// command, a wrong number of fields or a field out of form or range; the faults of the expression of
+/// a `count` or a `find`, or of the unit of a `rank` or a `weighed`; `NoWord` and `ManyWords` for one of
+/// these two by no word, or by more than RANK_WORDS_MAX; `BadPrefix` for the prefix of a `terms` or a
+/// `top`. The one error is `NoMemory`: out of memory.
 #[tactic(auto, unfolding(crate::specs::Commands::line_says, crate::specs::Commands::fields_say))]
 pub fn read_command(alloc: Global, line: &[u8]) -> Result<Line, NoMemory>
     ensures says { IfOk result (IsLine (line_says line.now)) }
@@ -87,8 +81,12 @@ fn read_by_word(alloc: Global, word: Word, fields: &[Bytes]) -> Result<Line, NoM
         Word::Acl => Ok(update(acl(alloc, fields)?)),
         Word::Count => count(alloc, fields),
         Word::Find => find(alloc, fields),
-        Word::Rank => rank(alloc, fields),
+        Word::Rank => rank(alloc, Wanted::Best, fields),
         Word::Paths => Ok(paths(fields)),
+        Word::Terms => terms(alloc, false, fields),
+        Word::Top => terms(alloc, true, fields),
+        Word::Export => Ok(export(fields)),
+        Word::Weighed => rank(alloc, Wanted::Weighed, fields),
         Word::Flush => Ok(flush(fields)),
         Word::Work => Ok(work(fields)),
         Word::Stat => Ok(stat(fields)),
@@ -125,138 +123,6 @@ fn text_head(fields: &[Bytes]) -> Line
                 None => Line::Refused(Why::Syntax),
             }
         }
-        _ => Line::Refused(Why::Syntax),
-    }
-}
-
-/// A question of a user.
-fn asking(uid: u32, ask: Ask) -> Line
-    ensures { result ≡ ACommand (AQuestion (record { uid = uid; ask = ask })) }
-{
-    Line::Command(Command::Ask(Query { uid, ask }))
-}
-
-/// `count`, a user and an expression.
-#[tactic(auto, unfolding(crate::specs::Commands::count_of))]
-fn count(alloc: Global, fields: &[Bytes]) -> Result<Line, NoMemory>
-    ensures says { IfOk result (IsLine (query_line (count_of fields.now))) }
-    ensures sound { IfOk result IsSoundLine }
-{
-    match fields {
-        [uid, text] => {
-            let Some(uid) = id_of(uid) else {
-                return Ok(Line::Refused(Why::Syntax));
-            };
-            counting(alloc, uid, text.as_slice())
-        }
-        _ => Ok(Line::Refused(Why::Syntax)),
-    }
-}
-
-/// A count of the regions of the expression.
-fn counting(alloc: Global, uid: u32, text: &[u8]) -> Result<Line, NoMemory>
-    ensures says { IfOk result (IsLine (Whole (Asking uid (CountOf text.now)))) }
-    ensures sound { IfOk result IsSoundLine }
-{
-    match read_expression(alloc, text)? {
-        Ok(expr) => Ok(asking(uid, Ask::Count { expr })),
-        Err(fault) => Ok(Line::Refused(Why::Expr(fault))),
-    }
-}
-
-/// The expression that the text is, or why it is none.
-fn read_expression(alloc: Global, text: &[u8]) -> Result<Result<Expr, ExprFault>, NoMemory>
-    ensures reads { IfOk result (λ r. (read : Reading) → IsReading read → read text.now ≡ seen r) }
-    ensures proper { IfOk result (λ r. IfOk r (λ expr. IsProper (region_of expr))) }
-{
-    parse(alloc, text)
-}
-
-/// `find`, a user, how many regions to show, and an expression.
-#[tactic(auto, unfolding(crate::specs::Commands::find_of))]
-fn find(alloc: Global, fields: &[Bytes]) -> Result<Line, NoMemory>
-    ensures says { IfOk result (IsLine (query_line (find_of fields.now))) }
-    ensures sound { IfOk result IsSoundLine }
-{
-    match fields {
-        [uid, k, text] => {
-            let Some(uid) = id_of(uid) else {
-                return Ok(Line::Refused(Why::Syntax));
-            };
-            match read_decimal(k.as_slice(), K_MAX as u64) {
-                Some(k) => finding(alloc, uid, k as u32, text.as_slice()),
-                None => Ok(Line::Refused(Why::Syntax)),
-            }
-        }
-        _ => Ok(Line::Refused(Why::Syntax)),
-    }
-}
-
-/// The regions of the expression, of which so many are shown at most.
-fn finding(alloc: Global, uid: u32, k: u32, text: &[u8]) -> Result<Line, NoMemory>
-    requires { k ≤ MostRegions }
-    ensures says { IfOk result (IsLine (Whole (Asking uid (FindOf k text.now)))) }
-    ensures sound { IfOk result IsSoundLine }
-{
-    match read_expression(alloc, text)? {
-        Ok(expr) => Ok(asking(uid, Ask::Find { k, expr })),
-        Err(fault) => Ok(Line::Refused(Why::Expr(fault))),
-    }
-}
-
-/// `rank`, a user, how many regions to show, a unit and the words to rank by.
-#[tactic(auto, unfolding(crate::specs::Commands::rank_of))]
-fn rank(alloc: Global, fields: &[Bytes]) -> Result<Line, NoMemory>
-    ensures says { IfOk result (IsLine (query_line (rank_of fields.now))) }
-    ensures sound { IfOk result IsSoundLine }
-{
-    match fields {
-        [uid, k, unit, text] => {
-            let Some(uid) = id_of(uid) else {
-                return Ok(Line::Refused(Why::Syntax));
-            };
-            match read_decimal(k.as_slice(), K_MAX as u64) {
-                Some(k) => ranking(alloc, uid, k as u32, unit.as_slice(), text.as_slice()),
-                None => Ok(Line::Refused(Why::Syntax)),
-            }
-        }
-        _ => Ok(Line::Refused(Why::Syntax)),
-    }
-}
-
-/// A ranking of the regions of the unit by the words of the text. The unit's faults come before those
-/// of the words.
-fn ranking(alloc: Global, uid: u32, k: u32, unit: &[u8], text: &[u8]) -> Result<Line, NoMemory>
-    requires { k ≤ MostRegions }
-    ensures says { IfOk result (IsLine (Whole (Asking uid (RankOf k unit.now text.now)))) }
-    ensures sound { IfOk result IsSoundLine }
-{
-    let unit = match read_expression(alloc, unit)? {
-        Ok(unit) => unit,
-        Err(fault) => return Ok(Line::Refused(Why::Expr(fault))),
-    };
-    let words = words(alloc, text)?;
-    if words.is_empty() {
-        return Ok(Line::Refused(Why::NoWord));
-    }
-    if words.len() > RANK_WORDS_MAX {
-        return Ok(Line::Refused(Why::ManyWords));
-    }
-    let words = Sequence::from(words);
-    Ok(asking(uid, Ask::Rank { k, unit, words }))
-}
-
-/// `paths`, and a user.
-#[tactic(auto, unfolding(crate::specs::Commands::paths_of))]
-fn paths(fields: &[Bytes]) -> Line
-    ensures says { IsLine (query_line (paths_of fields.now)) result }
-    ensures sound { IsSoundLine result }
-{
-    match fields {
-        [uid] => match id_of(uid) {
-            Some(uid) => asking(uid, Ask::Paths),
-            None => Line::Refused(Why::Syntax),
-        },
         _ => Line::Refused(Why::Syntax),
     }
 }

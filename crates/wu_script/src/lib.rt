@@ -10,6 +10,7 @@ mod input;
 mod items;
 mod laws;
 mod lines;
+mod queries;
 mod reader;
 mod replies;
 mod types;

@@ -1,18 +1,20 @@
 //! Writing a reply.
 ghost use Rattle.std.specs.Prelude.{◌≡◌, ◌++◌, ◌∷◌, [], List, ℕ, codes, decimal, length, OnOk, OnErr};
 ghost use Rattle.std.specs.List.{flat_map};
-ghost use Rattle.wu_script.specs.Replies.{reply_bytes, answer_bytes, refusal_word, fault_word, why_word, worked_word, stat_line, path_line, find_line, rank_line};
+ghost use Rattle.wu_script.specs.Replies.{reply_bytes, answer_bytes, refusal_word, fault_word, why_word, worked_word, stat_line};
+ghost use Rattle.wu_script.specs.Replies.{path_line, find_line, rank_line, term_line, terms_front};
 
 use crate::types::{Reply, Why};
-use wu_ask::{Answered, Found, RankLine};
+use wu_ask::{Answered, Found, RankLine, TermLine};
 use wu_base::{Bytes, NoMemory, Stat, Worked};
 use wu_fields::{put_decimal, put_field};
 use wu_gcl::ExprFault;
 use wu_tree::Refusal;
 
 /// Appends the lines of the reply: the fields of a line have a TAB between each two, numbers are
-/// decimal, paths and bytes of texts are escaped, and each line ends with LF. The one error is
-/// `NoMemory`; `out` is then as it was.
+/// decimal, paths, words and bytes of texts are escaped, and each line ends with LF. The script of an
+/// export stands as it is behind its line, and then a LF. The one error is `NoMemory`; `out` is then as
+/// it was.
 pub fn put_reply(out: &mut Vec<u8>, reply: &Reply) -> Result<(), NoMemory>
     ensures ok { OnOk result (out.new.items ≡ out.old.items ++ reply_bytes reply.now) }
     ensures err { OnErr result (out.new.items ≡ out.old.items) }
@@ -93,6 +95,11 @@ fn append_answer(out: &mut Vec<u8>, answered: &Answered) -> Result<(), NoMemory>
         Answered::Find { hits, files, shown } => append_found(out, *hits, *files, shown.as_slice()),
         Answered::Rank { listed, shown } => append_ranking(out, *listed, shown.as_slice()),
         Answered::Paths { paths } => append_paths(out, paths.as_slice()),
+        Answered::Terms { total, top, shown } => append_terms(out, *total, *top, shown.as_slice()),
+        Answered::Export { script } => append_export(out, script.as_slice()),
+        Answered::Weighed { listed, weighed } => {
+            append_counts(out, b"weighed\t", *listed, *weighed)
+        }
     }
 }
 
@@ -231,6 +238,63 @@ fn append_rank_line(out: &mut Vec<u8>, line: &RankLine) -> Result<(), NoMemory>
     Ok(())
 }
 
+/// Appends the lines of a user's words: how many there are and are shown, and each that is shown.
+fn append_terms(
+    out: &mut Vec<u8>,
+    total: u64,
+    top: bool,
+    shown: &[TermLine],
+) -> Result<(), NoMemory>
+    ensures ok { OnOk result (out.new.items ≡ out.old.items ++ (terms_front top ++ decimal total ++ 9 ∷ [] ++ decimal (length shown.now) ++ 10 ∷ [] ++ flat_map term_line shown.now)) }
+    ensures err { OnErr result ((more : List ℕ) × (out.new.items ≡ out.old.items ++ more)) }
+{
+    append_counts(out, terms_front(top), total, shown.len() as u64)?;
+    append_term_lines(out, shown)
+}
+
+/// The first field of the list of words, and the TAB behind it.
+fn terms_front(top: bool) -> &'static [u8]
+    ensures { result.now ≡ terms_front top }
+{
+    if top { b"top\t" } else { b"terms\t" }
+}
+
+/// Appends each word on a line of its own.
+fn append_term_lines(out: &mut Vec<u8>, shown: &[TermLine]) -> Result<(), NoMemory>
+    ensures ok { OnOk result (out.new.items ≡ out.old.items ++ flat_map term_line shown.now) }
+    ensures err { OnErr result ((more : List ℕ) × (out.new.items ≡ out.old.items ++ more)) }
+{
+    for line in shown {
+        append_term_line(out, line)?;
+    }
+    Ok(())
+}
+
+/// Appends a word on a line of its own.
+fn append_term_line(out: &mut Vec<u8>, line: &TermLine) -> Result<(), NoMemory>
+    ensures ok { OnOk result (out.new.items ≡ out.old.items ++ term_line line.now) }
+    ensures err { OnErr result ((more : List ℕ) × (out.new.items ≡ out.old.items ++ more)) }
+{
+    put_field(out, line.word.as_slice())?;
+    out.push(b'\t')?;
+    put_decimal(out, line.files)?;
+    out.push(b'\n')?;
+    Ok(())
+}
+
+/// Appends an export: the number of the script's bytes on a line of its own, these bytes, and a LF.
+fn append_export(out: &mut Vec<u8>, script: &[u8]) -> Result<(), NoMemory>
+    ensures ok { OnOk result (out.new.items ≡ out.old.items ++ (codes "export\t" ++ decimal (length script.now) ++ 10 ∷ [] ++ script.now ++ 10 ∷ [])) }
+    ensures err { OnErr result ((more : List ℕ) × (out.new.items ≡ out.old.items ++ more)) }
+{
+    out.extend_from_slice(b"export\t")?;
+    put_decimal(out, script.len() as u64)?;
+    out.push(b'\n')?;
+    out.extend_from_slice(script)?;
+    out.push(b'\n')?;
+    Ok(())
+}
+
 /// The word for why a command is refused.
 #[tactic(auto, unfolding(crate::specs::Replies::why_word))]
 fn why_word(why: Why) -> &'static [u8]
@@ -246,6 +310,7 @@ fn why_word(why: Why) -> &'static [u8]
         Why::Expr(fault) => fault_word(fault),
         Why::NoWord => b"noword",
         Why::ManyWords => b"manywords",
+        Why::BadPrefix => b"badprefix",
     }
 }
 

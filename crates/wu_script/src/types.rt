@@ -25,6 +25,8 @@ pub enum Why {
     NoWord,
     /// It ranks by more than RANK_WORDS_MAX words.
     ManyWords,
+    /// Its prefix isn't empty and isn't one run of the bytes of words.
+    BadPrefix,
 }
 
 /// A command without a body.

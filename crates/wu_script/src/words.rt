@@ -20,6 +20,10 @@ pub enum Word {
     Find,
     Rank,
     Paths,
+    Terms,
+    Top,
+    Export,
+    Weighed,
     Flush,
     Work,
     Stat,
@@ -62,6 +66,14 @@ pub fn word_of(field: &[u8]) -> Word
         Word::Rank
     } else if field == b"paths".as_slice() {
         Word::Paths
+    } else if field == b"terms".as_slice() {
+        Word::Terms
+    } else if field == b"top".as_slice() {
+        Word::Top
+    } else if field == b"export".as_slice() {
+        Word::Export
+    } else if field == b"weighed".as_slice() {
+        Word::Weighed
     } else if field == b"flush".as_slice() {
         Word::Flush
     } else if field == b"work".as_slice() {

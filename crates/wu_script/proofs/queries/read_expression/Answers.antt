@@ -5,7 +5,7 @@ use Rattle.wu_gcl.specs.declared.expressions.ExprFault.{ExprFault}
 use Rattle.wu_gcl.specs.Reading.{Reads, seen}
 use Rattle.wu_gcl.proofs.Uniqueness.{one_reading}
 use Rattle.wu_script.specs.Said.{Reading, IsReading}
-use Rattle.wu_script.proofs.commands.read_expression.Goals as goal
+use Rattle.wu_script.proofs.queries.read_expression.Goals as goal
 
 abbrev IsReadOf : List ℕ → Result Expr ExprFault → Type 0
 IsReadOf text r = (read : Reading) → IsReading read → read text ≡ seen r
