@@ -1,6 +1,6 @@
 -- The terms that an index lists, in the directories of its parts and in memory, and those of which its state has postings.
 use Rattle.std.proofs.Common.{◌≡◌, ℕ, ◌<◌, true, false, cond, nat_eq, List, [], ◌∷◌, ◌++◌, length, map, filter, Option, None, Some, refl, ap}
-use Rattle.std.proofs.Common.{ap₂, sym, ◌∙◌, subst, inl, inr, ⊎_elim, unwrap_or, arith}
+use Rattle.std.proofs.Common.{ap₂, sym, subst, inl, inr, ⊎_elim, unwrap_or, arith}
 use Rattle.std.specs.Prelude.{IsSome}
 use Rattle.std.specs.List.{AllZip, flat_map}
 use Rattle.std.specs.Map.{keys_of, lookup}
@@ -16,7 +16,7 @@ use Rattle.wu_base.proofs.SortedLists.{has-sorted_once, sorted_once_has}
 use Rattle.wu_outside.specs.Content.{Content}
 use Rattle.wu_outside.specs.declared.ranges.ReadRange.{ReadRange}
 use Rattle.wu_layout.specs.Invariants.{SomeOf}
-use Rattle.wu_layout.specs.Layouts.{Part, list_of, lists_of, postings_of, stored_in, terms_of}
+use Rattle.wu_layout.specs.Layouts.{Part, list_of, lists_of, stored_in, terms_of}
 use Rattle.wu_layout.specs.Postings.{Posting, addresses_of}
 use Rattle.wu_layout.proofs.HomeLemmas.{postings_split}
 use Rattle.wu_layout.proofs.ListLemmas.{all_terms, term_long}

@@ -1,4 +1,4 @@
-use Rattle.std.proofs.Common.{◌≤◌, ◌<◌, ◌∙◌, List, ℕ, ap, length, rules, take_all}
+use Rattle.std.proofs.Common.{◌≤◌, ◌<◌, ◌∙◌, ap, length, rules, take_all}
 use Rattle.wu_query.specs.TermLines.{words_found}
 use Rattle.wu_query.proofs.FetchedLists.{asked_next, cause_next, others_next, tells_then}
 use Rattle.wu_query.proofs.FoundWords.{words_next}
