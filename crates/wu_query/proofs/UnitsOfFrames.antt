@@ -21,8 +21,9 @@ use Rattle.wu_rank.specs.declared.results.Unit.{Unit as RankedUnit}
 use Rattle.wu_rank.specs.declared.results.Ranked.{Ranked}
 use Rattle.wu_rank.specs.Scores.{length_of, lies_in, frequency, count_at}
 use Rattle.wu_rank.specs.Order.{listed}
-use Rattle.wu_rank.proofs.Shifting.{Agrees, shifted, shifted_ranked, listed_shifted}
-use Rattle.wu_rank.proofs.Reordering.{listed-IsPermutation}
+use Rattle.wu_rank.specs.Pruning.{reaching}
+use Rattle.wu_rank.proofs.Shifting.{Agrees, shifted, shifted_ranked, listed_shifted, length-reaching-shifted}
+use Rattle.wu_rank.proofs.Reordering.{listed-IsPermutation, length-reaching-IsPermutation}
 use Rattle.wu_solve.specs.Addresses.{is_among}
 use Rattle.wu_solve.specs.Listing.{IsExtentIn}
 use Rattle.wu_solve.specs.Solving.{moved, frame_hits}
@@ -297,6 +298,22 @@ frames_ranked region addresses terms words tokens frame places order all framed 
     ∙ ap (map (shifted_ranked (start_of frame)))
     (listed-IsPermutation (frequency_at tokens) (units_at extents places) (units_at extents order) words
     (flat_map-IsPermutation (λ place. map (unit_at place) (extents place)) places order same))
+
+-- and as many of the units could be among the first k
+pub frames_weighed : (region : Region) (addresses : List ℕ → List ℕ) (terms words : List (List ℕ)) (tokens : ℕ → List (List ℕ))
+    (frame : ℕ → Range) (places order : List ℕ) (k : ℕ) → HasTerms region terms → FramesOf addresses tokens frame order
+    → IsPermutation places order
+    → length (reaching count_at (units_in_frames region (map (list_at addresses) terms) frame order) (map (list_at addresses) words) k)
+    ≡ length (reaching (frequency_at tokens) (units_in_files region tokens places) words k)
+frames_weighed region addresses terms words tokens frame places order k all framed same =
+    let extents : ℕ → List Extent = λ place. token_hits region (tokens place) in
+    ap (λ (us : List RankedUnit). length (reaching count_at us (map (list_at addresses) words) k))
+    (units_shifted region addresses terms tokens frame order all framed.each)
+    ∙ length-reaching-shifted count_at (frequency_at tokens) (start_of frame) (list_at addresses) (units_at extents order) words k
+    (all_agree addresses tokens frame (units_at extents order) framed.ascending
+    (units_inside region addresses tokens frame order framed.each))
+    ∙ length-reaching-IsPermutation (frequency_at tokens) (units_at extents places) (units_at extents order) words k
+    (flat_map-IsPermutation (λ place. map (unit_at place) (extents place)) places order same)
 
 -- ---- back to the files
 

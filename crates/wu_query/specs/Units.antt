@@ -27,6 +27,9 @@ use Rattle.wu_parts.specs.Contents.{Contents}
 use Rattle.wu_frames.specs.declared.Frame.{Frame}
 use Rattle.wu_frames.specs.declared.Frames.{Frames}
 use Rattle.wu_query.specs.Asked.{blocks_read}
+use Rattle.wu_ask.specs.Questions.{Question, Ranking, Weighing}
+use Rattle.wu_query.specs.declared.ranking.Purpose.{Purpose}
+use Rattle.wu_query.specs.declared.ranking.Purpose.TheVariants as purposes
 use Rattle.wu_query.specs.Rankings.{unit_at}
 use Rattle.wu_query.specs.States.{State}
 
@@ -92,6 +95,11 @@ pub record CanBeRanked (units : List RankedUnit) : Type 0 where
 pub record AreUnits (region : Region) (frames : Frames) (lists : List TermList) (units : List RankedUnit) : Type 0 where
   pub are : units ≡ units_in region lists frames.by_address
   pub fit : CanBeRanked units
+
+-- what is asked of the units that hold one of the words
+abbrev pub question_for : Purpose → Region → List (List ℕ) → Question
+question_for (purposes.Rank k) unit words = Ranking k unit words
+question_for (purposes.Weigh k) unit words = Weighing k unit words
 
 -- all of the frame, as the unit that is the whole file; none where a frame has no room for the tags at its start and its end
 abbrev pub file_unit : Frame → List RankedUnit

@@ -1,20 +1,24 @@
-//! The ranking of a query's units, over a user's frames.
+//! The ranking of a query's units, over a user's frames, and how many of them could be among the first.
 ghost use Rattle.std.specs.Prelude.{◌≡◌, ◌≤◌, ◌<◌, ◌^◌, ℕ, List, All, true, length, map, take, find, nat_eq, option_copied, IfOk, IfErr, OnOk};
 ghost use Rattle.std.specs.Cmp.Lexicographic.{pointwise};
 ghost use Rattle.std.specs.List.{AllByRecursion};
 ghost use Rattle.std.specs.List.Sorted.{IsStrictlyIncreasing};
-ghost use Rattle.wu_ask.specs.Questions.{Ranking as AskedRanking};
+ghost use Rattle.wu_ask.specs.Questions.{Ranking as AskedRanking, Weighing};
 ghost use Rattle.wu_base.specs.declared.limits.TheConstants.{RANK_WORDS_MAX};
 ghost use Rattle.wu_gcl.specs.Regions.{Region, WholeFile, region_of};
 ghost use Rattle.wu_gcl.specs.Terms.{AreTerms};
 ghost use Rattle.wu_lists.specs.Keeping.{Asks};
 ghost use Rattle.wu_rank.specs.Scores.{count_at, length_of, total_length};
 ghost use Rattle.wu_rank.specs.Order.{listed};
+ghost use Rattle.wu_rank.specs.Pruning.{reaching};
+ghost use Rattle.wu_frames.specs.declared.Frames.{Frames as UserFrames};
+ghost use Rattle.wu_space.specs.Addresses.{Ranges};
 ghost use Rattle.wu_query.specs.Answer.{answer};
 ghost use Rattle.wu_query.specs.Asked.{blocks_for, terms_of as named_in, with_word, with_words};
 ghost use Rattle.wu_query.specs.States.{State};
 ghost use Rattle.wu_query.specs.Searched.{Indexes, TellsPostings};
-ghost use Rattle.wu_query.specs.Units.{AreUnitsIn, CanBeRanked, CanBeSearched, IsAmong, IsCauseFor, found_in, list_at, list_in};
+ghost use Rattle.wu_query.specs.Units.{AreUnitsIn, CanBeRanked, CanBeSearched, IsAmong, IsCauseFor};
+ghost use Rattle.wu_query.specs.Units.{found_in, list_at, list_in, question_for};
 ghost use Rattle.wu_query.specs.View.{view_of};
 
 use crate::fetching::{is_among, lists_of, lists_of_words};
@@ -27,8 +31,17 @@ use wu_frames::Frames;
 use wu_gcl::{Expr, terms_of};
 use wu_outside::Store;
 use wu_parts::Parts;
-use wu_rank::{Ranker, Ranking, Unit, bm25_weigh, rank, summed_length};
+use wu_rank::{Pruned, Ranker, Ranking, Unit, bm25_weigh, rank, rank_pruned, summed_length};
 use wu_space::Space;
+
+/// What the units that hold a word are wanted for.
+#[derive(Clone, Copy)]
+enum Purpose {
+    /// To show the first `k` of their ranking.
+    Rank { k: u32 },
+    /// To count those that could be among the first `k`.
+    Weigh { k: u32 },
+}
 
 /// How many units hold one of the words, by BM25 over the view alone, and the first `k` of them: by score,
 /// falling, then by file, then by start. The units are the extents of `unit`; a word that is given more than
@@ -58,6 +71,83 @@ pub fn ranked<D: Store>(
     ensures cause { IfErr result (IsCauseFor parts.old frames.now.ranges (with_words (named_in (region_of unit.now)) words.now)
         (D.holds store.old) (D.faults store.old) (D.faults store.new) (D.reads store.old) (D.reads store.new)) }
 {
+    answer_for(
+        alloc,
+        store,
+        frames,
+        space,
+        parts,
+        Purpose::Rank { k },
+        unit,
+        words,
+    )
+}
+
+/// How many units hold one of the words, and how many of these could be among the first `k`, by the words
+/// that they hold and not by how often. The units and the words are as for `ranked`.
+pub fn weighed<D: Store>(
+    alloc: Global,
+    store: &mut D,
+    frames: &Frames,
+    space: &Space,
+    parts: &mut Parts,
+    k: u32,
+    unit: &Expr,
+    words: &[Bytes],
+) -> Result<Answered, Trouble>
+    requires fit { CanBeSearched frames.now }
+    requires few { length words.now ≤ RANK_WORDS_MAX }
+    ensures answer { IfOk result (λ answered. (s : State) (uid : ℕ) → Indexes frames.now space.now.ranges s uid
+        → TellsPostings parts.old (D.holds store.old) s
+        → answered ≡ answer (view_of s uid) (Weighing k (region_of unit.now) words.now)) }
+    ensures blocks { OnOk result (Asks
+        (blocks_for parts.old frames.now.ranges (with_words (named_in (region_of unit.now)) words.now)) (D.holds store.old)
+        parts.old.kept parts.new.kept (D.reads store.old) (D.reads store.new)) }
+    ensures others { parts.new ≡ record parts.old { kept = parts.new.kept } }
+    ensures holds { D.holds store.new ≡ D.holds store.old }
+    ensures moments { D.moments store.new ≡ D.moments store.old }
+    ensures calm { OnOk result (D.faults store.new ≡ D.faults store.old) }
+    ensures cause { IfErr result (IsCauseFor parts.old frames.now.ranges (with_words (named_in (region_of unit.now)) words.now)
+        (D.holds store.old) (D.faults store.old) (D.faults store.new) (D.reads store.old) (D.reads store.new)) }
+{
+    answer_for(
+        alloc,
+        store,
+        frames,
+        space,
+        parts,
+        Purpose::Weigh { k },
+        unit,
+        words,
+    )
+}
+
+/// What is told of the units that hold one of the words.
+fn answer_for<D: Store>(
+    alloc: Global,
+    store: &mut D,
+    frames: &Frames,
+    space: &Space,
+    parts: &mut Parts,
+    purpose: Purpose,
+    unit: &Expr,
+    words: &[Bytes],
+) -> Result<Answered, Trouble>
+    requires fit { CanBeSearched frames.now }
+    requires few { length words.now ≤ RANK_WORDS_MAX }
+    ensures answer { IfOk result (λ answered. (s : State) (uid : ℕ) → Indexes frames.now space.now.ranges s uid
+        → TellsPostings parts.old (D.holds store.old) s
+        → answered ≡ answer (view_of s uid) (question_for purpose (region_of unit.now) words.now)) }
+    ensures blocks { OnOk result (Asks
+        (blocks_for parts.old frames.now.ranges (with_words (named_in (region_of unit.now)) words.now)) (D.holds store.old)
+        parts.old.kept parts.new.kept (D.reads store.old) (D.reads store.new)) }
+    ensures others { parts.new ≡ record parts.old { kept = parts.new.kept } }
+    ensures holds { D.holds store.new ≡ D.holds store.old }
+    ensures moments { D.moments store.new ≡ D.moments store.old }
+    ensures calm { OnOk result (D.faults store.new ≡ D.faults store.old) }
+    ensures cause { IfErr result (IsCauseFor parts.old frames.now.ranges (with_words (named_in (region_of unit.now)) words.now)
+        (D.holds store.old) (D.faults store.old) (D.faults store.new) (D.reads store.old) (D.reads store.new)) }
+{
     let _untouched = &*store;
     let terms = terms_of(alloc, unit)?;
     let count = terms.len();
@@ -66,11 +156,11 @@ pub fn ranked<D: Store>(
         Expr::File => {
             // Of terms that are no words only the reads are owed.
             let lists = lists_of_words(alloc, store, &asked, words, frames, parts)?;
-            Ok(rank_file_lists(alloc, frames, space, k, words, &lists)?)
+            Ok(rank_file_lists(alloc, frames, space, purpose, words, &lists)?)
         }
         _ => {
             let lists = lists_of(alloc, store, &asked, frames, parts)?;
-            Ok(rank_lists(alloc, frames, space, k, unit, words, &lists, count)?)
+            Ok(rank_lists(alloc, frames, space, purpose, unit, words, &lists, count)?)
         }
     }
 }
@@ -80,7 +170,7 @@ fn rank_file_lists(
     alloc: Global,
     frames: &Frames,
     space: &Space,
-    k: u32,
+    purpose: Purpose,
     words: &[Bytes],
     lists: &[TermList],
 ) -> Result<Answered, NoMemory>
@@ -90,10 +180,10 @@ fn rank_file_lists(
     ensures { IfOk result (λ answered. (s : State) (uid : ℕ) → Indexes frames.now space.now.ranges s uid
         → (terms : List (List ℕ)) → lists.now ≡ map (list_at (found_in frames.now.ranges s)) terms
         → AllByRecursion (IsAmong terms) words.now
-        → answered ≡ answer (view_of s uid) (AskedRanking k WholeFile words.now)) }
+        → answered ≡ answer (view_of s uid) (question_for purpose WholeFile words.now)) }
 {
     let units = units_of_files(alloc, frames.by_address.as_slice())?;
-    rank_units(alloc, frames, space, k, &units, words, lists, lists)
+    rank_units(alloc, frames, space, purpose, &units, words, lists, lists)
 }
 
 /// The same of other extents, by the lists of the unit's terms, which are the first `count` ones, and of the words.
@@ -101,7 +191,7 @@ fn rank_lists(
     alloc: Global,
     frames: &Frames,
     space: &Space,
-    k: u32,
+    purpose: Purpose,
     unit: &Expr,
     words: &[Bytes],
     lists: &[TermList],
@@ -115,20 +205,20 @@ fn rank_lists(
     ensures { IfOk result (λ answered. (s : State) (uid : ℕ) → Indexes frames.now space.now.ranges s uid
         → (terms : List (List ℕ)) → lists.now ≡ map (list_at (found_in frames.now.ranges s)) terms
         → AllByRecursion (IsAmong terms) words.now
-        → answered ≡ answer (view_of s uid) (AskedRanking k (region_of unit.now) words.now)) }
+        → answered ≡ answer (view_of s uid) (question_for purpose (region_of unit.now) words.now)) }
 {
     let (of_unit, own) = lists.split_at(count);
     let units = units_of(alloc, frames, unit, of_unit)?;
-    rank_units(alloc, frames, space, k, &units, words, lists, own)
+    rank_units(alloc, frames, space, purpose, &units, words, lists, own)
 }
 
-/// Ranks the units, where each word has one of the lists. The lists that weren't fetched for the units are
+/// Tells of the units, where each word has one of the lists. The lists that weren't fetched for the units are
 /// its `own`: they aren't copied where they are those of the words, in turn.
 fn rank_units(
     alloc: Global,
     frames: &Frames,
     space: &Space,
-    k: u32,
+    purpose: Purpose,
     units: &[Unit],
     words: &[Bytes],
     lists: &[TermList],
@@ -143,13 +233,13 @@ fn rank_units(
         → (terms own_terms : List (List ℕ)) → lists.now ≡ map (list_at (found_in frames.now.ranges s)) terms
         → own.now ≡ map (list_at (found_in frames.now.ranges s)) own_terms
         → AllByRecursion (IsAmong terms) words.now
-        → answered ≡ answer (view_of s uid) (AskedRanking k region words.now)) }
+        → answered ≡ answer (view_of s uid) (question_for purpose region words.now)) }
 {
     if are_of(own, words) {
-        return rank_words(alloc, frames, space, k, units, own);
+        return tell_units(alloc, frames, space, purpose, units, own);
     }
     let of_words = lists_for(alloc, words, lists)?;
-    rank_words(alloc, frames, space, k, units, &of_words)
+    tell_units(alloc, frames, space, purpose, units, &of_words)
 }
 
 /// Whether the lists are those of the words, in turn.
@@ -165,6 +255,29 @@ fn are_of(lists: &[TermList], words: &[Bytes]) -> bool
         }
     }
     true
+}
+
+/// Tells what is asked of the units, by the lists of the words.
+fn tell_units(
+    alloc: Global,
+    frames: &Frames,
+    space: &Space,
+    purpose: Purpose,
+    units: &[Unit],
+    lists: &[TermList],
+) -> Result<Answered, NoMemory>
+    requires fit { CanBeRanked units.now }
+    requires few { length lists.now ≤ RANK_WORDS_MAX }
+    requires ascending { All (λ list. IsStrictlyIncreasing list.at) lists.now }
+    ensures { IfOk result (λ answered. (s : State) (uid : ℕ) → Indexes frames.now space.now.ranges s uid
+        → (region : Region) → AreUnitsIn region frames.now s units.now
+        → (words : List (List ℕ)) → lists.now ≡ map (list_at (found_in frames.now.ranges s)) words
+        → answered ≡ answer (view_of s uid) (question_for purpose region words)) }
+{
+    match purpose {
+        Purpose::Rank { k } => rank_words(alloc, frames, space, k, units, lists),
+        Purpose::Weigh { k } => weigh_words(alloc, units, lists, k),
+    }
 }
 
 /// Ranks the units by the lists of the words, and shows the first `k`.
@@ -189,6 +302,28 @@ fn rank_words(
     Ok(Answered::Rank {
         listed,
         shown: Sequence::from(shown),
+    })
+}
+
+/// Counts the units that hold one of the words, and those that could be among the first `k`.
+fn weigh_words(
+    alloc: Global,
+    units: &[Unit],
+    lists: &[TermList],
+    k: u32,
+) -> Result<Answered, NoMemory>
+    requires fit { CanBeRanked units.now }
+    requires few { length lists.now ≤ RANK_WORDS_MAX }
+    requires ascending { All (λ list. IsStrictlyIncreasing list.at) lists.now }
+    ensures { IfOk result (λ answered. (frames : UserFrames) (live : Ranges) (s : State) (uid : ℕ)
+        → Indexes frames live s uid → (region : Region) → AreUnitsIn region frames s units.now
+        → (words : List (List ℕ)) → lists.now ≡ map (list_at (found_in frames.ranges s)) words
+        → answered ≡ answer (view_of s uid) (Weighing k region words)) }
+{
+    let Pruned { ranking, weighed } = weigh_all(alloc, units, lists, k)?;
+    Ok(Answered::Weighed {
+        listed: ranking.listed,
+        weighed: weighed.len() as u64,
     })
 }
 
@@ -263,6 +398,25 @@ fn rank_all(alloc: Global, units: &[Unit], lists: &[TermList], k: u32) -> Result
     let (n, t) = statistics(units);
     let ranker = Ranker::new(|idf, f, l| bm25_weigh(idf, f, l, n, t), n, t);
     rank(alloc, units, lists, k, &ranker)
+}
+
+/// Prunes the ranking of the units, by the same weights.
+fn weigh_all(alloc: Global, units: &[Unit], lists: &[TermList], k: u32) -> Result<Pruned, NoMemory>
+    requires some { All (λ unit. 1 ≤ length_of unit.extent) units.now }
+    requires short { All (λ unit. length_of unit.extent < 2 ^ 26) units.now }
+    requires few_units { length units.now ≤ 2 ^ 47 }
+    requires few_lists { length lists.now ≤ RANK_WORDS_MAX }
+    requires ascending { All (λ word. IsStrictlyIncreasing word.at) lists.now }
+    ensures listed { IfOk result (λ pruned. pruned.ranking.listed ≡ length (listed count_at units.now lists.now)) }
+    ensures weighed { IfOk result (λ pruned. pruned.weighed ≡ reaching count_at units.now lists.now k) }
+{
+    let (number, total) = statistics(units);
+    let ranker = Ranker::new(
+        |idf, f, l| bm25_weigh(idf, f, l, number, total),
+        number,
+        total,
+    );
+    rank_pruned(alloc, units, lists, k, &ranker)
 }
 
 /// How many units there are, and their summed length; 1 and 1 where there is none.

@@ -8,9 +8,9 @@ use Rattle.wu_query.specs.Asked.{terms_of, with_words}
 use Rattle.wu_query.specs.Units.{wanted}
 use Rattle.wu_query.proofs.AskedTerms.{enough_asked, first_asked, terms_named, wanted_among, words_among}
 use Rattle.wu_query.proofs.PassedCauses.{cause_at_last, cause_at_once, cause_passed}
-use Rattle.wu_query.proofs.ranking.ranked.Given as given
-use Rattle.wu_query.proofs.ranking.ranked.Goals as goal
-use Rattle.wu_query.proofs.ranking.ranked.Goals.{In_ok-asked}
+use Rattle.wu_query.proofs.ranking.answer_for.Given as given
+use Rattle.wu_query.proofs.ranking.answer_for.Goals as goal
+use Rattle.wu_query.proofs.ranking.answer_for.Goals.{In_ok-asked}
 
 pub returns-in_err-terms-clause-cause : goal.returns-in_err-terms-clause-cause
 returns-in_err-terms-clause-cause g c =

@@ -7,7 +7,7 @@ use Rattle.wu_query.proofs.ranking.rank_units.Goals as goal
 pub returns-then-are_of : goal.returns-then-are_of
 returns-then-are_of c =
     let words = c.args.words.now in
-    if_ok c.rank_words.result c.rank_words.ensures
+    if_ok c.tell_units.result c.tell_units.ensures
     (λ answered known. λ s uid is region are terms own_terms told own_told among.
     known s uid is region are words
     (told_of (found_in c.args.frames.now.ranges s) own_terms words c.args.own.now own_told (c.are_of.ensures c.if-are_of.true)))
@@ -15,7 +15,7 @@ returns-then-are_of c =
 pub returns : goal.returns
 returns c =
     let words = c.args.words.now in
-    if_ok c.rank_words-2.result c.rank_words-2.ensures
+    if_ok c.tell_units-2.result c.tell_units-2.ensures
     (λ answered known. λ s uid is region are terms own_terms told own_told among.
     known s uid is region are words
     (c.deref.ensures.value
