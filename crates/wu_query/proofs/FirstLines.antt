@@ -8,7 +8,7 @@ use Rattle.wu_outside.specs.Content.{Content}
 use Rattle.wu_outside.specs.declared.ranges.ReadRange.{ReadRange}
 use Rattle.wu_lists.proofs.Asking.{ranges-none}
 use Rattle.wu_ask.specs.declared.Found.{Found}
-use Rattle.wu_ask.specs.Questions.{Counting, Ranking, ListingPaths, ListingTerms}
+use Rattle.wu_ask.specs.Questions.{Counting, Ranking, ListingPaths, ListingTerms, Weighing}
 use Rattle.wu_base.specs.declared.addresses.Extent.{Extent}
 use Rattle.wu_base.specs.declared.addresses.TermList.{TermList}
 use Rattle.wu_gcl.specs.Regions.{Region}
@@ -120,6 +120,10 @@ none_counted s uid region = refl
 pub none_ranked : (s : State) (uid k : ℕ) (unit : Region) (words : List (List ℕ)) → texts_read s uid (Ranking k unit words) ≡ []
 unfolding texts_read
 none_ranked s uid k unit words = refl
+
+pub none_weighed : (s : State) (uid k : ℕ) (unit : Region) (words : List (List ℕ)) → texts_read s uid (Weighing k unit words) ≡ []
+unfolding texts_read
+none_weighed s uid k unit words = refl
 
 pub none_listed : (s : State) (uid : ℕ) → texts_read s uid ListingPaths ≡ []
 unfolding texts_read

@@ -19,7 +19,7 @@ ghost use Rattle.wu_query.specs.View.{view_of};
 use crate::counting::count;
 use crate::finding::find;
 use crate::listing::paths;
-use crate::ranking::ranked;
+use crate::ranking::{ranked, weighed};
 use crate::terms::user_terms;
 use std::alloc::Global;
 use std::collections::BTreeMap;
@@ -133,6 +133,17 @@ fn answer<D: Store>(
             *top,
         ),
         Ask::Export => Err(Trouble::NoMemory),
-        Ask::Weighed { .. } => Err(Trouble::NoMemory),
+        Ask::Weighed { k, unit, words } => {
+            weighed(
+                alloc,
+                store,
+                frames,
+                space,
+                parts,
+                *k,
+                unit,
+                words.as_slice(),
+            )
+        }
     }
 }

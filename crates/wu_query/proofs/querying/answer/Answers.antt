@@ -1,12 +1,12 @@
 use Rattle.std.proofs.Common.{◌∙◌, [], refl}
 use Rattle.std.proofs.lemmas.Result.{on_ok_weaker}
-use Rattle.wu_ask.specs.Questions.{Counting, ListingPaths, ListingTerms, Ranking}
+use Rattle.wu_ask.specs.Questions.{Counting, ListingPaths, ListingTerms, Ranking, Weighing}
 use Rattle.wu_gcl.specs.Regions.{region_of}
 use Rattle.wu_lists.proofs.Asking.{asks-none}
 use Rattle.wu_parts.specs.Candidates.{terms_held}
 use Rattle.wu_query.specs.Asked.{blocks_for, terms_asked}
 use Rattle.wu_query.proofs.AnswerLemmas.{if_ok, paths_listed}
-use Rattle.wu_query.proofs.FirstLines.{none_counted, none_listed, none_of_terms, none_ranked}
+use Rattle.wu_query.proofs.FirstLines.{none_counted, none_listed, none_of_terms, none_ranked, none_weighed}
 use Rattle.wu_query.proofs.PermittedBlocks.{fetched_permitted}
 use Rattle.wu_query.proofs.QueryReads.{blocks_alone, cause_fetched, cause_of_memory}
 use Rattle.wu_query.proofs.ReadCauses.{if_err}
@@ -135,4 +135,37 @@ returns-in-Terms-clause-cause g c =
     rw c.in-Terms.is
     (if_err c.user_terms.result (rw c.as_slice-in-Terms.ensures at c.user_terms.ensures.cause)
     (λ trouble cause. cause_fetched c.args.frames.now (ListingTerms c.in-Terms.k c.in-Terms.prefix c.in-Terms.top) c.args.parts.now
+    c.args.files.now.entries (g.D.Store.holds c.args.store.now) refl cause))
+
+pub returns-in-Weighed-clause-answer : goal.returns-in-Weighed-clause-answer
+returns-in-Weighed-clause-answer g c =
+    rw c.in-Weighed.is
+    (if_ok c.weighed.result (rw c.as_slice-in-Weighed.ensures at c.weighed.ensures.answer)
+    (λ answered known. λ s uid is tells keeps. known s uid is tells))
+
+pub returns-in-Weighed-clause-reads : goal.returns-in-Weighed-clause-reads
+returns-in-Weighed-clause-reads g c =
+    let frames = c.args.frames.now in
+    let parts = c.args.parts.now in
+    let question = Weighing c.in-Weighed.k (region_of c.in-Weighed.unit) c.in-Weighed.words in
+    rw c.in-Weighed.is
+    (on_ok_weaker c.weighed.result
+    (blocks_alone question (blocks_for parts frames.ranges (terms_asked (terms_held parts) question)) frames parts c.args.files.now.entries
+    (g.D.Store.holds c.args.store.now) parts.kept c.weighed.new.parts.kept (g.D.Store.reads c.args.store.now)
+    (g.D.Store.reads c.weighed.new.store) (λ s uid. none_weighed s uid c.in-Weighed.k (region_of c.in-Weighed.unit) c.in-Weighed.words))
+    (rw c.as_slice-in-Weighed.ensures at c.weighed.ensures.blocks))
+
+pub returns-in-Weighed-clause-permitted : goal.returns-in-Weighed-clause-permitted
+returns-in-Weighed-clause-permitted g c = λ s uid is tells keeps.
+    rw c.in-Weighed.is
+    (fetched_permitted c.args.frames.now c.args.space.now.ranges s uid is c.args.parts.now (g.D.Store.holds c.args.store.now) tells
+    (Weighing c.in-Weighed.k (region_of c.in-Weighed.unit) c.in-Weighed.words) refl (g.D.Store.reads c.args.store.now)
+    (g.D.Store.reads c.weighed.new.store) c.weighed.result c.weighed.new.parts.kept _ _ (rw c.as_slice-in-Weighed.ensures at c.weighed.ensures.blocks)
+    (rw c.as_slice-in-Weighed.ensures at c.weighed.ensures.cause))
+
+pub returns-in-Weighed-clause-cause : goal.returns-in-Weighed-clause-cause
+returns-in-Weighed-clause-cause g c =
+    rw c.in-Weighed.is
+    (if_err c.weighed.result (rw c.as_slice-in-Weighed.ensures at c.weighed.ensures.cause)
+    (λ trouble cause. cause_fetched c.args.frames.now (Weighing c.in-Weighed.k (region_of c.in-Weighed.unit) c.in-Weighed.words) c.args.parts.now
     c.args.files.now.entries (g.D.Store.holds c.args.store.now) refl cause))
