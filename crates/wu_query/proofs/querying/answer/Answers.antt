@@ -6,6 +6,7 @@ use Rattle.wu_lists.proofs.Asking.{asks-none}
 use Rattle.wu_parts.specs.Candidates.{terms_held}
 use Rattle.wu_query.specs.Asked.{blocks_for, terms_asked}
 use Rattle.wu_query.proofs.AnswerLemmas.{if_ok, paths_listed}
+use Rattle.wu_query.proofs.ExportedFiles.{cause_of_export, texts_alone}
 use Rattle.wu_query.proofs.FirstLines.{none_counted, none_listed, none_of_terms, none_ranked, none_weighed}
 use Rattle.wu_query.proofs.PermittedBlocks.{fetched_permitted}
 use Rattle.wu_query.proofs.QueryReads.{blocks_alone, cause_fetched, cause_of_memory}
@@ -137,6 +138,29 @@ returns-in-Terms-clause-cause g c =
     (λ trouble cause. cause_fetched c.args.frames.now (ListingTerms c.in-Terms.k c.in-Terms.prefix c.in-Terms.top) c.args.parts.now
     c.args.files.now.entries (g.D.Store.holds c.args.store.now) refl cause))
 
+pub returns-in-Export-clause-answer : goal.returns-in-Export-clause-answer
+returns-in-Export-clause-answer g c =
+    rw c.in-Export.is
+    (if_ok c.export.result c.export.ensures.answer
+    (λ answered known. λ s uid is tells keeps. known c.args.space.now.ranges s uid is keeps))
+
+pub returns-in-Export-clause-reads : goal.returns-in-Export-clause-reads
+returns-in-Export-clause-reads g c =
+    rw c.in-Export.is
+    (texts_alone c.args.frames.now c.args.parts.now c.args.files.now.entries (g.D.Store.holds c.args.store.now) c.export.result
+    (g.D.Store.reads c.args.store.now) (g.D.Store.reads c.export.new.store) c.export.ensures.sound c.export.ensures.reads)
+
+pub returns-in-Export-clause-permitted : goal.returns-in-Export-clause-permitted
+returns-in-Export-clause-permitted g c = λ s uid is tells keeps.
+    rw c.in-Export.is (c.export.ensures.permitted c.args.space.now.ranges s uid is keeps)
+
+pub returns-in-Export-clause-cause : goal.returns-in-Export-clause-cause
+returns-in-Export-clause-cause g c =
+    rw c.in-Export.is
+    (if_err c.export.result c.export.ensures.cause
+    (λ trouble cause. cause_of_export c.args.frames.now c.args.parts.now c.args.files.now.entries (g.D.Store.holds c.args.store.now)
+    cause))
+
 pub returns-in-Weighed-clause-answer : goal.returns-in-Weighed-clause-answer
 returns-in-Weighed-clause-answer g c =
     rw c.in-Weighed.is
@@ -160,7 +184,8 @@ returns-in-Weighed-clause-permitted g c = λ s uid is tells keeps.
     rw c.in-Weighed.is
     (fetched_permitted c.args.frames.now c.args.space.now.ranges s uid is c.args.parts.now (g.D.Store.holds c.args.store.now) tells
     (Weighing c.in-Weighed.k (region_of c.in-Weighed.unit) c.in-Weighed.words) refl (g.D.Store.reads c.args.store.now)
-    (g.D.Store.reads c.weighed.new.store) c.weighed.result c.weighed.new.parts.kept _ _ (rw c.as_slice-in-Weighed.ensures at c.weighed.ensures.blocks)
+    (g.D.Store.reads c.weighed.new.store) c.weighed.result c.weighed.new.parts.kept _ _
+    (rw c.as_slice-in-Weighed.ensures at c.weighed.ensures.blocks)
     (rw c.as_slice-in-Weighed.ensures at c.weighed.ensures.cause))
 
 pub returns-in-Weighed-clause-cause : goal.returns-in-Weighed-clause-cause
