@@ -9,7 +9,7 @@ use wu_script::{Command, Line, read_command};
 use wu_tree::Event;
 
 /// What the line says: why it is refused, the name of the file that it makes, what it finds, how it ranks,
-/// or the operation that it is.
+/// which terms it lists, whose files it exports, or the operation that it is.
 pub fn said(alloc: Global, field: &str) -> Result<String, NoAnswer> {
     let line = script(alloc, field)?;
     let line = read_command(alloc, line.as_slice())?;
@@ -53,8 +53,13 @@ fn query_text(alloc: Global, query: &Query) -> Result<String, NoAnswer> {
     match &query.ask {
         Ask::Find { k, expr } => finding_text(alloc, query.uid, *k, expr),
         Ask::Rank { k, unit, words } => {
-            ranking_text(alloc, query.uid, *k, unit, words.as_slice())
+            ranking_text(alloc, "rank", query.uid, *k, unit, words.as_slice())
         }
+        Ask::Weighed { k, unit, words } => {
+            ranking_text(alloc, "weighed", query.uid, *k, unit, words.as_slice())
+        }
+        Ask::Terms { k, prefix, top } => listing_text(alloc, query.uid, *k, prefix, *top),
+        Ask::Export => export_text(alloc, query.uid),
         _ => plain_text(alloc, "ask"),
     }
 }
@@ -66,6 +71,7 @@ fn finding_text(alloc: Global, uid: u32, k: u32, expr: &Expr) -> Result<String, 
 
 fn ranking_text(
     alloc: Global,
+    word: &str,
     uid: u32,
     k: u32,
     unit: &Expr,
@@ -73,7 +79,23 @@ fn ranking_text(
 ) -> Result<String, NoAnswer> {
     let unit = expr_name(unit);
     let words = list_text(alloc, words)?;
-    Ok(format!(in alloc; "rank {uid} {k} {unit} {words}")?)
+    Ok(format!(in alloc; "{word} {uid} {k} {unit} {words}")?)
+}
+
+fn listing_text(
+    alloc: Global,
+    uid: u32,
+    k: u32,
+    prefix: &Bytes,
+    top: bool,
+) -> Result<String, NoAnswer> {
+    let word = if top { "top" } else { "terms" };
+    let prefix = bytes_text(alloc, prefix.as_slice())?;
+    Ok(format!(in alloc; "{word} {uid} {k} {prefix}")?)
+}
+
+fn export_text(alloc: Global, uid: u32) -> Result<String, NoAnswer> {
+    Ok(format!(in alloc; "export {uid}")?)
 }
 
 /// A name for the expression.

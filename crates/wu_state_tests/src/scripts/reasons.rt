@@ -3,7 +3,7 @@ use wu_gcl::ExprFault;
 use wu_script::Why;
 use wu_tree::Refusal;
 
-const NAMES: [(&str, Why); 18] = [
+const NAMES: [(&str, Why); 19] = [
     ("longline", Why::LongLine),
     ("syntax", Why::Syntax),
     ("truncated", Why::Truncated),
@@ -11,6 +11,7 @@ const NAMES: [(&str, Why); 18] = [
     ("badbody", Why::BadBody),
     ("noword", Why::NoWord),
     ("manywords", Why::ManyWords),
+    ("badprefix", Why::BadPrefix),
     ("tree badname", Why::Tree(Refusal::BadName)),
     ("tree nosuch", Why::Tree(Refusal::NoSuch)),
     ("tree kind", Why::Tree(Refusal::Kind)),

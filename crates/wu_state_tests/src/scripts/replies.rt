@@ -1,7 +1,7 @@
 //! The bytes of replies.
 use crate::scripts::reasons::named;
 use std::alloc::Global;
-use wu_ask::{Answered, Found, RankLine};
+use wu_ask::{Answered, Found, RankLine, TermLine};
 use wu_base::{Bytes, Sequence, Stat, Worked};
 use wu_rows::{NoAnswer, bytes, number, shown};
 use wu_script::{Reply, put_reply};
@@ -37,6 +37,10 @@ fn reply(alloc: Global, fields: &[&str]) -> Result<Reply, NoAnswer> {
         ["paths", path] => one_path(alloc, path),
         ["find", hits, files, lines @ ..] => found(alloc, hits, files, lines),
         ["rank", fields @ ..] => one_region(alloc, fields),
+        ["terms", total, lines @ ..] => listed(alloc, total, false, lines),
+        ["top", total, lines @ ..] => listed(alloc, total, true, lines),
+        ["export", script] => export(alloc, script),
+        ["weighed", listed, weighed] => weighed_of(listed, weighed),
         _ => Err(NoAnswer::BadRow),
     }
 }
@@ -98,4 +102,39 @@ fn one_region(alloc: Global, fields: &[&str]) -> Result<Reply, NoAnswer> {
         end,
     })?;
     Ok(Reply::Answered(Answered::Rank { listed, shown }))
+}
+
+/// The reply that has so many words. Two fields tell a word that it shows: its bytes, and how many files have it.
+fn listed(alloc: Global, total: &str, top: bool, lines: &[&str]) -> Result<Reply, NoAnswer> {
+    let total = number(total)?;
+    let mut shown = Sequence::new(alloc);
+    for line in lines.chunks(2) {
+        shown.push(term_line(alloc, line)?)?;
+    }
+    Ok(Reply::Answered(Answered::Terms { total, top, shown }))
+}
+
+fn term_line(alloc: Global, fields: &[&str]) -> Result<TermLine, NoAnswer> {
+    let [word, files] = fields else {
+        return Err(NoAnswer::BadRow);
+    };
+    let files = number(files)?;
+    Ok(TermLine {
+        word: Bytes::from(bytes(alloc, word)?),
+        files,
+    })
+}
+
+/// The reply that has this script.
+fn export(alloc: Global, script: &str) -> Result<Reply, NoAnswer> {
+    Ok(Reply::Answered(Answered::Export {
+        script: Bytes::from(bytes(alloc, script)?),
+    }))
+}
+
+fn weighed_of(listed: &str, weighed: &str) -> Result<Reply, NoAnswer> {
+    Ok(Reply::Answered(Answered::Weighed {
+        listed: number(listed)?,
+        weighed: number(weighed)?,
+    }))
 }
