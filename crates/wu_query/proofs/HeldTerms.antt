@@ -1,6 +1,6 @@
 -- The terms that an index lists, in the directories of its parts and in memory, and those of which its state has postings.
-use Rattle.std.proofs.Common.{◌≡◌, ℕ, ◌<◌, true, false, cond, nat_eq, List, [], ◌∷◌, ◌++◌, length, map, filter, Option, None, Some, refl, ap}
-use Rattle.std.proofs.Common.{ap₂, sym, subst, inl, inr, ⊎_elim, unwrap_or, arith}
+use Rattle.std.proofs.Common.{◌≡◌, ℕ, ◌<◌, true, false, cond, nat_eq, List, [], ◌∷◌, ◌++◌, length, map, filter, Option, None, Some}
+use Rattle.std.proofs.Common.{refl, ap, ap₂, sym, subst, inl, inr, ⊎_elim, unwrap_or, arith}
 use Rattle.std.specs.Prelude.{IsSome}
 use Rattle.std.specs.List.{AllZip, flat_map}
 use Rattle.std.specs.Map.{keys_of, lookup}

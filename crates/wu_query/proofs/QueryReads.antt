@@ -52,7 +52,8 @@ blob_of_block blob (block ∷ blocks) some = ⊎_elim (λ here. inl here) (λ la
 -- what a fetch answers is damage that the question may find
 pub cause_fetched : (frames : Frames) (question : Question) (contents : Contents) (files : Records) (holds : Option Content)
     {terms : List (List ℕ)} → terms ≡ terms_asked (terms_held contents) question → {before now : ℕ}
-    {ranges ranges_now : Option (List ReadRange)} {trouble : Trouble} → IsCauseFor contents frames.ranges terms holds before now ranges ranges_now trouble
+    {ranges ranges_now : Option (List ReadRange)} {trouble : Trouble}
+    → IsCauseFor contents frames.ranges terms holds before now ranges ranges_now trouble
     → IsCause (IsDamagedOver frames question contents files holds) before now ranges ranges_now trouble
 cause_fetched frames question contents files holds same cause = record {
   kept = cause.counted;

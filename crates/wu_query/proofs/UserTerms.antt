@@ -1,5 +1,6 @@
 -- The words that a user's frames have, of those that the index lists with a prefix, are the terms of the texts of her view.
-use Rattle.std.proofs.Common.{◌≡◌, ℕ, ◌+◌, true, Bool, List, [], ◌∷◌, length, map, filter, take, refl, sym, ap, ap₂, ◌∙◌, subst, Option, None, Some}
+use Rattle.std.proofs.Common.{◌≡◌, ℕ, ◌+◌, true, Bool, List, [], ◌∷◌, length, map, filter, take, refl, sym, ap, ap₂, ◌∙◌}
+use Rattle.std.proofs.Common.{subst, Option, None, Some}
 use Rattle.std.specs.Prelude.{is_some, nat_lt}
 use Rattle.wu_base.specs.declared.addresses.Range.{Range}
 use Rattle.wu_base.specs.Ranges.{is_in}

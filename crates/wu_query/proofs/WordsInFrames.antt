@@ -51,7 +51,8 @@ somewhere_token word (token ∷ tokens) (suc i) here =
 
 -- ---- a frame and its file
 
-module _ (addresses : List ℕ → List ℕ) (tokens : List (List ℕ)) (frame : Range) (is : IsFrameOf addresses tokens frame) (word : List ℕ) where
+module _ (addresses : List ℕ → List ℕ) (tokens : List (List ℕ)) (frame : Range) (is : IsFrameOf addresses tokens frame)
+    (word : List ℕ) where
   word_in_file : list_any (is_in frame) (addresses word) ≡ true → has_token word tokens ≡ true
   word_in_file some =
       let r = any_has (is_in frame) (addresses word) some in
@@ -94,7 +95,8 @@ in_places addresses tokens frame word (place ∷ places) each =
 abbrev pub texts_of : List Shown → List (List ℕ)
 texts_of view = map (λ file. file.text) view
 
-texts_counted : (word : List ℕ) (view : List Shown) → count_by (has_word word) (texts_of view) ≡ count_by (λ file. has_word word file.text) view
+texts_counted : (word : List ℕ) (view : List Shown)
+    → count_by (has_word word) (texts_of view) ≡ count_by (λ file. has_word word file.text) view
 texts_counted word [] = refl
 texts_counted word (file ∷ view) =
     count-cons (has_word word) file.text (texts_of view)

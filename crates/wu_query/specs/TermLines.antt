@@ -8,8 +8,10 @@ use Rattle.wu_query.specs.Units.{found_in}
 
 -- the word, and how many of the frames have it
 abbrev pub frames_of_word : List Range → State → List ℕ → TermFiles
-frames_of_word ranges s word = record { word = word; files = frames_with ranges (found_in ranges s word) }
+frames_of_word ranges s word =
+    record { word = word; files = frames_with ranges (found_in ranges s word) }
 
 -- the same of each of the words that one of the frames has
 abbrev pub words_found : List Range → State → List (List ℕ) → List TermFiles
-words_found ranges s words = filter (λ line. nat_lt 0 line.files) (map (frames_of_word ranges s) words)
+words_found ranges s words =
+    filter (λ line. nat_lt 0 line.files) (map (frames_of_word ranges s) words)

@@ -21,12 +21,12 @@ use wu_outside::Store;
 use wu_parts::Parts;
 use wu_terms::{TermFiles, list_terms};
 
-/// How many words of the user's files begin with the prefix, and the first `k` of them, or where `top` of the
-/// most frequent ones, each with the number of her files that have it.
+/// How many words of the user's files begin with the prefix, and the first `k` of them, or where
+/// `top` of the most frequent ones, each with the number of her files that have it.
 ///
-/// The index's words with the prefix are candidates, words of other users' files too: their blocks are asked for in
-/// turn, as far as the frames need them, and those words are left out that none of the frames has. No list of addresses
-/// is made of blocks.
+/// The index's words with the prefix are candidates, words of other users' files too: their blocks
+/// are asked for in turn, as far as the frames need them, and those words are left out that none of
+/// the frames has. No list of addresses is made of blocks.
 pub fn user_terms<D: Store>(
     alloc: Global,
     store: &mut D,
@@ -37,16 +37,19 @@ pub fn user_terms<D: Store>(
     top: bool,
 ) -> Result<Answered, Trouble>
     requires { CanBeSearched frames.now }
-    ensures answer { IfOk result (λ answered. (live : Ranges) (s : State) (uid : ℕ) → Indexes frames.now live s uid
-        → TellsPostings parts.old (D.holds store.old) s → answered ≡ answer (view_of s uid) (ListingTerms k prefix.now top)) }
-    ensures blocks { OnOk result (Asks (blocks_for parts.old frames.now.ranges (words_with prefix.now (terms_held parts.old)))
+    ensures answer { IfOk result (λ answered. (live : Ranges) (s : State) (uid : ℕ)
+        → Indexes frames.now live s uid → TellsPostings parts.old (D.holds store.old) s
+        → answered ≡ answer (view_of s uid) (ListingTerms k prefix.now top)) }
+    ensures blocks { OnOk result (Asks
+        (blocks_for parts.old frames.now.ranges (words_with prefix.now (terms_held parts.old)))
         (D.holds store.old) parts.old.kept parts.new.kept (D.reads store.old) (D.reads store.new)) }
     ensures others { parts.new ≡ record parts.old { kept = parts.new.kept } }
     ensures holds { D.holds store.new ≡ D.holds store.old }
     ensures moments { D.moments store.new ≡ D.moments store.old }
     ensures calm { OnOk result (D.faults store.new ≡ D.faults store.old) }
-    ensures cause { IfErr result (IsCauseFor parts.old frames.now.ranges (words_with prefix.now (terms_held parts.old))
-        (D.holds store.old) (D.faults store.old) (D.faults store.new) (D.reads store.old) (D.reads store.new)) }
+    ensures cause { IfErr result (IsCauseFor parts.old frames.now.ranges
+        (words_with prefix.now (terms_held parts.old)) (D.holds store.old)
+        (D.faults store.old) (D.faults store.new) (D.reads store.old) (D.reads store.new)) }
 {
     let _untouched = &*store;
     let words = parts.candidates(prefix)?;
@@ -60,8 +63,8 @@ pub fn user_terms<D: Store>(
     })
 }
 
-/// Those of the words that one of the frames has, each with the number of the frames that have it. The words are
-/// asked for in turn.
+/// Those of the words that one of the frames has, each with the number of the frames that have it.
+/// The words are asked for in turn.
 fn words_found<D: Store>(
     alloc: Global,
     store: &mut D,
@@ -70,16 +73,18 @@ fn words_found<D: Store>(
     parts: &mut Parts,
 ) -> Result<Vec<TermFiles>, Trouble>
     requires { CanBeSearched frames.now }
-    ensures found { IfOk result (λ found. (s : State) → TellsPostings parts.old (D.holds store.old) s
+    ensures found { IfOk result (λ found. (s : State)
+        → TellsPostings parts.old (D.holds store.old) s
         → found.items ≡ words_found frames.now.ranges s words.now) }
-    ensures blocks { OnOk result (Asks (blocks_for parts.old frames.now.ranges words.now) (D.holds store.old)
-        parts.old.kept parts.new.kept (D.reads store.old) (D.reads store.new)) }
+    ensures blocks { OnOk result (Asks (blocks_for parts.old frames.now.ranges words.now)
+        (D.holds store.old) parts.old.kept parts.new.kept (D.reads store.old) (D.reads store.new)) }
     ensures others { parts.new ≡ record parts.old { kept = parts.new.kept } }
     ensures holds { D.holds store.new ≡ D.holds store.old }
     ensures moments { D.moments store.new ≡ D.moments store.old }
     ensures calm { OnOk result (D.faults store.new ≡ D.faults store.old) }
-    ensures cause { IfErr result (IsCauseFor parts.old frames.now.ranges words.now (D.holds store.old)
-        (D.faults store.old) (D.faults store.new) (D.reads store.old) (D.reads store.new)) }
+    ensures cause { IfErr result (IsCauseFor parts.old frames.now.ranges words.now
+        (D.holds store.old) (D.faults store.old) (D.faults store.new)
+        (D.reads store.old) (D.reads store.new)) }
 {
     let _untouched = &*store;
     let mut found = Vec::new(alloc);
@@ -100,14 +105,15 @@ fn put_word<D: Store>(
     requires { CanBeSearched frames.now }
     ensures found { OnOk result ((s : State) → TellsPostings parts.old (D.holds store.old) s
         → found.new.items ≡ found.old.items ++ words_found frames.now.ranges s (word.now ∷ [])) }
-    ensures blocks { OnOk result (Asks (blocks_for parts.old frames.now.ranges (word.now ∷ [])) (D.holds store.old)
-        parts.old.kept parts.new.kept (D.reads store.old) (D.reads store.new)) }
+    ensures blocks { OnOk result (Asks (blocks_for parts.old frames.now.ranges (word.now ∷ []))
+        (D.holds store.old) parts.old.kept parts.new.kept (D.reads store.old) (D.reads store.new)) }
     ensures others { parts.new ≡ record parts.old { kept = parts.new.kept } }
     ensures holds { D.holds store.new ≡ D.holds store.old }
     ensures moments { D.moments store.new ≡ D.moments store.old }
     ensures calm { OnOk result (D.faults store.new ≡ D.faults store.old) }
-    ensures cause { IfErr result (IsCauseFor parts.old frames.now.ranges (word.now ∷ []) (D.holds store.old)
-        (D.faults store.old) (D.faults store.new) (D.reads store.old) (D.reads store.new)) }
+    ensures cause { IfErr result (IsCauseFor parts.old frames.now.ranges (word.now ∷ [])
+        (D.holds store.old) (D.faults store.old) (D.faults store.new)
+        (D.reads store.old) (D.reads store.new)) }
 {
     let tally = parts.tally(store, word.as_slice(), frames.ranges.as_slice())?;
     if tally.frames == 0 {
