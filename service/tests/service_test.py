@@ -152,7 +152,7 @@ def other_lines(served: Served, score: Score) -> None:
     lines = [
         b'count\t0\t"apple"', b"save", b"stat", b"flush", b"work\t1", b"user\t1002\t2000",
         b"chmod\t4\t777", b"text\t4\t5", b"paths\t0", b"", b"#", b"count", b'find\t"apple"',
-        b"\0", b"rank\t1\tfile", b'COUNT\t"apple"',
+        b"\0", b"rank\t1\tfile", b'COUNT\t"apple"', b"export", b"terms\t9",
     ]  # fmt: skip
     for line in lines:
         reply = served.ask(CAROL, line)

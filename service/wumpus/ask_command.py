@@ -34,6 +34,7 @@ REFUSALS = {
     b"noword": "there is no word in it: a word is of letters and digits",
     b"badwindow": "a window is [1] to [65535]",
     b"manywords": "there are more than 64 words",
+    b"badprefix": "a prefix is empty, or letters and digits alone",
     b"notready": "the service has just begun, and is still looking at the files: ask again soon",
     b"tooslow": "this took too long: ask for something rarer, and wait a minute",
     b"toolargereply": "there are too many results: ask for fewer with -n",

@@ -32,6 +32,10 @@ SHAPES = {
     b"find": "number shown text",
     b"rank": "number shown text text",
     b"paths": "number",
+    b"terms": "number shown text",
+    b"top": "number shown text",
+    b"export": "number",
+    b"weighed": "number shown text text",
     b"save": "",
     b"flush": "",
     b"work": "work",
@@ -62,6 +66,7 @@ REASONS = {
     b"noword": "there is no word: a word is of letters and digits",
     b"badwindow": "a window is [1] to [65535]",
     b"manywords": "a ranking takes at most 64 words",
+    b"badprefix": "a prefix is empty, or letters and digits alone",
 }
 
 
@@ -204,13 +209,23 @@ def _reason_of_list(field: bytes, told: str) -> str | None:
 
 def replies_of(replies: bytes) -> Iterator[bytes]:
     """The first line of each reply. Raises `BadReply`."""
-    lines = replies.split(b"\n")
-    if lines and lines[-1] == b"":
-        lines.pop()
     at = 0
-    while at < len(lines):
-        yield lines[at]
-        at += 1 + lines_after(lines[at])
+    while at < len(replies):
+        first, at = _line_at(replies, at)
+        yield first
+        if first.startswith(b"export\t"):
+            at += bytes_after(first)
+            continue
+        for _ in range(lines_after(first)):
+            _, at = _line_at(replies, at)
+
+
+def bytes_after(first: bytes) -> int:
+    """How many bytes follow the first line of the reply to an export. Raises `BadReply`."""
+    size = first.split(b"\t")[1]
+    if not size.isdigit():
+        raise BadReply(f"an export without its size: {first[:80]!r}")
+    return int(size) + 1
 
 
 def reason_of(item: Item, reply: bytes) -> str:

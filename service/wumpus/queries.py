@@ -7,7 +7,8 @@ nobody can ask as somebody else, and no line that isn't a query reaches the prog
 from .script import LINE_MAX
 
 # How many fields follow the name of a query, the user's number not among them.
-FIELDS = {b"count": 1, b"find": 2, b"rank": 3, b"paths": 0}
+# An `export` isn't among them: its reply is counted in bytes, and may be longer than a reply here.
+FIELDS = {b"count": 1, b"find": 2, b"rank": 3, b"paths": 0, b"terms": 2, b"top": 2, b"weighed": 3}
 
 # The service's own refusals, beside those of the language.
 NOT_A_QUERY = b"refused\tnotquery\n"

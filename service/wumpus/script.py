@@ -14,8 +14,8 @@ NAME_MAX = 255
 DEPTH_MAX = 255
 
 # How many lines follow the first one of a reply is the field at this place of it.
-_LINES_AT = {b"paths": 1, b"find": 3, b"rank": 2}
-_ONE_LINE = {b"ok", b"refused", b"count", b"idle", b"busy", b"stat"}
+_LINES_AT = {b"paths": 1, b"find": 3, b"rank": 2, b"terms": 2, b"top": 2}
+_ONE_LINE = {b"ok", b"refused", b"count", b"weighed", b"idle", b"busy", b"stat"}
 _ESCAPED = re.compile(rb"[\\\t\n]")
 _ESCAPES = {b"\\": b"\\\\", b"\t": b"\\t", b"\n": b"\\n"}
 _UNESCAPES = {b"\\\\": b"\\", b"\\t": b"\t", b"\\n": b"\n"}
@@ -61,7 +61,7 @@ def spell_mode(mode: int) -> bytes:
 def lines_after(first: bytes) -> int:
     """How many lines follow the first line of a reply, which is given without its LF.
 
-    Raises `BadReply` where no reply begins so.
+    Raises `BadReply` where no reply begins so, and for an export, which is counted in bytes.
     """
     fields = first.split(b"\t")
     place = _LINES_AT.get(fields[0])
