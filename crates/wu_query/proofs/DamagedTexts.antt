@@ -37,7 +37,7 @@ use Rattle.wu_query.proofs.ReadCauses.{broken_file, cause_after, cause_behind}
 
 -- ---- one file
 
-not_zero : (n : ℕ) → 0 < n → (n == 0) ≡ false
+pub not_zero : (n : ℕ) → 0 < n → (n == 0) ≡ false
 not_zero zero some = absurd (omega (arith, some))
 not_zero (suc n) some = eqb-suc-zero n
 

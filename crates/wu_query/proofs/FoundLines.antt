@@ -69,6 +69,24 @@ record_found texts (file ∷ files) ino =
       | false ↦ λ e. record_found texts files ino
     ] refl
 
+no_bytes : (text : List ℕ) → true ≡ not (has_bytes text) → [] ≡ text
+no_bytes [] h = refl
+no_bytes (b ∷ text) h =
+    let none : true ≡ false = h ∙ ap (λ (e : Bool). not (not e)) (eqb-suc-zero (length text)) in absurd (cc)
+
+-- a content that has the text of a file with that entry holds it for the file's record
+pub text_of_entry : (content : Content) (texts : Texts) (ino : ℕ) (entry : FileEntry)
+    → (entry.blob == 0) ≡ not (has_bytes (text_in texts ino))
+    → (0 < entry.blob → content.blobs entry.blob ≡ Some (text_in texts ino))
+    → text_held content (record_of texts (ino, entry)) ≡ text_in texts ino
+text_of_entry content texts ino entry kept held =
+    elim (entry.blob == 0) as
+    (λ b. (entry.blob == 0) ≡ b → cond b [] (unwrap_or (content.blobs entry.blob) []) ≡ text_in texts ino) [
+      | true ↦ λ e. no_bytes (text_in texts ino) (sym e ∙ kept)
+      | false ↦ λ e.
+          let some : 0 < entry.blob = grind (arith, e) in ap (λ (o : Option (List ℕ)). unwrap_or o []) (held some)
+    ] refl
+
 -- ---- the frames of a view, file by file
 
 IsFrameOf-prop : (addresses : List ℕ → List ℕ) (tokens : List (List ℕ)) (frame : Range) → IsProp (IsFrameOf addresses tokens frame)
@@ -140,11 +158,6 @@ pub record IsShownAlike (content : Content) (files : Records) (region : Region) 
   pub hits : hits_at files region lists file ≡ length (hits_in region (shown_of s.texts file))
   pub text : text_at files file ≡ text_of_file s file
 
-no_bytes : (text : List ℕ) → true ≡ not (has_bytes text) → [] ≡ text
-no_bytes [] h = refl
-no_bytes (b ∷ text) h =
-    let none : true ≡ false = h ∙ ap (λ (e : Bool). not (not e)) (eqb-suc-zero (length text)) in absurd (cc)
-
 module _ (content : Content) (live : Ranges) (s : State) (region : Region) (addresses : List ℕ → List ℕ) (terms : List (List ℕ))
     (are : AreTerms region terms) (file : Seen) where
   abbrev text : List ℕ
@@ -161,15 +174,6 @@ module _ (content : Content) (live : Ranges) (s : State) (region : Region) (addr
         ap (map (counted_from entry.range.start)) (frame_of_file region addresses terms (tokens_of text) entry.range are.all framed)
         ∙ counted_back entry.range.start (token_hits region (tokens_of text))
 
-    text_alike : (0 < entry.blob → content.blobs entry.blob ≡ Some text) → text_held content kept_of ≡ text
-    text_alike held =
-        elim (entry.blob == 0) as
-        (λ b. (entry.blob == 0) ≡ b → cond b [] (unwrap_or (content.blobs entry.blob) []) ≡ text) [
-          | true ↦ λ e. no_bytes text (sym e ∙ kept)
-          | false ↦ λ e.
-              let some : 0 < entry.blob = grind (arith, e) in ap (λ (o : Option (List ℕ)). unwrap_or o []) (held some)
-        ] refl
-
     pub entry_alike : (files : Records) → record_at files file.ino ≡ Some kept_of → entry_of s.layout.files file.ino ≡ Some entry
         → IsShownAlike content files region (map (list_at addresses) terms) s file
     unfolding hits_in
@@ -177,7 +181,8 @@ module _ (content : Content) (live : Ranges) (s : State) (region : Region) (addr
       lines = λ held.
           ap (lines_recorded content region (map (list_at addresses) terms) file.paths) there
           ∙ ap₂ (λ (t : List ℕ) (xs : List Extent). map (found_line (record { paths = file.paths; text = t })) xs)
-          (text_alike (subst (λ (o : Option FileEntry). IfSome o (λ e. 0 < e.blob → content.blobs e.blob ≡ Some text)) known held))
+          (text_of_entry content s.texts file.ino entry kept
+          (subst (λ (o : Option FileEntry). IfSome o (λ e. 0 < e.blob → content.blobs e.blob ≡ Some text)) known held))
           extents_alike;
       hits = ap (hits_recorded region (map (list_at addresses) terms)) there ∙ ap length extents_alike;
       text = ap text_recorded there ∙ sym (ap (text_at_entry (length text)) known);

@@ -31,3 +31,4 @@ pub mod WordsInFrames
 pub mod UserTerms
 pub mod PermittedBlocks
 pub mod PermittedTexts
+pub mod ExportedFiles

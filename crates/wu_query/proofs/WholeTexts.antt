@@ -26,7 +26,7 @@ positive (suc n) e = omega arith
 
 -- ---- one file
 
-whole_recorded : (holds : Option Content) (files : Records) (ino : ℕ)
+pub whole_recorded : (holds : Option Content) (files : Records) (ino : ℕ)
     → IfSome (record_at files ino) (λ file. 0 < file.blob → HasWholeText holds file)
     → AllByRecursion (IsTextOf holds files) (text_recorded (record_at files ino))
 whole_recorded holds [] ino whole = tt

@@ -17,3 +17,4 @@ pub mod Permitted
 pub mod Units
 pub mod TermLines
 pub mod Finding
+pub mod Exporting

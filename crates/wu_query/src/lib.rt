@@ -2,6 +2,7 @@
 #![tactic(auto)]
 
 mod counting;
+mod exporting;
 mod fetching;
 mod finding;
 mod listing;

@@ -17,6 +17,7 @@ ghost use Rattle.wu_query.specs.Units.{CanBeSearched};
 ghost use Rattle.wu_query.specs.View.{view_of};
 
 use crate::counting::count;
+use crate::exporting::export;
 use crate::finding::find;
 use crate::listing::paths;
 use crate::ranking::ranked;
@@ -132,7 +133,7 @@ fn answer<D: Store>(
             prefix.as_slice(),
             *top,
         ),
-        Ask::Export => Err(Trouble::NoMemory),
+        Ask::Export => export(alloc, store, frames, files),
         Ask::Weighed { .. } => Err(Trouble::NoMemory),
     }
 }

@@ -6,6 +6,7 @@ use Rattle.wu_lists.proofs.Asking.{asks-none}
 use Rattle.wu_parts.specs.Candidates.{terms_held}
 use Rattle.wu_query.specs.Asked.{blocks_for, terms_asked}
 use Rattle.wu_query.proofs.AnswerLemmas.{if_ok, paths_listed}
+use Rattle.wu_query.proofs.ExportedFiles.{cause_of_export, texts_alone}
 use Rattle.wu_query.proofs.FirstLines.{none_counted, none_listed, none_of_terms, none_ranked}
 use Rattle.wu_query.proofs.PermittedBlocks.{fetched_permitted}
 use Rattle.wu_query.proofs.QueryReads.{blocks_alone, cause_fetched, cause_of_memory}
@@ -136,3 +137,26 @@ returns-in-Terms-clause-cause g c =
     (if_err c.user_terms.result (rw c.as_slice-in-Terms.ensures at c.user_terms.ensures.cause)
     (λ trouble cause. cause_fetched c.args.frames.now (ListingTerms c.in-Terms.k c.in-Terms.prefix c.in-Terms.top) c.args.parts.now
     c.args.files.now.entries (g.D.Store.holds c.args.store.now) refl cause))
+
+pub returns-in-Export-clause-answer : goal.returns-in-Export-clause-answer
+returns-in-Export-clause-answer g c =
+    rw c.in-Export.is
+    (if_ok c.export.result c.export.ensures.answer
+    (λ answered known. λ s uid is tells keeps. known c.args.space.now.ranges s uid is keeps))
+
+pub returns-in-Export-clause-reads : goal.returns-in-Export-clause-reads
+returns-in-Export-clause-reads g c =
+    rw c.in-Export.is
+    (texts_alone c.args.frames.now c.args.parts.now c.args.files.now.entries (g.D.Store.holds c.args.store.now) c.export.result
+    (g.D.Store.reads c.args.store.now) (g.D.Store.reads c.export.new.store) c.export.ensures.sound c.export.ensures.reads)
+
+pub returns-in-Export-clause-permitted : goal.returns-in-Export-clause-permitted
+returns-in-Export-clause-permitted g c = λ s uid is tells keeps.
+    rw c.in-Export.is (c.export.ensures.permitted c.args.space.now.ranges s uid is keeps)
+
+pub returns-in-Export-clause-cause : goal.returns-in-Export-clause-cause
+returns-in-Export-clause-cause g c =
+    rw c.in-Export.is
+    (if_err c.export.result c.export.ensures.cause
+    (λ trouble cause. cause_of_export c.args.frames.now c.args.parts.now c.args.files.now.entries (g.D.Store.holds c.args.store.now)
+    cause))
