@@ -1,22 +1,20 @@
 -- The files of a view with their texts, which are read in turn, and what an export of them answers, reads and finds damaged.
-use Rattle.std.proofs.Common.{◌≡◌, ℕ, ◌+◌, ◌<◌, ◌==◌, ◌∙◌, Bool, true, List, [], ◌∷◌, ◌++◌, length, take, drop, map, get_or, refl, sym, ap, ap₂}
-use Rattle.std.proofs.Common.{cond, subst, inl, inr, ⊎_elim, append-nil, append_assoc}
-use Rattle.std.specs.Prelude.{Option, None, Some, Result, Ok, Err, IfSome, OnOk, is_some, not, option_map}
+use Rattle.std.proofs.Common.{◌≡◌, ℕ, ◌+◌, ◌<◌, ◌∙◌, Bool, true, List, [], ◌∷◌, ◌++◌, length, take, drop, map, get_or, refl}
+use Rattle.std.proofs.Common.{sym, ap, ap₂, cond, subst, inl, inr, ⊎_elim, append-nil, append_assoc}
+use Rattle.std.specs.Prelude.{Option, None, Some, Result, Ok, Err, IfSome, OnOk, is_some, option_map}
 use Rattle.std.specs.Option.{IsSomeAnd}
 use Rattle.std.specs.List.{AllByRecursion, flat_map}
 use Rattle.std.proofs.lemmas.Grind.{flat_map-append}
 use Rattle.std.proofs.lemmas.List.{take_more, take-append-drop}
 use Rattle.wu_base.proofs.EachLemmas.{each-append}
-use Rattle.wu_base.proofs.Members.{all_from_has, all_has}
 use Rattle.wu_base.specs.declared.troubles.Trouble.{Trouble}
 use Rattle.wu_outside.specs.Content.{Content}
 use Rattle.wu_outside.specs.declared.ranges.ReadRange.{ReadRange}
-use Rattle.wu_layout.specs.Invariants.{IsIndexed, SomeOf}
+use Rattle.wu_layout.specs.Invariants.{IsIndexed}
 use Rattle.wu_layout.specs.Layouts.{FileEntry, entry_of, homes_of, postings_of}
 use Rattle.wu_layout.proofs.EntryLemmas.{IfSome-map2}
 use Rattle.wu_layout.proofs.KeptLemmas.{SomeOf-left, SomeOf-right}
 use Rattle.wu_lists.proofs.Asking.{asks-none, ranges-none}
-use Rattle.wu_token.specs.Words.{has_bytes}
 use Rattle.wu_space.specs.Addresses.{Ranges, range_of}
 use Rattle.wu_image.specs.declared.records.FileRec.{FileRec}
 use Rattle.wu_view.specs.declared.Seen.{Seen}
@@ -25,7 +23,6 @@ use Rattle.wu_frames.specs.declared.Frames.{Frames}
 use Rattle.wu_parts.specs.Contents.{Contents}
 use Rattle.wu_export.specs.Exports.{export_of}
 use Rattle.wu_ask.specs.Questions.{Exporting}
-use Rattle.wu_ask.specs.declared.Answered.{Answered}
 use Rattle.wu_ask.specs.declared.Answered.TheVariants.{Export}
 use Rattle.wu_query.specs.Answer.{answer}
 use Rattle.wu_query.specs.Causes.{IsBlobOf, IsBrokenIn, IsDamagedOf, IsDamagedOver, IsDamagedText}
@@ -35,7 +32,7 @@ use Rattle.wu_query.specs.Permitted.{AreReadForQuery, ReadsSuch}
 use Rattle.wu_query.specs.Reads.{IsTextOf, ReadsInTurn, text_at_entry, text_of_file, texts_read}
 use Rattle.wu_query.specs.Records.{Records, record_at, record_of, records_of}
 use Rattle.wu_query.specs.Searched.{HoldsTexts, Indexes}
-use Rattle.wu_query.specs.States.{State, Texts, indexed, text_in}
+use Rattle.wu_query.specs.States.{State, indexed, text_in}
 use Rattle.wu_query.specs.View.{Shown, shown_of, view_of}
 use Rattle.wu_query.proofs.AnswerLemmas.{mapped_more}
 use Rattle.wu_query.proofs.DamagedTexts.{not_zero, some_behind}

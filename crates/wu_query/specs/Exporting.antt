@@ -1,4 +1,5 @@
--- The files of a view with their texts, by what is recorded of files and what the store holds of their texts.
+-- The files of a view with their texts, by what is recorded of files and what the store holds of
+-- their texts.
 use Rattle.std.specs.Prelude.{ℕ, List, [], Option, None, Some}
 use Rattle.wu_outside.specs.Content.{Content}
 use Rattle.wu_image.specs.declared.records.FileRec.{FileRec}
@@ -14,4 +15,5 @@ held_of content (Some file) = text_held content file
 
 -- the file of a view with its text, as its user sees it
 abbrev pub shown_at : Content → Records → Seen → Shown
-shown_at content files seen = record { paths = seen.paths; text = held_of content (record_at files seen.ino) }
+shown_at content files seen =
+    record { paths = seen.paths; text = held_of content (record_at files seen.ino) }

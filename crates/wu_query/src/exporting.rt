@@ -7,7 +7,8 @@ ghost use Rattle.wu_space.specs.Addresses.{Ranges};
 ghost use Rattle.wu_query.specs.Answer.{answer};
 ghost use Rattle.wu_query.specs.Causes.{IsBrokenIn, IsDamagedOf};
 ghost use Rattle.wu_query.specs.Exporting.{held_of, shown_at};
-ghost use Rattle.wu_query.specs.Finding.{AreFirstOf, CanBeRead, IsCause, KeepsTexts, text_at, text_recorded};
+ghost use Rattle.wu_query.specs.Finding.{AreFirstOf, CanBeRead, IsCause, KeepsTexts};
+ghost use Rattle.wu_query.specs.Finding.{text_at, text_recorded};
 ghost use Rattle.wu_query.specs.Permitted.{AreReadForQuery, ReadsSuch};
 ghost use Rattle.wu_query.specs.Reads.{IsTextOf};
 ghost use Rattle.wu_query.specs.Records.{record_at};
@@ -26,8 +27,8 @@ use wu_image::FileRec;
 use wu_outside::Store;
 use wu_view::Seen;
 
-/// The script that makes the user's files from nothing. Of the store only their texts are read, each once
-/// and whole, in the order of her view.
+/// The script that makes the user's files from nothing. Of the store only their texts are read,
+/// each once and whole, in the order of her view.
 ///
 /// Beside the script, which is built in one piece, the memory holds each text and each path once.
 pub fn export<D: Store>(
@@ -37,19 +38,21 @@ pub fn export<D: Store>(
     files: &BTreeMap<Ino, FileRec>,
 ) -> Result<Answered, Trouble>
     requires { AllByRecursion CanBeRead files.now.entries }
-    ensures answer { IfOk result (λ answered. (live : Ranges) (s : State) (uid : ℕ) → Indexes frames.now live s uid
-        → KeepsTexts files.now.entries (D.holds store.old) s → answered ≡ answer (view_of s uid) AskedExporting) }
+    ensures answer { IfOk result (λ answered. (live : Ranges) (s : State) (uid : ℕ)
+        → Indexes frames.now live s uid → KeepsTexts files.now.entries (D.holds store.old) s
+        → answered ≡ answer (view_of s uid) AskedExporting) }
     ensures sound { OnOk result (AllByRecursion (IsTextOf (D.holds store.old) files.now.entries)
         (flat_map (text_at files.now.entries) frames.now.seen)) }
-    ensures reads { OnOk result (D.reads store.new
-        ≡ option_map (λ ranges. ranges ++ flat_map (text_at files.now.entries) frames.now.seen) (D.reads store.old)) }
+    ensures reads { OnOk result (D.reads store.new ≡ option_map (λ ranges.
+        ranges ++ flat_map (text_at files.now.entries) frames.now.seen) (D.reads store.old)) }
     ensures permitted { (live : Ranges) (s : State) (uid : ℕ) → Indexes frames.now live s uid
         → KeepsTexts files.now.entries (D.holds store.old) s
         → ReadsSuch (AreReadForQuery s uid AskedExporting) (D.reads store.old) (D.reads store.new) }
     ensures holds { D.holds store.new ≡ D.holds store.old }
     ensures moments { D.moments store.new ≡ D.moments store.old }
     ensures calm { OnOk result (D.faults store.new ≡ D.faults store.old) }
-    ensures cause { IfErr result (IsCause (IsDamagedOf frames.now.seen files.now.entries (D.holds store.old))
+    ensures cause { IfErr result (IsCause
+        (IsDamagedOf frames.now.seen files.now.entries (D.holds store.old))
         (D.faults store.old) (D.faults store.new) (D.reads store.old) (D.reads store.new)) }
 {
     let shown = shown_files(alloc, store, frames.seen.as_slice(), files)?;
@@ -71,11 +74,13 @@ fn shown_files<D: Store>(
         (flat_map (text_at files.now.entries) view.now)) }
     ensures holds { D.holds store.new ≡ D.holds store.old }
     ensures moments { D.moments store.new ≡ D.moments store.old }
-    ensures reads { OnOk result (D.reads store.new
-        ≡ option_map (λ ranges. ranges ++ flat_map (text_at files.now.entries) view.now) (D.reads store.old)) }
-    ensures only { ReadsSuch (AreFirstOf (flat_map (text_at files.now.entries) view.now)) (D.reads store.old) (D.reads store.new) }
+    ensures reads { OnOk result (D.reads store.new ≡ option_map (λ ranges.
+        ranges ++ flat_map (text_at files.now.entries) view.now) (D.reads store.old)) }
+    ensures only { ReadsSuch (AreFirstOf (flat_map (text_at files.now.entries) view.now))
+        (D.reads store.old) (D.reads store.new) }
     ensures calm { OnOk result (D.faults store.new ≡ D.faults store.old) }
-    ensures cause { IfErr result (IsCause (IsDamagedOf view.now files.now.entries (D.holds store.old))
+    ensures cause { IfErr result (IsCause
+        (IsDamagedOf view.now files.now.entries (D.holds store.old))
         (D.faults store.old) (D.faults store.new) (D.reads store.old) (D.reads store.new)) }
 {
     let _untouched = &*store;
@@ -102,9 +107,11 @@ fn shown_file<D: Store>(
     ensures moments { D.moments store.new ≡ D.moments store.old }
     ensures reads { OnOk result (D.reads store.new
         ≡ option_map (λ ranges. ranges ++ text_at files.now.entries seen.now) (D.reads store.old)) }
-    ensures only { ReadsSuch (AreFirstOf (text_at files.now.entries seen.now)) (D.reads store.old) (D.reads store.new) }
+    ensures only { ReadsSuch (AreFirstOf (text_at files.now.entries seen.now))
+        (D.reads store.old) (D.reads store.new) }
     ensures calm { OnOk result (D.faults store.new ≡ D.faults store.old) }
-    ensures cause { IfErr result (IsCause (λ blob. IsSomeAnd (record_at files.now.entries seen.now.ino)
+    ensures cause { IfErr result (IsCause (λ blob.
+        IsSomeAnd (record_at files.now.entries seen.now.ino)
         (λ file. IsBrokenIn (D.holds store.old) file blob))
         (D.faults store.old) (D.faults store.new) (D.reads store.old) (D.reads store.new)) }
 {
@@ -130,8 +137,10 @@ fn text_of<D: Store>(
     ensures holds { D.holds store.new ≡ D.holds store.old }
     ensures moments { D.moments store.new ≡ D.moments store.old }
     ensures reads { OnOk result (D.reads store.new
-        ≡ option_map (λ ranges. ranges ++ text_recorded (record_at files.now.entries ino)) (D.reads store.old)) }
-    ensures only { ReadsSuch (AreFirstOf (text_recorded (record_at files.now.entries ino))) (D.reads store.old) (D.reads store.new) }
+        ≡ option_map (λ ranges.
+        ranges ++ text_recorded (record_at files.now.entries ino)) (D.reads store.old)) }
+    ensures only { ReadsSuch (AreFirstOf (text_recorded (record_at files.now.entries ino)))
+        (D.reads store.old) (D.reads store.new) }
     ensures calm { OnOk result (D.faults store.new ≡ D.faults store.old) }
     ensures cause { IfErr result (IsCause (λ blob. IsSomeAnd (record_at files.now.entries ino)
         (λ file. IsBrokenIn (D.holds store.old) file blob))

@@ -1,4 +1,4 @@
-use Rattle.std.proofs.Common.{◌≡◌, ◌+◌, ◌<◌, ◌∙◌, length, take, refl, rules}
+use Rattle.std.proofs.Common.{◌+◌, ◌<◌, ◌∙◌, length, take, refl, rules}
 use Rattle.std.specs.List.{flat_map}
 use Rattle.wu_query.specs.Exporting.{shown_at}
 use Rattle.wu_query.specs.Finding.{text_at}
