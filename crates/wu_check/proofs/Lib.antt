@@ -1,0 +1,3 @@
+pub mod ComparedTokens
+pub mod NumberLemmas
+pub mod ReadLists

@@ -1,0 +1,5 @@
+pub mod Comparing
+pub mod Numbering
+pub mod Terms
+pub mod Indexing
+pub mod Reading
