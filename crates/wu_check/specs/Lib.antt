@@ -1,5 +1,11 @@
-pub mod Comparing
-pub mod Numbering
-pub mod Terms
-pub mod Indexing
+-- ---- What a reader of the contracts trusts
+
+-- blobs that are read whole, and lists that are read from a part's bytes
 pub mod Reading
+pub mod Indexing
+-- the lists of a part side by side by address, and tokens that are compared with them
+pub mod Numbering
+pub mod Comparing
+-- ---- What only proofs need: which terms lists have at which addresses
+
+pub mod Terms
