@@ -1,3 +1,4 @@
+pub mod ComparedTexts
 pub mod ComparedTokens
 pub mod NumberLemmas
 pub mod ReadLists

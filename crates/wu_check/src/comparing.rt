@@ -1,10 +1,16 @@
 //! A text's tokens, compared with what a part of the index has at their addresses.
-ghost use Rattle.std.specs.Prelude.{◌≡◌, ◌+◌, ◌<◌, ◌≤◌, ◌^◌, [], ◌∷◌, true, get_or, length};
+ghost use Rattle.std.specs.Prelude.{◌≡◌, ◌+◌, ◌<◌, ◌≤◌, ◌^◌, List, [], ◌∷◌, MatchBool, true, eqb, get_or, length};
+ghost use Rattle.std.specs.List.{IsDistinct, flat_map};
+ghost use Rattle.wu_base.specs.declared.addresses.TermList.{TermList};
+ghost use Rattle.wu_part.specs.Directories.{PartDirectory};
+ghost use Rattle.wu_check.specs.Indexing.{AreIndexed};
+ghost use Rattle.wu_check.specs.Terms.{HaveTermsFrom};
 ghost use Rattle.wu_base.specs.declared.limits.TheConstants.{TEXT_MAX};
 ghost use Rattle.wu_token.specs.Pieces.{line_terms, piece_of};
 ghost use Rattle.wu_token.specs.Tokens.{tokens_of};
 ghost use Rattle.wu_check.specs.Comparing.{are_numbers_of, compared_with, is_number_of};
 
+use crate::indexing::PartIndex;
 use wu_base::Bytes;
 use wu_token::{FILE_END, FILE_START, LINE_END, LINE_START, Lines, Piece, Word};
 
@@ -15,6 +21,23 @@ pub struct Compared {
     pub count: u64,
     /// Whether the number at each of their places is that of its term.
     pub same: bool,
+}
+
+/// Whether the lists of a part that are indexed have the tokens of a text, of at most `TEXT_MAX` bytes, at the addresses
+/// from `start` on, one each. That is exact where no address stands in two of the lists. The start is one of the index's
+/// addresses, or the one after them. Takes no memory.
+pub fn compare_text(index: &PartIndex, start: u64, text: &[u8]) -> Compared
+    requires short { length text.now ≤ TEXT_MAX }
+    requires start { index.now.low ≤ start }
+    requires end { start ≤ index.now.low + length index.now.numbers.items }
+    ensures count { result.count ≡ length (tokens_of text.now) }
+    ensures same { (directory : PartDirectory) (lists : List TermList) → IsDistinct eqb (flat_map (λ list. list.at) lists)
+        → AreIndexed directory lists index.now → MatchBool result.same (HaveTermsFrom lists start (tokens_of text.now))
+        (HaveTermsFrom lists start (tokens_of text.now) → ⊥) }
+{
+    let terms = index.terms.as_slice();
+    let all = index.numbers.as_slice();
+    compare(terms, &all[(start - index.low) as usize..], text)
 }
 
 /// Compares the tokens of a text of at most `TEXT_MAX` bytes, in one walk over them, with the terms that have the numbers

@@ -9,6 +9,6 @@ mod indexing;
 mod numbering;
 
 pub use blobs::read_whole;
-pub use comparing::{Compared, compare};
+pub use comparing::{Compared, compare, compare_text};
 pub use indexing::{PartIndex, addresses_of};
 pub use numbering::{are_free, put_number};
