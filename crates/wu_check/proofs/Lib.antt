@@ -2,3 +2,4 @@ pub mod ComparedTexts
 pub mod ComparedTokens
 pub mod NumberLemmas
 pub mod ReadLists
+pub mod PartDirectories

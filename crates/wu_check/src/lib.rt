@@ -5,10 +5,12 @@
 
 mod blobs;
 mod comparing;
+mod directories;
 mod indexing;
 mod numbering;
 
 pub use blobs::read_whole;
 pub use comparing::{Compared, compare, compare_text};
+pub use directories::directory_in;
 pub use indexing::{PartIndex, addresses_of};
 pub use numbering::{are_free, put_number};
