@@ -1,0 +1,5 @@
+pub mod ComparedTexts
+pub mod ComparedTokens
+pub mod NumberLemmas
+pub mod ReadLists
+pub mod PartDirectories
