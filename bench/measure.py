@@ -87,7 +87,9 @@ class Session:
         fields = lines[0].split()
         if not fields:
             raise RuntimeError("the program ended before its reply")
-        following = int(fields[-1]) if fields[0] in (b"find", b"rank", b"paths") else 0
+        if fields[0] == b"export":
+            return lines[0] + self.child.stdout.read(int(fields[1]) + 1)
+        following = int(fields[-1]) if fields[0] in (b"find", b"rank", b"paths", b"terms", b"top") else 0
         lines += [self.child.stdout.readline() for _ in range(following)]
         return b"".join(lines)
 
