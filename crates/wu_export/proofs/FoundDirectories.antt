@@ -61,7 +61,7 @@ slashes_more path start place old now new low e f =
     ap (λ (places : List ℕ). before_slashes places path) range ∙ slashes-append (range_with_len start (place - start)) (place ∷ []) path in
     f ∙ ap (λ (l : List (List ℕ)). l ++ next) e ∙ append_assoc old done next ∙ ap (λ (l : List (List ℕ)). old ++ l) (sym more)
 
-slashes_has : (start n : ℕ) (path q : List ℕ) → Has q (before_slashes (range_with_len start n) path)
+pub slashes_has : (start n : ℕ) (path q : List ℕ) → Has q (before_slashes (range_with_len start n) path)
     → (place : ℕ) × ((start ≤ place) × (place < start + n) × (is_slash (get_or path place 0) ≡ true) × (take place path ≡ q))
 slashes_has start n path q h =
     let test : ℕ → Bool = λ place. is_slash (get_or path place 0) in
@@ -70,7 +70,7 @@ slashes_has start n path q h =
     let r = range_has start n m.0 f.0 in
     (m.0, (r.0, r.1, f.1, m.1.1))
 
-has_slashes : (start n place : ℕ) (path : List ℕ) → start ≤ place → place < start + n → is_slash (get_or path place 0) ≡ true
+pub has_slashes : (start n place : ℕ) (path : List ℕ) → start ≤ place → place < start + n → is_slash (get_or path place 0) ≡ true
     → Has (take place path) (before_slashes (range_with_len start n) path)
 has_slashes start n place path low high is =
     let test : ℕ → Bool = λ place. is_slash (get_or path place 0) in

@@ -2,3 +2,14 @@ pub mod CutPaths
 pub mod FoundDirectories
 pub mod NumberedDirectories
 pub mod WrittenCommands
+pub mod CutNames
+pub mod DirectoryNumbers
+pub mod AcceptedSteps
+pub mod BuiltTrees
+pub mod BuiltSteps
+pub mod BuiltFiles
+pub mod ExportedPaths
+pub mod MadeEntries
+pub mod SeenNumbers
+pub mod ViewsAgain
+pub mod Rebuilt

@@ -1,8 +1,9 @@
 //! The export of what a user may search: a script that makes her files from nothing.
 #![tactic(auto)]
 
-ghost use Rattle.std.specs.Prelude.{◌≡◌, IfOk};
+ghost use Rattle.std.specs.Prelude.{◌≡◌, IfOk, List};
 ghost use Rattle.wu_export.specs.Exports.{export_of};
+ghost use Rattle.wu_export.specs.Rebuilding.{IsExportable, IsRebuilt};
 
 mod directories;
 mod paths;
@@ -41,3 +42,11 @@ pub fn export(alloc: Global, view: &[Shown]) -> Result<Bytes, NoMemory>
     put_files(&mut script, &directories, view)?;
     Ok(Bytes::from(script))
 }
+
+/// A law: from the root alone on, each entry of the export of a view is accepted as an event, in its turn;
+/// and then the view of every user has the same paths in the same order, each file by its number in the
+/// export. It is told of lists of files that have what a view has: paths of legal names that ascend, files
+/// that ascend by their least paths, and no path that is another file's or a directory's.
+pub fn entries_make_the_view_again()
+    ensures { (view : List Shown) → IsExportable view → IsRebuilt view }
+{}
